@@ -1,0 +1,4 @@
+pub mod Additive
+pub mod FieldLaws
+pub mod PowerLaws
+pub mod Inverses
