@@ -1,0 +1,38 @@
+-- What a source and a sink in memory are.
+use Rattle.std.specs.Prelude.{ℕ, ◌+◌, ◌-◌, ◌^◌, min, Option, None, Some, List, ◌++◌, length, take, ◌==◌, if◌then◌else◌}
+
+-- the bytes that are left, the numbers of the calls that fail, and how many calls were made and failed
+pub record SourceState : Type 0 where
+  pub left : List ℕ
+  pub failing : List ℕ
+  pub calls : ℕ
+  pub faults : ℕ
+
+-- how many bytes have place, the first bytes taken, as many as have place, and how many were taken
+pub record Kept : Type 0 where
+  pub room : ℕ
+  pub bytes : List ℕ
+  pub taken : ℕ
+
+-- what a sink keeps, the numbers of the calls that fail, and how many calls were made and failed
+pub record SinkState : Type 0 where
+  pub kept : Kept
+  pub failing : List ℕ
+  pub calls : ℕ
+  pub faults : ℕ
+
+-- one more, up to the end of the type
+abbrev pub next_count : ℕ → ℕ
+next_count n = min (n + 1) (2 ^ 64 - 1)
+
+-- what is kept after these bytes too
+abbrev pub kept_after : Kept → List ℕ → Kept
+kept_after k piece = record {
+  room = k.room;
+  bytes = take k.room (k.bytes ++ piece);
+  taken = min (k.taken + length piece) (2 ^ 64 - 1);
+}
+
+-- the bytes written, as long as each had place
+abbrev pub told : Kept → Option (List ℕ)
+told k = if k.taken == length k.bytes then Some k.bytes else None
