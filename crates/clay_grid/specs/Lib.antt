@@ -1,0 +1,5 @@
+pub mod Shape
+pub mod Layers
+pub mod Score
+pub mod Repair
+pub mod Limits
