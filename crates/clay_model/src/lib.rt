@@ -1,0 +1,13 @@
+//! What a codeword of a Clay code is, and the coupling of its values.
+//!
+//! The construction is that of Vajha et al., "Clay Codes: Moulding MDS Codes to Yield an MSR Code", FAST 2018.
+#![tactic(auto)]
+
+mod coupling;
+mod laws;
+
+pub use coupling::{couple, cross, uncouple, uncouple_from};
+pub use laws::{
+    codewords_are_unique, coupling_is_inverse, layers_are_numbered, stripes_hold_the_bytes,
+    worked_codewords,
+};
