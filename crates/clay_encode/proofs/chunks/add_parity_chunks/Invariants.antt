@@ -1,0 +1,6 @@
+use Rattle.clay_encode.specs.Chunks.{contents}
+use Rattle.clay_encode.specs.Columns.{AddsParity}
+use Rattle.clay_encode.proofs.chunks.add_parity_chunks.Given as goal
+
+abbrev pub invariant-loop-x : goal.invariant-loop-x
+invariant-loop-x l = AddsParity l.g l.column l.x (contents l.initial.chunks.items) (contents l.chunks.items)

@@ -1,0 +1,5 @@
+use Rattle.clay_encode.specs.Columns.{HoldsUncoupled}
+use Rattle.clay_encode.proofs.columns.uncouple_layer.Given as goal
+
+abbrev pub invariant-loop-node : goal.invariant-loop-node
+invariant-loop-node l = HoldsUncoupled l.g l.stripe l.z l.node l.layer
