@@ -1,0 +1,12 @@
+use Rattle.std.proofs.Common.{◌≡◌, ℕ, ◌<◌, List, [], length, get_or, All}
+use Rattle.clay_grid.specs.Shape.{chunk_length}
+use Rattle.clay_encode.specs.Chunks.{contents}
+use Rattle.clay_decode.specs.Left.{Completes}
+use Rattle.clay_decode.proofs.chunks.recover.Given as goal
+
+abbrev pub invariant-loop-c : goal.invariant-loop-c
+invariant-loop-c l = record {
+  count : length (contents l.chunks.items) ≡ l.c;
+  lengths : All (λ chunk. length chunk ≡ chunk_length l.g) (contents l.chunks.items);
+  value : (word : List (List ℕ)) → Completes l.g l.have word → (i : ℕ) → i < l.c → get_or (contents l.chunks.items) i [] ≡ get_or word i [];
+}

@@ -1,0 +1,168 @@
+//! The chunks, from the values that are found.
+ghost use Rattle.std.specs.Prelude.{◌≡◌, ℕ, ◌+◌, ◌*◌, ◌<◌, ◌≤◌, ◌↔◌, List, [], length, IfOk, IsErrOf, All, slice_index_or, true, false, count_by, is_none, None, Some};
+ghost use Rattle.clay_grid.specs.Shape.{Shape, chunk_count, node_count, layer_count, chunk_length, node_of_chunk};
+ghost use Rattle.clay_encode.specs.Chunks.{contents};
+ghost use Rattle.clay_decode.specs.Left.{AreLong, Completes};
+ghost use Rattle.clay_decode.specs.Solved.{IsPlan, IsCoupled, HoldsLayer, HoldsSubchunks};
+
+use crate::fault::DecodeFault;
+use crate::layers::{partner_of, piece, solved_piece, solved_values};
+use crate::plan::{Plan, make_plan, zeros};
+use clay_grid::Geometry;
+use clay_model::{couple, uncouple};
+use std::alloc::{AllocError, Global};
+
+/// Writes subchunk `z` of an erased node.
+fn couple_piece(
+    g: Geometry,
+    have: &[Option<Vec<u8>>],
+    plan: &Plan,
+    solved: &[u8],
+    node: u32,
+    z: u32,
+    out: &mut [u8],
+)
+    requires plan { IsPlan g have.now plan.now.erased.items plan.now.points.items plan.now.layers.items plan.now.zeros.items }
+    requires solved_len { length solved.now ≡ layer_count g * (length plan.now.points.items * g.width) }
+    requires holds { (n : ℕ) → n < layer_count g → HoldsLayer g have.now plan.now.points.items n solved.now }
+    requires node { node < node_count g }
+    requires erased { slice_index_or plan.now.erased.items node false ≡ true }
+    requires layer { z < layer_count g }
+    requires out_len { length out.old ≡ g.width }
+    ensures { IsCoupled g have.now node z out.new }
+{
+    let own = solved_piece(g, have, plan, solved, node, z);
+    let partner = partner_of(g, node, z);
+    if partner.node == node {
+        out.copy_from_slice(own);
+    } else if plan.erased[partner.node as usize] {
+        couple(
+            own,
+            solved_piece(g, have, plan, solved, partner.node, partner.layer),
+            out,
+        );
+    } else {
+        // the uncoupled value is the coupled one plus twice the partner's, so the coupled one is the uncoupled one plus the same
+        uncouple(own, piece(g, have, plan, partner.node, partner.layer), out);
+    }
+}
+
+/// Writes the chunk of an erased node.
+fn couple_chunk(
+    g: Geometry,
+    have: &[Option<Vec<u8>>],
+    plan: &Plan,
+    solved: &[u8],
+    node: u32,
+    chunk: &mut [u8],
+)
+    requires plan { IsPlan g have.now plan.now.erased.items plan.now.points.items plan.now.layers.items plan.now.zeros.items }
+    requires solved_len { length solved.now ≡ layer_count g * (length plan.now.points.items * g.width) }
+    requires holds { (n : ℕ) → n < layer_count g → HoldsLayer g have.now plan.now.points.items n solved.now }
+    requires node { node < node_count g }
+    requires erased { slice_index_or plan.now.erased.items node false ≡ true }
+    requires chunk_len { length chunk.old ≡ chunk_length g }
+    ensures { HoldsSubchunks g have.now node (layer_count g) chunk.new }
+{
+    let w = g.w() as usize;
+    for z in 0..g.alpha() {
+        let at = z as usize * w;
+        couple_piece(g, have, plan, solved, node, z, &mut chunk[at..at + w]);
+    }
+}
+
+/// A chunk that is missing.
+fn missing_chunk(
+    alloc: Global,
+    g: Geometry,
+    have: &[Option<Vec<u8>>],
+    plan: &Plan,
+    solved: &[u8],
+    c: u32,
+) -> Result<Vec<u8>, AllocError>
+    requires plan { IsPlan g have.now plan.now.erased.items plan.now.points.items plan.now.layers.items plan.now.zeros.items }
+    requires solved_len { length solved.now ≡ layer_count g * (length plan.now.points.items * g.width) }
+    requires holds { (n : ℕ) → n < layer_count g → HoldsLayer g have.now plan.now.points.items n solved.now }
+    requires chunk { c < chunk_count g }
+    requires missing { slice_index_or have.now c None ≡ None }
+    ensures len { IfOk result (λ v. length v.items ≡ chunk_length g) }
+    ensures value { IfOk result (λ v. (word : List (List ℕ)) → Completes g have.now word → v.items ≡ slice_index_or word c []) }
+{
+    let node = g.node_of_chunk(c);
+    let mut chunk = zeros(alloc, g.alpha() as usize * g.w() as usize)?;
+    couple_chunk(g, have, plan, solved, node, &mut chunk);
+    Ok(chunk)
+}
+
+/// A chunk, which is copied where it is there.
+fn chunk(
+    alloc: Global,
+    g: Geometry,
+    have: &[Option<Vec<u8>>],
+    plan: &Plan,
+    solved: &[u8],
+    c: u32,
+) -> Result<Vec<u8>, AllocError>
+    requires plan { IsPlan g have.now plan.now.erased.items plan.now.points.items plan.now.layers.items plan.now.zeros.items }
+    requires solved_len { length solved.now ≡ layer_count g * (length plan.now.points.items * g.width) }
+    requires holds { (n : ℕ) → n < layer_count g → HoldsLayer g have.now plan.now.points.items n solved.now }
+    requires chunk { c < chunk_count g }
+    ensures len { IfOk result (λ v. length v.items ≡ chunk_length g) }
+    ensures value { IfOk result (λ v. (word : List (List ℕ)) → Completes g have.now word → v.items ≡ slice_index_or word c []) }
+{
+    match &have[c as usize] {
+        Some(bytes) => bytes.clone(),
+        None => missing_chunk(alloc, g, have, plan, solved, c),
+    }
+}
+
+/// The chunks, of which no more are missing than there are parity chunks.
+pub fn recover(
+    alloc: Global,
+    g: Geometry,
+    have: &[Option<Vec<u8>>],
+) -> Result<Vec<Vec<u8>>, AllocError>
+    requires count { length have.now ≡ chunk_count g }
+    requires lengths { AreLong (chunk_length g) have.now }
+    requires few { count_by is_none have.now ≤ g.parity_count }
+    ensures count { IfOk result (λ chunks. length (contents chunks.items) ≡ chunk_count g) }
+    ensures lengths { IfOk result (λ chunks. All (λ chunk. length chunk ≡ chunk_length g) (contents chunks.items)) }
+    ensures value { IfOk result (λ chunks. (word : List (List ℕ)) → Completes g have.now word → contents chunks.items ≡ word) }
+{
+    let plan = make_plan(alloc, g, have)?;
+    let solved = solved_values(alloc, g, have, &plan)?;
+    let mut chunks = Vec::with_capacity(alloc, g.n() as usize)?;
+    for c in 0..g.n() {
+        chunks.push(chunk(alloc, g, have, &plan, &solved, c)?)?;
+    }
+    Ok(chunks)
+}
+
+/// The number of chunks that are missing.
+pub fn missing_count(have: &[Option<Vec<u8>>]) -> usize
+    ensures { result ≡ count_by is_none have.now }
+{
+    have.iter().filter(|chunk| chunk.is_none()).count()
+}
+
+/// The chunks of the codeword that agrees with the chunks that are there, where one does. The chunks that are there stay as they are.
+///
+/// `have` has an entry for each chunk, `None` for a missing one. Where no codeword agrees, the others are some bytes: `decode_checked`
+/// tells.
+pub fn decode(
+    alloc: Global,
+    g: Geometry,
+    have: &[Option<Vec<u8>>],
+) -> Result<Vec<Vec<u8>>, DecodeFault>
+    requires count { length have.now ≡ chunk_count g }
+    requires lengths { AreLong (chunk_length g) have.now }
+    ensures too_few { IsErrOf result DecodeFault.TooFew ↔ (g.parity_count < count_by is_none have.now) }
+    ensures count { IfOk result (λ chunks. length (contents chunks.items) ≡ chunk_count g) }
+    ensures lengths { IfOk result (λ chunks. All (λ chunk. length chunk ≡ chunk_length g) (contents chunks.items)) }
+    ensures value { IfOk result (λ chunks. (word : List (List ℕ)) → Completes g have.now word → contents chunks.items ≡ word) }
+{
+    if missing_count(have) > g.m() as usize {
+        return Err(DecodeFault::TooFew);
+    }
+    Ok(recover(alloc, g, have)?)
+}
