@@ -1,0 +1,36 @@
+//! The coder of one thread.
+use crate::coder::Coder;
+use clay_decode::{DecodeFault, decode};
+use clay_grid::Geometry;
+use std::alloc::{AllocError, Global};
+use std::thread::Threads;
+
+/// Codes in the thread of its caller.
+#[derive(Clone, Copy, Debug, PartialEq, Eq)]
+pub struct PlainCoder;
+
+impl Coder for PlainCoder {
+    fn encode<R: Threads + Sync>(
+        &self,
+        _rt: &R,
+        alloc: Global,
+        g: Geometry,
+        stripe: &[u8],
+    ) -> Result<Vec<Vec<u8>>, AllocError> {
+        clay_encode::encode(alloc, g, stripe)
+    }
+
+    fn recover<R: Threads + Sync>(
+        &self,
+        _rt: &R,
+        alloc: Global,
+        g: Geometry,
+        have: &[Option<Vec<u8>>],
+    ) -> Result<Vec<Vec<u8>>, AllocError> {
+        match decode(alloc, g, have) {
+            Ok(chunks) => Ok(chunks),
+            Err(DecodeFault::OutOfMemory) => Err(AllocError),
+            Err(DecodeFault::TooFew) => unreachable!(),
+        }
+    }
+}
