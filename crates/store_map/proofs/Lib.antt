@@ -1,0 +1,4 @@
+pub mod MapLemmas
+pub mod Outcomes
+pub mod MapLaws
+pub mod LimitLaws

@@ -1,0 +1,17 @@
+use Rattle.std.proofs.Common.{refl}
+use Rattle.store_map.proofs.LimitLaws.{stripes_met-start}
+use Rattle.store_map.proofs.laws.rows_of_the_limits.Goals as goal
+
+pub returns-clause-rows : goal.returns-clause-rows
+returns-clause-rows c = record {
+  no_bytes = refl;
+  one_stripe = refl;
+  two_stripes = refl;
+  three_stripes = refl;
+  stripes = refl;
+  bytes = refl;
+  tries = refl;
+}
+
+pub returns-clause-puts : goal.returns-clause-puts
+returns-clause-puts c = stripes_met-start

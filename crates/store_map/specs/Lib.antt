@@ -1,0 +1,9 @@
+pub mod Name
+pub mod Content
+pub mod PlainMap
+pub mod History
+pub mod Limits
+pub mod Naming
+pub mod WorkedRows
+pub mod Laws
+pub mod LimitRows

@@ -1,0 +1,53 @@
+ghost use Rattle.std.specs.Prelude.{◌≡◌};
+
+use crate::actor::Token;
+use crate::call::{Call, Rebuild};
+use crate::limits::{DEFAULT_SIZE, DEFAULT_TRIES};
+use crate::list_of::ListOf;
+use clay_grid::Geometry;
+
+/// A client's calls in order, and the most steps that its last call may make.
+#[derive(PartialEq, Eq, Debug, Drop)]
+pub struct ClientPart {
+    pub calls: ListOf<Call>,
+    pub leave: Option<u32>,
+}
+
+/// A repairer's calls in order, and the most steps that its last call may make.
+#[derive(PartialEq, Eq, Debug, Drop)]
+pub struct RepairPart {
+    pub calls: ListOf<Rebuild>,
+    pub leave: Option<u32>,
+}
+
+/// A whole script: the code, the greatest length of an object, how often a write tries to commit,
+/// the calls of each actor, and the order of their steps.
+#[derive(Drop)]
+pub struct Script {
+    pub geometry: Geometry,
+    /// The greatest length of an object in bytes, [`DEFAULT_SIZE`](crate::DEFAULT_SIZE) where none is given.
+    pub size: Option<u32>,
+    /// How often a write tries to commit, [`DEFAULT_TRIES`](crate::DEFAULT_TRIES) where none is given.
+    pub tries: Option<u32>,
+    pub clients: ListOf<ClientPart>,
+    pub repairers: ListOf<RepairPart>,
+    pub schedule: ListOf<Token>,
+}
+
+impl Script {
+    ghost use Rattle.store_map.specs.Limits.{size_of, tries_of};
+
+    /// The greatest length that an object of this script may have, in bytes.
+    pub fn max_size(&self) -> u32
+        ensures { result ≡ size_of self.now }
+    {
+        self.size.unwrap_or(DEFAULT_SIZE)
+    }
+
+    /// How often a write of this script tries to commit.
+    pub fn max_tries(&self) -> u32
+        ensures { result ≡ tries_of self.now }
+    {
+        self.tries.unwrap_or(DEFAULT_TRIES)
+    }
+}
