@@ -1,0 +1,14 @@
+ghost use Rattle.std.specs.Prelude.{◌≡◌, ◌∷◌, ◌++◌, IfSome, IfNone};
+ghost use Rattle.script_text.specs.Lines.{Lacks};
+
+use memchr::memchr;
+
+/// The text before the first of these bytes, and the text behind it.
+pub fn split_at_first(byte: u8, text: &[u8]) -> Option<(&[u8], &[u8])>
+    ensures found { IfSome result (λ parts. text.now ≡ parts.0.now ++ byte ∷ parts.1.now) }
+    ensures first { IfSome result (λ parts. Lacks byte parts.0.now) }
+    ensures none { IfNone result (Lacks byte text.now) }
+{
+    let at = memchr(byte, text)?;
+    Some((&text[..at], &text[at + 1..]))
+}
