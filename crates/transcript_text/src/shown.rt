@@ -1,0 +1,9 @@
+use store_map::Reply;
+
+/// What a line of the history shows of a call.
+#[derive(Debug, Drop)]
+pub enum Shown {
+    Reply(Reply),
+    /// The call took effect and its caller got no reply. Printed `open`.
+    Unfinished,
+}

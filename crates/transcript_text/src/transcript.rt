@@ -1,0 +1,14 @@
+use crate::line::{GLine, HLine, LLine, OLine, RLine, TLine, XLine};
+use store_map::ListOf;
+
+/// The lines of a run, kind by kind in the order in which they are written.
+#[derive(Debug, Drop)]
+pub struct Transcript {
+    pub history: ListOf<HLine>,
+    pub refused: ListOf<XLine>,
+    pub repairs: ListOf<RLine>,
+    pub unanswered: ListOf<OLine>,
+    pub objects: ListOf<LLine>,
+    pub takes: ListOf<GLine>,
+    pub servers: ListOf<TLine>,
+}
