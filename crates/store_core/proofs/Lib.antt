@@ -1,0 +1,14 @@
+pub mod Places
+pub mod Gatherings
+pub mod Causes
+pub mod Asks
+pub mod Memory
+pub mod Held
+pub mod Cuts
+pub mod Grows
+pub mod Falls
+pub mod GatheringFalls
+pub mod RebuildFalls
+pub mod Filters
+pub mod WriteFalls
+pub mod Steps

@@ -1,0 +1,79 @@
+-- The history that a core shows: its points, with the replies of the plain map there.
+use Rattle.std.specs.Prelude.{ℕ, ◌+◌, Bool, true, false, List, [], ◌∷◌, ◌++◌, Option, None, Some, option_and_then}
+use Rattle.std.specs.List.{slice_get}
+use Rattle.store_map.specs.PlainMap.{Objects, apply}
+use Rattle.store_map.specs.Limits.{size_of}
+use Rattle.store_map.specs.declared.actor.Actor.{Actor}
+use Rattle.store_map.specs.declared.actor.Actor.TheVariants as actor
+use Rattle.store_map.specs.declared.call.Call.{Call}
+use Rattle.store_map.specs.declared.reply.Reply.{Reply}
+use Rattle.store_map.specs.declared.reply.Reply.TheVariants as reply
+use Rattle.store_map.specs.declared.script.Script.{Script}
+use Rattle.transcript_text.specs.declared.call_name.CallName.{CallName}
+use Rattle.transcript_text.specs.declared.call_name.CallName.TheVariants as name
+use Rattle.transcript_text.specs.declared.shown.Shown.{Shown}
+use Rattle.transcript_text.specs.declared.shown.Shown.TheVariants as shown
+use Rattle.transcript_text.specs.declared.line.HLine.{HLine}
+use Rattle.store_core.specs.Act.{Outcome}
+use Rattle.store_core.specs.Directory.{Mark, Point}
+use Rattle.store_core.specs.Core.{Core}
+use Rattle.store_core.specs.Work.{Ended}
+
+-- an outcome with a reply
+abbrev pub is_answered : Outcome → Bool
+is_answered (Outcome.Answered point reply) = true
+is_answered (Outcome.Served point) = true
+is_answered _ = false
+
+-- a client's call in the script
+abbrev pub call_of : Script → Actor → ℕ → Option Call
+call_of script (actor.Client i) number = option_and_then (λ part. slice_get part.calls number) (slice_get script.clients i)
+call_of script who number = None
+
+-- whether there is such an outcome
+abbrev pub is_answer : Option Ended → Bool
+is_answer None = false
+is_answer (Some ended) = is_answered ended.outcome
+
+-- whether a client's call was answered
+abbrev pub answered_in : Core → Actor → ℕ → Bool
+answered_in core (actor.Client i) number = is_answer (option_and_then (λ calling. slice_get calling.ended number) (slice_get core.clients i))
+answered_in core who number = false
+
+-- the map's reply to the call of a point, and the map after it; a reap changes nothing
+abbrev pub applied : ℕ → Objects → Mark → Option Call → Objects × Reply
+applied max objects Mark.Reaped call = (objects, reply.NoSuch)
+applied max objects mark None = (objects, reply.NoSuch)
+applied max objects mark (Some call) = apply max call objects
+
+-- what a point shows: the map's reply there if the call was answered; a commit without an answer shows as open, a pinned look without one not at all
+abbrev pub shown_at : Mark → Bool → Reply → Option Shown
+shown_at (Mark.Answer given) answered mapped = Some (shown.Reply given)
+shown_at Mark.Pinned true mapped = Some (shown.Reply mapped)
+shown_at Mark.Pinned false mapped = None
+shown_at Mark.Done true mapped = Some (shown.Reply reply.Done)
+shown_at Mark.Done false mapped = Some shown.Unfinished
+shown_at Mark.Reaped answered mapped = None
+
+-- how a call is named; the sweeper and the operator have none
+abbrev pub name_of : Actor → ℕ → Option CallName
+name_of (actor.Client i) number = Some (name.Client i number)
+name_of (actor.Repairer i) number = Some (name.Repairer i number)
+name_of who number = None
+
+-- the line of a point that shows something
+abbrev pub line_of : ℕ → Option CallName → Option Shown → List HLine
+line_of point (Some call) (Some reply) = record { point = point; call = call; reply = reply } ∷ []
+line_of point call reply = []
+
+-- the lines of the points from one on, over the map that stands there
+abbrev pub history_from : Script → Core → ℕ → Objects → List Point → List HLine
+history_from script core place objects [] = []
+history_from script core place objects (point ∷ points) =
+    let after : Objects × Reply = applied (size_of script) objects point.mark (call_of script point.actor point.number) in
+    line_of place (name_of point.actor point.number) (shown_at point.mark (answered_in core point.actor point.number) after.1)
+    ++ history_from script core (place + 1) after.0 points
+
+-- the lines of all points, from the empty map on
+abbrev pub history_of : Script → Core → List HLine
+history_of script core = history_from script core 0 [] core.directory.points

@@ -1,0 +1,79 @@
+-- A worked row: a script, and the transcript that it shows where memory is ample.
+use Rattle.std.specs.Prelude.{◌≡◌, ℕ, List, [], None}
+use Rattle.store_map.specs.declared.reply.Reply.{Reply}
+use Rattle.store_map.specs.declared.script.Script.{Script}
+use Rattle.transcript_text.specs.declared.call_name.CallName.{CallName}
+use Rattle.transcript_text.specs.declared.shown.Shown.TheVariants as shown
+use Rattle.transcript_text.specs.declared.cause.Triple.{Triple}
+use Rattle.transcript_text.specs.declared.cause.Cause.{Cause}
+use Rattle.transcript_text.specs.declared.cause.RepairResult.{RepairResult}
+use Rattle.transcript_text.specs.declared.line.HLine.{HLine}
+use Rattle.transcript_text.specs.declared.line.XLine.{XLine}
+use Rattle.transcript_text.specs.declared.line.RLine.{RLine}
+use Rattle.transcript_text.specs.declared.line.OLine.{OLine}
+use Rattle.transcript_text.specs.declared.line.LLine.{LLine}
+use Rattle.transcript_text.specs.declared.line.GLine.{GLine}
+use Rattle.transcript_text.specs.declared.line.TLine.{TLine}
+use Rattle.transcript_text.specs.declared.transcript.Transcript.{Transcript}
+use Rattle.store_core.specs.Shown.{shown_of}
+
+-- a script and its transcript
+pub record Row : Type 0 where
+  pub script : Script
+  pub transcript : Transcript
+
+-- the definitions compute the transcript from the script
+abbrev pub Shows : Row → Type 0
+Shows row = shown_of row.script [] ≡ row.transcript
+
+-- stripes of 8 bytes over 4 servers, which begin the rows' scripts
+abbrev pub small_script : Script
+small_script =
+    record {
+      geometry = record { data_count = 2; parity_count = 2; width = 1 };
+      size = None;
+      tries = None;
+      clients = [];
+      repairers = [];
+      schedule = [];
+    }
+
+-- a transcript without lines
+abbrev pub no_lines : Transcript
+no_lines = record { history = []; refused = []; repairs = []; unanswered = []; objects = []; takes = []; servers = [] }
+
+-- the lines of a transcript, in short
+abbrev pub replied : ℕ → CallName → Reply → HLine
+replied point call reply = record { point = point; call = call; reply = shown.Reply reply }
+
+-- a call that has taken effect and has no reply
+abbrev pub unfinished : ℕ → CallName → HLine
+unfinished point call = record { point = point; call = call; reply = shown.Unfinished }
+
+-- a call that was refused
+abbrev pub refused : CallName → Cause → XLine
+refused call cause = record { call = call; cause = cause }
+
+-- a rebuild and its result
+abbrev pub repaired : CallName → RepairResult → RLine
+repaired call result = record { call = call; result = result }
+
+-- a call without a reply
+abbrev pub unanswered : CallName → OLine
+unanswered call = record { call = call }
+
+-- an object at the end
+abbrev pub listed : List ℕ → ℕ → LLine
+listed name length = record { name = name; length = length }
+
+-- what a call took from each server
+abbrev pub took : CallName → List ℕ → GLine
+took call takes = record { call = call; takes = takes }
+
+-- a server at the end
+abbrev pub server : ℕ → ℕ → ℕ → ℕ → TLine
+server number taken held epoch = record { server = number; taken = taken; held = held; epoch = epoch }
+
+-- a server that lacked its chunk
+abbrev pub triple : ℕ → ℕ → ℕ → Triple
+triple server placed found = record { server = server; placed = placed; found = found }

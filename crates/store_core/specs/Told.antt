@@ -1,0 +1,49 @@
+-- What a step is answered.
+use Rattle.std.specs.Prelude.{ℕ, List, Option}
+use Rattle.store_map.specs.declared.reply.Reply.{Reply}
+
+-- a pinned stripe: its version that was current, and the epoch of each server when that version's chunk was placed there
+pub record Seen : Type 0 where
+  pub stripe : ℕ
+  pub version : ℕ
+  pub placed : List ℕ
+
+-- a server that lacked its chunk: its epoch when the chunk was placed, and the epoch that it answered
+pub record Lost : Type 0 where
+  pub server : ℕ
+  pub placed : ℕ
+  pub found : ℕ
+
+-- an answer of a step, with numbers alone
+pub data Told : Type 0 where
+  -- the directory to a client's look: a reply of the map at a point, or pinned stripes
+  Answer : (point : ℕ) (reply : Reply) → Told
+  Pinned : (point length : ℕ) (stripes : List Seen) → Told
+  Ready : (base : Option ℕ) (length : ℕ) (stripes : List Seen) → Told
+  -- the directory to a repairer's look
+  NoSuch : Told
+  PinnedStripe : (seen : Seen) → Told
+  -- the directory to the holder of a pass
+  Versions : (versions : List ℕ) → Told
+  Done : (point : ℕ) → Told
+  Changed : (base newer : ℕ) → Told
+  Ended : Told
+  Current : Told
+  Superseded : (newer : ℕ) → Told
+  Reaped : (point : ℕ) → Told
+  -- the directory to the sweeper and to the operator, where there was something to take or to give up
+  Taken : (version : Option ℕ) → Told
+  GivenUp : (point : Option ℕ) → Told
+  -- a server
+  Placed : (epoch : ℕ) → Told
+  Settled : Told
+  Here : Told
+  Missing : (epoch : ℕ) → Told
+  Given : (layers : ℕ) → Told
+  AlreadyThere : Told
+  -- a step that answers nothing
+  Made : Told
+  -- memory was wanting in the step, or in the coding before it
+  Short : Told
+  -- stands for all that a gathering was told that has its bytes
+  Gathered : Told

@@ -1,0 +1,73 @@
+//! What the definitions say, as functions that do nothing and whose contracts are the laws.
+
+ghost use Rattle.std.specs.Prelude.{ℕ};
+ghost use Rattle.clay_grid.specs.Shape.{Shape};
+ghost use Rattle.store_map.specs.declared.script.Script.{Script};
+ghost use Rattle.store_core.specs.HeldLaws.{HoldsInOrder};
+ghost use Rattle.store_core.specs.MemoryLaws.{IsHeardWhereTaken};
+ghost use Rattle.store_core.specs.StepLaws.{StepsFall};
+ghost use Rattle.store_core.specs.NextAct.{Job};
+ghost use Rattle.store_core.specs.PlaceLaws.{ServersCountUp, DirectoryKeepsPlaces};
+ghost use Rattle.store_core.specs.ActorLaws.{ActsChangeOnePlace, StepsChangeOneActor};
+ghost use Rattle.store_core.specs.AskLaws.{AsksFewTimes};
+ghost use Rattle.store_core.specs.CauseLaws.{OutcomesHaveCauses};
+ghost use Rattle.store_core.specs.CutLaws.{CutsChangeNoAct};
+ghost use Rattle.store_core.specs.GatherLaws.{GatheringsEnd};
+ghost use Rattle.store_core.specs.Run.{Run};
+
+/// No step at a server lowers its epoch or its count of subchunks taken.
+pub fn servers_count_up()
+    ensures { ServersCountUp }
+{}
+
+/// At the directory points and versions only come, and each is told as the place at which it stands.
+pub fn points_and_versions_are_places()
+    ensures { DirectoryKeepsPlaces }
+{}
+
+/// A step changes the directory or one server, and one actor.
+pub fn steps_change_one_place()
+    ensures place { ActsChangeOnePlace }
+    ensures actor { (script : Script) (run : Run) → StepsChangeOneActor script run }
+{}
+
+/// A gathering names servers as missing exactly when one more than there are parity chunks have
+/// told it so, with the epochs that they answered, in that order.
+pub fn gatherings_end_at_too_many()
+    ensures { GatheringsEnd }
+{}
+
+/// Each outcome of a call has its cause among what the call was told: a reply or a commit at that
+/// point, a reap, too many servers without their chunk, all tries lost, and for a rebuild that its
+/// chunk was placed, was there, or that its version was superseded.
+pub fn outcomes_have_causes()
+    ensures { OutcomesHaveCauses }
+{}
+
+/// How often a gathering asks servers at most, and how often a call prepares and settles chunks.
+pub fn calls_ask_few_times()
+    ensures { AsksFewTimes }
+{}
+
+/// Want of memory leaves everything as it was at a step that takes memory, and isn't heard at any
+/// other.
+pub fn want_of_memory_is_heard_where_memory_is_taken()
+    ensures { IsHeardWhereTaken }
+{}
+
+/// What a server holds stands in rising order, each version once; a chunk that comes or goes
+/// changes nothing of the others.
+pub fn servers_hold_versions_in_order()
+    ensures { HoldsInOrder }
+{}
+
+/// A gathering that is told in one entry stands for all that it was told.
+pub fn cuts_change_no_act()
+    ensures { CutsChangeNoAct }
+{}
+
+/// The steps that a call has left, by what it was told, fall at each of its steps, from its bound
+/// on. A get or a read pins at most so many stripes, a write at most two.
+pub fn steps_left_fall()
+    ensures { (g : Shape) (tries pins : ℕ) (job : Job) → StepsFall g tries pins job }
+{}
