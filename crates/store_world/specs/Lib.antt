@@ -1,0 +1,4 @@
+pub mod OneClient
+pub mod Shown
+pub mod Laws
+pub mod Worked

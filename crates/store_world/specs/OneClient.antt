@@ -1,0 +1,17 @@
+-- Scripts of one client, in one run to the end.
+use Rattle.std.specs.Prelude.{◌≡◌, List, [], ◌∷◌, None}
+use Rattle.store_map.specs.declared.actor.Token.TheVariants.{Drain}
+use Rattle.store_map.specs.declared.call.Call.{Call}
+use Rattle.store_map.specs.declared.script.ClientPart.{ClientPart}
+use Rattle.store_map.specs.declared.script.Script.{Script}
+
+-- the calls of the first client
+abbrev pub calls_of : List ClientPart → List Call
+calls_of [] = []
+calls_of (part ∷ others) = part.calls
+
+-- one client with no step limit, no repairer, and a schedule of one drain
+pub record HasOneClient (script : Script) : Type 0 where
+  pub alone : script.clients ≡ record { calls = calls_of script.clients; leave = None } ∷ []
+  pub no_repairer : script.repairers ≡ []
+  pub to_the_end : script.schedule ≡ Drain ∷ []
