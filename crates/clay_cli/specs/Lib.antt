@@ -1,0 +1,5 @@
+pub mod Words
+pub mod Play
+pub mod Chunks
+pub mod Recover
+pub mod Top

@@ -1,0 +1,13 @@
+//! The program's commands, from their words and input to their output.
+#![tactic(auto)]
+
+mod chunks;
+mod output;
+mod play;
+mod recover;
+mod status;
+mod top;
+mod words;
+
+pub use status::Status;
+pub use top::clay_main;
