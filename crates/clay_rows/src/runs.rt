@@ -1,0 +1,42 @@
+// One call of the program over a source and a sink in memory.
+use clay_bytes::{MemSink, MemSource};
+use clay_cli::{Status, clay_main};
+use std::test::Fail;
+
+/// How a call ended, and what it wrote.
+#[derive(Drop)]
+pub struct Ran {
+    pub status: Status,
+    pub written: Vec<u8>,
+}
+
+/// Calls the program where the reads and the writes of these numbers fail.
+pub fn run_failing(
+    rt: &HostRuntime,
+    words: &[&str],
+    input: &[u8],
+    reads: &[u64],
+    writes: &[u64],
+) -> Result<Ran, Fail> {
+    let alloc = rt.alloc();
+    let mut owned = Vec::new(alloc);
+    for word in words {
+        owned.push(String::from_str(alloc, word)?)?;
+    }
+    let mut source = MemSource::new(
+        Vec::from_slice(alloc, input)?,
+        Vec::from_slice(alloc, reads)?,
+    );
+    let mut sink = MemSink::new(
+        Vec::with_capacity(alloc, 65536)?,
+        Vec::from_slice(alloc, writes)?,
+    );
+    let status = clay_main(rt, alloc, &owned, &mut source, &mut sink);
+    let written = Vec::from_slice(alloc, sink.kept())?;
+    Ok(Ran { status, written })
+}
+
+/// Calls the program where nothing fails.
+pub fn run(rt: &HostRuntime, words: &[&str], input: &[u8]) -> Result<Ran, Fail> {
+    run_failing(rt, words, input, &[], &[])
+}
