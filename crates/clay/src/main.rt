@@ -3,13 +3,23 @@
 
 use clay_bytes::{StdSink, StdSource};
 use clay_cli::{Status, clay_main};
+use std::env;
+use std::io::{self, ErrorKind};
 use std::process::ExitCode;
-use std::{env, io};
 
+// The words after the program's name. Where one of them isn't UTF-8 they are an empty word, which is no command's.
 fn words_of(rt: &HostRuntime) -> io::Result<Vec<String>> {
     let mut words = Vec::new(rt.alloc());
-    for word in env::args(rt)?.skip(1) {
-        words.push(word)?;
+    match env::args(rt) {
+        Ok(args) => {
+            for word in args.skip(1) {
+                words.push(word)?;
+            }
+        }
+        Err(error) if error.kind() == ErrorKind::InvalidData => {
+            words.push(String::new(rt.alloc()))?;
+        }
+        Err(error) => return Err(error),
     }
     Ok(words)
 }

@@ -40,6 +40,7 @@ fn answer<S: Source>(alloc: Global, command: Command, source: &mut S) -> Result<
     ensures silent { IfErr result IsSilent }
     ensures too_long { IfErr result (λ status. status ≡ Status.InputTooLong → IsCutOff (S.left source.old) 167772161 (S.left source.new)) }
     ensures in_budget { (IsErrOf result Status.InputTooLong → ⊥) → GivesAtMost (S.left source.old) 167772160 (S.left source.new) }
+    ensures read_steady { (IsErrOf result Status.ReadFault → ⊥) → S.faults source.new ≡ S.faults source.old }
     ensures read_fault { IfErr result (λ status. status ≡ Status.ReadFault → Rises (S.faults source.old) (S.faults source.new)) }
 {
     match read_all(alloc, source, INPUT_LIMIT) {
@@ -54,6 +55,7 @@ fn answer<S: Source>(alloc: Global, command: Command, source: &mut S) -> Result<
 fn write_out<K: Sink>(sink: &mut K, bytes: &[u8], wanted: Status) -> Status
     ensures whole { (result ≡ Status.WriteFault → ⊥) → (result ≡ wanted) × Gains (K.written sink.old) bytes.now (K.written sink.new) }
     ensures prefix { result ≡ Status.WriteFault → wanted ≢ Status.WriteFault → IsPrefixWritten (K.written sink.old) bytes.now (K.written sink.new) × Rises (K.faults sink.old) (K.faults sink.new) }
+    ensures steady { (result ≡ Status.WriteFault → ⊥) → K.faults sink.new ≡ K.faults sink.old }
     ensures which { (result ≡ wanted) ⊎ (result ≡ Status.WriteFault) }
 {
     match write_all(sink, bytes) {
@@ -79,7 +81,8 @@ pub fn clay_main<R, S: Source, K: Sink>(
         ⊎ ((result ≡ Status.WriteFault) × IsPrefixWritten (K.written sink.old) usage_line (K.written sink.new))) }
     ensures usage_only { result ≡ Status.Usage → AsksNothing (map string_bytes words.now) }
     ensures output { IsOfInput result → WhereTold (S.left source.old) (λ input.
-        (output : List ℕ) × Owes (map string_bytes words.now) input result output × Gains (K.written sink.old) output (K.written sink.new)) }
+        (length input ≤ 167772160)
+        × ((output : List ℕ) × Owes (map string_bytes words.now) input result output × Gains (K.written sink.old) output (K.written sink.new))) }
     ensures prefix { result ≡ Status.WriteFault → (AsksNothing (map string_bytes words.now) → ⊥) → WhereTold (S.left source.old) (λ input.
         (status : Status) × (output : List ℕ) × Owes (map string_bytes words.now) input status output
         × IsPrefixWritten (K.written sink.old) output (K.written sink.new)) }
@@ -88,6 +91,8 @@ pub fn clay_main<R, S: Source, K: Sink>(
     ensures in_budget { (result ≡ Status.InputTooLong → ⊥) → GivesAtMost (S.left source.old) 167772160 (S.left source.new) }
     ensures read_fault { result ≡ Status.ReadFault → Rises (S.faults source.old) (S.faults source.new) }
     ensures write_fault { result ≡ Status.WriteFault → Rises (K.faults sink.old) (K.faults sink.new) }
+    ensures read_steady { (result ≡ Status.ReadFault → ⊥) → S.faults source.new ≡ S.faults source.old }
+    ensures write_steady { (result ≡ Status.WriteFault → ⊥) → K.faults sink.new ≡ K.faults sink.old }
     ensures complete { (AsksNothing (map string_bytes words.now) → ⊥) → WhereTold (S.left source.old) (λ input. length input ≤ 167772160 →
         (Rises (S.faults source.old) (S.faults source.new) → ⊥) → (Rises (K.faults sink.old) (K.faults sink.new) → ⊥) →
         IsOfInput result ⊎ (result ≡ Status.OutOfMemory)) }

@@ -34,7 +34,7 @@ pub data DirectoryStep : Type 0 where
   Swept : (version : ℕ) → DirectoryStep
   Reap : (actor : Actor) → DirectoryStep
 
--- the kinds of step at a server, each of a version; the last two are the sweeper's and the operator's
+-- the kinds of step at a server, each but the last of a version; the last two are the sweeper's and the operator's
 pub data ServerStep : Type 0 where
   Prepare : (version : ℕ) → ServerStep
   Settle : (version : ℕ) → ServerStep

@@ -31,7 +31,7 @@ abbrev pub swept_standing : Standing → Standing
 swept_standing Standing.Taken = Standing.Swept
 swept_standing standing = standing
 
--- the pass stays until its actor's next step, and is marked with the point of its reap
+-- the pass stays until its actor's next step at the directory, and is marked with the point of its reap
 abbrev pub reap_pass : Pass → Option ℕ → Directory → Directory × Told
 reap_pass pass (Some point) d = (d, Told.GivenUp None)
 reap_pass pass None d =

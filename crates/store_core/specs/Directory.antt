@@ -11,7 +11,7 @@ pub record Object : Type 0 where
   pub length : ℕ
   pub versions : List ℕ
 
--- a version is drawn, then current, then superseded; the sweeper takes it and has swept it
+-- a version is drawn, then current, then superseded, or superseded at once where its call gives it up; the sweeper takes it and has swept it
 pub data Standing : Type 0 where
   Drawn Current Superseded Taken Swept : Standing
 
@@ -29,7 +29,7 @@ pub record Pin : Type 0 where
   pub stripe : ℕ
   pub version : ℕ
 
--- a call that has begun: its pins, what it drew, the last change of its object when it began, and where it was reaped
+-- a call that has begun: its pins, what it drew, of a write the last change of its object when it looked, and where it was reaped
 pub record Pass : Type 0 where
   pub actor : Actor
   pub number : ℕ

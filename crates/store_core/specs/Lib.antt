@@ -32,6 +32,7 @@ pub mod Shown
 pub mod Content
 pub mod Lengths
 pub mod Replay
+pub mod SoundPasses
 pub mod Sound
 pub mod Agreement
 pub mod PlaceLaws

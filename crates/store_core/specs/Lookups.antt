@@ -42,7 +42,7 @@ abbrev pub is_current_standing : Standing → Bool
 is_current_standing Standing.Current = true
 is_current_standing _ = false
 
--- of a version that stands there no more, and that the sweeper has not taken
+-- of a version that stands in no object and is drawn by no call, and that the sweeper has not taken
 abbrev pub is_superseded_standing : Standing → Bool
 is_superseded_standing Standing.Superseded = true
 is_superseded_standing _ = false

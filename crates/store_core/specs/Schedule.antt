@@ -30,7 +30,7 @@ round script run =
     let after_repairers : Run = fold (λ r i. repairer_step script i r) after_clients (range_with_len 0 (length script.repairers)) in
     sweep_if (sweeper_has_step after_repairers.core) script after_repairers
 
--- rounds until a whole round makes no step; fuel is more than the rounds that there can be
+-- rounds until a whole round makes no step; fuel is at least as many as the rounds that there can be
 abbrev pub drain_by : ℕ → Script → Run → Run
 drain_by zero script run = run
 drain_by (suc fuel) script run = elim (is_unfinished script run.core) [ true ↦ drain_by fuel script (round script run) | false ↦ run ]

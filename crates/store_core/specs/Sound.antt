@@ -1,24 +1,18 @@
 -- When a directory is sound.
-use Rattle.std.specs.Prelude.{◌≡◌, ◌≢◌, ℕ, ◌+◌, ◌<◌, ◌≤◌, ◌⊎◌, [], length, map, take, get_or, Some, All, AllPairs, IfSome, IsTrue, IsFalse}
+use Rattle.std.specs.Prelude.{◌≡◌, ◌≢◌, ℕ, ◌<◌, ◌≤◌, ◌⊎◌, [], length, map, get_or, Some, All, AllPairs, IfSome, IsTrue, IsFalse}
 use Rattle.std.specs.List.{slice_get}
 use Rattle.clay_grid.specs.Shape.{stripe_length, chunk_count}
 use Rattle.store_map.specs.Limits.{stripes_met}
-use Rattle.store_map.specs.declared.reply.Reply.TheVariants as reply
 use Rattle.store_core.specs.Lists.{is_among}
-use Rattle.store_core.specs.Note.{Note, Kind}
-use Rattle.store_core.specs.Directory.{Object, Standing, Version, Pass, Mark, Point, Directory}
-use Rattle.store_core.specs.Lookups.{same_actor, find_object, last_change, is_live}
-use Rattle.store_core.specs.PassSteps.{touched}
-use Rattle.store_core.specs.Replay.{Replays, lengths_after}
-use Rattle.store_core.specs.Lengths.{Lengths, apply_length}
+use Rattle.store_core.specs.Directory.{Object, Standing, Version, Mark, Point, Directory}
+use Rattle.store_core.specs.Lookups.{same_actor, is_live}
+use Rattle.store_core.specs.Replay.{Replays}
+use Rattle.store_core.specs.Lengths.{Lengths}
+use Rattle.store_core.specs.SoundPasses.{Stands, IsLive, IsOfItsCall}
 
 -- the objects' names and lengths
 abbrev pub lengths_of : Directory → Lengths
 lengths_of d = map (λ object. (object.name, object.length)) d.objects
-
--- the version with this number has such a standing
-abbrev pub Stands : Directory → Standing → ℕ → Type 0
-Stands d standing number = IfSome (slice_get d.versions number) (λ version. version.standing ≡ standing) × (number < length d.versions)
 
 -- an object has a version for each stripe that its bytes meet, all of them current
 pub record HasItsVersions (d : Directory) (object : Object) : Type 0 where
@@ -36,29 +30,6 @@ pub record AreInOrder (p q : Point) : Type 0 where
   pub numbers : IsTrue (same_actor p.actor q.actor) → p.number ≤ q.number
   pub once : IsTrue (same_actor p.actor q.actor) → p.number ≡ q.number → p.mark ≢ Mark.Reaped → q.mark ≡ Mark.Reaped
 
--- the map replies ok to a call after the first so many points
-abbrev pub IsAllowed : Directory → Note → ℕ → Type 0
-IsAllowed d note count = (apply_length d.max note (lengths_after d.max (take count d.points))).1 ≡ reply.Done
-
--- where its object wasn't changed since, a write pins current versions of the stripes that it names
-abbrev pub PinsCurrent : Directory → Pass → Type 0
-PinsCurrent d pass =
-    pass.base ≡ last_change pass.note.name d.points →
-    All (λ pin. IfSome (find_object pass.note.name d.objects) (λ object. slice_get object.versions pin.stripe ≡ Some pin.version)) pass.pinned
-
--- a put is allowed after every point, a write after its base
-abbrev pub IsRight : Directory → Pass → Kind → Type 0
-IsRight d pass Kind.Put = (count : ℕ) → count ≤ length d.points → IsAllowed d pass.note count
-IsRight d pass Kind.Write = PinsCurrent d pass × IfSome pass.base (λ base. IsAllowed d pass.note (base + 1))
-IsRight d pass _ = pass.drawn ≡ []
-
--- a pass that isn't reaped
-pub record IsLive (d : Directory) (pass : Pass) : Type 0 where
-  pub pins : All (λ pin. Stands d Standing.Current pin.version ⊎ Stands d Standing.Superseded pin.version) pass.pinned
-  pub drawn : All (Stands d Standing.Drawn) pass.drawn
-  pub all_drawn : (pass.drawn ≡ []) ⊎ (length pass.drawn ≡ length (touched d pass.note))
-  pub call : IsRight d pass pass.note.kind
-
 -- a version's placed epochs are one for each server, or none yet
 pub record IsPlaced (d : Directory) (version : Version) : Type 0 where
   pub all_or_none : (version.placed ≡ []) ⊎ (length version.placed ≡ chunk_count d.shape)
@@ -72,6 +43,7 @@ pub record IsSound (d : Directory) : Type 0 where
   pub points : AllPairs AreInOrder d.points
   pub passes : AllPairs (λ p q. IsFalse (same_actor p.actor q.actor)) d.passes
   pub live : All (λ pass. IsTrue (is_live pass.reaped) → IsLive d pass) d.passes
+  pub newest : All (λ pass. All (IsOfItsCall pass) d.points) d.passes
   pub apart : AllPairs (λ p q. All (λ version. IsFalse (is_among version q.drawn)) p.drawn) d.passes
   pub listed : (number : ℕ) → Stands d Standing.Current number → (i : ℕ) × (i < length d.objects) × IfSome (slice_get d.objects i) (λ object. IsTrue (is_among number object.versions))
   pub placed : All (IsPlaced d) d.versions
