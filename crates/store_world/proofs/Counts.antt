@@ -12,9 +12,10 @@ use Rattle.store_map.specs.declared.script.Script.{Script}
 use Rattle.transcript_text.specs.declared.call_name.CallName.TheVariants.{Client}
 use Rattle.transcript_text.specs.declared.shown.Shown.TheVariants.{Reply as Replied}
 use Rattle.store_world.specs.OneClient.{calls_of}
-use Rattle.store_world.specs.Shown.{marked, unmarked, answers, refusal, listing, numbers_of, refused_of, shown_of}
+use Rattle.store_world.specs.Marks.{marked, unmarked}
+use Rattle.store_world.specs.Shown.{answers, refusal, listing, numbers_of, refused_of, shown_of}
 use Rattle.store_world.specs.Laws.{none_wanting, is_call, AnswersAll, HasEachCallOnce}
-use Rattle.store_world.proofs.Marks.{length-replies_from, unmarked-lengths, length-answers}
+use Rattle.store_world.proofs.RunLemmas.{length-replies_from, unmarked-lengths, length-answers}
 
 count-cons : {X : Type 0} (p : X → Bool) (x : X) (xs : List X) → count_by p (x ∷ xs) ≡ cond (p x) 1 0 + count_by p xs
 count-cons p x xs = sum_by-cons (λ x. cond (p x) 1 0) x xs

@@ -1,3 +1,3 @@
-pub mod Marks
+pub mod RunLemmas
 pub mod Counts
 pub mod OneClientLemmas

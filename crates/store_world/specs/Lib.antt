@@ -1,3 +1,4 @@
+pub mod Marks
 pub mod OneClient
 pub mod Shown
 pub mod Laws

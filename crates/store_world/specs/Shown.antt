@@ -1,5 +1,5 @@
 -- What a run of one client shows. A mark for each call says whether memory was wanting for it.
-use Rattle.std.specs.Prelude.{◌≡◌, ℕ, ◌+◌, Bool, List, [], ◌∷◌, map, length, if◌then◌else◌}
+use Rattle.std.specs.Prelude.{◌≡◌, ℕ, ◌+◌, Bool, List, [], ◌∷◌, map, length}
 use Rattle.std.specs.List.{range_with_len}
 use Rattle.store_map.specs.PlainMap.{Objects}
 use Rattle.store_map.specs.History.{map_after, replies_of}
@@ -14,19 +14,8 @@ use Rattle.transcript_text.specs.declared.line.XLine.{XLine}
 use Rattle.transcript_text.specs.declared.line.LLine.{LLine}
 use Rattle.transcript_text.specs.declared.shown.Shown.TheVariants.{Reply as Replied}
 use Rattle.transcript_text.specs.declared.transcript.Transcript.{Transcript}
+use Rattle.store_world.specs.Marks.{marked, unmarked}
 use Rattle.store_world.specs.OneClient.{calls_of}
-
--- the items at the marked places, in order
-abbrev pub marked : {A : Type 0} → List Bool → List A → List A
-marked [] items = []
-marked (mark ∷ marks) [] = []
-marked (mark ∷ marks) (item ∷ items) = if mark then item ∷ marked marks items else marked marks items
-
--- the items at the other places, in order
-abbrev pub unmarked : {A : Type 0} → List Bool → List A → List A
-unmarked [] items = []
-unmarked (mark ∷ marks) [] = []
-unmarked (mark ∷ marks) (item ∷ items) = if mark then unmarked marks items else item ∷ unmarked marks items
 
 -- the calls with these numbers and replies, at one point after the other
 abbrev pub answers : ℕ → List ℕ → List Reply → List HLine
@@ -35,9 +24,11 @@ answers point (number ∷ numbers) [] = []
 answers point (number ∷ numbers) (reply ∷ replies) =
     record { point = point; call = Client 0 number; reply = Replied reply } ∷ answers (point + 1) numbers replies
 
+-- the line of a call for which memory was wanting
 abbrev pub refusal : ℕ → XLine
 refusal number = record { call = Client 0 number; cause = NoMemory }
 
+-- the line of an object
 abbrev pub listing : List ℕ × List ℕ → LLine
 listing object = record { name = object.0; length = length object.1 }
 
@@ -57,6 +48,7 @@ refused_of calls short = map refusal (marked short (numbers_of calls))
 abbrev pub objects_of : ℕ → List Call → List Bool → Objects
 objects_of max calls short = map_after max (unmarked short calls)
 
+-- the transcript where memory was wanting for the marked calls
 abbrev pub shown_of : Script → List Bool → Transcript
 shown_of script short =
     record {

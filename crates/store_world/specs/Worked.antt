@@ -18,9 +18,11 @@ client_of size calls =
       schedule = Drain ∷ [];
     }
 
+-- an object of eight bytes is put and read again
 abbrev pub put_then_get : Script
 put_then_get = client_of None (Put (codes "a") (Hex (1 ∷ 0 ∷ 0 ∷ 0 ∷ 0 ∷ 0 ∷ 0 ∷ 0 ∷ [])) ∷ Get (codes "a") ∷ [])
 
+-- what it shows where no memory was wanting
 abbrev pub put_then_get_text : List ℕ
 put_then_get_text =
     codes "H 0 c0.0 ok\n"
@@ -28,7 +30,7 @@ put_then_get_text =
     ++ codes "L a 8\n"
     ++ codes "end\n"
 
--- the same where memory was wanting for the put
+-- and where memory was wanting for the put
 abbrev pub put_refused_text : List ℕ
 put_refused_text = codes "H 0 c0.1 nosuch\n" ++ codes "X c0.0 nomem\n" ++ codes "end\n"
 
@@ -49,6 +51,7 @@ each_reply =
     ∷ []
     )
 
+-- what it shows
 abbrev pub each_reply_text : List ℕ
 each_reply_text =
     codes "H 0 c0.0 nosuch\n"

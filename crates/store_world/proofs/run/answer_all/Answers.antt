@@ -1,5 +1,5 @@
 use Rattle.std.proofs.Common.{◌∙◌}
-use Rattle.store_world.proofs.Marks.{answered_step, refused_step}
+use Rattle.store_world.proofs.RunLemmas.{answered_step, refused_step}
 use Rattle.store_world.proofs.run.answer_all.Goals as goal
 use Rattle.store_world.proofs.run.answer_all.Goals.{in-Ok+in_ok-push-in-Ok, in-Err+in_ok-push-in-Err}
 

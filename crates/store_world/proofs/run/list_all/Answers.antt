@@ -1,5 +1,5 @@
 use Rattle.std.proofs.Common.{◌≤◌, ◌++◌, ◌∷◌, [], length, refl, arith, ap, ◌∙◌}
-use Rattle.store_world.proofs.Marks.{listing-more}
+use Rattle.store_world.proofs.RunLemmas.{listing-more}
 use Rattle.store_world.proofs.run.list_all.Goals as goal
 use Rattle.store_world.proofs.run.list_all.Goals.{in-Some+in_ok-copy+in_ok-push, in_default}
 

@@ -15,7 +15,8 @@ use Rattle.transcript_text.specs.declared.call_name.CallName.TheVariants.{Client
 use Rattle.transcript_text.specs.declared.line.HLine.{HLine}
 use Rattle.transcript_text.specs.declared.line.XLine.{XLine}
 use Rattle.transcript_text.specs.declared.shown.Shown.TheVariants.{Reply as Replied}
-use Rattle.store_world.specs.Shown.{marked, unmarked, answers, refusal, listing, numbers_of, history_of, refused_of, objects_of, AreAnswered}
+use Rattle.store_world.specs.Marks.{marked, unmarked}
+use Rattle.store_world.specs.Shown.{answers, refusal, listing, numbers_of, history_of, refused_of, objects_of, AreAnswered}
 
 unmarked-more : {A : Type 0} (marks : List Bool) (items : List A) (item : A) → length marks ≡ length items
     → unmarked (marks ++ false ∷ []) (items ++ item ∷ []) ≡ unmarked marks items ++ item ∷ []
