@@ -20,7 +20,7 @@ use Rattle.store_core.specs.AskLaws.{IsAsking, IsPreparing, IsSettling, AsksFewT
 abbrev one_if : Bool → ℕ
 one_if b = cond b 1 0
 
-among_filter : (p : ℕ → Bool) (a k i : ℕ) → a ≤ i → i < a + k → p i ≡ true → is_among i (filter p (range_with_len a k)) ≡ true
+pub among_filter : (p : ℕ → Bool) (a k i : ℕ) → a ≤ i → i < a + k → p i ≡ true → is_among i (filter p (range_with_len a k)) ≡ true
 among_filter p a zero i low high e = absurd (omega (arith, low, high))
 among_filter p a (suc k) i low high e = elim (cases_eq i a) as (λ _. is_among i (cond (p a) (a ∷ filter p (range_with_len (a + 1) k)) (filter p (range_with_len (a + 1) k))) ≡ true) [
   | inl same ↦ at_first same

@@ -1,5 +1,5 @@
 -- The steps that a call has left fall at each of its steps.
-use Rattle.std.proofs.Common.{◌≡◌, ℕ, ◌+◌, ◌*◌, ◌<◌, ◌≤◌, max, List, [], ◌∷◌, ◌++◌, length, filter, refl, sym, ap, subst, ◌∙◌, arith, mul_comm, two-mul, add-mul, mul-le-mul_right}
+use Rattle.std.proofs.Common.{◌≡◌, ℕ, suc, ◌+◌, ◌*◌, ◌<◌, ◌≤◌, max, List, [], ◌∷◌, ◌++◌, length, filter, drop, refl, sym, ap, subst, ◌∙◌, arith, mul_comm, two-mul, add-mul, mul-le-mul_right}
 use Rattle.clay_grid.specs.Shape.{Shape, chunk_count}
 use Rattle.store_core.specs.Lists.{places_of, in_rows}
 use Rattle.store_core.specs.Told.{Told}
@@ -8,11 +8,16 @@ use Rattle.store_core.specs.Act.{Act, DirectoryStep, ServerStep, Outcome}
 use Rattle.store_core.specs.GatheringParts.{ending}
 use Rattle.store_core.specs.Put.{settling, committed, committing, preparing, drawing, next_put}
 use Rattle.store_core.specs.Read.{next_single}
-use Rattle.store_core.specs.NextAct.{Job}
-use Rattle.store_core.specs.Tell.{is_versions, is_changed}
+use Rattle.store_core.specs.NextAct.{Job, next_by}
+use Rattle.store_core.specs.Tell.{is_versions, is_changed, tell_by}
 use Rattle.store_core.specs.StepsLeft.{ending_left, settling_left, committed_left, committing_left, preparing_left, drawing_left, put_left, single_left}
-use Rattle.store_core.specs.StepLaws.{DirectoryAnswers, ServerAnswers, Answers, Falls}
+use Rattle.store_core.specs.Answers.{DirectoryAnswers, ServerAnswers, Answers}
 use Rattle.store_core.proofs.Asks.{count_places}
+
+-- each answer to a call of this kind leaves fewer steps
+abbrev pub FallsBy : Kind → (List Told → ℕ) → ℕ → ℕ → Shape → ℕ → Job → Type 0
+FallsBy kind left pins touched g tries job =
+    (told : List Told) (answer : Told) → Answers pins touched (next_by kind g tries job told) answer → left (tell_by kind g job told answer) < left told
 
 -- an answer after which nothing is cut but gatherings
 abbrev pub IsKept : Told → Type 0
@@ -143,6 +148,29 @@ committed_no_commit g versions (Told.Done point ∷ told) h = settling_no_commit
 committed_no_commit g versions [] h = h
 committed_no_commit g versions (_ ∷ told) h = h
 
+-- ---- how many rows of placed epochs go with the commit
+abbrev pub CommitsRows : ℕ → Act → Type 0
+CommitsRows count (Act.AtDirectory (DirectoryStep.Commit placed)) = length placed ≡ count
+CommitsRows count _ = Unit {0}
+
+length-in_rows : (width : ℕ) (versions numbers : List ℕ) → length (in_rows width versions numbers) ≡ length versions
+length-in_rows width [] numbers = refl
+length-in_rows width (version ∷ versions) numbers = ap suc (length-in_rows width versions (drop width numbers))
+
+ending_rows : (count : ℕ) (outcome : Outcome) (told : List Told) → CommitsRows count (ending outcome told)
+ending_rows count outcome [] = tt
+ending_rows count outcome (Told.Ended ∷ told) = tt
+ending_rows count outcome (Told.Reaped point ∷ told) = tt
+ending_rows count outcome (_ ∷ told) = ending_rows count Outcome.NoMemory told
+
+preparing_rows : (g : Shape) (versions : List ℕ) (places : List (ℕ × ℕ)) (epochs : List ℕ) (told : List Told) → CommitsRows (length versions) (preparing g versions places epochs told)
+preparing_rows g versions [] epochs [] = length-in_rows (chunk_count g) versions epochs
+preparing_rows g versions [] epochs (Told.Reaped point ∷ told) = tt
+preparing_rows g versions [] epochs (_ ∷ told) = ending_rows (length versions) Outcome.NoMemory told
+preparing_rows g versions (place ∷ places) epochs [] = tt
+preparing_rows g versions (place ∷ places) epochs (Told.Placed epoch ∷ told) = preparing_rows g versions places (epochs ++ epoch ∷ []) told
+preparing_rows g versions (place ∷ places) epochs (_ ∷ told) = ending_rows (length versions) Outcome.NoMemory told
+
 record AllPrepared (after : ℕ) (places : List (ℕ × ℕ)) (told : List Told) : Type 0 where
   versions : filter is_versions told ≡ []
   changed : filter is_changed told ≡ []
@@ -164,13 +192,20 @@ pub record IsDrawn (g : Shape) (tries_after touched : ℕ) (told : List Told) : 
   pub versions : filter is_versions told ≡ Told.Versions drawn ∷ []
   pub changed : filter is_changed told ≡ []
   pub left : drawing_left g tries_after touched told ≡ max tries_after (length (places_of (chunk_count g) drawn)) + 1
+  pub rows : CommitsRows (length drawn) (drawing g told)
 
 pub is_drawn : (g : Shape) (tries_after touched : ℕ) (told : List Told) → AtCommit (drawing g told) → IsDrawn g tries_after touched told
 is_drawn g tries_after touched [] h = absurd h
 is_drawn g tries_after touched (Told.Versions drawn ∷ told) h =
     let after : ℕ = max tries_after (length (places_of (chunk_count g) drawn)) in
     let rest : AllPrepared after (places_of (chunk_count g) drawn) told = all_prepared after g drawn (places_of (chunk_count g) drawn) [] told h in
-    record { drawn = drawn; versions = ap (λ l. Told.Versions drawn ∷ l) rest.versions; changed = rest.changed; left = rest.left }
+    record {
+      drawn = drawn;
+      versions = ap (λ l. Told.Versions drawn ∷ l) rest.versions;
+      changed = rest.changed;
+      left = rest.left;
+      rows = preparing_rows g drawn (places_of (chunk_count g) drawn) [] told;
+    }
 is_drawn g tries_after touched (Told.Reaped point ∷ told) h = absurd h
 is_drawn g tries_after touched (_ ∷ told) h = absurd (ending_no_commit Outcome.NoMemory told h)
 
@@ -216,7 +251,7 @@ module _ (g : Shape) (pins touched : ℕ) where
   put_changed note (Told.Versions versions ∷ told) base newer h = absurd (committed_no_commit g versions told h)
   put_changed note (_ ∷ told) base newer h = absurd h
 
-pub put_all : (g : Shape) (pins touched tries : ℕ) (job : Job) → Falls Kind.Put (put_left g touched) pins touched g tries job
+pub put_all : (g : Shape) (pins touched tries : ℕ) (job : Job) → FallsBy Kind.Put (put_left g touched) pins touched g tries job
 put_all g pins touched tries job told (Told.Done point) h =
     put_done g pins touched job.note told point (done_at_commit pins touched point (next_put g job.note told) h)
 put_all g pins touched tries job told (Told.Changed base newer) h =
@@ -230,19 +265,19 @@ single_falls pins touched note [] answer h = omega arith
 single_falls pins touched note (Told.Answer point reply ∷ told) answer h = absurd h
 single_falls pins touched note (_ ∷ told) answer h = absurd h
 
-single_no_commit : (note : Note) (told : List Told) → AtCommit (next_single note told) → ⊥
+pub single_no_commit : (note : Note) (told : List Told) → AtCommit (next_single note told) → ⊥
 single_no_commit note [] h = h
 single_no_commit note (Told.Answer point reply ∷ told) h = h
 single_no_commit note (_ ∷ told) h = h
 
-pub stat_all : (g : Shape) (pins touched tries : ℕ) (job : Job) → Falls Kind.Stat single_left pins touched g tries job
+pub stat_all : (g : Shape) (pins touched tries : ℕ) (job : Job) → FallsBy Kind.Stat single_left pins touched g tries job
 stat_all g pins touched tries job told (Told.Done point) h =
     absurd (single_no_commit job.note told (done_at_commit pins touched point (next_single job.note told) h))
 stat_all g pins touched tries job told (Told.Changed base newer) h =
     absurd (single_no_commit job.note told (changed_at_commit pins touched base newer (next_single job.note told) h))
 stat_all g pins touched tries job told answer h = single_falls pins touched job.note told answer h
 
-pub delete_all : (g : Shape) (pins touched tries : ℕ) (job : Job) → Falls Kind.Delete single_left pins touched g tries job
+pub delete_all : (g : Shape) (pins touched tries : ℕ) (job : Job) → FallsBy Kind.Delete single_left pins touched g tries job
 delete_all g pins touched tries job told (Told.Done point) h =
     absurd (single_no_commit job.note told (done_at_commit pins touched point (next_single job.note told) h))
 delete_all g pins touched tries job told (Told.Changed base newer) h =

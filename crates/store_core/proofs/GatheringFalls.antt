@@ -13,10 +13,10 @@ use Rattle.store_core.specs.Tell.{in_one, cut_parts, cut_read}
 use Rattle.store_core.specs.AskLaws.{IsAsking}
 use Rattle.store_core.specs.StepsLeft.{ending_left}
 use Rattle.store_core.specs.GatheringLeft.{result_left, gathering_left, read_left}
-use Rattle.store_core.specs.StepLaws.{DirectoryAnswers, ServerAnswers, Answers, Falls}
+use Rattle.store_core.specs.Answers.{DirectoryAnswers, ServerAnswers, Answers}
 use Rattle.store_core.proofs.Asks.{part_asks}
 use Rattle.store_core.proofs.Grows.{JustEnded, Grows, part_start, part_grows}
-use Rattle.store_core.proofs.Falls.{IsKept, AtCommit, ending_falls, ending_no_commit, done_at_commit, changed_at_commit}
+use Rattle.store_core.proofs.Falls.{FallsBy, IsKept, AtCommit, ending_falls, ending_no_commit, done_at_commit, changed_at_commit}
 
 -- no act is answered that a gathering has its bytes
 abbrev pub IsPlain : Told → Type 0
@@ -151,7 +151,7 @@ module _ (g : Shape) (pins touched : ℕ) where
       (parts_of g note length_now stripes) told answer h kept
   read_falls note (_ ∷ told) answer h kept = absurd h
 
-  read_cut_left : (note : Note) (told : List Told) → read_left g pins note (cut_read g note told) ≡ read_left g pins note told
+  pub read_cut_left : (note : Note) (told : List Told) → read_left g pins note (cut_read g note told) ≡ read_left g pins note told
   read_cut_left note (Told.Pinned point length_now stripes ∷ told) = cut_left g ending_left (omega arith) (parts_of g note length_now stripes) told
   read_cut_left note told = refl
 
@@ -168,14 +168,14 @@ gathering_no_commit g (part ∷ parts) next never (Told.Gathered ∷ told) h = g
 gathering_no_commit g (part ∷ parts) next never told h =
     act_no_commit part.seen.stripe (gathering g parts next) (gathering_no_commit g parts next never) (gather_part g part told) h
 
-read_no_commit : (g : Shape) (note : Note) (told : List Told) → AtCommit (next_read g note told) → ⊥
+pub read_no_commit : (g : Shape) (note : Note) (told : List Told) → AtCommit (next_read g note told) → ⊥
 read_no_commit g note [] h = h
 read_no_commit g note (Told.Answer point reply ∷ told) h = h
 read_no_commit g note (Told.Pinned point length_now stripes ∷ told) h =
     gathering_no_commit g (parts_of g note length_now stripes) (ending (Outcome.Served point)) (ending_no_commit (Outcome.Served point)) told h
 read_no_commit g note (_ ∷ told) h = h
 
-pub get_all : (g : Shape) (pins touched tries : ℕ) (job : Job) → Falls Kind.Get (read_left g pins job.note) pins touched g tries job
+pub get_all : (g : Shape) (pins touched tries : ℕ) (job : Job) → FallsBy Kind.Get (read_left g pins job.note) pins touched g tries job
 get_all g pins touched tries job told (Told.Done point) h =
     absurd (read_no_commit g job.note told (done_at_commit pins touched point (next_read g job.note told) h))
 get_all g pins touched tries job told (Told.Changed base newer) h =
@@ -183,7 +183,7 @@ get_all g pins touched tries job told (Told.Changed base newer) h =
 get_all g pins touched tries job told answer h =
     subst (λ n. n < read_left g pins job.note told) (sym (read_cut_left g pins touched job.note (told ++ answer ∷ []))) (read_falls g pins touched job.note told answer h tt)
 
-pub read_all : (g : Shape) (pins touched tries : ℕ) (job : Job) → Falls Kind.ReadAt (read_left g pins job.note) pins touched g tries job
+pub read_all : (g : Shape) (pins touched tries : ℕ) (job : Job) → FallsBy Kind.ReadAt (read_left g pins job.note) pins touched g tries job
 read_all g pins touched tries job told (Told.Done point) h =
     absurd (read_no_commit g job.note told (done_at_commit pins touched point (next_read g job.note told) h))
 read_all g pins touched tries job told (Told.Changed base newer) h =

@@ -11,6 +11,7 @@ use Rattle.store_core.specs.Told.{Seen, Lost, Told}
 use Rattle.store_core.specs.Gathering.{Gathering, Part, servers_but, lost_at, unless_too_many, fetching_whole, recovering, fetching_repair, making, looking}
 use Rattle.store_core.specs.GatheringParts.{chunks_in_range, after_data, fetching_data, gather_part, gather_chunk}
 use Rattle.store_core.specs.GatherLaws.{epochs_missing, FoundEnough, FoundNoRoom, Ends, GatheringsEnd}
+use Rattle.store_core.proofs.Apart.{part_apart, chunk_apart}
 
 -- ---- asking one server fewer leaves at most one fewer
 abbrev outside : ℕ → (ℕ → Bool) → ℕ → Bool
@@ -219,4 +220,4 @@ chunk_ends g seen target (Told.Missing epoch ∷ told) h =
 chunk_ends g seen target (answer ∷ told) h = no_room g answer told
 
 pub gatherings_end : GatheringsEnd
-gatherings_end = record { part = part_ends; chunk = chunk_ends }
+gatherings_end = record { part = part_ends; chunk = chunk_ends; part_apart = part_apart; chunk_apart = chunk_apart }

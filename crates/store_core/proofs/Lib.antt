@@ -1,4 +1,5 @@
 pub mod Places
+pub mod Apart
 pub mod Gatherings
 pub mod Causes
 pub mod Asks
@@ -11,4 +12,14 @@ pub mod GatheringFalls
 pub mod RebuildFalls
 pub mod Filters
 pub mod WriteFalls
+pub mod Shorts
 pub mod Steps
+pub mod Stripes
+pub mod PlaceAnswers
+pub mod Sweeps
+pub mod Questions
+pub mod NoRoom
+pub mod GoesOn
+pub mod Commits
+pub mod Ends
+pub mod Gathered

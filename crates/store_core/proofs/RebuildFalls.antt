@@ -11,10 +11,10 @@ use Rattle.store_core.specs.NextAct.{Job}
 use Rattle.store_core.specs.Tell.{in_one, cut_chunk, cut_rebuild}
 use Rattle.store_core.specs.AskLaws.{IsAsking}
 use Rattle.store_core.specs.GatheringLeft.{result_left, placing_left, installing_left, confirming_left, rebuilding_left, rebuild_left}
-use Rattle.store_core.specs.StepLaws.{Answers, Falls}
+use Rattle.store_core.specs.Answers.{Answers}
 use Rattle.store_core.proofs.Asks.{chunk_asks}
 use Rattle.store_core.proofs.Grows.{chunk_grows}
-use Rattle.store_core.proofs.Falls.{IsKept, AtCommit, ending_falls, ending_no_commit, done_at_commit, changed_at_commit}
+use Rattle.store_core.proofs.Falls.{FallsBy, IsKept, AtCommit, ending_falls, ending_no_commit, done_at_commit, changed_at_commit}
 use Rattle.store_core.proofs.GatheringFalls.{IsPlain, is_plain, result_falls, act_no_commit}
 
 module _ (pins touched : ℕ) where
@@ -93,7 +93,7 @@ chunk_cut_left : (g : Shape) (seen : Seen) (target : ℕ) (told : List Told) →
 chunk_cut_left g seen target (Told.Gathered ∷ told) = refl
 chunk_cut_left g seen target told = one_chunk_left g seen target told (gather_chunk g seen target told) refl
 
-rebuild_cut_left : (g : Shape) (target : ℕ) (told : List Told) → rebuild_left g target (cut_rebuild g target told) ≡ rebuild_left g target told
+pub rebuild_cut_left : (g : Shape) (target : ℕ) (told : List Told) → rebuild_left g target (cut_rebuild g target told) ≡ rebuild_left g target told
 rebuild_cut_left g target (Told.PinnedStripe seen ∷ told) = chunk_cut_left g seen target told
 rebuild_cut_left g target told = refl
 
@@ -120,13 +120,13 @@ rebuilding_no_commit : (g : Shape) (seen : Seen) (target : ℕ) (told : List Tol
 rebuilding_no_commit g seen target (Told.Gathered ∷ told) h = confirming_no_commit seen target told h
 rebuilding_no_commit g seen target told h = act_no_commit seen.stripe (confirming seen target) (confirming_no_commit seen target) (gather_chunk g seen target told) h
 
-rebuild_no_commit : (g : Shape) (note : Note) (target : ℕ) (told : List Told) → AtCommit (next_rebuild g note target told) → ⊥
+pub rebuild_no_commit : (g : Shape) (note : Note) (target : ℕ) (told : List Told) → AtCommit (next_rebuild g note target told) → ⊥
 rebuild_no_commit g note target [] h = h
 rebuild_no_commit g note target (Told.NoSuch ∷ told) h = h
 rebuild_no_commit g note target (Told.PinnedStripe seen ∷ told) h = rebuilding_no_commit g seen target told h
 rebuild_no_commit g note target (_ ∷ told) h = h
 
-pub rebuild_all : (g : Shape) (pins touched tries : ℕ) (job : Job) → job.target < chunk_count g → Falls Kind.Rebuild (rebuild_left g job.target) pins touched g tries job
+pub rebuild_all : (g : Shape) (pins touched tries : ℕ) (job : Job) → job.target < chunk_count g → FallsBy Kind.Rebuild (rebuild_left g job.target) pins touched g tries job
 rebuild_all g pins touched tries job below told (Told.Done point) h =
     absurd (rebuild_no_commit g job.note job.target told (done_at_commit pins touched point (next_rebuild g job.note job.target told) h))
 rebuild_all g pins touched tries job below told (Told.Changed base newer) h =

@@ -1,36 +1,55 @@
--- The steps left fall for each kind of call.
-use Rattle.std.proofs.Common.{ℕ, ◌+◌, ◌*◌, ◌≤◌, refl, arith}
+-- The steps left fall, for a call of any kind.
+use Rattle.std.proofs.Common.{◌≡◌, ℕ, ◌+◌, ◌*◌, ◌<◌, ◌≤◌, List, [], refl, arith}
 use Rattle.clay_grid.specs.Shape.{Shape, chunk_count}
-use Rattle.store_core.specs.Bounds.{touched_count}
-use Rattle.store_core.specs.NextAct.{Job}
+use Rattle.store_core.specs.Told.{Told}
+use Rattle.store_core.specs.Note.{Kind}
+use Rattle.store_core.specs.Answers.{Answers}
+use Rattle.store_core.specs.Bounds.{touched_count, read_count, bound_by}
+use Rattle.store_core.specs.NextAct.{Job, next_by}
+use Rattle.store_core.specs.Tell.{tell_by}
 use Rattle.store_core.specs.GatheringLeft.{try_steps}
-use Rattle.store_core.specs.StepLaws.{BeginsAtBound, StepsFall}
+use Rattle.store_core.specs.CallLeft.{pins_by, pin_bound, left_by}
+use Rattle.store_core.specs.StepLaws.{StepsFall}
 use Rattle.store_core.proofs.Falls.{put_all, stat_all, delete_all}
 use Rattle.store_core.proofs.GatheringFalls.{get_all, read_all}
 use Rattle.store_core.proofs.RebuildFalls.{rebuild_all}
 use Rattle.store_core.proofs.WriteFalls.{write_all}
+use Rattle.store_core.proofs.Shorts.{short_by}
+
+as_many : (a : ℕ) → a ≤ a
+as_many a = omega arith
 
 one_less : (a b : ℕ) → a + b ≤ a + b + 1
 one_less a b = omega arith
 
-begins_at_bound : (g : Shape) (tries pins : ℕ) (job : Job) → BeginsAtBound g tries pins job
-begins_at_bound g tries pins job =
-    record {
-      get = refl;
-      put = refl;
-      write = one_less (tries * try_steps g (touched_count g job.note)) (chunk_count g * touched_count g job.note);
-      rebuild = refl;
-    }
+-- at first a call has no more steps left than its bound
+first_by : (kind : Kind) (g : Shape) (max tries : ℕ) (job : Job)
+    → left_by kind g tries (pins_by kind g max job.note) job [] ≤ bound_by kind (chunk_count g) tries (touched_count g job.note) (read_count kind g max job.note)
+first_by Kind.Put g max tries job = as_many (2 * chunk_count g * touched_count g job.note + 3)
+first_by Kind.Write g max tries job = one_less (tries * try_steps g (touched_count g job.note)) (chunk_count g * touched_count g job.note)
+first_by Kind.Get g max tries job = as_many (3 * chunk_count g * read_count Kind.Get g max job.note + 2)
+first_by Kind.ReadAt g max tries job = as_many (3 * chunk_count g * read_count Kind.ReadAt g max job.note + 2)
+first_by Kind.Stat g max tries job = as_many 1
+first_by Kind.Delete g max tries job = as_many 1
+first_by Kind.Rebuild g max tries job = as_many (3 * chunk_count g + 3)
 
-pub steps_fall : (g : Shape) (tries pins : ℕ) (job : Job) → StepsFall g tries pins job
-steps_fall g tries pins job =
+-- each answer leaves fewer
+falls_by : (kind : Kind) (g : Shape) (max tries : ℕ) (job : Job) (told : List Told) (answer : Told) → (kind ≡ Kind.Rebuild → job.target < chunk_count g)
+    → Answers (pins_by kind g max job.note) (touched_count g job.note) (next_by kind g tries job told) answer
+    → left_by kind g tries (pins_by kind g max job.note) job (tell_by kind g job told answer) < left_by kind g tries (pins_by kind g max job.note) job told
+falls_by Kind.Put g max tries job told answer target h = put_all g (pins_by Kind.Put g max job.note) (touched_count g job.note) tries job told answer h
+falls_by Kind.Write g max tries job told answer target h = write_all g (touched_count g job.note) tries job told answer h
+falls_by Kind.Get g max tries job told answer target h = get_all g (pins_by Kind.Get g max job.note) (touched_count g job.note) tries job told answer h
+falls_by Kind.ReadAt g max tries job told answer target h = read_all g (pins_by Kind.ReadAt g max job.note) (touched_count g job.note) tries job told answer h
+falls_by Kind.Stat g max tries job told answer target h = stat_all g (pins_by Kind.Stat g max job.note) (touched_count g job.note) tries job told answer h
+falls_by Kind.Delete g max tries job told answer target h = delete_all g (pins_by Kind.Delete g max job.note) (touched_count g job.note) tries job told answer h
+falls_by Kind.Rebuild g max tries job told answer target h =
+    rebuild_all g (pins_by Kind.Rebuild g max job.note) (touched_count g job.note) tries job (target refl) told answer h
+
+pub steps_fall : (g : Shape) (max tries : ℕ) (job : Job) → StepsFall g max tries job
+steps_fall g max tries job =
     record {
-      first = begins_at_bound g tries pins job;
-      get = get_all g pins (touched_count g job.note) tries job;
-      read = read_all g pins (touched_count g job.note) tries job;
-      put = put_all g pins (touched_count g job.note) tries job;
-      write = write_all g (touched_count g job.note) tries job;
-      stat = stat_all g pins (touched_count g job.note) tries job;
-      delete = delete_all g pins (touched_count g job.note) tries job;
-      rebuild = λ below. rebuild_all g pins (touched_count g job.note) tries job below;
+      first = first_by job.note.kind g max tries job;
+      falls = λ told answer target h. falls_by job.note.kind g max tries job told answer target h;
+      short = λ told. short_by job.note.kind g tries (pin_bound g max job.note) job told;
     }

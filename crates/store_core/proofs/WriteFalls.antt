@@ -15,8 +15,8 @@ use Rattle.store_core.specs.NextAct.{Job}
 use Rattle.store_core.specs.Tell.{is_versions, is_changed, cut_write}
 use Rattle.store_core.specs.StepsLeft.{settling_left, drawing_left}
 use Rattle.store_core.specs.GatheringLeft.{result_left, gathering_left, try_steps, tries_left, write_left}
-use Rattle.store_core.specs.StepLaws.{Answers, Falls}
-use Rattle.store_core.proofs.Falls.{IsKept, AtCommit, IsDrawn, is_drawn, drawing_falls, committed_falls, committed_no_commit, ending_no_commit, done_at_commit, changed_at_commit, settling_start}
+use Rattle.store_core.specs.Answers.{Answers}
+use Rattle.store_core.proofs.Falls.{FallsBy, IsKept, AtCommit, IsDrawn, is_drawn, drawing_falls, committed_falls, committed_no_commit, ending_no_commit, done_at_commit, changed_at_commit, settling_start}
 use Rattle.store_core.proofs.GatheringFalls.{gathering_start, gathering_falls, cut_left}
 use Rattle.store_core.proofs.Filters.{KeepsMarks, part_keeps}
 
@@ -154,7 +154,7 @@ module _ (g : Shape) (touched : ℕ) where
     write_changed pairs (Told.Versions versions ∷ told) rest base newer h = absurd (committed_no_commit g versions told h)
     write_changed pairs (_ ∷ told) rest base newer h = absurd h
 
-  write_cut_left : (rest : ℕ) (told : List Told) → write_left g touched rest (cut_write g told) ≡ write_left g touched rest told
+  pub write_cut_left : (rest : ℕ) (told : List Told) → write_left g touched rest (cut_write g told) ≡ write_left g touched rest told
   write_cut_left rest (Told.Changed base newer ∷ told) = write_cut_left (rest - 1) told
   write_cut_left rest (Told.Ready base length_now stripes ∷ told) =
       cut_left g (left g (tries_left g touched (rest - 1)) touched) (some g (tries_left g touched (rest - 1)) touched) (old_parts g length_now stripes) told
@@ -163,7 +163,7 @@ module _ (g : Shape) (touched : ℕ) where
 whole : (tries : ℕ) → tries - 0 ≡ tries
 whole tries = omega arith
 
-pub write_all : (g : Shape) (touched tries : ℕ) (job : Job) → Falls Kind.Write (write_left g touched tries) 2 touched g tries job
+pub write_all : (g : Shape) (touched tries : ℕ) (job : Job) → FallsBy Kind.Write (write_left g touched tries) 2 touched g tries job
 write_all g touched tries job told (Told.Done point) h =
     write_done g touched tries job.note [] told tries tries point (done_at_commit 2 touched point (trying g tries job.note [] told) h)
 write_all g touched tries job told (Told.Changed base newer) h =

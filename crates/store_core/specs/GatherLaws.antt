@@ -1,6 +1,6 @@
 -- When a gathering ends: it names the servers as missing exactly when one more than there are parity chunks have said so.
-use Rattle.std.specs.Prelude.{◌≡◌, ℕ, ◌+◌, ◌<◌, ◌≤◌, ◌⊎◌, List, [], ◌∷◌, ◌++◌, length, map}
-use Rattle.clay_grid.specs.Shape.{Shape}
+use Rattle.std.specs.Prelude.{◌≡◌, ◌≢◌, ℕ, ◌+◌, ◌<◌, ◌≤◌, ◌⊎◌, List, [], ◌∷◌, ◌++◌, length, map, get_or, All, AllPairs}
+use Rattle.clay_grid.specs.Shape.{Shape, chunk_count}
 use Rattle.store_core.specs.Told.{Seen, Lost, Told}
 use Rattle.store_core.specs.Gathering.{Gathering, Part}
 use Rattle.store_core.specs.GatheringParts.{gather_part, gather_chunk}
@@ -48,7 +48,19 @@ Ends g before told (Gathering.TooMany missing rest) = FoundTooMany g before told
 Ends g before told (Gathering.AtTarget rest) = FoundAtTarget told rest
 Ends g before told (Gathering.NoRoom rest) = FoundNoRoom told rest
 
+-- the servers that are named differ, each is there, and its placed epoch is the one that the look told
+pub record AreApart (g : Shape) (seen : Seen) (missing : List Lost) : Type 0 where
+  pub there : All (λ lost. lost.server < chunk_count g) missing
+  pub differ : AllPairs (λ lost other. lost.server ≢ other.server) missing
+  pub placed : All (λ lost. lost.placed ≡ get_or seen.placed lost.server 0) missing
+
 -- both gatherings end so, with no server marked before
 pub record GatheringsEnd : Type 0 where
   pub part : (g : Shape) (part : Part) (told : List Told) → Ends g [] told (gather_part g part told)
   pub chunk : (g : Shape) (seen : Seen) (target : ℕ) (told : List Told) → 0 < g.parity_count → Ends g [] told (gather_chunk g seen target told)
+  pub part_apart :
+      (g : Shape) (part : Part) (told rest : List Told) (missing : List Lost) → gather_part g part told ≡ Gathering.TooMany missing rest →
+      AreApart g part.seen missing
+  pub chunk_apart :
+      (g : Shape) (seen : Seen) (target : ℕ) (told rest : List Told) (missing : List Lost) → target < chunk_count g →
+      gather_chunk g seen target told ≡ Gathering.TooMany missing rest → AreApart g seen missing

@@ -42,7 +42,13 @@ pub mod CauseLaws
 pub mod AskLaws
 pub mod StepsLeft
 pub mod GatheringLeft
+pub mod CallLeft
+pub mod Answers
 pub mod StepLaws
+pub mod AnswerLaws
+pub mod EndLaws
+pub mod GatheredLaws
+pub mod SweepLaws
 pub mod MemoryLaws
 pub mod CutLaws
 pub mod HeldLaws

@@ -3,7 +3,7 @@ use Rattle.std.specs.Prelude.{◌≡◌, ◌≢◌, ℕ, ◌+◌, ◌<◌, ◌�
 use Rattle.std.specs.List.{slice_get}
 use Rattle.store_map.specs.declared.reply.Reply.TheVariants as reply
 use Rattle.store_core.specs.Note.{Note, Kind}
-use Rattle.store_core.specs.Directory.{Standing, Version, Pass, Mark, Point, Directory}
+use Rattle.store_core.specs.Directory.{Standing, Pass, Mark, Point, Directory}
 use Rattle.store_core.specs.Lookups.{same_actor, find_object, last_change}
 use Rattle.store_core.specs.PassSteps.{touched}
 use Rattle.store_core.specs.Replay.{lengths_after}

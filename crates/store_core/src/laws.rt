@@ -6,6 +6,10 @@ ghost use Rattle.store_map.specs.declared.script.Script.{Script};
 ghost use Rattle.store_core.specs.HeldLaws.{HoldsInOrder};
 ghost use Rattle.store_core.specs.MemoryLaws.{IsHeardWhereTaken};
 ghost use Rattle.store_core.specs.StepLaws.{StepsFall};
+ghost use Rattle.store_core.specs.AnswerLaws.{PlacesAnswer};
+ghost use Rattle.store_core.specs.EndLaws.{AnswersEndCalls};
+ghost use Rattle.store_core.specs.GatheredLaws.{GatheringsEndCalls};
+ghost use Rattle.store_core.specs.SweepLaws.{SweepsInOrder};
 ghost use Rattle.store_core.specs.NextAct.{Job};
 ghost use Rattle.store_core.specs.PlaceLaws.{ServersCountUp, DirectoryKeepsPlaces};
 ghost use Rattle.store_core.specs.ActorLaws.{ActsChangeOnePlace, StepsChangeOneActor};
@@ -67,7 +71,32 @@ pub fn cuts_change_no_act()
 {}
 
 /// The steps that a call has left, by what it was told, fall at each of its steps, from its bound
-/// on. A get or a read pins at most so many stripes, a write at most two.
+/// on; want of memory in the coding before a step, which is told first, leaves no more.
 pub fn steps_left_fall()
-    ensures { (g : Shape) (tries pins : ℕ) (job : Job) → StepsFall g tries pins job }
+    ensures { (g : Shape) (max tries : ℕ) (job : Job) → StepsFall g max tries job }
+{}
+
+/// Each step at the directory or at a server is answered by an answer of its own kind. A look pins
+/// no more stripes than the bound of its call, and a draw draws no more versions than the call touches.
+pub fn places_answer_within_bounds()
+    ensures { PlacesAnswer }
+{}
+
+/// Which answers end a call, and with which outcome: a look's reply, a commit, a reap, a version that
+/// is superseded, the last change that a write may be told, the last step of a rebuild, a target that
+/// has its chunk, want of memory.
+pub fn answers_end_calls()
+    ensures { (g : Shape) (tries : ℕ) (job : Job) → AnswersEndCalls g tries job }
+{}
+
+/// A get or a read that has gathered all its bytes ends with them; where too many servers lack their
+/// chunk of a stripe, the call ends with that, and names the stripe and the servers.
+pub fn gatherings_end_calls()
+    ensures { (g : Shape) (tries : ℕ) (job : Job) → GatheringsEndCalls g tries job }
+{}
+
+/// The sweeper takes a version, discards it at each server in rising order, and says that it is
+/// swept: two steps more than there are servers.
+pub fn sweeper_sweeps_in_order()
+    ensures { (g : Shape) → SweepsInOrder g }
 {}
