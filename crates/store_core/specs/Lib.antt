@@ -49,6 +49,7 @@ pub mod AnswerLaws
 pub mod EndLaws
 pub mod GatheredLaws
 pub mod SweepLaws
+pub mod DrainLaws
 pub mod MemoryLaws
 pub mod CutLaws
 pub mod HeldLaws

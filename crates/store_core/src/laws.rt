@@ -10,6 +10,7 @@ ghost use Rattle.store_core.specs.AnswerLaws.{PlacesAnswer};
 ghost use Rattle.store_core.specs.EndLaws.{AnswersEndCalls};
 ghost use Rattle.store_core.specs.GatheredLaws.{GatheringsEndCalls};
 ghost use Rattle.store_core.specs.SweepLaws.{SweepsInOrder};
+ghost use Rattle.store_core.specs.DrainLaws.{DrainsEnd};
 ghost use Rattle.store_core.specs.NextAct.{Job};
 ghost use Rattle.store_core.specs.PlaceLaws.{ServersCountUp, DirectoryKeepsPlaces};
 ghost use Rattle.store_core.specs.ActorLaws.{ActsChangeOnePlace, StepsChangeOneActor};
@@ -99,4 +100,10 @@ pub fn gatherings_end_calls()
 /// swept: two steps more than there are servers.
 pub fn sweeper_sweeps_in_order()
     ensures { (g : Shape) → SweepsInOrder g }
+{}
+
+/// In every run of a valid script each call keeps its bound on steps, and after a drain nobody has a
+/// step, where the directory is sound after each single step.
+pub fn drains_end()
+    ensures { DrainsEnd }
 {}

@@ -1,0 +1,42 @@
+-- A drain ends with nobody left who has a step: its fuel suffices for every core that a run can reach.
+use Rattle.std.specs.Prelude.{ℕ, ◌≤◌, Bool, true, false, List, [], ◌∷◌, ◌++◌, length, All, IfSome, IsTrue, IsFalse}
+use Rattle.std.specs.List.{slice_get}
+use Rattle.clay_grid.specs.Limits.{IsGeometry}
+use Rattle.store_map.specs.Limits.{size_of, tries_of}
+use Rattle.store_map.specs.Naming.{IsValid}
+use Rattle.store_map.specs.declared.actor.Token.{Token}
+use Rattle.store_map.specs.declared.actor.Token.TheVariants as token
+use Rattle.store_map.specs.declared.script.Script.{Script}
+use Rattle.store_core.specs.Bounds.{step_bound}
+use Rattle.store_core.specs.Sound.{IsSound}
+use Rattle.store_core.specs.Work.{Work, Calling, client_work, repairer_work}
+use Rattle.store_core.specs.Step.{Marks}
+use Rattle.store_core.specs.Schedule.{is_unfinished, run_core}
+
+-- every token but a drain is one step
+abbrev pub is_one_step : Token → Bool
+is_one_step token.Drain = false
+is_one_step _ = true
+
+-- whatever single steps are made from the start, the directory is sound after them
+abbrev pub StaysSound : Script → List Marks → Type 0
+StaysSound script marks = (tokens : List Token) → All (λ token. IsTrue (is_one_step token)) tokens → IsSound (run_core script marks tokens).directory
+
+-- the call that an actor has begun has made no more steps than its bound
+abbrev pub KeepsBound : Script → Work → Calling → Type 0
+KeepsBound script work calling =
+    IfSome (slice_get work.jobs (length calling.ended)) (λ job. calling.steps ≤ step_bound script.geometry (size_of script) (tries_of script) job.note)
+
+-- so have the calls of all actors
+pub record KeepBounds (script : Script) (client_calls repairer_calls : List Calling) : Type 0 where
+  pub clients : (i : ℕ) → IfSome (slice_get (client_work script) i) (λ work. IfSome (slice_get client_calls i) (KeepsBound script work))
+  pub repairers : (i : ℕ) → IfSome (slice_get (repairer_work script) i) (λ work. IfSome (slice_get repairer_calls i) (KeepsBound script work))
+
+-- of a valid script, whatever was wanting of memory
+pub record RunsAreBounded (script : Script) (marks : List Marks) : Type 0 where
+  pub bounds : (tokens : List Token) → KeepBounds script (run_core script marks tokens).clients (run_core script marks tokens).repairers
+  pub drained : (tokens : List Token) → IsFalse (is_unfinished script (run_core script marks (tokens ++ token.Drain ∷ [])))
+
+-- runs are bounded, where their directories are sound
+abbrev pub DrainsEnd : Type 0
+DrainsEnd = (script : Script) (marks : List Marks) → IsGeometry script.geometry → IsValid script → StaysSound script marks → RunsAreBounded script marks
