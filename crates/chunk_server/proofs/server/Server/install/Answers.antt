@@ -1,0 +1,19 @@
+use Rattle.std.proofs.Common.{◌≡◌, false, ap, ◌∙◌, sym}
+use Rattle.std.proofs.lemmas.Bool.{cond-false}
+use Rattle.chunk_server.specs.State.{is_held}
+use Rattle.chunk_server.specs.Core.{core_of, told_added}
+use Rattle.chunk_server.specs.declared.answers.Installed.TheVariants.{Placed}
+use Rattle.chunk_server.proofs.CoreSteps.{core-install}
+use Rattle.chunk_server.proofs.server.Server.install.Goals as goal
+
+pub returns-clause-ok : goal.returns-clause-ok
+returns-clause-ok c =
+    let absent : is_held c.args.version.0 c.args.self.now.held ≡ false = sym c.is_held.ensures ∙ c.if-is_held.false in
+    let epoch = ap (λ r. r.epoch) (c.self.view_is ∙ c.in_ok-add.ensures.ok) in
+    (λ i. (c.in_ok-add.ensures.ok i, Placed (epoch i)))
+    ∙ sym (cond-false (is_held c.args.version.0 c.args.self.now.held) _ _ absent)
+
+pub returns-clause-core : goal.returns-clause-core
+returns-clause-core c =
+    ap (λ r. (core_of r.0, told_added r.1)) (returns-clause-ok c)
+    ∙ core-install c.args.self.now c.args.version.0 c.args.chunk.items

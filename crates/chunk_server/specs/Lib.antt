@@ -1,0 +1,6 @@
+pub mod State
+pub mod Chunks
+pub mod Steps
+pub mod Core
+pub mod Laws
+pub mod Rows

@@ -1,0 +1,28 @@
+use store_map::ByteList;
+
+/// Whether a server holds a version's chunk.
+#[derive(Clone, Copy, PartialEq, Eq, Debug)]
+pub enum Presence {
+    /// It is there.
+    Here,
+    /// It isn't. The server was emptied so many times.
+    Missing { epoch: u64 },
+}
+
+/// What a fetch is answered.
+#[derive(PartialEq, Eq, Debug, Drop)]
+pub enum Fetched {
+    /// The subchunks in the order asked for, one after another.
+    Bytes(ByteList),
+    /// The version isn't held. The server was emptied so many times.
+    Missing { epoch: u64 },
+}
+
+/// What an install is answered.
+#[derive(Clone, Copy, PartialEq, Eq, Debug)]
+pub enum Installed {
+    /// The chunk was added. The server was emptied so many times before.
+    Placed { epoch: u64 },
+    /// The version was held already, and its chunk stays.
+    AlreadyThere,
+}
