@@ -26,7 +26,9 @@ use Rattle.store_core.specs.Sound.{IsSound}
 use Rattle.store_core.specs.Step.{Marks}
 use Rattle.store_core.specs.Work.{Work, Calling, client_work, repairer_work, any_has_step}
 use Rattle.store_core.proofs.ActorSteps.{InWork, CallKept}
-use Rattle.store_core.proofs.Groups.{GroupKept, IsIdle, none_has_step, drop_here}
+use Rattle.store_core.specs.StepLaws.{HasTarget}
+use Rattle.store_core.proofs.StillToMake.{has_step_left}
+use Rattle.store_core.proofs.Groups.{IsGroup, GroupKept, IsIdle, none_has_step, drop_here}
 use Rattle.store_core.proofs.Runs.{Keeps, CanRun, measure, Progress, client_progress, repairer_progress, operator_keeps, sweeper_keeps, sweeper_lowers}
 use Rattle.store_core.proofs.Scripts.{can_run, first_keeps, measure_fits}
 
@@ -253,22 +255,24 @@ module _ (script : Script) (marks : List Marks) (can : CanRun script) (stays : S
   if_found P None h = tt
   if_found P (Some x) h = h x refl
 
-  group_bounds : (who_of : ℕ → Actor) (works : List Work) (callings : List Calling) (d : Directory) → GroupKept script who_of works callings d
+  group_bounds : (who_of : ℕ → Actor) (works : List Work) (callings : List Calling) (d : Directory) → IsGroup script who_of works → GroupKept script who_of works callings d
       → (i : ℕ) → IfSome (slice_get works i) (λ work. IfSome (slice_get callings i) (KeepsBound script work))
-  group_bounds who_of works callings d kept i =
+  group_bounds who_of works callings d group kept i =
       if_found (λ (work : Work). IfSome (slice_get callings i) (KeepsBound script work)) (slice_get works i) (λ work is_work.
       if_found (KeepsBound script work) (slice_get callings i) (λ calling is_calling.
-      if_found (λ (job : Job). calling.steps ≤ step_bound script.geometry (size_of script) (tries_of script) job.note) (slice_get work.jobs (length calling.ended)) (λ job is_job.
-      one_bound who_of d i work calling job is_job (kept i work calling is_work is_calling))))
+      if_found (λ (job : Job). calling.steps < step_bound script.geometry (size_of script) (tries_of script) job.note) (slice_get work.jobs (length calling.ended)) (λ job is_job.
+      one_bound who_of d i work calling job is_job (group.targets i work is_work (length calling.ended) job is_job) (kept i work calling is_work is_calling))))
     where
       one_bound : (who_of : ℕ → Actor) (d : Directory) (i : ℕ) (work : Work) (calling : Calling) (job : Job) → slice_get work.jobs (length calling.ended) ≡ Some job
-          → CallKept script.geometry (size_of script) (tries_of script) (who_of i) (drop (length calling.ended) work.jobs) calling d
-          → calling.steps ≤ step_bound script.geometry (size_of script) (tries_of script) job.note
-      one_bound who_of d i work calling job is_job kept =
+          → HasTarget script.geometry job → CallKept script.geometry (size_of script) (tries_of script) (who_of i) (drop (length calling.ended) work.jobs) calling d
+          → calling.steps < step_bound script.geometry (size_of script) (tries_of script) job.note
+      one_bound who_of d i work calling job is_job target kept =
           let in_work : InWork script.geometry (size_of script) (tries_of script) job (who_of i) calling d =
           subst (λ (l : List Job). CallKept script.geometry (size_of script) (tries_of script) (who_of i) l calling d) (drop_here work.jobs (length calling.ended) job is_job) kept in
           let bound : call_left script.geometry (size_of script) (tries_of script) job calling.told + calling.steps ≤ step_bound script.geometry (size_of script) (tries_of script) job.note = in_work.bound in
-          omega (arith, bound)
+          let left : 0 < call_left script.geometry (size_of script) (tries_of script) job calling.told =
+          has_step_left script.geometry (size_of script) (tries_of script) job target calling.told in_work.stands.going in
+          omega (arith, bound, left)
 
   -- the runs of such a script are bounded
   pub bounded : RunsAreBounded script marks
@@ -277,8 +281,8 @@ module _ (script : Script) (marks : List Marks) (can : CanRun script) (stays : S
         bounds = λ tokens.
             let state : State (run_tokens script tokens start) = run_state tokens start start_state in
             record {
-              clients = group_bounds actor.Client (client_work script) (run_core script marks tokens).clients (run_core script marks tokens).directory state.keeps.clients;
-              repairers = group_bounds actor.Repairer (repairer_work script) (run_core script marks tokens).repairers (run_core script marks tokens).directory state.keeps.repairers;
+              clients = group_bounds actor.Client (client_work script) (run_core script marks tokens).clients (run_core script marks tokens).directory can.clients state.keeps.clients;
+              repairers = group_bounds actor.Repairer (repairer_work script) (run_core script marks tokens).repairers (run_core script marks tokens).directory can.repairers state.keeps.repairers;
             };
         drained = λ tokens.
             let run : Run = run_tokens script tokens start in

@@ -38,4 +38,5 @@ pub mod ActorSteps
 pub mod Groups
 pub mod Runs
 pub mod Scripts
+pub mod StillToMake
 pub mod Drains

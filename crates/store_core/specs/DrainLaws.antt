@@ -1,5 +1,5 @@
 -- A drain ends with nobody left who has a step: its fuel suffices for every core that a run can reach.
-use Rattle.std.specs.Prelude.{ℕ, ◌≤◌, Bool, true, false, List, [], ◌∷◌, ◌++◌, length, All, IfSome, IsTrue, IsFalse}
+use Rattle.std.specs.Prelude.{ℕ, ◌<◌, Bool, true, false, List, [], ◌∷◌, ◌++◌, length, All, IfSome, IsTrue, IsFalse}
 use Rattle.std.specs.List.{slice_get}
 use Rattle.clay_grid.specs.Limits.{IsGeometry}
 use Rattle.store_map.specs.Limits.{size_of, tries_of}
@@ -22,10 +22,10 @@ is_one_step _ = true
 abbrev pub StaysSound : Script → List Marks → Type 0
 StaysSound script marks = (tokens : List Token) → All (λ token. IsTrue (is_one_step token)) tokens → IsSound (run_core script marks tokens).directory
 
--- the call that an actor has begun has made no more steps than its bound
+-- the call that an actor has in work has made fewer steps than its bound; so with the step that ends it, it makes no more than its bound
 abbrev pub KeepsBound : Script → Work → Calling → Type 0
 KeepsBound script work calling =
-    IfSome (slice_get work.jobs (length calling.ended)) (λ job. calling.steps ≤ step_bound script.geometry (size_of script) (tries_of script) job.note)
+    IfSome (slice_get work.jobs (length calling.ended)) (λ job. calling.steps < step_bound script.geometry (size_of script) (tries_of script) job.note)
 
 -- so have the calls of all actors
 pub record KeepBounds (script : Script) (client_calls repairer_calls : List Calling) : Type 0 where
