@@ -20,10 +20,10 @@ use Rattle.store_core.proofs.RebuildFalls.{rebuild_no_commit}
 use Rattle.store_core.proofs.Filters.{KeepsMarks, part_keeps}
 
 -- a call at its commit was told the versions that it drew once, and commits a row for each of them
-record Commits (told : List Told) (act : Act) : Type 0 where
-  drawn : List ℕ
-  versions : filter is_versions told ≡ Told.Versions drawn ∷ []
-  rows : CommitsRows (length drawn) act
+pub record Commits (told : List Told) (act : Act) : Type 0 where
+  pub drawn : List ℕ
+  pub versions : filter is_versions told ≡ Told.Versions drawn ∷ []
+  pub rows : CommitsRows (length drawn) act
 
 module _ (g : Shape) where
   drawing_commits : (told : List Told) → AtCommit (drawing g told) → Commits told (drawing g told)
@@ -46,7 +46,7 @@ module _ (g : Shape) where
   gathering_commits (part ∷ parts) told h =
       result_commits part.seen.stripe (gathering g parts (drawing g)) (gathering_commits parts) told (gather_part g part told) (part_keeps g part told) h
 
-  put_commits : (note : Note) (told : List Told) → AtCommit (next_put g note told) → Commits told (next_put g note told)
+  pub put_commits : (note : Note) (told : List Told) → AtCommit (next_put g note told) → Commits told (next_put g note told)
   put_commits note [] h = absurd h
   put_commits note (Told.Answer point given ∷ told) h = absurd h
   put_commits note (Told.Ready base length_now stripes ∷ told) h =
@@ -54,7 +54,7 @@ module _ (g : Shape) where
   put_commits note (Told.Versions versions ∷ told) h = absurd (committed_no_commit g versions told h)
   put_commits note (_ ∷ told) h = absurd h
 
-  trying_commits : (tries : ℕ) (note : Note) (pairs : List (ℕ × ℕ)) (told : List Told) → AtCommit (trying g tries note pairs told) → Commits told (trying g tries note pairs told)
+  pub trying_commits : (tries : ℕ) (note : Note) (pairs : List (ℕ × ℕ)) (told : List Told) → AtCommit (trying g tries note pairs told) → Commits told (trying g tries note pairs told)
   trying_commits tries note pairs [] h = absurd (by (nat_lt (length pairs) tries) h)
     where
       by : (b : Bool) → AtCommit (cond b (Act.AtDirectory (DirectoryStep.Look note)) (Act.Finish (Outcome.Contended pairs))) → ⊥

@@ -21,7 +21,7 @@ use Rattle.store_core.proofs.Questions.{IsQuestion, AsksSo, part_so, chunk_so}
 use Rattle.store_core.proofs.NoRoom.{WhereAsking}
 
 -- ---- a gathering that has ended is left as it was by more answers
-abbrev GrowsBy : List Told → Gathering → Gathering → Type 0
+abbrev pub GrowsBy : List Told → Gathering → Gathering → Type 0
 GrowsBy more (Gathering.Asks server step) later = Unit {0}
 GrowsBy more (Gathering.HasBytes rest) later = later ≡ Gathering.HasBytes (rest ++ more)
 GrowsBy more (Gathering.TooMany missing rest) later = later ≡ Gathering.TooMany missing (rest ++ more)
@@ -46,7 +46,7 @@ one_more answer more (Gathering.AtTarget told) next later one rest =
 one_more answer more (Gathering.NoRoom told) next later one rest =
     subst (λ (n : Gathering). GrowsBy more n later) one rest ∙ ap Gathering.NoRoom (append_assoc told (answer ∷ []) more)
 
-grows_by : (gather : List Told → Gathering) → ((told : List Told) (answer : Told) → Grows answer (gather told) (gather (told ++ answer ∷ [])))
+pub grows_by : (gather : List Told → Gathering) → ((told : List Told) (answer : Told) → Grows answer (gather told) (gather (told ++ answer ∷ [])))
     → (more told : List Told) → GrowsBy more (gather told) (gather (told ++ more))
 grows_by gather grows [] told = subst (λ l. GrowsBy [] (gather told) (gather l)) (sym (append-nil told)) (no_more (gather told))
 grows_by gather grows (answer ∷ more) told =

@@ -40,3 +40,11 @@ pub mod Runs
 pub mod Scripts
 pub mod StillToMake
 pub mod Drains
+pub mod StageOutcomes
+pub mod InSteps
+pub mod Carried
+pub mod Tries
+pub mod PlaceKinds
+pub mod Stretches
+pub mod CallLosses
+pub mod StepOutcomes

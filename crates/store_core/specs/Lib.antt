@@ -48,6 +48,11 @@ pub mod StepLaws
 pub mod AnswerLaws
 pub mod EndLaws
 pub mod GatheredLaws
+pub mod AnswersByKind
+pub mod ToldInSteps
+pub mod Losses
+pub mod OutcomeLaws
+pub mod MemoryCauses
 pub mod SweepLaws
 pub mod DrainLaws
 pub mod MemoryLaws

@@ -7,6 +7,8 @@ ghost use Rattle.store_core.specs.HeldLaws.{HoldsInOrder};
 ghost use Rattle.store_core.specs.MemoryLaws.{IsHeardWhereTaken};
 ghost use Rattle.store_core.specs.StepLaws.{StepsFall};
 ghost use Rattle.store_core.specs.AnswerLaws.{PlacesAnswer};
+ghost use Rattle.store_core.specs.AnswersByKind.{PlacesAnswerByKind};
+ghost use Rattle.store_core.specs.MemoryCauses.{MemoryWasWanting, OutcomesInSteps};
 ghost use Rattle.store_core.specs.EndLaws.{AnswersEndCalls};
 ghost use Rattle.store_core.specs.GatheredLaws.{GatheringsEndCalls};
 ghost use Rattle.store_core.specs.SweepLaws.{SweepsInOrder};
@@ -81,6 +83,27 @@ pub fn steps_left_fall()
 /// no more stripes than the bound of its call, and a draw draws no more versions than the call touches.
 pub fn places_answer_within_bounds()
     ensures { PlacesAnswer }
+{}
+
+/// A look is answered by pins only where its call reads, and lets only a put or a write begin to
+/// write; only a write's commit is told that the object was changed.
+pub fn places_answer_by_kind()
+    ensures { PlacesAnswerByKind }
+{}
+
+/// A call that is told its answers step by step ends with want of memory only where memory was
+/// wanting, in one of its steps or in the coding before one.
+pub fn memory_is_blamed_only_where_it_was_wanting()
+    ensures { MemoryWasWanting }
+{}
+
+/// A call ends with an outcome of its kind. Where it was told its answers step by step, the outcome
+/// has its cause among them: as of any answers, and for want of memory that memory was wanting, for
+/// too many missing chunks the gathering that found them, for lost tries as many changes as the write
+/// has tries. A call that nothing of this hindered, and that was not reaped, is answered. With ample
+/// memory it is told no more answers than its bound of steps.
+pub fn calls_end_with_causes_step_by_step()
+    ensures { (g : Shape) (max tries : ℕ) (job : Job) → OutcomesInSteps g max tries job }
 {}
 
 /// Which answers end a call, and with which outcome: a look's reply, a commit, a reap, a version that
