@@ -1,115 +1,199 @@
--- Laws on the lines of plain calls: where they end, and that each spells one call.
-use Rattle.std.proofs.Common.{◌≡◌, ◌≢◌, ℕ, ◌+◌, ◌≤◌, ◌==◌, not, true, false, List, [], ◌∷◌, ◌++◌, length, drop, get_or, Ok, refl, sym, ap, ◌∙◌, arith, subst, append_assoc, length-append}
-use Rattle.std.specs.Prelude.{codes}
+-- Laws on the lines of calls.
+use Rattle.std.proofs.Common.{◌≡◌, ◌≢◌, ℕ, ◌^◌, ◌≤◌, true, ◌&&◌, List, [], ◌∷◌, ◌++◌, length, get_or, drop, Err, refl, sym, ap, ◌∙◌, arith, subst}
+use Rattle.std.specs.Prelude.{codes, nat_le}
 use Rattle.std.specs.List.{list_all}
-use Rattle.std.proofs.lemmas.Bool.{eqb-false}
-use Rattle.std.proofs.lemmas.List.{drop_at}
-use Rattle.std.proofs.lemmas.List.Sums.{list_all-from_AllPass}
-use Rattle.hex.specs.Hex.{encode_lower, decode_of, IsBytes}
-use Rattle.hex.proofs.HexLemmas.{decode_of-encode_lower}
+use Rattle.std.proofs.lemmas.Bool.{and_parts, eqb-false}
+use Rattle.store_map.specs.Name.{IsName, is_name_byte}
 use Rattle.store_map.specs.declared.call.Call.{Call}
 use Rattle.store_map.specs.declared.call.Call.TheVariants.{Put, Write, Get, ReadAt, Stat, Delete}
 use Rattle.store_map.specs.declared.content.Content.{Content}
-use Rattle.store_map.specs.declared.content.Content.TheVariants.{Hex, Fill, Ramp}
-use Rattle.script_text.specs.Lines.{Lacks, spaced, line}
-use Rattle.script_text.specs.Plain.{IsPlainContent, IsPlainCall, call_line, closing}
-use Rattle.script_text.specs.Spelling.{call_words, content_word}
-use Rattle.script_text.specs.Words.{is_lower_digit}
-use Rattle.script_text.proofs.DigitLaws.{lower-encode}
-use Rattle.script_text.proofs.LineLaws.{same_parts, never_parted, Lacks-append}
-use Rattle.script_text.proofs.PlainLaws.{Lacks-from_test, name_lacks_feed, name_lacks_space}
+use Rattle.script_text.specs.Words.{content_word, call_words}
+use Rattle.script_text.specs.Lines.{Lacks, spaced}
+use Rattle.script_text.specs.Numbers.{number_word, IsNumberWord}
+use Rattle.script_text.specs.Reads.{ReadsContent, ReadsCall}
+use Rattle.script_text.specs.Values.{IsNumber}
+use Rattle.script_text.specs.Forms.{IsContentForm, IsCallForm}
+use Rattle.script_text.specs.declared.fault.FaultKind.{FaultKind}
+use Rattle.script_text.specs.declared.fault.FaultKind.TheVariants.{Syntax, Geometry, Limit, NoSuchActor, NoSuchServer, MissingEnd, OutOfMemory}
+use Rattle.script_text.proofs.LineLaws.{same_parts, never_parted, Lacks-from_test}
+use Rattle.script_text.proofs.NumberLaws.{number_lacks}
 
--- a test of the bytes of a literal
-pub Lacks-literal : (byte : ℕ) (bs : List ℕ) → list_all (λ b. not (b == byte)) bs ≡ true → Lacks byte bs
-Lacks-literal byte bs h = Lacks-from_test (λ b. not (b == byte)) byte (not_itself byte) bs h
-  where
-    not_itself : (b : ℕ) → not (b == b) ≡ false
-    not_itself b = grind arith
+-- each byte of a name is a name's
+name_bytes : (name : List ℕ) → IsName name → list_all is_name_byte name ≡ true
+name_bytes name h = (and_parts (nat_le 1 (length name) && nat_le (length name) 64) (list_all is_name_byte name) h).1
 
-digits_lack_feed : (bytes : List ℕ) → IsBytes bytes → Lacks 10 (encode_lower bytes)
-digits_lack_feed bytes h =
-    Lacks-from_test is_lower_digit 10 refl (encode_lower bytes) (list_all-from_AllPass is_lower_digit (encode_lower bytes) (lower-encode bytes h))
+-- a name has no space and no line feed
+pub name_lacks_space : (name : List ℕ) → IsName name → Lacks 32 name
+name_lacks_space name h = Lacks-from_test is_name_byte 32 refl name (name_bytes name h)
 
-content_lacks_feed : (content : Content) → IsPlainContent content → Lacks 10 (content_word content)
-content_lacks_feed (Hex bytes) h = Lacks-append 10 (codes "hex:") (encode_lower bytes) (Lacks-literal 10 (codes "hex:") refl) (digits_lack_feed bytes h.0)
-content_lacks_feed (Fill byte n) h = absurd h
-content_lacks_feed (Ramp first n) h = absurd h
+-- and no line feed
+pub name_lacks_feed : (name : List ℕ) → IsName name → Lacks 10 name
+name_lacks_feed name h = Lacks-from_test is_name_byte 10 refl name (name_bytes name h)
 
--- a plain call's line has no line feed before its end
-pub call_lacks_feed : (call : Call) → IsPlainCall call → Lacks 10 (spaced (call_words call))
-call_lacks_feed (Get name) h = Lacks-append 10 (codes "get ") name (Lacks-literal 10 (codes "get ") refl) (name_lacks_feed name h)
-call_lacks_feed (Put name content) h =
-    Lacks-append 10 (codes "put ") (name ++ 32 ∷ content_word content) (Lacks-literal 10 (codes "put ") refl)
-    (Lacks-append 10 name (32 ∷ content_word content) (name_lacks_feed name h.0)
-    (Lacks-append 10 (32 ∷ []) (content_word content) (Lacks-literal 10 (32 ∷ []) refl) (content_lacks_feed content h.1)))
-call_lacks_feed (Write name offset content) h = absurd h
-call_lacks_feed (ReadAt name offset count) h = absurd h
-call_lacks_feed (Stat name) h = absurd h
-call_lacks_feed (Delete name) h = absurd h
+-- equal lists begin alike
+pub heads : (xs ys : List ℕ) → xs ≡ ys → get_or xs 0 0 ≡ get_or ys 0 0
+heads xs ys e = ap (λ (l : List ℕ). get_or l 0 0) e
 
--- a line at the front of a text
-pub line_front : (words : List (List ℕ)) (rest : List ℕ) → line words ++ rest ≡ spaced words ++ 10 ∷ rest
-line_front words rest = append_assoc (spaced words) (10 ∷ []) rest
+-- ---- the calls that begin with a word
 
--- no plain call's line stands at the front
-abbrev pub NoCallFirst : List ℕ → Type 0
-NoCallFirst text = (call : Call) (rest : List ℕ) → IsPlainCall call → text ≢ call_line call ++ rest
+-- a call's line, without its line feed
+abbrev pub call_text : Call → List ℕ
+call_text call = spaced (call_words call)
 
-pub no_feed : (text : List ℕ) → Lacks 10 text → NoCallFirst text
-no_feed text lacks call rest h e =
-    let P : List ℕ → Type 0 = Lacks 10 in
-    never_parted 10 (spaced (call_words call)) rest (subst P (e ∙ line_front (call_words call) rest) lacks)
+-- what begins with `put` is a put
+pub put_only : (words : List ℕ) (call : Call) → IsCallForm call → codes "put " ++ words ≡ call_text call
+    → (name : List ℕ) × (content : Content) × (call ≡ Put name content) × IsName name × IsContentForm content × (words ≡ name ++ 32 ∷ content_word content)
+put_only words (Put name content) h e = (name, content, refl, h.0, h.1, ap (drop 4) e)
+put_only words _ h e = absurd (eqb-false 112 _ refl (heads _ _ e))
 
-pub no_call : (text first after : List ℕ) → text ≡ first ++ 10 ∷ after → Lacks 10 first
-    → ((call : Call) → IsPlainCall call → first ≢ spaced (call_words call)) → NoCallFirst text
-no_call text first after is lacks none call rest h e =
-    let same = same_parts 10 first after (spaced (call_words call)) rest lacks (call_lacks_feed call h) (sym is ∙ e ∙ line_front (call_words call) rest) in
-    none call h same.0
+-- what begins with `write` is a write
+pub write_only : (words : List ℕ) (call : Call) → IsCallForm call → codes "write " ++ words ≡ call_text call
+    → (name : List ℕ) × (offset : ℕ) × (content : Content) × (call ≡ Write name offset content) × IsName name × IsContentForm content
+    × (words ≡ name ++ 32 ∷ (number_word offset ++ 32 ∷ content_word content))
+write_only words (Write name offset content) h e = (name, offset, content, refl, h.0, h.1, ap (drop 6) e)
+write_only words _ h e = absurd (eqb-false 119 _ refl (heads _ _ e))
 
-pub call_found : (text first after : List ℕ) (call : Call) → text ≡ first ++ 10 ∷ after → first ≡ spaced (call_words call)
-    → (length first + 1 ≤ length text) × (text ≡ call_line call ++ drop (length first + 1) text)
-call_found text first after call is spelled =
-    let whole : text ≡ (first ++ 10 ∷ []) ++ after = is ∙ sym (append_assoc first (10 ∷ []) after) in
-    let len : length (first ++ 10 ∷ []) ≡ length first + 1 = length-append first (10 ∷ []) in
-    let behind : drop (length first + 1) text ≡ after = ap (drop (length first + 1)) whole ∙ drop_at (first ++ 10 ∷ []) after (length first + 1) len in
-    let sizes : length text ≡ length (first ++ 10 ∷ []) + length after = ap length whole ∙ length-append (first ++ 10 ∷ []) after in
-    (omega (arith, len, sizes), rw (behind, ← spelled) whole)
+-- what begins with `get` is the get of the name behind
+pub get_only : (word : List ℕ) (call : Call) → IsCallForm call → codes "get " ++ word ≡ call_text call → IsName word × (call ≡ Get word)
+get_only word (Get name) h e = let same : word ≡ name = ap (drop 4) e in (rw same h, ap Get (sym same))
+get_only word _ h e = absurd (eqb-false 103 _ refl (heads _ _ e))
 
-pub no_call_closing : NoCallFirst closing
-no_call_closing (Get name) rest h e = eqb-false 115 103 refl (ap (λ (l : List ℕ). get_or l 0 0) e)
-no_call_closing (Put name content) rest h e = eqb-false 115 112 refl (ap (λ (l : List ℕ). get_or l 0 0) e)
-no_call_closing (Write name offset content) rest h e = h
-no_call_closing (ReadAt name offset count) rest h e = h
-no_call_closing (Stat name) rest h e = h
-no_call_closing (Delete name) rest h e = h
+-- what begins with `stat` is the stat of the name behind
+pub stat_only : (word : List ℕ) (call : Call) → IsCallForm call → codes "stat " ++ word ≡ call_text call → IsName word × (call ≡ Stat word)
+stat_only word (Stat name) h e = let same : word ≡ name = ap (drop 5) e in (rw same h, ap Stat (sym same))
+stat_only word _ h e = absurd (eqb-false 115 _ refl (heads _ _ e))
 
-same_content : (c d : Content) → IsPlainContent c → IsPlainContent d → content_word c ≡ content_word d → c ≡ d
-same_content (Hex xs) (Hex ys) p q e =
-    let digits : encode_lower xs ≡ encode_lower ys = ap (drop 4) e in
-    let read : Ok xs ≡ Ok ys = sym (decode_of-encode_lower xs p.0) ∙ ap decode_of digits ∙ decode_of-encode_lower ys q.0 in
-    cc read
-same_content (Hex xs) (Fill byte n) p q e = absurd q
-same_content (Hex xs) (Ramp first n) p q e = absurd q
-same_content (Fill byte n) d p q e = absurd p
-same_content (Ramp first n) d p q e = absurd p
+-- what begins with `delete` is the delete of the name behind
+pub delete_only : (word : List ℕ) (call : Call) → IsCallForm call → codes "delete " ++ word ≡ call_text call → IsName word × (call ≡ Delete word)
+delete_only word (Delete name) h e = let same : word ≡ name = ap (drop 7) e in (rw same h, ap Delete (sym same))
+delete_only word _ h e = absurd (eqb-false 100 _ refl (heads _ _ e))
 
--- each line spells one call
-pub same_call : (x y : Call) → IsPlainCall x → IsPlainCall y → spaced (call_words x) ≡ spaced (call_words y) → x ≡ y
-same_call (Get a) (Get b) p q e = ap Get (ap (drop 4) e)
-same_call (Get a) (Put b d) p q e = absurd (eqb-false 103 112 refl (ap (λ (l : List ℕ). get_or l 0 0) e))
-same_call (Put a c) (Get b) p q e = absurd (eqb-false 112 103 refl (ap (λ (l : List ℕ). get_or l 0 0) e))
-same_call (Put a c) (Put b d) p q e =
-    let same = same_parts 32 a (content_word c) b (content_word d) (name_lacks_space a p.0) (name_lacks_space b q.0) (ap (drop 4) e) in
-    cc (same.0, same_content c d p.1 q.1 same.1)
-same_call (Get a) (Write b o d) p q e = absurd q
-same_call (Get a) (ReadAt b o n) p q e = absurd q
-same_call (Get a) (Stat b) p q e = absurd q
-same_call (Get a) (Delete b) p q e = absurd q
-same_call (Put a c) (Write b o d) p q e = absurd q
-same_call (Put a c) (ReadAt b o n) p q e = absurd q
-same_call (Put a c) (Stat b) p q e = absurd q
-same_call (Put a c) (Delete b) p q e = absurd q
-same_call (Write a o c) y p q e = absurd p
-same_call (ReadAt a o n) y p q e = absurd p
-same_call (Stat a) y p q e = absurd p
-same_call (Delete a) y p q e = absurd p
+-- what begins with `read` is a read
+pub read_only : (words : List ℕ) (call : Call) → IsCallForm call → codes "read " ++ words ≡ call_text call
+    → (name : List ℕ) × (offset : ℕ) × (count : ℕ) × (call ≡ ReadAt name offset count) × IsName name
+    × (words ≡ name ++ 32 ∷ (number_word offset ++ 32 ∷ number_word count))
+read_only words (ReadAt name offset count) h e = (name, offset, count, refl, h, ap (drop 5) e)
+read_only words _ h e = absurd (eqb-false 114 _ refl (heads _ _ e))
+
+-- ---- parts
+
+-- words without a space are not two
+pub one_word : (words rest tail : List ℕ) (name : List ℕ) → words ≡ name ++ 32 ∷ tail → Lacks 32 words → ⊥
+one_word words rest tail name e lacks = let P : List ℕ → Type 0 = Lacks 32 in never_parted 32 name tail (subst P e lacks)
+
+-- a put has a space behind its name
+pub put_no_space : (words : List ℕ) → Lacks 32 words → (call : Call) → IsCallForm call → codes "put " ++ words ≢ call_text call
+put_no_space words lacks call h e = let only = put_only words call h e in one_word words [] (content_word only.1) only.0 only.5 lacks
+
+-- the first space ends a put's name
+pub put_parts : (words first rest : List ℕ) → words ≡ first ++ 32 ∷ rest → Lacks 32 first → (call : Call) → IsCallForm call → codes "put " ++ words ≡ call_text call
+    → IsName first × ((content : Content) × (call ≡ Put first content) × IsContentForm content × (rest ≡ content_word content))
+put_parts words first rest is lacks call h e =
+    let only = put_only words call h e in
+    let same = same_parts 32 first rest only.0 (content_word only.1) lacks (name_lacks_space only.0 only.3) (sym is ∙ only.5) in
+    (rw same.0 only.3, (only.1, only.2 ∙ ap (λ (n : List ℕ). Put n only.1) (sym same.0), only.4, same.1))
+
+-- a name and data make a put
+pub put_made : (words first rest : List ℕ) (content : Content) → words ≡ first ++ 32 ∷ rest → rest ≡ content_word content → codes "put " ++ words ≡ call_text (Put first content)
+put_made words first rest content is word = ap (λ (l : List ℕ). codes "put " ++ l) (is ∙ ap (λ (l : List ℕ). first ++ 32 ∷ l) word)
+
+-- what is wrong with the data is wrong with the put
+pub put_err : (words first rest : List ℕ) (kind : FaultKind) → words ≡ first ++ 32 ∷ rest → Lacks 32 first → IsName first → ReadsContent rest (Err kind)
+    → ReadsCall (codes "put " ++ words) (Err kind)
+put_err words first rest Syntax is lacks name h = λ call form e. let parts = put_parts words first rest is lacks call form e in h parts.1.0 parts.1.2 parts.1.3
+put_err words first rest Limit is lacks name h =
+    (Put first h.0, (name, h.1), λ fits. h.2 fits.1, put_made words first rest h.0 is h.3)
+put_err words first rest OutOfMemory is lacks name h = tt
+put_err words first rest Geometry is lacks name h = h
+put_err words first rest NoSuchActor is lacks name h = h
+put_err words first rest NoSuchServer is lacks name h = h
+put_err words first rest MissingEnd is lacks name h = h
+
+-- ---- a write
+
+-- a write has a space behind its name
+pub write_no_space : (words : List ℕ) → Lacks 32 words → (call : Call) → IsCallForm call → codes "write " ++ words ≢ call_text call
+write_no_space words lacks call h e =
+    let only = write_only words call h e in one_word words [] (number_word only.1 ++ 32 ∷ content_word only.2) only.0 only.6 lacks
+
+-- the first space ends a write's name
+write_first : (words first rest : List ℕ) → words ≡ first ++ 32 ∷ rest → Lacks 32 first → (call : Call) → IsCallForm call → codes "write " ++ words ≡ call_text call
+    → IsName first × ((offset : ℕ) × (content : Content) × (call ≡ Write first offset content) × IsContentForm content × (rest ≡ number_word offset ++ 32 ∷ content_word content))
+write_first words first rest is lacks call h e =
+    let only = write_only words call h e in
+    let same = same_parts 32 first rest only.0 (number_word only.1 ++ 32 ∷ content_word only.2) lacks (name_lacks_space only.0 only.4) (sym is ∙ only.6) in
+    (rw same.0 only.4, (only.1, only.2, only.3 ∙ ap (λ (n : List ℕ). Write n only.1 only.2) (sym same.0), only.5, same.1))
+
+-- and a space behind its offset
+pub write_no_second : (words first rest : List ℕ) → words ≡ first ++ 32 ∷ rest → Lacks 32 first → Lacks 32 rest → (call : Call) → IsCallForm call → codes "write " ++ words ≢ call_text call
+write_no_second words first rest is lacks none call h e =
+    let parts = write_first words first rest is lacks call h e in one_word rest [] (content_word parts.1.1) (number_word parts.1.0) parts.1.4 none
+
+-- a write's name, offset and data
+pub write_parts : (words first rest second third : List ℕ) → words ≡ first ++ 32 ∷ rest → Lacks 32 first → rest ≡ second ++ 32 ∷ third → Lacks 32 second
+    → (call : Call) → IsCallForm call → codes "write " ++ words ≡ call_text call
+    → IsName first × ((offset : ℕ) × (content : Content) × (call ≡ Write first offset content) × IsContentForm content × (second ≡ number_word offset) × (third ≡ content_word content))
+write_parts words first rest second third is lacks is' lacks' call h e =
+    let parts = write_first words first rest is lacks call h e in
+    let same = same_parts 32 second third (number_word parts.1.0) (content_word parts.1.1) lacks' (number_lacks 32 parts.1.0 (omega arith)) (sym is' ∙ parts.1.4) in
+    (parts.0, (parts.1.0, parts.1.1, parts.1.2, parts.1.3, same.0, same.1))
+
+-- a name, an offset and data make a write
+pub write_made : (words first rest second third : List ℕ) (offset : ℕ) (content : Content) → words ≡ first ++ 32 ∷ rest → rest ≡ second ++ 32 ∷ third
+    → second ≡ number_word offset → third ≡ content_word content → codes "write " ++ words ≡ call_text (Write first offset content)
+write_made words first rest second third offset content is is' number word =
+    ap (λ (l : List ℕ). codes "write " ++ l)
+    (is ∙ ap (λ (l : List ℕ). first ++ 32 ∷ l) (is' ∙ ap (λ (l : List ℕ). l ++ 32 ∷ third) number ∙ ap (λ (l : List ℕ). number_word offset ++ 32 ∷ l) word))
+
+-- what is wrong with the data is wrong with the write
+pub write_err : (words first rest second third : List ℕ) (kind : FaultKind) → words ≡ first ++ 32 ∷ rest → Lacks 32 first → rest ≡ second ++ 32 ∷ third → Lacks 32 second
+    → IsName first → IsNumberWord second → ReadsContent third (Err kind) → ReadsCall (codes "write " ++ words) (Err kind)
+write_err words first rest second third Syntax is lacks is' lacks' name number h = λ call form e.
+    let parts = write_parts words first rest second third is lacks is' lacks' call form e in h parts.1.1 parts.1.3 parts.1.5
+write_err words first rest second third Limit is lacks is' lacks' name number h =
+    (Write first number.0 h.0, (name, h.1), λ fits. h.2 fits.1, write_made words first rest second third number.0 h.0 is is' number.1 h.3)
+write_err words first rest second third OutOfMemory is lacks is' lacks' name number h = tt
+write_err words first rest second third Geometry is lacks is' lacks' name number h = h
+write_err words first rest second third NoSuchActor is lacks is' lacks' name number h = h
+write_err words first rest second third NoSuchServer is lacks is' lacks' name number h = h
+write_err words first rest second third MissingEnd is lacks is' lacks' name number h = h
+
+-- ---- a read
+
+-- a read has a space behind its name
+pub read_no_space : (words : List ℕ) → Lacks 32 words → (call : Call) → IsCallForm call → codes "read " ++ words ≢ call_text call
+read_no_space words lacks call h e =
+    let only = read_only words call h e in one_word words [] (number_word only.1 ++ 32 ∷ number_word only.2) only.0 only.5 lacks
+
+-- the first space ends a read's name
+read_first : (words first rest : List ℕ) → words ≡ first ++ 32 ∷ rest → Lacks 32 first → (call : Call) → IsCallForm call → codes "read " ++ words ≡ call_text call
+    → IsName first × ((offset : ℕ) × (count : ℕ) × (call ≡ ReadAt first offset count) × (rest ≡ number_word offset ++ 32 ∷ number_word count))
+read_first words first rest is lacks call h e =
+    let only = read_only words call h e in
+    let same = same_parts 32 first rest only.0 (number_word only.1 ++ 32 ∷ number_word only.2) lacks (name_lacks_space only.0 only.4) (sym is ∙ only.5) in
+    (rw same.0 only.4, (only.1, only.2, only.3 ∙ ap (λ (n : List ℕ). ReadAt n only.1 only.2) (sym same.0), same.1))
+
+-- and a space behind its offset
+pub read_no_second : (words first rest : List ℕ) → words ≡ first ++ 32 ∷ rest → Lacks 32 first → Lacks 32 rest → (call : Call) → IsCallForm call → codes "read " ++ words ≢ call_text call
+read_no_second words first rest is lacks none call h e =
+    let parts = read_first words first rest is lacks call h e in one_word rest [] (number_word parts.1.1) (number_word parts.1.0) parts.1.3 none
+
+-- a read's name, offset and length
+pub read_parts : (words first rest second third : List ℕ) → words ≡ first ++ 32 ∷ rest → Lacks 32 first → rest ≡ second ++ 32 ∷ third → Lacks 32 second
+    → (call : Call) → IsCallForm call → codes "read " ++ words ≡ call_text call
+    → IsName first × ((offset : ℕ) × (count : ℕ) × (call ≡ ReadAt first offset count) × (second ≡ number_word offset) × (third ≡ number_word count))
+read_parts words first rest second third is lacks is' lacks' call h e =
+    let parts = read_first words first rest is lacks call h e in
+    let same = same_parts 32 second third (number_word parts.1.0) (number_word parts.1.1) lacks' (number_lacks 32 parts.1.0 (omega arith)) (sym is' ∙ parts.1.3) in
+    (parts.0, (parts.1.0, parts.1.1, parts.1.2, same.0, same.1))
+
+-- a name, an offset and a length make a read
+pub read_made : (words first rest second third : List ℕ) (offset count : ℕ) → words ≡ first ++ 32 ∷ rest → rest ≡ second ++ 32 ∷ third
+    → second ≡ number_word offset → third ≡ number_word count → codes "read " ++ words ≡ call_text (ReadAt first offset count)
+read_made words first rest second third offset count is is' number word =
+    ap (λ (l : List ℕ). codes "read " ++ l)
+    (is ∙ ap (λ (l : List ℕ). first ++ 32 ∷ l) (is' ∙ ap (λ (l : List ℕ). l ++ 32 ∷ third) number ∙ ap (λ (l : List ℕ). number_word offset ++ 32 ∷ l) word))
+
+-- a number of 2^32 and more is not below it
+pub not_small : (n : ℕ) → 2 ^ 32 ≤ n → IsNumber n → ⊥
+not_small n large small = omega (arith, large, small)

@@ -1,6 +1,6 @@
 -- A text as lines of words.
-use Rattle.std.specs.Prelude.{◌≢◌, ℕ, List, [], ◌∷◌, ◌++◌}
-use Rattle.std.specs.List.{join_with_byte, flat_map}
+use Rattle.std.specs.Prelude.{◌≡◌, ◌≢◌, ◌⊎◌, ℕ, List, [], ◌∷◌, ◌++◌}
+use Rattle.std.specs.List.{join_with_byte}
 
 -- no byte of the text is this one
 abbrev pub Lacks : ℕ → List ℕ → Type 0
@@ -15,6 +15,7 @@ spaced words = join_with_byte 32 words
 abbrev pub line : List (List ℕ) → List ℕ
 line words = spaced words ++ 10 ∷ []
 
--- lines one after the other
-abbrev pub text_of_lines : List (List (List ℕ)) → List ℕ
-text_of_lines lines = flat_map line lines
+-- the word is the text up to its first space
+abbrev pub IsFirstWord : List ℕ → List ℕ → Type 0
+IsFirstWord text word =
+    Lacks 32 word × ((text ≡ word) ⊎ ((rest : List ℕ) × (text ≡ word ++ 32 ∷ rest)))

@@ -77,8 +77,8 @@ impl Load {
     /// Whether a script may ask for so much.
     pub fn is_allowed(self, stripe_len: u64) -> bool
         requires { stripe_len < 2 ^ 32 }
-        ensures { IsTrue result ↔ ((self.stripes ≤ MAX_STRIPES) × (self.stripes * stripe_len ≤ MAX_STRIPE_BYTES)
-            × (self.read_bytes ≤ MAX_READ_BYTES)) }
+        ensures { IsTrue result ↔ ((self.stripes ≤ MAX_STRIPES)
+            × (self.stripes * stripe_len ≤ MAX_STRIPE_BYTES) × (self.read_bytes ≤ MAX_READ_BYTES)) }
     {
         self.stripes <= MAX_STRIPES
             && self.stripes * stripe_len <= MAX_STRIPE_BYTES

@@ -1,4 +1,4 @@
-ghost use Rattle.std.specs.Prelude.{◌≡◌, ◌∷◌, ◌++◌, IfSome, IfNone};
+ghost use Rattle.std.specs.Prelude.{◌≡◌, ◌∷◌, ◌++◌, ◌↔◌, IfSome, IfNone, IsTrue};
 ghost use Rattle.script_text.specs.Lines.{Lacks};
 
 use memchr::memchr;
@@ -11,4 +11,11 @@ pub fn split_at_first(byte: u8, text: &[u8]) -> Option<(&[u8], &[u8])>
 {
     let at = memchr(byte, text)?;
     Some((&text[..at], &text[at + 1..]))
+}
+
+/// Whether a line is this text.
+pub fn is_text(line: &[u8], text: &[u8]) -> bool
+    ensures { IsTrue result ↔ (line.now ≡ text.now) }
+{
+    line == text
 }

@@ -1,24 +1,27 @@
-use Rattle.std.proofs.Common.{Some, arith}
+use Rattle.std.proofs.Common.{◌≡◌, ◌++◌, ℕ, true, List, ap, arith}
 use Rattle.std.specs.Prelude.{codes}
-use Rattle.std.proofs.lemmas.Bool.Decides.{Decides-eqb}
-use Rattle.std.proofs.lemmas.Slice.Eq.{strip_prefix_is}
-use Rattle.script_text.proofs.PlainLaws.{too_long, few_bytes}
+use Rattle.script_text.proofs.ContentLaws.{no_hex_digits, hex_too_long, hex_few}
 use Rattle.script_text.proofs.content.read_hex.Goals as goal
+use Rattle.script_text.proofs.content.read_hex.Goals.{then-not-are_lower_digits-via-then-not-are_lower_digits, then-not-are_lower_digits-via-else-not-are_lower_digits+then-digits-ne0}
+
+pub returns-then-not-are_lower_digits : goal.returns-then-not-are_lower_digits
+returns-then-not-are_lower_digits c = no_hex_digits c.args.digits.now (λ lower even.
+    elim c.then-not-are_lower_digits.branch [
+      | then-not-are_lower_digits-via-then-not-are_lower_digits w ↦
+          let yes : c.are_lower_digits.result ≡ true = c.are_lower_digits.ensures.1 lower in cc (yes)
+      | then-not-are_lower_digits-via-else-not-are_lower_digits+then-digits-ne0 w ↦ omega (arith, even)
+    ])
 
 pub returns-then-digits : goal.returns-then-digits
 returns-then-digits c =
-    let is = strip_prefix_is Decides-eqb c.args.word.now (codes "hex:") (Some c.in-Some.digits) c.in-Some.ensures.cases in
-    too_long c.args.word.now c.in-Some.digits.now is c.if-digits.true
+    hex_too_long c.args.digits.now (c.are_lower_digits.ensures.0 c.if-not-are_lower_digits.false) c.if-digits-ne0.false c.if-digits.true
 
 pub from_vec-requires : goal.from_vec-requires
 from_vec-requires c =
-    let read = rw c.in-Some-2.is at c.in_ok-bytes.ensures in
-    let few = few_bytes c.in-Some-2.bytes.items c.in-Some.digits.now read.1 (omega arith) in
+    let few = hex_few c.in-Ok.bytes.items c.args.digits.now c.in-Ok.ensures.spelled (omega arith) in
     omega (arith, few)
 
-pub returns : goal.returns
-returns c =
-    let is = strip_prefix_is Decides-eqb c.args.word.now (codes "hex:") (Some c.in-Some.digits) c.in-Some.ensures.cases in
-    let read = rw c.in-Some-2.is at c.in_ok-bytes.ensures in
-    let few = few_bytes c.in-Some-2.bytes.items c.in-Some.digits.now read.1 (omega arith) in
-    rw c.from_vec.ensures ((read.0, few), rw (← read.1) is)
+pub returns-in-Ok : goal.returns-in-Ok
+returns-in-Ok c =
+    let few = hex_few c.in-Ok.bytes.items c.args.digits.now c.in-Ok.ensures.spelled (omega arith) in
+    rw c.from_vec.ensures (c.in-Ok.ensures.bytes, few, ap (λ (l : List ℕ). codes "hex:" ++ l) c.in-Ok.ensures.spelled)

@@ -1,0 +1,30 @@
+use Rattle.std.proofs.Common.{refl, ◌≡◌, true}
+use Rattle.script_text.specs.Front.{Empty, Opened}
+use Rattle.script_text.specs.FirstFault.{IsFrontFault}
+use Rattle.script_text.specs.declared.fault.FaultKind.TheVariants.{Syntax, MissingEnd}
+use Rattle.script_text.proofs.ScriptLaws.{named, front_fault, front_missing, not_clay, code_err, clay_read}
+use Rattle.script_text.proofs.script.read_opening.Goals as goal
+
+pub returns-then-not-is_text-clause-fault : goal.returns-then-not-is_text-clause-fault
+returns-then-not-is_text-clause-fault c =
+    let bytes = c.args.bytes.now in
+    named (IsFrontFault bytes) 1 Syntax c.at-then-not-is_text.result c.at-then-not-is_text.ensures (λ known.
+    front_fault bytes Empty bytes c.in-Some.first.now c.in-Some.behind.now 1 Syntax tt (λ h. h) refl refl c.in-Some.ensures.found c.in-Some.ensures.first
+    (not_clay c.in-Some.first.now (λ is. let yes : c.is_text.result ≡ true = c.is_text.ensures.1 is in cc (yes, c.if-not-is_text.true))))
+
+pub returns-in_default-split_at_first-clause-fault :
+    goal.returns-in_default-split_at_first-clause-fault
+returns-in_default-split_at_first-clause-fault c =
+    let bytes = c.args.bytes.now in
+    named (IsFrontFault bytes) 2 MissingEnd c.at-in_default-split_at_first.result c.at-in_default-split_at_first.ensures (λ known.
+    front_missing bytes Opened c.in-Some.behind.now 2 tt (λ h. h) refl
+    (clay_read bytes c.in-Some.first.now c.in-Some.behind.now c.in-Some.ensures.found (c.is_text.ensures.0 c.if-not-is_text.false)) c.in_default-split_at_first.ensures.none)
+
+pub returns-in-Err-clause-fault : goal.returns-in-Err-clause-fault
+returns-in-Err-clause-fault c =
+    let bytes = c.args.bytes.now in
+    named (IsFrontFault bytes) 2 c.in-Err.kind c.at-in-Err.result c.at-in-Err.ensures (λ known.
+    front_fault bytes Opened c.in-Some.behind.now c.in-Some-split_at_first.second.now c.in-Some-split_at_first.rest.now 2 c.in-Err.kind tt (λ h. h) refl
+    (clay_read bytes c.in-Some.first.now c.in-Some.behind.now c.in-Some.ensures.found (c.is_text.ensures.0 c.if-not-is_text.false))
+    c.in-Some-split_at_first.ensures.found c.in-Some-split_at_first.ensures.first
+    (code_err c.in-Some-split_at_first.second.now c.in-Err.kind c.in-Err.ensures known))
