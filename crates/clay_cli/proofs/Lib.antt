@@ -1,2 +1,4 @@
+mod Outputs
+mod Refusals
 mod Statuses
 mod WordLaws

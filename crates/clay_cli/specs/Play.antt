@@ -1,30 +1,55 @@
 -- What `play` prints for its input.
-use Rattle.std.specs.Prelude.{◌≡◌, ℕ, List, codes}
-use Rattle.store_map.specs.Naming.{IsValid}
+use Rattle.std.specs.Prelude.{◌≡◌, ◌⊎◌, ℕ, List, ◌++◌, codes, decimal}
 use Rattle.store_map.specs.declared.script.Script.{Script}
-use Rattle.script_text.specs.FirstForm.{IsFirstForm}
-use Rattle.script_text.specs.Spelling.{spelling}
-use Rattle.script_text.specs.Values.{IsScript}
+use Rattle.script_text.specs.FirstFault.{Spelled, IsFault}
+use Rattle.script_text.specs.declared.fault.FaultKind.{FaultKind}
+use Rattle.script_text.specs.declared.fault.FaultKind.TheVariants as fault
+use Rattle.store_world.specs.OneClient.{HasOneClient}
 use Rattle.store_world.specs.Shown.{IsShown}
 use Rattle.transcript_text.specs.Text.{text_of}
 use Rattle.transcript_text.specs.declared.transcript.Transcript.{Transcript}
 
--- the input spells this script, which is valid and of the form that is built
-pub record IsBuilt (input : List ℕ) (script : Script) : Type 0 where
-  pub spelled : input ≡ spelling script
-  pub values : IsScript script
-  pub form : IsFirstForm script
-  pub valid : IsValid script
-
--- the text is that of a transcript of the script that the input spells
-pub record IsTranscriptFor (input text : List ℕ) : Type 0 where
-  pub script : Script
+-- the text is that of a transcript of the script
+pub record IsTextOf (script : Script) (text : List ℕ) : Type 0 where
   pub transcript : Transcript
-  pub built : IsBuilt input script
   pub shown : IsShown script transcript
   pub written : text ≡ text_of transcript
 
--- the input spells no such script, and the line says so
-pub record IsRefusal (input line : List ℕ) : Type 0 where
-  pub not_built : (script : Script) → IsBuilt input script → ⊥
+-- the input spells a script of the form that is built, and the text is that of its transcript
+pub record IsTranscriptFor (input text : List ℕ) : Type 0 where
+  pub script : Script
+  pub spelled : Spelled input script
+  pub built : HasOneClient script
+  pub text_of_it : IsTextOf script text
+
+-- what is wrong, in words
+abbrev pub kind_text : FaultKind → List ℕ
+kind_text fault.Syntax = codes "syntax"
+kind_text fault.Geometry = codes "geometry"
+kind_text fault.Limit = codes "limit"
+kind_text fault.NoSuchActor = codes "no such actor"
+kind_text fault.NoSuchServer = codes "no such server"
+kind_text fault.MissingEnd = codes "missing end"
+kind_text fault.OutOfMemory = codes "out of memory"
+
+-- refused line L KIND
+abbrev pub refusal_line : ℕ → List ℕ → List ℕ
+refusal_line number kind = codes "refused line " ++ (decimal number ++ (codes " " ++ (kind ++ codes "\n")))
+
+-- the input spells no script: its first fault is named, and the line in which it stands
+pub record IsFaulty (input line : List ℕ) : Type 0 where
+  pub number : ℕ
+  pub kind : FaultKind
+  pub fault : IsFault input number kind
+  pub line_is : line ≡ refusal_line number (kind_text kind)
+
+-- the input spells a script of another form than the one that is built
+pub record IsNotBuilt (input line : List ℕ) : Type 0 where
+  pub script : Script
+  pub spelled : Spelled input script
+  pub not_built : ¬ HasOneClient script
   pub line_is : line ≡ codes "refused line 0 not built\n"
+
+-- the input is refused for what it is
+abbrev pub IsRefusal : List ℕ → List ℕ → Type 0
+IsRefusal input line = IsFaulty input line ⊎ IsNotBuilt input line

@@ -1,31 +1,77 @@
 // The command `play`.
-ghost use Rattle.std.specs.Prelude.{IfOk};
+ghost use Rattle.std.specs.Prelude.{◌≡◌, ◌≢◌, IfOk};
+ghost use Rattle.store_map.specs.Naming.{IsValid};
+ghost use Rattle.store_world.specs.OneClient.{HasOneClient};
+ghost use Rattle.clay_cli.specs.Play.{IsTextOf, kind_text, refusal_line};
 ghost use Rattle.clay_cli.specs.Top.{Answers, IsOfInput};
 ghost use Rattle.clay_cli.specs.declared.words.Command.TheVariants.{Play};
 
 use crate::Status;
 use crate::output::Output;
-use script_text::{FirstFormFault, read_first_form};
+use script_text::{FaultKind, ScriptFault, read_script};
 use std::alloc::{AllocError, Global};
+use store_map::Script;
+use store_world::has_one_client;
 use transcript_text::write_transcript;
 
-/// The transcript of the script that the input spells.
+const NOT_BUILT: &[u8] = b"refused line 0 not built\n";
+
+// What is wrong with a line, in words.
+fn kind_text(kind: FaultKind) -> &'static str
+    ensures { result.now ≡ kind_text kind }
+{
+    match kind {
+        FaultKind::Syntax => "syntax",
+        FaultKind::Geometry => "geometry",
+        FaultKind::Limit => "limit",
+        FaultKind::NoSuchActor => "no such actor",
+        FaultKind::NoSuchServer => "no such server",
+        FaultKind::MissingEnd => "missing end",
+        FaultKind::OutOfMemory => "out of memory",
+    }
+}
+
+// The line that names the first fault.
+fn refusal(alloc: Global, fault: ScriptFault) -> Result<Output, AllocError>
+    ensures status { IfOk result (λ output. output.status ≡ Status.ScriptRefused) }
+    ensures line { IfOk result (λ output. output.bytes.items ≡ refusal_line fault.line (kind_text fault.kind)) }
+    ensures memory { IfOk result (λ output. fault.kind ≢ FaultKind.OutOfMemory) }
+{
+    if fault.kind == FaultKind::OutOfMemory {
+        return Err(AllocError);
+    }
+    let line = format!(in alloc; "refused line {} {}\n", fault.line, kind_text(fault.kind))?;
+    Output::line(alloc, Status::ScriptRefused, line.as_bytes())
+}
+
+// The transcript of a script.
+fn transcript(alloc: Global, script: Script) -> Result<Output, AllocError>
+    requires form { HasOneClient script }
+    requires valid { IsValid script }
+    ensures status { IfOk result (λ output. output.status ≡ Status.Done) }
+    ensures text { IfOk result (λ output. IsTextOf script output.bytes.items) }
+{
+    let transcript = store_world::play(alloc, script)?;
+    let bytes = write_transcript(alloc, &transcript)?;
+    Ok(Output {
+        status: Status::Done,
+        bytes,
+    })
+}
+
+/// The transcript of the script that the input spells, or a line that says why there is none.
 pub fn play(alloc: Global, input: &[u8]) -> Result<Output, AllocError>
     ensures status { IfOk result (λ output. IsOfInput output.status) }
     ensures answers { IfOk result (λ output. Answers Play input.now output.status output.bytes.items) }
 {
-    match read_first_form(alloc, input) {
+    match read_script(alloc, input) {
         Ok(script) => {
-            let transcript = store_world::play(alloc, script)?;
-            let bytes = write_transcript(alloc, &transcript)?;
-            Ok(Output {
-                status: Status::Done,
-                bytes,
-            })
+            if has_one_client(&script) {
+                transcript(alloc, script)
+            } else {
+                Output::line(alloc, Status::ScriptRefused, NOT_BUILT)
+            }
         }
-        Err(FirstFormFault::NotBuilt) => {
-            Output::line(alloc, Status::ScriptRefused, b"refused line 0 not built\n")
-        }
-        Err(FirstFormFault::OutOfMemory) => Err(AllocError),
+        Err(fault) => refusal(alloc, fault),
     }
 }

@@ -10,8 +10,12 @@ abbrev pub calls_of : List ClientPart → List Call
 calls_of [] = []
 calls_of (part ∷ others) = part.calls
 
+-- one block of clients, with no step limit
+abbrev pub IsOnePart : List ClientPart → Type 0
+IsOnePart clients = clients ≡ record { calls = calls_of clients; leave = None } ∷ []
+
 -- one client with no step limit, no repairer, and a schedule of one drain
 pub record HasOneClient (script : Script) : Type 0 where
-  pub alone : script.clients ≡ record { calls = calls_of script.clients; leave = None } ∷ []
+  pub alone : IsOnePart script.clients
   pub no_repairer : script.repairers ≡ []
   pub to_the_end : script.schedule ≡ Drain ∷ []

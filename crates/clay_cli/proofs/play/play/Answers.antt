@@ -1,8 +1,12 @@
-use Rattle.store_world.proofs.OneClientLemmas.{HasOneClient-of, few_calls}
+use Rattle.std.proofs.Common.{◌≡◌, true}
+use Rattle.clay_cli.proofs.Outputs.{on_ok}
+use Rattle.clay_cli.proofs.Refusals.{not_built}
 use Rattle.clay_cli.proofs.play.play.Goals as goal
 
-pub play-requires-clause-form : goal.play-requires-clause-form
-play-requires-clause-form c = let form = c.in-Ok.ensures.form in HasOneClient-of _ _ _ _ _ form.whole
-
-pub play-requires-clause-few : goal.play-requires-clause-few
-play-requires-clause-few c = few_calls _ c.in-Ok.ensures.valid.limits.client_calls
+pub returns-else-has_one_client-clause-answers : goal.returns-else-has_one_client-clause-answers
+returns-else-has_one_client-clause-answers c =
+    on_ok c.line.result
+    (λ output made. not_built c.args.input.now c.in-Ok.script output.status output.bytes.items
+    (record { values = c.in-Ok.ensures.values; valid = c.in-Ok.ensures.valid; spelled = c.in-Ok.ensures.spelled })
+    (λ form. let yes : c.has_one_client.result ≡ true = c.has_one_client.ensures.1 form in cc (yes, c.if-has_one_client.false)) made)
+    c.line.ensures
