@@ -70,3 +70,5 @@ pub mod RowsShort
 pub mod RowsEveryPlace
 pub mod EveryPlace
 pub mod RowsLarge
+pub mod Conditions
+pub mod SoundLaws

@@ -8,7 +8,7 @@ use Rattle.store_core.specs.Directory.{Object, Standing, Version, Mark, Point, D
 use Rattle.store_core.specs.Lookups.{same_actor, is_live}
 use Rattle.store_core.specs.Replay.{Replays}
 use Rattle.store_core.specs.Lengths.{Lengths}
-use Rattle.store_core.specs.SoundPasses.{Stands, IsLive, IsOfItsCall}
+use Rattle.store_core.specs.SoundPasses.{Stands, IsRight, IsLive, HasVersions, IsOfItsCall}
 
 -- the objects' names and lengths
 abbrev pub lengths_of : Directory → Lengths
@@ -43,8 +43,10 @@ pub record IsSound (d : Directory) : Type 0 where
   pub points : AllPairs AreInOrder d.points
   pub passes : AllPairs (λ p q. IsFalse (same_actor p.actor q.actor)) d.passes
   pub live : All (λ pass. IsTrue (is_live pass.reaped) → IsLive d pass) d.passes
+  pub calls : All (λ pass. IsRight d pass pass.note.kind) d.passes
   pub newest : All (λ pass. All (IsOfItsCall pass) d.points) d.passes
   pub apart : AllPairs (λ p q. All (λ version. IsFalse (is_among version q.drawn)) p.drawn) d.passes
   pub listed : (number : ℕ) → Stands d Standing.Current number → (i : ℕ) × (i < length d.objects) × IfSome (slice_get d.objects i) (λ object. IsTrue (is_among number object.versions))
   pub placed : All (IsPlaced d) d.versions
   pub pinned_placed : All (λ pass. All (λ pin. IfSome (slice_get d.versions pin.version) (λ version. length version.placed ≡ chunk_count d.shape)) pass.pinned) d.passes
+  pub versions : All (HasVersions d) d.passes

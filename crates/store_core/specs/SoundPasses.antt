@@ -17,7 +17,7 @@ Stands d standing number = IfSome (slice_get d.versions number) (λ version. ver
 abbrev pub IsAllowed : Directory → Note → ℕ → Type 0
 IsAllowed d note count = (apply_length d.max note (lengths_after d.max (take count d.points))).1 ≡ reply.Done
 
--- where its object wasn't changed since, a write pins current versions of the stripes that it names
+-- where its object wasn't changed since, the pinned versions are the current ones of their stripes
 abbrev pub PinsCurrent : Directory → Pass → Type 0
 PinsCurrent d pass =
     pass.base ≡ last_change pass.note.name d.points →
@@ -30,10 +30,10 @@ pub record HasBase (d : Directory) (pass : Pass) : Type 0 where
   pub within : base < length d.points
   pub allowed : IsAllowed d pass.note (base + 1)
 
--- a put is allowed after every point, a write after its base; other calls draw nothing
+-- a put is allowed after every point and writes from the first byte on, a write is allowed after its base; other calls draw nothing
 abbrev pub IsRight : Directory → Pass → Kind → Type 0
-IsRight d pass Kind.Put = (count : ℕ) → count ≤ length d.points → IsAllowed d pass.note count
-IsRight d pass Kind.Write = PinsCurrent d pass × HasBase d pass
+IsRight d pass Kind.Put = (pass.note.offset ≡ 0) × ((count : ℕ) → count ≤ length d.points → IsAllowed d pass.note count)
+IsRight d pass Kind.Write = HasBase d pass
 IsRight d pass _ = pass.drawn ≡ []
 
 -- a pass that isn't reaped
@@ -42,7 +42,12 @@ pub record IsLive (d : Directory) (pass : Pass) : Type 0 where
   pub drawn : All (Stands d Standing.Drawn) pass.drawn
   pub differ : AllPairs (λ v w. v ≢ w) pass.drawn
   pub all_drawn : (pass.drawn ≡ []) ⊎ (length pass.drawn ≡ length (touched d pass.note))
-  pub call : IsRight d pass pass.note.kind
+  pub current : pass.note.kind ≡ Kind.Write → PinsCurrent d pass
+
+-- what a pass pins and what it drew are versions, also where it was reaped
+pub record HasVersions (d : Directory) (pass : Pass) : Type 0 where
+  pub pinned : All (λ pin. pin.version < length d.versions) pass.pinned
+  pub drawn : All (λ version. version < length d.versions) pass.drawn
 
 -- no point of the pass's actor is of a later call, and of the pass's own call there is no point but that of its look and that of its reap
 pub record IsOfItsCall (pass : Pass) (point : Point) : Type 0 where

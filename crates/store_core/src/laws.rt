@@ -13,6 +13,7 @@ ghost use Rattle.store_core.specs.EndLaws.{AnswersEndCalls};
 ghost use Rattle.store_core.specs.GatheredLaws.{GatheringsEndCalls};
 ghost use Rattle.store_core.specs.SweepLaws.{SweepsInOrder};
 ghost use Rattle.store_core.specs.DrainLaws.{DrainsEnd};
+ghost use Rattle.store_core.specs.SoundLaws.{StepsKeepSound};
 ghost use Rattle.store_core.specs.NextAct.{Job};
 ghost use Rattle.store_core.specs.PlaceLaws.{ServersCountUp, DirectoryKeepsPlaces};
 ghost use Rattle.store_core.specs.ActorLaws.{ActsChangeOnePlace, StepsChangeOneActor};
@@ -123,6 +124,13 @@ pub fn gatherings_end_calls()
 /// swept: two steps more than there are servers.
 pub fn sweeper_sweeps_in_order()
     ensures { (g : Shape) → SweepsInOrder g }
+{}
+
+/// A directory without objects is sound, and each step that may be made leaves a sound directory
+/// sound: its points replay to its objects, each object has its versions, all current and each once,
+/// and each pass has what it pinned and drew.
+pub fn steps_keep_a_directory_sound()
+    ensures { StepsKeepSound }
 {}
 
 /// In every run of a valid script each call keeps its bound on steps, and after a drain nobody has a
