@@ -195,7 +195,7 @@ module _ (g : Shape) (most tries : ℕ) (some : 0 < stripe_length g) (job : Job)
       }
 
 -- ---- the first act of a call
-is_looking : (kind : Kind) (g : Shape) (tries : ℕ) (job : Job) → 1 ≤ tries → phase_of (next_by kind g tries job []) ≡ Phase.Looking
+pub is_looking : (kind : Kind) (g : Shape) (tries : ℕ) (job : Job) → 1 ≤ tries → phase_of (next_by kind g tries job []) ≡ Phase.Looking
 is_looking Kind.Put g tries job some = refl
 is_looking Kind.Write g tries job some =
     ap (λ b. phase_of (cond {A = Act} b (Act.AtDirectory (DirectoryStep.Look job.note)) (Act.Finish (Outcome.Contended [])))) (lt-ltb 0 tries some)
@@ -221,12 +221,13 @@ begins g tries job who d some none =
 
 -- ---- an actor's calls
 pub record InWork (g : Shape) (most tries : ℕ) (job : Job) (who : Actor) (calling : Calling) (d : Directory) : Type 0 where
+  pub fresh : calling.steps ≡ 0 → calling.told ≡ []
   pub bound : call_left g most tries job calling.told + calling.steps ≤ step_bound g most tries job.note
   pub stands : Stands g tries job who calling.told d
 
 module _ (g : Shape) (most tries : ℕ) where
   abbrev pub CallKept : Actor → List Job → Calling → Directory → Type 0
-  CallKept who [] calling d = Unit {0}
+  CallKept who [] calling d = held who d ≡ None
   CallKept who (job ∷ later) calling d = InWork g most tries job who calling d
 
   -- the steps and the draws of a call in work and of all later ones
@@ -307,7 +308,7 @@ module _ (g : Shape) (most tries : ℕ) (some : 0 < stripe_length g) (tried : 1 
         record {
           kept =
               subst (λ l. CallKept g most tries who l middle after.directory) (sym ahead)
-              (record { bound = omega (arith, bound, short, falls); stands = record { pass = brings.pass; going = going } });
+              (record { fresh = λ none. absurd (omega (arith, none)); bound = omega (arith, bound, short, falls); stands = record { pass = brings.pass; going = going } });
           steps =
               subst (λ l. steps_ahead g most tries l now < steps_ahead g most tries l calling.told) (sym ahead) (omega (arith, short, falls));
           draws =
@@ -322,10 +323,11 @@ module _ (g : Shape) (most tries : ℕ) (some : 0 < stripe_length g) (tried : 1 
 
     -- the call is over, and the next one begins
     next_kept : (l : List Job) (calling_now : Calling) → calling_now.told ≡ [] → calling_now.steps ≡ 0 → held who after.directory ≡ None → CallKept g most tries who l calling_now after.directory
-    next_kept [] calling_now begun none_made free = tt
+    next_kept [] calling_now begun none_made free = free
     next_kept (next ∷ rest) calling_now begun none_made free =
         let bound : call_left g most tries next [] ≤ step_bound g most tries next.note = (steps_fall g most tries next).first in
         record {
+          fresh = λ _. begun;
           bound =
               subst (λ (l : List Told). call_left g most tries next l + calling_now.steps ≤ step_bound g most tries next.note) (sym begun)
               (let e : calling_now.steps ≡ 0 = none_made in omega (arith, bound, e));

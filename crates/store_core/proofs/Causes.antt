@@ -16,8 +16,8 @@ use Rattle.store_core.specs.Write.{old_parts, trying}
 use Rattle.store_core.specs.Rebuild.{placing, installing, confirming, rebuilding, next_rebuild}
 use Rattle.store_core.specs.NextAct.{Job, next_by, next_act}
 use Rattle.store_core.specs.GatherLaws.{Tells, Ends}
-use Rattle.store_core.specs.CauseLaws.{Replies, PinsAt, IsPlacement, IsThere, changes_of, HasCause, IsCaused, OutcomesHaveCauses}
-use Rattle.store_core.proofs.Gatherings.{part_ends, chunk_ends}
+use Rattle.store_core.specs.CauseLaws.{Replies, PinsAt, IsPlacement, TargetHasIt, changes_of, HasCause, IsCaused, OutcomesHaveCauses}
+use Rattle.store_core.proofs.Gatherings.{part_ends, part_target, chunk_ends}
 
 -- what some later part tells the whole list tells too
 abbrev Into : List Told → List Told → Type 1
@@ -33,21 +33,8 @@ past : (front rest whole : List Told) → Into (front ++ rest) whole → Into re
 past [] rest whole into = into
 past (answer ∷ front) rest whole into = past front rest whole (λ P h. into P (inr h))
 
-first : (front rest whole : List Told) → Into (front ++ rest) whole → Into front whole
-first [] rest whole into P h = absurd h
-first (answer ∷ front) rest whole into P (inl h) = into P (inl h)
-first (answer ∷ front) rest whole into P (inr h) = first front rest whole (λ Q k. into Q (inr k)) P h
-
 cut_into : (told front rest whole : List Told) → told ≡ front ++ rest → Into told whole → Into (front ++ rest) whole
 cut_into told front rest whole e into P h = into P (subst (Tells P) (sym e) h)
-
-weaker : (P Q : Told → Type 0) → ((answer : Told) → P answer → Q answer) → (told : List Told) → Tells P told → Tells Q told
-weaker P Q f [] h = absurd h
-weaker P Q f (answer ∷ told) (inl h) = inl (f answer h)
-weaker P Q f (answer ∷ told) (inr h) = inr (weaker P Q f told h)
-
-here_is_there : (answer : Told) → answer ≡ Told.Here → IsThere answer
-here_is_there answer e = subst IsThere (sym e) tt
 
 module _ (g : Shape) (tries : ℕ) (whole : List Told) where
   abbrev WithEnd : Outcome → Type 0
@@ -63,22 +50,20 @@ module _ (g : Shape) (tries : ℕ) (whole : List Told) where
   NextIsCaused next = (told : List Told) → Into told whole → IsCaused g tries whole (next told)
 
   act_caused : (stripe : ℕ) (next : List Told → Act) → NextIsCaused next → (told : List Told) → Into told whole → (result : Gathering) → Ends g [] told result
-      → IsCaused g tries whole (act_of stripe next result)
-  act_caused stripe next caused told into (Gathering.Asks server step) h = tt
-  act_caused stripe next caused told into (Gathering.HasBytes rest) h = caused rest (past h.front rest whole (cut_into told h.front rest whole h.told_is into))
-  act_caused stripe next caused told into (Gathering.TooMany missing rest) h =
+      → ((rest : List Told) → result ≡ Gathering.AtTarget rest → told ≡ Told.Here ∷ rest → TargetHasIt whole) → IsCaused g tries whole (act_of stripe next result)
+  act_caused stripe next caused told into (Gathering.Asks server step) h target = tt
+  act_caused stripe next caused told into (Gathering.HasBytes rest) h target = caused rest (past h.front rest whole (cut_into told h.front rest whole h.told_is into))
+  act_caused stripe next caused told into (Gathering.TooMany missing rest) h target =
       ending_caused (Outcome.Unavailable stripe missing) (λ e. (h.count, e)) rest (past h.front rest whole (cut_into told h.front rest whole h.told_is into))
-  act_caused stripe next caused told into (Gathering.AtTarget rest) h =
-      ending_caused Outcome.Here
-      (λ e. (weaker (λ answer. answer ≡ Told.Here) IsThere here_is_there whole (first h.front rest whole (cut_into told h.front rest whole h.told_is into) (λ answer. answer ≡ Told.Here) h.here), e))
-      rest (past h.front rest whole (cut_into told h.front rest whole h.told_is into))
-  act_caused stripe next caused told into (Gathering.NoRoom rest) h =
+  act_caused stripe next caused told into (Gathering.AtTarget rest) h target =
+      ending_caused Outcome.Here (λ e. (inl (target rest refl h), e)) rest (after rest whole (λ P later. into P (subst (Tells P) (sym h) later)))
+  act_caused stripe next caused told into (Gathering.NoRoom rest) h target =
       ending_caused Outcome.NoMemory (λ _. tt) rest (past h.front rest whole (cut_into told h.front rest whole h.told_is into))
 
   gathering_caused : (parts : List Part) (next : List Told → Act) → NextIsCaused next → (told : List Told) → Into told whole → IsCaused g tries whole (gathering g parts next told)
   gathering_caused [] next caused told into = caused told into
   gathering_caused (part ∷ parts) next caused (Told.Gathered ∷ told) into = gathering_caused parts next caused told (λ P h. into P (inr h))
-  gathering_caused (part ∷ parts) next caused told into = act_caused part.seen.stripe (gathering g parts next) (λ later into_later. gathering_caused parts next caused later into_later) told into (gather_part g part told) (part_ends g part told)
+  gathering_caused (part ∷ parts) next caused told into = act_caused part.seen.stripe (gathering g parts next) (λ later into_later. gathering_caused parts next caused later into_later) told into (gather_part g part told) (part_ends g part told) (λ rest e h. absurd (part_target g part told rest e))
 
   settling_caused : (point : ℕ) → Tells (Replies point reply.Done) whole → (places : List (ℕ × ℕ)) (told : List Told) → IsCaused g tries whole (settling point places told)
   settling_caused point h [] told = h
@@ -151,7 +136,7 @@ module _ (g : Shape) (tries : ℕ) (whole : List Told) where
   installing_caused seen target [] into = tt
   installing_caused seen target (Told.Placed epoch ∷ told) into = placing_caused (into IsPlacement (inl tt)) target epoch told (λ P h. into P (inr h))
   installing_caused seen target (Told.AlreadyThere ∷ told) into =
-      ending_caused Outcome.Here (λ e. (into IsThere (inl tt), e)) told (λ P h. into P (inr h))
+      ending_caused Outcome.Here (λ e. (inr (into (λ answer. answer ≡ Told.AlreadyThere) (inl refl)), e)) told (λ P h. into P (inr h))
   installing_caused seen target (_ ∷ told) into = ending_caused Outcome.NoMemory (λ _. tt) told (λ P h. into P (inr h))
 
   confirming_caused : (seen : Seen) (target : ℕ) → NextIsCaused (confirming seen target)
@@ -161,16 +146,17 @@ module _ (g : Shape) (tries : ℕ) (whole : List Told) where
   confirming_caused seen target (Told.Reaped point ∷ told) into = into (λ answer. answer ≡ Told.Reaped point) (inl refl)
   confirming_caused seen target (_ ∷ told) into = ending_caused Outcome.NoMemory (λ _. tt) told (λ P h. into P (inr h))
 
-  rebuilding_caused : 0 < g.parity_count → (seen : Seen) (target : ℕ) (told : List Told) → Into told whole → IsCaused g tries whole (rebuilding g seen target told)
-  rebuilding_caused some seen target (Told.Gathered ∷ told) into = confirming_caused seen target told (λ P h. into P (inr h))
-  rebuilding_caused some seen target told into =
+  rebuilding_caused : 0 < g.parity_count → (seen : Seen) (target : ℕ) (told : List Told) → whole ≡ Told.PinnedStripe seen ∷ told → Into told whole → IsCaused g tries whole (rebuilding g seen target told)
+  rebuilding_caused some seen target (Told.Gathered ∷ told) is into = confirming_caused seen target told (λ P h. into P (inr h))
+  rebuilding_caused some seen target told is into =
       act_caused seen.stripe (confirming seen target) (confirming_caused seen target) told into (gather_chunk g seen target told) (chunk_ends g seen target told some)
+      (λ rest e h. subst TargetHasIt (sym (is ∙ ap (λ l. Told.PinnedStripe seen ∷ l) h)) tt)
 
-  rebuild_caused : 0 < g.parity_count → (note : Note) (target : ℕ) (told : List Told) → Into told whole → IsCaused g tries whole (next_rebuild g note target told)
-  rebuild_caused some note target [] into = tt
-  rebuild_caused some note target (Told.NoSuch ∷ told) into = into (λ answer. answer ≡ Told.NoSuch) (inl refl)
-  rebuild_caused some note target (Told.PinnedStripe seen ∷ told) into = rebuilding_caused some seen target told (λ P h. into P (inr h))
-  rebuild_caused some note target (_ ∷ told) into = tt
+  rebuild_caused : 0 < g.parity_count → (note : Note) (target : ℕ) (told : List Told) → whole ≡ told → Into told whole → IsCaused g tries whole (next_rebuild g note target told)
+  rebuild_caused some note target [] is into = tt
+  rebuild_caused some note target (Told.NoSuch ∷ told) is into = into (λ answer. answer ≡ Told.NoSuch) (inl refl)
+  rebuild_caused some note target (Told.PinnedStripe seen ∷ told) is into = rebuilding_caused some seen target told is (λ P h. into P (inr h))
+  rebuild_caused some note target (_ ∷ told) is into = tt
 
 causes_by : (kind : Kind) (g : Shape) (tries : ℕ) (job : Job) (told : List Told) → 0 < g.parity_count → IsCaused g tries told (next_by kind g tries job told)
 causes_by Kind.Put g tries job told some = put_caused g tries told job.note told (λ P h. h)
@@ -179,7 +165,7 @@ causes_by Kind.Get g tries job told some = read_caused g tries told job.note tol
 causes_by Kind.ReadAt g tries job told some = read_caused g tries told job.note told (λ P h. h)
 causes_by Kind.Stat g tries job told some = single_caused g tries told job.note told (λ P h. h)
 causes_by Kind.Delete g tries job told some = single_caused g tries told job.note told (λ P h. h)
-causes_by Kind.Rebuild g tries job told some = rebuild_caused g tries told some job.note job.target told (λ P h. h)
+causes_by Kind.Rebuild g tries job told some = rebuild_caused g tries told some job.note job.target told refl (λ P h. h)
 
 pub causes : (g : Shape) (tries : ℕ) (job : Job) (told : List Told) → 0 < g.parity_count → IsCaused g tries told (next_act g tries job told)
 causes g tries job told some = causes_by job.note.kind g tries job told some

@@ -43,16 +43,21 @@ three_false true b c p q r = absurd (true≢false p)
 three_false false true c p q r = absurd (true≢false q)
 three_false false false true p q r = absurd (true≢false r)
 
+-- what holds wherever something is found
+pub if_found : {X : Type 0} (P : X → Type 0) (found : Option X) → ((x : X) → found ≡ Some x → P x) → IfSome found P
+if_found P None h = tt
+if_found P (Some x) h = h x refl
+
 module _ (script : Script) (marks : List Marks) (can : CanRun script) (stays : StaysSound script marks) where
-  abbrev start : Run
+  abbrev pub start : Run
   start = record { core = first_core script; marks = marks }
 
   -- a run that single steps lead to
-  record State (run : Run) : Type 0 where
+  pub record State (run : Run) : Type 0 where
     tokens : List Token
     single : All (λ token. IsTrue (is_one_step token)) tokens
     is_run : run_tokens script tokens start ≡ run
-    keeps : Keeps script run.core
+    pub keeps : Keeps script run.core
 
   -- its directory is sound
   sound : (run : Run) → State run → IsSound run.core.directory
@@ -243,18 +248,14 @@ module _ (script : Script) (marks : List Marks) (can : CanRun script) (stays : S
   token_state token.Drain run state = (drained run state).state
 
   -- any tokens lead where single steps lead
-  run_state : (tokens : List Token) (run : Run) → State run → State (run_tokens script tokens run)
+  pub run_state : (tokens : List Token) (run : Run) → State run → State (run_tokens script tokens run)
   run_state [] run state = state
   run_state (token ∷ tokens) run state = run_state tokens (step_core script token run) (token_state token run state)
 
-  start_state : State start
+  pub start_state : State start
   start_state = record { tokens = []; single = All-nil (λ (t : Token). IsTrue (is_one_step t)); is_run = refl; keeps = first_keeps script can.tried }
 
   -- ---- bounds
-  if_found : {X : Type 0} (P : X → Type 0) (found : Option X) → ((x : X) → found ≡ Some x → P x) → IfSome found P
-  if_found P None h = tt
-  if_found P (Some x) h = h x refl
-
   group_bounds : (who_of : ℕ → Actor) (works : List Work) (callings : List Calling) (d : Directory) → IsGroup script who_of works → GroupKept script who_of works callings d
       → (i : ℕ) → IfSome (slice_get works i) (λ work. IfSome (slice_get callings i) (KeepsBound script work))
   group_bounds who_of works callings d group kept i =
@@ -281,6 +282,8 @@ module _ (script : Script) (marks : List Marks) (can : CanRun script) (stays : S
         bounds = λ tokens.
             let state : State (run_tokens script tokens start) = run_state tokens start start_state in
             record {
+              client_count = state.keeps.client_count;
+              repairer_count = state.keeps.repairer_count;
               clients = group_bounds actor.Client (client_work script) (run_core script marks tokens).clients (run_core script marks tokens).directory can.clients state.keeps.clients;
               repairers = group_bounds actor.Repairer (repairer_work script) (run_core script marks tokens).repairers (run_core script marks tokens).directory can.repairers state.keeps.repairers;
             };

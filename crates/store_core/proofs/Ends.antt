@@ -15,7 +15,7 @@ use Rattle.store_core.specs.NextAct.{Job, next_by, next_act}
 use Rattle.store_core.specs.Tell.{is_changed, cut_by}
 use Rattle.store_core.specs.AnswerLaws.{is_on_pass}
 use Rattle.store_core.specs.CauseLaws.{changes_of}
-use Rattle.store_core.specs.EndLaws.{HearsShort, AnswersEndCalls}
+use Rattle.store_core.specs.EndLaws.{HearsShort, IsLook, AnswersEndCalls}
 use Rattle.store_core.proofs.Cuts.{cuts_change_no_act}
 use Rattle.store_core.proofs.GatheringFalls.{IsPlain}
 use Rattle.store_core.proofs.Questions.{IsQuestion}
@@ -205,6 +205,29 @@ already_there g tries =
       place = λ target epoch h. absurd h;
     }
 
+-- its pass ends first
+there_ends_pass : (g : Shape) (tries : ℕ) → GoesOn g tries (Told.AlreadyThere ∷ []) Unknown (Follows AtInstall (Act.AtDirectory DirectoryStep.End))
+there_ends_pass g tries =
+    record {
+      finish = λ outcome later h. absurd h;
+      look_put = λ note h. absurd h;
+      look_read = λ note h. absurd h;
+      look_single = λ note h. absurd h;
+      look_try = λ note pairs h. absurd h;
+      look_repair = λ note target h. absurd h;
+      part = λ part told. nothing_came (gather_part g part told) (gather_part g part (told ++ Told.AlreadyThere ∷ []));
+      chunk = λ seen target told. nothing_came (gather_chunk g seen target told) (gather_chunk g seen target (told ++ Told.AlreadyThere ∷ []));
+      ask = λ server step stripe next later so came h. absurd (no_ask server step so h);
+      draw = λ h. absurd h;
+      prepare = λ versions place places epochs h. absurd h;
+      commit = λ placed h. absurd h;
+      settle = λ server version later h. absurd h;
+      end = λ outcome h. absurd h;
+      confirm = λ seen target h. absurd h;
+      install = λ seen target h. refl;
+      place = λ target epoch h. absurd h;
+    }
+
 -- want of memory
 without_memory : (g : Shape) (tries : ℕ) → GoesOn g tries (Told.Short ∷ Told.Ended ∷ []) (HasNoRoom (Told.Ended ∷ [])) (Follows HearsShort (Act.Finish Outcome.NoMemory))
 without_memory g tries =
@@ -217,6 +240,63 @@ without_memory g tries =
       look_repair = λ note target h. refl;
       part = λ part told. part_short (Told.Ended ∷ []) g part told;
       chunk = λ seen target told. chunk_short (Told.Ended ∷ []) g seen target told;
+      ask = λ server step stripe next later so came h. ap (act_of stripe next) came;
+      draw = λ h. refl;
+      prepare = λ versions place places epochs h. refl;
+      commit = λ placed h. refl;
+      settle = λ server version later h. absurd h;
+      end = λ outcome h. refl;
+      confirm = λ seen target h. refl;
+      install = λ seen target h. refl;
+      place = λ target epoch h. refl;
+    }
+
+-- a step after the look that hears of want of memory
+abbrev HearsLater : Act → Type 0
+HearsLater (Act.AtDirectory (DirectoryStep.Look note)) = ⊥
+HearsLater (Act.AtDirectory (DirectoryStep.LookRepair note)) = ⊥
+HearsLater act = HearsShort act
+
+hears_later : (act : Act) → HearsShort act → (IsLook act → ⊥) → HearsLater act
+hears_later (Act.AtDirectory (DirectoryStep.Look note)) h later = later tt
+hears_later (Act.AtDirectory (DirectoryStep.LookRepair note)) h later = later tt
+hears_later act h later = h
+
+-- at a look, when the call has no pass
+short_at_look : (g : Shape) (tries : ℕ) → GoesOn g tries (Told.Short ∷ []) Unknown (Follows IsLook (Act.Finish Outcome.NoMemory))
+short_at_look g tries =
+    record {
+      finish = λ outcome later h. absurd h;
+      look_put = λ note h. refl;
+      look_read = λ note h. refl;
+      look_single = λ note h. refl;
+      look_try = λ note pairs h. refl;
+      look_repair = λ note target h. refl;
+      part = λ part told. nothing_came (gather_part g part told) (gather_part g part (told ++ Told.Short ∷ []));
+      chunk = λ seen target told. nothing_came (gather_chunk g seen target told) (gather_chunk g seen target (told ++ Told.Short ∷ []));
+      ask = λ server step stripe next later so came h. absurd h;
+      draw = λ h. absurd h;
+      prepare = λ versions place places epochs h. absurd h;
+      commit = λ placed h. absurd h;
+      settle = λ server version later h. absurd h;
+      end = λ outcome h. absurd h;
+      confirm = λ seen target h. absurd h;
+      install = λ seen target h. absurd h;
+      place = λ target epoch h. absurd h;
+    }
+
+-- at any later step
+short_ends_pass : (g : Shape) (tries : ℕ) → GoesOn g tries (Told.Short ∷ []) (HasNoRoom []) (Follows HearsLater (Act.AtDirectory DirectoryStep.End))
+short_ends_pass g tries =
+    record {
+      finish = λ outcome later h. absurd h;
+      look_put = λ note h. absurd h;
+      look_read = λ note h. absurd h;
+      look_single = λ note h. absurd h;
+      look_try = λ note pairs h. absurd h;
+      look_repair = λ note target h. absurd h;
+      part = λ part told. part_short [] g part told;
+      chunk = λ seen target told. chunk_short [] g seen target told;
       ask = λ server step stripe next later so came h. ap (act_of stripe next) came;
       draw = λ h. refl;
       prepare = λ versions place places epochs h. refl;
@@ -289,9 +369,16 @@ answers_end_calls g tries job =
           one_ends g tries job told (Told.Superseded newer) Unknown AtConfirm (Act.Finish (Outcome.Superseded newer)) tt (superseded g tries newer) (subst AtConfirm (sym e) tt);
       rebuilt = λ told server epoch e. one_ends g tries job told Told.Ended Unknown AtRepaired (Act.Finish Outcome.Rebuilt) tt (rebuilt g tries) (subst AtRepaired (sym e) tt);
       contended = λ told placed base newer write e few. contended_by job.note.kind g tries job told base newer write few;
+      pass_ends_when_asked = λ seen rebuild. ap (λ k. next_by k g tries job (Told.PinnedStripe seen ∷ Told.Here ∷ [])) rebuild;
       here_when_asked = λ seen rebuild. here_asked job.note.kind g tries job seen rebuild;
+      pass_ends_when_it_comes = λ told server version e.
+          one_ends g tries job told Told.AlreadyThere Unknown AtInstall (Act.AtDirectory DirectoryStep.End) tt (there_ends_pass g tries) (subst AtInstall (sym e) tt);
       here_when_it_comes = λ told server version e.
           two_end g tries job told Told.AlreadyThere Told.Ended Unknown AtInstall (Act.Finish Outcome.Here) tt tt (already_there g tries) (subst AtInstall (sym e) tt);
+      no_memory_at_look = λ told h. one_ends g tries job told Told.Short Unknown IsLook (Act.Finish Outcome.NoMemory) tt (short_at_look g tries) h;
+      pass_ends_without_memory = λ told h later.
+          one_ends g tries job told Told.Short (HasNoRoom []) HearsLater (Act.AtDirectory DirectoryStep.End) tt (short_ends_pass g tries)
+          (hears_later (next_act g tries job told) h later);
       no_memory = λ told h.
           two_end g tries job told Told.Short Told.Ended (HasNoRoom (Told.Ended ∷ [])) HearsShort (Act.Finish Outcome.NoMemory) tt tt (without_memory g tries) h;
     }

@@ -138,7 +138,7 @@ ending_no_commit outcome (Told.Ended ∷ told) h = h
 ending_no_commit outcome (Told.Reaped point ∷ told) h = h
 ending_no_commit outcome (_ ∷ told) h = ending_no_commit Outcome.NoMemory told h
 
-settling_no_commit : (point : ℕ) (places : List (ℕ × ℕ)) (told : List Told) → AtCommit (settling point places told) → ⊥
+pub settling_no_commit : (point : ℕ) (places : List (ℕ × ℕ)) (told : List Told) → AtCommit (settling point places told) → ⊥
 settling_no_commit point [] told h = h
 settling_no_commit point (place ∷ places) [] h = h
 settling_no_commit point (place ∷ places) (_ ∷ told) h = settling_no_commit point places told h

@@ -4,7 +4,7 @@ use Rattle.std.proofs.lemmas.Bool.{cond_both}
 use Rattle.clay_grid.specs.Shape.{Shape}
 use Rattle.store_core.specs.Told.{Seen, Lost, Told}
 use Rattle.store_core.specs.Gathering.{Gathering, Part, servers_but, lost_at, unless_too_many, fetching_whole, recovering, fetching_repair, making, looking}
-use Rattle.store_core.specs.GatheringParts.{chunks_in_range, after_data, fetching_data, gather_part}
+use Rattle.store_core.specs.GatheringParts.{chunks_in_range, after_data, fetching_data, gather_part, gather_chunk}
 use Rattle.store_core.specs.Tell.{is_versions, is_changed}
 
 -- the versions and the changes among what was told stand in what was told since
@@ -85,3 +85,11 @@ module _ (g : Shape) (part : Part) where
 
   pub part_keeps : (told : List Told) → KeepsMarks told (gather_part g part told)
   part_keeps told = data_keeps (chunks_in_range g part.start part.end) [] told
+
+pub chunk_keeps : (g : Shape) (seen : Seen) (target : ℕ) (told : List Told) → KeepsMarks told (gather_chunk g seen target told)
+chunk_keeps g seen target [] = tt
+chunk_keeps g seen target (Told.Here ∷ told) = tt
+chunk_keeps g seen target (Told.Missing epoch ∷ told) =
+    let marked : List Lost = lost_at g seen target epoch ∷ [] in
+    missed epoch told (looking g seen (servers_but g seen (target ∷ [])) marked told) (looking_keeps g seen (servers_but g seen (target ∷ [])) marked told)
+chunk_keeps g seen target (_ ∷ told) = tt

@@ -2,7 +2,7 @@
 use Rattle.std.proofs.Common.{◌≡◌, ℕ, suc, ◌+◌, ◌-◌, ◌*◌, ◌<◌, ◌≤◌, List, [], ◌∷◌, ◌++◌, length, refl, sym, ap, subst, arith, length-append, mul-suc, mul-le-mul_left}
 use Rattle.std.proofs.lemmas.List.{length-map}
 use Rattle.clay_grid.specs.Shape.{Shape, chunk_count}
-use Rattle.store_core.specs.Told.{Told}
+use Rattle.store_core.specs.Told.{Told, Seen}
 use Rattle.store_core.specs.Note.{Note, Kind}
 use Rattle.store_core.specs.Act.{Act, DirectoryStep, ServerStep, Outcome}
 use Rattle.store_core.specs.Gathering.{Gathering, Part}
@@ -154,6 +154,19 @@ module _ (g : Shape) (pins touched : ℕ) where
   pub read_cut_left : (note : Note) (told : List Told) → read_left g pins note (cut_read g note told) ≡ read_left g pins note told
   read_cut_left note (Told.Pinned point length_now stripes ∷ told) = cut_left g ending_left (omega arith) (parts_of g note length_now stripes) told
   read_cut_left note told = refl
+
+-- after its look it has as many steps left as its pinned stripes want
+pub pinned_left : (g : Shape) (pins touched : ℕ) (note : Note) (point length_now : ℕ) (stripes : List Seen)
+    → read_left g pins note (cut_read g note (Told.Pinned point length_now stripes ∷ [])) ≤ 3 * chunk_count g * length stripes + 1
+pinned_left g pins touched note point length_now stripes =
+    let parts : List Part = parts_of g note length_now stripes in
+    let begun : gathering_left g parts ending_left [] ≤ 3 * chunk_count g * length parts + 1 = gathering_start g ending_left (omega arith) parts in
+    let as_many : length parts ≡ length stripes = length-map stripes (part_of g (read_start note) (read_end note length_now)) in
+    let same : 3 * chunk_count g * length parts ≡ 3 * chunk_count g * length stripes = ap (λ n. 3 * chunk_count g * n) as_many in
+    let a : ℕ = 3 * chunk_count g * length parts in
+    let b : ℕ = 3 * chunk_count g * length stripes in
+    let low : gathering_left g parts ending_left [] ≤ b + 1 = omega (arith, begun, same) in
+    subst (λ n. n ≤ 3 * chunk_count g * length stripes + 1) (sym (read_cut_left g pins touched note (Told.Pinned point length_now stripes ∷ []))) low
 
 pub act_no_commit : (stripe : ℕ) (next : List Told → Act) → ((told : List Told) → AtCommit (next told) → ⊥) → (result : Gathering) → AtCommit (act_of stripe next result) → ⊥
 act_no_commit stripe next never (Gathering.Asks server step) h = h

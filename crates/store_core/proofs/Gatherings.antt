@@ -1,5 +1,5 @@
 -- Gatherings end where too many servers lack their chunk, and only there.
-use Rattle.std.proofs.Common.{◌≡◌, ℕ, zero, suc, ◌+◌, ◌<◌, ◌≤◌, Bool, true, false, cond, not, ◌||◌, nat_lt, nat_eq, List, [], ◌∷◌, ◌++◌, length, map, refl, sym, ap, subst, ◌∙◌, inl, inr, arith, length-append}
+use Rattle.std.proofs.Common.{◌≡◌, ◌≢◌, ℕ, zero, suc, ◌+◌, ◌<◌, ◌≤◌, Bool, true, false, cond, not, ◌||◌, nat_lt, nat_eq, List, [], ◌∷◌, ◌++◌, length, map, refl, sym, ap, subst, ◌∙◌, inl, inr, arith, length-append}
 use Rattle.std.proofs.lemmas.Bool.{cond_both, ltb-true, ltb-false, ne_eqb, cases_eq}
 use Rattle.std.proofs.lemmas.List.{map-append, append_assoc, append-nil, length-map}
 use Rattle.clay_grid.specs.Shape.{Shape, chunk_count}
@@ -12,6 +12,7 @@ use Rattle.store_core.specs.Gathering.{Gathering, Part, servers_but, lost_at, un
 use Rattle.store_core.specs.GatheringParts.{chunks_in_range, after_data, fetching_data, gather_part, gather_chunk}
 use Rattle.store_core.specs.GatherLaws.{epochs_missing, FoundEnough, FoundNoRoom, Ends, GatheringsEnd}
 use Rattle.store_core.proofs.Apart.{part_apart, chunk_apart}
+use Rattle.store_core.proofs.NamedServers.{part_asked, chunk_asked}
 
 -- ---- asking one server fewer leaves at most one fewer
 abbrev outside : ℕ → (ℕ → Bool) → ℕ → Bool
@@ -72,9 +73,18 @@ module _ (g : Shape) (seen : Seen) where
       omega (arith, counted, h)
 
 -- ---- one answer more
+-- the same as in the law, but for a target, which is asked before
+abbrev IsAt : Shape → List Lost → List Told → Gathering → Type 0
+IsAt g before told (Gathering.AtTarget rest) = ⊥
+IsAt g before told gathering = Ends g before told gathering
+
+ends_at : (g : Shape) (before : List Lost) (told : List Told) (gathering : Gathering) → IsAt g before told gathering → Ends g before told gathering
+ends_at g before told (Gathering.AtTarget rest) h = absurd h
+ends_at g before told gathering h = h
+
 module _ (g : Shape) where
-  pub skip : (answer : Told) → ((told : List Told) → epochs_missing (answer ∷ told) ≡ epochs_missing told) → (before : List Lost) (told : List Told) (gathering : Gathering)
-      → Ends g before told gathering → Ends g before (answer ∷ told) gathering
+  skip : (answer : Told) → ((told : List Told) → epochs_missing (answer ∷ told) ≡ epochs_missing told) → (before : List Lost) (told : List Told) (gathering : Gathering)
+      → IsAt g before told gathering → IsAt g before (answer ∷ told) gathering
   skip answer same before told (Gathering.Asks server step) h =
       subst (λ epochs. length before + length epochs ≤ g.parity_count) (sym (same told)) h
   skip answer same before told (Gathering.HasBytes rest) h =
@@ -90,9 +100,13 @@ module _ (g : Shape) where
         count = h.count;
         epochs = h.epochs ∙ ap (λ l. map (λ (lost : Lost). lost.found) before ++ l) (sym (same h.front));
       }
-  skip answer same before told (Gathering.AtTarget rest) h =
-      record { front = answer ∷ h.front; told_is = ap (λ l. answer ∷ l) h.told_is; here = inr h.here }
-  skip answer same before told (Gathering.NoRoom rest) h = record { front = answer ∷ h.front; told_is = ap (λ l. answer ∷ l) h.told_is }
+  skip answer same before told (Gathering.AtTarget rest) h = absurd h
+  skip answer same before told (Gathering.NoRoom rest) h =
+      record {
+        front = answer ∷ h.front;
+        told_is = ap (λ l. answer ∷ l) h.told_is;
+        count = subst (λ epochs. length before + length epochs ≤ g.parity_count) (sym (same h.front)) h.count;
+      }
 
   counted : (epoch : ℕ) (lost : Lost) (before : List Lost) (told : List Told)
       → length (before ++ lost ∷ []) + length (epochs_missing told) ≤ g.parity_count → length before + length (epochs_missing (Told.Missing epoch ∷ told)) ≤ g.parity_count
@@ -101,8 +115,8 @@ module _ (g : Shape) where
       let f : length (epochs_missing (Told.Missing epoch ∷ told)) ≡ length (epochs_missing told) + 1 = omega arith in
       omega (arith, e, f, h)
 
-  pub mark : (lost : Lost) (before : List Lost) (told : List Told) (gathering : Gathering)
-      → Ends g (before ++ lost ∷ []) told gathering → Ends g before (Told.Missing lost.found ∷ told) gathering
+  mark : (lost : Lost) (before : List Lost) (told : List Told) (gathering : Gathering)
+      → IsAt g (before ++ lost ∷ []) told gathering → IsAt g before (Told.Missing lost.found ∷ told) gathering
   mark lost before told (Gathering.Asks server step) h = counted lost.found lost before told h
   mark lost before told (Gathering.HasBytes rest) h =
       record {
@@ -119,21 +133,27 @@ module _ (g : Shape) where
             h.epochs ∙ ap (λ l. l ++ epochs_missing h.front) (map-append (λ (lost : Lost). lost.found) before (lost ∷ []))
             ∙ append_assoc (map (λ (lost : Lost). lost.found) before) (lost.found ∷ []) (epochs_missing h.front);
       }
-  mark lost before told (Gathering.AtTarget rest) h =
-      record { front = Told.Missing lost.found ∷ h.front; told_is = ap (λ l. Told.Missing lost.found ∷ l) h.told_is; here = inr h.here }
-  mark lost before told (Gathering.NoRoom rest) h = record { front = Told.Missing lost.found ∷ h.front; told_is = ap (λ l. Told.Missing lost.found ∷ l) h.told_is }
+  mark lost before told (Gathering.AtTarget rest) h = absurd h
+  mark lost before told (Gathering.NoRoom rest) h =
+      record {
+        front = Told.Missing lost.found ∷ h.front;
+        told_is = ap (λ l. Told.Missing lost.found ∷ l) h.told_is;
+        count = counted lost.found lost before h.front h.count;
+      }
 
   enough : (missing : List Lost) (told : List Told) → length missing ≤ g.parity_count → FoundEnough g missing told told
   enough missing told h = record { front = []; told_is = refl; count = omega (arith, h) }
 
-  no_room : (answer : Told) (told : List Told) → FoundNoRoom (answer ∷ told) told
-  no_room answer told = record { front = answer ∷ []; told_is = refl }
+  no_room : (missing : List Lost) (answer : Told) (told : List Told) → length missing ≤ g.parity_count → epochs_missing (answer ∷ []) ≡ [] → FoundNoRoom g missing (answer ∷ told) told
+  no_room missing answer told h none =
+      let n : length (epochs_missing (answer ∷ [])) ≡ 0 = ap length none in
+      record { front = answer ∷ []; told_is = refl; count = omega (arith, h, n) }
 
 module _ (g : Shape) (seen : Seen) where
-  pub unless_ends : (missing : List Lost) (told : List Told) (otherwise : Gathering) → length missing ≤ g.parity_count + 1
-      → (length missing ≤ g.parity_count → Ends g missing told otherwise) → Ends g missing told (unless_too_many g seen missing told otherwise)
+  unless_ends : (missing : List Lost) (told : List Told) (otherwise : Gathering) → length missing ≤ g.parity_count + 1
+      → (length missing ≤ g.parity_count → IsAt g missing told otherwise) → IsAt g missing told (unless_too_many g seen missing told otherwise)
   unless_ends missing told otherwise most h =
-      cond_both {A = Gathering} (nat_lt g.parity_count (length missing)) (Gathering.TooMany missing told) otherwise (Ends g missing told)
+      cond_both {A = Gathering} (nat_lt g.parity_count (length missing)) (Gathering.TooMany missing told) otherwise (IsAt g missing told)
       (λ e. record {
         front = [];
         told_is = refl;
@@ -149,7 +169,7 @@ module _ (g : Shape) (seen : Seen) where
   at_most lost missing h = let e : length (missing ++ lost ∷ []) ≡ length missing + 1 = one_more lost missing in omega (arith, e, h)
 
   whole_ends : (servers : List ℕ) (wanted : ℕ) (missing : List Lost) (told : List Told) → length missing ≤ g.parity_count → wanted + g.parity_count ≤ length servers + length missing
-      → Ends g missing told (fetching_whole g seen servers wanted missing told)
+      → IsAt g missing told (fetching_whole g seen servers wanted missing told)
   whole_ends servers zero missing told h room = enough g missing told h
   whole_ends [] (suc wanted) missing told h room = absurd (omega (arith, h, room))
   whole_ends (server ∷ more) (suc wanted) missing [] h room = omega (arith, h)
@@ -160,30 +180,30 @@ module _ (g : Shape) (seen : Seen) where
       let e : length (missing ++ lost ∷ []) ≡ length missing + 1 = one_more lost missing in
       mark g lost missing told _
       (unless_ends (missing ++ lost ∷ []) told _ (at_most lost missing h) (λ below. whole_ends more (suc wanted) (missing ++ lost ∷ []) told below (omega (arith, room, e))))
-  whole_ends (server ∷ more) (suc wanted) missing (answer ∷ told) h room = no_room g answer told
+  whole_ends (server ∷ more) (suc wanted) missing (answer ∷ told) h room = no_room g missing answer told h refl
 
-  recovering_ends : (missing : List Lost) (told : List Told) → length missing ≤ g.parity_count → Ends g missing told (recovering g seen missing told)
+  recovering_ends : (missing : List Lost) (told : List Told) → length missing ≤ g.parity_count → IsAt g missing told (recovering g seen missing told)
   recovering_ends missing told h =
       let servers : List ℕ = map (λ (lost : Lost). lost.server) missing in
       let left : chunk_count g ≤ length (servers_but g seen servers) + length servers = unasked g seen servers in
       let same : length servers ≡ length missing = length-map missing (λ (lost : Lost). lost.server) in
       whole_ends (servers_but g seen servers) g.data_count missing told h (omega (arith, left, same))
 
-  repair_ends : (servers : List ℕ) (lost : Lost) (told : List Told) → 1 ≤ g.parity_count → Ends g (lost ∷ []) told (fetching_repair g seen servers lost told)
+  repair_ends : (servers : List ℕ) (lost : Lost) (told : List Told) → 1 ≤ g.parity_count → IsAt g (lost ∷ []) told (fetching_repair g seen servers lost told)
   repair_ends [] lost told h = enough g (lost ∷ []) told h
   repair_ends (server ∷ more) lost [] h = omega (arith, h)
   repair_ends (server ∷ more) lost (Told.Given layers ∷ told) h = skip g (Told.Given layers) (λ _. refl) (lost ∷ []) told _ (repair_ends more lost told h)
   repair_ends (server ∷ more) lost (Told.Missing epoch ∷ told) h =
       let other : Lost = lost_at g seen server epoch in
       mark g other (lost ∷ []) told _ (unless_ends (lost ∷ other ∷ []) told _ (omega (arith, h)) (λ below. recovering_ends (lost ∷ other ∷ []) told below))
-  repair_ends (server ∷ more) lost (answer ∷ told) h = no_room g answer told
+  repair_ends (server ∷ more) lost (answer ∷ told) h = no_room g (lost ∷ []) answer told h refl
 
-  making_ends : (missing : List Lost) (told : List Told) → length missing ≤ g.parity_count → Ends g missing told (making g seen missing told)
+  making_ends : (missing : List Lost) (told : List Told) → length missing ≤ g.parity_count → IsAt g missing told (making g seen missing told)
   making_ends [] told h = enough g [] told h
   making_ends (lost ∷ []) told h = repair_ends (servers_but g seen (lost.server ∷ [])) lost told h
   making_ends (lost ∷ other ∷ more) told h = recovering_ends (lost ∷ other ∷ more) told h
 
-  pub looking_ends : (servers : List ℕ) (missing : List Lost) (told : List Told) → length missing ≤ g.parity_count → Ends g missing told (looking g seen servers missing told)
+  looking_ends : (servers : List ℕ) (missing : List Lost) (told : List Told) → length missing ≤ g.parity_count → IsAt g missing told (looking g seen servers missing told)
   looking_ends [] missing told h = making_ends missing told h
   looking_ends (server ∷ more) missing [] h = omega (arith, h)
   looking_ends (server ∷ more) missing (Told.Here ∷ told) h = skip g Told.Here (λ _. refl) missing told _ (looking_ends more missing told h)
@@ -191,14 +211,14 @@ module _ (g : Shape) (seen : Seen) where
       let lost : Lost = lost_at g seen server epoch in
       mark g lost missing told _
       (unless_ends (missing ++ lost ∷ []) told _ (at_most lost missing h) (λ below. looking_ends more (missing ++ lost ∷ []) told below))
-  looking_ends (server ∷ more) missing (answer ∷ told) h = no_room g answer told
+  looking_ends (server ∷ more) missing (answer ∷ told) h = no_room g missing answer told h refl
 
 module _ (g : Shape) (part : Part) where
-  after_data_ends : (missing : List Lost) (told : List Told) → length missing ≤ g.parity_count → Ends g missing told (after_data g part missing told)
+  after_data_ends : (missing : List Lost) (told : List Told) → length missing ≤ g.parity_count → IsAt g missing told (after_data g part missing told)
   after_data_ends [] told h = enough g [] told h
   after_data_ends (lost ∷ more) told h = looking_ends g part.seen _ (lost ∷ more) told h
 
-  data_ends : (servers : List ℕ) (missing : List Lost) (told : List Told) → length missing ≤ g.parity_count → Ends g missing told (fetching_data g part servers missing told)
+  data_ends : (servers : List ℕ) (missing : List Lost) (told : List Told) → length missing ≤ g.parity_count → IsAt g missing told (fetching_data g part servers missing told)
   data_ends [] missing told h = after_data_ends missing told h
   data_ends (server ∷ more) missing [] h = omega (arith, h)
   data_ends (server ∷ more) missing (Told.Given layers ∷ told) h = skip g (Told.Given layers) (λ _. refl) missing told _ (data_ends more missing told h)
@@ -206,18 +226,33 @@ module _ (g : Shape) (part : Part) where
       let lost : Lost = lost_at g part.seen server epoch in
       mark g lost missing told _
       (unless_ends g part.seen (missing ++ lost ∷ []) told _ (at_most g part.seen lost missing h) (λ below. data_ends more (missing ++ lost ∷ []) told below))
-  data_ends (server ∷ more) missing (answer ∷ told) h = no_room g answer told
+  data_ends (server ∷ more) missing (answer ∷ told) h = no_room g missing answer told h refl
+
+  part_at : (told : List Told) → IsAt g [] told (gather_part g part told)
+  part_at told = data_ends (chunks_in_range g part.start part.end) [] told (omega arith)
 
   pub part_ends : (told : List Told) → Ends g [] told (gather_part g part told)
-  part_ends told = data_ends (chunks_in_range g part.start part.end) [] told (omega arith)
+  part_ends told = ends_at g [] told (gather_part g part told) (part_at told)
+
+  pub part_target : (told rest : List Told) → gather_part g part told ≢ Gathering.AtTarget rest
+  part_target told rest e = subst (IsAt g [] told) e (part_at told)
 
 pub chunk_ends : (g : Shape) (seen : Seen) (target : ℕ) (told : List Told) → 0 < g.parity_count → Ends g [] told (gather_chunk g seen target told)
 chunk_ends g seen target [] h = omega (arith, h)
-chunk_ends g seen target (Told.Here ∷ told) h = record { front = Told.Here ∷ []; told_is = refl; here = inl refl }
+chunk_ends g seen target (Told.Here ∷ told) h = refl
 chunk_ends g seen target (Told.Missing epoch ∷ told) h =
     let lost : Lost = lost_at g seen target epoch in
-    mark g lost [] told _ (looking_ends g seen (servers_but g seen (target ∷ [])) (lost ∷ []) told h)
-chunk_ends g seen target (answer ∷ told) h = no_room g answer told
+    ends_at g [] (Told.Missing epoch ∷ told) _ (mark g lost [] told _ (looking_ends g seen (servers_but g seen (target ∷ [])) (lost ∷ []) told h))
+chunk_ends g seen target (answer ∷ told) h = no_room g [] answer told (omega arith) refl
 
 pub gatherings_end : GatheringsEnd
-gatherings_end = record { part = part_ends; chunk = chunk_ends; part_apart = part_apart; chunk_apart = chunk_apart }
+gatherings_end = record {
+  part = part_ends;
+  chunk = chunk_ends;
+  part_apart = part_apart;
+  chunk_apart = chunk_apart;
+  chunk_first = λ g seen target. refl;
+  part_target = part_target;
+  part_asked = part_asked;
+  chunk_asked = chunk_asked;
+}

@@ -26,7 +26,7 @@ use Rattle.store_core.proofs.RebuildFalls.{rebuild_no_commit}
 use Rattle.store_core.proofs.StageOutcomes.{Fits, FitAll, Holds, ActIsFine, settling_fine, no_rebuild, trying_holds, call_holds, one_more_fits}
 
 -- the first of some answers, if there is one, stands for no gathering
-abbrev ArePlain : List Told → Type 0
+abbrev pub ArePlain : List Told → Type 0
 ArePlain [] = Unit {0}
 ArePlain (answer ∷ more) = IsPlain answer
 
@@ -54,7 +54,7 @@ module _ (pins touched : ℕ) (g : Shape) (tries : ℕ) (job : Job) where
       ap (next_by kind g tries job) (sym (append-nil told)) ∙ runs.same [] tt ∙ ap runs.next (append-nil runs.since)
 
   -- ---- an answer that is kept beside those before it
-  cut_plain : (told more : List Told) → ArePlain more → next_act g tries job (cut_by job.note.kind g job told ++ more) ≡ next_act g tries job (told ++ more)
+  pub cut_plain : (told more : List Told) → ArePlain more → next_act g tries job (cut_by job.note.kind g job told ++ more) ≡ next_act g tries job (told ++ more)
   cut_plain told [] plain =
       ap (next_act g tries job) (append-nil (cut_by job.note.kind g job told)) ∙ cuts_change_no_act g tries job told ∙ ap (next_act g tries job) (sym (append-nil told))
   cut_plain told (answer ∷ more) plain = cut_then g tries answer more plain job.note.kind job told

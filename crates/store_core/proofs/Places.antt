@@ -1,5 +1,5 @@
 -- Each step keeps the places.
-use Rattle.std.proofs.Common.{◌≡◌, ◌≢◌, ℕ, zero, suc, ◌+◌, ◌-◌, ◌^◌, ◌≤◌, max, Bool, true, false, List, [], ◌∷◌, length, map, filter, fold, zip, not, nat_lt, Option, None, Some, option_map, unwrap_or, refl, sym, ap, ◌∙◌, arith, length-append, add-zero}
+use Rattle.std.proofs.Common.{◌≡◌, ◌≢◌, ℕ, zero, suc, ◌+◌, ◌-◌, ◌^◌, ◌≤◌, max, Bool, true, false, List, [], ◌∷◌, ◌++◌, length, take, map, filter, fold, zip, not, nat_lt, Option, None, Some, option_map, unwrap_or, refl, sym, ap, ◌∙◌, arith, length-append}
 use Rattle.std.proofs.lemmas.Bool.{cond_both}
 use Rattle.std.proofs.lemmas.List.{length-map}
 use Rattle.std.proofs.lemmas.List.FromFn.{length-range_with_len}
@@ -24,7 +24,7 @@ use Rattle.store_core.specs.Work.{Calling, client_work, repairer_work}
 use Rattle.store_core.specs.Step.{Places, at_places, at_server_there}
 use Rattle.store_core.specs.Run.{Run, after_client, after_repairer, first_marks, places_in}
 use Rattle.store_core.specs.CallStep.{step_of}
-use Rattle.store_core.specs.PlaceLaws.{IsCounted, CountsUp, KeepsPlaces}
+use Rattle.store_core.specs.PlaceLaws.{IsCounted, CountsUp, as_drawn, KeepsPlaces}
 use Rattle.store_core.specs.ActorLaws.{ChangesOnePlace, KeepsOtherClients, KeepsOtherRepairers, StepsChangeOneActor}
 
 -- ---- lists
@@ -51,6 +51,38 @@ slice_get-change_at zero zero f (x ∷ xs) apart = absurd (apart refl)
 slice_get-change_at zero (suc other) f (x ∷ xs) apart = refl
 slice_get-change_at (suc i) zero f (x ∷ xs) apart = refl
 slice_get-change_at (suc i) (suc other) f (x ∷ xs) apart = slice_get-change_at i other f xs (λ same. apart (ap suc same))
+
+-- ---- versions as they were drawn
+drawn-change_at : (i : ℕ) (f : Version → Version) → ((version : Version) → as_drawn (f version) ≡ as_drawn version) → (versions : List Version)
+    → map as_drawn (change_at i f versions) ≡ map as_drawn versions
+drawn-change_at i f same [] = refl
+drawn-change_at zero f same (version ∷ versions) = ap (λ v. v ∷ map as_drawn versions) (same version)
+drawn-change_at (suc i) f same (version ∷ versions) = ap (λ vs. as_drawn version ∷ vs) (drawn-change_at i f same versions)
+
+drawn-fold : {Y : Type 0} (f : List Version → Y → List Version) → ((versions : List Version) (y : Y) → map as_drawn (f versions y) ≡ map as_drawn versions)
+    → (versions : List Version) (ys : List Y) → map as_drawn (fold f versions ys) ≡ map as_drawn versions
+drawn-fold f keeps versions [] = refl
+drawn-fold f keeps versions (y ∷ ys) = drawn-fold f keeps (f versions y) ys ∙ keeps versions y
+
+drawn-set_standing : (standing : Standing) (numbers : List ℕ) (versions : List Version) → map as_drawn (set_standing standing numbers versions) ≡ map as_drawn versions
+drawn-set_standing standing numbers versions =
+    drawn-fold (λ vs number. change_at number (λ version. record version { standing = standing }) vs) (λ vs number. drawn-change_at number _ (λ _. refl) vs) versions numbers
+
+drawn-place_all : (drawn : List (ℕ × List ℕ)) (versions : List Version) → map as_drawn (place_all drawn versions) ≡ map as_drawn versions
+drawn-place_all drawn versions =
+    drawn-fold (λ vs entry. change_at entry.0 (λ version. record version { placed = entry.1; standing = Standing.Current }) vs) (λ vs entry. drawn-change_at entry.0 _ (λ _. refl) vs) versions drawn
+
+-- those before new ones
+front_stays : (versions new : List Version) → take (length versions) (map as_drawn (versions ++ new)) ≡ map as_drawn versions
+front_stays [] new = refl
+front_stays (version ∷ versions) new = ap (λ vs. as_drawn version ∷ vs) (front_stays versions new)
+
+stays : (versions : List Version) → take (length versions) (map as_drawn versions) ≡ map as_drawn versions
+stays [] = refl
+stays (version ∷ versions) = ap (λ vs. as_drawn version ∷ vs) (stays versions)
+
+stays_as : (versions now : List Version) → map as_drawn now ≡ map as_drawn versions → take (length versions) (map as_drawn now) ≡ map as_drawn versions
+stays_as versions now same = ap (take (length versions)) same ∙ stays versions
 
 -- ---- servers
 raised : (n count : ℕ) → count ≤ 2 ^ 64 - 1 → (count ≤ raised_by n count) × (raised_by n count ≤ 2 ^ 64 - 1)
@@ -93,32 +125,29 @@ servers_count_up short step s h = unless_counts_up short _ step s h
 
 -- ---- the directory: an answer without new points or versions
 module _ (d : Directory) where
-  plain : (answer : Told) → KeepsPlaces d d Told.Ended
-  plain answer = record { points = refl; numbers = refl; versions = sym (add-zero (length d.versions)) }
-
   kept : (versions : List Version) → length versions ≡ length d.versions → length versions ≡ length d.versions + 0
   kept versions e = omega (arith, e)
 
 accept_keeps : (who : Actor) (number : ℕ) (note : Note) (d : Directory) (kind : Kind) (object : Object) → KeepsPlaces d (accept who number note d kind object).0 (accept who number note d kind object).1
-accept_keeps who number note d Kind.Put object = record { points = refl; numbers = refl; versions = omega arith }
-accept_keeps who number note d Kind.Write object = record { points = refl; numbers = refl; versions = omega arith }
-accept_keeps who number note d Kind.Stat object = record { points = (refl, _, refl); numbers = refl; versions = omega arith }
+accept_keeps who number note d Kind.Put object = record { points = refl; numbers = refl; versions = omega arith; drawn = stays d.versions }
+accept_keeps who number note d Kind.Write object = record { points = refl; numbers = refl; versions = omega arith; drawn = stays d.versions }
+accept_keeps who number note d Kind.Stat object = record { points = (refl, _, refl); numbers = refl; versions = omega arith; drawn = stays d.versions }
 accept_keeps who number note d Kind.Delete object =
-    record { points = (refl, _, refl); numbers = refl; versions = kept d _ (length-set_standing Standing.Superseded object.versions d.versions) }
-accept_keeps who number note d _ object = record { points = (refl, _, refl); numbers = refl; versions = omega arith }
+    record { points = (refl, _, refl); numbers = refl; versions = kept d _ (length-set_standing Standing.Superseded object.versions d.versions); drawn = stays_as d.versions _ (drawn-set_standing Standing.Superseded object.versions d.versions) }
+accept_keeps who number note d _ object = record { points = (refl, _, refl); numbers = refl; versions = omega arith; drawn = stays d.versions }
 
 look_keeps : (who : Actor) (number : ℕ) (note : Note) (d : Directory) (found : Option Object) (refused : Option Reply)
     → KeepsPlaces d (look_by who number note d found refused).0 (look_by who number note d found refused).1
-look_keeps who number note d found (Some reply) = record { points = (refl, _, refl); numbers = refl; versions = omega arith }
+look_keeps who number note d found (Some reply) = record { points = (refl, _, refl); numbers = refl; versions = omega arith; drawn = stays d.versions }
 look_keeps who number note d found None = accept_keeps who number note d note.kind _
 
 look_repair_keeps : (who : Actor) (number : ℕ) (note : Note) (d : Directory) (found : Option Object)
     → KeepsPlaces d (look_repair_by who number note d found).0 (look_repair_by who number note d found).1
-look_repair_keeps who number note d None = record { points = refl; numbers = refl; versions = omega arith }
+look_repair_keeps who number note d None = record { points = refl; numbers = refl; versions = omega arith; drawn = stays d.versions }
 look_repair_keeps who number note d (Some object) =
     cond_both {A = Directory × Told} (nat_lt note.offset (length object.versions))
     (begin_pass who number note (seen_at d object note.offset ∷ []) None d, Told.PinnedStripe (seen_at d object note.offset)) (d, Told.NoSuch) (λ r. KeepsPlaces d r.0 r.1)
-    (λ _. record { points = refl; numbers = refl; versions = omega arith }) (λ _. record { points = refl; numbers = refl; versions = omega arith })
+    (λ _. record { points = refl; numbers = refl; versions = omega arith; drawn = stays d.versions }) (λ _. record { points = refl; numbers = refl; versions = omega arith; drawn = stays d.versions })
 
 KeepsOnPasses : (Pass → Directory → Directory × Told) → Type 0
 KeepsOnPasses step = (pass : Pass) (d : Directory) → KeepsPlaces d (step pass d).0 (step pass d).1
@@ -127,11 +156,11 @@ unless_reaped_keeps : (step : Pass → Directory → Directory × Told) → Keep
     → KeepsPlaces d (unless_reaped step pass reaped d).0 (unless_reaped step pass reaped d).1
 unfolding KeepsOnPasses
 unless_reaped_keeps step keeps pass None d = keeps pass d
-unless_reaped_keeps step keeps pass (Some point) d = record { points = refl; numbers = refl; versions = omega arith }
+unless_reaped_keeps step keeps pass (Some point) d = record { points = refl; numbers = refl; versions = omega arith; drawn = stays d.versions }
 
 on_pass_keeps : (step : Pass → Directory → Directory × Told) → KeepsOnPasses step → (found : Option Pass) (d : Directory)
     → KeepsPlaces d (on_pass step found d).0 (on_pass step found d).1
-on_pass_keeps step keeps None d = record { points = refl; numbers = refl; versions = omega arith }
+on_pass_keeps step keeps None d = record { points = refl; numbers = refl; versions = omega arith; drawn = stays d.versions }
 on_pass_keeps step keeps (Some pass) d = unless_reaped_keeps step keeps pass pass.reaped d
 
 draw_keeps : KeepsOnPasses draw
@@ -143,18 +172,19 @@ draw_keeps pass d =
       points = refl;
       numbers = ap (range_with_len (length d.versions)) (sym same);
       versions = length-append d.versions (map (new_version pass) (touched d pass.note)) ∙ ap (λ n. length d.versions + n) (length-map (touched d pass.note) (new_version pass) ∙ sym same);
+      drawn = front_stays d.versions (map (new_version pass) (touched d pass.note));
     }
 
 end_keeps : KeepsOnPasses end_pass
 unfolding KeepsOnPasses
-end_keeps pass d = record { points = refl; numbers = refl; versions = kept d _ (length-set_standing Standing.Superseded pass.drawn d.versions) }
+end_keeps pass d = record { points = refl; numbers = refl; versions = kept d _ (length-set_standing Standing.Superseded pass.drawn d.versions); drawn = stays_as d.versions _ (drawn-set_standing Standing.Superseded pass.drawn d.versions) }
 
 confirm_keeps : KeepsOnPasses confirm
 unfolding KeepsOnPasses
 confirm_keeps pass d =
     cond_both {A = Directory × Told} (list_all (λ pin. is_current d pin.version) pass.pinned)
     (d, Told.Current) (close_pass pass d, Told.Superseded (unwrap_or (last_change pass.note.name d.points) 0)) (λ r. KeepsPlaces d r.0 r.1)
-    (λ _. record { points = refl; numbers = refl; versions = omega arith }) (λ _. record { points = refl; numbers = refl; versions = omega arith })
+    (λ _. record { points = refl; numbers = refl; versions = omega arith; drawn = stays d.versions }) (λ _. record { points = refl; numbers = refl; versions = omega arith; drawn = stays d.versions })
 
 repaired_keeps : (server epoch : ℕ) → KeepsOnPasses (repaired server epoch)
 unfolding KeepsOnPasses
@@ -163,30 +193,33 @@ repaired_keeps server epoch pass d =
       points = refl;
       numbers = refl;
       versions = kept d _ (length-fold (λ (versions : List Version) (pin : Pin). change_at pin.version (λ version. record version { placed = change_at server (max epoch) version.placed }) versions) (λ vs pin. length-change_at pin.version _ vs) d.versions pass.pinned);
+      drawn = stays_as d.versions _
+          (drawn-fold (λ (versions : List Version) (pin : Pin). change_at pin.version (λ version. record version { placed = change_at server (max epoch) version.placed }) versions)
+          (λ vs pin. drawn-change_at pin.version _ (λ _. refl) vs) d.versions pass.pinned);
     }
 
 commit_object_keeps : (placed : List (List ℕ)) (pass : Pass) (old : Object) (d : Directory) → KeepsPlaces d (commit_object placed pass old d).0 (commit_object placed pass old d).1
 commit_object_keeps placed pass old d =
-    record { points = (refl, _, refl); numbers = refl; versions = kept d _ (length-set_standing Standing.Superseded (filter (λ version. not (is_among version (changed_object pass.note.kind d pass old).versions)) old.versions) (place_all (zip pass.drawn placed) d.versions) ∙ length-place_all (zip pass.drawn placed) d.versions) }
+    record { points = (refl, _, refl); numbers = refl; versions = kept d _ (length-set_standing Standing.Superseded (filter (λ version. not (is_among version (changed_object pass.note.kind d pass old).versions)) old.versions) (place_all (zip pass.drawn placed) d.versions) ∙ length-place_all (zip pass.drawn placed) d.versions); drawn = stays_as d.versions _ (drawn-set_standing Standing.Superseded (filter (λ version. not (is_among version (changed_object pass.note.kind d pass old).versions)) old.versions) (place_all (zip pass.drawn placed) d.versions) ∙ drawn-place_all (zip pass.drawn placed) d.versions) }
 
 commit_keeps : (placed : List (List ℕ)) → KeepsOnPasses (commit placed)
 unfolding KeepsOnPasses
 commit_keeps placed pass d =
     cond_both {A = Directory × Told} (is_overtaken pass.note.kind pass.base (last_change pass.note.name d.points))
     (close_pass pass (give_up_drawn pass d), Told.Changed (unwrap_or pass.base 0) (unwrap_or (last_change pass.note.name d.points) 0)) (commit_object placed pass (unwrap_or (find_object pass.note.name d.objects) (record { name = pass.note.name; length = 0; versions = [] })) d) (λ r. KeepsPlaces d r.0 r.1)
-    (λ _. record { points = refl; numbers = refl; versions = kept d _ (length-set_standing Standing.Superseded pass.drawn d.versions) })
+    (λ _. record { points = refl; numbers = refl; versions = kept d _ (length-set_standing Standing.Superseded pass.drawn d.versions); drawn = stays_as d.versions _ (drawn-set_standing Standing.Superseded pass.drawn d.versions) })
     (λ _. commit_object_keeps placed pass (unwrap_or (find_object pass.note.name d.objects) (record { name = pass.note.name; length = 0; versions = [] })) d)
 
 take_keeps : (found : Option ℕ) (d : Directory) → KeepsPlaces d (take_garbage found d).0 (take_garbage found d).1
-take_keeps None d = record { points = refl; numbers = refl; versions = omega arith }
-take_keeps (Some version) d = record { points = refl; numbers = refl; versions = kept d _ (length-set_standing Standing.Taken (version ∷ []) d.versions) }
+take_keeps None d = record { points = refl; numbers = refl; versions = omega arith; drawn = stays d.versions }
+take_keeps (Some version) d = record { points = refl; numbers = refl; versions = kept d _ (length-set_standing Standing.Taken (version ∷ []) d.versions); drawn = stays_as d.versions _ (drawn-set_standing Standing.Taken (version ∷ []) d.versions) }
 
 reap_pass_keeps : (pass : Pass) (reaped : Option ℕ) (d : Directory) → KeepsPlaces d (reap_pass pass reaped d).0 (reap_pass pass reaped d).1
-reap_pass_keeps pass (Some point) d = record { points = refl; numbers = refl; versions = omega arith }
-reap_pass_keeps pass None d = record { points = (refl, _, refl); numbers = refl; versions = kept d _ (length-set_standing Standing.Superseded pass.drawn d.versions) }
+reap_pass_keeps pass (Some point) d = record { points = refl; numbers = refl; versions = omega arith; drawn = stays d.versions }
+reap_pass_keeps pass None d = record { points = (refl, _, refl); numbers = refl; versions = kept d _ (length-set_standing Standing.Superseded pass.drawn d.versions); drawn = stays_as d.versions _ (drawn-set_standing Standing.Superseded pass.drawn d.versions) }
 
 reap_keeps : (found : Option Pass) (d : Directory) → KeepsPlaces d (reap found d).0 (reap found d).1
-reap_keeps None d = record { points = refl; numbers = refl; versions = omega arith }
+reap_keeps None d = record { points = refl; numbers = refl; versions = omega arith; drawn = stays d.versions }
 reap_keeps (Some pass) d = reap_pass_keeps pass pass.reaped d
 
 made_keeps : (who : Actor) (number : ℕ) (step : DirectoryStep) (d : Directory) → KeepsPlaces d (made_at_directory who number step d).0 (made_at_directory who number step d).1
@@ -198,12 +231,12 @@ made_keeps who number DirectoryStep.End d = on_pass_keeps end_pass end_keeps (pa
 made_keeps who number DirectoryStep.Confirm d = on_pass_keeps confirm confirm_keeps (pass_of who d) d
 made_keeps who number (DirectoryStep.Repaired server epoch) d = on_pass_keeps (repaired server epoch) (repaired_keeps server epoch) (pass_of who d) d
 made_keeps who number DirectoryStep.NextGarbage d = take_keeps (first_garbage d) d
-made_keeps who number (DirectoryStep.Swept version) d = record { points = refl; numbers = refl; versions = kept d _ (length-change_at version _ d.versions) }
+made_keeps who number (DirectoryStep.Swept version) d = record { points = refl; numbers = refl; versions = kept d _ (length-change_at version _ d.versions); drawn = stays_as d.versions _ (drawn-change_at version _ (λ _. refl) d.versions) }
 made_keeps who number (DirectoryStep.Reap reaped) d = reap_keeps (pass_of reaped d) d
 
 unless_short_keeps : (short takes : Bool) (who : Actor) (number : ℕ) (step : DirectoryStep) (d : Directory)
     → KeepsPlaces d (unless_short short takes who number step d).0 (unless_short short takes who number step d).1
-unless_short_keeps true true who number step d = record { points = refl; numbers = refl; versions = omega arith }
+unless_short_keeps true true who number step d = record { points = refl; numbers = refl; versions = omega arith; drawn = stays d.versions }
 unless_short_keeps true false who number step d = made_keeps who number step d
 unless_short_keeps false true who number step d = made_keeps who number step d
 unless_short_keeps false false who number step d = made_keeps who number step d

@@ -40,6 +40,8 @@ pub record Keeps (script : Script) (core : Core) : Type 0 where
   pub shape : core.directory.shape ≡ script.geometry
   pub max : core.directory.max ≡ size_of script
   pub servers : length core.servers ≡ chunk_count script.geometry
+  pub client_count : length core.clients ≡ length script.clients
+  pub repairer_count : length core.repairers ≡ length script.repairers
   pub clients : GroupKept script actor.Client (client_work script) core.clients core.directory
   pub repairers : GroupKept script actor.Repairer (repairer_work script) core.repairers core.directory
   pub counted : live_count core.directory.versions + busy_count core.sweeper ≤ length core.directory.versions
@@ -118,6 +120,8 @@ module _ (script : Script) (can : CanRun script) (run : Run) (keeps : Keeps scri
               shape = moves.shape ∙ keeps.shape;
               max = moves.max ∙ keeps.max;
               servers = moves.servers ∙ keeps.servers;
+              client_count = length-change_at i (λ _. after.1) run.core.clients ∙ keeps.client_count;
+              repairer_count = keeps.repairer_count;
               clients = moves.kept;
               repairers = λ j work calling is_work is_calling.
                   held_kept script actor.Repairer (repairer_work script) (actor.Repairer j) (drop (length calling.ended) work.jobs) calling run.core.directory after.0.directory
@@ -155,6 +159,8 @@ module _ (script : Script) (can : CanRun script) (run : Run) (keeps : Keeps scri
               shape = moves.shape ∙ keeps.shape;
               max = moves.max ∙ keeps.max;
               servers = moves.servers ∙ keeps.servers;
+              client_count = keeps.client_count;
+              repairer_count = length-change_at i (λ _. after.1) run.core.repairers ∙ keeps.repairer_count;
               clients = λ j work calling is_work is_calling.
                   held_kept script actor.Client (client_work script) (actor.Client j) (drop (length calling.ended) work.jobs) calling run.core.directory after.0.directory
                   (moves.others (actor.Client j) refl) (keeps.clients j work calling is_work is_calling);
@@ -193,6 +199,8 @@ others_keep script core places sweeper keeps same counted =
       shape = same.shape ∙ keeps.shape;
       max = same.max ∙ keeps.max;
       servers = same.servers ∙ keeps.servers;
+      client_count = keeps.client_count;
+      repairer_count = keeps.repairer_count;
       clients = λ j work calling is_work is_calling.
           held_kept script actor.Client (client_work script) (actor.Client j) (drop (length calling.ended) work.jobs) calling core.directory places.directory
           (same.held (actor.Client j)) (keeps.clients j work calling is_work is_calling);

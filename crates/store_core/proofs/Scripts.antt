@@ -139,11 +139,11 @@ module _ (script : Script) (tried : 1 ≤ tries_of script) where
   fresh = new_calling (chunk_count script.geometry)
 
   new_kept : (who : Actor) (jobs : List Job) → CallKept script.geometry (size_of script) (tries_of script) who jobs fresh (first_core script).directory
-  new_kept who [] = tt
+  new_kept who [] = refl
   new_kept who (job ∷ later) =
       let bound : call_left script.geometry (size_of script) (tries_of script) job [] ≤ step_bound script.geometry (size_of script) (tries_of script) job.note =
       (steps_fall script.geometry (size_of script) (tries_of script) job).first in
-      record { bound = omega (arith, bound); stands = begins script.geometry (tries_of script) job who (first_core script).directory tried refl }
+      record { fresh = λ _. refl; bound = omega (arith, bound); stands = begins script.geometry (tries_of script) job who (first_core script).directory tried refl }
 
   all_new : (who_of : ℕ → Actor) (works : List Work) (count : ℕ) → GroupKept script who_of works (replicate count fresh) (first_core script).directory
   all_new who_of works count i work calling is_work is_calling =
@@ -157,6 +157,8 @@ module _ (script : Script) (tried : 1 ≤ tries_of script) where
         shape = refl;
         max = refl;
         servers = length-replicate (chunk_count script.geometry) _;
+        client_count = length-replicate (length script.clients) fresh;
+        repairer_count = length-replicate (length script.repairers) fresh;
         clients = all_new actor.Client (client_work script) (length script.clients);
         repairers = all_new actor.Repairer (repairer_work script) (length script.repairers);
         counted = omega arith;

@@ -1,12 +1,12 @@
 -- How a call ends that is told its answers step by step.
-use Rattle.std.proofs.Common.{◌≡◌, ℕ, ◌+◌, ◌<◌, ◌≤◌, List, [], ◌∷◌, length, fold, inl, inr, refl, sym, ap, subst, arith}
+use Rattle.std.proofs.Common.{◌≡◌, ℕ, ◌+◌, ◌<◌, ◌≤◌, ◌⊎◌, List, [], ◌∷◌, length, fold, inl, inr, refl, sym, ap, subst, arith}
 use Rattle.clay_grid.specs.Shape.{Shape}
 use Rattle.store_core.specs.Told.{Told}
 use Rattle.store_core.specs.Note.{Kind}
 use Rattle.store_core.specs.Act.{Act, Outcome}
 use Rattle.store_core.specs.Bounds.{step_bound}
 use Rattle.store_core.specs.CallLeft.{call_left}
-use Rattle.store_core.specs.CauseLaws.{Replies, PinsAt, IsPlacement, IsThere, changes_of, HasCause, IsCaused}
+use Rattle.store_core.specs.CauseLaws.{Replies, PinsAt, IsPlacement, TargetHasIt, changes_of, HasCause, IsCaused}
 use Rattle.store_core.specs.GatherLaws.{Tells}
 use Rattle.store_core.specs.MemoryCauses.{MemoryWasWanting, OutcomesInSteps}
 use Rattle.store_core.specs.NextAct.{Job, next_by, next_act}
@@ -17,6 +17,7 @@ use Rattle.store_core.specs.ToldInSteps.{IsToldNext, AreToldSince, AreTold, act_
 use Rattle.store_core.proofs.CallLosses.{was_told_of_loss}
 use Rattle.store_core.proofs.Carried.{AnyTells, tells_carried, told_back}
 use Rattle.store_core.proofs.Causes.{causes}
+use Rattle.store_core.proofs.FirstAnswers.{target_first}
 use Rattle.store_core.proofs.InSteps.{short_was_told}
 use Rattle.store_core.proofs.StageOutcomes.{IsFine, ActIsFine, call_holds, all_free}
 use Rattle.store_core.proofs.Steps.{steps_fall}
@@ -57,7 +58,11 @@ module _ (g : Shape) (max tries : ℕ) (job : Job) (some : 0 < g.parity_count) (
   cause_back (Outcome.Answered point given) told e h = back (Replies point given) (λ never. never) h
   cause_back (Outcome.Served point) told e h = (back (PinsAt point) (λ never. never) h.0, back_same Told.Ended tt h.1)
   cause_back Outcome.Rebuilt told e h = (back IsPlacement (λ never. never) h.0, back_same Told.Ended tt h.1)
-  cause_back Outcome.Here told e h = (back IsThere (λ never. never) h.0, back_same Told.Ended tt h.1)
+  cause_back Outcome.Here told e h = (there h.0, back_same Told.Ended tt h.1)
+    where
+      there : TargetHasIt kept ⊎ Tells (λ answer. answer ≡ Told.AlreadyThere) kept → TargetHasIt answers ⊎ Tells (λ answer. answer ≡ Told.AlreadyThere) answers
+      there (inl first) = inl (target_first g job [] answers first)
+      there (inr later) = inr (back_same Told.AlreadyThere tt later)
   cause_back Outcome.NoSuch told e h = back_same Told.NoSuch tt h
   cause_back (Outcome.Superseded newer) told e h = back_same (Told.Superseded newer) tt h
   cause_back (Outcome.Unavailable stripe missing) told e h = ((h.0, back_same Told.Ended tt h.1), was_told_of_loss g tries job some stripe missing answers e)

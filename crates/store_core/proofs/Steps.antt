@@ -1,7 +1,7 @@
 -- The steps left fall, for a call of any kind.
-use Rattle.std.proofs.Common.{◌≡◌, ℕ, ◌+◌, ◌*◌, ◌<◌, ◌≤◌, List, [], refl, arith}
+use Rattle.std.proofs.Common.{◌≡◌, ℕ, ◌+◌, ◌*◌, ◌<◌, ◌≤◌, ◌⊎◌, inl, inr, List, [], length, refl, sym, subst, arith}
 use Rattle.clay_grid.specs.Shape.{Shape, chunk_count}
-use Rattle.store_core.specs.Told.{Told}
+use Rattle.store_core.specs.Told.{Told, Seen}
 use Rattle.store_core.specs.Note.{Kind}
 use Rattle.store_core.specs.Answers.{Answers}
 use Rattle.store_core.specs.Bounds.{touched_count, read_count, bound_by}
@@ -11,7 +11,7 @@ use Rattle.store_core.specs.GatheringLeft.{try_steps}
 use Rattle.store_core.specs.CallLeft.{pins_by, pin_bound, left_by}
 use Rattle.store_core.specs.StepLaws.{StepsFall}
 use Rattle.store_core.proofs.Falls.{put_all, stat_all, delete_all}
-use Rattle.store_core.proofs.GatheringFalls.{get_all, read_all}
+use Rattle.store_core.proofs.GatheringFalls.{pinned_left, get_all, read_all}
 use Rattle.store_core.proofs.RebuildFalls.{rebuild_all}
 use Rattle.store_core.proofs.WriteFalls.{write_all}
 use Rattle.store_core.proofs.Shorts.{short_by}
@@ -46,10 +46,21 @@ falls_by Kind.Delete g max tries job told answer target h = delete_all g (pins_b
 falls_by Kind.Rebuild g max tries job told answer target h =
     rebuild_all g (pins_by Kind.Rebuild g max job.note) (touched_count g job.note) tries job (target refl) told answer h
 
+-- the look of a get or a read leaves as many as the stripes that it pins want
+pinned_by : (kind : Kind) (g : Shape) (pins tries : ℕ) (job : Job) (point length_now : ℕ) (stripes : List Seen) → (kind ≡ Kind.Get) ⊎ (kind ≡ Kind.ReadAt)
+    → left_by kind g tries pins job (tell_by kind g job [] (Told.Pinned point length_now stripes)) ≤ 3 * chunk_count g * length stripes + 1
+pinned_by kind g pins tries job point length_now stripes (inl get) =
+    subst (λ k. left_by k g tries pins job (tell_by k g job [] (Told.Pinned point length_now stripes)) ≤ 3 * chunk_count g * length stripes + 1) (sym get)
+    (pinned_left g pins 0 job.note point length_now stripes)
+pinned_by kind g pins tries job point length_now stripes (inr read) =
+    subst (λ k. left_by k g tries pins job (tell_by k g job [] (Told.Pinned point length_now stripes)) ≤ 3 * chunk_count g * length stripes + 1) (sym read)
+    (pinned_left g pins 0 job.note point length_now stripes)
+
 pub steps_fall : (g : Shape) (max tries : ℕ) (job : Job) → StepsFall g max tries job
 steps_fall g max tries job =
     record {
       first = first_by job.note.kind g max tries job;
       falls = λ told answer target h. falls_by job.note.kind g max tries job told answer target h;
+      pinned = λ point length_now stripes reads. pinned_by job.note.kind g (pin_bound g max job.note) tries job point length_now stripes reads;
       short = λ told. short_by job.note.kind g tries (pin_bound g max job.note) job told;
     }

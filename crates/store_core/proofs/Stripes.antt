@@ -120,9 +120,9 @@ module _ (g : Shape) (some : 0 < stripe_length g) where
       let part : read_end note length_now ≡ min (note.offset + note.length) length_now = ap (λ kind. read_end_by kind note.offset note.length length_now) e in
       let count : length (pinned_by Kind.ReadAt g note length_now) ≡ stripes_met (stripe_length g) note.offset (read_end note length_now - note.offset) =
       count_between g note.offset (read_end note length_now) in
-      subst (λ n. n ≤ stripes_met (stripe_length g) note.offset note.length) (sym count)
-      (subst (λ end. stripes_met (stripe_length g) note.offset (end - note.offset) ≤ stripes_met (stripe_length g) note.offset note.length) (sym part)
-      (met_more (stripe_length g) some note.offset (min (note.offset + note.length) length_now - note.offset) note.length (omega arith)))
+      subst (λ n. n ≤ stripes_met (stripe_length g) note.offset (min note.length (max - note.offset))) (sym count)
+      (subst (λ end. stripes_met (stripe_length g) note.offset (end - note.offset) ≤ stripes_met (stripe_length g) note.offset (min note.length (max - note.offset))) (sym part)
+      (met_more (stripe_length g) some note.offset (min (note.offset + note.length) length_now - note.offset) (min note.length (max - note.offset)) (omega (arith, short))))
   pins_few Kind.Write max note length_now e short =
       ends_only (keeps_old g length_now note.offset (note.offset + note.length)) (note.offset / stripe_length g)
       (stripes_met (stripe_length g) note.offset (note.offset + note.length - note.offset))

@@ -13,6 +13,7 @@ pub sweeps_in_order : (g : Shape) → SweepsInOrder g
 sweeps_in_order g =
     let n : ℕ = chunk_count g in
     record {
+      takes = refl;
       begins = λ version. all_steps n;
       rests = refl;
       discards = λ version server below.

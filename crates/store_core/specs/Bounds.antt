@@ -1,16 +1,17 @@
 -- How many steps a call makes at most.
-use Rattle.std.specs.Prelude.{ℕ, ◌+◌, ◌*◌}
+use Rattle.std.specs.Prelude.{ℕ, ◌+◌, ◌*◌, ◌-◌, min}
 use Rattle.clay_grid.specs.Shape.{Shape, chunk_count, stripe_length}
 use Rattle.store_map.specs.Limits.{stripes_met}
 use Rattle.store_core.specs.Note.{Note, Kind}
 
--- the stripes that a put or a write touches, and the most that a get or a read reads of an object of at most max bytes
+-- the stripes that a put or a write touches
 abbrev pub touched_count : Shape → Note → ℕ
 touched_count g note = stripes_met (stripe_length g) note.offset note.length
 
--- a get reads at most what an object may have
+-- the most stripes that a get or a read reads of an object of at most max bytes: a get all bytes, a read those that it asks for and that may be there
 abbrev pub read_count : Kind → Shape → ℕ → Note → ℕ
 read_count Kind.Get g max note = stripes_met (stripe_length g) 0 max
+read_count Kind.ReadAt g max note = stripes_met (stripe_length g) note.offset (min note.length (max - note.offset))
 read_count _ g max note = touched_count g note
 
 -- by the kind of call, with n servers, s touched and r read stripes

@@ -1,5 +1,5 @@
 -- Each outcome has its cause among what the call was told.
-use Rattle.std.specs.Prelude.{◌≡◌, ℕ, ◌+◌, ◌<◌, ◌≤◌, List, [], ◌∷◌, length, map, ⊤}
+use Rattle.std.specs.Prelude.{◌≡◌, ℕ, ◌+◌, ◌<◌, ◌≤◌, ◌⊎◌, List, [], ◌∷◌, length, map, ⊤}
 use Rattle.clay_grid.specs.Shape.{Shape}
 use Rattle.store_map.specs.declared.reply.Reply.{Reply}
 use Rattle.store_map.specs.declared.reply.Reply.TheVariants as reply
@@ -26,11 +26,10 @@ abbrev pub IsPlacement : Told → Type 0
 IsPlacement (Told.Placed epoch) = ⊤
 IsPlacement _ = ⊥
 
--- the chunk that a rebuild was to make is there already
-abbrev pub IsThere : Told → Type 0
-IsThere Told.Here = ⊤
-IsThere Told.AlreadyThere = ⊤
-IsThere _ = ⊥
+-- a rebuild's look was answered by a stripe, and the target, which is asked first, has its chunk
+abbrev pub TargetHasIt : List Told → Type 0
+TargetHasIt (Told.PinnedStripe seen ∷ Told.Here ∷ told) = ⊤
+TargetHasIt _ = ⊥
 
 -- the pairs of the commits that found the object changed, in order
 abbrev pub changes_of : List Told → List (ℕ × ℕ)
@@ -43,7 +42,7 @@ abbrev pub HasCause : Shape → ℕ → Outcome → List Told → Type 0
 HasCause g tries (Outcome.Answered point given) told = Tells (Replies point given) told
 HasCause g tries (Outcome.Served point) told = Tells (PinsAt point) told × Tells (λ answer. answer ≡ Told.Ended) told
 HasCause g tries Outcome.Rebuilt told = Tells IsPlacement told × Tells (λ answer. answer ≡ Told.Ended) told
-HasCause g tries Outcome.Here told = Tells IsThere told × Tells (λ answer. answer ≡ Told.Ended) told
+HasCause g tries Outcome.Here told = (TargetHasIt told ⊎ Tells (λ answer. answer ≡ Told.AlreadyThere) told) × Tells (λ answer. answer ≡ Told.Ended) told
 HasCause g tries Outcome.NoSuch told = Tells (λ answer. answer ≡ Told.NoSuch) told
 HasCause g tries (Outcome.Superseded newer) told = Tells (λ answer. answer ≡ Told.Superseded newer) told
 HasCause g tries (Outcome.Unavailable stripe missing) told = (length missing ≡ g.parity_count + 1) × Tells (λ answer. answer ≡ Told.Ended) told

@@ -1,5 +1,5 @@
 -- A drain ends with nobody left who has a step: its fuel suffices for every core that a run can reach.
-use Rattle.std.specs.Prelude.{ℕ, ◌<◌, Bool, true, false, List, [], ◌∷◌, ◌++◌, length, All, IfSome, IsTrue, IsFalse}
+use Rattle.std.specs.Prelude.{◌≡◌, ℕ, ◌<◌, Bool, true, false, List, [], ◌∷◌, ◌++◌, length, All, IfSome, IsTrue, IsFalse}
 use Rattle.std.specs.List.{slice_get}
 use Rattle.clay_grid.specs.Limits.{IsGeometry}
 use Rattle.store_map.specs.Limits.{size_of, tries_of}
@@ -27,8 +27,10 @@ abbrev pub KeepsBound : Script → Work → Calling → Type 0
 KeepsBound script work calling =
     IfSome (slice_get work.jobs (length calling.ended)) (λ job. calling.steps < step_bound script.geometry (size_of script) (tries_of script) job.note)
 
--- so have the calls of all actors
+-- so have the calls of all actors, and there are as many of them as the script has clients and repairers
 pub record KeepBounds (script : Script) (client_calls repairer_calls : List Calling) : Type 0 where
+  pub client_count : length client_calls ≡ length script.clients
+  pub repairer_count : length repairer_calls ≡ length script.repairers
   pub clients : (i : ℕ) → IfSome (slice_get (client_work script) i) (λ work. IfSome (slice_get client_calls i) (KeepsBound script work))
   pub repairers : (i : ℕ) → IfSome (slice_get (repairer_work script) i) (λ work. IfSome (slice_get repairer_calls i) (KeepsBound script work))
 

@@ -17,6 +17,12 @@ HearsShort (Act.Finish outcome) = ⊥
 HearsShort (Act.AtServer server (ServerStep.Settle version)) = ⊥
 HearsShort _ = ⊤
 
+-- a call of a client or of a repairer begins with its look; it has no pass yet
+abbrev pub IsLook : Act → Type 0
+IsLook (Act.AtDirectory (DirectoryStep.Look note)) = ⊤
+IsLook (Act.AtDirectory (DirectoryStep.LookRepair note)) = ⊤
+IsLook _ = ⊥
+
 -- for a call of any kind: an answer to the step that the call makes next ends it with this outcome
 pub record AnswersEndCalls (g : Shape) (tries : ℕ) (job : Job) : Type 0 where
   -- a look that is answered by a reply of the map, and a repairer's that finds no such stripe
@@ -49,13 +55,22 @@ pub record AnswersEndCalls (g : Shape) (tries : ℕ) (job : Job) : Type 0 where
       next_act g tries job told ≡ Act.AtDirectory (DirectoryStep.Commit placed) → tries ≤ length (changes_of told) + 1 →
       next_act g tries job (tell g job told (Told.Changed base newer)) ≡ Act.Finish (Outcome.Contended (changes_of told ++ (base, newer) ∷ []))
   -- a rebuild whose target has its chunk, when it is asked or when the chunk comes; the pass ends first
+  pub pass_ends_when_asked :
+      (seen : Seen) → job.note.kind ≡ Kind.Rebuild → next_act g tries job (Told.PinnedStripe seen ∷ Told.Here ∷ []) ≡ Act.AtDirectory DirectoryStep.End
   pub here_when_asked :
       (seen : Seen) → job.note.kind ≡ Kind.Rebuild →
       next_act g tries job (Told.PinnedStripe seen ∷ Told.Here ∷ Told.Ended ∷ []) ≡ Act.Finish Outcome.Here
+  pub pass_ends_when_it_comes :
+      (told : List Told) (server version : ℕ) → next_act g tries job told ≡ Act.AtServer server (ServerStep.Install version) →
+      next_act g tries job (tell g job told Told.AlreadyThere) ≡ Act.AtDirectory DirectoryStep.End
   pub here_when_it_comes :
       (told : List Told) (server version : ℕ) → next_act g tries job told ≡ Act.AtServer server (ServerStep.Install version) →
       next_act g tries job (tell g job (tell g job told Told.AlreadyThere) Told.Ended) ≡ Act.Finish Outcome.Here
-  -- want of memory; the pass ends first
+  -- want of memory: the call is over where it looked, and after any later step its pass ends first
+  pub no_memory_at_look : (told : List Told) → IsLook (next_act g tries job told) → next_act g tries job (tell g job told Told.Short) ≡ Act.Finish Outcome.NoMemory
+  pub pass_ends_without_memory :
+      (told : List Told) → HearsShort (next_act g tries job told) → (IsLook (next_act g tries job told) → ⊥) →
+      next_act g tries job (tell g job told Told.Short) ≡ Act.AtDirectory DirectoryStep.End
   pub no_memory :
       (told : List Told) → HearsShort (next_act g tries job told) →
       next_act g tries job (tell g job (tell g job told Told.Short) Told.Ended) ≡ Act.Finish Outcome.NoMemory

@@ -2,8 +2,10 @@
 use Rattle.std.specs.Prelude.{◌≡◌, ◌≢◌, ℕ, ◌+◌, ◌<◌, ◌≤◌, ◌⊎◌, List, [], ◌∷◌, ◌++◌, length, map, get_or, All, AllPairs}
 use Rattle.clay_grid.specs.Shape.{Shape, chunk_count}
 use Rattle.store_core.specs.Told.{Seen, Lost, Told}
+use Rattle.store_core.specs.Act.{ServerStep}
 use Rattle.store_core.specs.Gathering.{Gathering, Part}
 use Rattle.store_core.specs.GatheringParts.{gather_part, gather_chunk}
+use Rattle.store_core.specs.NamedServers.{NamesTheAsked}
 
 -- the epochs of the servers that said that they lack their chunk, in the order in which they were asked
 abbrev pub epochs_missing : List Told → List ℕ
@@ -29,24 +31,19 @@ pub record FoundEnough (g : Shape) (before : List Lost) (told rest : List Told) 
   pub told_is : told ≡ front ++ rest
   pub count : length before + length (epochs_missing front) ≤ g.parity_count
 
--- the target has its chunk
-pub record FoundAtTarget (told rest : List Told) : Type 0 where
+-- memory was wanting, and until then no more were missing than there are parity chunks
+pub record FoundNoRoom (g : Shape) (before : List Lost) (told rest : List Told) : Type 0 where
   pub front : List Told
   pub told_is : told ≡ front ++ rest
-  pub here : Tells (λ answer. answer ≡ Told.Here) front
+  pub count : length before + length (epochs_missing front) ≤ g.parity_count
 
--- memory was wanting
-pub record FoundNoRoom (told rest : List Told) : Type 0 where
-  pub front : List Told
-  pub told_is : told ≡ front ++ rest
-
--- where some servers were marked before, what was told since comes to such a gathering
+-- where some servers were marked before, what was told since comes to such a gathering; the target that has its chunk is asked first
 abbrev pub Ends : Shape → List Lost → List Told → Gathering → Type 0
 Ends g before told (Gathering.Asks server step) = length before + length (epochs_missing told) ≤ g.parity_count
 Ends g before told (Gathering.HasBytes rest) = FoundEnough g before told rest
 Ends g before told (Gathering.TooMany missing rest) = FoundTooMany g before told missing rest
-Ends g before told (Gathering.AtTarget rest) = FoundAtTarget told rest
-Ends g before told (Gathering.NoRoom rest) = FoundNoRoom told rest
+Ends g before told (Gathering.AtTarget rest) = told ≡ Told.Here ∷ rest
+Ends g before told (Gathering.NoRoom rest) = FoundNoRoom g before told rest
 
 -- the servers that are named differ, each is there, and its placed epoch is the one that the look told
 pub record AreApart (g : Shape) (seen : Seen) (missing : List Lost) : Type 0 where
@@ -54,7 +51,7 @@ pub record AreApart (g : Shape) (seen : Seen) (missing : List Lost) : Type 0 whe
   pub differ : AllPairs (λ lost other. lost.server ≢ other.server) missing
   pub placed : All (λ lost. lost.placed ≡ get_or seen.placed lost.server 0) missing
 
--- both gatherings end so, with no server marked before
+-- both gatherings end so, with no server marked before; only that of a chunk has a target
 pub record GatheringsEnd : Type 0 where
   pub part : (g : Shape) (part : Part) (told : List Told) → Ends g [] told (gather_part g part told)
   pub chunk : (g : Shape) (seen : Seen) (target : ℕ) (told : List Told) → 0 < g.parity_count → Ends g [] told (gather_chunk g seen target told)
@@ -64,3 +61,11 @@ pub record GatheringsEnd : Type 0 where
   pub chunk_apart :
       (g : Shape) (seen : Seen) (target : ℕ) (told rest : List Told) (missing : List Lost) → target < chunk_count g →
       gather_chunk g seen target told ≡ Gathering.TooMany missing rest → AreApart g seen missing
+  pub chunk_first : (g : Shape) (seen : Seen) (target : ℕ) → gather_chunk g seen target [] ≡ Gathering.Asks target (ServerStep.Has seen.version)
+  pub part_target : (g : Shape) (part : Part) (told rest : List Told) → gather_part g part told ≢ Gathering.AtTarget rest
+  pub part_asked :
+      (g : Shape) (part : Part) (told rest : List Told) (missing : List Lost) → gather_part g part told ≡ Gathering.TooMany missing rest →
+      NamesTheAsked (gather_part g part) told rest missing
+  pub chunk_asked :
+      (g : Shape) (seen : Seen) (target : ℕ) (told rest : List Told) (missing : List Lost) → gather_chunk g seen target told ≡ Gathering.TooMany missing rest →
+      NamesTheAsked (gather_chunk g seen target) told rest missing

@@ -37,6 +37,7 @@ pub mod Sound
 pub mod Agreement
 pub mod PlaceLaws
 pub mod ActorLaws
+pub mod NamedServers
 pub mod GatherLaws
 pub mod CauseLaws
 pub mod AskLaws
@@ -53,8 +54,11 @@ pub mod ToldInSteps
 pub mod Losses
 pub mod OutcomeLaws
 pub mod MemoryCauses
+pub mod Orders
+pub mod OrderLaws
 pub mod SweepLaws
 pub mod DrainLaws
+pub mod PassLaws
 pub mod MemoryLaws
 pub mod CutLaws
 pub mod HeldLaws

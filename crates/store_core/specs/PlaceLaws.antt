@@ -1,10 +1,10 @@
 -- What every step keeps: counts and points only grow, and numbers are places.
-use Rattle.std.specs.Prelude.{◌≡◌, ℕ, ◌+◌, ◌-◌, ◌^◌, ◌≤◌, Bool, List, [], ◌∷◌, ◌++◌, length, Option, None, Some, MatchOption}
+use Rattle.std.specs.Prelude.{◌≡◌, ℕ, ◌+◌, ◌-◌, ◌^◌, ◌≤◌, Bool, List, [], ◌∷◌, ◌++◌, length, take, map, Option, None, Some, MatchOption}
 use Rattle.std.specs.List.{range_with_len}
 use Rattle.store_map.specs.declared.actor.Actor.{Actor}
 use Rattle.store_core.specs.Told.{Told}
 use Rattle.store_core.specs.Act.{DirectoryStep, ServerStep}
-use Rattle.store_core.specs.Directory.{Point, Directory}
+use Rattle.store_core.specs.Directory.{Standing, Version, Point, Directory}
 use Rattle.store_core.specs.AtDirectory.{at_directory}
 use Rattle.store_core.specs.Server.{Server, at_server}
 
@@ -36,13 +36,18 @@ abbrev pub new_versions : Told → List ℕ
 new_versions (Told.Versions versions) = versions
 new_versions _ = []
 
--- a new point and new versions are the next places; the points before stay, and no version goes
+-- a version as it was drawn: its call, its stripe, and the version that it was laid over
+abbrev pub as_drawn : Version → Version
+as_drawn version = record version { placed = []; standing = Standing.Drawn }
+
+-- a new point and new versions are the next places; the points before stay, no version goes, and of one that is there only its placed epochs and its standing change
 pub record KeepsPlaces (before after : Directory) (answer : Told) : Type 0 where
   pub points :
       MatchOption (new_point answer) (after.points ≡ before.points)
       (λ place. (place ≡ length before.points) × (point : Point) × (after.points ≡ before.points ++ point ∷ []))
   pub numbers : new_versions answer ≡ range_with_len (length before.versions) (length (new_versions answer))
   pub versions : length after.versions ≡ length before.versions + length (new_versions answer)
+  pub drawn : take (length before.versions) (map as_drawn after.versions) ≡ map as_drawn before.versions
 
 -- so does each step at the directory
 abbrev pub DirectoryKeepsPlaces : Type 0

@@ -13,6 +13,7 @@ sweep_left servers (Sweeper.Sweeping version server) = servers - server + 1
 
 -- a version takes as many steps as the bound says, whatever the steps are answered
 pub record SweepsInOrder (g : Shape) : Type 0 where
+  pub takes : next_sweep (chunk_count g) Sweeper.Idle ≡ Act.AtDirectory DirectoryStep.NextGarbage
   pub begins : (version : ℕ) → sweep_left (chunk_count g) (after_sweep (chunk_count g) Sweeper.Idle (Told.Taken (Some version))) + 1 ≡ sweep_bound g
   pub rests : after_sweep (chunk_count g) Sweeper.Idle (Told.Taken None) ≡ Sweeper.Idle
   pub discards :

@@ -9,11 +9,13 @@ ghost use Rattle.store_core.specs.StepLaws.{StepsFall};
 ghost use Rattle.store_core.specs.AnswerLaws.{PlacesAnswer};
 ghost use Rattle.store_core.specs.AnswersByKind.{PlacesAnswerByKind};
 ghost use Rattle.store_core.specs.MemoryCauses.{MemoryWasWanting, OutcomesInSteps};
+ghost use Rattle.store_core.specs.SoundLaws.{StepsKeepSound};
+ghost use Rattle.store_core.specs.OrderLaws.{CallsKeepOrder};
 ghost use Rattle.store_core.specs.EndLaws.{AnswersEndCalls};
 ghost use Rattle.store_core.specs.GatheredLaws.{GatheringsEndCalls};
 ghost use Rattle.store_core.specs.SweepLaws.{SweepsInOrder};
 ghost use Rattle.store_core.specs.DrainLaws.{DrainsEnd};
-ghost use Rattle.store_core.specs.SoundLaws.{StepsKeepSound};
+ghost use Rattle.store_core.specs.PassLaws.{PassesAreOfCalls};
 ghost use Rattle.store_core.specs.NextAct.{Job};
 ghost use Rattle.store_core.specs.PlaceLaws.{ServersCountUp, DirectoryKeepsPlaces};
 ghost use Rattle.store_core.specs.ActorLaws.{ActsChangeOnePlace, StepsChangeOneActor};
@@ -23,12 +25,14 @@ ghost use Rattle.store_core.specs.CutLaws.{CutsChangeNoAct};
 ghost use Rattle.store_core.specs.GatherLaws.{GatheringsEnd};
 ghost use Rattle.store_core.specs.Run.{Run};
 
-/// No step at a server lowers its epoch or its count of subchunks taken.
+/// No step at a server lowers its epoch or its count of subchunks taken, while both fit 64 bits, and
+/// both still fit.
 pub fn servers_count_up()
     ensures { ServersCountUp }
 {}
 
 /// At the directory points and versions only come, and each is told as the place at which it stands.
+/// The points stay as they are; of a version only its placed epochs and its standing change.
 pub fn points_and_versions_are_places()
     ensures { DirectoryKeepsPlaces }
 {}
@@ -40,14 +44,18 @@ pub fn steps_change_one_place()
 {}
 
 /// A gathering names servers as missing exactly when one more than there are parity chunks have
-/// told it so, with the epochs that they answered, in that order.
+/// told it so: the servers that it asked and that answered so, with the epochs that they answered, in
+/// that order. The target of a rebuild is asked first.
 pub fn gatherings_end_at_too_many()
     ensures { GatheringsEnd }
 {}
 
-/// Each outcome of a call has its cause among what the call was told: a reply or a commit at that
-/// point, a reap, too many servers without their chunk, all tries lost, and for a rebuild that its
-/// chunk was placed, was there, or that its version was superseded.
+/// Each outcome but want of memory has its cause among what is kept of the call's answers: a reply or
+/// a commit at its point, pins at its point, a reap at its point, a superseded version, no such
+/// stripe; for a rebuild that a chunk was placed, or that the chunk is there, which the target said
+/// first of all or when the chunk came; for lost tries all changes that were told, no fewer than the
+/// tries. Missing servers are one more than there are parity chunks. A call that ends with its bytes,
+/// with missing servers, or as a rebuild with its chunk, was told that its pass ended.
 pub fn outcomes_have_causes()
     ensures { OutcomesHaveCauses }
 {}
@@ -74,8 +82,9 @@ pub fn cuts_change_no_act()
     ensures { CutsChangeNoAct }
 {}
 
-/// The steps that a call has left, by what it was told, fall at each of its steps, from its bound
-/// on; want of memory in the coding before a step, which is told first, leaves no more.
+/// The steps that a call has left, by what it was told, fall at each of its steps, from its bound on;
+/// after the look of a get or a read there are three for each server and pinned stripe, and one. Want
+/// of memory in the coding before a step, which is told first, leaves no more.
 pub fn steps_left_fall()
     ensures { (g : Shape) (max tries : ℕ) (job : Job) → StepsFall g max tries job }
 {}
@@ -107,9 +116,20 @@ pub fn calls_end_with_causes_step_by_step()
     ensures { (g : Shape) (max tries : ℕ) (job : Job) → OutcomesInSteps g max tries job }
 {}
 
+/// A call that is told its answers step by step leaves out none of its steps. It has its bytes only
+/// after each stripe that its look pinned was gathered. A rebuild installs only after its gathering,
+/// and after it was told that its version is current; it says that the chunk was placed with the epoch
+/// that it was told. A put or a write draws after its look, a write when it has gathered the old bytes
+/// that it keeps; a commit names the epochs that one prepare for each drawn version at each server
+/// told, in that order; after a commit a call is answered only when it has made a settle for each.
+pub fn calls_keep_order()
+    ensures { (g : Shape) (max tries : ℕ) (job : Job) → CallsKeepOrder g max tries job }
+{}
+
 /// Which answers end a call, and with which outcome: a look's reply, a commit, a reap, a version that
 /// is superseded, the last change that a write may be told, the last step of a rebuild, a target that
-/// has its chunk, want of memory.
+/// has its chunk, want of memory. Where one of the last two is told, the pass ends first, if the call
+/// has one yet.
 pub fn answers_end_calls()
     ensures { (g : Shape) (tries : ℕ) (job : Job) → AnswersEndCalls g tries job }
 {}
@@ -120,10 +140,22 @@ pub fn gatherings_end_calls()
     ensures { (g : Shape) (tries : ℕ) (job : Job) → GatheringsEndCalls g tries job }
 {}
 
-/// The sweeper takes a version, discards it at each server in rising order, and says that it is
-/// swept: two steps more than there are servers.
+/// The sweeper asks the directory for a version, discards it at each server in rising order, and says
+/// that it is swept: two steps more than there are servers.
 pub fn sweeper_sweeps_in_order()
     ensures { (g : Shape) → SweepsInOrder g }
+{}
+
+/// In every run of a valid script no actor is lost, each call keeps its bound on steps, and after a
+/// drain nobody has a step, where the directory is sound after each single step.
+pub fn drains_end()
+    ensures { DrainsEnd }
+{}
+
+/// In every such run an actor has a pass only for the call that it has in work, once the call has made
+/// a step, and a step on a pass finds it. So a call that has ended, or has not begun, leaves none.
+pub fn passes_are_of_calls_in_work()
+    ensures { PassesAreOfCalls }
 {}
 
 /// A directory without objects is sound, and each step that may be made leaves a sound directory
@@ -131,10 +163,4 @@ pub fn sweeper_sweeps_in_order()
 /// and each pass has what it pinned and drew.
 pub fn steps_keep_a_directory_sound()
     ensures { StepsKeepSound }
-{}
-
-/// In every run of a valid script each call keeps its bound on steps, and after a drain nobody has a
-/// step, where the directory is sound after each single step.
-pub fn drains_end()
-    ensures { DrainsEnd }
 {}
