@@ -1,12 +1,11 @@
 -- Lower-case hexadecimal digits and the bytes that they spell.
-use Rattle.std.proofs.Common.{◌≡◌, ℕ, zero, suc, ◌+◌, ◌-◌, ◌*◌, ◌/◌, ◌%◌, ◌<◌, Bool, true, false, ◌&&◌, ◌||◌, ◌==◌, not, List, [], ◌∷◌, ◌++◌, length, take, slice_index, slice_set, ◌≢◌, refl, sym, ap, ◌∙◌, arith, inl, inr}
-use Rattle.std.specs.Prelude.{nat_le, if◌then◌else◌}
+use Rattle.std.proofs.Common.{◌≡◌, ℕ, zero, suc, ◌+◌, ◌*◌, ◌/◌, ◌%◌, ◌<◌, Bool, true, false, ◌&&◌, ◌||◌, ◌==◌, not, List, [], ◌∷◌, length, slice_index, Option, Some, None, unwrap_or, Result, Ok, Err, refl, sym, ap, ◌∙◌, arith, inl, inr}
 use Rattle.std.proofs.lemmas.Bool.{and_parts, cases_eq, cases_lt, eqb-true}
-use Rattle.std.proofs.lemmas.List.{append_assoc, get_or-set_same, get_or-set_other, take_more, take_more_set}
 use Rattle.std.proofs.lemmas.List.Elements.{All-cons, All-head, All-nil, All-tail}
 use Rattle.std.specs.List.{AllPass}
-use Rattle.hex.specs.Hex.{IsBytes, encode_lower, encode_with, lower_digits}
-use Rattle.hex.proofs.HexLemmas.{length-encode_with}
+use Rattle.hex.specs.Hex.{IsBytes, is_hex_digit, decode_of, decode_pairs, digit_or_error, hex_digit_value, encode_lower, encode_with, lower_digits, pair_value, value_at, ◌>>=◌}
+use Rattle.hex.specs.declared.error.FromHexError.{FromHexError}
+use Rattle.hex.proofs.HexLemmas.{decode_of-even, decode_of-odd, decode_of-digits, decode_of-ok, length-encode_with}
 use Rattle.script_text.specs.Digits.{is_lower_digit}
 
 -- each value below 16 has a lower-case digit
@@ -14,7 +13,7 @@ abbrev all_lower : ℕ → Bool
 all_lower zero = true
 all_lower (suc n) = is_lower_digit (slice_index lower_digits n) && all_lower n
 
--- the test of one value below n
+-- the digit of a value below n
 all_lower-at : (n k : ℕ) → all_lower n ≡ true → k < n → is_lower_digit (slice_index lower_digits k) ≡ true
 all_lower-at zero k h lt = absurd (omega arith)
 all_lower-at (suc n) k h lt =
@@ -24,20 +23,15 @@ all_lower-at (suc n) k h lt =
       | inr top ↦ let e : k ≡ n = omega arith in rw e parts.0
     ]
 
--- the value of a digit
-abbrev value_of_digit : ℕ → ℕ
-value_of_digit c = if nat_le c 57 then c - 48 else c - 87
-
 -- the test that a byte, if it is a lower-case digit, is the digit of its value
 abbrev is_own_digit : ℕ → Bool
-is_own_digit c = not (is_lower_digit c) || (slice_index lower_digits (value_of_digit c) == c)
+is_own_digit c = not (is_lower_digit c) || (slice_index lower_digits (unwrap_or (hex_digit_value c) 99) == c)
 
--- the test of the bytes below n
 abbrev all_own : ℕ → Bool
 all_own zero = true
 all_own (suc n) = is_own_digit n && all_own n
 
--- the test of one of them
+-- a byte below n that is a lower-case digit is the digit of its value
 all_own-at : (n k : ℕ) → all_own n ≡ true → k < n → is_own_digit k ≡ true
 all_own-at zero k h lt = absurd (omega arith)
 all_own-at (suc n) k h lt =
@@ -47,42 +41,24 @@ all_own-at (suc n) k h lt =
       | inr top ↦ let e : k ≡ n = omega arith in rw e parts.0
     ]
 
--- a digit is below 103
+-- no digit is greater than f
 lower_small : (c : ℕ) → is_lower_digit c ≡ true → c < 103
 lower_small c h = grind (arith)
 
--- what the test of a digit shows
+-- a test that holds where another does
 own_true : (b c : Bool) → (not b || c) ≡ true → b ≡ true → c ≡ true
 own_true true c h e = h
 own_true false c h e = cc e
 
 -- a lower-case digit is the digit of its value
-digit_of_value : (c : ℕ) → is_lower_digit c ≡ true → slice_index lower_digits (value_of_digit c) ≡ c
-digit_of_value c h =
-    let own = own_true (is_lower_digit c) (slice_index lower_digits (value_of_digit c) == c) (all_own-at 103 c refl (lower_small c h)) h in
-    eqb-true (slice_index lower_digits (value_of_digit c)) c own
+pub digit_of_value : (c v : ℕ) → is_lower_digit c ≡ true → hex_digit_value c ≡ Some v → slice_index lower_digits v ≡ c
+digit_of_value c v h e =
+    let small = lower_small c h in
+    let own = own_true (is_lower_digit c) (slice_index lower_digits (unwrap_or (hex_digit_value c) 99) == c) (all_own-at 103 c refl small) h in
+    let same = eqb-true (slice_index lower_digits (unwrap_or (hex_digit_value c) 99)) c own in
+    let value : unwrap_or (hex_digit_value c) 99 ≡ v = ap (λ (o : Option ℕ). unwrap_or o 99) e in
+    ap (slice_index lower_digits) (sym value) ∙ same
 
--- a digit's value is below 16
-value_small : (c : ℕ) → is_lower_digit c ≡ true → value_of_digit c < 16
-value_small c h = grind (arith)
-
--- the digits of a byte by those of its halves
-pub encode-halves : (x y : ℕ) → x < 16 → y < 16
-    → encode_lower ((x * 16 + y) ∷ []) ≡ slice_index lower_digits x ∷ slice_index lower_digits y ∷ []
-unfolding encode_with
-encode-halves x y small small' =
-    let high : (x * 16 + y) / 16 ≡ x = omega arith in
-    let low : (x * 16 + y) % 16 ≡ y = omega arith in
-    rw (high, low) refl
-
--- bytes one behind the other
-encode-append : (xs ys : List ℕ) → encode_lower (xs ++ ys) ≡ encode_lower xs ++ encode_lower ys
-unfolding encode_with
-encode-append [] ys = refl
-encode-append (x ∷ xs) ys =
-    ap (λ (l : List ℕ). slice_index lower_digits (x / 16) ∷ slice_index lower_digits (x % 16) ∷ l) (encode-append xs ys)
-
--- the fact that a byte is a digit
 abbrev lower_holds : ℕ → Type 0
 lower_holds c = is_lower_digit c ≡ true
 
@@ -96,78 +72,75 @@ lower-encode (b ∷ bs) h =
     All-cons lower_holds (slice_index lower_digits (b / 16)) (low ∷ encode_lower bs) (all_lower-at 16 (b / 16) refl (omega arith))
     (All-cons lower_holds low (encode_lower bs) (all_lower-at 16 (b % 16) refl (omega arith)) (lower-encode bs (λ k. h (suc k))))
 
+-- both steps of a reading went well
+bind_ok : {A B : Type 0} (r : Result A FromHexError) (f : A → Result B FromHexError) (y : B)
+    → (r >>= f) ≡ Ok y → (x : A) × (r ≡ Ok x) × (f x ≡ Ok y)
+bind_ok (Ok x) f y h = (x, refl, h)
+bind_ok (Err e) f y h = cc h
+
+-- a digit that was read has its value
+digit_read : (c i : ℕ) (o : Option ℕ) (v : ℕ) → digit_or_error c i o ≡ Ok v → o ≡ Some v
+digit_read c i (Some w) v h = cc h
+digit_read c i None v h = cc h
+
+-- a digit's value
+value_small : (c v : ℕ) → hex_digit_value c ≡ Some v → v < 16
+value_small c v h = grind (arith)
+
+-- lower-case digits that decode are the spelling of what they decode to
+pub encode-decode_pairs : (i : ℕ) (s bytes : List ℕ) → AllPass is_lower_digit s → decode_pairs i s ≡ Ok bytes → encode_lower bytes ≡ s
+unfolding decode_pairs encode_with
+encode-decode_pairs i [] bytes all h = let e : [] ≡ bytes = cc h in rw (← e) refl
+encode-decode_pairs i (a ∷ []) bytes all h = cc h
+encode-decode_pairs i (a ∷ b ∷ rest) bytes all h =
+    let p0 = bind_ok (pair_value a b i) _ bytes h in
+    let p1 = bind_ok (value_at a i) _ p0.0 p0.1 in
+    let p2 = bind_ok (value_at b (i + 1)) _ p0.0 p1.2 in
+    let p3 = bind_ok (decode_pairs (i + 2) rest) _ bytes p0.2 in
+    let tail = All-tail lower_holds a (b ∷ rest) all in
+    let ih = encode-decode_pairs (i + 2) rest p3.0 (All-tail lower_holds b rest tail) p3.1 in
+    let ra = digit_read a i (hex_digit_value a) p1.0 p1.1 in
+    let rb = digit_read b (i + 1) (hex_digit_value b) p2.0 p2.1 in
+    let da = digit_of_value a p1.0 (All-head lower_holds a (b ∷ rest) all) ra in
+    let db = digit_of_value b p2.0 (All-head lower_holds b rest tail) rb in
+    let va = value_small a p1.0 ra in
+    let vb = value_small b p2.0 rb in
+    let e : p0.0 ∷ p3.0 ≡ bytes = cc (p3.2) in
+    let byte : p1.0 * 16 + p2.0 ≡ p0.0 = cc (p2.2) in
+    let high : p0.0 / 16 ≡ p1.0 = omega arith in
+    let low : p0.0 % 16 ≡ p2.0 = omega arith in
+    rw (← e) (cc (ap (slice_index lower_digits) high, ap (slice_index lower_digits) low, da, db, ih))
+
+-- the same for a whole text
+pub encode-decode_of : (s bytes : List ℕ) → AllPass is_lower_digit s → decode_of s ≡ Ok bytes → encode_lower bytes ≡ s
+encode-decode_of s bytes all h =
+    elim (cases_eq (length s % 2) 1) [
+      | inl odd ↦ cc (sym h ∙ decode_of-odd s odd)
+      | inr even ↦
+          let e : length s % 2 ≡ 0 = omega arith in
+          encode-decode_pairs 0 s bytes all (sym (decode_of-even s e) ∙ h)
+    ]
+
 -- what is no even number of lower-case digits spells no bytes
 pub never_spelled : (s bytes : List ℕ) → IsBytes bytes → s ≡ encode_lower bytes → AllPass is_lower_digit s × (length s % 2 ≡ 0)
 never_spelled s bytes h e =
     let len = length-encode_with lower_digits bytes in
     (rw e (lower-encode bytes h), rw e (omega (arith, len)))
 
--- a byte before bytes
-bytes_cons : (b : ℕ) (bs : List ℕ) → b < 256 → IsBytes bs → IsBytes (b ∷ bs)
-bytes_cons b bs small h zero = small
-bytes_cons b bs small h (suc i) = h i
+-- a lower-case digit is a digit
+hex_test : (c : ℕ) → is_lower_digit c ≡ true → is_hex_digit c ≡ true
+hex_test c h = grind arith
 
--- pairs of digits spell bytes
+-- the same of all
+abbrev hex_holds : ℕ → Type 0
+hex_holds c = is_hex_digit c ≡ true
+
+hex_from_lower : (s : List ℕ) → AllPass is_lower_digit s → AllPass is_hex_digit s
+hex_from_lower [] h = All-nil hex_holds
+hex_from_lower (c ∷ cs) h = All-cons hex_holds c cs (hex_test c (All-head lower_holds c cs h)) (hex_from_lower cs (All-tail lower_holds c cs h))
+
+-- an even number of lower-case digits spells some bytes
 pub spelled_by : (s : List ℕ) → AllPass is_lower_digit s → length s % 2 ≡ 0 → (bytes : List ℕ) × IsBytes bytes × (s ≡ encode_lower bytes)
-unfolding encode_with
-spelled_by [] h even = ([], λ i. omega arith, refl)
-spelled_by (a ∷ []) h even = absurd (omega arith)
-spelled_by (a ∷ b ∷ rest) h even =
-    let tail = All-tail lower_holds a (b ∷ rest) h in
-    let high = All-head lower_holds a (b ∷ rest) h in
-    let low = All-head lower_holds b rest tail in
-    let x = value_of_digit a in
-    let y = value_of_digit b in
-    let small = value_small a high in
-    let small' = value_small b low in
-    let more = spelled_by rest (All-tail lower_holds b rest tail) (omega arith) in
-    let byte = x * 16 + y in
-    let first = encode-halves x y small small' ∙ ap (λ (c : ℕ). c ∷ slice_index lower_digits y ∷ []) (digit_of_value a high)
-    ∙ ap (λ (c : ℕ). a ∷ c ∷ []) (digit_of_value b low) in (
-      byte ∷ more.0,
-      bytes_cons byte more.0 (omega (arith, small, small')) more.1,
-      ap (λ (l : List ℕ). a ∷ b ∷ l) more.2 ∙ ap (λ (l : List ℕ). l ++ encode_lower more.0) (sym first) ∙ sym (encode-append (byte ∷ []) more.0),
-    )
-
--- ---- pair by pair
-
--- the first i bytes spell the first 2 * i digits
-pub record IsFilled (digits bytes : List ℕ) (i : ℕ) : Type 0 where
-  pub spelled : take (2 * i) digits ≡ encode_lower (take i bytes)
-  pub small : (k : ℕ) → k < i → slice_index bytes k < 256
-
--- no bytes spell no digits
-pub filled_none : (digits bytes : List ℕ) → IsFilled digits bytes 0
-unfolding encode_with
-filled_none digits bytes = record { spelled = refl; small = λ k lt. absurd (omega arith) }
-
--- the front with two more bytes
-two_more : (s : List ℕ) (n : ℕ) → n + 1 < length s → take (n + 2) s ≡ take n s ++ (slice_index s n ∷ slice_index s (n + 1) ∷ [])
-two_more s n lt =
-    let two : n + 2 ≡ n + 1 + 1 = omega arith in
-    let first = take_more s n 0 (omega arith) in
-    let second = take_more s (n + 1) 0 lt in
-    rw (two, second, first) (append_assoc (take n s) (slice_index s n ∷ []) (slice_index s (n + 1) ∷ []))
-
--- a byte that is written is a byte
-small_more : (bytes : List ℕ) (i v : ℕ) → i < length bytes → v < 256 → ((k : ℕ) → k < i → slice_index bytes k < 256)
-    → (k : ℕ) → k < i + 1 → slice_index (slice_set bytes i v) k < 256
-small_more bytes i v lt small h k below = elim (cases_eq k i) [
-  | inl same ↦ rw (same, get_or-set_same) small
-  | inr other ↦ let ne : k ≢ i = other in rw get_or-set_other (h k (omega arith))
-]
-
--- one byte more spells two digits more
-pub filled_more : (digits bytes : List ℕ) (i v : ℕ) → length digits ≡ 2 * length bytes → i < length bytes → IsFilled digits bytes i
-    → encode_lower (v ∷ []) ≡ slice_index digits (2 * i) ∷ slice_index digits (2 * i + 1) ∷ [] → v < 256 → IsFilled digits (slice_set bytes i v) (i + 1)
-filled_more digits bytes i v len lt h is small =
-    let next : 2 * (i + 1) ≡ 2 * i + 2 = omega arith in
-    let pair = two_more digits (2 * i) (omega (arith, len)) in
-    let byte = take_more_set bytes i v lt in
-    record {
-      spelled = ap (λ (n : ℕ). take n digits) next ∙ pair
-          ∙ ap (λ (l : List ℕ). l ++ (slice_index digits (2 * i) ∷ slice_index digits (2 * i + 1) ∷ [])) h.spelled
-          ∙ ap (λ (l : List ℕ). encode_lower (take i bytes) ++ l) (sym is)
-          ∙ sym (encode-append (take i bytes) (v ∷ [])) ∙ ap encode_lower (sym byte);
-      small = small_more bytes i v lt small h.small;
-    }
+spelled_by s lower even =
+    let decoded = decode_of-digits s even (hex_from_lower s lower) in
+    (decoded.0, (decode_of-ok s decoded.0 decoded.1).3, sym (encode-decode_of s decoded.0 lower decoded.1))

@@ -2,7 +2,7 @@ ghost use Rattle.std.specs.Prelude.{◌≡◌, ◌≢◌, ◌<◌, ◌∷◌, �
 ghost use Rattle.hex.specs.Hex.{encode_lower};
 ghost use Rattle.script_text.specs.Reads.{ReadsContent, ReadsRun};
 
-use crate::digits::{are_lower_digits, byte_of, read_digits};
+use crate::digits::{are_lower_digits, read_digits};
 use crate::fault::FaultKind;
 use crate::number::{is_number, small_number};
 use crate::split::split_at_first;
@@ -23,7 +23,11 @@ fn read_byte(word: &[u8]) -> Option<u8>
     if word.len() != 2 || !are_lower_digits(word) {
         return None;
     }
-    Some(byte_of(word[0], word[1]))
+    let mut byte = [0];
+    match hex::decode_to_slice(word, &mut byte) {
+        Ok(()) => Some(byte[0]),
+        Err(_) => None,
+    }
 }
 
 /// A byte and a length, parted by a colon.
