@@ -36,7 +36,7 @@ pub record Stands (g : Shape) (tries : ℕ) (job : Job) (who : Actor) (told : Li
   pub pass : held who d ≡ note_if (has_pass (phase_of (next_act g tries job told))) job.note
   pub going : IsGoing (next_act g tries job told)
 
-same_bools : (a b : Bool) → beq a b ≡ true → a ≡ b
+pub same_bools : (a b : Bool) → beq a b ≡ true → a ≡ b
 same_bools true true e = refl
 same_bools false false e = refl
 same_bools true false e = absurd (true≢false (sym e))
@@ -47,7 +47,7 @@ going_on (Act.AtDirectory step) e = tt
 going_on (Act.AtServer server step) e = tt
 going_on (Act.Finish outcome) e = absurd (true≢false (sym e))
 
-pass_rank : (p : Phase) → has_pass p ≡ true → rank p ≤ 2
+pub pass_rank : (p : Phase) → has_pass p ≡ true → rank p ≤ 2
 pass_rank Phase.Gathering e = omega arith
 pass_rank Phase.Drawing e = omega arith
 pass_rank Phase.Drawn e = omega arith
@@ -101,7 +101,7 @@ module _ (g : Shape) (most tries : ℕ) (job : Job) (target : HasTarget g job) (
       }
 
   -- so it is whether memory was wanting or not
-  first_told : (coding has : Bool) → is_some (pass_of who d) ≡ has → ToldFirst g most tries job who told (told_first coding has g job told) d
+  pub first_told : (coding has : Bool) → is_some (pass_of who d) ≡ has → ToldFirst g most tries job who told (told_first coding has g job told) d
   first_told true true e = short_told e
   first_told true false e = record { stands = stands; steps = omega arith; draws = omega arith }
   first_told false has e = record { stands = stands; steps = omega arith; draws = omega arith }

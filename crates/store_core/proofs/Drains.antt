@@ -1,8 +1,7 @@
 -- A drain ends: each round lowers the measure of what may yet be done, or finds nobody with a step.
-use Rattle.std.proofs.Common.{◌≡◌, ℕ, zero, suc, ◌+◌, ◌<◌, ◌≤◌, Bool, true, false, ◌||◌, List, [], ◌∷◌, ◌++◌, length, drop, map, fold, Option, None, Some, IfSome, All, IsTrue, refl, sym, ap, subst, ◌∙◌, inl, inr, ◌⊎◌, arith, true≢false}
+use Rattle.std.proofs.Common.{◌≡◌, ℕ, zero, suc, ◌+◌, ◌<◌, ◌≤◌, Bool, true, false, ◌||◌, List, [], ◌∷◌, ◌++◌, length, drop, map, fold, Option, None, Some, IfSome, refl, sym, subst, ◌∙◌, inl, inr, ◌⊎◌, arith, true≢false}
 use Rattle.std.proofs.lemmas.Bool.{cases_eq}
 use Rattle.std.proofs.lemmas.List.{length-map}
-use Rattle.std.proofs.lemmas.List.Elements.{All-nil, All-push}
 use Rattle.std.proofs.lemmas.Option.{slice_get_within}
 use Rattle.std.specs.List.{range_with_len, slice_get}
 use Rattle.store_map.specs.Limits.{size_of, tries_of}
@@ -17,20 +16,21 @@ use Rattle.store_core.specs.Act.{Act, DirectoryStep, ServerStep}
 use Rattle.store_core.specs.Bounds.{step_bound}
 use Rattle.store_core.specs.CallLeft.{call_left}
 use Rattle.store_core.specs.Core.{first_core, sweeper_has_step}
-use Rattle.store_core.specs.DrainLaws.{is_one_step, StaysSound, KeepsBound, RunsAreBounded, DrainsEnd}
+use Rattle.store_core.specs.DrainLaws.{KeepsBound, RunsAreBounded, DrainsEnd}
+use Rattle.store_core.specs.RunLaws.{StaysSound, RunsStaySound}
 use Rattle.store_core.specs.Directory.{Directory}
 use Rattle.store_core.specs.NextAct.{Job, job_of, rebuild_job}
 use Rattle.store_core.specs.Run.{Run, client_step, repairer_step}
 use Rattle.store_core.specs.Schedule.{is_unfinished, sweep_if, round, drain_by, fuel_of, drain, step_core, run_tokens, run_core}
-use Rattle.store_core.specs.Sound.{IsSound}
 use Rattle.store_core.specs.Step.{Marks}
 use Rattle.store_core.specs.Work.{Work, Calling, client_work, repairer_work, any_has_step}
 use Rattle.store_core.proofs.ActorSteps.{InWork, CallKept}
 use Rattle.store_core.specs.StepLaws.{HasTarget}
 use Rattle.store_core.proofs.StillToMake.{has_step_left}
 use Rattle.store_core.proofs.Groups.{IsGroup, GroupKept, IsIdle, none_has_step, drop_here}
-use Rattle.store_core.proofs.Runs.{Keeps, CanRun, measure, Progress, client_progress, repairer_progress, operator_keeps, sweeper_keeps, sweeper_lowers}
-use Rattle.store_core.proofs.Scripts.{can_run, first_keeps, measure_fits}
+use Rattle.store_core.proofs.RunsSound.{RunKeeps, client_kept, repairer_kept, sweeper_kept, operator_kept, first_kept}
+use Rattle.store_core.proofs.Runs.{CanRun, measure, Progress, client_progress, repairer_progress, sweeper_lowers}
+use Rattle.store_core.proofs.Scripts.{can_run, measure_fits}
 
 -- one token more at the end
 run_more : (script : Script) (tokens : List Token) (token : Token) (run : Run) → run_tokens script (tokens ++ token ∷ []) run ≡ step_core script token (run_tokens script tokens run)
@@ -48,30 +48,13 @@ pub if_found : {X : Type 0} (P : X → Type 0) (found : Option X) → ((x : X) �
 if_found P None h = tt
 if_found P (Some x) h = h x refl
 
-module _ (script : Script) (marks : List Marks) (can : CanRun script) (stays : StaysSound script marks) where
+module _ (script : Script) (marks : List Marks) (can : CanRun script) where
   abbrev pub start : Run
   start = record { core = first_core script; marks = marks }
 
-  -- a run that single steps lead to
-  pub record State (run : Run) : Type 0 where
-    tokens : List Token
-    single : All (λ token. IsTrue (is_one_step token)) tokens
-    is_run : run_tokens script tokens start ≡ run
-    pub keeps : Keeps script run.core
-
-  -- its directory is sound
-  sound : (run : Run) → State run → IsSound run.core.directory
-  sound run state = subst (λ (r : Run). IsSound r.core.directory) state.is_run (stays state.tokens state.single)
-
-  -- one single step more
-  step_state : (token : Token) → IsTrue (is_one_step token) → (run : Run) → State run → Keeps script (step_core script token run).core → State (step_core script token run)
-  step_state token one run state keeps =
-      record {
-        tokens = state.tokens ++ token ∷ [];
-        single = All-push (λ (t : Token). IsTrue (is_one_step t)) state.tokens token state.single one;
-        is_run = run_more script state.tokens token start ∙ ap (step_core script token) state.is_run;
-        keeps = keeps;
-      }
+  -- a run whose core has what cores of runs have
+  abbrev pub State : Run → Type 0
+  State run = RunKeeps script run.core
 
   -- ---- turns
   -- the measure fell, or nothing changed and there was nothing to do
@@ -96,10 +79,6 @@ module _ (script : Script) (marks : List Marks) (can : CanRun script) (stays : S
       by (inr same) (inl more) = inl (subst (λ (r : Run). measure script last.core < measure script r.core) same.0 more)
       by (inr same) (inr again) = inr (again.0 ∙ same.0, both same.1 same.0 again.1)
 
-  progress_keeps : {idle : Type 0} (before after : Run) → Keeps script before.core → Progress script before after idle → Keeps script after.core
-  progress_keeps before after keeps (inl lowers) = lowers.keeps
-  progress_keeps before after keeps (inr same) = subst (λ (r : Run). Keeps script r.core) (sym same.0) keeps
-
   progress_moves : {idle : Type 0} (before after : Run) → Progress script before after idle → (measure script after.core < measure script before.core) ⊎ ((after ≡ before) × idle)
   progress_moves before after (inl lowers) = inl lowers.lower
   progress_moves before after (inr same) = inr same
@@ -112,17 +91,17 @@ module _ (script : Script) (marks : List Marks) (can : CanRun script) (stays : S
 
   client_turn : (i : ℕ) (run : Run) → State run → Turn run (client_step script i run) (ClientIdle run i)
   client_turn i run state =
-      let progress : Progress script run (client_step script i run) (ClientIdle run i) = client_progress script can run state.keeps (sound run state) i in
+      let progress : Progress script run (client_step script i run) (ClientIdle run i) = client_progress script can run state.keeps state.sound i in
       record {
-        state = step_state (token.Client i) refl run state (progress_keeps run (client_step script i run) state.keeps progress);
+        state = client_kept script can run state i;
         moved = progress_moves run (client_step script i run) progress;
       }
 
   repairer_turn : (i : ℕ) (run : Run) → State run → Turn run (repairer_step script i run) (RepairerIdle run i)
   repairer_turn i run state =
-      let progress : Progress script run (repairer_step script i run) (RepairerIdle run i) = repairer_progress script can run state.keeps (sound run state) i in
+      let progress : Progress script run (repairer_step script i run) (RepairerIdle run i) = repairer_progress script can run state.keeps state.sound i in
       record {
-        state = step_state (token.Repairer i) refl run state (progress_keeps run (repairer_step script i run) state.keeps progress);
+        state = repairer_kept script can run state i;
         moved = progress_moves run (repairer_step script i run) progress;
       }
 
@@ -150,8 +129,8 @@ module _ (script : Script) (marks : List Marks) (can : CanRun script) (stays : S
   sweep_turn : (run : Run) → State run → (b : Bool) → sweeper_has_step run.core ≡ b → Turn run (sweep_if b script run) (sweeper_has_step run.core ≡ false)
   sweep_turn run state true e =
       record {
-        state = step_state token.Sweep refl run state (sweeper_keeps script run.core state.keeps (sound run state));
-        moved = inl (sweeper_lowers script run.core state.keeps (sound run state) e);
+        state = sweeper_kept script can run state;
+        moved = inl (sweeper_lowers script run.core state.keeps state.sound e);
       }
   sweep_turn run state false e = record { state = state; moved = inr (refl, e) }
 
@@ -236,24 +215,22 @@ module _ (script : Script) (marks : List Marks) (can : CanRun script) (stays : S
 
   -- ---- any tokens
   token_state : (token : Token) (run : Run) → State run → State (step_core script token run)
-  token_state (token.Client i) run state = (client_turn i run state).state
-  token_state (token.Repairer i) run state = (repairer_turn i run state).state
-  token_state token.Sweep run state = step_state token.Sweep refl run state (sweeper_keeps script run.core state.keeps (sound run state))
-  token_state (token.Wipe server) run state =
-      step_state (token.Wipe server) refl run state (operator_keeps script run.core state.keeps (sound run state) (Act.AtServer server ServerStep.Wipe) tt)
-  token_state (token.ReapClient i) run state =
-      step_state (token.ReapClient i) refl run state (operator_keeps script run.core state.keeps (sound run state) (Act.AtDirectory (DirectoryStep.Reap (actor.Client i))) tt)
-  token_state (token.ReapRepairer i) run state =
-      step_state (token.ReapRepairer i) refl run state (operator_keeps script run.core state.keeps (sound run state) (Act.AtDirectory (DirectoryStep.Reap (actor.Repairer i))) tt)
+  token_state (token.Client i) run state = client_kept script can run state i
+  token_state (token.Repairer i) run state = repairer_kept script can run state i
+  token_state token.Sweep run state = sweeper_kept script can run state
+  token_state (token.Wipe server) run state = operator_kept script can run state (Act.AtServer server ServerStep.Wipe) tt
+  token_state (token.ReapClient i) run state = operator_kept script can run state (Act.AtDirectory (DirectoryStep.Reap (actor.Client i))) tt
+  token_state (token.ReapRepairer i) run state = operator_kept script can run state (Act.AtDirectory (DirectoryStep.Reap (actor.Repairer i))) tt
   token_state token.Drain run state = (drained run state).state
 
-  -- any tokens lead where single steps lead
+  -- any tokens keep it
   pub run_state : (tokens : List Token) (run : Run) → State run → State (run_tokens script tokens run)
   run_state [] run state = state
   run_state (token ∷ tokens) run state = run_state tokens (step_core script token run) (token_state token run state)
 
-  pub start_state : State start
-  start_state = record { tokens = []; single = All-nil (λ (t : Token). IsTrue (is_one_step t)); is_run = refl; keeps = first_keeps script can.tried }
+  -- so the directory is sound after any tokens
+  pub sound_after : StaysSound script marks
+  sound_after tokens = (run_state tokens start (first_kept script can)).sound
 
   -- ---- bounds
   group_bounds : (who_of : ℕ → Actor) (works : List Work) (callings : List Calling) (d : Directory) → IsGroup script who_of works → GroupKept script who_of works callings d
@@ -280,7 +257,7 @@ module _ (script : Script) (marks : List Marks) (can : CanRun script) (stays : S
   bounded =
       record {
         bounds = λ tokens.
-            let state : State (run_tokens script tokens start) = run_state tokens start start_state in
+            let state : State (run_tokens script tokens start) = run_state tokens start (first_kept script can) in
             record {
               client_count = state.keeps.client_count;
               repairer_count = state.keeps.repairer_count;
@@ -289,9 +266,13 @@ module _ (script : Script) (marks : List Marks) (can : CanRun script) (stays : S
             };
         drained = λ tokens.
             let run : Run = run_tokens script tokens start in
-            subst (λ (r : Run). is_unfinished script r.core ≡ false) (sym (run_more script tokens token.Drain start)) (drained run (run_state tokens start start_state)).finished;
+            subst (λ (r : Run). is_unfinished script r.core ≡ false) (sym (run_more script tokens token.Drain start)) (drained run (run_state tokens start (first_kept script can))).finished;
       }
+
+-- the directory stays sound
+pub runs_stay_sound : RunsStaySound
+runs_stay_sound script marks geometry valid = sound_after script marks (can_run script geometry valid)
 
 -- drains end
 pub drains_end : DrainsEnd
-drains_end script marks geometry valid stays = bounded script marks (can_run script geometry valid) stays
+drains_end script marks geometry valid = bounded script marks (can_run script geometry valid)

@@ -82,7 +82,7 @@ none_has_step (work ∷ works) [] h = refl
 none_has_step (work ∷ works) (calling ∷ callings) h =
     or_from (has_step work calling) (any_has_step works callings) (h 0 work calling refl refl) (none_has_step works callings (λ i w c e k. h (suc i) w c e k))
 
-slice_changed : (i : ℕ) (old new : Calling) (callings : List Calling) → slice_get callings i ≡ Some old → slice_get (change_at i (λ _. new) callings) i ≡ Some new
+pub slice_changed : (i : ℕ) (old new : Calling) (callings : List Calling) → slice_get callings i ≡ Some old → slice_get (change_at i (λ _. new) callings) i ≡ Some new
 slice_changed i old new [] e = absurd (none-some old e)
 slice_changed zero old new (calling ∷ callings) e = refl
 slice_changed (suc i) old new (calling ∷ callings) e = slice_changed i old new callings e

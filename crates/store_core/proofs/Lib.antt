@@ -1,6 +1,7 @@
 pub mod Places
 pub mod Apart
 pub mod NamedServers
+pub mod Given
 pub mod Gatherings
 pub mod Causes
 pub mod Asks
@@ -75,3 +76,11 @@ pub mod SoundLook
 pub mod SoundChanged
 pub mod SoundCommit
 pub mod SoundSteps
+pub mod CallActs
+pub mod ToldVersions
+pub mod OwnPasses
+pub mod Readies
+pub mod MaySteps
+pub mod ReadySteps
+pub mod ReadyActors
+pub mod RunsSound

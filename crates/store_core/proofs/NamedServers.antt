@@ -15,10 +15,10 @@ marks_of missing = map (λ (lost : Lost). (lost.server, lost.found)) missing
 
 module _ (gather : List Told → Gathering) where
   -- after these answers the gathering goes on so
-  abbrev GoesOnAs : List Told → (List Told → Gathering) → Type 0
+  abbrev pub GoesOnAs : List Told → (List Told → Gathering) → Type 0
   GoesOnAs before inner = (more : List Told) → gather (before ++ more) ≡ inner more
 
-  goes_on_after : (before : List Told) (inner later : List Told → Gathering) (answer : Told) → GoesOnAs before inner
+  pub goes_on_after : (before : List Told) (inner later : List Told → Gathering) (answer : Told) → GoesOnAs before inner
       → ((more : List Told) → inner (answer ∷ more) ≡ later more) → GoesOnAs (before ++ answer ∷ []) later
   goes_on_after before inner later answer goes same more = ap gather (append_assoc before (answer ∷ []) more) ∙ goes (answer ∷ more) ∙ same more
 

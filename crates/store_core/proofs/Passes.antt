@@ -45,7 +45,7 @@ same_is a b e = absurd (true≢false (sym e))
 
 -- ---- lists of passes
 -- a pass that is closed is gone
-closed_own : (who : Actor) (passes : List Pass) → find (λ pass. same_actor who pass.actor) (filter (λ pass. not (same_actor who pass.actor)) passes) ≡ None
+pub closed_own : (who : Actor) (passes : List Pass) → find (λ pass. same_actor who pass.actor) (filter (λ pass. not (same_actor who pass.actor)) passes) ≡ None
 closed_own who [] = refl
 closed_own who (pass ∷ passes) = by (closed_own who passes) (same_actor who pass.actor) refl
   where
@@ -55,7 +55,7 @@ closed_own who (pass ∷ passes) = by (closed_own who passes) (same_actor who pa
         ap (λ c. cond {A = Option Pass} c (Some pass) (find (λ (other : Pass). same_actor who other.actor) (filter (λ (other : Pass). not (same_actor who other.actor)) passes))) e ∙ rest
 
 -- and the others' stay
-closed_other : (who other : Actor) (passes : List Pass) → same_actor other who ≡ false
+pub closed_other : (who other : Actor) (passes : List Pass) → same_actor other who ≡ false
     → find (λ pass. same_actor other pass.actor) (filter (λ pass. not (same_actor who pass.actor)) passes) ≡ find (λ pass. same_actor other pass.actor) passes
 closed_other who other [] apart = refl
 closed_other who other (pass ∷ passes) apart = by (closed_other who other passes apart) (same_actor who pass.actor) refl

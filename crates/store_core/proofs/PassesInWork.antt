@@ -19,7 +19,8 @@ use Rattle.store_core.specs.Schedule.{run_tokens, run_core}
 use Rattle.store_core.specs.Work.{Work, Calling, client_work, repairer_work}
 use Rattle.store_core.proofs.ActAnswers.{note_if}
 use Rattle.store_core.proofs.ActorSteps.{InWork, CallKept, is_looking}
-use Rattle.store_core.proofs.Drains.{start, State, run_state, start_state, if_found}
+use Rattle.store_core.proofs.Drains.{start, State, run_state, if_found}
+use Rattle.store_core.proofs.RunsSound.{first_kept}
 use Rattle.store_core.proofs.Groups.{GroupKept, drop_here}
 use Rattle.store_core.proofs.Passes.{held}
 use Rattle.store_core.proofs.Phases.{phase_of, directory_phase, has_pass}
@@ -113,10 +114,9 @@ group_passes script tried who_of works callings d kept i =
 
 -- in a run passes are of calls in work
 pub passes_are_of_calls : PassesAreOfCalls
-passes_are_of_calls script marks geometry valid stays tokens =
+passes_are_of_calls script marks geometry valid tokens =
     let can : CanRun script = can_run script geometry valid in
-    let state : State script marks can stays (run_tokens script tokens (start script marks can stays)) =
-    run_state script marks can stays tokens (start script marks can stays) (start_state script marks can stays) in
+    let state : State script marks can (run_tokens script tokens (start script marks can)) = run_state script marks can tokens (start script marks can) (first_kept script can) in
     let core : Core = run_core script marks tokens in
     record {
       clients = group_passes script can.tried actor.Client (client_work script) core.clients core.directory state.keeps.clients;

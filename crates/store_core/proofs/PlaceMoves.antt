@@ -76,7 +76,7 @@ server_moves who note short server step places (Some s) little =
       size = (let e : length (new_versions (at_server_there short server step places (Some s)).1) ≡ 0 = little.versions in omega (arith, e));
     }
 
-call_step : (job : Job) (room : Type 0) (step : DirectoryStep) → ProperStep job room step → IsCallStep job.note step
+pub call_step : (job : Job) (room : Type 0) (step : DirectoryStep) → ProperStep job room step → IsCallStep job.note step
 call_step job room (DirectoryStep.Look note) proper = proper.0
 call_step job room (DirectoryStep.LookRepair note) proper = proper.0
 call_step job room DirectoryStep.Draw proper = tt

@@ -60,7 +60,7 @@ pub record CanRun (script : Script) : Type 0 where
   pub clients : IsGroup script actor.Client (client_work script)
   pub repairers : IsGroup script actor.Repairer (repairer_work script)
 
-fit_places : (script : Script) (core : Core) → Keeps script core → IsSound core.directory → FitPlaces script.geometry (size_of script) (places_in core)
+pub fit_places : (script : Script) (core : Core) → Keeps script core → IsSound core.directory → FitPlaces script.geometry (size_of script) (places_in core)
 fit_places script core keeps sound = record { shape = keeps.shape; max = keeps.max; servers = keeps.servers; short = sound_short core.directory sound }
 
 -- a step lowers the measure, or there was none and all is as it was

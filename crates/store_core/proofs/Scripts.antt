@@ -37,12 +37,12 @@ use Rattle.store_core.proofs.Groups.{sum_below, steps_of, draws_of, group_steps,
 use Rattle.store_core.proofs.Runs.{busy_count, Keeps, measure, CanRun}
 
 -- ---- lists
-record Mapped {X Y : Type 0} (f : X → Y) (xs : List X) (i : ℕ) (y : Y) : Type 0 where
-  source : X
-  found : slice_get xs i ≡ Some source
-  is_image : f source ≡ y
+pub record Mapped {X Y : Type 0} (f : X → Y) (xs : List X) (i : ℕ) (y : Y) : Type 0 where
+  pub source : X
+  pub found : slice_get xs i ≡ Some source
+  pub is_image : f source ≡ y
 
-mapped : {X Y : Type 0} (f : X → Y) (xs : List X) (i : ℕ) (y : Y) → slice_get (map f xs) i ≡ Some y → Mapped f xs i y
+pub mapped : {X Y : Type 0} (f : X → Y) (xs : List X) (i : ℕ) (y : Y) → slice_get (map f xs) i ≡ Some y → Mapped f xs i y
 mapped f [] i y e = absurd (none-some y e)
 mapped f (x ∷ xs) zero y e = record { source = x; found = refl; is_image = same_Some (f x) y e }
 mapped f (x ∷ xs) (suc i) y e =
@@ -54,7 +54,7 @@ all_at P [] i x all e = absurd (none-some x e)
 all_at P (first ∷ xs) zero x all e = subst P (same_Some first x e) (All-head P first xs all)
 all_at P (first ∷ xs) (suc i) x all e = all_at P xs i x (All-tail P first xs all) e
 
-replicated : {X : Type 0} (n i : ℕ) (x y : X) → slice_get (replicate n x) i ≡ Some y → x ≡ y
+pub replicated : {X : Type 0} (n i : ℕ) (x y : X) → slice_get (replicate n x) i ≡ Some y → x ≡ y
 replicated zero i x y e = absurd (none-some y e)
 replicated (suc n) zero x y e = same_Some x y e
 replicated (suc n) (suc i) x y e = replicated n i x y e

@@ -1,5 +1,5 @@
 -- A drain ends with nobody left who has a step: its fuel suffices for every core that a run can reach.
-use Rattle.std.specs.Prelude.{◌≡◌, ℕ, ◌<◌, Bool, true, false, List, [], ◌∷◌, ◌++◌, length, All, IfSome, IsTrue, IsFalse}
+use Rattle.std.specs.Prelude.{◌≡◌, ℕ, ◌<◌, List, [], ◌∷◌, ◌++◌, length, IfSome, IsFalse}
 use Rattle.std.specs.List.{slice_get}
 use Rattle.clay_grid.specs.Limits.{IsGeometry}
 use Rattle.store_map.specs.Limits.{size_of, tries_of}
@@ -8,19 +8,9 @@ use Rattle.store_map.specs.declared.actor.Token.{Token}
 use Rattle.store_map.specs.declared.actor.Token.TheVariants as token
 use Rattle.store_map.specs.declared.script.Script.{Script}
 use Rattle.store_core.specs.Bounds.{step_bound}
-use Rattle.store_core.specs.Sound.{IsSound}
 use Rattle.store_core.specs.Work.{Work, Calling, client_work, repairer_work}
 use Rattle.store_core.specs.Step.{Marks}
 use Rattle.store_core.specs.Schedule.{is_unfinished, run_core}
-
--- every token but a drain is one step
-abbrev pub is_one_step : Token → Bool
-is_one_step token.Drain = false
-is_one_step _ = true
-
--- whatever single steps are made from the start, the directory is sound after them
-abbrev pub StaysSound : Script → List Marks → Type 0
-StaysSound script marks = (tokens : List Token) → All (λ token. IsTrue (is_one_step token)) tokens → IsSound (run_core script marks tokens).directory
 
 -- the call that an actor has in work has made fewer steps than its bound; so with the step that ends it, it makes no more than its bound
 abbrev pub KeepsBound : Script → Work → Calling → Type 0
@@ -39,6 +29,6 @@ pub record RunsAreBounded (script : Script) (marks : List Marks) : Type 0 where
   pub bounds : (tokens : List Token) → KeepBounds script (run_core script marks tokens).clients (run_core script marks tokens).repairers
   pub drained : (tokens : List Token) → IsFalse (is_unfinished script (run_core script marks (tokens ++ token.Drain ∷ [])))
 
--- runs are bounded, where their directories are sound
+-- the runs of a valid script are bounded
 abbrev pub DrainsEnd : Type 0
-DrainsEnd = (script : Script) (marks : List Marks) → IsGeometry script.geometry → IsValid script → StaysSound script marks → RunsAreBounded script marks
+DrainsEnd = (script : Script) (marks : List Marks) → IsGeometry script.geometry → IsValid script → RunsAreBounded script marks

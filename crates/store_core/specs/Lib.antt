@@ -57,11 +57,13 @@ pub mod MemoryCauses
 pub mod Orders
 pub mod OrderLaws
 pub mod SweepLaws
+pub mod RunLaws
 pub mod DrainLaws
 pub mod PassLaws
 pub mod MemoryLaws
 pub mod CutLaws
 pub mod HeldLaws
+pub mod GivenLaws
 pub mod Rows
 pub mod RowsCalls
 pub mod RowsOneLoss

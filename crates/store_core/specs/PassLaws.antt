@@ -12,7 +12,6 @@ use Rattle.store_core.specs.Act.{Act, DirectoryStep}
 use Rattle.store_core.specs.AnswerLaws.{is_on_pass}
 use Rattle.store_core.specs.Core.{Core}
 use Rattle.store_core.specs.Directory.{Pass, Directory}
-use Rattle.store_core.specs.DrainLaws.{StaysSound}
 use Rattle.store_core.specs.Lookups.{pass_of}
 use Rattle.store_core.specs.NextAct.{Job, next_act}
 use Rattle.store_core.specs.Schedule.{run_core}
@@ -40,8 +39,8 @@ pub record KeepPasses (script : Script) (core : Core) : Type 0 where
   pub repairers :
       (i : ℕ) → IfSome (slice_get (repairer_work script) i) (λ work. IfSome (slice_get core.repairers i) (KeepsPass script (actor.Repairer i) core.directory work))
 
--- so in every run of a valid script, whatever was wanting of memory, where its directories are sound
+-- so in every run of a valid script, whatever was wanting of memory
 abbrev pub PassesAreOfCalls : Type 0
 PassesAreOfCalls =
-    (script : Script) (marks : List Marks) → IsGeometry script.geometry → IsValid script → StaysSound script marks →
+    (script : Script) (marks : List Marks) → IsGeometry script.geometry → IsValid script →
     (tokens : List Token) → KeepPasses script (run_core script marks tokens)

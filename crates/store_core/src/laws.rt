@@ -15,6 +15,7 @@ ghost use Rattle.store_core.specs.EndLaws.{AnswersEndCalls};
 ghost use Rattle.store_core.specs.GatheredLaws.{GatheringsEndCalls};
 ghost use Rattle.store_core.specs.SweepLaws.{SweepsInOrder};
 ghost use Rattle.store_core.specs.DrainLaws.{DrainsEnd};
+ghost use Rattle.store_core.specs.RunLaws.{RunsStaySound};
 ghost use Rattle.store_core.specs.PassLaws.{PassesAreOfCalls};
 ghost use Rattle.store_core.specs.NextAct.{Job};
 ghost use Rattle.store_core.specs.PlaceLaws.{ServersCountUp, DirectoryKeepsPlaces};
@@ -23,6 +24,7 @@ ghost use Rattle.store_core.specs.AskLaws.{AsksFewTimes};
 ghost use Rattle.store_core.specs.CauseLaws.{OutcomesHaveCauses};
 ghost use Rattle.store_core.specs.CutLaws.{CutsChangeNoAct};
 ghost use Rattle.store_core.specs.GatherLaws.{GatheringsEnd};
+ghost use Rattle.store_core.specs.GivenLaws.{GatheringsAreGiven};
 ghost use Rattle.store_core.specs.Run.{Run};
 
 /// No step at a server lowers its epoch or its count of subchunks taken, while both fit 64 bits, and
@@ -48,6 +50,14 @@ pub fn steps_change_one_place()
 /// that order. The target of a rebuild is asked first.
 pub fn gatherings_end_at_too_many()
     ensures { GatheringsEnd }
+{}
+
+/// A gathering that has its bytes was given enough to make them, and by the right servers. A part: the
+/// wanted bytes of each data chunk that has some; or those of all but one, and then by each other
+/// server the repair layers of that one; or in the end whole chunks by as many servers as there are
+/// data chunks. A rebuild's chunk: its repair layers by each other server, or whole chunks likewise.
+pub fn gatherings_are_given_enough()
+    ensures { GatheringsAreGiven }
 {}
 
 /// Each outcome but want of memory has its cause among what is kept of the call's answers: a reply or
@@ -146,8 +156,20 @@ pub fn sweeper_sweeps_in_order()
     ensures { (g : Shape) → SweepsInOrder g }
 {}
 
+/// A directory without objects is sound, and each step that may be made leaves a sound directory
+/// sound: its points replay to its objects, each object has its versions, all current and each once,
+/// and each pass has what it pinned and drew.
+pub fn steps_keep_a_directory_sound()
+    ensures { StepsKeepSound }
+{}
+
+/// In every run of a valid script the directory is sound, whatever was wanting of memory.
+pub fn runs_keep_the_directory_sound()
+    ensures { RunsStaySound }
+{}
+
 /// In every run of a valid script no actor is lost, each call keeps its bound on steps, and after a
-/// drain nobody has a step, where the directory is sound after each single step.
+/// drain nobody has a step.
 pub fn drains_end()
     ensures { DrainsEnd }
 {}
@@ -156,11 +178,4 @@ pub fn drains_end()
 /// a step, and a step on a pass finds it. So a call that has ended, or has not begun, leaves none.
 pub fn passes_are_of_calls_in_work()
     ensures { PassesAreOfCalls }
-{}
-
-/// A directory without objects is sound, and each step that may be made leaves a sound directory
-/// sound: its points replay to its objects, each object has its versions, all current and each once,
-/// and each pass has what it pinned and drew.
-pub fn steps_keep_a_directory_sound()
-    ensures { StepsKeepSound }
 {}
