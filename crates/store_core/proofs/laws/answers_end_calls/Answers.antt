@@ -1,5 +1,0 @@
-use Rattle.store_core.proofs.Ends.{answers_end_calls}
-use Rattle.store_core.proofs.laws.answers_end_calls.Goals as goal
-
-pub returns : goal.returns
-returns c = answers_end_calls

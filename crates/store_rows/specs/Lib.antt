@@ -1,0 +1,12 @@
+pub mod Rows
+pub mod RowsCalls
+pub mod RowsOneLoss
+pub mod RowsManyLosses
+pub mod RowsRaces
+pub mod RowsGivenUp
+pub mod RowsRebuilds
+pub mod RowsRebuildLosses
+pub mod RowsShort
+pub mod RowsEveryPlace
+pub mod EveryPlace
+pub mod RowsLarge

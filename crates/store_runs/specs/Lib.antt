@@ -1,0 +1,4 @@
+pub mod SweepLaws
+pub mod RunLaws
+pub mod DrainLaws
+pub mod PassLaws
