@@ -46,7 +46,7 @@ module _ (s : ServerState) (valid : IsValid s) where
   pub valid-adding : (version : ℕ) (mark : Mark) (bytes : List ℕ) → length bytes ≡ chunk_length s.geometry → IsValid (after_adding version mark bytes s)
   valid-adding version mark bytes fits =
       record {
-        rising = rises _ _ (versions-hold (record { version = version; mark = mark; bytes = bytes }) s.held) (holds_in_order.rising false (ServerStep.Prepare version) (core_of s) valid.rising);
+        rising = rises _ _ (versions-hold (record { version = version; mark = mark; bytes = bytes }) s.held) (holds_in_order.rising false (ServerStep.Prepare version) (record (core_of s) { away = false }) valid.rising);
         lengths = All-hold (λ chunk. length chunk.bytes ≡ chunk_length s.geometry) (record { version = version; mark = mark; bytes = bytes }) s.held fits valid.lengths;
       }
 

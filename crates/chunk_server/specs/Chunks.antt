@@ -21,5 +21,7 @@ state_in a =
       geometry = a.geometry;
       epoch = a.epoch;
       taken = a.taken;
+      downs = a.downs;
+      away = a.away;
       held = chunks_in a.held.entries;
     }

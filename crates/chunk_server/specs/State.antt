@@ -2,6 +2,8 @@
 use Rattle.std.specs.Prelude.{◌≡◌, ℕ, ◌*◌, Bool, not, nat_eq, nat_lt, List, [], ◌∷◌, length, take, drop, map, filter, find, All, Option, if◌then◌else◌}
 use Rattle.std.specs.List.{flat_map}
 use Rattle.clay_grid.specs.Shape.{Shape, chunk_length}
+use Rattle.store_map.specs.declared.placement.Found.{Found}
+use Rattle.store_map.specs.declared.placement.Found.TheVariants as found
 use Rattle.store_core.specs.Lists.{is_among}
 use Rattle.store_core.specs.HeldLaws.{IsRising}
 use Rattle.chunk_server.specs.declared.server.Mark.{Mark}
@@ -13,12 +15,14 @@ pub record Held : Type 0 where
   pub mark : Mark
   pub bytes : List ℕ
 
--- which of the servers it is, its code, how often it was emptied, how many subchunks were taken from it, and its chunks
+-- which of the servers it is, its code, how often it was emptied, how many subchunks were taken from it, how often it was made away, whether it is, and its chunks
 pub record ServerState : Type 0 where
   pub number : ℕ
   pub geometry : Shape
   pub epoch : ℕ
   pub taken : ℕ
+  pub downs : ℕ
+  pub away : Bool
   pub held : List Held
 
 -- the versions of chunks, in the chunks' order
@@ -32,6 +36,10 @@ is_held version chunks = is_among version (versions_of chunks)
 -- the chunk of a version, where it is held
 abbrev pub chunk_of : ℕ → List Held → Option Held
 chunk_of version chunks = find (λ chunk. nat_eq version chunk.version) chunks
+
+-- why a server gives no chunk: it is away, or doesn't hold it
+abbrev pub found_at : ServerState → Found
+found_at s = if s.away then found.Away s.downs else found.Absent s.epoch
 
 -- one chunk more, before those of greater versions; a version that is held already keeps its chunk and its mark
 abbrev pub hold : Held → List Held → List Held

@@ -1,8 +1,10 @@
 -- What a server is after each call, and what it answers.
-use Rattle.std.specs.Prelude.{◌≡◌, ℕ, ⊤, List, [], length, Option, None, Some, if◌then◌else◌}
+use Rattle.std.specs.Prelude.{◌≡◌, ℕ, ⊤, Bool, true, false, ◌&&◌, not, List, [], length, Option, None, Some, if◌then◌else◌}
 use Rattle.clay_grid.specs.Shape.{Shape}
+use Rattle.store_map.specs.declared.placement.Placement.{Placement}
+use Rattle.store_map.specs.declared.placement.Placement.TheVariants as placement
 use Rattle.store_core.specs.Server.{raised_by}
-use Rattle.chunk_server.specs.State.{Held, ServerState, is_held, chunk_of, hold, settled_at, let_go, subchunks_at}
+use Rattle.chunk_server.specs.State.{Held, ServerState, is_held, chunk_of, found_at, hold, settled_at, let_go, subchunks_at}
 use Rattle.chunk_server.specs.declared.server.Mark.{Mark}
 use Rattle.chunk_server.specs.declared.server.Mark.TheVariants.{Prepared, Settled}
 use Rattle.chunk_server.specs.declared.answers.Presence.{Presence}
@@ -14,28 +16,34 @@ use Rattle.chunk_server.specs.declared.answers.Installed.TheVariants as installe
 
 -- a server that was never used
 abbrev pub empty_server : ℕ → Shape → ServerState
-empty_server number g = record { number = number; geometry = g; epoch = 0; taken = 0; held = [] }
+empty_server number g = record { number = number; geometry = g; epoch = 0; taken = 0; downs = 0; away = false; held = [] }
 
 -- a version's chunk is added with a mark, unless the version is held
 abbrev pub after_adding : ℕ → Mark → List ℕ → ServerState → ServerState
 after_adding version mark bytes s =
     record s { held = hold (record { version = version; mark = mark; bytes = bytes }) s.held }
 
--- it is added as prepared, and the epoch is told
-abbrev pub prepare_of : ℕ → List ℕ → ServerState → ServerState × ℕ
-prepare_of version bytes s = (after_adding version Prepared bytes s, s.epoch)
+-- it is added as prepared, unless the server is away, and how it was placed is told
+abbrev pub prepare_of : ℕ → List ℕ → ServerState → ServerState × Placement
+prepare_of version bytes s =
+    if s.away then (s, placement.Skipped s.downs) else (after_adding version Prepared bytes s, placement.At s.epoch)
 
 -- the version's chunk is settled
 abbrev pub after_settle : ℕ → ServerState → ServerState
 after_settle version s = record s { held = settled_at version s.held }
 
--- whether the version is held, and the epoch where it isn't
+-- whether the server gives the version's chunk, and where it doesn't, why
 abbrev pub presence_of : ℕ → ServerState → Presence
-presence_of version s = if is_held version s.held then presence.Here else presence.Missing s.epoch
+presence_of version s = if not s.away && is_held version s.held then presence.Here else presence.Missing (found_at s)
+
+-- the version's chunk, where the server is present and has it
+abbrev pub chunk_given : Bool → ℕ → List Held → Option Held
+chunk_given true version chunks = None
+chunk_given false version chunks = chunk_of version chunks
 
 -- of a chunk, where there is one, the subchunks at these layers, which count as taken
 abbrev pub taken_from : List ℕ → ServerState → Option Held → ServerState × Fetched
-taken_from layers s None = (s, fetched.Missing s.epoch)
+taken_from layers s None = (s, fetched.Missing (found_at s))
 taken_from layers s (Some chunk) = (
   record s { taken = raised_by (length layers) s.taken },
   fetched.Bytes (subchunks_at s.geometry.width chunk.bytes layers),
@@ -43,18 +51,22 @@ taken_from layers s (Some chunk) = (
 
 -- so of the version's chunk
 abbrev pub fetch_of : ℕ → List ℕ → ServerState → ServerState × Fetched
-fetch_of version layers s = taken_from layers s (chunk_of version s.held)
+fetch_of version layers s = taken_from layers s (chunk_given s.away version s.held)
 
 -- a fetch that found its chunk gave so many bytes
 abbrev pub HasBytes : ℕ → Fetched → Type 0
 HasBytes count (fetched.Bytes bytes) = length bytes ≡ count
-HasBytes count (fetched.Missing epoch) = ⊤
+HasBytes count (fetched.Missing found) = ⊤
 
--- a version's chunk is added as settled, unless the version is held
+-- a version's chunk is added as settled, unless the server is away or the version is held
+abbrev pub install_by : Bool → Bool → ℕ → List ℕ → ServerState → ServerState × Installed
+install_by true held version bytes s = (s, installed.Away s.downs)
+install_by false true version bytes s = (s, installed.AlreadyThere)
+install_by false false version bytes s = (after_adding version Settled bytes s, installed.Placed s.epoch)
+
+-- the same for this server
 abbrev pub install_of : ℕ → List ℕ → ServerState → ServerState × Installed
-install_of version bytes s =
-    if is_held version s.held then (s, installed.AlreadyThere)
-    else (after_adding version Settled bytes s, installed.Placed s.epoch)
+install_of version bytes s = install_by s.away (is_held version s.held) version bytes s
 
 -- the version's chunk is gone
 abbrev pub after_discard : ℕ → ServerState → ServerState
@@ -63,3 +75,11 @@ after_discard version s = record s { held = let_go version s.held }
 -- all chunks are gone, and the server was emptied once more
 abbrev pub after_wipe : ServerState → ServerState
 after_wipe s = record s { held = []; epoch = raised_by 1 s.epoch }
+
+-- the server is away, and was made so once more
+abbrev pub after_down : ServerState → ServerState
+after_down s = record s { downs = raised_by 1 s.downs; away = true }
+
+-- the server is present
+abbrev pub after_up : ServerState → ServerState
+after_up s = record s { away = false }

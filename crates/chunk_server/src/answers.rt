@@ -1,12 +1,12 @@
-use store_map::ByteList;
+use store_map::{ByteList, Found};
 
 /// Whether a server holds a version's chunk.
 #[derive(Clone, Copy, PartialEq, Eq, Debug)]
 pub enum Presence {
     /// It is there.
     Here,
-    /// It isn't. The server was emptied so many times.
-    Missing { epoch: u64 },
+    /// It isn't, or the server is away.
+    Missing { found: Found },
 }
 
 /// What a fetch is answered.
@@ -14,8 +14,8 @@ pub enum Presence {
 pub enum Fetched {
     /// The subchunks in the order asked for, one after another.
     Bytes(ByteList),
-    /// The version isn't held. The server was emptied so many times.
-    Missing { epoch: u64 },
+    /// The version isn't held, or the server is away.
+    Missing { found: Found },
 }
 
 /// What an install is answered.
@@ -25,4 +25,6 @@ pub enum Installed {
     Placed { epoch: u64 },
     /// The version was held already, and its chunk stays.
     AlreadyThere,
+    /// The server is away. It had been made away so often.
+    Away { downs: u64 },
 }

@@ -1,18 +1,18 @@
-ghost use Rattle.std.specs.Prelude.{◌≡◌, ◌+◌, ◌*◌, ◌≤◌, ◌<◌, ◌↔◌, false, IsTrue, IsFalse, length, vec_len, All, IfOk, OnOk, OnErr, is_err};
+ghost use Rattle.std.specs.Prelude.{◌≡◌, ◌+◌, ◌*◌, ◌≤◌, ◌<◌, ◌↔◌, ◌&&◌, not, false, IsTrue, IsFalse, length, vec_len, All, IfOk, OnOk, OnErr, is_err};
 ghost use Rattle.clay_grid.specs.Shape.{chunk_length, layer_count};
 ghost use Rattle.store_core.specs.Told.{Told};
 ghost use Rattle.store_core.specs.Act.{ServerStep};
 ghost use Rattle.store_core.specs.Server.{at_server};
-ghost use Rattle.chunk_server.specs.State.{is_held, subchunks_at, IsValid};
-ghost use Rattle.chunk_server.specs.Steps.{empty_server, after_adding, prepare_of, after_settle, presence_of, fetch_of, install_of, HasBytes, after_discard, after_wipe};
-ghost use Rattle.chunk_server.specs.Core.{core_of, told_placed, told_presence, told_fetched, told_installed};
+ghost use Rattle.chunk_server.specs.State.{is_held, found_at, subchunks_at, IsValid};
+ghost use Rattle.chunk_server.specs.Steps.{empty_server, after_adding, prepare_of, after_settle, presence_of, fetch_of, install_of, HasBytes, after_discard, after_wipe, after_down, after_up};
+ghost use Rattle.chunk_server.specs.Core.{core_of, told_prepared, told_presence, told_fetched, told_installed};
 
 use crate::answers::{Fetched, Installed, Presence};
 use clay_grid::Geometry;
 use std::alloc::{AllocError, Global};
 use std::collections::BTreeMap;
 use std::marker::Model;
-use store_map::{ByteList, Version};
+use store_map::{ByteList, Found, Placement, Version};
 
 /// Whether the call that put a chunk has committed.
 #[derive(Clone, Copy, PartialEq, Eq, Debug)]
@@ -39,6 +39,8 @@ pub struct Server {
     geometry: Geometry,
     epoch: u64,
     taken: u64,
+    downs: u64,
+    away: bool,
     held: BTreeMap<Version, HeldChunk>,
 }
 
@@ -65,6 +67,8 @@ impl Server {
             geometry,
             epoch: 0,
             taken: 0,
+            downs: 0,
+            away: false,
             held: BTreeMap::new(alloc),
         }
     }
@@ -97,6 +101,20 @@ impl Server {
         self.taken
     }
 
+    /// How often the server was made away.
+    pub fn downs(&self) -> u64
+        ensures { result ≡ self.now.downs }
+    {
+        self.downs
+    }
+
+    /// Whether the server is away.
+    pub fn away(&self) -> bool
+        ensures { result ≡ self.now.away }
+    {
+        self.away
+    }
+
     /// How many chunks the server holds.
     pub fn held(&self) -> usize
         ensures count { result ≡ length self.now.held }
@@ -106,21 +124,26 @@ impl Server {
     }
 
     /// Adds the version's chunk as prepared and tells the epoch. A version that is held already
-    /// keeps its chunk and its mark. Where memory is wanting the server is as before.
-    pub fn prepare(&mut self, version: Version, chunk: Vec<u8>) -> Result<u64, AllocError>
+    /// keeps its chunk and its mark. Where the server is away nothing is added, and the count of
+    /// downs is told. Where memory is wanting the server is as before.
+    pub fn prepare(&mut self, version: Version, chunk: Vec<u8>) -> Result<Placement, AllocError>
         requires { vec_len chunk ≡ chunk_length self.old.geometry }
-        ensures ok { IfOk result (λ epoch.
-            (self.new, epoch) ≡ prepare_of version.0 chunk.items self.old) }
+        ensures ok { IfOk result (λ placement.
+            (self.new, placement) ≡ prepare_of version.0 chunk.items self.old) }
         ensures err { OnErr result (self.new ≡ self.old) }
         ensures absent { OnErr result (IsFalse (is_held version.0 self.old.held)) }
-        ensures core { (core_of self.new, told_placed result)
+        ensures present { OnErr result (IsFalse self.old.away) }
+        ensures core { (core_of self.new, told_prepared result)
             ≡ at_server (is_err result) (ServerStep.Prepare version.0) (core_of self.old) }
     {
+        if self.away {
+            return Ok(Placement::Skipped(self.downs));
+        }
         if self.is_held(version) {
-            return Ok(self.epoch);
+            return Ok(Placement::At(self.epoch));
         }
         self.add(version, Mark::Prepared, chunk)?;
-        Ok(self.epoch)
+        Ok(Placement::At(self.epoch))
     }
 
     /// Marks the version's chunk as settled. Nothing changes where the version isn't held.
@@ -134,35 +157,46 @@ impl Server {
         }
     }
 
-    /// Tells whether the version is held, and the epoch where it isn't.
+    /// Tells whether the version is held, and the epoch where it isn't, or the count of downs
+    /// where the server is away.
     pub fn has(&self, version: Version) -> Presence
         ensures answer { result ≡ presence_of version.0 self.now }
         ensures core { (core_of self.now, told_presence result)
             ≡ at_server false (ServerStep.Has version.0) (core_of self.now) }
     {
-        if self.is_held(version) {
+        if !self.away && self.is_held(version) {
             Presence::Here
         } else {
-            Presence::Missing { epoch: self.epoch }
+            Presence::Missing {
+                found: self.found(),
+            }
         }
     }
 
     /// Gives the subchunks of the version's chunk at these layers, in this order, and counts them
-    /// as taken, up to the count's last value. Where the version isn't held the epoch is told.
-    /// Where memory is wanting the server is as before.
+    /// as taken, up to the count's last value. Where the version isn't held the epoch is told,
+    /// and where the server is away the count of downs. Where memory is wanting the server is as
+    /// before.
     pub fn fetch(&mut self, version: Version, layers: &[u32]) -> Result<Fetched, AllocError>
         requires { All (λ layer. layer < layer_count self.old.geometry) layers.now }
         ensures ok { IfOk result (λ answer.
             (self.new, answer) ≡ fetch_of version.0 layers.now self.old) }
-        ensures missing { (result ≡ Ok (Fetched.Missing self.old.epoch))
-            ↔ IsFalse (is_held version.0 self.old.held) }
+        ensures missing { (result ≡ Ok (Fetched.Missing (found_at self.old)))
+            ↔ IsFalse (not self.old.away && is_held version.0 self.old.held) }
         ensures length { IfOk result (HasBytes (length layers.now * self.old.geometry.width)) }
         ensures err { OnErr result (self.new ≡ self.old) }
         ensures core { (core_of self.new, told_fetched (length layers.now) result)
             ≡ at_server (is_err result) (ServerStep.Fetch version.0 layers.now) (core_of self.old) }
     {
+        if self.away {
+            return Ok(Fetched::Missing {
+                found: self.found(),
+            });
+        }
         let Some(held) = self.held.get(&version) else {
-            return Ok(Fetched::Missing { epoch: self.epoch });
+            return Ok(Fetched::Missing {
+                found: self.found(),
+            });
         };
         let alloc = *held.chunk.allocator();
         let width = self.geometry.w() as usize;
@@ -172,17 +206,22 @@ impl Server {
     }
 
     /// Adds the version's chunk as settled and tells the epoch. A version that is held already
-    /// keeps its chunk and its mark. Where memory is wanting the server is as before.
+    /// keeps its chunk and its mark. Where the server is away, which goes first, nothing is added,
+    /// and the count of downs is told. Where memory is wanting the server is as before.
     pub fn install(&mut self, version: Version, chunk: Vec<u8>) -> Result<Installed, AllocError>
         requires { vec_len chunk ≡ chunk_length self.old.geometry }
         ensures ok { IfOk result (λ answer.
             (self.new, answer) ≡ install_of version.0 chunk.items self.old) }
         ensures already { (result ≡ Ok Installed.AlreadyThere)
-            ↔ IsTrue (is_held version.0 self.old.held) }
+            ↔ IsTrue (not self.old.away && is_held version.0 self.old.held) }
+        ensures away { (result ≡ Ok (Installed.Away self.old.downs)) ↔ IsTrue self.old.away }
         ensures err { OnErr result (self.new ≡ self.old) }
         ensures core { (core_of self.new, told_installed result)
             ≡ at_server (is_err result) (ServerStep.Install version.0) (core_of self.old) }
     {
+        if self.away {
+            return Ok(Installed::Away { downs: self.downs });
+        }
         if self.is_held(version) {
             return Ok(Installed::AlreadyThere);
         }
@@ -208,6 +247,37 @@ impl Server {
     {
         self.held.clear();
         self.epoch = self.epoch.saturating_add(1);
+    }
+
+    /// Makes the server away and raises the count of downs by one, up to its last value, also
+    /// where it is away already. What it holds stays.
+    pub fn down(&mut self)
+        ensures away { self.new ≡ after_down self.old }
+        ensures core { (core_of self.new, Told.Made)
+            ≡ at_server false ServerStep.Down (core_of self.old) }
+    {
+        self.away = true;
+        self.downs = self.downs.saturating_add(1);
+    }
+
+    /// Makes the server present.
+    pub fn up(&mut self)
+        ensures present { self.new ≡ after_up self.old }
+        ensures core { (core_of self.new, Told.Made)
+            ≡ at_server false ServerStep.Up (core_of self.old) }
+    {
+        self.away = false;
+    }
+
+    // Why the server gives no chunk.
+    fn found(&self) -> Found
+        ensures { result ≡ found_at self.now }
+    {
+        if self.away {
+            Found::Away { downs: self.downs }
+        } else {
+            Found::Absent { epoch: self.epoch }
+        }
     }
 
     fn is_held(&self, version: Version) -> bool

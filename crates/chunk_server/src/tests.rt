@@ -2,7 +2,7 @@ use super::*;
 use clay_grid::Geometry;
 use std::process::Abort;
 use std::test::Fail;
-use store_map::{ByteList, Version};
+use store_map::{ByteList, Found, Placement, Version};
 
 // A chunk of four subchunks of one byte, as `01000000` spells it.
 const CHUNK: [u8; 4] = [1, 0, 0, 0];
@@ -17,7 +17,7 @@ fn prepare(
     server: &mut Server,
     version: u64,
     bytes: &[u8],
-) -> Result<u64, Fail> {
+) -> Result<Placement, Fail> {
     let chunk = Vec::from_slice(rt.alloc(), bytes)?;
     assert_eq!(rt; chunk.len(), server.geometry().chunk_len() as usize);
     Ok(server.prepare(Version(version), chunk)?)
@@ -61,7 +61,7 @@ fn gives(
 #[test]
 fn fetches_in_the_order_asked(rt: HostRuntime) -> Result<(), Fail> {
     let mut server = Server::new(rt.alloc(), 1, Geometry::new(2, 2, 1)?);
-    assert_eq!(rt; prepare(&rt, &mut server, 0, &CHUNK)?, 0);
+    assert_eq!(rt; prepare(&rt, &mut server, 0, &CHUNK)?, Placement::At(0));
     gives(&rt, &mut server, 0, &[1, 0], &[0, 1])?;
     gives(&rt, &mut server, 0, &[0, 1, 2, 3], &CHUNK)?;
     gives(&rt, &mut server, 0, &[], &[])?;
@@ -81,8 +81,8 @@ fn fetches_in_the_order_asked(rt: HostRuntime) -> Result<(), Fail> {
 #[test]
 fn a_held_version_keeps_its_chunk(rt: HostRuntime) -> Result<(), Fail> {
     let mut server = Server::new(rt.alloc(), 1, Geometry::new(2, 2, 1)?);
-    assert_eq!(rt; prepare(&rt, &mut server, 7, &CHUNK)?, 0);
-    assert_eq!(rt; prepare(&rt, &mut server, 7, &OTHER)?, 0);
+    assert_eq!(rt; prepare(&rt, &mut server, 7, &CHUNK)?, Placement::At(0));
+    assert_eq!(rt; prepare(&rt, &mut server, 7, &OTHER)?, Placement::At(0));
     assert_eq!(rt;
         install(&rt, &mut server, 7, &OTHER)?,
         Installed::AlreadyThere
@@ -103,13 +103,21 @@ fn a_held_version_keeps_its_chunk(rt: HostRuntime) -> Result<(), Fail> {
 fn a_discard_leaves_the_others(rt: HostRuntime) -> Result<(), Fail> {
     let mut server = Server::new(rt.alloc(), 1, Geometry::new(2, 2, 1)?);
     for version in [2, 3, 1] {
-        assert_eq!(rt; prepare(&rt, &mut server, version, &CHUNK)?, 0);
+        assert_eq!(rt;
+            prepare(&rt, &mut server, version, &CHUNK)?,
+            Placement::At(0)
+        );
     }
     server.discard(Version(2));
     server.discard(Version(4));
     assert_eq!(rt; server.held(), 2);
     assert_eq!(rt; server.has(Version(1)), Presence::Here);
-    assert_eq!(rt; server.has(Version(2)), Presence::Missing { epoch: 0 });
+    assert_eq!(rt;
+        server.has(Version(2)),
+        Presence::Missing {
+            found: Found::Absent { epoch: 0 }
+        }
+    );
     assert_eq!(rt; server.has(Version(3)), Presence::Here);
     Ok(())
 }
@@ -117,20 +125,54 @@ fn a_discard_leaves_the_others(rt: HostRuntime) -> Result<(), Fail> {
 #[test]
 fn a_wipe_raises_the_epoch(rt: HostRuntime) -> Result<(), Fail> {
     let mut server = Server::new(rt.alloc(), 1, Geometry::new(2, 2, 1)?);
-    assert_eq!(rt; prepare(&rt, &mut server, 0, &CHUNK)?, 0);
+    assert_eq!(rt; prepare(&rt, &mut server, 0, &CHUNK)?, Placement::At(0));
     gives(&rt, &mut server, 0, &[1, 0], &[0, 1])?;
     server.wipe();
     assert_eq!(rt; (server.held(), server.epoch(), server.taken()), (0, 1, 2));
-    assert_eq!(rt; server.has(Version(0)), Presence::Missing { epoch: 1 });
+    assert_eq!(rt;
+        server.has(Version(0)),
+        Presence::Missing {
+            found: Found::Absent { epoch: 1 }
+        }
+    );
     assert_eq!(rt;
         fetch(&rt, &mut server, 0, &[2])?,
-        Fetched::Missing { epoch: 1 }
+        Fetched::Missing {
+            found: Found::Absent { epoch: 1 }
+        }
     );
     assert_eq!(rt; server.taken(), 2);
     assert_eq!(rt;
         install(&rt, &mut server, 0, &OTHER)?,
         Installed::Placed { epoch: 1 }
     );
-    assert_eq!(rt; prepare(&rt, &mut server, 1, &CHUNK)?, 1);
+    assert_eq!(rt; prepare(&rt, &mut server, 1, &CHUNK)?, Placement::At(1));
     Ok(())
+}
+
+#[test]
+fn an_away_server_gives_and_takes_nothing(rt: HostRuntime) -> Result<(), Fail> {
+    let mut server = Server::new(rt.alloc(), 1, Geometry::new(2, 2, 1)?);
+    assert_eq!(rt; prepare(&rt, &mut server, 0, &CHUNK)?, Placement::At(0));
+    server.down();
+    server.down();
+    assert_eq!(rt; (server.away(), server.downs()), (true, 2));
+    let found = Found::Away { downs: 2 };
+    assert_eq!(rt; server.has(Version(0)), Presence::Missing { found });
+    assert_eq!(rt;
+        fetch(&rt, &mut server, 0, &[2])?,
+        Fetched::Missing { found }
+    );
+    assert_eq!(rt;
+        prepare(&rt, &mut server, 1, &CHUNK)?,
+        Placement::Skipped(2)
+    );
+    assert_eq!(rt;
+        install(&rt, &mut server, 0, &OTHER)?,
+        Installed::Away { downs: 2 }
+    );
+    server.up();
+    assert_eq!(rt; (server.away(), server.downs()), (false, 2));
+    assert_eq!(rt; (server.held(), server.taken()), (1, 0));
+    gives(&rt, &mut server, 0, &[1, 0], &[0, 1])
 }

@@ -70,7 +70,9 @@ fn refusal_of(rt: &HostRuntime, input: &[u8]) -> Result<Vec<u8>, Fail> {
 
 #[test]
 fn scripts_of_forms_that_are_not_built(rt: HostRuntime) -> Result<(), Fail> {
-    let scripts: [&[u8]; 10] = [
+    let scripts: [&[u8]; 12] = [
+        b"clay 2\ncode 2 2 1\nclient\nget a\nschedule\ndrain\nend\n",
+        b"clay 2\ncode 2 2 1\nclient\nget a\nschedule\ndown 3\nup 3\ndrain\nend\n",
         b"clay 1\ncode 2 2 1\nschedule\ndrain\nend\n",
         b"clay 1\ncode 16 4 1\nschedule\nend\n",
         b"clay 1\ncode 2 2 1\nclient\nschedule\nend\n",
@@ -90,11 +92,21 @@ fn scripts_of_forms_that_are_not_built(rt: HostRuntime) -> Result<(), Fail> {
 
 #[test]
 fn scripts_with_a_fault(rt: HostRuntime) -> Result<(), Fail> {
-    let rows: [(&[u8], &[u8]); 24] = [
+    let rows: [(&[u8], &[u8]); 28] = [
         (b"", b"refused line 1 missing end\n"),
         (b"clay 1", b"refused line 1 missing end\n"),
         (b"\n", b"refused line 1 syntax\n"),
-        (b"clay 2\n", b"refused line 1 syntax\n"),
+        (b"clay 2\n", b"refused line 2 missing end\n"),
+        (b"clay 3\n", b"refused line 1 syntax\n"),
+        (b"clay 01\n", b"refused line 1 syntax\n"),
+        (
+            b"clay 1\ncode 2 2 1\nschedule\ndown 0\nend\n",
+            b"refused line 4 syntax\n",
+        ),
+        (
+            b"clay 2\ncode 2 2 1\nschedule\nup 4\nend\n",
+            b"refused line 4 no such server\n",
+        ),
         (b"clay 1\r\n", b"refused line 1 syntax\n"),
         (b"clay 1\ncode 20 4 1\n", b"refused line 2 geometry\n"),
         (

@@ -24,7 +24,7 @@ use Rattle.script_text.specs.Line.{Line, SizeLine, TriesLine, ClientLine, Repair
 use Rattle.script_text.specs.Place.{next_place}
 use Rattle.script_text.specs.Reader.{opened}
 use Rattle.script_text.specs.Values.{IsNumber, IsContent, IsCall, IsRebuild, IsScript}
-use Rattle.script_text.specs.Forms.{IsContentForm, IsCallForm, HasForm}
+use Rattle.script_text.specs.Forms.{IsContentForm, IsCallForm, IsOfForm, IsLineOfForm, HasForm}
 use Rattle.script_text.specs.Bounds.{HasNumbers, HasContentNumbers, HasCallNumbers}
 use Rattle.script_text.specs.declared.place.LineKind.TheVariants as kind
 use Rattle.script_text.specs.declared.place.Place.{Place}
@@ -66,6 +66,7 @@ pub record HasBefore (q : Place) (s : Script) : Type 0 where
   pub place : place_behind p l ≡ Some q
   pub script : with_line p before l ≡ s
   pub form : HasForm l
+  pub of_form : IsLineOfForm before.form l
   pub numbers : HasNumbers l
   pub actor : NamesActor (Begun p before) l
   pub server : NamesServer (Begun p before) l
@@ -88,6 +89,7 @@ before_size s b =
         at = (record { clients = bare.clients; repairers = bare.repairers; schedule = bare.schedule }, refl, b.at.2);
         values = record { geometry = b.values.geometry; size = tt; tries = b.values.tries; clients = b.values.clients; repairers = b.values.repairers; schedule = b.values.schedule };
         valid = record {
+          form = b.valid.form;
           limits = record {
             size = tt;
             tries = l.tries;
@@ -112,6 +114,7 @@ before_size s b =
       place = refl;
       script = ap (λ (o : Option ℕ). record s { size = o }) (sym n.1);
       form = tt;
+      of_form = tt;
       numbers = small_some s.size n.0 n.1 b.values.size;
       actor = tt;
       server = tt;
@@ -127,6 +130,7 @@ before_tries s b =
     let bare' : IsBare s' = record { clients = bare.clients; repairers = bare.repairers; schedule = bare.schedule } in
     let values : IsScript s' = record { geometry = b.values.geometry; size = b.values.size; tries = tt; clients = b.values.clients; repairers = b.values.repairers; schedule = b.values.schedule } in
     let valid : IsValid s' = record {
+      form = b.valid.form;
       limits = record {
         size = l.size;
         tries = tt;
@@ -159,6 +163,7 @@ before_tries s b =
       place = at'.2;
       script = ap (λ (o : Option ℕ). record s { tries = o }) (sym n.1);
       form = tt;
+      of_form = tt;
       numbers = small_some s.tries n.0 n.1 b.values.tries;
       actor = tt;
       server = tt;
@@ -248,6 +253,7 @@ before_client s front part parted open' none no_repairers no_schedule values val
         at = behind.1;
         values = record { geometry = values.geometry; size = values.size; tries = values.tries; clients = are.0; repairers = values.repairers; schedule = values.schedule };
         valid = record {
+          form = valid.form;
           limits = fewer_calls s front valid.limits (omega (arith, len)) calls.0 carried.0 sums;
           names = record { tokens = no_tokens s' no_schedule; rebuilds = valid.names.rebuilds; client_limits = limits.0; repairer_limits = valid.names.repairer_limits };
         };
@@ -255,6 +261,7 @@ before_client s front part parted open' none no_repairers no_schedule values val
       place = behind.2;
       script = ap (λ (x : ClientPart). clients_with s (front ++ x ∷ [])) (sym empty) ∙ ap (clients_with s) (sym parted);
       form = tt;
+      of_form = tt;
       numbers = tt;
       actor = tt;
       server = tt;
@@ -328,6 +335,7 @@ before_call p q s front part calls call parted last limit no_schedule at next va
           schedule = values.schedule;
         };
         valid = record {
+          form = valid.form;
           limits = fewer_calls s parts valid.limits (omega (arith, len, len')) (All-push few_calls front old few.0 (omega (arith, more, few.1)))
               (All-push short_data front old carried.0 carried'.0) sums;
           names = record {
@@ -341,6 +349,7 @@ before_call p q s front part calls call parted last limit no_schedule at next va
       place = next;
       script = call_clients p s' front old call refl ∙ ap (clients_with s) (sym same);
       form = call_form call are'.1;
+      of_form = tt;
       numbers = call_numbers call are'.1;
       actor = tt;
       server = tt;
@@ -389,6 +398,7 @@ before_repairer s front part parted open' none no_schedule values valid =
         at = behind.1;
         values = record { geometry = values.geometry; size = values.size; tries = values.tries; clients = values.clients; repairers = are.0; schedule = values.schedule };
         valid = record {
+          form = valid.form;
           limits = fewer_rebuilds s front valid.limits (omega (arith, len)) calls.0;
           names = record { tokens = no_tokens s' no_schedule; rebuilds = servers.0; client_limits = valid.names.client_limits; repairer_limits = limits.0 };
         };
@@ -396,6 +406,7 @@ before_repairer s front part parted open' none no_schedule values valid =
       place = behind.2;
       script = ap (λ (x : RepairPart). repairers_with s (front ++ x ∷ [])) (sym empty) ∙ ap (repairers_with s) (sym parted);
       form = tt;
+      of_form = tt;
       numbers = tt;
       actor = tt;
       server = tt;
@@ -437,6 +448,7 @@ before_rebuild p q s front part calls rebuild parted last limit no_schedule at n
           schedule = values.schedule;
         };
         valid = record {
+          form = valid.form;
           limits = fewer_rebuilds s parts valid.limits (omega (arith, len, len')) (All-push few_rebuilds front old few.0 (omega (arith, more, few.1)));
           names = record {
             tokens = no_tokens s' no_schedule;
@@ -449,6 +461,7 @@ before_rebuild p q s front part calls rebuild parted last limit no_schedule at n
       place = next;
       script = rebuild_repairers p s' front old rebuild refl ∙ ap (repairers_with s) (sym same);
       form = are'.1.0;
+      of_form = tt;
       numbers = (are'.1.1, are'.1.2);
       actor = tt;
       server = servers'.1;
@@ -462,6 +475,8 @@ names_before s steps (token.Client i) h = h
 names_before s steps (token.Repairer i) h = h
 names_before s steps token.Sweep h = h
 names_before s steps (token.Wipe j) h = h
+names_before s steps (token.Down j) h = h
+names_before s steps (token.Up j) h = h
 names_before s steps (token.ReapClient i) h = h
 names_before s steps (token.ReapRepairer i) h = h
 names_before s steps token.Drain h = h
@@ -472,6 +487,8 @@ step_actor s steps (token.Client i) h = h
 step_actor s steps (token.Repairer i) h = h
 step_actor s steps token.Sweep h = tt
 step_actor s steps (token.Wipe j) h = tt
+step_actor s steps (token.Down j) h = tt
+step_actor s steps (token.Up j) h = tt
 step_actor s steps (token.ReapClient i) h = h
 step_actor s steps (token.ReapRepairer i) h = h
 step_actor s steps token.Drain h = tt
@@ -482,9 +499,17 @@ step_server s steps (token.Client i) h = tt
 step_server s steps (token.Repairer i) h = tt
 step_server s steps token.Sweep h = tt
 step_server s steps (token.Wipe j) h = h
+step_server s steps (token.Down j) h = h.1
+step_server s steps (token.Up j) h = h.1
 step_server s steps (token.ReapClient i) h = tt
 step_server s steps (token.ReapRepairer i) h = tt
 step_server s steps token.Drain h = tt
+
+-- and is of its form
+step_form : (s : Script) (t : Token) → NamesPart s t → IsOfForm s.form t
+step_form s (token.Down j) h = h.0
+step_form s (token.Up j) h = h.0
+step_form s t h = tt
 
 -- behind a step: the schedule without it
 before_step : (s : Script) (steps : List Token) (t : Token) → s.schedule ≡ steps ++ t ∷ [] → IsScript s → IsValid s → HasBefore place.Schedule s
@@ -502,6 +527,7 @@ before_step s steps t parted values valid =
         at = tt;
         values = record { geometry = values.geometry; size = values.size; tries = values.tries; clients = values.clients; repairers = values.repairers; schedule = small.0 };
         valid = record {
+          form = valid.form;
           limits = record {
             size = l.size;
             tries = l.tries;
@@ -526,6 +552,7 @@ before_step s steps t parted values valid =
       place = refl;
       script = ap (schedule_with s) (sym parted);
       form = tt;
+      of_form = step_form s t named.1;
       numbers = small.1;
       actor = step_actor s steps t named.1;
       server = step_server s steps t named.1;
@@ -543,6 +570,7 @@ before_schedule s no_schedule values valid =
       place = behind.3;
       script = refl;
       form = tt;
+      of_form = tt;
       numbers = tt;
       actor = tt;
       server = tt;
@@ -560,6 +588,7 @@ before_leave p q s n b next small = record {
   place = next;
   script = refl;
   form = tt;
+  of_form = tt;
   numbers = small;
   actor = tt;
   server = tt;
@@ -575,6 +604,7 @@ before_end s values valid = record {
   place = refl;
   script = refl;
   form = tt;
+  of_form = tt;
   numbers = tt;
   actor = tt;
   server = tt;
@@ -583,8 +613,8 @@ before_end s values valid = record {
 -- ---- all places
 
 -- a script of these parts
-abbrev script_from : Shape → Option ℕ → Option ℕ → List ClientPart → List RepairPart → List Token → Script
-script_from g size tries clients repairers schedule = record { geometry = g; size = size; tries = tries; clients = clients; repairers = repairers; schedule = schedule }
+abbrev script_from : ℕ → Shape → Option ℕ → Option ℕ → List ClientPart → List RepairPart → List Token → Script
+script_from form g size tries clients repairers schedule = record { form = form; geometry = g; size = size; tries = tries; clients = clients; repairers = repairers; schedule = schedule }
 
 -- a list that is not empty has a last item
 some_calls : (X : Type 0) (xs : List X) → 0 < length xs → (front : List X) × (x : X) × (xs ≡ front ++ x ∷ [])
@@ -598,14 +628,14 @@ limited_some : (o : Option ℕ) (n : ℕ) (m : ℕ) → o ≡ Some n → IfSome 
 limited_some o n m e h = subst (λ (x : Option ℕ). IfSome x (λ _. 0 < m)) e h
 
 -- a script so far is one of which only the code is known, or has a line before
-pub before : (q : Place) (s : Script) → IsBegun q s → ((q ≡ place.Code) × (s ≡ opened s.geometry)) ⊎ HasBefore q s
+pub before : (q : Place) (s : Script) → IsBegun q s → ((q ≡ place.Code) × (s ≡ opened s.form s.geometry)) ⊎ HasBefore q s
 before place.Code s b =
     let bare = b.at.0 in
-    let a = ap (λ (o : Option ℕ). script_from s.geometry o s.tries s.clients s.repairers s.schedule) b.at.1 in
-    let a' = ap (λ (o : Option ℕ). script_from s.geometry None o s.clients s.repairers s.schedule) b.at.2 in
-    let a'' = ap (λ (ps : List ClientPart). script_from s.geometry None None ps s.repairers s.schedule) bare.clients in
-    let a''' = ap (λ (ps : List RepairPart). script_from s.geometry None None [] ps s.schedule) bare.repairers in
-    inl (refl, a ∙ a' ∙ a'' ∙ a''' ∙ ap (λ (ts : List Token). script_from s.geometry None None [] [] ts) bare.schedule)
+    let a = ap (λ (o : Option ℕ). script_from s.form s.geometry o s.tries s.clients s.repairers s.schedule) b.at.1 in
+    let a' = ap (λ (o : Option ℕ). script_from s.form s.geometry None o s.clients s.repairers s.schedule) b.at.2 in
+    let a'' = ap (λ (ps : List ClientPart). script_from s.form s.geometry None None ps s.repairers s.schedule) bare.clients in
+    let a''' = ap (λ (ps : List RepairPart). script_from s.form s.geometry None None [] ps s.schedule) bare.repairers in
+    inl (refl, a ∙ a' ∙ a'' ∙ a''' ∙ ap (λ (ts : List Token). script_from s.form s.geometry None None [] [] ts) bare.schedule)
 before place.Size s b = inr (before_size s b)
 before place.Tries s b = inr (before_tries s b)
 before place.Client s b =

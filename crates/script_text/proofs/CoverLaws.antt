@@ -23,7 +23,7 @@ use Rattle.script_text.specs.Lines.{Lacks}
 use Rattle.script_text.specs.Place.{next_place}
 use Rattle.script_text.specs.Reader.{opened}
 use Rattle.script_text.specs.Spelling.{script_lines, spelling}
-use Rattle.script_text.specs.Forms.{HasForm}
+use Rattle.script_text.specs.Forms.{IsForm, IsOfForm, IsLineOfForm, HasForm}
 use Rattle.script_text.specs.Bounds.{HasNumbers}
 use Rattle.script_text.specs.Values.{IsNumber, IsScript}
 use Rattle.script_text.specs.declared.fault.FaultKind.{FaultKind}
@@ -89,7 +89,7 @@ call_on p q s call b e form numbers l =
     let now : IsBegun q (clients_with s (o.0 ++ with_call (pending p) call o.1 ∷ [])) = record {
       at = call_behind p q s o.0 o.1 call e o.4 o.5;
       values = call_values s o.0 o.1 (pending p) call o.2 b.values (call_value call form (numbers, back.1)) place'.1;
-      valid = record { limits = limits; names = call_names s o.0 o.1 (pending p) call o.2 o.5 b.valid.names };
+      valid = record { form = b.valid.form; limits = limits; names = call_names s o.0 o.1 (pending p) call o.2 o.5 b.valid.names };
     } in
     subst (IsBegun q) (sym made) now
 
@@ -104,7 +104,7 @@ rebuild_on p q s r b e form numbers l known =
     let now : IsBegun q (repairers_with s (o.0 ++ with_rebuild (pending p) r o.1 ∷ [])) = record {
       at = rebuild_behind p q s o.0 o.1 r e o.4;
       values = rebuild_values s o.0 o.1 (pending p) r o.2 b.values (form, numbers.0, numbers.1) place'.1;
-      valid = record { limits = limits; names = rebuild_names s o.0 o.1 (pending p) r o.2 o.4 known b.valid.names };
+      valid = record { form = b.valid.form; limits = limits; names = rebuild_names s o.0 o.1 (pending p) r o.2 o.4 known b.valid.names };
     } in
     subst (IsBegun q) (sym made) now
 
@@ -116,12 +116,12 @@ schedule_on p q s b e =
 
 -- so does a step
 step_on : (p q : Place) (s : Script) (t : Token) → IsBegun p s → next_place p kind.Step 0 ≡ Some q → HasNumbers (StepLine t) → IsWithinLimits (with_line p s (StepLine t))
-    → NamesActorOf s t → IfSome (server_of_step t) (λ server. server < chunk_count s.geometry) → IsBegun q (with_line p s (StepLine t))
-step_on place.Schedule q s t b e small l actor server =
+    → IsOfForm s.form t → NamesActorOf s t → IfSome (server_of_step t) (λ server. server < chunk_count s.geometry) → IsBegun q (with_line p s (StepLine t))
+step_on place.Schedule q s t b e small l of_form actor server =
     let len = length-append s.schedule (t ∷ []) in
     moved q place.Schedule (with_line place.Schedule s (StepLine t)) (cc e)
-    (step_step s t b.values b.valid small (names_part s t actor server) (omega (arith, len, l.schedule)))
-step_on _ q s t b e small l actor server = absurd (cc e)
+    (step_step s t b.values b.valid small (names_part s t of_form actor server) (omega (arith, len, l.schedule)))
+step_on _ q s t b e small l of_form actor server = absurd (cc e)
 
 -- so does the last line
 end_on : (p q : Place) (s : Script) → IsBegun p s → next_place p kind.End 0 ≡ Some q → IsBegun q s
@@ -129,27 +129,28 @@ end_on place.Schedule q s b e = moved q place.End s (cc e) (record { at = tt; va
 end_on _ q s b e = absurd (cc e)
 
 -- a line without a fault leads to a script so far
-line_on : (p q : Place) (s : Script) (l : Line) → IsBegun p s → place_behind p l ≡ Some q → HasForm l → HasNumbers l → IsWithinLimits (with_line p s l)
+line_on : (p q : Place) (s : Script) (l : Line) → IsBegun p s → place_behind p l ≡ Some q → IsLineOfForm s.form l → HasForm l → HasNumbers l → IsWithinLimits (with_line p s l)
     → NamesActor (Begun p s) l → NamesServer (Begun p s) l → IsBegun q (with_line p s l)
-line_on p q s ClayLine b e form numbers l actor server = absurd (no_clay p q e)
-line_on p q s (CodeLine g) b e form numbers l actor server = absurd (no_code p q e)
-line_on p q s (SizeLine n) b e form numbers l actor server = size_on p q s n b e numbers l
-line_on p q s (TriesLine n) b e form numbers l actor server = tries_on p q s n b e numbers l
-line_on p q s ClientLine b e form numbers l actor server = client_on p q s b e l
-line_on p q s RepairerLine b e form numbers l actor server = repairer_on p q s b e l
-line_on p q s (LeaveLine n) b e form numbers l actor server = record { at = leave_at p q s n e numbers b.at; values = b.values; valid = b.valid }
-line_on p q s (CallLine call) b e form numbers l actor server = call_on p q s call b e form numbers l
-line_on p q s (RebuildLine r) b e form numbers l actor server = rebuild_on p q s r b e form numbers l server
-line_on p q s ScheduleLine b e form numbers l actor server = schedule_on p q s b e
-line_on p q s (StepLine t) b e form numbers l actor server = step_on p q s t b e numbers l actor server
-line_on p q s EndLine b e form numbers l actor server = end_on p q s b e
+line_on p q s (ClayLine form_of_it) b e of_form form numbers l actor server = absurd (no_clay p q e)
+line_on p q s (CodeLine g) b e of_form form numbers l actor server = absurd (no_code p q e)
+line_on p q s (SizeLine n) b e of_form form numbers l actor server = size_on p q s n b e numbers l
+line_on p q s (TriesLine n) b e of_form form numbers l actor server = tries_on p q s n b e numbers l
+line_on p q s ClientLine b e of_form form numbers l actor server = client_on p q s b e l
+line_on p q s RepairerLine b e of_form form numbers l actor server = repairer_on p q s b e l
+line_on p q s (LeaveLine n) b e of_form form numbers l actor server = record { at = leave_at p q s n e numbers b.at; values = b.values; valid = b.valid }
+line_on p q s (CallLine call) b e of_form form numbers l actor server = call_on p q s call b e form numbers l
+line_on p q s (RebuildLine r) b e of_form form numbers l actor server = rebuild_on p q s r b e form numbers l server
+line_on p q s ScheduleLine b e of_form form numbers l actor server = schedule_on p q s b e
+line_on p q s (StepLine t) b e of_form form numbers l actor server = step_on p q s t b e numbers l of_form actor server
+line_on p q s EndLine b e of_form form numbers l actor server = end_on p q s b e
 
 -- the script of which only the code is known
-opened_begun : (g : Shape) → IsGeometry g → IsBegun place.Code (opened g)
-opened_begun g h = record {
+opened_begun : (form : ℕ) (g : Shape) → IsForm form → IsGeometry g → IsBegun place.Code (opened form g)
+opened_begun form g is_form h = record {
   at = (record { clients = refl; repairers = refl; schedule = refl }, refl, refl);
   values = record { geometry = h; size = tt; tries = tt; clients = All-nil client_values; repairers = All-nil repairer_values; schedule = All-nil small_token };
   valid = record {
+    form = is_form;
     limits = record {
       size = tt;
       tries = tt;
@@ -164,7 +165,7 @@ opened_begun g h = record {
       schedule = omega arith;
     };
     names = record {
-      tokens = All-nil (NamesPart (opened g));
+      tokens = All-nil (NamesPart (opened form g));
       rebuilds = All-nil (known_servers g);
       client_limits = All-nil limited_client;
       repairer_limits = All-nil limited_repairer;
@@ -181,21 +182,21 @@ record IsNext (f : Front) (l : Line) : Type 0 where
 
 -- a line without a fault leads to the next front
 next_of : (f : Front) (l : Line) → IsFront f → MayStand f l → HasForm l → FitsLimits f l → HasGeometry l → NamesActor f l → NamesServer f l → IsNext f l
-next_of Empty l sound stands form fits geometry actor server = first_next l stands
+next_of Empty l sound stands form fits geometry actor server = first_next l stands form
   where
-    first_next : (l : Line) → kind_of l ≡ kind.Clay → IsNext Empty l
-    first_next ClayLine e = record { next = Opened; sound = tt; lines = refl }
-    first_next _ e = absurd (cc e)
-next_of Opened l sound stands form fits geometry actor server = code_next l stands geometry
+    first_next : (l : Line) → kind_of l ≡ kind.Clay → HasForm l → IsNext Empty l
+    first_next (ClayLine form_of_it) e h = record { next = Opened form_of_it; sound = h; lines = refl }
+    first_next _ e h = absurd (cc e)
+next_of (Opened form_of_it) l sound stands form fits geometry actor server = code_next l stands geometry
   where
-    code_next : (l : Line) → kind_of l ≡ kind.Code → HasGeometry l → IsNext Opened l
-    code_next (CodeLine g) e h = record { next = Begun place.Code (opened g); sound = opened_begun g h; lines = refl }
+    code_next : (l : Line) → kind_of l ≡ kind.Code → HasGeometry l → IsNext (Opened form_of_it) l
+    code_next (CodeLine g) e h = record { next = Begun place.Code (opened form_of_it g); sound = opened_begun form_of_it g sound h; lines = refl }
     code_next _ e h = absurd (cc e)
 next_of (Begun p s) l sound stands form fits geometry actor server =
-    let q = some_place (place_behind p l) stands in
+    let q = some_place (place_behind p l) stands.0 in
     record {
       next = Begun q.0 (with_line p s l);
-      sound = line_on p q.0 s l sound q.1 form fits.0 fits.1 actor server;
+      sound = line_on p q.0 s l sound q.1 stands.1 form fits.0 fits.1 actor server;
       lines = begun_line p q.0 s l q.1 sound.at;
     }
   where
@@ -248,7 +249,7 @@ ended_covered bytes s (x ∷ xs) b parted none faultless =
 -- the last line was read, or it was not
 has_ended : (f : Front) → HasEnded f ⊎ (¬ HasEnded f)
 has_ended Empty = inr (λ h. h)
-has_ended Opened = inr (λ h. h)
+has_ended (Opened form) = inr (λ h. h)
 has_ended (Begun place.End s) = inl refl
 has_ended (Begun place.Code s) = inr (λ e. cc e)
 has_ended (Begun place.Size s) = inr (λ e. cc e)
@@ -264,7 +265,7 @@ has_ended (Begun place.Schedule s) = inr (λ e. cc e)
 -- the same for a front
 ended_case : (bytes : List ℕ) (f : Front) (rest : List ℕ) → HasEnded f → IsFront f → bytes ≡ flat_map line_text (front_lines f) ++ rest → NoScript bytes → NoFault bytes → ⊥
 ended_case bytes Empty rest e sound parted none faultless = e
-ended_case bytes Opened rest e sound parted none faultless = e
+ended_case bytes (Opened form) rest e sound parted none faultless = e
 ended_case bytes (Begun p s) rest e sound parted none faultless =
     ended_covered bytes s rest (subst (λ (x : Place). IsBegun x s) e sound) (parted ∙ ap (λ (x : Place). flat_map line_text (begun x s) ++ rest) e) none faultless
 

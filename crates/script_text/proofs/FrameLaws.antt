@@ -23,42 +23,42 @@ use Rattle.script_text.specs.declared.place.Place.TheVariants as place
 use Rattle.script_text.proofs.StepLaws.{empty_client, empty_repairer, with_call, with_rebuild, call_clients, rebuild_repairers}
 
 -- lines before the blocks
-opening : Shape → Option ℕ → Option ℕ → List Line
-opening g size tries = ((ClayLine ∷ CodeLine g ∷ []) ++ optional_line SizeLine size) ++ optional_line TriesLine tries
+opening : ℕ × Shape → Option ℕ → Option ℕ → List Line
+opening g size tries = ((ClayLine g.0 ∷ CodeLine g.1 ∷ []) ++ optional_line SizeLine size) ++ optional_line TriesLine tries
 
 -- the lines, by the parts of a script
-frame : Shape → Option ℕ → Option ℕ → List ClientPart → List RepairPart → List Line → List Line
+frame : ℕ × Shape → Option ℕ → Option ℕ → List ClientPart → List RepairPart → List Line → List Line
 frame g size tries clients repairers behind = ((opening g size tries ++ flat_map client_lines clients) ++ flat_map repairer_lines repairers) ++ behind
 
 -- the lines of a script so far are a frame
-begun-frame : (p : Place) (s : Script) → begun p s ≡ frame s.geometry s.size s.tries s.clients s.repairers (lines_behind_blocks p s)
+begun-frame : (p : Place) (s : Script) → begun p s ≡ frame (s.form, s.geometry) s.size s.tries s.clients s.repairers (lines_behind_blocks p s)
 unfolding frame opening
 begun-frame p s = refl
 
 -- one line more at the end
-behind_more : (g : Shape) (a b : Option ℕ) (c : List ClientPart) (r : List RepairPart) (behind : List Line) (l : Line)
+behind_more : (g : ℕ × Shape) (a b : Option ℕ) (c : List ClientPart) (r : List RepairPart) (behind : List Line) (l : Line)
     → frame g a b c r (behind ++ l ∷ []) ≡ frame g a b c r behind ++ l ∷ []
 unfolding frame
 behind_more g a b c r behind l = sym (append_assoc ((opening g a b ++ flat_map client_lines c) ++ flat_map repairer_lines r) behind (l ∷ []))
 
 -- a size adds a line to bare lines
-size_more : (g : Shape) (n : ℕ) → frame g (Some n) None [] [] [] ≡ frame g None None [] [] [] ++ SizeLine n ∷ []
+size_more : (g : ℕ × Shape) (n : ℕ) → frame g (Some n) None [] [] [] ≡ frame g None None [] [] [] ++ SizeLine n ∷ []
 unfolding frame opening
 size_more g n = refl
 
 -- so do tries
-tries_more : (g : Shape) (a : Option ℕ) (n : ℕ) → frame g a (Some n) [] [] [] ≡ frame g a None [] [] [] ++ TriesLine n ∷ []
+tries_more : (g : ℕ × Shape) (a : Option ℕ) (n : ℕ) → frame g a (Some n) [] [] [] ≡ frame g a None [] [] [] ++ TriesLine n ∷ []
 unfolding frame opening
 tries_more g None n = refl
 tries_more g (Some m) n = refl
 
 -- no lines behind the clients
-bare : (g : Shape) (a b : Option ℕ) (c : List ClientPart) → frame g a b c [] [] ≡ opening g a b ++ flat_map client_lines c
+bare : (g : ℕ × Shape) (a b : Option ℕ) (c : List ClientPart) → frame g a b c [] [] ≡ opening g a b ++ flat_map client_lines c
 unfolding frame
 bare g a b c = append-nil ((opening g a b ++ flat_map client_lines c) ++ []) ∙ append-nil (opening g a b ++ flat_map client_lines c)
 
 -- lines behind the clients, where no repairer is
-bare_behind : (g : Shape) (a b : Option ℕ) (c : List ClientPart) (behind : List Line) → frame g a b c [] behind ≡ (opening g a b ++ flat_map client_lines c) ++ behind
+bare_behind : (g : ℕ × Shape) (a b : Option ℕ) (c : List ClientPart) (behind : List Line) → frame g a b c [] behind ≡ (opening g a b ++ flat_map client_lines c) ++ behind
 unfolding frame
 bare_behind g a b c behind = ap (λ (ls : List Line). ls ++ behind) (append-nil (opening g a b ++ flat_map client_lines c))
 
@@ -71,7 +71,7 @@ last_repairer : (front : List RepairPart) (part : RepairPart) → flat_map repai
 last_repairer front part = flat_map-append repairer_lines front (part ∷ []) ∙ ap (λ (ls : List Line). flat_map repairer_lines front ++ ls) (append-nil (repairer_lines part))
 
 -- an empty client adds its first line
-client_more : (g : Shape) (a b : Option ℕ) (c : List ClientPart) → frame g a b (c ++ empty_client ∷ []) [] [] ≡ frame g a b c [] [] ++ ClientLine ∷ []
+client_more : (g : ℕ × Shape) (a b : Option ℕ) (c : List ClientPart) → frame g a b (c ++ empty_client ∷ []) [] [] ≡ frame g a b c [] [] ++ ClientLine ∷ []
 client_more g a b c =
     bare g a b (c ++ empty_client ∷ [])
     ∙ ap (λ (ls : List Line). opening g a b ++ ls) (last_client c empty_client)
@@ -79,12 +79,12 @@ client_more g a b c =
     ∙ ap (λ (ls : List Line). ls ++ ClientLine ∷ []) (sym (bare g a b c))
 
 -- no lines behind the repairers
-repairer_frame : (g : Shape) (a b : Option ℕ) (c : List ClientPart) (r : List RepairPart) → frame g a b c r [] ≡ (opening g a b ++ flat_map client_lines c) ++ flat_map repairer_lines r
+repairer_frame : (g : ℕ × Shape) (a b : Option ℕ) (c : List ClientPart) (r : List RepairPart) → frame g a b c r [] ≡ (opening g a b ++ flat_map client_lines c) ++ flat_map repairer_lines r
 unfolding frame
 repairer_frame g a b c r = append-nil ((opening g a b ++ flat_map client_lines c) ++ flat_map repairer_lines r)
 
 -- an empty repairer adds its first line
-repairer_more : (g : Shape) (a b : Option ℕ) (c : List ClientPart) (r : List RepairPart) → frame g a b c (r ++ empty_repairer ∷ []) [] ≡ frame g a b c r [] ++ RepairerLine ∷ []
+repairer_more : (g : ℕ × Shape) (a b : Option ℕ) (c : List ClientPart) (r : List RepairPart) → frame g a b c (r ++ empty_repairer ∷ []) [] ≡ frame g a b c r [] ++ RepairerLine ∷ []
 repairer_more g a b c r =
     repairer_frame g a b c (r ++ empty_repairer ∷ [])
     ∙ ap (λ (ls : List Line). (opening g a b ++ flat_map client_lines c) ++ ls) (last_repairer r empty_repairer)
@@ -125,7 +125,7 @@ rebuild_limited part n rebuild open' =
     ∙ ap (λ (o : Option ℕ). ((RepairerLine ∷ limited o (map RebuildLine part.calls)) ++ LeaveLine n ∷ []) ++ RebuildLine rebuild ∷ []) (sym open')
 
 -- lines that are added to the last client's, with what stood behind it
-call_more : (g : Shape) (a b : Option ℕ) (front : List ClientPart) (part part' : ClientPart) (behind : List Line) (l : Line)
+call_more : (g : ℕ × Shape) (a b : Option ℕ) (front : List ClientPart) (part part' : ClientPart) (behind : List Line) (l : Line)
     → client_lines part' ≡ (client_lines part ++ behind) ++ l ∷ [] → frame g a b (front ++ part' ∷ []) [] [] ≡ frame g a b (front ++ part ∷ []) [] behind ++ l ∷ []
 call_more g a b front part part' behind l e =
     let o = opening g a b in
@@ -138,7 +138,7 @@ call_more g a b front part part' behind l e =
     ∙ ap (λ (ls : List Line). ls ++ l ∷ []) (sym (append_assoc o (flat_map client_lines (front ++ part ∷ [])) behind) ∙ sym (bare_behind g a b (front ++ part ∷ []) behind))
 
 -- lines that are added to the last repairer's, with what stood behind it
-rebuild_more : (g : Shape) (a b : Option ℕ) (c : List ClientPart) (front : List RepairPart) (part part' : RepairPart) (behind : List Line) (l : Line)
+rebuild_more : (g : ℕ × Shape) (a b : Option ℕ) (c : List ClientPart) (front : List RepairPart) (part part' : RepairPart) (behind : List Line) (l : Line)
     → repairer_lines part' ≡ (repairer_lines part ++ behind) ++ l ∷ [] → frame g a b c (front ++ part' ∷ []) [] ≡ frame g a b c (front ++ part ∷ []) behind ++ l ∷ []
 unfolding frame
 rebuild_more g a b c front part part' behind l e =
@@ -154,35 +154,35 @@ rebuild_more g a b c front part part' behind l e =
 -- ---- by the kind of line
 
 -- a size adds a line to a script without blocks
-size_case : (g : Shape) (a b : Option ℕ) (c : List ClientPart) (r : List RepairPart) (n : ℕ) → a ≡ None → b ≡ None → c ≡ [] → r ≡ []
+size_case : (g : ℕ × Shape) (a b : Option ℕ) (c : List ClientPart) (r : List RepairPart) (n : ℕ) → a ≡ None → b ≡ None → c ≡ [] → r ≡ []
     → frame g (Some n) b c r [] ≡ frame g a b c r [] ++ SizeLine n ∷ []
 size_case g a b c r n ea eb ec er = rw (ea, eb, ec, er) (size_more g n)
 
 -- so do tries
-tries_case : (g : Shape) (a b : Option ℕ) (c : List ClientPart) (r : List RepairPart) (n : ℕ) → b ≡ None → c ≡ [] → r ≡ []
+tries_case : (g : ℕ × Shape) (a b : Option ℕ) (c : List ClientPart) (r : List RepairPart) (n : ℕ) → b ≡ None → c ≡ [] → r ≡ []
     → frame g a (Some n) c r [] ≡ frame g a b c r [] ++ TriesLine n ∷ []
 tries_case g a b c r n eb ec er = rw (eb, ec, er) (tries_more g a n)
 
 -- a client adds its first line where no repairer is
-client_case : (g : Shape) (a b : Option ℕ) (c : List ClientPart) (r : List RepairPart) → r ≡ []
+client_case : (g : ℕ × Shape) (a b : Option ℕ) (c : List ClientPart) (r : List RepairPart) → r ≡ []
     → frame g a b (c ++ empty_client ∷ []) r [] ≡ frame g a b c r [] ++ ClientLine ∷ []
 client_case g a b c r er = rw er (client_more g a b c)
 
 -- a call adds its line to the last client
-call_case : (g : Shape) (a b : Option ℕ) (c c' : List ClientPart) (r : List RepairPart) (front : List ClientPart) (part part' : ClientPart) (behind : List Line) (l : Line)
+call_case : (g : ℕ × Shape) (a b : Option ℕ) (c c' : List ClientPart) (r : List RepairPart) (front : List ClientPart) (part part' : ClientPart) (behind : List Line) (l : Line)
     → c ≡ front ++ part ∷ [] → c' ≡ front ++ part' ∷ [] → r ≡ [] → client_lines part' ≡ (client_lines part ++ behind) ++ l ∷ []
     → frame g a b c' r [] ≡ frame g a b c r behind ++ l ∷ []
 call_case g a b c c' r front part part' behind l ec ec' er e = rw (ec, ec', er) (call_more g a b front part part' behind l e)
 
 -- a rebuild adds its line to the last repairer
-rebuild_case : (g : Shape) (a b : Option ℕ) (c : List ClientPart) (r r' : List RepairPart) (front : List RepairPart) (part part' : RepairPart) (behind : List Line) (l : Line)
+rebuild_case : (g : ℕ × Shape) (a b : Option ℕ) (c : List ClientPart) (r r' : List RepairPart) (front : List RepairPart) (part part' : RepairPart) (behind : List Line) (l : Line)
     → r ≡ front ++ part ∷ [] → r' ≡ front ++ part' ∷ [] → repairer_lines part' ≡ (repairer_lines part ++ behind) ++ l ∷ []
     → frame g a b c r' [] ≡ frame g a b c r behind ++ l ∷ []
 rebuild_case g a b c r r' front part part' behind l er er' e = rw (er, er') (rebuild_more g a b c front part part' behind l e)
 
 -- from frames to the lines of a script so far
 framed : (p q : Place) (s s' : Script) (l : Line)
-    → frame s'.geometry s'.size s'.tries s'.clients s'.repairers (lines_behind_blocks q s') ≡ frame s.geometry s.size s.tries s.clients s.repairers (lines_behind_blocks p s) ++ l ∷ []
+    → frame (s'.form, s'.geometry) s'.size s'.tries s'.clients s'.repairers (lines_behind_blocks q s') ≡ frame (s.form, s.geometry) s.size s.tries s.clients s.repairers (lines_behind_blocks p s) ++ l ∷ []
     → begun q s' ≡ begun p s ++ l ∷ []
 framed p q s s' l e = begun-frame q s' ∙ e ∙ ap (λ (ls : List Line). ls ++ l ∷ []) (sym (begun-frame p s))
 
@@ -195,7 +195,7 @@ size_lines : (p q : Place) (s : Script) (n : ℕ) → next_place p kind.Size 0 �
 size_lines place.Code q s n e at =
     at_place place.Code q place.Size s (with_line place.Code s (SizeLine n)) (SizeLine n) (cc e)
     (framed place.Code place.Size s (with_line place.Code s (SizeLine n)) (SizeLine n)
-    (size_case s.geometry s.size s.tries s.clients s.repairers n at.1 at.2 at.0.clients at.0.repairers))
+    (size_case (s.form, s.geometry) s.size s.tries s.clients s.repairers n at.1 at.2 at.0.clients at.0.repairers))
 size_lines _ q s n e at = absurd (cc e)
 
 -- so does a tries line
@@ -203,11 +203,11 @@ tries_lines : (p q : Place) (s : Script) (n : ℕ) → next_place p kind.Tries 0
 tries_lines place.Code q s n e at =
     at_place place.Code q place.Tries s (with_line place.Code s (TriesLine n)) (TriesLine n) (cc e)
     (framed place.Code place.Tries s (with_line place.Code s (TriesLine n)) (TriesLine n)
-    (tries_case s.geometry s.size s.tries s.clients s.repairers n at.2 at.0.clients at.0.repairers))
+    (tries_case (s.form, s.geometry) s.size s.tries s.clients s.repairers n at.2 at.0.clients at.0.repairers))
 tries_lines place.Size q s n e at =
     at_place place.Size q place.Tries s (with_line place.Size s (TriesLine n)) (TriesLine n) (cc e)
     (framed place.Size place.Tries s (with_line place.Size s (TriesLine n)) (TriesLine n)
-    (tries_case s.geometry s.size s.tries s.clients s.repairers n at.2 at.0.clients at.0.repairers))
+    (tries_case (s.form, s.geometry) s.size s.tries s.clients s.repairers n at.2 at.0.clients at.0.repairers))
 tries_lines _ q s n e at = absurd (cc e)
 
 -- so does a client's first line, at one place
@@ -215,8 +215,8 @@ client_lines_more : (p q : Place) (s : Script) → lines_behind_blocks p s ≡ [
 client_lines_more p q s behind same no_repairers =
     at_place p q place.Client s (with_line p s ClientLine) ClientLine same
     (framed p place.Client s (with_line p s ClientLine) ClientLine
-    (client_case s.geometry s.size s.tries s.clients s.repairers no_repairers
-    ∙ ap (λ (ls : List Line). frame s.geometry s.size s.tries s.clients s.repairers ls ++ ClientLine ∷ []) (sym behind)))
+    (client_case (s.form, s.geometry) s.size s.tries s.clients s.repairers no_repairers
+    ∙ ap (λ (ls : List Line). frame (s.form, s.geometry) s.size s.tries s.clients s.repairers ls ++ ClientLine ∷ []) (sym behind)))
 
 -- and at each place
 client_start : (p q : Place) (s : Script) → next_place p kind.Client 0 ≡ Some q → IsAt p s → begun q (with_line p s ClientLine) ≡ begun p s ++ ClientLine ∷ []
@@ -232,8 +232,8 @@ repairer_lines_more : (p q : Place) (s : Script) → lines_behind_blocks p s ≡
 repairer_lines_more p q s behind same =
     at_place p q place.Repairer s (with_line p s RepairerLine) RepairerLine same
     (framed p place.Repairer s (with_line p s RepairerLine) RepairerLine
-    (repairer_more s.geometry s.size s.tries s.clients s.repairers
-    ∙ ap (λ (ls : List Line). frame s.geometry s.size s.tries s.clients s.repairers ls ++ RepairerLine ∷ []) (sym behind)))
+    (repairer_more (s.form, s.geometry) s.size s.tries s.clients s.repairers
+    ∙ ap (λ (ls : List Line). frame (s.form, s.geometry) s.size s.tries s.clients s.repairers ls ++ RepairerLine ∷ []) (sym behind)))
 
 -- and at each place
 repairer_start : (p q : Place) (s : Script) → next_place p kind.Repairer 0 ≡ Some q → begun q (with_line p s RepairerLine) ≡ begun p s ++ RepairerLine ∷ []
@@ -250,10 +250,10 @@ repairer_start _ q s e = absurd (cc e)
 leave_lines : (p q : Place) (s : Script) (n : ℕ) → next_place p kind.Leave n ≡ Some q → begun q s ≡ begun p s ++ LeaveLine n ∷ []
 leave_lines place.Client q s n e =
     at_place place.Client q (place.ClientLimit n) s s (LeaveLine n) (cc e)
-    (framed place.Client (place.ClientLimit n) s s (LeaveLine n) (behind_more s.geometry s.size s.tries s.clients s.repairers [] (LeaveLine n)))
+    (framed place.Client (place.ClientLimit n) s s (LeaveLine n) (behind_more (s.form, s.geometry) s.size s.tries s.clients s.repairers [] (LeaveLine n)))
 leave_lines place.Repairer q s n e =
     at_place place.Repairer q (place.RepairerLimit n) s s (LeaveLine n) (cc e)
-    (framed place.Repairer (place.RepairerLimit n) s s (LeaveLine n) (behind_more s.geometry s.size s.tries s.clients s.repairers [] (LeaveLine n)))
+    (framed place.Repairer (place.RepairerLimit n) s s (LeaveLine n) (behind_more (s.form, s.geometry) s.size s.tries s.clients s.repairers [] (LeaveLine n)))
 leave_lines _ q s n e = absurd (cc e)
 
 -- so does a call
@@ -262,7 +262,7 @@ call_lines place.Client q s call e at =
     let s' = with_line place.Client s (CallLine call) in
     at_place place.Client q place.Client s s' (CallLine call) (cc e)
     (framed place.Client place.Client s s' (CallLine call)
-    (call_case s.geometry s.size s.tries s.clients s'.clients s.repairers at.0 at.1 (with_call None call at.1) [] (CallLine call) at.2
+    (call_case (s.form, s.geometry) s.size s.tries s.clients s'.clients s.repairers at.0 at.1 (with_call None call at.1) [] (CallLine call) at.2
     (ap (λ (x : Script). x.clients) (call_clients place.Client s at.0 at.1 call at.2)) at.4
     (call_plain at.1 call at.3 ∙ ap (λ (ls : List Line). ls ++ CallLine call ∷ []) (sym (append-nil (client_lines at.1))))))
 call_lines (place.ClientLimit n) q s call e at =
@@ -271,7 +271,7 @@ call_lines (place.ClientLimit n) q s call e at =
     let s' = with_line p s (CallLine call) in
     at_place p q place.ClientEnd s s' (CallLine call) (cc e)
     (framed p place.ClientEnd s s' (CallLine call)
-    (call_case s.geometry s.size s.tries s.clients s'.clients s.repairers o.0 o.1 (with_call (Some n) call o.1) (LeaveLine n ∷ []) (CallLine call) o.2
+    (call_case (s.form, s.geometry) s.size s.tries s.clients s'.clients s.repairers o.0 o.1 (with_call (Some n) call o.1) (LeaveLine n ∷ []) (CallLine call) o.2
     (ap (λ (x : Script). x.clients) (call_clients p s o.0 o.1 call o.2)) o.4
     (call_limited o.1 n call o.3)))
 call_lines _ q s call e at = absurd (cc e)
@@ -282,7 +282,7 @@ rebuild_lines place.Repairer q s rebuild e at =
     let s' = with_line place.Repairer s (RebuildLine rebuild) in
     at_place place.Repairer q place.Repairer s s' (RebuildLine rebuild) (cc e)
     (framed place.Repairer place.Repairer s s' (RebuildLine rebuild)
-    (rebuild_case s.geometry s.size s.tries s.clients s.repairers s'.repairers at.0 at.1 (with_rebuild None rebuild at.1) [] (RebuildLine rebuild) at.2
+    (rebuild_case (s.form, s.geometry) s.size s.tries s.clients s.repairers s'.repairers at.0 at.1 (with_rebuild None rebuild at.1) [] (RebuildLine rebuild) at.2
     (ap (λ (x : Script). x.repairers) (rebuild_repairers place.Repairer s at.0 at.1 rebuild at.2))
     (rebuild_plain at.1 rebuild at.3 ∙ ap (λ (ls : List Line). ls ++ RebuildLine rebuild ∷ []) (sym (append-nil (repairer_lines at.1))))))
 rebuild_lines (place.RepairerLimit n) q s rebuild e at =
@@ -291,7 +291,7 @@ rebuild_lines (place.RepairerLimit n) q s rebuild e at =
     let s' = with_line p s (RebuildLine rebuild) in
     at_place p q place.RepairerEnd s s' (RebuildLine rebuild) (cc e)
     (framed p place.RepairerEnd s s' (RebuildLine rebuild)
-    (rebuild_case s.geometry s.size s.tries s.clients s.repairers s'.repairers o.0 o.1 (with_rebuild (Some n) rebuild o.1) (LeaveLine n ∷ []) (RebuildLine rebuild) o.2
+    (rebuild_case (s.form, s.geometry) s.size s.tries s.clients s.repairers s'.repairers o.0 o.1 (with_rebuild (Some n) rebuild o.1) (LeaveLine n ∷ []) (RebuildLine rebuild) o.2
     (ap (λ (x : Script). x.repairers) (rebuild_repairers p s o.0 o.1 rebuild o.2))
     (rebuild_limited o.1 n rebuild o.3)))
 rebuild_lines _ q s rebuild e at = absurd (cc e)
@@ -301,9 +301,9 @@ schedule_lines_more : (p q : Place) (s : Script) → lines_behind_blocks p s ≡
 schedule_lines_more p q s behind same no_schedule =
     at_place p q place.Schedule s s ScheduleLine same
     (framed p place.Schedule s s ScheduleLine
-    (ap (λ (ts : List Token). frame s.geometry s.size s.tries s.clients s.repairers (ScheduleLine ∷ map StepLine ts)) no_schedule
-    ∙ behind_more s.geometry s.size s.tries s.clients s.repairers [] ScheduleLine
-    ∙ ap (λ (ls : List Line). frame s.geometry s.size s.tries s.clients s.repairers ls ++ ScheduleLine ∷ []) (sym behind)))
+    (ap (λ (ts : List Token). frame (s.form, s.geometry) s.size s.tries s.clients s.repairers (ScheduleLine ∷ map StepLine ts)) no_schedule
+    ∙ behind_more (s.form, s.geometry) s.size s.tries s.clients s.repairers [] ScheduleLine
+    ∙ ap (λ (ls : List Line). frame (s.form, s.geometry) s.size s.tries s.clients s.repairers ls ++ ScheduleLine ∷ []) (sym behind)))
 
 -- and at each place
 schedule_start : (p q : Place) (s : Script) → next_place p kind.Schedule 0 ≡ Some q → IsAt p s → begun q s ≡ begun p s ++ ScheduleLine ∷ []
@@ -322,8 +322,8 @@ step_lines place.Schedule q s step e =
     let s' = with_line place.Schedule s (StepLine step) in
     at_place place.Schedule q place.Schedule s s' (StepLine step) (cc e)
     (framed place.Schedule place.Schedule s s' (StepLine step)
-    (ap (λ (ls : List Line). frame s.geometry s.size s.tries s.clients s.repairers (ScheduleLine ∷ ls)) (map-append StepLine s.schedule (step ∷ []))
-    ∙ behind_more s.geometry s.size s.tries s.clients s.repairers (ScheduleLine ∷ map StepLine s.schedule) (StepLine step)))
+    (ap (λ (ls : List Line). frame (s.form, s.geometry) s.size s.tries s.clients s.repairers (ScheduleLine ∷ ls)) (map-append StepLine s.schedule (step ∷ []))
+    ∙ behind_more (s.form, s.geometry) s.size s.tries s.clients s.repairers (ScheduleLine ∷ map StepLine s.schedule) (StepLine step)))
 step_lines _ q s step e = absurd (cc e)
 
 -- so does the last line
@@ -331,7 +331,7 @@ end_lines : (p q : Place) (s : Script) → next_place p kind.End 0 ≡ Some q �
 end_lines place.Schedule q s e =
     at_place place.Schedule q place.End s s EndLine (cc e)
     (framed place.Schedule place.End s s EndLine
-    (behind_more s.geometry s.size s.tries s.clients s.repairers (ScheduleLine ∷ map StepLine s.schedule) EndLine))
+    (behind_more (s.form, s.geometry) s.size s.tries s.clients s.repairers (ScheduleLine ∷ map StepLine s.schedule) EndLine))
 end_lines _ q s e = absurd (cc e)
 
 -- the first line stands behind no other
@@ -346,7 +346,7 @@ no_code _ q e = cc e
 
 -- a line that may stand comes behind the lines before it
 pub begun_line : (p q : Place) (s : Script) (l : Line) → place_behind p l ≡ Some q → IsAt p s → begun q (with_line p s l) ≡ begun p s ++ l ∷ []
-begun_line p q s ClayLine e at = absurd (no_clay p q e)
+begun_line p q s (ClayLine form) e at = absurd (no_clay p q e)
 begun_line p q s (CodeLine g) e at = absurd (no_code p q e)
 begun_line p q s (SizeLine n) e at = size_lines p q s n e at
 begun_line p q s (TriesLine n) e at = tries_lines p q s n e at

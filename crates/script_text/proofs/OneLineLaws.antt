@@ -28,7 +28,7 @@ use Rattle.script_text.proofs.DigitLaws.{lower-encode}
 use Rattle.script_text.proofs.LineLaws.{Lacks-append, Lacks-from_test, Lacks-literal}
 use Rattle.script_text.proofs.NumberLaws.{number_lacks, number_word_injective}
 use Rattle.script_text.proofs.ReaderLaws.{line_verb, kind_of_first, size_line, tries_line, leave_line, call_line_of, rebuild_line, step_line}
-use Rattle.script_text.proofs.TextLaws.{token_text, client_only, repairer_only, wipe_only, client_reap_only, repairer_reap_only, rebuild_parts, code_parts, shape}
+use Rattle.script_text.proofs.TextLaws.{token_text, client_only, repairer_only, wipe_only, down_only, up_only, client_reap_only, repairer_reap_only, rebuild_parts, code_parts, shape, second}
 
 -- ---- one line
 
@@ -85,11 +85,14 @@ same_step : (t u : Token) → token_text t ≡ token_text u → t ≡ u
 same_step (token.Client i) u e = let only = client_only (number_word i) u e in ap (λ (n : ℕ). token.Client n) (number_word_injective i only.0 only.2) ∙ sym only.1
 same_step (token.Repairer i) u e = let only = repairer_only (number_word i) u e in ap (λ (n : ℕ). token.Repairer n) (number_word_injective i only.0 only.2) ∙ sym only.1
 same_step (token.Wipe j) u e = let only = wipe_only (number_word j) u e in ap (λ (n : ℕ). token.Wipe n) (number_word_injective j only.0 only.2) ∙ sym only.1
+same_step (token.Down j) u e = let only = down_only (number_word j) u e in ap (λ (n : ℕ). token.Down n) (number_word_injective j only.0 only.2) ∙ sym only.1
+same_step (token.Up j) u e = let only = up_only (number_word j) u e in ap (λ (n : ℕ). token.Up n) (number_word_injective j only.0 only.2) ∙ sym only.1
 same_step (token.ReapClient i) u e = let only = client_reap_only (number_word i) u e in ap (λ (n : ℕ). token.ReapClient n) (number_word_injective i only.0 only.2) ∙ sym only.1
 same_step (token.ReapRepairer i) u e = let only = repairer_reap_only (number_word i) u e in ap (λ (n : ℕ). token.ReapRepairer n) (number_word_injective i only.0 only.2) ∙ sym only.1
 same_step token.Sweep token.Sweep e = refl
 same_step token.Sweep _ e = absurd (eqb-false 115 _ refl (heads _ _ e))
 same_step token.Drain token.Drain e = refl
+same_step token.Drain (token.Down j) e = absurd (eqb-false 114 _ refl (second _ _ e))
 same_step token.Drain _ e = absurd (eqb-false 100 _ refl (heads _ _ e))
 
 -- a rebuild of these parts
@@ -121,8 +124,8 @@ abbrev text_of : Line → List ℕ
 text_of l = spaced (line_words l)
 
 -- the first line is the only one of its kind
-clay_only : (l : Line) → kind.Clay ≡ kind_of l → ClayLine ≡ l
-clay_only ClayLine e = refl
+clay_only : (l : Line) → kind.Clay ≡ kind_of l → (form : ℕ) × (l ≡ ClayLine form)
+clay_only (ClayLine form) e = (form, refl)
 clay_only _ e = absurd (cc e)
 
 -- a line of the code's kind has a code
@@ -160,7 +163,9 @@ same_kind l m q e =
 
 -- a text is of one line at most
 pub same_line : (l m : Line) → HasForm l → HasForm m → text_of l ≡ text_of m → l ≡ m
-same_line ClayLine m p q e = clay_only m (same_kind ClayLine m q e)
+same_line (ClayLine form) m p q e =
+    let only = clay_only m (same_kind (ClayLine form) m q e) in
+    ap (λ (x : ℕ). ClayLine x) (number_word_injective form only.0 (ap (drop 5) (e ∙ ap text_of only.1))) ∙ sym only.1
 same_line (CodeLine g) m p q e =
     let only = code_only m (same_kind (CodeLine g) m q e) in
     ap (λ (x : Shape). CodeLine x) (same_shape g only.0 (e ∙ ap text_of only.1)) ∙ sym only.1
@@ -245,13 +250,15 @@ step_feed (token.Client i) = two_words (codes "c") (number_word i) (Lacks-litera
 step_feed (token.Repairer i) = two_words (codes "r") (number_word i) (Lacks-literal 10 (codes "r") refl) (number_feed i)
 step_feed token.Sweep = Lacks-literal 10 (codes "s") refl
 step_feed (token.Wipe j) = two_words (codes "wipe") (number_word j) (Lacks-literal 10 (codes "wipe") refl) (number_feed j)
+step_feed (token.Down j) = two_words (codes "down") (number_word j) (Lacks-literal 10 (codes "down") refl) (number_feed j)
+step_feed (token.Up j) = two_words (codes "up") (number_word j) (Lacks-literal 10 (codes "up") refl) (number_feed j)
 step_feed (token.ReapClient i) = two_words (codes "reap c") (number_word i) (Lacks-literal 10 (codes "reap c") refl) (number_feed i)
 step_feed (token.ReapRepairer i) = two_words (codes "reap r") (number_word i) (Lacks-literal 10 (codes "reap r") refl) (number_feed i)
 step_feed token.Drain = Lacks-literal 10 (codes "drain") refl
 
 -- a line has none but the one that ends it
 pub line_lacks_feed : (l : Line) → HasForm l → F (text_of l)
-line_lacks_feed ClayLine h = Lacks-literal 10 (codes "clay 1") refl
+line_lacks_feed (ClayLine form) h = two_words (codes "clay") (number_word form) (Lacks-literal 10 (codes "clay") refl) (number_feed form)
 line_lacks_feed (CodeLine g) h =
     two_words (codes "code") (number_word g.data_count ++ 32 ∷ (number_word g.parity_count ++ 32 ∷ number_word g.width)) (Lacks-literal 10 (codes "code") refl)
     (two_words (number_word g.data_count) (number_word g.parity_count ++ 32 ∷ number_word g.width) (number_feed g.data_count)

@@ -39,10 +39,10 @@ placed s None = None
 
 -- the front behind one line more
 abbrev next_front : Front → Line → Option Front
-next_front Empty ClayLine = Some Opened
+next_front Empty (ClayLine form) = Some (Opened form)
 next_front Empty _ = None
-next_front Opened (CodeLine g) = Some (Begun place.Code (opened g))
-next_front Opened _ = None
+next_front (Opened form) (CodeLine g) = Some (Begun place.Code (opened form g))
+next_front (Opened form) _ = None
 next_front (Begun p s) l = placed (with_line p s l) (place_behind p l)
 
 -- a line without a fault behind a front
@@ -73,11 +73,11 @@ code_numbers : (g : Shape) → IsGeometry g → HasNumbers (CodeLine g)
 code_numbers g h = (omega (arith, h.data_chunks), omega (arith, h.limits.parity_chunks.1), omega (arith, h.limits.width.1))
 
 -- a script of which only the code is known stands behind the first line
-code_back : (s : Script) → IsBegun place.Code s → s ≡ opened s.geometry → HasFrontBefore (Begun place.Code s)
+code_back : (s : Script) → IsBegun place.Code s → s ≡ opened s.form s.geometry → HasFrontBefore (Begun place.Code s)
 code_back s b start = record {
-  before = Opened;
+  before = Opened s.form;
   l = CodeLine s.geometry;
-  sound = tt;
+  sound = b.valid.form;
   next = ap (λ (x : Script). Some (Begun place.Code x)) (sym start);
   lines = ap (begun place.Code) start;
   ok = record { form = tt; stands = refl; fits = code_numbers s.geometry b.values.geometry; geometry = b.values.geometry; actor = tt; server = tt };
@@ -97,7 +97,7 @@ line_back q s b h = record {
   lines = ap (begun q) (sym h.script) ∙ begun_line h.p q h.before h.l h.place h.begun.at;
   ok = record {
     form = h.form;
-    stands = rw h.place refl;
+    stands = (rw h.place refl, h.of_form);
     fits = (h.numbers, subst IsWithinLimits (sym h.script) b.valid.limits);
     geometry = stands_geometry h.p q h.l h.place;
     actor = h.actor;
@@ -108,20 +108,20 @@ line_back q s b h = record {
 -- a front is empty or has one before its last line
 front_back : (f : Front) → IsFront f → (f ≡ Empty) ⊎ HasFrontBefore f
 front_back Empty sound = inl refl
-front_back Opened sound = inr (record {
+front_back (Opened form) sound = inr (record {
   before = Empty;
-  l = ClayLine;
+  l = ClayLine form;
   sound = tt;
   next = refl;
   lines = refl;
-  ok = record { form = tt; stands = refl; fits = tt; geometry = tt; actor = tt; server = tt };
+  ok = record { form = sound; stands = refl; fits = tt; geometry = tt; actor = tt; server = tt };
 })
 front_back (Begun q s) sound = elim (before q s sound) [
   | inl start ↦ inr (code_start q start.0 sound start.1)
   | inr h ↦ inr (line_back q s sound h)
 ]
   where
-    code_start : (q : Place) → q ≡ place.Code → IsBegun q s → s ≡ opened s.geometry → HasFrontBefore (Begun q s)
+    code_start : (q : Place) → q ≡ place.Code → IsBegun q s → s ≡ opened s.form s.geometry → HasFrontBefore (Begun q s)
     code_start place.Code e b start = code_back s b start
     code_start _ e b start = absurd (cc e)
 
@@ -300,7 +300,7 @@ stops f g rest more k pf pg h longer = no_rest_fault f longer.0 longer.1 rest mo
 
 -- behind the line `end` no line stands
 ended_stops : (s : Script) (g : Front) (rest more : List ℕ) → IsBegun place.End s → IsFront g → GoesOn (front_lines (Begun place.End s)) (front_lines g) rest more → ⊥
-ended_stops s g rest more b pg longer = let ok = line_ok (Begun place.End s) g longer.0 longer.1 b pg longer.2 in cc (ok.stands)
+ended_stops s g rest more b pg longer = let ok = line_ok (Begun place.End s) g longer.0 longer.1 b pg longer.2 in cc (ok.stands.0)
 
 -- a script to its last line is a front
 ended_front : (s : Script) → IsScript s → IsValid s → IsBegun place.End s

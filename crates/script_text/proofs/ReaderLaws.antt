@@ -32,7 +32,7 @@ use Rattle.script_text.specs.Reader.{script_of, IsSound, IsOfKind, IsTaken, Take
 use Rattle.script_text.specs.ReadsLine.{ReadsNumbered, ReadsToken, ReadsRebuild}
 use Rattle.script_text.specs.Reads.{ReadsCall, FitsCall}
 use Rattle.script_text.specs.Values.{IsNumber, IsContent, IsCall, token_number}
-use Rattle.script_text.specs.Forms.{HasForm, IsContentForm, IsCallForm}
+use Rattle.script_text.specs.Forms.{IsOfForm, IsLineOfForm, HasForm, IsContentForm, IsCallForm}
 use Rattle.script_text.specs.Bounds.{HasNumbers}
 use Rattle.script_text.specs.declared.fault.FaultKind.{FaultKind}
 use Rattle.script_text.specs.declared.fault.FaultKind.TheVariants as fault
@@ -149,18 +149,18 @@ any_limit p k m n some = some
 -- what is wrong with the number is wrong with the line
 pub numbered_err : (old new : Reader) (text first : List ℕ) (k : LineKind) (make : ℕ → Line)
     → ((n : ℕ) → spaced (line_words (make n)) ≡ first ++ number_word n) → ((n : ℕ) → HasForm (make n)) → ((n : ℕ) → HasNumbers (make n) → IsNumber n)
-    → ((n : ℕ) → IsSome (place_behind old.place (make n))) → ((l : Line) → kind_of l ≡ k → (n : ℕ) × (l ≡ make n)) → IsOfKind text k
+    → ((n : ℕ) → IsSome (place_behind old.place (make n))) → ((n : ℕ) → IsLineOfForm old.form (make n)) → ((l : Line) → kind_of l ≡ k → (n : ℕ) × (l ≡ make n)) → IsOfKind text k
     → (f : FaultKind) → ReadsNumbered first text (Err f) → Takes old text (Err f) new
-numbered_err old new text first k make words form number stands only of_kind fault.Syntax h = λ l spells _.
+numbered_err old new text first k make words form number stands of_form only of_kind fault.Syntax h = λ l spells _.
     let parts = only l (of_kind l spells) in
     h parts.0 tt (spells.1 ∙ ap (λ (x : Line). spaced (line_words x)) parts.1 ∙ words parts.0)
-numbered_err old new text first k make words form number stands only of_kind fault.Limit h =
-    (make h.0, (form h.0, h.3 ∙ sym (words h.0)), stands h.0, λ fits. h.2 (number h.0 fits.0))
-numbered_err old new text first k make words form number stands only of_kind fault.OutOfMemory h = tt
-numbered_err old new text first k make words form number stands only of_kind fault.Geometry h = absurd h
-numbered_err old new text first k make words form number stands only of_kind fault.NoSuchActor h = absurd h
-numbered_err old new text first k make words form number stands only of_kind fault.NoSuchServer h = absurd h
-numbered_err old new text first k make words form number stands only of_kind fault.MissingEnd h = absurd h
+numbered_err old new text first k make words form number stands of_form only of_kind fault.Limit h =
+    (make h.0, (form h.0, h.3 ∙ sym (words h.0)), (stands h.0, of_form h.0), λ fits. h.2 (number h.0 fits.0))
+numbered_err old new text first k make words form number stands of_form only of_kind fault.OutOfMemory h = tt
+numbered_err old new text first k make words form number stands of_form only of_kind fault.Geometry h = absurd h
+numbered_err old new text first k make words form number stands of_form only of_kind fault.NoSuchActor h = absurd h
+numbered_err old new text first k make words form number stands of_form only of_kind fault.NoSuchServer h = absurd h
+numbered_err old new text first k make words form number stands of_form only of_kind fault.MissingEnd h = absurd h
 
 -- ---- size
 
@@ -174,12 +174,12 @@ pub size_err : (old new : Reader) (text : List ℕ) → old.place ≡ place.Code
     → (f : FaultKind) → ReadsNumbered (codes "size ") text (Err f) → Takes old text (Err f) new
 size_err old new text at of_kind =
     numbered_err old new text (codes "size ") kind.Size (λ n. SizeLine n) (λ n. refl) (λ n. tt) (λ n h. h)
-    (λ n. rw at refl) size_line of_kind
+    (λ n. rw at refl) (λ n. tt) size_line of_kind
 
 -- a size out of its range is beyond the limit
 pub size_over : (old : Reader) (text : List ℕ) (n : ℕ) → old.place ≡ place.Code → text ≡ codes "size " ++ number_word n → ((1 ≤ n) × (n ≤ MAX_SIZE) → ⊥)
     → LineFault (Begun old.place (script_of old)) text fault.Limit
-size_over old text n at is over = (SizeLine n, (tt, is), rw at refl, λ fits. over fits.1.size)
+size_over old text n at is over = (SizeLine n, (tt, is), (rw at refl, tt), λ fits. over fits.1.size)
 
 -- the reader goes on by a size line
 pub size_taken : (old : Reader) (text : List ℕ) (n : ℕ) → IsSound old → old.place ≡ place.Code → text ≡ codes "size " ++ number_word n → IsNumber n → 1 ≤ n → n ≤ MAX_SIZE
@@ -204,12 +204,12 @@ pub tries_err : (old new : Reader) (text : List ℕ) → IsSome (next_place old.
     → (f : FaultKind) → ReadsNumbered (codes "tries ") text (Err f) → Takes old text (Err f) new
 tries_err old new text some of_kind =
     numbered_err old new text (codes "tries ") kind.Tries (λ n. TriesLine n) (λ n. refl) (λ n. tt) (λ n h. h)
-    (λ n. some) tries_line of_kind
+    (λ n. some) (λ n. tt) tries_line of_kind
 
 -- tries out of their range are beyond the limit
 pub tries_over : (old : Reader) (text : List ℕ) (n : ℕ) → IsSome (next_place old.place kind.Tries 0) → text ≡ codes "tries " ++ number_word n → ((1 ≤ n) × (n ≤ MAX_TRIES) → ⊥)
     → LineFault (Begun old.place (script_of old)) text fault.Limit
-tries_over old text n some is over = (TriesLine n, (tt, is), some, λ fits. over fits.1.tries)
+tries_over old text n some is over = (TriesLine n, (tt, is), (some, tt), λ fits. over fits.1.tries)
 
 -- the reader goes on by a tries line
 pub tries_taken : (old : Reader) (text : List ℕ) (n : ℕ) → IsSound old → IsSome (next_place old.place kind.Tries 0) → text ≡ codes "tries " ++ number_word n → IsNumber n → 1 ≤ n → n ≤ MAX_TRIES
@@ -232,7 +232,7 @@ pub client_over : (old : Reader) (text : List ℕ) → IsSome (next_place old.pl
 client_over old text some is full = (
   ClientLine,
   (tt, is),
-  some,
+  (some, tt),
   λ fits.
       let len = length-append old.clients.items (empty_client ∷ []) in
       omega (arith, len, full, fits.1.clients),
@@ -267,7 +267,7 @@ pub repairer_over : (old : Reader) (text : List ℕ) → IsSome (next_place old.
 repairer_over old text some is full = (
   RepairerLine,
   (tt, is),
-  some,
+  (some, tt),
   λ fits.
       let len = length-append old.repairers.items (empty_repairer ∷ []) in
       omega (arith, len, full, fits.1.repairers),
@@ -300,7 +300,7 @@ pub leave_err : (old new : Reader) (text : List ℕ) → IsSome (next_place old.
     → (f : FaultKind) → ReadsNumbered (codes "leave ") text (Err f) → Takes old text (Err f) new
 leave_err old new text some of_kind =
     numbered_err old new text (codes "leave ") kind.Leave (λ n. LeaveLine n) (λ n. refl) (λ n. tt) (λ n h. h)
-    (λ n. any_limit old.place kind.Leave 0 n some) leave_line of_kind
+    (λ n. any_limit old.place kind.Leave 0 n some) (λ n. tt) leave_line of_kind
 
 -- behind a step limit the block waits for a call
 pub leave_at : (p q : Place) (s : Script) (n : ℕ) → next_place p kind.Leave n ≡ Some q → IsNumber n → IsAt p s → IsAt q s
@@ -349,21 +349,23 @@ end_taken old text sound some is = record {
 -- ---- steps of the schedule
 
 -- a step that names an actor and a server names parts of the script
-pub names_part : (s : Script) (step : Token) → NamesActorOf s step → IfSome (server_of_step step) (λ server. server < chunk_count s.geometry) → NamesPart s step
-names_part s (token.Client i) actor server = actor
-names_part s (token.Repairer i) actor server = actor
-names_part s token.Sweep actor server = tt
-names_part s (token.Wipe j) actor server = server
-names_part s (token.ReapClient i) actor server = actor
-names_part s (token.ReapRepairer i) actor server = actor
-names_part s token.Drain actor server = tt
+pub names_part : (s : Script) (step : Token) → IsOfForm s.form step → NamesActorOf s step → IfSome (server_of_step step) (λ server. server < chunk_count s.geometry) → NamesPart s step
+names_part s (token.Client i) form actor server = actor
+names_part s (token.Repairer i) form actor server = actor
+names_part s token.Sweep form actor server = tt
+names_part s (token.Wipe j) form actor server = server
+names_part s (token.Down j) form actor server = (form, server)
+names_part s (token.Up j) form actor server = (form, server)
+names_part s (token.ReapClient i) form actor server = actor
+names_part s (token.ReapRepairer i) form actor server = actor
+names_part s token.Drain form actor server = tt
 
 -- what is wrong with the step is wrong with its line
 pub step_err : (old new : Reader) (text : List ℕ) → IsSome (next_place old.place kind.Step 0) → IsOfKind text kind.Step
-    → (f : FaultKind) → ReadsToken text (Err f) → Takes old text (Err f) new
-step_err old new text some of_kind fault.Syntax h = λ l spells _.
-    let parts = step_line l (of_kind l spells) in h parts.0 tt (spells.1 ∙ ap (λ (x : Line). spaced (line_words x)) parts.1)
-step_err old new text some of_kind fault.Limit h = (StepLine h.0, (tt, h.3), some, λ fits. h.2 fits.0)
+    → (f : FaultKind) → ReadsToken old.form text (Err f) → Takes old text (Err f) new
+step_err old new text some of_kind fault.Syntax h = λ l spells stands.
+    let parts = step_line l (of_kind l spells) in h parts.0 (subst (IsLineOfForm old.form) parts.1 stands.1) (spells.1 ∙ ap (λ (x : Line). spaced (line_words x)) parts.1)
+step_err old new text some of_kind fault.Limit h = (StepLine h.0, (tt, h.3), (some, h.1), λ fits. h.2 fits.0)
 step_err old new text some of_kind fault.OutOfMemory h = tt
 step_err old new text some of_kind fault.Geometry h = absurd h
 step_err old new text some of_kind fault.NoSuchActor h = absurd h
@@ -371,12 +373,12 @@ step_err old new text some of_kind fault.NoSuchServer h = absurd h
 step_err old new text some of_kind fault.MissingEnd h = absurd h
 
 -- a step too many
-pub step_over : (old : Reader) (text : List ℕ) (step : Token) → IsSome (next_place old.place kind.Step 0) → text ≡ spaced (token_words step)
+pub step_over : (old : Reader) (text : List ℕ) (step : Token) → IsOfForm old.form step → IsSome (next_place old.place kind.Step 0) → text ≡ spaced (token_words step)
     → length old.schedule.items ≡ MAX_SCHEDULE → LineFault (Begun old.place (script_of old)) text fault.Limit
-step_over old text step some is full = (
+step_over old text step form some is full = (
   StepLine step,
   (tt, is),
-  some,
+  (some, form),
   λ fits.
       let len = length-append old.schedule.items (step ∷ []) in
       omega (arith, len, full, fits.1.schedule),
@@ -405,29 +407,29 @@ step_fits old step sound small few =
     )
 
 -- a step whose actor has no block
-pub step_no_actor : (old : Reader) (text : List ℕ) (step : Token) → IsSound old → IsSome (next_place old.place kind.Step 0) → text ≡ spaced (token_words step) → IsNumber (token_number step)
+pub step_no_actor : (old : Reader) (text : List ℕ) (step : Token) → IsOfForm old.form step → IsSound old → IsSome (next_place old.place kind.Step 0) → text ≡ spaced (token_words step) → IsNumber (token_number step)
     → length old.schedule.items ≤ MAX_SCHEDULE → (length old.schedule.items ≡ MAX_SCHEDULE → ⊥) → ¬ NamesActorOf (script_of old) step
     → LineFault (Begun old.place (script_of old)) text fault.NoSuchActor
-step_no_actor old text step sound some is small few not_full none =
-    (StepLine step, (tt, is), some, step_fits old step sound small (omega (arith, few, not_full)), tt, none)
+step_no_actor old text step form sound some is small few not_full none =
+    (StepLine step, (tt, is), (some, form), step_fits old step sound small (omega (arith, few, not_full)), tt, none)
 
 -- a step whose server is not there
-pub step_no_server : (old : Reader) (text : List ℕ) (step : Token) → IsSound old → IsSome (next_place old.place kind.Step 0) → text ≡ spaced (token_words step) → IsNumber (token_number step)
+pub step_no_server : (old : Reader) (text : List ℕ) (step : Token) → IsOfForm old.form step → IsSound old → IsSome (next_place old.place kind.Step 0) → text ≡ spaced (token_words step) → IsNumber (token_number step)
     → length old.schedule.items ≤ MAX_SCHEDULE → (length old.schedule.items ≡ MAX_SCHEDULE → ⊥) → NamesActorOf (script_of old) step
     → ¬ IfSome (server_of_step step) (λ server. server < chunk_count old.geometry) → LineFault (Begun old.place (script_of old)) text fault.NoSuchServer
-step_no_server old text step sound some is small few not_full actor none =
-    (StepLine step, (tt, is), some, step_fits old step sound small (omega (arith, few, not_full)), tt, actor, none)
+step_no_server old text step form sound some is small few not_full actor none =
+    (StepLine step, (tt, is), (some, form), step_fits old step sound small (omega (arith, few, not_full)), tt, actor, none)
 
 -- the reader goes on by a step
-pub step_taken : (old new : Reader) (text : List ℕ) (step : Token) → IsSound old → IsSome (next_place old.place kind.Step 0) → text ≡ spaced (token_words step) → IsNumber (token_number step)
+pub step_taken : (old new : Reader) (text : List ℕ) (step : Token) → IsOfForm old.form step → IsSound old → IsSome (next_place old.place kind.Step 0) → text ≡ spaced (token_words step) → IsNumber (token_number step)
     → length old.schedule.items ≤ MAX_SCHEDULE → (length old.schedule.items ≡ MAX_SCHEDULE → ⊥) → NamesActorOf (script_of old) step
     → IfSome (server_of_step step) (λ server. server < chunk_count old.geometry)
     → script_of new ≡ record (script_of old) { schedule = old.schedule.items ++ step ∷ [] } → new.place ≡ old.place → new.load ≡ old.load
     → IsTaken old text (StepLine step) new
-step_taken old new text step sound some is small few not_full actor server made at load =
+step_taken old new text step form sound some is small few not_full actor server made at load =
     let s = script_of old in
     let place' = step_place old.place some in
-    let next = step_step s step sound.begun.values sound.begun.valid small (names_part s step actor server) (omega (arith, few, not_full)) in
+    let next = step_step s step sound.begun.values sound.begun.valid small (names_part s step form actor server) (omega (arith, few, not_full)) in
     record {
       spelled = (tt, is);
       place = rw (at, place') refl;
@@ -480,7 +482,7 @@ call_err old new text some of_kind sound fault.Syntax h = λ l spells _.
 call_err old new text some of_kind sound fault.Limit h = (
   CallLine h.0,
   (h.1, h.3),
-  some,
+  (some, tt),
   λ fits.
       let s = script_of old in
       let open' = (call_place old.place s some sound.begun.at).0 in
@@ -503,7 +505,7 @@ pub call_over : (old : Reader) (text : List ℕ) (call : Call) (stripe_len size 
 call_over old text call stripe_len size stripes read_bytes sound some form is same_len same_size stripes_are read_bytes_are over = (
   CallLine call,
   (form, is),
-  some,
+  (some, tt),
   λ fits.
       let s = script_of old in
       let open' = (call_place old.place s some sound.begun.at).0 in
@@ -523,7 +525,7 @@ pub call_full : (old : Reader) (text : List ℕ) (call : Call) (front : List Cli
 call_full old text call front part sound some form is parted full = (
   CallLine call,
   (form, is),
-  some,
+  (some, tt),
   λ fits.
       let limits = subst IsWithinLimits (call_clients old.place (script_of old) front part call parted) fits.1 in
       let back = call_limits_back (script_of old) front part (pending old.place) call parted limits in
@@ -576,7 +578,7 @@ call_taken old new text call stripe_len size sound some form fits is same_len sa
     let begun : IsBegun new.place (clients_with s parts) = record {
       at = call_behind old.place new.place s front part call at place'.0.4 place'.0.5;
       values = call_values s front part (pending old.place) call pushed.2 sound.begun.values (call_value call form fits) place'.1;
-      valid = record { limits = limits; names = call_names s front part (pending old.place) call pushed.2 place'.0.5 sound.begun.valid.names };
+      valid = record { form = sound.begun.valid.form; limits = limits; names = call_names s front part (pending old.place) call pushed.2 place'.0.5 sound.begun.valid.names };
     } in
     record {
       spelled = (form, is);
@@ -611,7 +613,7 @@ pub rebuild_err : (old new : Reader) (text : List ℕ) → IsSome (next_place ol
 rebuild_err old new text some of_kind fault.Syntax h = λ l spells _.
     let parts = rebuild_line l (of_kind l spells) in
     h parts.0 (subst HasForm parts.1 spells.0) (spells.1 ∙ ap (λ (x : Line). spaced (line_words x)) parts.1)
-rebuild_err old new text some of_kind fault.Limit h = (RebuildLine h.0, (h.1, h.3), some, λ fits. h.2 fits.0)
+rebuild_err old new text some of_kind fault.Limit h = (RebuildLine h.0, (h.1, h.3), (some, tt), λ fits. h.2 fits.0)
 rebuild_err old new text some of_kind fault.OutOfMemory h = tt
 rebuild_err old new text some of_kind fault.Geometry h = absurd h
 rebuild_err old new text some of_kind fault.NoSuchActor h = absurd h
@@ -624,7 +626,7 @@ pub rebuild_push_err : (old new : Reader) (text : List ℕ) (rebuild : Rebuild) 
 rebuild_push_err old new text rebuild leave some form is fault.Limit after h = (
   RebuildLine rebuild,
   (form, is),
-  some,
+  (some, tt),
   λ fits.
       let limits = subst IsWithinLimits (rebuild_repairers old.place (script_of old) h.0 h.1 rebuild h.2) fits.1 in
       let few = rebuild_limits_back (script_of old) h.0 h.1 (pending old.place) rebuild limits in
@@ -656,7 +658,7 @@ pub rebuild_no_server : (old : Reader) (text : List ℕ) (rebuild : Rebuild) (af
 rebuild_no_server old text rebuild after sound some form fits is pushed beyond = (
   RebuildLine rebuild,
   (form, is),
-  some,
+  (some, tt),
   (fits, rebuild_limits_of old rebuild after sound pushed),
   tt,
   tt,
@@ -681,7 +683,7 @@ rebuild_taken old new text rebuild sound some form fits is known pushed made at 
     let begun : IsBegun new.place (repairers_with s parts) = record {
       at = rebuild_behind old.place new.place s front part rebuild at place'.0.4;
       values = rebuild_values s front part (pending old.place) rebuild pushed.2 sound.begun.values (form, fits.0, fits.1) place'.1;
-      valid = record { limits = limits; names = rebuild_names s front part (pending old.place) rebuild pushed.2 place'.0.4 known sound.begun.valid.names };
+      valid = record { form = sound.begun.valid.form; limits = limits; names = rebuild_names s front part (pending old.place) rebuild pushed.2 place'.0.4 known sound.begun.valid.names };
     } in
     record {
       spelled = (form, is);
@@ -715,13 +717,15 @@ step_verb (token.Client i) = (codes "c", (Lacks-literal 32 (codes "c") refl, inr
 step_verb (token.Repairer i) = (codes "r", (Lacks-literal 32 (codes "r") refl, inr (_, refl), refl))
 step_verb token.Sweep = (codes "s", (Lacks-literal 32 (codes "s") refl, inl refl, refl))
 step_verb (token.Wipe j) = (codes "wipe", (Lacks-literal 32 (codes "wipe") refl, inr (_, refl), refl))
+step_verb (token.Down j) = (codes "down", (Lacks-literal 32 (codes "down") refl, inr (_, refl), refl))
+step_verb (token.Up j) = (codes "up", (Lacks-literal 32 (codes "up") refl, inr (_, refl), refl))
 step_verb (token.ReapClient i) = (codes "reap", (Lacks-literal 32 (codes "reap") refl, inr (_, refl), refl))
 step_verb (token.ReapRepairer i) = (codes "reap", (Lacks-literal 32 (codes "reap") refl, inr (_, refl), refl))
 step_verb token.Drain = (codes "drain", (Lacks-literal 32 (codes "drain") refl, inl refl, refl))
 
 -- the first word of a line tells its kind
 pub line_verb : (l : Line) → (verb : List ℕ) × IsVerb (spaced (line_words l)) verb (kind_of l)
-line_verb ClayLine = (codes "clay", (Lacks-literal 32 (codes "clay") refl, inr (_, refl), refl))
+line_verb (ClayLine form) = (codes "clay", (Lacks-literal 32 (codes "clay") refl, inr (_, refl), refl))
 line_verb (CodeLine g) = (codes "code", (Lacks-literal 32 (codes "code") refl, inr (_, refl), refl))
 line_verb (SizeLine n) = (codes "size", (Lacks-literal 32 (codes "size") refl, inr (_, refl), refl))
 line_verb (TriesLine n) = (codes "tries", (Lacks-literal 32 (codes "tries") refl, inr (_, refl), refl))
@@ -768,6 +772,6 @@ no_kind front text word first named l spells _ = let same = kind_of_first text w
 pub no_stand : (p : Place) (s : Script) (text : List ℕ) (k : LineKind) → IsOfKind text k → is_some (next_place p k 0) ≡ false → LineFault (Begun p s) text fault.Syntax
 no_stand p s text k of_kind none l spells stands =
     let same = of_kind l spells in
-    let some : IsSome (next_place p k (limit_of l)) = subst (λ (x : LineKind). IsSome (next_place p x (limit_of l))) same stands in
+    let some : IsSome (next_place p k (limit_of l)) = subst (λ (x : LineKind). IsSome (next_place p x (limit_of l))) same stands.0 in
     let some' = any_limit p k (limit_of l) 0 some in
     cc (none, some')

@@ -1,5 +1,5 @@
 -- A text read line by line up to its line `end`.
-use Rattle.std.proofs.Common.{◌≡◌, ◌≢◌, ℕ, ◌+◌, ◌-◌, ◌^◌, ◌<◌, ◌≤◌, List, [], ◌∷◌, ◌++◌, length, drop, Option, None, Some, Ok, Err, refl, sym, ap, ◌∙◌, arith, inl, inr, length-append, append_assoc, append-nil}
+use Rattle.std.proofs.Common.{◌≡◌, ◌≢◌, ℕ, ◌+◌, ◌-◌, ◌^◌, ◌<◌, ◌≤◌, List, [], ◌∷◌, ◌++◌, length, drop, Option, None, Some, Ok, Err, refl, sym, ap, ◌∙◌, arith, inl, inr, length-append, append_assoc, append-nil, subst}
 use Rattle.std.proofs.lemmas.List.{length-map}
 use Rattle.std.proofs.Math.Seq.{drop-append_seam}
 use Rattle.std.specs.Prelude.{codes, map, All}
@@ -14,6 +14,8 @@ use Rattle.store_map.specs.declared.limits.TheConstants.{MAX_CLIENTS, MAX_REPAIR
 use Rattle.store_map.specs.declared.script.ClientPart.{ClientPart}
 use Rattle.store_map.specs.declared.script.RepairPart.{RepairPart}
 use Rattle.store_map.specs.declared.script.Script.{Script}
+use Rattle.script_text.specs.Numbers.{number_word}
+use Rattle.script_text.specs.Forms.{IsForm, HasForm}
 use Rattle.script_text.specs.Begun.{begun, lines_behind_blocks}
 use Rattle.script_text.specs.Behind.{kind_of}
 use Rattle.script_text.specs.Front.{Front, Empty, Opened, Begun, IsFront, front_lines, HasEnded}
@@ -78,8 +80,8 @@ front_missing bytes front rest number sound unended number_is parted lacks = rec
 -- ---- the first two lines
 
 -- the first line is the only one of its kind
-clay_line : (l : Line) → kind_of l ≡ kind.Clay → l ≡ ClayLine
-clay_line ClayLine e = refl
+clay_line : (l : Line) → kind_of l ≡ kind.Clay → (form : ℕ) × (l ≡ ClayLine form)
+clay_line (ClayLine form) e = (form, refl)
 clay_line _ e = absurd (cc e)
 
 -- a line of the code's kind has a code
@@ -88,19 +90,35 @@ code_line (CodeLine g) e = (g, refl)
 code_line _ e = absurd (cc e)
 
 -- another first line is none
-pub not_clay : (text : List ℕ) → text ≢ codes "clay 1" → LineFault Empty text fault.Syntax
-not_clay text other l spells stands = other (spells.1 ∙ ap (λ (x : Line). spaced (line_words x)) (clay_line l stands))
+pub not_clay : (text : List ℕ) → ((form : ℕ) → IsForm form → text ≢ spaced (line_words (ClayLine form))) → LineFault Empty text fault.Syntax
+not_clay text other l spells stands =
+    let parts = clay_line l stands in
+    other parts.0 (subst HasForm parts.1 spells.0) (spells.1 ∙ ap (λ (x : Line). spaced (line_words x)) parts.1)
+
+-- the first lines of the two forms
+pub clay_one : spaced (line_words (ClayLine 1)) ≡ codes "clay 1"
+unfolding number_word
+clay_one = refl
+
+pub clay_two : spaced (line_words (ClayLine 2)) ≡ codes "clay 2"
+unfolding number_word
+clay_two = refl
+
+-- a text that is neither is of no form
+pub no_form : (text : List ℕ) → (text ≡ codes "clay 1" → ⊥) → (text ≡ codes "clay 2" → ⊥) → (form : ℕ) → IsForm form → text ≢ spaced (line_words (ClayLine form))
+no_form text one two form (inl is) e = one (subst (λ (n : ℕ). text ≡ spaced (line_words (ClayLine n))) is e ∙ clay_one)
+no_form text one two form (inr is) e = two (subst (λ (n : ℕ). text ≡ spaced (line_words (ClayLine n))) is e ∙ clay_two)
 
 -- what is wrong with the code is wrong with its line
-pub code_err : (text : List ℕ) (f : FaultKind) → ReadsCode text (Err f) → f ≢ fault.OutOfMemory → LineFault Opened text f
-code_err text fault.Syntax h some = λ l spells stands.
+pub code_err : (form : ℕ) (text : List ℕ) (f : FaultKind) → ReadsCode text (Err f) → f ≢ fault.OutOfMemory → LineFault (Opened form) text f
+code_err form text fault.Syntax h some = λ l spells stands.
     let parts = code_line l stands in h parts.0 tt (spells.1 ∙ ap (λ (x : Line). spaced (line_words x)) parts.1)
-code_err text fault.Limit h some = (CodeLine h.0, (tt, h.3), refl, h.2)
-code_err text fault.Geometry h some = (CodeLine h.0, (tt, h.3), refl, h.1, h.2)
-code_err text fault.OutOfMemory h some = absurd (some refl)
-code_err text fault.NoSuchActor h some = absurd h
-code_err text fault.NoSuchServer h some = absurd h
-code_err text fault.MissingEnd h some = absurd h
+code_err form text fault.Limit h some = (CodeLine h.0, (tt, h.3), refl, h.2)
+code_err form text fault.Geometry h some = (CodeLine h.0, (tt, h.3), refl, h.1, h.2)
+code_err form text fault.OutOfMemory h some = absurd (some refl)
+code_err form text fault.NoSuchActor h some = absurd h
+code_err form text fault.NoSuchServer h some = absurd h
+code_err form text fault.MissingEnd h some = absurd h
 
 -- the text behind one line more
 pub one_more : (bytes : List ℕ) (ls : List Line) (l : Line) (rest text behind : List ℕ) → bytes ≡ flat_map line_text ls ++ rest → rest ≡ text ++ 10 ∷ behind → text ≡ spaced (line_words l)
@@ -114,8 +132,8 @@ one_more bytes ls l rest text behind parted next is =
     ∙ ap (λ (x : List ℕ). x ++ behind) (sym both)
 
 -- the text behind the first line
-pub clay_read : (bytes first behind : List ℕ) → bytes ≡ first ++ 10 ∷ behind → first ≡ codes "clay 1" → bytes ≡ flat_map line_text (ClayLine ∷ []) ++ behind
-clay_read bytes first behind is clay = one_more bytes [] ClayLine bytes first behind refl is clay
+pub clay_read : (form : ℕ) (bytes first behind : List ℕ) → bytes ≡ first ++ 10 ∷ behind → first ≡ spaced (line_words (ClayLine form)) → bytes ≡ flat_map line_text (ClayLine form ∷ []) ++ behind
+clay_read form bytes first behind is clay = one_more bytes [] (ClayLine form) bytes first behind refl is clay
 
 -- ---- line by line
 
@@ -216,7 +234,7 @@ behind_length _ s few = omega arith
 -- a script so far has few lines
 pub few_lines : (p : Place) (s : Script) → IsWithinLimits s → length (begun p s) < 2 ^ 31
 few_lines p s l =
-    let a = ClayLine ∷ CodeLine s.geometry ∷ [] in
+    let a = ClayLine s.form ∷ CodeLine s.geometry ∷ [] in
     let b = optional_line SizeLine s.size in
     let c = optional_line TriesLine s.tries in
     let d = flat_map client_lines s.clients in
@@ -245,7 +263,7 @@ few_read bytes reader rest lines so_far =
 -- up to the last line a script so far has all lines of the script
 pub ended_lines : (s : Script) → begun place.End s ≡ script_lines s
 ended_lines s =
-    let x = (ClayLine ∷ CodeLine s.geometry ∷ [])
+    let x = (ClayLine s.form ∷ CodeLine s.geometry ∷ [])
     ++ optional_line SizeLine s.size ++ optional_line TriesLine s.tries
     ++ flat_map client_lines s.clients ++ flat_map repairer_lines s.repairers in
     sym (append_assoc x (ScheduleLine ∷ map StepLine s.schedule) (EndLine ∷ []))

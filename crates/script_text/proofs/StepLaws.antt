@@ -97,6 +97,7 @@ size_step s n b small low high =
       at = (record { clients = bare.clients; repairers = bare.repairers; schedule = bare.schedule }, refl, b.at.2);
       values = record { geometry = b.values.geometry; size = small; tries = b.values.tries; clients = b.values.clients; repairers = b.values.repairers; schedule = b.values.schedule };
       valid = record {
+        form = b.valid.form;
         limits = record {
           size = (low, high);
           tries = l.tries;
@@ -127,6 +128,7 @@ tries_step p s n bare values valid small low high =
       at = (record { clients = bare.clients; repairers = bare.repairers; schedule = bare.schedule }, refl);
       values = record { geometry = values.geometry; size = values.size; tries = small; clients = values.clients; repairers = values.repairers; schedule = values.schedule };
       valid = record {
+        form = valid.form;
         limits = record {
           size = l.size;
           tries = (low, high);
@@ -184,6 +186,7 @@ client_step p s no_repairers no_schedule values valid few =
         schedule = values.schedule;
       };
       valid = record {
+        form = valid.form;
         limits = record {
           size = l.size;
           tries = l.tries;
@@ -224,6 +227,7 @@ repairer_step p s no_schedule values valid few =
         schedule = values.schedule;
       };
       valid = record {
+        form = valid.form;
         limits = record {
           size = l.size;
           tries = l.tries;
@@ -450,6 +454,8 @@ names_same s steps (token.Client i) h = h
 names_same s steps (token.Repairer i) h = h
 names_same s steps token.Sweep h = h
 names_same s steps (token.Wipe j) h = h
+names_same s steps (token.Down j) h = h
+names_same s steps (token.Up j) h = h
 names_same s steps (token.ReapClient i) h = h
 names_same s steps (token.ReapRepairer i) h = h
 names_same s steps token.Drain h = h
@@ -473,6 +479,7 @@ step_step s step values valid small named few =
         schedule = All-push small_token s.schedule step values.schedule small;
       };
       valid = record {
+        form = valid.form;
         limits = record {
           size = l.size;
           tries = l.tries;

@@ -10,6 +10,7 @@ use Rattle.store_map.specs.Name.{IsName}
 use Rattle.store_map.specs.declared.actor.Token.{Token}
 use Rattle.store_map.specs.declared.actor.Token.TheVariants as token
 use Rattle.store_map.specs.declared.call.Rebuild.{Rebuild}
+use Rattle.script_text.specs.Forms.{IsOfForm}
 use Rattle.script_text.specs.Words.{rebuild_words, token_words, code_words}
 use Rattle.script_text.specs.Lines.{Lacks, spaced}
 use Rattle.script_text.specs.Numbers.{number_word}
@@ -45,7 +46,7 @@ abbrev pub token_text : Token → List ℕ
 token_text step = spaced (token_words step)
 
 -- equal lists have the same second item
-second : (xs ys : List ℕ) → xs ≡ ys → get_or xs 1 0 ≡ get_or ys 1 0
+pub second : (xs ys : List ℕ) → xs ≡ ys → get_or xs 1 0 ≡ get_or ys 1 0
 second xs ys e = ap (λ (l : List ℕ). get_or l 1 0) e
 
 -- and the same sixth one
@@ -69,6 +70,17 @@ pub wipe_only : (word : List ℕ) (step : Token) → codes "wipe " ++ word ≡ t
 wipe_only word (token.Wipe i) e = (i, refl, ap (drop 5) e)
 wipe_only word _ e = absurd (eqb-false 119 _ refl (heads _ _ e))
 
+-- what begins with `down` makes a server away
+pub down_only : (word : List ℕ) (step : Token) → codes "down " ++ word ≡ token_text step → (i : ℕ) × (step ≡ token.Down i) × (word ≡ number_word i)
+down_only word (token.Down i) e = (i, refl, ap (drop 5) e)
+down_only word token.Drain e = absurd (eqb-false 111 _ refl (second _ _ e))
+down_only word _ e = absurd (eqb-false 100 _ refl (heads _ _ e))
+
+-- what begins with `up` makes a server present
+pub up_only : (word : List ℕ) (step : Token) → codes "up " ++ word ≡ token_text step → (i : ℕ) × (step ≡ token.Up i) × (word ≡ number_word i)
+up_only word (token.Up i) e = (i, refl, ap (drop 3) e)
+up_only word _ e = absurd (eqb-false 117 _ refl (heads _ _ e))
+
 -- what begins with `reap c` is the reap of a client
 pub client_reap_only : (word : List ℕ) (step : Token) → codes "reap c " ++ word ≡ token_text step → (i : ℕ) × (step ≡ token.ReapClient i) × (word ≡ number_word i)
 client_reap_only word (token.ReapClient i) e = (i, refl, ap (drop 7) e)
@@ -84,17 +96,17 @@ repairer_reap_only word (token.ReapClient i) e = absurd (eqb-false 114 _ refl (s
 repairer_reap_only word _ e = absurd (eqb-false 114 _ refl (heads _ _ e))
 
 -- from a number to the step that has it
-pub token_err : (first word : List ℕ) (make : ℕ → Token) → ((i : ℕ) → token_text (make i) ≡ first ++ number_word i) → ((i : ℕ) → token_number (make i) ≡ i)
+pub token_err : (form : ℕ) (first word : List ℕ) (make : ℕ → Token) → ((i : ℕ) → IsOfForm form (make i)) → ((i : ℕ) → token_text (make i) ≡ first ++ number_word i) → ((i : ℕ) → token_number (make i) ≡ i)
     → ((step : Token) → first ++ word ≡ token_text step → (i : ℕ) × (step ≡ make i) × (word ≡ number_word i))
-    → (k : FaultKind) → ReadsNumber word (Err k) → ReadsToken (first ++ word) (Err k)
-token_err first word make text number only kind.Syntax h = λ step form e. let parts = only step e in h parts.0 tt parts.2
-token_err first word make text number only kind.Limit h =
-    (make h.0, tt, λ fits. h.2 (subst IsNumber (number h.0) fits), ap (λ (l : List ℕ). first ++ l) h.3 ∙ sym (text h.0))
-token_err first word make text number only kind.OutOfMemory h = tt
-token_err first word make text number only kind.Geometry h = h
-token_err first word make text number only kind.NoSuchActor h = h
-token_err first word make text number only kind.NoSuchServer h = h
-token_err first word make text number only kind.MissingEnd h = h
+    → (k : FaultKind) → ReadsNumber word (Err k) → ReadsToken form (first ++ word) (Err k)
+token_err form first word make of_form text number only kind.Syntax h = λ step of_step e. let parts = only step e in h parts.0 tt parts.2
+token_err form first word make of_form text number only kind.Limit h =
+    (make h.0, of_form h.0, λ fits. h.2 (subst IsNumber (number h.0) fits), ap (λ (l : List ℕ). first ++ l) h.3 ∙ sym (text h.0))
+token_err form first word make of_form text number only kind.OutOfMemory h = tt
+token_err form first word make of_form text number only kind.Geometry h = h
+token_err form first word make of_form text number only kind.NoSuchActor h = h
+token_err form first word make of_form text number only kind.NoSuchServer h = h
+token_err form first word make of_form text number only kind.MissingEnd h = h
 
 -- ---- rebuilds
 

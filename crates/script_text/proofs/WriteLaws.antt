@@ -70,21 +70,21 @@ flat_of_seven a s t c r k e =
     flat_map-append line_text (((((a ++ s) ++ t) ++ c) ++ r) ++ k) e ∙ ap (λ (l : List ℕ). l ++ flat_map line_text e) six
 
 -- the parts of a script, one after the other
-pub script_written : (script : Script) (t0 t1 t2 t3 t4 t5 t6 t7 t8 : List ℕ) → t0 ≡ codes "clay 1\n" → t1 ≡ t0 ++ line_text (CodeLine script.geometry)
+pub script_written : (script : Script) (t0 t1 t2 t3 t4 t5 t6 t7 t8 : List ℕ) → t0 ≡ line_text (ClayLine script.form) → t1 ≡ t0 ++ line_text (CodeLine script.geometry)
     → t2 ≡ t1 ++ flat_map line_text (optional_line SizeLine script.size) → t3 ≡ t2 ++ flat_map line_text (optional_line TriesLine script.tries)
     → t4 ≡ t3 ++ flat_map line_text (flat_map client_lines script.clients) → t5 ≡ t4 ++ flat_map line_text (flat_map repairer_lines script.repairers)
     → t6 ≡ t5 ++ codes "schedule\n" → t7 ≡ t6 ++ flat_map line_text (map StepLine script.schedule) → t8 ≡ t7 ++ codes "end\n"
     → t8 ≡ spelling script
 unfolding spelling
 script_written script t0 t1 t2 t3 t4 t5 t6 t7 t8 e0 e1 e2 e3 e4 e5 e6 e7 e8 =
-    let a : List Line = ClayLine ∷ CodeLine script.geometry ∷ [] in
+    let a : List Line = ClayLine script.form ∷ CodeLine script.geometry ∷ [] in
     let m = flat_map line_text (map StepLine script.schedule) in
     let k : List Line = ScheduleLine ∷ map StepLine script.schedule in
     let e : List Line = EndLine ∷ [] in
     let whole = flat_of_seven a (optional_line SizeLine script.size) (optional_line TriesLine script.tries) (flat_map client_lines script.clients)
     (flat_map repairer_lines script.repairers) k e in
     let opening : t1 ≡ flat_map line_text a =
-    e1 ∙ ap (λ (l : List ℕ). l ++ line_text (CodeLine script.geometry)) e0 ∙ ap (λ (l : List ℕ). codes "clay 1\n" ++ l) (sym (append-nil (line_text (CodeLine script.geometry)))) in
+    e1 ∙ ap (λ (l : List ℕ). l ++ line_text (CodeLine script.geometry)) e0 ∙ ap (λ (l : List ℕ). line_text (ClayLine script.form) ++ l) (sym (append-nil (line_text (CodeLine script.geometry)))) in
     let scheduled : t7 ≡ t5 ++ flat_map line_text k = e7 ∙ ap (λ (l : List ℕ). l ++ m) e6 ∙ append_assoc t5 (codes "schedule\n") m in
     let all : t8 ≡ ((((flat_map line_text a ++ flat_map line_text (optional_line SizeLine script.size)) ++ flat_map line_text (optional_line TriesLine script.tries))
     ++ flat_map line_text (flat_map client_lines script.clients)) ++ flat_map line_text (flat_map repairer_lines script.repairers)) ++ flat_map line_text k ++ codes "end\n" =

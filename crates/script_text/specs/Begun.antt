@@ -18,7 +18,7 @@ lines_behind_blocks _ script = []
 -- the lines of a script so far, up to a place
 abbrev pub begun : Place → Script → List Line
 begun p script =
-    (ClayLine ∷ CodeLine script.geometry ∷ [])
+    (ClayLine script.form ∷ CodeLine script.geometry ∷ [])
     ++ optional_line SizeLine script.size ++ optional_line TriesLine script.tries
     ++ flat_map client_lines script.clients ++ flat_map repairer_lines script.repairers
     ++ lines_behind_blocks p script

@@ -10,7 +10,7 @@ use Rattle.script_text.specs.declared.place.Place.TheVariants as place
 
 -- a line without its values
 abbrev pub kind_of : Line → LineKind
-kind_of ClayLine = kind.Clay
+kind_of (ClayLine form) = kind.Clay
 kind_of (CodeLine g) = kind.Code
 kind_of (SizeLine n) = kind.Size
 kind_of (TriesLine n) = kind.Tries

@@ -45,6 +45,8 @@ NamesActor _ _ = ⊤
 -- the server that a step names
 abbrev pub server_of_step : Token → Option ℕ
 server_of_step (token.Wipe j) = Some j
+server_of_step (token.Down j) = Some j
+server_of_step (token.Up j) = Some j
 server_of_step _ = None
 
 -- the server that a line names

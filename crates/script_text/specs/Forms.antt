@@ -1,12 +1,14 @@
 -- Lines whatever their numbers are: names are names, and bytes are bytes.
-use Rattle.std.specs.Prelude.{◌<◌, ⊤}
+use Rattle.std.specs.Prelude.{◌≡◌, ◌⊎◌, ℕ, ◌<◌, ⊤}
 use Rattle.hex.specs.Hex.{IsBytes}
 use Rattle.store_map.specs.Name.{IsName}
 use Rattle.store_map.specs.declared.call.Call.{Call}
 use Rattle.store_map.specs.declared.call.Call.TheVariants.{Put, Write, Get, ReadAt, Stat, Delete}
 use Rattle.store_map.specs.declared.content.Content.{Content}
 use Rattle.store_map.specs.declared.content.Content.TheVariants.{Hex, Fill, Ramp}
-use Rattle.script_text.specs.Line.{Line, CallLine, RebuildLine}
+use Rattle.store_map.specs.declared.actor.Token.{Token}
+use Rattle.store_map.specs.declared.actor.Token.TheVariants as token
+use Rattle.script_text.specs.Line.{Line, ClayLine, CallLine, RebuildLine, StepLine}
 
 -- data of bytes
 abbrev pub IsContentForm : Content → Type 0
@@ -23,8 +25,24 @@ IsCallForm (ReadAt name offset count) = IsName name
 IsCallForm (Stat name) = IsName name
 IsCallForm (Delete name) = IsName name
 
--- a line of such names and bytes
+-- the two forms of a script
+abbrev pub IsForm : ℕ → Type 0
+IsForm form = (form ≡ 1) ⊎ (form ≡ 2)
+
+-- only in form 2 servers are made away and present
+abbrev pub IsOfForm : ℕ → Token → Type 0
+IsOfForm form (token.Down j) = form ≡ 2
+IsOfForm form (token.Up j) = form ≡ 2
+IsOfForm form _ = ⊤
+
+-- so of a line
+abbrev pub IsLineOfForm : ℕ → Line → Type 0
+IsLineOfForm form (StepLine step) = IsOfForm form step
+IsLineOfForm form _ = ⊤
+
+-- a line of a form, of names and of bytes
 abbrev pub HasForm : Line → Type 0
+HasForm (ClayLine form) = IsForm form
 HasForm (CallLine call) = IsCallForm call
 HasForm (RebuildLine rebuild) = IsName rebuild.name
 HasForm _ = ⊤

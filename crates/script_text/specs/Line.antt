@@ -10,7 +10,7 @@ use Rattle.script_text.specs.Words.{call_words, rebuild_words, token_words, code
 
 -- a line with its values, in the order in which the kinds may stand
 pub data Line : Type 0 where
-  ClayLine : Line
+  ClayLine : ℕ → Line
   CodeLine : Shape → Line
   SizeLine : ℕ → Line
   TriesLine : ℕ → Line
@@ -25,7 +25,7 @@ pub data Line : Type 0 where
 
 -- its words
 abbrev pub line_words : Line → List (List ℕ)
-line_words ClayLine = codes "clay" ∷ codes "1" ∷ []
+line_words (ClayLine form) = codes "clay" ∷ number_word form ∷ []
 line_words (CodeLine g) = code_words g
 line_words (SizeLine n) = codes "size" ∷ number_word n ∷ []
 line_words (TriesLine n) = codes "tries" ∷ number_word n ∷ []

@@ -17,7 +17,7 @@ is_call_word word =
 abbrev pub is_step_word : List ℕ → Bool
 is_step_word word =
     bytes_eq word (codes "c") || bytes_eq word (codes "r") || bytes_eq word (codes "s")
-    || bytes_eq word (codes "wipe") || bytes_eq word (codes "reap") || bytes_eq word (codes "drain")
+    || bytes_eq word (codes "wipe") || bytes_eq word (codes "down") || bytes_eq word (codes "up") || bytes_eq word (codes "reap") || bytes_eq word (codes "drain")
 
 -- the kind of the lines that begin with this word and stand outside a block or begin one
 abbrev pub frame_named : List ℕ → Option LineKind

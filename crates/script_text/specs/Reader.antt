@@ -16,6 +16,7 @@ use Rattle.script_text.specs.declared.reader.Reader.{Reader}
 -- the script so far
 abbrev pub script_of : Reader → Script
 script_of r = record {
+  form = r.form;
   geometry = r.geometry;
   size = r.size;
   tries = r.tries;
@@ -24,9 +25,10 @@ script_of r = record {
   schedule = r.schedule.items;
 }
 
--- a script of which only the code is known
-abbrev pub opened : Shape → Script
-opened g = record {
+-- a script of which only the form and the code are known
+abbrev pub opened : ℕ → Shape → Script
+opened form g = record {
+  form = form;
   geometry = g;
   size = None;
   tries = None;

@@ -10,6 +10,7 @@ use Rattle.script_text.specs.Lines.{spaced}
 use Rattle.script_text.specs.Numbers.{number_word}
 use Rattle.script_text.specs.Reads.{Reads}
 use Rattle.script_text.specs.Values.{IsNumber, token_number}
+use Rattle.script_text.specs.Forms.{IsOfForm}
 use Rattle.script_text.specs.Bounds.{HasShapeNumbers}
 use Rattle.script_text.specs.declared.fault.FaultKind.{FaultKind}
 use Rattle.script_text.specs.declared.fault.FaultKind.TheVariants.{Geometry}
@@ -25,10 +26,10 @@ ReadsRebuild =
     (λ rebuild. IsNumber rebuild.stripe × IsNumber rebuild.server)
     (λ rebuild. spaced (rebuild_words rebuild))
 
--- reading a step of the schedule
-abbrev pub ReadsToken : List ℕ → Result Token FaultKind → Type 0
-ReadsToken =
-    Reads (λ step. ⊤) (λ step. IsNumber (token_number step)) (λ step. spaced (token_words step))
+-- reading a step of the schedule in a script of this form
+abbrev pub ReadsToken : ℕ → List ℕ → Result Token FaultKind → Type 0
+ReadsToken form =
+    Reads (IsOfForm form) (λ step. IsNumber (token_number step)) (λ step. spaced (token_words step))
 
 -- reading a code line, whose numbers may also be those of no geometry
 abbrev pub ReadsCode : List ℕ → Result Shape FaultKind → Type 0

@@ -29,7 +29,7 @@ optional_line make (Some n) = make n ∷ []
 -- all lines of a script
 abbrev pub script_lines : Script → List Line
 script_lines script =
-    (ClayLine ∷ CodeLine script.geometry ∷ [])
+    (ClayLine script.form ∷ CodeLine script.geometry ∷ [])
     ++ optional_line SizeLine script.size ++ optional_line TriesLine script.tries
     ++ flat_map client_lines script.clients ++ flat_map repairer_lines script.repairers
     ++ (ScheduleLine ∷ map StepLine script.schedule) ++ (EndLine ∷ [])

@@ -40,6 +40,8 @@ abbrev pub token_number : Token → ℕ
 token_number (token.Client i) = i
 token_number (token.Repairer i) = i
 token_number (token.Wipe j) = j
+token_number (token.Down j) = j
+token_number (token.Up j) = j
 token_number (token.ReapClient i) = i
 token_number (token.ReapRepairer i) = i
 token_number _ = 0

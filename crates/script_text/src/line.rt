@@ -21,6 +21,10 @@ const REPAIRER: &[u8] = b"r ";
 
 const WIPE: &[u8] = b"wipe ";
 
+const DOWN: &[u8] = b"down ";
+
+const UP: &[u8] = b"up ";
+
 const REAP_CLIENT: &[u8] = b"reap c ";
 
 const REAP_REPAIRER: &[u8] = b"reap r ";
@@ -95,7 +99,7 @@ pub fn read_rebuild(alloc: Global, line: &[u8]) -> Result<Rebuild, FaultKind>
 
 /// The step `c` of the client that a word numbers.
 fn read_client_step(word: &[u8]) -> Result<Token, FaultKind>
-    ensures { ReadsToken (codes "c " ++ word.now) result }
+    ensures { (form : ℕ) → ReadsToken form (codes "c " ++ word.now) result }
 {
     match number_of(word) {
         Ok(client) => Ok(Token::Client(client)),
@@ -105,7 +109,7 @@ fn read_client_step(word: &[u8]) -> Result<Token, FaultKind>
 
 /// The step `r` of the repairer that a word numbers.
 fn read_repairer_step(word: &[u8]) -> Result<Token, FaultKind>
-    ensures { ReadsToken (codes "r " ++ word.now) result }
+    ensures { (form : ℕ) → ReadsToken form (codes "r " ++ word.now) result }
 {
     match number_of(word) {
         Ok(repairer) => Ok(Token::Repairer(repairer)),
@@ -115,7 +119,7 @@ fn read_repairer_step(word: &[u8]) -> Result<Token, FaultKind>
 
 /// The wipe of the server that a word numbers.
 fn read_wipe(word: &[u8]) -> Result<Token, FaultKind>
-    ensures { ReadsToken (codes "wipe " ++ word.now) result }
+    ensures { (form : ℕ) → ReadsToken form (codes "wipe " ++ word.now) result }
 {
     match number_of(word) {
         Ok(server) => Ok(Token::Wipe(server)),
@@ -123,9 +127,29 @@ fn read_wipe(word: &[u8]) -> Result<Token, FaultKind>
     }
 }
 
+/// The making away of the server that a word numbers, in a script of form 2.
+fn read_down(word: &[u8]) -> Result<Token, FaultKind>
+    ensures { ReadsToken 2 (codes "down " ++ word.now) result }
+{
+    match number_of(word) {
+        Ok(server) => Ok(Token::Down(server)),
+        Err(kind) => Err(kind),
+    }
+}
+
+/// The making present of the server that a word numbers, in a script of form 2.
+fn read_up(word: &[u8]) -> Result<Token, FaultKind>
+    ensures { ReadsToken 2 (codes "up " ++ word.now) result }
+{
+    match number_of(word) {
+        Ok(server) => Ok(Token::Up(server)),
+        Err(kind) => Err(kind),
+    }
+}
+
 /// The reap of the client that a word numbers.
 fn read_client_reap(word: &[u8]) -> Result<Token, FaultKind>
-    ensures { ReadsToken (codes "reap c " ++ word.now) result }
+    ensures { (form : ℕ) → ReadsToken form (codes "reap c " ++ word.now) result }
 {
     match number_of(word) {
         Ok(client) => Ok(Token::ReapClient(client)),
@@ -135,7 +159,7 @@ fn read_client_reap(word: &[u8]) -> Result<Token, FaultKind>
 
 /// The reap of the repairer that a word numbers.
 fn read_repairer_reap(word: &[u8]) -> Result<Token, FaultKind>
-    ensures { ReadsToken (codes "reap r " ++ word.now) result }
+    ensures { (form : ℕ) → ReadsToken form (codes "reap r " ++ word.now) result }
 {
     match number_of(word) {
         Ok(repairer) => Ok(Token::ReapRepairer(repairer)),
@@ -143,9 +167,9 @@ fn read_repairer_reap(word: &[u8]) -> Result<Token, FaultKind>
     }
 }
 
-/// The step of a line of the schedule, without its line feed.
-pub fn read_token(line: &[u8]) -> Result<Token, FaultKind>
-    ensures { ReadsToken line.now result }
+/// The step of a line of the schedule, without its line feed, in a script of this form.
+pub fn read_token(form: u32, line: &[u8]) -> Result<Token, FaultKind>
+    ensures { ReadsToken form line.now result }
 {
     if let Some(word) = line.strip_prefix(CLIENT) {
         return read_client_step(word);
@@ -155,6 +179,20 @@ pub fn read_token(line: &[u8]) -> Result<Token, FaultKind>
     }
     if let Some(word) = line.strip_prefix(WIPE) {
         return read_wipe(word);
+    }
+    if let Some(word) = line.strip_prefix(DOWN) {
+        return if form == 2 {
+            read_down(word)
+        } else {
+            Err(FaultKind::Syntax)
+        };
+    }
+    if let Some(word) = line.strip_prefix(UP) {
+        return if form == 2 {
+            read_up(word)
+        } else {
+            Err(FaultKind::Syntax)
+        };
     }
     if let Some(word) = line.strip_prefix(REAP_CLIENT) {
         return read_client_reap(word);

@@ -57,6 +57,8 @@ fn is_step_word(word: &[u8]) -> bool
         || word == b"r".as_slice()
         || word == b"s".as_slice()
         || word == b"wipe".as_slice()
+        || word == b"down".as_slice()
+        || word == b"up".as_slice()
         || word == b"reap".as_slice()
         || word == b"drain".as_slice()
 }

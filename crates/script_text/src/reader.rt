@@ -4,6 +4,7 @@ ghost use Rattle.script_text.specs.Place.{next_place};
 ghost use Rattle.script_text.specs.Behind.{pending};
 ghost use Rattle.script_text.specs.Fault.{NamesActorOf, server_of_step};
 ghost use Rattle.script_text.specs.Pushes.{PushesCall, PushesRebuild};
+ghost use Rattle.script_text.specs.Forms.{IsForm};
 ghost use Rattle.script_text.specs.Lines.{IsFirstWord};
 ghost use Rattle.clay_grid.specs.Limits.{IsGeometry};
 ghost use Rattle.script_text.specs.Reader.{script_of, opened, IsSound, IsOfKind, Takes};
@@ -31,6 +32,7 @@ const LEAVE: &[u8] = b"leave ";
 #[derive(Drop)]
 pub struct Reader {
     pub place: Place,
+    pub form: u32,
     pub geometry: Geometry,
     pub size: Option<u32>,
     pub tries: Option<u32>,
@@ -42,13 +44,14 @@ pub struct Reader {
 
 impl Reader {
     /// A reader behind the code line.
-    pub fn new(alloc: Global, geometry: Geometry) -> Reader
-        ensures script { script_of result ≡ opened geometry }
+    pub fn new(alloc: Global, form: u32, geometry: Geometry) -> Reader
+        ensures script { script_of result ≡ opened form geometry }
         ensures place { result.place ≡ Place.Code }
-        ensures sound { IsGeometry geometry → IsSound result }
+        ensures sound { IsForm form → IsGeometry geometry → IsSound result }
     {
         Reader {
             place: Place::Code,
+            form,
             geometry,
             size: None,
             tries: None,
@@ -71,6 +74,7 @@ impl Reader {
         ensures { result ≡ script_of self }
     {
         let Reader {
+            form,
             geometry,
             size,
             tries,
@@ -80,6 +84,7 @@ impl Reader {
             ..
         } = self;
         Script {
+            form,
             geometry,
             size,
             tries,
@@ -235,7 +240,7 @@ impl Reader {
             Token::Repairer(repairer) | Token::ReapRepairer(repairer) => {
                 (repairer as usize) < self.repairers.len()
             }
-            Token::Sweep | Token::Wipe(_) | Token::Drain => true,
+            Token::Sweep | Token::Wipe(_) | Token::Down(_) | Token::Up(_) | Token::Drain => true,
         }
     }
 
@@ -245,7 +250,9 @@ impl Reader {
             IfSome (server_of_step token) (λ server. server < chunk_count self.now.geometry) }
     {
         match token {
-            Token::Wipe(server) => server < self.geometry.n(),
+            Token::Wipe(server) | Token::Down(server) | Token::Up(server) => {
+                server < self.geometry.n()
+            },
             Token::Client(_)
             | Token::Repairer(_)
             | Token::Sweep
@@ -262,7 +269,7 @@ impl Reader {
         requires kind { IsOfKind line.now LineKind.Step }
         ensures { Takes self.old line.now result self.new }
     {
-        let token = match read_token(line) {
+        let token = match read_token(self.form, line) {
             Ok(token) => token,
             Err(kind) => return Err(kind),
         };

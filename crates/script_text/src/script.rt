@@ -1,8 +1,10 @@
-ghost use Rattle.std.specs.Prelude.{◌≡◌, ◌<◌, ◌≤◌, ◌^◌, ℕ, [], ◌∷◌, ◌++◌, drop, length, IfOk, IfErr};
+ghost use Rattle.std.specs.Prelude.{◌≡◌, ◌≢◌, ◌<◌, ◌≤◌, ◌^◌, ℕ, [], ◌∷◌, ◌++◌, drop, length, IfOk, IfErr, IfSome, None};
 ghost use Rattle.std.specs.List.{flat_map};
 ghost use Rattle.clay_grid.specs.Limits.{IsGeometry};
 ghost use Rattle.script_text.specs.FirstFault.{IsFault, IsFrontFault, OrMemory};
-ghost use Rattle.script_text.specs.Line.{ClayLine, CodeLine, line_text};
+ghost use Rattle.script_text.specs.Forms.{IsForm};
+ghost use Rattle.script_text.specs.Lines.{spaced};
+ghost use Rattle.script_text.specs.Line.{ClayLine, CodeLine, line_words, line_text};
 ghost use Rattle.script_text.specs.Spelling.{script_lines, spelling};
 ghost use Rattle.script_text.specs.Values.{IsScript};
 ghost use Rattle.store_map.specs.Naming.{IsValid};
@@ -18,6 +20,7 @@ use store_map::Script;
 /// What the first two lines say, and the text behind them.
 #[derive(Clone, Copy)]
 struct Opening<'a> {
+    form: u32,
     geometry: Geometry,
     rest: &'a [u8],
 }
@@ -30,24 +33,43 @@ struct ScriptRead {
     length: usize,
 }
 
+/// The form of a script with this first line.
+fn form_of(line: &[u8]) -> Option<u32>
+    ensures some { IfSome result (λ form. IsForm form × (line.now ≡ spaced (line_words (ClayLine form)))) }
+    ensures none { result ≡ None → (form : ℕ) → IsForm form → line.now ≢ spaced (line_words (ClayLine form)) }
+{
+    if is_text(line, b"clay 1") {
+        return Some(1);
+    }
+    if is_text(line, b"clay 2") {
+        return Some(2);
+    }
+    None
+}
+
 /// Reads the first two lines.
 fn read_opening(bytes: &[u8]) -> Result<Opening<'_>, ScriptFault>
+    ensures form { IfOk result (λ opening. IsForm opening.form) }
     ensures geometry { IfOk result (λ opening. IsGeometry opening.geometry) }
     ensures spelled { IfOk result (λ opening.
-        bytes.now ≡ flat_map line_text (ClayLine ∷ CodeLine opening.geometry ∷ []) ++ opening.rest.now) }
+        bytes.now ≡ flat_map line_text (ClayLine opening.form ∷ CodeLine opening.geometry ∷ []) ++ opening.rest.now) }
     ensures fault { IfErr result (OrMemory (IsFrontFault bytes.now)) }
 {
     let Some((first, behind)) = split_at_first(b'\n', bytes) else {
         return Err(ScriptFault::at(1, FaultKind::MissingEnd));
     };
-    if !is_text(first, b"clay 1") {
+    let Some(form) = form_of(first) else {
         return Err(ScriptFault::at(1, FaultKind::Syntax));
-    }
+    };
     let Some((second, rest)) = split_at_first(b'\n', behind) else {
         return Err(ScriptFault::at(2, FaultKind::MissingEnd));
     };
     match read_code(second) {
-        Ok(geometry) => Ok(Opening { geometry, rest }),
+        Ok(geometry) => Ok(Opening {
+            form,
+            geometry,
+            rest,
+        }),
         Err(kind) => Err(ScriptFault::at(2, kind)),
     }
 }
@@ -67,7 +89,7 @@ fn read_to_end(alloc: Global, bytes: &[u8]) -> Result<ScriptRead, ScriptFault>
         Ok(opening) => opening,
         Err(fault) => return Err(fault),
     };
-    let mut reader = Reader::new(alloc, opening.geometry);
+    let mut reader = Reader::new(alloc, opening.form, opening.geometry);
     let mut rest = opening.rest;
     let mut lines: u32 = 2;
     while !reader.has_ended() {

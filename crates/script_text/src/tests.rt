@@ -51,12 +51,13 @@ fn has_faults(
 
 #[test]
 fn first_two_lines(rt: HostRuntime) -> Result<(), Fail> {
-    let ends: [(&[u8], u32, FaultKind); 46] = [
+    let ends: [(&[u8], u32, FaultKind); 47] = [
         (b"", 1, MissingEnd),
         (b"c", 1, MissingEnd),
         (b"clay 1", 1, MissingEnd),
         (b"clay 2", 1, MissingEnd),
-        (b"clay 2\n", 1, Syntax),
+        (b"clay 2\n", 2, MissingEnd),
+        (b"clay 3\n", 1, Syntax),
         (b"clay\n", 1, Syntax),
         (b"clay  1\n", 1, Syntax),
         (b" clay 1\n", 1, Syntax),
@@ -766,4 +767,26 @@ fn numbers(rt: HostRuntime) -> Result<(), Fail> {
         assert_eq!(rt; read_number(word), number);
     }
     Ok(())
+}
+
+#[test]
+fn servers_away_in_form_two_alone(rt: HostRuntime) -> Result<(), Fail> {
+    let alloc = rt.alloc();
+    let text = b"clay 2\ncode 2 2 1\nschedule\ndown 0\nup 3\nend\n";
+    let script = script_of(read_script(alloc, text))?;
+    assert_eq!(rt; script.form, 2);
+    assert_eq!(rt;
+        script.schedule.as_slice(),
+        [Token::Down(0), Token::Up(3)].as_slice()
+    );
+    assert_eq!(rt; write_script(alloc, &script)?.as_slice(), text.as_slice());
+    let ends: [(&[u8], u32, FaultKind); 6] = [
+        (b"clay 1\ncode 2 2 1\nschedule\ndown 0\n", 4, Syntax),
+        (b"clay 1\ncode 2 2 1\nschedule\nup 4294967296\n", 4, Syntax),
+        (b"clay 2\ncode 2 2 1\nschedule\nup 4294967296\n", 4, Limit),
+        (b"clay 2\ncode 2 2 1\nschedule\ndown 4\n", 4, NoSuchServer),
+        (b"clay 2\ncode 2 2 1\nschedule\ndown\n", 4, Syntax),
+        (b"clay 2\ncode 2 2 1\nschedule\ndown 00\n", 4, Syntax),
+    ];
+    has_faults(&rt, b"", &ends)
 }

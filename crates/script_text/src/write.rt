@@ -146,6 +146,8 @@ fn push_token(text: &mut Vec<u8>, token: Token) -> Result<(), AllocError>
         Token::Repairer(i) => push_numbered(text, b"r", i),
         Token::Sweep => text.extend_from_slice(b"s\n"),
         Token::Wipe(j) => push_numbered(text, b"wipe", j),
+        Token::Down(j) => push_numbered(text, b"down", j),
+        Token::Up(j) => push_numbered(text, b"up", j),
         Token::ReapClient(i) => push_numbered(text, b"reap c", i),
         Token::ReapRepairer(i) => push_numbered(text, b"reap r", i),
         Token::Drain => text.extend_from_slice(b"drain\n"),
@@ -291,7 +293,8 @@ fn push_repairers(text: &mut Vec<u8>, parts: &[RepairPart]) -> Result<(), AllocE
 pub fn write_script(alloc: Global, script: &Script) -> Result<Vec<u8>, AllocError>
     ensures { IfOk result (λ text. text.items ≡ spelling script.now) }
 {
-    let mut text = Vec::from_slice(alloc, b"clay 1\n")?;
+    let mut text = Vec::new(alloc);
+    push_numbered(&mut text, b"clay", script.form)?;
     push_code(&mut text, script.geometry)?;
     push_size(&mut text, script.size)?;
     push_tries(&mut text, script.tries)?;

@@ -6,6 +6,9 @@ use Rattle.std.proofs.lemmas.Bool.{cond_both, eq-eqb}
 use Rattle.std.proofs.lemmas.List.Elements.{All-nil, All-cons, All-head, All-tail, All-push, All-weaker}
 use Rattle.std.proofs.lemmas.List.Quantifiers.{all_pairs_push}
 use Rattle.clay_grid.specs.Shape.{Shape, chunk_count}
+use Rattle.store_map.specs.declared.placement.Placement.TheVariants as placement
+use Rattle.store_map.specs.declared.placement.Found.{Found}
+use Rattle.store_map.specs.declared.placement.Found.TheVariants as found
 use Rattle.store_core.specs.Lists.{is_among}
 use Rattle.store_core.specs.Told.{Seen, Lost, Told}
 use Rattle.store_core.specs.Gathering.{Gathering, Part, servers_but, lost_at, unless_too_many, fetching_whole, recovering, fetching_repair, making, looking}
@@ -60,25 +63,25 @@ module _ (g : Shape) (seen : Seen) where
       (λ e. (each a (omega arith) (omega arith) e, all_filter (λ other. a ≢ other) p (a + 1) k (λ i low high _ same. omega (arith, low, same)), rest)) (λ _. rest)
 
   -- one more is marked, and the others are still unasked
-  marked_more : (missing : List Lost) (server epoch : ℕ) (more : List ℕ) → All (λ other. server ≢ other) more → Unasked missing more
-      → Unasked (missing ++ lost_at g seen server epoch ∷ []) more
+  marked_more : (missing : List Lost) (server : ℕ) (reason : Found) (more : List ℕ) → All (λ other. server ≢ other) more → Unasked missing more
+      → Unasked (missing ++ lost_at g seen server reason ∷ []) more
   unfolding Unasked
-  marked_more missing server epoch [] differ unasked = tt
-  marked_more missing server epoch (other ∷ more) differ unasked = (
+  marked_more missing server reason [] differ unasked = tt
+  marked_more missing server reason (other ∷ more) differ unasked = (
     record {
       below = unasked.0.below;
-      unmarked = All-push (λ (lost : Lost). lost.server ≢ other) missing (lost_at g seen server epoch) unasked.0.unmarked (All-head (λ next. server ≢ next) other more differ);
+      unmarked = All-push (λ (lost : Lost). lost.server ≢ other) missing (lost_at g seen server reason) unasked.0.unmarked (All-head (λ next. server ≢ next) other more differ);
     },
     unasked.1,
-    marked_more missing server epoch more (All-tail (λ next. server ≢ next) other more differ) unasked.2,
+    marked_more missing server reason more (All-tail (λ next. server ≢ next) other more differ) unasked.2,
   )
 
-  marked_apart : (missing : List Lost) (server epoch : ℕ) → AreApart g seen missing → IsFresh missing server → AreApart g seen (missing ++ lost_at g seen server epoch ∷ [])
-  marked_apart missing server epoch apart fresh =
+  marked_apart : (missing : List Lost) (server : ℕ) (reason : Found) → AreApart g seen missing → IsFresh missing server → AreApart g seen (missing ++ lost_at g seen server reason ∷ [])
+  marked_apart missing server reason apart fresh =
       record {
-        there = All-push (λ (lost : Lost). lost.server < chunk_count g) missing (lost_at g seen server epoch) apart.there fresh.below;
-        differ = all_pairs_push (λ (lost other : Lost). lost.server ≢ other.server) missing (lost_at g seen server epoch) apart.differ fresh.unmarked;
-        placed = All-push (λ (lost : Lost). lost.placed ≡ get_or seen.placed lost.server 0) missing (lost_at g seen server epoch) apart.placed refl;
+        there = All-push (λ (lost : Lost). lost.server < chunk_count g) missing (lost_at g seen server reason) apart.there fresh.below;
+        differ = all_pairs_push (λ (lost other : Lost). lost.server ≢ other.server) missing (lost_at g seen server reason) apart.differ fresh.unmarked;
+        placed = All-push (λ (lost : Lost). lost.placed ≡ get_or seen.placed lost.server (placement.At 0)) missing (lost_at g seen server reason) apart.placed refl;
       }
 
   none_apart : AreApart g seen []
@@ -192,11 +195,12 @@ part_names g part told =
 chunk_names : (g : Shape) (seen : Seen) (target : ℕ) (told : List Told) → target < chunk_count g → Names g seen (gather_chunk g seen target told)
 chunk_names g seen target [] below = tt
 chunk_names g seen target (Told.Here ∷ told) below = tt
-chunk_names g seen target (Told.Missing epoch ∷ told) below =
-    let lost : Lost = lost_at g seen target epoch in
+chunk_names g seen target (Told.Missing (found.Absent epoch) ∷ told) below =
+    let lost : Lost = lost_at g seen target (found.Absent epoch) in
     looking_names g seen (servers_but g seen (target ∷ [])) (lost ∷ []) told
-    (marked_apart g seen [] target epoch (none_apart g seen) (record { below = below; unmarked = All-nil _ }))
+    (marked_apart g seen [] target (found.Absent epoch) (none_apart g seen) (record { below = below; unmarked = All-nil _ }))
     (but_asked g seen (lost ∷ []) (target ∷ []) (among_servers g seen (lost ∷ [])))
+chunk_names g seen target (Told.Missing (found.Away downs) ∷ told) below = tt
 chunk_names g seen target (_ ∷ told) below = tt
 
 pub part_apart : (g : Shape) (part : Part) (told rest : List Told) (missing : List Lost) → gather_part g part told ≡ Gathering.TooMany missing rest → AreApart g part.seen missing

@@ -1,19 +1,22 @@
 -- A call asks servers a bounded number of times.
 use Rattle.std.proofs.Common.{◌≡◌, ℕ, zero, suc, ◌+◌, ◌*◌, ◌<◌, ◌≤◌, Bool, true, false, cond, not, ◌||◌, nat_lt, nat_eq, List, [], ◌∷◌, ◌++◌, length, map, filter, refl, sym, ap, subst, ◌∙◌, inl, inr, arith, length-append, true≢false}
-use Rattle.std.proofs.lemmas.Bool.{eq-eqb, cases_eq}
+use Rattle.std.proofs.lemmas.Bool.{eq-eqb, cases_eq, cond_both}
 use Rattle.std.proofs.lemmas.List.{length-map}
 use Rattle.std.proofs.lemmas.List.FromFn.{length-range_with_len}
 use Rattle.std.specs.List.{range_with_len}
+use Rattle.store_core.specs.Placements.{skipped_from, skipped_count}
 use Rattle.clay_grid.specs.Shape.{Shape, chunk_count}
 use Rattle.clay_grid.specs.Score.{count_below}
 use Rattle.clay_grid.proofs.Counting.{count_below-le, count_below-add}
 use Rattle.clay_grid.proofs.Rising.{length-filter_range}
-use Rattle.store_core.specs.Lists.{is_among, places_of, in_rows}
+use Rattle.store_map.specs.declared.placement.Found.TheVariants as found
+use Rattle.store_map.specs.declared.placement.Placement.{Placement}
+use Rattle.store_core.specs.Lists.{is_among, places_of}
 use Rattle.store_core.specs.Told.{Seen, Lost, Told}
-use Rattle.store_core.specs.Act.{Outcome}
+use Rattle.store_core.specs.Act.{Outcome, Act}
 use Rattle.store_core.specs.Gathering.{Gathering, Part, servers_but, lost_at, unless_too_many, fetching_whole, recovering, fetching_repair, making, looking}
 use Rattle.store_core.specs.GatheringParts.{chunks_in_range, after_data, fetching_data, gather_part, gather_chunk, ending}
-use Rattle.store_core.specs.Put.{settling, committing, preparing}
+use Rattle.store_core.specs.Put.{settling, committing, preparing, preparing_all}
 use Rattle.store_calls.specs.AskLaws.{IsAsking, IsPreparing, IsSettling, AsksFewTimes}
 
 -- ---- counting
@@ -191,12 +194,13 @@ module _ (g : Shape) (part : Part) where
 pub chunk_asks : (g : Shape) (seen : Seen) (target : ℕ) (told : List Told) → target < chunk_count g → IsAsking (gather_chunk g seen target told) → length told + 1 < 3 * chunk_count g
 chunk_asks g seen target [] below h = omega (arith, all_but_one g seen target below, below)
 chunk_asks g seen target (Told.Here ∷ told) below h = absurd h
-chunk_asks g seen target (Told.Missing epoch ∷ told) below h =
+chunk_asks g seen target (Told.Missing (found.Absent epoch) ∷ told) below h =
     let others : ℕ = length (servers_but g seen (target ∷ [])) in
     let most : others + 1 ≤ chunk_count g = all_but_one g seen target below in
     let asked : length told < others + (others + chunk_count g) =
-    looking_asks g seen others (servers_but g seen (target ∷ [])) (lost_at g seen target epoch) [] told (omega arith) h in
+    looking_asks g seen others (servers_but g seen (target ∷ [])) (lost_at g seen target (found.Absent epoch)) [] told (omega arith) h in
     omega (arith, most, asked)
+chunk_asks g seen target (Told.Missing (found.Away downs) ∷ told) below h = absurd h
 chunk_asks g seen target (answer ∷ told) below h = absurd h
 
 -- ---- prepares and settles
@@ -219,18 +223,36 @@ ending_is_no_prepare outcome (Told.Ended ∷ told) h = h
 ending_is_no_prepare outcome (Told.Reaped point ∷ told) h = h
 ending_is_no_prepare outcome (_ ∷ told) h = ending_is_no_prepare Outcome.NoMemory told h
 
-commit_is_no_prepare : (placed : List (List ℕ)) (told : List Told) → IsPreparing (committing placed told) → ⊥
+commit_is_no_prepare : (placed : List (List Placement)) (told : List Told) → IsPreparing (committing placed told) → ⊥
 commit_is_no_prepare placed [] h = h
 commit_is_no_prepare placed (Told.Reaped point ∷ told) h = h
 commit_is_no_prepare placed (_ ∷ told) h = ending_is_no_prepare Outcome.NoMemory told h
 
-prepare_asks : (g : Shape) (versions : List ℕ) (places : List (ℕ × ℕ)) (epochs : List ℕ) (told : List Told)
-    → IsPreparing (preparing g versions places epochs told) → length told < length places
-prepare_asks g versions [] epochs told h = absurd (commit_is_no_prepare (in_rows (chunk_count g) versions epochs) told h)
-prepare_asks g versions (place ∷ places) epochs [] h = omega arith
-prepare_asks g versions (place ∷ places) epochs (Told.Placed epoch ∷ told) h =
-    let rest : length told < length places = prepare_asks g versions places (epochs ++ epoch ∷ []) told h in omega (arith, rest)
-prepare_asks g versions (place ∷ places) epochs (_ ∷ told) h = absurd (ending_is_no_prepare Outcome.NoMemory told h)
+prepare_asks : (g : Shape) (stripe version more : ℕ) (next : List Placement → List Told → Act) → ((row : List Placement) (told : List Told) → IsPreparing (next row told) → length told < more)
+    → (servers : List ℕ) (row : List Placement) (told : List Told) → IsPreparing (preparing g stripe version next servers row told) → length told < length servers + more
+prepare_asks g stripe version more next later [] row told h = let rest : length told < more = later row told h in omega (arith, rest)
+prepare_asks g stripe version more next later (server ∷ servers) row [] h = omega arith
+prepare_asks g stripe version more next later (server ∷ servers) row (Told.Prepared last ∷ told) h =
+    let now : List Placement = row ++ last ∷ [] in
+    let outcome : Outcome = Outcome.Unavailable stripe (skipped_from 0 now) in
+    let rest : length told < length servers + more =
+    cond_both {A = Act} (nat_lt g.parity_count (skipped_count now)) (ending outcome told) (preparing g stripe version next servers now told)
+    (λ act. IsPreparing act → length told < length servers + more) (λ _ k. absurd (ending_is_no_prepare outcome told k))
+    (λ _. prepare_asks g stripe version more next later servers now told) h in
+    omega (arith, rest)
+prepare_asks g stripe version more next later (server ∷ servers) row (_ ∷ told) h = absurd (ending_is_no_prepare Outcome.NoMemory told h)
+
+prepares_ask : (g : Shape) (stripe : ℕ) (versions : List ℕ) (placed : List (List Placement)) (told : List Told)
+    → IsPreparing (preparing_all g stripe versions placed told) → length told < length versions * chunk_count g
+prepares_ask g stripe [] placed told h = absurd (commit_is_no_prepare placed told h)
+prepares_ask g stripe (version ∷ versions) placed told h =
+    let n : ℕ = chunk_count g in
+    let row : length (range_with_len 0 n) ≡ n = length-range_with_len 0 n in
+    let most : length told < length (range_with_len 0 n) + length versions * n =
+    prepare_asks g stripe version (length versions * n) (λ row. preparing_all g (stripe + 1) versions (placed ++ row ∷ []))
+    (λ row. prepares_ask g (stripe + 1) versions (placed ++ row ∷ [])) (range_with_len 0 n) [] told h in
+    let more : suc (length versions) * n ≡ length versions * n + n = omega arith in
+    omega (arith, row, most, more)
 
 settle_asks : (point : ℕ) (places : List (ℕ × ℕ)) (told : List Told) → IsSettling (settling point places told) → length told < length places
 settle_asks point [] told h = absurd h
@@ -243,9 +265,7 @@ asks_few_times =
     record {
       part = part_asks;
       chunk = chunk_asks;
-      prepares = λ g versions told h.
-          (let asked : length told < length (places_of (chunk_count g) versions) = prepare_asks g versions (places_of (chunk_count g) versions) [] told h in
-          subst (λ n. length told < n) (count_places (chunk_count g) versions) asked);
+      prepares = λ g stripe versions told h. prepares_ask g stripe versions [] told h;
       settles = λ g point versions told h.
           (let asked : length told < length (places_of (chunk_count g) versions) = settle_asks point (places_of (chunk_count g) versions) told h in
           subst (λ n. length told < n) (count_places (chunk_count g) versions) asked);

@@ -87,7 +87,8 @@ module _ (I : Type 0) (R : I → List Told → Type 0) (carried : AreCarried I R
         rest_back told ends.front rest ends.told_is i (back rest i (carried.gathered i (since rest ++ more) h))
     one_back since back told (Gathering.TooMany missing rest) ends i h = h
     one_back since back told (Gathering.AtTarget rest) ends i h = h
-    one_back since back told (Gathering.NoRoom rest) ends i h = h
+    one_back since back told (Gathering.TargetAway downs rest) ends i h = h
+    one_back since back told (Gathering.Short rest) ends i h = h
 
     parts_back : (parts : List Part) → CutBack (cut_parts g parts)
     parts_back [] told i h = h

@@ -1,23 +1,28 @@
 -- Each outcome has its cause.
-use Rattle.std.proofs.Common.{◌≡◌, ℕ, ◌<◌, nat_lt, List, [], ◌∷◌, ◌++◌, length, map, refl, sym, ap, subst, ◌∙◌, inl, inr}
-use Rattle.std.proofs.lemmas.Bool.{cond_both, ltb-false, cond-false, le-ltb}
+use Rattle.std.proofs.Common.{◌≡◌, ℕ, ◌+◌, ◌/◌, ◌<◌, ◌≤◌, nat_lt, arith, List, [], ◌∷◌, ◌++◌, length, map, refl, sym, ap, subst, ◌∙◌, inl, inr}
+use Rattle.std.proofs.lemmas.Bool.{cond_both, ltb-true, ltb-false, cond-false, le-ltb}
 use Rattle.std.proofs.lemmas.List.{append_assoc, append-nil}
-use Rattle.clay_grid.specs.Shape.{Shape, chunk_count}
+use Rattle.std.specs.List.{range_with_len}
+use Rattle.clay_grid.specs.Shape.{Shape, chunk_count, stripe_length}
 use Rattle.store_map.specs.declared.reply.Reply.TheVariants as reply
-use Rattle.store_core.specs.Lists.{places_of, in_rows}
+use Rattle.store_map.specs.declared.placement.Placement.{Placement}
+use Rattle.store_map.specs.declared.placement.Found.TheVariants as found
+use Rattle.store_core.specs.Lists.{places_of}
 use Rattle.store_core.specs.Told.{Told, Seen}
+use Rattle.store_core.specs.Placements.{skipped_from, skipped_count}
 use Rattle.store_core.specs.Note.{Note, Kind}
 use Rattle.store_core.specs.Act.{Act, DirectoryStep, Outcome}
 use Rattle.store_core.specs.Gathering.{Gathering, Part}
 use Rattle.store_core.specs.GatheringParts.{gather_part, gather_chunk, ending, act_of, gathering}
-use Rattle.store_core.specs.Put.{settling, committed, committing, preparing, drawing, next_put}
+use Rattle.store_core.specs.Put.{settling, committed, committing, unless_too_few, preparing, preparing_all, drawing, next_put}
 use Rattle.store_core.specs.Read.{next_read, next_single, parts_of}
 use Rattle.store_core.specs.Write.{old_parts, trying}
 use Rattle.store_core.specs.Rebuild.{placing, installing, confirming, rebuilding, next_rebuild}
 use Rattle.store_core.specs.NextAct.{Job, next_by, next_act}
 use Rattle.store_calls.specs.GatherLaws.{Tells, Ends}
-use Rattle.store_calls.specs.CauseLaws.{Replies, PinsAt, IsPlacement, TargetHasIt, changes_of, HasCause, IsCaused, OutcomesHaveCauses}
-use Rattle.store_calls.proofs.Gatherings.{part_ends, part_target, chunk_ends}
+use Rattle.store_calls.specs.CauseLaws.{Replies, PinsAt, IsPlacement, TargetHasIt, TargetIsAway, changes_of, HasCause, IsCaused, OutcomesHaveCauses}
+use Rattle.store_calls.proofs.Gatherings.{part_ends, part_target, part_away, chunk_ends}
+use Rattle.store_calls.proofs.Skips.{length-skipped, skipped_push}
 
 -- what some later part tells the whole list tells too
 abbrev Into : List Told → List Told → Type 1
@@ -50,20 +55,23 @@ module _ (g : Shape) (tries : ℕ) (whole : List Told) where
   NextIsCaused next = (told : List Told) → Into told whole → IsCaused g tries whole (next told)
 
   act_caused : (stripe : ℕ) (next : List Told → Act) → NextIsCaused next → (told : List Told) → Into told whole → (result : Gathering) → Ends g [] told result
-      → ((rest : List Told) → result ≡ Gathering.AtTarget rest → told ≡ Told.Here ∷ rest → TargetHasIt whole) → IsCaused g tries whole (act_of stripe next result)
-  act_caused stripe next caused told into (Gathering.Asks server step) h target = tt
-  act_caused stripe next caused told into (Gathering.HasBytes rest) h target = caused rest (past h.front rest whole (cut_into told h.front rest whole h.told_is into))
-  act_caused stripe next caused told into (Gathering.TooMany missing rest) h target =
+      → ((rest : List Told) → result ≡ Gathering.AtTarget rest → told ≡ Told.Here ∷ rest → TargetHasIt whole)
+      → ((downs : ℕ) (rest : List Told) → result ≡ Gathering.TargetAway downs rest → told ≡ Told.Missing (found.Away downs) ∷ rest → TargetIsAway downs whole) → IsCaused g tries whole (act_of stripe next result)
+  act_caused stripe next caused told into (Gathering.Asks server step) h target away = tt
+  act_caused stripe next caused told into (Gathering.HasBytes rest) h target away = caused rest (past h.front rest whole (cut_into told h.front rest whole h.told_is into))
+  act_caused stripe next caused told into (Gathering.TooMany missing rest) h target away =
       ending_caused (Outcome.Unavailable stripe missing) (λ e. (h.count, e)) rest (past h.front rest whole (cut_into told h.front rest whole h.told_is into))
-  act_caused stripe next caused told into (Gathering.AtTarget rest) h target =
+  act_caused stripe next caused told into (Gathering.AtTarget rest) h target away =
       ending_caused Outcome.Here (λ e. (inl (target rest refl h), e)) rest (after rest whole (λ P later. into P (subst (Tells P) (sym h) later)))
-  act_caused stripe next caused told into (Gathering.NoRoom rest) h target =
+  act_caused stripe next caused told into (Gathering.TargetAway downs rest) h target away =
+      ending_caused (Outcome.Away downs) (λ e. (inl (away downs rest refl h), e)) rest (after rest whole (λ P later. into P (subst (Tells P) (sym h) later)))
+  act_caused stripe next caused told into (Gathering.Short rest) h target away =
       ending_caused Outcome.NoMemory (λ _. tt) rest (past h.front rest whole (cut_into told h.front rest whole h.told_is into))
 
   gathering_caused : (parts : List Part) (next : List Told → Act) → NextIsCaused next → (told : List Told) → Into told whole → IsCaused g tries whole (gathering g parts next told)
   gathering_caused [] next caused told into = caused told into
   gathering_caused (part ∷ parts) next caused (Told.Gathered ∷ told) into = gathering_caused parts next caused told (λ P h. into P (inr h))
-  gathering_caused (part ∷ parts) next caused told into = act_caused part.seen.stripe (gathering g parts next) (λ later into_later. gathering_caused parts next caused later into_later) told into (gather_part g part told) (part_ends g part told) (λ rest e h. absurd (part_target g part told rest e))
+  gathering_caused (part ∷ parts) next caused told into = act_caused part.seen.stripe (gathering g parts next) (λ later into_later. gathering_caused parts next caused later into_later) told into (gather_part g part told) (part_ends g part told) (λ rest e h. absurd (part_target g part told rest e)) (λ downs rest e h. absurd (part_away g part downs told rest e))
 
   settling_caused : (point : ℕ) → Tells (Replies point reply.Done) whole → (places : List (ℕ × ℕ)) (told : List Told) → IsCaused g tries whole (settling point places told)
   settling_caused point h [] told = h
@@ -75,28 +83,47 @@ module _ (g : Shape) (tries : ℕ) (whole : List Told) where
       settling_caused point (into (Replies point reply.Done) (inl (refl, refl))) (places_of (chunk_count g) versions) told
   committed_caused versions told into = tt
 
-  committing_caused : (placed : List (List ℕ)) (told : List Told) → Into told whole → IsCaused g tries whole (committing placed told)
+  committing_caused : (placed : List (List Placement)) (told : List Told) → Into told whole → IsCaused g tries whole (committing placed told)
   committing_caused placed [] into = tt
   committing_caused placed (Told.Reaped point ∷ told) into = into (λ answer. answer ≡ Told.Reaped point) (inl refl)
   committing_caused placed (_ ∷ told) into = ending_caused Outcome.NoMemory (λ _. tt) told (λ P h. into P (inr h))
 
-  preparing_caused : (versions : List ℕ) (places : List (ℕ × ℕ)) (epochs : List ℕ) (told : List Told) → Into told whole → IsCaused g tries whole (preparing g versions places epochs told)
-  preparing_caused versions [] epochs told into = committing_caused (in_rows (chunk_count g) versions epochs) told into
-  preparing_caused versions (place ∷ places) epochs [] into = tt
-  preparing_caused versions (place ∷ places) epochs (Told.Placed epoch ∷ told) into =
-      preparing_caused versions places (epochs ++ epoch ∷ []) told (λ P h. into P (inr h))
-  preparing_caused versions (place ∷ places) epochs (_ ∷ told) into = ending_caused Outcome.NoMemory (λ _. tt) told (λ P h. into P (inr h))
+  unless_caused : (stripe : ℕ) (row : List Placement) (last : Placement) → skipped_count row ≤ g.parity_count → (told : List Told) → Into told whole → (otherwise : Act)
+      → (skipped_count (row ++ last ∷ []) ≤ g.parity_count → IsCaused g tries whole otherwise) → IsCaused g tries whole (unless_too_few g stripe (row ++ last ∷ []) told otherwise)
+  unless_caused stripe row last few told into otherwise rest =
+      let now : List Placement = row ++ last ∷ [] in
+      let push : skipped_count now ≤ skipped_count row + 1 = skipped_push row last in
+      let count : length (skipped_from 0 now) ≡ skipped_count now = length-skipped 0 now in
+      cond_both {A = Act} (nat_lt g.parity_count (skipped_count now)) (ending (Outcome.Unavailable stripe (skipped_from 0 now)) told) otherwise (IsCaused g tries whole)
+      (λ many. let more : g.parity_count < skipped_count now = ltb-true g.parity_count (skipped_count now) many in
+      ending_caused (Outcome.Unavailable stripe (skipped_from 0 now)) (λ e. (omega (arith, few, push, count, more), e)) told into)
+      (λ less. let fewer : skipped_count now ≤ g.parity_count = ltb-false g.parity_count (skipped_count now) less in rest fewer)
 
-  drawing_caused : NextIsCaused (drawing g)
-  drawing_caused [] into = tt
-  drawing_caused (Told.Versions versions ∷ told) into = preparing_caused versions (places_of (chunk_count g) versions) [] told (λ P h. into P (inr h))
-  drawing_caused (Told.Reaped point ∷ told) into = into (λ answer. answer ≡ Told.Reaped point) (inl refl)
-  drawing_caused (_ ∷ told) into = ending_caused Outcome.NoMemory (λ _. tt) told (λ P h. into P (inr h))
+  preparing_caused : (stripe version : ℕ) (next : List Placement → List Told → Act) → ((row : List Placement) → NextIsCaused (next row))
+      → (servers : List ℕ) (row : List Placement) → skipped_count row ≤ g.parity_count → NextIsCaused (preparing g stripe version next servers row)
+  preparing_caused stripe version next since [] row few told into = since row told into
+  preparing_caused stripe version next since (server ∷ servers) row few [] into = tt
+  preparing_caused stripe version next since (server ∷ servers) row few (Told.Prepared last ∷ told) into =
+      unless_caused stripe row last few told (λ P h. into P (inr h)) (preparing g stripe version next servers (row ++ last ∷ []) told)
+      (λ fewer. preparing_caused stripe version next since servers (row ++ last ∷ []) fewer told (λ P h. into P (inr h)))
+  preparing_caused stripe version next since (server ∷ servers) row few (_ ∷ told) into = ending_caused Outcome.NoMemory (λ _. tt) told (λ P h. into P (inr h))
+
+  preparing_all_caused : (stripe : ℕ) (versions : List ℕ) (placed : List (List Placement)) → NextIsCaused (preparing_all g stripe versions placed)
+  preparing_all_caused stripe [] placed told into = committing_caused placed told into
+  preparing_all_caused stripe (version ∷ versions) placed told into =
+      preparing_caused stripe version (λ row. preparing_all g (stripe + 1) versions (placed ++ row ∷ [])) (λ row. preparing_all_caused (stripe + 1) versions (placed ++ row ∷ []))
+      (range_with_len 0 (chunk_count g)) [] (omega arith) told into
+
+  drawing_caused : (note : Note) → NextIsCaused (drawing g note)
+  drawing_caused note [] into = tt
+  drawing_caused note (Told.Versions versions ∷ told) into = preparing_all_caused (note.offset / stripe_length g) versions [] told (λ P h. into P (inr h))
+  drawing_caused note (Told.Reaped point ∷ told) into = into (λ answer. answer ≡ Told.Reaped point) (inl refl)
+  drawing_caused note (_ ∷ told) into = ending_caused Outcome.NoMemory (λ _. tt) told (λ P h. into P (inr h))
 
   put_caused : (note : Note) (told : List Told) → Into told whole → IsCaused g tries whole (next_put g note told)
   put_caused note [] into = tt
   put_caused note (Told.Answer point answer ∷ told) into = into (Replies point answer) (inl (refl, refl))
-  put_caused note (Told.Ready base length stripes ∷ told) into = drawing_caused told (λ P h. into P (inr h))
+  put_caused note (Told.Ready base length stripes ∷ told) into = drawing_caused note told (λ P h. into P (inr h))
   put_caused note (Told.Versions versions ∷ told) into = committed_caused versions told (λ P h. into P (inr h))
   put_caused note (_ ∷ told) into = tt
 
@@ -122,7 +149,7 @@ module _ (g : Shape) (tries : ℕ) (whole : List Told) where
       trying_caused note (pairs ++ (base, newer) ∷ []) told (e ∙ sym (append_assoc pairs ((base, newer) ∷ []) (changes_of told))) (λ P h. into P (inr h))
   trying_caused note pairs (Told.Answer point answer ∷ told) e into = into (Replies point answer) (inl (refl, refl))
   trying_caused note pairs (Told.Ready base length stripes ∷ told) e into =
-      gathering_caused (old_parts g length stripes) (drawing g) drawing_caused told (λ P h. into P (inr h))
+      gathering_caused (old_parts g length stripes) (drawing g note) (drawing_caused note) told (λ P h. into P (inr h))
   trying_caused note pairs (Told.Versions versions ∷ told) e into = committed_caused versions told (λ P h. into P (inr h))
   trying_caused note pairs (_ ∷ told) e into = tt
 
@@ -137,6 +164,8 @@ module _ (g : Shape) (tries : ℕ) (whole : List Told) where
   installing_caused seen target (Told.Placed epoch ∷ told) into = placing_caused (into IsPlacement (inl tt)) target epoch told (λ P h. into P (inr h))
   installing_caused seen target (Told.AlreadyThere ∷ told) into =
       ending_caused Outcome.Here (λ e. (inr (into (λ answer. answer ≡ Told.AlreadyThere) (inl refl)), e)) told (λ P h. into P (inr h))
+  installing_caused seen target (Told.Away downs ∷ told) into =
+      ending_caused (Outcome.Away downs) (λ e. (inr (into (λ answer. answer ≡ Told.Away downs) (inl refl)), e)) told (λ P h. into P (inr h))
   installing_caused seen target (_ ∷ told) into = ending_caused Outcome.NoMemory (λ _. tt) told (λ P h. into P (inr h))
 
   confirming_caused : (seen : Seen) (target : ℕ) → NextIsCaused (confirming seen target)
@@ -151,6 +180,7 @@ module _ (g : Shape) (tries : ℕ) (whole : List Told) where
   rebuilding_caused some seen target told is into =
       act_caused seen.stripe (confirming seen target) (confirming_caused seen target) told into (gather_chunk g seen target told) (chunk_ends g seen target told some)
       (λ rest e h. subst TargetHasIt (sym (is ∙ ap (λ l. Told.PinnedStripe seen ∷ l) h)) tt)
+      (λ downs rest e h. subst (TargetIsAway downs) (sym (is ∙ ap (λ l. Told.PinnedStripe seen ∷ l) h)) refl)
 
   rebuild_caused : 0 < g.parity_count → (note : Note) (target : ℕ) (told : List Told) → whole ≡ told → Into told whole → IsCaused g tries whole (next_rebuild g note target told)
   rebuild_caused some note target [] is into = tt

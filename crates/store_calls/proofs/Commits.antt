@@ -3,6 +3,7 @@ use Rattle.std.proofs.Common.{◌≡◌, ℕ, zero, suc, ◌*◌, ◌≤◌, Boo
 use Rattle.std.proofs.lemmas.List.{append_assoc, append-nil, length-replicate}
 use Rattle.clay_grid.specs.Shape.{Shape, chunk_count}
 use Rattle.store_map.specs.declared.reply.Reply.TheVariants as reply
+use Rattle.store_map.specs.declared.placement.Placement.{Placement}
 use Rattle.store_core.specs.Lists.{places_of}
 use Rattle.store_core.specs.Told.{Told}
 use Rattle.store_core.specs.Note.{Note, Kind}
@@ -26,8 +27,8 @@ pub record Commits (told : List Told) (act : Act) : Type 0 where
   pub rows : CommitsRows (length drawn) act
 
 module _ (g : Shape) where
-  drawing_commits : (told : List Told) → AtCommit (drawing g told) → Commits told (drawing g told)
-  drawing_commits told h = let facts : IsDrawn g 0 0 told = is_drawn g 0 0 told h in record { drawn = facts.drawn; versions = facts.versions; rows = facts.rows }
+  drawing_commits : (note : Note) (told : List Told) → AtCommit (drawing g note told) → Commits told (drawing g note told)
+  drawing_commits note told h = let facts : IsDrawn g note 0 0 told = is_drawn g note 0 0 told h in record { drawn = facts.drawn; versions = facts.versions; rows = facts.rows }
 
   result_commits : (stripe : ℕ) (next : List Told → Act) → ((told : List Told) → AtCommit (next told) → Commits told (next told))
       → (told : List Told) (result : Gathering) → KeepsMarks told result → AtCommit (act_of stripe next result) → Commits told (act_of stripe next result)
@@ -36,21 +37,22 @@ module _ (g : Shape) where
       let facts : Commits rest (next rest) = later rest h in record { drawn = facts.drawn; versions = keeps.0 ∙ facts.versions; rows = facts.rows }
   result_commits stripe next later told (Gathering.TooMany missing rest) keeps h = absurd (ending_no_commit (Outcome.Unavailable stripe missing) rest h)
   result_commits stripe next later told (Gathering.AtTarget rest) keeps h = absurd (ending_no_commit Outcome.Here rest h)
-  result_commits stripe next later told (Gathering.NoRoom rest) keeps h = absurd (ending_no_commit Outcome.NoMemory rest h)
+  result_commits stripe next later told (Gathering.TargetAway downs rest) keeps h = absurd (ending_no_commit (Outcome.Away downs) rest h)
+  result_commits stripe next later told (Gathering.Short rest) keeps h = absurd (ending_no_commit Outcome.NoMemory rest h)
 
-  gathering_commits : (parts : List Part) (told : List Told) → AtCommit (gathering g parts (drawing g) told) → Commits told (gathering g parts (drawing g) told)
-  gathering_commits [] told h = drawing_commits told h
-  gathering_commits (part ∷ parts) (Told.Gathered ∷ told) h =
-      let facts : Commits told (gathering g parts (drawing g) told) = gathering_commits parts told h in
+  gathering_commits : (note : Note) (parts : List Part) (told : List Told) → AtCommit (gathering g parts (drawing g note) told) → Commits told (gathering g parts (drawing g note) told)
+  gathering_commits note [] told h = drawing_commits note told h
+  gathering_commits note (part ∷ parts) (Told.Gathered ∷ told) h =
+      let facts : Commits told (gathering g parts (drawing g note) told) = gathering_commits note parts told h in
       record { drawn = facts.drawn; versions = facts.versions; rows = facts.rows }
-  gathering_commits (part ∷ parts) told h =
-      result_commits part.seen.stripe (gathering g parts (drawing g)) (gathering_commits parts) told (gather_part g part told) (part_keeps g part told) h
+  gathering_commits note (part ∷ parts) told h =
+      result_commits part.seen.stripe (gathering g parts (drawing g note)) (gathering_commits note parts) told (gather_part g part told) (part_keeps g part told) h
 
   pub put_commits : (note : Note) (told : List Told) → AtCommit (next_put g note told) → Commits told (next_put g note told)
   put_commits note [] h = absurd h
   put_commits note (Told.Answer point given ∷ told) h = absurd h
   put_commits note (Told.Ready base length_now stripes ∷ told) h =
-      let facts : Commits told (drawing g told) = drawing_commits told h in record { drawn = facts.drawn; versions = facts.versions; rows = facts.rows }
+      let facts : Commits told (drawing g note told) = drawing_commits note told h in record { drawn = facts.drawn; versions = facts.versions; rows = facts.rows }
   put_commits note (Told.Versions versions ∷ told) h = absurd (committed_no_commit g versions told h)
   put_commits note (_ ∷ told) h = absurd h
 
@@ -65,7 +67,7 @@ module _ (g : Shape) where
       record { drawn = facts.drawn; versions = facts.versions; rows = facts.rows }
   trying_commits tries note pairs (Told.Answer point given ∷ told) h = absurd h
   trying_commits tries note pairs (Told.Ready base length_now stripes ∷ told) h =
-      let facts : Commits told (gathering g (old_parts g length_now stripes) (drawing g) told) = gathering_commits (old_parts g length_now stripes) told h in
+      let facts : Commits told (gathering g (old_parts g length_now stripes) (drawing g note) told) = gathering_commits note (old_parts g length_now stripes) told h in
       record { drawn = facts.drawn; versions = facts.versions; rows = facts.rows }
   trying_commits tries note pairs (Told.Versions versions ∷ told) h = absurd (committed_no_commit g versions told h)
   trying_commits tries note pairs (_ ∷ told) h = absurd h
@@ -97,7 +99,7 @@ module _ (g : Shape) (job : Job) (versions : List ℕ) (point : ℕ) where
       ∙ ap (λ l. Told.Versions versions ∷ Told.Done point ∷ l) (append_assoc rest (Told.Settled ∷ []) (replicate {A = Told} n Told.Settled))
 
 -- as many settles as there are places
-module _ (g : Shape) (tries : ℕ) (job : Job) (told : List Told) (placed : List (List ℕ)) (point : ℕ) where
+module _ (g : Shape) (tries : ℕ) (job : Job) (told : List Told) (placed : List (List Placement)) (point : ℕ) where
   abbrev settles : List Told
   settles = replicate {A = Told} (length placed * chunk_count g) Told.Settled
 

@@ -22,7 +22,8 @@ one g part parts next rest told (Gathering.Asks server step) e = e
 one g part parts next rest told (Gathering.HasBytes since) e = rest since
 one g part parts next rest told (Gathering.TooMany missing since) e = e
 one g part parts next rest told (Gathering.AtTarget since) e = e
-one g part parts next rest told (Gathering.NoRoom since) e = e
+one g part parts next rest told (Gathering.TargetAway downs since) e = e
+one g part parts next rest told (Gathering.Short since) e = e
 
 parts_cut : (g : Shape) (parts : List Part) (next : List Told → Act) (told : List Told) → gathering g parts next (cut_parts g parts told) ≡ gathering g parts next told
 parts_cut g [] next told = refl
@@ -35,7 +36,7 @@ read_cut g note told = refl
 
 write_cut : (g : Shape) (tries : ℕ) (note : Note) (pairs : List (ℕ × ℕ)) (told : List Told) → trying g tries note pairs (cut_write g told) ≡ trying g tries note pairs told
 write_cut g tries note pairs (Told.Changed base newer ∷ told) = write_cut g tries note (pairs ++ (base, newer) ∷ []) told
-write_cut g tries note pairs (Told.Ready base length stripes ∷ told) = parts_cut g (old_parts g length stripes) (drawing g) told
+write_cut g tries note pairs (Told.Ready base length stripes ∷ told) = parts_cut g (old_parts g length stripes) (drawing g note) told
 write_cut g tries note pairs told = refl
 
 one_chunk : (g : Shape) (seen : Seen) (target : ℕ) (told : List Told) (result : Gathering)
@@ -45,7 +46,8 @@ one_chunk g seen target told (Gathering.Asks server step) e = e
 one_chunk g seen target told (Gathering.HasBytes since) e = refl
 one_chunk g seen target told (Gathering.TooMany missing since) e = e
 one_chunk g seen target told (Gathering.AtTarget since) e = e
-one_chunk g seen target told (Gathering.NoRoom since) e = e
+one_chunk g seen target told (Gathering.TargetAway downs since) e = e
+one_chunk g seen target told (Gathering.Short since) e = e
 
 chunk_cut : (g : Shape) (seen : Seen) (target : ℕ) (told : List Told) → rebuilding g seen target (cut_chunk g seen target told) ≡ rebuilding g seen target told
 chunk_cut g seen target (Told.Gathered ∷ told) = refl

@@ -1,16 +1,19 @@
 -- A call that draws has looked, and gathered the old bytes that it keeps.
-use Rattle.std.proofs.Common.{◌≡◌, ℕ, Bool, true, false, cond, nat_lt, List, [], ◌∷◌, ◌++◌, length, Option, refl, sym, ap, subst, ◌∙◌}
+use Rattle.std.proofs.Common.{◌≡◌, ℕ, Bool, true, false, cond, nat_lt, List, [], ◌∷◌, ◌++◌, length, Option, refl, sym, ap, subst, ◌∙◌, ◌+◌, ◌/◌}
 use Rattle.std.proofs.lemmas.Bool.{cond_both}
 use Rattle.std.proofs.lemmas.List.{append-nil}
-use Rattle.clay_grid.specs.Shape.{Shape, chunk_count}
-use Rattle.store_core.specs.Lists.{places_of, in_rows}
+use Rattle.std.specs.List.{range_with_len}
+use Rattle.store_core.specs.Placements.{skipped_from, skipped_count}
+use Rattle.clay_grid.specs.Shape.{Shape, chunk_count, stripe_length}
+use Rattle.store_map.specs.declared.placement.Placement.{Placement}
+use Rattle.store_core.specs.Lists.{places_of}
 use Rattle.store_core.specs.Told.{Told, Seen}
 use Rattle.store_core.specs.Note.{Note, Kind}
 use Rattle.store_core.specs.Act.{Act, DirectoryStep, Outcome}
 use Rattle.store_core.specs.Gathering.{Part}
 use Rattle.store_core.specs.GatheringParts.{ending, gathering}
 use Rattle.store_calls.specs.GatheredLaws.{gathers}
-use Rattle.store_core.specs.Put.{settling, committed, committing, preparing, drawing, next_put}
+use Rattle.store_core.specs.Put.{settling, committed, committing, preparing, preparing_all, drawing, next_put}
 use Rattle.store_core.specs.Read.{parts_of, next_read, next_single}
 use Rattle.store_core.specs.Write.{old_parts, trying}
 use Rattle.store_core.specs.Rebuild.{placing, installing, confirming, next_rebuild}
@@ -45,6 +48,7 @@ installing_no_draw : (seen : Seen) (target : ℕ) (told : List Told) → IsDraw 
 installing_no_draw seen target [] h = h
 installing_no_draw seen target (Told.Placed epoch ∷ told) h = placing_no_draw target epoch told h
 installing_no_draw seen target (Told.AlreadyThere ∷ told) h = ending_no_draw Outcome.Here told h
+installing_no_draw seen target (Told.Away downs ∷ told) h = ending_no_draw (Outcome.Away downs) told h
 installing_no_draw seen target (_ ∷ told) h = ending_no_draw Outcome.NoMemory told h
 
 confirming_no_draw : (seen : Seen) (target : ℕ) (told : List Told) → IsDraw (confirming seen target told) → ⊥
@@ -81,7 +85,7 @@ settling_no_draw point [] told h = h
 settling_no_draw point (place ∷ places) [] h = h
 settling_no_draw point (place ∷ places) (_ ∷ told) h = settling_no_draw point places told h
 
-committing_no_draw : (placed : List (List ℕ)) (told : List Told) → IsDraw (committing placed told) → ⊥
+committing_no_draw : (placed : List (List Placement)) (told : List Told) → IsDraw (committing placed told) → ⊥
 committing_no_draw placed [] h = h
 committing_no_draw placed (Told.Reaped point ∷ told) h = h
 committing_no_draw placed (_ ∷ told) h = ending_no_draw Outcome.NoMemory told h
@@ -92,18 +96,29 @@ module _ (g : Shape) where
   committed_no_draw versions [] h = h
   committed_no_draw versions (_ ∷ told) h = h
 
-  preparing_no_draw : (versions : List ℕ) (places : List (ℕ × ℕ)) (epochs : List ℕ) (told : List Told) → IsDraw (preparing g versions places epochs told) → ⊥
-  preparing_no_draw versions [] epochs told h = committing_no_draw (in_rows (chunk_count g) versions epochs) told h
-  preparing_no_draw versions (place ∷ places) epochs [] h = h
-  preparing_no_draw versions (place ∷ places) epochs (Told.Placed epoch ∷ told) h = preparing_no_draw versions places (epochs ++ epoch ∷ []) told h
-  preparing_no_draw versions (place ∷ places) epochs (_ ∷ told) h = ending_no_draw Outcome.NoMemory told h
+  preparing_no_draw : (stripe version : ℕ) (next : List Placement → List Told → Act) → ((row : List Placement) (told : List Told) → IsDraw (next row told) → ⊥)
+      → (servers : List ℕ) (row : List Placement) (told : List Told) → IsDraw (preparing g stripe version next servers row told) → ⊥
+  preparing_no_draw stripe version next never [] row told h = never row told h
+  preparing_no_draw stripe version next never (server ∷ servers) row [] h = h
+  preparing_no_draw stripe version next never (server ∷ servers) row (Told.Prepared last ∷ told) h =
+      let now : List Placement = row ++ last ∷ [] in
+      let outcome : Outcome = Outcome.Unavailable stripe (skipped_from 0 now) in
+      cond_both {A = Act} (nat_lt g.parity_count (skipped_count now)) (ending outcome told) (preparing g stripe version next servers now told) (λ act. IsDraw act → ⊥)
+      (λ _. ending_no_draw outcome told) (λ _. preparing_no_draw stripe version next never servers now told) h
+  preparing_no_draw stripe version next never (server ∷ servers) row (_ ∷ told) h = ending_no_draw Outcome.NoMemory told h
+
+  preparing_all_no_draw : (stripe : ℕ) (versions : List ℕ) (placed : List (List Placement)) (told : List Told) → IsDraw (preparing_all g stripe versions placed told) → ⊥
+  preparing_all_no_draw stripe [] placed told h = committing_no_draw placed told h
+  preparing_all_no_draw stripe (version ∷ versions) placed told h =
+      preparing_no_draw stripe version (λ row. preparing_all g (stripe + 1) versions (placed ++ row ∷ [])) (λ row. preparing_all_no_draw (stripe + 1) versions (placed ++ row ∷ []))
+      (range_with_len 0 (chunk_count g)) [] told h
 
   -- a draw is the first of its stage
-  drawing_first : (told : List Told) → IsDraw (drawing g told) → told ≡ []
-  drawing_first [] h = refl
-  drawing_first (Told.Versions versions ∷ told) h = absurd (preparing_no_draw versions (places_of (chunk_count g) versions) [] told h)
-  drawing_first (Told.Reaped point ∷ told) h = absurd h
-  drawing_first (_ ∷ told) h = absurd (ending_no_draw Outcome.NoMemory told h)
+  drawing_first : (note : Note) (told : List Told) → IsDraw (drawing g note told) → told ≡ []
+  drawing_first note [] h = refl
+  drawing_first note (Told.Versions versions ∷ told) h = absurd (preparing_all_no_draw (note.offset / stripe_length g) versions [] told h)
+  drawing_first note (Told.Reaped point ∷ told) h = absurd h
+  drawing_first note (_ ∷ told) h = absurd (ending_no_draw Outcome.NoMemory told h)
 
   -- ---- a put or a write has looked
   record Looked (kind : Kind) (note : Note) (next : List Told → Act) (since : List Told) : Type 0 where
@@ -119,14 +134,14 @@ module _ (g : Shape) where
   put_looked note [] h = absurd h
   put_looked note (Told.Answer point given ∷ since) h = absurd h
   put_looked note (Told.Ready base length_now stripes ∷ since) h =
-      record { base = base; length_now = length_now; stripes = stripes; later = since; is = refl; look = refl; each = drawing_first since h }
+      record { base = base; length_now = length_now; stripes = stripes; later = since; is = refl; look = refl; each = drawing_first note since h }
   put_looked note (Told.Versions versions ∷ since) h = absurd (committed_no_draw versions since h)
   put_looked note (_ ∷ since) h = absurd h
 
-  gathered_all : (parts : List Part) (told : List Told) → AreCalm told → IsDraw (gathering g parts (drawing g) told) → AreGathered g parts told
-  gathered_all parts told calm h =
-      let p : Parted g (drawing g) parts told = parted g (drawing g) parts told calm (draw_past (gathering g parts (drawing g) told) h) in
-      let none : p.rest ≡ [] = drawing_first p.rest (subst IsDraw p.act h) in
+  gathered_all : (note : Note) (parts : List Part) (told : List Told) → AreCalm told → IsDraw (gathering g parts (drawing g note) told) → AreGathered g parts told
+  gathered_all note parts told calm h =
+      let p : Parted g (drawing g note) parts told = parted g (drawing g note) parts told calm (draw_past (gathering g parts (drawing g note) told) h) in
+      let none : p.rest ≡ [] = drawing_first note p.rest (subst IsDraw p.act h) in
       subst (AreGathered g parts) (sym (p.is ∙ ap (λ l. p.gathered ++ l) none ∙ append-nil p.gathered)) p.each
 
   look_next : (note : Note) (pairs : List (ℕ × ℕ)) (b : Bool) → HasStep (cond b (Act.AtDirectory (DirectoryStep.Look note)) (Act.Finish (Outcome.Contended pairs)))
@@ -150,7 +165,7 @@ module _ (g : Shape) where
         later = since;
         is = refl;
         look = look_next note pairs (nat_lt (length pairs) tries) go.0;
-        each = gathered_all (old_parts g length_now stripes) since calm.1 h;
+        each = gathered_all note (old_parts g length_now stripes) since calm.1 h;
       }
   trying_looked tries note pairs (Told.Versions versions ∷ since) calm go h = absurd (committed_no_draw versions since h)
   trying_looked tries note pairs (_ ∷ since) calm go h = absurd h

@@ -3,6 +3,7 @@ use Rattle.std.proofs.Common.{◌≡◌, ℕ, ◌+◌, ◌≤◌, nat_lt, List, 
 use Rattle.std.specs.Prelude.{IsTrue}
 use Rattle.std.proofs.lemmas.Bool.{cond-false, le-ltb}
 use Rattle.std.proofs.lemmas.List.{append_assoc}
+use Rattle.store_map.specs.declared.placement.Found.TheVariants as found
 use Rattle.clay_grid.specs.Shape.{Shape}
 use Rattle.store_map.specs.declared.reply.Reply.{Reply}
 use Rattle.store_core.specs.Told.{Told, Seen}
@@ -19,7 +20,7 @@ use Rattle.store_calls.specs.EndLaws.{HearsShort, IsLook, AnswersEndCalls}
 use Rattle.store_calls.proofs.Cuts.{cuts_change_no_act}
 use Rattle.store_calls.proofs.GatheringFalls.{IsPlain}
 use Rattle.store_calls.proofs.Questions.{IsQuestion}
-use Rattle.store_calls.proofs.NoRoom.{HasNoRoom, part_short, chunk_short}
+use Rattle.store_calls.proofs.Short.{HasShortage, part_short, chunk_short}
 use Rattle.store_calls.proofs.GoesOn.{nothing_came, GoesOn, goes_on, cut_then}
 use Rattle.store_calls.proofs.Commits.{committed_by}
 
@@ -75,8 +76,8 @@ answered g tries point given =
       part = λ part told. nothing_came (gather_part g part told) (gather_part g part (told ++ Told.Answer point given ∷ []));
       chunk = λ seen target told. nothing_came (gather_chunk g seen target told) (gather_chunk g seen target (told ++ Told.Answer point given ∷ []));
       ask = λ server step stripe next later so came h. absurd h;
-      draw = λ h. absurd h;
-      prepare = λ versions place places epochs h. absurd h;
+      draw = λ note h. absurd h;
+      prepare = λ stripe version next server servers row h. absurd h;
       commit = λ placed h. absurd h;
       settle = λ server version later h. absurd h;
       end = λ outcome h. absurd h;
@@ -98,8 +99,8 @@ not_found g tries =
       part = λ part told. nothing_came (gather_part g part told) (gather_part g part (told ++ Told.NoSuch ∷ []));
       chunk = λ seen target told. nothing_came (gather_chunk g seen target told) (gather_chunk g seen target (told ++ Told.NoSuch ∷ []));
       ask = λ server step stripe next later so came h. absurd h;
-      draw = λ h. absurd h;
-      prepare = λ versions place places epochs h. absurd h;
+      draw = λ note h. absurd h;
+      prepare = λ stripe version next server servers row h. absurd h;
       commit = λ placed h. absurd h;
       settle = λ server version later h. absurd h;
       end = λ outcome h. absurd h;
@@ -121,8 +122,8 @@ reaped g tries point =
       part = λ part told. nothing_came (gather_part g part told) (gather_part g part (told ++ Told.Reaped point ∷ []));
       chunk = λ seen target told. nothing_came (gather_chunk g seen target told) (gather_chunk g seen target (told ++ Told.Reaped point ∷ []));
       ask = λ server step stripe next later so came h. absurd h;
-      draw = λ h. refl;
-      prepare = λ versions place places epochs h. absurd h;
+      draw = λ note h. refl;
+      prepare = λ stripe version next server servers row h. absurd h;
       commit = λ placed h. refl;
       settle = λ server version later h. absurd h;
       end = λ outcome h. refl;
@@ -144,8 +145,8 @@ superseded g tries newer =
       part = λ part told. nothing_came (gather_part g part told) (gather_part g part (told ++ Told.Superseded newer ∷ []));
       chunk = λ seen target told. nothing_came (gather_chunk g seen target told) (gather_chunk g seen target (told ++ Told.Superseded newer ∷ []));
       ask = λ server step stripe next later so came h. absurd h;
-      draw = λ h. absurd h;
-      prepare = λ versions place places epochs h. absurd h;
+      draw = λ note h. absurd h;
+      prepare = λ stripe version next server servers row h. absurd h;
       commit = λ placed h. absurd h;
       settle = λ server version later h. absurd h;
       end = λ outcome h. absurd h;
@@ -167,8 +168,8 @@ rebuilt g tries =
       part = λ part told. nothing_came (gather_part g part told) (gather_part g part (told ++ Told.Ended ∷ []));
       chunk = λ seen target told. nothing_came (gather_chunk g seen target told) (gather_chunk g seen target (told ++ Told.Ended ∷ []));
       ask = λ server step stripe next later so came h. absurd h;
-      draw = λ h. absurd h;
-      prepare = λ versions place places epochs h. absurd h;
+      draw = λ note h. absurd h;
+      prepare = λ stripe version next server servers row h. absurd h;
       commit = λ placed h. absurd h;
       settle = λ server version later h. absurd h;
       end = λ outcome h. absurd h;
@@ -195,8 +196,8 @@ already_there g tries =
       part = λ part told. nothing_came (gather_part g part told) (gather_part g part (told ++ Told.AlreadyThere ∷ Told.Ended ∷ []));
       chunk = λ seen target told. nothing_came (gather_chunk g seen target told) (gather_chunk g seen target (told ++ Told.AlreadyThere ∷ Told.Ended ∷ []));
       ask = λ server step stripe next later so came h. absurd (no_ask server step so h);
-      draw = λ h. absurd h;
-      prepare = λ versions place places epochs h. absurd h;
+      draw = λ note h. absurd h;
+      prepare = λ stripe version next server servers row h. absurd h;
       commit = λ placed h. absurd h;
       settle = λ server version later h. absurd h;
       end = λ outcome h. absurd h;
@@ -218,8 +219,54 @@ there_ends_pass g tries =
       part = λ part told. nothing_came (gather_part g part told) (gather_part g part (told ++ Told.AlreadyThere ∷ []));
       chunk = λ seen target told. nothing_came (gather_chunk g seen target told) (gather_chunk g seen target (told ++ Told.AlreadyThere ∷ []));
       ask = λ server step stripe next later so came h. absurd (no_ask server step so h);
-      draw = λ h. absurd h;
-      prepare = λ versions place places epochs h. absurd h;
+      draw = λ note h. absurd h;
+      prepare = λ stripe version next server servers row h. absurd h;
+      commit = λ placed h. absurd h;
+      settle = λ server version later h. absurd h;
+      end = λ outcome h. absurd h;
+      confirm = λ seen target h. absurd h;
+      install = λ seen target h. refl;
+      place = λ target epoch h. absurd h;
+    }
+
+-- a target that is away when its chunk comes
+not_taken : (g : Shape) (tries downs : ℕ) → GoesOn g tries (Told.Away downs ∷ Told.Ended ∷ []) Unknown (Follows AtInstall (Act.Finish (Outcome.Away downs)))
+not_taken g tries downs =
+    record {
+      finish = λ outcome later h. absurd h;
+      look_put = λ note h. absurd h;
+      look_read = λ note h. absurd h;
+      look_single = λ note h. absurd h;
+      look_try = λ note pairs h. absurd h;
+      look_repair = λ note target h. absurd h;
+      part = λ part told. nothing_came (gather_part g part told) (gather_part g part (told ++ Told.Away downs ∷ Told.Ended ∷ []));
+      chunk = λ seen target told. nothing_came (gather_chunk g seen target told) (gather_chunk g seen target (told ++ Told.Away downs ∷ Told.Ended ∷ []));
+      ask = λ server step stripe next later so came h. absurd (no_ask server step so h);
+      draw = λ note h. absurd h;
+      prepare = λ stripe version next server servers row h. absurd h;
+      commit = λ placed h. absurd h;
+      settle = λ server version later h. absurd h;
+      end = λ outcome h. absurd h;
+      confirm = λ seen target h. absurd h;
+      install = λ seen target h. refl;
+      place = λ target epoch h. absurd h;
+    }
+
+-- its pass ends first
+away_ends_pass : (g : Shape) (tries downs : ℕ) → GoesOn g tries (Told.Away downs ∷ []) Unknown (Follows AtInstall (Act.AtDirectory DirectoryStep.End))
+away_ends_pass g tries downs =
+    record {
+      finish = λ outcome later h. absurd h;
+      look_put = λ note h. absurd h;
+      look_read = λ note h. absurd h;
+      look_single = λ note h. absurd h;
+      look_try = λ note pairs h. absurd h;
+      look_repair = λ note target h. absurd h;
+      part = λ part told. nothing_came (gather_part g part told) (gather_part g part (told ++ Told.Away downs ∷ []));
+      chunk = λ seen target told. nothing_came (gather_chunk g seen target told) (gather_chunk g seen target (told ++ Told.Away downs ∷ []));
+      ask = λ server step stripe next later so came h. absurd (no_ask server step so h);
+      draw = λ note h. absurd h;
+      prepare = λ stripe version next server servers row h. absurd h;
       commit = λ placed h. absurd h;
       settle = λ server version later h. absurd h;
       end = λ outcome h. absurd h;
@@ -229,7 +276,7 @@ there_ends_pass g tries =
     }
 
 -- want of memory
-without_memory : (g : Shape) (tries : ℕ) → GoesOn g tries (Told.Short ∷ Told.Ended ∷ []) (HasNoRoom (Told.Ended ∷ [])) (Follows HearsShort (Act.Finish Outcome.NoMemory))
+without_memory : (g : Shape) (tries : ℕ) → GoesOn g tries (Told.Short ∷ Told.Ended ∷ []) (HasShortage (Told.Ended ∷ [])) (Follows HearsShort (Act.Finish Outcome.NoMemory))
 without_memory g tries =
     record {
       finish = λ outcome later h. absurd h;
@@ -241,8 +288,8 @@ without_memory g tries =
       part = λ part told. part_short (Told.Ended ∷ []) g part told;
       chunk = λ seen target told. chunk_short (Told.Ended ∷ []) g seen target told;
       ask = λ server step stripe next later so came h. ap (act_of stripe next) came;
-      draw = λ h. refl;
-      prepare = λ versions place places epochs h. refl;
+      draw = λ note h. refl;
+      prepare = λ stripe version next server servers row h. refl;
       commit = λ placed h. refl;
       settle = λ server version later h. absurd h;
       end = λ outcome h. refl;
@@ -275,8 +322,8 @@ short_at_look g tries =
       part = λ part told. nothing_came (gather_part g part told) (gather_part g part (told ++ Told.Short ∷ []));
       chunk = λ seen target told. nothing_came (gather_chunk g seen target told) (gather_chunk g seen target (told ++ Told.Short ∷ []));
       ask = λ server step stripe next later so came h. absurd h;
-      draw = λ h. absurd h;
-      prepare = λ versions place places epochs h. absurd h;
+      draw = λ note h. absurd h;
+      prepare = λ stripe version next server servers row h. absurd h;
       commit = λ placed h. absurd h;
       settle = λ server version later h. absurd h;
       end = λ outcome h. absurd h;
@@ -286,7 +333,7 @@ short_at_look g tries =
     }
 
 -- at any later step
-short_ends_pass : (g : Shape) (tries : ℕ) → GoesOn g tries (Told.Short ∷ []) (HasNoRoom []) (Follows HearsLater (Act.AtDirectory DirectoryStep.End))
+short_ends_pass : (g : Shape) (tries : ℕ) → GoesOn g tries (Told.Short ∷ []) (HasShortage []) (Follows HearsLater (Act.AtDirectory DirectoryStep.End))
 short_ends_pass g tries =
     record {
       finish = λ outcome later h. absurd h;
@@ -298,8 +345,8 @@ short_ends_pass g tries =
       part = λ part told. part_short [] g part told;
       chunk = λ seen target told. chunk_short [] g seen target told;
       ask = λ server step stripe next later so came h. ap (act_of stripe next) came;
-      draw = λ h. refl;
-      prepare = λ versions place places epochs h. refl;
+      draw = λ note h. refl;
+      prepare = λ stripe version next server servers row h. refl;
       commit = λ placed h. refl;
       settle = λ server version later h. absurd h;
       end = λ outcome h. refl;
@@ -375,10 +422,16 @@ answers_end_calls g tries job =
           one_ends g tries job told Told.AlreadyThere Unknown AtInstall (Act.AtDirectory DirectoryStep.End) tt (there_ends_pass g tries) (subst AtInstall (sym e) tt);
       here_when_it_comes = λ told server version e.
           two_end g tries job told Told.AlreadyThere Told.Ended Unknown AtInstall (Act.Finish Outcome.Here) tt tt (already_there g tries) (subst AtInstall (sym e) tt);
+      pass_ends_when_away = λ seen downs rebuild. ap (λ k. next_by k g tries job (Told.PinnedStripe seen ∷ Told.Missing (found.Away downs) ∷ [])) rebuild;
+      away_when_asked = λ seen downs rebuild. ap (λ k. next_by k g tries job (Told.PinnedStripe seen ∷ Told.Missing (found.Away downs) ∷ Told.Ended ∷ [])) rebuild;
+      pass_ends_when_not_taken = λ told server version downs e.
+          one_ends g tries job told (Told.Away downs) Unknown AtInstall (Act.AtDirectory DirectoryStep.End) tt (away_ends_pass g tries downs) (subst AtInstall (sym e) tt);
+      away_when_it_comes = λ told server version downs e.
+          two_end g tries job told (Told.Away downs) Told.Ended Unknown AtInstall (Act.Finish (Outcome.Away downs)) tt tt (not_taken g tries downs) (subst AtInstall (sym e) tt);
       no_memory_at_look = λ told h. one_ends g tries job told Told.Short Unknown IsLook (Act.Finish Outcome.NoMemory) tt (short_at_look g tries) h;
       pass_ends_without_memory = λ told h later.
-          one_ends g tries job told Told.Short (HasNoRoom []) HearsLater (Act.AtDirectory DirectoryStep.End) tt (short_ends_pass g tries)
+          one_ends g tries job told Told.Short (HasShortage []) HearsLater (Act.AtDirectory DirectoryStep.End) tt (short_ends_pass g tries)
           (hears_later (next_act g tries job told) h later);
       no_memory = λ told h.
-          two_end g tries job told Told.Short Told.Ended (HasNoRoom (Told.Ended ∷ [])) HearsShort (Act.Finish Outcome.NoMemory) tt tt (without_memory g tries) h;
+          two_end g tries job told Told.Short Told.Ended (HasShortage (Told.Ended ∷ [])) HearsShort (Act.Finish Outcome.NoMemory) tt tt (without_memory g tries) h;
     }

@@ -1,12 +1,17 @@
 -- The steps that a call has left fall at each of its steps.
-use Rattle.std.proofs.Common.{◌≡◌, ℕ, suc, ◌+◌, ◌*◌, ◌<◌, ◌≤◌, max, List, [], ◌∷◌, ◌++◌, length, filter, drop, refl, sym, ap, subst, ◌∙◌, arith, mul_comm, two-mul, add-mul, mul-le-mul_right}
-use Rattle.clay_grid.specs.Shape.{Shape, chunk_count}
-use Rattle.store_core.specs.Lists.{places_of, in_rows}
+use Rattle.std.proofs.Common.{◌≡◌, ℕ, suc, ◌+◌, ◌*◌, ◌<◌, ◌≤◌, max, List, [], ◌∷◌, ◌++◌, length, filter, refl, sym, ap, subst, ◌∙◌, arith, mul_comm, two-mul, add-mul, mul-le-mul_right, ◌/◌, nat_lt, map, length-append}
+use Rattle.std.specs.List.{range_with_len}
+use Rattle.store_core.specs.Placements.{skipped_from, skipped_count}
+use Rattle.std.proofs.lemmas.Bool.{cond_both}
+use Rattle.std.proofs.lemmas.List.FromFn.{length-range_with_len}
+use Rattle.clay_grid.specs.Shape.{Shape, chunk_count, stripe_length}
+use Rattle.store_map.specs.declared.placement.Placement.{Placement}
+use Rattle.store_core.specs.Lists.{places_of}
 use Rattle.store_core.specs.Told.{Told}
 use Rattle.store_core.specs.Note.{Note, Kind}
 use Rattle.store_core.specs.Act.{Act, DirectoryStep, ServerStep, Outcome}
 use Rattle.store_core.specs.GatheringParts.{ending}
-use Rattle.store_core.specs.Put.{settling, committed, committing, preparing, drawing, next_put}
+use Rattle.store_core.specs.Put.{settling, committed, committing, preparing, preparing_all, drawing, next_put}
 use Rattle.store_core.specs.Read.{next_single}
 use Rattle.store_core.specs.NextAct.{Job, next_by}
 use Rattle.store_core.specs.Tell.{is_versions, is_changed, tell_by}
@@ -67,7 +72,7 @@ module _ (pins touched : ℕ) where
   committed_falls g versions [] answer h = absurd h
   committed_falls g versions (_ ∷ told) answer h = absurd h
 
-  committing_falls : (after : ℕ) (placed : List (List ℕ)) (told : List Told) (answer : Told) → Answers pins touched (committing placed told) answer → IsKept answer
+  committing_falls : (after : ℕ) (placed : List (List Placement)) (told : List Told) (answer : Told) → Answers pins touched (committing placed told) answer → IsKept answer
       → committing_left after (told ++ answer ∷ []) < committing_left after told
   committing_falls after placed [] (Told.Reaped point) h kept = omega arith
   committing_falls after placed [] (Told.Done point) h kept = absurd kept
@@ -76,34 +81,75 @@ module _ (pins touched : ℕ) where
   committing_falls after placed (Told.Reaped point ∷ told) answer h kept = absurd h
   committing_falls after placed (_ ∷ told) answer h kept = ending_falls Outcome.NoMemory told answer h
 
-  preparing_falls : (after : ℕ) (g : Shape) (versions : List ℕ) (places : List (ℕ × ℕ)) (epochs : List ℕ) (told : List Told) (answer : Told)
-      → Answers pins touched (preparing g versions places epochs told) answer → IsKept answer
+  -- the end of a call that found too many servers away, by the places that it has left out
+  ending_prepares : (after : ℕ) (outcome : Outcome) (places : List (ℕ × ℕ)) (told : List Told) (answer : Told) → 0 < after → Answers pins touched (ending outcome told) answer
       → preparing_left after places (told ++ answer ∷ []) < preparing_left after places told
-  preparing_falls after g versions [] epochs told answer h kept = committing_falls after (in_rows (chunk_count g) versions epochs) told answer h kept
-  preparing_falls after g versions (place ∷ places) epochs [] (Told.Placed epoch) h kept =
-      let e : preparing_left after places [] ≡ length places + after + 1 = preparing_start after places in omega (arith, e)
-  preparing_falls after g versions (place ∷ places) epochs [] Told.Short h kept = omega arith
-  preparing_falls after g versions (place ∷ places) epochs [] answer h kept = absurd h
-  preparing_falls after g versions (place ∷ places) epochs (Told.Placed epoch ∷ told) answer h kept =
-      preparing_falls after g versions places (epochs ++ epoch ∷ []) told answer h kept
-  preparing_falls after g versions (place ∷ places) epochs (_ ∷ told) answer h kept = ending_falls Outcome.NoMemory told answer h
+  ending_prepares after outcome [] [] Told.Ended some h = omega (arith, some)
+  ending_prepares after outcome [] [] (Told.Reaped point) some h = omega arith
+  ending_prepares after outcome [] [] answer some h = absurd h
+  ending_prepares after outcome (place ∷ places) [] Told.Ended some h = omega arith
+  ending_prepares after outcome (place ∷ places) [] (Told.Reaped point) some h = omega arith
+  ending_prepares after outcome (place ∷ places) [] answer some h = absurd h
+  ending_prepares after outcome places (Told.Ended ∷ told) answer some h = absurd h
+  ending_prepares after outcome places (Told.Reaped point ∷ told) answer some h = absurd h
+  ending_prepares after outcome (place ∷ places) (Told.Prepared last ∷ told) answer some h = ending_prepares after Outcome.NoMemory places told answer some h
+  ending_prepares after outcome [] (_ ∷ told) answer some h = ending_falls Outcome.NoMemory told answer h
+  ending_prepares after outcome (place ∷ places) (_ ∷ told) answer some h = ending_falls Outcome.NoMemory told answer h
 
-  pub drawing_falls : (g : Shape) (tries_after : ℕ) (told : List Told) (answer : Told) → Answers pins touched (drawing g told) answer → IsKept answer
+  preparing_falls : (after : ℕ) (g : Shape) (stripe version : ℕ) (next : List Placement → List Told → Act) (rest : List (ℕ × ℕ))
+      → ((row : List Placement) (told : List Told) (answer : Told) → Answers pins touched (next row told) answer → IsKept answer
+      → preparing_left after rest (told ++ answer ∷ []) < preparing_left after rest told)
+      → (servers : List ℕ) → (0 < length servers → 0 < after) → (row : List Placement) (told : List Told) (answer : Told)
+      → Answers pins touched (preparing g stripe version next servers row told) answer → IsKept answer
+      → preparing_left after (map (λ server. (server, version)) servers ++ rest) (told ++ answer ∷ []) < preparing_left after (map (λ server. (server, version)) servers ++ rest) told
+  preparing_falls after g stripe version next rest falls [] some row told answer h kept = falls row told answer h kept
+  preparing_falls after g stripe version next rest falls (server ∷ servers) some row [] (Told.Prepared last) h kept =
+      let left : List (ℕ × ℕ) = map (λ server. (server, version)) servers ++ rest in
+      let e : preparing_left after left [] ≡ length left + after + 1 = preparing_start after left in omega (arith, e)
+  preparing_falls after g stripe version next rest falls (server ∷ servers) some row [] Told.Short h kept = omega arith
+  preparing_falls after g stripe version next rest falls (server ∷ servers) some row [] answer h kept = absurd h
+  preparing_falls after g stripe version next rest falls (server ∷ servers) some row (Told.Prepared last ∷ told) answer h kept =
+      let now : List Placement = row ++ last ∷ [] in
+      let outcome : Outcome = Outcome.Unavailable stripe (skipped_from 0 now) in
+      let left : List (ℕ × ℕ) = map (λ server. (server, version)) servers ++ rest in
+      cond_both {A = Act} (nat_lt g.parity_count (skipped_count now)) (ending outcome told) (preparing g stripe version next servers now told)
+      (λ act. Answers pins touched act answer → preparing_left after left (told ++ answer ∷ []) < preparing_left after left told)
+      (λ _ k. ending_prepares after outcome left told answer (some (omega arith)) k)
+      (λ _ k. preparing_falls after g stripe version next rest falls servers (λ _. some (omega arith)) now told answer k kept) h
+  preparing_falls after g stripe version next rest falls (server ∷ servers) some row (_ ∷ told) answer h kept = ending_falls Outcome.NoMemory told answer h
+
+  preparing_all_falls : (after : ℕ) (g : Shape) (stripe : ℕ) (versions : List ℕ) → length versions * chunk_count g ≤ after → (placed : List (List Placement)) (told : List Told) (answer : Told)
+      → Answers pins touched (preparing_all g stripe versions placed told) answer → IsKept answer
+      → preparing_left after (places_of (chunk_count g) versions) (told ++ answer ∷ []) < preparing_left after (places_of (chunk_count g) versions) told
+  preparing_all_falls after g stripe [] few placed told answer h kept = committing_falls after placed told answer h kept
+  preparing_all_falls after g stripe (version ∷ versions) few placed told answer h kept =
+      let n : ℕ = chunk_count g in
+      let same : length (range_with_len 0 n) ≡ n = length-range_with_len 0 n in
+      let more : suc (length versions) * n ≡ length versions * n + n = omega arith in
+      let all : suc (length versions) * n ≤ after = few in
+      let some : 0 < length (range_with_len 0 n) → 0 < after = λ there. omega (arith, there, same, more, all) in
+      preparing_falls after g stripe version (λ row. preparing_all g (stripe + 1) versions (placed ++ row ∷ [])) (places_of n versions)
+      (λ row. preparing_all_falls after g (stripe + 1) versions (omega (arith, more, all)) (placed ++ row ∷ [])) (range_with_len 0 n) some [] told answer h kept
+
+  pub drawing_falls : (g : Shape) (note : Note) (tries_after : ℕ) (told : List Told) (answer : Told) → Answers pins touched (drawing g note told) answer → IsKept answer
       → drawing_left g tries_after touched (told ++ answer ∷ []) < drawing_left g tries_after touched told
-  drawing_falls g tries_after [] (Told.Versions versions) h kept =
+  drawing_falls g note tries_after [] (Told.Versions versions) h kept =
       let places : List (ℕ × ℕ) = places_of (chunk_count g) versions in
       let most : length places ≤ chunk_count g * touched = places_most (chunk_count g) touched versions h in
       let start : preparing_left (max tries_after (length places)) places [] ≡ length places + max tries_after (length places) + 1 =
       preparing_start (max tries_after (length places)) places in
       let all : ℕ = chunk_count g * touched in
       omega (arith, most, start)
-  drawing_falls g tries_after [] (Told.Reaped point) h kept = let all : ℕ = chunk_count g * touched in omega arith
-  drawing_falls g tries_after [] Told.Short h kept = let all : ℕ = chunk_count g * touched in omega arith
-  drawing_falls g tries_after [] answer h kept = absurd h
-  drawing_falls g tries_after (Told.Versions versions ∷ told) answer h kept =
-      preparing_falls (max tries_after (length (places_of (chunk_count g) versions))) g versions (places_of (chunk_count g) versions) [] told answer h kept
-  drawing_falls g tries_after (Told.Reaped point ∷ told) answer h kept = absurd h
-  drawing_falls g tries_after (_ ∷ told) answer h kept = ending_falls Outcome.NoMemory told answer h
+  drawing_falls g note tries_after [] (Told.Reaped point) h kept = let all : ℕ = chunk_count g * touched in omega arith
+  drawing_falls g note tries_after [] Told.Short h kept = let all : ℕ = chunk_count g * touched in omega arith
+  drawing_falls g note tries_after [] answer h kept = absurd h
+  drawing_falls g note tries_after (Told.Versions versions ∷ told) answer h kept =
+      let places : List (ℕ × ℕ) = places_of (chunk_count g) versions in
+      let count : length places ≡ length versions * chunk_count g = count_places (chunk_count g) versions in
+      let few : length versions * chunk_count g ≤ max tries_after (length places) = omega (arith, count) in
+      preparing_all_falls (max tries_after (length places)) g (note.offset / stripe_length g) versions few [] told answer h kept
+  drawing_falls g note tries_after (Told.Reaped point ∷ told) answer h kept = absurd h
+  drawing_falls g note tries_after (_ ∷ told) answer h kept = ending_falls Outcome.NoMemory told answer h
 
   -- ---- the commit
   step_at_commit : (point : ℕ) (step : DirectoryStep) → DirectoryAnswers pins touched step (Told.Done point) → AtCommit (Act.AtDirectory step)
@@ -153,61 +199,85 @@ abbrev pub CommitsRows : ℕ → Act → Type 0
 CommitsRows count (Act.AtDirectory (DirectoryStep.Commit placed)) = length placed ≡ count
 CommitsRows count _ = Unit {0}
 
-length-in_rows : (width : ℕ) (versions numbers : List ℕ) → length (in_rows width versions numbers) ≡ length versions
-length-in_rows width [] numbers = refl
-length-in_rows width (version ∷ versions) numbers = ap suc (length-in_rows width versions (drop width numbers))
-
 ending_rows : (count : ℕ) (outcome : Outcome) (told : List Told) → CommitsRows count (ending outcome told)
 ending_rows count outcome [] = tt
 ending_rows count outcome (Told.Ended ∷ told) = tt
 ending_rows count outcome (Told.Reaped point ∷ told) = tt
 ending_rows count outcome (_ ∷ told) = ending_rows count Outcome.NoMemory told
 
-preparing_rows : (g : Shape) (versions : List ℕ) (places : List (ℕ × ℕ)) (epochs : List ℕ) (told : List Told) → CommitsRows (length versions) (preparing g versions places epochs told)
-preparing_rows g versions [] epochs [] = length-in_rows (chunk_count g) versions epochs
-preparing_rows g versions [] epochs (Told.Reaped point ∷ told) = tt
-preparing_rows g versions [] epochs (_ ∷ told) = ending_rows (length versions) Outcome.NoMemory told
-preparing_rows g versions (place ∷ places) epochs [] = tt
-preparing_rows g versions (place ∷ places) epochs (Told.Placed epoch ∷ told) = preparing_rows g versions places (epochs ++ epoch ∷ []) told
-preparing_rows g versions (place ∷ places) epochs (_ ∷ told) = ending_rows (length versions) Outcome.NoMemory told
+preparing_rows : (count : ℕ) (g : Shape) (stripe version : ℕ) (next : List Placement → List Told → Act) → ((row : List Placement) (told : List Told) → CommitsRows count (next row told))
+    → (servers : List ℕ) (row : List Placement) (told : List Told) → CommitsRows count (preparing g stripe version next servers row told)
+preparing_rows count g stripe version next rows [] row told = rows row told
+preparing_rows count g stripe version next rows (server ∷ servers) row [] = tt
+preparing_rows count g stripe version next rows (server ∷ servers) row (Told.Prepared last ∷ told) =
+    let now : List Placement = row ++ last ∷ [] in
+    let outcome : Outcome = Outcome.Unavailable stripe (skipped_from 0 now) in
+    cond_both {A = Act} (nat_lt g.parity_count (skipped_count now)) (ending outcome told) (preparing g stripe version next servers now told) (CommitsRows count)
+    (λ _. ending_rows count outcome told) (λ _. preparing_rows count g stripe version next rows servers now told)
+preparing_rows count g stripe version next rows (server ∷ servers) row (_ ∷ told) = ending_rows count Outcome.NoMemory told
+
+preparing_all_rows : (count : ℕ) (g : Shape) (stripe : ℕ) (versions : List ℕ) (placed : List (List Placement)) → length placed + length versions ≡ count
+    → (told : List Told) → CommitsRows count (preparing_all g stripe versions placed told)
+preparing_all_rows count g stripe [] placed same [] = omega (arith, same)
+preparing_all_rows count g stripe [] placed same (Told.Reaped point ∷ told) = tt
+preparing_all_rows count g stripe [] placed same (_ ∷ told) = ending_rows count Outcome.NoMemory told
+preparing_all_rows count g stripe (version ∷ versions) placed same told =
+    preparing_rows count g stripe version (λ row. preparing_all g (stripe + 1) versions (placed ++ row ∷ []))
+    (λ row. preparing_all_rows count g (stripe + 1) versions (placed ++ row ∷ []) (let one : length (placed ++ row ∷ []) ≡ length placed + 1 = length-append placed (row ∷ []) in omega (arith, same, one)))
+    (range_with_len 0 (chunk_count g)) [] told
 
 record AllPrepared (after : ℕ) (places : List (ℕ × ℕ)) (told : List Told) : Type 0 where
   versions : filter is_versions told ≡ []
   changed : filter is_changed told ≡ []
   left : preparing_left after places told ≡ after + 1
 
-all_prepared : (after : ℕ) (g : Shape) (versions : List ℕ) (places : List (ℕ × ℕ)) (epochs : List ℕ) (told : List Told)
-    → AtCommit (preparing g versions places epochs told) → AllPrepared after places told
-all_prepared after g versions [] epochs [] h = record { versions = refl; changed = refl; left = refl }
-all_prepared after g versions [] epochs (Told.Reaped point ∷ told) h = absurd h
-all_prepared after g versions [] epochs (_ ∷ told) h = absurd (ending_no_commit Outcome.NoMemory told h)
-all_prepared after g versions (place ∷ places) epochs [] h = absurd h
-all_prepared after g versions (place ∷ places) epochs (Told.Placed epoch ∷ told) h =
-    let rest : AllPrepared after places told = all_prepared after g versions places (epochs ++ epoch ∷ []) told h in
-    record { versions = rest.versions; changed = rest.changed; left = rest.left }
-all_prepared after g versions (place ∷ places) epochs (_ ∷ told) h = absurd (ending_no_commit Outcome.NoMemory told h)
+abbrev AreAllPrepared : ℕ → List (ℕ × ℕ) → (List Told → Act) → Type 0
+AreAllPrepared after places next = (told : List Told) → AtCommit (next told) → AllPrepared after places told
 
-pub record IsDrawn (g : Shape) (tries_after touched : ℕ) (told : List Told) : Type 0 where
+prepared_one : (after : ℕ) (g : Shape) (stripe version : ℕ) (next : List Placement → List Told → Act) (rest : List (ℕ × ℕ)) → ((row : List Placement) → AreAllPrepared after rest (next row))
+    → (servers : List ℕ) (row : List Placement) → AreAllPrepared after (map (λ server. (server, version)) servers ++ rest) (preparing g stripe version next servers row)
+prepared_one after g stripe version next rest later [] row told h = later row told h
+prepared_one after g stripe version next rest later (server ∷ servers) row [] h = absurd h
+prepared_one after g stripe version next rest later (server ∷ servers) row (Told.Prepared last ∷ told) h =
+    let now : List Placement = row ++ last ∷ [] in
+    let outcome : Outcome = Outcome.Unavailable stripe (skipped_from 0 now) in
+    let left : List (ℕ × ℕ) = map (λ server. (server, version)) servers ++ rest in
+    let facts : AllPrepared after left told =
+    cond_both {A = Act} (nat_lt g.parity_count (skipped_count now)) (ending outcome told) (preparing g stripe version next servers now told) (λ act. AtCommit act → AllPrepared after left told)
+    (λ _ k. absurd (ending_no_commit outcome told k)) (λ _. prepared_one after g stripe version next rest later servers now told) h in
+    record { versions = facts.versions; changed = facts.changed; left = facts.left }
+prepared_one after g stripe version next rest later (server ∷ servers) row (_ ∷ told) h = absurd (ending_no_commit Outcome.NoMemory told h)
+
+all_prepared : (after : ℕ) (g : Shape) (stripe : ℕ) (versions : List ℕ) (placed : List (List Placement))
+    → AreAllPrepared after (places_of (chunk_count g) versions) (preparing_all g stripe versions placed)
+all_prepared after g stripe [] placed [] h = record { versions = refl; changed = refl; left = refl }
+all_prepared after g stripe [] placed (Told.Reaped point ∷ told) h = absurd h
+all_prepared after g stripe [] placed (_ ∷ told) h = absurd (ending_no_commit Outcome.NoMemory told h)
+all_prepared after g stripe (version ∷ versions) placed told h =
+    prepared_one after g stripe version (λ row. preparing_all g (stripe + 1) versions (placed ++ row ∷ [])) (places_of (chunk_count g) versions)
+    (λ row. all_prepared after g (stripe + 1) versions (placed ++ row ∷ [])) (range_with_len 0 (chunk_count g)) [] told h
+
+pub record IsDrawn (g : Shape) (note : Note) (tries_after touched : ℕ) (told : List Told) : Type 0 where
   pub drawn : List ℕ
   pub versions : filter is_versions told ≡ Told.Versions drawn ∷ []
   pub changed : filter is_changed told ≡ []
   pub left : drawing_left g tries_after touched told ≡ max tries_after (length (places_of (chunk_count g) drawn)) + 1
-  pub rows : CommitsRows (length drawn) (drawing g told)
+  pub rows : CommitsRows (length drawn) (drawing g note told)
 
-pub is_drawn : (g : Shape) (tries_after touched : ℕ) (told : List Told) → AtCommit (drawing g told) → IsDrawn g tries_after touched told
-is_drawn g tries_after touched [] h = absurd h
-is_drawn g tries_after touched (Told.Versions drawn ∷ told) h =
+pub is_drawn : (g : Shape) (note : Note) (tries_after touched : ℕ) (told : List Told) → AtCommit (drawing g note told) → IsDrawn g note tries_after touched told
+is_drawn g note tries_after touched [] h = absurd h
+is_drawn g note tries_after touched (Told.Versions drawn ∷ told) h =
     let after : ℕ = max tries_after (length (places_of (chunk_count g) drawn)) in
-    let rest : AllPrepared after (places_of (chunk_count g) drawn) told = all_prepared after g drawn (places_of (chunk_count g) drawn) [] told h in
+    let rest : AllPrepared after (places_of (chunk_count g) drawn) told = all_prepared after g (note.offset / stripe_length g) drawn [] told h in
     record {
       drawn = drawn;
       versions = ap (λ l. Told.Versions drawn ∷ l) rest.versions;
       changed = rest.changed;
       left = rest.left;
-      rows = preparing_rows g drawn (places_of (chunk_count g) drawn) [] told;
+      rows = preparing_all_rows (length drawn) g (note.offset / stripe_length g) drawn [] (omega arith) told;
     }
-is_drawn g tries_after touched (Told.Reaped point ∷ told) h = absurd h
-is_drawn g tries_after touched (_ ∷ told) h = absurd (ending_no_commit Outcome.NoMemory told h)
+is_drawn g note tries_after touched (Told.Reaped point ∷ told) h = absurd h
+is_drawn g note tries_after touched (_ ∷ told) h = absurd (ending_no_commit Outcome.NoMemory told h)
 
 -- ---- a put
 module _ (g : Shape) (pins touched : ℕ) where
@@ -223,7 +293,7 @@ module _ (g : Shape) (pins touched : ℕ) where
   put_falls note [] (Told.Versions versions) h kept = absurd h
   put_falls note [] answer h kept = let all : ℕ = 2 * chunk_count g * touched in omega arith
   put_falls note (Told.Answer point reply ∷ told) answer h kept = absurd h
-  put_falls note (Told.Ready base length_now stripes ∷ told) answer h kept = drawing_falls pins touched g 0 told answer h kept
+  put_falls note (Told.Ready base length_now stripes ∷ told) answer h kept = drawing_falls pins touched g note 0 told answer h kept
   put_falls note (Told.Versions versions ∷ told) answer h kept = committed_falls pins touched g versions told answer h
   put_falls note (_ ∷ told) answer h kept = absurd h
 
@@ -232,7 +302,7 @@ module _ (g : Shape) (pins touched : ℕ) where
   put_done note [] point h = absurd h
   put_done note (Told.Answer at reply ∷ told) point h = absurd h
   put_done note (Told.Ready base length_now stripes ∷ told) point h =
-      let facts : IsDrawn g 0 touched told = is_drawn g 0 touched told h in
+      let facts : IsDrawn g note 0 touched told = is_drawn g note 0 touched told h in
       let places : List (ℕ × ℕ) = places_of (chunk_count g) facts.drawn in
       let start : settling_left places [] ≡ length places = settling_start places in
       subst (λ l. put_left g touched (l ++ Told.Done point ∷ []) < drawing_left g 0 touched told) (sym facts.versions)
@@ -245,7 +315,7 @@ module _ (g : Shape) (pins touched : ℕ) where
   put_changed note [] base newer h = absurd h
   put_changed note (Told.Answer at reply ∷ told) base newer h = absurd h
   put_changed note (Told.Ready old length_now stripes ∷ told) base newer h =
-      let facts : IsDrawn g 0 touched told = is_drawn g 0 touched told h in
+      let facts : IsDrawn g note 0 touched told = is_drawn g note 0 touched told h in
       subst (λ l. put_left g touched (l ++ Told.Changed base newer ∷ []) < drawing_left g 0 touched told) (sym facts.changed)
       (subst (λ n. 0 < n) (sym facts.left) (omega arith))
   put_changed note (Told.Versions versions ∷ told) base newer h = absurd (committed_no_commit g versions told h)

@@ -1,7 +1,9 @@
 -- What a gathering takes of the answers has no versions and no changes among it.
 use Rattle.std.proofs.Common.{◌≡◌, ℕ, zero, suc, nat_lt, List, [], ◌∷◌, ◌++◌, length, map, filter, refl}
 use Rattle.std.proofs.lemmas.Bool.{cond_both}
+use Rattle.store_map.specs.declared.placement.Found.{Found}
 use Rattle.clay_grid.specs.Shape.{Shape}
+use Rattle.store_map.specs.declared.placement.Found.TheVariants as found
 use Rattle.store_core.specs.Told.{Seen, Lost, Told}
 use Rattle.store_core.specs.Gathering.{Gathering, Part, servers_but, lost_at, unless_too_many, fetching_whole, recovering, fetching_repair, making, looking}
 use Rattle.store_core.specs.GatheringParts.{chunks_in_range, after_data, fetching_data, gather_part, gather_chunk}
@@ -16,7 +18,7 @@ given : (layers : ℕ) (told : List Told) (result : Gathering) → KeepsMarks to
 given layers told (Gathering.HasBytes rest) h = h
 given layers told _ h = tt
 
-missed : (epoch : ℕ) (told : List Told) (result : Gathering) → KeepsMarks told result → KeepsMarks (Told.Missing epoch ∷ told) result
+missed : (epoch : Found) (told : List Told) (result : Gathering) → KeepsMarks told result → KeepsMarks (Told.Missing epoch ∷ told) result
 missed epoch told (Gathering.HasBytes rest) h = h
 missed epoch told _ h = tt
 
@@ -89,7 +91,8 @@ module _ (g : Shape) (part : Part) where
 pub chunk_keeps : (g : Shape) (seen : Seen) (target : ℕ) (told : List Told) → KeepsMarks told (gather_chunk g seen target told)
 chunk_keeps g seen target [] = tt
 chunk_keeps g seen target (Told.Here ∷ told) = tt
-chunk_keeps g seen target (Told.Missing epoch ∷ told) =
-    let marked : List Lost = lost_at g seen target epoch ∷ [] in
-    missed epoch told (looking g seen (servers_but g seen (target ∷ [])) marked told) (looking_keeps g seen (servers_but g seen (target ∷ [])) marked told)
+chunk_keeps g seen target (Told.Missing (found.Absent epoch) ∷ told) =
+    let marked : List Lost = lost_at g seen target (found.Absent epoch) ∷ [] in
+    missed (found.Absent epoch) told (looking g seen (servers_but g seen (target ∷ [])) marked told) (looking_keeps g seen (servers_but g seen (target ∷ [])) marked told)
+chunk_keeps g seen target (Told.Missing (found.Away downs) ∷ told) = tt
 chunk_keeps g seen target (_ ∷ told) = tt

@@ -82,7 +82,7 @@ unavailable_by Kind.ReadAt g tries job pairs (Told.Pinned point length_now strip
     ∙ unavailable_parts g (parts_of g job.note length_now stripes) before after part (ending (Outcome.Served point)) told missing parted e
 unavailable_by Kind.Write g tries job pairs (Told.Ready base length_now stripes) before after part told missing none parted e =
     tries_past g tries job.note [] pairs (Told.Ready base length_now stripes ∷ (map (λ _. Told.Gathered) before ++ (told ++ Told.Ended ∷ [])))
-    ∙ unavailable_parts g (old_parts g length_now stripes) before after part (drawing g) told missing parted e
+    ∙ unavailable_parts g (old_parts g length_now stripes) before after part (drawing g job.note) told missing parted e
 unavailable_by kind g tries job pairs looked before after part told missing none parted e = absurd (some_part before after part parted)
 
 -- ---- the chunk of a rebuild

@@ -48,7 +48,8 @@ module _ (pins touched : ℕ) where
     just_ended count (Gathering.HasBytes rest) h below = subst (λ l. since l < most - count + after) (sym h) (omega (arith, below, start))
     just_ended count (Gathering.TooMany missing rest) h below = subst (λ l. ending_left l < most - count + after) (sym h) (omega (arith, below, some))
     just_ended count (Gathering.AtTarget rest) h below = subst (λ l. ending_left l < most - count + after) (sym h) (omega (arith, below, some))
-    just_ended count (Gathering.NoRoom rest) h below = subst (λ l. ending_left l < most - count + after) (sym h) (omega (arith, below, some))
+    just_ended count (Gathering.TargetAway downs rest) h below = subst (λ l. ending_left l < most - count + after) (sym h) (omega (arith, below, some))
+    just_ended count (Gathering.Short rest) h below = subst (λ l. ending_left l < most - count + after) (sym h) (omega (arith, below, some))
 
     pub result_falls : (stripe : ℕ) (next : List Told → Act)
         → ((told : List Told) (answer : Told) → Answers pins touched (next told) answer → IsKept answer → since (told ++ answer ∷ []) < since told)
@@ -65,7 +66,9 @@ module _ (pins touched : ℕ) where
         (ending_falls pins touched (Outcome.Unavailable stripe missing) rest answer h)
     result_falls stripe next falls told answer (Gathering.AtTarget rest) later grows few h kept =
         subst (λ r. result_left most (length (told ++ answer ∷ [])) after since r < ending_left rest) (sym grows) (ending_falls pins touched Outcome.Here rest answer h)
-    result_falls stripe next falls told answer (Gathering.NoRoom rest) later grows few h kept =
+    result_falls stripe next falls told answer (Gathering.TargetAway downs rest) later grows few h kept =
+        subst (λ r. result_left most (length (told ++ answer ∷ [])) after since r < ending_left rest) (sym grows) (ending_falls pins touched (Outcome.Away downs) rest answer h)
+    result_falls stripe next falls told answer (Gathering.Short rest) later grows few h kept =
         subst (λ r. result_left most (length (told ++ answer ∷ [])) after since r < ending_left rest) (sym grows) (ending_falls pins touched Outcome.NoMemory rest answer h)
 
 -- ---- several parts
@@ -79,7 +82,8 @@ module _ (g : Shape) (left : List Told → ℕ) (some : 1 ≤ left []) where
   started part parts rest (Gathering.HasBytes told) h = subst (λ l. gathering_left g parts left l ≤ 3 * chunk_count g + after_part parts) (sym h) (omega (arith, rest))
   started part parts rest (Gathering.TooMany missing told) h = subst (λ l. ending_left l ≤ 3 * chunk_count g + after_part parts) (sym h) (omega (arith, some))
   started part parts rest (Gathering.AtTarget told) h = subst (λ l. ending_left l ≤ 3 * chunk_count g + after_part parts) (sym h) (omega (arith, some))
-  started part parts rest (Gathering.NoRoom told) h = subst (λ l. ending_left l ≤ 3 * chunk_count g + after_part parts) (sym h) (omega (arith, some))
+  started part parts rest (Gathering.TargetAway downs told) h = subst (λ l. ending_left l ≤ 3 * chunk_count g + after_part parts) (sym h) (omega (arith, some))
+  started part parts rest (Gathering.Short told) h = subst (λ l. ending_left l ≤ 3 * chunk_count g + after_part parts) (sym h) (omega (arith, some))
 
   pub gathering_start : (parts : List Part) → gathering_left g parts left [] ≤ after_part parts
   gathering_start [] = omega arith
@@ -123,7 +127,8 @@ module _ (g : Shape) (left : List Told → ℕ) (some : 1 ≤ left []) where
   one_left part parts rest told (Gathering.HasBytes later) e = rest later
   one_left part parts rest told (Gathering.TooMany missing later) e = e
   one_left part parts rest told (Gathering.AtTarget later) e = e
-  one_left part parts rest told (Gathering.NoRoom later) e = e
+  one_left part parts rest told (Gathering.TargetAway downs later) e = e
+  one_left part parts rest told (Gathering.Short later) e = e
 
   pub cut_left : (parts : List Part) (told : List Told) → gathering_left g parts left (cut_parts g parts told) ≡ gathering_left g parts left told
   cut_left [] told = refl
@@ -173,7 +178,8 @@ act_no_commit stripe next never (Gathering.Asks server step) h = h
 act_no_commit stripe next never (Gathering.HasBytes rest) h = never rest h
 act_no_commit stripe next never (Gathering.TooMany missing rest) h = ending_no_commit (Outcome.Unavailable stripe missing) rest h
 act_no_commit stripe next never (Gathering.AtTarget rest) h = ending_no_commit Outcome.Here rest h
-act_no_commit stripe next never (Gathering.NoRoom rest) h = ending_no_commit Outcome.NoMemory rest h
+act_no_commit stripe next never (Gathering.TargetAway downs rest) h = ending_no_commit (Outcome.Away downs) rest h
+act_no_commit stripe next never (Gathering.Short rest) h = ending_no_commit Outcome.NoMemory rest h
 
 gathering_no_commit : (g : Shape) (parts : List Part) (next : List Told → Act) → ((told : List Told) → AtCommit (next told) → ⊥) → (told : List Told) → AtCommit (gathering g parts next told) → ⊥
 gathering_no_commit g [] next never told h = never told h

@@ -6,11 +6,13 @@ use Rattle.clay_grid.specs.Shape.{Shape, chunk_count}
 use Rattle.clay_grid.specs.Score.{count_below}
 use Rattle.clay_grid.proofs.Counting.{count_below_same, count_below_true}
 use Rattle.clay_grid.proofs.Rising.{length-filter_range}
+use Rattle.store_map.specs.declared.placement.Found.{Found}
+use Rattle.store_map.specs.declared.placement.Found.TheVariants as found
 use Rattle.store_core.specs.Lists.{is_among}
 use Rattle.store_core.specs.Told.{Seen, Lost, Told}
 use Rattle.store_core.specs.Gathering.{Gathering, Part, servers_but, lost_at, unless_too_many, fetching_whole, recovering, fetching_repair, making, looking}
 use Rattle.store_core.specs.GatheringParts.{chunks_in_range, after_data, fetching_data, gather_part, gather_chunk}
-use Rattle.store_calls.specs.GatherLaws.{epochs_missing, FoundEnough, FoundNoRoom, Ends, GatheringsEnd}
+use Rattle.store_calls.specs.GatherLaws.{reasons_of, FoundEnough, FoundShortage, Ends, GatheringsEnd}
 use Rattle.store_calls.proofs.Apart.{part_apart, chunk_apart}
 use Rattle.store_calls.proofs.NamedServers.{part_asked, chunk_asked}
 
@@ -76,43 +78,46 @@ module _ (g : Shape) (seen : Seen) where
 -- the same as in the law, but for a target, which is asked before
 abbrev IsAt : Shape → List Lost → List Told → Gathering → Type 0
 IsAt g before told (Gathering.AtTarget rest) = ⊥
+IsAt g before told (Gathering.TargetAway downs rest) = ⊥
 IsAt g before told gathering = Ends g before told gathering
 
 ends_at : (g : Shape) (before : List Lost) (told : List Told) (gathering : Gathering) → IsAt g before told gathering → Ends g before told gathering
 ends_at g before told (Gathering.AtTarget rest) h = absurd h
+ends_at g before told (Gathering.TargetAway downs rest) h = absurd h
 ends_at g before told gathering h = h
 
 module _ (g : Shape) where
-  skip : (answer : Told) → ((told : List Told) → epochs_missing (answer ∷ told) ≡ epochs_missing told) → (before : List Lost) (told : List Told) (gathering : Gathering)
+  skip : (answer : Told) → ((told : List Told) → reasons_of (answer ∷ told) ≡ reasons_of told) → (before : List Lost) (told : List Told) (gathering : Gathering)
       → IsAt g before told gathering → IsAt g before (answer ∷ told) gathering
   skip answer same before told (Gathering.Asks server step) h =
-      subst (λ epochs. length before + length epochs ≤ g.parity_count) (sym (same told)) h
+      subst (λ reasons. length before + length reasons ≤ g.parity_count) (sym (same told)) h
   skip answer same before told (Gathering.HasBytes rest) h =
       record {
         front = answer ∷ h.front;
         told_is = ap (λ l. answer ∷ l) h.told_is;
-        count = subst (λ epochs. length before + length epochs ≤ g.parity_count) (sym (same h.front)) h.count;
+        count = subst (λ reasons. length before + length reasons ≤ g.parity_count) (sym (same h.front)) h.count;
       }
   skip answer same before told (Gathering.TooMany missing rest) h =
       record {
         front = answer ∷ h.front;
         told_is = ap (λ l. answer ∷ l) h.told_is;
         count = h.count;
-        epochs = h.epochs ∙ ap (λ l. map (λ (lost : Lost). lost.found) before ++ l) (sym (same h.front));
+        reasons = h.reasons ∙ ap (λ l. map (λ (lost : Lost). lost.found) before ++ l) (sym (same h.front));
       }
   skip answer same before told (Gathering.AtTarget rest) h = absurd h
-  skip answer same before told (Gathering.NoRoom rest) h =
+  skip answer same before told (Gathering.TargetAway downs rest) h = absurd h
+  skip answer same before told (Gathering.Short rest) h =
       record {
         front = answer ∷ h.front;
         told_is = ap (λ l. answer ∷ l) h.told_is;
-        count = subst (λ epochs. length before + length epochs ≤ g.parity_count) (sym (same h.front)) h.count;
+        count = subst (λ reasons. length before + length reasons ≤ g.parity_count) (sym (same h.front)) h.count;
       }
 
-  counted : (epoch : ℕ) (lost : Lost) (before : List Lost) (told : List Told)
-      → length (before ++ lost ∷ []) + length (epochs_missing told) ≤ g.parity_count → length before + length (epochs_missing (Told.Missing epoch ∷ told)) ≤ g.parity_count
-  counted epoch lost before told h =
+  counted : (reason : Found) (lost : Lost) (before : List Lost) (told : List Told)
+      → length (before ++ lost ∷ []) + length (reasons_of told) ≤ g.parity_count → length before + length (reasons_of (Told.Missing reason ∷ told)) ≤ g.parity_count
+  counted reason lost before told h =
       let e : length (before ++ lost ∷ []) ≡ length before + 1 = length-append before (lost ∷ []) in
-      let f : length (epochs_missing (Told.Missing epoch ∷ told)) ≡ length (epochs_missing told) + 1 = omega arith in
+      let f : length (reasons_of (Told.Missing reason ∷ told)) ≡ length (reasons_of told) + 1 = omega arith in
       omega (arith, e, f, h)
 
   mark : (lost : Lost) (before : List Lost) (told : List Told) (gathering : Gathering)
@@ -129,12 +134,13 @@ module _ (g : Shape) where
         front = Told.Missing lost.found ∷ h.front;
         told_is = ap (λ l. Told.Missing lost.found ∷ l) h.told_is;
         count = h.count;
-        epochs =
-            h.epochs ∙ ap (λ l. l ++ epochs_missing h.front) (map-append (λ (lost : Lost). lost.found) before (lost ∷ []))
-            ∙ append_assoc (map (λ (lost : Lost). lost.found) before) (lost.found ∷ []) (epochs_missing h.front);
+        reasons =
+            h.reasons ∙ ap (λ l. l ++ reasons_of h.front) (map-append (λ (lost : Lost). lost.found) before (lost ∷ []))
+            ∙ append_assoc (map (λ (lost : Lost). lost.found) before) (lost.found ∷ []) (reasons_of h.front);
       }
   mark lost before told (Gathering.AtTarget rest) h = absurd h
-  mark lost before told (Gathering.NoRoom rest) h =
+  mark lost before told (Gathering.TargetAway downs rest) h = absurd h
+  mark lost before told (Gathering.Short rest) h =
       record {
         front = Told.Missing lost.found ∷ h.front;
         told_is = ap (λ l. Told.Missing lost.found ∷ l) h.told_is;
@@ -144,9 +150,9 @@ module _ (g : Shape) where
   enough : (missing : List Lost) (told : List Told) → length missing ≤ g.parity_count → FoundEnough g missing told told
   enough missing told h = record { front = []; told_is = refl; count = omega (arith, h) }
 
-  no_room : (missing : List Lost) (answer : Told) (told : List Told) → length missing ≤ g.parity_count → epochs_missing (answer ∷ []) ≡ [] → FoundNoRoom g missing (answer ∷ told) told
+  no_room : (missing : List Lost) (answer : Told) (told : List Told) → length missing ≤ g.parity_count → reasons_of (answer ∷ []) ≡ [] → FoundShortage g missing (answer ∷ told) told
   no_room missing answer told h none =
-      let n : length (epochs_missing (answer ∷ [])) ≡ 0 = ap length none in
+      let n : length (reasons_of (answer ∷ [])) ≡ 0 = ap length none in
       record { front = answer ∷ []; told_is = refl; count = omega (arith, h, n) }
 
 module _ (g : Shape) (seen : Seen) where
@@ -158,7 +164,7 @@ module _ (g : Shape) (seen : Seen) where
         front = [];
         told_is = refl;
         count = omega (arith, most, ltb-true g.parity_count (length missing) e);
-        epochs = sym (append-nil (map (λ (lost : Lost). lost.found) missing));
+        reasons = sym (append-nil (map (λ (lost : Lost). lost.found) missing));
       })
       (λ e. h (ltb-false g.parity_count (length missing) e))
 
@@ -237,12 +243,16 @@ module _ (g : Shape) (part : Part) where
   pub part_target : (told rest : List Told) → gather_part g part told ≢ Gathering.AtTarget rest
   part_target told rest e = subst (IsAt g [] told) e (part_at told)
 
+  pub part_away : (downs : ℕ) (told rest : List Told) → gather_part g part told ≢ Gathering.TargetAway downs rest
+  part_away downs told rest e = subst (IsAt g [] told) e (part_at told)
+
 pub chunk_ends : (g : Shape) (seen : Seen) (target : ℕ) (told : List Told) → 0 < g.parity_count → Ends g [] told (gather_chunk g seen target told)
 chunk_ends g seen target [] h = omega (arith, h)
 chunk_ends g seen target (Told.Here ∷ told) h = refl
-chunk_ends g seen target (Told.Missing epoch ∷ told) h =
-    let lost : Lost = lost_at g seen target epoch in
-    ends_at g [] (Told.Missing epoch ∷ told) _ (mark g lost [] told _ (looking_ends g seen (servers_but g seen (target ∷ [])) (lost ∷ []) told h))
+chunk_ends g seen target (Told.Missing (found.Absent epoch) ∷ told) h =
+    let lost : Lost = lost_at g seen target (found.Absent epoch) in
+    ends_at g [] (Told.Missing (found.Absent epoch) ∷ told) _ (mark g lost [] told _ (looking_ends g seen (servers_but g seen (target ∷ [])) (lost ∷ []) told h))
+chunk_ends g seen target (Told.Missing (found.Away downs) ∷ told) h = refl
 chunk_ends g seen target (answer ∷ told) h = no_room g [] answer told (omega arith) refl
 
 pub gatherings_end : GatheringsEnd
@@ -253,6 +263,7 @@ gatherings_end = record {
   chunk_apart = chunk_apart;
   chunk_first = λ g seen target. refl;
   part_target = part_target;
+  part_away = part_away;
   part_asked = part_asked;
   chunk_asked = chunk_asked;
 }

@@ -5,6 +5,8 @@ use Rattle.std.proofs.lemmas.List.{append-nil}
 use Rattle.std.specs.List.{range_with_len}
 use Rattle.clay_grid.specs.Shape.{Shape, chunk_count}
 use Rattle.clay_grid.specs.Repair.{all_layers, repair_layers_of}
+use Rattle.store_map.specs.declared.placement.Found.{Found}
+use Rattle.store_map.specs.declared.placement.Found.TheVariants as found
 use Rattle.store_core.specs.Lists.{is_among}
 use Rattle.store_core.specs.Told.{Seen, Lost, Told}
 use Rattle.store_core.specs.Act.{ServerStep}
@@ -82,7 +84,7 @@ module _ (gather : List Told → Gathering) where
 
   module _ (g : Shape) (seen : Seen) where
     -- a server lacks its chunk
-    gives_unless : (Enough : Steps → Type 0) (before : List Told) (inner later : List Told → Gathering) (marked : List Lost) (epoch : ℕ) (told : List Told) → GoesOnAs gather before inner
+    gives_unless : (Enough : Steps → Type 0) (before : List Told) (inner later : List Told → Gathering) (marked : List Lost) (epoch : Found) (told : List Told) → GoesOnAs gather before inner
         → ((more : List Told) → inner (Told.Missing epoch ∷ more) ≡ unless_too_many g seen marked more (later more))
         → (GoesOnAs gather (before ++ Told.Missing epoch ∷ []) later → Gives Enough (before ++ Told.Missing epoch ∷ []) told (later told))
         → Gives Enough before (Told.Missing epoch ∷ told) (unless_too_many g seen marked told (later told))
@@ -288,7 +290,7 @@ module _ (gather : List Told → Gathering) where
     first_marked server more given (inl w) = inr (inl w)
     first_marked server more given (inr e) = inr (inr (record { front = []; lost = server; back = more; chunks_are = refl; given_are = e }))
 
-    data_marked : (server : ℕ) (more : List ℕ) (marked : List Lost) (epoch : ℕ) (given : Steps)
+    data_marked : (server : ℕ) (more : List ℕ) (marked : List Lost) (epoch : Found) (given : Steps)
         → DataFrom more (marked ++ lost_at g part.seen server epoch ∷ []) given → DataFrom (server ∷ more) marked given
     data_marked server more [] epoch given h = first_marked server more given h
     data_marked server more (lost ∷ []) epoch given h = inl h
@@ -326,10 +328,11 @@ part_given g part told = data_given (gather_part g part) g part (chunks_in_range
 chunk_given : (g : Shape) (seen : Seen) (target : ℕ) (told : List Told) → Gives (gather_chunk g seen target) (Made (gather_chunk g seen target) g seen target) [] told (gather_chunk g seen target told)
 chunk_given g seen target [] = tt
 chunk_given g seen target (Told.Here ∷ told) = tt
-chunk_given g seen target (Told.Missing epoch ∷ told) =
+chunk_given g seen target (Told.Missing (found.Absent epoch) ∷ told) =
     let gather : List Told → Gathering = gather_chunk g seen target in
-    gives_skip gather (Made gather g seen target) [] (Told.Missing epoch) told (λ _. refl) (gather_chunk g seen target (Told.Missing epoch ∷ told))
-    (looking_given gather g seen target (servers_but g seen (target ∷ [])) (lost_at g seen target epoch ∷ []) refl (Told.Missing epoch ∷ []) told (λ _. refl))
+    gives_skip gather (Made gather g seen target) [] (Told.Missing (found.Absent epoch)) told (λ _. refl) (gather_chunk g seen target (Told.Missing (found.Absent epoch) ∷ told))
+    (looking_given gather g seen target (servers_but g seen (target ∷ [])) (lost_at g seen target (found.Absent epoch) ∷ []) refl (Told.Missing (found.Absent epoch) ∷ []) told (λ _. refl))
+chunk_given g seen target (Told.Missing (found.Away downs) ∷ told) = tt
 chunk_given g seen target (_ ∷ told) = tt
 
 part_is_given : (g : Shape) (part : Part) (told rest : List Told) → GivenSince (gather_part g part) (GivenPart g part (chunks_in_range g part.start part.end)) [] told rest

@@ -1,15 +1,18 @@
 -- What a call does when it is told more answers to the step that it makes next.
-use Rattle.std.proofs.Common.{◌≡◌, ℕ, nat_lt, List, [], ◌∷◌, ◌++◌, length, refl, sym, ap, subst, ◌∙◌}
+use Rattle.std.proofs.Common.{◌≡◌, ℕ, nat_lt, List, [], ◌∷◌, ◌++◌, length, refl, sym, ap, subst, ◌∙◌, ◌+◌, ◌/◌, Bool, true, false, cond}
 use Rattle.std.proofs.lemmas.Bool.{cond_both}
 use Rattle.std.proofs.lemmas.List.{append_assoc, append-nil}
-use Rattle.clay_grid.specs.Shape.{Shape, chunk_count}
-use Rattle.store_core.specs.Lists.{places_of, in_rows}
+use Rattle.std.specs.List.{range_with_len}
+use Rattle.store_core.specs.Placements.{skipped_from, skipped_count}
+use Rattle.clay_grid.specs.Shape.{Shape, chunk_count, stripe_length}
+use Rattle.store_map.specs.declared.placement.Placement.{Placement}
+use Rattle.store_core.specs.Lists.{places_of}
 use Rattle.store_core.specs.Told.{Told, Seen}
 use Rattle.store_core.specs.Note.{Note, Kind}
 use Rattle.store_core.specs.Act.{Act, DirectoryStep, ServerStep, Outcome}
 use Rattle.store_core.specs.Gathering.{Gathering, Part}
 use Rattle.store_core.specs.GatheringParts.{gather_part, gather_chunk, ending, act_of, gathering}
-use Rattle.store_core.specs.Put.{settling, committed, committing, preparing, drawing, next_put}
+use Rattle.store_core.specs.Put.{settling, committed, committing, preparing, preparing_all, drawing, next_put}
 use Rattle.store_core.specs.Read.{next_read, next_single, parts_of}
 use Rattle.store_core.specs.Write.{old_parts, trying}
 use Rattle.store_core.specs.Rebuild.{placing, installing, confirming, rebuilding, next_rebuild}
@@ -18,7 +21,7 @@ use Rattle.store_core.specs.Tell.{in_one, cut_parts, cut_read, cut_write, cut_ch
 use Rattle.store_calls.proofs.Grows.{Grows, part_grows, chunk_grows}
 use Rattle.store_calls.proofs.GatheringFalls.{IsPlain}
 use Rattle.store_calls.proofs.Questions.{IsQuestion, AsksSo, part_so, chunk_so}
-use Rattle.store_calls.proofs.NoRoom.{WhereAsking}
+use Rattle.store_calls.proofs.Short.{WhereAsking}
 
 -- ---- a gathering that has ended is left as it was by more answers
 abbrev pub GrowsBy : List Told → Gathering → Gathering → Type 0
@@ -26,14 +29,16 @@ GrowsBy more (Gathering.Asks server step) later = Unit {0}
 GrowsBy more (Gathering.HasBytes rest) later = later ≡ Gathering.HasBytes (rest ++ more)
 GrowsBy more (Gathering.TooMany missing rest) later = later ≡ Gathering.TooMany missing (rest ++ more)
 GrowsBy more (Gathering.AtTarget rest) later = later ≡ Gathering.AtTarget (rest ++ more)
-GrowsBy more (Gathering.NoRoom rest) later = later ≡ Gathering.NoRoom (rest ++ more)
+GrowsBy more (Gathering.TargetAway downs rest) later = later ≡ Gathering.TargetAway downs (rest ++ more)
+GrowsBy more (Gathering.Short rest) later = later ≡ Gathering.Short (rest ++ more)
 
 no_more : (now : Gathering) → GrowsBy [] now now
 no_more (Gathering.Asks server step) = tt
 no_more (Gathering.HasBytes rest) = ap Gathering.HasBytes (sym (append-nil rest))
 no_more (Gathering.TooMany missing rest) = ap (Gathering.TooMany missing) (sym (append-nil rest))
 no_more (Gathering.AtTarget rest) = ap Gathering.AtTarget (sym (append-nil rest))
-no_more (Gathering.NoRoom rest) = ap Gathering.NoRoom (sym (append-nil rest))
+no_more (Gathering.TargetAway downs rest) = ap (Gathering.TargetAway downs) (sym (append-nil rest))
+no_more (Gathering.Short rest) = ap Gathering.Short (sym (append-nil rest))
 
 one_more : (answer : Told) (more : List Told) (now next later : Gathering) → Grows answer now next → GrowsBy more next later → GrowsBy (answer ∷ more) now later
 one_more answer more (Gathering.Asks server step) next later one rest = tt
@@ -43,8 +48,10 @@ one_more answer more (Gathering.TooMany missing told) next later one rest =
     subst (λ (n : Gathering). GrowsBy more n later) one rest ∙ ap (Gathering.TooMany missing) (append_assoc told (answer ∷ []) more)
 one_more answer more (Gathering.AtTarget told) next later one rest =
     subst (λ (n : Gathering). GrowsBy more n later) one rest ∙ ap Gathering.AtTarget (append_assoc told (answer ∷ []) more)
-one_more answer more (Gathering.NoRoom told) next later one rest =
-    subst (λ (n : Gathering). GrowsBy more n later) one rest ∙ ap Gathering.NoRoom (append_assoc told (answer ∷ []) more)
+one_more answer more (Gathering.TargetAway downs told) next later one rest =
+    subst (λ (n : Gathering). GrowsBy more n later) one rest ∙ ap (Gathering.TargetAway downs) (append_assoc told (answer ∷ []) more)
+one_more answer more (Gathering.Short told) next later one rest =
+    subst (λ (n : Gathering). GrowsBy more n later) one rest ∙ ap Gathering.Short (append_assoc told (answer ∷ []) more)
 
 pub grows_by : (gather : List Told → Gathering) → ((told : List Told) (answer : Told) → Grows answer (gather told) (gather (told ++ answer ∷ [])))
     → (more told : List Told) → GrowsBy more (gather told) (gather (told ++ more))
@@ -59,7 +66,8 @@ nothing_came (Gathering.Asks server step) later = tt
 nothing_came (Gathering.HasBytes rest) later = tt
 nothing_came (Gathering.TooMany missing rest) later = tt
 nothing_came (Gathering.AtTarget rest) later = tt
-nothing_came (Gathering.NoRoom rest) later = tt
+nothing_came (Gathering.TargetAway downs rest) later = tt
+nothing_came (Gathering.Short rest) later = tt
 
 -- ---- what holds of each step that a call makes and of the act after these answers to it; Came is what is known of a gathering that asked
 pub record GoesOn (g : Shape) (tries : ℕ) (more : List Told) (Came : Gathering → Type 0) (Q : Act → Act → Type 0) : Type 0 where
@@ -74,11 +82,11 @@ pub record GoesOn (g : Shape) (tries : ℕ) (more : List Told) (Came : Gathering
   pub ask :
       (server : ℕ) (step : ServerStep) (stripe : ℕ) (next : List Told → Act) (later : Gathering) → IsQuestion step → Came later →
       Q (Act.AtServer server step) (act_of stripe next later)
-  pub draw : Q (Act.AtDirectory DirectoryStep.Draw) (drawing g more)
+  pub draw : (note : Note) → Q (Act.AtDirectory DirectoryStep.Draw) (drawing g note more)
   pub prepare :
-      (versions : List ℕ) (place : ℕ × ℕ) (places : List (ℕ × ℕ)) (epochs : List ℕ) →
-      Q (Act.AtServer place.0 (ServerStep.Prepare place.1)) (preparing g versions (place ∷ places) epochs more)
-  pub commit : (placed : List (List ℕ)) → Q (Act.AtDirectory (DirectoryStep.Commit placed)) (committing placed more)
+      (stripe version : ℕ) (next : List Placement → List Told → Act) (server : ℕ) (servers : List ℕ) (row : List Placement) →
+      Q (Act.AtServer server (ServerStep.Prepare version)) (preparing g stripe version next (server ∷ servers) row more)
+  pub commit : (placed : List (List Placement)) → Q (Act.AtDirectory (DirectoryStep.Commit placed)) (committing placed more)
   pub settle : (server version : ℕ) (later : Act) → Q (Act.AtServer server (ServerStep.Settle version)) later
   pub end : (outcome : Outcome) → Q (Act.AtDirectory DirectoryStep.End) (ending outcome more)
   pub confirm : (seen : Seen) (target : ℕ) → Q (Act.AtDirectory DirectoryStep.Confirm) (confirming seen target more)
@@ -121,23 +129,39 @@ module _ (g : Shape) (tries : ℕ) (answer : Told) (more : List Told) (plain : I
     committed_on versions [] = on.finish Outcome.NoMemory _
     committed_on versions (_ ∷ told) = on.finish Outcome.NoMemory _
 
-    committing_on : (placed : List (List ℕ)) (told : List Told) → Q (committing placed told) (committing placed (told ++ answer ∷ more))
+    committing_on : (placed : List (List Placement)) (told : List Told) → Q (committing placed told) (committing placed (told ++ answer ∷ more))
     committing_on placed [] = on.commit placed
     committing_on placed (Told.Reaped point ∷ told) = on.finish (Outcome.Reaped point) _
     committing_on placed (_ ∷ told) = ending_on Outcome.NoMemory told
 
-    preparing_on : (versions : List ℕ) (places : List (ℕ × ℕ)) (epochs : List ℕ) (told : List Told)
-        → Q (preparing g versions places epochs told) (preparing g versions places epochs (told ++ answer ∷ more))
-    preparing_on versions [] epochs told = committing_on (in_rows (chunk_count g) versions epochs) told
-    preparing_on versions (place ∷ places) epochs [] = on.prepare versions place places epochs
-    preparing_on versions (place ∷ places) epochs (Told.Placed epoch ∷ told) = preparing_on versions places (epochs ++ epoch ∷ []) told
-    preparing_on versions (place ∷ places) epochs (_ ∷ told) = ending_on Outcome.NoMemory told
+    unless_on : (b : Bool) (outcome : Outcome) (told : List Told) (now later : Act) → Q now later
+        → Q (cond b (ending outcome told) now) (cond b (ending outcome (told ++ answer ∷ more)) later)
+    unless_on true outcome told now later h = ending_on outcome told
+    unless_on false outcome told now later h = h
 
-    drawing_on : (told : List Told) → Q (drawing g told) (drawing g (told ++ answer ∷ more))
-    drawing_on [] = on.draw
-    drawing_on (Told.Versions versions ∷ told) = preparing_on versions (places_of (chunk_count g) versions) [] told
-    drawing_on (Told.Reaped point ∷ told) = on.finish (Outcome.Reaped point) _
-    drawing_on (_ ∷ told) = ending_on Outcome.NoMemory told
+    preparing_on : (stripe version : ℕ) (next : List Placement → List Told → Act) → ((row : List Placement) (told : List Told) → Q (next row told) (next row (told ++ answer ∷ more)))
+        → (servers : List ℕ) (row : List Placement) (told : List Told)
+        → Q (preparing g stripe version next servers row told) (preparing g stripe version next servers row (told ++ answer ∷ more))
+    preparing_on stripe version next goes [] row told = goes row told
+    preparing_on stripe version next goes (server ∷ servers) row [] = on.prepare stripe version next server servers row
+    preparing_on stripe version next goes (server ∷ servers) row (Told.Prepared last ∷ told) =
+        let now : List Placement = row ++ last ∷ [] in
+        unless_on (nat_lt g.parity_count (skipped_count now)) (Outcome.Unavailable stripe (skipped_from 0 now)) told
+        (preparing g stripe version next servers now told) (preparing g stripe version next servers now (told ++ answer ∷ more)) (preparing_on stripe version next goes servers now told)
+    preparing_on stripe version next goes (server ∷ servers) row (_ ∷ told) = ending_on Outcome.NoMemory told
+
+    preparing_all_on : (stripe : ℕ) (versions : List ℕ) (placed : List (List Placement)) (told : List Told)
+        → Q (preparing_all g stripe versions placed told) (preparing_all g stripe versions placed (told ++ answer ∷ more))
+    preparing_all_on stripe [] placed told = committing_on placed told
+    preparing_all_on stripe (version ∷ versions) placed told =
+        preparing_on stripe version (λ row. preparing_all g (stripe + 1) versions (placed ++ row ∷ [])) (λ row. preparing_all_on (stripe + 1) versions (placed ++ row ∷ []))
+        (range_with_len 0 (chunk_count g)) [] told
+
+    drawing_on : (note : Note) (told : List Told) → Q (drawing g note told) (drawing g note (told ++ answer ∷ more))
+    drawing_on note [] = on.draw note
+    drawing_on note (Told.Versions versions ∷ told) = preparing_all_on (note.offset / stripe_length g) versions [] told
+    drawing_on note (Told.Reaped point ∷ told) = on.finish (Outcome.Reaped point) _
+    drawing_on note (_ ∷ told) = ending_on Outcome.NoMemory told
 
     -- one gathering, by what it has come to
     result_on : (stripe : ℕ) (next : List Told → Act) → ((told : List Told) → Q (next told) (next (told ++ answer ∷ more)))
@@ -148,7 +172,9 @@ module _ (g : Shape) (tries : ℕ) (answer : Told) (more : List Told) (plain : I
         subst (λ r. Q (ending (Outcome.Unavailable stripe missing) rest) (act_of stripe next r)) (sym grows) (ending_on (Outcome.Unavailable stripe missing) rest)
     result_on stripe next goes (Gathering.AtTarget rest) later so came grows =
         subst (λ r. Q (ending Outcome.Here rest) (act_of stripe next r)) (sym grows) (ending_on Outcome.Here rest)
-    result_on stripe next goes (Gathering.NoRoom rest) later so came grows =
+    result_on stripe next goes (Gathering.TargetAway downs rest) later so came grows =
+        subst (λ r. Q (ending (Outcome.Away downs) rest) (act_of stripe next r)) (sym grows) (ending_on (Outcome.Away downs) rest)
+    result_on stripe next goes (Gathering.Short rest) later so came grows =
         subst (λ r. Q (ending Outcome.NoMemory rest) (act_of stripe next r)) (sym grows) (ending_on Outcome.NoMemory rest)
 
     gathering_on : (parts : List Part) (next : List Told → Act) → ((told : List Told) → Q (next told) (next (told ++ answer ∷ more)))
@@ -167,7 +193,7 @@ module _ (g : Shape) (tries : ℕ) (answer : Told) (more : List Told) (plain : I
     put_on : (note : Note) (told : List Told) → Q (next_put g note told) (next_put g note (told ++ answer ∷ more))
     put_on note [] = on.look_put note
     put_on note (Told.Answer point reply ∷ told) = on.finish (Outcome.Answered point reply) _
-    put_on note (Told.Ready base length_now stripes ∷ told) = drawing_on told
+    put_on note (Told.Ready base length_now stripes ∷ told) = drawing_on note told
     put_on note (Told.Versions versions ∷ told) = committed_on versions told
     put_on note (_ ∷ told) = on.finish Outcome.NoMemory _
 
@@ -189,7 +215,7 @@ module _ (g : Shape) (tries : ℕ) (answer : Told) (more : List Told) (plain : I
         (λ now. Q now (trying g tries note pairs (answer ∷ more))) (λ _. on.look_try note pairs) (λ _. on.finish (Outcome.Contended pairs) _)
     trying_on note pairs (Told.Changed base newer ∷ told) = trying_on note (pairs ++ (base, newer) ∷ []) told
     trying_on note pairs (Told.Answer point reply ∷ told) = on.finish (Outcome.Answered point reply) _
-    trying_on note pairs (Told.Ready base length_now stripes ∷ told) = gathering_on (old_parts g length_now stripes) (drawing g) drawing_on told
+    trying_on note pairs (Told.Ready base length_now stripes ∷ told) = gathering_on (old_parts g length_now stripes) (drawing g note) (drawing_on note) told
     trying_on note pairs (Told.Versions versions ∷ told) = committed_on versions told
     trying_on note pairs (_ ∷ told) = on.finish Outcome.NoMemory _
 
@@ -203,6 +229,7 @@ module _ (g : Shape) (tries : ℕ) (answer : Told) (more : List Told) (plain : I
     installing_on seen target [] = on.install seen target
     installing_on seen target (Told.Placed epoch ∷ told) = placing_on target epoch told
     installing_on seen target (Told.AlreadyThere ∷ told) = ending_on Outcome.Here told
+    installing_on seen target (Told.Away downs ∷ told) = ending_on (Outcome.Away downs) told
     installing_on seen target (_ ∷ told) = ending_on Outcome.NoMemory told
 
     confirming_on : (seen : Seen) (target : ℕ) (told : List Told) → Q (confirming seen target told) (confirming seen target (told ++ answer ∷ more))
@@ -248,7 +275,8 @@ module _ (g : Shape) (tries : ℕ) (answer : Told) (more : List Told) (plain : I
       same rest ∙ sym (e ∙ ap (act_of part.seen.stripe (gathering g parts next)) grows)
   cut_result part parts next same told (Gathering.TooMany missing rest) later e grows = refl
   cut_result part parts next same told (Gathering.AtTarget rest) later e grows = refl
-  cut_result part parts next same told (Gathering.NoRoom rest) later e grows = refl
+  cut_result part parts next same told (Gathering.TargetAway downs rest) later e grows = refl
+  cut_result part parts next same told (Gathering.Short rest) later e grows = refl
 
   cut_parts_then : (parts : List Part) (next : List Told → Act) (told : List Told)
       → gathering g parts next (cut_parts g parts told ++ answer ∷ more) ≡ gathering g parts next (told ++ answer ∷ more)
@@ -268,7 +296,7 @@ module _ (g : Shape) (tries : ℕ) (answer : Told) (more : List Told) (plain : I
   cut_write_then : (note : Note) (pairs : List (ℕ × ℕ)) (told : List Told)
       → trying g tries note pairs (cut_write g told ++ answer ∷ more) ≡ trying g tries note pairs (told ++ answer ∷ more)
   cut_write_then note pairs (Told.Changed base newer ∷ told) = cut_write_then note (pairs ++ (base, newer) ∷ []) told
-  cut_write_then note pairs (Told.Ready base length_now stripes ∷ told) = cut_parts_then (old_parts g length_now stripes) (drawing g) told
+  cut_write_then note pairs (Told.Ready base length_now stripes ∷ told) = cut_parts_then (old_parts g length_now stripes) (drawing g note) told
   cut_write_then note pairs told = refl
 
   cut_chunk_result : (seen : Seen) (target : ℕ) (told : List Told) (now later : Gathering)
@@ -278,7 +306,8 @@ module _ (g : Shape) (tries : ℕ) (answer : Told) (more : List Told) (plain : I
   cut_chunk_result seen target told (Gathering.HasBytes rest) later e grows = sym (e ∙ ap (act_of seen.stripe (confirming seen target)) grows)
   cut_chunk_result seen target told (Gathering.TooMany missing rest) later e grows = refl
   cut_chunk_result seen target told (Gathering.AtTarget rest) later e grows = refl
-  cut_chunk_result seen target told (Gathering.NoRoom rest) later e grows = refl
+  cut_chunk_result seen target told (Gathering.TargetAway downs rest) later e grows = refl
+  cut_chunk_result seen target told (Gathering.Short rest) later e grows = refl
 
   cut_chunk_then : (seen : Seen) (target : ℕ) (told : List Told) → rebuilding g seen target (cut_chunk g seen target told ++ answer ∷ more) ≡ rebuilding g seen target (told ++ answer ∷ more)
   cut_chunk_then seen target (Told.Gathered ∷ told) = refl

@@ -2,6 +2,7 @@
 use Rattle.std.proofs.Common.{◌≡◌, ℕ, zero, suc, Bool, true, false, cond, nat_lt, List, [], ◌∷◌, ◌++◌, length, map, refl}
 use Rattle.std.proofs.lemmas.Bool.{cond_both}
 use Rattle.clay_grid.specs.Shape.{Shape}
+use Rattle.store_map.specs.declared.placement.Found.TheVariants as found
 use Rattle.store_core.specs.Told.{Seen, Lost, Told}
 use Rattle.store_core.specs.Gathering.{Gathering, Part, servers_but, lost_at, unless_too_many, fetching_whole, recovering, fetching_repair, making, looking}
 use Rattle.store_core.specs.GatheringParts.{chunks_in_range, after_data, fetching_data, gather_part, gather_chunk}
@@ -12,7 +13,8 @@ JustEnded (Gathering.Asks server step) = Unit {0}
 JustEnded (Gathering.HasBytes rest) = rest ≡ []
 JustEnded (Gathering.TooMany missing rest) = rest ≡ []
 JustEnded (Gathering.AtTarget rest) = rest ≡ []
-JustEnded (Gathering.NoRoom rest) = rest ≡ []
+JustEnded (Gathering.TargetAway downs rest) = rest ≡ []
+JustEnded (Gathering.Short rest) = rest ≡ []
 
 -- the gathering before an answer, and after it
 abbrev pub Grows : Told → Gathering → Gathering → Type 0
@@ -20,7 +22,8 @@ Grows answer (Gathering.Asks server step) later = JustEnded later
 Grows answer (Gathering.HasBytes rest) later = later ≡ Gathering.HasBytes (rest ++ answer ∷ [])
 Grows answer (Gathering.TooMany missing rest) later = later ≡ Gathering.TooMany missing (rest ++ answer ∷ [])
 Grows answer (Gathering.AtTarget rest) later = later ≡ Gathering.AtTarget (rest ++ answer ∷ [])
-Grows answer (Gathering.NoRoom rest) later = later ≡ Gathering.NoRoom (rest ++ answer ∷ [])
+Grows answer (Gathering.TargetAway downs rest) later = later ≡ Gathering.TargetAway downs (rest ++ answer ∷ [])
+Grows answer (Gathering.Short rest) later = later ≡ Gathering.Short (rest ++ answer ∷ [])
 
 module _ (g : Shape) (seen : Seen) where
   unless_start : (missing : List Lost) (otherwise : Gathering) → JustEnded otherwise → JustEnded (unless_too_many g seen missing [] otherwise)
@@ -146,8 +149,10 @@ module _ (g : Shape) (part : Part) where
 
 pub chunk_grows : (g : Shape) (seen : Seen) (target : ℕ) (told : List Told) (answer : Told) → Grows answer (gather_chunk g seen target told) (gather_chunk g seen target (told ++ answer ∷ []))
 chunk_grows g seen target [] Told.Here = refl
-chunk_grows g seen target [] (Told.Missing epoch) = looking_start g seen (servers_but g seen (target ∷ [])) (lost_at g seen target epoch ∷ [])
+chunk_grows g seen target [] (Told.Missing (found.Absent epoch)) = looking_start g seen (servers_but g seen (target ∷ [])) (lost_at g seen target (found.Absent epoch) ∷ [])
+chunk_grows g seen target [] (Told.Missing (found.Away downs)) = refl
 chunk_grows g seen target [] answer = refl
 chunk_grows g seen target (Told.Here ∷ told) answer = refl
-chunk_grows g seen target (Told.Missing epoch ∷ told) answer = looking_grows g seen (servers_but g seen (target ∷ [])) (lost_at g seen target epoch ∷ []) told answer
+chunk_grows g seen target (Told.Missing (found.Absent epoch) ∷ told) answer = looking_grows g seen (servers_but g seen (target ∷ [])) (lost_at g seen target (found.Absent epoch) ∷ []) told answer
+chunk_grows g seen target (Told.Missing (found.Away downs) ∷ told) answer = refl
 chunk_grows g seen target (_ ∷ told) answer = refl

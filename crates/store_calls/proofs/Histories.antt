@@ -111,7 +111,8 @@ module _ (gather : List Told → Gathering) (grows : (told : List Told) (answer 
       record { front = done; is = ap (λ l. done ++ l) left; comes_to = here ∙ ap Gathering.HasBytes just }
   gathers_by done answer more (Gathering.TooMany missing told) here just next later e go_on = absurd (subst HasThem (sym e ∙ later) tt)
   gathers_by done answer more (Gathering.AtTarget told) here just next later e go_on = absurd (subst HasThem (sym e ∙ later) tt)
-  gathers_by done answer more (Gathering.NoRoom told) here just next later e go_on = absurd (subst HasThem (sym e ∙ later) tt)
+  gathers_by done answer more (Gathering.TargetAway downs told) here just next later e go_on = absurd (subst HasThem (sym e ∙ later) tt)
+  gathers_by done answer more (Gathering.Short told) here just next later e go_on = absurd (subst HasThem (sym e ∙ later) tt)
 
   pub gathers_from : (done todo : List Told) → JustEnded (gather done) → Comes (done ++ todo) → Gathers (done ++ todo)
   gathers_from done [] just e = gathers_now done just e
@@ -192,7 +193,8 @@ module _ (g : Shape) (next : List Told → Act) where
     parted_by (Gathering.HasBytes later) e so keeps past = parted_here later e keeps (gathers_from (gather_part g part) (part_grows g part) later [] told (part_start g part) e) past
     parted_by (Gathering.TooMany missing later) e so keeps past = absurd (ending_never (Outcome.Unavailable part.seen.stripe missing) (λ k. k) later past)
     parted_by (Gathering.AtTarget later) e so keeps past = absurd (ending_never Outcome.Here (λ k. k) later past)
-    parted_by (Gathering.NoRoom later) e so keeps past = absurd (ending_never Outcome.NoMemory (λ k. k) later past)
+    parted_by (Gathering.TargetAway downs later) e so keeps past = absurd (ending_never (Outcome.Away downs) (λ k. k) later past)
+    parted_by (Gathering.Short later) e so keeps past = absurd (ending_never Outcome.NoMemory (λ k. k) later past)
 
   -- an act after all gatherings comes when each part has its bytes
   pub parted : (parts : List Part) (told : List Told) → AreCalm told → IsPast (gathering g parts next told) → Parted parts told
@@ -231,7 +233,8 @@ module _ (g : Shape) (seen : Seen) (target : ℕ) where
       }
   made_by told calm (Gathering.TooMany missing later) e so past = absurd (ending_never (Outcome.Unavailable seen.stripe missing) (λ k. k) later past)
   made_by told calm (Gathering.AtTarget later) e so past = absurd (ending_never Outcome.Here (λ k. k) later past)
-  made_by told calm (Gathering.NoRoom later) e so past = absurd (ending_never Outcome.NoMemory (λ k. k) later past)
+  made_by told calm (Gathering.TargetAway downs later) e so past = absurd (ending_never (Outcome.Away downs) (λ k. k) later past)
+  made_by told calm (Gathering.Short later) e so past = absurd (ending_never Outcome.NoMemory (λ k. k) later past)
 
   pub made : (told : List Told) → AreCalm told → IsPast (rebuilding g seen target told) → Made told
   made told calm past = made_by told calm (gather_chunk g seen target told) refl (chunk_so g seen target told) (subst IsPast (first_chunk told calm) past)

@@ -1,3 +1,5 @@
+pub mod Skips
+mod FirstAway
 pub mod Apart
 pub mod NamedServers
 pub mod Given
@@ -16,7 +18,7 @@ pub mod Steps
 pub mod Stripes
 pub mod PlaceAnswers
 pub mod Questions
-pub mod NoRoom
+pub mod Short
 pub mod GoesOn
 pub mod Commits
 pub mod Ends

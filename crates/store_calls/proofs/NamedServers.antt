@@ -3,6 +3,8 @@ use Rattle.std.proofs.Common.{◌≡◌, ℕ, zero, suc, nat_lt, List, [], ◌�
 use Rattle.std.proofs.lemmas.Bool.{cond_both, cond-false}
 use Rattle.std.proofs.lemmas.List.{map-append, append_assoc, append-nil}
 use Rattle.clay_grid.specs.Shape.{Shape}
+use Rattle.store_map.specs.declared.placement.Found.{Found}
+use Rattle.store_map.specs.declared.placement.Found.TheVariants as found
 use Rattle.store_core.specs.Told.{Seen, Lost, Told}
 use Rattle.store_core.specs.Act.{ServerStep}
 use Rattle.store_core.specs.Gathering.{Gathering, Part, servers_but, lost_at, unless_too_many, fetching_whole, recovering, fetching_repair, making, looking}
@@ -10,7 +12,7 @@ use Rattle.store_core.specs.GatheringParts.{chunks_in_range, after_data, fetchin
 use Rattle.store_calls.specs.NamedServers.{asked_next, found_missing, NamesTheAsked}
 
 -- the servers that are marked, with their epochs
-abbrev marks_of : List Lost → List (ℕ × ℕ)
+abbrev marks_of : List Lost → List (ℕ × Found)
 marks_of missing = map (λ (lost : Lost). (lost.server, lost.found)) missing
 
 module _ (gather : List Told → Gathering) where
@@ -50,7 +52,7 @@ module _ (gather : List Told → Gathering) where
       → inner [] ≡ Gathering.Asks lost.server step → (result : Gathering)
       → Named (before ++ Told.Missing lost.found ∷ []) (marked ++ lost ∷ []) told result → Named before marked (Told.Missing lost.found ∷ told) result
   named_mark before inner marked lost step told goes asks (Gathering.TooMany missing rest) h =
-      let since : List (ℕ × ℕ) = found_missing gather (before ++ Told.Missing lost.found ∷ []) h.front in
+      let since : List (ℕ × Found) = found_missing gather (before ++ Told.Missing lost.found ∷ []) h.front in
       let one : asked_next (gather before) ≡ lost.server ∷ [] = ap asked_next (ap gather (sym (append-nil before)) ∙ goes [] ∙ asks) in
       record {
         front = Told.Missing lost.found ∷ h.front;
@@ -163,11 +165,12 @@ part_named g part told = data_named (gather_part g part) g part (chunks_in_range
 chunk_named : (g : Shape) (seen : Seen) (target : ℕ) (told : List Told) → Named (gather_chunk g seen target) [] [] told (gather_chunk g seen target told)
 chunk_named g seen target [] = tt
 chunk_named g seen target (Told.Here ∷ told) = tt
-chunk_named g seen target (Told.Missing epoch ∷ told) =
+chunk_named g seen target (Told.Missing (found.Absent epoch) ∷ told) =
     let gather : List Told → Gathering = gather_chunk g seen target in
-    let lost : Lost = lost_at g seen target epoch in
+    let lost : Lost = lost_at g seen target (found.Absent epoch) in
     named_mark gather [] gather [] lost _ told (λ _. refl) refl _
-    (looking_named gather g seen (servers_but g seen (target ∷ [])) (lost ∷ []) (Told.Missing epoch ∷ []) told (λ _. refl))
+    (looking_named gather g seen (servers_but g seen (target ∷ [])) (lost ∷ []) (Told.Missing (found.Absent epoch) ∷ []) told (λ _. refl))
+chunk_named g seen target (Told.Missing (found.Away downs) ∷ told) = tt
 chunk_named g seen target (_ ∷ told) = tt
 
 pub part_asked : (g : Shape) (part : Part) (told rest : List Told) (missing : List Lost) → gather_part g part told ≡ Gathering.TooMany missing rest

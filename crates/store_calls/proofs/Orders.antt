@@ -117,6 +117,7 @@ module _ (g : Shape) (seen : Seen) (target : ℕ) where
   installing_last server version [] e = (refl, ap server_in e, ap number_in e)
   installing_last server version (Told.Placed epoch ∷ told) e = absurd (placing_no_install epoch told (subst IsInstall (sym e) tt))
   installing_last server version (Told.AlreadyThere ∷ told) e = absurd (ending_none Outcome.Here (λ k. k) told (Act.AtServer server (ServerStep.Install version)) e tt)
+  installing_last server version (Told.Away downs ∷ told) e = absurd (ending_none (Outcome.Away downs) (λ k. k) told (Act.AtServer server (ServerStep.Install version)) e tt)
   installing_last server version (_ ∷ told) e = absurd (ending_none Outcome.NoMemory (λ k. k) told (Act.AtServer server (ServerStep.Install version)) e tt)
 
   confirming_last : (server version : ℕ) (told : List Told) → confirming seen target told ≡ Act.AtServer server (ServerStep.Install version)
@@ -146,6 +147,7 @@ module _ (g : Shape) (seen : Seen) (target : ℕ) where
       let last : (told ≡ []) × (target ≡ server) × (placed ≡ epoch) = placing_placed server epoch placed told e in
       (ap (λ l. Told.Placed placed ∷ l) last.0 ∙ ap (λ n. Told.Placed n ∷ []) last.2, last.1)
   installing_placed server epoch (Told.AlreadyThere ∷ told) e = absurd (ending_none Outcome.Here (λ k. k) told (Act.AtDirectory (DirectoryStep.Repaired server epoch)) e tt)
+  installing_placed server epoch (Told.Away downs ∷ told) e = absurd (ending_none (Outcome.Away downs) (λ k. k) told (Act.AtDirectory (DirectoryStep.Repaired server epoch)) e tt)
   installing_placed server epoch (_ ∷ told) e = absurd (ending_none Outcome.NoMemory (λ k. k) told (Act.AtDirectory (DirectoryStep.Repaired server epoch)) e tt)
 
   confirming_placed : (server epoch : ℕ) (told : List Told) → confirming seen target told ≡ Act.AtDirectory (DirectoryStep.Repaired server epoch)
@@ -230,7 +232,7 @@ module _ (g : Shape) (point : ℕ) (given : Reply) where
   put_answered note [] calm go e = absurd (subst IsReply (sym e) tt)
   put_answered note (Told.Answer at first ∷ more) calm go e =
       look_last note point given (next_put g note) (λ _. refl) (λ at first more. refl) at first more go e
-  put_answered note (Told.Ready base length_now stripes ∷ since) calm go e = absurd (drawing_not IsReply reply_rare g since (subst IsReply (sym e) tt))
+  put_answered note (Told.Ready base length_now stripes ∷ since) calm go e = absurd (drawing_not IsReply reply_rare g note since (subst IsReply (sym e) tt))
   put_answered note (Told.Versions versions ∷ since) calm go e = absurd (committed_calm versions since calm.1 (subst IsReply (sym e) tt))
   put_answered note (_ ∷ since) calm go e = absurd (subst IsReply (sym e) tt)
 
@@ -267,7 +269,7 @@ module _ (g : Shape) (point : ℕ) (given : Reply) where
   trying_answered tries note pairs (Told.Answer at first ∷ more) calm go e =
       look_last note point given (trying g tries note pairs) (tries_look note pairs (nat_lt (length pairs) tries)) (λ at first more. refl) at first more go e
   trying_answered tries note pairs (Told.Ready base length_now stripes ∷ since) calm go e =
-      absurd (gathering_not IsReply reply_rare g (old_parts g length_now stripes) (drawing g) (drawing_not IsReply reply_rare g) since (subst IsReply (sym e) tt))
+      absurd (gathering_not IsReply reply_rare g (old_parts g length_now stripes) (drawing g note) (drawing_not IsReply reply_rare g note) since (subst IsReply (sym e) tt))
   trying_answered tries note pairs (Told.Versions versions ∷ since) calm go e = absurd (committed_calm versions since calm.1 (subst IsReply (sym e) tt))
   trying_answered tries note pairs (_ ∷ since) calm go e = absurd (subst IsReply (sym e) tt)
 

@@ -6,9 +6,11 @@ use Rattle.std.proofs.lemmas.List.{length-map}
 use Rattle.std.proofs.lemmas.List.FromFn.{length-range_with_len}
 use Rattle.std.proofs.lemmas.List.Elements.{All-head, All-tail}
 use Rattle.std.specs.List.{list_all, range_with_len}
+use Rattle.store_map.specs.declared.placement.Placement.TheVariants as placement
 use Rattle.clay_grid.specs.Shape.{stripe_length}
 use Rattle.store_map.specs.declared.actor.Actor.{Actor}
 use Rattle.store_map.specs.declared.reply.Reply.{Reply}
+use Rattle.store_map.specs.declared.placement.Placement.{Placement}
 use Rattle.store_core.specs.Lists.{is_among}
 use Rattle.store_core.specs.Told.{Told}
 use Rattle.store_core.specs.Note.{Note, Kind, refusal}
@@ -23,8 +25,8 @@ use Rattle.store_core.specs.Looks.{seen_of, accept, look_by, look_repair_by}
 use Rattle.store_core.specs.PassSteps.{close_pass, give_up_drawn, touched, draw, end_pass, confirm, repaired}
 use Rattle.store_core.specs.Commit.{is_overtaken, commit_object, commit}
 use Rattle.store_core.specs.AtDirectory.{unless_reaped, on_pass, unless_short, made_at_directory, at_directory}
-use Rattle.store_core.specs.Server.{Server, hold, raised_by, at_server}
-use Rattle.store_calls.specs.AnswerLaws.{is_on_pass, is_of_call, AreShort, PlacesAnswer}
+use Rattle.store_core.specs.Server.{Server, hold, raised_by, at_server, gives, found_at, install}
+use Rattle.store_calls.specs.AnswerLaws.{is_on_pass, is_of_call, AreWithinMax, PlacesAnswer}
 use Rattle.store_calls.proofs.Stripes.{pins_few}
 use Rattle.store_core.proofs.TouchedStripes.{count_touched}
 
@@ -55,7 +57,7 @@ module _ (who : Actor) (number : ℕ) (note : Note) (d : Directory) (some : 0 < 
   look_answers None None short = accept_answers note.kind _ (omega arith)
   look_answers (Some object) None short = accept_answers note.kind object short
 
-look_answered : (short : Bool) (who : Actor) (number : ℕ) (note : Note) (d : Directory) → 0 < stripe_length d.shape → AreShort d
+look_answered : (short : Bool) (who : Actor) (number : ℕ) (note : Note) (d : Directory) → 0 < stripe_length d.shape → AreWithinMax d
     → DirectoryAnswers (pin_bound d.shape d.max note) (touched_count d.shape note) (DirectoryStep.Look note) (at_directory short who number (DirectoryStep.Look note) d).1
 look_answered true who number note d some all = tt
 look_answered false who number note d some all =
@@ -86,7 +88,7 @@ module _ (pins count : ℕ) (step : DirectoryStep) (made : Pass → Directory �
   on_answers : (found : Option Pass) → found ≡ Some pass → DirectoryAnswers pins count step (on_pass made found d).1
   on_answers found e = subst (λ (f : Option Pass). DirectoryAnswers pins count step (on_pass made f d).1) (sym e) (unless_answers pass.reaped)
 
-commit_answers : (pins count : ℕ) (placed : List (List ℕ)) (pass : Pass) (d : Directory) → DirectoryAnswers pins count (DirectoryStep.Commit placed) (commit placed pass d).1
+commit_answers : (pins count : ℕ) (placed : List (List Placement)) (pass : Pass) (d : Directory) → DirectoryAnswers pins count (DirectoryStep.Commit placed) (commit placed pass d).1
 commit_answers pins count placed pass d =
     cond_both {A = Directory × Told} (is_overtaken pass.note.kind pass.base (last_change pass.note.name d.points))
     (close_pass pass (give_up_drawn pass d), Told.Changed (unwrap_or pass.base 0) (unwrap_or (last_change pass.note.name d.points) 0))
@@ -135,23 +137,28 @@ pass_answered short who number step d pass pins e on = absurd (true≢false (sym
 -- ---- a server
 has_answered : (version : ℕ) (s : Server) → ServerAnswers (ServerStep.Has version) (at_server false (ServerStep.Has version) s).1
 has_answered version s =
-    cond_both {A = Server × Told} (is_among version s.held) (s, Told.Here) (s, Told.Missing s.epoch) (λ r. ServerAnswers (ServerStep.Has version) r.1) (λ _. tt) (λ _. tt)
+    cond_both {A = Server × Told} (gives version s) (s, Told.Here) (s, Told.Missing (found_at s)) (λ r. ServerAnswers (ServerStep.Has version) r.1) (λ _. tt) (λ _. tt)
 
 server_answered : (short : Bool) (step : ServerStep) (s : Server) → IsTrue (is_of_call step) → ServerAnswers step (at_server short step s).1
 server_answered true (ServerStep.Prepare version) s of_call = tt
-server_answered false (ServerStep.Prepare version) s of_call = tt
+server_answered false (ServerStep.Prepare version) s of_call =
+    cond_both {A = Server × Told} s.away (s, Told.Prepared (placement.Skipped s.downs)) (record s { held = hold version s.held }, Told.Prepared (placement.At s.epoch))
+    (λ r. ServerAnswers (ServerStep.Prepare version) r.1) (λ _. tt) (λ _. tt)
 server_answered true (ServerStep.Settle version) s of_call = tt
 server_answered false (ServerStep.Settle version) s of_call = tt
 server_answered true (ServerStep.Has version) s of_call = has_answered version s
 server_answered false (ServerStep.Has version) s of_call = has_answered version s
 server_answered true (ServerStep.Fetch version layers) s of_call = tt
 server_answered false (ServerStep.Fetch version layers) s of_call =
-    cond_both {A = Server × Told} (is_among version s.held) (record s { taken = raised_by (length layers) s.taken }, Told.Given (length layers)) (s, Told.Missing s.epoch)
+    cond_both {A = Server × Told} (gives version s) (record s { taken = raised_by (length layers) s.taken }, Told.Given (length layers)) (s, Told.Missing (found_at s))
     (λ r. ServerAnswers (ServerStep.Fetch version layers) r.1) (λ _. tt) (λ _. tt)
 server_answered true (ServerStep.Install version) s of_call = tt
-server_answered false (ServerStep.Install version) s of_call =
-    cond_both {A = Server × Told} (is_among version s.held) (s, Told.AlreadyThere) (record s { held = hold version s.held }, Told.Placed s.epoch)
-    (λ r. ServerAnswers (ServerStep.Install version) r.1) (λ _. tt) (λ _. tt)
+server_answered false (ServerStep.Install version) s of_call = by s.away (is_among version s.held)
+  where
+    by : (away there : Bool) → ServerAnswers (ServerStep.Install version) (install away there version s).1
+    by true there = tt
+    by false true = tt
+    by false false = tt
 server_answered short step s of_call = absurd (true≢false (sym of_call))
 
 pub places_answer : PlacesAnswer

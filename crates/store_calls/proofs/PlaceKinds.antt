@@ -3,6 +3,8 @@ use Rattle.std.proofs.Common.{◌≡◌, ℕ, Bool, true, false, nat_lt, List, [
 use Rattle.std.specs.Prelude.{IsTrue}
 use Rattle.std.specs.List.{list_all}
 use Rattle.std.proofs.lemmas.Bool.{cond_both, false≢true}
+use Rattle.store_map.specs.declared.placement.Placement.TheVariants as placement
+use Rattle.store_map.specs.declared.placement.Placement.{Placement}
 use Rattle.store_map.specs.declared.actor.Actor.{Actor}
 use Rattle.store_map.specs.declared.reply.Reply.{Reply}
 use Rattle.store_core.specs.Lists.{is_among}
@@ -17,7 +19,7 @@ use Rattle.store_core.specs.Looks.{accept, look_by, look_repair_by}
 use Rattle.store_core.specs.PassSteps.{close_pass, give_up_drawn, draw, end_pass, confirm, repaired}
 use Rattle.store_core.specs.Commit.{is_overtaken, commit_object, commit}
 use Rattle.store_core.specs.AtDirectory.{unless_reaped, on_pass, at_directory}
-use Rattle.store_core.specs.Server.{Server, hold, raised_by, at_server}
+use Rattle.store_core.specs.Server.{Server, hold, raised_by, at_server, gives, found_at, install}
 use Rattle.store_calls.specs.AnswerLaws.{is_on_pass}
 
 -- ---- the looks
@@ -58,7 +60,7 @@ overtaken_writes : (kind : Kind) (base last : Option ℕ) → is_overtaken kind 
 overtaken_writes Kind.Write base last e = refl
 overtaken_writes kind base last e = absurd (false≢true e)
 
-commit_fits : (placed : List (List ℕ)) (pass : Pass) (d : Directory) → FitsKind pass.note.kind (commit placed pass d).1
+commit_fits : (placed : List (List Placement)) (pass : Pass) (d : Directory) → FitsKind pass.note.kind (commit placed pass d).1
 commit_fits placed pass d =
     cond_both {A = Directory × Told} (is_overtaken pass.note.kind pass.base (last_change pass.note.name d.points))
     (close_pass pass (give_up_drawn pass d), Told.Changed (unwrap_or pass.base 0) (unwrap_or (last_change pass.note.name d.points) 0))
@@ -99,17 +101,23 @@ module _ (s : Server) (kind : Kind) where
   ServerFits short step = FitsKind kind (at_server short step s).1
 
   has_fits : (version : ℕ) → ServerFits false (ServerStep.Has version)
-  has_fits version = cond_both {A = Server × Told} (is_among version s.held) (s, Told.Here) (s, Told.Missing s.epoch) (λ r. FitsKind kind r.1) (λ _. tt) (λ _. tt)
+  has_fits version = cond_both {A = Server × Told} (gives version s) (s, Told.Here) (s, Told.Missing (found_at s)) (λ r. FitsKind kind r.1) (λ _. tt) (λ _. tt)
 
   server_fits : (short : Bool) (step : ServerStep) → ServerFits short step
   server_fits true (ServerStep.Has version) = has_fits version
   server_fits false (ServerStep.Has version) = has_fits version
   server_fits false (ServerStep.Fetch version layers) =
-      cond_both {A = Server × Told} (is_among version s.held) (record s { taken = raised_by (length layers) s.taken }, Told.Given (length layers)) (s, Told.Missing s.epoch)
+      cond_both {A = Server × Told} (gives version s) (record s { taken = raised_by (length layers) s.taken }, Told.Given (length layers)) (s, Told.Missing (found_at s))
       (λ r. FitsKind kind r.1) (λ _. tt) (λ _. tt)
-  server_fits false (ServerStep.Install version) =
-      cond_both {A = Server × Told} (is_among version s.held) (s, Told.AlreadyThere) (record s { held = hold version s.held }, Told.Placed s.epoch)
+  server_fits false (ServerStep.Prepare version) =
+      cond_both {A = Server × Told} s.away (s, Told.Prepared (placement.Skipped s.downs)) (record s { held = hold version s.held }, Told.Prepared (placement.At s.epoch))
       (λ r. FitsKind kind r.1) (λ _. tt) (λ _. tt)
+  server_fits false (ServerStep.Install version) = by s.away (is_among version s.held)
+    where
+      by : (away there : Bool) → FitsKind kind (install away there version s).1
+      by true there = tt
+      by false true = tt
+      by false false = tt
   server_fits true step = tt
   server_fits false step = tt
 

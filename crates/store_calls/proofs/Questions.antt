@@ -2,6 +2,7 @@
 use Rattle.std.proofs.Common.{ℕ, zero, suc, nat_lt, List, [], ◌∷◌, ◌++◌, length, map}
 use Rattle.std.proofs.lemmas.Bool.{cond_both}
 use Rattle.clay_grid.specs.Shape.{Shape}
+use Rattle.store_map.specs.declared.placement.Found.TheVariants as found
 use Rattle.store_core.specs.Told.{Seen, Lost, Told}
 use Rattle.store_core.specs.Act.{ServerStep}
 use Rattle.store_core.specs.Gathering.{Gathering, Part, servers_but, lost_at, unless_too_many, fetching_whole, recovering, fetching_repair, making, looking}
@@ -78,5 +79,6 @@ module _ (g : Shape) (part : Part) where
 pub chunk_so : (g : Shape) (seen : Seen) (target : ℕ) (told : List Told) → AsksSo (gather_chunk g seen target told)
 chunk_so g seen target [] = tt
 chunk_so g seen target (Told.Here ∷ told) = tt
-chunk_so g seen target (Told.Missing epoch ∷ told) = looking_so g seen (servers_but g seen (target ∷ [])) (lost_at g seen target epoch ∷ []) told
+chunk_so g seen target (Told.Missing (found.Absent epoch) ∷ told) = looking_so g seen (servers_but g seen (target ∷ [])) (lost_at g seen target (found.Absent epoch) ∷ []) told
+chunk_so g seen target (Told.Missing (found.Away downs) ∷ told) = tt
 chunk_so g seen target (_ ∷ told) = tt

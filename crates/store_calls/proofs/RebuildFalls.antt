@@ -30,10 +30,12 @@ module _ (pins touched : ℕ) where
       → installing_left (told ++ answer ∷ []) < installing_left told
   installing_falls seen target [] (Told.Placed epoch) h = omega arith
   installing_falls seen target [] Told.AlreadyThere h = omega arith
+  installing_falls seen target [] (Told.Away downs) h = omega arith
   installing_falls seen target [] Told.Short h = omega arith
   installing_falls seen target [] answer h = absurd h
   installing_falls seen target (Told.Placed epoch ∷ told) answer h = placing_falls target epoch told answer h
   installing_falls seen target (Told.AlreadyThere ∷ told) answer h = ending_falls pins touched Outcome.Here told answer h
+  installing_falls seen target (Told.Away downs ∷ told) answer h = ending_falls pins touched (Outcome.Away downs) told answer h
   installing_falls seen target (_ ∷ told) answer h = ending_falls pins touched Outcome.NoMemory told answer h
 
   confirming_falls : (seen : Seen) (target : ℕ) (told : List Told) (answer : Told) → Answers pins touched (confirming seen target told) answer
@@ -87,7 +89,8 @@ one_chunk_left g seen target told (Gathering.Asks server step) e = e
 one_chunk_left g seen target told (Gathering.HasBytes since) e = refl
 one_chunk_left g seen target told (Gathering.TooMany missing since) e = e
 one_chunk_left g seen target told (Gathering.AtTarget since) e = e
-one_chunk_left g seen target told (Gathering.NoRoom since) e = e
+one_chunk_left g seen target told (Gathering.TargetAway downs since) e = e
+one_chunk_left g seen target told (Gathering.Short since) e = e
 
 chunk_cut_left : (g : Shape) (seen : Seen) (target : ℕ) (told : List Told) → rebuilding_left g seen target (cut_chunk g seen target told) ≡ rebuilding_left g seen target told
 chunk_cut_left g seen target (Told.Gathered ∷ told) = refl
@@ -107,6 +110,7 @@ installing_no_commit : (seen : Seen) (target : ℕ) (told : List Told) → AtCom
 installing_no_commit seen target [] h = h
 installing_no_commit seen target (Told.Placed epoch ∷ told) h = placing_no_commit target epoch told h
 installing_no_commit seen target (Told.AlreadyThere ∷ told) h = ending_no_commit Outcome.Here told h
+installing_no_commit seen target (Told.Away downs ∷ told) h = ending_no_commit (Outcome.Away downs) told h
 installing_no_commit seen target (_ ∷ told) h = ending_no_commit Outcome.NoMemory told h
 
 confirming_no_commit : (seen : Seen) (target : ℕ) (told : List Told) → AtCommit (confirming seen target told) → ⊥

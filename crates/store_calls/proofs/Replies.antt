@@ -1,14 +1,17 @@
 -- Which acts only a look, the settles and a rebuild lead to.
-use Rattle.std.proofs.Common.{◌≡◌, ℕ, nat_lt, List, [], ◌∷◌, ◌++◌, length, refl}
+use Rattle.std.proofs.Common.{◌≡◌, ℕ, nat_lt, List, [], ◌∷◌, ◌++◌, length, refl, ◌+◌, ◌/◌}
 use Rattle.std.proofs.lemmas.Bool.{cond_both}
-use Rattle.clay_grid.specs.Shape.{Shape, chunk_count}
-use Rattle.store_core.specs.Lists.{places_of, in_rows}
+use Rattle.std.specs.List.{range_with_len}
+use Rattle.store_core.specs.Placements.{skipped_from, skipped_count}
+use Rattle.clay_grid.specs.Shape.{Shape, chunk_count, stripe_length}
+use Rattle.store_map.specs.declared.placement.Placement.{Placement}
+use Rattle.store_core.specs.Lists.{places_of}
 use Rattle.store_core.specs.Told.{Told, Lost}
 use Rattle.store_core.specs.Note.{Note, Kind}
 use Rattle.store_core.specs.Act.{Act, DirectoryStep, ServerStep, Outcome}
 use Rattle.store_core.specs.Gathering.{Gathering, Part}
 use Rattle.store_core.specs.GatheringParts.{gather_part, ending, act_of, gathering}
-use Rattle.store_core.specs.Put.{settling, committed, committing, preparing, drawing, next_put}
+use Rattle.store_core.specs.Put.{settling, committed, committing, preparing, preparing_all, drawing, next_put}
 use Rattle.store_core.specs.Read.{parts_of, next_read, next_single}
 use Rattle.store_core.specs.Write.{old_parts, trying}
 use Rattle.store_core.specs.NextAct.{Job, next_by}
@@ -30,12 +33,13 @@ pub record IsRare (P : Act → Type 0) : Type 0 where
   pub ask : (server : ℕ) (step : ServerStep) → IsQuestion step → P (Act.AtServer server step) → ⊥
   pub prepare : (server version : ℕ) → P (Act.AtServer server (ServerStep.Prepare version)) → ⊥
   pub draw : P (Act.AtDirectory DirectoryStep.Draw) → ⊥
-  pub commit : (placed : List (List ℕ)) → P (Act.AtDirectory (DirectoryStep.Commit placed)) → ⊥
+  pub commit : (placed : List (List Placement)) → P (Act.AtDirectory (DirectoryStep.Commit placed)) → ⊥
   pub end : P (Act.AtDirectory DirectoryStep.End) → ⊥
   pub reaped : (point : ℕ) → P (Act.Finish (Outcome.Reaped point)) → ⊥
   pub memory : P (Act.Finish Outcome.NoMemory) → ⊥
   pub unavailable : (stripe : ℕ) (missing : List Lost) → P (Act.Finish (Outcome.Unavailable stripe missing)) → ⊥
   pub here : P (Act.Finish Outcome.Here) → ⊥
+  pub away : (downs : ℕ) → P (Act.Finish (Outcome.Away downs)) → ⊥
 
 pub reply_rare : IsRare IsReply
 reply_rare =
@@ -49,6 +53,7 @@ reply_rare =
       memory = λ h. h;
       unavailable = λ stripe missing h. h;
       here = λ h. h;
+      away = λ downs h. h;
     }
 
 no_repair : (server : ℕ) (step : ServerStep) → IsQuestion step → IsRepair (Act.AtServer server step) → ⊥
@@ -67,6 +72,7 @@ repair_rare =
       memory = λ h. h;
       unavailable = λ stripe missing h. h;
       here = λ h. h;
+      away = λ downs h. h;
     }
 
 module _ (P : Act → Type 0) (rare : IsRare P) where
@@ -76,30 +82,42 @@ module _ (P : Act → Type 0) (rare : IsRare P) where
   ending_not outcome never (Told.Reaped point ∷ told) h = rare.reaped point h
   ending_not outcome never (_ ∷ told) h = ending_not Outcome.NoMemory rare.memory told h
 
-  committing_not : (placed : List (List ℕ)) (told : List Told) → P (committing placed told) → ⊥
+  committing_not : (placed : List (List Placement)) (told : List Told) → P (committing placed told) → ⊥
   committing_not placed [] h = rare.commit placed h
   committing_not placed (Told.Reaped point ∷ told) h = rare.reaped point h
   committing_not placed (_ ∷ told) h = ending_not Outcome.NoMemory rare.memory told h
 
   module _ (g : Shape) where
-    preparing_not : (versions : List ℕ) (places : List (ℕ × ℕ)) (epochs : List ℕ) (told : List Told) → P (preparing g versions places epochs told) → ⊥
-    preparing_not versions [] epochs told h = committing_not (in_rows (chunk_count g) versions epochs) told h
-    preparing_not versions (place ∷ places) epochs [] h = rare.prepare place.0 place.1 h
-    preparing_not versions (place ∷ places) epochs (Told.Placed epoch ∷ told) h = preparing_not versions places (epochs ++ epoch ∷ []) told h
-    preparing_not versions (place ∷ places) epochs (_ ∷ told) h = ending_not Outcome.NoMemory rare.memory told h
+    preparing_not : (stripe version : ℕ) (next : List Placement → List Told → Act) → ((row : List Placement) (told : List Told) → P (next row told) → ⊥)
+        → (servers : List ℕ) (row : List Placement) (told : List Told) → P (preparing g stripe version next servers row told) → ⊥
+    preparing_not stripe version next never [] row told h = never row told h
+    preparing_not stripe version next never (server ∷ servers) row [] h = rare.prepare server version h
+    preparing_not stripe version next never (server ∷ servers) row (Told.Prepared last ∷ told) h =
+        let now : List Placement = row ++ last ∷ [] in
+        let missing : List Lost = skipped_from 0 now in
+        cond_both {A = Act} (nat_lt g.parity_count (skipped_count now)) (ending (Outcome.Unavailable stripe missing) told) (preparing g stripe version next servers now told) (λ act. P act → ⊥)
+        (λ _. ending_not (Outcome.Unavailable stripe missing) (rare.unavailable stripe missing) told) (λ _. preparing_not stripe version next never servers now told) h
+    preparing_not stripe version next never (server ∷ servers) row (_ ∷ told) h = ending_not Outcome.NoMemory rare.memory told h
 
-    pub drawing_not : (told : List Told) → P (drawing g told) → ⊥
-    drawing_not [] h = rare.draw h
-    drawing_not (Told.Versions versions ∷ told) h = preparing_not versions (places_of (chunk_count g) versions) [] told h
-    drawing_not (Told.Reaped point ∷ told) h = rare.reaped point h
-    drawing_not (_ ∷ told) h = ending_not Outcome.NoMemory rare.memory told h
+    preparing_all_not : (stripe : ℕ) (versions : List ℕ) (placed : List (List Placement)) (told : List Told) → P (preparing_all g stripe versions placed told) → ⊥
+    preparing_all_not stripe [] placed told h = committing_not placed told h
+    preparing_all_not stripe (version ∷ versions) placed told h =
+        preparing_not stripe version (λ row. preparing_all g (stripe + 1) versions (placed ++ row ∷ [])) (λ row. preparing_all_not (stripe + 1) versions (placed ++ row ∷ []))
+        (range_with_len 0 (chunk_count g)) [] told h
+
+    pub drawing_not : (note : Note) (told : List Told) → P (drawing g note told) → ⊥
+    drawing_not note [] h = rare.draw h
+    drawing_not note (Told.Versions versions ∷ told) h = preparing_all_not (note.offset / stripe_length g) versions [] told h
+    drawing_not note (Told.Reaped point ∷ told) h = rare.reaped point h
+    drawing_not note (_ ∷ told) h = ending_not Outcome.NoMemory rare.memory told h
 
     result_not : (stripe : ℕ) (next : List Told → Act) → ((told : List Told) → P (next told) → ⊥) → (result : Gathering) → AsksSo result → P (act_of stripe next result) → ⊥
     result_not stripe next never (Gathering.Asks server step) so h = rare.ask server step so h
     result_not stripe next never (Gathering.HasBytes told) so h = never told h
     result_not stripe next never (Gathering.TooMany missing told) so h = ending_not (Outcome.Unavailable stripe missing) (rare.unavailable stripe missing) told h
     result_not stripe next never (Gathering.AtTarget told) so h = ending_not Outcome.Here rare.here told h
-    result_not stripe next never (Gathering.NoRoom told) so h = ending_not Outcome.NoMemory rare.memory told h
+    result_not stripe next never (Gathering.TargetAway downs told) so h = ending_not (Outcome.Away downs) (rare.away downs) told h
+    result_not stripe next never (Gathering.Short told) so h = ending_not Outcome.NoMemory rare.memory told h
 
     pub gathering_not : (parts : List Part) (next : List Told → Act) → ((told : List Told) → P (next told) → ⊥) → (told : List Told) → P (gathering g parts next told) → ⊥
     gathering_not [] next never told h = never told h
@@ -122,7 +140,7 @@ module _ (g : Shape) where
   put_no_repair : (note : Note) (told : List Told) → IsRepair (next_put g note told) → ⊥
   put_no_repair note [] h = h
   put_no_repair note (Told.Answer point given ∷ told) h = h
-  put_no_repair note (Told.Ready base length_now stripes ∷ told) h = drawing_not IsRepair repair_rare g told h
+  put_no_repair note (Told.Ready base length_now stripes ∷ told) h = drawing_not IsRepair repair_rare g note told h
   put_no_repair note (Told.Versions versions ∷ told) h = committed_no_repair versions told h
   put_no_repair note (_ ∷ told) h = h
 
@@ -145,7 +163,7 @@ module _ (g : Shape) where
   trying_no_repair tries note pairs (Told.Changed base newer ∷ told) h = trying_no_repair tries note (pairs ++ (base, newer) ∷ []) told h
   trying_no_repair tries note pairs (Told.Answer point given ∷ told) h = h
   trying_no_repair tries note pairs (Told.Ready base length_now stripes ∷ told) h =
-      gathering_not IsRepair repair_rare g (old_parts g length_now stripes) (drawing g) (drawing_not IsRepair repair_rare g) told h
+      gathering_not IsRepair repair_rare g (old_parts g length_now stripes) (drawing g note) (drawing_not IsRepair repair_rare g note) told h
   trying_no_repair tries note pairs (Told.Versions versions ∷ told) h = committed_no_repair versions told h
   trying_no_repair tries note pairs (_ ∷ told) h = h
 

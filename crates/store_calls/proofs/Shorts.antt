@@ -44,7 +44,7 @@ committing_short after (_ ∷ told) = ending_short told
 preparing_short : (after : ℕ) (places : List (ℕ × ℕ)) (told : List Told) → preparing_left after places (told ++ Told.Short ∷ []) ≤ preparing_left after places told
 preparing_short after [] told = committing_short after told
 preparing_short after (place ∷ places) [] = omega arith
-preparing_short after (place ∷ places) (Told.Placed epoch ∷ told) = preparing_short after places told
+preparing_short after (place ∷ places) (Told.Prepared last ∷ told) = preparing_short after places told
 preparing_short after (place ∷ places) (_ ∷ told) = ending_short told
 
 drawing_short : (g : Shape) (tries_after touched : ℕ) (told : List Told) → drawing_left g tries_after touched (told ++ Told.Short ∷ []) ≤ drawing_left g tries_after touched told
@@ -71,7 +71,8 @@ module _ (most after : ℕ) (since : List Told → ℕ) (some : 1 ≤ after) (st
   just_ended count (Gathering.HasBytes rest) h = subst (λ l. since l ≤ most - count + after) (sym h) (omega (arith, start))
   just_ended count (Gathering.TooMany missing rest) h = subst (λ l. ending_left l ≤ most - count + after) (sym h) (omega (arith, some))
   just_ended count (Gathering.AtTarget rest) h = subst (λ l. ending_left l ≤ most - count + after) (sym h) (omega (arith, some))
-  just_ended count (Gathering.NoRoom rest) h = subst (λ l. ending_left l ≤ most - count + after) (sym h) (omega (arith, some))
+  just_ended count (Gathering.TargetAway downs rest) h = subst (λ l. ending_left l ≤ most - count + after) (sym h) (omega (arith, some))
+  just_ended count (Gathering.Short rest) h = subst (λ l. ending_left l ≤ most - count + after) (sym h) (omega (arith, some))
 
   result_short : ((told : List Told) → since (told ++ Told.Short ∷ []) ≤ since told) → (told : List Told) (now later : Gathering) → Grows Told.Short now later
       → result_left most (length (told ++ Told.Short ∷ [])) after since later ≤ result_left most (length told) after since now
@@ -83,7 +84,9 @@ module _ (most after : ℕ) (since : List Told → ℕ) (some : 1 ≤ after) (st
       subst (λ r. result_left most (length (told ++ Told.Short ∷ [])) after since r ≤ ending_left rest) (sym grows) (ending_short rest)
   result_short shorts told (Gathering.AtTarget rest) later grows =
       subst (λ r. result_left most (length (told ++ Told.Short ∷ [])) after since r ≤ ending_left rest) (sym grows) (ending_short rest)
-  result_short shorts told (Gathering.NoRoom rest) later grows =
+  result_short shorts told (Gathering.TargetAway downs rest) later grows =
+      subst (λ r. result_left most (length (told ++ Told.Short ∷ [])) after since r ≤ ending_left rest) (sym grows) (ending_short rest)
+  result_short shorts told (Gathering.Short rest) later grows =
       subst (λ r. result_left most (length (told ++ Told.Short ∷ [])) after since r ≤ ending_left rest) (sym grows) (ending_short rest)
 
 -- ---- several parts
@@ -146,7 +149,7 @@ pub short_by : (kind : Kind) (g : Shape) (tries pins : ℕ) (job : Job) (told : 
     → left_by kind g tries pins job (tell_by kind g job told Told.Short) ≤ left_by kind g tries pins job told
 short_by Kind.Put g tries pins job told = put_short g _ told
 short_by Kind.Write g tries pins job told =
-    subst (λ n. n ≤ left_by Kind.Write g tries pins job told) (sym (write_cut_left g _ tries (told ++ Told.Short ∷ []))) (write_short g _ tries told)
+    subst (λ n. n ≤ left_by Kind.Write g tries pins job told) (sym (write_cut_left g job.note _ tries (told ++ Told.Short ∷ []))) (write_short g _ tries told)
 short_by Kind.Get g tries pins job told =
     subst (λ n. n ≤ read_left g pins job.note told) (sym (read_cut_left g pins 0 job.note (told ++ Told.Short ∷ []))) (read_short g pins job.note told)
 short_by Kind.ReadAt g tries pins job told =

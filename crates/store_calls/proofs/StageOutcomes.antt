@@ -1,21 +1,25 @@
 -- What a call comes to, stage by stage, where each answer fits the step that it makes then: an outcome of its kind, and no want of memory.
-use Rattle.std.proofs.Common.{◌≢◌, ℕ, zero, suc, Bool, true, false, cond, nat_lt, List, [], ◌∷◌, ◌++◌, length, map, ◌⊎◌, inl, inr, refl, subst}
+use Rattle.std.proofs.Common.{◌≢◌, ℕ, zero, suc, ◌+◌, ◌/◌, Bool, true, false, cond, nat_lt, List, [], ◌∷◌, ◌++◌, length, map, ◌⊎◌, inl, inr, refl, subst}
 use Rattle.std.proofs.lemmas.Bool.{cond_both}
-use Rattle.clay_grid.specs.Shape.{Shape, chunk_count}
-use Rattle.store_core.specs.Lists.{places_of, in_rows}
+use Rattle.std.specs.List.{range_with_len}
+use Rattle.clay_grid.specs.Shape.{Shape, chunk_count, stripe_length}
+use Rattle.store_map.specs.declared.placement.Found.TheVariants as found
+use Rattle.store_map.specs.declared.placement.Placement.{Placement}
+use Rattle.store_core.specs.Lists.{places_of}
 use Rattle.store_core.specs.Told.{Told, Seen, Lost}
+use Rattle.store_core.specs.Placements.{skipped_from, skipped_count}
 use Rattle.store_core.specs.Note.{Note, Kind}
 use Rattle.store_core.specs.Act.{Act, DirectoryStep, Outcome}
 use Rattle.store_calls.specs.Answers.{Answers}
 use Rattle.store_calls.specs.AnswersByKind.{MayPin, MayWrite, FitsKind}
 use Rattle.store_core.specs.Gathering.{Gathering, Part, servers_but, lost_at, fetching_whole, recovering, fetching_repair, making, looking}
 use Rattle.store_core.specs.GatheringParts.{chunks_in_range, after_data, fetching_data, gather_part, gather_chunk, ending, act_of, gathering}
-use Rattle.store_core.specs.Put.{settling, committed, committing, preparing, drawing, next_put}
+use Rattle.store_core.specs.Put.{settling, committed, committing, preparing, preparing_all, drawing, next_put}
 use Rattle.store_core.specs.Read.{parts_of, next_read, next_single}
 use Rattle.store_core.specs.Write.{old_parts, trying}
 use Rattle.store_core.specs.Rebuild.{placing, installing, confirming, rebuilding, next_rebuild}
 use Rattle.store_core.specs.NextAct.{Job, next_by}
-use Rattle.store_calls.specs.OutcomeLaws.{MayBeServed, MayGather, MayBeReaped, IsOutcomeOf}
+use Rattle.store_calls.specs.OutcomeLaws.{MayBeServed, MayBeReaped, IsOutcomeOf}
 
 module _ (kind : Kind) (pins touched : ℕ) where
   -- an answer to an act that is kept beside those before it, and no want of memory
@@ -80,25 +84,39 @@ module _ (kind : Kind) (pins touched : ℕ) where
         committed_fine free versions [] = free
         committed_fine free versions (_ ∷ told) = free
 
-        committing_holds : (placed : List (List ℕ)) → Holds (committing placed)
+        committing_holds : (placed : List (List Placement)) → Holds (committing placed)
         committing_holds placed [] h = tt
         committing_holds placed (Told.Reaped point ∷ told) h = pass
         committing_holds placed (_ ∷ told) h = ending_holds Outcome.NoMemory (misfit h.0) told h.1
 
-        preparing_holds : (versions : List ℕ) (places : List (ℕ × ℕ)) (epochs : List ℕ) → Holds (preparing g versions places epochs)
-        preparing_holds versions [] epochs told h = committing_holds (in_rows (chunk_count g) versions epochs) told h
-        preparing_holds versions (place ∷ places) epochs [] h = tt
-        preparing_holds versions (place ∷ places) epochs (Told.Placed epoch ∷ told) h = preparing_holds versions places (epochs ++ epoch ∷ []) told h.1
-        preparing_holds versions (place ∷ places) epochs (_ ∷ told) h = ending_holds Outcome.NoMemory (misfit h.0) told h.1
+        unless_fewer_holds : (b : Bool) (outcome : Outcome) → IsFine outcome → (otherwise : List Told → Act) → Holds otherwise → Holds (λ told. cond b (ending outcome told) (otherwise told))
+        unless_fewer_holds true outcome fine otherwise rest told h = ending_holds outcome fine told h
+        unless_fewer_holds false outcome fine otherwise rest told h = rest told h
 
-        pub drawing_holds : Holds (drawing g)
-        drawing_holds [] h = tt
-        drawing_holds (Told.Versions versions ∷ told) h = preparing_holds versions (places_of (chunk_count g) versions) [] told h.1
-        drawing_holds (Told.Reaped point ∷ told) h = pass
-        drawing_holds (_ ∷ told) h = ending_holds Outcome.NoMemory (misfit h.0) told h.1
+        preparing_holds : (stripe version : ℕ) (next : List Placement → List Told → Act) → ((row : List Placement) → Holds (next row)) → (servers : List ℕ) (row : List Placement)
+            → Holds (preparing g stripe version next servers row)
+        preparing_holds stripe version next since [] row told h = since row told h
+        preparing_holds stripe version next since (server ∷ servers) row [] h = tt
+        preparing_holds stripe version next since (server ∷ servers) row (Told.Prepared last ∷ told) h =
+            let now : List Placement = row ++ last ∷ [] in
+            unless_fewer_holds (nat_lt g.parity_count (skipped_count now)) (Outcome.Unavailable stripe (skipped_from 0 now)) pass
+            (preparing g stripe version next servers now) (preparing_holds stripe version next since servers now) told h.1
+        preparing_holds stripe version next since (server ∷ servers) row (_ ∷ told) h = ending_holds Outcome.NoMemory (misfit h.0) told h.1
+
+        preparing_all_holds : (stripe : ℕ) (versions : List ℕ) (placed : List (List Placement)) → Holds (preparing_all g stripe versions placed)
+        preparing_all_holds stripe [] placed told h = committing_holds placed told h
+        preparing_all_holds stripe (version ∷ versions) placed told h =
+            preparing_holds stripe version (λ row. preparing_all g (stripe + 1) versions (placed ++ row ∷ [])) (λ row. preparing_all_holds (stripe + 1) versions (placed ++ row ∷ []))
+            (range_with_len 0 (chunk_count g)) [] told h
+
+        pub drawing_holds : (note : Note) → Holds (drawing g note)
+        drawing_holds note [] h = tt
+        drawing_holds note (Told.Versions versions ∷ told) h = preparing_all_holds (note.offset / stripe_length g) versions [] told h.1
+        drawing_holds note (Told.Reaped point ∷ told) h = pass
+        drawing_holds note (_ ∷ told) h = ending_holds Outcome.NoMemory (misfit h.0) told h.1
 
       -- ---- one gathering, and what follows where the bytes are there
-      module _ (gathers : MayGather kind) (g : Shape) where
+      module _ (gathers : MayBeReaped kind) (g : Shape) where
         module _ (stripe : ℕ) (next : List Told → Act) (since : Holds next) where
           abbrev HoldsOf : (List Told → Gathering) → Type 0
           HoldsOf gather = Holds (λ told. act_of stripe next (gather told))
@@ -165,12 +183,13 @@ module _ (kind : Kind) (pins touched : ℕ) where
             part_holds : HoldsOf (gather_part g part)
             part_holds = data_holds (chunks_in_range g part.start part.end) []
 
-          chunk_holds : IsFine Outcome.Here → (seen : Seen) (target : ℕ) → HoldsOf (gather_chunk g seen target)
-          chunk_holds here seen target [] h = tt
-          chunk_holds here seen target (Told.Here ∷ told) h = ending_holds Outcome.Here here told h.1
-          chunk_holds here seen target (Told.Missing epoch ∷ told) h =
-              looking_holds seen (servers_but g seen (target ∷ [])) (lost_at g seen target epoch ∷ []) told h.1
-          chunk_holds here seen target (_ ∷ told) h = ending_holds Outcome.NoMemory (misfit h.0) told h.1
+          chunk_holds : IsFine Outcome.Here → ((downs : ℕ) → IsFine (Outcome.Away downs)) → (seen : Seen) (target : ℕ) → HoldsOf (gather_chunk g seen target)
+          chunk_holds here away seen target [] h = tt
+          chunk_holds here away seen target (Told.Here ∷ told) h = ending_holds Outcome.Here here told h.1
+          chunk_holds here away seen target (Told.Missing (found.Absent epoch) ∷ told) h =
+              looking_holds seen (servers_but g seen (target ∷ [])) (lost_at g seen target (found.Absent epoch) ∷ []) told h.1
+          chunk_holds here away seen target (Told.Missing (found.Away downs) ∷ told) h = ending_holds (Outcome.Away downs) (away downs) told h.1
+          chunk_holds here away seen target (_ ∷ told) h = ending_holds Outcome.NoMemory (misfit h.0) told h.1
 
         gathering_holds : (parts : List Part) (next : List Told → Act) → Holds next → Holds (gathering g parts next)
         gathering_holds [] next since told h = since told h
@@ -196,13 +215,13 @@ module _ (pins touched : ℕ) (Free : Type 0) (g : Shape) where
   put_holds : (note : Note) → Holds Kind.Put pins touched Free (next_put g note)
   put_holds note [] h = tt
   put_holds note (Told.Answer point answer ∷ told) h = no_rebuild Kind.Put tt
-  put_holds note (Told.Ready base length_now stripes ∷ told) h = drawing_holds Kind.Put pins touched Free tt (no_rebuild Kind.Put tt) g told h.1
+  put_holds note (Told.Ready base length_now stripes ∷ told) h = drawing_holds Kind.Put pins touched Free tt (no_rebuild Kind.Put tt) g note told h.1
   put_holds note (Told.Versions versions ∷ told) h =
       committed_fine Kind.Put pins touched Free tt (no_rebuild Kind.Put tt) g (misfit Kind.Put pins touched Free h.0) versions told
   put_holds note (Told.Pinned point length_now stripes ∷ told) h = wrong_kind Kind.Put pins touched Free (λ never. never) h.0
   put_holds note (_ ∷ told) h = misfit Kind.Put pins touched Free h.0
 
-  read_holds : (kind : Kind) → MayBeServed kind → IsClient kind → MayBeReaped kind → MayGather kind → (MayWrite kind → ⊥) → (note : Note) → Holds kind pins touched Free (next_read g note)
+  read_holds : (kind : Kind) → MayBeServed kind → IsClient kind → MayBeReaped kind → MayBeReaped kind → (MayWrite kind → ⊥) → (note : Note) → Holds kind pins touched Free (next_read g note)
   read_holds kind reads client pass gathers no_write note [] h = tt
   read_holds kind reads client pass gathers no_write note (Told.Answer point answer ∷ told) h = no_rebuild kind client
   read_holds kind reads client pass gathers no_write note (Told.Pinned point length_now stripes ∷ told) h =
@@ -230,8 +249,8 @@ module _ (pins touched : ℕ) (Free : Type 0) (g : Shape) where
     trying_holds pairs (Told.Changed base newer ∷ told) h = trying_holds (pairs ++ (base, newer) ∷ []) told h.1
     trying_holds pairs (Told.Answer point answer ∷ told) h = no_rebuild Kind.Write tt
     trying_holds pairs (Told.Ready base length_now stripes ∷ told) h =
-        gathering_holds Kind.Write pins touched Free tt tt g (old_parts g length_now stripes) (drawing g)
-        (drawing_holds Kind.Write pins touched Free tt (no_rebuild Kind.Write tt) g) told h.1
+        gathering_holds Kind.Write pins touched Free tt tt g (old_parts g length_now stripes) (drawing g note)
+        (drawing_holds Kind.Write pins touched Free tt (no_rebuild Kind.Write tt) g note) told h.1
     trying_holds pairs (Told.Versions versions ∷ told) h =
         committed_fine Kind.Write pins touched Free tt (no_rebuild Kind.Write tt) g
         (misfit Kind.Write pins touched Free (looked (nat_lt (length pairs) tries) (Outcome.Contended pairs) (Told.Versions versions) h.0)) versions told
@@ -260,6 +279,7 @@ module _ (pins touched : ℕ) (Free : Type 0) (g : Shape) where
   installing_holds seen target [] h = tt
   installing_holds seen target (Told.Placed epoch ∷ told) h = placing_holds target epoch told h.1
   installing_holds seen target (Told.AlreadyThere ∷ told) h = rebuild_ends Outcome.Here refl told h.1
+  installing_holds seen target (Told.Away downs ∷ told) h = rebuild_ends (Outcome.Away downs) refl told h.1
   installing_holds seen target (_ ∷ told) h = rebuild_ends Outcome.NoMemory (unfit h.0) told h.1
 
   confirming_holds : (seen : Seen) (target : ℕ) → RebuildHolds (confirming seen target)
@@ -272,7 +292,7 @@ module _ (pins touched : ℕ) (Free : Type 0) (g : Shape) where
   rebuilding_holds : (seen : Seen) (target : ℕ) → RebuildHolds (rebuilding g seen target)
   rebuilding_holds seen target (Told.Gathered ∷ told) h = confirming_holds seen target told h.1
   rebuilding_holds seen target told h =
-      chunk_holds Kind.Rebuild pins touched Free tt tt g seen.stripe (confirming seen target) (confirming_holds seen target) refl seen target told h
+      chunk_holds Kind.Rebuild pins touched Free tt tt g seen.stripe (confirming seen target) (confirming_holds seen target) refl (λ downs. refl) seen target told h
 
   rebuild_holds : (note : Note) (target : ℕ) → RebuildHolds (next_rebuild g note target)
   rebuild_holds note target [] h = tt

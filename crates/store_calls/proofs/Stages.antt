@@ -2,6 +2,7 @@
 use Rattle.std.proofs.Common.{◌≡◌, ℕ, List, [], ◌∷◌, ◌++◌, filter, fold, refl, sym, ap, subst, ◌∙◌}
 use Rattle.std.proofs.lemmas.List.{append_assoc, append-nil}
 use Rattle.clay_grid.specs.Shape.{Shape, chunk_count}
+use Rattle.store_map.specs.declared.placement.Placement.{Placement}
 use Rattle.store_core.specs.Lists.{places_of}
 use Rattle.store_core.specs.Told.{Told}
 use Rattle.store_core.specs.Note.{Note, Kind}
@@ -92,7 +93,7 @@ calm_of (Told.Changed base newer) plain kept = kept
 calm_of answer plain kept = tt
 
 -- the act at a commit
-committed_rows : (act : Act) → AtCommit act → (placed : List (List ℕ)) × (act ≡ Act.AtDirectory (DirectoryStep.Commit placed))
+committed_rows : (act : Act) → AtCommit act → (placed : List (List Placement)) × (act ≡ Act.AtDirectory (DirectoryStep.Commit placed))
 committed_rows (Act.AtDirectory (DirectoryStep.Commit placed)) h = (placed, refl)
 committed_rows act h = absurd h
 
@@ -105,7 +106,7 @@ module _ (g : Shape) (tries : ℕ) (job : Job) where
   -- before the settles the call has prepared and committed
   pub record HasCommitted (kind : Kind) (point : ℕ) (versions : List ℕ) (before : List (Act × Told)) : Type 0 where
     pub writes : MayWrite kind
-    pub placed : List (List ℕ)
+    pub placed : List (List Placement)
     pub front : List (Act × Told)
     pub prepared : PreparedInOrder g placed front
     pub same : prepared.versions ≡ versions
@@ -134,7 +135,7 @@ module _ (g : Shape) (tries : ℕ) (job : Job) where
       ap (next_by kind g tries job) (sym (append-nil told)) ∙ ran.same [] tt ∙ ap (stage_act kind ran.stage) (append-nil ran.since)
 
   -- ---- at a commit
-  stage_drawn : (kind : Kind) (stage : Stage) (placed : List (List ℕ)) (since : List Told) → AreCalm since → stage_act kind stage since ≡ Act.AtDirectory (DirectoryStep.Commit placed)
+  stage_drawn : (kind : Kind) (stage : Stage) (placed : List (List Placement)) (since : List Told) → AreCalm since → stage_act kind stage since ≡ Act.AtDirectory (DirectoryStep.Commit placed)
       → Drawn g (stage_act kind stage) placed since × (kept_versions stage ≡ [])
   stage_drawn Kind.Put Stage.First placed since calm e = (put_drawn g job.note placed since e, refl)
   stage_drawn Kind.Write Stage.First placed since calm e = (trying_drawn g tries job.note [] placed since calm e, refl)
@@ -147,7 +148,7 @@ module _ (g : Shape) (tries : ℕ) (job : Job) where
   stage_drawn kind (Stage.Settling point versions) placed since calm e =
       absurd (settling_no_commit point (places_of (chunk_count g) versions) since (subst AtCommit (sym e) tt))
 
-  pub prepared : (kind : Kind) (told : List Told) (history : List (Act × Told)) (ran : Ran kind told history) (placed : List (List ℕ))
+  pub prepared : (kind : Kind) (told : List Told) (history : List (Act × Told)) (ran : Ran kind told history) (placed : List (List Placement))
       → next_by kind g tries job told ≡ Act.AtDirectory (DirectoryStep.Commit placed)
       → (p : PreparedInOrder g placed history) × (filter is_versions told ≡ Told.Versions p.versions ∷ [])
   prepared kind told history ran placed e =
@@ -157,12 +158,11 @@ module _ (g : Shape) (tries : ℕ) (job : Job) where
         record {
           before = ran.before ++ d.front;
           versions = d.versions;
-          epochs = d.epochs;
           count = d.count;
           rows = d.rows;
           steps_are =
               ran.is ∙ ap (λ s. ran.before ++ s) d.steps
-              ∙ sym (append_assoc ran.before d.front ((Act.AtDirectory DirectoryStep.Draw, Told.Versions d.versions) ∷ prepares g d.versions d.epochs));
+              ∙ sym (append_assoc ran.before d.front ((Act.AtDirectory DirectoryStep.Draw, Told.Versions d.versions) ∷ prepares g d.versions placed));
         },
         ran.marks ∙ ap (λ l. l ++ filter is_versions ran.since) both.1 ∙ d.marks,
       )
@@ -223,7 +223,7 @@ module _ (g : Shape) (tries : ℕ) (job : Job) where
   ran_settling : (told : List Told) (history : List (Act × Told)) (point : ℕ) → AtCommit (act_now told) → HasStep (act_now told) → Ran this told history
       → Ran this (filter is_versions told ++ Told.Done point ∷ []) (history ++ (act_now told, Told.Done point) ∷ [])
   ran_settling told history point at step ran =
-      let rows : (placed : List (List ℕ)) × (act_now told ≡ Act.AtDirectory (DirectoryStep.Commit placed)) = committed_rows (act_now told) at in
+      let rows : (placed : List (List Placement)) × (act_now told ≡ Act.AtDirectory (DirectoryStep.Commit placed)) = committed_rows (act_now told) at in
       let both : (p : PreparedInOrder g rows.0 history) × (filter is_versions told ≡ Told.Versions p.versions ∷ []) = prepared this told history ran rows.0 rows.1 in
       let writes : MayWrite this = commits_writing this told at in
       record {

@@ -6,7 +6,7 @@ use Rattle.store_core.specs.Note.{Kind}
 use Rattle.store_core.specs.Act.{Act, Outcome}
 use Rattle.store_core.specs.Bounds.{step_bound}
 use Rattle.store_calls.specs.CallLeft.{call_left}
-use Rattle.store_calls.specs.CauseLaws.{Replies, PinsAt, IsPlacement, TargetHasIt, changes_of, HasCause, IsCaused}
+use Rattle.store_calls.specs.CauseLaws.{Replies, PinsAt, IsPlacement, TargetHasIt, IsToldAway, changes_of, HasCause, IsCaused}
 use Rattle.store_calls.specs.GatherLaws.{Tells}
 use Rattle.store_calls.specs.MemoryCauses.{MemoryWasWanting, OutcomesInSteps}
 use Rattle.store_core.specs.NextAct.{Job, next_by, next_act}
@@ -18,6 +18,7 @@ use Rattle.store_calls.proofs.CallLosses.{was_told_of_loss}
 use Rattle.store_calls.proofs.Carried.{AnyTells, tells_carried, told_back}
 use Rattle.store_calls.proofs.Causes.{causes}
 use Rattle.store_calls.proofs.FirstAnswers.{target_first}
+use Rattle.store_calls.proofs.FirstAway.{target_away}
 use Rattle.store_calls.proofs.InSteps.{short_was_told}
 use Rattle.store_calls.proofs.StageOutcomes.{IsFine, ActIsFine, call_holds, all_free}
 use Rattle.store_calls.proofs.Steps.{steps_fall}
@@ -63,6 +64,11 @@ module _ (g : Shape) (max tries : ℕ) (job : Job) (some : 0 < g.parity_count) (
       there : TargetHasIt kept ⊎ Tells (λ answer. answer ≡ Told.AlreadyThere) kept → TargetHasIt answers ⊎ Tells (λ answer. answer ≡ Told.AlreadyThere) answers
       there (inl first) = inl (target_first g job [] answers first)
       there (inr later) = inr (back_same Told.AlreadyThere tt later)
+  cause_back (Outcome.Away downs) told e h = (there h.0, back_same Told.Ended tt h.1)
+    where
+      there : IsToldAway downs kept → IsToldAway downs answers
+      there (inl first) = inl (target_away g job downs [] answers first)
+      there (inr later) = inr (back_same (Told.Away downs) tt later)
   cause_back Outcome.NoSuch told e h = back_same Told.NoSuch tt h
   cause_back (Outcome.Superseded newer) told e h = back_same (Told.Superseded newer) tt h
   cause_back (Outcome.Unavailable stripe missing) told e h = ((h.0, back_same Told.Ended tt h.1), was_told_of_loss g tries job some stripe missing answers e)
@@ -83,6 +89,7 @@ module _ (g : Shape) (max tries : ℕ) (job : Job) (some : 0 < g.parity_count) (
   unhindered (Outcome.Contended pairs) kind h free = too_few pairs (changes_of answers) h.0 h.1 (free.tries_left kind)
   unhindered (Outcome.Reaped point) kind h free = free.reaped point h
   unhindered Outcome.NoMemory kind h free = free.memory h
+  unhindered (Outcome.Away downs) kind h free = free.target downs kind h.0
   unhindered outcome kind h free = tt
 
 -- ---- how many answers there are where memory is ample

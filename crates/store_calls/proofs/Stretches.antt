@@ -1,6 +1,8 @@
 -- Answers that stand together in a list: those of a gathering that found too many servers without their chunk.
-use Rattle.std.proofs.Common.{◌≡◌, ℕ, ◌<◌, Bool, true, false, List, [], ◌∷◌, ◌++◌, fold, ◌⊎◌, inl, inr, refl, sym, ap, subst, ◌∙◌}
+use Rattle.std.proofs.Common.{◌≡◌, ℕ, ◌<◌, Bool, true, false, List, [], ◌∷◌, ◌++◌, map, fold, ◌⊎◌, inl, inr, refl, sym, ap, subst, ◌∙◌}
 use Rattle.std.proofs.lemmas.List.{append_assoc, append-nil}
+use Rattle.std.specs.List.{flat_map}
+use Rattle.store_map.specs.declared.placement.Placement.{Placement}
 use Rattle.clay_grid.specs.Shape.{Shape}
 use Rattle.store_core.specs.Told.{Told, Seen, Lost}
 use Rattle.store_core.specs.Gathering.{Gathering, Part}
@@ -169,7 +171,8 @@ module _ (gather : List Told → Gathering) (grows : (told : List Told) (answer 
       }
   stops_by done answer more (Gathering.HasBytes told) here just next later e go_on = absurd (subst IsTooMany (sym e ∙ later) tt)
   stops_by done answer more (Gathering.AtTarget told) here just next later e go_on = absurd (subst IsTooMany (sym e ∙ later) tt)
-  stops_by done answer more (Gathering.NoRoom told) here just next later e go_on = absurd (subst IsTooMany (sym e ∙ later) tt)
+  stops_by done answer more (Gathering.TargetAway downs told) here just next later e go_on = absurd (subst IsTooMany (sym e ∙ later) tt)
+  stops_by done answer more (Gathering.Short told) here just next later e go_on = absurd (subst IsTooMany (sym e ∙ later) tt)
 
   pub stops_from : (done todo : List Told) → JustEnded (gather done) → Comes (done ++ todo) → Stops (done ++ todo)
   stops_from done [] just e = stops_now done just e
@@ -182,12 +185,29 @@ module _ (gather : List Told → Gathering) (grows : (told : List Told) (answer 
 abbrev IsStrange : Told → Type 0
 IsStrange (Told.Given layers) = ⊥
 IsStrange (Told.Missing epoch) = ⊥
+IsStrange (Told.Prepared last) = ⊥
 IsStrange _ = Unit {0}
 
 mark_strange : (mark : Told) → IsMark mark → IsStrange mark
 mark_strange (Told.Given layers) h = h
 mark_strange (Told.Missing epoch) h = h
+mark_strange (Told.Prepared last) h = h
 mark_strange mark h = tt
+
+-- prepares begin with an answer to one
+abbrev BeginsPrepared : List Told → Type 0
+BeginsPrepared [] = Unit {0}
+BeginsPrepared (Told.Prepared last ∷ told) = Unit {0}
+BeginsPrepared (_ ∷ told) = ⊥
+
+begins_prepared : (first second : List Placement) → BeginsPrepared (map Told.Prepared first ++ map Told.Prepared second)
+begins_prepared [] [] = tt
+begins_prepared [] (last ∷ second) = tt
+begins_prepared (last ∷ first) second = tt
+
+not_prepared : (answer : Told) (told : List Told) → IsStrange answer → BeginsPrepared (answer ∷ told) → ⊥
+not_prepared (Told.Prepared last) told strange h = strange
+not_prepared answer told strange h = h
 
 module _ (g : Shape) where
   data_strange : (part : Part) (servers : List ℕ) (answer : Told) (told : List Told) → IsStrange answer → IsTooMany (fetching_data g part servers [] (answer ∷ told)) → ⊥
@@ -208,6 +228,8 @@ module _ (g : Shape) where
 
     lost_strange : (looked : Told) → IsLost g job looked stripe missing (answer ∷ told) → ⊥
     lost_strange (Told.PinnedStripe seen) h = chunk_strange seen job.target answer told strange (subst IsTooMany (sym h.comes_to) tt)
+    lost_strange (Told.Versions versions) h =
+        not_prepared answer told strange (subst BeginsPrepared (sym h.told_is) (begins_prepared (flat_map (λ (whole : List Placement). whole) h.placed) h.row))
     lost_strange looked h = part_lost_strange looked h
 
   -- what follows a look among what is kept follows it among the answers

@@ -44,7 +44,8 @@ module _ (g : Shape) where
   changes_one since same told (Gathering.HasBytes rest) keeps = same rest ∙ sym (changes_same told rest keeps.1)
   changes_one since same told (Gathering.TooMany missing rest) keeps = refl
   changes_one since same told (Gathering.AtTarget rest) keeps = refl
-  changes_one since same told (Gathering.NoRoom rest) keeps = refl
+  changes_one since same told (Gathering.TargetAway downs rest) keeps = refl
+  changes_one since same told (Gathering.Short rest) keeps = refl
 
   changes_parts : (parts : List Part) (told : List Told) → changes_of (cut_parts g parts told) ≡ changes_of told
   changes_parts [] told = refl

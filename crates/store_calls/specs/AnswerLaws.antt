@@ -25,16 +25,18 @@ is_on_pass _ = false
 abbrev pub is_of_call : ServerStep → Bool
 is_of_call (ServerStep.Discard version) = false
 is_of_call ServerStep.Wipe = false
+is_of_call ServerStep.Down = false
+is_of_call ServerStep.Up = false
 is_of_call _ = true
 
 -- no object is longer than the directory allows
-abbrev pub AreShort : Directory → Type 0
-AreShort d = All (λ object. object.length ≤ d.max) d.objects
+abbrev pub AreWithinMax : Directory → Type 0
+AreWithinMax d = All (λ object. object.length ≤ d.max) d.objects
 
 -- a look pins no more stripes than the bound of its call, a draw draws no more than the call touches
 pub record PlacesAnswer : Type 0 where
   pub look :
-      (short : Bool) (who : Actor) (number : ℕ) (note : Note) (d : Directory) → 0 < stripe_length d.shape → AreShort d →
+      (short : Bool) (who : Actor) (number : ℕ) (note : Note) (d : Directory) → 0 < stripe_length d.shape → AreWithinMax d →
       DirectoryAnswers (pin_bound d.shape d.max note) (touched_count d.shape note) (DirectoryStep.Look note) (at_directory short who number (DirectoryStep.Look note) d).1
   pub look_repair :
       (short : Bool) (who : Actor) (number : ℕ) (note : Note) (d : Directory) →

@@ -29,16 +29,17 @@ DirectoryAnswers pins touched step answer = ⊥
 
 -- the answers of a step at a server
 abbrev pub ServerAnswers : ServerStep → Told → Type 0
-ServerAnswers (ServerStep.Prepare version) (Told.Placed epoch) = ⊤
+ServerAnswers (ServerStep.Prepare version) (Told.Prepared placement) = ⊤
 ServerAnswers (ServerStep.Prepare version) Told.Short = ⊤
 ServerAnswers (ServerStep.Settle version) Told.Settled = ⊤
 ServerAnswers (ServerStep.Has version) Told.Here = ⊤
-ServerAnswers (ServerStep.Has version) (Told.Missing epoch) = ⊤
+ServerAnswers (ServerStep.Has version) (Told.Missing found) = ⊤
 ServerAnswers (ServerStep.Fetch version layers) (Told.Given count) = ⊤
-ServerAnswers (ServerStep.Fetch version layers) (Told.Missing epoch) = ⊤
+ServerAnswers (ServerStep.Fetch version layers) (Told.Missing found) = ⊤
 ServerAnswers (ServerStep.Fetch version layers) Told.Short = ⊤
 ServerAnswers (ServerStep.Install version) (Told.Placed epoch) = ⊤
 ServerAnswers (ServerStep.Install version) Told.AlreadyThere = ⊤
+ServerAnswers (ServerStep.Install version) (Told.Away downs) = ⊤
 ServerAnswers (ServerStep.Install version) Told.Short = ⊤
 ServerAnswers step answer = ⊥
 

@@ -6,7 +6,7 @@ use Rattle.store_core.specs.Told.{Seen, Told}
 use Rattle.store_core.specs.Act.{Act, ServerStep}
 use Rattle.store_core.specs.Gathering.{Gathering, Part}
 use Rattle.store_core.specs.GatheringParts.{gather_part, gather_chunk}
-use Rattle.store_core.specs.Put.{preparing, settling}
+use Rattle.store_core.specs.Put.{preparing_all, settling}
 
 -- the gathering asks a server next
 abbrev pub IsAsking : Gathering → Type 0
@@ -30,7 +30,7 @@ pub record AsksFewTimes : Type 0 where
       (g : Shape) (seen : Seen) (target : ℕ) (told : List Told) → target < chunk_count g → IsAsking (gather_chunk g seen target told) →
       length told + 1 < 3 * chunk_count g
   pub prepares :
-      (g : Shape) (versions : List ℕ) (told : List Told) → IsPreparing (preparing g versions (places_of (chunk_count g) versions) [] told) →
+      (g : Shape) (stripe : ℕ) (versions : List ℕ) (told : List Told) → IsPreparing (preparing_all g stripe versions [] told) →
       length told < length versions * chunk_count g
   pub settles :
       (g : Shape) (point : ℕ) (versions : List ℕ) (told : List Told) → IsSettling (settling point (places_of (chunk_count g) versions) told) →

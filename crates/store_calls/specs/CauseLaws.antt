@@ -1,6 +1,7 @@
 -- Each outcome has its cause among what the call was told.
 use Rattle.std.specs.Prelude.{◌≡◌, ℕ, ◌+◌, ◌<◌, ◌≤◌, ◌⊎◌, List, [], ◌∷◌, length, map, ⊤}
 use Rattle.clay_grid.specs.Shape.{Shape}
+use Rattle.store_map.specs.declared.placement.Found.TheVariants as found
 use Rattle.store_map.specs.declared.reply.Reply.{Reply}
 use Rattle.store_map.specs.declared.reply.Reply.TheVariants as reply
 use Rattle.store_core.specs.Told.{Told}
@@ -31,6 +32,15 @@ abbrev pub TargetHasIt : List Told → Type 0
 TargetHasIt (Told.PinnedStripe seen ∷ Told.Here ∷ told) = ⊤
 TargetHasIt _ = ⊥
 
+-- a rebuild's look was answered by a stripe, and the target, which is asked first, was away
+abbrev pub TargetIsAway : ℕ → List Told → Type 0
+TargetIsAway downs (Told.PinnedStripe seen ∷ Told.Missing given ∷ told) = given ≡ found.Away downs
+TargetIsAway downs _ = ⊥
+
+-- it was away when it was asked, or when the chunk came
+abbrev pub IsToldAway : ℕ → List Told → Type 0
+IsToldAway downs told = TargetIsAway downs told ⊎ Tells (λ answer. answer ≡ Told.Away downs) told
+
 -- the pairs of the commits that found the object changed, in order
 abbrev pub changes_of : List Told → List (ℕ × ℕ)
 changes_of [] = []
@@ -43,6 +53,7 @@ HasCause g tries (Outcome.Answered point given) told = Tells (Replies point give
 HasCause g tries (Outcome.Served point) told = Tells (PinsAt point) told × Tells (λ answer. answer ≡ Told.Ended) told
 HasCause g tries Outcome.Rebuilt told = Tells IsPlacement told × Tells (λ answer. answer ≡ Told.Ended) told
 HasCause g tries Outcome.Here told = (TargetHasIt told ⊎ Tells (λ answer. answer ≡ Told.AlreadyThere) told) × Tells (λ answer. answer ≡ Told.Ended) told
+HasCause g tries (Outcome.Away downs) told = IsToldAway downs told × Tells (λ answer. answer ≡ Told.Ended) told
 HasCause g tries Outcome.NoSuch told = Tells (λ answer. answer ≡ Told.NoSuch) told
 HasCause g tries (Outcome.Superseded newer) told = Tells (λ answer. answer ≡ Told.Superseded newer) told
 HasCause g tries (Outcome.Unavailable stripe missing) told = (length missing ≡ g.parity_count + 1) × Tells (λ answer. answer ≡ Told.Ended) told

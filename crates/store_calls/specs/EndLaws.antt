@@ -1,6 +1,8 @@
 -- Which answers end a call, and how: the other direction of the causes of outcomes.
 use Rattle.std.specs.Prelude.{◌≡◌, ℕ, ◌≤◌, ◌+◌, ◌*◌, List, [], ◌∷◌, ◌++◌, length, fold, replicate, IsTrue, ⊤}
 use Rattle.clay_grid.specs.Shape.{Shape, chunk_count}
+use Rattle.store_map.specs.declared.placement.Found.TheVariants as found
+use Rattle.store_map.specs.declared.placement.Placement.{Placement}
 use Rattle.store_map.specs.declared.reply.Reply.{Reply}
 use Rattle.store_map.specs.declared.reply.Reply.TheVariants as reply
 use Rattle.store_core.specs.Told.{Told, Seen}
@@ -34,7 +36,7 @@ pub record AnswersEndCalls (g : Shape) (tries : ℕ) (job : Job) : Type 0 where
       next_act g tries job (tell g job told Told.NoSuch) ≡ Act.Finish Outcome.NoSuch
   -- a commit, after a settle for each chunk
   pub committed :
-      (told : List Told) (placed : List (List ℕ)) (point : ℕ) → next_act g tries job told ≡ Act.AtDirectory (DirectoryStep.Commit placed) →
+      (told : List Told) (placed : List (List Placement)) (point : ℕ) → next_act g tries job told ≡ Act.AtDirectory (DirectoryStep.Commit placed) →
       next_act g tries job (fold (tell g job) (tell g job told (Told.Done point)) (replicate (length placed * chunk_count g) Told.Settled)) ≡
       Act.Finish (Outcome.Answered point reply.Done)
   -- a step on its pass that is told of a reap
@@ -51,7 +53,7 @@ pub record AnswersEndCalls (g : Shape) (tries : ℕ) (job : Job) : Type 0 where
       next_act g tries job (tell g job told Told.Ended) ≡ Act.Finish Outcome.Rebuilt
   -- a commit that is told of a change, when all tries are used up
   pub contended :
-      (told : List Told) (placed : List (List ℕ)) (base newer : ℕ) → job.note.kind ≡ Kind.Write →
+      (told : List Told) (placed : List (List Placement)) (base newer : ℕ) → job.note.kind ≡ Kind.Write →
       next_act g tries job told ≡ Act.AtDirectory (DirectoryStep.Commit placed) → tries ≤ length (changes_of told) + 1 →
       next_act g tries job (tell g job told (Told.Changed base newer)) ≡ Act.Finish (Outcome.Contended (changes_of told ++ (base, newer) ∷ []))
   -- a rebuild whose target has its chunk, when it is asked or when the chunk comes; the pass ends first
@@ -66,6 +68,19 @@ pub record AnswersEndCalls (g : Shape) (tries : ℕ) (job : Job) : Type 0 where
   pub here_when_it_comes :
       (told : List Told) (server version : ℕ) → next_act g tries job told ≡ Act.AtServer server (ServerStep.Install version) →
       next_act g tries job (tell g job (tell g job told Told.AlreadyThere) Told.Ended) ≡ Act.Finish Outcome.Here
+  -- a rebuild whose target is away, likewise
+  pub pass_ends_when_away :
+      (seen : Seen) (downs : ℕ) → job.note.kind ≡ Kind.Rebuild →
+      next_act g tries job (Told.PinnedStripe seen ∷ Told.Missing (found.Away downs) ∷ []) ≡ Act.AtDirectory DirectoryStep.End
+  pub away_when_asked :
+      (seen : Seen) (downs : ℕ) → job.note.kind ≡ Kind.Rebuild →
+      next_act g tries job (Told.PinnedStripe seen ∷ Told.Missing (found.Away downs) ∷ Told.Ended ∷ []) ≡ Act.Finish (Outcome.Away downs)
+  pub pass_ends_when_not_taken :
+      (told : List Told) (server version downs : ℕ) → next_act g tries job told ≡ Act.AtServer server (ServerStep.Install version) →
+      next_act g tries job (tell g job told (Told.Away downs)) ≡ Act.AtDirectory DirectoryStep.End
+  pub away_when_it_comes :
+      (told : List Told) (server version downs : ℕ) → next_act g tries job told ≡ Act.AtServer server (ServerStep.Install version) →
+      next_act g tries job (tell g job (tell g job told (Told.Away downs)) Told.Ended) ≡ Act.Finish (Outcome.Away downs)
   -- want of memory: the call is over where it looked, and after any later step its pass ends first
   pub no_memory_at_look : (told : List Told) → IsLook (next_act g tries job told) → next_act g tries job (tell g job told Told.Short) ≡ Act.Finish Outcome.NoMemory
   pub pass_ends_without_memory :

@@ -1,55 +1,59 @@
 -- When a gathering ends: it names the servers as missing exactly when one more than there are parity chunks have said so.
 use Rattle.std.specs.Prelude.{◌≡◌, ◌≢◌, ℕ, ◌+◌, ◌<◌, ◌≤◌, ◌⊎◌, List, [], ◌∷◌, ◌++◌, length, map, get_or, All, AllPairs}
 use Rattle.clay_grid.specs.Shape.{Shape, chunk_count}
+use Rattle.store_map.specs.declared.placement.Found.{Found}
+use Rattle.store_map.specs.declared.placement.Found.TheVariants as found
+use Rattle.store_map.specs.declared.placement.Placement.TheVariants as placement
 use Rattle.store_core.specs.Told.{Seen, Lost, Told}
 use Rattle.store_core.specs.Act.{ServerStep}
 use Rattle.store_core.specs.Gathering.{Gathering, Part}
 use Rattle.store_core.specs.GatheringParts.{gather_part, gather_chunk}
 use Rattle.store_calls.specs.NamedServers.{NamesTheAsked}
 
--- the epochs of the servers that said that they lack their chunk, in the order in which they were asked
-abbrev pub epochs_missing : List Told → List ℕ
-epochs_missing [] = []
-epochs_missing (Told.Missing epoch ∷ told) = epoch ∷ epochs_missing told
-epochs_missing (_ ∷ told) = epochs_missing told
+-- why servers gave no chunk, in the order in which they were asked
+abbrev pub reasons_of : List Told → List Found
+reasons_of [] = []
+reasons_of (Told.Missing reason ∷ told) = reason ∷ reasons_of told
+reasons_of (_ ∷ told) = reasons_of told
 
 -- some answer that was told is such
 abbrev pub Tells : (Told → Type 0) → List Told → Type 0
 Tells P [] = ⊥
 Tells P (answer ∷ told) = P answer ⊎ Tells P told
 
--- too many were missing: as many as that, with the epochs that they answered after those of the servers marked before
+-- too many were missing: as many as that, with the reasons that they told after those of the servers marked before
 pub record FoundTooMany (g : Shape) (before : List Lost) (told : List Told) (missing : List Lost) (rest : List Told) : Type 0 where
   pub front : List Told
   pub told_is : told ≡ front ++ rest
   pub count : length missing ≡ g.parity_count + 1
-  pub epochs : map (λ lost. lost.found) missing ≡ map (λ lost. lost.found) before ++ epochs_missing front
+  pub reasons : map (λ lost. lost.found) missing ≡ map (λ lost. lost.found) before ++ reasons_of front
 
 -- no more were missing than there are parity chunks
 pub record FoundEnough (g : Shape) (before : List Lost) (told rest : List Told) : Type 0 where
   pub front : List Told
   pub told_is : told ≡ front ++ rest
-  pub count : length before + length (epochs_missing front) ≤ g.parity_count
+  pub count : length before + length (reasons_of front) ≤ g.parity_count
 
 -- memory was wanting, and until then no more were missing than there are parity chunks
-pub record FoundNoRoom (g : Shape) (before : List Lost) (told rest : List Told) : Type 0 where
+pub record FoundShortage (g : Shape) (before : List Lost) (told rest : List Told) : Type 0 where
   pub front : List Told
   pub told_is : told ≡ front ++ rest
-  pub count : length before + length (epochs_missing front) ≤ g.parity_count
+  pub count : length before + length (reasons_of front) ≤ g.parity_count
 
--- where some servers were marked before, what was told since comes to such a gathering; the target that has its chunk is asked first
+-- where some servers were marked before, what was told since comes to such a gathering; the target, which is asked first, ends it where it has its chunk or is away
 abbrev pub Ends : Shape → List Lost → List Told → Gathering → Type 0
-Ends g before told (Gathering.Asks server step) = length before + length (epochs_missing told) ≤ g.parity_count
+Ends g before told (Gathering.Asks server step) = length before + length (reasons_of told) ≤ g.parity_count
 Ends g before told (Gathering.HasBytes rest) = FoundEnough g before told rest
 Ends g before told (Gathering.TooMany missing rest) = FoundTooMany g before told missing rest
 Ends g before told (Gathering.AtTarget rest) = told ≡ Told.Here ∷ rest
-Ends g before told (Gathering.NoRoom rest) = FoundNoRoom g before told rest
+Ends g before told (Gathering.TargetAway downs rest) = told ≡ Told.Missing (found.Away downs) ∷ rest
+Ends g before told (Gathering.Short rest) = FoundShortage g before told rest
 
--- the servers that are named differ, each is there, and its placed epoch is the one that the look told
+-- the servers that are named differ, each is there, and its placement is the one that the look told
 pub record AreApart (g : Shape) (seen : Seen) (missing : List Lost) : Type 0 where
   pub there : All (λ lost. lost.server < chunk_count g) missing
   pub differ : AllPairs (λ lost other. lost.server ≢ other.server) missing
-  pub placed : All (λ lost. lost.placed ≡ get_or seen.placed lost.server 0) missing
+  pub placed : All (λ lost. lost.placed ≡ get_or seen.placed lost.server (placement.At 0)) missing
 
 -- both gatherings end so, with no server marked before; only that of a chunk has a target
 pub record GatheringsEnd : Type 0 where
@@ -63,6 +67,7 @@ pub record GatheringsEnd : Type 0 where
       gather_chunk g seen target told ≡ Gathering.TooMany missing rest → AreApart g seen missing
   pub chunk_first : (g : Shape) (seen : Seen) (target : ℕ) → gather_chunk g seen target [] ≡ Gathering.Asks target (ServerStep.Has seen.version)
   pub part_target : (g : Shape) (part : Part) (told rest : List Told) → gather_part g part told ≢ Gathering.AtTarget rest
+  pub part_away : (g : Shape) (part : Part) (downs : ℕ) (told rest : List Told) → gather_part g part told ≢ Gathering.TargetAway downs rest
   pub part_asked :
       (g : Shape) (part : Part) (told rest : List Told) (missing : List Lost) → gather_part g part told ≡ Gathering.TooMany missing rest →
       NamesTheAsked (gather_part g part) told rest missing

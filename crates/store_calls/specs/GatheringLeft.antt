@@ -15,7 +15,8 @@ result_left most answers after since (Gathering.Asks server step) = most - answe
 result_left most answers after since (Gathering.HasBytes told) = since told
 result_left most answers after since (Gathering.TooMany missing told) = ending_left told
 result_left most answers after since (Gathering.AtTarget told) = ending_left told
-result_left most answers after since (Gathering.NoRoom told) = ending_left told
+result_left most answers after since (Gathering.TargetAway downs told) = ending_left told
+result_left most answers after since (Gathering.Short told) = ending_left told
 
 -- three answers of each server for each part, and what follows
 abbrev pub gathering_left : Shape → List Part → (List Told → ℕ) → List Told → ℕ

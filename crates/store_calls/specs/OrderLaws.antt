@@ -1,6 +1,7 @@
 -- What must come before: no call leaves out one of its steps.
 use Rattle.std.specs.Prelude.{◌≡◌, ℕ, ◌⊎◌, List, [], ◌∷◌}
 use Rattle.clay_grid.specs.Shape.{Shape}
+use Rattle.store_map.specs.declared.placement.Placement.{Placement}
 use Rattle.store_map.specs.declared.reply.Reply.{Reply}
 use Rattle.store_map.specs.declared.reply.Reply.TheVariants as reply
 use Rattle.store_core.specs.Told.{Told}
@@ -29,9 +30,9 @@ pub record CallsKeepOrder (g : Shape) (max tries : ℕ) (job : Job) : Type 0 whe
   pub draws :
       (answers : List Told) → AreTold g max tries job answers → act_after g tries job answers ≡ Act.AtDirectory DirectoryStep.Draw →
       LookedInOrder g job (steps_since g tries job [] answers)
-  -- it commits the epochs that it was told by one prepare for each drawn version at each server
+  -- it commits what it was told by one prepare for each drawn version at each server
   pub commits :
-      (answers : List Told) (placed : List (List ℕ)) → AreTold g max tries job answers →
+      (answers : List Told) (placed : List (List Placement)) → AreTold g max tries job answers →
       act_after g tries job answers ≡ Act.AtDirectory (DirectoryStep.Commit placed) →
       PreparedInOrder g placed (steps_since g tries job [] answers)
   -- it is answered by its look, or after a commit and a settle for each version at each server

@@ -28,11 +28,11 @@ committing_left after [] = after + 1
 committing_left after (Told.Reaped point ∷ told) = 0
 committing_left after (_ ∷ told) = ending_left told
 
--- one prepare for each place that is left
+-- one prepare for each place that is left; where too many servers are away the call ends before
 abbrev pub preparing_left : ℕ → List (ℕ × ℕ) → List Told → ℕ
 preparing_left after [] told = committing_left after told
 preparing_left after (place ∷ places) [] = length (place ∷ places) + after + 1
-preparing_left after (place ∷ places) (Told.Placed epoch ∷ told) = preparing_left after places told
+preparing_left after (place ∷ places) (Told.Prepared placement ∷ told) = preparing_left after places told
 preparing_left after (place ∷ places) (_ ∷ told) = ending_left told
 
 -- from the draw of at most so many versions on; a commit is followed by the settles, or by so many steps of later tries

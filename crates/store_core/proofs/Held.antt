@@ -1,10 +1,11 @@
 -- Servers hold rising versions.
 use Rattle.std.proofs.Common.{◌≡◌, ℕ, ◌<◌, Bool, true, false, cond, ◌||◌, ◌&&◌, not, nat_eq, nat_lt, List, [], ◌∷◌, refl, sym, ap, ◌∙◌, arith}
 use Rattle.std.proofs.lemmas.Bool.{cond_both, ltb-true, ltb-false, eqb-true, eqb-false, eq-eqb, ne_eqb, not-true, not-false}
+use Rattle.store_map.specs.declared.placement.Placement.TheVariants as placement
 use Rattle.store_core.specs.Lists.{is_among}
 use Rattle.store_core.specs.Told.{Told}
 use Rattle.store_core.specs.Act.{ServerStep, server_takes_memory}
-use Rattle.store_core.specs.Server.{Server, hold, let_go, made_at_server, server_unless_short}
+use Rattle.store_core.specs.Server.{Server, hold, let_go, gives, found_at, install, made_at_server, server_unless_short}
 use Rattle.store_core.specs.HeldLaws.{AreAbove, IsRising, HoldsInOrder}
 
 lower : (least below : ℕ) (versions : List ℕ) → below < least → AreAbove least versions → AreAbove below versions
@@ -44,21 +45,28 @@ let_go_rising version (other ∷ versions) h =
     (λ _. (above_let_go other version versions h.0, let_go_rising version versions h.1)) (λ _. let_go_rising version versions h.1)
 
 made_rising : (step : ServerStep) (s : Server) → IsRising s.held → IsRising (made_at_server step s).0.held
-made_rising (ServerStep.Prepare version) s h = hold_rising version s.held h
+made_rising (ServerStep.Prepare version) s h =
+    cond_both {A = Server × Told} s.away (s, Told.Prepared (placement.Skipped s.downs)) (record s { held = hold version s.held }, Told.Prepared (placement.At s.epoch))
+    (λ r. IsRising r.0.held) (λ _. h) (λ _. hold_rising version s.held h)
 made_rising (ServerStep.Settle version) s h = h
 made_rising (ServerStep.Has version) s h =
-    cond_both {A = Server × Told} (is_among version s.held) (s, Told.Here) (s, Told.Missing s.epoch) (λ r. IsRising r.0.held) (λ _. h) (λ _. h)
-made_rising (ServerStep.Fetch version layers) s h = fetched (is_among version s.held) _ _ h
+    cond_both {A = Server × Told} (gives version s) (s, Told.Here) (s, Told.Missing (found_at s)) (λ r. IsRising r.0.held) (λ _. h) (λ _. h)
+made_rising (ServerStep.Fetch version layers) s h = fetched (gives version s) _ _ h
   where
     fetched : (b : Bool) (taken : ℕ) (answer : Told) → IsRising s.held
-        → IsRising (cond {A = Server × Told} b (record s { taken = taken }, answer) (s, Told.Missing s.epoch)).0.held
+        → IsRising (cond {A = Server × Told} b (record s { taken = taken }, answer) (s, Told.Missing (found_at s))).0.held
     fetched true taken answer h = h
     fetched false taken answer h = h
-made_rising (ServerStep.Install version) s h =
-    cond_both {A = Server × Told} (is_among version s.held) (s, Told.AlreadyThere) (made_at_server (ServerStep.Prepare version) s) (λ r. IsRising r.0.held)
-    (λ _. h) (λ _. hold_rising version s.held h)
+made_rising (ServerStep.Install version) s h = installed s.away (is_among version s.held)
+  where
+    installed : (away there : Bool) → IsRising (install away there version s).0.held
+    installed true there = h
+    installed false true = h
+    installed false false = hold_rising version s.held h
 made_rising (ServerStep.Discard version) s h = let_go_rising version s.held h
 made_rising ServerStep.Wipe s h = tt
+made_rising ServerStep.Down s h = h
+made_rising ServerStep.Up s h = h
 
 unless_rising : (short takes : Bool) (step : ServerStep) (s : Server) → IsRising s.held → IsRising (server_unless_short short takes step s).0.held
 unless_rising true true step s h = h

@@ -1,5 +1,5 @@
 -- Each step keeps the places.
-use Rattle.std.proofs.Common.{◌≡◌, ◌≢◌, ℕ, zero, suc, ◌+◌, ◌-◌, ◌^◌, ◌≤◌, max, Bool, true, false, List, [], ◌∷◌, ◌++◌, length, take, map, filter, fold, zip, not, nat_lt, Option, None, Some, option_map, unwrap_or, refl, sym, ap, ◌∙◌, arith, length-append}
+use Rattle.std.proofs.Common.{◌≡◌, ◌≢◌, ℕ, zero, suc, ◌+◌, ◌-◌, ◌^◌, ◌≤◌, Bool, true, false, List, [], ◌∷◌, ◌++◌, length, take, map, fold, zip, nat_lt, Option, None, Some, option_map, unwrap_or, refl, sym, ap, ◌∙◌, arith, length-append}
 use Rattle.std.proofs.lemmas.Bool.{cond_both}
 use Rattle.std.proofs.lemmas.List.{length-map}
 use Rattle.std.proofs.lemmas.List.FromFn.{length-range_with_len}
@@ -8,8 +8,11 @@ use Rattle.store_map.specs.declared.actor.Actor.{Actor}
 use Rattle.store_map.specs.declared.actor.Actor.TheVariants as actor
 use Rattle.store_map.specs.declared.reply.Reply.{Reply}
 use Rattle.store_map.specs.declared.script.Script.{Script}
+use Rattle.store_map.specs.declared.placement.Placement.{Placement}
+use Rattle.store_map.specs.declared.placement.Placement.TheVariants as placement
 use Rattle.store_core.specs.Lists.{change_at, is_among}
 use Rattle.store_core.specs.Told.{Told}
+use Rattle.store_core.specs.Placements.{placed_anew}
 use Rattle.store_core.specs.Note.{Note, Kind, refusal}
 use Rattle.store_core.specs.Act.{Act, DirectoryStep, ServerStep, takes_memory}
 use Rattle.store_core.specs.Directory.{Object, Standing, Version, Pin, Pass, Directory}
@@ -17,12 +20,12 @@ use Rattle.store_core.specs.Lookups.{find_object, pass_of, last_change, first_ga
 use Rattle.store_core.specs.Look.{set_standing, begin_pass, seen_at}
 use Rattle.store_core.specs.Looks.{accept, look_by, look_repair_by}
 use Rattle.store_core.specs.PassSteps.{close_pass, give_up_drawn, touched, draw, end_pass, confirm, repaired, new_version}
-use Rattle.store_core.specs.Commit.{commit, commit_object, changed_object, place_all, is_overtaken}
+use Rattle.store_core.specs.Commit.{commit, commit_object, dropped_by, place_all, is_overtaken}
 use Rattle.store_core.specs.AtDirectory.{unless_reaped, on_pass, take_garbage, reap_pass, reap, made_at_directory, unless_short, at_directory}
-use Rattle.store_core.specs.Server.{Server, raised_by, at_server, made_at_server, server_unless_short}
+use Rattle.store_core.specs.Server.{Server, raised_by, hold, gives, found_at, install, at_server, made_at_server, server_unless_short}
 use Rattle.store_core.specs.Work.{Calling, client_work, repairer_work}
 use Rattle.store_core.specs.Step.{Places, at_places, at_server_there}
-use Rattle.store_core.specs.Run.{Run, after_client, after_repairer, first_marks, places_in}
+use Rattle.store_core.specs.Run.{Run, after_client, after_repairer, first_shortage, places_in}
 use Rattle.store_core.specs.CallStep.{step_of}
 use Rattle.store_core.specs.PlaceLaws.{IsCounted, CountsUp, as_drawn, KeepsPlaces}
 use Rattle.store_core.specs.ActorLaws.{ChangesOnePlace, KeepsOtherClients, KeepsOtherRepairers, StepsChangeOneActor}
@@ -41,7 +44,7 @@ pub length-set_standing : (standing : Standing) (numbers : List ℕ) (versions :
 length-set_standing standing numbers versions =
     length-fold (λ vs number. change_at number (λ version. record version { standing = standing }) vs) (λ vs number. length-change_at number _ vs) versions numbers
 
-pub length-place_all : (drawn : List (ℕ × List ℕ)) (versions : List Version) → length (place_all drawn versions) ≡ length versions
+pub length-place_all : (drawn : List (ℕ × List Placement)) (versions : List Version) → length (place_all drawn versions) ≡ length versions
 length-place_all drawn versions =
     length-fold (λ vs entry. change_at entry.0 (λ version. record version { placed = entry.1; standing = Standing.Current }) vs) (λ vs entry. length-change_at entry.0 _ vs) versions drawn
 
@@ -68,7 +71,7 @@ drawn-set_standing : (standing : Standing) (numbers : List ℕ) (versions : List
 drawn-set_standing standing numbers versions =
     drawn-fold (λ vs number. change_at number (λ version. record version { standing = standing }) vs) (λ vs number. drawn-change_at number _ (λ _. refl) vs) versions numbers
 
-drawn-place_all : (drawn : List (ℕ × List ℕ)) (versions : List Version) → map as_drawn (place_all drawn versions) ≡ map as_drawn versions
+drawn-place_all : (drawn : List (ℕ × List Placement)) (versions : List Version) → map as_drawn (place_all drawn versions) ≡ map as_drawn versions
 drawn-place_all drawn versions =
     drawn-fold (λ vs entry. change_at entry.0 (λ version. record version { placed = entry.1; standing = Standing.Current }) vs) (λ vs entry. drawn-change_at entry.0 _ (λ _. refl) vs) versions drawn
 
@@ -89,30 +92,49 @@ raised : (n count : ℕ) → count ≤ 2 ^ 64 - 1 → (count ≤ raised_by n cou
 raised n count h = (omega (arith, h), omega (arith, h))
 
 same_counts : (s : Server) → IsCounted s → CountsUp s s
-same_counts s h = record { epoch = omega arith; taken = omega arith; counted = h }
+same_counts s h = record { epoch = omega arith; taken = omega arith; downs = omega arith; counted = h }
 
 held_counts : (s : Server) (held : List ℕ) → IsCounted s → CountsUp s (record s { held = held })
-held_counts s held h = record { epoch = omega arith; taken = omega arith; counted = record { epoch = h.epoch; taken = h.taken } }
+held_counts s held h = record { epoch = omega arith; taken = omega arith; downs = omega arith; counted = record { epoch = h.epoch; taken = h.taken; downs = h.downs } }
 
 made_counts_up : (step : ServerStep) (s : Server) → IsCounted s → CountsUp s (made_at_server step s).0
-made_counts_up (ServerStep.Prepare version) s h = held_counts s _ h
+made_counts_up (ServerStep.Prepare version) s h =
+    cond_both {A = Server × Told} s.away (s, Told.Prepared (placement.Skipped s.downs)) (record s { held = hold version s.held }, Told.Prepared (placement.At s.epoch))
+    (λ r. CountsUp s r.0) (λ _. same_counts s h) (λ _. held_counts s _ h)
 made_counts_up (ServerStep.Settle version) s h = same_counts s h
 made_counts_up (ServerStep.Has version) s h =
-    cond_both {A = Server × Told} (is_among version s.held) (s, Told.Here) (s, Told.Missing s.epoch) (λ r. CountsUp s r.0) (λ _. same_counts s h) (λ _. same_counts s h)
+    cond_both {A = Server × Told} (gives version s) (s, Told.Here) (s, Told.Missing (found_at s)) (λ r. CountsUp s r.0) (λ _. same_counts s h) (λ _. same_counts s h)
 made_counts_up (ServerStep.Fetch version layers) s h =
-    cond_both {A = Server × Told} (is_among version s.held) (record s { taken = raised_by (length layers) s.taken }, Told.Given (length layers)) (s, Told.Missing s.epoch) (λ r. CountsUp s r.0)
+    cond_both {A = Server × Told} (gives version s) (record s { taken = raised_by (length layers) s.taken }, Told.Given (length layers)) (s, Told.Missing (found_at s)) (λ r. CountsUp s r.0)
     (λ _. record {
       epoch = omega arith;
       taken = (raised (length layers) s.taken h.taken).0;
-      counted = record { epoch = h.epoch; taken = (raised (length layers) s.taken h.taken).1 };
+      downs = omega arith;
+      counted = record { epoch = h.epoch; taken = (raised (length layers) s.taken h.taken).1; downs = h.downs };
     })
     (λ _. same_counts s h)
-made_counts_up (ServerStep.Install version) s h =
-    cond_both {A = Server × Told} (is_among version s.held) (s, Told.AlreadyThere) (made_at_server (ServerStep.Prepare version) s) (λ r. CountsUp s r.0)
-    (λ _. same_counts s h) (λ _. held_counts s _ h)
+made_counts_up (ServerStep.Install version) s h = installed s.away (is_among version s.held)
+  where
+    installed : (away there : Bool) → CountsUp s (install away there version s).0
+    installed true there = same_counts s h
+    installed false true = same_counts s h
+    installed false false = held_counts s _ h
 made_counts_up (ServerStep.Discard version) s h = held_counts s _ h
 made_counts_up ServerStep.Wipe s h =
-    record { epoch = (raised 1 s.epoch h.epoch).0; taken = omega arith; counted = record { epoch = (raised 1 s.epoch h.epoch).1; taken = h.taken } }
+    record {
+      epoch = (raised 1 s.epoch h.epoch).0;
+      taken = omega arith;
+      downs = omega arith;
+      counted = record { epoch = (raised 1 s.epoch h.epoch).1; taken = h.taken; downs = h.downs };
+    }
+made_counts_up ServerStep.Down s h =
+    record {
+      epoch = omega arith;
+      taken = omega arith;
+      downs = (raised 1 s.downs h.downs).0;
+      counted = record { epoch = h.epoch; taken = h.taken; downs = (raised 1 s.downs h.downs).1 };
+    }
+made_counts_up ServerStep.Up s h = record { epoch = omega arith; taken = omega arith; downs = omega arith; counted = record { epoch = h.epoch; taken = h.taken; downs = h.downs } }
 
 unless_counts_up : (short takes : Bool) (step : ServerStep) (s : Server) → IsCounted s → CountsUp s (server_unless_short short takes step s).0
 unless_counts_up true true step s h = same_counts s h
@@ -192,17 +214,17 @@ repaired_keeps server epoch pass d =
     record {
       points = refl;
       numbers = refl;
-      versions = kept d _ (length-fold (λ (versions : List Version) (pin : Pin). change_at pin.version (λ version. record version { placed = change_at server (max epoch) version.placed }) versions) (λ vs pin. length-change_at pin.version _ vs) d.versions pass.pinned);
+      versions = kept d _ (length-fold (λ (versions : List Version) (pin : Pin). change_at pin.version (λ version. record version { placed = change_at server (placed_anew epoch) version.placed }) versions) (λ vs pin. length-change_at pin.version _ vs) d.versions pass.pinned);
       drawn = stays_as d.versions _
-          (drawn-fold (λ (versions : List Version) (pin : Pin). change_at pin.version (λ version. record version { placed = change_at server (max epoch) version.placed }) versions)
+          (drawn-fold (λ (versions : List Version) (pin : Pin). change_at pin.version (λ version. record version { placed = change_at server (placed_anew epoch) version.placed }) versions)
           (λ vs pin. drawn-change_at pin.version _ (λ _. refl) vs) d.versions pass.pinned);
     }
 
-commit_object_keeps : (placed : List (List ℕ)) (pass : Pass) (old : Object) (d : Directory) → KeepsPlaces d (commit_object placed pass old d).0 (commit_object placed pass old d).1
+commit_object_keeps : (placed : List (List Placement)) (pass : Pass) (old : Object) (d : Directory) → KeepsPlaces d (commit_object placed pass old d).0 (commit_object placed pass old d).1
 commit_object_keeps placed pass old d =
-    record { points = (refl, _, refl); numbers = refl; versions = kept d _ (length-set_standing Standing.Superseded (filter (λ version. not (is_among version (changed_object pass.note.kind d pass old).versions)) old.versions) (place_all (zip pass.drawn placed) d.versions) ∙ length-place_all (zip pass.drawn placed) d.versions); drawn = stays_as d.versions _ (drawn-set_standing Standing.Superseded (filter (λ version. not (is_among version (changed_object pass.note.kind d pass old).versions)) old.versions) (place_all (zip pass.drawn placed) d.versions) ∙ drawn-place_all (zip pass.drawn placed) d.versions) }
+    record { points = (refl, _, refl); numbers = refl; versions = kept d _ (length-set_standing Standing.Superseded (dropped_by pass.note.kind d pass old.versions) (place_all (zip pass.drawn placed) d.versions) ∙ length-place_all (zip pass.drawn placed) d.versions); drawn = stays_as d.versions _ (drawn-set_standing Standing.Superseded (dropped_by pass.note.kind d pass old.versions) (place_all (zip pass.drawn placed) d.versions) ∙ drawn-place_all (zip pass.drawn placed) d.versions) }
 
-commit_keeps : (placed : List (List ℕ)) → KeepsOnPasses (commit placed)
+commit_keeps : (placed : List (List Placement)) → KeepsOnPasses (commit placed)
 unfolding KeepsOnPasses
 commit_keeps placed pass d =
     cond_both {A = Directory × Told} (is_overtaken pass.note.kind pass.base (last_change pass.note.name d.points))
@@ -267,8 +289,8 @@ other_repairers i run (Some after) = record { clients = refl; repairers = λ oth
 pub steps_change_one_actor : (script : Script) (run : Run) → StepsChangeOneActor script run
 steps_change_one_actor script run =
     record {
-      client = λ i. other_clients i run (step_of script (first_marks run.marks) (actor.Client i) (slice_get (client_work script) i) (slice_get run.core.clients i) (places_in run.core));
-      repairer = λ i. other_repairers i run (step_of script (first_marks run.marks) (actor.Repairer i) (slice_get (repairer_work script) i) (slice_get run.core.repairers i) (places_in run.core));
+      client = λ i. other_clients i run (step_of script (first_shortage run.shortages) (actor.Client i) (slice_get (client_work script) i) (slice_get run.core.clients i) (places_in run.core));
+      repairer = λ i. other_repairers i run (step_of script (first_shortage run.shortages) (actor.Repairer i) (slice_get (repairer_work script) i) (slice_get run.core.repairers i) (places_in run.core));
       sweeper = record { clients = refl; repairers = refl };
       operator = λ act. (record { clients = refl; repairers = refl }, refl);
     }

@@ -1,5 +1,6 @@
 -- What an actor does next: a step at the directory, a step at a server, or the end of its call.
 use Rattle.std.specs.Prelude.{ℕ, Bool, true, false, List}
+use Rattle.store_map.specs.declared.placement.Placement.{Placement}
 use Rattle.store_map.specs.declared.reply.Reply.{Reply}
 use Rattle.store_map.specs.declared.actor.Actor.{Actor}
 use Rattle.store_core.specs.Told.{Lost}
@@ -13,6 +14,7 @@ pub data Outcome : Type 0 where
   -- of a rebuild
   Rebuilt : Outcome
   Here : Outcome
+  Away : (downs : ℕ) → Outcome
   NoSuch : Outcome
   Superseded : (newer : ℕ) → Outcome
   -- without a reply
@@ -26,7 +28,7 @@ pub data DirectoryStep : Type 0 where
   Look : (note : Note) → DirectoryStep
   LookRepair : (note : Note) → DirectoryStep
   Draw : DirectoryStep
-  Commit : (placed : List (List ℕ)) → DirectoryStep
+  Commit : (placed : List (List Placement)) → DirectoryStep
   End : DirectoryStep
   Confirm : DirectoryStep
   Repaired : (server epoch : ℕ) → DirectoryStep
@@ -34,7 +36,7 @@ pub data DirectoryStep : Type 0 where
   Swept : (version : ℕ) → DirectoryStep
   Reap : (actor : Actor) → DirectoryStep
 
--- the kinds of step at a server, each but the last of a version; the last two are the sweeper's and the operator's
+-- the kinds of step at a server; first those of a version, of which the last is the sweeper's, then those of the operator
 pub data ServerStep : Type 0 where
   Prepare : (version : ℕ) → ServerStep
   Settle : (version : ℕ) → ServerStep
@@ -43,6 +45,8 @@ pub data ServerStep : Type 0 where
   Install : (version : ℕ) → ServerStep
   Discard : (version : ℕ) → ServerStep
   Wipe : ServerStep
+  Down : ServerStep
+  Up : ServerStep
 
 -- what an actor does next
 pub data Act : Type 0 where

@@ -4,7 +4,7 @@ use Rattle.store_map.specs.declared.actor.Actor.{Actor}
 use Rattle.store_core.specs.Lists.{change_at}
 use Rattle.store_core.specs.Told.{Told}
 use Rattle.store_core.specs.Act.{DirectoryStep, takes_memory}
-use Rattle.store_core.specs.Directory.{Standing, Pass, Mark, Directory}
+use Rattle.store_core.specs.Directory.{Standing, Pass, Event, Directory}
 use Rattle.store_core.specs.Lookups.{pass_of, first_garbage}
 use Rattle.store_core.specs.Look.{append_point, set_standing}
 use Rattle.store_core.specs.Looks.{look, look_repair}
@@ -18,7 +18,7 @@ unless_reaped step pass (Some point) d = (close_pass pass d, Told.Reaped point)
 
 -- a step on the actor's pass, if it has one
 abbrev pub on_pass : (Pass → Directory → Directory × Told) → Option Pass → Directory → Directory × Told
-on_pass step None d = (d, Told.Made)
+on_pass step None d = (d, Told.NotMade)
 on_pass step (Some pass) d = unless_reaped step pass pass.reaped d
 
 -- the least garbage is marked taken
@@ -36,7 +36,7 @@ abbrev pub reap_pass : Pass → Option ℕ → Directory → Directory × Told
 reap_pass pass (Some point) d = (d, Told.GivenUp None)
 reap_pass pass None d =
     let marked : Directory = change_pass pass (λ other. record other { reaped = Some (length d.points) }) (give_up_drawn pass d) in
-    (append_point pass.actor pass.number pass.note Mark.Reaped marked, Told.GivenUp (Some (length d.points)))
+    (append_point pass.actor pass.number pass.note Event.Reaped marked, Told.GivenUp (Some (length d.points)))
 
 -- the operator gives up an actor's pass, if it has one
 abbrev pub reap : Option Pass → Directory → Directory × Told

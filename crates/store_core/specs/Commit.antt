@@ -1,10 +1,11 @@
 -- The commit of a put or a write.
-use Rattle.std.specs.Prelude.{ℕ, ◌+◌, ◌/◌, Bool, true, false, not, nat_eq, max, List, [], ◌∷◌, ◌++◌, length, take, drop, filter, fold, zip, Option, None, Some, unwrap_or, bytes_eq, if◌then◌else◌}
+use Rattle.std.specs.Prelude.{ℕ, ◌+◌, ◌/◌, Bool, true, false, not, nat_eq, max, List, [], ◌∷◌, ◌++◌, length, take, drop, fold, zip, Option, None, Some, unwrap_or, bytes_eq, if◌then◌else◌}
 use Rattle.clay_grid.specs.Shape.{stripe_length}
-use Rattle.store_core.specs.Lists.{change_at, is_among}
+use Rattle.store_map.specs.declared.placement.Placement.{Placement}
+use Rattle.store_core.specs.Lists.{change_at}
 use Rattle.store_core.specs.Told.{Told}
 use Rattle.store_core.specs.Note.{Kind}
-use Rattle.store_core.specs.Directory.{Object, Standing, Version, Pass, Mark, Directory}
+use Rattle.store_core.specs.Directory.{Object, Standing, Version, Pass, Event, Directory}
 use Rattle.store_core.specs.Lookups.{find_object, last_change}
 use Rattle.store_core.specs.Look.{append_point, set_standing}
 use Rattle.store_core.specs.PassSteps.{close_pass, give_up_drawn}
@@ -36,25 +37,29 @@ changed_object Kind.Write d pass old =
     }
 changed_object _ d pass old = record { name = old.name; length = pass.note.length; versions = pass.drawn }
 
--- each drawn version becomes current, with the epochs at which its chunks were placed
-abbrev pub place_all : List (ℕ × List ℕ) → List Version → List Version
+-- the old versions that no longer stand in it: of a put all, of a write those in whose places its drawn ones stand
+abbrev pub dropped_by : Kind → Directory → Pass → List ℕ → List ℕ
+dropped_by Kind.Write d pass old = take (length pass.drawn) (drop (pass.note.offset / stripe_length d.shape) old)
+dropped_by _ d pass old = old
+
+-- each drawn version becomes current, with its row of placements
+abbrev pub place_all : List (ℕ × List Placement) → List Version → List Version
 place_all drawn versions =
     fold (λ vs entry. change_at entry.0 (λ version. record version { placed = entry.1; standing = Standing.Current }) vs) versions drawn
 
--- the object's earlier versions that no longer stand in it are superseded
-abbrev pub commit_object : List (List ℕ) → Pass → Object → Directory → Directory × Told
+-- the object's earlier versions that are dropped are superseded
+abbrev pub commit_object : List (List Placement) → Pass → Object → Directory → Directory × Told
 commit_object placed pass old d =
     let new : Object = changed_object pass.note.kind d pass old in
-    let dropped : List ℕ = filter (λ version. not (is_among version new.versions)) old.versions in
     let moved : Directory =
     record d {
       objects = put_object new d.objects;
-      versions = set_standing Standing.Superseded dropped (place_all (zip pass.drawn placed) d.versions);
+      versions = set_standing Standing.Superseded (dropped_by pass.note.kind d pass old.versions) (place_all (zip pass.drawn placed) d.versions);
     } in
-    (close_pass pass (append_point pass.actor pass.number pass.note Mark.Done moved), Told.Done (length d.points))
+    (close_pass pass (append_point pass.actor pass.number pass.note Event.Done moved), Told.Done (length d.points))
 
--- a pass's commit, with a row of placed epochs for each drawn version
-abbrev pub commit : List (List ℕ) → Pass → Directory → Directory × Told
+-- a pass's commit, with a row of placements for each drawn version
+abbrev pub commit : List (List Placement) → Pass → Directory → Directory × Told
 commit placed pass d =
     let last : Option ℕ = last_change pass.note.name d.points in
     let old : Object = unwrap_or (find_object pass.note.name d.objects) (record { name = pass.note.name; length = 0; versions = [] }) in

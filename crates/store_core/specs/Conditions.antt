@@ -3,9 +3,11 @@ use Rattle.std.specs.Prelude.{◌≡◌, ◌≢◌, ◌⊎◌, ℕ, ◌<◌, ◌
 use Rattle.clay_grid.specs.Shape.{chunk_count}
 use Rattle.store_map.specs.declared.actor.Actor.{Actor}
 use Rattle.store_map.specs.declared.actor.Actor.TheVariants as actor
+use Rattle.store_map.specs.declared.placement.Placement.{Placement}
+use Rattle.store_core.specs.Placements.{IsRow}
 use Rattle.store_core.specs.Note.{Note, Kind}
 use Rattle.store_core.specs.Act.{DirectoryStep}
-use Rattle.store_core.specs.Directory.{Pass, Mark, Directory}
+use Rattle.store_core.specs.Directory.{Pass, Event, Directory}
 use Rattle.store_core.specs.Lookups.{same_actor, pass_of}
 use Rattle.store_core.specs.PassSteps.{touched}
 
@@ -13,7 +15,7 @@ use Rattle.store_core.specs.PassSteps.{touched}
 pub record MayBegin (d : Directory) (who : Actor) (number : ℕ) : Type 0 where
   pub no_pass : pass_of who d ≡ None
   pub numbers :
-      All (λ point. IsTrue (same_actor point.actor who) → (point.number ≤ number) × (point.number ≡ number → point.mark ≡ Mark.Reaped)) d.points
+      All (λ point. IsTrue (same_actor point.actor who) → (point.number ≤ number) × (point.number ≡ number → point.event ≡ Event.Reaped)) d.points
 
 -- a client's call; all but a write and a read speak of the object's bytes from the first one on
 abbrev pub IsOfClient : Actor → Note → Type 0
@@ -35,11 +37,11 @@ pub record IsRebuilding (d : Directory) (who : Actor) (pass : Pass) : Type 0 whe
   pub is_pass : pass_of who d ≡ Some pass
   pub kind : pass.note.kind ≡ Kind.Rebuild
 
--- every touched stripe has its version, and a row of the epochs of all servers
-pub record IsPrepared (d : Directory) (pass : Pass) (placed : List (List ℕ)) : Type 0 where
+-- every touched stripe has its version, and a row of placements
+pub record IsPrepared (d : Directory) (pass : Pass) (placed : List (List Placement)) : Type 0 where
   pub drawn : length pass.drawn ≡ length (touched d pass.note)
   pub rows : length placed ≡ length pass.drawn
-  pub whole : All (λ row. length row ≡ chunk_count d.shape) placed
+  pub whole : All (IsRow d.shape) placed
 
 -- the condition of each step
 abbrev pub MayStep : Directory → Actor → ℕ → DirectoryStep → Type 0

@@ -2,6 +2,7 @@
 use Rattle.std.specs.Prelude.{ℕ, ◌+◌, ◌*◌, ◌-◌, min, max, List, [], ◌∷◌, ◌++◌, length, get_or, take, drop, replicate, fold, Option, None, Some}
 use Rattle.clay_grid.specs.Shape.{Shape, stripe_length}
 use Rattle.store_map.specs.Content.{content_bytes, overwrite}
+use Rattle.store_map.specs.declared.actor.Actor.{Actor}
 use Rattle.store_map.specs.declared.call.Call.{Call}
 use Rattle.store_map.specs.declared.call.Call.TheVariants as call
 use Rattle.store_map.specs.declared.script.Script.{Script}
@@ -27,15 +28,19 @@ abbrev pub old_content : Shape → List (List ℕ) → Option ℕ → List ℕ
 old_content g contents None = replicate (stripe_length g) 0
 old_content g contents (Some base) = get_or contents base []
 
--- a version's content, by those of the versions before it
-abbrev pub content_after : Script → List (List ℕ) → Version → List ℕ
-content_after script contents version =
-    let written : ℕ × List ℕ = written_by (call_of script version.actor version.number) in
-    lay_over script.geometry version.stripe (old_content script.geometry contents version.base) written.0 written.1
+-- a version's content, by those of the versions before it, where a call is known by its actor and number
+abbrev pub content_after : Shape → (Actor → ℕ → Option Call) → List (List ℕ) → Version → List ℕ
+content_after g calls contents version =
+    let written : ℕ × List ℕ = written_by (calls version.actor version.number) in
+    lay_over g version.stripe (old_content g contents version.base) written.0 written.1
 
 -- the contents of all versions, in the order in which they were drawn
+abbrev pub contents_by : Shape → (Actor → ℕ → Option Call) → List Version → List (List ℕ)
+contents_by g calls versions = fold (λ contents version. contents ++ content_after g calls contents version ∷ []) [] versions
+
+-- the same for a script's calls
 abbrev pub contents_of : Script → List Version → List (List ℕ)
-contents_of script versions = fold (λ contents version. contents ++ content_after script contents version ∷ []) [] versions
+contents_of script versions = contents_by script.geometry (call_of script) versions
 
 -- the content of the version with this number
 abbrev pub content_of : Script → List Version → ℕ → List ℕ

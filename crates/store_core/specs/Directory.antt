@@ -2,6 +2,7 @@
 use Rattle.std.specs.Prelude.{ℕ, List, [], Option}
 use Rattle.clay_grid.specs.Shape.{Shape}
 use Rattle.store_map.specs.declared.actor.Actor.{Actor}
+use Rattle.store_map.specs.declared.placement.Placement.{Placement}
 use Rattle.store_map.specs.declared.reply.Reply.{Reply}
 use Rattle.store_core.specs.Note.{Note}
 
@@ -15,13 +16,13 @@ pub record Object : Type 0 where
 pub data Standing : Type 0 where
   Drawn Current Superseded Taken Swept : Standing
 
--- a version: the call that drew it, its stripe, the version that it was laid over, the epochs at which its chunks were placed
+-- a version: the call that drew it, its stripe, the version that it was laid over, how each server took its chunk
 pub record Version : Type 0 where
   pub actor : Actor
   pub number : ℕ
   pub stripe : ℕ
   pub base : Option ℕ
-  pub placed : List ℕ
+  pub placed : List Placement
   pub standing : Standing
 
 -- a pinned stripe and its version that was current then
@@ -40,16 +41,16 @@ pub record Pass : Type 0 where
   pub reaped : Option ℕ
 
 -- what a point stands for
-pub data Mark : Type 0 where
-  Answer : (reply : Reply) → Mark
-  Pinned Done Reaped : Mark
+pub data Event : Type 0 where
+  Answer : (reply : Reply) → Event
+  Pinned Done Reaped : Event
 
 -- a point of the history, with the call that it belongs to
 pub record Point : Type 0 where
   pub actor : Actor
   pub number : ℕ
   pub note : Note
-  pub mark : Mark
+  pub event : Event
 
 -- a version's number is its place among the versions, a point's its place among the points
 pub record Directory : Type 0 where

@@ -15,7 +15,7 @@ use Rattle.transcript_text.specs.declared.shown.Shown.{Shown}
 use Rattle.transcript_text.specs.declared.shown.Shown.TheVariants as shown
 use Rattle.transcript_text.specs.declared.line.HLine.{HLine}
 use Rattle.store_core.specs.Act.{Outcome}
-use Rattle.store_core.specs.Directory.{Mark, Point}
+use Rattle.store_core.specs.Directory.{Event, Point}
 use Rattle.store_core.specs.Core.{Core}
 use Rattle.store_core.specs.Work.{Ended}
 
@@ -41,19 +41,19 @@ answered_in core (actor.Client i) number = is_answer (option_and_then (λ callin
 answered_in core who number = false
 
 -- the map's reply to the call of a point, and the map after it; a reap changes nothing
-abbrev pub applied : ℕ → Objects → Mark → Option Call → Objects × Reply
-applied max objects Mark.Reaped call = (objects, reply.NoSuch)
-applied max objects mark None = (objects, reply.NoSuch)
-applied max objects mark (Some call) = apply max call objects
+abbrev pub applied : ℕ → Objects → Event → Option Call → Objects × Reply
+applied max objects Event.Reaped call = (objects, reply.NoSuch)
+applied max objects event None = (objects, reply.NoSuch)
+applied max objects event (Some call) = apply max call objects
 
 -- what a point shows: the map's reply there if the call was answered; a commit without an answer shows as open, a pinned look without one not at all
-abbrev pub shown_at : Mark → Bool → Reply → Option Shown
-shown_at (Mark.Answer given) answered mapped = Some (shown.Reply given)
-shown_at Mark.Pinned true mapped = Some (shown.Reply mapped)
-shown_at Mark.Pinned false mapped = None
-shown_at Mark.Done true mapped = Some (shown.Reply reply.Done)
-shown_at Mark.Done false mapped = Some shown.Unfinished
-shown_at Mark.Reaped answered mapped = None
+abbrev pub shown_at : Event → Bool → Reply → Option Shown
+shown_at (Event.Answer given) answered mapped = Some (shown.Reply given)
+shown_at Event.Pinned true mapped = Some (shown.Reply mapped)
+shown_at Event.Pinned false mapped = None
+shown_at Event.Done true mapped = Some (shown.Reply reply.Done)
+shown_at Event.Done false mapped = Some shown.Unfinished
+shown_at Event.Reaped answered mapped = None
 
 -- how a call is named; the sweeper and the operator have none
 abbrev pub name_of : Actor → ℕ → Option CallName
@@ -66,14 +66,14 @@ abbrev pub line_of : ℕ → Option CallName → Option Shown → List HLine
 line_of point (Some call) (Some reply) = record { point = point; call = call; reply = reply } ∷ []
 line_of point call reply = []
 
--- the lines of the points from one on, over the map that stands there
-abbrev pub history_from : Script → Core → ℕ → Objects → List Point → List HLine
-history_from script core place objects [] = []
-history_from script core place objects (point ∷ points) =
-    let after : Objects × Reply = applied (size_of script) objects point.mark (call_of script point.actor point.number) in
-    line_of place (name_of point.actor point.number) (shown_at point.mark (answered_in core point.actor point.number) after.1)
-    ++ history_from script core (place + 1) after.0 points
+-- the lines of the points from one on, over the map that stands there, by what is known of calls: which they are, and whether they were answered
+abbrev pub history_from : ℕ → (Actor → ℕ → Option Call) → (Actor → ℕ → Bool) → ℕ → Objects → List Point → List HLine
+history_from max calls answered place objects [] = []
+history_from max calls answered place objects (point ∷ points) =
+    let after : Objects × Reply = applied max objects point.event (calls point.actor point.number) in
+    line_of place (name_of point.actor point.number) (shown_at point.event (answered point.actor point.number) after.1)
+    ++ history_from max calls answered (place + 1) after.0 points
 
--- the lines of all points, from the empty map on
+-- the lines of all points of a script's run, from the empty map on
 abbrev pub history_of : Script → Core → List HLine
-history_of script core = history_from script core 0 [] core.directory.points
+history_of script core = history_from (size_of script) (call_of script) (answered_in core) 0 [] core.directory.points

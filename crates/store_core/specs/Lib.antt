@@ -1,7 +1,9 @@
 pub mod Lists
 pub mod Told
+pub mod Placements
 pub mod Note
 pub mod Act
+pub mod ActPlace
 pub mod Gathering
 pub mod GatheringParts
 pub mod Put
@@ -25,6 +27,7 @@ pub mod Core
 pub mod Step
 pub mod CallStep
 pub mod Run
+pub mod Fuel
 pub mod Schedule
 pub mod History
 pub mod Outcomes
@@ -40,3 +43,4 @@ pub mod ActorLaws
 pub mod MemoryLaws
 pub mod HeldLaws
 pub mod Conditions
+pub mod Tokens

@@ -1,5 +1,5 @@
 -- Words on lists that the store's definitions use.
-use Rattle.std.specs.Prelude.{ℕ, zero, suc, Bool, nat_eq, List, [], ◌∷◌, take, drop, map}
+use Rattle.std.specs.Prelude.{ℕ, zero, suc, Bool, nat_eq, List, [], ◌∷◌, map}
 use Rattle.std.specs.List.{list_any, range_with_len, flat_map}
 
 -- the list with its element at a place changed
@@ -15,8 +15,3 @@ is_among n ns = list_any (nat_eq n) ns
 -- each version with each server, version by version: where the chunks of these versions go
 abbrev pub places_of : ℕ → List ℕ → List (ℕ × ℕ)
 places_of servers versions = flat_map (λ version. map (λ server. (server, version)) (range_with_len 0 servers)) versions
-
--- one row of so many numbers for each of some versions
-abbrev pub in_rows : ℕ → List ℕ → List ℕ → List (List ℕ)
-in_rows width [] numbers = []
-in_rows width (version ∷ versions) numbers = take width numbers ∷ in_rows width versions (drop width numbers)

@@ -1,14 +1,15 @@
--- The two looks, with which a client's and a repairer's call begin.
+-- What looks and later steps read and change in a directory: the stripes that a call means, pins, points, passes, standings, objects.
 use Rattle.std.specs.Prelude.{ℕ, ◌+◌, ◌*◌, ◌-◌, ◌/◌, Bool, ◌||◌, nat_lt, min, List, [], ◌∷◌, ◌++◌, length, get_or, map, filter, fold, Option, None, Some, bytes_eq, if◌then◌else◌}
 use Rattle.std.specs.List.{range_with_len, slice_get}
 use Rattle.clay_grid.specs.Shape.{Shape, stripe_length}
 use Rattle.store_map.specs.Limits.{stripes_met}
 use Rattle.store_map.specs.declared.actor.Actor.{Actor}
+use Rattle.store_map.specs.declared.placement.Placement.{Placement}
 use Rattle.store_core.specs.Lists.{change_at}
 use Rattle.store_core.specs.Told.{Seen}
 use Rattle.store_core.specs.Note.{Note, Kind}
 use Rattle.store_core.specs.Read.{read_start, read_end}
-use Rattle.store_core.specs.Directory.{Object, Standing, Version, Pin, Mark, Directory}
+use Rattle.store_core.specs.Directory.{Object, Standing, Version, Pin, Event, Directory}
 
 -- the stripes that meet the bytes from start up to end
 abbrev pub stripes_between : Shape → ℕ → ℕ → List ℕ
@@ -27,8 +28,8 @@ pinned_by Kind.Write g note length =
     filter (keeps_old g length note.offset (note.offset + note.length)) (stripes_between g note.offset (note.offset + note.length))
 pinned_by _ g note length = []
 
--- the epochs at which a version's chunks were placed
-abbrev pub placed_of : Option Version → List ℕ
+-- how each server took a version's chunk
+abbrev pub placed_of : Option Version → List Placement
 placed_of None = []
 placed_of (Some version) = version.placed
 
@@ -43,8 +44,8 @@ abbrev pub pin_of : Seen → Pin
 pin_of seen = record { stripe = seen.stripe; version = seen.version }
 
 -- the history with one more point
-abbrev pub append_point : Actor → ℕ → Note → Mark → Directory → Directory
-append_point who number note mark d = record d { points = d.points ++ record { actor = who; number = number; note = note; mark = mark } ∷ [] }
+abbrev pub append_point : Actor → ℕ → Note → Event → Directory → Directory
+append_point who number note event d = record d { points = d.points ++ record { actor = who; number = number; note = note; event = event } ∷ [] }
 
 -- the passes with one more, which has drawn nothing
 abbrev pub begin_pass : Actor → ℕ → Note → List Seen → Option ℕ → Directory → Directory

@@ -5,19 +5,19 @@ use Rattle.store_map.specs.declared.reply.Reply.{Reply}
 use Rattle.store_map.specs.declared.reply.Reply.TheVariants as reply
 use Rattle.store_core.specs.Told.{Told, Seen}
 use Rattle.store_core.specs.Note.{Note, Kind, refusal}
-use Rattle.store_core.specs.Directory.{Object, Mark, Directory}
+use Rattle.store_core.specs.Directory.{Object, Event, Directory}
 use Rattle.store_core.specs.Lookups.{find_object, last_change}
 use Rattle.store_core.specs.Look.{pinned_by, seen_at, append_point, begin_pass, without_object}
 
 module _ (who : Actor) (number : ℕ) (note : Note) (d : Directory) where
   -- the call ends with this reply, at a new point
   abbrev pub answer : Reply → Directory → Directory × Told
-  answer reply changed = (append_point who number note (Mark.Answer reply) changed, Told.Answer (length d.points) reply)
+  answer reply changed = (append_point who number note (Event.Answer reply) changed, Told.Answer (length d.points) reply)
 
   -- a get or a read begins, at a new point
   abbrev pub pin : ℕ → List Seen → Directory × Told
   pin length_now seen =
-      (begin_pass who number note seen None (append_point who number note Mark.Pinned d), Told.Pinned (length d.points) length_now seen)
+      (begin_pass who number note seen None (append_point who number note Event.Pinned d), Told.Pinned (length d.points) length_now seen)
 
   -- a put or a write begins; it has no point yet
   abbrev pub ready : Option ℕ → ℕ → List Seen → Directory × Told

@@ -5,12 +5,14 @@ use Rattle.store_map.specs.declared.actor.Actor.{Actor}
 use Rattle.store_map.specs.declared.actor.Actor.TheVariants as actor
 use Rattle.store_map.specs.declared.reply.Reply.{Reply}
 use Rattle.store_map.specs.declared.reply.Reply.TheVariants as reply
-use Rattle.store_core.specs.Directory.{Object, Standing, Version, Pass, Mark, Point, Directory}
+use Rattle.store_core.specs.Directory.{Object, Standing, Version, Pass, Event, Point, Directory}
 
--- the same client or the same repairer
+-- the same actor
 abbrev pub same_actor : Actor → Actor → Bool
 same_actor (actor.Client i) (actor.Client j) = nat_eq i j
 same_actor (actor.Repairer i) (actor.Repairer j) = nat_eq i j
+same_actor actor.Sweeper actor.Sweeper = true
+same_actor actor.Operator actor.Operator = true
 same_actor _ _ = false
 
 -- the object with a name
@@ -27,15 +29,15 @@ is_ok reply.Done = true
 is_ok _ = false
 
 -- a put or a write that was committed, or a delete that was answered ok
-abbrev pub is_change : Mark → Bool
-is_change (Mark.Answer answer) = is_ok answer
-is_change Mark.Done = true
+abbrev pub is_change : Event → Bool
+is_change (Event.Answer answer) = is_ok answer
+is_change Event.Done = true
 is_change _ = false
 
 -- the greatest point at which the object with this name was changed
 abbrev pub last_change : List ℕ → List Point → Option ℕ
 last_change name points =
-    fold (λ found entry. if bytes_eq name entry.1.note.name && is_change entry.1.mark then Some entry.0 else found) None (enumerate_from 0 points)
+    fold (λ found entry. if bytes_eq name entry.1.note.name && is_change entry.1.event then Some entry.0 else found) None (enumerate_from 0 points)
 
 -- of a version that stands in its object
 abbrev pub is_current_standing : Standing → Bool

@@ -25,6 +25,7 @@ abbrev pub result_of : Outcome → Option RepairResult
 result_of Outcome.Rebuilt = Some result.Rebuilt
 result_of Outcome.Here = Some result.Here
 result_of Outcome.NoSuch = Some result.NoSuch
+result_of (Outcome.Away downs) = Some (result.Away downs)
 result_of (Outcome.Superseded newer) = Some (result.Superseded newer)
 result_of (Outcome.Unavailable stripe missing) = Some (result.Unavailable stripe (map triple_of missing))
 result_of (Outcome.Reaped point) = Some (result.Reaped point)

@@ -1,8 +1,9 @@
 -- The steps of a call that has a pass: draw, commit, end, confirm, repaired.
-use Rattle.std.specs.Prelude.{ℕ, ◌+◌, not, nat_eq, max, List, [], ◌++◌, length, map, filter, fold, find, option_map, unwrap_or, if◌then◌else◌}
+use Rattle.std.specs.Prelude.{ℕ, ◌+◌, not, nat_eq, List, [], ◌++◌, length, map, filter, fold, find, option_map, unwrap_or, if◌then◌else◌}
 use Rattle.std.specs.List.{range_with_len, list_all}
 use Rattle.store_core.specs.Lists.{change_at}
 use Rattle.store_core.specs.Told.{Told}
+use Rattle.store_core.specs.Placements.{placed_anew}
 use Rattle.store_core.specs.Note.{Note}
 use Rattle.store_core.specs.Directory.{Standing, Version, Pass, Directory}
 use Rattle.store_core.specs.Lookups.{same_actor, last_change, is_current}
@@ -53,9 +54,9 @@ confirm pass d =
     if list_all (λ pin. is_current d pin.version) pass.pinned then (d, Told.Current)
     else (close_pass pass d, Told.Superseded (unwrap_or (last_change pass.note.name d.points) 0))
 
--- the chunk was placed anew at a server: the placed epoch of the pinned version rises there
+-- the chunk of the pinned version was placed anew at a server
 abbrev pub repaired : ℕ → ℕ → Pass → Directory → Directory × Told
 repaired server epoch pass d =
     let raised : List Version =
-    fold (λ versions pin. change_at pin.version (λ version. record version { placed = change_at server (max epoch) version.placed }) versions) d.versions pass.pinned in
+    fold (λ versions pin. change_at pin.version (λ version. record version { placed = change_at server (placed_anew epoch) version.placed }) versions) d.versions pass.pinned in
     (close_pass pass (record d { versions = raised }), Told.Ended)

@@ -8,15 +8,17 @@ use Rattle.store_core.specs.Directory.{Standing, Version, Point, Directory}
 use Rattle.store_core.specs.AtDirectory.{at_directory}
 use Rattle.store_core.specs.Server.{Server, at_server}
 
--- both counts of a server fit 64 bits
+-- all counts of a server fit 64 bits
 pub record IsCounted (s : Server) : Type 0 where
   pub epoch : s.epoch ≤ 2 ^ 64 - 1
   pub taken : s.taken ≤ 2 ^ 64 - 1
+  pub downs : s.downs ≤ 2 ^ 64 - 1
 
--- no count falls, and both still fit
+-- no count falls, and all still fit
 pub record CountsUp (before after : Server) : Type 0 where
   pub epoch : before.epoch ≤ after.epoch
   pub taken : before.taken ≤ after.taken
+  pub downs : before.downs ≤ after.downs
   pub counted : IsCounted after
 
 -- so does each step at a server
@@ -40,7 +42,7 @@ new_versions _ = []
 abbrev pub as_drawn : Version → Version
 as_drawn version = record version { placed = []; standing = Standing.Drawn }
 
--- a new point and new versions are the next places; the points before stay, no version goes, and of one that is there only its placed epochs and its standing change
+-- a new point and new versions are the next places; the points before stay, no version goes, and of one that is there only its placements and its standing change
 pub record KeepsPlaces (before after : Directory) (answer : Told) : Type 0 where
   pub points :
       MatchOption (new_point answer) (after.points ≡ before.points)

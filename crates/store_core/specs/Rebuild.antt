@@ -18,6 +18,7 @@ abbrev pub installing : Seen → ℕ → List Told → Act
 installing seen target [] = Act.AtServer target (ServerStep.Install seen.version)
 installing seen target (Told.Placed epoch ∷ told) = placing target epoch told
 installing seen target (Told.AlreadyThere ∷ told) = ending Outcome.Here told
+installing seen target (Told.Away downs ∷ told) = ending (Outcome.Away downs) told
 installing seen target (_ ∷ told) = ending Outcome.NoMemory told
 
 -- the parts are there: the directory is asked whether the version is still current

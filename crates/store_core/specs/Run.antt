@@ -10,22 +10,22 @@ use Rattle.store_core.specs.Act.{Act}
 use Rattle.store_core.specs.Sweep.{next_sweep, after_sweep}
 use Rattle.store_core.specs.Core.{Core}
 use Rattle.store_core.specs.Work.{Calling, client_work, repairer_work}
-use Rattle.store_core.specs.Step.{Marks, Places, at_places}
+use Rattle.store_core.specs.Step.{Shortage, Places, at_places}
 use Rattle.store_core.specs.CallStep.{step_of}
 
--- a core, and the marks of the steps to come; where none is left memory is ample
+-- a core, and the shortages of the steps to come; where none is left memory is ample
 pub record Run : Type 0 where
   pub core : Core
-  pub marks : List Marks
+  pub shortages : List Shortage
 
--- the marks of the next step
-abbrev pub first_marks : List Marks → Marks
-first_marks [] = record { coding = false; step = false }
-first_marks (marks ∷ more) = marks
+-- the shortage of the next step
+abbrev pub first_shortage : List Shortage → Shortage
+first_shortage [] = record { coding = false; step = false }
+first_shortage (shortage ∷ more) = shortage
 
--- each step that is made uses up the marks of its place
+-- each step that is made uses up the shortage of its place
 abbrev pub after_step : Run → Core → Run
-after_step run core = record { core = core; marks = drop 1 run.marks }
+after_step run core = record { core = core; shortages = drop 1 run.shortages }
 
 -- the places of a core
 abbrev pub places_in : Core → Places
@@ -59,9 +59,9 @@ after_repairer i run (Some after) = after_step run (with_places after.0 (record 
 -- client i makes its next step
 abbrev pub client_step : Script → ℕ → Run → Run
 client_step script i run =
-    after_client i run (step_of script (first_marks run.marks) (actor.Client i) (slice_get (client_work script) i) (slice_get run.core.clients i) (places_in run.core))
+    after_client i run (step_of script (first_shortage run.shortages) (actor.Client i) (slice_get (client_work script) i) (slice_get run.core.clients i) (places_in run.core))
 
 -- repairer i makes its next step
 abbrev pub repairer_step : Script → ℕ → Run → Run
 repairer_step script i run =
-    after_repairer i run (step_of script (first_marks run.marks) (actor.Repairer i) (slice_get (repairer_work script) i) (slice_get run.core.repairers i) (places_in run.core))
+    after_repairer i run (step_of script (first_shortage run.shortages) (actor.Repairer i) (slice_get (repairer_work script) i) (slice_get run.core.repairers i) (places_in run.core))

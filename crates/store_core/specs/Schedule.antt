@@ -1,16 +1,15 @@
 -- A whole schedule: each token's step, and the rounds of a drain.
-use Rattle.std.specs.Prelude.{ℕ, zero, suc, ◌+◌, ◌-◌, ◌*◌, Bool, true, false, ◌||◌, List, [], ◌∷◌, length, sum_by, fold, drop, zip}
+use Rattle.std.specs.Prelude.{ℕ, zero, suc, Bool, true, false, ◌||◌, List, [], ◌∷◌, length, fold}
 use Rattle.std.specs.List.{range_with_len}
-use Rattle.store_map.specs.Limits.{size_of, tries_of}
 use Rattle.store_map.specs.declared.script.Script.{Script}
 use Rattle.store_map.specs.declared.actor.Actor.TheVariants as actor
 use Rattle.store_map.specs.declared.actor.Token.{Token}
 use Rattle.store_map.specs.declared.actor.Token.TheVariants as token
 use Rattle.store_core.specs.Act.{Act, DirectoryStep, ServerStep}
-use Rattle.store_core.specs.Bounds.{step_bound, draw_bound, sweep_bound}
+use Rattle.store_core.specs.Fuel.{fuel_of}
 use Rattle.store_core.specs.Core.{Core, first_core, sweeper_has_step}
-use Rattle.store_core.specs.Work.{Calling, Work, client_work, repairer_work, any_has_step}
-use Rattle.store_core.specs.Step.{Marks}
+use Rattle.store_core.specs.Work.{client_work, repairer_work, any_has_step}
+use Rattle.store_core.specs.Step.{Shortage}
 use Rattle.store_core.specs.Run.{Run, operator_step, sweeper_step, client_step, repairer_step}
 
 -- whether some actor or the sweeper has a step
@@ -35,27 +34,6 @@ abbrev pub drain_by : ℕ → Script → Run → Run
 drain_by zero script run = run
 drain_by (suc fuel) script run = elim (is_unfinished script run.core) [ true ↦ drain_by fuel script (round script run) | false ↦ run ]
 
--- the steps that an actor's calls have left at most: the bounds of those that have not ended, less the steps made
-abbrev pub steps_left : Script → Work → Calling → ℕ
-steps_left script work calling =
-    sum_by (λ job. step_bound script.geometry (size_of script) (tries_of script) job.note) (drop (length calling.ended) work.jobs) - calling.steps
-
--- the versions that an actor's calls may yet draw
-abbrev pub draws_left : Script → Work → Calling → ℕ
-draws_left script work calling = sum_by (λ job. draw_bound script.geometry (tries_of script) job.note) (drop (length calling.ended) work.jobs)
-
--- a number of each actor, summed
-abbrev pub sum_over_actors : (Work → Calling → ℕ) → Script → Core → ℕ
-sum_over_actors f script core =
-    sum_by (λ both. f both.0 both.1) (zip (client_work script) core.clients)
-    + sum_by (λ both. f both.0 both.1) (zip (repairer_work script) core.repairers)
-
--- a bound on all steps that a drain makes: those of the calls, and those of the sweeper for each version that is drawn or may be
-abbrev pub fuel_of : Script → Core → ℕ
-fuel_of script core =
-    sum_over_actors (steps_left script) script core
-    + sweep_bound script.geometry * (length core.directory.versions + sum_over_actors (draws_left script) script core)
-
 -- all actors take turns until none has a step
 abbrev pub drain : Script → Run → Run
 drain script run = drain_by (fuel_of script run.core) script run
@@ -66,6 +44,8 @@ step_core script (token.Client i) run = client_step script i run
 step_core script (token.Repairer i) run = repairer_step script i run
 step_core script token.Sweep run = sweeper_step script run
 step_core script (token.Wipe server) run = operator_step (Act.AtServer server ServerStep.Wipe) run
+step_core script (token.Down server) run = operator_step (Act.AtServer server ServerStep.Down) run
+step_core script (token.Up server) run = operator_step (Act.AtServer server ServerStep.Up) run
 step_core script (token.ReapClient i) run = operator_step (Act.AtDirectory (DirectoryStep.Reap (actor.Client i))) run
 step_core script (token.ReapRepairer i) run = operator_step (Act.AtDirectory (DirectoryStep.Reap (actor.Repairer i))) run
 step_core script token.Drain run = drain script run
@@ -75,6 +55,6 @@ abbrev pub run_tokens : Script → List Token → Run → Run
 run_tokens script [] run = run
 run_tokens script (token ∷ tokens) run = run_tokens script tokens (step_core script token run)
 
--- the core at the end of a list of tokens, with the marks of the steps in order
-abbrev pub run_core : Script → List Marks → List Token → Core
-run_core script marks tokens = (run_tokens script tokens (record { core = first_core script; marks = marks })).core
+-- the core at the end of a list of tokens, with the shortages of the steps in order
+abbrev pub run_core : Script → List Shortage → List Token → Core
+run_core script shortages tokens = (run_tokens script tokens (record { core = first_core script; shortages = shortages })).core

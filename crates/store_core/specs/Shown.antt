@@ -13,7 +13,7 @@ use Rattle.transcript_text.specs.declared.line.GLine.{GLine}
 use Rattle.transcript_text.specs.declared.transcript.Transcript.{Transcript}
 use Rattle.store_core.specs.Core.{Core}
 use Rattle.store_core.specs.Work.{Ended, Calling}
-use Rattle.store_core.specs.Step.{Marks}
+use Rattle.store_core.specs.Step.{Shortage}
 use Rattle.store_core.specs.Schedule.{run_core}
 use Rattle.store_core.specs.History.{history_of}
 use Rattle.store_core.specs.Outcomes.{cause_of, result_of}
@@ -63,5 +63,5 @@ shown script core =
     }
 
 -- the transcript of a script's run, with the wants of memory of its steps
-abbrev pub shown_of : Script → List Marks → Transcript
-shown_of script marks = shown script (run_core script marks script.schedule)
+abbrev pub shown_of : Script → List Shortage → Transcript
+shown_of script shortages = shown script (run_core script shortages script.schedule)

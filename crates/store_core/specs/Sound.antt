@@ -1,10 +1,11 @@
 -- When a directory is sound.
 use Rattle.std.specs.Prelude.{◌≡◌, ◌≢◌, ℕ, ◌<◌, ◌≤◌, ◌⊎◌, [], length, map, get_or, Some, All, AllPairs, IfSome, IsTrue, IsFalse}
 use Rattle.std.specs.List.{slice_get}
-use Rattle.clay_grid.specs.Shape.{stripe_length, chunk_count}
+use Rattle.clay_grid.specs.Shape.{stripe_length}
 use Rattle.store_map.specs.Limits.{stripes_met}
 use Rattle.store_core.specs.Lists.{is_among}
-use Rattle.store_core.specs.Directory.{Object, Standing, Version, Mark, Point, Directory}
+use Rattle.store_core.specs.Placements.{IsRow}
+use Rattle.store_core.specs.Directory.{Object, Standing, Version, Event, Point, Directory}
 use Rattle.store_core.specs.Lookups.{same_actor, is_live}
 use Rattle.store_core.specs.Replay.{Replays}
 use Rattle.store_core.specs.Lengths.{Lengths}
@@ -28,12 +29,12 @@ StandsOnce d =
 -- of one actor's points the call numbers don't fall, and a call has at most one point that is no reap
 pub record AreInOrder (p q : Point) : Type 0 where
   pub numbers : IsTrue (same_actor p.actor q.actor) → p.number ≤ q.number
-  pub once : IsTrue (same_actor p.actor q.actor) → p.number ≡ q.number → p.mark ≢ Mark.Reaped → q.mark ≡ Mark.Reaped
+  pub once : IsTrue (same_actor p.actor q.actor) → p.number ≡ q.number → p.event ≢ Event.Reaped → q.event ≡ Event.Reaped
 
--- a version's placed epochs are one for each server, or none yet
+-- a version has a row of placements, or none yet
 pub record IsPlaced (d : Directory) (version : Version) : Type 0 where
-  pub all_or_none : (version.placed ≡ []) ⊎ (length version.placed ≡ chunk_count d.shape)
-  pub current : version.standing ≡ Standing.Current → length version.placed ≡ chunk_count d.shape
+  pub row_or_none : (version.placed ≡ []) ⊎ IsRow d.shape version.placed
+  pub current : version.standing ≡ Standing.Current → IsRow d.shape version.placed
 
 -- what each step at the directory keeps
 pub record IsSound (d : Directory) : Type 0 where
@@ -48,5 +49,5 @@ pub record IsSound (d : Directory) : Type 0 where
   pub apart : AllPairs (λ p q. All (λ version. IsFalse (is_among version q.drawn)) p.drawn) d.passes
   pub listed : (number : ℕ) → Stands d Standing.Current number → (i : ℕ) × (i < length d.objects) × IfSome (slice_get d.objects i) (λ object. IsTrue (is_among number object.versions))
   pub placed : All (IsPlaced d) d.versions
-  pub pinned_placed : All (λ pass. All (λ pin. IfSome (slice_get d.versions pin.version) (λ version. length version.placed ≡ chunk_count d.shape)) pass.pinned) d.passes
+  pub pinned_placed : All (λ pass. All (λ pin. IfSome (slice_get d.versions pin.version) (λ version. IsRow d.shape version.placed)) pass.pinned) d.passes
   pub versions : All (HasVersions d) d.passes

@@ -3,7 +3,7 @@ use Rattle.std.specs.Prelude.{◌≡◌, ◌≢◌, ℕ, ◌+◌, ◌<◌, ◌�
 use Rattle.std.specs.List.{slice_get}
 use Rattle.store_map.specs.declared.reply.Reply.TheVariants as reply
 use Rattle.store_core.specs.Note.{Note, Kind}
-use Rattle.store_core.specs.Directory.{Standing, Pass, Mark, Point, Directory}
+use Rattle.store_core.specs.Directory.{Standing, Pass, Event, Point, Directory}
 use Rattle.store_core.specs.Lookups.{same_actor, find_object, last_change}
 use Rattle.store_core.specs.PassSteps.{touched}
 use Rattle.store_core.specs.Replay.{lengths_after}
@@ -30,9 +30,9 @@ pub record HasBase (d : Directory) (pass : Pass) : Type 0 where
   pub within : base < length d.points
   pub allowed : IsAllowed d pass.note (base + 1)
 
--- a put is allowed after every point and writes from the first byte on, a write is allowed after its base; other calls draw nothing
+-- a put is allowed after every point, writes from the first byte on and pins nothing, a write is allowed after its base; other calls draw nothing
 abbrev pub IsRight : Directory → Pass → Kind → Type 0
-IsRight d pass Kind.Put = (pass.note.offset ≡ 0) × ((count : ℕ) → count ≤ length d.points → IsAllowed d pass.note count)
+IsRight d pass Kind.Put = (pass.note.offset ≡ 0) × ((count : ℕ) → count ≤ length d.points → IsAllowed d pass.note count) × (pass.pinned ≡ [])
 IsRight d pass Kind.Write = HasBase d pass
 IsRight d pass _ = pass.drawn ≡ []
 
@@ -53,4 +53,4 @@ pub record HasVersions (d : Directory) (pass : Pass) : Type 0 where
 pub record IsOfItsCall (pass : Pass) (point : Point) : Type 0 where
   pub not_later : IsTrue (same_actor point.actor pass.actor) → point.number ≤ pass.number
   pub own : IsTrue (same_actor point.actor pass.actor) → point.number ≡ pass.number →
-      (point.mark ≡ Mark.Reaped) ⊎ ((point.mark ≡ Mark.Pinned) × (point.note ≡ pass.note))
+      (point.event ≡ Event.Reaped) ⊎ ((point.event ≡ Event.Pinned) × (point.note ≡ pass.note))

@@ -1,21 +1,21 @@
 -- One step of an actor of the core.
-use Rattle.std.specs.Prelude.{ℕ, ◌+◌, Bool, true, List, [], ◌∷◌, ◌++◌, length, replicate, Option, None, Some, is_some}
+use Rattle.std.specs.Prelude.{ℕ, ◌+◌, Bool, true, List, [], ◌∷◌, ◌++◌, length, replicate, Option, None, Some}
 use Rattle.std.specs.List.{slice_get}
 use Rattle.clay_grid.specs.Shape.{Shape, chunk_count}
 use Rattle.store_map.specs.declared.actor.Actor.{Actor}
 use Rattle.store_core.specs.Lists.{change_at}
 use Rattle.store_core.specs.Told.{Told}
 use Rattle.store_core.specs.Act.{Act, ServerStep}
+use Rattle.store_core.specs.ActPlace.{is_in_pass}
 use Rattle.store_core.specs.NextAct.{Job, next_act}
 use Rattle.store_core.specs.Tell.{tell}
 use Rattle.store_core.specs.Directory.{Directory}
-use Rattle.store_core.specs.Lookups.{pass_of}
 use Rattle.store_core.specs.AtDirectory.{at_directory}
 use Rattle.store_core.specs.Server.{Server, at_server, raised_by}
 use Rattle.store_core.specs.Work.{Calling}
 
 -- whether memory is wanting in the coding before a step, and in the step
-pub record Marks : Type 0 where
+pub record Shortage : Type 0 where
   pub coding : Bool
   pub step : Bool
 
@@ -26,7 +26,7 @@ pub record Places : Type 0 where
 
 -- a step at a server, if there is one with this number
 abbrev pub at_server_there : Bool → ℕ → ServerStep → Places → Option Server → Places × Told
-at_server_there short server step places None = (places, Told.Made)
+at_server_there short server step places None = (places, Told.NotMade)
 at_server_there short server step places (Some s) =
     let after : Server × Told = at_server short step s in
     (record places { servers = change_at server (λ _. after.0) places.servers }, after.1)
@@ -37,7 +37,7 @@ at_places short who number (Act.AtDirectory step) places =
     let after : Directory × Told = at_directory short who number step places.directory in
     (record places { directory = after.0 }, after.1)
 at_places short who number (Act.AtServer server step) places = at_server_there short server step places (slice_get places.servers server)
-at_places short who number (Act.Finish outcome) places = (places, Told.Made)
+at_places short who number (Act.Finish outcome) places = (places, Told.NotMade)
 
 -- what the call took, after an answer
 abbrev pub take_from : Act → Told → List ℕ → List ℕ
@@ -68,9 +68,9 @@ after_answer g tries job told act answer actor =
     (record { ended = actor.ended; told = now; takes = take_from act answer actor.takes; steps = actor.steps + 1 })
 
 -- one step of an actor in its job
-abbrev pub actor_step : Shape → ℕ → Marks → Actor → Job → Calling → Places → Places × Calling
-actor_step g tries marks who job actor places =
-    let told : List Told = told_first marks.coding (is_some (pass_of who places.directory)) g job actor.told in
+abbrev pub actor_step : Shape → ℕ → Shortage → Actor → Job → Calling → Places → Places × Calling
+actor_step g tries shortage who job actor places =
+    let told : List Told = told_first shortage.coding (is_in_pass (next_act g tries job actor.told)) g job actor.told in
     let act : Act = next_act g tries job told in
-    let after : Places × Told = at_places marks.step who (length actor.ended) act places in
+    let after : Places × Told = at_places shortage.step who (length actor.ended) act places in
     (after.0, after_answer g tries job told act after.1 actor)

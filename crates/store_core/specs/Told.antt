@@ -1,18 +1,20 @@
 -- What a step is answered.
 use Rattle.std.specs.Prelude.{ℕ, List, Option}
+use Rattle.store_map.specs.declared.placement.Found.{Found}
+use Rattle.store_map.specs.declared.placement.Placement.{Placement}
 use Rattle.store_map.specs.declared.reply.Reply.{Reply}
 
--- a pinned stripe: its version that was current, and the epoch of each server when that version's chunk was placed there
+-- a pinned stripe: its version that was current, and how each server took that version's chunk
 pub record Seen : Type 0 where
   pub stripe : ℕ
   pub version : ℕ
-  pub placed : List ℕ
+  pub placed : List Placement
 
--- a server that lacked its chunk: its epoch when the chunk was placed, and the epoch that it answered
+-- a server without its chunk: how it took the chunk, and what it answered when it was asked
 pub record Lost : Type 0 where
   pub server : ℕ
-  pub placed : ℕ
-  pub found : ℕ
+  pub placed : Placement
+  pub found : Found
 
 -- an answer of a step, with numbers alone
 pub data Told : Type 0 where
@@ -34,15 +36,19 @@ pub data Told : Type 0 where
   -- the directory to the sweeper and to the operator, where there was something to take or to give up
   Taken : (version : Option ℕ) → Told
   GivenUp : (point : Option ℕ) → Told
-  -- a server
-  Placed : (epoch : ℕ) → Told
+  -- a server; the last three to an install
+  Prepared : (placement : Placement) → Told
   Settled : Told
   Here : Told
-  Missing : (epoch : ℕ) → Told
+  Missing : (found : Found) → Told
   Given : (layers : ℕ) → Told
+  Placed : (epoch : ℕ) → Told
   AlreadyThere : Told
+  Away : (downs : ℕ) → Told
   -- a step that answers nothing
   Made : Told
+  -- no step: the pass or the server isn't there, or the call is over
+  NotMade : Told
   -- memory was wanting in the step, or in the coding before it
   Short : Told
   -- stands for all that a gathering was told that has its bytes

@@ -22,7 +22,7 @@ trying g tries note pairs [] =
     if nat_lt (length pairs) tries then Act.AtDirectory (DirectoryStep.Look note) else Act.Finish (Outcome.Contended pairs)
 trying g tries note pairs (Told.Changed base newer ∷ told) = trying g tries note (pairs ++ (base, newer) ∷ []) told
 trying g tries note pairs (Told.Answer point answer ∷ told) = Act.Finish (Outcome.Answered point answer)
-trying g tries note pairs (Told.Ready base length stripes ∷ told) = gathering g (old_parts g length stripes) (drawing g) told
+trying g tries note pairs (Told.Ready base length stripes ∷ told) = gathering g (old_parts g length stripes) (drawing g note) told
 trying g tries note pairs (Told.Versions versions ∷ told) = committed g versions told
 trying g tries note pairs (_ ∷ told) = Act.Finish Outcome.NoMemory
 

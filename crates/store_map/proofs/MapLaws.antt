@@ -126,26 +126,26 @@ IsDistinct-delete name (object ∷ others) distinct = by (bytes_eq name object.0
     by false rest = (absent_after_delete object.0 name others distinct.0, rest)
 
 -- ---- no object above max bytes
-abbrev AreShort : ℕ → Objects → Type 0
-AreShort max objects = AllByRecursion (λ object. length object.1 ≤ max) objects
+abbrev AreWithinMax : ℕ → Objects → Type 0
+AreWithinMax max objects = AllByRecursion (λ object. length object.1 ≤ max) objects
 
-short_after_put : (max : ℕ) (name bytes : List ℕ) (objects : Objects) → length bytes ≤ max → AreShort max objects → AreShort max (put name bytes objects)
+short_after_put : (max : ℕ) (name bytes : List ℕ) (objects : Objects) → length bytes ≤ max → AreWithinMax max objects → AreWithinMax max (put name bytes objects)
 short_after_put max name bytes [] fits h = (fits, tt)
 short_after_put max name bytes (object ∷ others) fits h = by (bytes_eq name object.0) (short_after_put max name bytes others fits h.1)
   where
-    by : (same : Bool) → AreShort max (put name bytes others) → AreShort max (cond same ((object.0, bytes) ∷ others) (object ∷ put name bytes others))
+    by : (same : Bool) → AreWithinMax max (put name bytes others) → AreWithinMax max (cond same ((object.0, bytes) ∷ others) (object ∷ put name bytes others))
     by true rest = (fits, h.1)
     by false rest = (h.0, rest)
 
-short_after_delete : (max : ℕ) (name : List ℕ) (objects : Objects) → AreShort max objects → AreShort max (delete name objects)
+short_after_delete : (max : ℕ) (name : List ℕ) (objects : Objects) → AreWithinMax max objects → AreWithinMax max (delete name objects)
 short_after_delete max name [] h = tt
 short_after_delete max name (object ∷ others) h = by (bytes_eq name object.0) (short_after_delete max name others h.1)
   where
-    by : (same : Bool) → AreShort max (delete name others) → AreShort max (cond same others (object ∷ delete name others))
+    by : (same : Bool) → AreWithinMax max (delete name others) → AreWithinMax max (cond same others (object ∷ delete name others))
     by true rest = h.1
     by false rest = (h.0, rest)
 
-short_found : (max : ℕ) (name bytes : List ℕ) (objects : Objects) → AreShort max objects → bytes_of name objects ≡ Some bytes → length bytes ≤ max
+short_found : (max : ℕ) (name bytes : List ℕ) (objects : Objects) → AreWithinMax max objects → bytes_of name objects ≡ Some bytes → length bytes ≤ max
 short_found max name bytes [] h found = absurd (none_is_some found)
 short_found max name bytes (object ∷ others) h found = by (bytes_eq name object.0) found (short_found max name bytes others h.1)
   where
@@ -173,7 +173,7 @@ length-overwrite-le bytes new offset max long fits =
 -- ---- both, kept by each call
 record Keeps (max : ℕ) (objects : Objects) : Type 0 where
   pub names : IsDistinct bytes_eq (names_of objects)
-  pub short : AreShort max objects
+  pub short : AreWithinMax max objects
 
 kept_by_put : (max : ℕ) (name bytes : List ℕ) (objects : Objects) → length bytes ≤ max → Keeps max objects → Keeps max (put name bytes objects)
 kept_by_put max name bytes objects fits keeps =

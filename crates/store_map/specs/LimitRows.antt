@@ -17,6 +17,7 @@ small_part = record {
 -- two clients that make these calls, with no size and no tries given
 abbrev pub small_script : Script
 small_script = record {
+  form = 1;
   geometry = record { data_count = 2; parity_count = 2; width = 1 };
   size = None;
   tries = None;

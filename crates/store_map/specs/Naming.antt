@@ -1,17 +1,19 @@
 -- Whom a script may name.
-use Rattle.std.specs.Prelude.{◌<◌, length, All, IfSome, ⊤}
+use Rattle.std.specs.Prelude.{◌≡◌, ◌<◌, ◌⊎◌, length, All, IfSome, ⊤}
 use Rattle.clay_grid.specs.Shape.{chunk_count}
 use Rattle.store_map.specs.Limits.{IsWithinLimits}
 use Rattle.store_map.specs.declared.actor.Token.{Token}
-use Rattle.store_map.specs.declared.actor.Token.TheVariants.{Client, Repairer, Sweep, Wipe, ReapClient, ReapRepairer, Drain}
+use Rattle.store_map.specs.declared.actor.Token.TheVariants.{Client, Repairer, Sweep, Wipe, Down, Up, ReapClient, ReapRepairer, Drain}
 use Rattle.store_map.specs.declared.script.Script.{Script}
 
--- the actor or the server that the token names is the script's
+-- the actor or the server that the token names is the script's; only in form 2 servers are made away and present
 abbrev pub NamesPart : Script → Token → Type 0
 NamesPart script (Client i) = i < length script.clients
 NamesPart script (Repairer i) = i < length script.repairers
 NamesPart script Sweep = ⊤
 NamesPart script (Wipe j) = j < chunk_count script.geometry
+NamesPart script (Down j) = (script.form ≡ 2) × (j < chunk_count script.geometry)
+NamesPart script (Up j) = (script.form ≡ 2) × (j < chunk_count script.geometry)
 NamesPart script (ReapClient i) = i < length script.clients
 NamesPart script (ReapRepairer i) = i < length script.repairers
 NamesPart script Drain = ⊤
@@ -25,5 +27,6 @@ pub record NamesItsOwn (script : Script) : Type 0 where
 
 -- what a script that can be read and run keeps
 pub record IsValid (script : Script) : Type 0 where
+  pub form : (script.form ≡ 1) ⊎ (script.form ≡ 2)
   pub limits : IsWithinLimits script
   pub names : NamesItsOwn script

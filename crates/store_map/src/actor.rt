@@ -18,6 +18,10 @@ pub enum Token {
     Sweep,
     /// The operator empties the server.
     Wipe(u32),
+    /// The operator makes the server away, in scripts of form 2.
+    Down(u32),
+    /// The operator makes the server present, in scripts of form 2.
+    Up(u32),
     /// The operator gives up the client's pass, if it has one.
     ReapClient(u32),
     /// The operator gives up the repairer's pass, if it has one.

@@ -10,6 +10,7 @@ mod limits;
 mod list_of;
 mod name;
 mod object_map;
+mod placement;
 mod reply;
 mod script;
 
@@ -23,6 +24,7 @@ pub use limits::{
 pub use list_of::{ByteList, ListOf};
 pub use name::{MAX_NAME, Name, NameFault, is_name, is_name_byte};
 pub use object_map::ObjectMap;
+pub use placement::{Found, Placement};
 pub use reply::Reply;
 pub use script::{ClientPart, RepairPart, Script};
 

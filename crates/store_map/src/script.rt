@@ -24,6 +24,8 @@ pub struct RepairPart {
 /// the calls of each actor, and the order of their steps.
 #[derive(Drop)]
 pub struct Script {
+    /// 1, or 2 where servers may be made away and present.
+    pub form: u32,
     pub geometry: Geometry,
     /// The greatest length of an object in bytes, [`DEFAULT_SIZE`](crate::DEFAULT_SIZE) where none is given.
     pub size: Option<u32>,

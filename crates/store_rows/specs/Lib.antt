@@ -7,6 +7,7 @@ pub mod RowsGivenUp
 pub mod RowsRebuilds
 pub mod RowsRebuildLosses
 pub mod RowsShort
+pub mod RowsAway
 pub mod RowsEveryPlace
 pub mod EveryPlace
 pub mod RowsLarge

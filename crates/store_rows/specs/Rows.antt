@@ -1,5 +1,7 @@
 -- A worked row: a script, and the transcript that it shows where memory is ample.
 use Rattle.std.specs.Prelude.{◌≡◌, ℕ, List, [], None}
+use Rattle.store_map.specs.declared.placement.Found.TheVariants as found
+use Rattle.store_map.specs.declared.placement.Placement.TheVariants as placement
 use Rattle.store_map.specs.declared.reply.Reply.{Reply}
 use Rattle.store_map.specs.declared.script.Script.{Script}
 use Rattle.transcript_text.specs.declared.call_name.CallName.{CallName}
@@ -30,6 +32,7 @@ Shows row = shown_of row.script [] ≡ row.transcript
 abbrev pub small_script : Script
 small_script =
     record {
+      form = 1;
       geometry = record { data_count = 2; parity_count = 2; width = 1 };
       size = None;
       tries = None;
@@ -74,6 +77,6 @@ took call takes = record { call = call; takes = takes }
 abbrev pub server : ℕ → ℕ → ℕ → ℕ → TLine
 server number taken held epoch = record { server = number; taken = taken; held = held; epoch = epoch }
 
--- a server that lacked its chunk
+-- a server that lacked its chunk, which was placed
 abbrev pub triple : ℕ → ℕ → ℕ → Triple
-triple server placed found = record { server = server; placed = placed; found = found }
+triple server placed epoch = record { server = server; placed = placement.At placed; found = found.Absent epoch }

@@ -3,25 +3,25 @@ use Rattle.std.specs.Prelude.{◌≡◌, true, false, [], ◌∷◌, ◌++◌, r
 use Rattle.store_map.specs.declared.reply.Reply.TheVariants as reply
 use Rattle.transcript_text.specs.declared.call_name.CallName.TheVariants as name
 use Rattle.transcript_text.specs.declared.cause.Cause.TheVariants as cause
-use Rattle.store_core.specs.Step.{Marks}
+use Rattle.store_core.specs.Step.{Shortage}
 use Rattle.store_core.specs.Shown.{shown_of}
 use Rattle.store_rows.specs.Rows.{Row, no_lines, replied, refused, server}
 use Rattle.store_rows.specs.RowsCalls.{put_then_get}
 
 -- the definitions compute the transcript from the script and these wants of memory
-abbrev pub ShowsUnder : List Marks → Row → Type 0
-ShowsUnder marks row = shown_of row.script marks ≡ row.transcript
+abbrev pub ShowsUnder : List Shortage → Row → Type 0
+ShowsUnder shortages row = shown_of row.script shortages ≡ row.transcript
 
 -- a step with ample memory
-abbrev pub ample : Marks
+abbrev pub ample : Shortage
 ample = record { coding = false; step = false }
 
 -- memory is wanting in the step
-abbrev pub short_step : Marks
+abbrev pub short_step : Shortage
 short_step = record { coding = false; step = true }
 
 -- memory is wanting in the coding before the step
-abbrev pub short_coding : Marks
+abbrev pub short_coding : Shortage
 short_coding = record { coding = true; step = false }
 
 -- a put that found no memory, and a get after it: nothing is stored
@@ -38,21 +38,21 @@ put_without_memory =
     }
 
 -- no memory for the look
-abbrev pub short_look : List Marks
+abbrev pub short_look : List Shortage
 short_look = short_step ∷ []
 
 -- no memory for the draw
-abbrev pub short_draw : List Marks
+abbrev pub short_draw : List Shortage
 short_draw = ample ∷ short_step ∷ []
 
 -- no memory for the coding of the stripe
-abbrev pub short_encoding : List Marks
+abbrev pub short_encoding : List Shortage
 short_encoding = replicate 2 ample ++ short_coding ∷ []
 
 -- no memory for the third server's chunk
-abbrev pub short_prepare : List Marks
+abbrev pub short_prepare : List Shortage
 short_prepare = replicate 4 ample ++ short_step ∷ []
 
 -- at the commit, the settles and where no pass is there want of memory isn't heard
-abbrev pub short_commit : List Marks
+abbrev pub short_commit : List Shortage
 short_commit = short_coding ∷ replicate 5 ample ++ short_step ∷ replicate 4 (record { coding = true; step = true })

@@ -18,7 +18,7 @@ use Rattle.store_core.specs.Looks.{accept, look_by}
 use Rattle.store_core.specs.AtDirectory.{at_directory}
 use Rattle.store_core.specs.Server.{Server}
 use Rattle.store_core.specs.Step.{Places, at_places, at_server_there}
-use Rattle.store_calls.specs.AnswerLaws.{is_on_pass, is_of_call, AreShort}
+use Rattle.store_calls.specs.AnswerLaws.{is_on_pass, is_of_call, AreWithinMax}
 use Rattle.store_calls.proofs.PlaceAnswers.{places_answer}
 use Rattle.store_runs.proofs.Phases.{phase_of, directory_phase, has_pass, LookFits}
 use Rattle.store_runs.proofs.CallMoves.{FitsAny}
@@ -94,7 +94,7 @@ step_fits kind pins touched step answer h said = absurd h
 
 -- of a step at a server
 server_fits : (kind : Kind) (server : ℕ) (step : ServerStep) (answer : Told) → ServerAnswers step answer → FitsAny kind (Act.AtServer server step) answer
-server_fits kind server (ServerStep.Prepare version) (Told.Placed epoch) h = tt
+server_fits kind server (ServerStep.Prepare version) (Told.Prepared last) h = tt
 server_fits kind server (ServerStep.Prepare version) Told.Short h = tt
 server_fits kind server (ServerStep.Prepare version) answer h = absurd h
 server_fits kind server (ServerStep.Settle version) Told.Settled h = tt
@@ -108,6 +108,7 @@ server_fits kind server (ServerStep.Fetch version layers) Told.Short h = tt
 server_fits kind server (ServerStep.Fetch version layers) answer h = absurd h
 server_fits kind server (ServerStep.Install version) (Told.Placed epoch) h = tt
 server_fits kind server (ServerStep.Install version) Told.AlreadyThere h = tt
+server_fits kind server (ServerStep.Install version) (Told.Away downs) h = tt
 server_fits kind server (ServerStep.Install version) Told.Short h = tt
 server_fits kind server (ServerStep.Install version) answer h = absurd h
 server_fits kind server step answer h = absurd h
@@ -139,7 +140,7 @@ pub record FitPlaces (g : Shape) (most : ℕ) (places : Places) : Type 0 where
   pub shape : places.directory.shape ≡ g
   pub max : places.directory.max ≡ most
   pub servers : length places.servers ≡ chunk_count g
-  pub short : AreShort places.directory
+  pub short : AreWithinMax places.directory
 
 abbrev pub IsGoing : Act → Type 0
 IsGoing (Act.Finish outcome) = ⊥

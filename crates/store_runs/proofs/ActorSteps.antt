@@ -9,19 +9,20 @@ use Rattle.store_map.specs.declared.actor.Actor.{Actor}
 use Rattle.store_core.specs.Told.{Told}
 use Rattle.store_core.specs.Note.{Note, Kind}
 use Rattle.store_core.specs.Act.{Act, DirectoryStep, ServerStep, Outcome}
+use Rattle.store_core.specs.ActPlace.{is_on_pass_there, is_in_pass_there, is_in_pass}
 use Rattle.store_calls.specs.Answers.{Answers}
 use Rattle.store_core.specs.Bounds.{step_bound, draw_bound, touched_count}
 use Rattle.store_calls.specs.CallLeft.{pin_bound, call_left}
 use Rattle.store_core.specs.NextAct.{Job, next_by, next_act}
 use Rattle.store_core.specs.Tell.{tell}
 use Rattle.store_core.specs.Directory.{Pass, Directory}
-use Rattle.store_core.specs.Lookups.{same_actor, pass_of}
-use Rattle.store_core.specs.Step.{Marks, Places, at_places, told_first, take_from, ended_by, actor_step}
+use Rattle.store_core.specs.Lookups.{same_actor}
+use Rattle.store_core.specs.Step.{Shortage, Places, at_places, told_first, take_from, ended_by, actor_step}
 use Rattle.store_core.specs.Work.{Calling}
 use Rattle.store_core.specs.PlaceLaws.{new_versions}
 use Rattle.store_calls.specs.StepLaws.{HasTarget}
 use Rattle.store_calls.proofs.Steps.{steps_fall}
-use Rattle.store_runs.proofs.Phases.{Phase, phase_of, has_pass, pass_after, rank, rank_moves, moves}
+use Rattle.store_runs.proofs.Phases.{Phase, phase_of, directory_phase, server_phase, has_pass, pass_after, rank, rank_moves, moves}
 use Rattle.store_runs.proofs.CallMoves.{changes, call_moves}
 use Rattle.store_runs.proofs.Proper.{IsWriting, IsProper, tries_by, HasTry, acts_proper}
 use Rattle.store_sound.proofs.Passes.{held, held_after}
@@ -70,6 +71,35 @@ draws_none Kind.Stat touched = refl
 draws_none Kind.Delete touched = refl
 draws_none Kind.Rebuild touched = refl
 
+-- a call has a pass just where its next act says so
+same_directory : (step : DirectoryStep) → is_on_pass_there step ≡ has_pass (directory_phase step)
+same_directory (DirectoryStep.Look note) = refl
+same_directory (DirectoryStep.LookRepair note) = refl
+same_directory DirectoryStep.Draw = refl
+same_directory (DirectoryStep.Commit placed) = refl
+same_directory DirectoryStep.End = refl
+same_directory DirectoryStep.Confirm = refl
+same_directory (DirectoryStep.Repaired server epoch) = refl
+same_directory DirectoryStep.NextGarbage = refl
+same_directory (DirectoryStep.Swept version) = refl
+same_directory (DirectoryStep.Reap actor) = refl
+
+same_server : (step : ServerStep) → is_in_pass_there step ≡ has_pass (server_phase step)
+same_server (ServerStep.Prepare version) = refl
+same_server (ServerStep.Settle version) = refl
+same_server (ServerStep.Has version) = refl
+same_server (ServerStep.Fetch version layers) = refl
+same_server (ServerStep.Install version) = refl
+same_server (ServerStep.Discard version) = refl
+same_server ServerStep.Wipe = refl
+same_server ServerStep.Down = refl
+same_server ServerStep.Up = refl
+
+same_pass : (act : Act) → is_in_pass act ≡ has_pass (phase_of act)
+same_pass (Act.AtDirectory step) = same_directory step
+same_pass (Act.AtServer server step) = same_server step
+same_pass (Act.Finish outcome) = refl
+
 -- ---- want of memory that is told before a step
 pub record ToldFirst (g : Shape) (most tries : ℕ) (job : Job) (who : Actor) (told now : List Told) (d : Directory) : Type 0 where
   pub stands : Stands g tries job who now d
@@ -78,11 +108,11 @@ pub record ToldFirst (g : Shape) (most tries : ℕ) (job : Job) (who : Actor) (t
 
 module _ (g : Shape) (most tries : ℕ) (job : Job) (target : HasTarget g job) (who : Actor) (told : List Told) (d : Directory) (stands : Stands g tries job who told d) where
   -- want of memory that is told first leaves the pass wanted
-  short_told : is_some (pass_of who d) ≡ true → ToldFirst g most tries job who told (tell g job told Told.Short) d
+  short_told : is_in_pass (next_act g tries job told) ≡ true → ToldFirst g most tries job who told (tell g job told Told.Short) d
   short_told has =
       let before : Act = next_act g tries job told in
       let after : Act = next_act g tries job (tell g job told Told.Short) in
-      let had : has_pass (phase_of before) ≡ true = wanted (pass_of who d) (has_pass (phase_of before)) job.note has stands.pass in
+      let had : has_pass (phase_of before) ≡ true = sym (same_pass before) ∙ has in
       let moved : IsTrue (moves Told.Short (phase_of before) (phase_of after)) = call_moves g tries job target told Told.Short tt in
       let same : has_pass (phase_of after) ≡ has_pass (phase_of before) =
       same_bools (has_pass (phase_of after)) (has_pass (phase_of before))
@@ -101,7 +131,7 @@ module _ (g : Shape) (most tries : ℕ) (job : Job) (target : HasTarget g job) (
       }
 
   -- so it is whether memory was wanting or not
-  pub first_told : (coding has : Bool) → is_some (pass_of who d) ≡ has → ToldFirst g most tries job who told (told_first coding has g job told) d
+  pub first_told : (coding has : Bool) → is_in_pass (next_act g tries job told) ≡ has → ToldFirst g most tries job who told (told_first coding has g job told) d
   first_told true true e = short_told e
   first_told true false e = record { stands = stands; steps = omega arith; draws = omega arith }
   first_told false has e = record { stands = stands; steps = omega arith; draws = omega arith }
@@ -375,14 +405,14 @@ module _ (g : Shape) (most tries : ℕ) (some : 0 < stripe_length g) (tried : 1 
     by_act (Act.AtServer server step) e = goes_on (subst IsGoing (sym e) tt)
 
   -- one step of an actor
-  pub actor_moves : (marks : Marks) → ActorMoves g most tries who jobs calling places (actor_step g tries marks who job calling places)
-  actor_moves marks =
-      let has_one : Bool = is_some (pass_of who places.directory) in
-      let first : List Told = told_first marks.coding has_one g job calling.told in
+  pub actor_moves : (shortages : Shortage) → ActorMoves g most tries who jobs calling places (actor_step g tries shortages who job calling places)
+  actor_moves shortages =
+      let has_one : Bool = is_in_pass (next_act g tries job calling.told) in
+      let first : List Told = told_first shortages.coding has_one g job calling.told in
       let first_is : ToldFirst g most tries job who calling.told first places.directory =
-      first_told g most tries job target who calling.told places.directory work.stands marks.coding has_one refl in
+      first_told g most tries job target who calling.told places.directory work.stands shortages.coding has_one refl in
       let act : Act = next_act g tries job first in
-      let after : Places × Told = at_places marks.step who (length calling.ended) act places in
+      let after : Places × Told = at_places shortages.step who (length calling.ended) act places in
       let brings : AnswerBrings g most tries job who first (tell g job first after.1) places after.0 after.1 =
-      answer_brings g most tries some job target marks.step who self (length calling.ended) first places fit has first_is.stands in
+      answer_brings g most tries some job target shortages.step who self (length calling.ended) first places fit has first_is.stands in
       by_act first first_is after.0 after.1 (take_from act after.1 calling.takes) brings (next_act g tries job (tell g job first after.1)) refl

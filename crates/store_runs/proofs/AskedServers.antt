@@ -2,6 +2,7 @@
 use Rattle.std.proofs.Common.{ℕ, zero, suc, ◌+◌, ◌*◌, ◌<◌, ◌≤◌, Bool, nat_lt, max, min, not, List, [], ◌∷◌, ◌++◌, length, map, filter, arith}
 use Rattle.std.proofs.lemmas.Bool.{cond_both}
 use Rattle.std.specs.List.{range_with_len}
+use Rattle.store_map.specs.declared.placement.Found.TheVariants as found
 use Rattle.clay_grid.specs.Shape.{Shape, chunk_count, chunk_length}
 use Rattle.store_core.specs.Lists.{is_among}
 use Rattle.store_core.specs.Told.{Seen, Lost, Told}
@@ -114,6 +115,7 @@ module _ (g : Shape) (part : Part) where
 pub chunk_well : (g : Shape) (seen : Seen) (target : ℕ) → target < chunk_count g → (told : List Told) → AsksWell (chunk_count g) (gather_chunk g seen target told)
 chunk_well g seen target below [] = (below, tt)
 chunk_well g seen target below (Told.Here ∷ told) = tt
-chunk_well g seen target below (Told.Missing epoch ∷ told) =
-    looking_well g seen (servers_but g seen (target ∷ [])) (lost_at g seen target epoch ∷ []) told (others_below g seen (target ∷ []))
+chunk_well g seen target below (Told.Missing (found.Absent epoch) ∷ told) =
+    looking_well g seen (servers_but g seen (target ∷ [])) (lost_at g seen target (found.Absent epoch) ∷ []) told (others_below g seen (target ∷ []))
+chunk_well g seen target below (Told.Missing (found.Away downs) ∷ told) = tt
 chunk_well g seen target below (_ ∷ told) = tt

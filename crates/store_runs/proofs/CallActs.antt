@@ -1,22 +1,24 @@
 -- Which acts a call of each kind makes, and that the rows of its commit are whole.
-use Rattle.std.proofs.Common.{◌≡◌, ℕ, suc, ◌+◌, ◌*◌, ◌-◌, ◌<◌, nat_lt, List, [], ◌∷◌, ◌++◌, length, drop, take, All, refl, arith, length-append}
-use Rattle.std.proofs.lemmas.Bool.{cond_both}
-use Rattle.std.proofs.lemmas.List.{length-take-le, length-drop}
-use Rattle.std.proofs.lemmas.List.Elements.{All-nil, All-cons}
-use Rattle.clay_grid.specs.Shape.{Shape, chunk_count}
-use Rattle.store_core.specs.Lists.{places_of, in_rows}
+use Rattle.std.proofs.Common.{◌≡◌, ℕ, ◌+◌, ◌<◌, nat_lt, List, [], ◌∷◌, ◌++◌, length, All, refl, arith, length-append, ◌/◌, ◌≤◌}
+use Rattle.std.proofs.lemmas.Bool.{cond_both, ltb-false}
+use Rattle.std.proofs.lemmas.List.Elements.{All-nil, All-push}
+use Rattle.std.proofs.lemmas.List.FromFn.{length-range_with_len}
+use Rattle.std.specs.List.{range_with_len}
+use Rattle.store_core.specs.Placements.{IsRow, skipped_from, skipped_count}
+use Rattle.store_map.specs.declared.placement.Placement.{Placement}
+use Rattle.clay_grid.specs.Shape.{Shape, chunk_count, stripe_length}
+use Rattle.store_core.specs.Lists.{places_of}
 use Rattle.store_core.specs.Told.{Told, Seen}
 use Rattle.store_core.specs.Note.{Kind, Note}
 use Rattle.store_core.specs.Act.{Act, DirectoryStep, Outcome}
 use Rattle.store_core.specs.Gathering.{Gathering, Part}
 use Rattle.store_core.specs.GatheringParts.{ending, act_of, gathering, gather_part, gather_chunk}
-use Rattle.store_core.specs.Put.{settling, committed, committing, preparing, drawing, next_put}
+use Rattle.store_core.specs.Put.{settling, committed, committing, preparing, preparing_all, drawing, next_put}
 use Rattle.store_core.specs.Read.{parts_of, next_read, next_single}
 use Rattle.store_core.specs.Write.{old_parts, trying}
 use Rattle.store_core.specs.Rebuild.{placing, installing, confirming, rebuilding, next_rebuild}
 use Rattle.store_core.specs.NextAct.{Job, next_by, next_act}
 use Rattle.store_calls.specs.StepLaws.{HasTarget}
-use Rattle.store_calls.proofs.Asks.{count_places}
 use Rattle.store_runs.proofs.Proper.{IsWriting}
 
 -- a kind of a client's call
@@ -33,7 +35,7 @@ IsOfRepairers _ = ⊥
 abbrev pub StepOfKind : Shape → Kind → DirectoryStep → Type 0
 StepOfKind g kind (DirectoryStep.Look note) = IsOfClients kind
 StepOfKind g kind (DirectoryStep.LookRepair note) = IsOfRepairers kind
-StepOfKind g kind (DirectoryStep.Commit placed) = IsWriting kind × All (λ row. length row ≡ chunk_count g) placed
+StepOfKind g kind (DirectoryStep.Commit placed) = IsWriting kind × All (IsRow g) placed
 StepOfKind g kind DirectoryStep.Confirm = IsOfRepairers kind
 StepOfKind g kind (DirectoryStep.Repaired server epoch) = IsOfRepairers kind × (server < chunk_count g)
 StepOfKind g kind step = Unit {0}
@@ -42,15 +44,6 @@ StepOfKind g kind step = Unit {0}
 abbrev pub ActOfKind : Shape → Kind → Act → Type 0
 ActOfKind g kind (Act.AtDirectory step) = StepOfKind g kind step
 ActOfKind g kind _ = Unit {0}
-
--- numbers in rows, as many as fill them
-rows_whole : (n : ℕ) (versions numbers : List ℕ) → length numbers ≡ length versions * n → All (λ row. length row ≡ n) (in_rows n versions numbers)
-rows_whole n [] numbers e = All-nil (λ (row : List ℕ). length row ≡ n)
-rows_whole n (version ∷ versions) numbers e =
-    let more : suc (length versions) * n ≡ length versions * n + n = omega arith in
-    let left : length (drop n numbers) ≡ length numbers - n = length-drop n numbers in
-    let rest : length (drop n numbers) ≡ length versions * n = omega (arith, e, more, left) in
-    All-cons (λ (row : List ℕ). length row ≡ n) (take n numbers) (in_rows n versions (drop n numbers)) (length-take-le n numbers (omega (arith, e, more))) (rows_whole n versions (drop n numbers) rest)
 
 module _ (g : Shape) (kind : Kind) where
   -- the end of a pass
@@ -73,28 +66,41 @@ module _ (g : Shape) (kind : Kind) where
   committed_of versions (_ ∷ told) = tt
 
   -- the commit, with its rows
-  committing_of : IsWriting kind → (placed : List (List ℕ)) → All (λ row. length row ≡ chunk_count g) placed → (told : List Told) → ActOfKind g kind (committing placed told)
+  committing_of : IsWriting kind → (placed : List (List Placement)) → All (IsRow g) placed → (told : List Told) → ActOfKind g kind (committing placed told)
   committing_of writes placed whole [] = (writes, whole)
   committing_of writes placed whole (Told.Reaped point ∷ told) = tt
   committing_of writes placed whole (_ ∷ told) = ending_of Outcome.NoMemory told
 
-  -- each place that is prepared brings an epoch
-  preparing_of : IsWriting kind → (versions : List ℕ) (places : List (ℕ × ℕ)) (epochs : List ℕ) (told : List Told) → length epochs + length places ≡ length versions * chunk_count g
-      → ActOfKind g kind (preparing g versions places epochs told)
-  preparing_of writes versions [] epochs told count =
-      committing_of writes (in_rows (chunk_count g) versions epochs) (rows_whole (chunk_count g) versions epochs (omega (arith, count))) told
-  preparing_of writes versions (place ∷ places) epochs [] count = tt
-  preparing_of writes versions (place ∷ places) epochs (Told.Placed epoch ∷ told) count =
-      preparing_of writes versions places (epochs ++ epoch ∷ []) told (let more : length (epochs ++ epoch ∷ []) ≡ length epochs + 1 = length-append epochs (epoch ∷ []) in omega (arith, count, more))
-  preparing_of writes versions (place ∷ places) epochs (_ ∷ told) count = ending_of Outcome.NoMemory told
+  -- each server where a version is prepared brings a placement
+  preparing_of : (stripe version : ℕ) (next : List Placement → List Told → Act) → ((row : List Placement) → IsRow g row → (told : List Told) → ActOfKind g kind (next row told))
+      → (servers : List ℕ) (row : List Placement) → skipped_count row ≤ g.parity_count → length row + length servers ≡ chunk_count g
+      → (told : List Told) → ActOfKind g kind (preparing g stripe version next servers row told)
+  preparing_of stripe version next after [] row few count told = after row (record { whole = omega (arith, count); enough = few }) told
+  preparing_of stripe version next after (server ∷ servers) row few count [] = tt
+  preparing_of stripe version next after (server ∷ servers) row few count (Told.Prepared last ∷ told) =
+      let now : List Placement = row ++ last ∷ [] in
+      let more : length now ≡ length row + 1 = length-append row (last ∷ []) in
+      let outcome : Outcome = Outcome.Unavailable stripe (skipped_from 0 now) in
+      cond_both {A = Act} (nat_lt g.parity_count (skipped_count now)) (ending outcome told) (preparing g stripe version next servers now told) (ActOfKind g kind)
+      (λ _. ending_of outcome told)
+      (λ fewer. preparing_of stripe version next after servers now (ltb-false g.parity_count (skipped_count now) fewer) (omega (arith, more, count)) told)
+  preparing_of stripe version next after (server ∷ servers) row few count (_ ∷ told) = ending_of Outcome.NoMemory told
+
+  preparing_all_of : IsWriting kind → (stripe : ℕ) (versions : List ℕ) (placed : List (List Placement)) → All (IsRow g) placed → (told : List Told)
+      → ActOfKind g kind (preparing_all g stripe versions placed told)
+  preparing_all_of writes stripe [] placed rows told = committing_of writes placed rows told
+  preparing_all_of writes stripe (version ∷ versions) placed rows told =
+      preparing_of stripe version (λ row. preparing_all g (stripe + 1) versions (placed ++ row ∷ []))
+      (λ row is_row. preparing_all_of writes (stripe + 1) versions (placed ++ row ∷ []) (All-push (IsRow g) placed row rows is_row))
+      (range_with_len 0 (chunk_count g)) [] (omega arith)
+      (let all : length (range_with_len 0 (chunk_count g)) ≡ chunk_count g = length-range_with_len 0 (chunk_count g) in omega (arith, all)) told
 
   -- from the draw on
-  drawing_of : IsWriting kind → (told : List Told) → ActOfKind g kind (drawing g told)
-  drawing_of writes [] = tt
-  drawing_of writes (Told.Versions versions ∷ told) =
-      preparing_of writes versions (places_of (chunk_count g) versions) [] told (let count : length (places_of (chunk_count g) versions) ≡ length versions * chunk_count g = count_places (chunk_count g) versions in omega (arith, count))
-  drawing_of writes (Told.Reaped point ∷ told) = tt
-  drawing_of writes (_ ∷ told) = ending_of Outcome.NoMemory told
+  drawing_of : IsWriting kind → (note : Note) (told : List Told) → ActOfKind g kind (drawing g note told)
+  drawing_of writes note [] = tt
+  drawing_of writes note (Told.Versions versions ∷ told) = preparing_all_of writes (note.offset / stripe_length g) versions [] (All-nil (IsRow g)) told
+  drawing_of writes note (Told.Reaped point ∷ told) = tt
+  drawing_of writes note (_ ∷ told) = ending_of Outcome.NoMemory told
 
   -- ---- gatherings
   -- what a gathering comes to
@@ -103,7 +109,8 @@ module _ (g : Shape) (kind : Kind) where
   result_of stripe next after (Gathering.HasBytes told) = after told
   result_of stripe next after (Gathering.TooMany missing told) = ending_of (Outcome.Unavailable stripe missing) told
   result_of stripe next after (Gathering.AtTarget told) = ending_of Outcome.Here told
-  result_of stripe next after (Gathering.NoRoom told) = ending_of Outcome.NoMemory told
+  result_of stripe next after (Gathering.TargetAway downs told) = ending_of (Outcome.Away downs) told
+  result_of stripe next after (Gathering.Short told) = ending_of Outcome.NoMemory told
 
   -- a gathering of several parts, and what follows it
   gathering_of : (next : List Told → Act) → ((told : List Told) → ActOfKind g kind (next told)) → (parts : List Part) (told : List Told) → ActOfKind g kind (gathering g parts next told)
@@ -127,6 +134,7 @@ module _ (g : Shape) (kind : Kind) where
     installing_of [] = tt
     installing_of (Told.Placed epoch ∷ told) = placing_of rebuilds target epoch below told
     installing_of (Told.AlreadyThere ∷ told) = ending_of Outcome.Here told
+    installing_of (Told.Away downs ∷ told) = ending_of (Outcome.Away downs) told
     installing_of (_ ∷ told) = ending_of Outcome.NoMemory told
 
     -- from the confirm on
@@ -155,7 +163,7 @@ module _ (g : Shape) (kind : Kind) where
   put_of : IsWriting kind → IsOfClients kind → (note : Note) (told : List Told) → ActOfKind g kind (next_put g note told)
   put_of writes looks note [] = looks
   put_of writes looks note (Told.Answer point reply ∷ told) = tt
-  put_of writes looks note (Told.Ready base length_now stripes ∷ told) = drawing_of writes told
+  put_of writes looks note (Told.Ready base length_now stripes ∷ told) = drawing_of writes note told
   put_of writes looks note (Told.Versions versions ∷ told) = committed_of versions told
   put_of writes looks note (_ ∷ told) = tt
 
@@ -178,7 +186,7 @@ module _ (g : Shape) (kind : Kind) where
       cond_both {A = Act} (nat_lt (length pairs) tries) (Act.AtDirectory (DirectoryStep.Look note)) (Act.Finish (Outcome.Contended pairs)) (ActOfKind g kind) (λ _. looks) (λ _. tt)
   trying_of writes looks tries note pairs (Told.Changed base newer ∷ told) = trying_of writes looks tries note (pairs ++ (base, newer) ∷ []) told
   trying_of writes looks tries note pairs (Told.Answer point reply ∷ told) = tt
-  trying_of writes looks tries note pairs (Told.Ready base length_now stripes ∷ told) = gathering_of (drawing g) (drawing_of writes) (old_parts g length_now stripes) told
+  trying_of writes looks tries note pairs (Told.Ready base length_now stripes ∷ told) = gathering_of (drawing g note) (drawing_of writes note) (old_parts g length_now stripes) told
   trying_of writes looks tries note pairs (Told.Versions versions ∷ told) = committed_of versions told
   trying_of writes looks tries note pairs (_ ∷ told) = tt
 

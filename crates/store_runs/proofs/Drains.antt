@@ -4,6 +4,7 @@ use Rattle.std.proofs.lemmas.Bool.{cases_eq}
 use Rattle.std.proofs.lemmas.List.{length-map}
 use Rattle.std.proofs.lemmas.Option.{slice_get_within}
 use Rattle.std.specs.List.{range_with_len, slice_get}
+use Rattle.store_core.specs.Fuel.{fuel_of}
 use Rattle.store_map.specs.Limits.{size_of, tries_of}
 use Rattle.store_map.specs.declared.actor.Actor.{Actor}
 use Rattle.store_map.specs.declared.actor.Actor.TheVariants as actor
@@ -21,8 +22,8 @@ use Rattle.store_runs.specs.RunLaws.{StaysSound, RunsStaySound}
 use Rattle.store_core.specs.Directory.{Directory}
 use Rattle.store_core.specs.NextAct.{Job, job_of, rebuild_job}
 use Rattle.store_core.specs.Run.{Run, client_step, repairer_step}
-use Rattle.store_core.specs.Schedule.{is_unfinished, sweep_if, round, drain_by, fuel_of, drain, step_core, run_tokens, run_core}
-use Rattle.store_core.specs.Step.{Marks}
+use Rattle.store_core.specs.Schedule.{is_unfinished, sweep_if, round, drain_by, drain, step_core, run_tokens, run_core}
+use Rattle.store_core.specs.Step.{Shortage}
 use Rattle.store_core.specs.Work.{Work, Calling, client_work, repairer_work, any_has_step}
 use Rattle.store_runs.proofs.ActorSteps.{InWork, CallKept}
 use Rattle.store_calls.specs.StepLaws.{HasTarget}
@@ -33,7 +34,7 @@ use Rattle.store_runs.proofs.Runs.{CanRun, measure, Progress, client_progress, r
 use Rattle.store_runs.proofs.Scripts.{can_run, measure_fits}
 
 -- one token more at the end
-run_more : (script : Script) (tokens : List Token) (token : Token) (run : Run) → run_tokens script (tokens ++ token ∷ []) run ≡ step_core script token (run_tokens script tokens run)
+pub run_more : (script : Script) (tokens : List Token) (token : Token) (run : Run) → run_tokens script (tokens ++ token ∷ []) run ≡ step_core script token (run_tokens script tokens run)
 run_more script [] token run = refl
 run_more script (first ∷ tokens) token run = run_more script tokens token (step_core script first run)
 
@@ -48,9 +49,9 @@ pub if_found : {X : Type 0} (P : X → Type 0) (found : Option X) → ((x : X) �
 if_found P None h = tt
 if_found P (Some x) h = h x refl
 
-module _ (script : Script) (marks : List Marks) (can : CanRun script) where
+module _ (script : Script) (shortages : List Shortage) (can : CanRun script) where
   abbrev pub start : Run
-  start = record { core = first_core script; marks = marks }
+  start = record { core = first_core script; shortages = shortages }
 
   -- a run whose core has what cores of runs have
   abbrev pub State : Run → Type 0
@@ -173,6 +174,13 @@ module _ (script : Script) (marks : List Marks) (can : CanRun script) where
       three_false (any_has_step (client_work script) run.core.clients) (any_has_step (repairer_work script) run.core.repairers) (sweeper_has_step run.core) (clients_idle run idle)
       (subst (λ (r : Run). any_has_step (repairer_work script) r.core.repairers ≡ false) same rests.0) (subst (λ (r : Run). sweeper_has_step r.core ≡ false) same rests.1))
 
+  -- the same, without the words of a turn
+  pub round_moves : (run : Run) → State run → (measure script (round script run).core < measure script run.core) ⊎ ((round script run ≡ run) × (is_unfinished script run.core ≡ false))
+  round_moves run state = (round_turn run state).moved
+
+  pub round_state : (run : Run) → State run → State (round script run)
+  round_state run state = (round_turn run state).state
+
   -- ---- a drain
   -- nobody has a step
   record Drained (after : Run) : Type 0 where
@@ -214,11 +222,13 @@ module _ (script : Script) (marks : List Marks) (can : CanRun script) where
   drained run state = drained_by (fuel_of script run.core) run state (measure_fits script run.core can.tried state.keeps)
 
   -- ---- any tokens
-  token_state : (token : Token) (run : Run) → State run → State (step_core script token run)
+  pub token_state : (token : Token) (run : Run) → State run → State (step_core script token run)
   token_state (token.Client i) run state = client_kept script can run state i
   token_state (token.Repairer i) run state = repairer_kept script can run state i
   token_state token.Sweep run state = sweeper_kept script can run state
   token_state (token.Wipe server) run state = operator_kept script can run state (Act.AtServer server ServerStep.Wipe) tt
+  token_state (token.Down server) run state = operator_kept script can run state (Act.AtServer server ServerStep.Down) tt
+  token_state (token.Up server) run state = operator_kept script can run state (Act.AtServer server ServerStep.Up) tt
   token_state (token.ReapClient i) run state = operator_kept script can run state (Act.AtDirectory (DirectoryStep.Reap (actor.Client i))) tt
   token_state (token.ReapRepairer i) run state = operator_kept script can run state (Act.AtDirectory (DirectoryStep.Reap (actor.Repairer i))) tt
   token_state token.Drain run state = (drained run state).state
@@ -229,7 +239,7 @@ module _ (script : Script) (marks : List Marks) (can : CanRun script) where
   run_state (token ∷ tokens) run state = run_state tokens (step_core script token run) (token_state token run state)
 
   -- so the directory is sound after any tokens
-  pub sound_after : StaysSound script marks
+  pub sound_after : StaysSound script shortages
   sound_after tokens = (run_state tokens start (first_kept script can)).sound
 
   -- ---- bounds
@@ -253,7 +263,7 @@ module _ (script : Script) (marks : List Marks) (can : CanRun script) where
           omega (arith, bound, left)
 
   -- the runs of such a script are bounded
-  pub bounded : RunsAreBounded script marks
+  pub bounded : RunsAreBounded script shortages
   bounded =
       record {
         bounds = λ tokens.
@@ -261,8 +271,8 @@ module _ (script : Script) (marks : List Marks) (can : CanRun script) where
             record {
               client_count = state.keeps.client_count;
               repairer_count = state.keeps.repairer_count;
-              clients = group_bounds actor.Client (client_work script) (run_core script marks tokens).clients (run_core script marks tokens).directory can.clients state.keeps.clients;
-              repairers = group_bounds actor.Repairer (repairer_work script) (run_core script marks tokens).repairers (run_core script marks tokens).directory can.repairers state.keeps.repairers;
+              clients = group_bounds actor.Client (client_work script) (run_core script shortages tokens).clients (run_core script shortages tokens).directory can.clients state.keeps.clients;
+              repairers = group_bounds actor.Repairer (repairer_work script) (run_core script shortages tokens).repairers (run_core script shortages tokens).directory can.repairers state.keeps.repairers;
             };
         drained = λ tokens.
             let run : Run = run_tokens script tokens start in
@@ -271,8 +281,8 @@ module _ (script : Script) (marks : List Marks) (can : CanRun script) where
 
 -- the directory stays sound
 pub runs_stay_sound : RunsStaySound
-runs_stay_sound script marks geometry valid = sound_after script marks (can_run script geometry valid)
+runs_stay_sound script shortages geometry valid = sound_after script shortages (can_run script geometry valid)
 
 -- drains end
 pub drains_end : DrainsEnd
-drains_end script marks geometry valid = bounded script marks (can_run script geometry valid)
+drains_end script shortages geometry valid = bounded script shortages (can_run script geometry valid)

@@ -1,5 +1,6 @@
 -- What an answer in a gathering brings a call to.
 use Rattle.std.proofs.Common.{◌≡◌, ℕ, ◌<◌, Bool, true, false, cond, nat_lt, List, [], ◌∷◌, ◌++◌, length, IsTrue, refl, sym, subst}
+use Rattle.store_map.specs.declared.placement.Found.{Found}
 use Rattle.clay_grid.specs.Shape.{Shape, chunk_count}
 use Rattle.store_core.specs.Told.{Told, Seen}
 use Rattle.store_core.specs.Note.{Note, Kind}
@@ -30,7 +31,7 @@ given_opens layers Phase.Confirming h = refl
 given_opens layers Phase.Ending h = refl
 given_opens layers p h = absurd h
 
-missing_opens : (epoch : ℕ) (p : Phase) → IsOpen p → IsTrue (moves (Told.Missing epoch) Phase.Gathering p)
+missing_opens : (epoch : Found) (p : Phase) → IsOpen p → IsTrue (moves (Told.Missing epoch) Phase.Gathering p)
 missing_opens epoch Phase.Gathering h = refl
 missing_opens epoch Phase.Drawing h = refl
 missing_opens epoch Phase.Confirming h = refl
@@ -109,7 +110,8 @@ result_opens n stripe next (Gathering.Asks server step) e well opened = ask_open
 result_opens n stripe next (Gathering.HasBytes rest) e well opened = subst (λ l. IsOpen (phase_of (next l))) (sym e) opened
 result_opens n stripe next (Gathering.TooMany missing rest) e well opened = subst (λ l. IsOpen (phase_of (ending (Outcome.Unavailable stripe missing) l))) (sym e) tt
 result_opens n stripe next (Gathering.AtTarget rest) e well opened = subst (λ l. IsOpen (phase_of (ending Outcome.Here l))) (sym e) tt
-result_opens n stripe next (Gathering.NoRoom rest) e well opened = subst (λ l. IsOpen (phase_of (ending Outcome.NoMemory l))) (sym e) tt
+result_opens n stripe next (Gathering.TargetAway downs rest) e well opened = subst (λ l. IsOpen (phase_of (ending (Outcome.Away downs) l))) (sym e) tt
+result_opens n stripe next (Gathering.Short rest) e well opened = subst (λ l. IsOpen (phase_of (ending Outcome.NoMemory l))) (sym e) tt
 
 module _ (kind : Kind) (n stripe : ℕ) (next : List Told → Act) (opened : IsOpen (phase_of (next []))) (next_moves : (told : List Told) (answer : Told) → Moves kind answer (next told) (next (told ++ answer ∷ []))) where
   abbrev Ahead : Told → Act → Gathering → Type 0
@@ -124,7 +126,9 @@ module _ (kind : Kind) (n stripe : ℕ) (next : List Told → Act) (opened : IsO
       subst (Ahead answer (ending (Outcome.Unavailable stripe missing) rest)) (sym grows) (ending_moves kind (Outcome.Unavailable stripe missing) rest answer h)
   result_moves answer (Gathering.AtTarget rest) later grows well well_later h =
       subst (Ahead answer (ending Outcome.Here rest)) (sym grows) (ending_moves kind Outcome.Here rest answer h)
-  result_moves answer (Gathering.NoRoom rest) later grows well well_later h =
+  result_moves answer (Gathering.TargetAway downs rest) later grows well well_later h =
+      subst (Ahead answer (ending (Outcome.Away downs) rest)) (sym grows) (ending_moves kind (Outcome.Away downs) rest answer h)
+  result_moves answer (Gathering.Short rest) later grows well well_later h =
       subst (Ahead answer (ending Outcome.NoMemory rest)) (sym grows) (ending_moves kind Outcome.NoMemory rest answer h)
 
 -- ---- several gatherings
@@ -191,7 +195,7 @@ module _ (g : Shape) (tries : ℕ) (note : Note) where
   first_moves true pairs (Told.Answer point reply) h = refl
   first_moves true pairs (Told.Ready base length_now stripes) h =
       let parts : List Part = old_parts g length_now stripes in
-      ready_opens (Told.Ready base length_now stripes) (phase_of (gathering g parts (drawing g) [])) tt (gathering_opens Kind.Write g (drawing g) tt (drawing_moves Kind.Write g) parts)
+      ready_opens (Told.Ready base length_now stripes) (phase_of (gathering g parts (drawing g note) [])) tt (gathering_opens Kind.Write g (drawing g note) tt (drawing_moves Kind.Write g note) parts)
   first_moves true pairs Told.Short h = refl
   first_moves true pairs answer h = absurd h
   first_moves false pairs Told.Short h = refl
@@ -208,7 +212,7 @@ module _ (g : Shape) (tries : ℕ) (note : Note) where
   trying_moves pairs (Told.Changed base newer ∷ told) answer = trying_moves (pairs ++ (base, newer) ∷ []) told answer
   trying_moves pairs (Told.Answer point reply ∷ told) answer = finished Kind.Write answer (Outcome.Answered point reply) (Outcome.Answered point reply)
   trying_moves pairs (Told.Ready base length_now stripes ∷ told) answer =
-      gathering_moves Kind.Write g (drawing g) tt (drawing_moves Kind.Write g) (old_parts g length_now stripes) told answer
+      gathering_moves Kind.Write g (drawing g note) tt (drawing_moves Kind.Write g note) (old_parts g length_now stripes) told answer
   trying_moves pairs (Told.Versions versions ∷ told) answer = committed_moves Kind.Write g versions told answer
   trying_moves pairs (_ ∷ told) answer = finished Kind.Write answer Outcome.NoMemory Outcome.NoMemory
 
@@ -227,10 +231,12 @@ module _ (kind : Kind) (g : Shape) where
   installing_moves : (seen : Seen) (target : ℕ) (told : List Told) (answer : Told) → Moves kind answer (installing seen target told) (installing seen target (told ++ answer ∷ []))
   installing_moves seen target [] (Told.Placed epoch) h = refl
   installing_moves seen target [] Told.AlreadyThere h = refl
+  installing_moves seen target [] (Told.Away downs) h = refl
   installing_moves seen target [] Told.Short h = refl
   installing_moves seen target [] answer h = absurd h
   installing_moves seen target (Told.Placed epoch ∷ told) answer h = placing_moves target epoch told answer h
   installing_moves seen target (Told.AlreadyThere ∷ told) answer h = ending_moves kind Outcome.Here told answer h
+  installing_moves seen target (Told.Away downs ∷ told) answer h = ending_moves kind (Outcome.Away downs) told answer h
   installing_moves seen target (_ ∷ told) answer h = ending_moves kind Outcome.NoMemory told answer h
 
   -- from the confirm on

@@ -12,7 +12,7 @@ use Rattle.store_core.specs.Lists.{change_at}
 use Rattle.store_core.specs.NextAct.{Job}
 use Rattle.store_core.specs.Directory.{Directory}
 use Rattle.store_core.specs.Lookups.{same_actor}
-use Rattle.store_core.specs.Step.{Marks, Places, actor_step}
+use Rattle.store_core.specs.Step.{Shortage, Places, actor_step}
 use Rattle.store_core.specs.CallStep.{job_step, step_if, step_of}
 use Rattle.store_core.specs.Work.{Work, Calling, is_abandoned, has_step, any_has_step}
 use Rattle.store_calls.specs.StepLaws.{HasTarget}
@@ -93,13 +93,13 @@ drop_here [] n x e = absurd (none-some x e)
 drop_here (first ∷ xs) zero x e = ap (λ y. y ∷ xs) (same_Some first x e)
 drop_here (first ∷ xs) (suc n) x e = drop_here xs n x e
 
-none_past : {X : Type 0} (xs : List X) (n : ℕ) → slice_get xs n ≡ None → length xs ≤ n
+pub none_past : {X : Type 0} (xs : List X) (n : ℕ) → slice_get xs n ≡ None → length xs ≤ n
 none_past [] n e = zero-le
 none_past (x ∷ xs) zero e = absurd (none-some x (sym e))
 none_past (x ∷ xs) (suc n) e = let h : length xs ≤ n = none_past xs n e in omega (arith, h)
 
 -- an actor that has a step has a call left
-has_job : (work : Work) (calling : Calling) → has_step work calling ≡ true → length calling.ended < length work.jobs
+pub has_job : (work : Work) (calling : Calling) → has_step work calling ≡ true → length calling.ended < length work.jobs
 has_job work calling e =
     let left : ℕ = length work.jobs - length calling.ended in
     let some : 0 < left = ltb-true 0 left (and_parts (nat_lt 0 left) (not (is_abandoned work.leave left calling.steps)) e).0 in
@@ -210,35 +210,35 @@ module _ (script : Script) (who_of : ℕ → Actor) (works : List Work) where
             held_kept (who_of j) (drop (length other_calling.ended) other_work.jobs) other_calling places.directory after.0.directory (moves.others (who_of j) (group.apart i j differ))
             (kept j other_work other_calling is_other_work is_old)
 
-    with_job : (marks : Marks) (work : Work) (calling : Calling) → slice_get works i ≡ Some work → slice_get callings i ≡ Some calling → has_step work calling ≡ true
-        → (found : Option Job) → slice_get work.jobs (length calling.ended) ≡ found → GroupStepped i callings places (job_step script marks (who_of i) calling places found)
-    with_job marks work calling is_work is_calling steps None e =
+    with_job : (shortages : Shortage) (work : Work) (calling : Calling) → slice_get works i ≡ Some work → slice_get callings i ≡ Some calling → has_step work calling ≡ true
+        → (found : Option Job) → slice_get work.jobs (length calling.ended) ≡ found → GroupStepped i callings places (job_step script shortages (who_of i) calling places found)
+    with_job shortages work calling is_work is_calling steps None e =
         let past : length work.jobs ≤ length calling.ended = none_past work.jobs (length calling.ended) e in
         let some_left : length calling.ended < length work.jobs = has_job work calling steps in
         absurd (omega (arith, past, some_left))
-    with_job marks work calling is_work is_calling steps (Some job) e =
+    with_job shortages work calling is_work is_calling steps (Some job) e =
         let ahead : drop (length calling.ended) work.jobs ≡ job ∷ drop (suc (length calling.ended)) work.jobs = drop_here work.jobs (length calling.ended) job e in
         let in_work : InWork script.geometry (size_of script) (tries_of script) job (who_of i) calling places.directory =
         subst (λ l. CallKept script.geometry (size_of script) (tries_of script) (who_of i) l calling places.directory) ahead (kept i work calling is_work is_calling) in
-        all_moved work calling (actor_step script.geometry (tries_of script) marks (who_of i) job calling places) is_work is_calling
+        all_moved work calling (actor_step script.geometry (tries_of script) shortages (who_of i) job calling places) is_work is_calling
         (actor_moves script.geometry (size_of script) (tries_of script) some tried (who_of i) (group.self i) work.jobs (drop (suc (length calling.ended)) work.jobs) job
-        (group.targets i work is_work (length calling.ended) job e) calling ahead places fit has in_work marks)
+        (group.targets i work is_work (length calling.ended) job e) calling ahead places fit has in_work shortages)
 
-    if_step : (marks : Marks) (work : Work) (calling : Calling) → slice_get works i ≡ Some work → slice_get callings i ≡ Some calling → (b : Bool) → has_step work calling ≡ b
-        → GroupStepped i callings places (step_if b script marks (who_of i) work calling places)
-    if_step marks work calling is_work is_calling true e = with_job marks work calling is_work is_calling e (slice_get work.jobs (length calling.ended)) refl
-    if_step marks work calling is_work is_calling false e =
+    if_step : (shortages : Shortage) (work : Work) (calling : Calling) → slice_get works i ≡ Some work → slice_get callings i ≡ Some calling → (b : Bool) → has_step work calling ≡ b
+        → GroupStepped i callings places (step_if b script shortages (who_of i) work calling places)
+    if_step shortages work calling is_work is_calling true e = with_job shortages work calling is_work is_calling e (slice_get work.jobs (length calling.ended)) refl
+    if_step shortages work calling is_work is_calling false e =
         λ other_work other_calling is_other_work is_other_calling.
         let same_work : work ≡ other_work = same_Some work other_work (sym is_work ∙ is_other_work) in
         let same_calling : calling ≡ other_calling = same_Some calling other_calling (sym is_calling ∙ is_other_calling) in
         subst (λ w. has_step w other_calling ≡ false) same_work (subst (λ c. has_step work c ≡ false) same_calling e)
 
-    found_step : (marks : Marks) (found : Option Work) (found_calling : Option Calling) → slice_get works i ≡ found → slice_get callings i ≡ found_calling
-        → GroupStepped i callings places (step_of script marks (who_of i) found found_calling places)
-    found_step marks None found_calling e k = λ work calling is_work is_calling. absurd (none-some work (sym e ∙ is_work))
-    found_step marks (Some work) None e k = λ other calling is_work is_calling. absurd (none-some calling (sym k ∙ is_calling))
-    found_step marks (Some work) (Some calling) e k = if_step marks work calling e k (has_step work calling) refl
+    found_step : (shortages : Shortage) (found : Option Work) (found_calling : Option Calling) → slice_get works i ≡ found → slice_get callings i ≡ found_calling
+        → GroupStepped i callings places (step_of script shortages (who_of i) found found_calling places)
+    found_step shortages None found_calling e k = λ work calling is_work is_calling. absurd (none-some work (sym e ∙ is_work))
+    found_step shortages (Some work) None e k = λ other calling is_work is_calling. absurd (none-some calling (sym k ∙ is_calling))
+    found_step shortages (Some work) (Some calling) e k = if_step shortages work calling e k (has_step work calling) refl
 
     -- a step of actor i lowers the group's steps, or it has none
-    pub group_step : (marks : Marks) → GroupStepped i callings places (step_of script marks (who_of i) (slice_get works i) (slice_get callings i) places)
-    group_step marks = found_step marks (slice_get works i) (slice_get callings i) refl refl
+    pub group_step : (shortages : Shortage) → GroupStepped i callings places (step_of script shortages (who_of i) (slice_get works i) (slice_get callings i) places)
+    group_step shortages = found_step shortages (slice_get works i) (slice_get callings i) refl refl

@@ -24,3 +24,8 @@ pub mod MaySteps
 pub mod ReadySteps
 pub mod ReadyActors
 pub mod RunsSound
+pub mod Rounds
+pub mod Leading
+pub mod Invariants
+pub mod NeverAway
+pub mod ToldRuns

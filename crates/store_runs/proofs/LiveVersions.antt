@@ -1,14 +1,17 @@
 -- How many versions the sweeper hasn't taken: no step makes a version that was taken anything else.
-use Rattle.std.proofs.Common.{◌≡◌, ℕ, zero, suc, ◌+◌, ◌<◌, ◌≤◌, max, Bool, true, false, cond, not, ◌&&◌, nat_lt, List, [], ◌∷◌, ◌++◌, length, map, filter, find, fold, zip, Option, None, Some, option_map, unwrap_or, IfSome, All, IsTrue, refl, sym, ap, subst, ◌∙◌, true≢false, arith, zero-add}
+use Rattle.std.proofs.Common.{◌/◌, take, drop, ◌≡◌, ℕ, zero, suc, ◌+◌, ◌<◌, ◌≤◌, Bool, true, false, cond, not, ◌&&◌, nat_lt, List, [], ◌∷◌, ◌++◌, length, map, find, fold, zip, Option, None, Some, option_map, unwrap_or, IfSome, All, IsTrue, refl, sym, ap, subst, ◌∙◌, true≢false, arith, zero-add}
 use Rattle.std.proofs.lemmas.Bool.{cond_both, and_parts}
 use Rattle.std.proofs.lemmas.List.{length-map}
 use Rattle.std.proofs.lemmas.Option.{same_Some, none-some}
 use Rattle.std.proofs.lemmas.List.FromFn.{length-range_with_len}
 use Rattle.std.proofs.lemmas.List.Elements.{All-head, All-tail}
 use Rattle.std.specs.List.{range_with_len, slice_get, enumerate_from, list_all}
+use Rattle.clay_grid.specs.Shape.{stripe_length}
+use Rattle.store_core.specs.Placements.{placed_anew}
+use Rattle.store_map.specs.declared.placement.Placement.{Placement}
 use Rattle.store_map.specs.declared.actor.Actor.{Actor}
 use Rattle.store_map.specs.declared.reply.Reply.{Reply}
-use Rattle.store_core.specs.Lists.{change_at, is_among}
+use Rattle.store_core.specs.Lists.{change_at}
 use Rattle.store_core.specs.Told.{Told}
 use Rattle.store_core.specs.Note.{Note, Kind, refusal}
 use Rattle.store_core.specs.Act.{DirectoryStep, takes_memory}
@@ -17,7 +20,7 @@ use Rattle.store_core.specs.Lookups.{find_object, pass_of, last_change, first_ga
 use Rattle.store_core.specs.Look.{set_standing, begin_pass, seen_at}
 use Rattle.store_core.specs.Looks.{accept, look_by, look_repair_by}
 use Rattle.store_core.specs.PassSteps.{close_pass, give_up_drawn, touched, draw, end_pass, confirm, repaired, new_version}
-use Rattle.store_core.specs.Commit.{commit, commit_object, changed_object, place_all, is_overtaken}
+use Rattle.store_core.specs.Commit.{commit, commit_object, dropped_by, place_all, is_overtaken}
 use Rattle.store_core.specs.AtDirectory.{unless_reaped, on_pass, take_garbage, swept_standing, reap_pass, reap, made_at_directory, unless_short, at_directory}
 use Rattle.store_core.specs.PlaceLaws.{new_versions}
 use Rattle.store_core.specs.Sound.{IsSound, HasItsVersions}
@@ -112,25 +115,25 @@ module _ (standing : Standing) (live : is_live_standing standing ≡ true) where
       omega (arith, first, rest)
 
 -- drawn versions with the epochs of their chunks
-abbrev EntriesLive : List Version → List (ℕ × List ℕ) → Type 0
+abbrev EntriesLive : List Version → List (ℕ × List Placement) → Type 0
 EntriesLive versions [] = Unit {0}
 EntriesLive versions (entry ∷ entries) = LivesAt versions entry.0 × EntriesLive versions entries
 
-abbrev become_current : List ℕ → Version → Version
+abbrev become_current : List Placement → Version → Version
 become_current placed version = record version { placed = placed; standing = Standing.Current }
 
-entries_still : (number : ℕ) (f : Version → Version) (versions : List Version) (entries : List (ℕ × List ℕ)) → ((version : Version) → is_live_standing version.standing ≡ true → is_live_standing (f version).standing ≡ true)
+entries_still : (number : ℕ) (f : Version → Version) (versions : List Version) (entries : List (ℕ × List Placement)) → ((version : Version) → is_live_standing version.standing ≡ true → is_live_standing (f version).standing ≡ true)
     → EntriesLive versions entries → EntriesLive (change_at number f versions) entries
 entries_still number f versions [] keeps h = tt
 entries_still number f versions (entry ∷ entries) keeps h = (lives_still number entry.0 f versions keeps h.0, entries_still number f versions entries keeps h.1)
 
-entries_live : (versions : List Version) (drawn : List ℕ) (placed : List (List ℕ)) → AllLive versions drawn → EntriesLive versions (zip drawn placed)
+entries_live : (versions : List Version) (drawn : List ℕ) (placed : List (List Placement)) → AllLive versions drawn → EntriesLive versions (zip drawn placed)
 entries_live versions [] placed h = tt
 entries_live versions (number ∷ drawn) [] h = tt
 entries_live versions (number ∷ drawn) (row ∷ placed) h = (h.0, entries_live versions drawn placed h.1)
 
 -- drawn versions that become current
-count_placed : (entries : List (ℕ × List ℕ)) (versions : List Version) → EntriesLive versions entries → live_count (place_all entries versions) ≤ live_count versions
+count_placed : (entries : List (ℕ × List Placement)) (versions : List Version) → EntriesLive versions entries → live_count (place_all entries versions) ≤ live_count versions
 count_placed [] versions h = omega arith
 count_placed (entry ∷ entries) versions h =
     let changed : List Version = change_at entry.0 (become_current entry.1) versions in
@@ -140,16 +143,26 @@ count_placed (entry ∷ entries) versions h =
     omega (arith, first, rest)
 
 -- live versions stay live where drawn ones become current
-placed_still : (entries : List (ℕ × List ℕ)) (versions : List Version) (numbers : List ℕ) → AllLive versions numbers → AllLive (place_all entries versions) numbers
+placed_still : (entries : List (ℕ × List Placement)) (versions : List Version) (numbers : List ℕ) → AllLive versions numbers → AllLive (place_all entries versions) numbers
 placed_still [] versions numbers h = h
 placed_still (entry ∷ entries) versions numbers h =
     placed_still entries (change_at entry.0 (become_current entry.1) versions) numbers (all_still entry.0 (become_current entry.1) versions numbers (λ _ _. refl) h)
 
-filtered_live : (p : ℕ → Bool) (versions : List Version) (numbers : List ℕ) → AllLive versions numbers → AllLive versions (filter p numbers)
-filtered_live p versions [] h = tt
-filtered_live p versions (number ∷ numbers) h =
-    cond_both {A = List ℕ} (p number) (number ∷ filter p numbers) (filter p numbers) (AllLive versions)
-    (λ _. (h.0, filtered_live p versions numbers h.1)) (λ _. filtered_live p versions numbers h.1)
+part_live : (n : ℕ) (versions : List Version) (numbers : List ℕ) → AllLive versions numbers → AllLive versions (take n numbers)
+part_live zero versions numbers h = tt
+part_live (suc n) versions [] h = tt
+part_live (suc n) versions (number ∷ numbers) h = (h.0, part_live n versions numbers h.1)
+
+rest_live : (n : ℕ) (versions : List Version) (numbers : List ℕ) → AllLive versions numbers → AllLive versions (drop n numbers)
+rest_live zero versions numbers h = h
+rest_live (suc n) versions [] h = tt
+rest_live (suc n) versions (number ∷ numbers) h = rest_live n versions numbers h.1
+
+-- those of an object that a commit drops
+dropped_live : (kind : Kind) (d : Directory) (pass : Pass) (versions : List Version) (numbers : List ℕ) → AllLive versions numbers → AllLive versions (dropped_by kind d pass numbers)
+dropped_live Kind.Write d pass versions numbers h =
+    part_live (length pass.drawn) versions (drop (pass.note.offset / stripe_length d.shape) numbers) (rest_live (pass.note.offset / stripe_length d.shape) versions numbers h)
+dropped_live _ d pass versions numbers h = h
 
 -- ---- what soundness says
 -- versions of a live standing are live
@@ -269,10 +282,10 @@ module _ (d : Directory) (has : HasLive d) where
       (d, Told.Current) (close_pass pass d, Told.Superseded (unwrap_or (last_change pass.note.name d.points) 0)) (CountMoves d) (λ _. plain) (λ _. plain)
 
   raised_counts : (server epoch : ℕ) (pins : List Pin) (versions : List Version)
-      → live_count (fold (λ vs pin. change_at pin.version (λ version. record version { placed = change_at server (max epoch) version.placed }) vs) versions pins) ≤ live_count versions
+      → live_count (fold (λ vs pin. change_at pin.version (λ version. record version { placed = change_at server (placed_anew epoch) version.placed }) vs) versions pins) ≤ live_count versions
   raised_counts server epoch [] versions = omega arith
   raised_counts server epoch (pin ∷ pins) versions =
-      let change : Version → Version = λ version. record version { placed = change_at server (max epoch) version.placed } in
+      let change : Version → Version = λ version. record version { placed = change_at server (placed_anew epoch) version.placed } in
       let first : live_count (change_at pin.version change versions) ≤ live_count versions = count_kept pin.version change versions (λ _ e. e) in
       let rest : live_count (fold (λ (vs : List Version) (p : Pin). change_at p.version change vs) (change_at pin.version change versions) pins) ≤ live_count (change_at pin.version change versions) =
       raised_counts server epoch pins (change_at pin.version change versions) in
@@ -281,16 +294,16 @@ module _ (d : Directory) (has : HasLive d) where
   repaired_counts : (server epoch : ℕ) → CountsOn (repaired server epoch)
   unfolding CountsOn
   repaired_counts server epoch pass live =
-      less (live_count (fold (λ (vs : List Version) (pin : Pin). change_at pin.version (λ version. record version { placed = change_at server (max epoch) version.placed }) vs) d.versions pass.pinned))
+      less (live_count (fold (λ (vs : List Version) (pin : Pin). change_at pin.version (λ version. record version { placed = change_at server (placed_anew epoch) version.placed }) vs) d.versions pass.pinned))
       (raised_counts server epoch pass.pinned d.versions)
 
-  object_counts : (placed : List (List ℕ)) (pass : Pass) (old : Object) → AllLive d.versions pass.drawn → AllLive d.versions old.versions → CountMoves d (commit_object placed pass old d)
+  object_counts : (placed : List (List Placement)) (pass : Pass) (old : Object) → AllLive d.versions pass.drawn → AllLive d.versions old.versions → CountMoves d (commit_object placed pass old d)
   object_counts placed pass old live old_live =
       let now : List Version = place_all (zip pass.drawn placed) d.versions in
-      let dropped : List ℕ = filter (λ version. not (is_among version (changed_object pass.note.kind d pass old).versions)) old.versions in
+      let dropped : List ℕ = dropped_by pass.note.kind d pass old.versions in
       let first : live_count now ≤ live_count d.versions = count_placed (zip pass.drawn placed) d.versions (entries_live d.versions pass.drawn placed live) in
       let still : AllLive now dropped =
-      filtered_live (λ version. not (is_among version (changed_object pass.note.kind d pass old).versions)) now old.versions (placed_still (zip pass.drawn placed) d.versions old.versions old_live) in
+      dropped_live pass.note.kind d pass now old.versions (placed_still (zip pass.drawn placed) d.versions old.versions old_live) in
       let rest : live_count (set_standing Standing.Superseded dropped now) ≤ live_count now = count_set Standing.Superseded refl dropped now still in
       omega (arith, first, rest)
 
@@ -299,7 +312,7 @@ module _ (d : Directory) (has : HasLive d) where
   found_versions None name h = tt
   found_versions (Some object) name h = h
 
-  commit_counts : (placed : List (List ℕ)) → CountsOn (commit placed)
+  commit_counts : (placed : List (List Placement)) → CountsOn (commit placed)
   unfolding CountsOn
   commit_counts placed pass live =
       cond_both {A = Directory × Told} (is_overtaken pass.note.kind pass.base (last_change pass.note.name d.points))

@@ -2,6 +2,8 @@
 use Rattle.std.proofs.Common.{◌≡◌, ℕ, ◌<◌, ◌≤◌, true, false, List, [], length, Option, None, Some, option_map, IfSome, All, Contains, IsTrue, refl, sym, ap, subst, ◌∙◌, inl, inr, ◌⊎◌, arith}
 use Rattle.std.proofs.lemmas.Option.{same_Some, none-some}
 use Rattle.std.proofs.lemmas.List.Elements.{All-contains}
+use Rattle.store_core.specs.Placements.{IsRow}
+use Rattle.store_map.specs.declared.placement.Placement.{Placement}
 use Rattle.clay_grid.specs.Shape.{Shape, chunk_count}
 use Rattle.store_map.specs.declared.actor.Actor.{Actor}
 use Rattle.store_map.specs.declared.actor.Actor.TheVariants as actor
@@ -10,11 +12,11 @@ use Rattle.store_core.specs.Told.{Told}
 use Rattle.store_core.specs.Note.{Note, Kind}
 use Rattle.store_core.specs.Act.{Act, DirectoryStep}
 use Rattle.store_core.specs.Conditions.{MayBegin, IsOfClient, IsOfRepairer, IsWriting, IsRebuilding, IsPrepared, MayStep}
-use Rattle.store_core.specs.Directory.{Pass, Mark, Point, Directory}
+use Rattle.store_core.specs.Directory.{Pass, Event, Point, Directory}
 use Rattle.store_core.specs.Lookups.{same_actor, pass_of}
 use Rattle.store_core.specs.NextAct.{Job, next_by, next_act}
 use Rattle.store_core.specs.PassSteps.{touched}
-use Rattle.store_core.specs.Replay.{IsMarked}
+use Rattle.store_core.specs.Replay.{FitsEvent}
 use Rattle.store_core.specs.Sound.{lengths_of, IsSound}
 use Rattle.store_core.specs.SoundPasses.{IsOfItsCall}
 use Rattle.store_calls.specs.StepLaws.{HasTarget}
@@ -68,7 +70,7 @@ repairer_looks (actor.Repairer i) note fits looks = fits
 repairer_looks who note fits looks = absurd fits
 
 -- a put or a write has no point while it has its pass
-not_pinned : (kind : Kind) (answer : Reply) → IsWritingKind kind → IsMarked Mark.Pinned kind answer → ⊥
+not_pinned : (kind : Kind) (answer : Reply) → IsWritingKind kind → FitsEvent Event.Pinned kind answer → ⊥
 not_pinned Kind.Put answer writes marked = marked
 not_pinned Kind.Write answer writes marked = marked
 not_pinned kind answer writes marked = absurd writes
@@ -82,16 +84,16 @@ reaped_only d sound who number pass found of_call writes =
     newest : All (IsOfItsCall pass) d.points
     newest = All-contains (λ (p : Pass). All (IsOfItsCall p) d.points) d.passes pass sound.newest (held_pass who d pass found).has
 
-    own : (point : Point) → Contains d.points point → IsTrue (same_actor point.actor who) → point.number ≡ number → (point.mark ≡ Mark.Reaped) ⊎ ((point.mark ≡ Mark.Pinned) × (point.note ≡ pass.note))
+    own : (point : Point) → Contains d.points point → IsTrue (same_actor point.actor who) → point.number ≡ number → (point.event ≡ Event.Reaped) ⊎ ((point.event ≡ Event.Pinned) × (point.note ≡ pass.note))
     own point has same is_number =
         (All-contains (IsOfItsCall pass) d.points point newest has).own (subst (λ a. IsTrue (same_actor point.actor a)) (pass_is who d pass found) same) (is_number ∙ sym of_call)
 
-    by : (point : Point) → Contains d.points point → (point.mark ≡ Mark.Reaped) ⊎ ((point.mark ≡ Mark.Pinned) × (point.note ≡ pass.note)) → point.mark ≡ Mark.Reaped
+    by : (point : Point) → Contains d.points point → (point.event ≡ Event.Reaped) ⊎ ((point.event ≡ Event.Pinned) × (point.note ≡ pass.note)) → point.event ≡ Event.Reaped
     by point has (inl e) = e
     by point has (inr h) =
-        let marked : (answer : Reply) × IsMarked point.mark point.note.kind answer = marked_of d.max [] d.points (lengths_of d) point sound.history has in
-        let at_mark : IsMarked Mark.Pinned point.note.kind marked.0 = subst (λ m. IsMarked m point.note.kind marked.0) h.0 marked.1 in
-        absurd (not_pinned pass.note.kind marked.0 writes (subst (λ (n : Note). IsMarked Mark.Pinned n.kind marked.0) h.1 at_mark))
+        let marked : (answer : Reply) × FitsEvent point.event point.note.kind answer = marked_of d.max [] d.points (lengths_of d) point sound.history has in
+        let at_mark : FitsEvent Event.Pinned point.note.kind marked.0 = subst (λ m. FitsEvent m point.note.kind marked.0) h.0 marked.1 in
+        absurd (not_pinned pass.note.kind marked.0 writes (subst (λ (n : Note). FitsEvent Event.Pinned n.kind marked.0) h.1 at_mark))
 
 -- ---- an actor's pass, by its note
 pub record HasPass (who : Actor) (note : Note) (d : Directory) : Type 0 where
@@ -141,7 +143,7 @@ module _ (g : Shape) (tries : ℕ) (job : Job) (target : HasTarget g job) (who :
         record {
           no_pass = no_pass none;
           numbers =
-              all_by (λ (point : Point). IsTrue (same_actor point.actor who) → (point.number ≤ number) × (point.number ≡ number → point.mark ≡ Mark.Reaped)) d.points
+              all_by (λ (point : Point). IsTrue (same_actor point.actor who) → (point.number ≤ number) × (point.number ≡ number → point.event ≡ Event.Reaped)) d.points
               (λ point has same. (All-contains (NotLater who number) d.points point ready.numbers has same, All-contains (OnlyReaped who number) d.points point (ready.reaps looks) has same));
         }
 
@@ -160,7 +162,7 @@ module _ (g : Shape) (tries : ℕ) (job : Job) (target : HasTarget g job) (who :
     is_rebuilding has rebuilds = record { is_pass = has.found; kind = subst (λ (n : Note). n.kind ≡ Kind.Rebuild) (sym has.noted) (rebuild_kind job.note.kind rebuilds) }
 
     -- all that was drawn is prepared
-    is_prepared : (has : HasPass who job.note d) (placed : List (List ℕ)) → act ≡ Act.AtDirectory (DirectoryStep.Commit placed) → Commits told act → All (λ row. length row ≡ chunk_count g) placed
+    is_prepared : (has : HasPass who job.note d) (placed : List (List Placement)) → act ≡ Act.AtDirectory (DirectoryStep.Commit placed) → Commits told act → All (IsRow g) placed
         → IsPrepared d has.pass placed
     is_prepared has placed e facts whole =
         let drawn : (has.pass.drawn ≡ facts.drawn) × (length facts.drawn ≡ drawn_count g job.note) = (pass_ready has).all_drawn facts.drawn facts.versions in
@@ -169,7 +171,7 @@ module _ (g : Shape) (tries : ℕ) (job : Job) (target : HasTarget g job) (who :
         record {
           drawn = sizes ∙ drawn.1 ∙ sym (touches has.pass has.noted);
           rows = rows ∙ sym sizes;
-          whole = subst (λ (s : Shape). All (λ row. length row ≡ chunk_count s) placed) (sym shape) whole;
+          whole = subst (λ (s : Shape). All (IsRow s) placed) (sym shape) whole;
         }
 
     -- the step that the call makes next may be made

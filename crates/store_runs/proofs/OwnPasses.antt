@@ -4,12 +4,13 @@ use Rattle.std.proofs.lemmas.Bool.{cond_both, cond-true, cond-false}
 use Rattle.std.proofs.lemmas.List.Elements.{All-push}
 use Rattle.std.specs.List.{list_all, range_with_len}
 use Rattle.std.proofs.lemmas.List.FromFn.{length-range_with_len}
+use Rattle.store_map.specs.declared.placement.Placement.{Placement}
 use Rattle.store_map.specs.declared.actor.Actor.{Actor}
 use Rattle.store_map.specs.declared.reply.Reply.{Reply}
 use Rattle.store_core.specs.Told.{Told}
 use Rattle.store_core.specs.Note.{Note, Kind, refusal}
 use Rattle.store_core.specs.Act.{DirectoryStep, takes_memory}
-use Rattle.store_core.specs.Directory.{Object, Pass, Mark, Point, Directory}
+use Rattle.store_core.specs.Directory.{Object, Pass, Event, Point, Directory}
 use Rattle.store_core.specs.Lookups.{same_actor, find_object, pass_of, last_change, first_garbage, is_current}
 use Rattle.store_core.specs.Look.{begin_pass, seen_at}
 use Rattle.store_core.specs.Looks.{accept, look_by, look_repair_by}
@@ -231,7 +232,7 @@ module _ (who : Actor) (number : ℕ) (self : same_actor who who ≡ true) (note
   repaired_steps server epoch pass e = record { own = closed_mine pass (pass_is who d pass e); others = closed_others pass (pass_is who d pass e); points = refl }
 
   -- a commit
-  commit_steps : (placed : List (List ℕ)) → StepsOn (commit placed)
+  commit_steps : (placed : List (List Placement)) → StepsOn (commit placed)
   unfolding StepsOn
   commit_steps placed pass e =
       cond_both {A = Directory × Told} (is_overtaken pass.note.kind pass.base (last_change pass.note.name d.points))
@@ -278,7 +279,7 @@ step_moves short who number note step d self mine of_this = unless_short_steps s
 -- ---- a reap and the sweeper's steps
 -- the point of a reaped pass
 abbrev pub reap_of : Pass → Point
-reap_of pass = record { actor = pass.actor; number = pass.number; note = pass.note; mark = Mark.Reaped }
+reap_of pass = record { actor = pass.actor; number = pass.number; note = pass.note; event = Event.Reaped }
 
 -- each pass keeps its number and what it drew; the only new point is a pass's reap
 pub record PassesStand (before after : Directory) : Type 1 where

@@ -114,10 +114,10 @@ group_passes script tried who_of works callings d kept i =
 
 -- in a run passes are of calls in work
 pub passes_are_of_calls : PassesAreOfCalls
-passes_are_of_calls script marks geometry valid tokens =
+passes_are_of_calls script shortages geometry valid tokens =
     let can : CanRun script = can_run script geometry valid in
-    let state : State script marks can (run_tokens script tokens (start script marks can)) = run_state script marks can tokens (start script marks can) (first_kept script can) in
-    let core : Core = run_core script marks tokens in
+    let state : State script shortages can (run_tokens script tokens (start script shortages can)) = run_state script shortages can tokens (start script shortages can) (first_kept script can) in
+    let core : Core = run_core script shortages tokens in
     record {
       clients = group_passes script can.tried actor.Client (client_work script) core.clients core.directory state.keeps.clients;
       repairers = group_passes script can.tried actor.Repairer (repairer_work script) core.repairers core.directory state.keeps.repairers;

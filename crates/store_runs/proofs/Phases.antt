@@ -1,13 +1,17 @@
 -- Where a call stands, by its next act, and where each answer brings it.
-use Rattle.std.proofs.Common.{◌≡◌, ℕ, Bool, true, false, ◌&&◌, ◌||◌, nat_eq, nat_le, List, [], ◌∷◌, ◌++◌, IsTrue, refl, sym, subst}
+use Rattle.std.proofs.Common.{◌≡◌, ℕ, Bool, true, false, ◌&&◌, ◌||◌, nat_eq, nat_le, List, [], ◌∷◌, ◌++◌, IsTrue, refl, sym, subst, ◌+◌, ◌/◌, nat_lt, cond}
 use mathlib.Core.Bool.{beq}
-use Rattle.clay_grid.specs.Shape.{Shape, chunk_count}
-use Rattle.store_core.specs.Lists.{places_of, in_rows}
+use Rattle.std.proofs.lemmas.Bool.{cond_both}
+use Rattle.std.specs.List.{range_with_len}
+use Rattle.store_core.specs.Placements.{skipped_from, skipped_count}
+use Rattle.store_map.specs.declared.placement.Placement.{Placement}
+use Rattle.clay_grid.specs.Shape.{Shape, chunk_count, stripe_length}
+use Rattle.store_core.specs.Lists.{places_of}
 use Rattle.store_core.specs.Told.{Told}
 use Rattle.store_core.specs.Note.{Note, Kind}
 use Rattle.store_core.specs.Act.{Act, DirectoryStep, ServerStep, Outcome}
 use Rattle.store_core.specs.GatheringParts.{ending}
-use Rattle.store_core.specs.Put.{settling, committed, committing, preparing, drawing, next_put}
+use Rattle.store_core.specs.Put.{settling, committed, committing, preparing, preparing_all, drawing, next_put}
 use Rattle.store_core.specs.Read.{next_single}
 
 -- before the look's answer, before the draw, up to the commit, a rebuild after its gathering, before the end of the pass, after the commit, over; no call makes a strange act
@@ -109,7 +113,7 @@ DirectoryFits kind step answer = ⊥
 
 -- the answers of a step at a server
 abbrev pub ServerFits : ServerStep → Told → Type 0
-ServerFits (ServerStep.Prepare version) (Told.Placed epoch) = Unit {0}
+ServerFits (ServerStep.Prepare version) (Told.Prepared last) = Unit {0}
 ServerFits (ServerStep.Settle version) Told.Settled = Unit {0}
 ServerFits (ServerStep.Has version) Told.Here = Unit {0}
 ServerFits (ServerStep.Has version) (Told.Missing epoch) = Unit {0}
@@ -117,6 +121,7 @@ ServerFits (ServerStep.Fetch version layers) (Told.Given count) = Unit {0}
 ServerFits (ServerStep.Fetch version layers) (Told.Missing epoch) = Unit {0}
 ServerFits (ServerStep.Install version) (Told.Placed epoch) = Unit {0}
 ServerFits (ServerStep.Install version) Told.AlreadyThere = Unit {0}
+ServerFits (ServerStep.Install version) (Told.Away downs) = Unit {0}
 ServerFits step answer = ⊥
 
 -- want of memory may be told at any act
@@ -168,39 +173,69 @@ module _ (kind : Kind) where
   committed_moves g versions (_ ∷ told) answer h = finished kind answer Outcome.NoMemory Outcome.NoMemory h
 
   -- at the commit
-  committing_moves : (placed : List (List ℕ)) (told : List Told) (answer : Told) → Moves kind answer (committing placed told) (committing placed (told ++ answer ∷ []))
+  committing_moves : (placed : List (List Placement)) (told : List Told) (answer : Told) → Moves kind answer (committing placed told) (committing placed (told ++ answer ∷ []))
   committing_moves placed [] (Told.Reaped point) h = refl
   committing_moves placed [] Told.Short h = refl
   committing_moves placed [] answer h = absurd h
   committing_moves placed (Told.Reaped point ∷ told) answer h = finished kind answer (Outcome.Reaped point) (Outcome.Reaped point) h
   committing_moves placed (_ ∷ told) answer h = ending_moves Outcome.NoMemory told answer h
 
-  -- while chunks are prepared
-  preparing_moves : (g : Shape) (versions : List ℕ) (places : List (ℕ × ℕ)) (epochs : List ℕ) (told : List Told) (answer : Told)
-      → Moves kind answer (preparing g versions places epochs told) (preparing g versions places epochs (told ++ answer ∷ []))
-  preparing_moves g versions [] epochs told answer h = committing_moves (in_rows (chunk_count g) versions epochs) told answer h
-  preparing_moves g versions (place ∷ []) epochs [] (Told.Placed epoch) h = refl
-  preparing_moves g versions (place ∷ next ∷ places) epochs [] (Told.Placed epoch) h = refl
-  preparing_moves g versions (place ∷ places) epochs [] Told.Short h = refl
-  preparing_moves g versions (place ∷ places) epochs [] answer h = absurd h
-  preparing_moves g versions (place ∷ places) epochs (Told.Placed epoch ∷ told) answer h = preparing_moves g versions places (epochs ++ epoch ∷ []) told answer h
-  preparing_moves g versions (place ∷ places) epochs (_ ∷ told) answer h = ending_moves Outcome.NoMemory told answer h
+  -- the next prepare, or what follows the last one
+  preparing_opens : (g : Shape) (stripe version : ℕ) (next : List Placement → List Told → Act) → ((row : List Placement) → phase_of (next row []) ≡ Phase.Drawn)
+      → (servers : List ℕ) (row : List Placement) → phase_of (preparing g stripe version next servers row []) ≡ Phase.Drawn
+  preparing_opens g stripe version next opens [] row = opens row
+  preparing_opens g stripe version next opens (server ∷ servers) row = refl
+
+  unless_moves : (b : Bool) (outcome : Outcome) (told : List Told) (answer : Told) (now later : Act) → Moves kind answer now later
+      → Moves kind answer (cond b (ending outcome told) now) (cond b (ending outcome (told ++ answer ∷ [])) later)
+  unless_moves true outcome told answer now later on h = ending_moves outcome told answer h
+  unless_moves false outcome told answer now later on h = on h
+
+  -- while chunks of one version are prepared
+  preparing_moves : (g : Shape) (stripe version : ℕ) (next : List Placement → List Told → Act) → ((row : List Placement) → phase_of (next row []) ≡ Phase.Drawn)
+      → ((row : List Placement) (told : List Told) (answer : Told) → Moves kind answer (next row told) (next row (told ++ answer ∷ [])))
+      → (servers : List ℕ) (row : List Placement) (told : List Told) (answer : Told)
+      → Moves kind answer (preparing g stripe version next servers row told) (preparing g stripe version next servers row (told ++ answer ∷ []))
+  preparing_moves g stripe version next opens on [] row told answer h = on row told answer h
+  preparing_moves g stripe version next opens on (server ∷ servers) row [] (Told.Prepared last) h =
+      let now : List Placement = row ++ last ∷ [] in
+      cond_both {A = Act} (nat_lt g.parity_count (skipped_count now)) (ending (Outcome.Unavailable stripe (skipped_from 0 now)) []) (preparing g stripe version next servers now [])
+      (λ act. IsTrue (moves (Told.Prepared last) Phase.Drawn (phase_of act))) (λ _. refl)
+      (λ _. subst (λ p. IsTrue (moves (Told.Prepared last) Phase.Drawn p)) (sym (preparing_opens g stripe version next opens servers now)) refl)
+  preparing_moves g stripe version next opens on (server ∷ servers) row [] Told.Short h = refl
+  preparing_moves g stripe version next opens on (server ∷ servers) row [] answer h = absurd h
+  preparing_moves g stripe version next opens on (server ∷ servers) row (Told.Prepared last ∷ told) answer h =
+      let now : List Placement = row ++ last ∷ [] in
+      unless_moves (nat_lt g.parity_count (skipped_count now)) (Outcome.Unavailable stripe (skipped_from 0 now)) told answer
+      (preparing g stripe version next servers now told) (preparing g stripe version next servers now (told ++ answer ∷ []))
+      (preparing_moves g stripe version next opens on servers now told answer) h
+  preparing_moves g stripe version next opens on (server ∷ servers) row (_ ∷ told) answer h = ending_moves Outcome.NoMemory told answer h
 
   -- a draw is followed by a prepare or the commit
-  preparing_opens : (g : Shape) (versions : List ℕ) (places : List (ℕ × ℕ)) → phase_of (preparing g versions places [] []) ≡ Phase.Drawn
-  preparing_opens g versions [] = refl
-  preparing_opens g versions (place ∷ places) = refl
+  preparing_all_opens : (g : Shape) (stripe : ℕ) (versions : List ℕ) (placed : List (List Placement)) → phase_of (preparing_all g stripe versions placed []) ≡ Phase.Drawn
+  preparing_all_opens g stripe [] placed = refl
+  preparing_all_opens g stripe (version ∷ versions) placed =
+      preparing_opens g stripe version (λ row. preparing_all g (stripe + 1) versions (placed ++ row ∷ [])) (λ row. preparing_all_opens g (stripe + 1) versions (placed ++ row ∷ []))
+      (range_with_len 0 (chunk_count g)) []
+
+  -- while those of all versions are
+  preparing_all_moves : (g : Shape) (stripe : ℕ) (versions : List ℕ) (placed : List (List Placement)) (told : List Told) (answer : Told)
+      → Moves kind answer (preparing_all g stripe versions placed told) (preparing_all g stripe versions placed (told ++ answer ∷ []))
+  preparing_all_moves g stripe [] placed told answer h = committing_moves placed told answer h
+  preparing_all_moves g stripe (version ∷ versions) placed told answer h =
+      preparing_moves g stripe version (λ row. preparing_all g (stripe + 1) versions (placed ++ row ∷ [])) (λ row. preparing_all_opens g (stripe + 1) versions (placed ++ row ∷ []))
+      (λ row. preparing_all_moves g (stripe + 1) versions (placed ++ row ∷ [])) (range_with_len 0 (chunk_count g)) [] told answer h
 
   -- from the draw on
-  pub drawing_moves : (g : Shape) (told : List Told) (answer : Told) → Moves kind answer (drawing g told) (drawing g (told ++ answer ∷ []))
-  drawing_moves g [] (Told.Versions versions) h =
-      subst (λ p. IsTrue (moves (Told.Versions versions) Phase.Drawing p)) (sym (preparing_opens g versions (places_of (chunk_count g) versions))) refl
-  drawing_moves g [] (Told.Reaped point) h = refl
-  drawing_moves g [] Told.Short h = refl
-  drawing_moves g [] answer h = absurd h
-  drawing_moves g (Told.Versions versions ∷ told) answer h = preparing_moves g versions (places_of (chunk_count g) versions) [] told answer h
-  drawing_moves g (Told.Reaped point ∷ told) answer h = finished kind answer (Outcome.Reaped point) (Outcome.Reaped point) h
-  drawing_moves g (_ ∷ told) answer h = ending_moves Outcome.NoMemory told answer h
+  pub drawing_moves : (g : Shape) (note : Note) (told : List Told) (answer : Told) → Moves kind answer (drawing g note told) (drawing g note (told ++ answer ∷ []))
+  drawing_moves g note [] (Told.Versions versions) h =
+      subst (λ p. IsTrue (moves (Told.Versions versions) Phase.Drawing p)) (sym (preparing_all_opens g (note.offset / stripe_length g) versions [])) refl
+  drawing_moves g note [] (Told.Reaped point) h = refl
+  drawing_moves g note [] Told.Short h = refl
+  drawing_moves g note [] answer h = absurd h
+  drawing_moves g note (Told.Versions versions ∷ told) answer h = preparing_all_moves g (note.offset / stripe_length g) versions [] told answer h
+  drawing_moves g note (Told.Reaped point ∷ told) answer h = finished kind answer (Outcome.Reaped point) (Outcome.Reaped point) h
+  drawing_moves g note (_ ∷ told) answer h = ending_moves Outcome.NoMemory told answer h
 
 -- ---- a put, a stat and a delete
 pub put_moves : (g : Shape) (note : Note) (told : List Told) (answer : Told) → Moves Kind.Put answer (next_put g note told) (next_put g note (told ++ answer ∷ []))
@@ -209,7 +244,7 @@ put_moves g note [] (Told.Ready base length_now stripes) h = refl
 put_moves g note [] Told.Short h = refl
 put_moves g note [] answer h = absurd h
 put_moves g note (Told.Answer point reply ∷ told) answer h = finished Kind.Put answer (Outcome.Answered point reply) (Outcome.Answered point reply) h
-put_moves g note (Told.Ready base length_now stripes ∷ told) answer h = drawing_moves Kind.Put g told answer h
+put_moves g note (Told.Ready base length_now stripes ∷ told) answer h = drawing_moves Kind.Put g note told answer h
 put_moves g note (Told.Versions versions ∷ told) answer h = committed_moves Kind.Put g versions told answer h
 put_moves g note (_ ∷ told) answer h = finished Kind.Put answer Outcome.NoMemory Outcome.NoMemory h
 

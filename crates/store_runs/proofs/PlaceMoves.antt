@@ -34,7 +34,7 @@ record TellsLittle (note : Note) (before : Option Note) (answer : Told) : Type 0
   versions : length (new_versions answer) ≡ 0
 
 tells_little : (note : Note) (before : Option Note) (step : ServerStep) (answer : Told) → ServerAnswers step answer → TellsLittle note before answer
-tells_little note before (ServerStep.Prepare version) (Told.Placed epoch) h = record { own = refl; versions = refl }
+tells_little note before (ServerStep.Prepare version) (Told.Prepared last) h = record { own = refl; versions = refl }
 tells_little note before (ServerStep.Prepare version) Told.Short h = record { own = refl; versions = refl }
 tells_little note before (ServerStep.Prepare version) answer h = absurd h
 tells_little note before (ServerStep.Settle version) Told.Settled h = record { own = refl; versions = refl }
@@ -48,6 +48,7 @@ tells_little note before (ServerStep.Fetch version layers) Told.Short h = record
 tells_little note before (ServerStep.Fetch version layers) answer h = absurd h
 tells_little note before (ServerStep.Install version) (Told.Placed epoch) h = record { own = refl; versions = refl }
 tells_little note before (ServerStep.Install version) Told.AlreadyThere h = record { own = refl; versions = refl }
+tells_little note before (ServerStep.Install version) (Told.Away downs) h = record { own = refl; versions = refl }
 tells_little note before (ServerStep.Install version) Told.Short h = record { own = refl; versions = refl }
 tells_little note before (ServerStep.Install version) answer h = absurd h
 tells_little note before step answer h = absurd h

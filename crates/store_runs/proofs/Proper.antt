@@ -1,15 +1,17 @@
 -- A call makes only steps of its own: looks at its note, steps on its pass, and steps at servers that there are.
-use Rattle.std.proofs.Common.{◌≡◌, ℕ, zero, suc, ◌+◌, ◌<◌, ◌≤◌, nat_lt, List, [], ◌∷◌, ◌++◌, length, map, IsTrue, refl, sym, subst, arith, length-append}
+use Rattle.std.proofs.Common.{◌≡◌, ℕ, zero, suc, ◌+◌, ◌<◌, ◌≤◌, nat_lt, List, [], ◌∷◌, ◌++◌, length, map, IsTrue, refl, sym, subst, arith, length-append, ◌/◌}
 use Rattle.std.proofs.lemmas.Bool.{cond_both, ltb-true}
 use Rattle.std.specs.List.{range_with_len}
-use Rattle.clay_grid.specs.Shape.{Shape, chunk_count}
-use Rattle.store_core.specs.Lists.{places_of, in_rows}
+use Rattle.store_core.specs.Placements.{skipped_from, skipped_count}
+use Rattle.store_map.specs.declared.placement.Placement.{Placement}
+use Rattle.clay_grid.specs.Shape.{Shape, chunk_count, stripe_length}
+use Rattle.store_core.specs.Lists.{places_of}
 use Rattle.store_core.specs.Told.{Told, Seen}
-use Rattle.store_core.specs.Note.{Kind}
+use Rattle.store_core.specs.Note.{Kind, Note}
 use Rattle.store_core.specs.Act.{Act, DirectoryStep, ServerStep, Outcome}
 use Rattle.store_core.specs.Gathering.{Gathering, Part}
 use Rattle.store_core.specs.GatheringParts.{ending, act_of, gathering, gather_part, gather_chunk}
-use Rattle.store_core.specs.Put.{settling, committed, committing, preparing, drawing, next_put}
+use Rattle.store_core.specs.Put.{settling, committed, committing, preparing, preparing_all, drawing, next_put}
 use Rattle.store_core.specs.Read.{parts_of, next_read, next_single}
 use Rattle.store_core.specs.Write.{old_parts, trying}
 use Rattle.store_core.specs.Rebuild.{placing, installing, confirming, rebuilding, next_rebuild}
@@ -83,22 +85,34 @@ module _ (g : Shape) (job : Job) (room : Type 0) where
   committed_proper versions (Told.Done point ∷ told) = settling_proper point (places_of (chunk_count g) versions) told (places_below (chunk_count g) versions)
   committed_proper versions (_ ∷ told) = tt
 
-  committing_proper : (placed : List (List ℕ)) (told : List Told) → IsProper g job room (committing placed told)
+  committing_proper : (placed : List (List Placement)) (told : List Told) → IsProper g job room (committing placed told)
   committing_proper placed [] = tt
   committing_proper placed (Told.Reaped point ∷ told) = tt
   committing_proper placed (_ ∷ told) = ending_proper Outcome.NoMemory told
 
-  preparing_proper : (versions : List ℕ) (places : List (ℕ × ℕ)) (epochs : List ℕ) (told : List Told) → PlacesBelow (chunk_count g) places → IsProper g job room (preparing g versions places epochs told)
-  preparing_proper versions [] epochs told h = committing_proper (in_rows (chunk_count g) versions epochs) told
-  preparing_proper versions (place ∷ places) epochs [] h = (h.0, refl)
-  preparing_proper versions (place ∷ places) epochs (Told.Placed epoch ∷ told) h = preparing_proper versions places (epochs ++ epoch ∷ []) told h.1
-  preparing_proper versions (place ∷ places) epochs (_ ∷ told) h = ending_proper Outcome.NoMemory told
+  preparing_proper : (stripe version : ℕ) (next : List Placement → List Told → Act) → ((row : List Placement) (told : List Told) → IsProper g job room (next row told))
+      → (servers : List ℕ) (row : List Placement) (told : List Told) → PlacesBelow (chunk_count g) (map (λ server. (server, version)) servers)
+      → IsProper g job room (preparing g stripe version next servers row told)
+  preparing_proper stripe version next after [] row told h = after row told
+  preparing_proper stripe version next after (server ∷ servers) row [] h = (h.0, refl)
+  preparing_proper stripe version next after (server ∷ servers) row (Told.Prepared last ∷ told) h =
+      let now : List Placement = row ++ last ∷ [] in
+      let outcome : Outcome = Outcome.Unavailable stripe (skipped_from 0 now) in
+      cond_both {A = Act} (nat_lt g.parity_count (skipped_count now)) (ending outcome told) (preparing g stripe version next servers now told) (IsProper g job room)
+      (λ _. ending_proper outcome told) (λ _. preparing_proper stripe version next after servers now told h.1)
+  preparing_proper stripe version next after (server ∷ servers) row (_ ∷ told) h = ending_proper Outcome.NoMemory told
 
-  drawing_proper : IsWriting job.note.kind → (told : List Told) → IsProper g job room (drawing g told)
-  drawing_proper writes [] = writes
-  drawing_proper writes (Told.Versions versions ∷ told) = preparing_proper versions (places_of (chunk_count g) versions) [] told (places_below (chunk_count g) versions)
-  drawing_proper writes (Told.Reaped point ∷ told) = tt
-  drawing_proper writes (_ ∷ told) = ending_proper Outcome.NoMemory told
+  preparing_all_proper : (stripe : ℕ) (versions : List ℕ) (placed : List (List Placement)) (told : List Told) → IsProper g job room (preparing_all g stripe versions placed told)
+  preparing_all_proper stripe [] placed told = committing_proper placed told
+  preparing_all_proper stripe (version ∷ versions) placed told =
+      preparing_proper stripe version (λ row. preparing_all g (stripe + 1) versions (placed ++ row ∷ [])) (λ row. preparing_all_proper (stripe + 1) versions (placed ++ row ∷ []))
+      (range_with_len 0 (chunk_count g)) [] told (row_below (chunk_count g) version 0 (chunk_count g) (omega arith))
+
+  drawing_proper : IsWriting job.note.kind → (note : Note) (told : List Told) → IsProper g job room (drawing g note told)
+  drawing_proper writes note [] = writes
+  drawing_proper writes note (Told.Versions versions ∷ told) = preparing_all_proper (note.offset / stripe_length g) versions [] told
+  drawing_proper writes note (Told.Reaped point ∷ told) = tt
+  drawing_proper writes note (_ ∷ told) = ending_proper Outcome.NoMemory told
 
   -- ---- gatherings
   result_proper : (stripe : ℕ) (next : List Told → Act) → ((told : List Told) → IsProper g job room (next told)) → (result : Gathering) → AsksWell (chunk_count g) result
@@ -107,7 +121,8 @@ module _ (g : Shape) (job : Job) (room : Type 0) where
   result_proper stripe next after (Gathering.HasBytes told) well = after told
   result_proper stripe next after (Gathering.TooMany missing told) well = ending_proper (Outcome.Unavailable stripe missing) told
   result_proper stripe next after (Gathering.AtTarget told) well = ending_proper Outcome.Here told
-  result_proper stripe next after (Gathering.NoRoom told) well = ending_proper Outcome.NoMemory told
+  result_proper stripe next after (Gathering.TargetAway downs told) well = ending_proper (Outcome.Away downs) told
+  result_proper stripe next after (Gathering.Short told) well = ending_proper Outcome.NoMemory told
 
   -- a gathering asks servers that there are, and then does what follows it
   gathering_proper : (next : List Told → Act) → ((told : List Told) → IsProper g job room (next told)) → (parts : List Part) (told : List Told) → IsProper g job room (gathering g parts next told)
@@ -129,6 +144,7 @@ module _ (g : Shape) (job : Job) (room : Type 0) where
     installing_proper [] = (below, refl)
     installing_proper (Told.Placed epoch ∷ told) = placing_proper target epoch told
     installing_proper (Told.AlreadyThere ∷ told) = ending_proper Outcome.Here told
+    installing_proper (Told.Away downs ∷ told) = ending_proper (Outcome.Away downs) told
     installing_proper (_ ∷ told) = ending_proper Outcome.NoMemory told
 
     confirming_proper : (told : List Told) → IsProper g job room (confirming seen target told)
@@ -156,7 +172,7 @@ module _ (g : Shape) (job : Job) (room : Type 0) where
   put_proper : IsWriting job.note.kind → (told : List Told) → (told ≡ [] → room) → IsProper g job room (next_put g job.note told)
   put_proper writes [] looks = (refl, looks refl)
   put_proper writes (Told.Answer point reply ∷ told) looks = tt
-  put_proper writes (Told.Ready base length_now stripes ∷ told) looks = drawing_proper writes told
+  put_proper writes (Told.Ready base length_now stripes ∷ told) looks = drawing_proper writes job.note told
   put_proper writes (Told.Versions versions ∷ told) looks = committed_proper versions told
   put_proper writes (_ ∷ told) looks = tt
 
@@ -182,7 +198,7 @@ module _ (g : Shape) (job : Job) (room : Type 0) where
       trying_proper writes tries (pairs ++ (base, newer) ∷ []) told (λ h. looks (omega (arith, h, length-append pairs ((base, newer) ∷ []))))
   trying_proper writes tries pairs (Told.Answer point reply ∷ told) looks = tt
   trying_proper writes tries pairs (Told.Ready base length_now stripes ∷ told) looks =
-      gathering_proper (drawing g) (drawing_proper writes) (old_parts g length_now stripes) told
+      gathering_proper (drawing g job.note) (drawing_proper writes job.note) (old_parts g length_now stripes) told
   trying_proper writes tries pairs (Told.Versions versions ∷ told) looks = committed_proper versions told
   trying_proper writes tries pairs (_ ∷ told) looks = tt
 

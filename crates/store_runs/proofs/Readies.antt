@@ -6,7 +6,7 @@ use Rattle.clay_grid.specs.Shape.{Shape}
 use Rattle.store_map.specs.declared.actor.Actor.{Actor}
 use Rattle.store_core.specs.Told.{Told}
 use Rattle.store_core.specs.Note.{Note}
-use Rattle.store_core.specs.Directory.{Pass, Mark, Point, Directory}
+use Rattle.store_core.specs.Directory.{Pass, Event, Point, Directory}
 use Rattle.store_core.specs.Lookups.{same_actor, pass_of}
 use Rattle.store_core.specs.Look.{stripes_between}
 use Rattle.store_core.specs.PassSteps.{touched}
@@ -25,7 +25,7 @@ NotLater who number point = IsTrue (same_actor point.actor who) → point.number
 
 -- and if it is of this one it is a reap
 abbrev pub OnlyReaped : Actor → ℕ → Point → Type 0
-OnlyReaped who number point = IsTrue (same_actor point.actor who) → point.number ≡ number → point.mark ≡ Mark.Reaped
+OnlyReaped who number point = IsTrue (same_actor point.actor who) → point.number ≡ number → point.event ≡ Event.Reaped
 
 -- a pass of this call, which has drawn nothing before its draw, and then what it was told
 pub record PassReady (most number rank : ℕ) (versions : List Told) (pass_number : ℕ) (pass_drawn : List ℕ) : Type 0 where

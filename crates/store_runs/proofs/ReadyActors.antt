@@ -1,5 +1,5 @@
 -- The actors of one kind: each is ready for its next step after a step of one of them, and the directory is sound.
-use Rattle.std.proofs.Common.{◌≡◌, ℕ, suc, ◌+◌, ◌<◌, Bool, true, false, List, [], ◌∷◌, length, drop, Option, None, Some, is_some, IsTrue, refl, sym, ap, subst, ◌∙◌, inl, inr, ◌⊎◌, length-append}
+use Rattle.std.proofs.Common.{◌≡◌, ℕ, suc, ◌+◌, ◌<◌, Bool, true, false, List, [], ◌∷◌, length, drop, Option, None, Some, IsTrue, refl, sym, ap, subst, ◌∙◌, inl, inr, ◌⊎◌, length-append}
 use Rattle.std.proofs.lemmas.Bool.{and_parts, leb-true, cases_eq}
 use Rattle.std.proofs.lemmas.Option.{same_Some}
 use Rattle.std.specs.List.{slice_get}
@@ -11,12 +11,13 @@ use Rattle.store_map.specs.declared.actor.Actor.{Actor}
 use Rattle.store_core.specs.Lists.{change_at}
 use Rattle.store_core.specs.Told.{Told}
 use Rattle.store_core.specs.Act.{Act}
+use Rattle.store_core.specs.ActPlace.{is_in_pass}
 use Rattle.store_core.specs.CallStep.{job_step, step_if, step_of}
 use Rattle.store_core.specs.Directory.{Directory}
 use Rattle.store_core.specs.Lookups.{same_actor, pass_of}
 use Rattle.store_core.specs.NextAct.{Job, next_act}
 use Rattle.store_core.specs.Sound.{IsSound}
-use Rattle.store_core.specs.Step.{Marks, Places, at_places, told_first, take_from, ended_by, actor_step}
+use Rattle.store_core.specs.Step.{Shortage, Places, at_places, told_first, take_from, ended_by, actor_step}
 use Rattle.store_calls.specs.StepLaws.{HasTarget}
 use Rattle.store_core.specs.Tell.{tell}
 use Rattle.store_core.specs.Work.{Work, Calling, has_step}
@@ -90,35 +91,35 @@ module _ (g : Shape) (most tries : ℕ) (some : 0 < stripe_length g) (who : Acto
     (work : InWork g most tries job who calling places.directory)
     (ready : Ready (drawn_count g job.note) who (length calling.ended) (rank (phase_of (next_act g tries job calling.told))) (versions_told calling.told) places.directory) where
   -- one step of an actor
-  pub actor_sound : (marks : Marks) → ActorSound g tries who jobs places (actor_step g tries marks who job calling places)
-  actor_sound marks = by (next_act g tries job now) refl
+  pub actor_sound : (shortages : Shortage) → ActorSound g tries who jobs places (actor_step g tries shortages who job calling places)
+  actor_sound shortages = by (next_act g tries job now) refl
     where
       has_one : Bool
-      has_one = is_some (pass_of who places.directory)
+      has_one = is_in_pass (next_act g tries job calling.told)
 
       first : List Told
-      first = told_first marks.coding has_one g job calling.told
+      first = told_first shortages.coding has_one g job calling.told
 
       first_is : ToldFirst g most tries job who calling.told first places.directory
-      first_is = first_told g most tries job target who calling.told places.directory work.stands marks.coding has_one refl
+      first_is = first_told g most tries job target who calling.told places.directory work.stands shortages.coding has_one refl
 
       first_ready : Ready (drawn_count g job.note) who (length calling.ended) (rank (phase_of (next_act g tries job first))) (versions_told first) places.directory
-      first_ready = short_ready g tries job target who (length calling.ended) calling.told places.directory marks.coding has_one ready
+      first_ready = short_ready g tries job target who (length calling.ended) calling.told places.directory shortages.coding has_one ready
 
       act : Act
       act = next_act g tries job first
 
       after : Places × Told
-      after = at_places marks.step who (length calling.ended) act places
+      after = at_places shortages.step who (length calling.ended) act places
 
       now : List Told
       now = tell g job first after.1
 
-      brought : Brings g most tries some job target marks.step who self fits (length calling.ended) first places fit first_is.stands sound first_ready
-      brought = brings g most tries some job target marks.step who self fits (length calling.ended) first places fit first_is.stands sound first_ready
+      brought : Brings g most tries some job target shortages.step who self fits (length calling.ended) first places fit first_is.stands sound first_ready
+      brought = brings g most tries some job target shortages.step who self fits (length calling.ended) first places fit first_is.stands sound first_ready
 
       answered : AnswerBrings g most tries job who first now places after.0 after.1
-      answered = answer_brings g most tries some job target marks.step who self (length calling.ended) first places fit (sound_live places.directory sound) first_is.stands
+      answered = answer_brings g most tries some job target shortages.step who self (length calling.ended) first places fit (sound_live places.directory sound) first_is.stands
 
       middle : Calling
       middle = record { ended = calling.ended; told = now; takes = take_from act after.1 calling.takes; steps = calling.steps + 1 }
@@ -200,30 +201,30 @@ module _ (script : Script) (who_of : ℕ → Actor) (works : List Work) where
             stays_ready script.geometry (tries_of script) (who_of j) (drop (length other_calling.ended) other_work.jobs) other_calling places.directory after.0.directory
             (step.others (who_of j) (group.apart i j differ)) (ready j other_work other_calling is_other_work is_old)
 
-    with_job : (marks : Marks) (work : Work) (calling : Calling) → slice_get works i ≡ Some work → slice_get callings i ≡ Some calling
-        → (found : Option Job) → slice_get work.jobs (length calling.ended) ≡ found → SoundStep i callings places (job_step script marks (who_of i) calling places found)
-    with_job marks work calling is_work is_calling None e = tt
-    with_job marks work calling is_work is_calling (Some job) e =
+    with_job : (shortages : Shortage) (work : Work) (calling : Calling) → slice_get works i ≡ Some work → slice_get callings i ≡ Some calling
+        → (found : Option Job) → slice_get work.jobs (length calling.ended) ≡ found → SoundStep i callings places (job_step script shortages (who_of i) calling places found)
+    with_job shortages work calling is_work is_calling None e = tt
+    with_job shortages work calling is_work is_calling (Some job) e =
         let ahead : drop (length calling.ended) work.jobs ≡ job ∷ drop (suc (length calling.ended)) work.jobs = drop_here work.jobs (length calling.ended) job e in
         let in_work : InWork script.geometry (size_of script) (tries_of script) job (who_of i) calling places.directory =
         subst (λ l. CallKept script.geometry (size_of script) (tries_of script) (who_of i) l calling places.directory) ahead (kept i work calling is_work is_calling) in
         let at_job : Ready (drawn_count script.geometry job.note) (who_of i) (length calling.ended) (rank (phase_of (next_act script.geometry (tries_of script) job calling.told))) (versions_told calling.told) places.directory =
         subst (λ l. ActorReady script.geometry (tries_of script) (who_of i) l calling places.directory) ahead (ready i work calling is_work is_calling) in
-        all_sound work calling (actor_step script.geometry (tries_of script) marks (who_of i) job calling places) is_work is_calling
+        all_sound work calling (actor_step script.geometry (tries_of script) shortages (who_of i) job calling places) is_work is_calling
         (actor_sound script.geometry (size_of script) (tries_of script) some (who_of i) (group.self i) work.jobs (drop (suc (length calling.ended)) work.jobs) job
-        (group.targets i work is_work (length calling.ended) job e) (fit_group i work is_work (length calling.ended) job e) calling ahead places fit sound in_work at_job marks)
+        (group.targets i work is_work (length calling.ended) job e) (fit_group i work is_work (length calling.ended) job e) calling ahead places fit sound in_work at_job shortages)
 
-    if_step : (marks : Marks) (work : Work) (calling : Calling) → slice_get works i ≡ Some work → slice_get callings i ≡ Some calling → (b : Bool)
-        → SoundStep i callings places (step_if b script marks (who_of i) work calling places)
-    if_step marks work calling is_work is_calling true = with_job marks work calling is_work is_calling (slice_get work.jobs (length calling.ended)) refl
-    if_step marks work calling is_work is_calling false = tt
+    if_step : (shortages : Shortage) (work : Work) (calling : Calling) → slice_get works i ≡ Some work → slice_get callings i ≡ Some calling → (b : Bool)
+        → SoundStep i callings places (step_if b script shortages (who_of i) work calling places)
+    if_step shortages work calling is_work is_calling true = with_job shortages work calling is_work is_calling (slice_get work.jobs (length calling.ended)) refl
+    if_step shortages work calling is_work is_calling false = tt
 
-    found_step : (marks : Marks) (found : Option Work) (found_calling : Option Calling) → slice_get works i ≡ found → slice_get callings i ≡ found_calling
-        → SoundStep i callings places (step_of script marks (who_of i) found found_calling places)
-    found_step marks None found_calling e k = tt
-    found_step marks (Some work) None e k = tt
-    found_step marks (Some work) (Some calling) e k = if_step marks work calling e k (has_step work calling)
+    found_step : (shortages : Shortage) (found : Option Work) (found_calling : Option Calling) → slice_get works i ≡ found → slice_get callings i ≡ found_calling
+        → SoundStep i callings places (step_of script shortages (who_of i) found found_calling places)
+    found_step shortages None found_calling e k = tt
+    found_step shortages (Some work) None e k = tt
+    found_step shortages (Some work) (Some calling) e k = if_step shortages work calling e k (has_step work calling)
 
     -- a step of actor i keeps the directory sound and all actors ready
-    pub group_sound : (marks : Marks) → SoundStep i callings places (step_of script marks (who_of i) (slice_get works i) (slice_get callings i) places)
-    group_sound marks = found_step marks (slice_get works i) (slice_get callings i) refl refl
+    pub group_sound : (shortages : Shortage) → SoundStep i callings places (step_of script shortages (who_of i) (slice_get works i) (slice_get callings i) places)
+    group_sound shortages = found_step shortages (slice_get works i) (slice_get callings i) refl refl

@@ -55,7 +55,7 @@ begins_looking pins touched act answer h begins = absurd begins
 
 -- a server's answer leaves the directory as it is
 quiet : (who : Actor) (number : ℕ) (d : Directory) (step : ServerStep) (answer : Told) → ServerAnswers step answer → StepMoves who number d d answer
-quiet who number d (ServerStep.Prepare version) (Told.Placed epoch) h = record { own = refl; others = λ other apart. refl; points = refl }
+quiet who number d (ServerStep.Prepare version) (Told.Prepared last) h = record { own = refl; others = λ other apart. refl; points = refl }
 quiet who number d (ServerStep.Prepare version) Told.Short h = record { own = refl; others = λ other apart. refl; points = refl }
 quiet who number d (ServerStep.Prepare version) answer h = absurd h
 quiet who number d (ServerStep.Settle version) Told.Settled h = record { own = refl; others = λ other apart. refl; points = refl }
@@ -69,6 +69,7 @@ quiet who number d (ServerStep.Fetch version layers) Told.Short h = record { own
 quiet who number d (ServerStep.Fetch version layers) answer h = absurd h
 quiet who number d (ServerStep.Install version) (Told.Placed epoch) h = record { own = refl; others = λ other apart. refl; points = refl }
 quiet who number d (ServerStep.Install version) Told.AlreadyThere h = record { own = refl; others = λ other apart. refl; points = refl }
+quiet who number d (ServerStep.Install version) (Told.Away downs) h = record { own = refl; others = λ other apart. refl; points = refl }
 quiet who number d (ServerStep.Install version) Told.Short h = record { own = refl; others = λ other apart. refl; points = refl }
 quiet who number d (ServerStep.Install version) answer h = absurd h
 quiet who number d step answer h = absurd h

@@ -20,7 +20,7 @@ use Rattle.store_core.specs.Step.{Places, at_places, at_server_there}
 use Rattle.store_core.specs.CallStep.{step_of}
 use Rattle.store_core.specs.Sweep.{Sweeper, is_busy, next_sweep, after_sweep}
 use Rattle.store_runs.specs.SweepLaws.{sweep_left}
-use Rattle.store_core.specs.Run.{Run, first_marks, places_in, with_places, after_client, after_repairer, client_step, repairer_step}
+use Rattle.store_core.specs.Run.{Run, first_shortage, places_in, with_places, after_client, after_repairer, client_step, repairer_step}
 use Rattle.store_core.specs.Work.{Calling, client_work, repairer_work}
 use Rattle.store_core.specs.PlaceLaws.{new_versions, KeepsPlaces}
 use Rattle.store_core.proofs.Places.{length-change_at, length-set_standing, directory_keeps_places}
@@ -137,9 +137,9 @@ module _ (script : Script) (can : CanRun script) (run : Run) (keeps : Keeps scri
   -- a client's step
   pub client_progress : Progress script run (client_step script i run) (IsIdle script actor.Client (client_work script) run.core.clients i)
   client_progress =
-      client_done (step_of script (first_marks run.marks) (actor.Client i) (slice_get (client_work script) i) (slice_get run.core.clients i) (places_in run.core))
+      client_done (step_of script (first_shortage run.shortages) (actor.Client i) (slice_get (client_work script) i) (slice_get run.core.clients i) (places_in run.core))
       (group_step script actor.Client (client_work script) can.clients can.some can.tried run.core.clients (places_in run.core) (fit_places script run.core keeps sound)
-      (sound_live run.core.directory sound) keeps.clients i (first_marks run.marks))
+      (sound_live run.core.directory sound) keeps.clients i (first_shortage run.shortages))
 
   repairer_done : (after : Option (Places × Calling)) → GroupStepped script actor.Repairer (repairer_work script) i run.core.repairers (places_in run.core) after
       → Progress script run (after_repairer i run after) (IsIdle script actor.Repairer (repairer_work script) run.core.repairers i)
@@ -176,9 +176,9 @@ module _ (script : Script) (can : CanRun script) (run : Run) (keeps : Keeps scri
   -- a repairer's step
   pub repairer_progress : Progress script run (repairer_step script i run) (IsIdle script actor.Repairer (repairer_work script) run.core.repairers i)
   repairer_progress =
-      repairer_done (step_of script (first_marks run.marks) (actor.Repairer i) (slice_get (repairer_work script) i) (slice_get run.core.repairers i) (places_in run.core))
+      repairer_done (step_of script (first_shortage run.shortages) (actor.Repairer i) (slice_get (repairer_work script) i) (slice_get run.core.repairers i) (places_in run.core))
       (group_step script actor.Repairer (repairer_work script) can.repairers can.some can.tried run.core.repairers (places_in run.core) (fit_places script run.core keeps sound)
-      (sound_live run.core.directory sound) keeps.repairers i (first_marks run.marks))
+      (sound_live run.core.directory sound) keeps.repairers i (first_shortage run.shortages))
 
 -- ---- a step of the sweeper or the operator changes no call
 -- places and a sweeper in place of a core's

@@ -17,7 +17,7 @@ use Rattle.store_core.specs.Conditions.{MayStep}
 use Rattle.store_core.specs.Core.{Core, first_core}
 use Rattle.store_core.specs.Directory.{Directory}
 use Rattle.store_core.specs.NextAct.{Job, job_of, rebuild_job}
-use Rattle.store_core.specs.Run.{Run, first_marks, places_in, after_client, after_repairer, client_step, repairer_step, sweeper_step, operator_step}
+use Rattle.store_core.specs.Run.{Run, first_shortage, places_in, after_client, after_repairer, client_step, repairer_step, sweeper_step, operator_step}
 use Rattle.store_core.specs.Server.{Server}
 use Rattle.store_core.specs.Sound.{IsSound}
 use Rattle.store_core.specs.Step.{Places, at_places, at_server_there}
@@ -106,10 +106,10 @@ module _ (script : Script) (can : CanRun script) (run : Run) (kept : RunKeeps sc
   -- a client's step
   pub client_kept : (i : ℕ) → RunKeeps script (client_step script i run).core
   client_kept i =
-      client_done i (step_of script (first_marks run.marks) (actor.Client i) (slice_get (client_work script) i) (slice_get run.core.clients i) (places_in run.core))
+      client_done i (step_of script (first_shortage run.shortages) (actor.Client i) (slice_get (client_work script) i) (slice_get run.core.clients i) (places_in run.core))
       (progress_keeps script run (client_step script i run) kept.keeps (client_progress script can run kept.keeps kept.sound i))
       (group_sound script actor.Client (client_work script) can.clients (fit_clients script) can.some run.core.clients (places_in run.core) (fit_places script run.core kept.keeps kept.sound)
-      kept.sound kept.keeps.clients kept.clients i (first_marks run.marks))
+      kept.sound kept.keeps.clients kept.clients i (first_shortage run.shortages))
 
   -- a repairer's step, if there is one
   repairer_done : (i : ℕ) (after : Option (Places × Calling)) → Keeps script (after_repairer i run after).core
@@ -126,10 +126,10 @@ module _ (script : Script) (can : CanRun script) (run : Run) (kept : RunKeeps sc
   -- a repairer's step
   pub repairer_kept : (i : ℕ) → RunKeeps script (repairer_step script i run).core
   repairer_kept i =
-      repairer_done i (step_of script (first_marks run.marks) (actor.Repairer i) (slice_get (repairer_work script) i) (slice_get run.core.repairers i) (places_in run.core))
+      repairer_done i (step_of script (first_shortage run.shortages) (actor.Repairer i) (slice_get (repairer_work script) i) (slice_get run.core.repairers i) (places_in run.core))
       (progress_keeps script run (repairer_step script i run) kept.keeps (repairer_progress script can run kept.keeps kept.sound i))
       (group_sound script actor.Repairer (repairer_work script) can.repairers (fit_repairers script) can.some run.core.repairers (places_in run.core) (fit_places script run.core kept.keeps kept.sound)
-      kept.sound kept.keeps.repairers kept.repairers i (first_marks run.marks))
+      kept.sound kept.keeps.repairers kept.repairers i (first_shortage run.shortages))
 
   -- ---- a step of the sweeper or the operator
   -- it keeps the directory sound and leaves each call what it has

@@ -24,7 +24,7 @@ use Rattle.store_core.specs.Bounds.{step_bound, draw_bound, sweep_bound}
 use Rattle.store_calls.specs.CallLeft.{call_left}
 use Rattle.store_core.specs.Core.{Core, first_core}
 use Rattle.store_core.specs.Directory.{Directory}
-use Rattle.store_core.specs.Schedule.{steps_left, draws_left, fuel_of}
+use Rattle.store_core.specs.Fuel.{steps_left, draws_left, fuel_of}
 use Rattle.store_calls.specs.StepLaws.{HasTarget}
 use Rattle.store_core.specs.Sweep.{Sweeper}
 use Rattle.store_runs.specs.SweepLaws.{sweep_left}

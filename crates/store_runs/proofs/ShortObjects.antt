@@ -5,11 +5,11 @@ use Rattle.std.proofs.lemmas.List.Elements.{All-nil, All-cons}
 use Rattle.store_map.specs.declared.reply.Reply.{Reply}
 use Rattle.store_map.specs.declared.reply.Reply.TheVariants as reply
 use Rattle.store_core.specs.Note.{Note, Kind, refusal_of_size, refusal_by, refusal}
-use Rattle.store_core.specs.Directory.{Object, Mark, Point, Directory}
+use Rattle.store_core.specs.Directory.{Object, Event, Point, Directory}
 use Rattle.store_core.specs.Lengths.{Lengths, length_in, put_length, delete_length, lengths_by, found_length, answered_by, apply_length}
-use Rattle.store_core.specs.Replay.{after_mark, Replays}
+use Rattle.store_core.specs.Replay.{after_event, Replays}
 use Rattle.store_core.specs.Sound.{IsSound}
-use Rattle.store_calls.specs.AnswerLaws.{AreShort}
+use Rattle.store_calls.specs.AnswerLaws.{AreWithinMax}
 
 -- no length is above the greatest
 abbrev AllShort : ℕ → Lengths → Type 0
@@ -82,21 +82,21 @@ module _ (most : ℕ) (note : Note) (lengths : Lengths) (short : AllShort most l
   applied_short =
       subst (AllShort most) (sym (same_lengths note lengths (refusal most note (length_in note.name lengths)))) (by_kind note.kind (length_in note.name lengths))
 
-marked_short : (most : ℕ) (mark : Mark) (before after : Lengths) → AllShort most before → AllShort most after → AllShort most (after_mark mark before after)
-marked_short most Mark.Reaped before after h k = h
-marked_short most mark before after h k = k
+marked_short : (most : ℕ) (event : Event) (before after : Lengths) → AllShort most before → AllShort most after → AllShort most (after_event event before after)
+marked_short most Event.Reaped before after h k = h
+marked_short most event before after h k = k
 
 -- so does each history
 replayed_short : (most : ℕ) (lengths : Lengths) (points : List Point) (end : Lengths) → AllShort most lengths → Replays most lengths points end → AllShort most end
 replayed_short most lengths [] end h same = subst (AllShort most) same h
 replayed_short most lengths (point ∷ points) end h replays =
-    replayed_short most (after_mark point.mark lengths (apply_length most point.note lengths).0) points end
-    (marked_short most point.mark lengths (apply_length most point.note lengths).0 h (applied_short most point.note lengths h)) replays.1
+    replayed_short most (after_event point.event lengths (apply_length most point.note lengths).0) points end
+    (marked_short most point.event lengths (apply_length most point.note lengths).0 h (applied_short most point.note lengths h)) replays.1
 
 objects_short : (most : ℕ) (objects : List Object) → AllShort most (map (λ object. (object.name, object.length)) objects) → All (λ object. object.length ≤ most) objects
 objects_short most [] h = All-nil (λ (object : Object). object.length ≤ most)
 objects_short most (object ∷ objects) h = All-cons (λ (object : Object). object.length ≤ most) object objects h.0 (objects_short most objects h.1)
 
 -- a sound directory's objects are short
-pub sound_short : (d : Directory) → IsSound d → AreShort d
+pub sound_short : (d : Directory) → IsSound d → AreWithinMax d
 sound_short d sound = objects_short d.max d.objects (replayed_short d.max [] d.points (map (λ object. (object.name, object.length)) d.objects) tt sound.history)

@@ -33,6 +33,8 @@ some_answer g job room pins touched (Act.AtServer server (ServerStep.Fetch versi
 some_answer g job room pins touched (Act.AtServer server (ServerStep.Install version)) proper going = (Told.Short, tt)
 some_answer g job room pins touched (Act.AtServer server (ServerStep.Discard version)) proper going = let e : false ≡ true = proper.1 in cc
 some_answer g job room pins touched (Act.AtServer server ServerStep.Wipe) proper going = let e : false ≡ true = proper.1 in cc
+some_answer g job room pins touched (Act.AtServer server ServerStep.Down) proper going = let e : false ≡ true = proper.1 in cc
+some_answer g job room pins touched (Act.AtServer server ServerStep.Up) proper going = let e : false ≡ true = proper.1 in cc
 some_answer g job room pins touched (Act.Finish outcome) proper going = absurd going
 
 -- so it has a step left, since that answer leaves fewer

@@ -25,7 +25,8 @@ in_one_kept since later (Gathering.HasBytes rest) told keeps = later rest ∙ sy
 in_one_kept since later (Gathering.Asks server step) told keeps = refl
 in_one_kept since later (Gathering.TooMany missing rest) told keeps = refl
 in_one_kept since later (Gathering.AtTarget rest) told keeps = refl
-in_one_kept since later (Gathering.NoRoom rest) told keeps = refl
+in_one_kept since later (Gathering.TargetAway downs rest) told keeps = refl
+in_one_kept since later (Gathering.Short rest) told keeps = refl
 
 module _ (g : Shape) where
   -- nor have those of several parts

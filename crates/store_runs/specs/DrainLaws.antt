@@ -9,7 +9,7 @@ use Rattle.store_map.specs.declared.actor.Token.TheVariants as token
 use Rattle.store_map.specs.declared.script.Script.{Script}
 use Rattle.store_core.specs.Bounds.{step_bound}
 use Rattle.store_core.specs.Work.{Work, Calling, client_work, repairer_work}
-use Rattle.store_core.specs.Step.{Marks}
+use Rattle.store_core.specs.Step.{Shortage}
 use Rattle.store_core.specs.Schedule.{is_unfinished, run_core}
 
 -- the call that an actor has in work has made fewer steps than its bound; so with the step that ends it, it makes no more than its bound
@@ -25,10 +25,10 @@ pub record KeepBounds (script : Script) (client_calls repairer_calls : List Call
   pub repairers : (i : ℕ) → IfSome (slice_get (repairer_work script) i) (λ work. IfSome (slice_get repairer_calls i) (KeepsBound script work))
 
 -- of a valid script, whatever was wanting of memory
-pub record RunsAreBounded (script : Script) (marks : List Marks) : Type 0 where
-  pub bounds : (tokens : List Token) → KeepBounds script (run_core script marks tokens).clients (run_core script marks tokens).repairers
-  pub drained : (tokens : List Token) → IsFalse (is_unfinished script (run_core script marks (tokens ++ token.Drain ∷ [])))
+pub record RunsAreBounded (script : Script) (shortages : List Shortage) : Type 0 where
+  pub bounds : (tokens : List Token) → KeepBounds script (run_core script shortages tokens).clients (run_core script shortages tokens).repairers
+  pub drained : (tokens : List Token) → IsFalse (is_unfinished script (run_core script shortages (tokens ++ token.Drain ∷ [])))
 
 -- the runs of a valid script are bounded
 abbrev pub DrainsEnd : Type 0
-DrainsEnd = (script : Script) (marks : List Marks) → IsGeometry script.geometry → IsValid script → RunsAreBounded script marks
+DrainsEnd = (script : Script) (shortages : List Shortage) → IsGeometry script.geometry → IsValid script → RunsAreBounded script shortages

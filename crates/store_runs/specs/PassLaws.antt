@@ -15,7 +15,7 @@ use Rattle.store_core.specs.Directory.{Pass, Directory}
 use Rattle.store_core.specs.Lookups.{pass_of}
 use Rattle.store_core.specs.NextAct.{Job, next_act}
 use Rattle.store_core.specs.Schedule.{run_core}
-use Rattle.store_core.specs.Step.{Marks}
+use Rattle.store_core.specs.Step.{Shortage}
 use Rattle.store_core.specs.Work.{Work, Calling, client_work, repairer_work}
 
 -- the pass is of the call that its actor has in work, and the call has made a step; so a call that has ended, or that has not begun, has none
@@ -42,5 +42,5 @@ pub record KeepPasses (script : Script) (core : Core) : Type 0 where
 -- so in every run of a valid script, whatever was wanting of memory
 abbrev pub PassesAreOfCalls : Type 0
 PassesAreOfCalls =
-    (script : Script) (marks : List Marks) → IsGeometry script.geometry → IsValid script →
-    (tokens : List Token) → KeepPasses script (run_core script marks tokens)
+    (script : Script) (shortages : List Shortage) → IsGeometry script.geometry → IsValid script →
+    (tokens : List Token) → KeepPasses script (run_core script shortages tokens)

@@ -5,6 +5,15 @@ ghost use Rattle.store_runs.specs.SweepLaws.{SweepsInOrder};
 ghost use Rattle.store_runs.specs.DrainLaws.{DrainsEnd};
 ghost use Rattle.store_runs.specs.RunLaws.{RunsStaySound};
 ghost use Rattle.store_runs.specs.PassLaws.{PassesAreOfCalls};
+ghost use Rattle.std.specs.Prelude.{List};
+ghost use Rattle.store_map.specs.declared.actor.Token.{Token};
+ghost use Rattle.store_map.specs.declared.script.Script.{Script};
+ghost use Rattle.store_core.specs.Core.{Core};
+ghost use Rattle.store_core.specs.Step.{Shortage};
+ghost use Rattle.store_runs.specs.FormLaws.{ServersStayInFormOne};
+ghost use Rattle.store_runs.specs.ToldLaws.{CallsAreTold};
+ghost use Rattle.store_runs.specs.RoundLaws.{DrainsGoByRounds};
+ghost use Rattle.store_runs.specs.ShortageLaws.{PartsLeadOn, StepsLead, TokensLead};
 
 /// The sweeper asks the directory for a version, discards it at each server in rising order, and says
 /// that it is swept: two steps more than there are servers.
@@ -27,4 +36,31 @@ pub fn drains_end()
 /// a step, and a step on a pass finds it. So a call that has ended, or has not begun, leaves none.
 pub fn passes_are_of_calls_in_work()
     ensures { PassesAreOfCalls }
+{}
+
+/// In every run of a valid script a drain is a round and then a drain, as long as somebody has a step;
+/// the rounds that it makes are one less after each, and no more than its fuel.
+pub fn drains_go_by_rounds()
+    ensures { DrainsGoByRounds }
+{}
+
+/// A step of an actor, the sweeper or the operator uses up the shortages of its place and no others, and a
+/// part of a run that makes no step uses none; parts lead on one after the other. So a run that learns
+/// its shortages step by step is the run with all of them.
+pub fn shortages_lead_on()
+    ensures parts { PartsLeadOn }
+    ensures steps { (script : Script) (core : Core) (shortages : Shortage) → StepsLead script core shortages }
+    ensures tokens { (script : Script) (tokens : List Token) (before : Core) → TokensLead script tokens before }
+{}
+
+/// The schedule of a valid script of form 1 makes no server away, and in a run of such tokens none is.
+pub fn servers_are_never_away_in_form_one()
+    ensures { ServersStayInFormOne }
+{}
+
+/// In every run of a valid script what a call was told is what it can be told, step by step, and a call
+/// that has ended had its outcome after such answers. So what is said of calls that are told their
+/// answers step by step holds in every run.
+pub fn calls_are_told_step_by_step()
+    ensures { CallsAreTold }
 {}

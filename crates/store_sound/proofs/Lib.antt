@@ -17,3 +17,6 @@ pub mod SoundLook
 pub mod SoundChanged
 pub mod SoundCommit
 pub mod SoundSteps
+pub mod Beside
+pub mod BesideSteps
+pub mod OwnSteps

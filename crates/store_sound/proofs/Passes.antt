@@ -6,6 +6,7 @@ use Rattle.std.specs.List.{list_all, range_with_len}
 use Rattle.store_map.specs.declared.actor.Actor.{Actor}
 use Rattle.store_map.specs.declared.actor.Actor.TheVariants as actor
 use Rattle.store_map.specs.declared.reply.Reply.{Reply}
+use Rattle.store_map.specs.declared.placement.Placement.{Placement}
 use Rattle.store_core.specs.Told.{Told}
 use Rattle.store_core.specs.Note.{Note, Kind, refusal}
 use Rattle.store_core.specs.Act.{DirectoryStep, takes_memory}
@@ -41,6 +42,8 @@ held_after answer note before = before
 pub same_is : (a b : Actor) → same_actor a b ≡ true → a ≡ b
 same_is (actor.Client i) (actor.Client j) e = ap actor.Client (eqb-true i j e)
 same_is (actor.Repairer i) (actor.Repairer j) e = ap actor.Repairer (eqb-true i j e)
+same_is actor.Sweeper actor.Sweeper e = refl
+same_is actor.Operator actor.Operator e = refl
 same_is a b e = absurd (true≢false (sym e))
 
 -- ---- lists of passes
@@ -223,7 +226,7 @@ module _ (who : Actor) (note : Note) (d : Directory) where
   unfolding MovesOn
   repaired_moves server epoch pass mine = closed_pass pass mine _ _ refl refl refl refl
 
-  commit_moves : (placed : List (List ℕ)) → MovesOn (commit placed)
+  commit_moves : (placed : List (List Placement)) → MovesOn (commit placed)
   unfolding MovesOn
   commit_moves placed pass mine =
       cond_both {A = Directory × Told} (is_overtaken pass.note.kind pass.base (last_change pass.note.name d.points))

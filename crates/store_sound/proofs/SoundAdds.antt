@@ -11,7 +11,7 @@ use Rattle.store_core.specs.Note.{Kind}
 use Rattle.store_core.specs.Directory.{Object, Standing, Version, Pin, Pass, Point, Directory}
 use Rattle.store_core.specs.Lookups.{find_object, last_change, is_live, is_change}
 use Rattle.store_core.specs.Lengths.{apply_length}
-use Rattle.store_core.specs.Replay.{Replays, IsMarked, after_mark, lengths_after}
+use Rattle.store_core.specs.Replay.{Replays, FitsEvent, after_event, lengths_after}
 use Rattle.store_core.specs.SoundPasses.{Stands, PinsCurrent, HasBase, IsRight, IsLive, HasVersions, IsOfItsCall}
 use Rattle.store_core.specs.Sound.{HasItsVersions, StandsOnce, AreInOrder, IsPlaced, IsSound, lengths_of}
 use Rattle.store_sound.proofs.SoundLists.{all_by}
@@ -73,7 +73,7 @@ module _ (d : Directory) (objects : List Object) (versions : List Version) (poin
   -- each pass stays right
   right_kept : (pass : Pass) (kind : Kind) → pass.note.kind ≡ kind → IsRight d pass kind → IsRight with_point pass kind
   right_kept pass Kind.Put e h =
-      (h.0, λ count within. put_anywhere d.max pass.note (lengths_after d.max (take count (d.points ++ point ∷ []))) (lengths_after d.max (take 0 d.points)) e ∙ h.1 0 (omega arith))
+      (h.0, λ count within. put_anywhere d.max pass.note (lengths_after d.max (take count (d.points ++ point ∷ []))) (lengths_after d.max (take 0 d.points)) e ∙ h.1 0 (omega arith), h.2)
   right_kept pass Kind.Write e h = base_kept pass h
   right_kept pass _ e h = h
 
@@ -92,7 +92,7 @@ module _ (d : Directory) (objects : List Object) (versions : List Version) (poin
             (λ pass has. All-push (IsOfItsCall pass) d.points point (All-contains (λ (p : Pass). All (IsOfItsCall p) d.points) d.passes pass sound.newest has) (adds.newest pass has));
         apart = sound.apart;
         listed = adds.listed;
-        placed = All-weaker (IsPlaced d) (IsPlaced with_point) (λ version h. record { all_or_none = h.all_or_none; current = h.current }) versions (placed_moved d versions sound adds.moves);
+        placed = All-weaker (IsPlaced d) (IsPlaced with_point) (λ version h. record { row_or_none = h.row_or_none; current = h.current }) versions (placed_moved d versions sound adds.moves);
         pinned_placed = all_by (PinsPlaced with_point) d.passes
             (λ pass has. pins_placed_moved d versions sound adds.moves pass (All-contains (HasVersions d) d.passes pass sound.versions has) (All-contains (PinsPlaced d) d.passes pass sound.pinned_placed has));
         versions = All-weaker (HasVersions d) (HasVersions with_point)
@@ -123,17 +123,17 @@ stays d =
     }
 
 -- a point that is no change changes no object
-pub no_change_follows : (d : Directory) (point : Point) → is_change point.mark ≡ false → (name : List ℕ) → Follows d d.objects point name
+pub no_change_follows : (d : Directory) (point : Point) → is_change point.event ≡ false → (name : List ℕ) → Follows d d.objects point name
 no_change_follows d point none name =
     inl (
       last_more name 0 None d.points point
-          ∙ cond-false (bytes_eq name point.note.name && is_change point.mark) (Some (0 + length d.points)) (last_change name d.points) (and_right (bytes_eq name point.note.name) (is_change point.mark) none),
+          ∙ cond-false (bytes_eq name point.note.name && is_change point.event) (Some (0 + length d.points)) (last_change name d.points) (and_right (bytes_eq name point.note.name) (is_change point.event) none),
       refl,
     )
 
--- a point alone, of a mark that the map gives and that changes nothing
-pub point_added : (d : Directory) (point : Point) → IsSound d → is_change point.mark ≡ false
-    → IsMarked point.mark point.note.kind (apply_length d.max point.note (lengths_of d)).1 → after_mark point.mark (lengths_of d) (apply_length d.max point.note (lengths_of d)).0 ≡ lengths_of d
+-- a point alone, of a event that the map gives and that changes nothing
+pub point_added : (d : Directory) (point : Point) → IsSound d → is_change point.event ≡ false
+    → FitsEvent point.event point.note.kind (apply_length d.max point.note (lengths_of d)).1 → after_event point.event (lengths_of d) (apply_length d.max point.note (lengths_of d)).0 ≡ lengths_of d
     → ((earlier : Point) → Contains d.points earlier → AreInOrder earlier point) → ((pass : Pass) → Contains d.passes pass → IsOfItsCall pass point) → IsSound (record d { points = d.points ++ point ∷ [] })
 point_added d point sound none marked same order newest =
     added d d.objects d.versions point sound

@@ -9,17 +9,17 @@ use Rattle.store_map.specs.Limits.{stripes_met}
 use Rattle.store_map.specs.declared.actor.Actor.{Actor}
 use Rattle.store_map.specs.declared.reply.Reply.{Reply}
 use Rattle.store_map.specs.declared.reply.Reply.TheVariants as reply
-use Rattle.store_core.specs.Lists.{is_among}
+use Rattle.store_map.specs.declared.placement.Placement.{Placement}
 use Rattle.store_core.specs.Told.{Told}
 use Rattle.store_core.specs.Note.{Note, Kind, refusal_of_size, refusal_by, refusal}
-use Rattle.store_core.specs.Directory.{Object, Standing, Pass, Mark, Point, Directory}
+use Rattle.store_core.specs.Directory.{Object, Standing, Pass, Event, Point, Directory}
 use Rattle.store_core.specs.Lookups.{same_actor, find_object, pass_of, last_change}
 use Rattle.store_core.specs.PassSteps.{close_pass, give_up_drawn}
 use Rattle.store_core.specs.Look.{set_standing}
-use Rattle.store_core.specs.Commit.{same_point, is_overtaken, put_object, place_all, changed_object, commit_object, commit}
+use Rattle.store_core.specs.Commit.{same_point, is_overtaken, put_object, place_all, changed_object, dropped_by, commit_object, commit}
 use Rattle.store_core.specs.AtDirectory.{on_pass}
 use Rattle.store_core.specs.Lengths.{length_in, put_length, found_length, apply_length}
-use Rattle.store_core.specs.Replay.{IsMarked, lengths_after}
+use Rattle.store_core.specs.Replay.{FitsEvent, lengths_after}
 use Rattle.store_core.specs.SoundPasses.{Stands, HasBase, IsRight, IsLive, IsOfItsCall}
 use Rattle.store_core.specs.Sound.{HasItsVersions, AreInOrder, IsSound, lengths_of}
 use Rattle.store_core.specs.Conditions.{IsWriting, IsPrepared}
@@ -42,18 +42,18 @@ same_point_is None (Some q) e = absurd (false≢true e)
 same_point_is (Some p) None e = absurd (false≢true e)
 
 -- a put or a write can't have a pinned point
-unpinned : (kind : Kind) (answer : Reply) → (kind ≡ Kind.Put) ⊎ (kind ≡ Kind.Write) → IsMarked Mark.Pinned kind answer → ⊥
-unpinned kind answer (inl e) h = subst (λ k. IsMarked Mark.Pinned k answer) e h
-unpinned kind answer (inr e) h = subst (λ k. IsMarked Mark.Pinned k answer) e h
+unpinned : (kind : Kind) (answer : Reply) → (kind ≡ Kind.Put) ⊎ (kind ≡ Kind.Write) → FitsEvent Event.Pinned kind answer → ⊥
+unpinned kind answer (inl e) h = subst (λ k. FitsEvent Event.Pinned k answer) e h
+unpinned kind answer (inr e) h = subst (λ k. FitsEvent Event.Pinned k answer) e h
 
-module _ (d : Directory) (sound : IsSound d) (some : 0 < stripe_length d.shape) (pass : Pass) (held : IsHeld d pass) (live : pass.reaped ≡ None) (placed : List (List ℕ)) (ready : IsPrepared d pass placed) where
+module _ (d : Directory) (sound : IsSound d) (some : 0 < stripe_length d.shape) (pass : Pass) (held : IsHeld d pass) (live : pass.reaped ≡ None) (placed : List (List Placement)) (ready : IsPrepared d pass placed) where
   -- the directory without the pass
   abbrev without : Directory
   without = close_pass pass d
 
   -- the point of the commit
   abbrev point : Point
-  point = record { actor = pass.actor; number = pass.number; note = pass.note; mark = Mark.Done }
+  point = record { actor = pass.actor; number = pass.number; note = pass.note; event = Event.Done }
 
   -- what is known of the pass
   now : IsLive d pass
@@ -67,14 +67,14 @@ module _ (d : Directory) (sound : IsSound d) (some : 0 < stripe_length d.shape) 
       its : IsOfItsCall pass earlier
       its = All-contains (IsOfItsCall pass) d.points earlier (All-contains (λ (p : Pass). All (IsOfItsCall p) d.points) d.passes pass sound.newest held.has) has
 
-      marked : (answer : Reply) × IsMarked earlier.mark earlier.note.kind answer
+      marked : (answer : Reply) × FitsEvent earlier.event earlier.note.kind answer
       marked = marked_of d.max [] d.points (lengths_of d) earlier sound.history has
 
-      no_other : earlier.mark ≢ Mark.Reaped → ((earlier.mark ≡ Mark.Reaped) ⊎ ((earlier.mark ≡ Mark.Pinned) × (earlier.note ≡ pass.note))) → ⊥
+      no_other : earlier.event ≢ Event.Reaped → ((earlier.event ≡ Event.Reaped) ⊎ ((earlier.event ≡ Event.Pinned) × (earlier.note ≡ pass.note))) → ⊥
       no_other other (inl reaped) = other reaped
       no_other other (inr h) =
           unpinned pass.note.kind marked.0 writes
-          (subst (λ (n : Note). IsMarked Mark.Pinned n.kind marked.0) h.1 (subst (λ m. IsMarked m earlier.note.kind marked.0) h.0 marked.1))
+          (subst (λ (n : Note). FitsEvent Event.Pinned n.kind marked.0) h.1 (subst (λ m. FitsEvent m earlier.note.kind marked.0) h.0 marked.1))
 
   -- the point is of no other pass's call
   of_others : (other : Pass) → Contains without.passes other → IsOfItsCall other point
@@ -82,21 +82,21 @@ module _ (d : Directory) (sound : IsSound d) (some : 0 < stripe_length d.shape) 
       let apart : same_actor pass.actor other.actor ≡ false = (left_passes pass d other has).1 in
       record { not_later = λ same. absurd (true≢false (sym same ∙ apart)); own = λ same _. absurd (true≢false (sym same ∙ apart)) }
 
-  -- the directory after a commit that makes this object of the old one
-  abbrev put_there : Object → Object → Directory
-  put_there old new =
+  -- the directory after a commit that makes this object of an old one and drops these versions of that
+  abbrev put_there : List ℕ → Object → Directory
+  put_there dropped new =
       record d {
         objects = put_object new d.objects;
-        versions = set_standing Standing.Superseded (filter (λ version. not (is_among version new.versions)) old.versions) (place_all (zip pass.drawn placed) d.versions);
+        versions = set_standing Standing.Superseded dropped (place_all (zip pass.drawn placed) d.versions);
         passes = filter (λ other. not (same_actor pass.actor other.actor)) d.passes;
         points = d.points ++ point ∷ [];
       }
 
   -- ---- an object that can be put
   -- the object has what it owes
-  puts : (new : Object) (found : Option Object) → find_object new.name d.objects ≡ found → ComesFrom (versions_of found) pass.drawn new.versions
-      → length new.versions ≡ stripes_met (stripe_length d.shape) 0 new.length → CanBePut without new found pass.drawn placed
-  puts new found e comes count =
+  puts : (new : Object) (found : Option Object) (dropped : List ℕ) → find_object new.name d.objects ≡ found → ComesFrom (versions_of found) pass.drawn dropped new.versions
+      → length new.versions ≡ stripes_met (stripe_length d.shape) 0 new.length → CanBePut without new found pass.drawn dropped placed
+  puts new found dropped e comes count =
       record {
         is_found = e;
         comes = comes;
@@ -155,22 +155,22 @@ module _ (d : Directory) (sound : IsSound d) (some : 0 < stripe_length d.shape) 
         moved : (name : List ℕ) → name ≡ pass.note.name → (apply_length d.max pass.note (lengths_of d)).0 ≡ put_length name pass.note.length (lengths_of d)
         moved name same = left_lengths Kind.Put e put_done ∙ ap (λ n. put_length n pass.note.length (lengths_of d)) (sym same)
 
-        marked : IsMarked Mark.Done pass.note.kind (apply_length d.max pass.note (lengths_of d)).1
-        marked = subst (λ k. IsMarked Mark.Done k (apply_length d.max pass.note (lengths_of d)).1) (sym e) put_done
+        marked : FitsEvent Event.Done pass.note.kind (apply_length d.max pass.note (lengths_of d)).1
+        marked = subst (λ k. FitsEvent Event.Done k (apply_length d.max pass.note (lengths_of d)).1) (sym e) put_done
 
         -- the commit, by what its kind makes of the object
-        kinds : (old : Object) → IsSound (put_there old (whole_object old)) → IsSound (commit_object placed pass old d).0
-        kinds old h = subst (λ k. IsSound (put_there old (changed_object k d pass old))) (sym e) h
+        kinds : (old : Object) → IsSound (put_there old.versions (whole_object old)) → IsSound (commit_object placed pass old d).0
+        kinds old h = subst (λ k. IsSound (put_there (dropped_by k d pass old.versions) (changed_object k d pass old))) (sym e) h
 
         by : (found : Option Object) → find_object pass.note.name d.objects ≡ found → (unwrap_or found nothing).name ≡ pass.note.name → IsSound (commit_object placed pass (unwrap_or found nothing) d).0
         by None at same =
             kinds nothing
-            (object_put_sound without (closed_sound pass d sound) (whole_object nothing) None pass.drawn placed (puts (whole_object nothing) None at (all_drawn [] pass.drawn) put_count) point
+            (object_put_sound without (closed_sound pass d sound) (whole_object nothing) None pass.drawn [] placed (puts (whole_object nothing) None [] at (all_drawn [] pass.drawn) put_count) point
             refl refl marked (moved pass.note.name refl) (in_order (inl e)) of_others)
         by (Some object) at same =
             kinds object
-            (object_put_sound without (closed_sound pass d sound) (whole_object object) (Some object) pass.drawn placed
-            (puts (whole_object object) (Some object) (ap (λ n. find_object n d.objects) same ∙ at) (all_drawn object.versions pass.drawn) put_count) point
+            (object_put_sound without (closed_sound pass d sound) (whole_object object) (Some object) pass.drawn object.versions placed
+            (puts (whole_object object) (Some object) object.versions (ap (λ n. find_object n d.objects) same ∙ at) (all_drawn object.versions pass.drawn) put_count) point
             (sym same) refl marked (moved object.name same) (in_order (inl e)) of_others)
 
   -- ---- a write
@@ -214,10 +214,10 @@ module _ (d : Directory) (sound : IsSound d) (some : 0 < stripe_length d.shape) 
         let none : length_in pass.note.name (lengths_of d) ≡ None = sym (length_found pass.note.name d.objects) ∙ ap (option_map (λ (o : Object). o.length)) at in
         absurd (none-some reply.NoSuch (sym write_accepted ∙ ap (refusal_by d.max Kind.Write pass.note.offset pass.note.length) none))
     write_sound (Some object) at =
-        subst (λ k. IsSound (put_there object (changed_object k d pass object))) (sym e)
-        (object_put_sound without (closed_sound pass d sound) (written_object object) (Some object) pass.drawn placed
-        (puts (written_object object) (Some object) (ap (λ n. find_object n d.objects) same ∙ at) (laid_over object.versions pass.drawn first fits) count) point
-        (sym same) refl (subst (λ k. IsMarked Mark.Done k (apply_length d.max pass.note (lengths_of d)).1) (sym e) write_done) moved (in_order (inr e)) of_others)
+        subst (λ k. IsSound (put_there (dropped_by k d pass object.versions) (changed_object k d pass object))) (sym e)
+        (object_put_sound without (closed_sound pass d sound) (written_object object) (Some object) pass.drawn (take (length pass.drawn) (drop first object.versions)) placed
+        (puts (written_object object) (Some object) (take (length pass.drawn) (drop first object.versions)) (ap (λ n. find_object n d.objects) same ∙ at) (laid_over object.versions pass.drawn first fits) count) point
+        (sym same) refl (subst (λ k. FitsEvent Event.Done k (apply_length d.max pass.note (lengths_of d)).1) (sym e) write_done) moved (in_order (inr e)) of_others)
       where
         first : ℕ
         first = pass.note.offset / stripe_length d.shape
@@ -263,7 +263,7 @@ module _ (d : Directory) (sound : IsSound d) (some : 0 < stripe_length d.shape) 
             back = length-drop (first + length pass.drawn) object.versions ∙ ap (λ n. n - (first + length pass.drawn)) its.count ∙ ap (λ n. stripes_met (stripe_length d.shape) 0 object.length - (first + n)) drawn_count
 
 -- ---- each commit
-pub commit_sound : (who : Actor) (placed : List (List ℕ)) (d : Directory) → 0 < stripe_length d.shape → IsSound d → ((pass : Pass) × IsWriting d who pass × IsPrepared d pass placed)
+pub commit_sound : (who : Actor) (placed : List (List Placement)) (d : Directory) → 0 < stripe_length d.shape → IsSound d → ((pass : Pass) × IsWriting d who pass × IsPrepared d pass placed)
     → IsSound (on_pass (commit placed) (pass_of who d) d).0
 commit_sound who placed d some sound may =
     on_pass_sound who d sound (commit placed)

@@ -4,12 +4,12 @@ use Rattle.std.proofs.lemmas.Bool.{true≢false, cond-true, cond-false, cases_Bo
 use Rattle.std.proofs.lemmas.Option.{same_Some, none-some, slice_get_within}
 use Rattle.std.proofs.lemmas.List.{get_or_default}
 use Rattle.std.proofs.lemmas.List.Elements.{All-nil, All-contains}
-use Rattle.clay_grid.specs.Shape.{chunk_count}
+use Rattle.store_core.specs.Placements.{IsRow}
 use Rattle.store_core.specs.Lists.{is_among}
 use Rattle.store_core.specs.Directory.{Object, Standing, Version, Pass, Point, Directory}
 use Rattle.store_core.specs.Lookups.{find_object, last_change, is_change}
 use Rattle.store_core.specs.Look.{set_standing, remove_object}
-use Rattle.store_core.specs.Replay.{IsMarked, after_mark}
+use Rattle.store_core.specs.Replay.{FitsEvent, after_event}
 use Rattle.store_core.specs.Lengths.{apply_length}
 use Rattle.store_core.specs.SoundPasses.{Stands, IsOfItsCall}
 use Rattle.store_core.specs.Sound.{HasItsVersions, StandsOnce, AreInOrder, IsSound, lengths_of}
@@ -20,20 +20,20 @@ use Rattle.store_sound.proofs.SoundLaid.{CanBeLaid, laid_moves, laid_kept, laid_
 use Rattle.store_sound.proofs.SoundObjects.{lengths_in, RemovedAt, removed_at, found_after_removal}
 
 -- ---- a change of one object, as the calls on it and on others see it
-pub change_follows : (d : Directory) (objects : List Object) (point : Point) → is_change point.mark ≡ true
+pub change_follows : (d : Directory) (objects : List Object) (point : Point) → is_change point.event ≡ true
     → ((name : List ℕ) → bytes_eq name point.note.name ≡ false → find_object name objects ≡ find_object name d.objects) → (name : List ℕ) → Follows d objects point name
 change_follows d objects point changes others name = by (cases_Bool (bytes_eq name point.note.name))
   where
-    last : last_change name (d.points ++ point ∷ []) ≡ cond (bytes_eq name point.note.name && is_change point.mark) (Some (0 + length d.points)) (last_change name d.points)
+    last : last_change name (d.points ++ point ∷ []) ≡ cond (bytes_eq name point.note.name && is_change point.event) (Some (0 + length d.points)) (last_change name d.points)
     last = last_more name 0 None d.points point
 
     by : (bytes_eq name point.note.name ≡ true) ⊎ (bytes_eq name point.note.name ≡ false) → Follows d objects point name
     by (inl same) =
-        inr (last ∙ cond-true (bytes_eq name point.note.name && is_change point.mark) (Some (0 + length d.points)) (last_change name d.points) (and_from (bytes_eq name point.note.name) (is_change point.mark) same changes)
+        inr (last ∙ cond-true (bytes_eq name point.note.name && is_change point.event) (Some (0 + length d.points)) (last_change name d.points) (and_from (bytes_eq name point.note.name) (is_change point.event) same changes)
         ∙ ap Some (omega arith))
     by (inr apart) =
         inl (
-          last ∙ cond-false (bytes_eq name point.note.name && is_change point.mark) (Some (0 + length d.points)) (last_change name d.points) (and_left (bytes_eq name point.note.name) (is_change point.mark) apart),
+          last ∙ cond-false (bytes_eq name point.note.name && is_change point.event) (Some (0 + length d.points)) (last_change name d.points) (and_left (bytes_eq name point.note.name) (is_change point.event) apart),
           others name apart,
         )
 
@@ -112,7 +112,7 @@ module _ (d : Directory) (sound : IsSound d) (object : Object) (found : find_obj
         is_drawn = λ n c. absurd (let less : c.0 < 0 = c.1 in omega (arith, less));
         is_current = version_current d sound place object stood;
         one_each = refl;
-        whole = All-nil (λ row. length row ≡ chunk_count d.shape);
+        whole = All-nil (IsRow d.shape);
         left = λ _ _ _ n c _. absurd (let less : c.0 < 0 = c.1 in omega (arith, less));
       }
 
@@ -188,8 +188,8 @@ module _ (d : Directory) (sound : IsSound d) (object : Object) (found : find_obj
       by (inr k) = from k.0 k.1
 
   -- the directory stays sound, by what its point says
-  pub deleted_sound : point.note.name ≡ object.name → is_change point.mark ≡ true → IsMarked point.mark point.note.kind (apply_length d.max point.note (lengths_of d)).1
-      → after_mark point.mark (lengths_of d) (apply_length d.max point.note (lengths_of d)).0 ≡ lengths_in left_objects
+  pub deleted_sound : point.note.name ≡ object.name → is_change point.event ≡ true → FitsEvent point.event point.note.kind (apply_length d.max point.note (lengths_of d)).1
+      → after_event point.event (lengths_of d) (apply_length d.max point.note (lengths_of d)).0 ≡ lengths_in left_objects
       → ((earlier : Point) → Contains d.points earlier → AreInOrder earlier point) → ((pass : Pass) → Contains d.passes pass → IsOfItsCall pass point) → IsSound after_delete
   deleted_sound named changes marked moved order newest =
       added d left_objects left_versions point sound

@@ -6,8 +6,8 @@ use Rattle.std.proofs.lemmas.List.{length-map}
 use Rattle.std.proofs.lemmas.List.FromFn.{length-range_with_len, get_or-range_with_len}
 use Rattle.std.proofs.lemmas.List.Elements.{All-weaker, All-map, All-append, All-contains, Contains-get_or}
 use Rattle.std.specs.List.{range_with_len}
-use Rattle.clay_grid.specs.Shape.{chunk_count}
 use Rattle.store_map.specs.declared.actor.Actor.{Actor}
+use Rattle.store_core.specs.Placements.{IsRow}
 use Rattle.store_core.specs.Lists.{is_among}
 use Rattle.store_core.specs.Note.{Kind}
 use Rattle.store_core.specs.Directory.{Standing, Version, Pin, Pass, Directory}
@@ -96,12 +96,12 @@ module _ (d : Directory) (sound : IsSound d) (news : List Version) (fresh : All 
   -- the pins keep their epochs
   grown_pins : (pass : Pass) → HasVersions d pass → PinsPlaced d pass → PinsPlaced grown pass
   grown_pins pass has placed =
-      all_by (λ (pin : Pin). IfSome (slice_get (d.versions ++ news) pin.version) (λ version. length version.placed ≡ chunk_count d.shape)) pass.pinned
+      all_by (λ (pin : Pin). IfSome (slice_get (d.versions ++ news) pin.version) (λ version. IsRow d.shape version.placed)) pass.pinned
       (λ pin c.
       let old : Before d.versions pin.version = there_is d.versions pin.version (All-contains (λ (p : Pin). p.version < length d.versions) pass.pinned pin has.pinned c) in
-      let whole : IfSome (slice_get d.versions pin.version) (λ version. length version.placed ≡ chunk_count d.shape) =
-      All-contains (λ (p : Pin). IfSome (slice_get d.versions p.version) (λ version. length version.placed ≡ chunk_count d.shape)) pass.pinned pin placed c in
-      subst (λ (o : Option Version). IfSome o (λ version. length version.placed ≡ chunk_count d.shape)) (old.found ∙ sym (got_left d.versions news pin.version old.version old.found)) whole)
+      let whole : IfSome (slice_get d.versions pin.version) (λ version. IsRow d.shape version.placed) =
+      All-contains (λ (p : Pin). IfSome (slice_get d.versions p.version) (λ version. IsRow d.shape version.placed)) pass.pinned pin placed c in
+      subst (λ (o : Option Version). IfSome o (λ version. IsRow d.shape version.placed)) (old.found ∙ sym (got_left d.versions news pin.version old.version old.found)) whole)
 
   -- a place stays a place
   less_still : (n : ℕ) → n < length d.versions → n < length (d.versions ++ news)
@@ -131,9 +131,9 @@ module _ (d : Directory) (sound : IsSound d) (news : List Version) (fresh : All 
         apart = sound.apart;
         listed = λ number h. sound.listed number (current_before number h);
         placed = All-append (IsPlaced grown) d.versions news
-            (All-weaker (IsPlaced d) (IsPlaced grown) (λ version h. record { all_or_none = h.all_or_none; current = h.current }) d.versions sound.placed)
+            (All-weaker (IsPlaced d) (IsPlaced grown) (λ version h. record { row_or_none = h.row_or_none; current = h.current }) d.versions sound.placed)
             (All-weaker (λ (v : Version). (v.standing ≡ Standing.Drawn) × (v.placed ≡ [])) (IsPlaced grown)
-            (λ version h. record { all_or_none = inl h.1; current = λ c. absurd (false≢true (ap is_current_standing (sym h.0 ∙ c))) }) news fresh);
+            (λ version h. record { row_or_none = inl h.1; current = λ c. absurd (false≢true (ap is_current_standing (sym h.0 ∙ c))) }) news fresh);
         pinned_placed = all_by (PinsPlaced grown) d.passes
             (λ pass has. grown_pins pass (All-contains (HasVersions d) d.passes pass sound.versions has) (All-contains (PinsPlaced d) d.passes pass sound.pinned_placed has));
         versions = All-weaker (HasVersions d) (HasVersions grown) grown_has d.passes sound.versions;

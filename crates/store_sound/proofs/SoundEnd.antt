@@ -4,8 +4,8 @@ use Rattle.std.proofs.lemmas.Bool.{cond_both}
 use Rattle.std.proofs.lemmas.List.{nil_from_length}
 use Rattle.std.proofs.lemmas.List.Elements.{All-contains}
 use Rattle.std.specs.List.{list_all}
-use Rattle.clay_grid.specs.Shape.{chunk_count}
 use Rattle.store_map.specs.declared.actor.Actor.{Actor}
+use Rattle.store_core.specs.Placements.{IsRow}
 use Rattle.store_core.specs.Lists.{change_at}
 use Rattle.store_core.specs.Told.{Told}
 use Rattle.store_core.specs.Directory.{Standing, Version, Pin, Pass, Directory}
@@ -70,17 +70,20 @@ module _ (d : Directory) (sound : IsSound d) (server epoch : ℕ) (pins : List P
       record {
         pinned = λ _ _ _ _ _ _ h. by h;
         drawn = λ _ _ _ _ h. new.standing ∙ h;
-        placed = λ h. record { all_or_none = none_or_all h.all_or_none; current = λ c. new.count ∙ h.current (sym new.standing ∙ c) };
-        whole = λ h. new.count ∙ h;
+        placed = λ h. record { row_or_none = none_or_all h.row_or_none; current = λ c. still_row (h.current (sym new.standing ∙ c)) };
+        whole = still_row;
       }
     where
       by : (before.standing ≡ Standing.Current) ⊎ (before.standing ≡ Standing.Superseded) → (new.after.standing ≡ Standing.Current) ⊎ (new.after.standing ≡ Standing.Superseded)
       by (inl e) = inl (new.standing ∙ e)
       by (inr e) = inr (new.standing ∙ e)
 
-      none_or_all : (before.placed ≡ []) ⊎ (length before.placed ≡ chunk_count d.shape) → (new.after.placed ≡ []) ⊎ (length new.after.placed ≡ chunk_count d.shape)
+      still_row : IsRow d.shape before.placed → IsRow d.shape new.after.placed
+      still_row h = record { whole = new.count ∙ h.whole; enough = omega (arith, h.enough, new.skipped) }
+
+      none_or_all : (before.placed ≡ []) ⊎ (IsRow d.shape before.placed) → (new.after.placed ≡ []) ⊎ (IsRow d.shape new.after.placed)
       none_or_all (inl e) = inl (nil_from_length new.after.placed (new.count ∙ ap length e))
-      none_or_all (inr e) = inr (new.count ∙ e)
+      none_or_all (inr e) = inr (still_row e)
 
   -- what was current stays so
   still_current : (n : ℕ) → Stands d Standing.Current n → StandsIn raised Standing.Current n

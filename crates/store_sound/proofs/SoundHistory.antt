@@ -7,10 +7,10 @@ use Rattle.std.specs.List.{enumerate_from}
 use Rattle.store_map.specs.declared.reply.Reply.{Reply}
 use Rattle.store_map.specs.declared.reply.Reply.TheVariants as reply
 use Rattle.store_core.specs.Note.{Note, Kind, refusal_of_size, refusal_by, refusal}
-use Rattle.store_core.specs.Directory.{Mark, Point}
+use Rattle.store_core.specs.Directory.{Event, Point}
 use Rattle.store_core.specs.Lookups.{is_ok, is_change}
 use Rattle.store_core.specs.Lengths.{Lengths, length_in, put_length, delete_length, reply_by, lengths_by, found_length, answered_by, apply_length}
-use Rattle.store_core.specs.Replay.{IsMarked, after_mark, Replays}
+use Rattle.store_core.specs.Replay.{FitsEvent, after_event, Replays}
 use Rattle.store_sound.proofs.SoundLists.{at_contains}
 
 -- ---- names
@@ -145,7 +145,7 @@ not_ok_stays Kind.Delete note lengths n None h = absurd (true≢false h)
 not_ok_stays _ note lengths n None h = refl
 
 -- so does a get or a read
-pub pinned_stays : (kind : Kind) (note : Note) (lengths : Lengths) (answer : Reply) (refused : Option Reply) → IsMarked Mark.Pinned kind answer → lengths_unless kind note lengths refused ≡ lengths
+pub pinned_stays : (kind : Kind) (note : Note) (lengths : Lengths) (answer : Reply) (refused : Option Reply) → FitsEvent Event.Pinned kind answer → lengths_unless kind note lengths refused ≡ lengths
 pinned_stays kind note lengths answer (Some refused) h = refl
 pinned_stays Kind.Get note lengths answer None h = refl
 pinned_stays Kind.ReadAt note lengths answer None h = refl
@@ -167,17 +167,17 @@ other_applied most name note lengths apart =
     ap (length_in name) (applied most note lengths) ∙ other_stays note.kind name note lengths (refusal most note (length_in note.name lengths)) apart
 
 -- a point that doesn't change an object leaves its length
-point_keeps : (most : ℕ) (name : List ℕ) (note : Note) (mark : Mark) (lengths : Lengths) → (bytes_eq name note.name && is_change mark) ≡ false → IsMarked mark note.kind (apply_length most note lengths).1
-    → length_in name (after_mark mark lengths (apply_length most note lengths).0) ≡ length_in name lengths
-point_keeps most name note Mark.Reaped lengths none h = refl
-point_keeps most name note Mark.Pinned lengths none h =
+point_keeps : (most : ℕ) (name : List ℕ) (note : Note) (event : Event) (lengths : Lengths) → (bytes_eq name note.name && is_change event) ≡ false → FitsEvent event note.kind (apply_length most note lengths).1
+    → length_in name (after_event event lengths (apply_length most note lengths).0) ≡ length_in name lengths
+point_keeps most name note Event.Reaped lengths none h = refl
+point_keeps most name note Event.Pinned lengths none h =
     ap (length_in name) (applied most note lengths ∙ pinned_stays note.kind note lengths (apply_length most note lengths).1 (refusal most note (length_in note.name lengths)) h)
-point_keeps most name note Mark.Done lengths none h = other_applied most name note lengths (by (and_cases _ _ none))
+point_keeps most name note Event.Done lengths none h = other_applied most name note lengths (by (and_cases _ _ none))
   where
     by : ((bytes_eq name note.name ≡ false) ⊎ (true ≡ false)) → bytes_eq name note.name ≡ false
     by (inl apart) = apart
     by (inr bad) = absurd (true≢false bad)
-point_keeps most name note (Mark.Answer given) lengths none h = by (and_cases _ _ none)
+point_keeps most name note (Event.Answer given) lengths none h = by (and_cases _ _ none)
   where
     by : ((bytes_eq name note.name ≡ false) ⊎ (is_ok given ≡ false)) → length_in name (apply_length most note lengths).0 ≡ length_in name lengths
     by (inl apart) = other_applied most name note lengths apart
@@ -187,16 +187,16 @@ point_keeps most name note (Mark.Answer given) lengths none h = by (and_cases _ 
 -- the last change among points that begin at a place
 abbrev pub last_from : List ℕ → ℕ → Option ℕ → List Point → Option ℕ
 last_from name start found points =
-    fold (λ found entry. cond (bytes_eq name entry.1.note.name && is_change entry.1.mark) (Some entry.0) found) found (enumerate_from start points)
+    fold (λ found entry. cond (bytes_eq name entry.1.note.name && is_change entry.1.event) (Some entry.0) found) found (enumerate_from start points)
 
 -- the lengths after points, from some lengths on
 abbrev pub lengths_from : ℕ → Lengths → List Point → Lengths
-lengths_from most lengths points = fold (λ lengths point. after_mark point.mark lengths (apply_length most point.note lengths).0) lengths points
+lengths_from most lengths points = fold (λ lengths point. after_event point.event lengths (apply_length most point.note lengths).0) lengths points
 
 -- replaying ends with those lengths
 pub replays_end : (most : ℕ) (lengths : Lengths) (points : List Point) (end : Lengths) → Replays most lengths points end → lengths_from most lengths points ≡ end
 replays_end most lengths [] end h = h
-replays_end most lengths (point ∷ points) end h = replays_end most (after_mark point.mark lengths (apply_length most point.note lengths).0) points end h.1
+replays_end most lengths (point ∷ points) end h = replays_end most (after_event point.event lengths (apply_length most point.note lengths).0) points end h.1
 
 -- the object's length after its last change is the one that it has at the end
 pub record ChangedLast (most : ℕ) (name : List ℕ) (start : ℕ) (found : Option ℕ) (lengths : Lengths) (points : List Point) (end : Lengths) : Type 0 where
@@ -220,11 +220,11 @@ LastOn most name start found lengths point points end acc =
 pub last_of : (most : ℕ) (name : List ℕ) (start : ℕ) (found : Option ℕ) (lengths : Lengths) (points : List Point) (end : Lengths) → Replays most lengths points end → Last most name start found lengths points end
 last_of most name start found lengths [] end h = inl (refl, ap (length_in name) (sym h))
 last_of most name start found lengths (point ∷ points) end h =
-    by (bytes_eq name point.note.name && is_change point.mark) refl
-    (λ acc. last_of most name (start + 1) acc (after_mark point.mark lengths (apply_length most point.note lengths).0) points end h.1)
+    by (bytes_eq name point.note.name && is_change point.event) refl
+    (λ acc. last_of most name (start + 1) acc (after_event point.event lengths (apply_length most point.note lengths).0) points end h.1)
   where
     now : Lengths
-    now = after_mark point.mark lengths (apply_length most point.note lengths).0
+    now = after_event point.event lengths (apply_length most point.note lengths).0
 
     later : (acc : Option ℕ) → ChangedLast most name (start + 1) acc now points end → LastOn most name start found lengths point points end acc
     later acc k =
@@ -236,48 +236,48 @@ last_of most name start found lengths (point ∷ points) end h =
     hit (inr k) = later (Some start) k
     hit (inl k) = inr (0, omega arith, k.0 ∙ ap Some (omega arith), sym k.1)
 
-    missed : (bytes_eq name point.note.name && is_change point.mark) ≡ false → Last most name (start + 1) found now points end → LastOn most name start found lengths point points end found
+    missed : (bytes_eq name point.note.name && is_change point.event) ≡ false → Last most name (start + 1) found now points end → LastOn most name start found lengths point points end found
     missed none (inr k) = later found k
-    missed none (inl k) = inl (k.0, k.1 ∙ point_keeps most name point.note point.mark lengths none h.0)
+    missed none (inl k) = inl (k.0, k.1 ∙ point_keeps most name point.note point.event lengths none h.0)
 
-    pack : (acc : Option ℕ) → acc ≡ cond (bytes_eq name point.note.name && is_change point.mark) (Some start) found → LastOn most name start found lengths point points end acc → Last most name start found lengths (point ∷ points) end
+    pack : (acc : Option ℕ) → acc ≡ cond (bytes_eq name point.note.name && is_change point.event) (Some start) found → LastOn most name start found lengths point points end acc → Last most name start found lengths (point ∷ points) end
     pack acc e (inl k) = inl (subst (λ a. last_from name (start + 1) a points ≡ found) e k.0, k.1)
     pack acc e (inr k) = inr (record { place = k.0; within = k.1; last = subst (λ a. last_from name (start + 1) a points ≡ Some (start + k.0)) e k.2; same = k.3 })
 
-    by : (b : Bool) → (bytes_eq name point.note.name && is_change point.mark) ≡ b → ((acc : Option ℕ) → Last most name (start + 1) acc now points end) → Last most name start found lengths (point ∷ points) end
-    by true e rest = pack (Some start) (sym (cond-true (bytes_eq name point.note.name && is_change point.mark) (Some start) found e)) (hit (rest (Some start)))
-    by false e rest = pack found (sym (cond-false (bytes_eq name point.note.name && is_change point.mark) (Some start) found e)) (missed e (rest found))
+    by : (b : Bool) → (bytes_eq name point.note.name && is_change point.event) ≡ b → ((acc : Option ℕ) → Last most name (start + 1) acc now points end) → Last most name start found lengths (point ∷ points) end
+    by true e rest = pack (Some start) (sym (cond-true (bytes_eq name point.note.name && is_change point.event) (Some start) found e)) (hit (rest (Some start)))
+    by false e rest = pack found (sym (cond-false (bytes_eq name point.note.name && is_change point.event) (Some start) found e)) (missed e (rest found))
 
 -- ---- one more point
 -- the last change with one more point
 pub last_more : (name : List ℕ) (start : ℕ) (found : Option ℕ) (points : List Point) (point : Point)
-    → last_from name start found (points ++ point ∷ []) ≡ cond (bytes_eq name point.note.name && is_change point.mark) (Some (start + length points)) (last_from name start found points)
-last_more name start found [] point = ap (λ n. cond {A = Option ℕ} (bytes_eq name point.note.name && is_change point.mark) (Some n) found) (omega arith)
+    → last_from name start found (points ++ point ∷ []) ≡ cond (bytes_eq name point.note.name && is_change point.event) (Some (start + length points)) (last_from name start found points)
+last_more name start found [] point = ap (λ n. cond {A = Option ℕ} (bytes_eq name point.note.name && is_change point.event) (Some n) found) (omega arith)
 last_more name start found (first ∷ points) point =
-    last_more name (start + 1) (cond (bytes_eq name first.note.name && is_change first.mark) (Some start) found) points point
-    ∙ ap (λ n. cond {A = Option ℕ} (bytes_eq name point.note.name && is_change point.mark) (Some n) (last_from name (start + 1) (cond (bytes_eq name first.note.name && is_change first.mark) (Some start) found) points)) shifted
+    last_more name (start + 1) (cond (bytes_eq name first.note.name && is_change first.event) (Some start) found) points point
+    ∙ ap (λ n. cond {A = Option ℕ} (bytes_eq name point.note.name && is_change point.event) (Some n) (last_from name (start + 1) (cond (bytes_eq name first.note.name && is_change first.event) (Some start) found) points)) shifted
   where
     shifted : start + 1 + length points ≡ start + suc (length points)
     shifted = omega arith
 
 -- replaying goes on with one more point
 pub replays_more : (most : ℕ) (lengths : Lengths) (points : List Point) (end : Lengths) (point : Point) (last : Lengths) → Replays most lengths points end
-    → IsMarked point.mark point.note.kind (apply_length most point.note end).1 → after_mark point.mark end (apply_length most point.note end).0 ≡ last → Replays most lengths (points ++ point ∷ []) last
+    → FitsEvent point.event point.note.kind (apply_length most point.note end).1 → after_event point.event end (apply_length most point.note end).0 ≡ last → Replays most lengths (points ++ point ∷ []) last
 replays_more most lengths [] end point last same marked moved =
-    subst (λ l. IsMarked point.mark point.note.kind (apply_length most point.note l).1 × (after_mark point.mark l (apply_length most point.note l).0 ≡ last)) (sym same) (marked, moved)
+    subst (λ l. FitsEvent point.event point.note.kind (apply_length most point.note l).1 × (after_event point.event l (apply_length most point.note l).0 ≡ last)) (sym same) (marked, moved)
 replays_more most lengths (first ∷ points) end point last replays marked moved =
-    (replays.0, replays_more most (after_mark first.mark lengths (apply_length most first.note lengths).0) points end point last replays.1 marked moved)
+    (replays.0, replays_more most (after_event first.event lengths (apply_length most first.note lengths).0) points end point last replays.1 marked moved)
 
--- each point keeps its mark
-marked_at : (most : ℕ) (lengths : Lengths) (points : List Point) (end : Lengths) (i : ℕ) (point : Point) → Replays most lengths points end → slice_get points i ≡ Some point
-    → (answer : Reply) × IsMarked point.mark point.note.kind answer
-marked_at most lengths [] end i point replays e = absurd (none-some point e)
-marked_at most lengths (first ∷ points) end zero point replays e =
-    subst (λ (p : Point). (answer : Reply) × IsMarked p.mark p.note.kind answer) (same_Some first point e) ((apply_length most first.note lengths).1, replays.0)
-marked_at most lengths (first ∷ points) end (suc i) point replays e =
-    marked_at most (after_mark first.mark lengths (apply_length most first.note lengths).0) points end i point replays.1 e
+-- each point keeps its event
+event_at : (most : ℕ) (lengths : Lengths) (points : List Point) (end : Lengths) (i : ℕ) (point : Point) → Replays most lengths points end → slice_get points i ≡ Some point
+    → (answer : Reply) × FitsEvent point.event point.note.kind answer
+event_at most lengths [] end i point replays e = absurd (none-some point e)
+event_at most lengths (first ∷ points) end zero point replays e =
+    subst (λ (p : Point). (answer : Reply) × FitsEvent p.event p.note.kind answer) (same_Some first point e) ((apply_length most first.note lengths).1, replays.0)
+event_at most lengths (first ∷ points) end (suc i) point replays e =
+    event_at most (after_event first.event lengths (apply_length most first.note lengths).0) points end i point replays.1 e
 
--- each point's mark is one that a reply has
+-- each point's event is one that a reply has
 pub marked_of : (most : ℕ) (lengths : Lengths) (points : List Point) (end : Lengths) (point : Point) → Replays most lengths points end → Contains points point
-    → (answer : Reply) × IsMarked point.mark point.note.kind answer
-marked_of most lengths points end point replays c = marked_at most lengths points end (at_contains points point c).0 point replays (at_contains points point c).1
+    → (answer : Reply) × FitsEvent point.event point.note.kind answer
+marked_of most lengths points end point replays c = event_at most lengths points end (at_contains points point c).0 point replays (at_contains points point c).1

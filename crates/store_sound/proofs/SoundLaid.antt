@@ -2,7 +2,8 @@
 use Rattle.std.proofs.Common.{◌≡◌, ◌⊎◌, ℕ, ◌<◌, Bool, true, false, List, [], length, zip, slice_get, Some, All, Contains, IsTrue, refl, sym, ap, subst, ◌∙◌, inl, inr}
 use Rattle.std.proofs.lemmas.Bool.{cases_Bool}
 use Rattle.std.proofs.lemmas.List.Elements.{All-contains}
-use Rattle.clay_grid.specs.Shape.{chunk_count}
+use Rattle.store_core.specs.Placements.{IsRow}
+use Rattle.store_map.specs.declared.placement.Placement.{Placement}
 use Rattle.store_core.specs.Lists.{is_among}
 use Rattle.store_core.specs.Directory.{Standing, Version, Pass, Directory}
 use Rattle.store_core.specs.Lookups.{is_live}
@@ -17,18 +18,18 @@ use Rattle.store_sound.proofs.SoundParts.{Moves, MovedThere, MovesTo, Before, th
 use Rattle.store_sound.proofs.SoundClose.{drawn_is_not_current, superseded_is_not_current}
 
 -- drawn versions with rows of epochs, and current ones that are dropped
-pub record CanBeLaid (d : Directory) (drawn : List ℕ) (rows : List (List ℕ)) (dropped : List ℕ) : Type 0 where
+pub record CanBeLaid (d : Directory) (drawn : List ℕ) (rows : List (List Placement)) (dropped : List ℕ) : Type 0 where
   pub is_drawn : (n : ℕ) → Contains drawn n → Stands d Standing.Drawn n
   pub is_current : (n : ℕ) → Contains dropped n → Stands d Standing.Current n
   pub one_each : length rows ≡ length drawn
-  pub whole : All (λ row. length row ≡ chunk_count d.shape) rows
+  pub whole : All (IsRow d.shape) rows
   pub left : (pass : Pass) → Contains d.passes pass → IsTrue (is_live pass.reaped) → (n : ℕ) → Contains drawn n → Contains pass.drawn n → ⊥
 
 -- the versions then
-abbrev pub laid : List ℕ → List (List ℕ) → List ℕ → List Version → List Version
+abbrev pub laid : List ℕ → List (List Placement) → List ℕ → List Version → List Version
 laid drawn rows dropped versions = set_standing Standing.Superseded dropped (place_all (zip drawn rows) versions)
 
-module _ (d : Directory) (drawn : List ℕ) (rows : List (List ℕ)) (dropped : List ℕ) (can : CanBeLaid d drawn rows dropped) where
+module _ (d : Directory) (drawn : List ℕ) (rows : List (List Placement)) (dropped : List ℕ) (can : CanBeLaid d drawn rows dropped) where
   -- the versions after
   abbrev after_laid : List Version
   after_laid = laid drawn rows dropped d.versions
@@ -56,18 +57,18 @@ module _ (d : Directory) (drawn : List ℕ) (rows : List (List ℕ)) (dropped : 
   length-laid = length-set_standing Standing.Superseded dropped (place_all (zip drawn rows) d.versions) ∙ length-place_all (zip drawn rows) d.versions
 
   -- what was drawn
-  placed_moves : (n : ℕ) (before middle : Version) → Contains drawn n → slice_get d.versions n ≡ Some before → (row : List ℕ) → Contains rows row → middle ≡ record before { placed = row; standing = Standing.Current }
+  placed_moves : (n : ℕ) (before middle : Version) → Contains drawn n → slice_get d.versions n ≡ Some before → (row : List Placement) → Contains rows row → middle ≡ record before { placed = row; standing = Standing.Current }
       → Moves d n before middle
   placed_moves n before middle has e row in_rows same =
       record {
         pinned = λ _ _ _ _ _ _ _. inl (ap (λ (v : Version). v.standing) same);
         drawn = λ pass there live draws _. absurd (can.left pass there live n has draws);
-        placed = λ _. record { all_or_none = inr whole; current = λ _. whole };
+        placed = λ _. record { row_or_none = inr whole; current = λ _. whole };
         whole = λ _. whole;
       }
     where
-      whole : length middle.placed ≡ chunk_count d.shape
-      whole = ap (λ (v : Version). length v.placed) same ∙ All-contains (λ row. length row ≡ chunk_count d.shape) rows row can.whole in_rows
+      whole : IsRow d.shape middle.placed
+      whole = subst (IsRow d.shape) (sym (ap (λ (v : Version). v.placed) same)) (All-contains (IsRow d.shape) rows row can.whole in_rows)
 
   -- what is neither drawn nor dropped
   same_moves : (n : ℕ) (before middle : Version) → middle ≡ before → Moves d n before middle
@@ -76,7 +77,7 @@ module _ (d : Directory) (drawn : List ℕ) (rows : List (List ℕ)) (dropped : 
         pinned = λ _ _ _ _ _ _ h. subst (λ (v : Version). (v.standing ≡ Standing.Current) ⊎ (v.standing ≡ Standing.Superseded)) (sym same) h;
         drawn = λ _ _ _ _ h. subst (λ (v : Version). v.standing ≡ Standing.Drawn) (sym same) h;
         placed = λ h. subst (IsPlaced d) (sym same) h;
-        whole = λ h. subst (λ (v : Version). length v.placed ≡ chunk_count d.shape) (sym same) h;
+        whole = λ h. subst (λ (v : Version). IsRow d.shape v.placed) (sym same) h;
       }
 
   -- what is dropped
@@ -85,8 +86,8 @@ module _ (d : Directory) (drawn : List ℕ) (rows : List (List ℕ)) (dropped : 
       record {
         pinned = λ _ _ _ _ _ _ _. inr refl;
         drawn = λ _ _ _ _ h. absurd (drawn_is_not_current before.standing h (standing_of d.versions Standing.Current n before (can.is_current n has) e));
-        placed = λ h. record { all_or_none = subst (λ (v : Version). (v.placed ≡ []) ⊎ (length v.placed ≡ chunk_count d.shape)) (sym same) h.all_or_none; current = λ c. absurd (superseded_is_not_current Standing.Superseded refl c) };
-        whole = λ h. subst (λ (v : Version). length v.placed ≡ chunk_count d.shape) (sym same) h;
+        placed = λ h. record { row_or_none = subst (λ (v : Version). (v.placed ≡ []) ⊎ (IsRow d.shape v.placed)) (sym same) h.row_or_none; current = λ c. absurd (superseded_is_not_current Standing.Superseded refl c) };
+        whole = λ h. subst (λ (v : Version). IsRow d.shape v.placed) (sym same) h;
       }
 
   -- a dropped version isn't a drawn one
@@ -116,7 +117,7 @@ module _ (d : Directory) (drawn : List ℕ) (rows : List (List ℕ)) (dropped : 
             moves = dropped_moves n before there.middle (is_in n dropped gone) e (there.placed.other (not_drawn n (is_in n dropped gone)));
           }
       by false kept (inl mine) found =
-          let row : (row : List ℕ) × Contains rows row × (there.middle ≡ record before { placed = row; standing = Standing.Current }) = there.placed.drawn_one mine in
+          let row : (row : List Placement) × Contains rows row × (there.middle ≡ record before { placed = row; standing = Standing.Current }) = there.placed.drawn_one mine in
           record { after = there.middle; found = found; moves = placed_moves n before there.middle (is_in n drawn mine) e row.0 row.1 row.2 }
       by false kept (inr others) found = record { after = there.middle; found = found; moves = same_moves n before there.middle (there.placed.other others) }
 
@@ -139,7 +140,7 @@ module _ (d : Directory) (drawn : List ℕ) (rows : List (List ℕ)) (dropped : 
       there : LaidThere n old.version
       there = laid_at n old.version old.found
 
-      row : (row : List ℕ) × Contains rows row × (there.middle ≡ record old.version { placed = row; standing = Standing.Current })
+      row : (row : List Placement) × Contains rows row × (there.middle ≡ record old.version { placed = row; standing = Standing.Current })
       row = there.placed.drawn_one (among n drawn has)
 
       by : (is_among n dropped ≡ true) ⊎ (is_among n dropped ≡ false) → StandsIn after_laid Standing.Current n

@@ -4,20 +4,21 @@ use Rattle.std.proofs.lemmas.Bool.{true≢false, cond_both, ltb-true}
 use Rattle.std.proofs.lemmas.Option.{none-some, slice_get-get_or}
 use Rattle.std.proofs.lemmas.List.Kept.{AllPairs-cons}
 use Rattle.std.proofs.lemmas.List.Elements.{All-nil, All-cons, All-weaker, All-map, All-push, All-contains}
-use Rattle.clay_grid.specs.Shape.{stripe_length, chunk_count}
+use Rattle.clay_grid.specs.Shape.{stripe_length}
 use Rattle.store_map.specs.declared.actor.Actor.{Actor}
 use Rattle.store_map.specs.declared.actor.Actor.TheVariants as actor
 use Rattle.store_map.specs.declared.reply.Reply.{Reply}
 use Rattle.store_map.specs.declared.reply.Reply.TheVariants as reply
+use Rattle.store_core.specs.Placements.{IsRow}
 use Rattle.store_core.specs.Lists.{is_among}
 use Rattle.store_core.specs.Told.{Told, Seen}
 use Rattle.store_core.specs.Note.{Note, Kind, refusal_by, refusal}
-use Rattle.store_core.specs.Directory.{Object, Standing, Version, Pin, Pass, Mark, Point, Directory}
+use Rattle.store_core.specs.Directory.{Object, Standing, Version, Pin, Pass, Event, Point, Directory}
 use Rattle.store_core.specs.Lookups.{same_actor, find_object, pass_of, last_change, is_ok}
 use Rattle.store_core.specs.Look.{pinned_by, seen_at, pin_of, append_point, begin_pass, without_object}
 use Rattle.store_core.specs.Looks.{accept, look_by, look, look_repair_by, look_repair}
 use Rattle.store_core.specs.Lengths.{length_in, delete_length, reply_by, found_length, apply_length}
-use Rattle.store_core.specs.Replay.{IsMarked, lengths_after}
+use Rattle.store_core.specs.Replay.{FitsEvent, lengths_after}
 use Rattle.store_core.specs.SoundPasses.{Stands, PinsCurrent, HasBase, IsRight, HasVersions, IsOfItsCall}
 use Rattle.store_core.specs.Sound.{HasItsVersions, AreInOrder, IsPlaced, IsSound, lengths_of}
 use Rattle.store_core.specs.Conditions.{MayBegin, IsOfClient, IsOfRepairer}
@@ -46,10 +47,10 @@ module _ (d : Directory) (sound : IsSound d) (who : Actor) (number : ℕ) (note 
       All-map (λ (pin : Pin). P pin.version) pin_of seen (All-weaker (λ (s : Seen). Stands d Standing.Current s.version) (λ (s : Seen). P s.version) (λ s. step s.version) seen all)
 
   -- a current version has all its epochs
-  current_placed : (n : ℕ) → Stands d Standing.Current n → IfSome (slice_get d.versions n) (λ version. length version.placed ≡ chunk_count d.shape)
+  current_placed : (n : ℕ) → Stands d Standing.Current n → IfSome (slice_get d.versions n) (λ version. IsRow d.shape version.placed)
   current_placed n h =
       let there : StandsThere d.versions Standing.Current n = stands_there d.versions Standing.Current n h in
-      subst (λ (o : Option Version). IfSome o (λ version. length version.placed ≡ chunk_count d.shape)) (sym there.found)
+      subst (λ (o : Option Version). IfSome o (λ version. IsRow d.shape version.placed)) (sym there.found)
       ((at_all (IsPlaced d) d.versions n there.version sound.placed there.found).current there.stands)
 
   -- the directory stays sound where the look saw current versions
@@ -73,23 +74,23 @@ module _ (d : Directory) (sound : IsSound d) (who : Actor) (number : ℕ) (note 
         newest = All-cons (λ (pass : Pass). All (IsOfItsCall pass) d.points) begun d.passes newest sound.newest;
         apart = AllPairs-cons (λ (p q : Pass). All (λ version. IsFalse (is_among version q.drawn)) p.drawn) begun d.passes
             (all_by (λ (q : Pass). All (λ version. IsFalse (is_among version q.drawn)) []) d.passes (λ q has. All-nil (λ version. IsFalse (is_among version q.drawn)))) sound.apart;
-        placed = All-cons (PinsPlaced d) begun d.passes (pins_all (λ n. IfSome (slice_get d.versions n) (λ version. length version.placed ≡ chunk_count d.shape)) current_placed current) sound.pinned_placed;
+        placed = All-cons (PinsPlaced d) begun d.passes (pins_all (λ n. IfSome (slice_get d.versions n) (λ version. IsRow d.shape version.placed)) current_placed current) sound.pinned_placed;
         versions = All-cons (HasVersions d) begun d.passes (record { pinned = pins_all (λ n. n < length d.versions) (λ n h. h.1) current; drawn = All-nil (λ n. n < length d.versions) }) sound.versions;
       })
 
 -- ---- the points of an actor that may begin
 module _ (d : Directory) (who : Actor) (number : ℕ) (may : MayBegin d who number) where
   -- what is known of an earlier point
-  may_at : (earlier : Point) → Contains d.points earlier → IsTrue (same_actor earlier.actor who) → (earlier.number ≤ number) × (earlier.number ≡ number → earlier.mark ≡ Mark.Reaped)
-  may_at earlier has = All-contains (λ (point : Point). IsTrue (same_actor point.actor who) → (point.number ≤ number) × (point.number ≡ number → point.mark ≡ Mark.Reaped)) d.points earlier may.numbers has
+  may_at : (earlier : Point) → Contains d.points earlier → IsTrue (same_actor earlier.actor who) → (earlier.number ≤ number) × (earlier.number ≡ number → earlier.event ≡ Event.Reaped)
+  may_at earlier has = All-contains (λ (point : Point). IsTrue (same_actor point.actor who) → (point.number ≤ number) × (point.number ≡ number → point.event ≡ Event.Reaped)) d.points earlier may.numbers has
 
   -- the new point comes after its actor's points
-  in_order : (note : Note) (mark : Mark) (earlier : Point) → Contains d.points earlier → AreInOrder earlier (record { actor = who; number = number; note = note; mark = mark })
-  in_order note mark earlier has = record { numbers = λ same. (may_at earlier has same).0; once = λ same e other. absurd (other ((may_at earlier has same).1 e)) }
+  in_order : (note : Note) (event : Event) (earlier : Point) → Contains d.points earlier → AreInOrder earlier (record { actor = who; number = number; note = note; event = event })
+  in_order note event earlier has = record { numbers = λ same. (may_at earlier has same).0; once = λ same e other. absurd (other ((may_at earlier has same).1 e)) }
 
   -- it is of no call that has a pass
-  of_others : (note : Note) (mark : Mark) (pass : Pass) → Contains d.passes pass → IsOfItsCall pass (record { actor = who; number = number; note = note; mark = mark })
-  of_others note mark pass has =
+  of_others : (note : Note) (event : Event) (pass : Pass) → Contains d.passes pass → IsOfItsCall pass (record { actor = who; number = number; note = note; event = event })
+  of_others note event pass has =
       let apart : same_actor who pass.actor ≡ false = none_found (λ (p : Pass). same_actor who p.actor) d.passes pass may.no_pass has in
       record { not_later = λ same. absurd (true≢false (sym same ∙ apart)); own = λ same _. absurd (true≢false (sym same ∙ apart)) }
 
@@ -102,10 +103,10 @@ module _ (d : Directory) (who : Actor) (number : ℕ) (may : MayBegin d who numb
 -- ---- a call that is answered at once, and changes nothing
 module _ (d : Directory) (sound : IsSound d) (who : Actor) (number : ℕ) (note : Note) (may : MayBegin d who number) where
   -- an answer that is no change keeps the directory sound
-  answered : (given : Reply) → (apply_length d.max note (lengths_of d)).1 ≡ given → is_ok given ≡ false → IsSound (append_point who number note (Mark.Answer given) d)
+  answered : (given : Reply) → (apply_length d.max note (lengths_of d)).1 ≡ given → is_ok given ≡ false → IsSound (append_point who number note (Event.Answer given) d)
   answered given told bad =
-      point_added d (record { actor = who; number = number; note = note; mark = Mark.Answer given }) sound bad told
-      (answer_stays d.max note (lengths_of d) given told bad) (in_order d who number may note (Mark.Answer given)) (of_others d who number may note (Mark.Answer given))
+      point_added d (record { actor = who; number = number; note = note; event = Event.Answer given }) sound bad told
+      (answer_stays d.max note (lengths_of d) given told bad) (in_order d who number may note (Event.Answer given)) (of_others d who number may note (Event.Answer given))
 
   -- the object's length, if there is one
   abbrev length_now : Option ℕ
@@ -120,7 +121,7 @@ module _ (d : Directory) (sound : IsSound d) (who : Actor) (number : ℕ) (note 
   changed refused e = applied d.max note (lengths_of d) ∙ ap (lengths_unless note.kind note (lengths_of d)) e
 
   -- a refusal keeps it sound
-  refused_sound : (given : Reply) → refusal d.max note length_now ≡ Some given → IsSound (append_point who number note (Mark.Answer given) d)
+  refused_sound : (given : Reply) → refusal d.max note length_now ≡ Some given → IsSound (append_point who number note (Event.Answer given) d)
   refused_sound given e =
       answered given (told (Some given) e)
       (subst (λ (o : Option Reply). IfSome o (λ r. is_ok r ≡ false)) e (refused_is_not_ok d.max note.kind note.offset note.length length_now))
@@ -199,42 +200,42 @@ module _ (d : Directory) (sound : IsSound d) (who : Actor) (number : ℕ) (note 
 
     -- ---- a get or a read
     -- the point of a get or a read
-    pinned_point : (kind : Kind) → note.kind ≡ kind → reply_by kind (found_length length_now) ≡ reply.Bytes [] → IsMarked Mark.Pinned kind (reply.Bytes []) → lengths_unless kind note (lengths_of d) None ≡ lengths_of d
-        → IsSound (append_point who number note Mark.Pinned d)
+    pinned_point : (kind : Kind) → note.kind ≡ kind → reply_by kind (found_length length_now) ≡ reply.Bytes [] → FitsEvent Event.Pinned kind (reply.Bytes []) → lengths_unless kind note (lengths_of d) None ≡ lengths_of d
+        → IsSound (append_point who number note Event.Pinned d)
     pinned_point kind e bytes marked stays =
-        point_added d (record { actor = who; number = number; note = note; mark = Mark.Pinned }) sound refl
-        (subst (λ r. IsMarked Mark.Pinned note.kind r) (sym (told None accepted ∙ ap (λ k. reply_by k (found_length length_now)) e ∙ bytes)) (subst (λ k. IsMarked Mark.Pinned k (reply.Bytes [])) (sym e) marked))
+        point_added d (record { actor = who; number = number; note = note; event = Event.Pinned }) sound refl
+        (subst (λ r. FitsEvent Event.Pinned note.kind r) (sym (told None accepted ∙ ap (λ k. reply_by k (found_length length_now)) e ∙ bytes)) (subst (λ k. FitsEvent Event.Pinned k (reply.Bytes [])) (sym e) marked))
         (changed None accepted ∙ ap (λ k. lengths_unless k note (lengths_of d) None) e ∙ stays)
-        (in_order d who number may note Mark.Pinned) (of_others d who number may note Mark.Pinned)
+        (in_order d who number may note Event.Pinned) (of_others d who number may note Event.Pinned)
 
     -- and its pass
-    read_sound : (kind : Kind) → 0 < stripe_length d.shape → note.kind ≡ kind → (kind ≡ Kind.Write → ⊥) → IsSound (append_point who number note Mark.Pinned d)
-        → IsRight (append_point who number note Mark.Pinned d) (new_pass who number note (seen kind) None) kind
-        → IsSound (begin_pass who number note (seen kind) None (append_point who number note Mark.Pinned d))
+    read_sound : (kind : Kind) → 0 < stripe_length d.shape → note.kind ≡ kind → (kind ≡ Kind.Write → ⊥) → IsSound (append_point who number note Event.Pinned d)
+        → IsRight (append_point who number note Event.Pinned d) (new_pass who number note (seen kind) None) kind
+        → IsSound (begin_pass who number note (seen kind) None (append_point who number note Event.Pinned d))
     read_sound kind some e reads pointed right =
-        begun_sound (append_point who number note Mark.Pinned d) pointed who number note (seen kind) None may.no_pass (seen_current kind some)
-        (All-push (IsOfItsCall (new_pass who number note (seen kind) None)) d.points (record { actor = who; number = number; note = note; mark = Mark.Pinned })
+        begun_sound (append_point who number note Event.Pinned d) pointed who number note (seen kind) None may.no_pass (seen_current kind some)
+        (All-push (IsOfItsCall (new_pass who number note (seen kind) None)) d.points (record { actor = who; number = number; note = note; event = Event.Pinned })
         (earlier_points d who number may note (seen kind) None)
         (record { not_later = λ _. omega arith; own = λ _ _. inr (refl, refl) }))
-        (subst (λ k. IsRight (append_point who number note Mark.Pinned d) (new_pass who number note (seen kind) None) k) (sym e) right)
+        (subst (λ k. IsRight (append_point who number note Event.Pinned d) (new_pass who number note (seen kind) None) k) (sym e) right)
         (λ w. absurd (reads (sym e ∙ w)))
 
     -- ---- a stat and a delete
     -- a stat is answered with the length
-    stat_sound : note.kind ≡ Kind.Stat → IsSound (append_point who number note (Mark.Answer (reply.Length object.length)) d)
+    stat_sound : note.kind ≡ Kind.Stat → IsSound (append_point who number note (Event.Answer (reply.Length object.length)) d)
     stat_sound e =
         answered (reply.Length object.length)
         (told None accepted ∙ ap (λ k. reply_by k (found_length length_now)) e ∙ ap (λ o. reply.Length (found_length o)) length_is) refl
 
     -- a delete removes the object
-    delete_sound : note.kind ≡ Kind.Delete → IsSound (append_point who number note (Mark.Answer reply.Done) (without_object object d))
+    delete_sound : note.kind ≡ Kind.Delete → IsSound (append_point who number note (Event.Answer reply.Done) (without_object object d))
     delete_sound e =
         let same : note.name ≡ object.name = same_name note.name object.name place.2 in
-        let point : Point = record { actor = who; number = number; note = note; mark = Mark.Answer reply.Done } in
+        let point : Point = record { actor = who; number = number; note = note; event = Event.Answer reply.Done } in
         deleted_sound d sound object (ap (λ n. find_object n d.objects) (sym same) ∙ found) point same refl
         (told None accepted ∙ ap (λ k. reply_by k (found_length length_now)) e)
         (changed None accepted ∙ ap (λ k. lengths_unless k note (lengths_of d) None) e ∙ ap (λ n. delete_length n (lengths_of d)) same ∙ sym (lengths_removed object.name d.objects))
-        (in_order d who number may note (Mark.Answer reply.Done)) (of_others d who number may note (Mark.Answer reply.Done))
+        (in_order d who number may note (Event.Answer reply.Done)) (of_others d who number may note (Event.Answer reply.Done))
 
   -- ---- a put, also of a new object
   -- its look keeps the directory sound
@@ -245,16 +246,17 @@ module _ (d : Directory) (sound : IsSound d) (who : Actor) (number : ℕ) (note 
         first,
         λ count within.
             put_anywhere d.max note (lengths_after d.max (take count d.points)) (lengths_of d) e ∙ told None accepted ∙ ap (λ k. reply_by k (found_length length_now)) e,
+        refl,
       ))
       (λ _ _. All-nil (λ (pin : Pin). IfSome (find_object note.name d.objects) (λ object. slice_get object.versions pin.stripe ≡ Some pin.version)))
 
 -- ---- a client's look
 -- what a client's call is
-ClientNote : Note → Type 0
+pub ClientNote : Note → Type 0
 ClientNote note = (note.kind ≡ Kind.Write) ⊎ ((note.kind ≡ Kind.ReadAt) ⊎ ((note.kind ≢ Kind.Rebuild) × (note.offset ≡ 0)))
 
 -- the condition of a client's look says so
-client_note : (who : Actor) (note : Note) → IsOfClient who note → ClientNote note
+pub client_note : (who : Actor) (note : Note) → IsOfClient who note → ClientNote note
 unfolding ClientNote
 client_note (actor.Client i) note h = h
 client_note (actor.Repairer i) note h = absurd h
@@ -294,7 +296,7 @@ put_from_first note (inr (inl e)) k = absurd (let bad : 0 ≡ 3 = ap kind_number
 put_from_first note (inr (inr h)) k = h.1
 
 -- a client makes no rebuild
-no_rebuild : (note : Note) → ClientNote note → note.kind ≡ Kind.Rebuild → ⊥
+pub no_rebuild : (note : Note) → ClientNote note → note.kind ≡ Kind.Rebuild → ⊥
 unfolding ClientNote kind_number
 no_rebuild note (inl e) k = let bad : 6 ≡ 1 = ap kind_number (sym k ∙ e) in omega (arith, bad)
 no_rebuild note (inr (inl e)) k = let bad : 6 ≡ 3 = ap kind_number (sym k ∙ e) in omega (arith, bad)
@@ -309,10 +311,10 @@ module _ (d : Directory) (sound : IsSound d) (some : 0 < stripe_length d.shape) 
       subst (λ k. IsSound (begin_pass who number note (map (seen_at d object) (pinned_by k d.shape note object.length)) (last_change note.name d.points) d)) (sym e)
       (write_sound d sound who number note may object found accepted some e)
   there_sound Kind.Get object e found accepted =
-      subst (λ k. IsSound (begin_pass who number note (map (seen_at d object) (pinned_by k d.shape note object.length)) None (append_point who number note Mark.Pinned d))) (sym e)
+      subst (λ k. IsSound (begin_pass who number note (map (seen_at d object) (pinned_by k d.shape note object.length)) None (append_point who number note Event.Pinned d))) (sym e)
       (read_sound d sound who number note may object found accepted Kind.Get some e get_is_no_write (pinned_point d sound who number note may object found accepted Kind.Get e refl refl refl) refl)
   there_sound Kind.ReadAt object e found accepted =
-      subst (λ k. IsSound (begin_pass who number note (map (seen_at d object) (pinned_by k d.shape note object.length)) None (append_point who number note Mark.Pinned d))) (sym e)
+      subst (λ k. IsSound (begin_pass who number note (map (seen_at d object) (pinned_by k d.shape note object.length)) None (append_point who number note Event.Pinned d))) (sym e)
       (read_sound d sound who number note may object found accepted Kind.ReadAt some e read_is_no_write (pinned_point d sound who number note may object found accepted Kind.ReadAt e refl refl refl) refl)
   there_sound Kind.Stat object e found accepted = stat_sound d sound who number note may object found accepted e
   there_sound Kind.Delete object e found accepted = delete_sound d sound who number note may object found accepted e
@@ -349,7 +351,7 @@ look_sound who number note d some sound may = looked_sound d sound some who numb
 
 -- ---- a repairer's look
 -- a repairer's call is a rebuild
-rebuild_note : (who : Actor) (note : Note) → IsOfRepairer who note → note.kind ≡ Kind.Rebuild
+pub rebuild_note : (who : Actor) (note : Note) → IsOfRepairer who note → note.kind ≡ Kind.Rebuild
 rebuild_note (actor.Repairer i) note h = h
 rebuild_note (actor.Client i) note h = absurd h
 rebuild_note actor.Sweeper note h = absurd h

@@ -2,7 +2,7 @@
 use Rattle.std.proofs.Common.{◌≡◌, ◌⊎◌, ℕ, ◌<◌, ◌≤◌, List, length, get_or, slice_get, Option, None, Some, IfSome, All, AllPairs, Contains, IsTrue, IsFalse, refl, sym, subst, ◌∙◌, inl, inr, arith}
 use Rattle.std.proofs.lemmas.Option.{same_Some, slice_get_within, slice_get_cases}
 use Rattle.std.proofs.lemmas.List.Elements.{All-weaker, All-contains}
-use Rattle.clay_grid.specs.Shape.{chunk_count}
+use Rattle.store_core.specs.Placements.{IsRow}
 use Rattle.store_core.specs.Lists.{is_among}
 use Rattle.store_core.specs.Note.{Kind}
 use Rattle.store_core.specs.Directory.{Standing, Version, Pin, Pass, Directory}
@@ -14,7 +14,7 @@ use Rattle.store_sound.proofs.SoundVersions.{StandsIn, StandsThere, stands_there
 
 -- the pins of a pass have all their epochs
 abbrev pub PinsPlaced : Directory → Pass → Type 0
-PinsPlaced d pass = All (λ pin. IfSome (slice_get d.versions pin.version) (λ version. length version.placed ≡ chunk_count d.shape)) pass.pinned
+PinsPlaced d pass = All (λ pin. IfSome (slice_get d.versions pin.version) (λ version. IsRow d.shape version.placed)) pass.pinned
 
 -- what is asked of a pass that isn't reaped
 abbrev pub LiveThere : Directory → Pass → Type 0
@@ -65,7 +65,7 @@ module _ (d : Directory) (passes : List Pass) where
         newest = right.newest;
         apart = right.apart;
         listed = sound.listed;
-        placed = All-weaker (IsPlaced d) (IsPlaced with_passes) (λ version h. record { all_or_none = h.all_or_none; current = h.current }) d.versions sound.placed;
+        placed = All-weaker (IsPlaced d) (IsPlaced with_passes) (λ version h. record { row_or_none = h.row_or_none; current = h.current }) d.versions sound.placed;
         pinned_placed = right.placed;
         versions = All-weaker (HasVersions d) (HasVersions with_passes) (λ pass h. record { pinned = h.pinned; drawn = h.drawn }) passes right.versions;
       }
@@ -77,7 +77,7 @@ pub record Moves (d : Directory) (number : ℕ) (before after : Version) : Type 
       → (before.standing ≡ Standing.Current) ⊎ (before.standing ≡ Standing.Superseded) → (after.standing ≡ Standing.Current) ⊎ (after.standing ≡ Standing.Superseded)
   pub drawn : (pass : Pass) → Contains d.passes pass → IsTrue (is_live pass.reaped) → Contains pass.drawn number → before.standing ≡ Standing.Drawn → after.standing ≡ Standing.Drawn
   pub placed : IsPlaced d before → IsPlaced d after
-  pub whole : length before.placed ≡ chunk_count d.shape → length after.placed ≡ chunk_count d.shape
+  pub whole : IsRow d.shape before.placed → IsRow d.shape after.placed
 
 -- one version moves
 pub record MovedThere (d : Directory) (versions : List Version) (number : ℕ) (before : Version) : Type 0 where
@@ -158,16 +158,16 @@ module _ (d : Directory) (versions : List Version) (sound : IsSound d) (moves : 
       subst (IsPlaced d) (same_Some new.after version (sym new.found ∙ e)) (new.moves.placed (at_all (IsPlaced d) d.versions i old.version sound.placed old.found)))
 
   -- also those of pinned versions
-  pub pins_placed_moved : (pass : Pass) → HasVersions d pass → PinsPlaced d pass → All (λ pin. IfSome (slice_get versions pin.version) (λ version. length version.placed ≡ chunk_count d.shape)) pass.pinned
+  pub pins_placed_moved : (pass : Pass) → HasVersions d pass → PinsPlaced d pass → All (λ pin. IfSome (slice_get versions pin.version) (λ version. IsRow d.shape version.placed)) pass.pinned
   pins_placed_moved pass has h =
-      all_by (λ (pin : Pin). IfSome (slice_get versions pin.version) (λ version. length version.placed ≡ chunk_count d.shape)) pass.pinned
+      all_by (λ (pin : Pin). IfSome (slice_get versions pin.version) (λ version. IsRow d.shape version.placed)) pass.pinned
       (λ pin c.
       let old : Before d.versions pin.version = there_is d.versions pin.version (All-contains (λ (p : Pin). p.version < length d.versions) pass.pinned pin has.pinned c) in
       let new : MovedThere d versions pin.version old.version = moves.each pin.version old.version old.found in
-      let whole : IfSome (slice_get d.versions pin.version) (λ version. length version.placed ≡ chunk_count d.shape) =
-      All-contains (λ (p : Pin). IfSome (slice_get d.versions p.version) (λ version. length version.placed ≡ chunk_count d.shape)) pass.pinned pin h c in
-      subst (λ (o : Option Version). IfSome o (λ version. length version.placed ≡ chunk_count d.shape)) (sym new.found)
-      (new.moves.whole (subst (λ (o : Option Version). IfSome o (λ version. length version.placed ≡ chunk_count d.shape)) old.found whole)))
+      let whole : IfSome (slice_get d.versions pin.version) (λ version. IsRow d.shape version.placed) =
+      All-contains (λ (p : Pin). IfSome (slice_get d.versions p.version) (λ version. IsRow d.shape version.placed)) pass.pinned pin h c in
+      subst (λ (o : Option Version). IfSome o (λ version. IsRow d.shape version.placed)) (sym new.found)
+      (new.moves.whole (subst (λ (o : Option Version). IfSome o (λ version. IsRow d.shape version.placed)) old.found whole)))
 
   -- what a pass pins and drew are still versions
   pub has_versions_moved : (pass : Pass) → HasVersions d pass → All (λ pin. pin.version < length versions) pass.pinned × All (λ version. version < length versions) pass.drawn
@@ -202,7 +202,7 @@ module _ (d : Directory) (versions : List Version) where
         newest = sound.newest;
         apart = sound.apart;
         listed = λ number h. sound.listed number (back number h);
-        placed = All-weaker (IsPlaced d) (IsPlaced with_versions) (λ version h. record { all_or_none = h.all_or_none; current = h.current }) versions (placed_moved d versions sound moves);
+        placed = All-weaker (IsPlaced d) (IsPlaced with_versions) (λ version h. record { row_or_none = h.row_or_none; current = h.current }) versions (placed_moved d versions sound moves);
         pinned_placed = all_by (PinsPlaced with_versions) d.passes
             (λ pass has. pins_placed_moved d versions sound moves pass (All-contains (HasVersions d) d.passes pass sound.versions has) (All-contains (PinsPlaced d) d.passes pass sound.pinned_placed has));
         versions = All-weaker (HasVersions d) (HasVersions with_versions)

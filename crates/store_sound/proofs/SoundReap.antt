@@ -3,7 +3,7 @@ use Rattle.std.proofs.Common.{◌≡◌, ℕ, false, length, get_or, map, Option
 use Rattle.std.proofs.lemmas.Bool.{true≢false}
 use Rattle.std.proofs.lemmas.List.Elements.{All-map, All-contains, Contains-get_or}
 use Rattle.store_map.specs.declared.actor.Actor.{Actor}
-use Rattle.store_core.specs.Directory.{Standing, Pass, Mark, Point, Directory}
+use Rattle.store_core.specs.Directory.{Standing, Pass, Event, Point, Directory}
 use Rattle.store_core.specs.Lookups.{same_actor, pass_of}
 use Rattle.store_core.specs.Look.{set_standing}
 use Rattle.store_core.specs.AtDirectory.{reap_pass, reap}
@@ -15,16 +15,16 @@ use Rattle.store_sound.proofs.SoundEnd.{live_pass}
 
 module _ (d : Directory) (sound : IsSound d) (pass : Pass) (held : IsHeld d pass) (live : pass.reaped ≡ None) where
   -- the pass is marked with the new point
-  abbrev mark : Pass → Pass
-  mark = marked pass (length d.points)
+  abbrev reap_at : Pass → Pass
+  reap_at = marked pass (length d.points)
 
-  -- the directory with the mark
+  -- the directory with the pass marked as reaped
   abbrev marked_there : Directory
-  marked_there = record d { passes = map mark d.passes }
+  marked_there = record d { passes = map reap_at d.passes }
 
   -- the new point
   abbrev reap_point : Point
-  reap_point = record { actor = pass.actor; number = pass.number; note = pass.note; mark = Mark.Reaped }
+  reap_point = record { actor = pass.actor; number = pass.number; note = pass.note; event = Event.Reaped }
 
   -- what the pass drew is given up
   without_drawn : IsSound (record marked_there { versions = set_standing Standing.Superseded pass.drawn d.versions })
@@ -43,7 +43,7 @@ module _ (d : Directory) (sound : IsSound d) (pass : Pass) (held : IsHeld d pass
       record { numbers = right.not_later; once = λ _ _ _. refl }
 
   -- and is of no later call than a pass's
-  of_its_call : (other : Pass) → Contains d.passes other → IsOfItsCall (mark other) reap_point
+  of_its_call : (other : Pass) → Contains d.passes other → IsOfItsCall (reap_at other) reap_point
   of_its_call other has =
       marked_both pass (length d.points) (λ p. IsOfItsCall p reap_point) other
       (λ same.
@@ -52,10 +52,10 @@ module _ (d : Directory) (sound : IsSound d) (pass : Pass) (held : IsHeld d pass
       (λ apart. record { not_later = λ same. absurd (true≢false (sym same ∙ apart)); own = λ _ _. inl refl })
 
   -- so of each pass then
-  all_of_their_calls : (other : Pass) → Contains (map mark d.passes) other → IsOfItsCall other reap_point
+  all_of_their_calls : (other : Pass) → Contains (map reap_at d.passes) other → IsOfItsCall other reap_point
   all_of_their_calls other has =
-      All-contains (λ (p : Pass). IsOfItsCall p reap_point) (map mark d.passes) other
-      (All-map (λ (p : Pass). IsOfItsCall p reap_point) mark d.passes (λ k p less. of_its_call (get_or d.passes k p) (Contains-get_or d.passes k p less))) has
+      All-contains (λ (p : Pass). IsOfItsCall p reap_point) (map reap_at d.passes) other
+      (All-map (λ (p : Pass). IsOfItsCall p reap_point) reap_at d.passes (λ k p less. of_its_call (get_or d.passes k p) (Contains-get_or d.passes k p less))) has
 
   -- the reap keeps the directory sound
   reaped_sound : IsSound (reap_pass pass None d).0

@@ -103,7 +103,7 @@ module _ (d : Directory) (sound : IsSound d) (number : ℕ) (is : IsGarbage d nu
             let free : (IsTrue (is_live pass.reaped) → ⊥) ⊎ (nat_eq number pin.version ≡ false) = unpinned pass pin has pins in
             absurd (not_free live (here ∙ the_one n e) free);
         drawn = λ _ _ _ _ drawn. absurd (drawn_is_not_superseded version.standing drawn (subst (λ m. slice_get d.versions m ≡ Some version → version.standing ≡ Standing.Superseded) (sym (the_one n e)) (standing_of d.versions Standing.Superseded number version is.stands) found));
-        placed = λ h. record { all_or_none = h.all_or_none; current = λ c. absurd (taken_is_not_current c) };
+        placed = λ h. record { row_or_none = h.row_or_none; current = λ c. absurd (taken_is_not_current c) };
         whole = λ h. h;
       }
     where
@@ -203,7 +203,7 @@ module _ (d : Directory) (sound : IsSound d) (number : ℕ) where
             moves = record {
               pinned = λ _ _ _ _ _ _ h. stands h;
               drawn = λ _ _ _ _ h. swept_stays before.standing Standing.Drawn h refl;
-              placed = λ h. record { all_or_none = h.all_or_none; current = λ c. h.current (swept_current before.standing c) };
+              placed = λ h. record { row_or_none = h.row_or_none; current = λ c. h.current (swept_current before.standing c) };
               whole = λ h. h;
             };
             on = λ h. swept_stays before.standing Standing.Current h refl;

@@ -1,7 +1,10 @@
 -- The versions after a change of standings, version by version.
-use Rattle.std.proofs.Common.{◌≡◌, ◌⊎◌, ℕ, zero, suc, ◌<◌, ◌≤◌, max, nat_eq, Bool, true, false, ◌||◌, List, [], ◌∷◌, length, get_or, fold, zip, slice_get, Option, None, Some, IfSome, Contains, refl, sym, ap, subst, ◌∙◌, inl, inr, arith}
+use Rattle.std.proofs.Common.{◌≡◌, ◌⊎◌, ℕ, zero, suc, ◌<◌, ◌≤◌, nat_eq, Bool, true, false, ◌||◌, List, [], ◌∷◌, length, get_or, fold, zip, slice_get, Option, None, Some, IfSome, Contains, refl, sym, ap, subst, ◌∙◌, inl, inr, arith}
 use Rattle.std.proofs.lemmas.Bool.{false≢true, cases_eq, cases_Bool, eq-eqb, ne_eqb}
 use Rattle.std.proofs.lemmas.Option.{same_Some, none-some, slice_get_within, slice_get_cases}
+use Rattle.store_core.specs.Placements.{skipped_count, placed_anew}
+use Rattle.store_map.specs.declared.placement.Placement.{Placement}
+use Rattle.store_map.specs.declared.placement.Placement.TheVariants as placement
 use Rattle.store_core.specs.Lists.{change_at, is_among}
 use Rattle.store_core.specs.Directory.{Standing, Version, Pin}
 use Rattle.store_core.specs.Look.{set_standing}
@@ -73,12 +76,12 @@ set_at standing (m ∷ ms) versions n version e = by (λ vs v there. set_at stan
 
 -- ---- versions that are placed
 -- a drawn version becomes current with one of the rows, any other stays
-pub record IsPlacedBy (drawn : List ℕ) (rows : List (List ℕ)) (n : ℕ) (before after : Version) : Type 0 where
+pub record IsPlacedBy (drawn : List ℕ) (rows : List (List Placement)) (n : ℕ) (before after : Version) : Type 0 where
   pub other : is_among n drawn ≡ false → after ≡ before
-  pub drawn_one : is_among n drawn ≡ true → (row : List ℕ) × Contains rows row × (after ≡ record before { placed = row; standing = Standing.Current })
+  pub drawn_one : is_among n drawn ≡ true → (row : List Placement) × Contains rows row × (after ≡ record before { placed = row; standing = Standing.Current })
 
 -- how one version moves
-pub record PlacedThere (drawn : List ℕ) (rows : List (List ℕ)) (versions : List Version) (n : ℕ) (before : Version) : Type 0 where
+pub record PlacedThere (drawn : List ℕ) (rows : List (List Placement)) (versions : List Version) (n : ℕ) (before : Version) : Type 0 where
   pub after : Version
   pub found : slice_get (place_all (zip drawn rows) versions) n ≡ Some after
   pub placed : IsPlacedBy drawn rows n before after
@@ -92,7 +95,7 @@ first_row : {X : Type 0} (y : X) (xs : List X) → Contains (y ∷ xs) y
 first_row y xs = (0, omega arith, refl)
 
 -- each moves so
-pub placed_at : (drawn : List ℕ) (rows : List (List ℕ)) (versions : List Version) (n : ℕ) (version : Version) → length rows ≡ length drawn → slice_get versions n ≡ Some version
+pub placed_at : (drawn : List ℕ) (rows : List (List Placement)) (versions : List Version) (n : ℕ) (version : Version) → length rows ≡ length drawn → slice_get versions n ≡ Some version
     → PlacedThere drawn rows versions n version
 placed_at [] rows versions n version same e = record { after = version; found = e; placed = record { other = λ _. refl; drawn_one = λ h. absurd (false≢true h) } }
 placed_at (m ∷ ms) [] versions n version same e = absurd (omega (arith, same))
@@ -108,7 +111,7 @@ placed_at (m ∷ ms) (r ∷ rs) versions n version same e =
         now : PlacedThere ms rs (change_at m place versions) n (place version)
         now = rest (change_at m place versions) (place version) (subst (λ i. slice_get (change_at i place versions) n ≡ Some (place version)) eq (change_here n place versions version e))
 
-        one : (is_among n ms ≡ true) ⊎ (is_among n ms ≡ false) → (row : List ℕ) × Contains (r ∷ rs) row × (now.after ≡ record version { placed = row; standing = Standing.Current })
+        one : (is_among n ms ≡ true) ⊎ (is_among n ms ≡ false) → (row : List Placement) × Contains (r ∷ rs) row × (now.after ≡ record version { placed = row; standing = Standing.Current })
         one (inl more) = ((now.placed.drawn_one more).0, later_row r rs (now.placed.drawn_one more).0 (now.placed.drawn_one more).1, (now.placed.drawn_one more).2)
         one (inr none) = (r, first_row r rs, now.placed.other none)
 
@@ -136,7 +139,7 @@ placed_at (m ∷ ms) (r ∷ rs) versions n version same e =
           placed = record {
             other = λ h. now.placed.other (sym same_test ∙ h);
             drawn_one = λ h.
-                let one : (row : List ℕ) × Contains rs row × (now.after ≡ record version { placed = row; standing = Standing.Current }) = now.placed.drawn_one (sym same_test ∙ h) in
+                let one : (row : List Placement) × Contains rs row × (now.after ≡ record version { placed = row; standing = Standing.Current }) = now.placed.drawn_one (sym same_test ∙ h) in
                 (one.0, later_row r rs one.0 one.1, one.2);
           };
         }
@@ -144,7 +147,15 @@ placed_at (m ∷ ms) (r ∷ rs) versions n version same e =
 -- ---- placed epochs that rise
 -- a version whose epoch at a server rises
 abbrev pub raise : ℕ → ℕ → Version → Version
-raise server epoch version = record version { placed = change_at server (max epoch) version.placed }
+raise server epoch version = record version { placed = change_at server (placed_anew epoch) version.placed }
+
+-- a row in which a chunk was placed anew has no more that were skipped
+skipped_anew : (server epoch : ℕ) (row : List Placement) → skipped_count (change_at server (placed_anew epoch) row) ≤ skipped_count row
+skipped_anew server epoch [] = omega arith
+skipped_anew zero epoch (placement.At earlier ∷ row) = omega arith
+skipped_anew zero epoch (placement.Skipped downs ∷ row) = omega arith
+skipped_anew (suc server) epoch (placement.At earlier ∷ row) = skipped_anew server epoch row
+skipped_anew (suc server) epoch (placement.Skipped downs ∷ row) = let rest = skipped_anew server epoch row in omega (arith, rest)
 
 -- how one version moves
 pub record RaisedThere (versions : List Version) (n : ℕ) (before : Version) : Type 0 where
@@ -152,11 +163,12 @@ pub record RaisedThere (versions : List Version) (n : ℕ) (before : Version) : 
   pub found : slice_get versions n ≡ Some after
   pub standing : after.standing ≡ before.standing
   pub count : length after.placed ≡ length before.placed
+  pub skipped : skipped_count after.placed ≤ skipped_count before.placed
 
 -- each moves so
 pub raised_at : (server epoch : ℕ) (pins : List Pin) (versions : List Version) (n : ℕ) (version : Version) → slice_get versions n ≡ Some version
     → RaisedThere (fold (λ vs pin. change_at pin.version (raise server epoch) vs) versions pins) n version
-raised_at server epoch [] versions n version e = record { after = version; found = e; standing = refl; count = refl }
+raised_at server epoch [] versions n version e = record { after = version; found = e; standing = refl; count = refl; skipped = omega arith }
 raised_at server epoch (pin ∷ pins) versions n version e =
     by (λ vs v there. raised_at server epoch pins vs n v there) (cases_eq n pin.version)
   where
@@ -168,7 +180,7 @@ raised_at server epoch (pin ∷ pins) versions n version e =
     by rest (inl eq) =
         let there : RaisedThere (fold (λ vs pin. change_at pin.version (raise server epoch) vs) now pins) n (raise server epoch version) =
         rest now (raise server epoch version) (subst (λ i. slice_get (change_at i (raise server epoch) versions) n ≡ Some (raise server epoch version)) eq (change_here n (raise server epoch) versions version e)) in
-        record { after = there.after; found = there.found; standing = there.standing; count = there.count ∙ length-change_at server (max epoch) version.placed }
+        record { after = there.after; found = there.found; standing = there.standing; count = there.count ∙ length-change_at server (placed_anew epoch) version.placed; skipped = let less = skipped_anew server epoch version.placed in omega (arith, there.skipped, less) }
     by rest (inr apart) = rest now version (slice_get-change_at pin.version n (raise server epoch) versions apart ∙ e)
 
 -- their count stays

@@ -1,1 +1,2 @@
 pub mod SoundLaws
+pub mod AgreementLaws

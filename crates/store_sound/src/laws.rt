@@ -1,10 +1,25 @@
 //! What the definitions say, as functions that do nothing and whose contracts are the laws.
 
 ghost use Rattle.store_sound.specs.SoundLaws.{StepsKeepSound};
+ghost use Rattle.store_sound.specs.AgreementLaws.{StepsMayBeMade, AgreementGoesOn};
 
 /// A directory without objects is sound, and each step that may be made leaves a sound directory
 /// sound: its points replay to its objects, each object has its versions, all current and each once,
 /// and each pass has what it pinned and drew.
 pub fn steps_keep_a_directory_sound()
     ensures { StepsKeepSound }
+{}
+
+/// What an actor does next with its seat or its pass may be done: with a seat a look of its own under
+/// an unused number, with a pass a step of its call. The version that a rebuild pinned is current, or its
+/// object was changed after the point that the actor was told.
+pub fn agreement_lets_steps_be_made()
+    ensures { StepsMayBeMade }
+{}
+
+/// A directory without objects agrees with each new seat. Each step that an actor makes with its token
+/// leaves a sound directory in agreement with the token that it gives back, which tells no earlier
+/// point than before; and every step leaves it in agreement with every other actor's token.
+pub fn agreement_goes_on()
+    ensures { AgreementGoesOn }
 {}

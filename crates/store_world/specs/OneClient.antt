@@ -14,8 +14,9 @@ calls_of (part ∷ others) = part.calls
 abbrev pub IsOnePart : List ClientPart → Type 0
 IsOnePart clients = clients ≡ record { calls = calls_of clients; leave = None } ∷ []
 
--- one client with no step limit, no repairer, and a schedule of one drain
+-- a script of form 1 with one client without a step limit, no repairer, and a schedule of one drain
 pub record HasOneClient (script : Script) : Type 0 where
+  pub form : script.form ≡ 1
   pub alone : IsOnePart script.clients
   pub no_repairer : script.repairers ≡ []
   pub to_the_end : script.schedule ≡ Drain ∷ []

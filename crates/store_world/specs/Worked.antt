@@ -10,6 +10,7 @@ use Rattle.store_map.specs.declared.script.Script.{Script}
 abbrev pub client_of : Option ℕ → List Call → Script
 client_of size calls =
     record {
+      form = 1;
       geometry = record { data_count = 2; parity_count = 2; width = 1 };
       size = size;
       tries = None;

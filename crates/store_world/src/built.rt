@@ -20,11 +20,13 @@ fn is_one_drain(schedule: &[Token]) -> bool
     matches!(schedule, [Token::Drain])
 }
 
-/// Whether a script has one client with no step limit, no repairer, and a schedule of one `drain`.
+/// Whether a script of form 1 has one client with no step limit, no repairer, and a schedule of
+/// one `drain`.
 pub fn has_one_client(script: &Script) -> bool
     ensures { IsTrue result ↔ HasOneClient script.now }
 {
-    script.repairers.is_empty()
+    script.form == 1
+        && script.repairers.is_empty()
         && is_one_part(script.clients.as_slice())
         && is_one_drain(script.schedule.as_slice())
 }

@@ -1,3 +1,4 @@
+pub mod Triples
 pub mod Words
 pub mod Lines
 pub mod Text

@@ -10,9 +10,10 @@ use Rattle.transcript_text.specs.declared.cause.Triple.{Triple}
 use Rattle.transcript_text.specs.declared.cause.Cause.{Cause}
 use Rattle.transcript_text.specs.declared.cause.Cause.TheVariants.{Unavailable, Contended, Reaped, NoMemory}
 use Rattle.transcript_text.specs.declared.cause.RepairResult.{RepairResult}
-use Rattle.transcript_text.specs.declared.cause.RepairResult.TheVariants.{Rebuilt, Here, NoSuch, Superseded, Unavailable as RepairUnavailable, Reaped as RepairReaped, NoMemory as RepairNoMemory}
+use Rattle.transcript_text.specs.declared.cause.RepairResult.TheVariants.{Rebuilt, Here, Away as RepairAway, NoSuch, Superseded, Unavailable as RepairUnavailable, Reaped as RepairReaped, NoMemory as RepairNoMemory}
 use Rattle.transcript_text.specs.declared.shown.Shown.{Shown}
 use Rattle.transcript_text.specs.declared.shown.Shown.TheVariants.{Reply as Replied, Unfinished}
+use Rattle.transcript_text.specs.Triples.{triple_text}
 
 -- cI.N or rI.N
 abbrev pub call_text : CallName → List ℕ
@@ -32,10 +33,6 @@ reply_text TooLarge = codes "toolarge"
 abbrev pub shown_text : Shown → List ℕ
 shown_text (Replied reply) = reply_text reply
 shown_text Unfinished = codes "open"
-
--- J/P/F
-abbrev pub triple_text : Triple → List ℕ
-triple_text triple = decimal triple.server ++ codes "/" ++ decimal triple.placed ++ codes "/" ++ decimal triple.found
 
 -- missing J/P/F J/P/F ..
 abbrev pub missing_text : List Triple → List ℕ
@@ -60,6 +57,7 @@ cause_text NoMemory = codes "nomem"
 abbrev pub result_text : RepairResult → List ℕ
 result_text Rebuilt = codes "rebuilt"
 result_text Here = codes "here"
+result_text (RepairAway downs) = codes "away " ++ decimal downs
 result_text NoSuch = codes "nosuch"
 result_text (Superseded newer) = codes "superseded " ++ decimal newer
 result_text (RepairUnavailable stripe missing) = unavailable_text stripe missing

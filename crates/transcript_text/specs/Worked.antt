@@ -1,5 +1,7 @@
 -- Two transcripts and their texts.
 use Rattle.std.specs.Prelude.{ℕ, List, [], ◌∷◌, ◌++◌, codes}
+use Rattle.store_map.specs.declared.placement.Placement.TheVariants.{At, Skipped}
+use Rattle.store_map.specs.declared.placement.Found.TheVariants.{Absent, Away}
 use Rattle.store_map.specs.declared.reply.Reply.TheVariants.{Done, Bytes}
 use Rattle.transcript_text.specs.declared.call_name.CallName.TheVariants.{Client, Repairer}
 use Rattle.transcript_text.specs.declared.cause.Cause.TheVariants.{Unavailable, Contended}
@@ -38,7 +40,7 @@ refusals =
       refused =
           record {
             call = Client 1 0;
-            cause = Unavailable 0 (record { server = 0; placed = 0; found = 1 } ∷ record { server = 12; placed = 0; found = 2 } ∷ []);
+            cause = Unavailable 0 (record { server = 0; placed = At 0; found = Absent 1 } ∷ record { server = 12; placed = Skipped 1; found = Away 2 } ∷ []);
           }
           ∷ record { call = Client 2 10; cause = Contended ((0, 1) ∷ (1, 3) ∷ []) }
           ∷ [];
@@ -52,7 +54,7 @@ refusals =
 abbrev pub refusals_text : List ℕ
 refusals_text =
     codes "H 0 c0.0 open\n"
-    ++ codes "X c1.0 unavailable stripe 0 missing 0/0/1 12/0/2\n"
+    ++ codes "X c1.0 unavailable stripe 0 missing 0/0/1 12/u1/a2\n"
     ++ codes "X c2.10 contended 0/1 1/3\n"
     ++ codes "R r0.0 superseded 1\n"
     ++ codes "O c0.0\n"

@@ -1,16 +1,46 @@
 ghost use Rattle.std.specs.Prelude.{Some};
-ghost use Rattle.transcript_text.specs.Words.{triple_text};
+ghost use Rattle.transcript_text.specs.Triples.{placement_text, found_text, triple_text};
 
 use std::fmt;
-use store_map::ListOf;
+use store_map::{Found, ListOf, Placement};
 
-/// A server that lacked its chunk of a stripe: its epoch when the chunk was placed, and the epoch
-/// that it answered. Printed `J/P/F`.
+/// A server that lacked its chunk of a stripe: what it answered when the chunk was to be placed,
+/// and what it answered when it was asked. Printed `J/P/F`.
 #[derive(Clone, Copy, PartialEq, Eq, Debug)]
 pub struct Triple {
     pub server: u64,
-    pub placed: u64,
-    pub found: u64,
+    pub placed: Placement,
+    pub found: Found,
+}
+
+/// A placement as it is printed: the epoch, or `u` and the count of downs.
+#[derive(Clone, Copy)]
+struct PlacementText(Placement);
+
+impl fmt::Display for PlacementText {
+    ghost output = { λ text. Some (placement_text text.0) };
+
+    fn fmt<W: fmt::Write>(&self, f: &mut fmt::Formatter<W>) -> fmt::Result {
+        match self.0 {
+            Placement::At(epoch) => write!(f, "{epoch}"),
+            Placement::Skipped(downs) => write!(f, "u{downs}"),
+        }
+    }
+}
+
+/// What a server answered, as it is printed: the epoch, or `a` and the count of downs.
+#[derive(Clone, Copy)]
+struct FoundText(Found);
+
+impl fmt::Display for FoundText {
+    ghost output = { λ text. Some (found_text text.0) };
+
+    fn fmt<W: fmt::Write>(&self, f: &mut fmt::Formatter<W>) -> fmt::Result {
+        match self.0 {
+            Found::Absent { epoch } => write!(f, "{epoch}"),
+            Found::Away { downs } => write!(f, "a{downs}"),
+        }
+    }
 }
 
 impl fmt::Display for Triple {
@@ -22,7 +52,7 @@ impl fmt::Display for Triple {
             placed,
             found,
         } = *self;
-        write!(f, "{server}/{placed}/{found}")
+        write!(f, "{server}/{}/{}", PlacementText(placed), FoundText(found))
     }
 }
 
@@ -54,6 +84,10 @@ pub enum RepairResult {
     Rebuilt,
     /// The server has the chunk.
     Here,
+    /// The server is away. It had been made away so often.
+    Away {
+        downs: u64,
+    },
     /// There is no such object or stripe.
     NoSuch,
     /// The stripe was replaced meanwhile, by the change at this point or an earlier one.

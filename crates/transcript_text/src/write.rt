@@ -185,6 +185,7 @@ fn append_result(out: &mut Vec<u8>, outcome: &RepairResult) -> Result<(), AllocE
     match outcome {
         RepairResult::Rebuilt => append(out, "rebuilt"),
         RepairResult::Here => append(out, "here"),
+        RepairResult::Away { downs } => append(out, format_args!("away {downs}")),
         RepairResult::NoSuch => append(out, "nosuch"),
         RepairResult::Superseded { newer } => append(out, format_args!("superseded {newer}")),
         RepairResult::Unavailable { stripe, missing } => {
@@ -231,7 +232,7 @@ mod tests {
     };
     use std::alloc::{AllocError, Global};
     use std::test::Fail;
-    use store_map::{ListOf, Name, Reply};
+    use store_map::{Found, ListOf, Name, Placement, Reply};
 
     const TEXT: &str = "\
 H 9 c4294967295.0 ok
@@ -242,7 +243,7 @@ H 13 c0.4 nosuch
 H 14 c0.5 outrange
 H 15 c0.6 toolarge
 H 18446744073709551615 c0.7 open
-X c1.0 unavailable stripe 5 missing 3/0/1 10/7/18446744073709551615
+X c1.0 unavailable stripe 5 missing 3/0/1 10/u7/a18446744073709551615
 X c1.1 contended 0/1 2/10
 X c1.2 reaped 3
 X c1.3 nomem
@@ -250,9 +251,10 @@ R r0.0 rebuilt
 R r0.1 here
 R r0.2 nosuch
 R r0.3 superseded 100
-R r0.4 unavailable stripe 5 missing 3/0/1 10/7/18446744073709551615
+R r0.4 unavailable stripe 5 missing 3/0/1 10/u7/a18446744073709551615
 R r0.5 reaped 0
 R r0.6 nomem
+R r0.7 away 2
 O c0.7
 O r15.4095
 L a-name_of.10 8
@@ -295,7 +297,10 @@ end
 
     fn missing(alloc: Global) -> Result<ListOf<Triple>, AllocError> {
         let mut list = ListOf::new(alloc);
-        for (server, placed, found) in [(3, 0, 1), (10, 7, u64::MAX)] {
+        for (server, placed, found) in [
+            (3, Placement::At(0), Found::Absent { epoch: 1 }),
+            (10, Placement::Skipped(7), Found::Away { downs: u64::MAX }),
+        ] {
             list.push(Triple {
                 server,
                 placed,
@@ -344,6 +349,7 @@ end
             ),
             (5, RepairResult::Reaped { at: 0 }),
             (6, RepairResult::NoMemory),
+            (7, RepairResult::Away { downs: 2 }),
         ] {
             lines.push(RLine {
                 call: repairer(0, number),

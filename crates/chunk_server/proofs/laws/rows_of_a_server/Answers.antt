@@ -17,4 +17,11 @@ returns c =
       wiped = refl;
       last_epoch = refl;
       last_count = refl;
+      away_skips = refl;
+      away_has_nothing = refl;
+      away_gives_nothing = refl;
+      away_takes_nothing = refl;
+      away_discards = refl;
+      present_again = refl;
+      last_down = refl;
     }

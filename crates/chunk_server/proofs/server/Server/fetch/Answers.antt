@@ -1,11 +1,11 @@
-use Rattle.std.proofs.Common.{◌≡◌, ℕ, ◌+◌, ◌*◌, ◌<◌, ◌≤◌, true, false, true≢false, Result, Ok, IsErr, is_err, List, length, get_or, All, le_refl, None, Some, is_some, ap, ◌∙◌, sym, subst}
+use Rattle.std.proofs.Common.{◌≡◌, ℕ, ◌+◌, ◌*◌, ◌<◌, ◌≤◌, true, false, not, ◌&&◌, true≢false, Result, Ok, IsErr, is_err, List, length, get_or, All, le_refl, None, Some, is_some, ap, ◌∙◌, sym, subst}
 use Rattle.std.proofs.lemmas.Nat.{row_fits}
 use Rattle.std.proofs.lemmas.Bool.{both_ways}
 use Rattle.std.specs.Option.{option_map}
 use Rattle.clay_grid.specs.Shape.{Shape, layer_count, chunk_length}
 use Rattle.store_core.specs.Server.{raised_by}
 use Rattle.chunk_server.specs.State.{Held, ServerState, is_held, chunk_of, subchunks_at}
-use Rattle.chunk_server.specs.Steps.{taken_from}
+use Rattle.chunk_server.specs.Steps.{chunk_given, taken_from}
 use Rattle.chunk_server.specs.Core.{core_of, told_given}
 use Rattle.chunk_server.specs.Chunks.{chunk_in, chunks_in, state_in}
 use Rattle.chunk_server.specs.declared.answers.Fetched.TheVariants.{Bytes, Missing}
@@ -24,8 +24,9 @@ returns-in_default-clause-ok c =
     ∙ chunk_of-lookup c.args.version c.self.inside.held.entries
     ∙ ap (option_map (λ held. chunk_in (c.args.version, held))) (sym c.in_default.ensures.value)
     in
-    let epoch : c.self.inside.epoch ≡ s.epoch = ap (λ r. r.epoch) c.self.view_is in
-    (λ i. (s, Missing (epoch i))) ∙ sym (ap (taken_from c.args.layers.now s) none)
+    let present : s.away ≡ false = sym (ap (λ r. r.away) c.self.view_is) ∙ c.if-self.false in
+    let nothing : chunk_given s.away c.args.version.0 s.held ≡ None = ap (λ a. chunk_given a c.args.version.0 s.held) present ∙ none in
+    (λ i. (s, Missing (c.found-in_default.ensures i))) ∙ sym (ap (taken_from c.args.layers.now s) nothing)
 
 pub returns-in_default-clause-core : goal.returns-in_default-clause-core
 returns-in_default-clause-core c =
@@ -61,6 +62,10 @@ subchunks_at-requires c =
     let at_width : P c.w-width.result c.in-Some.held.now.chunk.items = subst (λ w. P w c.in-Some.held.now.chunk.items) (sym c.w-width.ensures.value) (fits (goal.at.subchunks_at-requires c).In-Some) in
     subst (P c.w-width.result) (sym c.deref.ensures.value) at_width
 
+-- so is it given, since the server is present
+gives : (c : In-Some) → (not c.args.self.now.away && is_held c.args.version.0 c.args.self.now.held) ≡ true
+gives c = ap (λ a. not a && is_held c.args.version.0 c.args.self.now.held) (sym (ap (λ r. r.away) c.self.view_is) ∙ c.if-self.false) ∙ held c
+
 -- an error is no answer
 err_is_not_ok : {T E : Type 0} (r : Result T E) (x : T) → IsErr r → r ≡ Ok x → ⊥
 err_is_not_ok r x err e = true≢false (sym err ∙ ap is_err e)
@@ -71,16 +76,17 @@ returns-in_default-clause-missing c =
     sym (ap (λ r. is_held c.args.version.0 r.held) c.self.view_is) ∙ sym (is_held-lookup c.args.version c.self.inside.held.entries)
     ∙ ap is_some (sym c.in_default.ensures.value)
     in
-    (λ _. absent, λ _. ap (λ r. Ok (Missing r.epoch)) c.self.view_is)
+    let present : c.args.self.now.away ≡ false = sym (ap (λ r. r.away) c.self.view_is) ∙ c.if-self.false in
+    (λ _. ap (λ a. not a && is_held c.args.version.0 c.args.self.now.held) present ∙ absent, λ _. ap (λ f. Ok (Missing f)) c.found-in_default.ensures)
 
 pub returns-in_err-bytes-clause-missing : goal.returns-in_err-bytes-clause-missing
 returns-in_err-bytes-clause-missing c = (
   λ e. absurd (err_is_not_ok c.from_residual.result _ c.from_residual.ensures.0 e),
-  λ absent. absurd (both_ways _ absent (held (goal.at.returns-in_err-bytes-clause-missing c).In-Some)),
+  λ absent. absurd (both_ways _ absent (gives (goal.at.returns-in_err-bytes-clause-missing c).In-Some)),
 )
 
 pub returns-clause-missing : goal.returns-clause-missing
-returns-clause-missing c = (λ e. cc, λ absent. absurd (both_ways _ absent (held (goal.at.returns-clause-missing c).In-Some)))
+returns-clause-missing c = (λ e. cc, λ absent. absurd (both_ways _ absent (gives (goal.at.returns-clause-missing c).In-Some)))
 
 -- the bytes that are given
 given : (c : goal.After-from_vec) → c.from_vec.result ≡ subchunks_at c.self.inside.geometry.width c.in-Some.held.now.chunk.items c.args.layers.now
@@ -94,10 +100,14 @@ returns-clause-ok c =
     let some : chunk_of c.args.version.0 c.args.self.now.held ≡ Some chunk =
     sym (ap (λ r. chunk_of c.args.version.0 r.held) c.self.view_is) ∙ found (goal.at.returns-clause-ok c).In-Some
     in
+    let present : c.args.self.now.away ≡ false = sym (ap (λ r. r.away) c.self.view_is) ∙ c.if-self.false in
+    let given_chunk : chunk_given c.args.self.now.away c.args.version.0 c.args.self.now.held ≡ Some chunk =
+    ap (λ a. chunk_given a c.args.version.0 c.args.self.now.held) present ∙ some
+    in
     let taken : c.saturating_add-self-inside.result ≡ raised_by (length layers) c.self.inside.taken = c.saturating_add-self-inside.ensures in
     (λ i. (record (state_in c.self.inside) { taken = taken i }, Bytes (given c i)))
     ∙ ap (λ s. taken_from layers s (Some chunk)) c.self.view_is
-    ∙ sym (ap (taken_from layers c.args.self.now) some)
+    ∙ sym (ap (taken_from layers c.args.self.now) given_chunk)
 
 pub returns-clause-length : goal.returns-clause-length
 returns-clause-length c =

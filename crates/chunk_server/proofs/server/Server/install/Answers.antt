@@ -1,6 +1,6 @@
 use Rattle.std.proofs.Common.{◌≡◌, false, ap, ◌∙◌, sym}
-use Rattle.std.proofs.lemmas.Bool.{cond-false}
-use Rattle.chunk_server.specs.State.{is_held}
+use Rattle.chunk_server.specs.State.{ServerState, is_held}
+use Rattle.chunk_server.specs.Steps.{install_by}
 use Rattle.chunk_server.specs.Core.{core_of, told_added}
 use Rattle.chunk_server.specs.declared.answers.Installed.TheVariants.{Placed}
 use Rattle.chunk_server.proofs.CoreSteps.{core-install}
@@ -8,10 +8,12 @@ use Rattle.chunk_server.proofs.server.Server.install.Goals as goal
 
 pub returns-clause-ok : goal.returns-clause-ok
 returns-clause-ok c =
-    let absent : is_held c.args.version.0 c.args.self.now.held ≡ false = sym c.is_held.ensures ∙ c.if-is_held.false in
-    let epoch = ap (λ r. r.epoch) (c.self.view_is ∙ c.in_ok-add.ensures.ok) in
+    let s : ServerState = c.args.self.now in
+    let present : s.away ≡ false = sym (ap (λ r. r.away) c.self.view_is) ∙ c.if-self.false in
+    let absent : is_held c.args.version.0 s.held ≡ false = sym c.is_held.ensures ∙ c.if-is_held.false in
+    let epoch = ap (λ r. r.epoch) (c.self-2.view_is ∙ c.in_ok-add.ensures.ok) in
     (λ i. (c.in_ok-add.ensures.ok i, Placed (epoch i)))
-    ∙ sym (cond-false (is_held c.args.version.0 c.args.self.now.held) _ _ absent)
+    ∙ (λ i. install_by (sym present i) (sym absent i) c.args.version.0 c.args.chunk.items s)
 
 pub returns-clause-core : goal.returns-clause-core
 returns-clause-core c =
