@@ -2,7 +2,8 @@ ghost use Rattle.std.specs.Prelude.{◌≡◌, ◌++◌, IfOk, OnOk, List, ℕ};
 ghost use Rattle.std.specs.List.{flat_map};
 ghost use Rattle.std.specs.Fmt.{AppendsText};
 ghost use Rattle.hex.specs.Hex.{encode_lower};
-ghost use Rattle.transcript_text.specs.Words.{contended_text, missing_text, reply_text, shown_text, unavailable_text, cause_text, result_text, triple_text};
+ghost use Rattle.transcript_text.specs.Words.{contended_text, missing_text, reply_text, shown_text, unavailable_text, cause_text, result_text};
+ghost use Rattle.transcript_text.specs.Triples.{triple_text};
 ghost use Rattle.transcript_text.specs.Lines.{h_line, x_line, r_line, o_line, l_line, g_line, t_line};
 ghost use Rattle.transcript_text.specs.Text.{text_of};
 
