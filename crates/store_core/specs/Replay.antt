@@ -6,8 +6,9 @@ use Rattle.store_core.specs.Note.{Kind}
 use Rattle.store_core.specs.Directory.{Event, Point}
 use Rattle.store_core.specs.Lengths.{Lengths, apply_length}
 
--- what an event says of the reply at its point
+-- what an event says of the reply at its point; no point is answered with bytes
 abbrev pub FitsEvent : Event → Kind → Reply → Type 0
+FitsEvent (Event.Answer (reply.Bytes bytes)) kind answer = ⊥
 FitsEvent (Event.Answer given) kind answer = answer ≡ given
 FitsEvent Event.Pinned Kind.Get answer = answer ≡ reply.Bytes []
 FitsEvent Event.Pinned Kind.ReadAt answer = answer ≡ reply.Bytes []

@@ -31,10 +31,11 @@ pub record AreInOrder (p q : Point) : Type 0 where
   pub numbers : IsTrue (same_actor p.actor q.actor) → p.number ≤ q.number
   pub once : IsTrue (same_actor p.actor q.actor) → p.number ≡ q.number → p.event ≢ Event.Reaped → q.event ≡ Event.Reaped
 
--- a version has a row of placements, or none yet
+-- a version has a row of placements, or none yet; a drawn one has none, a current one a row
 pub record IsPlaced (d : Directory) (version : Version) : Type 0 where
   pub row_or_none : (version.placed ≡ []) ⊎ IsRow d.shape version.placed
   pub current : version.standing ≡ Standing.Current → IsRow d.shape version.placed
+  pub drawn : version.standing ≡ Standing.Drawn → version.placed ≡ []
 
 -- what each step at the directory keeps
 pub record IsSound (d : Directory) : Type 0 where

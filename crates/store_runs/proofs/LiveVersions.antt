@@ -42,10 +42,10 @@ live_count [] = 0
 live_count (version ∷ versions) = one_if (is_live_standing version.standing) + live_count versions
 
 -- the version with this number wasn't taken, if there is one
-abbrev LivesAt : List Version → ℕ → Type 0
+abbrev pub LivesAt : List Version → ℕ → Type 0
 LivesAt versions number = IfSome (slice_get versions number) (λ version. IsTrue (is_live_standing version.standing))
 
-abbrev AllLive : List Version → List ℕ → Type 0
+abbrev pub AllLive : List Version → List ℕ → Type 0
 AllLive versions [] = Unit {0}
 AllLive versions (number ∷ numbers) = LivesAt versions number × AllLive versions numbers
 
@@ -115,19 +115,19 @@ module _ (standing : Standing) (live : is_live_standing standing ≡ true) where
       omega (arith, first, rest)
 
 -- drawn versions with the epochs of their chunks
-abbrev EntriesLive : List Version → List (ℕ × List Placement) → Type 0
+abbrev pub EntriesLive : List Version → List (ℕ × List Placement) → Type 0
 EntriesLive versions [] = Unit {0}
 EntriesLive versions (entry ∷ entries) = LivesAt versions entry.0 × EntriesLive versions entries
 
-abbrev become_current : List Placement → Version → Version
+abbrev pub become_current : List Placement → Version → Version
 become_current placed version = record version { placed = placed; standing = Standing.Current }
 
-entries_still : (number : ℕ) (f : Version → Version) (versions : List Version) (entries : List (ℕ × List Placement)) → ((version : Version) → is_live_standing version.standing ≡ true → is_live_standing (f version).standing ≡ true)
+pub entries_still : (number : ℕ) (f : Version → Version) (versions : List Version) (entries : List (ℕ × List Placement)) → ((version : Version) → is_live_standing version.standing ≡ true → is_live_standing (f version).standing ≡ true)
     → EntriesLive versions entries → EntriesLive (change_at number f versions) entries
 entries_still number f versions [] keeps h = tt
 entries_still number f versions (entry ∷ entries) keeps h = (lives_still number entry.0 f versions keeps h.0, entries_still number f versions entries keeps h.1)
 
-entries_live : (versions : List Version) (drawn : List ℕ) (placed : List (List Placement)) → AllLive versions drawn → EntriesLive versions (zip drawn placed)
+pub entries_live : (versions : List Version) (drawn : List ℕ) (placed : List (List Placement)) → AllLive versions drawn → EntriesLive versions (zip drawn placed)
 entries_live versions [] placed h = tt
 entries_live versions (number ∷ drawn) [] h = tt
 entries_live versions (number ∷ drawn) (row ∷ placed) h = (h.0, entries_live versions drawn placed h.1)
@@ -143,7 +143,7 @@ count_placed (entry ∷ entries) versions h =
     omega (arith, first, rest)
 
 -- live versions stay live where drawn ones become current
-placed_still : (entries : List (ℕ × List Placement)) (versions : List Version) (numbers : List ℕ) → AllLive versions numbers → AllLive (place_all entries versions) numbers
+pub placed_still : (entries : List (ℕ × List Placement)) (versions : List Version) (numbers : List ℕ) → AllLive versions numbers → AllLive (place_all entries versions) numbers
 placed_still [] versions numbers h = h
 placed_still (entry ∷ entries) versions numbers h =
     placed_still entries (change_at entry.0 (become_current entry.1) versions) numbers (all_still entry.0 (become_current entry.1) versions numbers (λ _ _. refl) h)
@@ -159,7 +159,7 @@ rest_live (suc n) versions [] h = tt
 rest_live (suc n) versions (number ∷ numbers) h = rest_live n versions numbers h.1
 
 -- those of an object that a commit drops
-dropped_live : (kind : Kind) (d : Directory) (pass : Pass) (versions : List Version) (numbers : List ℕ) → AllLive versions numbers → AllLive versions (dropped_by kind d pass numbers)
+pub dropped_live : (kind : Kind) (d : Directory) (pass : Pass) (versions : List Version) (numbers : List ℕ) → AllLive versions numbers → AllLive versions (dropped_by kind d pass numbers)
 dropped_live Kind.Write d pass versions numbers h =
     part_live (length pass.drawn) versions (drop (pass.note.offset / stripe_length d.shape) numbers) (rest_live (pass.note.offset / stripe_length d.shape) versions numbers h)
 dropped_live _ d pass versions numbers h = h

@@ -20,7 +20,7 @@ use Rattle.store_core.specs.AtDirectory.{unless_reaped, on_pass, take_garbage, r
 use Rattle.store_sound.proofs.Passes.{same_is, pass_is, closed_own, closed_other, IsCallStep, IsOthersStep}
 
 -- the pass of an actor among some
-abbrev found_in : Actor → List Pass → Option Pass
+abbrev pub found_in : Actor → List Pass → Option Pass
 found_in who passes = find (λ pass. same_actor who pass.actor) passes
 
 -- ---- what a step of a call does
@@ -70,7 +70,7 @@ pub record StepMoves (who : Actor) (number : ℕ) (before after : Directory) (an
 
 -- ---- passes that are changed
 -- what is found after a change that keeps actors
-mapped_found : (who : Actor) (change : Pass → Pass) → ((pass : Pass) → (change pass).actor ≡ pass.actor) → (passes : List Pass) → found_in who (map change passes) ≡ option_map change (found_in who passes)
+pub mapped_found : (who : Actor) (change : Pass → Pass) → ((pass : Pass) → (change pass).actor ≡ pass.actor) → (passes : List Pass) → found_in who (map change passes) ≡ option_map change (found_in who passes)
 mapped_found who change keeps [] = refl
 mapped_found who change keeps (pass ∷ passes) =
     ap (λ a. cond {A = Option Pass} (same_actor who a) (Some (change pass)) (found_in who (map change passes))) (keeps pass) ∙ by (mapped_found who change keeps passes) (same_actor who pass.actor)
@@ -81,21 +81,21 @@ mapped_found who change keeps (pass ∷ passes) =
     by rest false = rest
 
 -- a change of one actor's passes
-abbrev one_changed : Actor → (Pass → Pass) → Pass → Pass
+abbrev pub one_changed : Actor → (Pass → Pass) → Pass → Pass
 one_changed who change other = cond {A = Pass} (same_actor who other.actor) (change other) other
 
 module _ (who : Actor) (change : Pass → Pass) (keeps : (pass : Pass) → (change pass).actor ≡ pass.actor) where
   -- the actors stay
-  keeps_actor : (pass : Pass) → (one_changed who change pass).actor ≡ pass.actor
+  pub keeps_actor : (pass : Pass) → (one_changed who change pass).actor ≡ pass.actor
   keeps_actor pass = cond_both {A = Pass} (same_actor who pass.actor) (change pass) pass (λ p. p.actor ≡ pass.actor) (λ _. keeps pass) (λ _. refl)
 
   -- the actor's own pass is changed
-  changed_own : (passes : List Pass) (pass : Pass) → found_in who passes ≡ Some pass → same_actor who pass.actor ≡ true → found_in who (map (one_changed who change) passes) ≡ Some (change pass)
+  pub changed_own : (passes : List Pass) (pass : Pass) → found_in who passes ≡ Some pass → same_actor who pass.actor ≡ true → found_in who (map (one_changed who change) passes) ≡ Some (change pass)
   changed_own passes pass found mine =
       mapped_found who (one_changed who change) keeps_actor passes ∙ ap (option_map (one_changed who change)) found ∙ ap (λ p. Some p) (cond-true {A = Pass} (same_actor who pass.actor) (change pass) pass mine)
 
   -- another's is not
-  changed_other : (other : Actor) → same_actor other who ≡ false → (passes : List Pass) → found_in other (map (one_changed who change) passes) ≡ found_in other passes
+  pub changed_other : (other : Actor) → same_actor other who ≡ false → (passes : List Pass) → found_in other (map (one_changed who change) passes) ≡ found_in other passes
   changed_other other apart [] = refl
   changed_other other apart (pass ∷ passes) =
       ap (λ a. cond {A = Option Pass} (same_actor other a) (Some (one_changed who change pass)) (found_in other (map (one_changed who change) passes))) (keeps_actor pass)
@@ -110,7 +110,7 @@ module _ (who : Actor) (change : Pass → Pass) (keeps : (pass : Pass) → (chan
       by rest false e = rest
 
 -- what is found passes the test
-found_mine : (who : Actor) (passes : List Pass) (pass : Pass) → found_in who passes ≡ Some pass → same_actor who pass.actor ≡ true
+pub found_mine : (who : Actor) (passes : List Pass) (pass : Pass) → found_in who passes ≡ Some pass → same_actor who pass.actor ≡ true
 found_mine who passes pass e = subst (λ (o : Option Pass). IfSome o (λ p. same_actor who p.actor ≡ true)) e (by passes)
   where
     by : (passes : List Pass) → IfSome (found_in who passes) (λ p. same_actor who p.actor ≡ true)

@@ -61,7 +61,7 @@ module _ (script : Script) where
   repairer_of part = record { jobs = map rebuild_job part.calls; leave = part.leave }
 
   -- all calls of clients do
-  fit_clients : IsFit script actor.Client (client_work script)
+  pub fit_clients : IsFit script actor.Client (client_work script)
   unfolding client_of
   fit_clients i work is_work k job is_job =
       let part : Mapped client_of script.clients i work = mapped client_of script.clients i work is_work in
@@ -70,7 +70,7 @@ module _ (script : Script) where
       subst (λ (j : Job). FitsActor (actor.Client i) j.note) one.is_image (fit_call i one.source)
 
   -- and of repairers
-  fit_repairers : IsFit script actor.Repairer (repairer_work script)
+  pub fit_repairers : IsFit script actor.Repairer (repairer_work script)
   unfolding repairer_of
   fit_repairers i work is_work k job is_job =
       let part : Mapped repairer_of script.repairers i work = mapped repairer_of script.repairers i work is_work in

@@ -92,7 +92,7 @@ module _ (d : Directory) (objects : List Object) (versions : List Version) (poin
             (λ pass has. All-push (IsOfItsCall pass) d.points point (All-contains (λ (p : Pass). All (IsOfItsCall p) d.points) d.passes pass sound.newest has) (adds.newest pass has));
         apart = sound.apart;
         listed = adds.listed;
-        placed = All-weaker (IsPlaced d) (IsPlaced with_point) (λ version h. record { row_or_none = h.row_or_none; current = h.current }) versions (placed_moved d versions sound adds.moves);
+        placed = All-weaker (IsPlaced d) (IsPlaced with_point) (λ version h. record { row_or_none = h.row_or_none; current = h.current; drawn = h.drawn }) versions (placed_moved d versions sound adds.moves);
         pinned_placed = all_by (PinsPlaced with_point) d.passes
             (λ pass has. pins_placed_moved d versions sound adds.moves pass (All-contains (HasVersions d) d.passes pass sound.versions has) (All-contains (PinsPlaced d) d.passes pass sound.pinned_placed has));
         versions = All-weaker (HasVersions d) (HasVersions with_point)

@@ -189,7 +189,7 @@ module _ (d : Directory) (sound : IsSound d) (numbers : List ℕ) (drawn : (n : 
       record {
         pinned = λ _ _ _ _ _ _ _. inr refl;
         drawn = λ pass has live draws _. absurd (left pass has live n (is_in n numbers e) draws);
-        placed = λ h. record { row_or_none = h.row_or_none; current = λ c. absurd (superseded_is_not_current Standing.Superseded refl c) };
+        placed = λ h. record { row_or_none = h.row_or_none; current = λ c. absurd (superseded_is_not_current Standing.Superseded refl c); drawn = λ c. absurd (drawn_is_not_superseded Standing.Superseded c refl) };
         whole = λ h. h;
       }
 

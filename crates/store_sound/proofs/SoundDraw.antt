@@ -131,9 +131,9 @@ module _ (d : Directory) (sound : IsSound d) (news : List Version) (fresh : All 
         apart = sound.apart;
         listed = λ number h. sound.listed number (current_before number h);
         placed = All-append (IsPlaced grown) d.versions news
-            (All-weaker (IsPlaced d) (IsPlaced grown) (λ version h. record { row_or_none = h.row_or_none; current = h.current }) d.versions sound.placed)
+            (All-weaker (IsPlaced d) (IsPlaced grown) (λ version h. record { row_or_none = h.row_or_none; current = h.current; drawn = h.drawn }) d.versions sound.placed)
             (All-weaker (λ (v : Version). (v.standing ≡ Standing.Drawn) × (v.placed ≡ [])) (IsPlaced grown)
-            (λ version h. record { row_or_none = inl h.1; current = λ c. absurd (false≢true (ap is_current_standing (sym h.0 ∙ c))) }) news fresh);
+            (λ version h. record { row_or_none = inl h.1; current = λ c. absurd (false≢true (ap is_current_standing (sym h.0 ∙ c))); drawn = λ _. h.1 }) news fresh);
         pinned_placed = all_by (PinsPlaced grown) d.passes
             (λ pass has. grown_pins pass (All-contains (HasVersions d) d.passes pass sound.versions has) (All-contains (PinsPlaced d) d.passes pass sound.pinned_placed has));
         versions = All-weaker (HasVersions d) (HasVersions grown) grown_has d.passes sound.versions;

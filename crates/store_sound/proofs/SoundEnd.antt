@@ -70,7 +70,7 @@ module _ (d : Directory) (sound : IsSound d) (server epoch : ℕ) (pins : List P
       record {
         pinned = λ _ _ _ _ _ _ h. by h;
         drawn = λ _ _ _ _ h. new.standing ∙ h;
-        placed = λ h. record { row_or_none = none_or_all h.row_or_none; current = λ c. still_row (h.current (sym new.standing ∙ c)) };
+        placed = λ h. record { row_or_none = none_or_all h.row_or_none; current = λ c. still_row (h.current (sym new.standing ∙ c)); drawn = λ c. still_none (h.drawn (sym new.standing ∙ c)) };
         whole = still_row;
       }
     where
@@ -81,8 +81,11 @@ module _ (d : Directory) (sound : IsSound d) (server epoch : ℕ) (pins : List P
       still_row : IsRow d.shape before.placed → IsRow d.shape new.after.placed
       still_row h = record { whole = new.count ∙ h.whole; enough = omega (arith, h.enough, new.skipped) }
 
+      still_none : before.placed ≡ [] → new.after.placed ≡ []
+      still_none e = nil_from_length new.after.placed (new.count ∙ ap length e)
+
       none_or_all : (before.placed ≡ []) ⊎ (IsRow d.shape before.placed) → (new.after.placed ≡ []) ⊎ (IsRow d.shape new.after.placed)
-      none_or_all (inl e) = inl (nil_from_length new.after.placed (new.count ∙ ap length e))
+      none_or_all (inl e) = inl (still_none e)
       none_or_all (inr e) = inr (still_row e)
 
   -- what was current stays so

@@ -73,27 +73,52 @@ put_anywhere most note lengths others e =
     ∙ put_reply most note.kind note.offset note.length (found_length (length_in note.name lengths)) (found_length (length_in note.name others)) (length_in note.name lengths) (length_in note.name others) e
     ∙ sym (replied most note others)
 
+-- what holds of the three refusals holds of each
+module _ (P : Reply → Type 0) (nosuch : P reply.NoSuch) (out : P reply.OutRange) (large : P reply.TooLarge) where
+  -- of a call whose object would be too large
+  size_refused : (most n : ℕ) → IfSome (refusal_of_size most n) P
+  size_refused most n = cond_both {A = Option Reply} (nat_lt most n) (Some reply.TooLarge) None (λ o. IfSome o P) (λ _. large) (λ _. tt)
+
+  -- of any call
+  pub refused_has : (most : ℕ) (kind : Kind) (offset n : ℕ) (found : Option ℕ) → IfSome (refusal_by most kind offset n found) P
+  refused_has most Kind.Put offset n found = size_refused most n
+  refused_has most Kind.Write offset n None = nosuch
+  refused_has most Kind.Write offset n (Some length) =
+      cond_both {A = Option Reply} (nat_lt length offset) (Some reply.OutRange) (refusal_of_size most (offset + n)) (λ o. IfSome o P) (λ _. out) (λ _. size_refused most (offset + n))
+  refused_has most Kind.ReadAt offset n None = nosuch
+  refused_has most Kind.ReadAt offset n (Some length) =
+      cond_both {A = Option Reply} (nat_lt length offset) (Some reply.OutRange) None (λ o. IfSome o P) (λ _. out) (λ _. tt)
+  refused_has most Kind.Get offset n None = nosuch
+  refused_has most Kind.Get offset n (Some length) = tt
+  refused_has most Kind.Stat offset n None = nosuch
+  refused_has most Kind.Stat offset n (Some length) = tt
+  refused_has most Kind.Delete offset n None = nosuch
+  refused_has most Kind.Delete offset n (Some length) = tt
+  refused_has most Kind.Rebuild offset n None = nosuch
+  refused_has most Kind.Rebuild offset n (Some length) = tt
+
 -- no refusal is ok
 pub refused_is_not_ok : (most : ℕ) (kind : Kind) (offset n : ℕ) (found : Option ℕ) → IfSome (refusal_by most kind offset n found) (λ r. is_ok r ≡ false)
-refused_is_not_ok most Kind.Put offset n found = size most n
-  where
-    size : (most n : ℕ) → IfSome (refusal_of_size most n) (λ r. is_ok r ≡ false)
-    size most n = cond_both {A = Option Reply} (nat_lt most n) (Some reply.TooLarge) None (λ o. IfSome o (λ r. is_ok r ≡ false)) (λ _. refl) (λ _. tt)
-refused_is_not_ok most Kind.Write offset n None = refl
-refused_is_not_ok most Kind.Write offset n (Some length) =
-    cond_both {A = Option Reply} (nat_lt length offset) (Some reply.OutRange) (refusal_of_size most (offset + n)) (λ o. IfSome o (λ r. is_ok r ≡ false)) (λ _. refl)
-    (λ _. cond_both {A = Option Reply} (nat_lt most (offset + n)) (Some reply.TooLarge) None (λ o. IfSome o (λ r. is_ok r ≡ false)) (λ _. refl) (λ _. tt))
-refused_is_not_ok most Kind.ReadAt offset n None = refl
-refused_is_not_ok most Kind.ReadAt offset n (Some length) =
-    cond_both {A = Option Reply} (nat_lt length offset) (Some reply.OutRange) None (λ o. IfSome o (λ r. is_ok r ≡ false)) (λ _. refl) (λ _. tt)
-refused_is_not_ok most Kind.Get offset n None = refl
-refused_is_not_ok most Kind.Get offset n (Some length) = tt
-refused_is_not_ok most Kind.Stat offset n None = refl
-refused_is_not_ok most Kind.Stat offset n (Some length) = tt
-refused_is_not_ok most Kind.Delete offset n None = refl
-refused_is_not_ok most Kind.Delete offset n (Some length) = tt
-refused_is_not_ok most Kind.Rebuild offset n None = refl
-refused_is_not_ok most Kind.Rebuild offset n (Some length) = tt
+refused_is_not_ok = refused_has (λ r. is_ok r ≡ false) refl refl refl
+
+-- a reply without bytes
+abbrev pub HasNoBytes : Reply → Type 0
+HasNoBytes (reply.Bytes bytes) = ⊥
+HasNoBytes _ = Unit {0}
+
+-- none has bytes
+pub refused_has_no_bytes : (most : ℕ) (kind : Kind) (offset n : ℕ) (found : Option ℕ) → IfSome (refusal_by most kind offset n found) HasNoBytes
+refused_has_no_bytes = refused_has HasNoBytes tt tt tt
+
+-- a reply without bytes fits the event that it is answered
+pub fits_answer : (given : Reply) (kind : Kind) (answer : Reply) → HasNoBytes given → answer ≡ given → FitsEvent (Event.Answer given) kind answer
+fits_answer (reply.Bytes bytes) kind answer none e = none
+fits_answer _ kind answer none e = e
+
+-- what fits such an event is its reply
+pub answer_fits : (given : Reply) (kind : Kind) (answer : Reply) → FitsEvent (Event.Answer given) kind answer → answer ≡ given
+answer_fits (reply.Bytes bytes) kind answer h = absurd h
+answer_fits _ kind answer h = h
 
 -- a call that is replied ok isn't refused
 pub ok_accepted : (most : ℕ) (note : Note) (found : Option ℕ) → reply_to most note found ≡ reply.Done → refusal most note found ≡ None
@@ -181,7 +206,7 @@ point_keeps most name note (Event.Answer given) lengths none h = by (and_cases _
   where
     by : ((bytes_eq name note.name ≡ false) ⊎ (is_ok given ≡ false)) → length_in name (apply_length most note lengths).0 ≡ length_in name lengths
     by (inl apart) = other_applied most name note lengths apart
-    by (inr bad) = ap (length_in name) (answer_stays most note lengths given h bad)
+    by (inr bad) = ap (length_in name) (answer_stays most note lengths given (answer_fits given note.kind (apply_length most note lengths).1 h) bad)
 
 -- ---- the last change
 -- the last change among points that begin at a place

@@ -15,7 +15,7 @@ use Rattle.store_core.proofs.Places.{length-set_standing, length-place_all}
 use Rattle.store_sound.proofs.SoundLists.{among, is_in}
 use Rattle.store_sound.proofs.SoundVersions.{StandsIn, StandsThere, stands_there, stands_at, standing_of, given, set_at, IsPlacedBy, PlacedThere, placed_at}
 use Rattle.store_sound.proofs.SoundParts.{Moves, MovedThere, MovesTo, Before, there_is}
-use Rattle.store_sound.proofs.SoundClose.{drawn_is_not_current, superseded_is_not_current}
+use Rattle.store_sound.proofs.SoundClose.{drawn_is_not_current, drawn_is_not_superseded, superseded_is_not_current}
 
 -- drawn versions with rows of epochs, and current ones that are dropped
 pub record CanBeLaid (d : Directory) (drawn : List ℕ) (rows : List (List Placement)) (dropped : List ℕ) : Type 0 where
@@ -63,7 +63,7 @@ module _ (d : Directory) (drawn : List ℕ) (rows : List (List Placement)) (drop
       record {
         pinned = λ _ _ _ _ _ _ _. inl (ap (λ (v : Version). v.standing) same);
         drawn = λ pass there live draws _. absurd (can.left pass there live n has draws);
-        placed = λ _. record { row_or_none = inr whole; current = λ _. whole };
+        placed = λ _. record { row_or_none = inr whole; current = λ _. whole; drawn = λ c. absurd (drawn_is_not_current middle.standing c (ap (λ (v : Version). v.standing) same)) };
         whole = λ _. whole;
       }
     where
@@ -86,7 +86,7 @@ module _ (d : Directory) (drawn : List ℕ) (rows : List (List Placement)) (drop
       record {
         pinned = λ _ _ _ _ _ _ _. inr refl;
         drawn = λ _ _ _ _ h. absurd (drawn_is_not_current before.standing h (standing_of d.versions Standing.Current n before (can.is_current n has) e));
-        placed = λ h. record { row_or_none = subst (λ (v : Version). (v.placed ≡ []) ⊎ (IsRow d.shape v.placed)) (sym same) h.row_or_none; current = λ c. absurd (superseded_is_not_current Standing.Superseded refl c) };
+        placed = λ h. record { row_or_none = subst (λ (v : Version). (v.placed ≡ []) ⊎ (IsRow d.shape v.placed)) (sym same) h.row_or_none; current = λ c. absurd (superseded_is_not_current Standing.Superseded refl c); drawn = λ c. absurd (drawn_is_not_superseded Standing.Superseded c refl) };
         whole = λ h. subst (λ (v : Version). IsRow d.shape v.placed) (sym same) h;
       }
 

@@ -23,7 +23,7 @@ use Rattle.store_core.specs.SoundPasses.{Stands, PinsCurrent, HasBase, IsRight, 
 use Rattle.store_core.specs.Sound.{HasItsVersions, AreInOrder, IsPlaced, IsSound, lengths_of}
 use Rattle.store_core.specs.Conditions.{MayBegin, IsOfClient, IsOfRepairer}
 use Rattle.store_sound.proofs.SoundLists.{all_by, at_all, found_at, found_in, none_found}
-use Rattle.store_sound.proofs.SoundHistory.{same_name, reply_unless, lengths_unless, replied, applied, same_reply, put_anywhere, refused_is_not_ok, answer_stays, Last, last_of}
+use Rattle.store_sound.proofs.SoundHistory.{same_name, reply_unless, lengths_unless, replied, applied, same_reply, put_anywhere, refused_is_not_ok, HasNoBytes, refused_has_no_bytes, fits_answer, answer_stays, Last, last_of}
 use Rattle.store_sound.proofs.SoundVersions.{StandsThere, stands_there}
 use Rattle.store_sound.proofs.SoundParts.{LiveThere, RightThere, PinsPlaced, other_passes}
 use Rattle.store_sound.proofs.SoundAdds.{point_added}
@@ -102,10 +102,10 @@ module _ (d : Directory) (who : Actor) (number : ℕ) (may : MayBegin d who numb
 
 -- ---- a call that is answered at once, and changes nothing
 module _ (d : Directory) (sound : IsSound d) (who : Actor) (number : ℕ) (note : Note) (may : MayBegin d who number) where
-  -- an answer that is no change keeps the directory sound
-  answered : (given : Reply) → (apply_length d.max note (lengths_of d)).1 ≡ given → is_ok given ≡ false → IsSound (append_point who number note (Event.Answer given) d)
-  answered given told bad =
-      point_added d (record { actor = who; number = number; note = note; event = Event.Answer given }) sound bad told
+  -- an answer that is no change and has no bytes keeps the directory sound
+  answered : (given : Reply) → (apply_length d.max note (lengths_of d)).1 ≡ given → is_ok given ≡ false → HasNoBytes given → IsSound (append_point who number note (Event.Answer given) d)
+  answered given told bad none =
+      point_added d (record { actor = who; number = number; note = note; event = Event.Answer given }) sound bad (fits_answer given note.kind (apply_length d.max note (lengths_of d)).1 none told)
       (answer_stays d.max note (lengths_of d) given told bad) (in_order d who number may note (Event.Answer given)) (of_others d who number may note (Event.Answer given))
 
   -- the object's length, if there is one
@@ -125,6 +125,7 @@ module _ (d : Directory) (sound : IsSound d) (who : Actor) (number : ℕ) (note 
   refused_sound given e =
       answered given (told (Some given) e)
       (subst (λ (o : Option Reply). IfSome o (λ r. is_ok r ≡ false)) e (refused_is_not_ok d.max note.kind note.offset note.length length_now))
+      (subst (λ (o : Option Reply). IfSome o HasNoBytes) e (refused_has_no_bytes d.max note.kind note.offset note.length length_now))
 
   -- ---- an object that is there
   module _ (object : Object) (found : find_object note.name d.objects ≡ Some object) (accepted : refusal d.max note length_now ≡ None) where
@@ -225,7 +226,7 @@ module _ (d : Directory) (sound : IsSound d) (who : Actor) (number : ℕ) (note 
     stat_sound : note.kind ≡ Kind.Stat → IsSound (append_point who number note (Event.Answer (reply.Length object.length)) d)
     stat_sound e =
         answered (reply.Length object.length)
-        (told None accepted ∙ ap (λ k. reply_by k (found_length length_now)) e ∙ ap (λ o. reply.Length (found_length o)) length_is) refl
+        (told None accepted ∙ ap (λ k. reply_by k (found_length length_now)) e ∙ ap (λ o. reply.Length (found_length o)) length_is) refl tt
 
     -- a delete removes the object
     delete_sound : note.kind ≡ Kind.Delete → IsSound (append_point who number note (Event.Answer reply.Done) (without_object object d))

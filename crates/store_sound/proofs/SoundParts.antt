@@ -65,7 +65,7 @@ module _ (d : Directory) (passes : List Pass) where
         newest = right.newest;
         apart = right.apart;
         listed = sound.listed;
-        placed = All-weaker (IsPlaced d) (IsPlaced with_passes) (λ version h. record { row_or_none = h.row_or_none; current = h.current }) d.versions sound.placed;
+        placed = All-weaker (IsPlaced d) (IsPlaced with_passes) (λ version h. record { row_or_none = h.row_or_none; current = h.current; drawn = h.drawn }) d.versions sound.placed;
         pinned_placed = right.placed;
         versions = All-weaker (HasVersions d) (HasVersions with_passes) (λ pass h. record { pinned = h.pinned; drawn = h.drawn }) passes right.versions;
       }
@@ -202,7 +202,7 @@ module _ (d : Directory) (versions : List Version) where
         newest = sound.newest;
         apart = sound.apart;
         listed = λ number h. sound.listed number (back number h);
-        placed = All-weaker (IsPlaced d) (IsPlaced with_versions) (λ version h. record { row_or_none = h.row_or_none; current = h.current }) versions (placed_moved d versions sound moves);
+        placed = All-weaker (IsPlaced d) (IsPlaced with_versions) (λ version h. record { row_or_none = h.row_or_none; current = h.current; drawn = h.drawn }) versions (placed_moved d versions sound moves);
         pinned_placed = all_by (PinsPlaced with_versions) d.passes
             (λ pass has. pins_placed_moved d versions sound moves pass (All-contains (HasVersions d) d.passes pass sound.versions has) (All-contains (PinsPlaced d) d.passes pass sound.pinned_placed has));
         versions = All-weaker (HasVersions d) (HasVersions with_versions)

@@ -82,6 +82,10 @@ garbage d number e = by (find test (enumerate_from 0 d.versions)) refl e
 taken_is_not_current : Standing.Taken ≡ Standing.Current → ⊥
 taken_is_not_current e = false≢true (ap is_current_standing e)
 
+-- nor a drawn one
+taken_is_not_drawn : Standing.Taken ≡ Standing.Drawn → ⊥
+taken_is_not_drawn e = cc
+
 module _ (d : Directory) (sound : IsSound d) (number : ℕ) (is : IsGarbage d number) where
   -- it is the one that is taken
   the_one : (n : ℕ) → is_among n (number ∷ []) ≡ true → n ≡ number
@@ -103,7 +107,7 @@ module _ (d : Directory) (sound : IsSound d) (number : ℕ) (is : IsGarbage d nu
             let free : (IsTrue (is_live pass.reaped) → ⊥) ⊎ (nat_eq number pin.version ≡ false) = unpinned pass pin has pins in
             absurd (not_free live (here ∙ the_one n e) free);
         drawn = λ _ _ _ _ drawn. absurd (drawn_is_not_superseded version.standing drawn (subst (λ m. slice_get d.versions m ≡ Some version → version.standing ≡ Standing.Superseded) (sym (the_one n e)) (standing_of d.versions Standing.Superseded number version is.stands) found));
-        placed = λ h. record { row_or_none = h.row_or_none; current = λ c. absurd (taken_is_not_current c) };
+        placed = λ h. record { row_or_none = h.row_or_none; current = λ c. absurd (taken_is_not_current c); drawn = λ c. absurd (taken_is_not_drawn c) };
         whole = λ h. h;
       }
     where
@@ -174,6 +178,11 @@ swept_current : (standing : Standing) → swept_standing standing ≡ Standing.C
 swept_current Standing.Taken e = absurd (false≢true (ap is_current_standing e))
 swept_current standing e = e
 
+-- nor is one drawn anew
+swept_drawn : (standing : Standing) → swept_standing standing ≡ Standing.Drawn → standing ≡ Standing.Drawn
+swept_drawn Standing.Taken e = absurd (cc)
+swept_drawn standing e = e
+
 module _ (d : Directory) (sound : IsSound d) (number : ℕ) where
   -- the versions after
   abbrev swept_versions : List Version
@@ -203,7 +212,7 @@ module _ (d : Directory) (sound : IsSound d) (number : ℕ) where
             moves = record {
               pinned = λ _ _ _ _ _ _ h. stands h;
               drawn = λ _ _ _ _ h. swept_stays before.standing Standing.Drawn h refl;
-              placed = λ h. record { row_or_none = h.row_or_none; current = λ c. h.current (swept_current before.standing c) };
+              placed = λ h. record { row_or_none = h.row_or_none; current = λ c. h.current (swept_current before.standing c); drawn = λ c. h.drawn (swept_drawn before.standing c) };
               whole = λ h. h;
             };
             on = λ h. swept_stays before.standing Standing.Current h refl;
