@@ -2,10 +2,10 @@
 use Rattle.std.specs.Prelude.{ℕ, ◌+◌, ◌*◌, ◌-◌, min, max, List, [], ◌∷◌, ◌++◌, length, get_or, take, drop, replicate, fold, Option, None, Some}
 use Rattle.clay_grid.specs.Shape.{Shape, stripe_length}
 use Rattle.store_map.specs.Content.{content_bytes, overwrite}
-use Rattle.store_map.specs.declared.actor.Actor.{Actor}
 use Rattle.store_map.specs.declared.call.Call.{Call}
 use Rattle.store_map.specs.declared.call.Call.TheVariants as call
 use Rattle.store_map.specs.declared.script.Script.{Script}
+use Rattle.store_core.specs.Calls.{Calls}
 use Rattle.store_core.specs.Directory.{Version}
 use Rattle.store_core.specs.History.{call_of}
 
@@ -28,14 +28,14 @@ abbrev pub old_content : Shape → List (List ℕ) → Option ℕ → List ℕ
 old_content g contents None = replicate (stripe_length g) 0
 old_content g contents (Some base) = get_or contents base []
 
--- a version's content, by those of the versions before it, where a call is known by its actor and number
-abbrev pub content_after : Shape → (Actor → ℕ → Option Call) → List (List ℕ) → Version → List ℕ
+-- a version's content, by those of the versions before it
+abbrev pub content_after : Shape → Calls → List (List ℕ) → Version → List ℕ
 content_after g calls contents version =
     let written : ℕ × List ℕ = written_by (calls version.actor version.number) in
     lay_over g version.stripe (old_content g contents version.base) written.0 written.1
 
 -- the contents of all versions, in the order in which they were drawn
-abbrev pub contents_by : Shape → (Actor → ℕ → Option Call) → List Version → List (List ℕ)
+abbrev pub contents_by : Shape → Calls → List Version → List (List ℕ)
 contents_by g calls versions = fold (λ contents version. contents ++ content_after g calls contents version ∷ []) [] versions
 
 -- the same for a script's calls

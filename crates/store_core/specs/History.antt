@@ -15,6 +15,7 @@ use Rattle.transcript_text.specs.declared.shown.Shown.{Shown}
 use Rattle.transcript_text.specs.declared.shown.Shown.TheVariants as shown
 use Rattle.transcript_text.specs.declared.line.HLine.{HLine}
 use Rattle.store_core.specs.Act.{Outcome}
+use Rattle.store_core.specs.Calls.{Calls}
 use Rattle.store_core.specs.Directory.{Event, Point}
 use Rattle.store_core.specs.Core.{Core}
 use Rattle.store_core.specs.Work.{Ended}
@@ -26,7 +27,7 @@ is_answered (Outcome.Served point) = true
 is_answered _ = false
 
 -- a client's call in the script
-abbrev pub call_of : Script → Actor → ℕ → Option Call
+abbrev pub call_of : Script → Calls
 call_of script (actor.Client i) number = option_and_then (λ part. slice_get part.calls number) (slice_get script.clients i)
 call_of script who number = None
 
@@ -67,7 +68,7 @@ line_of point (Some call) (Some reply) = record { point = point; call = call; re
 line_of point call reply = []
 
 -- the lines of the points from one on, over the map that stands there, by what is known of calls: which they are, and whether they were answered
-abbrev pub history_from : ℕ → (Actor → ℕ → Option Call) → (Actor → ℕ → Bool) → ℕ → Objects → List Point → List HLine
+abbrev pub history_from : ℕ → Calls → (Actor → ℕ → Bool) → ℕ → Objects → List Point → List HLine
 history_from max calls answered place objects [] = []
 history_from max calls answered place objects (point ∷ points) =
     let after : Objects × Reply = applied max objects point.event (calls point.actor point.number) in

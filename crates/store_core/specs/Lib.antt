@@ -3,6 +3,7 @@ pub mod Told
 pub mod Placements
 pub mod Note
 pub mod Act
+pub mod Calls
 pub mod ActPlace
 pub mod Gathering
 pub mod GatheringParts

@@ -27,5 +27,6 @@ pub mod RunsSound
 pub mod Rounds
 pub mod Leading
 pub mod Invariants
+pub mod DirectoryInvariants
 pub mod NeverAway
 pub mod ToldRuns

@@ -72,7 +72,7 @@ pub record ActorSound (g : Shape) (tries : ℕ) (who : Actor) (jobs : List Job) 
   pub others : (other : Actor) → same_actor other who ≡ false → StaysReady other before.directory after.0.directory
 
 -- want of memory that is told first leaves the actor ready
-short_ready : (g : Shape) (tries : ℕ) (job : Job) → HasTarget g job → (who : Actor) (number : ℕ) (told : List Told) (d : Directory) (coding has : Bool)
+pub short_ready : (g : Shape) (tries : ℕ) (job : Job) → HasTarget g job → (who : Actor) (number : ℕ) (told : List Told) (d : Directory) (coding has : Bool)
     → Ready (drawn_count g job.note) who number (rank (phase_of (next_act g tries job told))) (versions_told told) d
     → Ready (drawn_count g job.note) who number (rank (phase_of (next_act g tries job (told_first coding has g job told)))) (versions_told (told_first coding has g job told)) d
 short_ready g tries job target who number told d true true ready =
