@@ -18,7 +18,8 @@ use Rattle.store_core.specs.Read.{parts_of, next_read, next_single}
 use Rattle.store_core.specs.Write.{old_parts, trying}
 use Rattle.store_core.specs.Rebuild.{placing, installing, confirming, next_rebuild}
 use Rattle.store_core.specs.NextAct.{Job, next_by}
-use Rattle.store_calls.specs.Orders.{AreGathered, LookedInOrder}
+use Rattle.store_calls.specs.Orders.{AreGathered}
+use Rattle.store_calls.specs.WriteOrders.{LookedInOrder}
 use Rattle.store_calls.specs.ToldInSteps.{HasStep}
 use Rattle.store_calls.proofs.Histories.{AreCalm, steps_by, steps_answers, AllGo, go_past, IsPast, Parted, parted, Made, made}
 use Rattle.store_calls.proofs.Stages.{Stage, stage_act, Known, Ran, ran_now}

@@ -17,6 +17,7 @@ use Rattle.store_core.specs.Tell.{is_changed, cut_by}
 use Rattle.store_calls.specs.AnswerLaws.{is_on_pass}
 use Rattle.store_calls.specs.CauseLaws.{changes_of}
 use Rattle.store_calls.specs.EndLaws.{HearsShort, IsLook, AnswersEndCalls}
+use Rattle.store_calls.specs.TargetLaws.{TargetsEndRebuilds}
 use Rattle.store_calls.proofs.Cuts.{cuts_change_no_act}
 use Rattle.store_calls.proofs.GatheringFalls.{IsPlain}
 use Rattle.store_calls.proofs.Questions.{IsQuestion}
@@ -416,6 +417,18 @@ answers_end_calls g tries job =
           one_ends g tries job told (Told.Superseded newer) Unknown AtConfirm (Act.Finish (Outcome.Superseded newer)) tt (superseded g tries newer) (subst AtConfirm (sym e) tt);
       rebuilt = λ told server epoch e. one_ends g tries job told Told.Ended Unknown AtRepaired (Act.Finish Outcome.Rebuilt) tt (rebuilt g tries) (subst AtRepaired (sym e) tt);
       contended = λ told placed base newer write e few. contended_by job.note.kind g tries job told base newer write few;
+      no_memory_at_look = λ told h. one_ends g tries job told Told.Short Unknown IsLook (Act.Finish Outcome.NoMemory) tt (short_at_look g tries) h;
+      pass_ends_without_memory = λ told h later.
+          one_ends g tries job told Told.Short (HasShortage []) HearsLater (Act.AtDirectory DirectoryStep.End) tt (short_ends_pass g tries)
+          (hears_later (next_act g tries job told) h later);
+      no_memory = λ told h.
+          two_end g tries job told Told.Short Told.Ended (HasShortage (Told.Ended ∷ [])) HearsShort (Act.Finish Outcome.NoMemory) tt tt (without_memory g tries) h;
+    }
+
+-- how a target's answers end a rebuild
+pub targets_end_rebuilds : (g : Shape) (tries : ℕ) (job : Job) → TargetsEndRebuilds g tries job
+targets_end_rebuilds g tries job =
+    record {
       pass_ends_when_asked = λ seen rebuild. ap (λ k. next_by k g tries job (Told.PinnedStripe seen ∷ Told.Here ∷ [])) rebuild;
       here_when_asked = λ seen rebuild. here_asked job.note.kind g tries job seen rebuild;
       pass_ends_when_it_comes = λ told server version e.
@@ -428,10 +441,4 @@ answers_end_calls g tries job =
           one_ends g tries job told (Told.Away downs) Unknown AtInstall (Act.AtDirectory DirectoryStep.End) tt (away_ends_pass g tries downs) (subst AtInstall (sym e) tt);
       away_when_it_comes = λ told server version downs e.
           two_end g tries job told (Told.Away downs) Told.Ended Unknown AtInstall (Act.Finish (Outcome.Away downs)) tt tt (not_taken g tries downs) (subst AtInstall (sym e) tt);
-      no_memory_at_look = λ told h. one_ends g tries job told Told.Short Unknown IsLook (Act.Finish Outcome.NoMemory) tt (short_at_look g tries) h;
-      pass_ends_without_memory = λ told h later.
-          one_ends g tries job told Told.Short (HasShortage []) HearsLater (Act.AtDirectory DirectoryStep.End) tt (short_ends_pass g tries)
-          (hears_later (next_act g tries job told) h later);
-      no_memory = λ told h.
-          two_end g tries job told Told.Short Told.Ended (HasShortage (Told.Ended ∷ [])) HearsShort (Act.Finish Outcome.NoMemory) tt tt (without_memory g tries) h;
     }

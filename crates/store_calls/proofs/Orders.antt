@@ -16,7 +16,8 @@ use Rattle.store_core.specs.Write.{old_parts, trying}
 use Rattle.store_core.specs.Rebuild.{placing, installing, confirming, next_rebuild}
 use Rattle.store_core.specs.NextAct.{Job}
 use Rattle.store_calls.specs.OutcomeLaws.{MayBeServed}
-use Rattle.store_calls.specs.Orders.{steps_since, ServedInOrder, ConfirmedInOrder, SettledInOrder, AnsweredByLook}
+use Rattle.store_calls.specs.Orders.{steps_since, ServedInOrder, ConfirmedInOrder, AnsweredByLook}
+use Rattle.store_calls.specs.WriteOrders.{SettledInOrder}
 use Rattle.store_calls.specs.OrderLaws.{CallsKeepOrder}
 use Rattle.store_core.specs.Tell.{tell}
 use Rattle.store_calls.specs.ToldInSteps.{HasStep, AreTold, act_after}

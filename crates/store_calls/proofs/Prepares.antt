@@ -16,7 +16,7 @@ use Rattle.store_core.specs.GatheringParts.{ending, gathering}
 use Rattle.store_core.specs.Put.{preparing, preparing_all, drawing, next_put}
 use Rattle.store_core.specs.Write.{old_parts, trying}
 use Rattle.store_core.specs.Tell.{is_versions}
-use Rattle.store_calls.specs.Orders.{prepares_of, prepares}
+use Rattle.store_calls.specs.WriteOrders.{prepares_of, prepares}
 use Rattle.store_calls.proofs.Falls.{AtCommit, ending_no_commit, committed_no_commit}
 use Rattle.store_calls.proofs.Histories.{AreCalm, steps_by, IsPast, Parted, parted}
 

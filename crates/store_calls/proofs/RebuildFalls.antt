@@ -10,7 +10,8 @@ use Rattle.store_core.specs.Rebuild.{placing, installing, confirming, rebuilding
 use Rattle.store_core.specs.NextAct.{Job}
 use Rattle.store_core.specs.Tell.{in_one, cut_chunk, cut_rebuild}
 use Rattle.store_calls.specs.AskLaws.{IsAsking}
-use Rattle.store_calls.specs.GatheringLeft.{result_left, placing_left, installing_left, confirming_left, rebuilding_left, rebuild_left}
+use Rattle.store_calls.specs.GatheringLeft.{result_left}
+use Rattle.store_calls.specs.RebuildLeft.{placing_left, installing_left, confirming_left, rebuilding_left, rebuild_left}
 use Rattle.store_calls.specs.Answers.{Answers}
 use Rattle.store_calls.proofs.Asks.{chunk_asks}
 use Rattle.store_calls.proofs.Grows.{chunk_grows}

@@ -11,7 +11,8 @@ use Rattle.store_core.specs.Write.{old_parts}
 use Rattle.store_core.specs.NextAct.{Job}
 use Rattle.store_core.specs.Tell.{tell_by}
 use Rattle.store_calls.specs.StepsLeft.{ending_left, settling_left, committed_left, committing_left, preparing_left, drawing_left, put_left, single_left}
-use Rattle.store_calls.specs.GatheringLeft.{result_left, gathering_left, read_left, tries_left, write_left, placing_left, installing_left, confirming_left, rebuilding_left, rebuild_left}
+use Rattle.store_calls.specs.GatheringLeft.{result_left, gathering_left, read_left, tries_left, write_left}
+use Rattle.store_calls.specs.RebuildLeft.{placing_left, installing_left, confirming_left, rebuilding_left, rebuild_left}
 use Rattle.store_calls.specs.CallLeft.{left_by}
 use Rattle.store_calls.proofs.Grows.{JustEnded, Grows, part_grows, chunk_grows}
 use Rattle.store_calls.proofs.Falls.{settling_start}

@@ -15,7 +15,8 @@ use Rattle.store_core.specs.Gathering.{Gathering, Part}
 use Rattle.store_core.specs.GatheringParts.{gather_part, gather_chunk}
 use Rattle.store_core.specs.Read.{parts_of}
 use Rattle.store_core.specs.NextAct.{Job, next_by, next_act}
-use Rattle.store_calls.specs.Orders.{steps_since, PreparedInOrder, prepares}
+use Rattle.store_calls.specs.Orders.{steps_since}
+use Rattle.store_calls.specs.WriteOrders.{PreparedInOrder, prepares}
 use Rattle.store_core.specs.Put.{settling, next_put}
 use Rattle.store_core.specs.Write.{old_parts, trying}
 use Rattle.store_core.specs.Tell.{in_one, cut_parts, cut_read, cut_write, cut_rebuild, cut_by, is_versions, is_changed, tell}

@@ -6,7 +6,8 @@ use Rattle.store_core.specs.Note.{Note, Kind}
 use Rattle.store_core.specs.Bounds.{touched_count, read_count}
 use Rattle.store_core.specs.NextAct.{Job}
 use Rattle.store_calls.specs.StepsLeft.{put_left, single_left}
-use Rattle.store_calls.specs.GatheringLeft.{read_left, write_left, rebuild_left}
+use Rattle.store_calls.specs.GatheringLeft.{read_left, write_left}
+use Rattle.store_calls.specs.RebuildLeft.{rebuild_left}
 
 -- the stripes that one look pins at most; a write keeps old bytes of two stripes at most, its first and its last
 abbrev pub pins_by : Kind → Shape → ℕ → Note → ℕ

@@ -1,11 +1,10 @@
 -- Which answers end a call, and how: the other direction of the causes of outcomes.
 use Rattle.std.specs.Prelude.{◌≡◌, ℕ, ◌≤◌, ◌+◌, ◌*◌, List, [], ◌∷◌, ◌++◌, length, fold, replicate, IsTrue, ⊤}
 use Rattle.clay_grid.specs.Shape.{Shape, chunk_count}
-use Rattle.store_map.specs.declared.placement.Found.TheVariants as found
 use Rattle.store_map.specs.declared.placement.Placement.{Placement}
 use Rattle.store_map.specs.declared.reply.Reply.{Reply}
 use Rattle.store_map.specs.declared.reply.Reply.TheVariants as reply
-use Rattle.store_core.specs.Told.{Told, Seen}
+use Rattle.store_core.specs.Told.{Told}
 use Rattle.store_core.specs.Note.{Note, Kind}
 use Rattle.store_core.specs.Act.{Act, DirectoryStep, ServerStep, Outcome}
 use Rattle.store_calls.specs.AnswerLaws.{is_on_pass}
@@ -56,31 +55,6 @@ pub record AnswersEndCalls (g : Shape) (tries : ℕ) (job : Job) : Type 0 where
       (told : List Told) (placed : List (List Placement)) (base newer : ℕ) → job.note.kind ≡ Kind.Write →
       next_act g tries job told ≡ Act.AtDirectory (DirectoryStep.Commit placed) → tries ≤ length (changes_of told) + 1 →
       next_act g tries job (tell g job told (Told.Changed base newer)) ≡ Act.Finish (Outcome.Contended (changes_of told ++ (base, newer) ∷ []))
-  -- a rebuild whose target has its chunk, when it is asked or when the chunk comes; the pass ends first
-  pub pass_ends_when_asked :
-      (seen : Seen) → job.note.kind ≡ Kind.Rebuild → next_act g tries job (Told.PinnedStripe seen ∷ Told.Here ∷ []) ≡ Act.AtDirectory DirectoryStep.End
-  pub here_when_asked :
-      (seen : Seen) → job.note.kind ≡ Kind.Rebuild →
-      next_act g tries job (Told.PinnedStripe seen ∷ Told.Here ∷ Told.Ended ∷ []) ≡ Act.Finish Outcome.Here
-  pub pass_ends_when_it_comes :
-      (told : List Told) (server version : ℕ) → next_act g tries job told ≡ Act.AtServer server (ServerStep.Install version) →
-      next_act g tries job (tell g job told Told.AlreadyThere) ≡ Act.AtDirectory DirectoryStep.End
-  pub here_when_it_comes :
-      (told : List Told) (server version : ℕ) → next_act g tries job told ≡ Act.AtServer server (ServerStep.Install version) →
-      next_act g tries job (tell g job (tell g job told Told.AlreadyThere) Told.Ended) ≡ Act.Finish Outcome.Here
-  -- a rebuild whose target is away, likewise
-  pub pass_ends_when_away :
-      (seen : Seen) (downs : ℕ) → job.note.kind ≡ Kind.Rebuild →
-      next_act g tries job (Told.PinnedStripe seen ∷ Told.Missing (found.Away downs) ∷ []) ≡ Act.AtDirectory DirectoryStep.End
-  pub away_when_asked :
-      (seen : Seen) (downs : ℕ) → job.note.kind ≡ Kind.Rebuild →
-      next_act g tries job (Told.PinnedStripe seen ∷ Told.Missing (found.Away downs) ∷ Told.Ended ∷ []) ≡ Act.Finish (Outcome.Away downs)
-  pub pass_ends_when_not_taken :
-      (told : List Told) (server version downs : ℕ) → next_act g tries job told ≡ Act.AtServer server (ServerStep.Install version) →
-      next_act g tries job (tell g job told (Told.Away downs)) ≡ Act.AtDirectory DirectoryStep.End
-  pub away_when_it_comes :
-      (told : List Told) (server version downs : ℕ) → next_act g tries job told ≡ Act.AtServer server (ServerStep.Install version) →
-      next_act g tries job (tell g job (tell g job told (Told.Away downs)) Told.Ended) ≡ Act.Finish (Outcome.Away downs)
   -- want of memory: the call is over where it looked, and after any later step its pass ends first
   pub no_memory_at_look : (told : List Told) → IsLook (next_act g tries job told) → next_act g tries job (tell g job told Told.Short) ≡ Act.Finish Outcome.NoMemory
   pub pass_ends_without_memory :

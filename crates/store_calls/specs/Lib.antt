@@ -4,11 +4,13 @@ pub mod CauseLaws
 pub mod AskLaws
 pub mod StepsLeft
 pub mod GatheringLeft
+pub mod RebuildLeft
 pub mod CallLeft
 pub mod Answers
 pub mod StepLaws
 pub mod AnswerLaws
 pub mod EndLaws
+pub mod TargetLaws
 pub mod GatheredLaws
 pub mod AnswersByKind
 pub mod ToldInSteps
@@ -16,6 +18,7 @@ pub mod Losses
 pub mod OutcomeLaws
 pub mod MemoryCauses
 pub mod Orders
+pub mod WriteOrders
 pub mod OrderLaws
 pub mod CutLaws
 pub mod GivenLaws

@@ -8,7 +8,8 @@ use Rattle.store_core.specs.Told.{Told}
 use Rattle.store_core.specs.Note.{Kind}
 use Rattle.store_core.specs.Act.{Act, DirectoryStep, ServerStep, Outcome}
 use Rattle.store_core.specs.NextAct.{Job}
-use Rattle.store_calls.specs.Orders.{steps_since, ServedInOrder, ConfirmedInOrder, LookedInOrder, PreparedInOrder, SettledInOrder, AnsweredByLook}
+use Rattle.store_calls.specs.Orders.{steps_since, ServedInOrder, ConfirmedInOrder, AnsweredByLook}
+use Rattle.store_calls.specs.WriteOrders.{LookedInOrder, PreparedInOrder, SettledInOrder}
 use Rattle.store_calls.specs.ToldInSteps.{AreTold, act_after}
 
 -- of a call that is told its answers step by step

@@ -8,6 +8,7 @@ ghost use Rattle.store_calls.specs.AnswersByKind.{PlacesAnswerByKind};
 ghost use Rattle.store_calls.specs.MemoryCauses.{MemoryWasWanting, OutcomesInSteps};
 ghost use Rattle.store_calls.specs.OrderLaws.{CallsKeepOrder};
 ghost use Rattle.store_calls.specs.EndLaws.{AnswersEndCalls};
+ghost use Rattle.store_calls.specs.TargetLaws.{TargetsEndRebuilds};
 ghost use Rattle.store_calls.specs.GatheredLaws.{GatheringsEndCalls};
 ghost use Rattle.store_core.specs.NextAct.{Job};
 ghost use Rattle.store_calls.specs.AskLaws.{AsksFewTimes};
@@ -97,10 +98,11 @@ pub fn calls_keep_order()
 
 /// Which answers end a call, and with which outcome: a look's reply, a commit, a reap, a version that
 /// is superseded, the last change that a write may be told, the last step of a rebuild, a target that
-/// has its chunk, want of memory. Where one of the last two is told, the pass ends first, if the call
-/// has one yet.
+/// has its chunk or is away, want of memory. Where one of the last three is told, the pass ends first,
+/// if the call has one yet.
 pub fn answers_end_calls()
-    ensures { (g : Shape) (tries : ℕ) (job : Job) → AnswersEndCalls g tries job }
+    ensures answers { (g : Shape) (tries : ℕ) (job : Job) → AnswersEndCalls g tries job }
+    ensures targets { (g : Shape) (tries : ℕ) (job : Job) → TargetsEndRebuilds g tries job }
 {}
 
 /// A get or a read that has gathered all its bytes ends with them; where too many servers lack their

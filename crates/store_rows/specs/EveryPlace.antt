@@ -1,6 +1,6 @@
 -- What the scripts with losses at each place show.
 use Rattle.std.specs.Prelude.{[], ◌∷◌}
-use Rattle.store_rows.specs.Rows.{server}
+use Rattle.store_rows.specs.RowLines.{server}
 use Rattle.store_rows.specs.RowsManyLosses.{read_after_three_losses}
 use Rattle.store_rows.specs.RowsEveryPlace.{ShowsFrom, put_with_losses, one_loss, three_losses, bytes_with, write_with_loss, written_with, rebuild_with_loss, rebuilt_with}
 

@@ -1,4 +1,5 @@
 pub mod Rows
+pub mod RowLines
 pub mod RowsCalls
 pub mod RowsOneLoss
 pub mod RowsManyLosses
@@ -8,6 +9,7 @@ pub mod RowsRebuilds
 pub mod RowsRebuildLosses
 pub mod RowsShort
 pub mod RowsAway
+pub mod RowsAwayReads
 pub mod RowsEveryPlace
 pub mod EveryPlace
 pub mod RowsLarge

@@ -1,21 +1,9 @@
 -- A worked row: a script, and the transcript that it shows where memory is ample.
-use Rattle.std.specs.Prelude.{◌≡◌, ℕ, List, [], None}
-use Rattle.store_map.specs.declared.placement.Found.TheVariants as found
-use Rattle.store_map.specs.declared.placement.Placement.TheVariants as placement
-use Rattle.store_map.specs.declared.reply.Reply.{Reply}
+use Rattle.std.specs.Prelude.{◌≡◌, ℕ, List, [], ◌∷◌, None, codes}
+use Rattle.store_map.specs.declared.actor.Token.{Token}
+use Rattle.store_map.specs.declared.call.Call.TheVariants as call
+use Rattle.store_map.specs.declared.content.Content.TheVariants as content
 use Rattle.store_map.specs.declared.script.Script.{Script}
-use Rattle.transcript_text.specs.declared.call_name.CallName.{CallName}
-use Rattle.transcript_text.specs.declared.shown.Shown.TheVariants as shown
-use Rattle.transcript_text.specs.declared.cause.Triple.{Triple}
-use Rattle.transcript_text.specs.declared.cause.Cause.{Cause}
-use Rattle.transcript_text.specs.declared.cause.RepairResult.{RepairResult}
-use Rattle.transcript_text.specs.declared.line.HLine.{HLine}
-use Rattle.transcript_text.specs.declared.line.XLine.{XLine}
-use Rattle.transcript_text.specs.declared.line.RLine.{RLine}
-use Rattle.transcript_text.specs.declared.line.OLine.{OLine}
-use Rattle.transcript_text.specs.declared.line.LLine.{LLine}
-use Rattle.transcript_text.specs.declared.line.GLine.{GLine}
-use Rattle.transcript_text.specs.declared.line.TLine.{TLine}
 use Rattle.transcript_text.specs.declared.transcript.Transcript.{Transcript}
 use Rattle.store_core.specs.Shown.{shown_of}
 
@@ -41,42 +29,18 @@ small_script =
       schedule = [];
     }
 
+-- an object of one stripe
+abbrev pub object_bytes : List ℕ
+object_bytes = 1 ∷ 0 ∷ 0 ∷ 0 ∷ 0 ∷ 0 ∷ 0 ∷ 0 ∷ []
+
+-- a put and a get of the object, by this schedule
+abbrev pub put_and_get : List Token → Script
+put_and_get schedule =
+    record small_script {
+      clients = record { calls = call.Put (codes "a") (content.Hex object_bytes) ∷ call.Get (codes "a") ∷ []; leave = None } ∷ [];
+      schedule = schedule;
+    }
+
 -- a transcript without lines
 abbrev pub no_lines : Transcript
 no_lines = record { history = []; refused = []; repairs = []; unanswered = []; objects = []; takes = []; servers = [] }
-
--- the lines of a transcript, in short
-abbrev pub replied : ℕ → CallName → Reply → HLine
-replied point call reply = record { point = point; call = call; reply = shown.Reply reply }
-
--- a call that has taken effect and has no reply
-abbrev pub unfinished : ℕ → CallName → HLine
-unfinished point call = record { point = point; call = call; reply = shown.Unfinished }
-
--- a call that was refused
-abbrev pub refused : CallName → Cause → XLine
-refused call cause = record { call = call; cause = cause }
-
--- a rebuild and its result
-abbrev pub repaired : CallName → RepairResult → RLine
-repaired call result = record { call = call; result = result }
-
--- a call without a reply
-abbrev pub unanswered : CallName → OLine
-unanswered call = record { call = call }
-
--- an object at the end
-abbrev pub listed : List ℕ → ℕ → LLine
-listed name length = record { name = name; length = length }
-
--- what a call took from each server
-abbrev pub took : CallName → List ℕ → GLine
-took call takes = record { call = call; takes = takes }
-
--- a server at the end
-abbrev pub server : ℕ → ℕ → ℕ → ℕ → TLine
-server number taken held epoch = record { server = number; taken = taken; held = held; epoch = epoch }
-
--- a server that lacked its chunk, which was placed
-abbrev pub triple : ℕ → ℕ → ℕ → Triple
-triple server placed epoch = record { server = server; placed = placement.At placed; found = found.Absent epoch }

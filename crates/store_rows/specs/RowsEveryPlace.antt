@@ -12,7 +12,8 @@ use Rattle.transcript_text.specs.declared.cause.RepairResult.TheVariants as resu
 use Rattle.transcript_text.specs.declared.line.TLine.{TLine}
 use Rattle.transcript_text.specs.declared.transcript.Transcript.{Transcript}
 use Rattle.store_core.specs.Shown.{shown_of}
-use Rattle.store_rows.specs.Rows.{small_script, no_lines, replied, repaired, listed, took}
+use Rattle.store_rows.specs.Rows.{small_script, no_lines}
+use Rattle.store_rows.specs.RowLines.{replied, repaired, listed, took}
 use Rattle.store_rows.specs.RowsCalls.{put_then_get}
 
 -- for so many steps from the first number on the script shows this transcript

@@ -10,7 +10,8 @@ use Rattle.store_map.specs.declared.script.ClientPart.{ClientPart}
 use Rattle.store_map.specs.declared.script.RepairPart.{RepairPart}
 use Rattle.transcript_text.specs.declared.call_name.CallName.TheVariants as name
 use Rattle.transcript_text.specs.declared.cause.RepairResult.TheVariants as result
-use Rattle.store_rows.specs.Rows.{Row, small_script, no_lines, replied, repaired, listed, took, server}
+use Rattle.store_rows.specs.Rows.{Row, small_script, no_lines}
+use Rattle.store_rows.specs.RowLines.{replied, repaired, listed, took, server}
 
 -- two objects of four stripes; a write that grows the first, and calls that read both
 abbrev pub three_clients : List ClientPart

@@ -5,20 +5,17 @@ use Rattle.store_map.specs.declared.content.Content.TheVariants as content
 use Rattle.store_map.specs.declared.reply.Reply.TheVariants as reply
 use Rattle.store_map.specs.declared.actor.Token.TheVariants as token
 use Rattle.transcript_text.specs.declared.call_name.CallName.TheVariants as name
-use Rattle.store_rows.specs.Rows.{Row, small_script, no_lines, replied, listed, took, server}
+use Rattle.store_rows.specs.Rows.{Row, small_script, object_bytes, put_and_get, no_lines}
+use Rattle.store_rows.specs.RowLines.{replied, listed, took, server}
 
 -- one server was emptied after the put: the missing chunk is made from the repair layers of the others
 abbrev pub read_after_one_loss : Row
 read_after_one_loss =
     record {
-      script =
-          record small_script {
-            clients = record { calls = call.Put (codes "a") (content.Hex (1 ∷ 0 ∷ 0 ∷ 0 ∷ 0 ∷ 0 ∷ 0 ∷ 0 ∷ [])) ∷ call.Get (codes "a") ∷ []; leave = None } ∷ [];
-            schedule = replicate 11 (token.Client 0) ++ token.Wipe 0 ∷ token.Drain ∷ [];
-          };
+      script = put_and_get (replicate 11 (token.Client 0) ++ token.Wipe 0 ∷ token.Drain ∷ []);
       transcript =
           record no_lines {
-            history = replied 0 (name.Client 0 0) reply.Done ∷ replied 1 (name.Client 0 1) (reply.Bytes (1 ∷ 0 ∷ 0 ∷ 0 ∷ 0 ∷ 0 ∷ 0 ∷ 0 ∷ [])) ∷ [];
+            history = replied 0 (name.Client 0 0) reply.Done ∷ replied 1 (name.Client 0 1) (reply.Bytes object_bytes) ∷ [];
             objects = listed (codes "a") 8 ∷ [];
             takes = took (name.Client 0 1) (0 ∷ 6 ∷ 2 ∷ 2 ∷ []) ∷ [];
             servers = server 0 0 0 1 ∷ server 1 6 1 0 ∷ server 2 2 1 0 ∷ server 3 2 1 0 ∷ [];
@@ -29,14 +26,10 @@ read_after_one_loss =
 abbrev pub loss_before_prepare : Row
 loss_before_prepare =
     record {
-      script =
-          record small_script {
-            clients = record { calls = call.Put (codes "a") (content.Hex (1 ∷ 0 ∷ 0 ∷ 0 ∷ 0 ∷ 0 ∷ 0 ∷ 0 ∷ [])) ∷ call.Get (codes "a") ∷ []; leave = None } ∷ [];
-            schedule = replicate 2 (token.Client 0) ++ token.Wipe 0 ∷ token.Drain ∷ [];
-          };
+      script = put_and_get (replicate 2 (token.Client 0) ++ token.Wipe 0 ∷ token.Drain ∷ []);
       transcript =
           record no_lines {
-            history = replied 0 (name.Client 0 0) reply.Done ∷ replied 1 (name.Client 0 1) (reply.Bytes (1 ∷ 0 ∷ 0 ∷ 0 ∷ 0 ∷ 0 ∷ 0 ∷ 0 ∷ [])) ∷ [];
+            history = replied 0 (name.Client 0 0) reply.Done ∷ replied 1 (name.Client 0 1) (reply.Bytes object_bytes) ∷ [];
             objects = listed (codes "a") 8 ∷ [];
             takes = took (name.Client 0 1) (4 ∷ 4 ∷ 0 ∷ 0 ∷ []) ∷ [];
             servers = server 0 4 1 1 ∷ server 1 4 1 0 ∷ server 2 0 1 0 ∷ server 3 0 1 0 ∷ [];
@@ -47,14 +40,10 @@ loss_before_prepare =
 abbrev pub loss_after_prepare : Row
 loss_after_prepare =
     record {
-      script =
-          record small_script {
-            clients = record { calls = call.Put (codes "a") (content.Hex (1 ∷ 0 ∷ 0 ∷ 0 ∷ 0 ∷ 0 ∷ 0 ∷ 0 ∷ [])) ∷ call.Get (codes "a") ∷ []; leave = None } ∷ [];
-            schedule = replicate 3 (token.Client 0) ++ token.Wipe 0 ∷ token.Drain ∷ [];
-          };
+      script = put_and_get (replicate 3 (token.Client 0) ++ token.Wipe 0 ∷ token.Drain ∷ []);
       transcript =
           record no_lines {
-            history = replied 0 (name.Client 0 0) reply.Done ∷ replied 1 (name.Client 0 1) (reply.Bytes (1 ∷ 0 ∷ 0 ∷ 0 ∷ 0 ∷ 0 ∷ 0 ∷ 0 ∷ [])) ∷ [];
+            history = replied 0 (name.Client 0 0) reply.Done ∷ replied 1 (name.Client 0 1) (reply.Bytes object_bytes) ∷ [];
             objects = listed (codes "a") 8 ∷ [];
             takes = took (name.Client 0 1) (0 ∷ 6 ∷ 2 ∷ 2 ∷ []) ∷ [];
             servers = server 0 0 0 1 ∷ server 1 6 1 0 ∷ server 2 2 1 0 ∷ server 3 2 1 0 ∷ [];

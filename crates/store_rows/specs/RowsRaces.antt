@@ -6,7 +6,8 @@ use Rattle.store_map.specs.declared.reply.Reply.TheVariants as reply
 use Rattle.store_map.specs.declared.actor.Token.TheVariants as token
 use Rattle.transcript_text.specs.declared.call_name.CallName.TheVariants as name
 use Rattle.transcript_text.specs.declared.cause.Cause.TheVariants as cause
-use Rattle.store_rows.specs.Rows.{Row, small_script, no_lines, replied, refused, listed, took, server}
+use Rattle.store_rows.specs.Rows.{Row, small_script, no_lines}
+use Rattle.store_rows.specs.RowLines.{replied, refused, listed, took, server}
 
 -- a get reads the version that its look pinned, though a put has replaced it; the sweeper takes it only after that
 abbrev pub read_of_a_replaced_version : Row

@@ -6,7 +6,8 @@ use Rattle.store_map.specs.declared.reply.Reply.TheVariants as reply
 use Rattle.store_map.specs.declared.actor.Token.TheVariants as token
 use Rattle.transcript_text.specs.declared.call_name.CallName.TheVariants as name
 use Rattle.transcript_text.specs.declared.cause.RepairResult.TheVariants as result
-use Rattle.store_rows.specs.Rows.{Row, small_script, no_lines, replied, repaired, listed, took, server}
+use Rattle.store_rows.specs.Rows.{Row, small_script, no_lines}
+use Rattle.store_rows.specs.RowLines.{replied, repaired, listed, took, server}
 
 -- a second server is emptied while the rebuild asks who has the chunk: it was asked already and is missed when it is fetched from
 abbrev pub loss_while_looking : Row

@@ -5,7 +5,8 @@ use Rattle.transcript_text.specs.declared.call_name.CallName.TheVariants as name
 use Rattle.transcript_text.specs.declared.cause.Cause.TheVariants as cause
 use Rattle.store_core.specs.Step.{Shortage}
 use Rattle.store_core.specs.Shown.{shown_of}
-use Rattle.store_rows.specs.Rows.{Row, no_lines, replied, refused, server}
+use Rattle.store_rows.specs.Rows.{Row, no_lines}
+use Rattle.store_rows.specs.RowLines.{replied, refused, server}
 use Rattle.store_rows.specs.RowsCalls.{put_then_get}
 
 -- the definitions compute the transcript from the script and these wants of memory
