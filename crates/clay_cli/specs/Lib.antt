@@ -3,3 +3,4 @@ pub mod Play
 pub mod Chunks
 pub mod Recover
 pub mod Top
+pub mod ExitStatus

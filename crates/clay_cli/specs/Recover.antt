@@ -12,10 +12,11 @@ pub record IsLeft (g : Shape) (input : List ℕ) (left : List (Option (Vec ℕ G
   pub entries : AreEntries (lines_of input) (parts_of left)
   pub lengths : AreLong (chunk_length g) left
 
--- the lines of all chunks of the codeword that agrees with those that are left
+-- no more chunks are missing than can be, and these are the lines of all chunks of the codeword that agrees with those that are left
 pub record IsRecovered (g : Shape) (input output : List ℕ) : Type 0 where
   pub left : List (Option (Vec ℕ Global))
   pub is_left : IsLeft g input left
+  pub few : count_by is_none left ≤ g.parity_count
   pub chunks : List (List ℕ)
   pub completes : Completes g left chunks
   pub output_is : output ≡ chunk_lines chunks

@@ -4,10 +4,12 @@
 mod chunks;
 mod output;
 mod play;
+mod program;
 mod recover;
 mod status;
 mod top;
 mod words;
 
+pub use program::run;
 pub use status::Status;
 pub use top::clay_main;

@@ -8,7 +8,8 @@ ghost use Rattle.clay_cli.specs.declared.words.Command.TheVariants.{Play};
 
 use crate::Status;
 use crate::output::Output;
-use script_text::{FaultKind, ScriptFault, read_script};
+use line_grammar::FaultKind;
+use script_text::{ScriptFault, read_script};
 use std::alloc::{AllocError, Global};
 use store_map::Script;
 use store_world::has_one_client;

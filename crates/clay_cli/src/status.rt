@@ -1,20 +1,41 @@
-/// How a call of the program ended. Its number is the program's exit status.
+ghost use Rattle.std.specs.Prelude.{◌≡◌};
+ghost use Rattle.clay_cli.specs.ExitStatus.{status_number};
+
+/// How a call of the program ended.
 #[derive(Clone, Copy, Debug, PartialEq, Eq)]
 pub enum Status {
     /// The command's output was written.
-    Done = 0,
+    Done,
     /// The words ask for no command; the usage line was written.
-    Usage = 1,
+    Usage,
     /// The input is no script, or none of those that are built; one line that says so was written.
-    ScriptRefused = 2,
+    ScriptRefused,
     /// The input has more than 167,772,160 bytes; nothing was written.
-    InputTooLong = 3,
+    InputTooLong,
     /// The source failed; nothing was written.
-    ReadFault = 4,
+    ReadFault,
     /// The sink failed; a prefix of the output was written.
-    WriteFault = 5,
+    WriteFault,
     /// Memory was wanting; nothing was written.
-    OutOfMemory = 6,
+    OutOfMemory,
     /// The input isn't the data that the command asks for; one line that says so was written.
-    DataRefused = 9,
+    DataRefused,
+}
+
+impl Status {
+    /// The program's exit status.
+    pub fn number(self) -> u8
+        ensures { result ≡ status_number self }
+    {
+        match self {
+            Status::Done => 0,
+            Status::Usage => 1,
+            Status::ScriptRefused => 2,
+            Status::InputTooLong => 3,
+            Status::ReadFault => 4,
+            Status::WriteFault => 5,
+            Status::OutOfMemory => 6,
+            Status::DataRefused => 9,
+        }
+    }
 }

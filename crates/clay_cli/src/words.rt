@@ -5,7 +5,7 @@ ghost use Rattle.clay_cli.specs.Words.{Asks, AsksNothing, IsCode, IsCodeCommand}
 ghost use Rattle.clay_cli.specs.declared.words.Command.TheVariants.{Play};
 
 use clay_grid::Geometry;
-use script_text::read_number;
+use line_grammar::read_number;
 
 /// What a call of the program asks for.
 #[derive(Clone, Copy)]

@@ -20,12 +20,12 @@ use Rattle.script_text.specs.Behind.{place_behind, with_line, pending}
 use Rattle.script_text.specs.SoFar.{IsBare, IsAt, IsBegun}
 use Rattle.script_text.specs.Front.{Begun}
 use Rattle.script_text.specs.Fault.{NamesActor, NamesServer}
-use Rattle.script_text.specs.Line.{Line, SizeLine, TriesLine, ClientLine, RepairerLine, LeaveLine, CallLine, RebuildLine, ScheduleLine, StepLine, EndLine}
+use Rattle.line_grammar.specs.Line.{Line, SizeLine, TriesLine, ClientLine, RepairerLine, LeaveLine, CallLine, RebuildLine, ScheduleLine, StepLine, EndLine}
 use Rattle.script_text.specs.Place.{next_place}
 use Rattle.script_text.specs.Reader.{opened}
-use Rattle.script_text.specs.Values.{IsNumber, IsContent, IsCall, IsRebuild, IsScript}
-use Rattle.script_text.specs.Forms.{IsContentForm, IsCallForm, IsOfForm, IsLineOfForm, HasForm}
-use Rattle.script_text.specs.Bounds.{HasNumbers, HasContentNumbers, HasCallNumbers}
+use Rattle.line_grammar.specs.Values.{IsNumber, IsContent, IsCall, IsRebuild, IsScript}
+use Rattle.line_grammar.specs.Forms.{IsContentForm, IsCallForm, IsOfForm, IsLineOfForm, HasForm}
+use Rattle.line_grammar.specs.Bounds.{HasNumbers, HasContentNumbers, HasCallNumbers}
 use Rattle.script_text.specs.declared.place.LineKind.TheVariants as kind
 use Rattle.script_text.specs.declared.place.Place.{Place}
 use Rattle.script_text.specs.declared.place.Place.TheVariants as place

@@ -18,16 +18,16 @@ use Rattle.script_text.specs.SoFar.{IsBegun}
 use Rattle.script_text.specs.Front.{Front, Empty, Opened, Begun, IsFront, front_lines, MayStand, HasEnded}
 use Rattle.script_text.specs.Fault.{FitsLimits, HasGeometry, NamesActor, NamesServer, NamesActorOf, server_of_step, LineFault}
 use Rattle.script_text.specs.FirstFault.{Spelled, IsFrontFault, IsFault}
-use Rattle.script_text.specs.Line.{Line, ClayLine, CodeLine, SizeLine, TriesLine, ClientLine, RepairerLine, LeaveLine, CallLine, RebuildLine, ScheduleLine, StepLine, EndLine, line_text}
-use Rattle.script_text.specs.Lines.{Lacks}
+use Rattle.line_grammar.specs.Line.{Line, ClayLine, CodeLine, SizeLine, TriesLine, ClientLine, RepairerLine, LeaveLine, CallLine, RebuildLine, ScheduleLine, StepLine, EndLine, line_text}
+use Rattle.line_grammar.specs.Lines.{Lacks}
 use Rattle.script_text.specs.Place.{next_place}
 use Rattle.script_text.specs.Reader.{opened}
 use Rattle.script_text.specs.Spelling.{script_lines, spelling}
-use Rattle.script_text.specs.Forms.{IsForm, IsOfForm, IsLineOfForm, HasForm}
-use Rattle.script_text.specs.Bounds.{HasNumbers}
-use Rattle.script_text.specs.Values.{IsNumber, IsScript}
-use Rattle.script_text.specs.declared.fault.FaultKind.{FaultKind}
-use Rattle.script_text.specs.declared.fault.FaultKind.TheVariants as fault
+use Rattle.line_grammar.specs.Forms.{IsForm, IsOfForm, IsLineOfForm, HasForm}
+use Rattle.line_grammar.specs.Bounds.{HasNumbers}
+use Rattle.line_grammar.specs.Values.{IsNumber, IsScript}
+use Rattle.line_grammar.specs.declared.fault.FaultKind.{FaultKind}
+use Rattle.line_grammar.specs.declared.fault.FaultKind.TheVariants as fault
 use Rattle.script_text.specs.declared.place.LineKind.TheVariants as kind
 use Rattle.script_text.specs.declared.place.Place.{Place}
 use Rattle.script_text.specs.declared.place.Place.TheVariants as place

@@ -14,7 +14,7 @@ use Rattle.store_map.specs.declared.script.Script.{Script}
 use Rattle.script_text.specs.Begun.{begun, lines_behind_blocks}
 use Rattle.script_text.specs.Behind.{place_behind, with_line}
 use Rattle.script_text.specs.SoFar.{IsAt}
-use Rattle.script_text.specs.Line.{Line, ClayLine, CodeLine, SizeLine, TriesLine, ClientLine, RepairerLine, LeaveLine, CallLine, RebuildLine, ScheduleLine, StepLine, EndLine}
+use Rattle.line_grammar.specs.Line.{Line, ClayLine, CodeLine, SizeLine, TriesLine, ClientLine, RepairerLine, LeaveLine, CallLine, RebuildLine, ScheduleLine, StepLine, EndLine}
 use Rattle.script_text.specs.Place.{next_place}
 use Rattle.script_text.specs.Spelling.{limited, client_lines, repairer_lines, optional_line}
 use Rattle.script_text.specs.declared.place.LineKind.TheVariants as kind

@@ -15,20 +15,20 @@ use Rattle.store_map.specs.declared.call.Rebuild.{Rebuild}
 use Rattle.store_map.specs.declared.content.Content.{Content}
 use Rattle.store_map.specs.declared.content.Content.TheVariants.{Hex, Fill, Ramp}
 use Rattle.script_text.specs.Behind.{kind_of}
-use Rattle.script_text.specs.Line.{Line, ClayLine, CodeLine, SizeLine, TriesLine, ClientLine, RepairerLine, LeaveLine, CallLine, RebuildLine, ScheduleLine, StepLine, EndLine, line_words}
-use Rattle.script_text.specs.Words.{run_word, content_word, rebuild_words}
-use Rattle.script_text.specs.Lines.{Lacks, spaced}
-use Rattle.script_text.specs.Numbers.{number_word}
-use Rattle.script_text.specs.Forms.{IsContentForm, IsCallForm, HasForm}
-use Rattle.script_text.specs.Digits.{is_lower_digit}
+use Rattle.line_grammar.specs.Line.{Line, ClayLine, CodeLine, SizeLine, TriesLine, ClientLine, RepairerLine, LeaveLine, CallLine, RebuildLine, ScheduleLine, StepLine, EndLine, line_words}
+use Rattle.line_grammar.specs.Words.{run_word, content_word, rebuild_words}
+use Rattle.line_grammar.specs.Lines.{Lacks, spaced}
+use Rattle.line_grammar.specs.Numbers.{number_word}
+use Rattle.line_grammar.specs.Forms.{IsContentForm, IsCallForm, HasForm}
+use Rattle.line_grammar.specs.Digits.{is_lower_digit}
 use Rattle.script_text.specs.declared.place.LineKind.TheVariants as kind
-use Rattle.script_text.proofs.CallLaws.{call_text, put_parts, write_parts, get_only, read_parts, stat_only, delete_only, name_lacks_space, name_lacks_feed, heads}
-use Rattle.script_text.proofs.ContentLaws.{one_byte, byte_lacks_colon, run_parts, hex_only, fill_only, ramp_only}
-use Rattle.script_text.proofs.DigitLaws.{lower-encode}
-use Rattle.script_text.proofs.LineLaws.{Lacks-append, Lacks-from_test, Lacks-literal}
-use Rattle.script_text.proofs.NumberLaws.{number_lacks, number_word_injective}
+use Rattle.line_grammar.proofs.CallLaws.{call_text, put_parts, write_parts, get_only, read_parts, stat_only, delete_only, name_lacks_space, name_lacks_feed, heads}
+use Rattle.line_grammar.proofs.ContentLaws.{one_byte, byte_lacks_colon, run_parts, hex_only, fill_only, ramp_only}
+use Rattle.line_grammar.proofs.DigitLaws.{lower-encode}
+use Rattle.line_grammar.proofs.LineLaws.{Lacks-append, Lacks-from_test, Lacks-literal}
+use Rattle.line_grammar.proofs.NumberLaws.{number_lacks, number_word_injective}
 use Rattle.script_text.proofs.ReaderLaws.{line_verb, kind_of_first, size_line, tries_line, leave_line, call_line_of, rebuild_line, step_line}
-use Rattle.script_text.proofs.TextLaws.{token_text, client_only, repairer_only, wipe_only, down_only, up_only, client_reap_only, repairer_reap_only, rebuild_parts, code_parts, shape, second}
+use Rattle.line_grammar.proofs.TextLaws.{token_text, client_only, repairer_only, wipe_only, down_only, up_only, client_reap_only, repairer_reap_only, rebuild_parts, code_parts, shape, second}
 
 -- ---- one line
 

@@ -13,20 +13,20 @@ use Rattle.script_text.specs.SoFar.{IsBegun}
 use Rattle.script_text.specs.Front.{Front, Empty, Opened, Begun, IsFront, front_lines, MayStand, HasEnded}
 use Rattle.script_text.specs.Fault.{FitsLimits, HasGeometry, NamesActor, NamesServer, LineFault}
 use Rattle.script_text.specs.FirstFault.{Spelled, RestFault, IsFrontFault, IsFault}
-use Rattle.script_text.specs.Line.{Line, ClayLine, CodeLine, line_words, line_text}
-use Rattle.script_text.specs.Lines.{Lacks, spaced}
+use Rattle.line_grammar.specs.Line.{Line, ClayLine, CodeLine, line_words, line_text}
+use Rattle.line_grammar.specs.Lines.{Lacks, spaced}
 use Rattle.script_text.specs.Reader.{opened}
 use Rattle.script_text.specs.Spelling.{script_lines, spelling}
-use Rattle.script_text.specs.Forms.{HasForm}
-use Rattle.script_text.specs.Bounds.{HasNumbers}
-use Rattle.script_text.specs.Values.{IsScript}
-use Rattle.script_text.specs.declared.fault.FaultKind.{FaultKind}
-use Rattle.script_text.specs.declared.fault.FaultKind.TheVariants as fault
+use Rattle.line_grammar.specs.Forms.{HasForm}
+use Rattle.line_grammar.specs.Bounds.{HasNumbers}
+use Rattle.line_grammar.specs.Values.{IsScript}
+use Rattle.line_grammar.specs.declared.fault.FaultKind.{FaultKind}
+use Rattle.line_grammar.specs.declared.fault.FaultKind.TheVariants as fault
 use Rattle.script_text.specs.declared.place.Place.{Place}
 use Rattle.script_text.specs.declared.place.Place.TheVariants as place
 use Rattle.script_text.proofs.BackLaws.{last_item, HasBefore, before}
 use Rattle.script_text.proofs.FrameLaws.{begun_line, no_code}
-use Rattle.script_text.proofs.LineLaws.{same_parts, never_parted, line_front}
+use Rattle.line_grammar.proofs.LineLaws.{same_parts, never_parted, line_front}
 use Rattle.script_text.proofs.OneLineLaws.{same_line, line_lacks_feed}
 use Rattle.script_text.proofs.ScriptLaws.{ended_lines}
 

@@ -23,26 +23,26 @@ use Rattle.script_text.specs.SoFar.{IsBare, HasOpenClient, HasOpenRepairer, IsAt
 use Rattle.script_text.specs.Front.{Front, Begun}
 use Rattle.script_text.specs.Fault.{SpellsLine, LineFault, FitsLimits, NamesActorOf, server_of_step}
 use Rattle.script_text.specs.Pushes.{PushesCall, PushesRebuild}
-use Rattle.script_text.specs.Line.{Line, ClayLine, CodeLine, SizeLine, TriesLine, ClientLine, RepairerLine, LeaveLine, CallLine, RebuildLine, ScheduleLine, StepLine, EndLine, line_words}
-use Rattle.script_text.specs.Words.{token_words, call_words, rebuild_words}
-use Rattle.script_text.specs.Lines.{Lacks, spaced, IsFirstWord}
-use Rattle.script_text.specs.Numbers.{number_word}
+use Rattle.line_grammar.specs.Line.{Line, ClayLine, CodeLine, SizeLine, TriesLine, ClientLine, RepairerLine, LeaveLine, CallLine, RebuildLine, ScheduleLine, StepLine, EndLine, line_words}
+use Rattle.line_grammar.specs.Words.{token_words, call_words, rebuild_words}
+use Rattle.line_grammar.specs.Lines.{Lacks, spaced, IsFirstWord}
+use Rattle.line_grammar.specs.Numbers.{number_word}
 use Rattle.script_text.specs.Place.{next_place, kind_named}
 use Rattle.script_text.specs.Reader.{script_of, IsSound, IsOfKind, IsTaken, Takes}
-use Rattle.script_text.specs.ReadsLine.{ReadsNumbered, ReadsToken, ReadsRebuild}
-use Rattle.script_text.specs.Reads.{ReadsCall, FitsCall}
-use Rattle.script_text.specs.Values.{IsNumber, IsContent, IsCall, token_number}
-use Rattle.script_text.specs.Forms.{IsOfForm, IsLineOfForm, HasForm, IsContentForm, IsCallForm}
-use Rattle.script_text.specs.Bounds.{HasNumbers}
-use Rattle.script_text.specs.declared.fault.FaultKind.{FaultKind}
-use Rattle.script_text.specs.declared.fault.FaultKind.TheVariants as fault
+use Rattle.line_grammar.specs.ReadsLine.{ReadsNumbered, ReadsToken, ReadsRebuild}
+use Rattle.line_grammar.specs.Reads.{ReadsCall, FitsCall}
+use Rattle.line_grammar.specs.Values.{IsNumber, IsContent, IsCall, token_number}
+use Rattle.line_grammar.specs.Forms.{IsOfForm, IsLineOfForm, HasForm, IsContentForm, IsCallForm}
+use Rattle.line_grammar.specs.Bounds.{HasNumbers}
+use Rattle.line_grammar.specs.declared.fault.FaultKind.{FaultKind}
+use Rattle.line_grammar.specs.declared.fault.FaultKind.TheVariants as fault
 use Rattle.script_text.specs.declared.load.Load.{Load}
 use Rattle.script_text.specs.declared.place.LineKind.{LineKind}
 use Rattle.script_text.specs.declared.place.LineKind.TheVariants as kind
 use Rattle.script_text.specs.declared.place.Place.{Place}
 use Rattle.script_text.specs.declared.place.Place.TheVariants as place
 use Rattle.script_text.specs.declared.reader.Reader.{Reader}
-use Rattle.script_text.proofs.LineLaws.{same_parts, never_parted, Lacks-literal}
+use Rattle.line_grammar.proofs.LineLaws.{same_parts, never_parted, Lacks-literal}
 use Rattle.script_text.proofs.StepLaws.{size_step, tries_step, client_step, repairer_step, calls_of, calls_of-empty, empty_client, empty_repairer, step_step, All-front, few_calls, few_rebuilds, with_call, with_rebuild, clients_with, repairers_with, calls_of-call, call_limits, call_limits_back, call_values, call_names, call_clients, rebuild_limits, rebuild_limits_back, rebuild_values, rebuild_names, rebuild_repairers}
 
 -- ---- the lines of a kind

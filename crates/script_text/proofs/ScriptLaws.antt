@@ -14,27 +14,27 @@ use Rattle.store_map.specs.declared.limits.TheConstants.{MAX_CLIENTS, MAX_REPAIR
 use Rattle.store_map.specs.declared.script.ClientPart.{ClientPart}
 use Rattle.store_map.specs.declared.script.RepairPart.{RepairPart}
 use Rattle.store_map.specs.declared.script.Script.{Script}
-use Rattle.script_text.specs.Numbers.{number_word}
-use Rattle.script_text.specs.Forms.{IsForm, HasForm}
+use Rattle.line_grammar.specs.Numbers.{number_word}
+use Rattle.line_grammar.specs.Forms.{IsForm, HasForm}
 use Rattle.script_text.specs.Begun.{begun, lines_behind_blocks}
 use Rattle.script_text.specs.Behind.{kind_of}
 use Rattle.script_text.specs.Front.{Front, Empty, Opened, Begun, IsFront, front_lines, HasEnded}
 use Rattle.script_text.specs.Fault.{LineFault}
 use Rattle.script_text.specs.FirstFault.{IsFrontFault, OrMemory, fault_at}
-use Rattle.script_text.specs.Line.{Line, ClayLine, CodeLine, SizeLine, TriesLine, CallLine, RebuildLine, ScheduleLine, StepLine, EndLine, line_words, line_text}
-use Rattle.script_text.specs.Lines.{Lacks, spaced}
+use Rattle.line_grammar.specs.Line.{Line, ClayLine, CodeLine, SizeLine, TriesLine, CallLine, RebuildLine, ScheduleLine, StepLine, EndLine, line_words, line_text}
+use Rattle.line_grammar.specs.Lines.{Lacks, spaced}
 use Rattle.script_text.specs.Reader.{script_of, IsSound, Takes}
-use Rattle.script_text.specs.ReadsLine.{ReadsCode}
+use Rattle.line_grammar.specs.ReadsLine.{ReadsCode}
 use Rattle.script_text.specs.Spelling.{limited, client_lines, repairer_lines, optional_line, script_lines, spelling}
-use Rattle.script_text.specs.declared.fault.FaultKind.{FaultKind}
-use Rattle.script_text.specs.declared.fault.FaultKind.TheVariants as fault
+use Rattle.line_grammar.specs.declared.fault.FaultKind.{FaultKind}
+use Rattle.line_grammar.specs.declared.fault.FaultKind.TheVariants as fault
 use Rattle.script_text.specs.declared.fault.ScriptFault.{ScriptFault}
 use Rattle.script_text.specs.declared.place.LineKind.TheVariants as kind
 use Rattle.script_text.specs.declared.place.Place.{Place}
 use Rattle.script_text.specs.declared.place.Place.TheVariants as place
 use Rattle.script_text.specs.declared.reader.Reader.{Reader}
 use Rattle.script_text.proofs.FrameLaws.{begun_line}
-use Rattle.script_text.proofs.LineLaws.{line_front}
+use Rattle.line_grammar.proofs.LineLaws.{line_front}
 use Rattle.script_text.proofs.StepLaws.{few_calls, few_rebuilds}
 
 -- ---- faults by name

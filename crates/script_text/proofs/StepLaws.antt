@@ -16,8 +16,8 @@ use Rattle.store_map.specs.declared.script.RepairPart.{RepairPart}
 use Rattle.store_map.specs.declared.script.Script.{Script}
 use Rattle.script_text.specs.Behind.{on_last, pending, with_line}
 use Rattle.script_text.specs.SoFar.{IsBare, IsBegun}
-use Rattle.script_text.specs.Line.{SizeLine, TriesLine, ClientLine, RepairerLine, CallLine, RebuildLine, StepLine}
-use Rattle.script_text.specs.Values.{IsNumber, IsCall, IsRebuild, IsScript, token_number}
+use Rattle.line_grammar.specs.Line.{SizeLine, TriesLine, ClientLine, RepairerLine, CallLine, RebuildLine, StepLine}
+use Rattle.line_grammar.specs.Values.{IsNumber, IsCall, IsRebuild, IsScript, token_number}
 use Rattle.script_text.specs.declared.place.Place.{Place}
 use Rattle.script_text.specs.declared.place.Place.TheVariants as place
 

@@ -4,11 +4,11 @@ use Rattle.std.specs.Prelude.{OnOk, is_ok, if◌then◌else◌, Option, None, So
 use Rattle.std.specs.List.{flat_map}
 use Rattle.std.proofs.lemmas.Grind.{flat_map-append}
 use Rattle.store_map.specs.declared.script.Script.{Script}
-use Rattle.script_text.specs.Line.{Line, ClayLine, CodeLine, SizeLine, TriesLine, LeaveLine, ScheduleLine, StepLine, EndLine, line_text}
+use Rattle.line_grammar.specs.Line.{Line, ClayLine, CodeLine, SizeLine, TriesLine, LeaveLine, ScheduleLine, StepLine, EndLine, line_text}
 use Rattle.script_text.specs.Spelling.{limited, optional_line, client_lines, repairer_lines, spelling}
 use Rattle.std.specs.Fmt.{decimal}
-use Rattle.script_text.specs.Numbers.{number_word}
-use Rattle.script_text.proofs.NumberLaws.{number_word_is}
+use Rattle.line_grammar.specs.Numbers.{number_word}
+use Rattle.line_grammar.proofs.NumberLaws.{number_word_is}
 
 -- digits that were appended are those of the number
 pub extended : (E : Type 0) (r : Result (Unit {0}) E) (old new other : List ℕ) (n : ℕ) → n < 2 ^ 64 → new ≡ (if is_ok r then old ++ other else old) → other ≡ decimal n

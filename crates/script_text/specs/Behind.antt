@@ -1,7 +1,7 @@
 -- One line more behind a script so far.
 use Rattle.std.specs.Prelude.{ℕ, List, [], ◌∷◌, ◌++◌, Option, None, Some}
 use Rattle.store_map.specs.declared.script.Script.{Script}
-use Rattle.script_text.specs.Line.{Line, ClayLine, CodeLine, SizeLine, TriesLine, ClientLine, RepairerLine, LeaveLine, CallLine, RebuildLine, ScheduleLine, StepLine, EndLine}
+use Rattle.line_grammar.specs.Line.{Line, ClayLine, CodeLine, SizeLine, TriesLine, ClientLine, RepairerLine, LeaveLine, CallLine, RebuildLine, ScheduleLine, StepLine, EndLine}
 use Rattle.script_text.specs.Place.{next_place}
 use Rattle.script_text.specs.declared.place.LineKind.{LineKind}
 use Rattle.script_text.specs.declared.place.LineKind.TheVariants as kind

@@ -7,13 +7,13 @@ use Rattle.store_map.specs.declared.actor.Token.{Token}
 use Rattle.store_map.specs.declared.actor.Token.TheVariants as token
 use Rattle.store_map.specs.declared.script.Script.{Script}
 use Rattle.script_text.specs.Behind.{with_line}
-use Rattle.script_text.specs.Bounds.{HasNumbers}
-use Rattle.script_text.specs.Forms.{HasForm}
+use Rattle.line_grammar.specs.Bounds.{HasNumbers}
+use Rattle.line_grammar.specs.Forms.{HasForm}
 use Rattle.script_text.specs.Front.{Front, Begun, MayStand}
-use Rattle.script_text.specs.Line.{Line, CodeLine, StepLine, RebuildLine, line_words}
-use Rattle.script_text.specs.Lines.{spaced}
-use Rattle.script_text.specs.declared.fault.FaultKind.{FaultKind}
-use Rattle.script_text.specs.declared.fault.FaultKind.TheVariants.{Syntax, Geometry, Limit, NoSuchActor, NoSuchServer}
+use Rattle.line_grammar.specs.Line.{Line, CodeLine, StepLine, RebuildLine, line_words}
+use Rattle.line_grammar.specs.Lines.{spaced}
+use Rattle.line_grammar.specs.declared.fault.FaultKind.{FaultKind}
+use Rattle.line_grammar.specs.declared.fault.FaultKind.TheVariants.{Syntax, Geometry, Limit, NoSuchActor, NoSuchServer}
 
 -- the text, without its line feed, is the line's
 abbrev pub SpellsLine : List ℕ → Line → Type 0

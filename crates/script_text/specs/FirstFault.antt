@@ -5,12 +5,12 @@ use Rattle.store_map.specs.Naming.{IsValid}
 use Rattle.store_map.specs.declared.script.Script.{Script}
 use Rattle.script_text.specs.Front.{Front, IsFront, HasEnded, front_lines}
 use Rattle.script_text.specs.Fault.{LineFault}
-use Rattle.script_text.specs.Line.{line_text}
-use Rattle.script_text.specs.Lines.{Lacks}
+use Rattle.line_grammar.specs.Line.{line_text}
+use Rattle.line_grammar.specs.Lines.{Lacks}
 use Rattle.script_text.specs.Spelling.{script_lines, spelling}
-use Rattle.script_text.specs.Values.{IsScript}
-use Rattle.script_text.specs.declared.fault.FaultKind.{FaultKind}
-use Rattle.script_text.specs.declared.fault.FaultKind.TheVariants.{Syntax, MissingEnd, OutOfMemory}
+use Rattle.line_grammar.specs.Values.{IsScript}
+use Rattle.line_grammar.specs.declared.fault.FaultKind.{FaultKind}
+use Rattle.line_grammar.specs.declared.fault.FaultKind.TheVariants.{Syntax, MissingEnd, OutOfMemory}
 use Rattle.script_text.specs.declared.fault.ScriptFault.{ScriptFault}
 
 -- the bytes are a script's spelling

@@ -3,8 +3,8 @@ use Rattle.std.specs.Prelude.{◌≡◌, ℕ, List, [], ◌∷◌, IsSome, ⊤}
 use Rattle.store_map.specs.declared.script.Script.{Script}
 use Rattle.script_text.specs.Begun.{begun}
 use Rattle.script_text.specs.Behind.{place_behind, kind_of}
-use Rattle.script_text.specs.Forms.{IsForm, IsLineOfForm}
-use Rattle.script_text.specs.Line.{Line, ClayLine}
+use Rattle.line_grammar.specs.Forms.{IsForm, IsLineOfForm}
+use Rattle.line_grammar.specs.Line.{Line, ClayLine}
 use Rattle.script_text.specs.SoFar.{IsBegun}
 use Rattle.script_text.specs.declared.place.LineKind.TheVariants as kind
 use Rattle.script_text.specs.declared.place.Place.{Place}

@@ -1,12 +1,4 @@
-pub mod Lines
-pub mod Digits
-pub mod Numbers
-pub mod Words
-pub mod Line
 pub mod Spelling
-pub mod Values
-pub mod Forms
-pub mod Bounds
 pub mod Place
 pub mod Begun
 pub mod Behind
@@ -14,8 +6,6 @@ pub mod SoFar
 pub mod Front
 pub mod Fault
 pub mod FirstFault
-pub mod Reads
-pub mod ReadsLine
 pub mod Pushes
 pub mod Reader
 pub mod Laws

@@ -7,9 +7,9 @@ use Rattle.script_text.specs.Behind.{place_behind, with_line, kind_of}
 use Rattle.script_text.specs.SoFar.{IsBegun}
 use Rattle.script_text.specs.Front.{Begun}
 use Rattle.script_text.specs.Fault.{SpellsLine, LineFault}
-use Rattle.script_text.specs.Line.{Line}
-use Rattle.script_text.specs.declared.fault.FaultKind.{FaultKind}
-use Rattle.script_text.specs.declared.fault.FaultKind.TheVariants.{OutOfMemory}
+use Rattle.line_grammar.specs.Line.{Line}
+use Rattle.line_grammar.specs.declared.fault.FaultKind.{FaultKind}
+use Rattle.line_grammar.specs.declared.fault.FaultKind.TheVariants.{OutOfMemory}
 use Rattle.script_text.specs.declared.place.LineKind.{LineKind}
 use Rattle.script_text.specs.declared.reader.Reader.{Reader}
 

@@ -4,7 +4,7 @@ use Rattle.store_map.specs.Naming.{IsValid}
 use Rattle.store_map.specs.declared.script.ClientPart.{ClientPart}
 use Rattle.store_map.specs.declared.script.RepairPart.{RepairPart}
 use Rattle.store_map.specs.declared.script.Script.{Script}
-use Rattle.script_text.specs.Values.{IsNumber, IsScript}
+use Rattle.line_grammar.specs.Values.{IsNumber, IsScript}
 use Rattle.script_text.specs.declared.place.Place.{Place}
 use Rattle.script_text.specs.declared.place.Place.TheVariants as place
 

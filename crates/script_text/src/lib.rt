@@ -3,24 +3,15 @@
 //! same bytes. Neither reading nor writing looks at what the calls would do.
 #![tactic(auto)]
 
-mod call;
-mod content;
-mod digits;
 mod fault;
 pub mod laws;
-mod line;
 mod load;
-mod number;
 mod place;
 mod reader;
 mod script;
-mod split;
 mod write;
 
-pub use fault::{FaultKind, ScriptFault};
-pub use number::read_number;
+pub use fault::ScriptFault;
+pub use line_grammar::{FaultKind, read_number};
 pub use script::{read_front, read_script};
 pub use write::write_script;
-
-#[cfg(test)]
-mod tests;

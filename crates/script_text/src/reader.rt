@@ -4,18 +4,17 @@ ghost use Rattle.script_text.specs.Place.{next_place};
 ghost use Rattle.script_text.specs.Behind.{pending};
 ghost use Rattle.script_text.specs.Fault.{NamesActorOf, server_of_step};
 ghost use Rattle.script_text.specs.Pushes.{PushesCall, PushesRebuild};
-ghost use Rattle.script_text.specs.Forms.{IsForm};
-ghost use Rattle.script_text.specs.Lines.{IsFirstWord};
+ghost use Rattle.line_grammar.specs.Forms.{IsForm};
+ghost use Rattle.line_grammar.specs.Lines.{IsFirstWord};
 ghost use Rattle.clay_grid.specs.Limits.{IsGeometry};
 ghost use Rattle.script_text.specs.Reader.{script_of, opened, IsSound, IsOfKind, Takes};
 
-use crate::call::read_call;
-use crate::fault::FaultKind;
-use crate::line::{read_numbered, read_rebuild, read_token};
 use crate::load::Load;
 use crate::place::{LineKind, Place, kind_named, next_place};
-use crate::split::{is_text, split_at_first};
 use clay_grid::Geometry;
+use line_grammar::{
+    FaultKind, is_text, read_call, read_numbered, read_rebuild, read_token, split_at_first,
+};
 use std::alloc::Global;
 use store_map::{
     Call, ClientPart, DEFAULT_SIZE, ListOf, MAX_CALLS, MAX_CLIENTS, MAX_REPAIRERS, MAX_SCHEDULE,

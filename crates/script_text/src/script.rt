@@ -2,18 +2,17 @@ ghost use Rattle.std.specs.Prelude.{◌≡◌, ◌≢◌, ◌<◌, ◌≤◌, �
 ghost use Rattle.std.specs.List.{flat_map};
 ghost use Rattle.clay_grid.specs.Limits.{IsGeometry};
 ghost use Rattle.script_text.specs.FirstFault.{IsFault, IsFrontFault, OrMemory};
-ghost use Rattle.script_text.specs.Forms.{IsForm};
-ghost use Rattle.script_text.specs.Lines.{spaced};
-ghost use Rattle.script_text.specs.Line.{ClayLine, CodeLine, line_words, line_text};
+ghost use Rattle.line_grammar.specs.Forms.{IsForm};
+ghost use Rattle.line_grammar.specs.Lines.{spaced};
+ghost use Rattle.line_grammar.specs.Line.{ClayLine, CodeLine, line_words, line_text};
 ghost use Rattle.script_text.specs.Spelling.{script_lines, spelling};
-ghost use Rattle.script_text.specs.Values.{IsScript};
+ghost use Rattle.line_grammar.specs.Values.{IsScript};
 ghost use Rattle.store_map.specs.Naming.{IsValid};
 
-use crate::fault::{FaultKind, ScriptFault};
-use crate::line::read_code;
+use crate::fault::ScriptFault;
 use crate::reader::Reader;
-use crate::split::{is_text, split_at_first};
 use clay_grid::Geometry;
+use line_grammar::{FaultKind, is_text, read_code, split_at_first};
 use std::alloc::Global;
 use store_map::Script;
 

@@ -1,9 +1,9 @@
 ghost use Rattle.std.specs.Prelude.{◌≡◌, ◌++◌, ◌∷◌, [], codes, map, IfOk, OnOk, Option};
 ghost use Rattle.std.specs.List.{flat_map};
-ghost use Rattle.script_text.specs.Line.{CallLine, RebuildLine, StepLine, LeaveLine, SizeLine, TriesLine, CodeLine, line_text};
-ghost use Rattle.script_text.specs.Words.{content_word, call_words};
-ghost use Rattle.script_text.specs.Lines.{spaced};
-ghost use Rattle.script_text.specs.Numbers.{number_word};
+ghost use Rattle.line_grammar.specs.Line.{CallLine, RebuildLine, StepLine, LeaveLine, SizeLine, TriesLine, CodeLine, line_text};
+ghost use Rattle.line_grammar.specs.Words.{content_word, call_words};
+ghost use Rattle.line_grammar.specs.Lines.{spaced};
+ghost use Rattle.line_grammar.specs.Numbers.{number_word};
 ghost use Rattle.script_text.specs.Spelling.{client_lines, repairer_lines, optional_line, spelling};
 ghost use Rattle.hex.specs.Hex.{encode_lower};
 

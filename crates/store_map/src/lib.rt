@@ -27,6 +27,3 @@ pub use object_map::ObjectMap;
 pub use placement::{Found, Placement};
 pub use reply::Reply;
 pub use script::{ClientPart, RepairPart, Script};
-
-#[cfg(test)]
-mod tests;

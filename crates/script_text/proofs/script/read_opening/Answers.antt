@@ -1,7 +1,7 @@
 use Rattle.std.proofs.Common.{refl, ◌≡◌, sym}
 use Rattle.script_text.specs.Front.{Empty, Opened}
 use Rattle.script_text.specs.FirstFault.{IsFrontFault}
-use Rattle.script_text.specs.declared.fault.FaultKind.TheVariants.{Syntax, MissingEnd}
+use Rattle.line_grammar.specs.declared.fault.FaultKind.TheVariants.{Syntax, MissingEnd}
 use Rattle.script_text.proofs.ScriptLaws.{named, front_fault, front_missing, not_clay, code_err, clay_read}
 use Rattle.script_text.proofs.script.read_opening.Goals as goal
 

@@ -1,7 +1,7 @@
 use Rattle.std.proofs.Common.{◌≡◌, ◌++◌, take}
 use Rattle.std.specs.Prelude.{map}
 use Rattle.std.specs.List.{flat_map}
-use Rattle.script_text.specs.Line.{CallLine, line_text}
+use Rattle.line_grammar.specs.Line.{CallLine, line_text}
 use Rattle.script_text.proofs.write.push_calls.Given as goal
 
 abbrev pub invariant-loop-call : goal.invariant-loop-call

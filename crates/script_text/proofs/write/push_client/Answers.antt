@@ -2,7 +2,7 @@ use Rattle.std.proofs.Common.{◌∷◌, [], ap, ◌∙◌, sym}
 use Rattle.std.specs.Prelude.{map}
 use Rattle.std.specs.declared.alloc.AllocError.{AllocError}
 use Rattle.std.proofs.lemmas.List.{map-append}
-use Rattle.script_text.specs.Line.{ClientLine, CallLine}
+use Rattle.line_grammar.specs.Line.{ClientLine, CallLine}
 use Rattle.script_text.proofs.WriteLaws.{block_written, on_ok}
 use Rattle.script_text.proofs.write.push_client.Goals as goal
 

@@ -1,6 +1,6 @@
 use Rattle.std.proofs.Common.{◌≡◌, ◌++◌, take}
 use Rattle.std.specs.List.{flat_map}
-use Rattle.script_text.specs.Line.{line_text}
+use Rattle.line_grammar.specs.Line.{line_text}
 use Rattle.script_text.specs.Spelling.{client_lines}
 use Rattle.script_text.proofs.write.push_clients.Given as goal
 

@@ -2,7 +2,7 @@ use Rattle.std.proofs.Common.{◌∷◌, [], ap, ◌∙◌, sym}
 use Rattle.std.specs.Prelude.{map}
 use Rattle.std.specs.declared.alloc.AllocError.{AllocError}
 use Rattle.std.proofs.lemmas.List.{map-append}
-use Rattle.script_text.specs.Line.{RepairerLine, RebuildLine}
+use Rattle.line_grammar.specs.Line.{RepairerLine, RebuildLine}
 use Rattle.script_text.proofs.WriteLaws.{block_written, on_ok}
 use Rattle.script_text.proofs.write.push_repairer.Goals as goal
 

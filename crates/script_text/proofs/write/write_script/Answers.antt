@@ -4,7 +4,7 @@ use Rattle.std.specs.List.{flat_map}
 use Rattle.store_map.specs.declared.actor.Token.{Token}
 use Rattle.store_map.specs.declared.script.ClientPart.{ClientPart}
 use Rattle.store_map.specs.declared.script.RepairPart.{RepairPart}
-use Rattle.script_text.specs.Line.{ClayLine, StepLine, line_text}
+use Rattle.line_grammar.specs.Line.{ClayLine, StepLine, line_text}
 use Rattle.script_text.specs.Spelling.{client_lines, repairer_lines}
 use Rattle.script_text.proofs.WriteLaws.{script_written}
 use Rattle.script_text.proofs.write.write_script.Goals as goal

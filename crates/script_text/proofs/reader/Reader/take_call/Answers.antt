@@ -1,5 +1,5 @@
 use Rattle.std.proofs.Common.{◌≡◌, true, refl, sym, ◌∙◌}
-use Rattle.script_text.specs.Line.{CallLine}
+use Rattle.line_grammar.specs.Line.{CallLine}
 use Rattle.script_text.specs.declared.reader.Reader.{Reader}
 use Rattle.script_text.proofs.ReaderLaws.{call_err, call_over, call_push_err, call_taken}
 use Rattle.script_text.proofs.reader.Reader.take_call.Goals as goal

@@ -1,6 +1,6 @@
 use Rattle.std.proofs.Common.{List, ◌∷◌, [], ◌++◌, None, length, refl, sym, ap, ◌∙◌}
 use Rattle.store_map.specs.declared.script.ClientPart.{ClientPart}
-use Rattle.script_text.specs.Line.{ClientLine}
+use Rattle.line_grammar.specs.Line.{ClientLine}
 use Rattle.script_text.specs.Reader.{script_of}
 use Rattle.script_text.specs.declared.place.Place.TheVariants as place
 use Rattle.script_text.specs.declared.reader.Reader.{Reader}

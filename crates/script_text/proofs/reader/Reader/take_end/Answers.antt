@@ -1,4 +1,4 @@
-use Rattle.script_text.specs.Line.{EndLine}
+use Rattle.line_grammar.specs.Line.{EndLine}
 use Rattle.script_text.proofs.ReaderLaws.{end_taken}
 use Rattle.script_text.proofs.reader.Reader.take_end.Goals as goal
 

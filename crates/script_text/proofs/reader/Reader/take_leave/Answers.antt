@@ -1,5 +1,5 @@
 use Rattle.std.proofs.Common.{sym}
-use Rattle.script_text.specs.Line.{LeaveLine}
+use Rattle.line_grammar.specs.Line.{LeaveLine}
 use Rattle.script_text.proofs.ReaderLaws.{leave_taken, leave_err}
 use Rattle.script_text.proofs.reader.Reader.take_leave.Goals as goal
 

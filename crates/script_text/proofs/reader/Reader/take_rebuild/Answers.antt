@@ -1,5 +1,5 @@
 use Rattle.std.proofs.Common.{refl, sym, arith}
-use Rattle.script_text.specs.Line.{RebuildLine}
+use Rattle.line_grammar.specs.Line.{RebuildLine}
 use Rattle.script_text.specs.declared.reader.Reader.{Reader}
 use Rattle.script_text.proofs.ReaderLaws.{rebuild_err, rebuild_push_err, rebuild_no_server, rebuild_taken}
 use Rattle.script_text.proofs.reader.Reader.take_rebuild.Goals as goal

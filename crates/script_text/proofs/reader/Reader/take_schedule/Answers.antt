@@ -1,4 +1,4 @@
-use Rattle.script_text.specs.Line.{ScheduleLine}
+use Rattle.line_grammar.specs.Line.{ScheduleLine}
 use Rattle.script_text.proofs.ReaderLaws.{schedule_taken}
 use Rattle.script_text.proofs.reader.Reader.take_schedule.Goals as goal
 

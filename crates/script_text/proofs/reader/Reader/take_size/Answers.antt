@@ -1,5 +1,5 @@
 use Rattle.std.proofs.Common.{arith}
-use Rattle.script_text.specs.Line.{SizeLine}
+use Rattle.line_grammar.specs.Line.{SizeLine}
 use Rattle.script_text.proofs.ReaderLaws.{size_over, size_taken, size_err, size_place}
 use Rattle.script_text.proofs.reader.Reader.take_size.Goals as goal
 use Rattle.script_text.proofs.reader.Reader.take_size.Goals.{then-size-lt1-via-then-size-lt1, then-size-lt1-via-else-size-lt1+then-size-gt-MAX_SIZE}

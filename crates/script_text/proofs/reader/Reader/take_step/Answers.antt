@@ -1,6 +1,6 @@
 use Rattle.std.proofs.Common.{◌≡◌, true, List, length, refl, sym, ap, ◌∙◌}
 use Rattle.store_map.specs.declared.actor.Token.{Token}
-use Rattle.script_text.specs.Line.{StepLine}
+use Rattle.line_grammar.specs.Line.{StepLine}
 use Rattle.script_text.specs.Reader.{script_of}
 use Rattle.script_text.specs.declared.reader.Reader.{Reader}
 use Rattle.script_text.proofs.ReaderLaws.{step_err, step_over, step_no_actor, step_no_server, step_taken}

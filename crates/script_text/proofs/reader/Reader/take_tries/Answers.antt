@@ -1,5 +1,5 @@
 use Rattle.std.proofs.Common.{arith}
-use Rattle.script_text.specs.Line.{TriesLine}
+use Rattle.line_grammar.specs.Line.{TriesLine}
 use Rattle.script_text.proofs.ReaderLaws.{tries_over, tries_taken, tries_err}
 use Rattle.script_text.proofs.reader.Reader.take_tries.Goals as goal
 use Rattle.script_text.proofs.reader.Reader.take_tries.Goals.{then-tries-lt1-via-then-tries-lt1, then-tries-lt1-via-else-tries-lt1+then-tries-gt-MAX_TRIES}

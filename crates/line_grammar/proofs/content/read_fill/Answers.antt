@@ -1,0 +1,6 @@
+use Rattle.std.proofs.Common.{Err}
+use Rattle.line_grammar.proofs.ContentLaws.{fill_reads}
+use Rattle.line_grammar.proofs.content.read_fill.Goals as goal
+
+pub returns-in-Err : goal.returns-in-Err
+returns-in-Err c = fill_reads c.args.words.now (Err c.in-Err.kind) c.in-Err.ensures

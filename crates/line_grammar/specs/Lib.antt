@@ -1,0 +1,10 @@
+pub mod Lines
+pub mod Digits
+pub mod Numbers
+pub mod Words
+pub mod Line
+pub mod Values
+pub mod Forms
+pub mod Bounds
+pub mod Reads
+pub mod ReadsLine

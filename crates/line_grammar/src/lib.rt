@@ -1,0 +1,17 @@
+//! The lines of scripts: their words, numbers, names and calls, and why a line has no form.
+//! Whole scripts stand in the crate above.
+#![tactic(auto)]
+
+mod call;
+mod content;
+mod digits;
+mod fault;
+mod line;
+mod number;
+mod split;
+
+pub use call::{read_call, read_name};
+pub use fault::FaultKind;
+pub use line::{read_code, read_numbered, read_rebuild, read_token};
+pub use number::{is_number, read_number, small_number};
+pub use split::{is_text, split_at_first};
