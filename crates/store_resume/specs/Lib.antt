@@ -1,0 +1,13 @@
+pub mod Stage
+pub mod Stages
+pub mod StageAfter
+pub mod GatherLaws
+pub mod State
+pub mod States
+pub mod WriteAfter
+pub mod GatherAfter
+pub mod LookAfter
+pub mod CallAfter
+pub mod StateActs
+pub mod CallLaws
+pub mod FitLaws
