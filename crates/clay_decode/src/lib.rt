@@ -11,6 +11,7 @@ mod plan;
 pub use checked::decode_checked;
 pub use chunks::decode;
 pub use fault::{CheckedFault, DecodeFault};
+pub use layers::partner_of;
 
 #[cfg(test)]
 mod tests;

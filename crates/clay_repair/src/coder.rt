@@ -1,9 +1,10 @@
 //! What a coder is.
-ghost use Rattle.std.specs.Prelude.{◌≡◌, ℕ, ◌≤◌, List, length, count_by, is_none, IfOk, All};
-ghost use Rattle.clay_grid.specs.Shape.{chunk_count, chunk_length, stripe_length};
+ghost use Rattle.std.specs.Prelude.{◌≡◌, length, IfOk};
+ghost use Rattle.clay_grid.specs.Shape.{stripe_length};
 ghost use Rattle.clay_model.specs.Code.{Codes};
 ghost use Rattle.clay_encode.specs.Chunks.{contents};
-ghost use Rattle.clay_decode.specs.Left.{AreLong, Completes};
+ghost use Rattle.clay_repair.specs.Coding.{AreLeft, AreRecovered};
+ghost use Rattle.clay_repair.specs.Parts.{AreParts, IsRebuilt};
 
 use clay_grid::Geometry;
 use std::alloc::{AllocError, Global};
@@ -33,10 +34,19 @@ pub trait Coder {
         g: Geometry,
         have: &[Option<Vec<u8>>],
     ) -> Result<Vec<Vec<u8>>, AllocError>
-        requires count { length have.now ≡ chunk_count g }
-        requires lengths { AreLong (chunk_length g) have.now }
-        requires few { count_by is_none have.now ≤ g.parity_count }
-        ensures count { IfOk result (λ chunks. length (contents chunks.items) ≡ chunk_count g) }
-        ensures lengths { IfOk result (λ chunks. All (λ chunk. length chunk ≡ chunk_length g) (contents chunks.items)) }
-        ensures value { IfOk result (λ chunks. (word : List (List ℕ)) → Completes g have.now word → contents chunks.items ≡ word) };
+        requires { AreLeft g have.now }
+        ensures { IfOk result (λ chunks. AreRecovered g have.now (contents chunks.items)) };
+
+    /// The lost chunk of the codeword that has these parts, where one does. `parts` has an entry for each chunk: `None` for the lost one,
+    /// and for each other one its subchunks of the lost one's repair layers, rising, one after another.
+    fn rebuild<R: Threads + Sync>(
+        &self,
+        rt: &R,
+        alloc: Global,
+        g: Geometry,
+        lost: u32,
+        parts: &[Option<Vec<u8>>],
+    ) -> Result<Vec<u8>, AllocError>
+        requires { AreParts g lost parts.now }
+        ensures { IfOk result (λ chunk. IsRebuilt g lost parts.now chunk.items) };
 }

@@ -1,10 +1,16 @@
-//! Coders of Clay codes: what codes the stripes of a store.
+//! The repair of one lost chunk from parts of the others (Vajha et al., "Clay Codes: Moulding MDS Codes to Yield an MSR Code", FAST
+//! 2018), and coders: what codes the stripes of a store.
 #![tactic(auto)]
 
 mod coder;
+mod laws;
+mod lost;
 mod plain;
+mod plan;
 
 pub use coder::Coder;
+pub use laws::{parts_have_their_bytes, worked_repairs};
+pub use lost::rebuild;
 pub use plain::PlainCoder;
 
 #[cfg(test)]

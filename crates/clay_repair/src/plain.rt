@@ -1,5 +1,6 @@
 //! The coder of one thread.
 use crate::coder::Coder;
+use crate::lost::rebuild;
 use clay_decode::{DecodeFault, decode};
 use clay_grid::Geometry;
 use std::alloc::{AllocError, Global};
@@ -32,5 +33,16 @@ impl Coder for PlainCoder {
             Err(DecodeFault::OutOfMemory) => Err(AllocError),
             Err(DecodeFault::TooFew) => unreachable!(),
         }
+    }
+
+    fn rebuild<R: Threads + Sync>(
+        &self,
+        _rt: &R,
+        alloc: Global,
+        g: Geometry,
+        lost: u32,
+        parts: &[Option<Vec<u8>>],
+    ) -> Result<Vec<u8>, AllocError> {
+        rebuild(alloc, g, lost, parts)
     }
 }

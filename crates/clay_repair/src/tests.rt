@@ -54,3 +54,35 @@ fn lost_chunks_are_recovered(rt: HostRuntime) -> Result<(), Fail> {
     expect_word(&rt, &PlainCoder.recover(&rt, rt.alloc(), g, &have)?);
     Ok(())
 }
+
+#[test]
+fn a_data_chunk_is_rebuilt(rt: HostRuntime) -> Result<(), Fail> {
+    let g = Geometry::new(2, 2, 1)?;
+    assert_eq!(rt;
+        g.repair_layers(rt.alloc(), 0)?.as_slice(),
+        [0, 1].as_slice()
+    );
+    let data = Vec::from_slice(rt.alloc(), &[0, 0])?;
+    let first = Vec::from_slice(rt.alloc(), &[0x03, 0xa6])?;
+    let second = Vec::from_slice(rt.alloc(), &[0x53, 0])?;
+    let parts = [None, Some(data), Some(first), Some(second)];
+    let chunk = PlainCoder.rebuild(&rt, rt.alloc(), g, 0, &parts)?;
+    assert_eq!(rt; chunk.as_slice(), [1, 0, 0, 0].as_slice());
+    Ok(())
+}
+
+// beside a virtual node
+#[test]
+fn a_parity_chunk_is_rebuilt(rt: HostRuntime) -> Result<(), Fail> {
+    let g = Geometry::new(3, 2, 1)?;
+    let layers = g.repair_layers(rt.alloc(), 4)?;
+    assert_eq!(rt; layers.as_slice(), [1, 3, 5, 7].as_slice());
+    let zero = Vec::from_slice(rt.alloc(), &[0; 4])?;
+    let one = Vec::from_slice(rt.alloc(), &[0; 4])?;
+    let two = Vec::from_slice(rt.alloc(), &[0; 4])?;
+    let parity = Vec::from_slice(rt.alloc(), &[0x55, 0xf7, 0, 0])?;
+    let parts = [Some(zero), Some(one), Some(two), Some(parity), None];
+    let chunk = PlainCoder.rebuild(&rt, rt.alloc(), g, 4, &parts)?;
+    assert_eq!(rt; chunk.as_slice(), [0xa4, 0, 0xf5, 0, 0, 0, 0, 0].as_slice());
+    Ok(())
+}

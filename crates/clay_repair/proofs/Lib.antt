@@ -1,0 +1,4 @@
+pub mod Places
+pub mod Points
+pub mod Column
+pub mod Rows
