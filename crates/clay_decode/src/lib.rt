@@ -12,6 +12,3 @@ pub use checked::decode_checked;
 pub use chunks::decode;
 pub use fault::{CheckedFault, DecodeFault};
 pub use layers::partner_of;
-
-#[cfg(test)]
-mod tests;

@@ -7,6 +7,3 @@ mod stripes;
 
 pub use chunks::encode;
 pub use stripes::{join, split, stripes_are_joined};
-
-#[cfg(test)]
-mod tests;

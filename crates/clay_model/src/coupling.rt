@@ -71,24 +71,3 @@ fn combine(a: u8, left: &[u8], b: u8, right: &[u8], out: &mut [u8])
     add_scaled(out, a, left);
     add_scaled(out, b, right);
 }
-
-#[cfg(test)]
-mod tests {
-    use super::*;
-
-    #[test]
-    fn a_pair_of_bytes(rt: HostRuntime) {
-        let (c, d) = ([0x01, 0x00, 0x80, 0xff], [0x00, 0x01, 0x01, 0x53]);
-        let (mut u, mut v, mut out) = ([0xee; 4], [0xee; 4], [0xee; 4]);
-        uncouple(&c, &d, &mut u);
-        assert_eq!(rt; u, [0x01, 0x02, 0x82, 0x59]);
-        uncouple(&d, &c, &mut v);
-        assert_eq!(rt; v, [0x02, 0x01, 0x1c, 0xb0]);
-        couple(&u, &v, &mut out);
-        assert_eq!(rt; out, c);
-        uncouple_from(&c, &v, &mut out);
-        assert_eq!(rt; out, u);
-        cross(&u, &c, &mut out);
-        assert_eq!(rt; out, d);
-    }
-}

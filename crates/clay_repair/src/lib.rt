@@ -12,6 +12,3 @@ pub use coder::Coder;
 pub use laws::{parts_have_their_bytes, worked_repairs};
 pub use lost::rebuild;
 pub use plain::PlainCoder;
-
-#[cfg(test)]
-mod tests;

@@ -1,10 +1,10 @@
-use super::*;
+use clay_encode::{encode, join, split, stripes_are_joined};
 use clay_grid::Geometry;
 use std::alloc::Global;
 use std::process::Abort;
 use std::test::Fail;
 
-// Encodes a stripe and compares the chunks, joined, with the stripe and the parity.
+/// Encodes a stripe and compares the chunks, joined, with the stripe and the parity.
 fn check_parity(
     rt: &impl Abort,
     alloc: Global,

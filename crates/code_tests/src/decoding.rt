@@ -2,7 +2,7 @@ ghost use Rattle.std.specs.Prelude.{◌≡◌, length, IfOk, IfSome};
 ghost use Rattle.clay_grid.specs.Shape.{chunk_count, chunk_length};
 ghost use Rattle.clay_decode.specs.Left.{AreLong};
 
-use super::*;
+use clay_decode::{CheckedFault, DecodeFault, decode, decode_checked};
 use clay_encode::encode;
 use clay_grid::Geometry;
 use std::alloc::{AllocError, Global};
@@ -18,7 +18,7 @@ const UNPAIRED: Word = [
     [0x53, 0, 0, 0],
 ];
 
-// layer 0 needs a value of layer 2
+/// layer 0 needs a value of layer 2
 const PAIRED: Word = [
     [0, 0, 0, 0],
     [1, 0, 0, 0],
@@ -26,7 +26,7 @@ const PAIRED: Word = [
     [0xf4, 0, 0xa6, 0],
 ];
 
-// no codeword: the last byte is another
+/// no codeword: the last byte is another
 const ANOTHER: Word = [
     [1, 0, 0, 0],
     [0, 0, 0, 0],
@@ -51,7 +51,7 @@ fn part_of(alloc: Global, chunk: &[u8], missing: bool) -> Result<Option<Vec<u8>>
     Ok(Some(Vec::from_slice(alloc, chunk)?))
 }
 
-// What is left of chunks where those of the bits of `missing` are missing.
+/// What is left of chunks where those of the bits of `missing` are missing.
 fn left_of(
     rt: &impl Abort,
     alloc: Global,
@@ -79,7 +79,7 @@ fn expect_chunks(rt: &impl Abort, chunks: &[Vec<u8>], expected: &[Vec<u8>]) {
     }
 }
 
-// Decodes what is left after each choice of losses.
+/// Decodes what is left after each choice of losses.
 fn check_losses(rt: &impl Abort, alloc: Global, g: Geometry, word: &[Vec<u8>]) -> Result<(), Fail> {
     assert!(rt; g.n() < 8);
     for missing in 0..1u32 << g.n() {
@@ -99,14 +99,10 @@ fn check_losses(rt: &impl Abort, alloc: Global, g: Geometry, word: &[Vec<u8>]) -
 }
 
 #[test]
-fn worked_codewords_are_decoded(rt: HostRuntime) -> Result<(), Fail> {
+fn codewords_are_decoded(rt: HostRuntime) -> Result<(), Fail> {
     let g = Geometry::new(2, 2, 1)?;
     check_losses(&rt, rt.alloc(), g, &chunks_of(rt.alloc(), &UNPAIRED)?)?;
-    check_losses(&rt, rt.alloc(), g, &chunks_of(rt.alloc(), &PAIRED)?)
-}
-
-#[test]
-fn encoded_stripes_are_decoded(rt: HostRuntime) -> Result<(), Fail> {
+    check_losses(&rt, rt.alloc(), g, &chunks_of(rt.alloc(), &PAIRED)?)?;
     for (k, m) in [(3, 2), (4, 3)] {
         let g = Geometry::new(k, m, 2)?;
         let mut stripe = Vec::new(rt.alloc());

@@ -1,0 +1,87 @@
+use clay_grid::Geometry;
+use clay_repair::{Coder, PlainCoder};
+use std::alloc::Global;
+use std::process::Abort;
+use std::test::Fail;
+use std::thread::Threads;
+
+/// a codeword of two data chunks of four bytes and two parity chunks
+const WORD: [u8; 16] = [
+    0, 0, 0, 0, 1, 0, 0, 0, 0x02, 0xf5, 0x06, 0x51, 0xf4, 0, 0xa6, 0,
+];
+
+fn expect_word(rt: &impl Abort, chunks: &[Vec<u8>]) {
+    assert_eq!(rt; chunks.len(), 4);
+    for (c, chunk) in chunks.iter().enumerate() {
+        assert_eq!(rt; chunk.as_slice(), &WORD[4 * c..4 * c + 4]);
+    }
+}
+
+/// Codes a stripe, and recovers a chunk of either kind.
+fn check_word<R: Threads + Sync + Abort, C: Coder>(
+    rt: &R,
+    alloc: Global,
+    coder: &C,
+) -> Result<(), Fail> {
+    let g = Geometry::new(2, 2, 1)?;
+    assert_eq!(rt; [g.n(), g.m(), g.chunk_len()], [4, 2, 4]);
+    assert_eq!(rt; g.stripe_len(), 8);
+    expect_word(rt, &coder.encode(rt, alloc, g, &WORD[..8])?);
+    let data = Vec::from_slice(alloc, &WORD[4..8])?;
+    let parity = Vec::from_slice(alloc, &WORD[12..])?;
+    let have = [None, Some(data), None, Some(parity)];
+    expect_word(rt, &coder.recover(rt, alloc, g, &have)?);
+    Ok(())
+}
+
+/// Rebuilds a data chunk.
+fn check_data_chunk<R: Threads + Sync + Abort, C: Coder>(
+    rt: &R,
+    alloc: Global,
+    coder: &C,
+) -> Result<(), Fail> {
+    let g = Geometry::new(2, 2, 1)?;
+    assert_eq!(rt; g.repair_layers(alloc, 0)?.as_slice(), [0, 1].as_slice());
+    let data = Vec::from_slice(alloc, &[0, 0])?;
+    let first = Vec::from_slice(alloc, &[0x03, 0xa6])?;
+    let second = Vec::from_slice(alloc, &[0x53, 0])?;
+    let parts = [None, Some(data), Some(first), Some(second)];
+    let chunk = coder.rebuild(rt, alloc, g, 0, &parts)?;
+    assert_eq!(rt; chunk.as_slice(), [1, 0, 0, 0].as_slice());
+    Ok(())
+}
+
+/// Rebuilds a parity chunk, beside a virtual node.
+fn check_parity_chunk<R: Threads + Sync + Abort, C: Coder>(
+    rt: &R,
+    alloc: Global,
+    coder: &C,
+) -> Result<(), Fail> {
+    let g = Geometry::new(3, 2, 1)?;
+    let layers = g.repair_layers(alloc, 4)?;
+    assert_eq!(rt; layers.as_slice(), [1, 3, 5, 7].as_slice());
+    let zero = Vec::from_slice(alloc, &[0; 4])?;
+    let one = Vec::from_slice(alloc, &[0; 4])?;
+    let two = Vec::from_slice(alloc, &[0; 4])?;
+    let parity = Vec::from_slice(alloc, &[0x55, 0xf7, 0, 0])?;
+    let parts = [Some(zero), Some(one), Some(two), Some(parity), None];
+    let chunk = coder.rebuild(rt, alloc, g, 4, &parts)?;
+    assert_eq!(rt; chunk.as_slice(), [0xa4, 0, 0xf5, 0, 0, 0, 0, 0].as_slice());
+    Ok(())
+}
+
+/// Each call of a coder that is known by its bound alone.
+fn check_coder<R: Threads + Sync + Abort, C: Coder>(
+    rt: &R,
+    alloc: Global,
+    coder: &C,
+) -> Result<(), Fail> {
+    check_word(rt, alloc, coder)?;
+    check_data_chunk(rt, alloc, coder)?;
+    check_parity_chunk(rt, alloc, coder)
+}
+
+#[test]
+fn plain_coder(rt: HostRuntime) -> Result<(), Fail> {
+    check_coder(&rt, rt.alloc(), &PlainCoder)
+}
