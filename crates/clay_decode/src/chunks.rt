@@ -1,8 +1,9 @@
 //! The chunks, from the values that are found.
-ghost use Rattle.std.specs.Prelude.{◌≡◌, ℕ, ◌+◌, ◌*◌, ◌<◌, ◌≤◌, ◌↔◌, List, [], length, IfOk, IsErrOf, All, slice_index_or, true, false, count_by, is_none, None, Some};
+ghost use Rattle.std.specs.Prelude.{◌≡◌, ℕ, ◌+◌, ◌*◌, ◌<◌, ◌≤◌, ◌↔◌, List, [], length, IfOk, IfSome, IsErrOf, All, slice_index_or, true, false, count_by, is_none, None, Some};
 ghost use Rattle.clay_grid.specs.Shape.{Shape, chunk_count, node_count, layer_count, chunk_length, node_of_chunk};
+ghost use Rattle.clay_model.specs.Code.{AgreesWith};
 ghost use Rattle.clay_encode.specs.Chunks.{contents};
-ghost use Rattle.clay_decode.specs.Left.{AreLong, Completes};
+ghost use Rattle.clay_decode.specs.Left.{parts, AreLong, Completes};
 ghost use Rattle.clay_decode.specs.Solved.{IsPlan, IsCoupled, HoldsLayer, HoldsSubchunks};
 
 use crate::fault::DecodeFault;
@@ -108,6 +109,7 @@ fn chunk(
     requires holds { (n : ℕ) → n < layer_count g → HoldsLayer g have.now plan.now.points.items n solved.now }
     requires chunk { c < chunk_count g }
     ensures len { IfOk result (λ v. length v.items ≡ chunk_length g) }
+    ensures kept { IfOk result (λ v. IfSome (slice_index_or have.now c None) (λ w. v.items ≡ w.items)) }
     ensures value { IfOk result (λ v. (word : List (List ℕ)) → Completes g have.now word → v.items ≡ slice_index_or word c []) }
 {
     match &have[c as usize] {
@@ -127,6 +129,7 @@ pub fn recover(
     requires few { count_by is_none have.now ≤ g.parity_count }
     ensures count { IfOk result (λ chunks. length (contents chunks.items) ≡ chunk_count g) }
     ensures lengths { IfOk result (λ chunks. All (λ chunk. length chunk ≡ chunk_length g) (contents chunks.items)) }
+    ensures kept { IfOk result (λ chunks. AgreesWith (parts have.now) (contents chunks.items)) }
     ensures value { IfOk result (λ chunks. (word : List (List ℕ)) → Completes g have.now word → contents chunks.items ≡ word) }
 {
     let plan = make_plan(alloc, g, have)?;
@@ -145,10 +148,11 @@ pub fn missing_count(have: &[Option<Vec<u8>>]) -> usize
     have.iter().filter(|chunk| chunk.is_none()).count()
 }
 
-/// The chunks of the codeword that agrees with the chunks that are there, where one does. The chunks that are there stay as they are.
+/// The chunks of the codeword that agrees with the chunks that are there, where one does. The chunks that are there stay as they are in
+/// any case.
 ///
-/// `have` has an entry for each chunk, `None` for a missing one. Where no codeword agrees, the others are some bytes: `decode_checked`
-/// tells.
+/// `have` has an entry for each chunk, `None` for a missing one. Where no codeword agrees, the missing ones are some bytes:
+/// `decode_checked` tells.
 pub fn decode(
     alloc: Global,
     g: Geometry,
@@ -159,6 +163,7 @@ pub fn decode(
     ensures too_few { IsErrOf result DecodeFault.TooFew ↔ (g.parity_count < count_by is_none have.now) }
     ensures count { IfOk result (λ chunks. length (contents chunks.items) ≡ chunk_count g) }
     ensures lengths { IfOk result (λ chunks. All (λ chunk. length chunk ≡ chunk_length g) (contents chunks.items)) }
+    ensures kept { IfOk result (λ chunks. AgreesWith (parts have.now) (contents chunks.items)) }
     ensures value { IfOk result (λ chunks. (word : List (List ℕ)) → Completes g have.now word → contents chunks.items ≡ word) }
 {
     if missing_count(have) > g.m() as usize {
