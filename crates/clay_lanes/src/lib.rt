@@ -1,0 +1,13 @@
+//! Fast coding of one thread: the unknown nodes' values by a fixed matrix of the scalar code, and products sixteen bytes at a time.
+#![tactic(auto)]
+
+mod chunks;
+mod coupling;
+mod generator;
+mod kernels;
+mod products;
+
+pub use chunks::{encode, parity};
+pub use generator::Generator;
+pub use kernels::add_rows;
+pub use products::Products;

@@ -1,0 +1,70 @@
+use clay_grid::Geometry;
+use clay_lanes::{encode, parity};
+use std::alloc::{AllocError, Global};
+use std::process::Abort;
+use std::test::Fail;
+
+// Bytes that repeat only after 256 * 251 of them.
+fn mixed_bytes(alloc: Global, count: u32) -> Result<Vec<u8>, AllocError> {
+    let mut bytes = Vec::with_capacity(alloc, count as usize)?;
+    let mut byte = 1u8;
+    for i in 0..count {
+        byte = byte.wrapping_mul(29).wrapping_add((i % 251) as u8);
+        bytes.push(byte)?;
+    }
+    Ok(bytes)
+}
+
+fn check_stripe(rt: &impl Abort, alloc: Global, g: Geometry) -> Result<(), Fail> {
+    let stripe = mixed_bytes(alloc, g.stripe_len())?;
+    assert_eq!(rt; stripe.len(), g.stripe_len() as usize);
+    let plain = clay_encode::encode(alloc, g, &stripe)?;
+    let fast = encode(alloc, g, &stripe)?;
+    assert_eq!(rt; fast.len(), plain.len());
+    for (c, chunk) in fast.iter().enumerate() {
+        assert_eq!(rt; chunk.as_slice(), plain[c].as_slice());
+    }
+    let others = parity(alloc, g, &stripe)?;
+    assert_eq!(rt; others.len() + g.k() as usize, plain.len());
+    for (x, chunk) in others.iter().enumerate() {
+        assert_eq!(rt; chunk.as_slice(), plain[g.k() as usize + x].as_slice());
+    }
+    Ok(())
+}
+
+// Widths around those of a vector of bytes.
+#[test]
+fn small_codes_encode_alike(rt: HostRuntime) -> Result<(), Fail> {
+    for (k, m) in [(2, 2), (3, 2), (4, 3), (5, 5), (2, 8), (7, 2)] {
+        for w in [1, 15, 16, 17, 63, 64, 1000] {
+            check_stripe(&rt, rt.alloc(), Geometry::new(k, m, w)?)?;
+        }
+    }
+    Ok(())
+}
+
+// The last of these has 1024 layers.
+#[test]
+fn large_codes_encode_alike(rt: HostRuntime) -> Result<(), Fail> {
+    for (k, m, w) in [
+        (8, 4, 1),
+        (8, 4, 15),
+        (8, 4, 16),
+        (8, 4, 63),
+        (9, 6, 17),
+        (10, 4, 1),
+        (10, 4, 64),
+        (16, 4, 17),
+    ] {
+        check_stripe(&rt, rt.alloc(), Geometry::new(k, m, w)?)?;
+    }
+    Ok(())
+}
+
+#[test]
+fn blocks_are_joined(rt: HostRuntime) -> Result<(), Fail> {
+    for w in [4095, 4096, 4097, 8192, 9000] {
+        check_stripe(&rt, rt.alloc(), Geometry::new(3, 2, w)?)?;
+    }
+    Ok(())
+}

@@ -1,0 +1,43 @@
+use clay_field::add_scaled;
+use clay_lanes::{Products, add_rows};
+use std::alloc::Global;
+use std::process::Abort;
+use std::test::Fail;
+
+// Adds to rows of `len` bytes the products with the factors, and compares each row with `add_scaled`.
+fn check_rows(rt: &impl Abort, alloc: Global, factors: &[u8], len: usize) -> Result<(), Fail> {
+    let mut src = Vec::with_capacity(alloc, len)?;
+    for i in 0..len {
+        src.push((i % 256) as u8 ^ 0xA5)?;
+    }
+    let mut products = Vec::with_capacity(alloc, factors.len())?;
+    for factor in factors.iter() {
+        products.push(Products::new(*factor))?;
+    }
+    let count = factors.len();
+    assert!(rt; count <= 8 && len <= 200);
+    let mut rows = vec![in alloc; 0x3Cu8; count * len]?;
+    assert_eq!(rt; products.len(), count);
+    assert_eq!(rt; src.len(), len);
+    add_rows(&products, &src, &mut rows);
+    let mut expected = vec![in alloc; 0u8; len]?;
+    for (row, factor) in factors.iter().enumerate() {
+        expected.fill(0x3C);
+        add_scaled(&mut expected, *factor, &src);
+        assert_eq!(rt; &rows[row * len..(row + 1) * len], expected.as_slice());
+    }
+    Ok(())
+}
+
+#[test]
+fn rows_of_every_length_are_added_to(rt: HostRuntime) -> Result<(), Fail> {
+    for len in 0..131 {
+        for factor in [0, 1, 2, 0x53, 0xFF] {
+            check_rows(&rt, rt.alloc(), &[factor], len)?;
+        }
+        check_rows(&rt, rt.alloc(), &[0, 1], len)?;
+        check_rows(&rt, rt.alloc(), &[2, 0x53, 0xFF, 0x1D], len)?;
+        check_rows(&rt, rt.alloc(), &[0x80, 3, 0, 0xFF, 2, 0x53, 1], len)?;
+    }
+    Ok(())
+}

@@ -1,0 +1,7 @@
+//! The fast coder beside the plain one, for many codes, widths and losses, and its kernels beside `add_scaled`.
+#![tactic(auto)]
+
+#[cfg(test)]
+mod encoding;
+#[cfg(test)]
+mod kernels;
