@@ -1,0 +1,10 @@
+mod Judges
+mod NameLaws
+mod OrderLaws
+mod ReplyLaws
+mod MissingLaws
+mod CauseLaws
+mod HistoryLaw
+mod PairLaws
+mod LineLaws
+mod SpoiledLaws
