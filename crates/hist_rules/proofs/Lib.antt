@@ -4,7 +4,7 @@ mod OrderLaws
 mod ReplyLaws
 mod MissingLaws
 mod CauseLaws
-mod HistoryLaw
+pub mod HistoryLaw
 mod PairLaws
 mod LineLaws
 mod SpoiledLaws
