@@ -1,0 +1,43 @@
+-- What a run shows is a history.
+use Rattle.std.specs.Prelude.{◌<◌, ◌^◌, List, length}
+use Rattle.clay_grid.specs.Limits.{IsGeometry}
+use Rattle.store_map.specs.Naming.{IsValid}
+use Rattle.store_map.specs.declared.actor.Token.{Token}
+use Rattle.store_map.specs.declared.script.Script.{Script}
+use Rattle.transcript_text.specs.declared.transcript.Transcript.{Transcript}
+use Rattle.store_core.specs.Schedule.{run_core}
+use Rattle.store_core.specs.Shown.{shown}
+use Rattle.store_core.specs.Step.{Shortage}
+use Rattle.hist_rules.specs.MapReplies.{HasMapReplies}
+use Rattle.hist_rules.specs.GivenUpOrLost.{GivenUp}
+use Rattle.store_history.specs.Parts.{CallsExist, PointsRise, TakesMatch}
+
+-- the script with another schedule
+abbrev pub scheduled : Script → List Token → Script
+scheduled script tokens = record script { schedule = tokens }
+
+-- of every run of a valid script, whatever was wanting of memory, what is shown has a property
+abbrev pub RunsShow : (Script → Transcript → Type 0) → Type 0
+RunsShow Has =
+    (script : Script) (shortages : List Shortage) → IsGeometry script.geometry → IsValid script → (tokens : List Token) → length tokens < 2 ^ 64 →
+    Has (scheduled script tokens) (shown script (run_core script shortages tokens))
+
+-- the map's replies, and its objects at the end
+abbrev pub RunsReply : Type 0
+RunsReply = RunsShow HasMapReplies
+
+-- no more calls given up than the operator gave up
+abbrev pub RunsGiveUp : Type 0
+RunsGiveUp = RunsShow GivenUp
+
+-- takes add up, while counts fit 64 bits
+abbrev pub RunsMatch : Type 0
+RunsMatch = RunsShow TakesMatch
+
+-- the history's lines are in order
+abbrev pub RunsRise : Type 0
+RunsRise = RunsShow PointsRise
+
+-- the lines are of calls of the script
+abbrev pub RunsNameCalls : Type 0
+RunsNameCalls = RunsShow CallsExist
