@@ -2,6 +2,7 @@
 use Rattle.std.proofs.Common.{◌≡◌, ℕ, Bool, true, false, cond, ◌&&◌, not, List, length, Option, None, Some, is_some, refl, ap, ◌∙◌}
 use Rattle.store_core.specs.Told.{Told}
 use Rattle.store_core.specs.Act.{ServerStep}
+use Rattle.version_seal.specs.Sealed.{ChunkOf}
 use Rattle.store_core.specs.Server.{Server, at_server, raised_by, hold, install}
 use Rattle.chunk_server.specs.State.{Held, ServerState, is_held, found_at}
 use Rattle.chunk_server.specs.Steps.{after_adding, prepare_of, after_settle, presence_of, chunk_given, taken_from, fetch_of, install_by, install_of, after_discard}
@@ -20,24 +21,24 @@ module _ (s : ServerState) where
   with_versions versions = record { held = versions; epoch = s.epoch; taken = s.taken; downs = s.downs; away = s.away }
 
   -- a chunk that comes, whatever its mark and what is told
-  core-adding : (version : ℕ) (mark : Mark) (bytes : List ℕ) (answer : Told)
-      → ◌≡◌ {A = Server × Told} (core_of (after_adding version mark bytes s), answer) (record (core_of s) { held = hold version (core_of s).held }, answer)
+  core-adding : (mark : Mark) (chunk : ChunkOf) (answer : Told)
+      → ◌≡◌ {A = Server × Told} (core_of (after_adding mark chunk s), answer) (record (core_of s) { held = hold chunk.stamp.version (core_of s).held }, answer)
   unfolding with_versions
-  core-adding version mark bytes answer =
-      ap (λ versions. (with_versions versions, answer)) (versions-hold (record { version = version; mark = mark; bytes = bytes }) s.held)
+  core-adding mark chunk answer =
+      ap (λ versions. (with_versions versions, answer)) (versions-hold (record { version = chunk.stamp.version; mark = mark; chunk = chunk }) s.held)
 
   -- one that is prepared, unless the server is away
-  pub core-prepare : (version : ℕ) (bytes : List ℕ)
-      → (core_of (prepare_of version bytes s).0, Told.Prepared (prepare_of version bytes s).1) ≡ at_server false (ServerStep.Prepare version) (core_of s)
-  core-prepare version bytes = by s.away
+  pub core-prepare : (chunk : ChunkOf)
+      → (core_of (prepare_of chunk s).0, Told.Prepared (prepare_of chunk s).1) ≡ at_server false (ServerStep.Prepare chunk.stamp.version) (core_of s)
+  core-prepare chunk = by s.away
     where
       by : (away : Bool)
-          → (let made = cond {A = ServerState × Placement} away (s, placement.Skipped s.downs) (after_adding version Prepared bytes s, placement.At s.epoch)
+          → (let made = cond {A = ServerState × Placement} away (s, placement.Skipped s.downs) (after_adding Prepared chunk s, placement.At s.epoch)
           in (core_of made.0, Told.Prepared made.1))
           ≡ cond {A = Server × Told} away (core_of s, Told.Prepared (placement.Skipped s.downs))
-          (record (core_of s) { held = hold version (core_of s).held }, Told.Prepared (placement.At s.epoch))
+          (record (core_of s) { held = hold chunk.stamp.version (core_of s).held }, Told.Prepared (placement.At s.epoch))
       by true = refl
-      by false = core-adding version Prepared bytes (Told.Prepared (placement.At s.epoch))
+      by false = core-adding Prepared chunk (Told.Prepared (placement.At s.epoch))
 
   -- one that is settled
   pub core-settle : (version : ℕ) → (core_of (after_settle version s), Told.Settled) ≡ at_server false (ServerStep.Settle version) (core_of s)
@@ -72,15 +73,15 @@ module _ (s : ServerState) where
       is_given false = is_some-chunk_of version s.held
 
   -- a chunk that comes or is there
-  pub core-install : (version : ℕ) (bytes : List ℕ)
-      → (core_of (install_of version bytes s).0, told_added (install_of version bytes s).1) ≡ at_server false (ServerStep.Install version) (core_of s)
-  core-install version bytes = by s.away (is_held version s.held)
+  pub core-install : (chunk : ChunkOf)
+      → (core_of (install_of chunk s).0, told_added (install_of chunk s).1) ≡ at_server false (ServerStep.Install chunk.stamp.version) (core_of s)
+  core-install chunk = by s.away (is_held chunk.stamp.version s.held)
     where
       by : (away held : Bool)
-          → (core_of (install_by away held version bytes s).0, told_added (install_by away held version bytes s).1) ≡ install away held version (core_of s)
+          → (core_of (install_by away held chunk s).0, told_added (install_by away held chunk s).1) ≡ install away held chunk.stamp.version (core_of s)
       by true held = refl
       by false true = refl
-      by false false = core-adding version Settled bytes (Told.Placed s.epoch)
+      by false false = core-adding Settled chunk (Told.Placed s.epoch)
 
   -- one that goes
   pub core-discard : (version : ℕ) → (core_of (after_discard version s), Told.Made) ≡ at_server false (ServerStep.Discard version) (core_of s)

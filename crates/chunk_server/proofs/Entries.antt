@@ -1,12 +1,12 @@
 -- What a map's words do to its entries, as the words on chunks say it.
-use Rattle.std.proofs.Common.{◌≡◌, Bool, true, false, cond, ◌||◌, not, nat_eq, nat_lt, List, [], ◌∷◌, Option, None, Some, is_some, refl, sym, ap, ◌∙◌, true≢false, unwrap_or}
+use Rattle.std.proofs.Common.{◌≡◌, ℕ, zero, suc, ◌≤◌, ◌↔◌, length, slice_get, arith, Bool, true, false, cond, ◌||◌, not, nat_eq, nat_lt, List, [], ◌∷◌, Option, None, Some, is_some, refl, sym, ap, ◌∙◌, true≢false, unwrap_or}
 use Rattle.std.proofs.lemmas.Bool.{eqb-true}
 use Rattle.std.specs.Option.{option_map}
 use Rattle.std.specs.Ordering.{is_eq, nat_cmp, match_ordering}
 use Rattle.std.specs.declared.cmp.Ordering.{Ordering}
 use Rattle.std.specs.declared.cmp.Ordering.TheVariants.{Less, Equal, Greater}
 use Rattle.std.specs.Cmp.{unsigned_ties}
-use Rattle.std.specs.Map.{lookup, set_value, remove_entry}
+use Rattle.std.specs.Map.{values_of, lookup, set_value, remove_entry}
 use Rattle.std.specs.BTreeMap.{insert_entry, is_at}
 use Rattle.store_core.specs.HeldLaws.{IsRising}
 use Rattle.store_map.specs.declared.actor.Version.{Version}
@@ -56,7 +56,7 @@ module _ (v : Version) where
       by : (same : Bool) → nat_eq v.0 e.0.0 ≡ same
           → chunk_of v.0 (chunks_in es) ≡ option_map (λ held. chunk_in (v, held)) (lookup (is_at (by_number v)) es)
           → cond same (Some (chunk_in e)) (chunk_of v.0 (chunks_in es)) ≡ option_map (λ held. chunk_in (v, held)) (cond same (Some e.1) (lookup (is_at (by_number v)) es))
-      by true is rest = ap (λ n. Some (record { version = n; mark = e.1.mark; bytes = e.1.chunk.items })) (sym (eqb-true v.0 e.0.0 is))
+      by true is rest = ap (λ n. Some (record { version = n; mark = e.1.mark; chunk = e.1.chunk })) (sym (eqb-true v.0 e.0.0 is))
       by false is rest = rest
 
   -- the entry of a new key is a chunk more
@@ -108,5 +108,18 @@ module _ (v : Version) where
           ∙ settled_at-absent e.0.0 (chunks_in es) (above_is_absent e.0.0 (chunks_in es) h.0)
           in
           let first : old ≡ e.1 = sym (same_some at) in
-          λ i. record { version = e.0.0; mark = Settled; bytes = (first i).chunk.items } ∷ sym others i
+          λ i. record { version = e.0.0; mark = Settled; chunk = (first i).chunk } ∷ sym others i
       by false is at rest = ap (λ chunks. chunk_in e ∷ chunks) (rest at)
+
+-- the stamp at a place among the chunks is that of the value there
+pub stamp_at-values : (es : List (Version × HeldChunk)) (index : ℕ)
+    → option_map (λ (held : Held). held.chunk.stamp) (slice_get (chunks_in es) index) ≡ option_map (λ (held : HeldChunk). held.chunk.stamp) (slice_get (values_of es) index)
+stamp_at-values [] index = refl
+stamp_at-values (e ∷ es) zero = refl
+stamp_at-values (e ∷ es) (suc index) = stamp_at-values es index
+
+-- there is one exactly below their number
+pub no_stamp : (chunks : List Held) (index : ℕ) → (is_some (option_map (λ (held : Held). held.chunk.stamp) (slice_get chunks index)) ≡ false) ↔ (length chunks ≤ index)
+no_stamp [] index = (λ _. omega arith, λ _. refl)
+no_stamp (chunk ∷ chunks) zero = (λ e. absurd (true≢false e), λ h. absurd (omega (arith, h)))
+no_stamp (chunk ∷ chunks) (suc index) = let rest = no_stamp chunks index in (λ e. let h = rest.0 e in omega (arith, h), λ h. rest.1 (omega (arith, h)))

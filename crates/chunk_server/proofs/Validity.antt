@@ -1,12 +1,14 @@
 -- What every server keeps is kept.
-use Rattle.std.proofs.Common.{◌≡◌, ℕ, false, cond, nat_eq, nat_lt, not, List, [], ◌∷◌, length, All, sym, subst}
+use Rattle.std.proofs.Common.{◌≡◌, ℕ, false, cond, nat_eq, nat_lt, not, List, [], ◌∷◌, All, refl, sym, subst}
 use Rattle.std.proofs.lemmas.Bool.{cond_both}
 use Rattle.std.proofs.lemmas.List.Elements.{All-nil, All-cons, All-head, All-tail, All-filter}
-use Rattle.clay_grid.specs.Shape.{chunk_length}
+use Rattle.clay_grid.specs.Shape.{Shape}
 use Rattle.store_core.specs.Act.{ServerStep}
 use Rattle.store_core.specs.HeldLaws.{IsRising}
 use Rattle.store_core.proofs.Held.{holds_in_order}
-use Rattle.chunk_server.specs.State.{Held, ServerState, hold, settled_at, IsValid}
+use Rattle.chunk_server.specs.State.{Held, ServerState, hold, settled_at}
+use Rattle.chunk_server.specs.Valid.{MayCome, IsOwn, IsValid}
+use Rattle.version_seal.specs.Sealed.{ChunkOf, IsSealed}
 use Rattle.chunk_server.specs.Steps.{after_adding, after_settle, after_discard, after_wipe}
 use Rattle.chunk_server.specs.Core.{core_of}
 use Rattle.chunk_server.specs.declared.server.Mark.{Mark}
@@ -23,15 +25,15 @@ All-hold P chunk (other ∷ chunks) p h =
     (λ _. h)
     (λ _. All-cons P other (hold chunk chunks) (All-head P other chunks h) (All-hold P chunk chunks p (All-tail P other chunks h))))
 
--- a chunk keeps its bytes
-All-settled_at : (n version : ℕ) (chunks : List Held) → All (λ chunk. length chunk.bytes ≡ n) chunks → All (λ chunk. length chunk.bytes ≡ n) (settled_at version chunks)
-All-settled_at n version [] h = h
-All-settled_at n version (other ∷ chunks) h =
-    let P : Held → Type 0 = λ chunk. length chunk.bytes ≡ n in
+-- a chunk that is settled stays itself
+All-settled_at : (home : List ℕ) (number : ℕ) (g : Shape) (version : ℕ) (chunks : List Held) → All (IsOwn home number g) chunks → All (IsOwn home number g) (settled_at version chunks)
+All-settled_at home number g version [] h = h
+All-settled_at home number g version (other ∷ chunks) h =
+    let P : Held → Type 0 = IsOwn home number g in
     let kept : P other = All-head P other chunks h in
     All-cons P (cond {A = Held} (nat_eq version other.version) (record other { mark = Settled }) other) (settled_at version chunks)
-    (cond_both {A = Held} (nat_eq version other.version) (record other { mark = Settled }) other P (λ _. kept) (λ _. kept))
-    (All-settled_at n version chunks (All-tail P other chunks h))
+    (cond_both {A = Held} (nat_eq version other.version) (record other { mark = Settled }) other P (λ _. record { here = kept.here; version = kept.version; sealed = kept.sealed }) (λ _. kept))
+    (All-settled_at home number g version chunks (All-tail P other chunks h))
 
 -- equal lists of versions rise both
 rises : (versions after : List ℕ) → after ≡ versions → IsRising versions → IsRising after
@@ -42,12 +44,12 @@ pub valid-same : (s : ServerState) (chunks after : List Held) → after ≡ chun
 valid-same s chunks after same valid = subst (λ (held : List Held). IsValid (record s { held = held })) (sym same) valid
 
 module _ (s : ServerState) (valid : IsValid s) where
-  -- after a chunk of the code's length came
-  pub valid-adding : (version : ℕ) (mark : Mark) (bytes : List ℕ) → length bytes ≡ chunk_length s.geometry → IsValid (after_adding version mark bytes s)
-  valid-adding version mark bytes fits =
+  -- after a sealed chunk came
+  pub valid-adding : (mark : Mark) (chunk : ChunkOf) → MayCome s chunk → IsSealed chunk → IsValid (after_adding mark chunk s)
+  valid-adding mark chunk here sealed =
       record {
-        rising = rises _ _ (versions-hold (record { version = version; mark = mark; bytes = bytes }) s.held) (holds_in_order.rising false (ServerStep.Prepare version) (record (core_of s) { away = false }) valid.rising);
-        lengths = All-hold (λ chunk. length chunk.bytes ≡ chunk_length s.geometry) (record { version = version; mark = mark; bytes = bytes }) s.held fits valid.lengths;
+        rising = rises _ _ (versions-hold (record { version = chunk.stamp.version; mark = mark; chunk = chunk }) s.held) (holds_in_order.rising false (ServerStep.Prepare chunk.stamp.version) (record (core_of s) { away = false }) valid.rising);
+        own = All-hold (IsOwn s.book.home s.number s.geometry) (record { version = chunk.stamp.version; mark = mark; chunk = chunk }) s.held (record { here = here; version = refl; sealed = sealed }) valid.own;
       }
 
   -- after one was settled
@@ -55,7 +57,7 @@ module _ (s : ServerState) (valid : IsValid s) where
   valid-settle version =
       record {
         rising = rises _ _ (versions-settled_at version s.held) valid.rising;
-        lengths = All-settled_at (chunk_length s.geometry) version s.held valid.lengths;
+        own = All-settled_at s.book.home s.number s.geometry version s.held valid.own;
       }
 
   -- after one went
@@ -63,9 +65,9 @@ module _ (s : ServerState) (valid : IsValid s) where
   valid-discard version =
       record {
         rising = rises _ _ (versions-let_go version s.held) (holds_in_order.rising false (ServerStep.Discard version) (core_of s) valid.rising);
-        lengths = All-filter (λ (chunk : Held). not (nat_eq version chunk.version)) (λ chunk. length chunk.bytes ≡ chunk_length s.geometry) s.held valid.lengths;
+        own = All-filter (λ (chunk : Held). not (nat_eq version chunk.version)) (IsOwn s.book.home s.number s.geometry) s.held valid.own;
       }
 
   -- after all went
   pub valid-wipe : IsValid (after_wipe s)
-  valid-wipe = record { rising = tt; lengths = All-nil (λ (chunk : Held). length chunk.bytes ≡ chunk_length s.geometry) }
+  valid-wipe = record { rising = tt; own = All-nil (IsOwn s.book.home s.number s.geometry) }

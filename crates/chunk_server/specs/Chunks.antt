@@ -7,7 +7,7 @@ use Rattle.chunk_server.specs.declared.server.Server.TheInside.{Inside}
 
 -- the chunk of an entry of the map
 abbrev pub chunk_in : Version × HeldChunk → Held
-chunk_in entry = record { version = entry.0.0; mark = entry.1.mark; bytes = entry.1.chunk.items }
+chunk_in entry = record { version = entry.0.0; mark = entry.1.mark; chunk = entry.1.chunk }
 
 -- the chunks of all entries, in their order
 abbrev pub chunks_in : List (Version × HeldChunk) → List Held
@@ -18,6 +18,7 @@ abbrev pub state_in : Inside → ServerState
 state_in a =
     record {
       number = a.number;
+      book = a.opening;
       geometry = a.geometry;
       epoch = a.epoch;
       taken = a.taken;

@@ -11,7 +11,7 @@ use Rattle.chunk_server.specs.declared.answers.Fetched.TheVariants as fetched
 use Rattle.chunk_server.specs.declared.answers.Installed.{Installed}
 use Rattle.chunk_server.specs.declared.answers.Installed.TheVariants as installed
 
--- the server without its number, its code, its marks and its bytes
+-- the server without its number, its book, its code, its marks and its chunks' contents
 abbrev pub core_of : ServerState → Server
 core_of s = record { held = versions_of s.held; epoch = s.epoch; taken = s.taken; downs = s.downs; away = s.away }
 
@@ -27,7 +27,7 @@ told_presence (presence.Missing found) = Told.Missing found
 
 -- what a fetch of so many layers tells that had its memory
 abbrev pub told_given : ℕ → Fetched → Told
-told_given count (fetched.Bytes bytes) = Told.Given count
+told_given count (fetched.Part part) = Told.Given count
 told_given count (fetched.Missing found) = Told.Missing found
 
 -- what a fetch of so many layers tells

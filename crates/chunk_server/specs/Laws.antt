@@ -1,9 +1,8 @@
--- What the definitions say of chunks: a step changes what one version finds, and layers are parts of a chunk.
-use Rattle.std.specs.Prelude.{◌≡◌, ◌≢◌, ℕ, ◌+◌, ◌*◌, ◌≤◌, true, false, List, length, None, Some, All}
+-- What the definitions say of chunks: a step changes what one version finds.
+use Rattle.std.specs.Prelude.{◌≡◌, ◌≢◌, ℕ, true, false, List, None, Some}
 use Rattle.std.specs.Option.{option_map}
-use Rattle.std.specs.List.{range_with_len}
 use Rattle.store_core.specs.HeldLaws.{IsRising}
-use Rattle.chunk_server.specs.State.{Held, versions_of, is_held, chunk_of, hold, settled_chunk, settled_at, let_go, subchunks_at}
+use Rattle.chunk_server.specs.State.{Held, versions_of, is_held, chunk_of, hold, settled_chunk, settled_at, let_go}
 
 -- a chunk that comes is found, or changes nothing where its version is held
 pub record AddsOneChunk (chunk : Held) (chunks : List Held) : Type 0 where
@@ -20,10 +19,3 @@ pub record SettlesOneChunk (version : ℕ) (chunks : List Held) : Type 0 where
 pub record RemovesOneChunk (version : ℕ) (chunks : List Held) : Type 0 where
   pub none : chunk_of version (let_go version chunks) ≡ None
   pub others : (other : ℕ) → other ≢ version → chunk_of other (let_go version chunks) ≡ chunk_of other chunks
-
--- subchunks have their width each, and those at all layers in order are the chunk
-pub record ArePartsOfTheChunk (width count : ℕ) (bytes : List ℕ) : Type 0 where
-  pub lengths :
-      (layers : List ℕ) → All (λ layer. layer * width + width ≤ length bytes) layers
-      → length (subchunks_at width bytes layers) ≡ length layers * width
-  pub whole : length bytes ≡ count * width → subchunks_at width bytes (range_with_len 0 count) ≡ bytes

@@ -1,4 +1,5 @@
 pub mod State
+pub mod Valid
 pub mod Chunks
 pub mod Steps
 pub mod Core

@@ -1,29 +1,34 @@
 -- A chunk server as a record, and the list of the chunks that it holds.
-use Rattle.std.specs.Prelude.{◌≡◌, ℕ, ◌*◌, Bool, not, nat_eq, nat_lt, List, [], ◌∷◌, length, take, drop, map, filter, find, All, Option, if◌then◌else◌}
-use Rattle.std.specs.List.{flat_map}
-use Rattle.clay_grid.specs.Shape.{Shape, chunk_length}
+use Rattle.std.specs.Prelude.{ℕ, Bool, false, not, nat_eq, nat_lt, List, [], ◌∷◌, map, filter, find, Option, if◌then◌else◌}
+use Rattle.clay_grid.specs.Shape.{Shape}
 use Rattle.store_map.specs.declared.placement.Found.{Found}
 use Rattle.store_map.specs.declared.placement.Found.TheVariants as found
 use Rattle.store_core.specs.Lists.{is_among}
-use Rattle.store_core.specs.HeldLaws.{IsRising}
+use Rattle.version_seal.specs.Entry.{BookOf}
+use Rattle.version_seal.specs.Sealed.{ChunkOf}
 use Rattle.chunk_server.specs.declared.server.Mark.{Mark}
 use Rattle.chunk_server.specs.declared.server.Mark.TheVariants.{Settled}
 
--- the chunk of a version, whether its call has committed, and its bytes
+-- the chunk of a version, whether its call has committed, and the sealed chunk
 pub record Held : Type 0 where
   pub version : ℕ
   pub mark : Mark
-  pub bytes : List ℕ
+  pub chunk : ChunkOf
 
--- which of the servers it is, its code, how often it was emptied, how many subchunks were taken from it, how often it was made away, whether it is, and its chunks
+-- which of the servers it is, the book of its versions, its code, how often it was emptied, how many subchunks were taken from it, how often it was made away, whether it is, and its chunks
 pub record ServerState : Type 0 where
   pub number : ℕ
+  pub book : BookOf
   pub geometry : Shape
   pub epoch : ℕ
   pub taken : ℕ
   pub downs : ℕ
   pub away : Bool
   pub held : List Held
+
+-- a server that was never used
+abbrev pub empty_server : ℕ → BookOf → Shape → ServerState
+empty_server number book g = record { number = number; book = book; geometry = g; epoch = 0; taken = 0; downs = 0; away = false; held = [] }
 
 -- the versions of chunks, in the chunks' order
 abbrev pub versions_of : List Held → List ℕ
@@ -59,12 +64,3 @@ settled_at version chunks = map (λ chunk. if nat_eq version chunk.version then 
 -- the version is held no more
 abbrev pub let_go : ℕ → List Held → List Held
 let_go version chunks = filter (λ chunk. not (nat_eq version chunk.version)) chunks
-
--- of a chunk's bytes the subchunks at these layers, `width` bytes each, one after another
-abbrev pub subchunks_at : ℕ → List ℕ → List ℕ → List ℕ
-subchunks_at width bytes layers = flat_map (λ layer. take width (drop (layer * width) bytes)) layers
-
--- what every server keeps: its versions rise, so that each is held once, and each chunk has the code's length
-pub record IsValid (s : ServerState) : Type 0 where
-  pub rising : IsRising (versions_of s.held)
-  pub lengths : All (λ chunk. length chunk.bytes ≡ chunk_length s.geometry) s.held

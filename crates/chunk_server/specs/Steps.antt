@@ -1,10 +1,10 @@
 -- What a server is after each call, and what it answers.
-use Rattle.std.specs.Prelude.{◌≡◌, ℕ, ⊤, Bool, true, false, ◌&&◌, not, List, [], length, Option, None, Some, if◌then◌else◌}
-use Rattle.clay_grid.specs.Shape.{Shape}
+use Rattle.std.specs.Prelude.{ℕ, Bool, true, false, ◌&&◌, not, List, [], length, Option, None, Some, if◌then◌else◌}
 use Rattle.store_map.specs.declared.placement.Placement.{Placement}
 use Rattle.store_map.specs.declared.placement.Placement.TheVariants as placement
 use Rattle.store_core.specs.Server.{raised_by}
-use Rattle.chunk_server.specs.State.{Held, ServerState, is_held, chunk_of, found_at, hold, settled_at, let_go, subchunks_at}
+use Rattle.version_seal.specs.Sealed.{ChunkOf, part_of}
+use Rattle.chunk_server.specs.State.{Held, ServerState, is_held, chunk_of, found_at, hold, settled_at, let_go}
 use Rattle.chunk_server.specs.declared.server.Mark.{Mark}
 use Rattle.chunk_server.specs.declared.server.Mark.TheVariants.{Prepared, Settled}
 use Rattle.chunk_server.specs.declared.answers.Presence.{Presence}
@@ -14,19 +14,15 @@ use Rattle.chunk_server.specs.declared.answers.Fetched.TheVariants as fetched
 use Rattle.chunk_server.specs.declared.answers.Installed.{Installed}
 use Rattle.chunk_server.specs.declared.answers.Installed.TheVariants as installed
 
--- a server that was never used
-abbrev pub empty_server : ℕ → Shape → ServerState
-empty_server number g = record { number = number; geometry = g; epoch = 0; taken = 0; downs = 0; away = false; held = [] }
-
 -- a version's chunk is added with a mark, unless the version is held
-abbrev pub after_adding : ℕ → Mark → List ℕ → ServerState → ServerState
-after_adding version mark bytes s =
-    record s { held = hold (record { version = version; mark = mark; bytes = bytes }) s.held }
+abbrev pub after_adding : Mark → ChunkOf → ServerState → ServerState
+after_adding mark chunk s =
+    record s { held = hold (record { version = chunk.stamp.version; mark = mark; chunk = chunk }) s.held }
 
 -- it is added as prepared, unless the server is away, and how it was placed is told
-abbrev pub prepare_of : ℕ → List ℕ → ServerState → ServerState × Placement
-prepare_of version bytes s =
-    if s.away then (s, placement.Skipped s.downs) else (after_adding version Prepared bytes s, placement.At s.epoch)
+abbrev pub prepare_of : ChunkOf → ServerState → ServerState × Placement
+prepare_of chunk s =
+    if s.away then (s, placement.Skipped s.downs) else (after_adding Prepared chunk s, placement.At s.epoch)
 
 -- the version's chunk is settled
 abbrev pub after_settle : ℕ → ServerState → ServerState
@@ -46,27 +42,22 @@ abbrev pub taken_from : List ℕ → ServerState → Option Held → ServerState
 taken_from layers s None = (s, fetched.Missing (found_at s))
 taken_from layers s (Some chunk) = (
   record s { taken = raised_by (length layers) s.taken },
-  fetched.Bytes (subchunks_at s.geometry.width chunk.bytes layers),
+  fetched.Part (part_of chunk.chunk layers),
 )
 
 -- so of the version's chunk
 abbrev pub fetch_of : ℕ → List ℕ → ServerState → ServerState × Fetched
 fetch_of version layers s = taken_from layers s (chunk_given s.away version s.held)
 
--- a fetch that found its chunk gave so many bytes
-abbrev pub HasBytes : ℕ → Fetched → Type 0
-HasBytes count (fetched.Bytes bytes) = length bytes ≡ count
-HasBytes count (fetched.Missing found) = ⊤
-
 -- a version's chunk is added as settled, unless the server is away or the version is held
-abbrev pub install_by : Bool → Bool → ℕ → List ℕ → ServerState → ServerState × Installed
-install_by true held version bytes s = (s, installed.Away s.downs)
-install_by false true version bytes s = (s, installed.AlreadyThere)
-install_by false false version bytes s = (after_adding version Settled bytes s, installed.Placed s.epoch)
+abbrev pub install_by : Bool → Bool → ChunkOf → ServerState → ServerState × Installed
+install_by true held chunk s = (s, installed.Away s.downs)
+install_by false true chunk s = (s, installed.AlreadyThere)
+install_by false false chunk s = (after_adding Settled chunk s, installed.Placed s.epoch)
 
 -- the same for this server
-abbrev pub install_of : ℕ → List ℕ → ServerState → ServerState × Installed
-install_of version bytes s = install_by s.away (is_held version s.held) version bytes s
+abbrev pub install_of : ChunkOf → ServerState → ServerState × Installed
+install_of chunk s = install_by s.away (is_held chunk.stamp.version s.held) chunk s
 
 -- the version's chunk is gone
 abbrev pub after_discard : ℕ → ServerState → ServerState

@@ -1,4 +1,5 @@
-use store_map::{ByteList, Found};
+use store_map::Found;
+use version_seal::SealedPart;
 
 /// Whether a server holds a version's chunk.
 #[derive(Clone, Copy, PartialEq, Eq, Debug)]
@@ -10,10 +11,10 @@ pub enum Presence {
 }
 
 /// What a fetch is answered.
-#[derive(PartialEq, Eq, Debug, Drop)]
+#[derive(Drop)]
 pub enum Fetched {
-    /// The subchunks in the order asked for, one after another.
-    Bytes(ByteList),
+    /// The subchunks in the order asked for.
+    Part(SealedPart),
     /// The version isn't held, or the server is away.
     Missing { found: Found },
 }

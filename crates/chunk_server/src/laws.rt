@@ -2,7 +2,7 @@
 
 ghost use Rattle.std.specs.Prelude.{ℕ, List};
 ghost use Rattle.chunk_server.specs.State.{Held};
-ghost use Rattle.chunk_server.specs.Laws.{AddsOneChunk, ArePartsOfTheChunk, RemovesOneChunk, SettlesOneChunk};
+ghost use Rattle.chunk_server.specs.Laws.{AddsOneChunk, RemovesOneChunk, SettlesOneChunk};
 ghost use Rattle.chunk_server.specs.Rows.{AreRowsOfAServer};
 
 /// Steps of a server with their answers.
@@ -15,9 +15,4 @@ pub fn steps_change_one_version()
     ensures adds { (chunk : Held) (chunks : List Held) → AddsOneChunk chunk chunks }
     ensures settles { (version : ℕ) (chunks : List Held) → SettlesOneChunk version chunks }
     ensures removes { (version : ℕ) (chunks : List Held) → RemovesOneChunk version chunks }
-{}
-
-/// Subchunks have their width each, and those at all layers in order are the chunk.
-pub fn subchunks_are_parts_of_the_chunk()
-    ensures { (width count : ℕ) (bytes : List ℕ) → ArePartsOfTheChunk width count bytes }
 {}

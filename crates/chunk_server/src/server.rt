@@ -1,10 +1,13 @@
-ghost use Rattle.std.specs.Prelude.{◌≡◌, ◌+◌, ◌*◌, ◌≤◌, ◌<◌, ◌↔◌, ◌&&◌, not, false, IsTrue, IsFalse, length, vec_len, All, IfOk, OnOk, OnErr, is_err};
-ghost use Rattle.clay_grid.specs.Shape.{chunk_length, layer_count};
+ghost use Rattle.std.specs.Prelude.{◌≡◌, ◌≤◌, ◌<◌, ◌↔◌, ◌&&◌, not, false, slice_get, IsNone, IsTrue, IsFalse, length, All, IfOk, OnOk, OnErr, is_err};
+ghost use Rattle.std.specs.Option.{option_map};
+ghost use Rattle.std.specs.BTreeMap.{values};
+ghost use Rattle.clay_grid.specs.Shape.{layer_count};
 ghost use Rattle.store_core.specs.Told.{Told};
 ghost use Rattle.store_core.specs.Act.{ServerStep};
 ghost use Rattle.store_core.specs.Server.{at_server};
-ghost use Rattle.chunk_server.specs.State.{is_held, found_at, subchunks_at, IsValid};
-ghost use Rattle.chunk_server.specs.Steps.{empty_server, after_adding, prepare_of, after_settle, presence_of, fetch_of, install_of, HasBytes, after_discard, after_wipe, after_down, after_up};
+ghost use Rattle.chunk_server.specs.State.{empty_server, is_held, found_at};
+ghost use Rattle.chunk_server.specs.Valid.{MayCome, IsValid, GivesPart};
+ghost use Rattle.chunk_server.specs.Steps.{after_adding, prepare_of, after_settle, presence_of, fetch_of, install_of, after_discard, after_wipe, after_down, after_up};
 ghost use Rattle.chunk_server.specs.Core.{core_of, told_prepared, told_presence, told_fetched, told_installed};
 
 use crate::answers::{Fetched, Installed, Presence};
@@ -12,7 +15,8 @@ use clay_grid::Geometry;
 use std::alloc::{AllocError, Global};
 use std::collections::BTreeMap;
 use std::marker::Model;
-use store_map::{ByteList, Found, Placement, Version};
+use store_map::{Found, Placement, Version};
+use version_seal::{Opening, SealedChunk, Stamp};
 
 /// Whether the call that put a chunk has committed.
 #[derive(Clone, Copy, PartialEq, Eq, Debug)]
@@ -27,15 +31,17 @@ pub enum Mark {
 #[derive(Drop)]
 struct HeldChunk {
     mark: Mark,
-    chunk: Vec<u8>,
+    chunk: SealedChunk,
 }
 
-/// One chunk server: chunks of versions of stripes, in memory. A chunk that comes is moved in. A
-/// call takes a time that is logarithmic in the chunks held, a fetch that of its bytes beside it,
-/// and a wipe the time to free what was held.
+/// One chunk server: chunks of one book's versions of stripes, in memory. Each is sealed as this
+/// server's chunk of its version. A chunk that comes is moved in. A call takes a time that is
+/// logarithmic in the chunks held, a fetch that of its bytes beside it, and a wipe the time to free
+/// what was held.
 #[derive(Drop)]
 pub struct Server {
     number: u32,
+    opening: Opening,
     geometry: Geometry,
     epoch: u64,
     taken: u64,
@@ -49,7 +55,7 @@ impl Model for Server {
 
     ghost Value = { ServerState };
 
-    ghost use Rattle.chunk_server.specs.State.{IsValid};
+    ghost use Rattle.chunk_server.specs.Valid.{IsValid};
     ghost use Rattle.chunk_server.specs.Chunks.{state_in};
 
     ghost view = { state_in };
@@ -58,12 +64,13 @@ impl Model for Server {
 }
 
 impl Server {
-    /// An empty server of stripes of this code, the `number`th from 0.
-    pub fn new(alloc: Global, number: u32, geometry: Geometry) -> Server
-        ensures { result ≡ empty_server number geometry }
+    /// An empty server of this book's stripes, of this code, the `number`th from 0.
+    pub fn new(alloc: Global, number: u32, opening: Opening, geometry: Geometry) -> Server
+        ensures { result ≡ empty_server number opening geometry }
     {
         Server {
             number,
+            opening,
             geometry,
             epoch: 0,
             taken: 0,
@@ -123,22 +130,36 @@ impl Server {
         self.held.len()
     }
 
-    /// Adds the version's chunk as prepared and tells the epoch. A version that is held already
-    /// keeps its chunk and its mark. Where the server is away nothing is added, and the count of
-    /// downs is told. Where memory is wanting the server is as before.
-    pub fn prepare(&mut self, version: Version, chunk: Vec<u8>) -> Result<Placement, AllocError>
-        requires { vec_len chunk ≡ chunk_length self.old.geometry }
+    /// The stamp of the `index`th chunk that it holds, from 0, in the order of their versions. It
+    /// goes over those before.
+    pub fn stamp_at(&self, index: usize) -> Option<&Stamp>
+        ensures found { option_map (λ stamp. stamp.now) result
+            ≡ option_map (λ held. held.chunk.stamp) (slice_get self.now.held index) }
+        ensures none { IsNone result ↔ (length self.now.held ≤ index) }
+    {
+        match held_at(&self.held, index) {
+            Some(held) => Some(held.chunk.stamp()),
+            None => None,
+        }
+    }
+
+    /// Adds the chunk as prepared and tells the epoch. A version that is held already keeps its
+    /// chunk and its mark. Where the server is away nothing is added, and the count of downs is
+    /// told. Where memory is wanting the server is as before.
+    pub fn prepare(&mut self, chunk: SealedChunk) -> Result<Placement, AllocError>
+        requires { MayCome self.old chunk }
         ensures ok { IfOk result (λ placement.
-            (self.new, placement) ≡ prepare_of version.0 chunk.items self.old) }
+            (self.new, placement) ≡ prepare_of chunk self.old) }
         ensures err { OnErr result (self.new ≡ self.old) }
-        ensures absent { OnErr result (IsFalse (is_held version.0 self.old.held)) }
+        ensures absent { OnErr result (IsFalse (is_held chunk.stamp.version self.old.held)) }
         ensures present { OnErr result (IsFalse self.old.away) }
         ensures core { (core_of self.new, told_prepared result)
-            ≡ at_server (is_err result) (ServerStep.Prepare version.0) (core_of self.old) }
+            ≡ at_server (is_err result) (ServerStep.Prepare chunk.stamp.version) (core_of self.old) }
     {
         if self.away {
             return Ok(Placement::Skipped(self.downs));
         }
+        let version = chunk.stamp().version();
         if self.is_held(version) {
             return Ok(Placement::At(self.epoch));
         }
@@ -183,7 +204,7 @@ impl Server {
             (self.new, answer) ≡ fetch_of version.0 layers.now self.old) }
         ensures missing { (result ≡ Ok (Fetched.Missing (found_at self.old)))
             ↔ IsFalse (not self.old.away && is_held version.0 self.old.held) }
-        ensures length { IfOk result (HasBytes (length layers.now * self.old.geometry.width)) }
+        ensures part { IfOk result (GivesPart self.old version.0 layers.now) }
         ensures err { OnErr result (self.new ≡ self.old) }
         ensures core { (core_of self.new, told_fetched (length layers.now) result)
             ≡ at_server (is_err result) (ServerStep.Fetch version.0 layers.now) (core_of self.old) }
@@ -198,30 +219,29 @@ impl Server {
                 found: self.found(),
             });
         };
-        let alloc = *held.chunk.allocator();
-        let width = self.geometry.w() as usize;
-        let bytes = subchunks_at(alloc, &held.chunk, width, layers)?;
+        let part = held.chunk.part(layers)?;
         self.taken = self.taken.saturating_add(layers.len() as u64);
-        Ok(Fetched::Bytes(ByteList::from_vec(bytes)))
+        Ok(Fetched::Part(part))
     }
 
-    /// Adds the version's chunk as settled and tells the epoch. A version that is held already
-    /// keeps its chunk and its mark. Where the server is away, which goes first, nothing is added,
-    /// and the count of downs is told. Where memory is wanting the server is as before.
-    pub fn install(&mut self, version: Version, chunk: Vec<u8>) -> Result<Installed, AllocError>
-        requires { vec_len chunk ≡ chunk_length self.old.geometry }
+    /// Adds the chunk as settled and tells the epoch. A version that is held already keeps its
+    /// chunk and its mark. Where the server is away, which goes first, nothing is added, and the
+    /// count of downs is told. Where memory is wanting the server is as before.
+    pub fn install(&mut self, chunk: SealedChunk) -> Result<Installed, AllocError>
+        requires { MayCome self.old chunk }
         ensures ok { IfOk result (λ answer.
-            (self.new, answer) ≡ install_of version.0 chunk.items self.old) }
+            (self.new, answer) ≡ install_of chunk self.old) }
         ensures already { (result ≡ Ok Installed.AlreadyThere)
-            ↔ IsTrue (not self.old.away && is_held version.0 self.old.held) }
+            ↔ IsTrue (not self.old.away && is_held chunk.stamp.version self.old.held) }
         ensures away { (result ≡ Ok (Installed.Away self.old.downs)) ↔ IsTrue self.old.away }
         ensures err { OnErr result (self.new ≡ self.old) }
         ensures core { (core_of self.new, told_installed result)
-            ≡ at_server (is_err result) (ServerStep.Install version.0) (core_of self.old) }
+            ≡ at_server (is_err result) (ServerStep.Install chunk.stamp.version) (core_of self.old) }
     {
         if self.away {
             return Ok(Installed::Away { downs: self.downs });
         }
+        let version = chunk.stamp().version();
         if self.is_held(version) {
             return Ok(Installed::AlreadyThere);
         }
@@ -287,32 +307,23 @@ impl Server {
     }
 
     // Adds the chunk of a version that isn't held.
-    fn add(&mut self, version: Version, mark: Mark, chunk: Vec<u8>) -> Result<(), AllocError>
+    fn add(&mut self, version: Version, mark: Mark, chunk: SealedChunk) -> Result<(), AllocError>
         requires new { is_held version.0 self.old.held ≡ false }
-        requires length { vec_len chunk ≡ chunk_length self.old.geometry }
-        ensures ok { OnOk result (self.new ≡ after_adding version.0 mark chunk.items self.old) }
+        requires named { version.0 ≡ chunk.stamp.version }
+        requires here { MayCome self.old chunk }
+        ensures ok { OnOk result (self.new ≡ after_adding mark chunk self.old) }
         ensures err { OnErr result (self.new ≡ self.old) }
     {
+        // That the chunk is sealed is needed below.
+        let _ = chunk.bytes();
         self.held.insert(version, HeldChunk { mark, chunk })?;
         Ok(())
     }
 }
 
-// A chunk's subchunks at these layers, `width` bytes each, one after another.
-fn subchunks_at(
-    alloc: Global,
-    chunk: &[u8],
-    width: usize,
-    layers: &[u32],
-) -> Result<Vec<u8>, AllocError>
-    requires { All (λ layer. layer * width + width ≤ length chunk.now) layers.now }
-    ensures { IfOk result (λ bytes. bytes.items ≡ subchunks_at width chunk.now layers.now) }
+// The `index`th chunk in the order of versions.
+fn held_at(held: &BTreeMap<Version, HeldChunk>, index: usize) -> Option<&HeldChunk>
+    ensures { option_map (λ chunk. chunk.now) result ≡ slice_get (values held.now) index }
 {
-    // Bytes of more than the type's last length can't be had, and the capacity is refused.
-    let mut bytes = Vec::with_capacity(alloc, layers.len().saturating_mul(width))?;
-    for layer in layers {
-        let start = *layer as usize * width;
-        bytes.extend_from_slice(&chunk[start..start + width])?;
-    }
-    Ok(bytes)
+    held.values().nth(index)
 }

@@ -1,8 +1,8 @@
-use Rattle.std.proofs.Common.{◌≡◌, None, ap, ◌∙◌, sym}
+use Rattle.std.proofs.Common.{◌≡◌, None, ap, ◌∙◌, sym, subst}
 use Rattle.std.specs.Map.{lookup}
 use Rattle.std.specs.BTreeMap.{is_at}
-use Rattle.clay_grid.specs.Shape.{chunk_length}
 use Rattle.chunk_server.specs.State.{is_held, hold}
+use Rattle.chunk_server.specs.Valid.{MayCome}
 use Rattle.chunk_server.specs.Steps.{after_adding}
 use Rattle.chunk_server.specs.Chunks.{chunk_in, chunks_in, state_in}
 use Rattle.chunk_server.proofs.Entries.{by_number, is_held-lookup, chunks_in-insert_entry, none_from_is_some}
@@ -18,13 +18,17 @@ added c =
     ap chunks_in c.in_ok-insert.ensures.entries
     ∙ chunks_in-insert_entry c.args.version (record { mark = c.args.mark; chunk = c.args.chunk }) c.self.inside.held.entries none
 
+-- its version is that of its stamp
+named : (c : goal.Joined-branch-2) → hold (chunk_in (c.args.version, record { mark = c.args.mark; chunk = c.args.chunk })) (chunks_in c.self.inside.held.entries)
+    ≡ hold (record { version = c.args.chunk.stamp.version; mark = c.args.mark; chunk = c.args.chunk }) (chunks_in c.self.inside.held.entries)
+named c = ap (λ version. hold (record { version = version; mark = c.args.mark; chunk = c.args.chunk }) (chunks_in c.self.inside.held.entries)) c.requires.named
+
 pub invariant_of-self-2 : goal.invariant_of-self-2
 invariant_of-self-2 c =
-    let length_is = c.requires.length ∙ sym (ap (λ s. chunk_length s.geometry) c.self.view_is) in
-    valid-same (state_in c.self.inside) _ _ (added c)
-    (valid-adding (state_in c.self.inside) c.self.invariant c.args.version.0 c.args.mark c.args.chunk.items (sym c.args.chunk.ok.0 ∙ length_is))
+    valid-same (state_in c.self.inside) _ _ (added c ∙ named c)
+    (valid-adding (state_in c.self.inside) c.self.invariant c.args.mark c.args.chunk (subst (λ s. MayCome s c.args.chunk) (sym c.self.view_is) c.requires.here) c.bytes.ensures.sealed)
 
 pub returns-clause-ok : goal.returns-clause-ok
 returns-clause-ok c =
-    (λ i. record (state_in c.self.inside) { held = added c i })
-    ∙ ap (after_adding c.args.version.0 c.args.mark c.args.chunk.items) c.self.view_is
+    (λ i. record (state_in c.self.inside) { held = (added c ∙ named c) i })
+    ∙ ap (after_adding c.args.mark c.args.chunk) c.self.view_is

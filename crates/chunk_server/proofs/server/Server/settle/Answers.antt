@@ -1,6 +1,7 @@
 use Rattle.std.proofs.Common.{◌≡◌, false, is_some, ap, ◌∙◌, sym, subst}
 use Rattle.store_core.specs.Told.{Told}
-use Rattle.chunk_server.specs.State.{is_held, settled_at, IsValid}
+use Rattle.chunk_server.specs.State.{is_held, settled_at}
+use Rattle.chunk_server.specs.Valid.{IsValid}
 use Rattle.chunk_server.specs.Steps.{after_settle}
 use Rattle.chunk_server.specs.Core.{core_of}
 use Rattle.chunk_server.specs.Chunks.{chunks_in, state_in}

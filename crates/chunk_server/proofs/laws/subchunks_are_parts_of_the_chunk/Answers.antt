@@ -1,5 +1,0 @@
-use Rattle.chunk_server.proofs.Subchunks.{are_parts}
-use Rattle.chunk_server.proofs.laws.subchunks_are_parts_of_the_chunk.Goals as goal
-
-pub returns : goal.returns
-returns c = are_parts
