@@ -21,6 +21,14 @@ IsFirstFault g Width =
 IsFirstFault g ChunkSize =
     (2 ≤ g.data_count) × (2 ≤ g.parity_count) × (g.parity_count ≤ 8) × (layer_count g ≤ 1024) × (1 ≤ g.width) × (g.width ≤ 65536) × (1048576 < chunk_length g)
 
+-- a fault's place in that order
+abbrev pub fault_number : BadGeometry → ℕ
+fault_number DataCount = 1
+fault_number ParityCount = 2
+fault_number Layers = 3
+fault_number Width = 4
+fault_number ChunkSize = 5
+
 -- a shape within the limits, and what follows from them
 pub record IsGeometry (g : Shape) : Type 0 where
   pub limits : IsWithinLimits g

@@ -1,6 +1,7 @@
 -- What scripts ask for, as the definitions of the limits compute it.
 use Rattle.std.specs.Prelude.{◌≡◌, ℕ, ◌+◌, ◌-◌, ◌/◌, ◌<◌, [], ◌∷◌, None}
 use Rattle.store_map.specs.Limits.{stripes_met, stripes_written, sum_over_calls, bytes_asked, size_of, tries_of}
+use Rattle.store_map.specs.declared.limits.TheConstants.{MAX_CLIENTS, MAX_REPAIRERS, MAX_CALLS, MAX_DATA, MAX_STRIPES, MAX_STRIPE_BYTES, MAX_READ_BYTES, MAX_SCHEDULE, MAX_SIZE, DEFAULT_SIZE, MAX_TRIES, DEFAULT_TRIES}
 use Rattle.store_map.specs.declared.call.Call.TheVariants.{Put, Write, Get, ReadAt}
 use Rattle.store_map.specs.declared.content.Content.TheVariants.{Fill}
 use Rattle.store_map.specs.declared.script.ClientPart.{ClientPart}
@@ -39,3 +40,18 @@ pub record AreRowsOfTheLimits : Type 0 where
 -- a put touches its length in stripes, rounded up
 abbrev pub PutsRoundUp : Type 0
 PutsRoundUp = (stripe n : ℕ) → 0 < stripe → stripes_met stripe 0 n ≡ (n + stripe - 1) / stripe
+
+-- the code's constants are the numbers that the definitions of the limits have
+pub record AreTheNumbers : Type 0 where
+  pub clients : MAX_CLIENTS ≡ 64
+  pub repairers : MAX_REPAIRERS ≡ 16
+  pub calls : MAX_CALLS ≡ 4096
+  pub data_length : MAX_DATA ≡ 2097152
+  pub stripes : MAX_STRIPES ≡ 262144
+  pub stripe_bytes : MAX_STRIPE_BYTES ≡ 67108864
+  pub read_bytes : MAX_READ_BYTES ≡ 67108864
+  pub schedule : MAX_SCHEDULE ≡ 1000000
+  pub size : MAX_SIZE ≡ 1048576
+  pub size_otherwise : DEFAULT_SIZE ≡ 65536
+  pub tries : MAX_TRIES ≡ 8
+  pub tries_otherwise : DEFAULT_TRIES ≡ 8

@@ -2,18 +2,17 @@
 use Rattle.std.specs.Prelude.{ℕ, zero, suc, ◌+◌, ◌-◌, ◌*◌, ◌/◌, ◌≤◌, length, All, sum_by, unwrap_or, IfSome}
 use Rattle.clay_grid.specs.Shape.{stripe_length}
 use Rattle.store_map.specs.Content.{content_length}
-use Rattle.store_map.specs.declared.limits.TheConstants.{MAX_CLIENTS, MAX_REPAIRERS, MAX_CALLS, MAX_DATA, MAX_STRIPES, MAX_STRIPE_BYTES, MAX_READ_BYTES, MAX_SCHEDULE, MAX_SIZE, DEFAULT_SIZE, MAX_TRIES, DEFAULT_TRIES}
 use Rattle.store_map.specs.declared.call.Call.{Call}
 use Rattle.store_map.specs.declared.call.Call.TheVariants.{Put, Write, Get, ReadAt}
 use Rattle.store_map.specs.declared.script.Script.{Script}
 
 -- the greatest length of an object
 abbrev pub size_of : Script → ℕ
-size_of script = unwrap_or script.size DEFAULT_SIZE
+size_of script = unwrap_or script.size 65536
 
 -- how often a write tries to commit
 abbrev pub tries_of : Script → ℕ
-tries_of script = unwrap_or script.tries DEFAULT_TRIES
+tries_of script = unwrap_or script.tries 8
 
 -- the stripes that meet the bytes from an offset on, none where there are no bytes
 abbrev pub stripes_met : ℕ → ℕ → ℕ → ℕ
@@ -48,14 +47,14 @@ stripes_written script = sum_over_calls (stripes_touched (stripe_length script.g
 
 -- the script asks for no more than is allowed
 pub record IsWithinLimits (script : Script) : Type 0 where
-  pub size : IfSome script.size (λ size. (1 ≤ size) × (size ≤ MAX_SIZE))
-  pub tries : IfSome script.tries (λ tries. (1 ≤ tries) × (tries ≤ MAX_TRIES))
-  pub clients : length script.clients ≤ MAX_CLIENTS
-  pub repairers : length script.repairers ≤ MAX_REPAIRERS
-  pub client_calls : All (λ part. length part.calls ≤ MAX_CALLS) script.clients
-  pub repairer_calls : All (λ part. length part.calls ≤ MAX_CALLS) script.repairers
-  pub data_lengths : All (λ part. All (λ call. data_length call ≤ MAX_DATA) part.calls) script.clients
-  pub stripes : stripes_written script ≤ MAX_STRIPES
-  pub stripe_bytes : stripes_written script * stripe_length script.geometry ≤ MAX_STRIPE_BYTES
-  pub read_bytes : sum_over_calls (bytes_asked (size_of script)) script ≤ MAX_READ_BYTES
-  pub schedule : length script.schedule ≤ MAX_SCHEDULE
+  pub size : IfSome script.size (λ size. (1 ≤ size) × (size ≤ 1048576))
+  pub tries : IfSome script.tries (λ tries. (1 ≤ tries) × (tries ≤ 8))
+  pub clients : length script.clients ≤ 64
+  pub repairers : length script.repairers ≤ 16
+  pub client_calls : All (λ part. length part.calls ≤ 4096) script.clients
+  pub repairer_calls : All (λ part. length part.calls ≤ 4096) script.repairers
+  pub data_lengths : All (λ part. All (λ call. data_length call ≤ 2097152) part.calls) script.clients
+  pub stripes : stripes_written script ≤ 262144
+  pub stripe_bytes : stripes_written script * stripe_length script.geometry ≤ 67108864
+  pub read_bytes : sum_over_calls (bytes_asked (size_of script)) script ≤ 67108864
+  pub schedule : length script.schedule ≤ 1000000

@@ -1,7 +1,7 @@
 //! What the definitions say, as functions that do nothing and whose contracts are the laws.
 
 ghost use Rattle.store_map.specs.Laws.{CallsGoOn, CallsLeadToMaps, ChangesOneName};
-ghost use Rattle.store_map.specs.LimitRows.{AreRowsOfTheLimits, PutsRoundUp};
+ghost use Rattle.store_map.specs.LimitRows.{AreRowsOfTheLimits, AreTheNumbers, PutsRoundUp};
 ghost use Rattle.store_map.specs.WorkedRows.{AreRowsOfTheMap};
 
 /// Calls with the replies and the maps that they lead to.
@@ -24,8 +24,9 @@ pub fn calls_lead_to_maps()
     ensures { CallsLeadToMaps }
 {}
 
-/// What scripts ask for of stripes and bytes.
+/// What scripts ask for of stripes and bytes, and the code's constants.
 pub fn rows_of_the_limits()
     ensures rows { AreRowsOfTheLimits }
+    ensures numbers { AreTheNumbers }
     ensures puts { PutsRoundUp }
 {}

@@ -13,5 +13,21 @@ returns-clause-rows c = record {
   tries = refl;
 }
 
+pub returns-clause-numbers : goal.returns-clause-numbers
+returns-clause-numbers c = record {
+  clients = refl;
+  repairers = refl;
+  calls = refl;
+  data_length = refl;
+  stripes = refl;
+  stripe_bytes = refl;
+  read_bytes = refl;
+  schedule = refl;
+  size = refl;
+  size_otherwise = refl;
+  tries = refl;
+  tries_otherwise = refl;
+}
+
 pub returns-clause-puts : goal.returns-clause-puts
 returns-clause-puts c = stripes_met-start
