@@ -21,7 +21,7 @@ const MAX_WIDTH: u32 = 65_536;
 
 const MAX_CHUNK_LEN: u32 = 1_048_576;
 
-// With two rows or more, one column more makes more than `MAX_LAYERS` layers.
+/// With two rows or more, one column more makes more than `MAX_LAYERS` layers.
 const MAX_COLUMNS: u32 = 10;
 
 /// A vertex: row `x` and column `y` of the grid, in layer `z`.
@@ -312,7 +312,7 @@ impl Geometry {
         Ok(layers)
     }
 
-    // The score of each layer.
+    /// The score of each layer.
     fn scores(&self, alloc: Global, erased: &[bool]) -> Result<Vec<u32>, AllocError>
         requires { length erased.now ≡ node_count self.now }
         ensures { IfOk result (λ v. v.items ≡ map (score_at self.now erased.now) (all_layers self.now)) }
@@ -325,7 +325,7 @@ impl Geometry {
     }
 }
 
-// Appends the places at which a score stands.
+/// Appends the places at which a score stands.
 fn push_places(places: &mut Vec<u32>, scores: &[u32], score: u32) -> Result<(), AllocError>
     requires { length scores.now < 2 ^ 32 }
     ensures { OnOk result (places.new.items ≡ places.old.items ++ places_of scores.now score) }
