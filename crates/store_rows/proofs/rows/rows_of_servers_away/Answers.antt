@@ -10,6 +10,10 @@ pub returns-clause-refused_put : goal.returns-clause-refused_put
 unfolding digits_of
 returns-clause-refused_put c = refl
 
+pub returns-clause-refused_write : goal.returns-clause-refused_write
+unfolding digits_of
+returns-clause-refused_write c = refl
+
 pub returns-clause-away_and_emptied : goal.returns-clause-away_and_emptied
 unfolding digits_of
 returns-clause-away_and_emptied c = refl
