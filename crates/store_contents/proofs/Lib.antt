@@ -1,0 +1,13 @@
+pub mod Bytes
+pub mod Laid
+pub mod Maps
+pub mod Grows
+pub mod Commits
+pub mod Kept
+pub mod KeptDraw
+pub mod KeptLook
+pub mod ContentSteps
+pub mod VersionsMove
+pub mod Stays
+pub mod StripesKept
+pub mod MoreCalls

@@ -1,0 +1,2 @@
+pub mod LengthProofs
+pub mod Replayed

@@ -1,0 +1,3 @@
+pub mod MapAfter
+pub mod LengthLaws
+pub mod ReplayLaws

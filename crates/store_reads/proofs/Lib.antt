@@ -1,0 +1,5 @@
+pub mod Ranges
+pub mod OwedBytes
+pub mod PassesMove
+pub mod Served
+pub mod RunBytes
