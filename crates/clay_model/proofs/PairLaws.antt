@@ -1,10 +1,11 @@
 -- The values of a pair, coupled and uncoupled.
-use Rattle.std.proofs.Common.{◌≡◌, ℕ, ◌^◌, ◌<◌, refl, sym, ap, ◌∙◌, bit_xor}
+use Rattle.std.proofs.Common.{◌≡◌, ℕ, ◌/◌, ◌^◌, ◌<◌, true, not, ◌||◌, eqb, refl, sym, ap, ◌∙◌, inl, inr, bit_xor, bit_and}
+use Rattle.std.proofs.lemmas.Bool.{eqb-true, eq-eqb, or_cases, false≢true}
 use Rattle.std.proofs.lemmas.Nat.{xor_comm}
 use lib.Bits.{xor_assoc, xor_self, xor_zero_r}
 use Rattle.clay_field.specs.Field.{product, power_of, inverse_of, quotient, remainder, sum_of_copies}
 use Rattle.clay_field.proofs.Additive.{xor_swap}
-use Rattle.clay_field.proofs.FieldLaws.{product_comm, product_assoc, one_product, product_add_left, product_add_right}
+use Rattle.clay_field.proofs.FieldLaws.{all_below, all_below_at, product_comm, product_assoc, one_product, product_add_left, product_add_right}
 use Rattle.clay_model.specs.Pairs.{AreUncoupled, AreCoupled}
 
 -- ---- halves and fifths
@@ -33,20 +34,36 @@ quotient-product_two x h = half (product 2 x) ∙ sym (product_assoc 0x8E 2 x) �
 
 -- ---- what the code computes
 
-pub couple_lem : (u v : ℕ) → bit_xor (product 0xA7 u) (product 0x53 v) ≡ quotient (bit_xor u (product 2 v)) 5
-unfolding product remainder sum_of_copies
-couple_lem u v =
-    ap (bit_xor (product 0xA7 u)) (product_assoc 0xA7 2 v)
-    ∙ sym (product_add_right 0xA7 u (product 2 v))
-    ∙ sym (fifth (bit_xor u (product 2 v)))
+pub fifth_lem : (x : ℕ) → product x 0xA7 ≡ quotient x 5
+fifth_lem x = sym (ap (product x) inverse_of_five)
 
-pub cross_lem : (u c : ℕ) → bit_xor (product 0x8E u) (product 0x8E c) ≡ quotient (bit_xor u c) 2
-cross_lem u c = sym (product_add_right 0x8E u c) ∙ sym (half (bit_xor u c))
+-- the half of an even byte, and of an odd one
+halves_even : all_below 256 (λ a. not (eqb (bit_and a 1) 0) || eqb (a / 2) (product a 0x8E)) ≡ true
+unfolding product remainder sum_of_copies
+halves_even = refl
+
+halves_odd : all_below 256 (λ a. eqb (bit_and a 1) 0 || eqb (bit_xor (a / 2) 0x8E) (product a 0x8E)) ≡ true
+unfolding product remainder sum_of_copies
+halves_odd = refl
+
+pub half_even : (a : ℕ) → a < 256 → bit_and a 1 ≡ 0 → a / 2 ≡ quotient a 2
+half_even a h even =
+    elim (or_cases (not (eqb (bit_and a 1) 0)) _ (all_below_at 256 (λ a. not (eqb (bit_and a 1) 0) || eqb (a / 2) (product a 0x8E)) halves_even a h)) [
+      | inl odd ↦ absurd (false≢true (sym (ap not (eq-eqb (bit_and a 1) 0 even)) ∙ odd))
+      | inr same ↦ eqb-true _ _ same ∙ ap (product a) (sym inverse_of_two)
+    ]
+
+pub half_odd : (a : ℕ) → a < 256 → (bit_and a 1 ≡ 0 → ⊥) → bit_xor (a / 2) 0x8E ≡ quotient a 2
+half_odd a h odd =
+    elim (or_cases (eqb (bit_and a 1) 0) _ (all_below_at 256 (λ a. eqb (bit_and a 1) 0 || eqb (bit_xor (a / 2) 0x8E) (product a 0x8E)) halves_odd a h)) [
+      | inl even ↦ absurd (odd (eqb-true _ _ even))
+      | inr same ↦ eqb-true _ _ same ∙ ap (product a) (sym inverse_of_two)
+    ]
 
 -- ---- the laws of a pair
 
 -- twice the double, and one more, is five times
-one_and_four : (x : ℕ) → x < 2 ^ 8 → bit_xor x (product 2 (product 2 x)) ≡ product 5 x
+pub one_and_four : (x : ℕ) → x < 2 ^ 8 → bit_xor x (product 2 (product 2 x)) ≡ product 5 x
 unfolding product remainder sum_of_copies
 one_and_four x h =
     sym (λ i. bit_xor (one_product x h i) (product_assoc 2 2 x i)) ∙ sym (product_add_left 1 4 x)

@@ -1,7 +1,7 @@
 ghost use Rattle.std.specs.Prelude.{◌≡◌, EachIndex, slice_index, length, bit_xor};
 ghost use Rattle.clay_field.specs.Field.{product, quotient};
 
-use clay_field::add_scaled;
+use clay_field::mul;
 
 /// The inverse of 2.
 const HALF: u8 = 0x8E;
@@ -9,8 +9,33 @@ const HALF: u8 = 0x8E;
 /// The inverse of 5.
 const FIFTH: u8 = 0xA7;
 
-/// Twice the inverse of 5.
-const TWO_FIFTHS: u8 = 0x53;
+/// Twice a byte.
+fn twice(a: u8) -> u8
+    ensures { result ≡ product 2 a }
+{
+    mul(a, 2)
+}
+
+/// Half of a byte.
+fn half(a: u8) -> u8
+    ensures { result ≡ quotient a 2 }
+{
+    if a & 1 == 0 { a >> 1 } else { (a >> 1) ^ HALF }
+}
+
+/// A fifth of a byte.
+fn fifth(a: u8) -> u8
+    ensures { result ≡ quotient a 5 }
+{
+    mul(a, FIFTH)
+}
+
+/// Five times a byte.
+fn five_times(a: u8) -> u8
+    ensures { result ≡ product 5 a }
+{
+    a ^ twice(twice(a))
+}
 
 /// Writes the uncoupled bytes of a subchunk: each coupled byte of `own` plus twice its partner's. This is the pairwise
 /// reverse transform of Vajha et al., FAST 2018, with 2 for γ.
@@ -20,8 +45,9 @@ pub fn uncouple(own: &[u8], partner: &[u8], out: &mut [u8])
     ensures { EachIndex out.new (λ k.
         slice_index out.new k ≡ bit_xor (slice_index own.now k) (product 2 (slice_index partner.now k))) }
 {
-    out.copy_from_slice(own);
-    add_scaled(out, 2, partner);
+    for (i, byte) in out.iter_mut().enumerate() {
+        *byte = own[i] ^ twice(partner[i]);
+    }
 }
 
 /// Writes the coupled bytes of a subchunk from its uncoupled ones and its partner's: the pairwise forward transform, the
@@ -33,7 +59,9 @@ pub fn couple(own_u: &[u8], partner_u: &[u8], out: &mut [u8])
         slice_index out.new k
         ≡ quotient (bit_xor (slice_index own_u.now k) (product 2 (slice_index partner_u.now k))) 5) }
 {
-    combine(FIFTH, own_u, TWO_FIFTHS, partner_u, out);
+    for (i, byte) in out.iter_mut().enumerate() {
+        *byte = fifth(own_u[i] ^ twice(partner_u[i]));
+    }
 }
 
 /// Writes the uncoupled bytes of a subchunk from its coupled ones and its partner's uncoupled ones, as decoding needs
@@ -45,7 +73,9 @@ pub fn uncouple_from(own_c: &[u8], partner_u: &[u8], out: &mut [u8])
         slice_index out.new k
         ≡ bit_xor (product 5 (slice_index own_c.now k)) (product 2 (slice_index partner_u.now k))) }
 {
-    combine(5, own_c, 2, partner_u, out);
+    for (i, byte) in out.iter_mut().enumerate() {
+        *byte = five_times(own_c[i]) ^ twice(partner_u[i]);
+    }
 }
 
 /// Writes the coupled bytes of a subchunk's partner from the uncoupled and the coupled bytes of the subchunk, as repair
@@ -56,18 +86,7 @@ pub fn cross(own_u: &[u8], own_c: &[u8], out: &mut [u8])
     ensures { EachIndex out.new (λ k.
         slice_index out.new k ≡ quotient (bit_xor (slice_index own_u.now k) (slice_index own_c.now k)) 2) }
 {
-    combine(HALF, own_u, HALF, own_c, out);
-}
-
-/// Writes `a` times each byte of `left` plus `b` times that of `right`.
-fn combine(a: u8, left: &[u8], b: u8, right: &[u8], out: &mut [u8])
-    requires right_len { length left.now ≡ length right.now }
-    requires out_len { length left.now ≡ length out.old }
-    ensures { EachIndex out.new (λ k.
-        slice_index out.new k
-        ≡ bit_xor (product a (slice_index left.now k)) (product b (slice_index right.now k))) }
-{
-    out.fill(0);
-    add_scaled(out, a, left);
-    add_scaled(out, b, right);
+    for (i, byte) in out.iter_mut().enumerate() {
+        *byte = half(own_u[i] ^ own_c[i]);
+    }
 }
