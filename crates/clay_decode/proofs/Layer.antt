@@ -1,9 +1,10 @@
 -- The step of one layer: what is solved from the sums of the present values is what any codeword that agrees has at the erased nodes.
-use Rattle.std.proofs.Common.{◌≡◌, ◌≢◌, ℕ, subst, ◌+◌, ◌*◌, ◌/◌, ◌%◌, ◌^◌, ◌<◌, ◌≤◌, ◌⊎◌, Bool, true, false, List, length, get_or, Option, Vec, Global, sym, ap, ◌∙◌, inl, inr, arith, lit<, [], rules, take, drop}
+use Rattle.std.proofs.Common.{◌≡◌, ◌≢◌, ℕ, subst, ◌+◌, ◌*◌, ◌/◌, ◌%◌, ◌^◌, ◌<◌, ◌≤◌, ◌⊎◌, Bool, true, false, List, length, get_or, Option, Vec, Global, sym, ap, ◌∙◌, inl, inr, arith, lit<, [], take, drop}
 use Rattle.std.proofs.lemmas.Bool.{cases_eq, cases_lt, cases_Bool, cond-true, cond-false, cond_both, true≢false}
 use Rattle.clay_field.specs.Field.{product, power_of}
 use Rattle.clay_grid.specs.Shape.{Shape, row_count, column_count, node_count, layer_count}
 use Rattle.clay_grid.specs.Layers.{layer_of, index_of}
+use Rattle.clay_grid.specs.Limits.{IsGeometry}
 use Rattle.clay_grid.specs.Score.{score_at, IsByScore}
 use Rattle.clay_grid.proofs.LayerLaws.{IsLayer-digits_of}
 use Rattle.clay_model.specs.Sums.{weighted_sum, present_value}
@@ -13,10 +14,11 @@ use Rattle.clay_model.proofs.Unique.{uncoupled_byte as uncoupled_below}
 use Rattle.clay_scalar.specs.Points.{sum_over, byte_of, HaveSums}
 use Rattle.clay_scalar.specs.Erased.{erased_below, present}
 use Rattle.clay_scalar.proofs.ErasedNodes.{erased_values_solved}
-use Rattle.std.proofs.lemmas.List.{places, get_or-take, get_or-drop}
-use Rattle.clay_encode.proofs.Parts.{put_mid_before, put_mid_within, place_below, piece_fits}
+use Rattle.std.proofs.lemmas.List.{get_or-take, get_or-drop}
+use Rattle.clay_encode.proofs.Parts.{put_mid_before, put_mid_within, put_mid_past, place_below, piece_fits}
 use borrow.Rule.Slice.PartMut.{put_mid}
 use Rattle.clay_decode.specs.Left.{Completes}
+use Rattle.clay_decode.specs.declared.plan.Plan.{Plan}
 use Rattle.clay_decode.specs.Solved.{uncoupled_byte, coupled_byte, IsPlan, IsCoupled, IsUncoupled, HoldsPresent, HoldsLayer, HoldsLower, HoldsSubchunks}
 
 pub coupled_below : (g : Shape) (word : List (List ℕ)) → IsCodeword g word → (b i : ℕ) (z : List ℕ) → coupled_value g word b i z < 2 ^ 8
@@ -25,20 +27,19 @@ coupled_below g word w b i z =
     (λ e. lit< tt) (λ e. w.bytes (chunk_of_node g i) (index_of (row_count g) z * g.width + b))
 
 -- the layer that is solved: its pieces ys
-pub solved_layer : (g : Shape) (have : List (Option (Vec ℕ Global))) (erased : List Bool) (points layers zeros : List ℕ) → IsPlan g have erased points layers zeros
+pub solved_layer : (g : Shape) (have : List (Option (Vec ℕ Global))) (erased : List Bool) (points : List ℕ) → IsGeometry g → length points ≤ g.parity_count → points ≡ erased_below erased (node_count g)
     → (n : ℕ) (layer sums ys : List ℕ) → HoldsPresent g have erased n (node_count g) layer
     → ((j b : ℕ) → j < length points → b < g.width → byte_of sums g.width b j ≡ weighted_sum (node_count g) (present_value layer erased g.width b) j)
     → HaveSums points g.width ys sums
     → ((p : ℕ) → p < length points * g.width → get_or ys p 0 < 2 ^ 8)
     → (word : List (List ℕ)) → Completes g have word → (e b : ℕ) → e < length points → b < g.width
     → byte_of ys g.width b e ≡ uncoupled_byte g word b (get_or points e 0) n
-solved_layer g have erased points layers zeros plan n layer sums ys holds summed solved bytes word fits e b he hb =
-    let rows : 0 < row_count g = let some = plan.geometry.limits.parity_chunks.0 in omega arith in
-    let small : node_count g ≤ 2 ^ 8 = let few = plan.geometry.nodes in omega arith in
+solved_layer g have erased points geometry few same n layer sums ys holds summed solved bytes word fits e b he hb =
+    let rows : 0 < row_count g = let some = geometry.limits.parity_chunks.0 in omega arith in
+    let small : node_count g ≤ 2 ^ 8 = let most = geometry.nodes in omega arith in
     let all : ℕ = node_count g in
     let f : ℕ → ℕ = λ i. uncoupled_byte g word b i n in
     let found : ℕ → ℕ = byte_of ys g.width b in
-    let same : points ≡ erased_below erased all = plan.points_are in
     let count : (v : ℕ) → v < length (erased_below erased all) → v < length points = λ v h. subst (λ l. v < length l) (sym same) h in
     let value : (i : ℕ) → i < all → present_value layer erased g.width b i ≡ present erased f i =
     λ i h. elim (cases_Bool (get_or erased i false)) [
@@ -51,7 +52,7 @@ solved_layer g have erased points layers zeros plan n layer sums ys holds summed
     erased_values_solved all erased f found small
     (λ i h. uncoupled_below (row_count g) (coupled_value g word b) (coupled_below g word fits.codeword b) (i % row_count g) (i / row_count g) (layer_of g n))
     (λ v h. bytes (v * g.width + b) (place_below v (length points) g.width b (count v h) hb))
-    (λ j h. fits.codeword.sums b hb (layer_of g n) (IsLayer-digits_of (row_count g) (column_count g) n rows) j (let low = count j h in let few = plan.few in omega arith))
+    (λ j h. fits.codeword.sums b hb (layer_of g n) (IsLayer-digits_of (row_count g) (column_count g) n rows) j (let low = count j h in omega arith))
     (λ j h.
     ap (λ l. sum_over l found j) (sym same)
     ∙ solved j b (count j h) hb
@@ -106,21 +107,18 @@ other_layer g erased layers order k i h hi same = differ (score_at g erased (get
 
 -- ---- the layer that is written
 
-put_mid_past : (a k : ℕ) (xs ys : List ℕ) (p : ℕ) → a + k ≤ length xs → length ys ≡ k → a + k ≤ p → get_or (put_mid a k xs ys) p 0 ≡ get_or xs p 0
-put_mid_past a k xs ys p fits long h = search (rules, places)
-
 -- the place of byte b of piece e in layer n
 place_is : (n c e w b : ℕ) → (n * c + e) * w + b ≡ n * (c * w) + (e * w + b)
 place_is n c e w b = omega arith
 
-pub layer_written : (g : Shape) (have : List (Option (Vec ℕ Global))) (erased : List Bool) (points layers zeros : List ℕ) → IsPlan g have erased points layers zeros
+pub layer_written : (g : Shape) (have : List (Option (Vec ℕ Global))) (erased : List Bool) (points : List ℕ) → IsGeometry g → length points ≤ g.parity_count → points ≡ erased_below erased (node_count g)
     → (n k : ℕ) (layer sums solved ys : List ℕ) → n < layer_count g → k ≡ length points * g.width → length solved ≡ layer_count g * (length points * g.width) → length ys ≡ length points * g.width
     → HoldsPresent g have erased n (node_count g) layer
     → ((j b : ℕ) → j < length points → b < g.width → byte_of sums g.width b j ≡ weighted_sum (node_count g) (present_value layer erased g.width b) j)
     → HaveSums points g.width ys sums
     → ((p : ℕ) → get_or (put_mid (n * (length points * g.width)) k solved ys) p 0 < 2 ^ 8)
     → HoldsLayer g have points n (put_mid (n * (length points * g.width)) k solved ys)
-layer_written g have erased points layers zeros plan n k layer sums solved ys below width long ys_long holds summed have_sums bytes =
+layer_written g have erased points geometry few same n k layer sums solved ys below width long ys_long holds summed have_sums bytes =
     let part : ℕ = length points * g.width in
     let new : List ℕ = put_mid (n * part) k solved ys in
     let fits : n * part + part ≤ layer_count g * part = piece_fits n (layer_count g) part below in
@@ -131,7 +129,7 @@ layer_written g have erased points layers zeros plan n k layer sums solved ys be
       at = λ word fitting e b he hb.
           ap (λ p. get_or new p 0) (place_is n (length points) e g.width b)
           ∙ within (e * g.width + b) (place_below e (length points) g.width b he hb)
-          ∙ solved_layer g have erased points layers zeros plan n layer sums ys holds summed have_sums
+          ∙ solved_layer g have erased points geometry few same n layer sums ys holds summed have_sums
           (λ p h. subst (λ v. v < 2 ^ 8) (within p h) (bytes (n * part + p))) word fitting e b he hb;
     }
 
@@ -158,15 +156,15 @@ layer_kept g have points n k p solved ys below other width long ys_long holds =
     }
 
 -- the same at places that are equal to these
-pub layer_written_at : (g : Shape) (have : List (Option (Vec ℕ Global))) (erased : List Bool) (points layers zeros : List ℕ) → IsPlan g have erased points layers zeros
-    → (n at k : ℕ) (layer sums solved ys : List ℕ) → n < layer_count g → at ≡ n * (length points * g.width) → k ≡ length points * g.width
-    → length solved ≡ layer_count g * (length points * g.width) → length ys ≡ length points * g.width
-    → HoldsPresent g have erased n (node_count g) layer
-    → ((j b : ℕ) → j < length points → b < g.width → byte_of sums g.width b j ≡ weighted_sum (node_count g) (present_value layer erased g.width b) j)
-    → HaveSums points g.width ys sums → ((p : ℕ) → get_or (put_mid at k solved ys) p 0 < 2 ^ 8) → HoldsLayer g have points n (put_mid at k solved ys)
-layer_written_at g have erased points layers zeros plan n at k layer sums solved ys below at_is width long ys_long holds summed have_sums bytes =
-    subst (λ a. HoldsLayer g have points n (put_mid a k solved ys)) (sym at_is)
-    (layer_written g have erased points layers zeros plan n k layer sums solved ys below width long ys_long holds summed have_sums
+pub layer_written_at : (g : Shape) (have : List (Option (Vec ℕ Global))) (plan : Plan) → IsPlan g have plan
+    → (n at k : ℕ) (layer sums solved ys : List ℕ) → n < layer_count g → at ≡ n * (length plan.points.items * g.width) → k ≡ length plan.points.items * g.width
+    → length solved ≡ layer_count g * (length plan.points.items * g.width) → length ys ≡ length plan.points.items * g.width
+    → HoldsPresent g have plan.erased.items n (node_count g) layer
+    → ((j b : ℕ) → j < length plan.points.items → b < g.width → byte_of sums g.width b j ≡ weighted_sum (node_count g) (present_value layer plan.erased.items g.width b) j)
+    → HaveSums plan.points.items g.width ys sums → ((p : ℕ) → get_or (put_mid at k solved ys) p 0 < 2 ^ 8) → HoldsLayer g have plan.points.items n (put_mid at k solved ys)
+layer_written_at g have plan is n at k layer sums solved ys below at_is width long ys_long holds summed have_sums bytes =
+    subst (λ a. HoldsLayer g have plan.points.items n (put_mid a k solved ys)) (sym at_is)
+    (layer_written g have plan.erased.items plan.points.items is.geometry is.few is.points_are n k layer sums solved ys below width long ys_long holds summed have_sums
     (λ p. subst (λ a. get_or (put_mid a k solved ys) p 0 < 2 ^ 8) at_is (bytes p)))
 
 pub layer_kept_at : (g : Shape) (have : List (Option (Vec ℕ Global))) (points : List ℕ) (n at k p : ℕ) (solved ys : List ℕ) → n < layer_count g → p ≢ n → at ≡ n * (length points * g.width) → k ≡ length points * g.width

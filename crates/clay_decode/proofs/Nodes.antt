@@ -15,9 +15,7 @@ use Rattle.clay_model.proofs.LayerNumbers.{coupled_value-digits_of}
 use Rattle.clay_model.proofs.Codewords.{chunks_fit}
 use Rattle.clay_scalar.specs.Erased.{erased_below}
 use Rattle.clay_decode.specs.Left.{AreLong, Completes}
-use Rattle.clay_grid.specs.Limits.{IsGeometry}
-use Rattle.clay_grid.specs.Score.{IsByScore}
-use Rattle.clay_decode.specs.Solved.{is_erased, coupled_byte, IsPlan, IsCoupled, HoldsSubchunks}
+use Rattle.clay_decode.specs.Solved.{is_erased, coupled_byte, IsCoupled, HoldsSubchunks}
 
 -- ---- the chunk of a node
 
@@ -207,23 +205,3 @@ same_chunk g have c i chunk rows wide within node long holds word fits =
     ∙ holds.at word fits n b below (mod_below p g.width wide)
     ∙ chunk_byte g word c i n b rows below node
     ∙ ap (λ v. get_or (get_or word c []) v 0) whole)
-
--- ---- the plan
-
-pub plan_made : (g : Shape) (have : List (Option (Vec ℕ Global))) (erased : List Bool) (points layers zeros : List ℕ) → IsGeometry g → length have ≡ chunk_count g → AreLong (chunk_length g) have
-    → count_by is_none have ≤ g.parity_count → length erased ≡ node_count g → ((i : ℕ) → i < node_count g → get_or erased i false ≡ is_erased g have i)
-    → points ≡ erased_below erased (length erased) → IsByScore g erased layers → zeros ≡ replicate g.width 0 → IsPlan g have erased points layers zeros
-plan_made g have erased points layers zeros geometry count lengths few nodes erased_are points_are order empty =
-    let rows : 0 < g.parity_count = let some = geometry.limits.parity_chunks.0 in omega arith in
-    let points_is : points ≡ erased_below erased (node_count g) = points_are ∙ ap (erased_below erased) nodes in
-    record {
-      geometry = geometry;
-      count = count;
-      lengths = lengths;
-      few = subst (λ l. length l ≤ g.parity_count) (sym points_is) (few_points g have erased rows count erased_are few);
-      nodes = nodes;
-      erased_are = erased_are;
-      points_are = points_is;
-      order = order;
-      empty = empty;
-    }

@@ -3,7 +3,7 @@ use Rattle.std.proofs.Common.{◌≡◌, ◌≢◌, ℕ, subst, ◌+◌, ◌*◌
 use Rattle.std.proofs.lemmas.Nat.{div-add-mod', div-mul-add, mod-mul-add}
 use lib.Bits.{xor_assoc, xor_self, xor_zero_r}
 use Rattle.clay_field.specs.Field.{product, quotient}
-use Rattle.clay_grid.specs.Shape.{Shape, row_count, column_count, node_count}
+use Rattle.clay_grid.specs.Shape.{Shape, row_count, column_count}
 use Rattle.clay_grid.specs.Layers.{layer_of, IsLayer}
 use Rattle.clay_grid.specs.Score.{score_at, count_below}
 use Rattle.clay_grid.proofs.LayerLaws.{IsLayer-digits_of}
@@ -13,15 +13,9 @@ use Rattle.clay_model.specs.Code.{IsCodeword, coupled_value}
 use Rattle.clay_model.specs.Pairs.{AreUncoupled}
 use Rattle.clay_model.proofs.Unique.{uncoupled_alone, uncoupled_paired, uncoupled_partner, row_of, score_of_partner}
 use Rattle.clay_model.proofs.PairLaws.{from_partner, AreCoupled-uncoupled}
+use Rattle.clay_decode.specs.Partners.{ArePartners}
 use Rattle.clay_decode.specs.Solved.{coupled_byte, uncoupled_byte}
 use Rattle.clay_decode.proofs.Layer.{coupled_below}
-
--- the vertex (other, p) is the partner of (i, n)
-pub record ArePartners (g : Shape) (i n other p : ℕ) : Type 0 where
-  pub rows : 0 < row_count g
-  pub node : i < node_count g
-  pub node_is : other ≡ i / row_count g * row_count g + get_or (layer_of g n) (i / row_count g) 0
-  pub layer_is : layer_of g p ≡ set (layer_of g n) (i / row_count g) (i % row_count g)
 
 module _ (g : Shape) (i n other p : ℕ) (pair : ArePartners g i n other p) where
   q : ℕ

@@ -1,8 +1,8 @@
--- What is left of the chunks of a codeword.
-use Rattle.std.specs.Prelude.{◌≡◌, ℕ, List, map, length, All, Option, IfSome, Vec}
+-- What is left of the chunks of a codeword, and what is made of it.
+use Rattle.std.specs.Prelude.{◌≡◌, ℕ, ◌≤◌, List, map, length, All, Option, IfSome, Vec, count_by, is_none}
 use Rattle.std.specs.Option.{option_map}
 use Rattle.std.specs.declared.alloc.Global.{Global}
-use Rattle.clay_grid.specs.Shape.{Shape}
+use Rattle.clay_grid.specs.Shape.{Shape, chunk_count, chunk_length}
 use Rattle.clay_model.specs.Code.{IsCodeword, AgreesWith}
 
 -- the bytes of each chunk that is there
@@ -13,7 +13,19 @@ parts have = map (option_map (λ v. v.items)) have
 abbrev pub AreLong : ℕ → List (Option (Vec ℕ Global)) → Type 0
 AreLong n have = All (λ o. IfSome o (λ v. length v.items ≡ n)) have
 
+-- an entry for each chunk, of which few enough are missing
+pub record AreLeft (g : Shape) (have : List (Option (Vec ℕ Global))) : Type 0 where
+  pub count : length have ≡ chunk_count g
+  pub lengths : AreLong (chunk_length g) have
+  pub few : count_by is_none have ≤ g.parity_count
+
 -- a codeword that agrees with the chunks that are there
 pub record Completes (g : Shape) (have : List (Option (Vec ℕ Global))) (word : List (List ℕ)) : Type 0 where
   pub codeword : IsCodeword g word
   pub agrees : AgreesWith (parts have) word
+
+-- chunks are those of each codeword that agrees with the chunks that are there
+pub record AreRecovered (g : Shape) (have : List (Option (Vec ℕ Global))) (chunks : List (List ℕ)) : Type 0 where
+  pub count : length chunks ≡ chunk_count g
+  pub lengths : All (λ chunk. length chunk ≡ chunk_length g) chunks
+  pub value : (word : List (List ℕ)) → Completes g have word → chunks ≡ word

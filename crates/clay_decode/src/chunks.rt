@@ -3,12 +3,13 @@ ghost use Rattle.std.specs.Prelude.{◌≡◌, ℕ, ◌+◌, ◌*◌, ◌<◌, �
 ghost use Rattle.clay_grid.specs.Shape.{Shape, chunk_count, node_count, layer_count, chunk_length, node_of_chunk};
 ghost use Rattle.clay_model.specs.Code.{AgreesWith};
 ghost use Rattle.clay_encode.specs.Chunks.{contents};
-ghost use Rattle.clay_decode.specs.Left.{parts, AreLong, Completes};
-ghost use Rattle.clay_decode.specs.Solved.{IsPlan, IsCoupled, HoldsLayer, HoldsSubchunks};
+ghost use Rattle.clay_decode.specs.Left.{parts, AreLong, AreLeft, Completes, AreRecovered};
+ghost use Rattle.clay_decode.specs.Solved.{IsPlan, IsCoupled, AreSolved, HoldsSubchunks};
 
 use crate::fault::DecodeFault;
 use crate::layers::{partner_of, piece, solved_piece, solved_values};
-use crate::plan::{Plan, make_plan, zeros};
+use crate::plan::{Plan, make_plan};
+use clay_encode::zeros;
 use clay_grid::Geometry;
 use clay_model::{couple, uncouple};
 use std::alloc::{AllocError, Global};
@@ -23,9 +24,8 @@ fn couple_piece(
     z: u32,
     out: &mut [u8],
 )
-    requires plan { IsPlan g have.now plan.now.erased.items plan.now.points.items plan.now.layers.items plan.now.zeros.items }
-    requires solved_len { length solved.now ≡ layer_count g * (length plan.now.points.items * g.width) }
-    requires holds { (n : ℕ) → n < layer_count g → HoldsLayer g have.now plan.now.points.items n solved.now }
+    requires plan { IsPlan g have.now plan.now }
+    requires solved { AreSolved g have.now plan.now solved.now }
     requires node { node < node_count g }
     requires erased { slice_index_or plan.now.erased.items node false ≡ true }
     requires layer { z < layer_count g }
@@ -57,9 +57,8 @@ fn couple_chunk(
     node: u32,
     chunk: &mut [u8],
 )
-    requires plan { IsPlan g have.now plan.now.erased.items plan.now.points.items plan.now.layers.items plan.now.zeros.items }
-    requires solved_len { length solved.now ≡ layer_count g * (length plan.now.points.items * g.width) }
-    requires holds { (n : ℕ) → n < layer_count g → HoldsLayer g have.now plan.now.points.items n solved.now }
+    requires plan { IsPlan g have.now plan.now }
+    requires solved { AreSolved g have.now plan.now solved.now }
     requires node { node < node_count g }
     requires erased { slice_index_or plan.now.erased.items node false ≡ true }
     requires chunk_len { length chunk.old ≡ chunk_length g }
@@ -81,9 +80,8 @@ fn missing_chunk(
     solved: &[u8],
     c: u32,
 ) -> Result<Vec<u8>, AllocError>
-    requires plan { IsPlan g have.now plan.now.erased.items plan.now.points.items plan.now.layers.items plan.now.zeros.items }
-    requires solved_len { length solved.now ≡ layer_count g * (length plan.now.points.items * g.width) }
-    requires holds { (n : ℕ) → n < layer_count g → HoldsLayer g have.now plan.now.points.items n solved.now }
+    requires plan { IsPlan g have.now plan.now }
+    requires solved { AreSolved g have.now plan.now solved.now }
     requires chunk { c < chunk_count g }
     requires missing { slice_index_or have.now c None ≡ None }
     ensures len { IfOk result (λ v. length v.items ≡ chunk_length g) }
@@ -104,9 +102,8 @@ fn chunk(
     solved: &[u8],
     c: u32,
 ) -> Result<Vec<u8>, AllocError>
-    requires plan { IsPlan g have.now plan.now.erased.items plan.now.points.items plan.now.layers.items plan.now.zeros.items }
-    requires solved_len { length solved.now ≡ layer_count g * (length plan.now.points.items * g.width) }
-    requires holds { (n : ℕ) → n < layer_count g → HoldsLayer g have.now plan.now.points.items n solved.now }
+    requires plan { IsPlan g have.now plan.now }
+    requires solved { AreSolved g have.now plan.now solved.now }
     requires chunk { c < chunk_count g }
     ensures len { IfOk result (λ v. length v.items ≡ chunk_length g) }
     ensures kept { IfOk result (λ v. IfSome (slice_index_or have.now c None) (λ w. v.items ≡ w.items)) }
@@ -124,13 +121,9 @@ pub fn recover(
     g: Geometry,
     have: &[Option<Vec<u8>>],
 ) -> Result<Vec<Vec<u8>>, AllocError>
-    requires count { length have.now ≡ chunk_count g }
-    requires lengths { AreLong (chunk_length g) have.now }
-    requires few { count_by is_none have.now ≤ g.parity_count }
-    ensures count { IfOk result (λ chunks. length (contents chunks.items) ≡ chunk_count g) }
-    ensures lengths { IfOk result (λ chunks. All (λ chunk. length chunk ≡ chunk_length g) (contents chunks.items)) }
+    requires { AreLeft g have.now }
     ensures kept { IfOk result (λ chunks. AgreesWith (parts have.now) (contents chunks.items)) }
-    ensures value { IfOk result (λ chunks. (word : List (List ℕ)) → Completes g have.now word → contents chunks.items ≡ word) }
+    ensures recovered { IfOk result (λ chunks. AreRecovered g have.now (contents chunks.items)) }
 {
     let plan = make_plan(alloc, g, have)?;
     let solved = solved_values(alloc, g, have, &plan)?;
@@ -161,10 +154,8 @@ pub fn decode(
     requires count { length have.now ≡ chunk_count g }
     requires lengths { AreLong (chunk_length g) have.now }
     ensures too_few { IsErrOf result DecodeFault.TooFew ↔ (g.parity_count < count_by is_none have.now) }
-    ensures count { IfOk result (λ chunks. length (contents chunks.items) ≡ chunk_count g) }
-    ensures lengths { IfOk result (λ chunks. All (λ chunk. length chunk ≡ chunk_length g) (contents chunks.items)) }
     ensures kept { IfOk result (λ chunks. AgreesWith (parts have.now) (contents chunks.items)) }
-    ensures value { IfOk result (λ chunks. (word : List (List ℕ)) → Completes g have.now word → contents chunks.items ≡ word) }
+    ensures recovered { IfOk result (λ chunks. AreRecovered g have.now (contents chunks.items)) }
 {
     if missing_count(have) > g.m() as usize {
         return Err(DecodeFault::TooFew);

@@ -2,33 +2,34 @@
 ghost use Rattle.std.specs.Prelude.{◌≡◌, ℕ, ◌+◌, ◌*◌, ◌/◌, ◌%◌, ◌<◌, ◌≤◌, length, IfOk, slice_index, slice_index_or, slice_set, true, false, Contains};
 ghost use Rattle.clay_grid.specs.Shape.{Shape, row_count, node_count, layer_count};
 ghost use Rattle.clay_grid.specs.Layers.{layer_of};
-ghost use Rattle.clay_decode.specs.Solved.{IsPlan, IsCoupled, IsUncoupled, HoldsPresent, HoldsLayer, HoldsLower};
+ghost use Rattle.clay_decode.specs.Partners.{ArePartners};
+ghost use Rattle.clay_decode.specs.Solved.{IsPlan, IsCoupled, IsUncoupled, HoldsPresent, HoldsLayer, HoldsLower, AreSolved};
 
-use crate::plan::{Plan, zeros};
+use crate::plan::Plan;
+use clay_encode::zeros;
 use clay_grid::Geometry;
 use clay_model::{uncouple, uncouple_from};
 use clay_scalar::syndromes;
 use std::alloc::{AllocError, Global};
 
-/// A node in a layer.
+/// A subchunk, by the numbers of its node and its layer.
 #[derive(Clone, Copy)]
-pub struct Vertex {
+pub struct Subchunk {
     pub node: u32,
     pub layer: u32,
 }
 
-/// The vertex with which node `node` of layer `z` is coupled, which is that vertex itself where it is not paired.
-pub fn partner_of(g: Geometry, node: u32, z: u32) -> Vertex
+/// The subchunk with which subchunk `z` of a node is coupled, which is that subchunk itself where it is not paired.
+pub fn partner_of(g: Geometry, node: u32, z: u32) -> Subchunk
     requires node { node < node_count g }
     requires layer { z < layer_count g }
-    ensures node { result.node ≡ node / row_count g * row_count g + slice_index (layer_of g z) (node / row_count g) }
-    ensures layer { layer_of g result.layer ≡ slice_set (layer_of g z) (node / row_count g) (node % row_count g) }
+    ensures partners { ArePartners g node z result.node result.layer }
     ensures in_grid { result.node < node_count g }
     ensures in_layers { result.layer < layer_count g }
 {
     let (x, y) = g.place(node);
     let partner = g.partner(x, y, z);
-    Vertex {
+    Subchunk {
         node: y * g.q() + partner.x,
         layer: partner.z,
     }
@@ -42,7 +43,7 @@ pub fn piece<'a>(
     node: u32,
     z: u32,
 ) -> &'a [u8]
-    requires plan { IsPlan g have.now plan.now.erased.items plan.now.points.items plan.now.layers.items plan.now.zeros.items }
+    requires plan { IsPlan g have.now plan.now }
     requires node { node < node_count g }
     requires there { slice_index_or plan.now.erased.items node false ≡ false }
     requires layer { z < layer_count g }
@@ -83,7 +84,7 @@ pub fn solved_piece<'a>(
     node: u32,
     z: u32,
 ) -> &'a [u8]
-    requires plan { IsPlan g have.now plan.now.erased.items plan.now.points.items plan.now.layers.items plan.now.zeros.items }
+    requires plan { IsPlan g have.now plan.now }
     requires solved_len { length solved.now ≡ layer_count g * (length plan.now.points.items * g.width) }
     requires node { node < node_count g }
     requires erased { slice_index_or plan.now.erased.items node false ≡ true }
@@ -107,7 +108,7 @@ fn uncouple_node(
     z: u32,
     out: &mut [u8],
 )
-    requires plan { IsPlan g have.now plan.now.erased.items plan.now.points.items plan.now.layers.items plan.now.zeros.items }
+    requires plan { IsPlan g have.now plan.now }
     requires solved_len { length solved.now ≡ layer_count g * (length plan.now.points.items * g.width) }
     requires lower { HoldsLower g have.now plan.now.erased.items plan.now.points.items z solved.now }
     requires node { node < node_count g }
@@ -141,7 +142,7 @@ fn uncouple_layer(
     z: u32,
     layer: &mut [u8],
 )
-    requires plan { IsPlan g have.now plan.now.erased.items plan.now.points.items plan.now.layers.items plan.now.zeros.items }
+    requires plan { IsPlan g have.now plan.now }
     requires solved_len { length solved.now ≡ layer_count g * (length plan.now.points.items * g.width) }
     requires lower { HoldsLower g have.now plan.now.erased.items plan.now.points.items z solved.now }
     requires layer { z < layer_count g }
@@ -166,8 +167,7 @@ fn solve_layers(
     sums: &mut [u8],
     solved: &mut [u8],
 )
-    requires plan { IsPlan g have.now plan.now.erased.items plan.now.points.items plan.now.layers.items plan.now.zeros.items }
-    requires solver { plan.now.solver ≡ plan.now.points.items }
+    requires plan { IsPlan g have.now plan.now }
     requires layer_len { length layer.old ≡ node_count g * g.width }
     requires sums_len { length sums.old ≡ length plan.now.points.items * g.width }
     requires solved_len { length solved.old ≡ layer_count g * (length plan.now.points.items * g.width) }
@@ -191,10 +191,8 @@ pub fn solved_values(
     have: &[Option<Vec<u8>>],
     plan: &Plan,
 ) -> Result<Vec<u8>, AllocError>
-    requires plan { IsPlan g have.now plan.now.erased.items plan.now.points.items plan.now.layers.items plan.now.zeros.items }
-    requires solver { plan.now.solver ≡ plan.now.points.items }
-    ensures len { IfOk result (λ v. length v.items ≡ layer_count g * (length plan.now.points.items * g.width)) }
-    ensures value { IfOk result (λ v. (n : ℕ) → n < layer_count g → HoldsLayer g have.now plan.now.points.items n v.items) }
+    requires plan { IsPlan g have.now plan.now }
+    ensures { IfOk result (λ v. AreSolved g have.now plan.now v.items) }
 {
     if plan.points.is_empty() {
         return Ok(Vec::new(alloc));

@@ -11,4 +11,4 @@ mod plan;
 pub use checked::decode_checked;
 pub use chunks::decode;
 pub use fault::{CheckedFault, DecodeFault};
-pub use layers::partner_of;
+pub use layers::{Subchunk, partner_of};

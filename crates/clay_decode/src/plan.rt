@@ -2,7 +2,7 @@
 ghost use Rattle.std.specs.Prelude.{◌≡◌, ℕ, ◌<◌, ◌≤◌, length, IfOk, slice_index_or, false, count_by, is_none, replicate};
 ghost use Rattle.clay_grid.specs.Shape.{Shape, chunk_count, node_count, chunk_length};
 ghost use Rattle.clay_scalar.specs.Erased.{erased_below};
-ghost use Rattle.clay_decode.specs.Left.{AreLong};
+ghost use Rattle.clay_decode.specs.Left.{AreLeft};
 ghost use Rattle.clay_decode.specs.Solved.{is_erased, IsPlan};
 
 use clay_grid::Geometry;
@@ -22,13 +22,6 @@ pub struct Plan {
     pub layers: Vec<u32>,
     /// A subchunk of a virtual node.
     pub zeros: Vec<u8>,
-}
-
-/// Bytes that are all 0.
-pub fn zeros(alloc: Global, count: usize) -> Result<Vec<u8>, AllocError>
-    ensures { IfOk result (λ v. v.items ≡ replicate count 0) }
-{
-    vec![in alloc; 0u8; count]
 }
 
 /// Whether the chunk of a node is missing. That of a virtual node never is.
@@ -77,13 +70,10 @@ fn erased_points(alloc: Global, erased: &[bool]) -> Result<Vec<u8>, AllocError>
 
 /// The plan for chunks of which no more are missing than there are parity chunks.
 pub fn make_plan(alloc: Global, g: Geometry, have: &[Option<Vec<u8>>]) -> Result<Plan, AllocError>
-    requires count { length have.now ≡ chunk_count g }
-    requires lengths { AreLong (chunk_length g) have.now }
-    requires few { count_by is_none have.now ≤ g.parity_count }
-    ensures plan { IfOk result (λ plan. IsPlan g have.now plan.erased.items plan.points.items plan.layers.items plan.zeros.items) }
-    ensures solver { IfOk result (λ plan. plan.solver ≡ plan.points.items) }
+    requires { AreLeft g have.now }
+    ensures { IfOk result (IsPlan g have.now) }
 {
-    let zeros = zeros(alloc, g.w() as usize)?;
+    let zeros = clay_encode::zeros(alloc, g.w() as usize)?;
     let erased = erased_nodes(alloc, g, have)?;
     let points = erased_points(alloc, &erased)?;
     let solver = Solver::new(alloc, &points)?;

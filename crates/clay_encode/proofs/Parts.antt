@@ -1,8 +1,8 @@
 -- Parts of a flat buffer: pieces of w bytes, of which the next is written.
-use Rattle.std.proofs.Common.{◌≡◌, ℕ, subst, ◌+◌, ◌-◌, ◌*◌, ◌^◌, ◌<◌, ◌≤◌, List, length, get_or, take, drop, inl, inr, sym, ap, ◌∙◌, ◌++◌, arith, lit<}
+use Rattle.std.proofs.Common.{◌≡◌, ℕ, subst, ◌+◌, ◌-◌, ◌*◌, ◌^◌, ◌<◌, ◌≤◌, List, length, get_or, take, drop, inl, inr, sym, ap, ◌∙◌, ◌++◌, arith, lit<, rules}
 use Rattle.std.proofs.lemmas.Bool.{cases_eq, cases_lt}
 use Rattle.std.proofs.lemmas.Nat.{mul-le}
-use Rattle.std.proofs.lemmas.List.{get_or_append_left, get_or-append_right, get_or-take, length-take-le, get_or_past, drop_all, append-nil, take_all}
+use Rattle.std.proofs.lemmas.List.{get_or_append_left, get_or-append_right, get_or-take, length-take-le, get_or_past, drop_all, append-nil, take_all, places}
 use Rattle.clay_encode.specs.Columns.{HoldsPieces}
 use borrow.Rule.Slice.PartMut.{put_mid, post_of}
 
@@ -11,6 +11,10 @@ pub put_mid_before : (a k : ℕ) (xs ys : List ℕ) (p : ℕ) → a ≤ length x
 put_mid_before a k xs ys p fits h =
     let long : length (take a xs) ≡ a = length-take-le a xs fits in
     get_or_append_left (take a xs) (ys ++ post_of a k xs) 0 p (omega arith) ∙ get_or-take a xs p 0 h
+
+-- what stands past it
+pub put_mid_past : (a k : ℕ) (xs ys : List ℕ) (p : ℕ) → a + k ≤ length xs → length ys ≡ k → a + k ≤ p → get_or (put_mid a k xs ys) p 0 ≡ get_or xs p 0
+put_mid_past a k xs ys p fits long h = search (rules, places)
 
 -- what stands in it
 pub put_mid_within : (a k : ℕ) (xs ys : List ℕ) (b : ℕ) → a ≤ length xs → b < length ys → get_or (put_mid a k xs ys) (a + b) 0 ≡ get_or ys b 0

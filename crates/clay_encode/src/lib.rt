@@ -6,4 +6,5 @@ mod columns;
 mod stripes;
 
 pub use chunks::encode;
+pub use columns::zeros;
 pub use stripes::{join, split, stripes_are_joined};

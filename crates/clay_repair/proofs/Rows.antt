@@ -1,8 +1,8 @@
 -- The lost chunk's subchunks, written layer by layer.
-use Rattle.std.proofs.Common.{◌≡◌, ◌≢◌, ℕ, subst, ◌+◌, ◌*◌, ◌/◌, ◌%◌, ◌<◌, ◌≤◌, Bool, eqb, List, [], length, get_or, set, Option, Vec, Global, refl, sym, ap, ◌∙◌, inl, inr, arith, rules, bit_xor}
+use Rattle.std.proofs.Common.{◌≡◌, ◌≢◌, ℕ, subst, ◌+◌, ◌*◌, ◌/◌, ◌%◌, ◌<◌, ◌≤◌, Bool, eqb, List, [], length, get_or, set, Option, Vec, Global, refl, sym, ap, ◌∙◌, inl, inr, arith, bit_xor}
 use Rattle.std.proofs.lemmas.Bool.{cases_eq, cases_lt, eq-eqb}
 use Rattle.std.proofs.lemmas.Nat.{mod_below, div_below, div-mul-add, mod-mul-add, div-add-mod', mul-add-lt}
-use Rattle.std.proofs.lemmas.List.{ext_get_or, set-set, set-get_or, get_or-set_same, places}
+use Rattle.std.proofs.lemmas.List.{ext_get_or, set-set, set-get_or, get_or-set_same}
 use Rattle.clay_field.specs.Field.{product, quotient}
 use Rattle.clay_grid.specs.Shape.{Shape, chunk_count, row_count, column_count, node_count, layer_count, chunk_length, node_of_chunk}
 use Rattle.clay_grid.specs.Layers.{layer_of, index_of, IsLayer}
@@ -11,12 +11,13 @@ use Rattle.clay_grid.proofs.LayerLaws.{IsLayer-digits_of, IsLayer-set, index_of-
 use Rattle.clay_grid.proofs.Rising.{Lists-filter}
 use Rattle.clay_model.proofs.PairLaws.{crossed}
 use Rattle.clay_model.proofs.Unique.{row_of}
-use Rattle.clay_encode.proofs.Parts.{put_mid_before, put_mid_within, place_below, piece_fits}
+use Rattle.clay_encode.proofs.Parts.{put_mid_before, put_mid_within, put_mid_past, place_below, piece_fits}
 use borrow.Rule.Slice.PartMut.{put_mid}
 use Rattle.clay_decode.specs.Solved.{coupled_byte, uncoupled_byte}
 use Rattle.clay_decode.proofs.Layer.{coupled_below}
 use Rattle.clay_decode.proofs.Nodes.{node_real, chunk_byte}
-use Rattle.clay_decode.proofs.Vertices.{ArePartners, alone_value, paired_value}
+use Rattle.clay_decode.specs.Partners.{ArePartners}
+use Rattle.clay_decode.proofs.Vertices.{alone_value, paired_value}
 use Rattle.clay_repair.specs.Parts.{IsRebuilt}
 use Rattle.clay_repair.specs.Rebuilt.{IsReadFor, IsCoupled, IsUncoupled, HoldsSubchunk, HoldsRow, with_digit}
 
@@ -133,9 +134,6 @@ crossed_subchunk g lost have x z i own piece out rows inside read hx other is un
     }
 
 -- ---- the chunk that is written
-
-put_mid_past : (a k : ℕ) (xs ys : List ℕ) (p : ℕ) → a + k ≤ length xs → length ys ≡ k → a + k ≤ p → get_or (put_mid a k xs ys) p 0 ≡ get_or xs p 0
-put_mid_past a k xs ys p fits long h = search (rules, places)
 
 pub subchunk_written : (g : Shape) (lost : ℕ) (have : List (Option (Vec ℕ Global))) (n at k : ℕ) (chunk out : List ℕ) → at ≡ n * g.width → n * g.width ≤ length chunk → length out ≡ g.width
     → IsCoupled g lost have (node_of_chunk g lost) n out → HoldsSubchunk g lost have (put_mid at k chunk out) n

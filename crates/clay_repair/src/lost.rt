@@ -4,8 +4,9 @@ ghost use Rattle.clay_grid.specs.Shape.{row_count, node_count, node_of_chunk, ch
 ghost use Rattle.clay_repair.specs.Parts.{AreParts, IsRebuilt};
 ghost use Rattle.clay_repair.specs.Rebuilt.{IsPlan, IsReadFor, IsCoupled, IsUncoupled, HoldsOthers, HoldsColumn, HoldsSubchunk, HoldsRow, with_digit};
 
-use crate::plan::{Plan, make_plan, place_of, zeros};
+use crate::plan::{Plan, make_plan, place_of};
 use clay_decode::partner_of;
+use clay_encode::zeros;
 use clay_grid::Geometry;
 use clay_model::{cross, uncouple};
 use clay_scalar::syndromes;

@@ -29,13 +29,6 @@ pub struct Plan {
     pub zeros: Vec<u8>,
 }
 
-/// Bytes that are all 0.
-pub fn zeros(alloc: Global, count: usize) -> Result<Vec<u8>, AllocError>
-    ensures { IfOk result (λ v. v.items ≡ replicate count 0) }
-{
-    vec![in alloc; 0u8; count]
-}
-
 /// The place of a layer among the layers that have its digit of column `y`.
 pub fn place_of(g: Geometry, y: u32, z: u32) -> u32
     requires column { y < column_count g }
@@ -80,7 +73,7 @@ pub fn make_plan(alloc: Global, g: Geometry, lost: u32) -> Result<Plan, AllocErr
     ensures lost { IfOk result (λ plan. plan.lost ≡ lost) }
 {
     let (row, column) = g.place(g.node_of_chunk(lost));
-    let zeros = zeros(alloc, g.w() as usize)?;
+    let zeros = clay_encode::zeros(alloc, g.w() as usize)?;
     let erased = column_nodes(alloc, g, column)?;
     let points = column_points(alloc, g, column)?;
     let solver = Solver::new(alloc, &points)?;

@@ -13,9 +13,9 @@ pub encode-requires : goal.encode-requires
 encode-requires c =
     let g = c.args.g in
     let chunks : List (List ℕ) = contents c.in_ok-chunks.chunks.items in
-    let enough : g.data_count ≤ length chunks = omega (arith, c.in_ok-chunks.ensures.count) in
+    let enough : g.data_count ≤ length chunks = omega (arith, c.in_ok-chunks.ensures.recovered.count) in
     ap length (c.deref-2.ensures.value ∙ c.in_ok-stripe.ensures ∙ (λ i. concat (take g.data_count (contents (c.deref.ensures.value i)))))
-    ∙ length-joined chunks (chunk_length g) g.data_count enough c.in_ok-chunks.ensures.lengths
+    ∙ length-joined chunks (chunk_length g) g.data_count enough c.in_ok-chunks.ensures.recovered.lengths
 
 pub returns-then-agree-clause-codeword : goal.returns-then-agree-clause-codeword
 returns-then-agree-clause-codeword c = record {
@@ -26,7 +26,7 @@ returns-then-agree-clause-codeword c = record {
 pub returns-clause-disagree : goal.returns-clause-disagree
 returns-clause-disagree c = λ e word fits.
     let g = c.args.g in
-    let found : contents c.in_ok-chunks.chunks.items ≡ word = c.in_ok-chunks.ensures.value word fits in
+    let found : contents c.in_ok-chunks.chunks.items ≡ word = c.in_ok-chunks.ensures.recovered.value word fits in
     let stripe : c.deref-2.result.now ≡ concat (take g.data_count word) =
     c.deref-2.ensures.value
     ∙ c.in_ok-stripe.ensures

@@ -43,8 +43,13 @@ returns-clause-kept c =
     let total : c.loop-c.c ≡ chunk_count c.args.g = omega (arith, c.loop-c-test.false, c.loop-c.auto.c-end, c.n-c-end.ensures.value) in
     agrees_of c.args.have.now (contents c.loop-c.chunks.items) (λ i h. c.loop-c.invariant.kept i (omega (arith, total, c.requires.count)))
 
-pub returns-clause-value : goal.returns-clause-value
-returns-clause-value c = λ word fits.
+pub returns-clause-recovered : goal.returns-clause-recovered
+returns-clause-recovered c =
     let total : c.loop-c.c ≡ chunk_count c.args.g = omega (arith, c.loop-c-test.false, c.loop-c.auto.c-end, c.n-c-end.ensures.value) in
-    ext_get_or [] (contents c.loop-c.chunks.items) word (c.loop-c.invariant.count ∙ total ∙ sym fits.codeword.count)
-    (λ i h. c.loop-c.invariant.value word fits i (subst (λ n. i < n) c.loop-c.invariant.count h))
+    let chunks : List (List ℕ) = contents c.loop-c.chunks.items in
+    record {
+      count = c.loop-c.invariant.count ∙ total;
+      lengths = c.loop-c.invariant.lengths;
+      value = λ word fits. ext_get_or [] chunks word (c.loop-c.invariant.count ∙ total ∙ sym fits.codeword.count)
+          (λ i h. c.loop-c.invariant.value word fits i (subst (λ n. i < n) c.loop-c.invariant.count h));
+    }

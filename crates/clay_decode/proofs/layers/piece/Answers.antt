@@ -12,7 +12,7 @@ returns-in-Some-have-clause-value c =
     let facts = c.in-Some.ensures in
     let rows : 0 < row_count g = let some = c.w-w.ensures.geometry.limits.parity_chunks.0 in omega arith in
     let there : get_or c.args.have.now c.in-Some.chunk None ≡ Some c.in-Some-have.bytes =
-    sym (get_or_read c.args.have.now c.in-Some.chunk c.index-have-chunk.result (omega (arith, facts.0, c.requires.plan.count)) c.index-have-chunk.is None)
+    sym (get_or_read c.args.have.now c.in-Some.chunk c.index-have-chunk.result (omega (arith, facts.0, c.requires.plan.left.count)) c.index-have-chunk.is None)
     ∙ c.in-Some-have.is in
     let width : c.args.z * w + w - c.args.z * w ≡ g.width = omega (arith, c.w-w.ensures.value) in
     subst (λ l. IsCoupled g c.args.have.now c.args.node c.args.z (take (c.args.z * w + w - c.args.z * w) (drop (c.args.z * w) l))) (sym c.deref.ensures.value)

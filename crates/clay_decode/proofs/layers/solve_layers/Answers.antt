@@ -60,10 +60,10 @@ loop-z-preserved c = λ k hk.
           c.syndromes.ensures j b (subst (λ v. j < v) (sym count) hj) hb
           ∙ ap (λ e. weighted_sum (node_count g) (present_value c.uncouple_layer.new.layer e g.width b) j) c.deref.ensures.value in
           let sums : HaveSums points g.width c.solve.new.out c.syndromes.new.out =
-          subst (λ s. HaveSums s g.width c.solve.new.out c.syndromes.new.out) c.requires.solver
+          subst (λ s. HaveSums s g.width c.solve.new.out c.syndromes.new.out) c.requires.plan.solver
           (subst (λ v. HaveSums plan.solver v c.solve.new.out c.syndromes.new.out) c.w-w.ensures.value c.solve.ensures) in
           subst (λ v. HoldsLayer g c.args.have.now points (get_or plan.layers.items v 0) (put_mid start (start + c.len-count.result * c.w-w.result - start) c.loop-z.solved c.solve.new.out)) (sym same)
-          (layer_written_at g c.args.have.now plan.erased.items points plan.layers.items plan.zeros.items c.requires.plan n start (start + c.len-count.result * c.w-w.result - start)
+          (layer_written_at g c.args.have.now plan c.requires.plan n start (start + c.len-count.result * c.w-w.result - start)
           c.uncouple_layer.new.layer c.syndromes.new.out c.loop-z.solved c.solve.new.out below start_is width long out_long holds summed sums (λ i. omega (arith, c.type_inv.solved i)))
       | inr other ↦
           let early : k < at = omega (arith, other) in
