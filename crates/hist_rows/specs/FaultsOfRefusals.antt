@@ -1,13 +1,11 @@
 -- Refusals whose cause can't be: missing chunks, and servers that were away.
 use Rattle.std.specs.Prelude.{[], ◌∷◌, List, codes}
-use Rattle.store_map.specs.declared.placement.Placement.TheVariants as placement
 use Rattle.transcript_text.specs.declared.call_name.CallName.TheVariants as name
 use Rattle.transcript_text.specs.declared.cause.Triple.{Triple}
 use Rattle.transcript_text.specs.declared.cause.Cause.TheVariants as cause
 use Rattle.transcript_text.specs.declared.transcript.Transcript.{Transcript}
-use Rattle.store_rows.specs.Rows.{refused, triple}
+use Rattle.store_rows.specs.RowLines.{refused, triple}
 use Rattle.store_rows.specs.RowsManyLosses.{read_after_three_losses}
-use Rattle.store_rows.specs.RowsAway.{away, away_twice_and_emptied}
 use Rattle.hist_rules.specs.declared.verdict.Verdict.TheVariants.{BadCause}
 use Rattle.hist_rows.specs.Judged.{Faulty}
 
@@ -74,15 +72,4 @@ refused_put_of_form_one =
           record (refused_with []) { history = []; objects = []; refused = refused (name.Client 0 0) (cause.Unavailable 0 (triple 0 0 1 ∷ triple 1 0 1 ∷ triple 2 0 1 ∷ [])) ∷ [] };
       verdict = BadCause (name.Client 0 0) 0 1;
       line = codes "cause c0.0 0 1\n";
-    }
-
--- a server that was away twice, where the schedule makes it away once
-abbrev pub never_away : Faulty
-never_away =
-    record {
-      script = away_twice_and_emptied.script;
-      transcript =
-          record away_twice_and_emptied.transcript { refused = refused (name.Client 0 1) (cause.Unavailable 0 (away 0 (placement.At 0) 1 ∷ away 1 (placement.At 0) 2 ∷ triple 2 0 1 ∷ [])) ∷ [] };
-      verdict = BadCause (name.Client 0 1) 1 2;
-      line = codes "cause c0.1 1 2\n";
     }

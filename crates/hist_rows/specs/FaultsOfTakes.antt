@@ -2,7 +2,7 @@
 use Rattle.std.specs.Prelude.{[], ◌∷◌, codes}
 use Rattle.store_map.specs.declared.reply.Reply.TheVariants as reply
 use Rattle.transcript_text.specs.declared.call_name.CallName.TheVariants as name
-use Rattle.store_rows.specs.Rows.{replied, server}
+use Rattle.store_rows.specs.RowLines.{replied, server}
 use Rattle.store_rows.specs.RowsCalls.{put_then_get}
 use Rattle.store_rows.specs.RowsRebuilds.{superseded_rebuild}
 use Rattle.hist_rules.specs.declared.verdict.TailKind.TheVariants.{Unlisted, Taken}

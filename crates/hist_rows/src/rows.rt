@@ -8,14 +8,17 @@ ghost use Rattle.store_rows.specs.RowsRaces.{read_of_a_replaced_version, lost_ra
 ghost use Rattle.store_rows.specs.RowsGivenUp.{left_before_commit, left_after_commit, reaped_before_commit, strays_of_a_reaped_put};
 ghost use Rattle.store_rows.specs.RowsRebuilds.{superseded_rebuild, rebuilt_then_here};
 ghost use Rattle.store_rows.specs.RowsRebuildLosses.{loss_while_looking, loss_while_fetching};
-ghost use Rattle.store_rows.specs.RowsAway.{skipped_by_a_put, refused_put, away_and_emptied, away_twice_and_emptied, rebuild_of_an_away_server};
+ghost use Rattle.store_rows.specs.RowsAway.{skipped_by_a_put, refused_put};
+ghost use Rattle.store_rows.specs.RowsAwayReads.{away_and_emptied, away_twice_and_emptied, rebuild_of_an_away_server};
+ghost use Rattle.store_rows.specs.RowsShort.{put_without_memory};
 ghost use Rattle.store_rows.specs.RowsLarge.{many_actors, no_calls};
 
-/// Calls without losses.
+/// Calls without losses, the last one without memory.
 pub fn histories_of_calls()
     ensures put_then_get { ShowsHistory put_then_get }
     ensures empty_object { ShowsHistory empty_object }
     ensures each_refusal { ShowsHistory each_refusal }
+    ensures put_without_memory { ShowsHistory put_without_memory }
 {}
 
 /// One server is emptied.

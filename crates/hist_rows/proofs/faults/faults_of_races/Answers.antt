@@ -18,23 +18,3 @@ returns-clause-lost_to_its_base c = record { verdict = refl; line = refl }
 pub returns-clause-races_overlap : goal.returns-clause-races_overlap
 unfolding digits encode_with
 returns-clause-races_overlap c = record { verdict = refl; line = refl }
-
-pub returns-clause-given_up_by_nobody : goal.returns-clause-given_up_by_nobody
-unfolding digits encode_with
-returns-clause-given_up_by_nobody c = record { verdict = refl; line = refl }
-
-pub returns-clause-given_up_twice : goal.returns-clause-given_up_twice
-unfolding digits encode_with
-returns-clause-given_up_twice c = record { verdict = refl; line = refl }
-
-pub returns-clause-superseded_by_nothing : goal.returns-clause-superseded_by_nothing
-unfolding digits encode_with
-returns-clause-superseded_by_nothing c = record { verdict = refl; line = refl }
-
-pub returns-clause-other_stripe : goal.returns-clause-other_stripe
-unfolding digits encode_with
-returns-clause-other_stripe c = record { verdict = refl; line = refl }
-
-pub returns-clause-target_never_away : goal.returns-clause-target_never_away
-unfolding digits encode_with
-returns-clause-target_never_away c = record { verdict = refl; line = refl }

@@ -26,7 +26,3 @@ returns-clause-placed_later c = record { verdict = refl; line = refl }
 pub returns-clause-refused_put_of_form_one : goal.returns-clause-refused_put_of_form_one
 unfolding digits encode_with
 returns-clause-refused_put_of_form_one c = record { verdict = refl; line = refl }
-
-pub returns-clause-never_away : goal.returns-clause-never_away
-unfolding digits encode_with
-returns-clause-never_away c = record { verdict = refl; line = refl }

@@ -1,5 +1,6 @@
 use Rattle.std.proofs.Common.{refl}
 use Rattle.store_rows.specs.RowsCalls.{put_then_get, empty_object, each_refusal}
+use Rattle.store_rows.specs.RowsShort.{put_without_memory}
 use Rattle.hist_rules.proofs.HistoryLaw.{legal_is_history}
 use Rattle.hist_rows.proofs.rows.histories_of_calls.Goals as goal
 
@@ -11,3 +12,6 @@ returns-clause-empty_object c = (legal_is_history empty_object.script empty_obje
 
 pub returns-clause-each_refusal : goal.returns-clause-each_refusal
 returns-clause-each_refusal c = (legal_is_history each_refusal.script each_refusal.transcript).0 refl
+
+pub returns-clause-put_without_memory : goal.returns-clause-put_without_memory
+returns-clause-put_without_memory c = (legal_is_history put_without_memory.script put_without_memory.transcript).0 refl
