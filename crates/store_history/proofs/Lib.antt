@@ -22,3 +22,4 @@ pub mod Naming
 pub mod TellReplies
 pub mod GivenUpLines
 pub mod NamedLines
+pub mod OrderPoints
