@@ -1,0 +1,12 @@
+pub mod Places
+pub mod Entries
+pub mod TableSteps
+pub mod Actors
+pub mod ShelfSteps
+pub mod BookSteps
+pub mod Growing
+pub mod Naming
+pub mod Exchange
+pub mod Options
+pub mod Counting
+pub mod Least

@@ -1,0 +1,11 @@
+pub mod Places
+pub mod Counts
+pub mod Passes
+pub mod OpenPass
+pub mod Desk
+pub mod Table
+pub mod Events
+pub mod Parts
+pub mod Book
+pub mod Held
+pub mod Shelf

@@ -1,0 +1,285 @@
+ghost use Rattle.std.specs.Prelude.{◌≡◌, ◌+◌, ◌<◌, ◌∷◌, [], ◌++◌, length, vec_len, vec_capacity, ◌≤◌, true, false, ℕ, List, get_or, None, Some, bytes_eq, OnOk, OnErr, Contains, slice_get, option_map};
+ghost use Rattle.indexmap.specs.IndexMap.{keys, get, IsUnique, set_value_at};
+ghost use Rattle.store_core.specs.Lookups.{last_change, is_change};
+ghost use Rattle.dir_parts.specs.Passes.{kind_in};
+ghost use Rattle.dir_parts.specs.Events.{reply_in, event_in};
+ghost use Rattle.dir_parts.specs.Book.{told_of};
+
+use crate::passes::Kind;
+use indexmap::IndexMap;
+use std::alloc::{AllocError, Global};
+use std::marker::Model;
+use store_map::{Actor, Name, Reply};
+
+/// What the directory itself replies to a call. None of it has bytes.
+#[derive(Clone, Copy, PartialEq, Eq, Debug)]
+pub enum Answer {
+    Done,
+    Length(u64),
+    NoSuch,
+    OutRange,
+    TooLarge,
+}
+
+/// What a point stands for.
+#[derive(Clone, Copy, PartialEq, Eq, Debug)]
+pub enum Event {
+    Answer(Answer),
+    Pinned,
+    Done,
+    Reaped,
+}
+
+/// A point as it is told: whose call it belongs to, and what it stands for.
+#[derive(Clone, Copy, PartialEq, Eq, Debug)]
+pub struct PointEntry {
+    pub actor: Actor,
+    pub number: u32,
+    pub event: Event,
+}
+
+/// A point of the history, without bytes: the name is a place among the names.
+#[derive(Drop)]
+pub struct Entry {
+    pub actor: Actor,
+    pub number: u32,
+    pub event: Event,
+    pub kind: Kind,
+    pub name: usize,
+    pub offset: u32,
+    pub length: u32,
+}
+
+/// The points, and each name that a point may have with the last change of its object.
+#[derive(Drop)]
+pub struct History {
+    entries: Vec<Entry>,
+    names: IndexMap<Name, Option<u64>>,
+}
+
+impl Model for History {
+    ghost use Rattle.dir_parts.specs.Parts.{Book};
+
+    ghost Value = { Book };
+
+    ghost use Rattle.dir_parts.specs.Book.{book_in, IsBook};
+
+    ghost view = { book_in };
+
+    ghost invariant = { IsBook };
+}
+
+impl Answer {
+    /// The same as a reply of the map.
+    pub fn reply(self) -> Reply
+        ensures { result ≡ reply_in self }
+    {
+        match self {
+            Answer::Done => Reply::Done,
+            Answer::Length(length) => Reply::Length(length),
+            Answer::NoSuch => Reply::NoSuch,
+            Answer::OutRange => Reply::OutRange,
+            Answer::TooLarge => Reply::TooLarge,
+        }
+    }
+}
+
+// Whether the event changes its object.
+fn is_change(event: Event) -> bool
+    ensures { result ≡ is_change (event_in event) }
+{
+    match event {
+        Event::Answer(Answer::Done) | Event::Done => true,
+        _ => false,
+    }
+}
+
+// Where a name stands.
+fn place_of(names: &IndexMap<Name, Option<u64>>, name: &Name) -> usize
+    requires { Contains (keys names.now) name.now }
+    ensures within { result < length (keys names.now) }
+    ensures name { get_or (keys names.now) result [] ≡ name.now }
+{
+    match names.get_index_of(name) {
+        Some(at) => at,
+        None => unreachable!(),
+    }
+}
+
+// The name's object was changed at this point.
+fn set_last(names: &mut IndexMap<Name, Option<u64>>, at: usize, point: u64)
+    requires { at < length (keys names.old) }
+    ensures entries { names.new.entries ≡ set_value_at names.old.entries at (Some point) }
+    ensures unique { IsUnique bytes_eq names.old → IsUnique bytes_eq names.new }
+{
+    if let Some(last) = names.get_index_mut(at) {
+        *last = Some(point);
+    }
+}
+
+// One name more, without a change.
+fn insert_name(names: &mut IndexMap<Name, Option<u64>>, name: Name) -> Result<(), AllocError>
+    requires { get bytes_eq names.old name ≡ None }
+    ensures entries { OnOk result (names.new.entries ≡ names.old.entries ++ (name, None) ∷ []) }
+    ensures err { OnErr result (names.new.entries ≡ names.old.entries) }
+    ensures unique { IsUnique bytes_eq names.new }
+{
+    names.insert(name, None)?;
+    Ok(())
+}
+
+impl History {
+    /// Points may have the name from now on.
+    pub fn keep_name(&mut self, name: &Name) -> Result<(), AllocError>
+        ensures points { self.new.points ≡ self.old.points }
+        ensures room { self.new.room ≡ self.old.room }
+        ensures named { OnOk result (Contains self.new.names name.now) }
+        ensures others { (other : List ℕ) → Contains self.old.names other → Contains self.new.names other }
+    {
+        if self.names.contains_key(name) {
+            return Ok(());
+        }
+        let copy = name.copy()?;
+        insert_name(&mut self.names, copy)?;
+        Ok(())
+    }
+
+    /// Takes the room for so many points more.
+    pub fn reserve(&mut self, more: usize) -> Result<(), AllocError>
+        ensures points { self.new.points ≡ self.old.points }
+        ensures names { self.new.names ≡ self.old.names }
+        ensures room { self.old.room ≤ self.new.room }
+        ensures ok { OnOk result (more ≤ self.new.room) }
+    {
+        self.entries.reserve(more)?;
+        Ok(())
+    }
+
+    /// No points.
+    pub fn new(alloc: Global) -> History
+        ensures points { result.points ≡ [] }
+        ensures names { result.names ≡ [] }
+    {
+        History {
+            entries: Vec::new(alloc),
+            names: IndexMap::new(alloc),
+        }
+    }
+
+    /// How many points there are.
+    pub fn len(&self) -> usize
+        ensures { result ≡ length self.now.points }
+    {
+        self.entries.len()
+    }
+
+    /// The last point at which the object with this name was changed, also where it was deleted then.
+    pub fn last_change(&self, name: &Name) -> Option<u64>
+        ensures { result ≡ last_change name.now self.now.points }
+    {
+        match self.names.get(name) {
+            Some(last) => *last,
+            None => None,
+        }
+    }
+
+    /// The point with this number.
+    pub fn get(&self, point: usize) -> Option<PointEntry>
+        ensures { option_map told_of result ≡ option_map (λ entry. (entry.actor, entry.number, entry.event)) (slice_get self.now.points point) }
+    {
+        let entry = self.entries.get(point)?;
+        Some(PointEntry {
+            actor: entry.actor,
+            number: entry.number,
+            event: entry.event,
+        })
+    }
+
+    // One point more, of a name that is kept.
+    fn push(
+        &mut self,
+        actor: Actor,
+        number: u32,
+        event: Event,
+        kind: Kind,
+        name: usize,
+        offset: u32,
+        count: u32,
+    )
+        requires room { 0 < self.old.room }
+        requires named { name < length self.old.names }
+        requires still { is_change (event_in event) ≡ false }
+        ensures points { self.new.points ≡ self.old.points ++ record { actor = actor; number = number; note = record { kind = kind_in kind; name = get_or self.old.names name []; offset = offset; length = count }; event = event_in event } ∷ [] }
+        ensures names { self.new.names ≡ self.old.names }
+        ensures room { self.new.room + 1 ≡ self.old.room }
+    {
+        self.entries.push_reserved(Entry {
+            actor,
+            number,
+            event,
+            kind,
+            name,
+            offset,
+            length: count,
+        });
+    }
+
+    // The same of an event that changes the object.
+    fn push_change(
+        &mut self,
+        actor: Actor,
+        number: u32,
+        event: Event,
+        kind: Kind,
+        name: usize,
+        offset: u32,
+        count: u32,
+    )
+        requires room { 0 < self.old.room }
+        requires named { name < length self.old.names }
+        requires changes { is_change (event_in event) ≡ true }
+        ensures points { self.new.points ≡ self.old.points ++ record { actor = actor; number = number; note = record { kind = kind_in kind; name = get_or self.old.names name []; offset = offset; length = count }; event = event_in event } ∷ [] }
+        ensures names { self.new.names ≡ self.old.names }
+        ensures room { self.new.room + 1 ≡ self.old.room }
+    {
+        let point = self.entries.len() as u64;
+        self.entries.push_reserved(Entry {
+            actor,
+            number,
+            event,
+            kind,
+            name,
+            offset,
+            length: count,
+        });
+        set_last(&mut self.names, name, point);
+    }
+
+    /// One point more. Gives its number.
+    pub fn add(
+        &mut self,
+        actor: Actor,
+        number: u32,
+        event: Event,
+        kind: Kind,
+        name: &Name,
+        offset: u32,
+        count: u32,
+    ) -> u64
+        requires room { 0 < self.old.room }
+        requires named { Contains self.old.names name.now }
+        ensures point { result ≡ length self.old.points }
+        ensures points { self.new.points ≡ self.old.points ++ record { actor = actor; number = number; note = record { kind = kind_in kind; name = name.now; offset = offset; length = count }; event = event_in event } ∷ [] }
+        ensures names { self.new.names ≡ self.old.names }
+        ensures room { self.new.room + 1 ≡ self.old.room }
+    {
+        let point = self.entries.len() as u64;
+        let at = place_of(&self.names, name);
+        if is_change(event) {
+            self.push_change(actor, number, event, kind, at, offset, count);
+            return point;
+        }
+        self.push(actor, number, event, kind, at, offset, count);
+        point
+    }
+}

@@ -1,0 +1,456 @@
+ghost use Rattle.std.specs.Prelude.{◌≡◌, ◌+◌, ◌-◌, ◌<◌, ◌≤◌, ◌∷◌, [], length, map, zip, slice_get, false, true, All, vec_len, vec_capacity, ◌^◌, ◌++◌, replicate, OnOk, OnErr, IfOk, is_some, get_or, find, option_map, nat_eq, IsTrue};
+ghost use Rattle.std.specs.List.Sorted.{IsPermutation};
+ghost use Rattle.std.specs.BinaryHeap.{heap_items, heap_len, heap_capacity, IsHeap};
+ghost use Rattle.std.specs.List.{range_with_len};
+ghost use Rattle.store_core.specs.Lists.{change_at};
+ghost use Rattle.store_core.specs.Look.{set_standing, placed_of};
+ghost use Rattle.store_core.specs.Lookups.{holds_standing, is_superseded_standing, is_current_standing};
+ghost use Rattle.store_core.specs.Directory.{Standing as CoreStanding};
+ghost use Rattle.store_core.specs.Commit.{place_all};
+ghost use Rattle.store_core.specs.Placements.{placed_anew};
+ghost use Rattle.store_core.specs.AtDirectory.{swept_standing};
+ghost use Rattle.dir_parts.specs.Counts.{unpinned, pinned_more};
+ghost use Rattle.dir_parts.specs.Table.{is_garbage, number_in, least_first, version_in, drawn_version, first_free, taken_from, placed_anew_by, swept};
+ghost use Rattle.dir_parts.specs.Places.{places};
+ghost use Rattle.dir_parts.specs.declared.versions.Standing.TheVariants as standing;
+
+use crate::passes::Pinned;
+use std::alloc::{AllocError, Global};
+use std::cmp::Reverse;
+use std::collections::BinaryHeap;
+use std::marker::Model;
+use store_map::{Actor, Placement};
+
+// Where a version stands.
+#[derive(Clone, Copy)]
+pub enum Standing {
+    Drawn,
+    Current,
+    Superseded,
+    Taken,
+    Swept,
+}
+
+// A version, with the number of passes that pin it and aren't reaped.
+#[derive(Drop)]
+pub struct Entry {
+    pub actor: Actor,
+    pub number: u32,
+    pub stripe: u32,
+    pub base: Option<u64>,
+    pub placed: Vec<Placement>,
+    pub standing: Standing,
+    pub pins: u64,
+}
+
+/// All versions by their numbers, and the garbage among them.
+#[derive(Drop)]
+pub struct Versions {
+    entries: Vec<Entry>,
+    garbage: BinaryHeap<Reverse<u64>>,
+}
+
+impl Model for Versions {
+    ghost use Rattle.dir_parts.specs.Table.{Table};
+
+    ghost Value = { Table };
+
+    ghost use Rattle.dir_parts.specs.Table.{table_in, IsTable};
+
+    ghost view = { table_in };
+
+    ghost invariant = { IsTable };
+}
+
+// Gives a version another standing.
+fn stand(entries: &mut Vec<Entry>, at: usize, standing: Standing)
+    requires { at < vec_len entries.old }
+    ensures after { entries.new.items ≡ change_at at (λ entry. record entry { standing = standing }) entries.old.items }
+    ensures len { vec_len entries.new ≡ vec_len entries.old }
+{
+    let entry = &mut entries[at];
+    entry.standing = standing;
+}
+
+// A drawn version becomes current.
+fn place(entries: &mut Vec<Entry>, at: usize, row: Vec<Placement>)
+    requires { at < vec_len entries.old }
+    ensures after { entries.new.items ≡ change_at at (λ entry. record entry { placed = row; standing = standing.Current }) entries.old.items }
+    ensures len { vec_len entries.new ≡ vec_len entries.old }
+{
+    let entry = &mut entries[at];
+    entry.placed = row;
+    entry.standing = Standing::Current;
+}
+
+// One pin less.
+fn unpin(entries: &mut Vec<Entry>, at: usize)
+    requires { at < vec_len entries.old }
+    ensures after { entries.new.items ≡ change_at at (λ entry. record entry { pins = entry.pins - 1 }) entries.old.items }
+    ensures len { vec_len entries.new ≡ vec_len entries.old }
+{
+    let entry = &mut entries[at];
+    entry.pins = entry.pins.saturating_sub(1);
+}
+
+// One pin more.
+fn pin(entries: &mut Vec<Entry>, at: usize)
+    requires within { at < vec_len entries.old }
+    requires fits { get_or (map (λ entry. entry.pins) entries.old.items) at 0 + 1 < 2 ^ 64 }
+    ensures after { entries.new.items ≡ change_at at (λ entry. record entry { pins = entry.pins + 1 }) entries.old.items }
+    ensures len { vec_len entries.new ≡ vec_len entries.old }
+{
+    let entry = &mut entries[at];
+    entry.pins += 1;
+}
+
+// What was taken is swept.
+fn swept(standing: Standing) -> Standing
+    ensures { result ≡ swept standing }
+{
+    match standing {
+        Standing::Taken => Standing::Swept,
+        other => other,
+    }
+}
+
+// A version that was taken is swept.
+fn sweep(entries: &mut Vec<Entry>, at: usize)
+    requires { at < vec_len entries.old }
+    ensures after { entries.new.items ≡ change_at at (λ entry. record entry { standing = swept entry.standing }) entries.old.items }
+    ensures len { vec_len entries.new ≡ vec_len entries.old }
+{
+    let entry = &mut entries[at];
+    entry.standing = swept(entry.standing);
+}
+
+// A chunk that was placed anew.
+fn anew(placement: Placement, epoch: u64) -> Placement
+    ensures { result ≡ placed_anew epoch placement }
+{
+    match placement {
+        Placement::At(earlier) => Placement::At(epoch.max(earlier)),
+        Placement::Skipped(_) => Placement::At(epoch),
+    }
+}
+
+// The chunk at this server was placed anew, if the row has a place for it.
+fn raise(row: &mut Vec<Placement>, server: usize, epoch: u64)
+    ensures { row.new.items ≡ change_at server (placed_anew epoch) row.old.items }
+{
+    if server >= row.len() {
+        return;
+    }
+    row[server] = anew(row[server], epoch);
+}
+
+// A version's chunk was placed anew at a server.
+fn place_anew(entries: &mut Vec<Entry>, at: usize, server: u32, epoch: u64)
+    requires { at < vec_len entries.old }
+    ensures versions { map version_in entries.new.items ≡ change_at at (λ version. record version { placed = change_at server (placed_anew epoch) version.placed }) (map version_in entries.old.items) }
+    ensures pins { map (λ entry. entry.pins) entries.new.items ≡ map (λ entry. entry.pins) entries.old.items }
+    ensures garbage { places is_garbage 0 entries.new.items ≡ places is_garbage 0 entries.old.items }
+    ensures len { vec_len entries.new ≡ vec_len entries.old }
+{
+    let entry = &mut entries[at];
+    raise(&mut entry.placed, server as usize, epoch);
+}
+
+// Whether the sweeper may take the version.
+fn is_garbage(entry: &Entry) -> bool
+    ensures { result ≡ is_garbage entry.now }
+{
+    matches!(entry.standing, Standing::Superseded) && entry.pins == 0
+}
+
+// One number more, where there is room for it.
+fn push_reserved(garbage: &mut BinaryHeap<Reverse<u64>>, number: u64)
+    requires { heap_len garbage.old < heap_capacity garbage.old }
+    ensures capacity { heap_capacity garbage.old ≤ heap_capacity garbage.new }
+    ensures order { IsHeap least_first (heap_items garbage.old) → IsHeap least_first (heap_items garbage.new) }
+    ensures items { IsPermutation (number ∷ map number_in (heap_items garbage.old)) (map number_in (heap_items garbage.new)) }
+{
+    match garbage.push(Reverse(number)) {
+        Ok(()) => {}
+        Err(_) => unreachable!(),
+    }
+}
+
+// The version of a stripe that is pinned, if one is.
+fn base_of(pins: &[Pinned], stripe: u32) -> Option<u64>
+    ensures { result ≡ option_map (λ pin. pin.version) (find (λ pin. nat_eq stripe pin.stripe) pins.now) }
+{
+    let mut at = 0;
+    while at < pins.len() {
+        let pin = &pins[at];
+        if stripe == pin.stripe {
+            return Some(pin.version);
+        }
+        at += 1;
+    }
+    None
+}
+
+// A version of each of these stripes, drawn and laid over the pinned one, if one is.
+fn push_drawn(
+    entries: &mut Vec<Entry>,
+    actor: Actor,
+    number: u32,
+    pins: &[Pinned],
+    first: u32,
+    count: u32,
+)
+    requires room { vec_len entries.old + count ≤ vec_capacity entries.old }
+    requires fits { first + count ≤ 2 ^ 32 }
+    ensures versions { map version_in entries.new.items ≡ map version_in entries.old.items ++ map (drawn_version actor number pins.now) (range_with_len first count) }
+    ensures pins { map (λ entry. entry.pins) entries.new.items ≡ map (λ entry. entry.pins) entries.old.items ++ replicate count 0 }
+    ensures garbage { places is_garbage 0 entries.new.items ≡ places is_garbage 0 entries.old.items }
+    ensures len { vec_len entries.new ≡ vec_len entries.old + count }
+{
+    let alloc = *entries.allocator();
+    for i in 0..count {
+        let stripe = first + i;
+        let base = base_of(pins, stripe);
+        entries.push_reserved(Entry {
+            actor,
+            number,
+            stripe,
+            base,
+            placed: Vec::new(alloc),
+            standing: Standing::Drawn,
+            pins: 0,
+        });
+    }
+}
+
+impl Versions {
+    /// How many versions there are.
+    pub fn len(&self) -> usize
+        ensures { result ≡ length self.now.listed }
+    {
+        self.entries.len()
+    }
+
+    /// A new version of each of these stripes, drawn by a call with these pins. Takes the room in
+    /// which they are kept once they are garbage, too.
+    pub fn draw(
+        &mut self,
+        actor: Actor,
+        number: u32,
+        pins: &[Pinned],
+        first: u32,
+        count: u32,
+    ) -> Result<(), AllocError>
+        requires { first + count ≤ 2 ^ 32 }
+        ensures listed { OnOk result (self.new.listed ≡ self.old.listed ++ map (drawn_version actor number pins.now) (range_with_len first count)) }
+        ensures pins { OnOk result (self.new.pins ≡ self.old.pins ++ replicate count 0) }
+        ensures err { OnErr result (self.new ≡ self.old) }
+    {
+        self.entries.reserve(count as usize)?;
+        let all = self.entries.len().saturating_add(count as usize);
+        let more = all.saturating_sub(self.garbage.len());
+        self.garbage.reserve(more)?;
+        push_drawn(&mut self.entries, actor, number, pins, first, count);
+        Ok(())
+    }
+
+    /// No versions.
+    pub fn new(alloc: Global) -> Versions
+        ensures { result ≡ record { listed = []; pins = [] } }
+    {
+        Versions {
+            entries: Vec::new(alloc),
+            garbage: BinaryHeap::new(alloc),
+        }
+    }
+
+    /// The version is superseded, and is garbage where no pass pins it.
+    pub fn supersede(&mut self, number: u64)
+        requires { number < length self.old.listed }
+        ensures listed { self.new.listed ≡ change_at number (λ version. record version { standing = CoreStanding.Superseded }) self.old.listed }
+        ensures pins { self.new.pins ≡ self.old.pins }
+    {
+        let at = number as usize;
+        let was = is_garbage(&self.entries[at]);
+        stand(&mut self.entries, at, Standing::Superseded);
+        let is = is_garbage(&self.entries[at]);
+        if is != was {
+            push_reserved(&mut self.garbage, number);
+        }
+    }
+
+    /// A pass pins the version no more. It is garbage where it is superseded and no other does.
+    pub fn unpin(&mut self, number: u64)
+        requires { number < length self.old.listed }
+        ensures listed { self.new.listed ≡ self.old.listed }
+        ensures pins { self.new.pins ≡ change_at number (λ count. count - 1) self.old.pins }
+    {
+        let at = number as usize;
+        let was = is_garbage(&self.entries[at]);
+        unpin(&mut self.entries, at);
+        let is = is_garbage(&self.entries[at]);
+        if is != was {
+            push_reserved(&mut self.garbage, number);
+        }
+    }
+
+    /// A drawn version becomes current, with its row of placements.
+    pub fn place(&mut self, number: u64, row: Vec<Placement>)
+        requires within { number < length self.old.listed }
+        requires other { holds_standing is_superseded_standing (slice_get self.old.listed number) ≡ false }
+        ensures listed { self.new.listed ≡ change_at number (λ version. record version { placed = row.items; standing = CoreStanding.Current }) self.old.listed }
+        ensures pins { self.new.pins ≡ self.old.pins }
+    {
+        place(&mut self.entries, number as usize, row);
+    }
+
+    /// These versions are superseded, one after the other.
+    pub fn supersede_all(&mut self, numbers: &[u64])
+        requires { All (λ number. number < length self.old.listed) numbers.now }
+        ensures listed { self.new.listed ≡ set_standing CoreStanding.Superseded numbers.now self.old.listed }
+        ensures pins { self.new.pins ≡ self.old.pins }
+    {
+        for number in numbers {
+            self.supersede(*number);
+        }
+    }
+
+    /// A pass pins these versions no more.
+    pub fn unpin_all(&mut self, pins: &[Pinned])
+        requires { All (λ pin. pin.version < length self.old.listed) pins.now }
+        ensures listed { self.new.listed ≡ self.old.listed }
+        ensures pins { self.new.pins ≡ unpinned pins.now self.old.pins }
+    {
+        for pin in pins {
+            let number = pin.version;
+            self.unpin(number);
+        }
+    }
+
+    /// What was drawn becomes current, each version with its row of placements.
+    pub fn place_all(&mut self, numbers: &[u64], rows: Vec<Vec<Placement>>)
+        requires rows { vec_len rows ≡ length numbers.now }
+        requires drawn { All (λ number. (number < length self.old.listed) × (holds_standing is_superseded_standing (slice_get self.old.listed number) ≡ false)) numbers.now }
+        ensures listed { self.new.listed ≡ place_all (zip numbers.now (map (λ row. row.items) rows.items)) self.old.listed }
+        ensures pins { self.new.pins ≡ self.old.pins }
+    {
+        let mut rows = rows.into_iter();
+        for number in numbers {
+            match rows.next() {
+                Some(row) => self.place(*number, row),
+                None => unreachable!(),
+            }
+        }
+    }
+
+    /// Takes the least version that is superseded and that nobody pins.
+    pub fn take_least(&mut self) -> Option<u64>
+        ensures taken { result ≡ first_free self.old }
+        ensures listed { self.new.listed ≡ taken_from result self.old.listed }
+        ensures pins { self.new.pins ≡ self.old.pins }
+    {
+        match self.garbage.pop() {
+            Some(Reverse(number)) => {
+                stand(&mut self.entries, number as usize, Standing::Taken);
+                Some(number)
+            }
+            None => None,
+        }
+    }
+
+    /// Whether there is a version to take.
+    pub fn has_garbage(&self) -> bool
+        ensures { result ≡ is_some (first_free self.now) }
+    {
+        !self.garbage.is_empty()
+    }
+
+    /// A version that was taken is swept; nothing where it wasn't.
+    pub fn sweep(&mut self, number: u64)
+        ensures listed { self.new.listed ≡ change_at number (λ version. record version { standing = swept_standing version.standing }) self.old.listed }
+        ensures pins { self.new.pins ≡ self.old.pins }
+    {
+        if number >= self.entries.len() as u64 {
+            return;
+        }
+        sweep(&mut self.entries, number as usize);
+    }
+
+    /// The chunk of a version was placed anew at a server, at this epoch.
+    pub fn place_anew(&mut self, number: u64, server: u32, epoch: u64)
+        requires { number < length self.old.listed }
+        ensures listed { self.new.listed ≡ change_at number (λ version. record version { placed = change_at server (placed_anew epoch) version.placed }) self.old.listed }
+        ensures pins { self.new.pins ≡ self.old.pins }
+    {
+        place_anew(&mut self.entries, number as usize, server, epoch);
+    }
+
+    /// The same of each pinned version.
+    pub fn place_anew_all(&mut self, pins: &[Pinned], server: u32, epoch: u64)
+        requires { All (λ pin. pin.version < length self.old.listed) pins.now }
+        ensures listed { self.new.listed ≡ placed_anew_by server epoch pins.now self.old.listed }
+        ensures pins { self.new.pins ≡ self.old.pins }
+    {
+        for pin in pins {
+            let number = pin.version;
+            self.place_anew(number, server, epoch);
+        }
+    }
+
+    /// Whether the counts of these versions can take one pin more for each of the pins.
+    pub fn can_pin(&self, pins: &[Pinned]) -> bool
+        requires { All (λ pin. pin.version < length self.now.listed) pins.now }
+        ensures { result ≡ true → All (λ pin. get_or self.now.pins pin.version 0 + length pins.now < 2 ^ 64) pins.now }
+    {
+        let most = u64::MAX - pins.len() as u64;
+        for pin in pins {
+            let number = pin.version;
+            if self.entries[number as usize].pins > most {
+                return false;
+            }
+        }
+        true
+    }
+
+    /// A pass pins the version.
+    pub fn pin(&mut self, number: u64)
+        requires within { number < length self.old.listed }
+        requires other { holds_standing is_superseded_standing (slice_get self.old.listed number) ≡ false }
+        requires fits { get_or self.old.pins number 0 + 1 < 2 ^ 64 }
+        ensures listed { self.new.listed ≡ self.old.listed }
+        ensures pins { self.new.pins ≡ change_at number (λ count. count + 1) self.old.pins }
+    {
+        pin(&mut self.entries, number as usize);
+    }
+
+    /// A pass pins these versions.
+    pub fn pin_all(&mut self, pins: &[Pinned])
+        requires others { All (λ pin. (pin.version < length self.old.listed) × (holds_standing is_superseded_standing (slice_get self.old.listed pin.version) ≡ false)) pins.now }
+        requires fits { All (λ pin. get_or self.old.pins pin.version 0 + length pins.now < 2 ^ 64) pins.now }
+        ensures listed { self.new.listed ≡ self.old.listed }
+        ensures pins { self.new.pins ≡ pinned_more pins.now self.old.pins }
+    {
+        for pin in pins {
+            let number = pin.version;
+            self.pin(number);
+        }
+    }
+
+    /// How each server took the version's chunk.
+    pub fn placed(&self, alloc: Global, number: u64) -> Result<Vec<Placement>, AllocError>
+        requires { number < length self.now.listed }
+        ensures { IfOk result (λ row. row.items ≡ placed_of (slice_get self.now.listed number)) }
+    {
+        let entry = &self.entries[number as usize];
+        Vec::from_slice(alloc, &entry.placed)
+    }
+
+    /// Whether the version stands in its object.
+    pub fn is_current(&self, number: u64) -> bool
+        requires { number < length self.now.listed }
+        ensures { result ≡ holds_standing is_current_standing (slice_get self.now.listed number) }
+    {
+        let entry = &self.entries[number as usize];
+        matches!(entry.standing, Standing::Current)
+    }
+}
