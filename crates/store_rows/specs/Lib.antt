@@ -9,6 +9,7 @@ pub mod RowsRebuilds
 pub mod RowsRebuildLosses
 pub mod RowsShort
 pub mod RowsAway
+pub mod RowsAwayWrites
 pub mod RowsAwayReads
 pub mod RowsEveryPlace
 pub mod EveryPlace

@@ -1,9 +1,7 @@
 -- Rows: servers are away when an object is put.
-use Rattle.std.specs.Prelude.{ℕ, None, List, [], ◌∷◌, ◌++◌, replicate, codes}
+use Rattle.std.specs.Prelude.{ℕ, List, [], ◌∷◌, ◌++◌, replicate, codes}
 use Rattle.store_map.specs.declared.actor.Token.{Token}
 use Rattle.store_map.specs.declared.actor.Token.TheVariants as token
-use Rattle.store_map.specs.declared.call.Call.TheVariants as call
-use Rattle.store_map.specs.declared.content.Content.TheVariants as content
 use Rattle.store_map.specs.declared.placement.Placement.TheVariants as placement
 use Rattle.store_map.specs.declared.reply.Reply.TheVariants as reply
 use Rattle.store_map.specs.declared.script.Script.{Script}
@@ -46,23 +44,5 @@ refused_put =
             history = replied 0 (name.Client 0 1) reply.NoSuch ∷ [];
             refused = refused (name.Client 0 0) (cause.Unavailable 0 (away 0 (placement.Skipped 1) 1 ∷ away 1 (placement.Skipped 1) 1 ∷ away 2 (placement.Skipped 1) 1 ∷ [])) ∷ [];
             servers = server 0 0 0 0 ∷ server 1 0 0 0 ∷ server 2 0 0 0 ∷ server 3 0 0 0 ∷ [];
-          };
-    }
-
--- a write reads the old bytes that it keeps and draws its version; then as many servers are away, and it is refused
-abbrev pub refused_write : Row
-refused_write =
-    record {
-      script =
-          record (away_script (replicate 15 (token.Client 0) ++ token.Down 0 ∷ token.Down 1 ∷ token.Down 2 ∷ token.Drain ∷ [])) {
-            clients = record { calls = call.Put (codes "a") (content.Hex object_bytes) ∷ call.Write (codes "a") 0 (content.Hex (10 ∷ 11 ∷ 12 ∷ 13 ∷ [])) ∷ []; leave = None } ∷ [];
-          };
-      transcript =
-          record no_lines {
-            history = replied 0 (name.Client 0 0) reply.Done ∷ [];
-            refused = refused (name.Client 0 1) (cause.Unavailable 0 (away 0 (placement.Skipped 1) 1 ∷ away 1 (placement.Skipped 1) 1 ∷ away 2 (placement.Skipped 1) 1 ∷ [])) ∷ [];
-            objects = listed (codes "a") 8 ∷ [];
-            takes = took (name.Client 0 1) (4 ∷ 4 ∷ 0 ∷ 0 ∷ []) ∷ [];
-            servers = server 0 4 1 0 ∷ server 1 4 1 0 ∷ server 2 0 1 0 ∷ server 3 0 1 0 ∷ [];
           };
     }

@@ -4,7 +4,8 @@ ghost use Rattle.store_rows.specs.Rows.{Shows};
 ghost use Rattle.store_rows.specs.EveryPlace.{LossesInPuts, ThreeLossesInPuts, LossesInWrites, LossesInRebuilds};
 ghost use Rattle.store_rows.specs.RowsLarge.{many_actors, no_calls};
 ghost use Rattle.store_rows.specs.RowsShort.{ShowsUnder, put_without_memory, short_look, short_draw, short_encoding, short_prepare, short_commit};
-ghost use Rattle.store_rows.specs.RowsAway.{skipped_by_a_put, refused_put, refused_write};
+ghost use Rattle.store_rows.specs.RowsAway.{skipped_by_a_put, refused_put};
+ghost use Rattle.store_rows.specs.RowsAwayWrites.{refused_write, refused_at_the_second_stripe};
 ghost use Rattle.store_rows.specs.RowsAwayReads.{away_and_emptied, away_twice_and_emptied, rebuild_of_an_away_server};
 ghost use Rattle.store_rows.specs.RowsCalls.{put_then_get, empty_object, each_refusal};
 ghost use Rattle.store_rows.specs.RowsOneLoss.{read_after_one_loss, loss_before_prepare, loss_after_prepare, loss_before_old_bytes};
@@ -96,6 +97,7 @@ pub fn rows_of_servers_away()
     ensures skipped_by_a_put { Shows skipped_by_a_put }
     ensures refused_put { Shows refused_put }
     ensures refused_write { Shows refused_write }
+    ensures refused_at_the_second_stripe { Shows refused_at_the_second_stripe }
     ensures away_and_emptied { Shows away_and_emptied }
     ensures away_twice_and_emptied { Shows away_twice_and_emptied }
     ensures rebuild_of_an_away_server { Shows rebuild_of_an_away_server }

@@ -25,3 +25,7 @@ returns-clause-away_twice_and_emptied c = refl
 pub returns-clause-rebuild_of_an_away_server : goal.returns-clause-rebuild_of_an_away_server
 unfolding digits_of
 returns-clause-rebuild_of_an_away_server c = refl
+
+pub returns-clause-refused_at_the_second_stripe : goal.returns-clause-refused_at_the_second_stripe
+unfolding digits_of
+returns-clause-refused_at_the_second_stripe c = refl
