@@ -1,0 +1,4 @@
+pub mod History
+pub mod TurnState
+pub mod Rule
+pub mod Steps
