@@ -1,0 +1,11 @@
+pub mod Orders
+pub mod Steps
+pub mod Merged
+pub mod Small
+pub mod Sorting
+pub mod Showing
+pub mod Own
+pub mod Given
+pub mod TakenSums
+pub mod CallsCounted
+pub mod TakenByCalls

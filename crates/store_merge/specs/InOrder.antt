@@ -1,0 +1,35 @@
+-- The steps of all actors in the order of their stamps, and by actor where two stamps are equal.
+use Rattle.std.specs.Prelude.{nat_lt, List, [], ◌∷◌, ◌++◌, length, if◌then◌else◌}
+use Rattle.std.specs.List.{range_with_len, flat_map}
+use Rattle.store_map.specs.declared.script.Script.{Script}
+use Rattle.store_map.specs.declared.actor.Actor.TheVariants as actor
+use Rattle.store_map.specs.declared.actor.Token.{Token}
+use Rattle.store_core.specs.Core.{first_core}
+use Rattle.store_merge.specs.MadeSteps.{MadeStep}
+use Rattle.store_merge.specs.Histories.{Histories, StandTwice, GoOn, IsInOrder}
+use Rattle.store_merge.specs.Merging.{EndAs, run_of_steps}
+
+-- the list with one step more, before those with an equal or a later stamp
+abbrev pub put_in : MadeStep → List MadeStep → List MadeStep
+put_in m [] = m ∷ []
+put_in m (other ∷ more) = if nat_lt other.stamp m.stamp then other ∷ put_in m more else m ∷ other ∷ more
+
+-- sorted by stamp; of two with one stamp the earlier of the list comes first
+abbrev pub by_stamp : List MadeStep → List MadeStep
+by_stamp [] = []
+by_stamp (m ∷ more) = put_in m (by_stamp more)
+
+-- clients, repairers, sweeper, operator
+abbrev pub actor_by_actor : Script → Histories → List MadeStep
+actor_by_actor script h =
+    flat_map (λ i. h.of (actor.Client i)) (range_with_len 0 (length script.clients))
+    ++ (flat_map (λ i. h.of (actor.Repairer i)) (range_with_len 0 (length script.repairers)) ++ (h.of actor.Sweeper ++ h.of actor.Operator))
+
+abbrev pub in_order : Script → Histories → List MadeStep
+in_order script h = by_stamp (actor_by_actor script h)
+
+-- the steps in the order of their stamps, and by actor where two are equal, are a run of the core
+abbrev pub MergesInOrder : Type 0
+MergesInOrder =
+    (script : Script) (lines : List Token) (h : Histories) → StandTwice h → GoOn script lines (first_core script) h.at h.of →
+    IsInOrder h (in_order script h) × EndAs script (first_core script) h.at h.of (run_of_steps script (in_order script h))

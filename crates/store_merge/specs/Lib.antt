@@ -1,0 +1,13 @@
+pub mod MadeSteps
+pub mod AtPlaces
+pub mod ByActors
+pub mod Lines
+pub mod Histories
+pub mod Merging
+pub mod InOrder
+pub mod Threaded
+pub mod OwnSteps
+pub mod Taken
+pub mod CallTakes
+pub mod StatsExample
+pub mod ShortExample

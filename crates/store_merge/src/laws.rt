@@ -1,0 +1,39 @@
+//! The laws, as functions that do nothing.
+ghost use Rattle.store_merge.specs.Merging.{Merges};
+ghost use Rattle.store_merge.specs.InOrder.{MergesInOrder};
+ghost use Rattle.store_merge.specs.Threaded.{ShowsThreadedRuns};
+ghost use Rattle.store_merge.specs.OwnSteps.{ActorsKeepLists};
+ghost use Rattle.store_merge.specs.Taken.{ServersCountTakes};
+ghost use Rattle.store_merge.specs.CallTakes.{CallsCountTakes};
+ghost use Rattle.store_merge.specs.StatsExample.{StatsMerge};
+ghost use Rattle.store_merge.specs.ShortExample.{ShortMerges};
+
+/// Steps that were made apart are a run of the core: in any order in which stamps don't fall, and so
+/// in that of their stamps, and of their actors where two stamps are equal.
+pub fn steps_merge()
+    ensures any { Merges }
+    ensures sorted { MergesInOrder }
+{}
+
+/// What such steps show is the transcript of a threaded run.
+pub fn threaded_runs_are_shown()
+    ensures { ShowsThreadedRuns }
+{}
+
+/// An actor's own steps at all places, by stamp, are a list that a later step only makes longer.
+pub fn actors_keep_lists()
+    ensures { ActorsKeepLists }
+{}
+
+/// What a server counts as taken is the sum, over actors, of what each actor's own list took there,
+/// and of what the calls of clients and repairers count, each after its own list.
+pub fn servers_count_takes()
+    ensures lists { ServersCountTakes }
+    ensures calls { CallsCountTakes }
+{}
+
+/// Two small runs by stamps, computed.
+pub fn small_runs_merge()
+    ensures stats { StatsMerge }
+    ensures short { ShortMerges }
+{}
