@@ -7,7 +7,7 @@ use std::alloc::AllocError;
 use std::sync::Wait;
 use turn_lock::{Historied, Lock, Turn};
 
-/// What a turn adds: a number, under a number of its own.
+/// A value, and a number of the turn that added it.
 #[derive(Clone, Copy, Debug, PartialEq, Eq)]
 pub struct Line {
     pub turn: u32,
@@ -43,7 +43,8 @@ pub fn add<R: Wait>(
     requires free { turn.old.holds ≡ false }
     requires number { Among line.turn turn.old.numbers }
     ensures same { turn.new ≡ record turn.old { seen = turn.new.seen } }
-    ensures added { OnOk result (entries_of line.turn turn.new.seen ≡ entries_of line.turn turn.old.seen ++ (line.turn, line.value) ∷ []) }
+    ensures added { OnOk result (entries_of line.turn turn.new.seen
+        ≡ entries_of line.turn turn.old.seen ++ (line.turn, line.value) ∷ []) }
     ensures none { OnErr result (SameEntries turn.old.numbers turn.old.seen turn.new.seen) }
 {
     let mut list = lock.take(rt, turn);
@@ -68,7 +69,8 @@ fn give_line(lock: &Lock<NumberList>, turn: &mut Turn<NumberList>, list: NumberL
     requires fixed { Some list.name ≡ turn.old.fixed }
     requires number { Among entry.0 turn.old.numbers }
     requires stands { list.lines.items ≡ lines_of (turn.old.seen ++ entry ∷ []) }
-    ensures { turn.new ≡ record turn.old { seen = turn.old.seen ++ entry ∷ []; holds = false } }
+    ensures { turn.new
+        ≡ record turn.old { seen = turn.old.seen ++ entry ∷ []; holds = false } }
 {
     lock.give_by(turn, list, line.value)
 }

@@ -48,7 +48,8 @@ fn work<R: Wait>(rt: &R, lock: &Lock<NumberList>, worker: &mut Worker)
     requires { IsReady lock.now worker.old }
     ensures ready { IsReady lock.now worker.new }
     ensures number { worker.new.number ≡ worker.old.number }
-    ensures lines { line_count worker.new + worker.new.left ≡ line_count worker.old + worker.old.left }
+    ensures lines { line_count worker.new + worker.new.left
+        ≡ line_count worker.old + worker.old.left }
 {
     for value in 0..worker.left {
         let line = Line {

@@ -23,7 +23,7 @@ module _ {F E : Type 0} where
   holds_here (x ∷ xs) zero v w at h = (0, w, refl, h)
   holds_here (x ∷ xs) (suc id) v w at h = let t = holds_here xs id v w at h in (suc t.0, t.1, t.2, t.3)
 
-  -- some seat still holds where one seat's view changes that held no more than now
+  -- some seat still holds where one seat changes, and holds if it held
   still_holds : (views : List (View F E)) (id : ℕ) (v w : View F E) → get_elem? views id ≡ some v → (v.holds ≡ true → w.holds ≡ true)
       → (j : ℕ) (u : View F E) → get_elem? views j ≡ some u → u.holds ≡ true → SomeHolds (set views id w)
   still_holds [] id v w at keep j u e h = absurd (some-ne-none v (sym at))

@@ -17,7 +17,7 @@ pub trait Historied {
 }
 
 /// The entry that a step adds, if it adds one. Each call picks it.
-pub trait Added<E> {
+pub(crate) trait Added<E> {
     ghost added: { Option (ℕ × E) };
 }
 

@@ -9,6 +9,5 @@ mod lock;
 mod rule;
 mod view;
 
-pub use history::{Added, Historied};
+pub use history::Historied;
 pub use lock::{Lock, Turn};
-pub use view::View;

@@ -27,9 +27,18 @@ pub struct Turn<T: Historied> {
 impl<T: Historied> Model for Turn<T> {
     ghost Value = { TurnState T.Fixed T.Entry };
 
-    ghost view = { λ t. record { lock = t.seat.table_id; fixed = t.seat.me.0.fixed; numbers = t.seat.me.0.numbers; seen = t.seat.me.0.seen; holds = t.seat.me.0.holds } };
+    ghost view = { λ t. record {
+      lock = t.seat.table_id;
+      fixed = t.seat.me.0.fixed;
+      numbers = t.seat.me.0.numbers;
+      seen = t.seat.me.0.seen;
+      holds = t.seat.me.0.holds;
+    } };
 
-    ghost invariant = { λ t. Among t.number t.seat.me.0.numbers × (t.seat.me.0.joined ≡ []) × (t.seat.me.0.joined_seen ≡ []) × (t.seat.me.0.holds ≡ true → t.seat.me.1 ≡ (0, None) ∷ []) × (t.seat.me.0.holds ≡ false → t.seat.me.1 ≡ []) };
+    ghost invariant = { λ t. Among t.number t.seat.me.0.numbers
+        × (t.seat.me.0.joined ≡ []) × (t.seat.me.0.joined_seen ≡ [])
+        × (t.seat.me.0.holds ≡ true → t.seat.me.1 ≡ (0, None) ∷ [])
+        × (t.seat.me.0.holds ≡ false → t.seat.me.1 ≡ []) };
 }
 
 /// A lock round a value that stands for a history. Contracts see which lock it is.
@@ -52,7 +61,8 @@ impl<T: Historied + Drop> Lock<T> {
     pub fn new(alloc: Global, value: T, turns: u32) -> Result<(Lock<T>, Vec<Turn<T>>), AllocError>
         requires empty { T.stands_for value [] }
         ensures count { IfOk result (λ r. vec_len r.1 ≡ turns) }
-        ensures turns { IfOk result (λ r. (k : ℕ) → IfSome (slice_get r.1.items k) (λ t. t ≡ new_turn r.0 (T.fixed_part value) k)) }
+        ensures turns { IfOk result (λ r. (k : ℕ) →
+            IfSome (slice_get r.1.items k) (λ t. t ≡ new_turn r.0 (T.fixed_part value) k)) }
     {
         let mut all = Vec::with_capacity(alloc, turns as usize)?;
         let (lock, mut seat) = Lock::open(alloc, value)?;
@@ -83,7 +93,8 @@ impl<T: Historied + Drop> Lock<T> {
         requires fixed { Some (T.fixed_part value) ≡ turn.old.fixed }
         requires number { IsUnder turn.old.numbers entry }
         requires stands { T.stands_for value (with_entry turn.old.seen entry) }
-        ensures { turn.new ≡ record turn.old { seen = with_entry turn.old.seen entry; holds = false } }
+        ensures { turn.new
+            ≡ record turn.old { seen = with_entry turn.old.seen entry; holds = false } }
     {
         self.pass_on::<Brand>(&mut turn.seat, value, turn.number)
     }
@@ -97,7 +108,8 @@ impl<T: Historied + Drop> Lock<T> {
         requires fixed { Some (T.fixed_part value) ≡ turn.old.fixed }
         requires number { IsUnder turn.old.numbers entry }
         requires stands { T.stands_for value (with_entry turn.old.seen entry) }
-        ensures { turn.new ≡ record turn.old { seen = with_entry turn.old.seen entry; holds = false } }
+        ensures { turn.new
+            ≡ record turn.old { seen = with_entry turn.old.seen entry; holds = false } }
     {
         drop(by);
         self.give(turn, value)
@@ -107,9 +119,11 @@ impl<T: Historied + Drop> Lock<T> {
     pub fn join(&self, turn: Turn<T>, other: Turn<T>) -> Turn<T>
         requires own { (turn.lock ≡ self.now) × (other.lock ≡ self.now) }
         requires free { (turn.holds ≡ false) × (other.holds ≡ false) }
-        ensures turn { result ≡ record turn { numbers = turn.numbers ++ other.numbers; seen = result.seen } }
+        ensures turn { result
+            ≡ record turn { numbers = turn.numbers ++ other.numbers; seen = result.seen } }
         ensures longer { IsLonger turn.seen other.seen result.seen }
-        ensures own { SameEntries turn.numbers turn.seen result.seen × SameEntries other.numbers other.seen result.seen }
+        ensures own { SameEntries turn.numbers turn.seen result.seen
+            × SameEntries other.numbers other.seen result.seen }
     {
         let Turn { number, mut seat } = turn;
         let Turn {
@@ -126,7 +140,8 @@ impl<T: Historied + Drop> Lock<T> {
         value: T,
     ) -> Result<(Lock<T>, Seat<Option<T>, View<T::Fixed, T::Entry>>), AllocError>
         requires { T.stands_for value [] }
-        ensures { IfOk result (λ r. (r.1.table_id ≡ r.0) × (r.1.me ≡ (maker_view (T.fixed_part value) 0, []))) }
+        ensures { IfOk result (λ r.
+            (r.1.table_id ≡ r.0) × (r.1.me ≡ (maker_view (T.fixed_part value) 0, []))) }
     {
         let key = Snapshot::of(&value);
         let mut slots = Vec::with_capacity(alloc, 1)?;
@@ -162,7 +177,8 @@ impl<T: Historied + Drop> Lock<T> {
         requires free { (seat.old.me.0.holds ≡ false) × (seat.old.me.1 ≡ []) }
         requires number { Among number seat.old.me.0.numbers }
         ensures same { IsSameSeat seat.old seat.new }
-        ensures view { seat.new.me ≡ (with_seen seat.old.me.0 seat.new.me.0.seen true, (0, None) ∷ []) }
+        ensures view { seat.new.me
+            ≡ (with_seen seat.old.me.0 seat.new.me.0.seen true, (0, None) ∷ []) }
         ensures fixed { Some (T.fixed_part result) ≡ seat.old.me.0.fixed }
         ensures stands { T.stands_for result seat.new.me.0.seen }
         ensures seen { GoesOn seat.old.me.0.numbers seat.old.me.0.seen seat.new.me.0.seen }
@@ -208,13 +224,15 @@ impl<T: Historied + Drop> Lock<T> {
         number: u32,
     )
         requires own { seat.old.table_id ≡ self.now }
-        requires held { (seat.old.me.0.holds ≡ true) × (seat.old.me.0.joined ≡ []) × (seat.old.me.1 ≡ (0, None) ∷ []) }
+        requires held { (seat.old.me.0.holds ≡ true) × (seat.old.me.0.joined ≡ [])
+            × (seat.old.me.1 ≡ (0, None) ∷ []) }
         requires number { Among number seat.old.me.0.numbers }
         requires fixed { Some (T.fixed_part value) ≡ seat.old.me.0.fixed }
         requires entry { IsUnder seat.old.me.0.numbers N.added }
         requires stands { T.stands_for value (with_entry seat.old.me.0.seen N.added) }
         ensures same { IsSameSeat seat.old seat.new }
-        ensures view { seat.new.me ≡ (with_seen seat.old.me.0 (with_entry seat.old.me.0.seen N.added) false, []) }
+        ensures view { seat.new.me
+            ≡ (with_seen seat.old.me.0 (with_entry seat.old.me.0.seen N.added) false, []) }
     {
         let shared = &self.table.shared;
         drop(shared.exchange(seat, 0, Some(value)));
@@ -229,12 +247,15 @@ impl<T: Historied + Drop> Lock<T> {
         number: u32,
     )
         requires own { (seat.old.table_id ≡ self.now) × (other.table_id ≡ self.now) }
-        requires free { (seat.old.me.0.holds ≡ false) × (other.me.0.holds ≡ false) × (seat.old.me.1 ≡ []) × (other.me.1 ≡ []) }
+        requires free { (seat.old.me.0.holds ≡ false) × (other.me.0.holds ≡ false)
+            × (seat.old.me.1 ≡ []) × (other.me.1 ≡ []) }
         requires number { Among number seat.old.me.0.numbers }
         ensures same { IsSameSeat seat.old seat.new }
-        ensures me { seat.new.me ≡ (settled_view (joined_view seat.old.me.0 other.me.0) seat.new.me.0.seen, []) }
+        ensures me { seat.new.me
+            ≡ (settled_view (joined_view seat.old.me.0 other.me.0) seat.new.me.0.seen, []) }
         ensures longer { IsLonger seat.old.me.0.seen other.me.0.seen seat.new.me.0.seen }
-        ensures own { SameEntries seat.old.me.0.numbers seat.old.me.0.seen seat.new.me.0.seen × SameEntries other.me.0.numbers other.me.0.seen seat.new.me.0.seen }
+        ensures own { SameEntries seat.old.me.0.numbers seat.old.me.0.seen seat.new.me.0.seen
+            × SameEntries other.me.0.numbers other.me.0.seen seat.new.me.0.seen }
     {
         let shared = &self.table.shared;
         shared.join_seat::<Both>(seat, other);

@@ -8,7 +8,7 @@ use atomic_table::{Join, Play, Split, TableRule};
 use std::marker::PhantomData;
 use std::snapshot::Snapshot;
 
-pub struct Rule<T> {
+pub(crate) struct Rule<T> {
     of: PhantomData<T>,
 }
 

@@ -2,7 +2,7 @@
 use std::collections::LinkedList;
 
 /// What a seat knows, for contracts alone: no value of it is made.
-pub struct View<F, E> {
+pub(crate) struct View<F, E> {
     /// The lock's fixed part. A seat that was joined to another tells none.
     pub fixed: Option<F>,
     /// The numbers of the turn.
