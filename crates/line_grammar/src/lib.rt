@@ -11,6 +11,7 @@ mod number;
 mod split;
 
 pub use call::{read_call, read_name};
+pub use digits::{are_lower_digits, read_digits};
 pub use fault::FaultKind;
 pub use line::{read_code, read_numbered, read_rebuild, read_token};
 pub use number::{is_number, read_number, small_number};

@@ -9,4 +9,6 @@ mod scripts;
 #[cfg(test)]
 mod streams;
 #[cfg(test)]
+mod transcript_reads;
+#[cfg(test)]
 mod transcripts;
