@@ -1,0 +1,4 @@
+pub mod Sequence
+pub mod Calls
+pub mod Steps
+pub mod Script
