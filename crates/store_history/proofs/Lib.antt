@@ -23,3 +23,6 @@ pub mod TellReplies
 pub mod GivenUpLines
 pub mod NamedLines
 pub mod OrderPoints
+pub mod OrderLists
+pub mod OrderShown
+pub mod OrderEnds

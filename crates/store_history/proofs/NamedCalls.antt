@@ -43,12 +43,12 @@ use Rattle.store_history.proofs.PointsOfCalls.{OfScript, job_call}
 
 -- ---- an actor's calls
 -- no more have ended than there are; one that was begun is one of them, and before its first step it took nothing
-record InWork (n : ℕ) (work : Work) (c : Calling) : Type 0 where
-  below : length c.ended ≤ length work.jobs
-  begun : 0 < c.steps → length c.ended < length work.jobs
-  fresh : c.steps ≡ 0 → c.takes ≡ replicate n 0
+pub record InWork (n : ℕ) (work : Work) (c : Calling) : Type 0 where
+  pub below : length c.ended ≤ length work.jobs
+  pub begun : 0 < c.steps → length c.ended < length work.jobs
+  pub fresh : c.steps ≡ 0 → c.takes ≡ replicate n 0
 
-abbrev AllInWork : ℕ → List Work → List Calling → Type 0
+abbrev pub AllInWork : ℕ → List Work → List Calling → Type 0
 AllInWork n works callings = (i : ℕ) (c : Calling) → slice_get callings i ≡ Some c → (work : Work) → slice_get works i ≡ Some work → InWork n work c
 
 module _ (script : Script) (who : Actor) (job : Job) (calling : Calling) (places : Places) (at : AtWork script who job calling places) (shortages : Shortage) (work : Work) (is_job : slice_get work.jobs (length calling.ended) ≡ Some job) where
@@ -80,15 +80,15 @@ module _ (script : Script) (who : Actor) (job : Job) (calling : Calling) (places
   stepped : InWork (chunk_count script.geometry) work (actor_step script.geometry (tries_of script) shortages who job calling places).1
   stepped = by_act (next_act script.geometry (tries_of script) job now)
 
-record AllCalls (script : Script) (past : List Token) (core : Core) : Type 0 where
-  clients : AllInWork (chunk_count script.geometry) (client_work script) core.clients
-  repairers : AllInWork (chunk_count script.geometry) (repairer_work script) core.repairers
+pub record AllCalls (script : Script) (past : List Token) (core : Core) : Type 0 where
+  pub clients : AllInWork (chunk_count script.geometry) (client_work script) core.clients
+  pub repairers : AllInWork (chunk_count script.geometry) (repairer_work script) core.repairers
 
 module _ (script : Script) (can : CanRun script) where
   abbrev n : ℕ
   n = chunk_count script.geometry
 
-  calls_kept : KeptBySteps script can (AllCalls script)
+  pub calls_kept : KeptBySteps script can (AllCalls script)
   calls_kept =
       record {
         quiet = λ past next core is_quiet has. record { clients = has.clients; repairers = has.repairers };
@@ -122,7 +122,7 @@ module _ (script : Script) (can : CanRun script) where
   new_work works k i c e work is =
       subst (λ (x : Calling). InWork n work x) (replicated k i (new_calling n) c e) (record { below = omega arith; begun = λ some. absurd (omega (arith, some)); fresh = λ none. refl })
 
-  first_calls : AllCalls script [] (first_core script)
+  pub first_calls : AllCalls script [] (first_core script)
   first_calls = record { clients = new_work (client_work script) (length script.clients); repairers = new_work (repairer_work script) (length script.repairers) }
 
 -- ---- calls of the script
@@ -169,7 +169,7 @@ module _ {Line : Type 0} (Q : Line → Type 0) where
   one_if true line h = All-cons Q line [] (h refl) (All-nil Q)
   one_if false line h = All-nil Q
 
-no_zeros : (n : ℕ) → list_any (nat_lt 0) (replicate n 0) ≡ false
+pub no_zeros : (n : ℕ) → list_any (nat_lt 0) (replicate n 0) ≡ false
 no_zeros zero = refl
 no_zeros (suc n) = no_zeros n
 
