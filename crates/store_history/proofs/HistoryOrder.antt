@@ -26,14 +26,13 @@ use Rattle.store_core.specs.Step.{Shortage}
 use Rattle.store_core.specs.Sound.{AreInOrder}
 use Rattle.store_runs.proofs.Runs.{CanRun}
 use Rattle.store_runs.proofs.RunsSound.{RunKeeps}
-use Rattle.store_runs.proofs.Scripts.{can_run}
 use Rattle.store_sound.proofs.SoundLists.{at_all}
 use Rattle.hist_rules.specs.Calls.{number_of, same_actor as same_caller}
 use Rattle.hist_rules.specs.CallOrder.{IsLater}
-use Rattle.hist_rules.specs.First.{AllAfter}
+use Rattle.hist_rules.specs.First.{AllAfter, AllAlong}
 use Rattle.store_history.proofs.Naming.{IsCall, found_below}
-use Rattle.store_history.specs.HistoryLaws.{RunsRise}
 use Rattle.store_history.proofs.Induction.{run_has}
+use Rattle.store_history.proofs.OrderLists.{after_pairs, none_before}
 use Rattle.store_history.proofs.Points.{IsOfScript}
 use Rattle.store_history.proofs.PointsOfCalls.{PointsOfScript, points_kept, no_points}
 
@@ -188,24 +187,6 @@ lines_in_order script can shortages tokens =
     }
 
 -- ---- from any two lines to each line and those before it
-pairs_after : (R : HLine → HLine → Type 0) (before lines : List HLine) → All (λ line. All (λ other. R other line) before) lines → AllPairs R lines → AllAfter (λ others line. All (λ other. R other line) others) before lines
-pairs_after R before [] h pairs = tt
-pairs_after R before (line ∷ lines) h pairs =
-    (All-head (λ l. All (λ other. R other l) before) line lines h, pairs_after R (line ∷ before) lines (both lines (All-tail (λ l. All (λ other. R other l) before) line lines h) first) rest)
-  where
-    first : All (R line) lines
-    first k d low = pairs 0 (suc k) d (omega arith) (omega (arith, low))
-
-    rest : AllPairs R lines
-    rest i j d less low = pairs (suc i) (suc j) d (omega (arith, less)) (omega (arith, low))
-
-    both : (more : List HLine) → All (λ l. All (λ other. R other l) before) more → All (R line) more → All (λ l. All (λ other. R other l) (line ∷ before)) more
-    both [] a b = All-nil (λ l. All (λ other. R other l) (line ∷ before))
-    both (l ∷ more) a b =
-        All-cons (λ l. All (λ other. R other l) (line ∷ before)) l more
-        (All-cons (λ other. R other l) line before (All-head (R line) l more b) (All-head (λ x. All (λ other. R other x) before) l more a))
-        (both more (All-tail (λ x. All (λ other. R other x) before) l more a) (All-tail (R line) l more b))
-
 find_all : {X : Type 0} (p : X → Bool) (Q : X → Type 0) (xs : List X) → All (λ x. p x ≡ true → Q x) xs → IfSome (find p xs) Q
 find_all p Q [] h = tt
 find_all {X = X} p Q (x ∷ xs) h = by (find_all p Q xs (All-tail (λ y. p y ≡ true → Q y) x xs h)) (p x) refl
@@ -229,15 +210,11 @@ rising before (line ∷ lines) points numbers = (
   rising (line ∷ before) lines points.1 numbers.1,
 )
 
-none_before : (R : HLine → HLine → Type 0) (lines : List HLine) → All (λ line. All (λ other. R other line) []) lines
-none_before R [] = All-nil (λ line. All (λ other. R other line) [])
-none_before R (line ∷ lines) = All-cons (λ l. All (λ other. R other l) []) line lines (All-nil (λ other. R other line)) (none_before R lines)
-
 -- the history of a run is in order
-pub runs_rise : RunsRise
-runs_rise script shortages geometry valid tokens few =
+pub lines_rise : (script : Script) (can : CanRun script) (shortages : List Shortage) (tokens : List Token) → AllAlong IsLater (history_of script (run_core script shortages tokens))
+lines_rise script can shortages tokens =
     let lines : List HLine = history_of script (run_core script shortages tokens) in
-    let in_order : LinesInOrder script lines = lines_in_order script (can_run script geometry valid) shortages tokens in
+    let in_order : LinesInOrder script lines = lines_in_order script can shortages tokens in
     rising [] lines
-    (pairs_after (λ (line later : HLine). line.point < later.point) [] lines (none_before (λ (line later : HLine). line.point < later.point) lines) in_order.points)
-    (pairs_after (λ (line later : HLine). NumberRises line.call later.call) [] lines (none_before (λ (line later : HLine). NumberRises line.call later.call) lines) in_order.numbers)
+    (after_pairs (λ (line later : HLine). line.point < later.point) [] lines (none_before (λ (line later : HLine). line.point < later.point) lines) in_order.points)
+    (after_pairs (λ (line later : HLine). NumberRises line.call later.call) [] lines (none_before (λ (line later : HLine). NumberRises line.call later.call) lines) in_order.numbers)

@@ -26,3 +26,5 @@ pub mod OrderPoints
 pub mod OrderLists
 pub mod OrderShown
 pub mod OrderEnds
+pub mod OrderCalls
+pub mod OrderRuns

@@ -12,21 +12,19 @@ use Rattle.store_core.specs.Core.{Core}
 use Rattle.store_core.specs.History.{history_of}
 use Rattle.store_core.specs.Schedule.{run_core}
 use Rattle.store_core.specs.Shown.{shown}
+use Rattle.store_core.specs.Step.{Shortage}
+use Rattle.store_map.specs.declared.actor.Token.{Token}
+use Rattle.store_map.specs.declared.script.Script.{Script}
 use Rattle.store_runs.proofs.Runs.{CanRun}
-use Rattle.store_runs.proofs.Scripts.{can_run}
 use Rattle.hist_rules.specs.Named.{listed_calls}
-use Rattle.store_history.specs.HistoryLaws.{RunsNameCalls}
+use Rattle.store_history.proofs.OrderLists.{map_all}
 use Rattle.store_history.proofs.HistoryOrder.{LinesInOrder, lines_in_order}
 use Rattle.store_history.proofs.NamedCalls.{OthersNamed, others_named}
 use Rattle.store_history.proofs.Naming.{IsCall}
 
-mapped : {X Y : Type 0} (P : Y → Type 0) (f : X → Y) (xs : List X) → All (λ x. P (f x)) xs → All P (map f xs)
-mapped P f [] h = All-nil P
-mapped P f (x ∷ xs) h = All-cons P (f x) (map f xs) (All-head (λ y. P (f y)) x xs h) (mapped P f xs (All-tail (λ y. P (f y)) x xs h))
-
-pub runs_name_calls : RunsNameCalls
-runs_name_calls script shortages geometry valid tokens few =
-    let can : CanRun script = can_run script geometry valid in
+pub all_named : (script : Script) (can : CanRun script) (shortages : List Shortage) (tokens : List Token)
+    → All (IsCall script) (listed_calls (shown script (run_core script shortages tokens)) ++ map (λ line. line.call) (shown script (run_core script shortages tokens)).takes)
+all_named script can shortages tokens =
     let core : Core = run_core script shortages tokens in
     let t : Transcript = shown script core in
     let history : LinesInOrder script (history_of script core) = lines_in_order script can shortages tokens in
@@ -38,7 +36,7 @@ runs_name_calls script shortages geometry valid tokens few =
     let d : List CallName = map (λ (line : OLine). line.call) t.unanswered in
     All-append P (listed_calls t) (map (λ (line : GLine). line.call) t.takes)
     (All-append P (a ++ b ++ c) d
-    (All-append P (a ++ b) c (All-append P a b (mapped P (λ (line : HLine). line.call) t.history history.calls) (mapped P (λ (line : XLine). line.call) t.refused others.refused))
-    (mapped P (λ (line : RLine). line.call) t.repairs others.repairs))
-    (mapped P (λ (line : OLine). line.call) t.unanswered others.unanswered))
-    (mapped P (λ (line : GLine). line.call) t.takes others.takes)
+    (All-append P (a ++ b) c (All-append P a b (map_all P (λ (line : HLine). line.call) t.history history.calls) (map_all P (λ (line : XLine). line.call) t.refused others.refused))
+    (map_all P (λ (line : RLine). line.call) t.repairs others.repairs))
+    (map_all P (λ (line : OLine). line.call) t.unanswered others.unanswered))
+    (map_all P (λ (line : GLine). line.call) t.takes others.takes)

@@ -79,7 +79,7 @@ below_by (Some c) number e = by (slice_get c.ended number) refl e
     by (Some ended) is e = slice_get_within c.ended number ended is
 
 -- an answered call has ended
-answered_below : (core : Core) (call : CallName) → answered_at core call ≡ true → number_of call < ended_count core call
+pub answered_below : (core : Core) (call : CallName) → answered_at core call ≡ true → number_of call < ended_count core call
 answered_below core (name.Client i number) e = below_by (slice_get core.clients i) number e
 answered_below core (name.Repairer i number) e = absurd (true≢false (sym e))
 
@@ -153,7 +153,7 @@ module _ (script : Script) (core : Core) (known : EndKnown script core) where
   repairer_calls i number ended = repair_line (name.Repairer i number) (result_of ended.outcome)
 
   -- the work of each actor
-  client_has : (i : ℕ) (c : Calling) → slice_get core.clients i ≡ Some c → (w : Work) × (slice_get (client_work script) i ≡ Some w)
+  pub client_has : (i : ℕ) (c : Calling) → slice_get core.clients i ≡ Some c → (w : Work) × (slice_get (client_work script) i ≡ Some w)
   client_has i c e =
       inside (client_work script) i
       (let low : i < length core.clients = slice_get_within core.clients i c e in
@@ -161,7 +161,7 @@ module _ (script : Script) (core : Core) (known : EndKnown script core) where
       let size : length (client_work script) ≡ length script.clients = length-map script.clients (λ (part : ClientPart). record { jobs = map job_of part.calls; leave = part.leave }) in
       omega (arith, low, same, size))
 
-  repairer_has : (i : ℕ) (c : Calling) → slice_get core.repairers i ≡ Some c → (w : Work) × (slice_get (repairer_work script) i ≡ Some w)
+  pub repairer_has : (i : ℕ) (c : Calling) → slice_get core.repairers i ≡ Some c → (w : Work) × (slice_get (repairer_work script) i ≡ Some w)
   repairer_has i c e =
       inside (repairer_work script) i
       (let low : i < length core.repairers = slice_get_within core.repairers i c e in

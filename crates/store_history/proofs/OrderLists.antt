@@ -1,7 +1,7 @@
 -- Lines by actor and by call: what holds of all of them, of any two, and that each is there.
 use Rattle.std.proofs.Common.{◌≡◌, ℕ, zero, suc, ◌+◌, ◌<◌, List, [], ◌∷◌, ◌++◌, length, map, flat_map, Contains, Option, None, Some, option_map, All, AllPairs, refl, sym, ap, subst, ◌∙◌, arith}
 use Rattle.std.proofs.lemmas.Option.{none-some, same_Some, slice_get-map}
-use Rattle.std.proofs.lemmas.List.Elements.{All-nil, All-cons, All-head, All-tail, All-append, All-contains, Contains-append_left, Contains-append_right}
+use Rattle.std.proofs.lemmas.List.Elements.{All-nil, All-cons, All-head, All-tail, All-append, All-weaker, All-contains, Contains-append_left, Contains-append_right}
 use Rattle.std.proofs.lemmas.List.Kept.{AllPairs-cons}
 use Rattle.std.specs.List.{slice_get, enumerate_from}
 use Rattle.hist_rules.specs.First.{AllAfter}
@@ -49,6 +49,12 @@ none_before R (x ∷ xs) = All-cons (λ y. All (λ other. R other y) []) x xs (A
 pub map_all : {X Y : Type 0} (P : Y → Type 0) (f : X → Y) (xs : List X) → All (λ x. P (f x)) xs → All P (map f xs)
 map_all P f [] h = All-nil P
 map_all P f (x ∷ xs) h = All-cons P (f x) (map f xs) (All-head (λ y. P (f y)) x xs h) (map_all P f xs (All-tail (λ y. P (f y)) x xs h))
+
+pub map_pairs : {X Y : Type 0} (R : X → X → Type 0) (S : Y → Y → Type 0) (f : X → Y) (xs : List X) → ((x y : X) → R x y → S (f x) (f y)) → AllPairs R xs → AllPairs S (map f xs)
+map_pairs R S f [] there pairs = no_pairs S
+map_pairs R S f (x ∷ xs) there pairs =
+    AllPairs-cons S (f x) (map f xs) (map_all (S (f x)) f xs (All-weaker (R x) (λ y. S (f x) (f y)) (λ y r. there x y r) xs (first_pairs R x xs pairs)))
+    (map_pairs R S f xs there (rest_pairs R x xs pairs))
 
 pub map_contains : {X Y : Type 0} (f : X → Y) (xs : List X) (x : X) → Contains xs x → Contains (map f xs) (f x)
 map_contains f xs x has =

@@ -8,9 +8,10 @@ use Rattle.transcript_text.specs.declared.transcript.Transcript.{Transcript}
 use Rattle.store_core.specs.Schedule.{run_core}
 use Rattle.store_core.specs.Shown.{shown}
 use Rattle.store_core.specs.Step.{Shortage}
+use Rattle.hist_rules.specs.CallOrder.{KeepsCallOrder}
 use Rattle.hist_rules.specs.MapReplies.{HasMapReplies}
 use Rattle.hist_rules.specs.GivenUpOrLost.{GivenUp}
-use Rattle.store_history.specs.Parts.{CallsExist, PointsRise, TakesMatch}
+use Rattle.store_history.specs.Parts.{TakesMatch}
 
 -- the script with another schedule
 abbrev pub scheduled : Script → List Token → Script
@@ -34,10 +35,6 @@ RunsGiveUp = RunsShow GivenUp
 abbrev pub RunsMatch : Type 0
 RunsMatch = RunsShow TakesMatch
 
--- the history's lines are in order
-abbrev pub RunsRise : Type 0
-RunsRise = RunsShow PointsRise
-
--- the lines are of calls of the script
-abbrev pub RunsNameCalls : Type 0
-RunsNameCalls = RunsShow CallsExist
+-- each caller's calls come one after another, each is answered once, and every line is of one of them
+abbrev pub RunsKeepCallOrder : Type 0
+RunsKeepCallOrder = RunsShow KeepsCallOrder

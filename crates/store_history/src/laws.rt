@@ -1,6 +1,6 @@
 //! The laws, as functions that do nothing and whose contracts are the laws.
 
-ghost use Rattle.store_history.specs.HistoryLaws.{RunsReply, RunsGiveUp, RunsMatch, RunsRise, RunsNameCalls};
+ghost use Rattle.store_history.specs.HistoryLaws.{RunsReply, RunsGiveUp, RunsMatch, RunsKeepCallOrder};
 ghost use Rattle.store_history.specs.HasPoints.{AnswersHavePoints};
 
 /// Each reply that a run shows is the plain map's, and so are the objects at the end.
@@ -18,14 +18,10 @@ pub fn runs_match()
     ensures { RunsMatch }
 {}
 
-/// The points of the history rise, and so do the numbers of each client's lines.
-pub fn runs_rise()
-    ensures { RunsRise }
-{}
-
-/// Each line that names a call names one of the script.
-pub fn runs_name_calls()
-    ensures { RunsNameCalls }
+/// Each caller's calls come one after another and are answered once, points rise, and each line is of
+/// a call of the script.
+pub fn runs_keep_call_order()
+    ensures { RunsKeepCallOrder }
 {}
 
 /// Each call of a client that was answered has its point in the history.
