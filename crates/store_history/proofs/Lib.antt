@@ -28,3 +28,6 @@ pub mod OrderShown
 pub mod OrderEnds
 pub mod OrderCalls
 pub mod OrderRuns
+pub mod ColumnAsks
+pub mod Columns
+pub mod ColumnRuns

@@ -24,7 +24,7 @@ use Rattle.store_core.specs.NextAct.{Job, next_act}
 use Rattle.store_core.specs.Run.{places_in}
 use Rattle.store_core.specs.Schedule.{run_core}
 use Rattle.store_core.specs.Server.{Server, new_server, raised_by, at_server}
-use Rattle.store_core.specs.Shown.{take_line, take_lines, lines_of_actors}
+use Rattle.store_core.specs.Shown.{shown, take_line, take_lines, lines_of_actors}
 use Rattle.store_core.specs.Step.{Shortage, Places, at_places, at_server_there, take_from, ended_by, actor_step}
 use Rattle.store_core.specs.Sweep.{Sweeper, next_sweep}
 use Rattle.store_core.specs.Tell.{tell}
@@ -36,10 +36,10 @@ use Rattle.store_sound.proofs.SoundVersions.{change_here}
 use Rattle.store_runs.proofs.Proper.{IsProper, HasTry}
 use Rattle.store_runs.proofs.Runs.{CanRun}
 use Rattle.store_runs.proofs.RunsSound.{RunKeeps}
-use Rattle.store_runs.proofs.Scripts.{can_run, replicated}
+use Rattle.store_runs.proofs.Scripts.{replicated}
 use Rattle.hist_rules.specs.Counts.{is_wipe_of}
 use Rattle.store_history.proofs.Naming.{wipes}
-use Rattle.store_history.specs.HistoryLaws.{RunsMatch}
+use Rattle.transcript_text.specs.declared.transcript.Transcript.{Transcript}
 use Rattle.store_history.proofs.ActorLines.{each_changed}
 use Rattle.store_history.proofs.AtWork.{AtWork, client_at, repairer_at, first, act, after, proper}
 use Rattle.store_history.proofs.Given.{Was, WipesNot, act_matches, sums_match}
@@ -48,14 +48,14 @@ use Rattle.store_history.proofs.ServerEpochs.{IsNoWipe}
 
 -- ---- sums
 -- what an actor's calls took from a server
-abbrev of_ended : ℕ → Ended → ℕ
+abbrev pub of_ended : ℕ → Ended → ℕ
 of_ended j ended = get_or ended.takes j 0
 
-abbrev total : ℕ → Calling → ℕ
+abbrev pub total : ℕ → Calling → ℕ
 total j calling = sum_by (of_ended j) calling.ended + get_or calling.takes j 0
 
 -- of all actors of a kind
-abbrev group : ℕ → List Calling → ℕ
+abbrev pub group : ℕ → List Calling → ℕ
 group j callings = sum_by (total j) callings
 
 -- one actor changed
@@ -492,7 +492,7 @@ module _ (script : Script) (can : CanRun script) where
       }
 
 -- ---- the lines
-abbrev column : ℕ → List GLine → ℕ
+abbrev pub column : ℕ → List GLine → ℕ
 column server lines = sum_by (λ (line : GLine). get_or line.takes server 0) lines
 
 abbrev of_line : ℕ → GLine → ℕ
@@ -548,7 +548,7 @@ actors_sum j nm a (c ∷ cs) =
     omega (arith, rest, both, here, sums)
 
 -- the column of a server
-column_sum : (j : ℕ) (clients repairers : List Calling)
+pub column_sum : (j : ℕ) (clients repairers : List Calling)
     → column j (lines_of_actors (λ i. take_lines (name.Client i)) clients ++ lines_of_actors (λ i. take_lines (name.Repairer i)) repairers) ≡ group j clients + group j repairers
 column_sum j clients repairers =
     let both : column j (lines_of_actors (λ i. take_lines (name.Client i)) clients ++ lines_of_actors (λ i. take_lines (name.Repairer i)) repairers)
@@ -569,10 +569,13 @@ server_lines Q a (s ∷ servers) h =
     (let none : a + 0 ≡ a = omega arith in subst (λ n. Q (line_of_server (n, s))) none (h 0 s refl))
     (server_lines Q (a + 1) servers (λ k t e. let one : a + suc k ≡ a + 1 + k = omega arith in subst (λ n. Q (line_of_server (n, t))) one (h (suc k) t e)))
 
--- what a run shows adds up
-pub runs_match : RunsMatch
-runs_match script shortages geometry valid tokens few =
-    let can : CanRun script = can_run script geometry valid in
+-- what a run shows adds up, with counts that stay at the last value of 64 bits
+pub record TakesMatch (tokens : List Token) (t : Transcript) : Type 0 where
+  pub taken : All (λ line. line.taken ≡ min (column line.server t.takes) (2 ^ 64 - 1)) t.servers
+  pub epochs : All (λ line. line.epoch ≡ count_by (is_wipe_of line.server) tokens) t.servers
+
+pub takes_match : (script : Script) (can : CanRun script) (shortages : List Shortage) (tokens : List Token) → length tokens < 2 ^ 64 → TakesMatch tokens (shown script (run_core script shortages tokens))
+takes_match script can shortages tokens few =
     let core : Core = run_core script shortages tokens in
     let end : RunKeeps script core × Matching (chunk_count script.geometry) tokens core =
     run_has script can (Matching (chunk_count script.geometry)) (matching_kept script can) shortages (first_matching script can) tokens in

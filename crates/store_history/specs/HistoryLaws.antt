@@ -11,7 +11,7 @@ use Rattle.store_core.specs.Step.{Shortage}
 use Rattle.hist_rules.specs.CallOrder.{KeepsCallOrder}
 use Rattle.hist_rules.specs.MapReplies.{HasMapReplies}
 use Rattle.hist_rules.specs.GivenUpOrLost.{GivenUp}
-use Rattle.store_history.specs.Parts.{TakesMatch}
+use Rattle.hist_rules.specs.IsHistory.{TakesAddUp}
 
 -- the script with another schedule
 abbrev pub scheduled : Script → List Token → Script
@@ -31,9 +31,9 @@ RunsReply = RunsShow HasMapReplies
 abbrev pub RunsGiveUp : Type 0
 RunsGiveUp = RunsShow GivenUp
 
--- takes add up, while counts fit 64 bits
-abbrev pub RunsMatch : Type 0
-RunsMatch = RunsShow TakesMatch
+-- what calls took is what the servers gave, and no server is emptied but by the operator
+abbrev pub RunsAddUp : Type 0
+RunsAddUp = RunsShow TakesAddUp
 
 -- each caller's calls come one after another, each is answered once, and every line is of one of them
 abbrev pub RunsKeepCallOrder : Type 0
