@@ -14,7 +14,8 @@ use Rattle.store_core.specs.Lists.{change_at}
 use Rattle.store_core.specs.Lookups.{is_superseded_standing}
 use Rattle.store_core.specs.Directory.{Version}
 use Rattle.dir_parts.specs.Places.{places}
-use Rattle.dir_parts.specs.Table.{version_in, is_garbage, number_in, least_first, first_free}
+use Rattle.dir_parts.specs.Table.{version_in, is_garbage, number_in, least_first}
+use Rattle.dir_parts.specs.TableSteps.{first_free}
 use Rattle.dir_parts.specs.declared.versions.Entry.{Entry}
 use Rattle.dir_parts.proofs.TableSteps.{superseded_same}
 use Rattle.dir_parts.proofs.Counting.{cancel}

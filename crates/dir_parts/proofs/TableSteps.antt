@@ -13,7 +13,8 @@ use Rattle.store_core.specs.Look.{set_standing}
 use Rattle.store_core.specs.Commit.{place_all}
 use Rattle.store_core.specs.Lookups.{holds_standing, is_superseded_standing}
 use Rattle.dir_parts.specs.Places.{places}
-use Rattle.dir_parts.specs.Table.{placed_anew_by, standing_in, version_in, is_superseded, is_garbage}
+use Rattle.dir_parts.specs.Table.{standing_in, version_in, is_superseded, is_garbage}
+use Rattle.dir_parts.specs.TableSteps.{placed_anew_by}
 use Rattle.dir_parts.specs.declared.versions.Standing.{Standing}
 use Rattle.dir_parts.specs.declared.versions.Standing.TheVariants as standing
 use Rattle.dir_parts.specs.declared.versions.Entry.{Entry}

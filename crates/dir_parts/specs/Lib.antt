@@ -4,6 +4,7 @@ pub mod Passes
 pub mod OpenPass
 pub mod Desk
 pub mod Table
+pub mod TableSteps
 pub mod Events
 pub mod Parts
 pub mod Book

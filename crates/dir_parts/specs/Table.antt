@@ -1,17 +1,11 @@
 -- The versions and the counts of their pins, as the fields keep them.
-use Rattle.std.specs.Prelude.{ℕ, ◌≤◌, Bool, true, false, ◌&&◌, nat_eq, List, [], ◌∷◌, map, fold, find, get_or, Option, None, Some, option_map, vec_len}
-use Rattle.std.specs.List.{enumerate_from}
+use Rattle.std.specs.Prelude.{ℕ, ◌≤◌, Bool, true, false, ◌&&◌, nat_eq, List, map, vec_len}
 use Rattle.std.specs.List.Sorted.{IsPermutation}
 use Rattle.std.specs.BinaryHeap.{heap_items, heap_capacity, IsHeap}
 use Rattle.std.specs.Ordering.{nat_cmp}
 use Rattle.std.specs.declared.cmp.Ordering.{Ordering}
 use Rattle.std.specs.declared.cmp.Reverse.{Reverse}
-use Rattle.store_map.specs.declared.actor.Actor.{Actor}
-use Rattle.store_core.specs.Lists.{change_at}
-use Rattle.store_core.specs.Placements.{placed_anew}
-use Rattle.store_core.specs.Look.{set_standing}
-use Rattle.store_core.specs.Lookups.{is_superseded_standing}
-use Rattle.store_core.specs.Directory.{Version, Pin}
+use Rattle.store_core.specs.Directory.{Version}
 use Rattle.store_core.specs.Directory.{Standing as CoreStanding}
 use Rattle.dir_parts.specs.Places.{places}
 use Rattle.dir_parts.specs.declared.versions.Standing.{Standing}
@@ -70,31 +64,3 @@ pub record IsTable (a : Inside) : Type 0 where
   pub room : vec_len a.entries ≤ heap_capacity a.garbage
   pub heap : IsHeap least_first (heap_items a.garbage)
   pub garbage : IsPermutation (map number_in (heap_items a.garbage)) (places is_garbage 0 a.entries.items)
-
--- a version that a call with these pins draws, laid over the pinned one of its stripe
-abbrev pub drawn_version : Actor → ℕ → List Pin → ℕ → Version
-drawn_version who number pins stripe =
-    record {
-      actor = who;
-      number = number;
-      stripe = stripe;
-      base = option_map (λ pin. pin.version) (find (λ pin. nat_eq stripe pin.stripe) pins);
-      placed = [];
-      standing = CoreStanding.Drawn;
-    }
-
--- the least version that is superseded and that nobody pins
-abbrev pub first_free : Table → Option ℕ
-first_free t =
-    option_map (λ entry. entry.0)
-    (find (λ entry. is_superseded_standing entry.1.standing && nat_eq (get_or t.pins entry.0 0) 0) (enumerate_from 0 t.listed))
-
--- the versions, one of them taken
-abbrev pub taken_from : Option ℕ → List Version → List Version
-taken_from None versions = versions
-taken_from (Some version) versions = set_standing CoreStanding.Taken (version ∷ []) versions
-
--- the versions, where the chunks of pinned ones were placed anew at a server
-abbrev pub placed_anew_by : ℕ → ℕ → List Pin → List Version → List Version
-placed_anew_by server epoch pins versions =
-    fold (λ versions pin. change_at pin.version (λ version. record version { placed = change_at server (placed_anew epoch) version.placed }) versions) versions pins

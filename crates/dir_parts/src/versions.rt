@@ -10,7 +10,8 @@ ghost use Rattle.store_core.specs.Commit.{place_all};
 ghost use Rattle.store_core.specs.Placements.{placed_anew};
 ghost use Rattle.store_core.specs.AtDirectory.{swept_standing};
 ghost use Rattle.dir_parts.specs.Counts.{unpinned, pinned_more};
-ghost use Rattle.dir_parts.specs.Table.{is_garbage, number_in, least_first, version_in, drawn_version, first_free, taken_from, placed_anew_by, swept};
+ghost use Rattle.dir_parts.specs.Table.{is_garbage, number_in, least_first, version_in, swept};
+ghost use Rattle.dir_parts.specs.TableSteps.{drawn_version, first_free, taken_from, placed_anew_by};
 ghost use Rattle.dir_parts.specs.Places.{places};
 ghost use Rattle.dir_parts.specs.declared.versions.Standing.TheVariants as standing;
 

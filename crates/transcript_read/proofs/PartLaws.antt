@@ -20,7 +20,8 @@ use Rattle.transcript_text.specs.declared.call_name.CallName.TheVariants.{Client
 use Rattle.transcript_text.specs.declared.cause.Triple.{Triple}
 use Rattle.transcript_read.specs.Forms.{IsClient, IsRepairer}
 use Rattle.transcript_read.specs.Reads.{Reads, Refuses}
-use Rattle.transcript_read.specs.Values.{IsLong, IsShort, IsCallName, IsPlacement, IsFound, IsTriple, IsPair, pair_text}
+use Rattle.transcript_read.specs.Values.{IsLong, IsShort, IsCallName, IsPlacement, IsFound, IsTriple}
+use Rattle.transcript_read.specs.Reasons.{IsPair, pair_text}
 use Rattle.transcript_read.specs.declared.field.Unread.{Unread}
 use Rattle.transcript_read.specs.declared.field.Unread.TheVariants.{Syntax, OutOfMemory}
 

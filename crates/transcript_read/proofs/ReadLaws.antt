@@ -8,7 +8,8 @@ use Rattle.script_text.specs.declared.fault.ScriptFault.{ScriptFault}
 use Rattle.transcript_text.specs.Text.{text_of}
 use Rattle.transcript_read.specs.Bodies.{line_text}
 use Rattle.transcript_read.specs.Fault.{IsNoLine, RestFault, IsFault}
-use Rattle.transcript_read.specs.Order.{AreInOrder, place_after, IsWellFormed, Follows}
+use Rattle.transcript_read.specs.Order.{Follows}
+use Rattle.transcript_read.specs.WellFormed.{AreInOrder, place_after, IsWellFormed}
 use Rattle.transcript_read.specs.Forms.{IsLine}
 use Rattle.transcript_read.specs.Reader.{empty, IsTaken}
 use Rattle.transcript_read.specs.declared.line.Line.{Line}

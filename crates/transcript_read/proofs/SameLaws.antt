@@ -27,7 +27,8 @@ use Rattle.transcript_text.specs.declared.shown.Shown.{Shown}
 use Rattle.transcript_text.specs.declared.shown.Shown.TheVariants as shown
 use Rattle.transcript_read.specs.Bodies.{line_body}
 use Rattle.transcript_read.specs.Forms.{IsLine}
-use Rattle.transcript_read.specs.Values.{IsLong, IsPlacement, IsFound, IsTriple, IsPair, pair_text, IsLost, lost_text, IsPairs, pairs_text, IsShown, IsCause, IsResult}
+use Rattle.transcript_read.specs.Values.{IsLong, IsPlacement, IsFound, IsTriple, IsShown}
+use Rattle.transcript_read.specs.Reasons.{IsPair, pair_text, IsLost, lost_text, IsPairs, pairs_text, IsCause, IsResult}
 use Rattle.transcript_read.specs.declared.line.Line.{Line}
 use Rattle.transcript_read.specs.declared.line.Line.TheVariants.{History, Refused, Repair, Unanswered, Object, Takes, Server, End}
 use Rattle.transcript_read.proofs.ListLaws.{listed, listed_injective, same_words, Starts-listed}

@@ -18,7 +18,8 @@ use Rattle.transcript_text.specs.declared.transcript.Transcript.{Transcript}
 use Rattle.transcript_read.specs.Bodies.{line_body, line_text}
 use Rattle.transcript_read.specs.Fault.{RestFault, IsFault}
 use Rattle.transcript_read.specs.Forms.{IsLine}
-use Rattle.transcript_read.specs.Order.{Follows, AreInOrder, place_after, place_of, rank, IsWellFormed, kinds_of, lines_of}
+use Rattle.transcript_read.specs.Order.{Follows, place_of, rank}
+use Rattle.transcript_read.specs.WellFormed.{AreInOrder, place_after, IsWellFormed, kinds_of, lines_of}
 use Rattle.transcript_read.specs.declared.line.Line.{Line}
 use Rattle.transcript_read.specs.declared.line.Line.TheVariants.{History, Refused, Repair, Unanswered, Object, Takes, Server, End}
 use Rattle.transcript_read.specs.declared.place.Place.{Place}

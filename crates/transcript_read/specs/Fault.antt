@@ -8,7 +8,8 @@ use Rattle.transcript_text.specs.Text.{text_of}
 use Rattle.transcript_text.specs.declared.transcript.Transcript.{Transcript}
 use Rattle.transcript_read.specs.Bodies.{line_body, line_text}
 use Rattle.transcript_read.specs.Forms.{IsLine}
-use Rattle.transcript_read.specs.Order.{Follows, AreInOrder, IsWellFormed, lines_of, place_after, rank}
+use Rattle.transcript_read.specs.Order.{Follows, rank}
+use Rattle.transcript_read.specs.WellFormed.{AreInOrder, IsWellFormed, lines_of, place_after}
 use Rattle.transcript_read.specs.declared.line.Line.{Line}
 use Rattle.transcript_read.specs.declared.place.Place.{Place}
 use Rattle.transcript_read.specs.declared.place.Place.TheVariants as at

@@ -4,7 +4,7 @@ use Rattle.line_grammar.specs.declared.fault.FaultKind.{FaultKind}
 use Rattle.transcript_text.specs.Text.{text_of}
 use Rattle.transcript_text.specs.declared.transcript.Transcript.{Transcript}
 use Rattle.transcript_read.specs.Fault.{IsFault}
-use Rattle.transcript_read.specs.Order.{IsWellFormed}
+use Rattle.transcript_read.specs.WellFormed.{IsWellFormed}
 
 -- a text is at most one transcript's
 abbrev pub IsOneTranscript : Type 0

@@ -1,6 +1,6 @@
 ghost use Rattle.std.specs.Prelude.{◌++◌, codes};
 ghost use Rattle.transcript_text.specs.Words.{cause_text, result_text};
-ghost use Rattle.transcript_read.specs.Values.{IsCause, IsResult, IsLost, IsPairs, lost_text, pairs_text};
+ghost use Rattle.transcript_read.specs.Reasons.{IsCause, IsResult, IsLost, IsPairs, lost_text, pairs_text};
 ghost use Rattle.transcript_read.specs.Reads.{Reads};
 
 use crate::field::{Field, Unread, behind, first_field};

@@ -1,7 +1,7 @@
 ghost use Rattle.std.specs.Prelude.{◌≡◌, ◌<◌, ◌^◌, length, IfOk, IfErr};
 ghost use Rattle.script_text.specs.FirstFault.{OrMemory};
 ghost use Rattle.transcript_text.specs.Text.{text_of};
-ghost use Rattle.transcript_read.specs.Order.{IsWellFormed};
+ghost use Rattle.transcript_read.specs.WellFormed.{IsWellFormed};
 ghost use Rattle.transcript_read.specs.Fault.{IsFault};
 
 use crate::field::Unread;

@@ -1,7 +1,8 @@
 ghost use Rattle.std.specs.Prelude.{◌++◌, codes, decimal};
 ghost use Rattle.transcript_text.specs.Triples.{placement_text, found_text, triple_text};
 ghost use Rattle.transcript_text.specs.Words.{call_text};
-ghost use Rattle.transcript_read.specs.Values.{IsCallName, IsPlacement, IsFound, IsTriple, IsPair, pair_text};
+ghost use Rattle.transcript_read.specs.Values.{IsCallName, IsPlacement, IsFound, IsTriple};
+ghost use Rattle.transcript_read.specs.Reasons.{IsPair, pair_text};
 ghost use Rattle.transcript_read.specs.Reads.{Reads};
 
 use crate::field::{Field, Unread, behind, first_field};

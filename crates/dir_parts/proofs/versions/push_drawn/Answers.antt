@@ -2,7 +2,8 @@ use Rattle.std.proofs.Common.{ℕ, ◌+◌, ◌∷◌, [], ◌++◌, map, replic
 use Rattle.std.proofs.lemmas.List.{map-append, append_assoc}
 use Rattle.std.specs.List.{range_with_len}
 use Rattle.dir_parts.specs.Places.{places}
-use Rattle.dir_parts.specs.Table.{version_in, drawn_version, is_garbage}
+use Rattle.dir_parts.specs.Table.{version_in, is_garbage}
+use Rattle.dir_parts.specs.TableSteps.{drawn_version}
 use Rattle.dir_parts.specs.declared.versions.Entry.{Entry}
 use Rattle.dir_parts.specs.declared.versions.Standing.TheVariants as standing
 use Rattle.dir_parts.proofs.Growing.{range-snoc, replicate-snoc, map-snoc, places-snoc}

@@ -1,7 +1,8 @@
 use Rattle.std.proofs.Common.{◌≡◌, ◌+◌, ◌++◌, map, replicate, vec_len, vec_capacity}
 use Rattle.std.specs.List.{range_with_len}
 use Rattle.dir_parts.specs.Places.{places}
-use Rattle.dir_parts.specs.Table.{version_in, drawn_version, is_garbage}
+use Rattle.dir_parts.specs.Table.{version_in, is_garbage}
+use Rattle.dir_parts.specs.TableSteps.{drawn_version}
 use Rattle.dir_parts.specs.declared.versions.Entry.{Entry}
 use Rattle.dir_parts.proofs.versions.push_drawn.Given as goal
 

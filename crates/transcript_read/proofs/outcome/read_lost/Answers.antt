@@ -2,7 +2,7 @@ use Rattle.std.proofs.Common.{arith, sym, ap, drop, ◌∙◌}
 use Rattle.std.specs.Prelude.{decimal}
 use Rattle.transcript_text.specs.Triples.{triple_text}
 use Rattle.transcript_text.specs.Words.{missing_text}
-use Rattle.transcript_read.specs.Values.{IsLost, lost_text}
+use Rattle.transcript_read.specs.Reasons.{IsLost, lost_text}
 use Rattle.transcript_read.proofs.ListLaws.{listed, listed_some}
 use Rattle.transcript_read.proofs.PartLaws.{long_lacks, triple_lacks, behind_field, two_parts, unread_by}
 use Rattle.transcript_read.proofs.outcome.read_lost.Goals as goal

@@ -1,7 +1,8 @@
 use Rattle.std.proofs.Common.{◌≡◌, map, length, not, is_some, ap, ◌∙◌, arith}
 use Rattle.std.proofs.lemmas.List.{length-map}
 use Rattle.std.specs.BinaryHeap.{heap_items, heap_len}
-use Rattle.dir_parts.specs.Table.{Table, number_in, first_free}
+use Rattle.dir_parts.specs.Table.{Table, number_in}
+use Rattle.dir_parts.specs.TableSteps.{first_free}
 use Rattle.dir_parts.proofs.Least.{some_garbage}
 use Rattle.dir_parts.proofs.versions.Versions.has_garbage.Goals as goal
 

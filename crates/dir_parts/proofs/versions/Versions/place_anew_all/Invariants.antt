@@ -1,5 +1,5 @@
 use Rattle.std.proofs.Common.{◌≡◌, take}
-use Rattle.dir_parts.specs.Table.{placed_anew_by}
+use Rattle.dir_parts.specs.TableSteps.{placed_anew_by}
 use Rattle.dir_parts.proofs.versions.Versions.place_anew_all.Given as goal
 
 abbrev pub invariant-loop-pin : goal.invariant-loop-pin

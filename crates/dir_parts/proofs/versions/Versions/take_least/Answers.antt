@@ -6,7 +6,8 @@ use Rattle.std.specs.BinaryHeap.{heap_items}
 use Rattle.store_core.specs.Lists.{change_at}
 use Rattle.store_core.specs.Directory.{Version, Standing as CoreStanding}
 use Rattle.dir_parts.specs.Places.{places}
-use Rattle.dir_parts.specs.Table.{Table, is_garbage, version_in, number_in, first_free}
+use Rattle.dir_parts.specs.Table.{Table, is_garbage, version_in, number_in}
+use Rattle.dir_parts.specs.TableSteps.{first_free}
 use Rattle.dir_parts.specs.declared.versions.Entry.{Entry}
 use Rattle.dir_parts.specs.declared.versions.Standing.TheVariants as standing
 use Rattle.dir_parts.proofs.Entries.{map-change_at, map-change_same}

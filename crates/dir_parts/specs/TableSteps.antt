@@ -1,0 +1,39 @@
+-- What becomes of the versions at a draw, a take and a repair.
+use Rattle.std.specs.Prelude.{ℕ, ◌&&◌, nat_eq, List, [], ◌∷◌, fold, find, get_or, Option, None, Some, option_map}
+use Rattle.std.specs.List.{enumerate_from}
+use Rattle.store_map.specs.declared.actor.Actor.{Actor}
+use Rattle.store_core.specs.Lists.{change_at}
+use Rattle.store_core.specs.Placements.{placed_anew}
+use Rattle.store_core.specs.Look.{set_standing}
+use Rattle.store_core.specs.Lookups.{is_superseded_standing}
+use Rattle.store_core.specs.Directory.{Version, Pin}
+use Rattle.store_core.specs.Directory.{Standing as CoreStanding}
+use Rattle.dir_parts.specs.Table.{Table}
+
+-- a version that a call with these pins draws, laid over the pinned one of its stripe
+abbrev pub drawn_version : Actor → ℕ → List Pin → ℕ → Version
+drawn_version who number pins stripe =
+    record {
+      actor = who;
+      number = number;
+      stripe = stripe;
+      base = option_map (λ pin. pin.version) (find (λ pin. nat_eq stripe pin.stripe) pins);
+      placed = [];
+      standing = CoreStanding.Drawn;
+    }
+
+-- the least version that is superseded and that nobody pins
+abbrev pub first_free : Table → Option ℕ
+first_free t =
+    option_map (λ entry. entry.0)
+    (find (λ entry. is_superseded_standing entry.1.standing && nat_eq (get_or t.pins entry.0 0) 0) (enumerate_from 0 t.listed))
+
+-- the versions, one of them taken
+abbrev pub taken_from : Option ℕ → List Version → List Version
+taken_from None versions = versions
+taken_from (Some version) versions = set_standing CoreStanding.Taken (version ∷ []) versions
+
+-- the versions, where the chunks of pinned ones were placed anew at a server
+abbrev pub placed_anew_by : ℕ → ℕ → List Pin → List Version → List Version
+placed_anew_by server epoch pins versions =
+    fold (λ versions pin. change_at pin.version (λ version. record version { placed = change_at server (placed_anew epoch) version.placed }) versions) versions pins
