@@ -2,12 +2,14 @@
 #![tactic(auto)]
 
 mod chunks;
+mod coder;
 mod coupling;
 mod generator;
 mod kernels;
 mod products;
 
 pub use chunks::{encode, parity};
+pub use coder::LaneCoder;
 pub use generator::Generator;
 pub use kernels::add_rows;
 pub use products::Products;
