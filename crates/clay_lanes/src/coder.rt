@@ -1,6 +1,6 @@
 //! The fast coder of one thread.
 use crate::chunks::encode;
-use clay_decode::{DecodeFault, decode};
+use crate::lost::recover;
 use clay_grid::Geometry;
 use clay_repair::{Coder, rebuild};
 use std::alloc::{AllocError, Global};
@@ -28,11 +28,7 @@ impl Coder for LaneCoder {
         g: Geometry,
         have: &[Option<Vec<u8>>],
     ) -> Result<Vec<Vec<u8>>, AllocError> {
-        match decode(alloc, g, have) {
-            Ok(chunks) => Ok(chunks),
-            Err(DecodeFault::OutOfMemory) => Err(AllocError),
-            Err(DecodeFault::TooFew) => unreachable!(),
-        }
+        recover(alloc, g, have)
     }
 
     fn rebuild<R: Threads + Sync>(

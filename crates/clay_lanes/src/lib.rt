@@ -6,10 +6,14 @@ mod coder;
 mod coupling;
 mod generator;
 mod kernels;
+mod layers;
+mod lost;
+mod plan;
 mod products;
 
 pub use chunks::{encode, parity};
 pub use coder::LaneCoder;
 pub use generator::Generator;
 pub use kernels::add_rows;
+pub use lost::{decode, missing};
 pub use products::Products;

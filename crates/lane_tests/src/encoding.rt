@@ -5,7 +5,7 @@ use std::process::Abort;
 use std::test::Fail;
 
 // Bytes that repeat only after 256 * 251 of them.
-fn mixed_bytes(alloc: Global, count: u32) -> Result<Vec<u8>, AllocError> {
+pub fn mixed_bytes(alloc: Global, count: u32) -> Result<Vec<u8>, AllocError> {
     let mut bytes = Vec::with_capacity(alloc, count as usize)?;
     let mut byte = 1u8;
     for i in 0..count {

@@ -2,6 +2,8 @@
 #![tactic(auto)]
 
 #[cfg(test)]
+mod coders;
+#[cfg(test)]
 mod encoding;
 #[cfg(test)]
 mod kernels;

@@ -1,0 +1,60 @@
+use Rattle.std.proofs.Common.{◌≡◌, ℕ, ◌+◌, ◌*◌, ◌<◌, ◌≤◌, true, false, List, length, get_or, sym, subst, ap, ◌∙◌, arith}
+use Rattle.std.proofs.lemmas.List.{get_or_read}
+use Rattle.clay_grid.specs.Shape.{node_count}
+use Rattle.clay_encode.proofs.Parts.{piece_fits}
+use Rattle.clay_decode.specs.Left.{Completes}
+use Rattle.clay_lanes.specs.Recovered.{IsUncoupled}
+use Rattle.clay_lanes.proofs.Recovery.{HoldsSums, sums_more, sums_skipped, rows_of_sums}
+use Rattle.clay_lanes.proofs.layers.solve_layer.Goals as goal
+use Rattle.clay_lanes.proofs.layers.solve_layer.Goals.{then-not-index, else-not-index}
+
+pub add-requires-clause-node : goal.add-requires-clause-node
+add-requires-clause-node c =
+    let gen = c.requires.plan.generator in
+    let points : ℕ = length c.args.plan.now.points.items in
+    let node : ℕ = c.loop-node.node in
+    let below : node < node_count c.args.g = omega (arith, c.loop-node-test.true, c.nodes-node-end.ensures.value) in
+    let fits = piece_fits node (node_count c.args.g) points below in
+    let same : node * c.args.plan.now.generator.unknown + c.args.plan.now.generator.unknown ≡ node * points + points = ap (λ n. node * n + n) gen.count in
+    omega (arith, same, fits, gen.long)
+
+pub loop-node-preserved : goal.loop-node-preserved
+loop-node-preserved c =
+    let g = c.args.g in
+    let plan = c.args.plan.now in
+    let fits : List (List ℕ) → Type 0 = λ word. Completes g c.args.have.now word in
+    let at : ℕ = c.args.at in
+    let len : ℕ = length c.args.values.now in
+    let z : ℕ = c.args.z in
+    let erased = plan.erased.items in
+    let points = plan.points.items in
+    let factors = plan.generator.factors.items in
+    let node : ℕ = c.loop-node.node in
+    let below : node < node_count g = omega (arith, c.loop-node-test.true, c.nodes-node-end.ensures.value) in
+    let within : node < length erased = omega (arith, c.requires.plan.nodes.nodes) in
+    let read : c.index.result.now ≡ get_or erased node false = get_or_read erased node c.index.result.now within c.index.ensures false in
+    elim c.if-not-index.branch [
+      | then-not-index w ↦
+          let here : get_or erased node false ≡ false = sym read ∙ w.if-not-index.true in
+          let value : IsUncoupled g fits at len node z w.uncouple_node.new.out =
+          subst (λ n. IsUncoupled g fits at n node z w.uncouple_node.new.out) c.loop-node.auto.values w.uncouple_node.ensures in
+          subst (HoldsSums g fits at len erased points factors z (node + 1)) (sym w.rows-is)
+          (sums_more g fits at len erased points factors z node plan.generator.unknown w.uncouple_node.new.out c.loop-node.rows w.add.new.rows
+          c.requires.plan.generator.count (w.uncouple_node.auto.out ∙ c.loop-node.auto.values) here value w.add.ensures c.loop-node.invariant)
+      | else-not-index w ↦
+          let gone : get_or erased node false ≡ true = sym read ∙ w.if-not-index.false in
+          subst (HoldsSums g fits at len erased points factors z (node + 1)) (sym w.rows-is)
+          (sums_skipped g fits at len erased points factors z node c.loop-node.rows gone c.loop-node.invariant)
+    ]
+
+pub returns : goal.returns
+returns c =
+    let g = c.args.g in
+    let plan = c.args.plan.now in
+    let fits : List (List ℕ) → Type 0 = λ word. Completes g c.args.have.now word in
+    let nodes = c.requires.plan.nodes in
+    let len : ℕ = length c.args.values.now in
+    let all : c.loop-node.node ≡ node_count g = omega (arith, c.loop-node-test.false, c.loop-node.auto.node-end, c.nodes-node-end.ensures.value) in
+    rows_of_sums g fits c.args.at len plan.erased.items plan.points.items plan.generator.unknown plan.generator.factors.items c.args.z c.loop-node.rows
+    nodes.geometry c.requires.plan.generator nodes.few nodes.points_are (λ word f. f.codeword) c.requires.within
+    (subst (λ n. HoldsSums g fits c.args.at len plan.erased.items plan.points.items plan.generator.factors.items c.args.z n c.loop-node.rows) all c.loop-node.invariant)

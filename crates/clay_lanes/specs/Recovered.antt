@@ -1,0 +1,57 @@
+-- What coding by blocks of bytes has found, for each codeword that fits what is there.
+use Rattle.std.specs.Prelude.{◌≡◌, ℕ, ◌+◌, ◌*◌, ◌<◌, Bool, List, [], map, length, get_or, filter, is_none, Option, None, All, Vec}
+use Rattle.std.specs.List.{range_with_len}
+use Rattle.std.specs.declared.alloc.Global.{Global}
+use Rattle.clay_grid.specs.Shape.{Shape, layer_count, chunk_length}
+use Rattle.clay_grid.specs.Score.{score_at}
+use Rattle.clay_decode.specs.Left.{Completes}
+use Rattle.clay_decode.specs.Solved.{IsPlan, coupled_byte, uncoupled_byte}
+use Rattle.clay_lanes.specs.Generated.{IsGeneratorOf}
+use Rattle.clay_lanes.specs.declared.plan.Plan.{Plan}
+
+-- a call of decoding works with the plan of the missing chunks, the factors of their nodes, and the products of the inverse of 5
+pub record IsLanePlan (g : Shape) (have : List (Option (Vec ℕ Global))) (plan : Plan) : Type 0 where
+  pub nodes : IsPlan g have plan.erased.items plan.points.items plan.layers.items plan.zeros.items
+  pub generator : IsGeneratorOf g plan.points.items plan.generator.unknown plan.generator.factors.items
+  pub fifths : plan.fifths ≡ 0xA7
+
+-- a piece has the bytes from `at` on of node i's subchunk n, as many as len
+pub record IsCoupled (g : Shape) (fits : List (List ℕ) → Type 0) (at len i n : ℕ) (piece : List ℕ) : Type 0 where
+  pub bytes : (word : List (List ℕ)) → fits word → (b : ℕ) → b < len → get_or piece b 0 ≡ coupled_byte g word (at + b) i n
+
+-- the same of the uncoupled value
+pub record IsUncoupled (g : Shape) (fits : List (List ℕ) → Type 0) (at len i n : ℕ) (piece : List ℕ) : Type 0 where
+  pub bytes : (word : List (List ℕ)) → fits word → (b : ℕ) → b < len → get_or piece b 0 ≡ uncoupled_byte g word (at + b) i n
+
+-- a row for each of the nodes: the bytes from `at` on of their uncoupled values in layer n
+pub record HoldsRows (g : Shape) (fits : List (List ℕ) → Type 0) (at len : ℕ) (points : List ℕ) (n : ℕ) (rows : List ℕ) : Type 0 where
+  pub bytes : (word : List (List ℕ)) → fits word → (e b : ℕ) → e < length points → b < len
+      → get_or rows (e * len + b) 0 ≡ uncoupled_byte g word (at + b) (get_or points e 0) n
+
+-- the same of layer n where the rows of one layer follow those of the one before
+pub record HoldsLayerRows (g : Shape) (fits : List (List ℕ) → Type 0) (at len : ℕ) (points : List ℕ) (n : ℕ) (solved : List ℕ) : Type 0 where
+  pub bytes : (word : List (List ℕ)) → fits word → (e b : ℕ) → e < length points → b < len
+      → get_or solved ((n * length points + e) * len + b) 0 ≡ uncoupled_byte g word (at + b) (get_or points e 0) n
+
+-- the layers of a score below that of layer n are solved
+abbrev pub HoldsLower : Shape → (List (List ℕ) → Type 0) → ℕ → ℕ → List Bool → List ℕ → ℕ → List ℕ → Type 0
+HoldsLower g fits at len erased points n solved =
+    (p : ℕ) → p < layer_count g → score_at g erased p < score_at g erased n → HoldsLayerRows g fits at len points p solved
+
+-- byte p of a chunk is that of chunk c
+pub record HoldsByte (fits : List (List ℕ) → Type 0) (c : ℕ) (chunk : List ℕ) (p : ℕ) : Type 0 where
+  pub at : (word : List (List ℕ)) → fits word → get_or chunk p 0 ≡ get_or (get_or word c []) p 0
+
+-- the numbers of the missing chunks from c on, rising
+abbrev pub missing_from : List (Option (Vec ℕ Global)) → ℕ → ℕ → List ℕ
+missing_from have c count = filter (λ i. is_none (get_or have i None)) (range_with_len c count)
+
+-- the numbers of the missing chunks, rising
+abbrev pub missing_of : List (Option (Vec ℕ Global)) → List ℕ
+missing_of have = missing_from have 0 (length have)
+
+-- chunks are the missing ones of each codeword that agrees with what is left
+pub record AreMissing (g : Shape) (have : List (Option (Vec ℕ Global))) (chunks : List (List ℕ)) : Type 0 where
+  pub count : length chunks ≡ length (missing_of have)
+  pub lengths : All (λ chunk. length chunk ≡ chunk_length g) chunks
+  pub value : (word : List (List ℕ)) → Completes g have word → chunks ≡ map (λ c. get_or word c []) (missing_of have)

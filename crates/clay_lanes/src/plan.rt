@@ -1,0 +1,117 @@
+//! What a call of decoding works with.
+ghost use Rattle.std.specs.Prelude.{◌≡◌, ℕ, ◌<◌, ◌≤◌, length, IfOk, slice_index_or, false, count_by, is_none, replicate};
+ghost use Rattle.clay_grid.specs.Shape.{Shape, chunk_count, node_count, chunk_length};
+ghost use Rattle.clay_scalar.specs.Erased.{erased_below};
+ghost use Rattle.clay_scalar.specs.Points.{AreDistinct};
+ghost use Rattle.clay_decode.specs.Left.{AreLong};
+ghost use Rattle.clay_decode.specs.Solved.{is_erased};
+ghost use Rattle.clay_lanes.specs.Generated.{IsGeneratorOf};
+ghost use Rattle.clay_lanes.specs.Recovered.{IsLanePlan};
+
+use crate::chunks::nodes;
+use crate::coupling::fifths;
+use crate::generator::Generator;
+use crate::products::Products;
+use clay_grid::Geometry;
+use std::alloc::{AllocError, Global};
+
+/// The erased nodes, which are those of the missing chunks, and the order of the layers.
+#[derive(Drop)]
+pub struct Plan {
+    /// For each node, whether it is erased.
+    pub erased: Vec<bool>,
+    /// The erased nodes, rising.
+    pub points: Vec<u8>,
+    /// The factors of every node in the values of the erased nodes.
+    pub generator: Generator,
+    /// The layers in the order in which they are solved.
+    pub layers: Vec<u32>,
+    /// A subchunk of a virtual node.
+    pub zeros: Vec<u8>,
+    /// The products of the inverse of 5.
+    pub fifths: Products,
+}
+
+/// Bytes that are all 0.
+pub fn zeros(alloc: Global, count: usize) -> Result<Vec<u8>, AllocError>
+    ensures { IfOk result (λ v. v.items ≡ replicate count 0) }
+{
+    vec![in alloc; 0u8; count]
+}
+
+/// Whether the chunk of a node is missing. That of a virtual node never is.
+fn is_missing(g: Geometry, have: &[Option<Vec<u8>>], node: u32) -> bool
+    requires count { length have.now ≡ chunk_count g }
+    requires node { node < node_count g }
+    ensures { result ≡ is_erased g have.now node }
+{
+    match g.chunk_of_node(node) {
+        Some(chunk) => have[chunk as usize].is_none(),
+        None => false,
+    }
+}
+
+/// For each node, whether its chunk is missing.
+fn erased_nodes(
+    alloc: Global,
+    g: Geometry,
+    have: &[Option<Vec<u8>>],
+) -> Result<Vec<bool>, AllocError>
+    requires { length have.now ≡ chunk_count g }
+    ensures len { IfOk result (λ v. length v.items ≡ node_count g) }
+    ensures value { IfOk result (λ v. (i : ℕ) → i < node_count g →
+        slice_index_or v.items i false ≡ is_erased g have.now i) }
+{
+    let mut erased = Vec::with_capacity(alloc, g.nodes() as usize)?;
+    for node in 0..g.nodes() {
+        erased.push(is_missing(g, have, node))?;
+    }
+    Ok(erased)
+}
+
+/// The numbers of the erased nodes, rising.
+fn erased_points(alloc: Global, erased: &[bool]) -> Result<Vec<u8>, AllocError>
+    requires { length erased.now ≤ 256 }
+    ensures { IfOk result (λ v. v.items ≡ erased_below erased.now (length erased.now)) }
+{
+    let mut points = Vec::new(alloc);
+    for (node, missing) in erased.iter().enumerate() {
+        if *missing {
+            points.push(node as u8)?;
+        }
+    }
+    Ok(points)
+}
+
+/// The factors of every node in the values of these nodes. Those of these nodes themselves serve for nothing.
+pub fn generator_of(alloc: Global, g: Geometry, points: &[u8]) -> Result<Generator, AllocError>
+    requires few { length points.now ≤ 8 }
+    requires distinct { AreDistinct points.now }
+    ensures { IfOk result (λ made. IsGeneratorOf g points.now made.unknown made.factors.items) }
+{
+    let all = nodes(alloc, 0, g.nodes())?;
+    let generator = Generator::new(alloc, points, &all)?;
+    Ok(generator)
+}
+
+/// The plan for chunks of which no more are missing than there are parity chunks.
+pub fn make_plan(alloc: Global, g: Geometry, have: &[Option<Vec<u8>>]) -> Result<Plan, AllocError>
+    requires count { length have.now ≡ chunk_count g }
+    requires lengths { AreLong (chunk_length g) have.now }
+    requires few { count_by is_none have.now ≤ g.parity_count }
+    ensures { IfOk result (λ plan. IsLanePlan g have.now plan) }
+{
+    let zeros = zeros(alloc, g.w() as usize)?;
+    let erased = erased_nodes(alloc, g, have)?;
+    let points = erased_points(alloc, &erased)?;
+    let generator = generator_of(alloc, g, &points)?;
+    let layers = g.layers_by_score(alloc, &erased)?;
+    Ok(Plan {
+        erased,
+        points,
+        generator,
+        layers,
+        zeros,
+        fifths: fifths(),
+    })
+}

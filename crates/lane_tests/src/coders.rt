@@ -1,0 +1,127 @@
+ghost use Rattle.std.specs.Prelude.{◌≡◌, length, IfOk, IfSome, count_by, is_none};
+ghost use Rattle.clay_grid.specs.Shape.{chunk_count, chunk_length};
+ghost use Rattle.clay_decode.specs.Left.{AreLong};
+
+use crate::encoding::mixed_bytes;
+use clay_decode::DecodeFault;
+use clay_grid::Geometry;
+use clay_lanes::{LaneCoder, missing};
+use clay_repair::{Coder, PlainCoder};
+use std::alloc::{AllocError, Global};
+use std::process::Abort;
+use std::test::Fail;
+use std::thread::Threads;
+
+fn part_of(alloc: Global, chunk: &[u8], gone: bool) -> Result<Option<Vec<u8>>, AllocError>
+    ensures { IfOk result (λ o. IfSome o (λ v. length v.items ≡ length chunk.now)) }
+{
+    if gone {
+        return Ok(None);
+    }
+    Ok(Some(Vec::from_slice(alloc, chunk)?))
+}
+
+// What is left of chunks where those of the bits of `gone` are missing.
+fn left_of(
+    rt: &impl Abort,
+    alloc: Global,
+    g: Geometry,
+    chunks: &[Vec<u8>],
+    gone: u32,
+) -> Result<Vec<Option<Vec<u8>>>, AllocError>
+    ensures count { IfOk result (λ have. length have.items ≡ chunk_count g) }
+    ensures lengths { IfOk result (λ have. AreLong (chunk_length g) have.items) }
+{
+    assert_eq!(rt; chunks.len(), g.n() as usize);
+    assert!(rt; g.n() < 32);
+    let mut have = Vec::new(alloc);
+    for c in 0..g.n() {
+        let chunk = &chunks[c as usize];
+        assert_eq!(rt; chunk.len(), g.chunk_len() as usize);
+        have.push(part_of(alloc, chunk, gone >> c & 1 == 1)?)?;
+    }
+    Ok(have)
+}
+
+fn expect_chunks(rt: &impl Abort, chunks: &[Vec<u8>], expected: &[Vec<u8>]) {
+    assert_eq!(rt; chunks.len(), expected.len());
+    for (c, chunk) in chunks.iter().enumerate() {
+        assert_eq!(rt; chunk.as_slice(), expected[c].as_slice());
+    }
+}
+
+fn gone_count(have: &[Option<Vec<u8>>]) -> usize
+    ensures { result ≡ count_by is_none have.now }
+{
+    have.iter().filter(|chunk| chunk.is_none()).count()
+}
+
+// Recovers the chunks of the bits of `gone`.
+fn check_loss<R: Abort + Threads + Sync>(
+    rt: &R,
+    alloc: Global,
+    g: Geometry,
+    word: &[Vec<u8>],
+    gone: u32,
+) -> Result<(), Fail> {
+    let have = left_of(rt, alloc, g, word, gone)?;
+    if gone_count(&have) > g.m() as usize {
+        assert_eq!(rt; missing(alloc, g, &have).err(), Some(DecodeFault::TooFew));
+        return Ok(());
+    }
+    expect_chunks(rt, &LaneCoder.recover(rt, alloc, g, &have)?, word);
+    let found = missing(alloc, g, &have)?;
+    assert_eq!(rt; found.len(), gone.count_ones() as usize);
+    let mut next = 0;
+    for c in 0..g.n() {
+        if gone >> c & 1 == 1 {
+            assert_eq!(rt; found[next].as_slice(), word[c as usize].as_slice());
+            next += 1;
+        }
+    }
+    Ok(())
+}
+
+// Loses no chunk, each chunk alone, the first and the last, as many as there are parity chunks, some of each kind, and one too many.
+fn check_losses<R: Abort + Threads + Sync>(rt: &R, alloc: Global, g: Geometry) -> Result<(), Fail> {
+    let stripe = mixed_bytes(alloc, g.stripe_len())?;
+    assert_eq!(rt; stripe.len(), g.stripe_len() as usize);
+    let word = LaneCoder.encode(rt, alloc, g, &stripe)?;
+    expect_chunks(rt, &PlainCoder.encode(rt, alloc, g, &stripe)?, &word);
+    assert_eq!(rt; word.len(), g.n() as usize);
+    assert!(rt; g.n() < 32);
+    let some = (1u32 << g.m()) - 1;
+    check_loss(rt, alloc, g, &word, 0)?;
+    check_loss(rt, alloc, g, &word, 1 << (g.k() - 1))?;
+    check_loss(rt, alloc, g, &word, 1 << g.k())?;
+    check_loss(rt, alloc, g, &word, some)?;
+    check_loss(rt, alloc, g, &word, some << g.k())?;
+    check_loss(rt, alloc, g, &word, (some >> 1) << 1 | 1 << (g.n() - 1))?;
+    check_loss(rt, alloc, g, &word, some | 1 << (g.n() - 1))
+}
+
+#[test]
+fn small_codes_recover_alike(rt: HostRuntime) -> Result<(), Fail> {
+    for (k, m) in [(2, 2), (3, 2), (4, 3), (5, 5), (2, 8), (7, 2)] {
+        for w in [1, 15, 16, 17, 63, 64] {
+            check_losses(&rt, rt.alloc(), Geometry::new(k, m, w)?)?;
+        }
+    }
+    Ok(())
+}
+
+#[test]
+fn large_codes_recover_alike(rt: HostRuntime) -> Result<(), Fail> {
+    for (k, m, w) in [(8, 4, 17), (9, 6, 1), (10, 4, 16), (16, 4, 1)] {
+        check_losses(&rt, rt.alloc(), Geometry::new(k, m, w)?)?;
+    }
+    Ok(())
+}
+
+#[test]
+fn blocks_are_recovered(rt: HostRuntime) -> Result<(), Fail> {
+    for w in [1000, 4095, 4096, 4097, 9000] {
+        check_losses(&rt, rt.alloc(), Geometry::new(3, 2, w)?)?;
+    }
+    Ok(())
+}
