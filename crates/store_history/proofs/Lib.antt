@@ -7,13 +7,6 @@ pub mod Replayed
 pub mod ActorLines
 pub mod ReapedPasses
 pub mod GivenUpRuns
-pub mod ServerEpochs
-pub mod Given
-pub mod TakesRuns
-pub mod ServerChunks
-pub mod VersionMoves
-pub mod HeardLosses
-pub mod KeptVersions
 pub mod HistoryOrder
 pub mod NamedCalls
 pub mod ToldPoints
@@ -28,6 +21,3 @@ pub mod OrderShown
 pub mod OrderEnds
 pub mod OrderCalls
 pub mod OrderRuns
-pub mod ColumnAsks
-pub mod Columns
-pub mod ColumnRuns

@@ -11,7 +11,6 @@ use Rattle.store_core.specs.Step.{Shortage}
 use Rattle.hist_rules.specs.CallOrder.{KeepsCallOrder}
 use Rattle.hist_rules.specs.MapReplies.{HasMapReplies}
 use Rattle.hist_rules.specs.GivenUpOrLost.{GivenUp}
-use Rattle.hist_rules.specs.IsHistory.{TakesAddUp}
 
 -- the script with another schedule
 abbrev pub scheduled : Script → List Token → Script
@@ -30,10 +29,6 @@ RunsReply = RunsShow HasMapReplies
 -- no more calls given up than the operator gave up
 abbrev pub RunsGiveUp : Type 0
 RunsGiveUp = RunsShow GivenUp
-
--- what calls took is what the servers gave, and no server is emptied but by the operator
-abbrev pub RunsAddUp : Type 0
-RunsAddUp = RunsShow TakesAddUp
 
 -- each caller's calls come one after another, each is answered once, and every line is of one of them
 abbrev pub RunsKeepCallOrder : Type 0

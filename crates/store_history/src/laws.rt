@@ -1,6 +1,6 @@
 //! The laws, as functions that do nothing and whose contracts are the laws.
 
-ghost use Rattle.store_history.specs.HistoryLaws.{RunsReply, RunsGiveUp, RunsAddUp, RunsKeepCallOrder};
+ghost use Rattle.store_history.specs.HistoryLaws.{RunsReply, RunsGiveUp, RunsKeepCallOrder};
 ghost use Rattle.store_history.specs.HasPoints.{AnswersHavePoints};
 
 /// Each reply that a run shows is the plain map's, and so are the objects at the end.
@@ -11,11 +11,6 @@ pub fn runs_reply()
 /// No more of a caller's calls are given up than the operator gave up.
 pub fn runs_give_up()
     ensures { RunsGiveUp }
-{}
-
-/// What calls took from a server is what it gave, and its epoch is how often the operator emptied it.
-pub fn runs_add_up()
-    ensures { RunsAddUp }
 {}
 
 /// Each caller's calls come one after another and are answered once, points rise, and each line is of

@@ -11,9 +11,10 @@ use Rattle.store_core.specs.Schedule.{run_core}
 use Rattle.store_core.specs.Shown.{shown}
 use Rattle.store_runs.proofs.Runs.{CanRun}
 use Rattle.store_runs.proofs.Scripts.{can_run}
-use Rattle.store_history.specs.HistoryLaws.{RunsAddUp, scheduled}
-use Rattle.store_history.proofs.Columns.{columns_fit}
-use Rattle.store_history.proofs.TakesRuns.{TakesMatch, takes_match, column, column_sum, group}
+use Rattle.store_history.specs.HistoryLaws.{scheduled}
+use Rattle.store_takes.specs.TakesLaws.{RunsAddUp}
+use Rattle.store_takes.proofs.Columns.{columns_fit}
+use Rattle.store_takes.proofs.TakesRuns.{TakesMatch, takes_match, column, column_sum, group}
 use Rattle.store_sound.proofs.SoundLists.{all_by}
 use Rattle.std.proofs.lemmas.List.Elements.{All-contains}
 

@@ -42,9 +42,9 @@ use Rattle.store_history.proofs.Naming.{wipes}
 use Rattle.transcript_text.specs.declared.transcript.Transcript.{Transcript}
 use Rattle.store_history.proofs.ActorLines.{each_changed}
 use Rattle.store_history.proofs.AtWork.{AtWork, client_at, repairer_at, first, act, after, proper}
-use Rattle.store_history.proofs.Given.{Was, WipesNot, act_matches, sums_match}
+use Rattle.store_takes.proofs.Given.{Was, WipesNot, act_matches, sums_match}
 use Rattle.store_history.proofs.Induction.{IsQuiet, KeptBySteps, operator_after, run_has}
-use Rattle.store_history.proofs.ServerEpochs.{IsNoWipe}
+use Rattle.store_takes.proofs.ServerEpochs.{IsNoWipe}
 
 -- ---- sums
 -- what an actor's calls took from a server

@@ -43,10 +43,10 @@ use Rattle.store_runs.proofs.Scripts.{replicated, Mapped, mapped}
 use Rattle.store_runs.proofs.StillToMake.{has_step_left}
 use Rattle.store_history.proofs.ActorLines.{each_changed}
 use Rattle.store_history.proofs.AtWork.{AtWork, client_at, repairer_at, first, act, after}
-use Rattle.store_history.proofs.ColumnAsks.{IsSmall, ActSmall, acts_small}
+use Rattle.store_takes.proofs.ColumnAsks.{IsSmall, ActSmall, acts_small}
 use Rattle.store_history.proofs.Induction.{KeptBySteps, run_has}
 use Rattle.store_history.proofs.NamedCalls.{AllCalls, calls_kept, first_calls, inside}
-use Rattle.store_history.proofs.TakesRuns.{of_ended, total, group}
+use Rattle.store_takes.proofs.TakesRuns.{of_ended, total, group}
 use Rattle.store_sound.proofs.SoundLists.{at_all, all_at}
 use Rattle.store_history.proofs.PointsOfCalls.{OfScript, job_call}
 

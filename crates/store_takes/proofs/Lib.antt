@@ -1,0 +1,6 @@
+pub mod ServerEpochs
+pub mod Given
+pub mod TakesRuns
+mod ColumnAsks
+mod Columns
+pub mod ColumnRuns
