@@ -145,7 +145,7 @@ generated_valid start size small =
     let stripes = stripes_within start size small in
     let scaled : (w : ℕ) → w ≤ 65536 → w * 512 ≤ 67108864 = λ w h. omega (arith, h) in
     let steps : length (drawn step_from behind_step (8 * size) last ++ token.Drain ∷ []) ≡ 8 * size + 1 =
-        length-append (drawn step_from behind_step (8 * size) last) (token.Drain ∷ []) ∙ ap (λ (n : ℕ). n + 1) (length_drawn step_from behind_step (8 * size) last) in
+    length-append (drawn step_from behind_step (8 * size) last) (token.Drain ∷ []) ∙ ap (λ (n : ℕ). n + 1) (length_drawn step_from behind_step (8 * size) last) in
     record {
       form = inl refl;
       limits = record {

@@ -4,6 +4,19 @@ use std::alloc::Global;
 use std::process::Abort;
 use std::test::Fail;
 
+fn check_row(
+    rt: &impl Abort,
+    alloc: Global,
+    factor: u8,
+    src: &[u8],
+    row: &[u8],
+) -> Result<(), Fail> {
+    let mut expected = vec![in alloc; 0x3Cu8; src.len()]?;
+    add_scaled(&mut expected, factor, src);
+    assert_eq!(rt; row, expected.as_slice());
+    Ok(())
+}
+
 // Adds to rows of `len` bytes the products with the factors, and compares each row with `add_scaled`.
 fn check_rows(rt: &impl Abort, alloc: Global, factors: &[u8], len: usize) -> Result<(), Fail> {
     let mut src = Vec::with_capacity(alloc, len)?;
@@ -20,11 +33,8 @@ fn check_rows(rt: &impl Abort, alloc: Global, factors: &[u8], len: usize) -> Res
     assert_eq!(rt; products.len(), count);
     assert_eq!(rt; src.len(), len);
     add_rows(&products, &src, &mut rows);
-    let mut expected = vec![in alloc; 0u8; len]?;
     for (row, factor) in factors.iter().enumerate() {
-        expected.fill(0x3C);
-        add_scaled(&mut expected, *factor, &src);
-        assert_eq!(rt; &rows[row * len..(row + 1) * len], expected.as_slice());
+        check_row(rt, alloc, *factor, &src, &rows[row * len..(row + 1) * len])?;
     }
     Ok(())
 }
