@@ -9,3 +9,4 @@ pub mod Given
 pub mod TakenSums
 pub mod CallsCounted
 pub mod TakenByCalls
+pub mod Reading

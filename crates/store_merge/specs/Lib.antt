@@ -11,3 +11,5 @@ pub mod Taken
 pub mod CallTakes
 pub mod StatsExample
 pub mod ShortExample
+pub mod ReadExample
+pub mod ReadMerges

@@ -7,6 +7,7 @@ ghost use Rattle.store_merge.specs.Taken.{ServersCountTakes};
 ghost use Rattle.store_merge.specs.CallTakes.{CallsCountTakes};
 ghost use Rattle.store_merge.specs.StatsExample.{StatsMerge};
 ghost use Rattle.store_merge.specs.ShortExample.{ShortMerges};
+ghost use Rattle.store_merge.specs.ReadMerges.{ReadMerges};
 
 /// Steps that were made apart are a run of the core: in any order in which stamps don't fall, and so
 /// in that of their stamps, and of their actors where two stamps are equal.
@@ -32,8 +33,9 @@ pub fn servers_count_takes()
     ensures calls { CallsCountTakes }
 {}
 
-/// Two small runs by stamps, computed.
+/// Small runs by stamps, computed.
 pub fn small_runs_merge()
     ensures stats { StatsMerge }
     ensures short { ShortMerges }
+    ensures read { ReadMerges }
 {}
