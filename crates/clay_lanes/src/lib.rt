@@ -10,6 +10,8 @@ mod layers;
 mod lost;
 mod plan;
 mod products;
+mod repair;
+mod repair_plan;
 
 pub use chunks::{encode, parity};
 pub use coder::LaneCoder;
@@ -17,3 +19,4 @@ pub use generator::Generator;
 pub use kernels::add_rows;
 pub use lost::{decode, missing};
 pub use products::Products;
+pub use repair::rebuild;
