@@ -12,7 +12,8 @@ use Rattle.transcript_text.specs.declared.line.TLine.{TLine}
 use Rattle.transcript_text.specs.declared.transcript.Transcript.{Transcript}
 use Rattle.transcript_read.specs.Forms.{IsClient}
 use Rattle.transcript_read.specs.ListLaws.{HasOrderedLists}
-use Rattle.transcript_read.specs.Order.{servers_at, place_of, AreInOrder, place_after, IsWellFormed, IsBefore, lines_of}
+use Rattle.transcript_read.specs.Order.{servers_at, place_of, IsBefore}
+use Rattle.transcript_read.specs.WellFormed.{AreInOrder, place_after, IsWellFormed, lines_of}
 use Rattle.transcript_read.specs.declared.line.Line.{Line}
 use Rattle.transcript_read.specs.declared.line.Line.TheVariants.{History, Refused, Repair, Unanswered, Object, Takes, Server, End}
 use Rattle.transcript_read.specs.declared.place.Place.{Place}

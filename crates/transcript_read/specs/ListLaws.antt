@@ -4,7 +4,7 @@ use Rattle.std.specs.List.{AllPairs, range_with_len}
 use Rattle.transcript_text.specs.Text.{text_of}
 use Rattle.transcript_text.specs.declared.transcript.Transcript.{Transcript}
 use Rattle.transcript_read.specs.Forms.{IsClient}
-use Rattle.transcript_read.specs.Order.{IsWellFormed, lines_of}
+use Rattle.transcript_read.specs.WellFormed.{IsWellFormed, lines_of}
 
 -- the points of the history rise, its calls are clients', and the servers are all those from 0 on
 pub record HasOrderedLists (servers : ℕ) (t : Transcript) : Type 0 where
