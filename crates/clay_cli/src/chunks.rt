@@ -5,7 +5,7 @@ ghost use Rattle.clay_cli.specs.declared.words.Command.TheVariants.{Chunks};
 
 use crate::Status;
 use crate::output::Output;
-use clay_encode::encode;
+use clay_lanes::encode;
 use clay_grid::Geometry;
 use code_text::{StripeFault, chunk_lines, read_stripe};
 use std::alloc::{AllocError, Global};
