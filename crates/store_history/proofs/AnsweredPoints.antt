@@ -45,7 +45,7 @@ use Rattle.store_history.proofs.Induction.{KeptBySteps, run_has}
 use Rattle.store_history.proofs.ToldPoints.{Adds, PointTold, points_told}
 
 -- ---- points stay where they are
-abbrev Grows : List Point → List Point → Type 0
+abbrev pub Grows : List Point → List Point → Type 0
 Grows before after = (place : ℕ) (point : Point) → slice_get before place ≡ Some point → slice_get after place ≡ Some point
 
 appended : (points : List Point) (more : Point) → Grows points (points ++ more ∷ [])
@@ -74,7 +74,7 @@ directory_grows short who number step d = by (new_point answer) (directory_keeps
 same_points : (points : List Point) → Grows points points
 same_points points place point e = e
 
-act_grows : (short : Bool) (who : Actor) (number : ℕ) (a : Act) (places : Places) → Grows places.directory.points (at_places short who number a places).0.directory.points
+pub act_grows : (short : Bool) (who : Actor) (number : ℕ) (a : Act) (places : Places) → Grows places.directory.points (at_places short who number a places).0.directory.points
 act_grows short who number (Act.AtDirectory step) places = directory_grows short who number step places.directory
 act_grows short who number (Act.AtServer server step) places = by (slice_get places.servers server)
   where
@@ -148,7 +148,7 @@ all_grow : (who : Actor) (before after : List Point) (c : Calling) → Grows bef
 all_grow who before after c grows h =
     record { ended = λ number e is. own_grows who number before after e.outcome grows (h.ended number e is); told = told_grows who (length c.ended) before after c.told grows h.told }
 
-pushed : (es : List Ended) (last : Ended) (number : ℕ) (e : Ended) → slice_get (es ++ last ∷ []) number ≡ Some e → (slice_get es number ≡ Some e) ⊎ ((number ≡ length es) × (last ≡ e))
+pub pushed : (es : List Ended) (last : Ended) (number : ℕ) (e : Ended) → slice_get (es ++ last ∷ []) number ≡ Some e → (slice_get es number ≡ Some e) ⊎ ((number ≡ length es) × (last ≡ e))
 pushed [] last zero e is = inr (refl, same_Some last e is)
 pushed [] last (suc number) e is = absurd (none-some e is)
 pushed (x ∷ es) last zero e is = inl is

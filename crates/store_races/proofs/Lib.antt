@@ -1,0 +1,6 @@
+mod Changes
+mod RaceSteps
+mod ToldChanges
+mod RaceRuns
+mod ChangeLines
+pub mod RaceLines

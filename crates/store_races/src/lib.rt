@@ -1,0 +1,4 @@
+//! Races that calls lost in a run of the store: each is a change that the history has.
+#![tactic(auto)]
+
+pub mod laws;
