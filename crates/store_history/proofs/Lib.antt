@@ -21,3 +21,4 @@ pub mod OrderShown
 pub mod OrderEnds
 pub mod OrderCalls
 pub mod OrderRuns
+pub mod Finishing

@@ -1,6 +1,6 @@
 -- Every line of a run that names a call names one of the script.
-use Rattle.std.proofs.Common.{List, [], ◌∷◌, ◌++◌, map, All}
-use Rattle.std.proofs.lemmas.List.Elements.{All-nil, All-cons, All-head, All-tail, All-append}
+use Rattle.std.proofs.Common.{List, ◌++◌, map, All}
+use Rattle.std.proofs.lemmas.List.Elements.{All-append}
 use Rattle.transcript_text.specs.declared.call_name.CallName.{CallName}
 use Rattle.transcript_text.specs.declared.line.HLine.{HLine}
 use Rattle.transcript_text.specs.declared.line.XLine.{XLine}

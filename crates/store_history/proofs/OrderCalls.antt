@@ -1,6 +1,6 @@
 -- The order of calls in what a run shows.
-use Rattle.std.proofs.Common.{◌≡◌, ◌≢◌, ℕ, zero, suc, ◌+◌, ◌<◌, ◌≤◌, Bool, true, false, cond, nat_eq, nat_lt, List, [], ◌∷◌, ◌++◌, length, map, filter, replicate, Contains, Option, None, Some, option_and_then, All, AllPairs, IsTrue, ◌⊎◌, inl, inr, refl, sym, ap, subst, ◌∙◌, arith, true≢false}
-use Rattle.std.proofs.lemmas.Bool.{eqb-true, eq-eqb, ltb-true, lt-ltb}
+use Rattle.std.proofs.Common.{◌≡◌, ◌≢◌, ℕ, zero, suc, ◌<◌, ◌≤◌, Bool, true, false, cond, nat_eq, nat_lt, List, [], ◌∷◌, ◌++◌, length, map, filter, Contains, Option, None, Some, option_and_then, All, AllPairs, ◌⊎◌, inl, inr, refl, sym, ap, subst, ◌∙◌, arith, true≢false}
+use Rattle.std.proofs.lemmas.Bool.{eqb-true, eq-eqb, lt-ltb}
 use Rattle.std.proofs.lemmas.Option.{none-some, same_Some, slice_get_within}
 use Rattle.std.proofs.lemmas.List.Elements.{All-nil, All-cons, All-head, All-tail, All-append, All-weaker, All-contains, Contains-append_left, Contains-append_right, Contains-append_cases}
 use Rattle.std.proofs.lemmas.List.Kept.{AllPairs-filter}
@@ -8,7 +8,6 @@ use Rattle.std.specs.List.{slice_get, list_any}
 use Rattle.clay_grid.specs.Shape.{chunk_count}
 use Rattle.store_map.specs.declared.actor.Actor.{Actor}
 use Rattle.store_map.specs.declared.actor.Actor.TheVariants as actor
-use Rattle.store_map.specs.declared.actor.Token.{Token}
 use Rattle.store_map.specs.declared.reply.Reply.{Reply}
 use Rattle.store_map.specs.declared.script.ClientPart.{ClientPart}
 use Rattle.store_map.specs.declared.script.Script.{Script}
@@ -30,15 +29,15 @@ use Rattle.hist_rules.specs.First.{AllAfter, AllAlong}
 use Rattle.hist_rules.specs.Named.{is_reply, listed_calls, answered_calls}
 use Rattle.hist_rules.specs.OneOpenCall.{unanswered_calls}
 use Rattle.store_core.specs.Core.{Core}
-use Rattle.store_core.specs.Directory.{Event, Point}
-use Rattle.store_core.specs.History.{is_answer, answered_in, shown_at, name_of, call_of, history_of}
+use Rattle.store_core.specs.Directory.{Event}
+use Rattle.store_core.specs.History.{is_answer, answered_in, shown_at, name_of, call_of}
 use Rattle.store_core.specs.Outcomes.{cause_of, result_of}
 use Rattle.store_core.specs.Shown.{shown, refused_line, repair_line, unanswered_line, take_line, take_lines, lines_of_ended, lines_of_actors}
 use Rattle.store_core.specs.Work.{Ended, Work, Calling, client_work, repairer_work}
 use Rattle.store_history.proofs.HistoryOrder.{NumberRises}
 use Rattle.store_history.proofs.NamedCalls.{InWork, no_zeros, inside}
 use Rattle.store_history.proofs.OrderLists.{no_pairs, one_pair, pairs_append, after_pairs, none_before, map_all, map_pairs, map_contains, all_indexed, in_indexed, pairs_indexed}
-use Rattle.store_history.proofs.OrderPoints.{EventFits, IsCommitted, PointFits}
+use Rattle.store_history.proofs.OrderPoints.{EventFits, PointFits}
 use Rattle.store_history.proofs.OrderShown.{ShownPoint, all_shown}
 use Rattle.store_history.proofs.OrderEnds.{EndKnown, client_has, repairer_has, ended_of, ended_count, answered_at, is_client, answered_below, replied_calls, all_replied, refused_calls, repair_calls, ended_answered, IsRefused, IsResult, all_refused, all_results}
 use Rattle.store_history.proofs.Points.{IsOfCall, IsOfScript}

@@ -1,16 +1,13 @@
 -- Each call that has ended has its line, and each line of an answer is of a call that has ended.
-use Rattle.std.proofs.Common.{◌≡◌, ◌≢◌, ℕ, zero, suc, ◌+◌, ◌<◌, ◌≤◌, Bool, true, false, nat_eq, nat_lt, List, [], ◌∷◌, ◌++◌, length, map, filter, Contains, fold, Option, None, Some, is_some, option_and_then, All, AllPairs, ◌⊎◌, inl, inr, refl, sym, ap, subst, ◌∙◌, arith, true≢false}
+use Rattle.std.proofs.Common.{◌≡◌, ◌≢◌, ℕ, ◌<◌, ◌≤◌, Bool, true, false, List, [], ◌∷◌, ◌++◌, length, map, filter, Contains, fold, Option, None, Some, option_and_then, All, ◌⊎◌, inl, inr, refl, sym, ap, subst, ◌∙◌, arith, true≢false}
 use Rattle.std.proofs.lemmas.List.{length-map}
-use Rattle.std.proofs.lemmas.Bool.{eqb-true}
 use Rattle.std.proofs.lemmas.Option.{none-some, same_Some, slice_get_within}
-use Rattle.std.proofs.lemmas.List.Elements.{All-nil, All-cons, All-head, All-tail, All-append, All-weaker, All-contains, Contains-append_left, Contains-append_right}
-use Rattle.std.specs.List.{slice_get, list_any}
+use Rattle.std.proofs.lemmas.List.Elements.{All-nil, All-cons, All-contains, Contains-append_left, Contains-append_right}
+use Rattle.std.specs.List.{slice_get}
 use Rattle.std.specs.Option.{option_map_or}
-use Rattle.clay_grid.specs.Shape.{chunk_count}
 use Rattle.store_map.specs.Limits.{size_of, tries_of}
 use Rattle.store_map.specs.declared.actor.Actor.{Actor}
 use Rattle.store_map.specs.declared.actor.Actor.TheVariants as actor
-use Rattle.store_map.specs.declared.actor.Token.{Token}
 use Rattle.store_map.specs.declared.reply.Reply.{Reply}
 use Rattle.store_map.specs.declared.script.ClientPart.{ClientPart}
 use Rattle.store_map.specs.declared.script.RepairPart.{RepairPart}
@@ -25,28 +22,27 @@ use Rattle.transcript_text.specs.declared.line.HLine.{HLine}
 use Rattle.transcript_text.specs.declared.line.XLine.{XLine}
 use Rattle.transcript_text.specs.declared.line.RLine.{RLine}
 use Rattle.transcript_text.specs.declared.transcript.Transcript.{Transcript}
-use Rattle.hist_rules.specs.Calls.{number_of, same_actor as same_caller}
+use Rattle.hist_rules.specs.Calls.{number_of}
 use Rattle.hist_rules.specs.Named.{is_reply, answered_calls}
-use Rattle.store_core.specs.Act.{Act, Outcome}
+use Rattle.store_core.specs.Act.{Outcome}
 use Rattle.store_core.specs.Core.{Core}
 use Rattle.store_core.specs.Directory.{Event, Point}
 use Rattle.store_core.specs.History.{is_answered, is_answer, answered_in, shown_at, name_of, call_of, history_of}
 use Rattle.store_core.specs.NextAct.{Job, job_of, rebuild_job}
-use Rattle.store_core.specs.Note.{Note, Kind}
+use Rattle.store_core.specs.Note.{Kind}
 use Rattle.store_core.specs.Outcomes.{cause_of, result_of}
 use Rattle.store_core.specs.Shown.{shown, refused_line, repair_line, lines_of_ended}
 use Rattle.store_core.specs.Work.{Ended, Work, Calling, client_work, repairer_work}
 use Rattle.store_calls.specs.OutcomeLaws.{IsOutcomeOf, MayBeServed}
 use Rattle.store_calls.proofs.StepOutcomes.{outcomes_in_steps}
 use Rattle.store_runs.specs.ToldLaws.{EndedSo, AllWereTold}
-use Rattle.store_runs.proofs.MaySteps.{FitsActor}
 use Rattle.store_runs.proofs.Runs.{CanRun}
 use Rattle.store_runs.proofs.RunsSound.{RunKeeps, fit_clients, fit_repairers}
 use Rattle.store_history.specs.HasPoints.{IsReply, IsPin, PointAt, HasItsPoint}
-use Rattle.store_history.proofs.HistoryOrder.{NumberRises, LinesInOrder}
-use Rattle.store_history.proofs.NamedCalls.{InWork, AllCalls, inside}
-use Rattle.store_history.proofs.OrderLists.{no_pairs, one_pair, pairs_append, map_all, map_contains, all_indexed, in_indexed, pairs_indexed}
-use Rattle.store_history.proofs.OrderPoints.{EventFits, IsAnsweredAt, PointFits, ClientsFit}
+use Rattle.store_history.proofs.HistoryOrder.{LinesInOrder}
+use Rattle.store_history.proofs.NamedCalls.{AllCalls, inside}
+use Rattle.store_history.proofs.OrderLists.{map_all, map_contains, all_indexed, in_indexed}
+use Rattle.store_history.proofs.OrderPoints.{EventFits, PointFits}
 use Rattle.store_history.proofs.OrderShown.{ShownPoint, LineOf, Replied, all_shown, line_there}
 use Rattle.store_history.proofs.Points.{IsOfCall, IsOfScript}
 use Rattle.store_sound.proofs.SoundLists.{all_by, at_all, contains_at, in_filter, filtered}

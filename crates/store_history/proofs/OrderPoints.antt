@@ -1,6 +1,6 @@
 -- In every run a client's reply has its point only where the call was answered, and a commit only where it was or is about to be.
 use Rattle.std.proofs.Common.{◌≡◌, ℕ, zero, suc, ◌+◌, ◌<◌, Bool, true, false, List, [], ◌∷◌, ◌++◌, length, filter, Option, None, Some, All, ◌⊎◌, inl, inr, refl, sym, ap, subst, ◌∙◌, arith, true≢false}
-use Rattle.std.proofs.lemmas.Option.{none-some, same_Some}
+use Rattle.std.proofs.lemmas.Option.{same_Some}
 use Rattle.std.proofs.lemmas.List.Elements.{All-nil, All-push, All-weaker}
 use Rattle.std.specs.List.{slice_get}
 use Rattle.clay_grid.specs.Shape.{Shape, chunk_count}
@@ -9,7 +9,6 @@ use Rattle.store_map.specs.declared.actor.Actor.{Actor}
 use Rattle.store_map.specs.declared.actor.Actor.TheVariants as actor
 use Rattle.store_map.specs.declared.actor.Token.{Token}
 use Rattle.store_map.specs.declared.reply.Reply.{Reply}
-use Rattle.store_map.specs.declared.reply.Reply.TheVariants as reply
 use Rattle.store_map.specs.declared.script.Script.{Script}
 use Rattle.store_core.specs.Act.{Act, DirectoryStep, ServerStep, Outcome}
 use Rattle.store_core.specs.ActPlace.{is_in_pass}
@@ -30,8 +29,8 @@ use Rattle.store_core.specs.Step.{Shortage, Places, at_places, at_server_there, 
 use Rattle.store_core.specs.Sweep.{next_sweep}
 use Rattle.store_core.specs.Tell.{tell, tell_by, is_versions}
 use Rattle.store_core.specs.Told.{Told}
-use Rattle.store_core.specs.Work.{Ended, Work, Calling, client_work, new_calling}
-use Rattle.store_calls.specs.Answers.{ServerAnswers, Answers}
+use Rattle.store_core.specs.Work.{Ended, Work, Calling, client_work}
+use Rattle.store_calls.specs.Answers.{Answers}
 use Rattle.store_calls.specs.CallLeft.{pin_bound}
 use Rattle.store_calls.proofs.Falls.{AtCommit}
 use Rattle.store_calls.proofs.Commits.{Commits, put_commits, trying_commits}
@@ -40,8 +39,6 @@ use Rattle.store_runs.proofs.CallActs.{ActOfKind}
 use Rattle.store_runs.proofs.PlaceMoves.{call_step}
 use Rattle.store_runs.proofs.Proper.{IsProper, HasTry, IsWriting}
 use Rattle.store_runs.proofs.Runs.{CanRun}
-use Rattle.store_runs.proofs.RunsSound.{RunKeeps}
-use Rattle.store_runs.proofs.Scripts.{replicated}
 use Rattle.store_history.proofs.ActorLines.{each_changed}
 use Rattle.store_history.proofs.AtWork.{AtWork, client_at, repairer_at, pass_number, pass_note, first, act, after, proper, answered, of_kind}
 use Rattle.store_history.proofs.Induction.{KeptBySteps}

@@ -1,5 +1,5 @@
 -- What a run shows keeps the order of calls.
-use Rattle.std.proofs.Common.{◌≡◌, ℕ, ◌<◌, List, [], Some}
+use Rattle.std.proofs.Common.{List}
 use Rattle.store_map.specs.declared.actor.Token.{Token}
 use Rattle.clay_grid.specs.Limits.{IsGeometry}
 use Rattle.store_map.specs.Naming.{IsValid}

@@ -1,7 +1,7 @@
 -- Each line of the history is of a point, and each answered call's point has its line.
-use Rattle.std.proofs.Common.{◌≡◌, ℕ, zero, suc, ◌+◌, Bool, true, List, [], ◌∷◌, ◌++◌, Contains, Option, None, Some, All, refl, sym, ap, subst, ◌∙◌, arith, true≢false}
+use Rattle.std.proofs.Common.{◌≡◌, ℕ, zero, suc, ◌+◌, true, List, [], ◌∷◌, ◌++◌, Contains, Option, None, Some, All, refl, sym, subst}
 use Rattle.std.proofs.lemmas.Option.{none-some, same_Some}
-use Rattle.std.proofs.lemmas.List.Elements.{All-nil, All-cons, All-append, All-weaker, Contains-append_left, Contains-append_right}
+use Rattle.std.proofs.lemmas.List.Elements.{All-nil, All-cons, All-append, All-weaker, Contains-append_right}
 use Rattle.std.specs.List.{slice_get}
 use Rattle.store_map.specs.Limits.{size_of}
 use Rattle.store_map.specs.PlainMap.{Objects}
@@ -13,7 +13,7 @@ use Rattle.transcript_text.specs.declared.line.HLine.{HLine}
 use Rattle.hist_rules.specs.Named.{is_reply}
 use Rattle.store_sound.proofs.SoundLists.{contains_at}
 use Rattle.store_core.specs.Core.{Core}
-use Rattle.store_core.specs.Directory.{Event, Point}
+use Rattle.store_core.specs.Directory.{Point}
 use Rattle.store_core.specs.History.{call_of, answered_in, applied, shown_at, name_of, line_of, history_from, history_of}
 
 module _ (script : Script) (core : Core) where

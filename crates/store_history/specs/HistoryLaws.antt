@@ -1,14 +1,16 @@
 -- What a run shows is a history.
-use Rattle.std.specs.Prelude.{◌<◌, ◌^◌, List, length}
+use Rattle.std.specs.Prelude.{◌<◌, ◌^◌, List, [], ◌∷◌, ◌++◌, length}
 use Rattle.clay_grid.specs.Limits.{IsGeometry}
 use Rattle.store_map.specs.Naming.{IsValid}
 use Rattle.store_map.specs.declared.actor.Token.{Token}
+use Rattle.store_map.specs.declared.actor.Token.TheVariants as token
 use Rattle.store_map.specs.declared.script.Script.{Script}
 use Rattle.transcript_text.specs.declared.transcript.Transcript.{Transcript}
 use Rattle.store_core.specs.Schedule.{run_core}
 use Rattle.store_core.specs.Shown.{shown}
 use Rattle.store_core.specs.Step.{Shortage}
 use Rattle.hist_rules.specs.CallOrder.{KeepsCallOrder}
+use Rattle.hist_rules.specs.Finished.{Finished}
 use Rattle.hist_rules.specs.MapReplies.{HasMapReplies}
 use Rattle.hist_rules.specs.GivenUpOrLost.{GivenUp}
 
@@ -33,3 +35,9 @@ RunsGiveUp = RunsShow GivenUp
 -- each caller's calls come one after another, each is answered once, and every line is of one of them
 abbrev pub RunsKeepCallOrder : Type 0
 RunsKeepCallOrder = RunsShow KeepsCallOrder
+
+-- where the tokens end with a drain, each call that isn't under a step limit is answered, refused, or has its result
+abbrev pub RunsFinish : Type 0
+RunsFinish =
+    (script : Script) (shortages : List Shortage) → IsGeometry script.geometry → IsValid script → (tokens : List Token) →
+    Finished (scheduled script (tokens ++ token.Drain ∷ [])) (shown script (run_core script shortages (tokens ++ token.Drain ∷ [])))

@@ -1,6 +1,6 @@
 //! The laws, as functions that do nothing and whose contracts are the laws.
 
-ghost use Rattle.store_history.specs.HistoryLaws.{RunsReply, RunsGiveUp, RunsKeepCallOrder};
+ghost use Rattle.store_history.specs.HistoryLaws.{RunsReply, RunsGiveUp, RunsKeepCallOrder, RunsFinish};
 ghost use Rattle.store_history.specs.HasPoints.{AnswersHavePoints};
 
 /// Each reply that a run shows is the plain map's, and so are the objects at the end.
@@ -22,4 +22,9 @@ pub fn runs_keep_call_order()
 /// Each call of a client that was answered has its point in the history.
 pub fn answers_have_points()
     ensures { AnswersHavePoints }
+{}
+
+/// After a drain each call that isn't under a step limit was answered or refused, or has its result.
+pub fn runs_finish()
+    ensures { RunsFinish }
 {}
