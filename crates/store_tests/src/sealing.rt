@@ -1,0 +1,112 @@
+//! Chunks of a put of one stripe, sealed in a book without a script.
+
+ghost use Rattle.std.specs.Prelude.{◌≡◌, ◌<◌, ◌∷◌, [], Some, IfOk, length, All};
+ghost use Rattle.clay_grid.specs.Shape.{chunk_count};
+ghost use Rattle.version_seal.specs.Entry.{IsBaseIn};
+ghost use Rattle.clay_decode.specs.Left.{AreLong};
+ghost use Rattle.store_tests.specs.Small.{small_code, stripe_bytes, IsSmall, IsStampOf, IsChunkFor};
+
+use chunk_server::{Fetched, Server};
+use clay_encode::encode;
+use clay_grid::Geometry;
+use std::alloc::{AllocError, Global};
+use std::test::Fail;
+use store_map::{Actor, Call, Content, Name, Version};
+use version_seal::{Book, CallNote, SealedChunk, SealedPart, Stamp};
+
+/// The code of all these: 2 data chunks and 2 parity chunks of 4 subchunks of a byte.
+pub fn small_geometry() -> Result<Geometry, Fail>
+    ensures { IfOk result (λ g. g ≡ small_code) }
+{
+    Ok(Geometry::new(2, 2, 1)?)
+}
+
+/// The bytes that the put puts.
+pub fn stripe(alloc: Global) -> Result<Vec<u8>, Fail>
+    ensures { IfOk result (λ bytes. bytes.items ≡ stripe_bytes) }
+{
+    Ok(Vec::from_slice(alloc, &[1, 2, 3, 4, 5, 6, 7, 8])?)
+}
+
+/// Seals the version as one that the put drew.
+pub fn stamp(alloc: Global, book: &Book, version: Version) -> Result<Stamp, Fail>
+    requires { IsSmall book.now }
+    ensures { IfOk result (IsStampOf book.now version.0) }
+{
+    let name = Name::new(alloc, "a")?;
+    let content = Content::Ramp {
+        first: 1,
+        length: 8,
+    };
+    let actor = Actor::Client(0);
+    let request = book.request(CallNote {
+        actor,
+        number: 0,
+        call: Call::Put { name, content },
+    })?;
+    Ok(book.seal(version, actor, 0, 0, Some(&request), None)?)
+}
+
+/// A server's chunk of such a version.
+pub fn chunk(alloc: Global, book: &Book, stamp: &Stamp, server: u32) -> Result<SealedChunk, Fail>
+    requires book { IsSmall book.now }
+    requires stamp { stamp.now.content ≡ stripe_bytes }
+    requires server { server < 4 }
+    ensures { IfOk result (IsChunkFor stamp.now server) }
+{
+    let g = small_geometry()?;
+    let chunks = encode(alloc, g, &stripe(alloc)?)?;
+    let bytes = Vec::from_slice(alloc, &chunks[server as usize])?;
+    Ok(SealedChunk::new(g, stamp.copy(), server, bytes))
+}
+
+/// Seals a write of the stripe's first bytes over an older version.
+pub fn stamp_over(alloc: Global, book: &Book, version: Version, base: &Stamp) -> Result<Stamp, Fail>
+    requires book { IsSmall book.now }
+    requires base { IsBaseIn book.now version.0 0 base.now }
+    ensures { IfOk result (λ stamp. (stamp.home ≡ book.now.home) × (stamp.base ≡ Some base.now.version)) }
+{
+    let name = Name::new(alloc, "a")?;
+    let content = Content::Fill { byte: 9, length: 3 };
+    let actor = Actor::Client(0);
+    let request = book.request(CallNote {
+        actor,
+        number: 1,
+        call: Call::Write {
+            name,
+            offset: 0,
+            content,
+        },
+    })?;
+    Ok(book.seal(version, actor, 1, 0, Some(&request), Some(base))?)
+}
+
+/// What a server gives of its chunk: all of it.
+pub fn fetched(alloc: Global, book: &Book, stamp: &Stamp, server: u32) -> Result<SealedPart, Fail>
+    requires book { IsSmall book.now }
+    requires stamp { IsStampOf book.now stamp.now.version stamp.now }
+    requires server { server < 4 }
+    ensures { IfOk result (λ part. length part.bytes ≡ 4) }
+{
+    let mut at = Server::new(alloc, server, book.opening(), small_geometry()?);
+    at.prepare(chunk(alloc, book, stamp, server)?)?;
+    match at.fetch(stamp.version(), &[0, 1, 2, 3])? {
+        Fetched::Part(part) => Ok(part),
+        Fetched::Missing { found: _ } => Err(AllocError)?,
+    }
+}
+
+/// Two of the four chunks.
+pub fn gathered(
+    alloc: Global,
+    second: &SealedPart,
+    last: &SealedPart,
+) -> Result<Vec<Option<Vec<u8>>>, Fail>
+    requires { (length second.now.bytes ≡ 4) × (length last.now.bytes ≡ 4) }
+    ensures count { IfOk result (λ have. length have.items ≡ chunk_count small_code) }
+    ensures lengths { IfOk result (λ have. AreLong 4 have.items) }
+{
+    let second = Vec::from_slice(alloc, second.bytes())?;
+    let last = Vec::from_slice(alloc, last.bytes())?;
+    Ok(vec![in alloc; None, Some(second), None, Some(last)]?)
+}

@@ -1,0 +1,130 @@
+//! A chunk server beside the book of its versions.
+
+ghost use Rattle.std.specs.Prelude.{◌≡◌, ◌<◌, ◌∷◌, [], All, IfOk};
+ghost use Rattle.store_tests.specs.Small.{IsSmall};
+
+use crate::sealing::{chunk, small_geometry, stamp};
+use chunk_server::{Fetched, Installed, Server};
+use std::alloc::Global;
+use std::marker::Model;
+use std::test::Fail;
+use store_map::{Placement, Version};
+use version_seal::{Book, SealedChunk};
+
+/// Server 1 of a small code.
+#[derive(Drop)]
+pub struct Shelf<'a> {
+    book: &'a Book,
+    server: Server,
+}
+
+impl<'a> Model for Shelf<'a> {
+    ghost use Rattle.store_tests.specs.Shelf.{ShelfOf};
+
+    ghost Value = { ShelfOf };
+
+    ghost use Rattle.store_tests.specs.Inside.{shelf_in, IsShelfIn};
+
+    ghost view = { shelf_in };
+
+    ghost invariant = { IsShelfIn };
+}
+
+impl<'a> Shelf<'a> {
+    ghost use Rattle.chunk_server.specs.Valid.{IsFor};
+    ghost use Rattle.store_tests.specs.Small.{small_code};
+
+    pub fn new(alloc: Global, book: &'a Book) -> Result<Shelf<'a>, Fail>
+        requires { IsSmall book.now }
+    {
+        Ok(Shelf {
+            book,
+            server: Server::new(alloc, 1, book.opening(), small_geometry()?),
+        })
+    }
+
+    pub fn server(&self) -> &Server {
+        &self.server
+    }
+
+    // The server's chunk of a new version.
+    fn sealed(&self, alloc: Global, version: u64) -> Result<SealedChunk, Fail>
+        ensures { IfOk result (IsFor self.now.book.home 1 small_code) }
+    {
+        let stamp = stamp(alloc, self.book, Version(version))?;
+        chunk(alloc, self.book, &stamp, 1)
+    }
+
+    // Two of them.
+    fn sealed_twice(&self, alloc: Global, version: u64) -> Result<(SealedChunk, SealedChunk), Fail>
+        ensures { IfOk result (λ pair. IsFor self.now.book.home 1 small_code pair.0
+            × IsFor self.now.book.home 1 small_code pair.1) }
+    {
+        let stamp = stamp(alloc, self.book, Version(version))?;
+        let first = chunk(alloc, self.book, &stamp, 1)?;
+        Ok((first, chunk(alloc, self.book, &stamp, 1)?))
+    }
+
+    fn place(&mut self, chunk: SealedChunk) -> Result<Placement, Fail>
+        requires { IsFor self.old.book.home 1 small_code chunk }
+        ensures { self.new.book ≡ self.old.book }
+    {
+        Ok(self.server.prepare(chunk)?)
+    }
+
+    fn add(&mut self, chunk: SealedChunk) -> Result<Installed, Fail>
+        requires { IsFor self.old.book.home 1 small_code chunk }
+    {
+        Ok(self.server.install(chunk)?)
+    }
+
+    /// Seals and prepares a new version.
+    pub fn prepare(&mut self, alloc: Global, version: u64) -> Result<Placement, Fail> {
+        let chunk = self.sealed(alloc, version)?;
+        self.place(chunk)
+    }
+
+    /// Seals and installs a new version.
+    pub fn install(&mut self, alloc: Global, version: u64) -> Result<Installed, Fail> {
+        let chunk = self.sealed(alloc, version)?;
+        self.add(chunk)
+    }
+
+    /// Seals a new version, prepares it, and installs it too.
+    pub fn prepare_and_install(
+        &mut self,
+        alloc: Global,
+        version: u64,
+    ) -> Result<(Placement, Installed), Fail> {
+        let (first, again) = self.sealed_twice(alloc, version)?;
+        let placement = self.place(first)?;
+        Ok((placement, self.add(again)?))
+    }
+
+    pub fn settle(&mut self, version: u64) {
+        self.server.settle(Version(version));
+    }
+
+    pub fn discard(&mut self, version: u64) {
+        self.server.discard(Version(version));
+    }
+
+    pub fn wipe(&mut self) {
+        self.server.wipe();
+    }
+
+    pub fn down(&mut self) {
+        self.server.down();
+    }
+
+    pub fn up(&mut self) {
+        self.server.up();
+    }
+
+    /// Fetches the layers that there are.
+    pub fn fetch(&mut self, version: u64, layers: &[u32]) -> Result<Fetched, Fail>
+        requires { All (λ layer. layer < 4) layers.now }
+    {
+        Ok(self.server.fetch(Version(version), layers)?)
+    }
+}
