@@ -4,7 +4,7 @@ use std::alloc::{AllocError, Global};
 use std::process::Abort;
 use std::test::Fail;
 
-// Bytes that repeat only after 256 * 251 of them.
+/// Bytes that repeat only after 256 * 251 of them.
 pub fn mixed_bytes(alloc: Global, count: u32) -> Result<Vec<u8>, AllocError> {
     let mut bytes = Vec::with_capacity(alloc, count as usize)?;
     let mut byte = 1u8;
@@ -32,31 +32,29 @@ fn check_stripe(rt: &impl Abort, alloc: Global, g: Geometry) -> Result<(), Fail>
     Ok(())
 }
 
-// Widths around those of a vector of bytes.
+/// Codes with and without virtual nodes, of up to 1024 layers.
+pub const CODES: [(u32, u32); 10] = [
+    (2, 2),
+    (3, 2),
+    (4, 3),
+    (5, 5),
+    (8, 4),
+    (10, 4),
+    (2, 8),
+    (16, 4),
+    (7, 2),
+    (9, 6),
+];
+
+/// Widths around those of a vector of bytes, and a longer one.
+pub const WIDTHS: [u32; 7] = [1, 15, 16, 17, 63, 64, 1000];
+
 #[test]
-fn small_codes_encode_alike(rt: HostRuntime) -> Result<(), Fail> {
-    for (k, m) in [(2, 2), (3, 2), (4, 3), (5, 5), (2, 8), (7, 2)] {
-        for w in [1, 15, 16, 17, 63, 64, 1000] {
+fn stripes_are_encoded_alike(rt: HostRuntime) -> Result<(), Fail> {
+    for (k, m) in CODES {
+        for w in WIDTHS {
             check_stripe(&rt, rt.alloc(), Geometry::new(k, m, w)?)?;
         }
-    }
-    Ok(())
-}
-
-// The last of these has 1024 layers.
-#[test]
-fn large_codes_encode_alike(rt: HostRuntime) -> Result<(), Fail> {
-    for (k, m, w) in [
-        (8, 4, 1),
-        (8, 4, 15),
-        (8, 4, 16),
-        (8, 4, 63),
-        (9, 6, 17),
-        (10, 4, 1),
-        (10, 4, 64),
-        (16, 4, 17),
-    ] {
-        check_stripe(&rt, rt.alloc(), Geometry::new(k, m, w)?)?;
     }
     Ok(())
 }

@@ -7,3 +7,5 @@ mod coders;
 mod encoding;
 #[cfg(test)]
 mod kernels;
+#[cfg(test)]
+mod rebuilding;
