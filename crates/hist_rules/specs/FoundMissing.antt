@@ -47,6 +47,6 @@ pub record LacksChunks (script : Script) (call : CallName) (missing : List Tripl
   pub count : length missing ≡ script.geometry.parity_count + 1
   pub servers : AllAlong (IsMissing script) missing
 
--- no data is called unavailable while enough servers have their chunks, or for losses that the operator never caused
+-- no data is called unavailable with too few servers named, or for losses that the operator never caused
 abbrev pub FoundMissing : Script → Transcript → Type 0
 FoundMissing script t = All (λ entry. LacksChunks script entry.0 entry.1) (unavailable_calls t)

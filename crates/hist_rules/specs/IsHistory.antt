@@ -23,9 +23,9 @@ TakesAddUp script t = All (AddsUp script t) t.servers
 pub record IsHistory (script : Script) (t : Transcript) : Type 0 where
   -- a call that nobody made, that is answered twice, before an earlier one of its caller, or not at all though later ones are
   pub order : KeepsCallOrder script t
-  -- a lost update, a stale or torn read, an object that comes back after its delete, or that is missing at the end
+  -- a lost update, a torn read, a read that isn't the map's at its own point, an object that comes back after its delete, or that is missing at the end
   pub replies : HasMapReplies script t
-  -- data that is called unavailable while enough servers have their chunks to give it back
+  -- data that is called unavailable with too few servers named, or for losses that the operator never caused
   pub missing : FoundMissing script t
   -- a call that is given up without the operator
   pub given_up : GivenUp script t

@@ -20,7 +20,7 @@ abbrev pub ShowsReply : Option Call → Reply → Shown → Type 0
 ShowsReply call reply (Replied printed) = printed ≡ reply
 ShowsReply call reply Unfinished = (reply ≡ Done) × IsTrue (option_map_or is_put_or_write call false)
 
--- no update is lost or torn, no read is stale, and no object is lost or comes back: all calls could have been made one after the other on a map in memory
+-- no update is lost or torn, each read is the map's at its own point, and no object is lost or comes back: all calls could have been made one after the other on a map in memory
 pub record HasMapReplies (script : Script) (t : Transcript) : Type 0 where
   pub replies :
       All (λ line. ShowsReply (call_of script line.0.call) line.1 line.0.reply) (zip t.history (replies_of (size_of script) (history_calls script t)))
