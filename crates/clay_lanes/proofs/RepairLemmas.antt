@@ -13,7 +13,8 @@ use Rattle.clay_model.proofs.PairLaws.{crossed}
 use Rattle.clay_scalar.specs.Erased.{erased_below}
 use Rattle.clay_decode.specs.Solved.{coupled_byte, uncoupled_byte}
 use Rattle.clay_decode.proofs.Layer.{coupled_below}
-use Rattle.clay_decode.proofs.Vertices.{ArePartners, alone_value, paired_value}
+use Rattle.clay_decode.specs.Partners.{ArePartners}
+use Rattle.clay_decode.proofs.Vertices.{alone_value, paired_value}
 use Rattle.clay_repair.specs.Parts.{HasParts, IsRebuilt}
 use Rattle.clay_repair.specs.Rebuilt.{IsReadFor, with_digit}
 use Rattle.clay_repair.specs.Rebuilt as whole

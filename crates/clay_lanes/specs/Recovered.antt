@@ -1,17 +1,31 @@
 -- What coding by blocks of bytes has found, for each codeword that fits what is there.
-use Rattle.std.specs.Prelude.{◌≡◌, ℕ, ◌+◌, ◌*◌, ◌<◌, Bool, List, [], map, length, get_or, filter, is_none, Option, None, All, Vec}
+use Rattle.std.specs.Prelude.{◌≡◌, ℕ, ◌+◌, ◌*◌, ◌<◌, ◌≤◌, Bool, false, List, [], map, length, get_or, filter, replicate, is_none, Option, None, All, Vec}
 use Rattle.std.specs.List.{range_with_len}
 use Rattle.std.specs.declared.alloc.Global.{Global}
-use Rattle.clay_grid.specs.Shape.{Shape, layer_count, chunk_length}
-use Rattle.clay_grid.specs.Score.{score_at}
-use Rattle.clay_decode.specs.Left.{Completes}
-use Rattle.clay_decode.specs.Solved.{IsPlan, coupled_byte, uncoupled_byte}
+use Rattle.clay_grid.specs.Shape.{Shape, chunk_count, node_count, layer_count, chunk_length}
+use Rattle.clay_grid.specs.Limits.{IsGeometry}
+use Rattle.clay_grid.specs.Score.{score_at, IsByScore}
+use Rattle.clay_scalar.specs.Erased.{erased_below}
+use Rattle.clay_decode.specs.Left.{AreLong, Completes}
+use Rattle.clay_decode.specs.Solved.{is_erased, coupled_byte, uncoupled_byte}
 use Rattle.clay_lanes.specs.Generated.{IsGeneratorOf}
 use Rattle.clay_lanes.specs.declared.plan.Plan.{Plan}
 
+-- the erased nodes, the order of the layers, and a subchunk of zeros, for chunks of which few enough are missing
+pub record IsNodePlan (g : Shape) (have : List (Option (Vec ℕ Global))) (plan : Plan) : Type 0 where
+  pub geometry : IsGeometry g
+  pub count : length have ≡ chunk_count g
+  pub lengths : AreLong (chunk_length g) have
+  pub few : length plan.points.items ≤ g.parity_count
+  pub nodes : length plan.erased.items ≡ node_count g
+  pub erased_are : (i : ℕ) → i < node_count g → get_or plan.erased.items i false ≡ is_erased g have i
+  pub points_are : plan.points.items ≡ erased_below plan.erased.items (node_count g)
+  pub order : IsByScore g plan.erased.items plan.layers.items
+  pub empty : plan.zeros.items ≡ replicate g.width 0
+
 -- a call of decoding works with the plan of the missing chunks, the factors of their nodes, and the products of the inverse of 5
 pub record IsLanePlan (g : Shape) (have : List (Option (Vec ℕ Global))) (plan : Plan) : Type 0 where
-  pub nodes : IsPlan g have plan.erased.items plan.points.items plan.layers.items plan.zeros.items
+  pub nodes : IsNodePlan g have plan
   pub generator : IsGeneratorOf g plan.points.items plan.generator.unknown plan.generator.factors.items
   pub fifths : plan.fifths ≡ 0xA7
 

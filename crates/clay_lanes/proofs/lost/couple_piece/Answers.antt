@@ -1,42 +1,30 @@
 use Rattle.std.proofs.Common.{◌+◌, ◌<◌, length, get_or, sym, ap, ◌∙◌, arith, bit_xor}
 use Rattle.clay_field.specs.Field.{product, quotient}
-use Rattle.clay_decode.proofs.Vertices.{ArePartners, alone_value, coupled_from_pair, coupled_from_partner}
+use Rattle.clay_decode.proofs.Vertices.{alone_value, coupled_from_pair, coupled_from_partner}
 use Rattle.clay_lanes.proofs.lost.couple_piece.Goals as goal
 
 pub returns-then-index : goal.returns-then-index
 returns-then-index c =
     let g = c.args.g in
     let p = c.partner_of-partner.result in
-    let pair : ArePartners g c.args.node c.args.z p.node p.layer = record {
-      rows = omega (arith, c.requires.plan.nodes.geometry.limits.parity_chunks.0);
-      node = c.requires.node;
-      node_is = c.partner_of-partner.ensures.node;
-      layer_is = c.partner_of-partner.ensures.layer;
-    } in
     record {
       bytes = λ word fits b h.
           let long : b < length c.couple.new.out = omega arith in
           c.couple.ensures b long
           ∙ (λ k. quotient (bit_xor (c.solved_piece-own.ensures.value.bytes word fits b h k) (product 2 (c.solved_piece.ensures.value.bytes word fits b h k))) 5)
-          ∙ sym (coupled_from_pair g c.args.node c.args.z p.node p.layer pair word fits.codeword (c.args.at + b) c.if-partner-node.false);
+          ∙ sym (coupled_from_pair g c.args.node c.args.z p.node p.layer c.partner_of-partner.ensures.partners word fits.codeword (c.args.at + b) c.if-partner-node.false);
     }
 
 pub returns-else-index : goal.returns-else-index
 returns-else-index c =
     let g = c.args.g in
     let p = c.partner_of-partner.result in
-    let pair : ArePartners g c.args.node c.args.z p.node p.layer = record {
-      rows = omega (arith, c.requires.plan.nodes.geometry.limits.parity_chunks.0);
-      node = c.requires.node;
-      node_is = c.partner_of-partner.ensures.node;
-      layer_is = c.partner_of-partner.ensures.layer;
-    } in
     record {
       bytes = λ word fits b h.
           let long : b < length c.uncouple.new.out = omega arith in
           c.uncouple.ensures b long
           ∙ (λ k. bit_xor (c.solved_piece-own.ensures.value.bytes word fits b h k) (product 2 (c.piece.ensures.value.bytes word fits b h k)))
-          ∙ sym (coupled_from_partner g c.args.node c.args.z p.node p.layer pair word fits.codeword (c.args.at + b) c.if-partner-node.false);
+          ∙ sym (coupled_from_partner g c.args.node c.args.z p.node p.layer c.partner_of-partner.ensures.partners word fits.codeword (c.args.at + b) c.if-partner-node.false);
     }
 
 pub solved_piece-own-requires-clause-holds : goal.solved_piece-own-requires-clause-holds
@@ -49,15 +37,9 @@ pub returns-then-partner-node : goal.returns-then-partner-node
 returns-then-partner-node c =
     let g = c.args.g in
     let p = c.partner_of-partner.result in
-    let pair : ArePartners g c.args.node c.args.z p.node p.layer = record {
-      rows = omega (arith, c.requires.plan.nodes.geometry.limits.parity_chunks.0);
-      node = c.requires.node;
-      node_is = c.partner_of-partner.ensures.node;
-      layer_is = c.partner_of-partner.ensures.layer;
-    } in
     record {
       bytes = λ word fits b h.
           ap (λ l. get_or l b 0) c.copy_from_slice.ensures.after
           ∙ c.solved_piece-own.ensures.value.bytes word fits b h
-          ∙ sym (alone_value g c.args.node c.args.z p.node p.layer pair word fits.codeword (c.args.at + b) c.if-partner-node.true);
+          ∙ sym (alone_value g c.args.node c.args.z p.node p.layer c.partner_of-partner.ensures.partners word fits.codeword (c.args.at + b) c.if-partner-node.true);
     }

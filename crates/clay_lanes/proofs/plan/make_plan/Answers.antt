@@ -5,7 +5,7 @@ use Rattle.clay_grid.specs.Score.{IsByScore}
 use Rattle.clay_scalar.specs.Erased.{erased_below}
 use Rattle.clay_scalar.specs.Points.{AreDistinct}
 use Rattle.clay_scalar.proofs.ErasedNodes.{AreDistinct-erased}
-use Rattle.clay_decode.proofs.Nodes.{plan_made, few_points}
+use Rattle.clay_decode.proofs.Nodes.{few_points}
 use Rattle.clay_lanes.specs.Generated.{IsGeneratorOf}
 use Rattle.clay_lanes.proofs.plan.make_plan.Goals as goal
 
@@ -34,12 +34,23 @@ generator_of-requires-clause-distinct c =
 pub returns : goal.returns
 returns c =
     let g = c.args.g in
+    let rows : 0 < g.parity_count = let some = c.w.ensures.geometry.limits.parity_chunks.0 in omega arith in
+    let few = few_points g c.args.have.now c.in_ok-erased.erased.items rows c.requires.count c.in_ok-erased.ensures.value c.requires.few in
+    let points : c.in_ok-points.points.items ≡ erased_below c.in_ok-erased.erased.items (node_count g) = c.in_ok-points.ensures
+    ∙ (λ k. erased_below (c.deref.ensures.value k) (length (c.deref.ensures.value k)))
+    ∙ ap (erased_below c.in_ok-erased.erased.items) c.in_ok-erased.ensures.len in
     record {
-      nodes = plan_made g c.args.have.now c.in_ok-erased.erased.items c.in_ok-points.points.items c.in_ok-layers.layers.items c.in_ok-zeros.zeros.items
-          c.w.ensures.geometry c.requires.count c.requires.lengths c.requires.few c.in_ok-erased.ensures.len c.in_ok-erased.ensures.value
-          (c.in_ok-points.ensures ∙ (λ k. erased_below (c.deref.ensures.value k) (length (c.deref.ensures.value k))))
-          (subst (λ e. IsByScore g e c.in_ok-layers.layers.items) c.deref-3.ensures.value c.in_ok-layers.ensures)
-          (c.in_ok-zeros.ensures ∙ ap (λ n. replicate n 0) c.w.ensures.value);
+      nodes = record {
+        geometry = c.w.ensures.geometry;
+        count = c.requires.count;
+        lengths = c.requires.lengths;
+        few = subst (λ l. length l ≤ g.parity_count) (sym points) few;
+        nodes = c.in_ok-erased.ensures.len;
+        erased_are = c.in_ok-erased.ensures.value;
+        points_are = points;
+        order = subst (λ e. IsByScore g e c.in_ok-layers.layers.items) c.deref-3.ensures.value c.in_ok-layers.ensures;
+        empty = c.in_ok-zeros.ensures ∙ ap (λ n. replicate n 0) c.w.ensures.value;
+      };
       generator = subst (λ p. IsGeneratorOf g p c.in_ok-generator.generator.unknown c.in_ok-generator.generator.factors.items) c.deref-2.ensures.value c.in_ok-generator.ensures;
       fifths = c.fifths.ensures;
     }
