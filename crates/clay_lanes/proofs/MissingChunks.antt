@@ -1,7 +1,7 @@
 -- The numbers of the missing chunks, and the missing chunks and the others put together.
-use Rattle.std.proofs.Common.{◌≡◌, ◌≢◌, ℕ, zero, suc, subst, ◌+◌, ◌-◌, ◌*◌, ◌/◌, ◌%◌, ◌<◌, ◌≤◌, Bool, true, false, cond, List, [], ◌∷◌, ◌++◌, length, get_or, set, take, drop, map, Option, Some, None, is_none, Vec, Global, All, refl, sym, ap, ◌∙◌, inl, inr, arith, append_assoc, length-append}
-use Rattle.std.specs.List.{filter, insert, range_with_len}
-use Rattle.std.proofs.lemmas.Bool.{cases_eq, true≢false}
+use Rattle.std.proofs.Common.{◌≡◌, ◌≢◌, ℕ, suc, subst, ◌+◌, ◌-◌, ◌*◌, ◌/◌, ◌%◌, ◌<◌, ◌≤◌, true, false, cond, List, [], ◌∷◌, ◌++◌, length, get_or, set, take, drop, map, Option, Some, None, is_none, Vec, Global, All, refl, sym, ap, ◌∙◌, arith, append_assoc}
+use Rattle.std.specs.List.{insert}
+use Rattle.std.proofs.lemmas.Bool.{true≢false}
 use Rattle.std.proofs.lemmas.Nat.{mod_below, div_below, div-add-mod'}
 use Rattle.std.proofs.lemmas.List.{ext_get_or, get_or_default, get_or-set_same, get_or-set_other, take_more, take-map, drop-map, length-map, length-take-le, length_push}
 use Rattle.std.proofs.lemmas.List.Edits.{length-insert}
@@ -15,7 +15,7 @@ use Rattle.clay_decode.specs.Left.{AreLong, Completes}
 use Rattle.clay_decode.proofs.Nodes.{agreeing_chunk, long_chunk}
 use Rattle.clay_repair.specs.Coding.{AreRecovered}
 use Rattle.clay_lanes.specs.Recovered.{HoldsByte, missing_from, missing_of, AreMissing}
-use Rattle.clay_lanes.proofs.ChunkLists.{contents_set, contents_at, length-contents}
+use Rattle.clay_lanes.proofs.ChunkLists.{contents_set, length-contents}
 
 none_of : (o : Option (Vec ℕ Global)) → is_none o ≡ true → o ≡ None
 none_of None h = refl

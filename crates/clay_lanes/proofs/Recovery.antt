@@ -1,11 +1,11 @@
 -- Pieces, rows and layers of a block of bytes, and what the factors make of the present nodes' values.
-use Rattle.std.proofs.Common.{◌≡◌, ◌≢◌, ℕ, zero, suc, subst, ◌+◌, ◌-◌, ◌*◌, ◌/◌, ◌%◌, ◌^◌, ◌<◌, ◌≤◌, Bool, true, false, List, [], length, get_or, take, drop, replicate, Option, Some, None, Vec, Global, refl, sym, ap, ◌∙◌, inl, inr, arith, rules, bit_xor}
-use Rattle.std.proofs.lemmas.Bool.{cases_eq, cases_lt, cond-true, cond-false}
+use Rattle.std.proofs.Common.{◌≡◌, ◌≢◌, ℕ, suc, subst, ◌+◌, ◌-◌, ◌*◌, ◌/◌, ◌%◌, ◌^◌, ◌<◌, ◌≤◌, Bool, true, false, List, [], length, get_or, take, drop, replicate, Option, Some, None, Vec, Global, sym, ap, ◌∙◌, inl, inr, arith, rules, bit_xor}
+use Rattle.std.proofs.lemmas.Bool.{cases_lt, cond-true, cond-false}
 use Rattle.std.proofs.lemmas.List.{get_or-take, get_or-drop, get_or-replicate, places}
 use lib.Bits.{xor_zero_r}
 use Rattle.clay_field.specs.Field.{product}
 use Rattle.clay_field.proofs.FieldLaws.{product_lt, product_zero}
-use Rattle.clay_grid.specs.Shape.{Shape, chunk_count, row_count, column_count, node_count, layer_count}
+use Rattle.clay_grid.specs.Shape.{Shape, row_count, column_count, node_count, layer_count}
 use Rattle.clay_grid.specs.Layers.{layer_of}
 use Rattle.clay_grid.specs.Limits.{IsGeometry}
 use Rattle.clay_grid.specs.Score.{IsByScore}
@@ -19,7 +19,7 @@ use Rattle.clay_scalar.proofs.ErasedNodes.{erased_values_solved}
 use Rattle.clay_encode.proofs.Parts.{put_mid_before, put_mid_within, place_below, piece_fits}
 use borrow.Rule.Slice.PartMut.{put_mid}
 use Rattle.clay_decode.specs.Left.{Completes}
-use Rattle.clay_decode.specs.Solved.{coupled_byte, uncoupled_byte}
+use Rattle.clay_decode.specs.Solved.{uncoupled_byte}
 use Rattle.clay_decode.proofs.Layer.{coupled_below, lower_earlier}
 use Rattle.clay_decode.proofs.Nodes.{IsNodeOf, agreeing_chunk, chunk_byte}
 use Rattle.clay_lanes.specs.Lanes.{AddsRows}

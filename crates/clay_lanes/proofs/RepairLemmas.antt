@@ -1,13 +1,11 @@
 -- The lost node's column and its chunk, block by block.
-use Rattle.std.proofs.Common.{◌≡◌, ◌≢◌, ℕ, subst, ◌+◌, ◌-◌, ◌*◌, ◌/◌, ◌%◌, ◌<◌, ◌≤◌, Bool, false, eqb, List, [], length, get_or, set, take, drop, Option, Vec, Global, refl, sym, ap, ◌∙◌, arith, bit_xor}
-use Rattle.std.specs.List.{range_with_len}
+use Rattle.std.proofs.Common.{◌≡◌, ◌≢◌, ℕ, subst, ◌+◌, ◌*◌, ◌/◌, ◌%◌, ◌<◌, ◌≤◌, Bool, false, eqb, List, [], length, get_or, set, take, drop, Option, Vec, Global, refl, sym, ap, ◌∙◌, arith, bit_xor}
 use Rattle.std.proofs.lemmas.Nat.{mod_below, div_below, div-mul-add, mod-mul-add, div-add-mod', mul-add-lt}
 use Rattle.std.proofs.lemmas.List.{ext_get_or, get_or-take, get_or-drop}
 use Rattle.std.proofs.lemmas.List.FromFn.{length-range_with_len, get_or-range_with_len}
 use Rattle.clay_field.specs.Field.{product, quotient}
 use Rattle.clay_grid.specs.Shape.{Shape, chunk_count, row_count, column_count, node_count, layer_count, chunk_length, node_of_chunk}
 use Rattle.clay_grid.specs.Layers.{layer_of}
-use Rattle.clay_grid.specs.Limits.{IsGeometry}
 use Rattle.clay_grid.specs.Repair.{repair_layers_of}
 use Rattle.clay_model.proofs.PairLaws.{crossed}
 use Rattle.clay_scalar.specs.Erased.{erased_below}

@@ -1,7 +1,7 @@
 use Rattle.std.proofs.Common.{◌≡◌, ◌≢◌, ℕ, ◌+◌, ◌*◌, ◌<◌, List, [], length, get_or, set, None, Vec, Global, sym, subst, ap, ◌∙◌, inl, inr, arith}
 use Rattle.std.specs.Vec.{with_items}
 use Rattle.std.proofs.lemmas.Bool.{cases_eq}
-use Rattle.clay_grid.specs.Shape.{chunk_count, layer_count, chunk_length}
+use Rattle.clay_grid.specs.Shape.{chunk_count}
 use Rattle.clay_encode.specs.Chunks.{contents}
 use Rattle.clay_encode.proofs.Parts.{written_whole}
 use Rattle.clay_decode.specs.Left.{Completes}

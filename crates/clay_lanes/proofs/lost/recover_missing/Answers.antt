@@ -1,5 +1,4 @@
-use Rattle.std.proofs.Common.{◌≡◌, ℕ, ◌+◌, ◌*◌, ◌<◌, List, [], length, get_or, sym, subst, ap, ◌∙◌, arith}
-use Rattle.clay_grid.specs.Shape.{chunk_length}
+use Rattle.std.proofs.Common.{◌≡◌, ◌+◌, ◌*◌, ◌<◌, [], length, get_or, sym, subst, ap, ◌∙◌, arith}
 use Rattle.clay_encode.specs.Chunks.{contents}
 use Rattle.clay_decode.specs.Left.{Completes}
 use Rattle.clay_lanes.specs.Recovered.{HoldsByte, missing_of, AreMissing}

@@ -1,4 +1,4 @@
-use Rattle.std.proofs.Common.{◌≡◌, ℕ, ◌+◌, ◌*◌, ◌<◌, length, get_or, sym, subst, ap, ◌∙◌, arith}
+use Rattle.std.proofs.Common.{◌≡◌, ◌*◌, ◌<◌, length, get_or, sym, subst, ap, ◌∙◌}
 use Rattle.clay_grid.specs.Shape.{node_count}
 use Rattle.clay_lanes.proofs.GeneratorLaws.{all_generates}
 use Rattle.clay_lanes.proofs.plan.generator_of.Goals as goal

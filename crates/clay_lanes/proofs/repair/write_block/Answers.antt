@@ -1,13 +1,13 @@
-use Rattle.std.proofs.Common.{◌≡◌, ℕ, ◌+◌, ◌-◌, ◌*◌, ◌/◌, ◌<◌, ◌≤◌, List, length, set, refl, sym, subst, ap, ◌∙◌, inl, inr, arith}
+use Rattle.std.proofs.Common.{◌≡◌, ℕ, ◌+◌, ◌-◌, ◌*◌, ◌<◌, ◌≤◌, List, length, set, refl, sym, subst, ap, ◌∙◌, inl, inr, arith}
 use Rattle.std.proofs.lemmas.Bool.{cases_eq}
-use Rattle.clay_grid.specs.Shape.{row_count, node_count, layer_count, node_of_chunk}
+use Rattle.clay_grid.specs.Shape.{row_count, layer_count, node_of_chunk}
 use Rattle.clay_grid.specs.Layers.{layer_of, index_of}
 use Rattle.clay_encode.proofs.Parts.{piece_fits}
 use borrow.Rule.Slice.PartMut.{put_mid}
 use Rattle.clay_decode.proofs.Nodes.{node_real}
 use Rattle.clay_repair.specs.Parts.{HasParts}
 use Rattle.clay_repair.specs.Rebuilt.{with_digit}
-use Rattle.clay_lanes.specs.Recovered.{IsUncoupled, HoldsByte}
+use Rattle.clay_lanes.specs.Recovered.{HoldsByte}
 use Rattle.clay_lanes.specs.Repaired.{column_nodes}
 use Rattle.clay_lanes.proofs.Recovery.{piece_written, byte_kept}
 use Rattle.clay_lanes.proofs.RepairLemmas.{row_piece, length-column_nodes, column_node_at}

@@ -1,6 +1,6 @@
 use Rattle.std.proofs.Common.{◌≡◌, ℕ, ◌+◌, ◌*◌, ◌<◌, List, length, get_or, sym, subst, ap, ◌∙◌, inl, inr, arith}
 use Rattle.std.proofs.lemmas.Bool.{cases_eq}
-use Rattle.clay_grid.specs.Shape.{row_count, node_count, node_of_chunk}
+use Rattle.clay_grid.specs.Shape.{node_count, node_of_chunk}
 use Rattle.clay_grid.specs.Repair.{repair_layers_of}
 use Rattle.clay_repair.specs.Parts.{HasParts}
 use Rattle.clay_repair.specs.Rebuilt.{IsReadFor, with_digit}

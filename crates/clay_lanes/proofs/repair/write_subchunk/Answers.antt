@@ -1,4 +1,4 @@
-use Rattle.std.proofs.Common.{◌≡◌, ℕ, ◌+◌, ◌*◌, ◌<◌, ◌≢◌, length, sym, ap, ◌∙◌, arith}
+use Rattle.std.proofs.Common.{◌≡◌, ◌+◌, ◌*◌, ◌<◌, length, sym, ap, ◌∙◌, arith}
 use Rattle.clay_grid.specs.Shape.{row_count, node_count, node_of_chunk}
 use Rattle.clay_decode.specs.Solved.{coupled_byte}
 use Rattle.clay_repair.proofs.Column.{node_inside}
