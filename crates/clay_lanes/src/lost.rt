@@ -329,7 +329,7 @@ pub fn recover(
     with_present(alloc, g, have, missing)
 }
 
-/// The chunks of the codeword that agrees with the chunks that are there, where one does. The chunks that are there stay as they are.
+/// The chunks of the codeword that agrees with the chunks that are there, where one does.
 ///
 /// `have` has an entry for each chunk, `None` for a missing one. Where no codeword agrees, the others are some bytes.
 pub fn decode(
