@@ -1,5 +1,5 @@
 -- What a run shows of lost races names changes that its history has.
-use Rattle.std.proofs.Common.{◌≡◌, ℕ, ◌<◌, ◌≤◌, Bool, true, false, List, [], ◌∷◌, length, fold, Some, option_and_then, All, refl, sym, ap, subst, ◌∙◌, arith, true≢false}
+use Rattle.std.proofs.Common.{Option, None, Some, ◌≡◌, ℕ, ◌<◌, ◌≤◌, Bool, true, false, List, [], ◌∷◌, length, fold, option_and_then, IfSome, map, All, refl, sym, ap, subst, ◌∙◌, arith, true≢false}
 use Rattle.std.proofs.lemmas.Option.{slice_get_within}
 use Rattle.std.proofs.lemmas.List.Elements.{All-nil, All-cons}
 use Rattle.std.specs.List.{slice_get}
@@ -7,37 +7,42 @@ use Rattle.store_map.specs.Limits.{size_of, tries_of}
 use Rattle.store_map.specs.declared.actor.Token.{Token}
 use Rattle.store_map.specs.declared.call.Call.{Call}
 use Rattle.store_map.specs.declared.call.Call.TheVariants as call
+use Rattle.store_map.specs.declared.call.Rebuild.{Rebuild}
+use Rattle.store_map.specs.declared.script.RepairPart.{RepairPart}
 use Rattle.store_map.specs.declared.script.Script.{Script}
 use Rattle.transcript_text.specs.declared.call_name.CallName.TheVariants as name
+use Rattle.transcript_text.specs.declared.cause.RepairResult.{RepairResult}
+use Rattle.transcript_text.specs.declared.cause.RepairResult.TheVariants as result
 use Rattle.transcript_text.specs.declared.line.XLine.{XLine}
+use Rattle.transcript_text.specs.declared.line.RLine.{RLine}
 use Rattle.transcript_text.specs.declared.transcript.Transcript.{Transcript}
-use Rattle.hist_rules.specs.Calls.{call_of as script_call}
+use Rattle.hist_rules.specs.Calls.{call_of as script_call, rebuild_of}
 use Rattle.hist_rules.specs.First.{AllAfter}
 use Rattle.hist_rules.specs.Named.{is_change_point}
 use Rattle.hist_rules.specs.LostRaces.{written_name}
 use Rattle.hist_rules.specs.GivenUpOrLost.{IsRace, IsLoser, LostRace}
 use Rattle.store_core.specs.Act.{Outcome}
 use Rattle.store_core.specs.Core.{Core}
-use Rattle.store_core.specs.NextAct.{Job}
+use Rattle.store_core.specs.NextAct.{Job, rebuild_job}
 use Rattle.store_core.specs.Note.{Kind, note_of}
-use Rattle.store_core.specs.Outcomes.{cause_of}
+use Rattle.store_core.specs.Outcomes.{triple_of, cause_of, result_of}
 use Rattle.store_core.specs.Schedule.{run_core}
-use Rattle.store_core.specs.Shown.{shown, refused_line, lines_of_ended}
+use Rattle.store_core.specs.Shown.{shown, refused_line, repair_line, lines_of_ended}
 use Rattle.store_core.specs.Tell.{tell}
-use Rattle.store_core.specs.Work.{Ended, Work, Calling, client_work}
+use Rattle.store_core.specs.Work.{Ended, Work, Calling, client_work, repairer_work}
 use Rattle.store_calls.specs.OutcomeLaws.{HasCauseInSteps}
 use Rattle.store_calls.proofs.StepOutcomes.{outcomes_in_steps}
 use Rattle.store_runs.specs.ToldLaws.{EndedSo}
-use Rattle.store_runs.proofs.Scripts.{can_run}
+use Rattle.store_runs.proofs.Scripts.{can_run, Mapped, mapped}
 use Rattle.store_history.specs.HistoryLaws.{scheduled}
 use Rattle.store_history.proofs.NamedCalls.{inside}
-use Rattle.store_history.proofs.OrderEnds.{EndKnown, client_has}
+use Rattle.store_history.proofs.OrderEnds.{EndKnown, client_has, repairer_has}
 use Rattle.store_history.proofs.OrderLists.{all_indexed}
 use Rattle.store_history.proofs.OrderRuns.{end_known}
 use Rattle.store_history.proofs.Points.{IsOfScript}
 use Rattle.store_history.proofs.PointsOfCalls.{OfScript, job_call}
 use Rattle.store_sound.proofs.SoundLists.{at_all}
-use Rattle.store_races.specs.RaceLaws.{RunsLoseRaces}
+use Rattle.store_races.specs.RaceLaws.{RunsLoseRaces, NamesChange, RunsNameChanges}
 use Rattle.store_races.proofs.ChangeLines.{change_line}
 use Rattle.store_races.proofs.Changes.{IsChange, Race, Races}
 use Rattle.store_races.proofs.RaceRuns.{OutcomeKept, AllRaces, all_races}
@@ -104,7 +109,76 @@ module _ (script : Script) (tokens : List Token) (core : Core) (known : EndKnown
       all_indexed (λ number ended. refused_line (name.Client i number) (cause_of ended.outcome)) Q c.ended
       (λ number e is_e. one_line i number e.outcome (λ pairs lost. contended i c is_c number e is_e pairs lost)))
 
+-- ---- rebuilds
+module _ (script : Script) (tokens : List Token) (core : Core) (known : EndKnown script core) (races : AllRaces script core) (some : 0 < script.geometry.parity_count) where
+  -- a repairer's job is its rebuild
+  record OfRebuild (i number : ℕ) (job : Job) : Type 0 where
+    rebuild : Rebuild
+    is_rebuild : rebuild_of script (name.Repairer i number) ≡ Some rebuild
+    is_job : rebuild_job rebuild ≡ job
+
+  part_work : RepairPart → Work
+  part_work part = record { jobs = map rebuild_job part.calls; leave = part.leave }
+
+  job_rebuild : (i number : ℕ) (work : Work) (job : Job) → slice_get (repairer_work script) i ≡ Some work → slice_get work.jobs number ≡ Some job → OfRebuild i number job
+  unfolding part_work
+  job_rebuild i number work job is_work is_job =
+      let part : Mapped part_work script.repairers i work = mapped part_work script.repairers i work is_work in
+      let jobs : map rebuild_job part.source.calls ≡ work.jobs = ap (λ (w : Work). w.jobs) part.is_image in
+      let one : Mapped rebuild_job part.source.calls number job = mapped rebuild_job part.source.calls number job (ap (λ (js : List Job). slice_get js number) jobs ∙ is_job) in
+      record {
+        rebuild = one.source;
+        is_rebuild = ap (option_and_then (λ (p : RepairPart). slice_get p.calls number)) part.found ∙ one.found;
+        is_job = one.is_image;
+      }
+
+  superseded : (i : ℕ) (c : Calling) → slice_get core.repairers i ≡ Some c → (number : ℕ) (e : Ended) → slice_get c.ended number ≡ Some e → (newer : ℕ) → e.outcome ≡ Outcome.Superseded newer
+      → IfSome (rebuild_of script (name.Repairer i number)) (NamesChange (scheduled script tokens) (shown script core) (result.Superseded newer))
+  superseded i c is_c number e is_e newer is =
+      let work : (w : Work) × (slice_get (repairer_work script) i ≡ Some w) = repairer_has script core known i c is_c in
+      let most : length c.ended ≤ length work.0.jobs = (known.calls.repairers i c is_c work.0 work.1).below in
+      let low : number < length c.ended = slice_get_within c.ended number e is_e in
+      let job : (j : Job) × (slice_get work.0.jobs number ≡ Some j) = inside work.0.jobs number (omega (arith, most, low)) in
+      let of : OfRebuild i number job.0 = job_rebuild i number work.0 job.0 work.1 job.1 in
+      let told : OutcomeKept core.directory.points job.0.note (Outcome.Superseded newer) = subst (OutcomeKept core.directory.points job.0.note) is ((races.repairers i c is_c work.0 work.1).ended number job.0 e job.1 is_e) in
+      subst (λ o. IfSome o (NamesChange (scheduled script tokens) (shown script core) (result.Superseded newer))) (sym of.is_rebuild)
+      (shown_change script tokens core known races some of.rebuild.name newer (subst (λ (j : Job). IsChange core.directory.points j.note.name newer) (sym of.is_job) told))
+
+  abbrev Named : RLine → Type 0
+  Named line = IfSome (rebuild_of script line.call) (NamesChange (scheduled script tokens) (shown script core) line.result)
+
+  nothing_named : (found : Option Rebuild) (what : RepairResult) → ((rebuild : Rebuild) → NamesChange (scheduled script tokens) (shown script core) what rebuild) → IfSome found (NamesChange (scheduled script tokens) (shown script core) what)
+  nothing_named None what h = tt
+  nothing_named (Some rebuild) what h = h rebuild
+
+  one_result : (i number : ℕ) (outcome : Outcome) → ((newer : ℕ) → outcome ≡ Outcome.Superseded newer → IfSome (rebuild_of script (name.Repairer i number)) (NamesChange (scheduled script tokens) (shown script core) (result.Superseded newer)))
+      → All Named (repair_line (name.Repairer i number) (result_of outcome))
+  one_result i number (Outcome.Superseded newer) h = All-cons Named (record { call = name.Repairer i number; result = result.Superseded newer }) [] (h newer refl) (All-nil Named)
+  one_result i number Outcome.Rebuilt h = All-cons Named (record { call = name.Repairer i number; result = result.Rebuilt }) [] (nothing_named (rebuild_of script (name.Repairer i number)) result.Rebuilt (λ _. tt)) (All-nil Named)
+  one_result i number Outcome.Here h = All-cons Named (record { call = name.Repairer i number; result = result.Here }) [] (nothing_named (rebuild_of script (name.Repairer i number)) result.Here (λ _. tt)) (All-nil Named)
+  one_result i number Outcome.NoSuch h = All-cons Named (record { call = name.Repairer i number; result = result.NoSuch }) [] (nothing_named (rebuild_of script (name.Repairer i number)) result.NoSuch (λ _. tt)) (All-nil Named)
+  one_result i number (Outcome.Away downs) h = All-cons Named (record { call = name.Repairer i number; result = result.Away downs }) [] (nothing_named (rebuild_of script (name.Repairer i number)) (result.Away downs) (λ _. tt)) (All-nil Named)
+  one_result i number (Outcome.Unavailable stripe missing) h =
+      All-cons Named (record { call = name.Repairer i number; result = result.Unavailable stripe (map triple_of missing) }) [] (nothing_named (rebuild_of script (name.Repairer i number)) (result.Unavailable stripe (map triple_of missing)) (λ _. tt)) (All-nil Named)
+  one_result i number (Outcome.Reaped point) h = All-cons Named (record { call = name.Repairer i number; result = result.Reaped point }) [] (nothing_named (rebuild_of script (name.Repairer i number)) (result.Reaped point) (λ _. tt)) (All-nil Named)
+  one_result i number Outcome.NoMemory h = All-cons Named (record { call = name.Repairer i number; result = result.NoMemory }) [] (nothing_named (rebuild_of script (name.Repairer i number)) result.NoMemory (λ _. tt)) (All-nil Named)
+  one_result i number (Outcome.Answered point given) h = All-nil Named
+  one_result i number (Outcome.Served point) h = All-nil Named
+  one_result i number (Outcome.Contended pairs) h = All-nil Named
+
+  pub named_changes : All Named (shown script core).repairs
+  named_changes =
+      all_indexed (λ j. lines_of_ended (λ number ended. repair_line (name.Repairer j number) (result_of ended.outcome))) Named core.repairers
+      (λ i c is_c.
+      all_indexed (λ number ended. repair_line (name.Repairer i number) (result_of ended.outcome)) Named c.ended
+      (λ number e is_e. one_result i number e.outcome (λ newer is. superseded i c is_c number e is_e newer is)))
+
 pub runs_lose_races : RunsLoseRaces
 runs_lose_races script shortages geometry valid tokens few =
     let some : 0 < script.geometry.parity_count = (let two : 2 ≤ script.geometry.parity_count = geometry.limits.parity_chunks.0 in omega (arith, two)) in
     lost_races script tokens (run_core script shortages tokens) (end_known script geometry valid shortages tokens) (all_races script (can_run script geometry valid) some shortages tokens) some
+
+pub runs_name_changes : RunsNameChanges
+runs_name_changes script shortages geometry valid tokens few =
+    let some : 0 < script.geometry.parity_count = (let two : 2 ≤ script.geometry.parity_count = geometry.limits.parity_chunks.0 in omega (arith, two)) in
+    named_changes script tokens (run_core script shortages tokens) (end_known script geometry valid shortages tokens) (all_races script (can_run script geometry valid) some shortages tokens) some
