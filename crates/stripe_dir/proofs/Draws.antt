@@ -1,0 +1,101 @@
+-- What a draw leaves.
+use Rattle.std.proofs.Common.{◌≡◌, ℕ, ◌+◌, ◌-◌, ◌/◌, Bool, true, false, cond, ◌&&◌, List, [], ◌++◌, length, get_or, map, replicate, find, sum_by, if◌then◌else◌, Option, None, Some, All, Contains, refl, sym, ap, subst, ◌∙◌, arith, length-append}
+use Rattle.std.proofs.lemmas.List.{length-map, length-replicate}
+use Rattle.std.proofs.lemmas.List.FromFn.{length-range_with_len}
+use Rattle.std.specs.List.{range_with_len}
+use Rattle.clay_grid.specs.Shape.{stripe_length}
+use Rattle.store_map.specs.Limits.{stripes_met}
+use Rattle.store_map.specs.declared.actor.Actor.{Actor}
+use Rattle.store_core.specs.Told.{Told}
+use Rattle.store_core.specs.Act.{DirectoryStep}
+use Rattle.store_core.specs.Directory.{Pass}
+use Rattle.store_core.specs.Lookups.{same_actor, is_live}
+use Rattle.store_core.specs.PassSteps.{touched, draw, new_version}
+use Rattle.store_core.specs.Conditions.{IsWriting}
+use Rattle.store_core.specs.Sound.{IsSound}
+use Rattle.store_core.specs.AtDirectory.{unless_reaped, on_pass, at_directory}
+use Rattle.dir_parts.specs.Counts.{one_if, pins_of, may_append}
+use Rattle.dir_parts.specs.OpenPass.{Desk}
+use Rattle.dir_parts.specs.Table.{Table, drawn_version}
+use Rattle.dir_parts.proofs.Actors.{same_is, find_passes}
+use Rattle.dir_parts.proofs.Growing.{get_or-zeros, sum_by-changed, all_changed}
+use Rattle.stripe_dir.specs.Kept.{directory_in, IsKept}
+use Rattle.stripe_dir.specs.declared.directory.Directory.TheInside.{Inside}
+use Rattle.stripe_dir.proofs.Sound.{keeps_sound}
+
+-- what a pass keeps that may get what was drawn
+still : {X : Type 0} (f : Pass → X) (dr : List ℕ) → ((q : Pass) → f (record q { drawn = dr }) ≡ f q) → (b : Bool) (q : Pass) → f (cond {A = Pass} b (record q { drawn = dr }) q) ≡ f q
+still f dr same true q = same q
+still f dr same false q = refl
+
+stays : (P : Pass → Type 0) (dr : List ℕ) → ((q : Pass) → P q → P (record q { drawn = dr })) → (b : Bool) (q : Pass) → P q → P (cond {A = Pass} b (record q { drawn = dr }) q)
+stays P dr keeps true q h = keeps q h
+stays P dr keeps false q h = h
+
+module _ (a : Inside) (kept : IsKept a) (who : Actor) (p : Pass) (found : find (λ pass. same_actor who pass.actor) a.passes.listed ≡ Some p) (live : p.reaped ≡ None) (stripe : ℕ) (stripe_is : stripe ≡ stripe_length a.geometry) where
+  -- the stripes that the call touches, and how many
+  abbrev pub stripes : List ℕ
+  stripes = range_with_len (p.note.offset / stripe) (stripes_met stripe p.note.offset p.note.length)
+
+  abbrev pub count : ℕ
+  count = stripes_met stripe p.note.offset p.note.length
+
+  own : who ≡ p.actor
+  own = same_is who p.actor (find_passes (λ (q : Pass). same_actor who q.actor) a.passes.listed p found)
+
+  touched_are : touched (directory_in a) p.note ≡ range_with_len (p.note.offset / stripe) (stripes_met stripe p.note.offset p.note.length)
+  touched_are = (λ i. range_with_len (p.note.offset / sym stripe_is i) (stripes_met (sym stripe_is i) p.note.offset (rest i)))
+    where
+      rest : p.note.offset + p.note.length - p.note.offset ≡ p.note.length
+      rest = omega arith
+
+  size : length (touched (directory_in a) p.note) ≡ stripes_met stripe p.note.offset p.note.length
+  size = ap length touched_are ∙ length-range_with_len (p.note.offset / stripe) (stripes_met stripe p.note.offset p.note.length)
+
+  module _ (desk : Desk) (table : Table) (dr : List ℕ) (listed : table.listed ≡ a.versions.listed ++ map (drawn_version p.actor p.number p.pinned) (range_with_len (p.note.offset / stripe) (stripes_met stripe p.note.offset p.note.length)))
+      (drawn : dr ≡ range_with_len (length a.versions.listed) (stripes_met stripe p.note.offset p.note.length))
+      (passes : desk.listed ≡ map (λ (other : Pass). if same_actor who other.actor then record other { drawn = dr } else other) a.passes.listed) where
+    pub draw_step : (number : ℕ) → (directory_in (record a { versions = table; passes = desk }), Told.Versions dr) ≡ at_directory false who number DirectoryStep.Draw (directory_in a)
+    draw_step number =
+        sym (
+        ap (λ (o : Option Pass). on_pass draw o (directory_in a)) found ∙ ap (λ (r : Option ℕ). unless_reaped draw p r (directory_in a)) live
+        ∙ (λ i. (
+          record (directory_in a) {
+            versions = (ap (λ (ss : List ℕ). a.versions.listed ++ map (new_version p) ss) touched_are ∙ sym listed) i;
+            passes = (
+                (λ j. map (λ (other : Pass). if same_actor (sym own j) other.actor then record other { drawn = (ap (range_with_len (length a.versions.listed)) size ∙ sym drawn) j } else other) a.passes.listed) ∙ sym passes
+                ) i;
+          },
+          Told.Versions ((ap (range_with_len (length a.versions.listed)) size ∙ sym drawn) i),
+        ))
+        )
+
+    counted_by : (f : Pass → ℕ) → ((q : Pass) → f (record q { drawn = dr }) ≡ f q) → sum_by f desk.listed ≡ sum_by f a.passes.listed
+    counted_by f same = ap (sum_by f) passes ∙ sum_by-changed f (λ (other : Pass). if same_actor who other.actor then record other { drawn = dr } else other) (λ q. still f dr same (same_actor who q.actor) q) a.passes.listed
+
+    pub kept_drawn : desk.stripe ≡ a.passes.stripe → table.pins ≡ a.versions.pins ++ replicate (stripes_met stripe p.note.offset p.note.length) 0 → ((pass : Pass) × IsWriting (directory_in a) who pass × (pass.drawn ≡ []))
+        → IsKept (record a { versions = table; passes = desk })
+    kept_drawn same_stripe pins may =
+        record {
+          stripes = kept.stripes;
+          desk = same_stripe ∙ kept.desk;
+          sound = subst IsSound (sym (ap (λ r. r.0) (draw_step 0))) (keeps_sound who 0 DirectoryStep.Draw (directory_in a) kept.stripes kept.sound may);
+          counted = omega (
+            arith,
+            ap length pins,
+            ap length listed,
+            kept.counted,
+            length-append a.versions.pins (replicate (stripes_met stripe p.note.offset p.note.length) 0),
+            length-replicate {A = ℕ} (stripes_met stripe p.note.offset p.note.length) 0,
+            length-append a.versions.listed (map (drawn_version p.actor p.number p.pinned) (range_with_len (p.note.offset / stripe) (stripes_met stripe p.note.offset p.note.length))),
+            length-map (range_with_len (p.note.offset / stripe) (stripes_met stripe p.note.offset p.note.length)) (drawn_version p.actor p.number p.pinned),
+            length-range_with_len (p.note.offset / stripe) (stripes_met stripe p.note.offset p.note.length),
+          );
+          pins = λ v. ap (λ cs. get_or cs v 0) pins ∙ get_or-zeros a.versions.pins (stripes_met stripe p.note.offset p.note.length) v ∙ kept.pins v ∙ sym (counted_by (pins_of v) (λ q. refl));
+          named =
+              subst (λ (ps : List Pass). All (λ pass. Contains a.history.names pass.note.name) ps) (sym passes)
+              (all_changed (λ (q : Pass). Contains a.history.names q.note.name) (λ (other : Pass). if same_actor who other.actor then record other { drawn = dr } else other)
+              (λ q h. stays (λ (q : Pass). Contains a.history.names q.note.name) dr (λ q h. h) (same_actor who q.actor) q h) a.passes.listed kept.named);
+          points_room = omega (arith, counted_by (λ (q : Pass). one_if (is_live q.reaped)) (λ q. refl), kept.points_room);
+          objects_room = omega (arith, counted_by (λ (q : Pass). one_if (may_append q.note.kind && is_live q.reaped)) (λ q. refl), kept.objects_room);
+        }

@@ -1,0 +1,8 @@
+pub mod Sound
+pub mod Ending
+pub mod Garbage
+pub mod GivenUp
+pub mod Commits
+pub mod Draws
+pub mod Beginnings
+pub mod Lookings

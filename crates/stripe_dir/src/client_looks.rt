@@ -1,0 +1,147 @@
+ghost use Rattle.std.specs.Prelude.{◌≡◌, ◌<◌, true, None, Some, option_map, is_err, if◌then◌else◌};
+ghost use Rattle.store_core.specs.Note.{note_of};
+ghost use Rattle.store_core.specs.Act.{DirectoryStep};
+ghost use Rattle.store_core.specs.Lookups.{find_object, last_change};
+ghost use Rattle.store_core.specs.Looks.{accept};
+ghost use Rattle.store_core.specs.Agreement.{AgreesWithSeat};
+ghost use Rattle.store_core.specs.Tokens.{MayLook, after_look};
+ghost use Rattle.store_core.specs.AtDirectory.{at_directory};
+ghost use Rattle.store_core.specs.Sound.{IsSound};
+ghost use Rattle.dir_parts.specs.Parts.{object_or_new};
+ghost use Rattle.dir_parts.specs.Passes.{kind_in};
+ghost use Rattle.stripe_dir.specs.Answers.{told_look, token_look, told_or_short, token_or_seat};
+ghost use Rattle.stripe_dir.specs.Begun.{base_by, begins_pass, has_point, or_short};
+
+use crate::answers::Look;
+use crate::directory::Directory;
+use crate::looking::Begun;
+use crate::refusing::{note_of, refusal};
+use crate::steps::or_first;
+use crate::stripes::pinned_stripes;
+use crate::tokens::{Pass, Seat};
+use dir_parts::{Answer, CallNote, History, Kind, Objects};
+use store_map::{Call, Name, Point};
+
+// The length of the object with this name, if there is one.
+fn length_of(objects: &Objects, name: &Name) -> Option<u64>
+    ensures { result ≡ option_map (λ object. object.length) (find_object name.now objects.now.objects) }
+{
+    match objects.find(name) {
+        Some(contents) => Some(contents.length),
+        None => None,
+    }
+}
+
+// The base of a write: the last change of its object. Other calls have none.
+fn base_of(history: &History, note: &CallNote) -> Option<u64>
+    ensures { result ≡ base_by note.now.kind (last_change note.now.name history.now.points) }
+{
+    match note.kind {
+        Kind::Write => history.last_change(&note.name),
+        _ => None,
+    }
+}
+
+// Whether a look that goes on has a point.
+fn has_point(kind: Kind) -> bool
+    ensures { result ≡ has_point (kind_in kind) }
+{
+    matches!(kind, Kind::Get | Kind::ReadAt)
+}
+
+// The same point.
+fn point_of(point: Option<u64>) -> Option<Point>
+    ensures { option_map (λ point. point.0) result ≡ point }
+{
+    match point {
+        Some(point) => Some(Point(point)),
+        None => None,
+    }
+}
+
+impl Directory {
+    // A look that goes on: its pass begins.
+    fn look_on(
+        &mut self,
+        seat: Seat,
+        number: u32,
+        note: CallNote,
+        length: u64,
+    ) -> Result<Look, Seat>
+        requires goes_on { begins_pass note.kind ≡ true }
+        requires length { length ≡ (object_or_new note.name self.old.objects).length }
+        requires sound { IsSound (accept seat.actor number note self.old note.kind (object_or_new note.name self.old.objects)).0 }
+        ensures step { (self.new, told_or_short told_look result) ≡ or_short (is_err result) self.old (accept seat.actor number note self.old note.kind (object_or_new note.name self.old.objects)) }
+        ensures token { token_or_seat token_look result ≡ after_look seat number note (told_or_short told_look result) }
+    {
+        let kind = note.kind;
+        let base = base_of(&self.history, &note);
+        let point = self.history.len() as u64;
+        let stripe = self.geometry.stripe_len();
+        let Ok(stripes) = pinned_stripes(self.alloc, kind, stripe, note.offset, note.length, length)
+        else {
+            return Err(seat);
+        };
+        let Ok(begun) = self.begin(seat.actor, number, note, &stripes, base) else {
+            return Err(seat);
+        };
+        let Begun { entry, seen } = begun;
+        let Seat {
+            actor,
+            unused: _,
+            told,
+        } = seat;
+        if has_point(kind) {
+            return Ok(Look::Pinned {
+                pass: Pass {
+                    actor,
+                    told: Some(point),
+                    entry,
+                },
+                point: Point(point),
+                length,
+                stripes: seen,
+            });
+        }
+        Ok(Look::Ready {
+            pass: Pass { actor, told, entry },
+            base: point_of(base),
+            length,
+            stripes: seen,
+        })
+    }
+
+    // The look of a client's call, by what is kept of it.
+    fn look_by(&mut self, seat: Seat, number: u32, note: CallNote) -> Result<Look, Seat>
+        requires agrees { AgreesWithSeat self.old seat }
+        requires may { MayLook seat number (DirectoryStep.Look note) }
+        ensures step { (self.new, told_or_short told_look result) ≡ at_directory (is_err result) seat.actor number (DirectoryStep.Look note) self.old }
+        ensures token { token_or_seat token_look result ≡ after_look seat number note (told_or_short told_look result) }
+    {
+        let found = length_of(&self.objects, &note.name);
+        if let Some(reply) = refusal(self.max, note.kind, note.offset, note.length, found) {
+            return self.answer(seat, number, note, reply);
+        }
+        let length = or_first(found);
+        match note.kind {
+            Kind::Stat => self.answer(seat, number, note, Answer::Length(length)),
+            Kind::Delete => self.delete(seat, number, note),
+            Kind::Rebuild => unreachable!(),
+            _ => self.look_on(seat, number, note, length),
+        }
+    }
+
+    /// Begins a client's call under an unused number. Takes the memory for the end and the reap of the
+    /// pass that it begins; where memory is wanting nothing changes.
+    pub fn look(&mut self, seat: Seat, number: u32, call: &Call) -> Result<Look, Seat>
+        requires agrees { AgreesWithSeat self.old seat }
+        requires may { MayLook seat number (DirectoryStep.Look (note_of call.now)) }
+        ensures step { (self.new, told_or_short told_look result) ≡ at_directory (is_err result) seat.actor number (DirectoryStep.Look (note_of call.now)) self.old }
+        ensures token { token_or_seat token_look result ≡ after_look seat number (note_of call.now) (told_or_short told_look result) }
+    {
+        let Ok(note) = note_of(call) else {
+            return Err(seat);
+        };
+        self.look_by(seat, number, note)
+    }
+}

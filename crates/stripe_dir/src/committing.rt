@@ -1,0 +1,168 @@
+ghost use Rattle.std.specs.Prelude.{◌≡◌, ◌+◌, ◌<◌, ◌≤◌, ◌/◌, length, map, false, None, Some, IfSome, IsTrue, is_some, vec_capacity};
+ghost use Rattle.store_core.specs.Told.{Told};
+ghost use Rattle.store_core.specs.Note.{Kind as CoreKind};
+ghost use Rattle.store_core.specs.Act.{DirectoryStep};
+ghost use Rattle.store_core.specs.Commit.{put_object, is_overtaken, same_point};
+ghost use Rattle.store_core.specs.Lookups.{pass_of, last_change};
+ghost use Rattle.store_core.specs.Agreement.{AgreesWithPass};
+ghost use Rattle.store_core.specs.Tokens.{MayGoOn, after_pass_step};
+ghost use Rattle.store_core.specs.AtDirectory.{at_directory};
+ghost use Rattle.dir_parts.specs.Parts.{object_or_new};
+ghost use Rattle.dir_parts.specs.Passes.{kind_in};
+ghost use Rattle.stripe_dir.specs.Answers.{told_committed, token_committed};
+ghost use Rattle.stripe_dir.specs.Installed.{installed, dropped, changed_by};
+
+use crate::answers::Committed;
+use crate::directory::Directory;
+use crate::steps::{or_first, seat_of};
+use crate::tokens::{Pass, Seat};
+use dir_parts::{CallNote, Event, Kind, Objects, OpenPass};
+use store_map::{Actor, Placement, Point};
+
+// Whether two points are the same, or none both times.
+fn is_same(a: Option<u64>, b: Option<u64>) -> bool
+    ensures { result ≡ same_point a b }
+{
+    match (a, b) {
+        (None, None) => true,
+        (Some(a), Some(b)) => a == b,
+        _ => false,
+    }
+}
+
+// Whether the call is a write whose object was changed since its look.
+fn is_overtaken(kind: Kind, base: Option<u64>, last: Option<u64>) -> bool
+    ensures { result ≡ is_overtaken (kind_in kind) base last }
+{
+    match kind {
+        Kind::Write => !is_same(base, last),
+        _ => false,
+    }
+}
+
+// The drawn versions stand in the object: all of it after a put, in the places of the stripes that it
+// touches after a write. Gives the versions that are replaced.
+fn install(
+    objects: &mut Objects,
+    stripe: u32,
+    note: CallNote,
+    drawn: Vec<u64>,
+    memory: Vec<u64>,
+) -> Vec<u64>
+    requires stripe { 0 < stripe }
+    requires room { 0 < objects.old.room }
+    requires memory { note.kind ≡ CoreKind.Write → 0 < length drawn.items → note.offset / stripe + length drawn.items ≤ vec_capacity memory }
+    ensures objects { objects.new.objects ≡ put_object (installed note.kind stripe note drawn.items (object_or_new note.name objects.old.objects)) objects.old.objects }
+    ensures replaced { result.items ≡ dropped note.kind stripe note drawn.items (object_or_new note.name objects.old.objects).versions }
+    ensures left { objects.old.room ≤ objects.new.room + 1 }
+{
+    let CallNote {
+        kind,
+        name,
+        offset,
+        length,
+    } = note;
+    match kind {
+        Kind::Write => {
+            let end = u64::from(offset) + u64::from(length);
+            objects.write(name, end, offset / stripe, drawn, memory)
+        }
+        _ => objects.put(name, u64::from(length), drawn),
+    }
+}
+
+impl Directory {
+    // Where the actor's pass is a write whose object was changed since its look: its base, and the change.
+    fn overtaken(&self, actor: Actor) -> Option<(u64, u64)>
+        requires { IsTrue (is_some (pass_of actor self.now)) }
+        ensures { IfSome (pass_of actor self.now) (λ pass. result ≡ changed_by pass (last_change pass.note.name self.now.points)) }
+    {
+        match self.passes.find(actor) {
+            Some(open) => {
+                let note = &open.note;
+                let last = self.history.last_change(&note.name);
+                if is_overtaken(note.kind, open.base, last) {
+                    return Some((or_first(open.base), or_first(last)));
+                }
+                None
+            }
+            None => unreachable!(),
+        }
+    }
+
+    // Commits what a pass has drawn that wasn't reaped, and whose object wasn't changed.
+    fn finish(&mut self, pass: Pass, placed: Vec<Vec<Placement>>) -> Committed
+        requires agrees { AgreesWithPass self.old pass }
+        requires may { MayGoOn self.old pass (DirectoryStep.Commit (map (λ row. row.items) placed.items)) }
+        requires live { IfSome (pass_of pass.pass.actor self.old) (λ own. own.reaped ≡ None) }
+        requires still { IfSome (pass_of pass.pass.actor self.old) (λ own. changed_by own (last_change own.note.name self.old.points) ≡ None) }
+        ensures step { (self.new, told_committed result) ≡ at_directory false pass.pass.actor pass.pass.number (DirectoryStep.Commit (map (λ row. row.items) placed.items)) self.old }
+        ensures token { token_committed result ≡ after_pass_step pass (told_committed result) }
+    {
+        let Pass {
+            actor,
+            told: _,
+            entry: _,
+        } = pass;
+        let open = self.passes.take(actor);
+        let OpenPass {
+            number,
+            note,
+            pinned,
+            drawn,
+            spare,
+            ..
+        } = open;
+        self.versions.unpin_all(&pinned);
+        self.versions.place_all(&drawn, placed);
+        let point = self.history.add(
+            actor,
+            number,
+            Event::Done,
+            note.kind,
+            &note.name,
+            note.offset,
+            note.length,
+        );
+        let stripe = self.geometry.stripe_len();
+        let replaced = install(&mut self.objects, stripe, note, drawn, spare);
+        self.versions.supersede_all(&replaced);
+        Committed::Done {
+            seat: seat_of(actor, number, Some(point)),
+            point: Point(point),
+        }
+    }
+
+    /// Commits what the pass has drawn, with a row of placements for each version.
+    pub fn commit(&mut self, pass: Pass, placed: Vec<Vec<Placement>>) -> Committed
+        requires agrees { AgreesWithPass self.old pass }
+        requires may { MayGoOn self.old pass (DirectoryStep.Commit (map (λ row. row.items) placed.items)) }
+        ensures step { (self.new, told_committed result) ≡ at_directory false pass.pass.actor pass.pass.number (DirectoryStep.Commit (map (λ row. row.items) placed.items)) self.old }
+        ensures token { token_committed result ≡ after_pass_step pass (told_committed result) }
+    {
+        if let Some(point) = self.reap_of(pass.actor) {
+            let seat = self.end_reaped(pass, point);
+            return Committed::Reaped {
+                seat,
+                at: Point(point),
+            };
+        }
+        if let Some((base, newer)) = self.overtaken(pass.actor) {
+            let Seat {
+                actor,
+                unused,
+                told: _,
+            } = self.end_live(pass);
+            return Committed::Changed {
+                seat: Seat {
+                    actor,
+                    unused: unused - 1,
+                    told: Some(newer),
+                },
+                base: Point(base),
+                newer: Point(newer),
+            };
+        }
+        self.finish(pass, placed)
+    }
+}

@@ -1,0 +1,22 @@
+//! The directory of an object store: objects, versions of their stripes, the calls in work, and the history.
+#![tactic(auto)]
+
+mod answers;
+mod client_looks;
+mod committing;
+mod directory;
+mod drawing;
+mod looking;
+mod opening;
+mod reaping;
+mod refusing;
+mod repair_looks;
+mod room;
+mod steps;
+mod stripes;
+mod sweeping;
+mod tokens;
+
+pub use answers::{Committed, Confirmed, Drawn, Ended, Look, RepairLook, Seen};
+pub use directory::Directory;
+pub use tokens::{Pass, Seat};

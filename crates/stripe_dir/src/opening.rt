@@ -1,0 +1,123 @@
+ghost use Rattle.std.specs.Prelude.{◌≡◌, ◌+◌, ◌≤◌, ◌<◌, ◌++◌, vec_len, vec_capacity, map, length, option_map, slice_get, nat_lt, IfOk};
+ghost use Rattle.std.specs.List.{range_with_len};
+ghost use Rattle.dir_parts.specs.Book.{told_of};
+ghost use Rattle.dir_parts.specs.Parts.{object_of};
+ghost use Rattle.store_core.specs.Directory.{new_directory};
+ghost use Rattle.stripe_dir.specs.Seats.{client_seat, repairer_seat};
+
+use crate::directory::Directory;
+use crate::tokens::Seat;
+use clay_grid::Geometry;
+use dir_parts::{Contents, History, Objects, Passes, PointEntry, Versions};
+use std::alloc::{AllocError, Global};
+use store_map::{Actor, Name, Version};
+
+// So many clients' seats, then so many repairers'.
+fn seats(alloc: Global, clients: u32, repairers: u32) -> Result<Vec<Seat>, AllocError>
+    ensures { IfOk result (λ seats. seats.items ≡ map client_seat (range_with_len 0 clients) ++ map repairer_seat (range_with_len 0 repairers)) }
+{
+    let mut seats = Vec::with_capacity(alloc, clients as usize + repairers as usize)?;
+    add_clients(&mut seats, clients);
+    add_repairers(&mut seats, repairers);
+    Ok(seats)
+}
+
+fn add_clients(seats: &mut Vec<Seat>, count: u32)
+    requires { vec_len seats.old + count ≤ vec_capacity seats.old }
+    ensures items { seats.new.items ≡ seats.old.items ++ map client_seat (range_with_len 0 count) }
+    ensures len { vec_len seats.new ≡ vec_len seats.old + count }
+    ensures room { vec_capacity seats.new ≡ vec_capacity seats.old }
+{
+    for i in 0..count {
+        seats.push_reserved(Seat {
+            actor: Actor::Client(i),
+            unused: 0,
+            told: None,
+        });
+    }
+}
+
+fn add_repairers(seats: &mut Vec<Seat>, count: u32)
+    requires { vec_len seats.old + count ≤ vec_capacity seats.old }
+    ensures items { seats.new.items ≡ seats.old.items ++ map repairer_seat (range_with_len 0 count) }
+    ensures len { vec_len seats.new ≡ vec_len seats.old + count }
+    ensures room { vec_capacity seats.new ≡ vec_capacity seats.old }
+{
+    for i in 0..count {
+        seats.push_reserved(Seat {
+            actor: Actor::Repairer(i),
+            unused: 0,
+            told: None,
+        });
+    }
+}
+
+impl Directory {
+    /// A directory without objects, whose objects may have `max` bytes each, and the seats of its
+    /// clients, then of its repairers.
+    pub fn new(
+        alloc: Global,
+        geometry: Geometry,
+        max: u32,
+        clients: u32,
+        repairers: u32,
+    ) -> Result<(Directory, Vec<Seat>), AllocError>
+        ensures directory { IfOk result (λ made. made.0 ≡ new_directory geometry max) }
+        ensures seats { IfOk result (λ made. made.1.items ≡ map client_seat (range_with_len 0 clients) ++ map repairer_seat (range_with_len 0 repairers)) }
+    {
+        let seats = seats(alloc, clients, repairers)?;
+        let stripe = geometry.stripe_len();
+        let directory = Directory {
+            alloc,
+            geometry,
+            max,
+            objects: Objects::new(alloc),
+            versions: Versions::new(alloc),
+            passes: Passes::new(alloc, stripe),
+            history: History::new(alloc),
+        };
+        Ok((directory, seats))
+    }
+
+    /// The code of the stripes.
+    pub fn geometry(&self) -> Geometry
+        ensures { result ≡ self.now.shape }
+    {
+        self.geometry
+    }
+
+    /// How many objects there are.
+    pub fn objects(&self) -> usize
+        ensures { result ≡ length self.now.objects }
+    {
+        self.objects.len()
+    }
+
+    /// The object at this place in the order of creation: its name, its length and its versions.
+    pub fn object_at(&self, place: usize) -> Option<(&Name, &Contents)>
+        ensures { option_map (λ p. object_of p.0.now p.1.now) result ≡ slice_get self.now.objects place }
+    {
+        self.objects.get(place)
+    }
+
+    /// How many points the history has.
+    pub fn points(&self) -> usize
+        ensures { result ≡ length self.now.points }
+    {
+        self.history.len()
+    }
+
+    /// The point of the history with this number.
+    pub fn point_at(&self, point: usize) -> Option<PointEntry>
+        ensures { option_map told_of result ≡ option_map (λ entry. (entry.actor, entry.number, entry.event)) (slice_get self.now.points point) }
+    {
+        self.history.get(point)
+    }
+
+    /// Whether the directory has drawn the version.
+    pub fn knows(&self, version: Version) -> bool
+        ensures { result ≡ nat_lt version.0 (length self.now.versions) }
+    {
+        version.0 < self.versions.len() as u64
+    }
+}

@@ -1,0 +1,71 @@
+ghost use Rattle.std.specs.Prelude.{◌≡◌, ◌∷◌, [], IfOk, is_err};
+ghost use Rattle.store_core.specs.Note.{Kind as CoreKind};
+ghost use Rattle.store_core.specs.Act.{DirectoryStep};
+ghost use Rattle.store_core.specs.Agreement.{AgreesWithSeat};
+ghost use Rattle.store_core.specs.Tokens.{MayLook, after_look};
+ghost use Rattle.store_core.specs.AtDirectory.{at_directory};
+ghost use Rattle.dir_parts.specs.Parts.{object_or_new};
+ghost use Rattle.std.specs.Prelude.{length};
+ghost use Rattle.stripe_dir.specs.Answers.{told_repair_look, token_repair_look, told_or_short, token_or_seat};
+
+use crate::answers::RepairLook;
+use crate::directory::Directory;
+use crate::looking::Begun;
+use crate::tokens::{Pass, Seat};
+use dir_parts::{CallNote, Kind, Objects};
+use store_map::Name;
+
+// How many stripes the object with this name has, none where there is no object.
+fn stripes_of(objects: &Objects, name: &Name) -> usize
+    ensures { result ≡ length (object_or_new name.now objects.now.objects).versions }
+{
+    match objects.find(name) {
+        Some(contents) => contents.versions.len(),
+        None => 0,
+    }
+}
+
+impl Directory {
+    /// Begins a rebuild of a chunk of this stripe under an unused number. It appends no point, and takes
+    /// its memory as a client's look does.
+    pub fn look_repair(
+        &mut self,
+        seat: Seat,
+        number: u32,
+        name: &Name,
+        stripe: u32,
+    ) -> Result<RepairLook, Seat>
+        requires agrees { AgreesWithSeat self.old seat }
+        requires may { MayLook seat number (DirectoryStep.LookRepair (record { kind = CoreKind.Rebuild; name = name.now; offset = stripe; length = 0 })) }
+        ensures step { (self.new, told_or_short told_repair_look result) ≡ at_directory (is_err result) seat.actor number (DirectoryStep.LookRepair (record { kind = CoreKind.Rebuild; name = name.now; offset = stripe; length = 0 })) self.old }
+        ensures token { token_or_seat token_repair_look result ≡ after_look seat number (record { kind = CoreKind.Rebuild; name = name.now; offset = stripe; length = 0 }) (told_or_short told_repair_look result) }
+    {
+        if stripe as usize >= stripes_of(&self.objects, name) {
+            return Ok(RepairLook::NoSuch { seat });
+        }
+        let Ok(copy) = name.copy() else {
+            return Err(seat);
+        };
+        let note = CallNote {
+            kind: Kind::Rebuild,
+            name: copy,
+            offset: stripe,
+            length: 0,
+        };
+        let Ok(begun) = self.begin(seat.actor, number, note, &[stripe], None) else {
+            return Err(seat);
+        };
+        let Begun { entry, seen } = begun;
+        let mut seen = seen;
+        let Seat {
+            actor,
+            unused: _,
+            told,
+        } = seat;
+        let pass = Pass { actor, told, entry };
+        match seen.pop() {
+            Some(seen) => Ok(RepairLook::Pinned { pass, seen }),
+            None => unreachable!(),
+        }
+    }
+}

@@ -1,0 +1,58 @@
+ghost use Rattle.std.specs.Prelude.{◌≡◌, ◌+◌, ◌<◌, ◌≤◌, ◌++◌, ℕ, List, length, Contains, OnOk};
+ghost use Rattle.stripe_dir.specs.Begun.{looked};
+
+use dir_parts::{CallNote, Event, History, Kind, Objects, Passes};
+use std::alloc::AllocError;
+use store_map::{Actor, Name};
+
+/// Takes the room for what one more pass may add and for a point of its look, and keeps its name.
+pub(crate) fn make_room(
+    history: &mut History,
+    objects: &mut Objects,
+    passes: &mut Passes,
+    name: &Name,
+) -> Result<(), AllocError>
+    ensures points { history.new.points ≡ history.old.points }
+    ensures others { (other : List ℕ) → Contains history.old.names other → Contains history.new.names other }
+    ensures points_room { history.old.room ≤ history.new.room }
+    ensures objects { objects.new.objects ≡ objects.old.objects }
+    ensures objects_room { objects.old.room ≤ objects.new.room }
+    ensures passes { passes.new.listed ≡ passes.old.listed }
+    ensures stripe { passes.new.stripe ≡ passes.old.stripe }
+    ensures named { OnOk result (Contains history.new.names name.now) }
+    ensures more_points { OnOk result (length passes.old.listed + 2 ≤ history.new.room) }
+    ensures more_objects { OnOk result (length passes.old.listed + 1 ≤ objects.new.room) }
+    ensures more_passes { OnOk result (0 < passes.new.space) }
+{
+    history.keep_name(name)?;
+    let Some(more) = passes.len().checked_add(2) else {
+        return Err(AllocError);
+    };
+    history.reserve(more)?;
+    objects.reserve(more)?;
+    passes.reserve()
+}
+
+/// Appends the point of a look whose pass begins, if its call has one.
+pub(crate) fn add_look(history: &mut History, actor: Actor, number: u32, note: &CallNote)
+    requires room { 0 < history.old.room }
+    requires named { Contains history.old.names note.now.name }
+    ensures points { history.new.points ≡ history.old.points ++ looked actor number note.now }
+    ensures names { history.new.names ≡ history.old.names }
+    ensures left { history.old.room ≤ history.new.room + 1 }
+{
+    match note.kind {
+        Kind::Get | Kind::ReadAt => {
+            history.add(
+                actor,
+                number,
+                Event::Pinned,
+                note.kind,
+                &note.name,
+                note.offset,
+                note.length,
+            );
+        }
+        _ => {}
+    }
+}

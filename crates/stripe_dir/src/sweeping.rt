@@ -1,0 +1,36 @@
+ghost use Rattle.std.specs.Prelude.{◌≡◌, ℕ, false, is_some, option_map};
+ghost use Rattle.store_map.specs.declared.actor.Actor.{Actor as CoreActor};
+ghost use Rattle.store_core.specs.Told.{Told};
+ghost use Rattle.store_core.specs.Act.{DirectoryStep};
+ghost use Rattle.store_core.specs.AtDirectory.{at_directory};
+ghost use Rattle.store_core.specs.Lookups.{first_garbage};
+
+use crate::directory::Directory;
+use dir_parts::{CallNote, Event, History};
+use store_map::{Actor, Point, Version};
+
+impl Directory {
+    /// Takes the least version that is superseded and that no pass pins which isn't reaped.
+    pub fn next_garbage(&mut self) -> Option<Version>
+        ensures { (who : CoreActor) → (number : ℕ) → (self.new, Told.Taken (option_map (λ version. version.0) result)) ≡ at_directory false who number DirectoryStep.NextGarbage self.old }
+    {
+        match self.versions.take_least() {
+            Some(version) => Some(Version(version)),
+            None => None,
+        }
+    }
+
+    /// Whether there is such a version.
+    pub fn has_garbage(&self) -> bool
+        ensures { result ≡ is_some (first_garbage self.now) }
+    {
+        self.versions.has_garbage()
+    }
+
+    /// A version that was taken is swept; nothing where it isn't taken.
+    pub fn swept(&mut self, version: Version)
+        ensures { (who : CoreActor) → (number : ℕ) → (self.new, Told.Made) ≡ at_directory false who number (DirectoryStep.Swept version.0) self.old }
+    {
+        self.versions.sweep(version.0);
+    }
+}

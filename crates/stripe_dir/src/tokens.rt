@@ -1,0 +1,38 @@
+use dir_parts::OpenPass;
+use std::marker::Model;
+use std::snapshot::Snapshot;
+use store_map::Actor;
+
+/// The token of an actor that is in no call. It has to be spent.
+pub struct Seat {
+    pub(crate) actor: Actor,
+    pub(crate) unused: u64,
+    pub(crate) told: Option<u64>,
+}
+
+impl Model for Seat {
+    ghost use Rattle.store_core.specs.Agreement.{Seat as CoreSeat};
+
+    ghost Value = { CoreSeat };
+
+    ghost use Rattle.stripe_dir.specs.Tokens.{seat_in};
+
+    ghost view = { seat_in };
+}
+
+/// The token of an actor whose call has begun. It has to be spent.
+pub struct Pass {
+    pub(crate) actor: Actor,
+    pub(crate) told: Option<u64>,
+    pub(crate) entry: Snapshot<OpenPass>,
+}
+
+impl Model for Pass {
+    ghost use Rattle.store_core.specs.Agreement.{HeldPass};
+
+    ghost Value = { HeldPass };
+
+    ghost use Rattle.stripe_dir.specs.Tokens.{held_in};
+
+    ghost view = { held_in };
+}
