@@ -5,7 +5,7 @@ ghost use Rattle.clay_decode.specs.Left.{AreLong};
 use crate::encoding::{CODES, WIDTHS, mixed_bytes};
 use clay_decode::DecodeFault;
 use clay_grid::Geometry;
-use clay_lanes::{LaneCoder, missing};
+use clay_lanes::{LaneCoder, decode, missing};
 use clay_repair::{Coder, PlainCoder};
 use std::alloc::{AllocError, Global};
 use std::process::Abort;
@@ -67,9 +67,11 @@ fn check_loss<R: Abort + Threads + Sync>(
     let have = left_of(rt, alloc, g, word, gone)?;
     if gone_count(&have) > g.m() as usize {
         assert_eq!(rt; missing(alloc, g, &have).err(), Some(DecodeFault::TooFew));
+        assert_eq!(rt; decode(alloc, g, &have).err(), Some(DecodeFault::TooFew));
         return Ok(());
     }
     expect_chunks(rt, &LaneCoder.recover(rt, alloc, g, &have)?, word);
+    expect_chunks(rt, &decode(alloc, g, &have)?, word);
     assert!(rt; word.len() < 32);
     let mut lost = Vec::new(alloc);
     for (c, chunk) in word.iter().enumerate() {
