@@ -1,0 +1,17 @@
+pub mod HeardLosses
+pub mod KeptVersions
+pub mod ServerChunks
+pub mod VersionMoves
+pub mod LossesRows
+pub mod LossesHeard
+pub mod LossesWeaker
+pub mod LossesCommits
+pub mod LossesState
+pub mod LossesServer
+pub mod LossesDirectory
+pub mod LossesActs
+pub mod LossesCalls
+pub mod LossesOwn
+pub mod LossesServers
+pub mod LossesRuns
+pub mod LossesKept
