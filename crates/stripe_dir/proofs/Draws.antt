@@ -16,7 +16,8 @@ use Rattle.store_core.specs.Sound.{IsSound}
 use Rattle.store_core.specs.AtDirectory.{unless_reaped, on_pass, at_directory}
 use Rattle.dir_parts.specs.Counts.{one_if, pins_of, may_append}
 use Rattle.dir_parts.specs.OpenPass.{Desk}
-use Rattle.dir_parts.specs.Table.{Table, drawn_version}
+use Rattle.dir_parts.specs.Table.{Table}
+use Rattle.dir_parts.specs.TableSteps.{drawn_version}
 use Rattle.dir_parts.proofs.Actors.{same_is, find_passes}
 use Rattle.dir_parts.proofs.Growing.{get_or-zeros, sum_by-changed, all_changed}
 use Rattle.stripe_dir.specs.Kept.{directory_in, IsKept}

@@ -20,7 +20,8 @@ use Rattle.dir_parts.specs.Counts.{one_if, times, pins_of, pins_by, points_due, 
 use Rattle.dir_parts.proofs.Actors.{same_is, find_passes}
 use Rattle.dir_parts.proofs.TableSteps.{length-change_at, length-fold}
 use Rattle.dir_parts.specs.OpenPass.{Desk}
-use Rattle.dir_parts.specs.Table.{Table, placed_anew_by}
+use Rattle.dir_parts.specs.Table.{Table}
+use Rattle.dir_parts.specs.TableSteps.{placed_anew_by}
 use Rattle.dir_parts.specs.Parts.{Shelf, Book}
 use Rattle.store_core.specs.Sound.{IsSound}
 use Rattle.stripe_dir.specs.Kept.{directory_in, IsKept}

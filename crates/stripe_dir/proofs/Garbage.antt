@@ -13,7 +13,8 @@ use Rattle.store_core.specs.Lookups.{is_live, is_pinned, is_superseded_standing,
 use Rattle.store_core.specs.AtDirectory.{at_directory, take_garbage, swept_standing}
 use Rattle.store_core.specs.Sound.{IsSound}
 use Rattle.dir_parts.specs.Counts.{one_if, times, pins_of, pins_by}
-use Rattle.dir_parts.specs.Table.{Table, first_free, taken_from}
+use Rattle.dir_parts.specs.Table.{Table}
+use Rattle.dir_parts.specs.TableSteps.{first_free, taken_from}
 use Rattle.dir_parts.proofs.TableSteps.{length-set_standing, length-change_at}
 use Rattle.stripe_dir.specs.Kept.{directory_in, IsKept}
 use Rattle.stripe_dir.specs.declared.directory.Directory.TheInside.{Inside}

@@ -7,7 +7,7 @@ ghost use Rattle.store_core.specs.Agreement.{AgreesWithPass};
 ghost use Rattle.store_core.specs.Tokens.{MayGoOn, after_pass_step};
 ghost use Rattle.store_core.specs.AtDirectory.{at_directory};
 ghost use Rattle.dir_parts.specs.Passes.{kind_in};
-ghost use Rattle.dir_parts.specs.Table.{drawn_version};
+ghost use Rattle.dir_parts.specs.TableSteps.{drawn_version};
 ghost use Rattle.stripe_dir.specs.Answers.{told_drawn, token_drawn, told_or_short, token_or_pass};
 
 use crate::answers::Drawn;

@@ -10,7 +10,7 @@ use Rattle.store_core.specs.SoundPasses.{HasVersions}
 use Rattle.store_core.specs.Agreement.{HeldPass, AgreesWithPass, ActorToken}
 use Rattle.dir_parts.specs.Counts.{unpinned}
 use Rattle.dir_parts.specs.OpenPass.{Open}
-use Rattle.dir_parts.specs.Table.{placed_anew_by}
+use Rattle.dir_parts.specs.TableSteps.{placed_anew_by}
 use Rattle.dir_parts.proofs.TableSteps.{length-placed_anew}
 use Rattle.stripe_dir.specs.Kept.{directory_in}
 use Rattle.stripe_dir.specs.declared.directory.Directory.TheInside.{Inside}
