@@ -5,8 +5,8 @@ ghost use Rattle.clay_cli.specs.declared.words.Command.TheVariants.{Chunks};
 
 use crate::Status;
 use crate::output::Output;
-use clay_lanes::encode;
 use clay_grid::Geometry;
+use clay_lanes::encode;
 use code_text::{StripeFault, chunk_lines, read_stripe};
 use std::alloc::{AllocError, Global};
 

@@ -255,7 +255,6 @@ module _ (g : Shape) (job : Job) where
   trying_small tries pairs (Told.Versions versions ∷ told) = committed_small versions told
   trying_small tries pairs (_ ∷ told) = tt
 
-
 small_by : (kind : Kind) (g : Shape) (tries : ℕ) (job : Job) (told : List Told) → ActSmall g (next_by kind g tries job told)
 small_by Kind.Put g tries job told = put_small g job told
 small_by Kind.Write g tries job told = trying_small g job tries [] told
