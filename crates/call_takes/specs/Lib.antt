@@ -1,0 +1,2 @@
+pub mod TakesOfCalls
+pub mod TakesLaws

@@ -1,0 +1,14 @@
+//! The laws, as functions that do nothing and whose contracts are the laws.
+
+ghost use Rattle.call_takes.specs.TakesLaws.{RebuildsTakeLeast, CallsHaveLogs};
+
+/// A rebuild that lacks its target's chunk alone takes one part in q of each other chunk, and
+/// nothing from its target.
+pub fn rebuilds_take_least()
+    ensures { RebuildsTakeLeast }
+{}
+
+/// In every run each call that has ended took what its answers gave it.
+pub fn calls_have_logs()
+    ensures { CallsHaveLogs }
+{}
