@@ -1,3 +1,4 @@
 pub mod Cells
 pub mod Rebuilds
 pub mod LogRuns
+pub mod ReadTakes

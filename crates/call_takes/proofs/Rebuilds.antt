@@ -115,7 +115,7 @@ module _ (g : Shape) (seen : Seen) (target : ℕ) (found : Found) (zeros : List 
 
   -- ---- once the parts are there
   abbrev pub all_taken : List ℕ
-  all_taken = taken_from (each g target) (others g seen target) zeros
+  all_taken = taken_from (λ _. each g target) (others g seen target) zeros
 
   asks_not : (server : ℕ) (step : ServerStep) (rest : List Told) → Gathering.Asks server step ≡ Gathering.HasBytes rest → ⊥
   asks_not server step rest e = subst NotDone e tt
@@ -123,7 +123,7 @@ module _ (g : Shape) (seen : Seen) (target : ℕ) (found : Found) (zeros : List 
   short_not : (told rest : List Told) → Gathering.Short told ≡ Gathering.HasBytes rest → ⊥
   short_not told rest e = subst NotDone e tt
 
-  done_fetched : (servers : List ℕ) (rest last : List Told) (before takes : List ℕ) → fetching_repair g seen servers lost rest ≡ Gathering.HasBytes last → Fetched servers rest before takes → takes ≡ taken_from (each g target) servers before
+  done_fetched : (servers : List ℕ) (rest last : List Told) (before takes : List ℕ) → fetching_repair g seen servers lost rest ≡ Gathering.HasBytes last → Fetched servers rest before takes → takes ≡ taken_from (λ _. each g target) servers before
   done_fetched [] rest last before takes e h = h
   done_fetched (server ∷ more) [] last before takes e h = absurd (asks_not server (ServerStep.Fetch seen.version (repair_layers_of g target)) last e)
   done_fetched (server ∷ more) (Told.Given count ∷ rest) last before takes e h = done_fetched more rest last (change_at server (each g target) before) takes e h
@@ -144,7 +144,7 @@ IsPlain (Told.Given count) = ⊥
 IsPlain (Told.Missing found) = ⊥
 IsPlain answer = Unit {0}
 
-takes_stay : (act : Act) (answer : Told) (takes : List ℕ) → IsPlain answer → take_from act answer takes ≡ takes
+pub takes_stay : (act : Act) (answer : Told) (takes : List ℕ) → IsPlain answer → take_from act answer takes ≡ takes
 takes_stay (Act.AtServer server step) (Told.Given count) takes plain = absurd plain
 takes_stay (Act.AtServer server step) answer takes plain = refl
 takes_stay (Act.AtDirectory step) answer takes plain = refl
@@ -156,7 +156,7 @@ AsksNone (Act.AtServer server (ServerStep.Has version)) = ⊥
 AsksNone (Act.AtServer server (ServerStep.Fetch version layers)) = ⊥
 AsksNone act = Unit {0}
 
-ending_none : (outcome : Outcome) (told : List Told) → AsksNone (ending outcome told)
+pub ending_none : (outcome : Outcome) (told : List Told) → AsksNone (ending outcome told)
 ending_none outcome [] = tt
 ending_none outcome (Told.Ended ∷ told) = tt
 ending_none outcome (Told.Reaped point ∷ told) = tt
@@ -203,7 +203,7 @@ plain_at server step (Told.Given count) none fits = fits
 plain_at server step (Told.Missing gone) none fits = fits
 plain_at server step answer none fits = tt
 
-fits_plain : (pins touched : ℕ) (act : Act) (answer : Told) → AsksNone act → Fits pins touched act answer → IsPlain answer
+pub fits_plain : (pins touched : ℕ) (act : Act) (answer : Told) → AsksNone act → Fits pins touched act answer → IsPlain answer
 fits_plain pins touched act Told.Short none fits = tt
 fits_plain pins touched (Act.AtDirectory step) answer none fits = plain_there pins touched step answer fits
 fits_plain pins touched (Act.AtServer server step) answer none fits = plain_at server step answer none fits
@@ -224,7 +224,7 @@ module _ (g : Shape) (target : ℕ) where
     pub so : OfTarget seen told count takes
 
   abbrev pub ChunkTaken : Seen → List Told → ℕ → List ℕ → Type 0
-  ChunkTaken seen (Told.Gathered ∷ told) count takes = count ≡ 1 → takes ≡ taken_from (each g target) (others g seen target) nothing
+  ChunkTaken seen (Told.Gathered ∷ told) count takes = count ≡ 1 → takes ≡ taken_from (λ _. each g target) (others g seen target) nothing
   ChunkTaken seen told count takes = Going seen told count takes
 
   abbrev pub RebuildTaken : List Told → ℕ → List ℕ → Type 0
@@ -435,7 +435,7 @@ module _ (g : Shape) (note : Note) (target : ℕ) where
   act_other seen (Gathering.Short rest) going h = ending_other Outcome.NoMemory rest tt h
 
   all_taken_at_end : (told : List Told) (count : ℕ) (takes : List ℕ) → RebuildTaken g target told count takes → IsRebuilt (next_rebuild g note target told) → count ≡ 1
-      → (seen : Seen) × (takes ≡ taken_from (each g target) (others g seen target) (nothing g target))
+      → (seen : Seen) × (takes ≡ taken_from (λ _. each g target) (others g seen target) (nothing g target))
   all_taken_at_end [] count takes h rebuilt one = absurd rebuilt
   all_taken_at_end (Told.NoSuch ∷ told) count takes h rebuilt one = absurd rebuilt
   all_taken_at_end (Told.PinnedStripe seen ∷ Told.Gathered ∷ told) count takes h rebuilt one = (seen, h one)
@@ -471,13 +471,13 @@ module _ (g : Shape) (geometry : IsGeometry g) (target : ℕ) (within : target <
     zeros_length : length (nothing g target) ≡ chunk_count g
     zeros_length = length-replicate (chunk_count g) 0
 
-    least : TookLeast g target (taken_from (each g target) (others g seen target) (nothing g target))
+    least : TookLeast g target (taken_from (λ _. each g target) (others g seen target) (nothing g target))
     least =
         record {
           none =
-              cell_stays (each g target) is_other 0 (chunk_count g) target (nothing g target) (inr (ap (λ b. not (b || false)) (eq-eqb target target refl))) ∙ zero_cell (chunk_count g) target;
+              cell_stays (λ _. each g target) is_other 0 (chunk_count g) target (nothing g target) (inr (ap (λ b. not (b || false)) (eq-eqb target target refl))) ∙ zero_cell (chunk_count g) target;
           others = λ server low differ.
-              cell_changes (each g target) is_other 0 (chunk_count g) server (nothing g target) (omega arith) (omega (arith, low)) (subst (λ n. server < n) (sym zeros_length) low)
+              cell_changes (λ _. each g target) is_other 0 (chunk_count g) server (nothing g target) (omega arith) (omega (arith, low)) (subst (λ n. server < n) (sym zeros_length) low)
               (ap (λ b. not (b || false)) (ne_eqb server target differ))
               ∙ ap (each g target) (zero_cell (chunk_count g) server) ∙ raised ∙ layers_are;
         }
@@ -499,6 +499,6 @@ rebuilds_take_least script geometry job rebuild within answers log ends one =
     (pushed_since g (size_of script) tries job rebuild [] answers 0 (nothing g job.target) (refl, refl) log.are_told log.exact) in
     let rebuilt : IsRebuilt (next_rebuild g job.note job.target kept) =
     subst (λ (k : Kind). IsRebuilt (next_by k g tries job kept)) rebuild (subst IsRebuilt (sym ends) tt) in
-    let all : (seen : Seen) × (taken ≡ taken_from (each g job.target) (others g seen job.target) (nothing g job.target)) =
+    let all : (seen : Seen) × (taken ≡ taken_from (λ _. each g job.target) (others g seen job.target) (nothing g job.target)) =
     all_taken_at_end g job.note job.target kept (missing_count answers) taken so rebuilt one in
     subst (TookLeast g job.target) (sym all.1) (least g geometry job.target within all.0)

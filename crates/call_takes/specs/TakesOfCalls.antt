@@ -1,9 +1,12 @@
 -- What a call took from each server, by the answers that its steps had.
-use Rattle.std.specs.Prelude.{◌≡◌, ℕ, Bool, true, false, List, [], ◌∷◌, length, filter, replicate, ⊤}
+use Rattle.std.specs.Prelude.{◌≡◌, ℕ, Bool, true, false, List, [], ◌∷◌, length, filter, replicate, sum_by, if◌then◌else◌, ⊤}
 use Rattle.clay_grid.specs.Shape.{Shape, chunk_count}
 use Rattle.store_map.specs.Limits.{size_of, tries_of}
 use Rattle.store_map.specs.declared.script.Script.{Script}
 use Rattle.store_core.specs.Act.{Act, ServerStep}
+use Rattle.store_core.specs.Gathering.{Part}
+use Rattle.store_core.specs.GatheringParts.{chunks_in_range, layers_for}
+use Rattle.store_core.specs.Lists.{is_among}
 use Rattle.store_core.specs.NextAct.{Job, next_act}
 use Rattle.store_core.specs.Step.{take_from}
 use Rattle.store_core.specs.Tell.{tell}
@@ -48,3 +51,8 @@ is_missing _ = false
 
 abbrev pub missing_count : List Told → ℕ
 missing_count answers = length (filter is_missing answers)
+
+-- of these parts, the subchunks of the server's chunks that have a wanted byte
+abbrev pub subchunks_met : Shape → List Part → ℕ → ℕ
+subchunks_met g parts server =
+    sum_by (λ (part : Part). if is_among server (chunks_in_range g part.start part.end) then length (layers_for g part.start part.end server) else 0) parts
