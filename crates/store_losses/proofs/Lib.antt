@@ -15,3 +15,5 @@ pub mod LossesOwn
 pub mod LossesServers
 pub mod LossesRuns
 pub mod LossesKept
+pub mod FoundOutcomes
+pub mod FoundActs

@@ -31,11 +31,11 @@ abbrev pub AllParts : (Seen → Type 0) → List Part → Type 0
 AllParts W [] = Unit {0}
 AllParts W (part ∷ parts) = W part.seen × AllParts W parts
 
-read_parts : (W : Seen → Type 0) (g : Shape) (start end : ℕ) (stripes : List Seen) → AllSeen W stripes → AllParts W (map (part_of g start end) stripes)
+pub read_parts : (W : Seen → Type 0) (g : Shape) (start end : ℕ) (stripes : List Seen) → AllSeen W stripes → AllParts W (map (part_of g start end) stripes)
 read_parts W g start end [] h = tt
 read_parts W g start end (seen ∷ stripes) h = (h.0, read_parts W g start end stripes h.1)
 
-write_parts : (W : Seen → Type 0) (g : Shape) (length_now : ℕ) (stripes : List Seen) → AllSeen W stripes → AllParts W (old_parts g length_now stripes)
+pub write_parts : (W : Seen → Type 0) (g : Shape) (length_now : ℕ) (stripes : List Seen) → AllSeen W stripes → AllParts W (old_parts g length_now stripes)
 write_parts W g length_now [] h = tt
 write_parts W g length_now (seen ∷ stripes) h = (h.0, write_parts W g length_now stripes h.1)
 

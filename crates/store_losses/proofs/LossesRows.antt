@@ -125,7 +125,7 @@ module _ (D : ℕ → Type 0) (Q : ℕ → ℕ → Placement → Type 0) where
   RowFrom version server [] = Unit {0}
   RowFrom version server (placement ∷ row) = Q server version placement × RowFrom version (server + 1) row
 
-  row_push : (version server : ℕ) (row : List Placement) (placement : Placement) → RowFrom version server row → Q (server + length row) version placement → RowFrom version server (row ++ placement ∷ [])
+  pub row_push : (version server : ℕ) (row : List Placement) (placement : Placement) → RowFrom version server row → Q (server + length row) version placement → RowFrom version server (row ++ placement ∷ [])
   row_push version server [] placement h q = (subst (λ s. Q s version placement) (let e : server + 0 ≡ server = omega arith in e) q, tt)
   row_push version server (first ∷ row) placement h q =
       (h.0, row_push version (server + 1) row placement h.1 (subst (λ s. Q s version placement) (let e : server + suc (length row) ≡ server + 1 + length row = omega arith in e) q))
