@@ -72,7 +72,7 @@ module _ (most downs : ℕ → ℕ) where
   pub heard_on : (g : Shape) (who : Actor) (job : Job) (before after : Places) (told : List Told) → MovesOn who job.note.kind before after → Heard g who job before told → Heard g who job after told
   heard_on g who job before after told moves h =
       heard_less g job.target (Missed before) (Missed after) (SeenBy who job.note.kind before) (SeenBy who job.note.kind after) (There before) (There after) (TookAt before) (TookAt after)
-      (λ seen j reason k. missed_on most downs before.directory.versions after.directory.versions moves.on seen j reason k)
+      (λ seen w j reason k. missed_on most downs before.directory.versions after.directory.versions moves.on seen j reason k)
       (λ seen k. (seen_on most downs before.directory.versions after.directory.versions moves.on seen k.0, moves.pins seen.version k.1))
       (λ n low. let long : length before.directory.versions ≤ length after.directory.versions = moves.on.longer in omega (arith, low, long))
       moves.took job.note.kind job.note told h

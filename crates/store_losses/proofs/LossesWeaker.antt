@@ -13,7 +13,7 @@ use Rattle.store_core.specs.NextAct.{next_by}
 use Rattle.store_core.specs.Note.{Note, Kind}
 use Rattle.store_core.specs.Placements.{skipped_count, skipped_from}
 use Rattle.store_core.specs.Put.{committing, preparing, preparing_all, drawing, next_put}
-use Rattle.store_core.specs.Read.{parts_of, next_read}
+use Rattle.store_core.specs.Read.{parts_of, read_start, read_end, next_read}
 use Rattle.store_core.specs.Rebuild.{placing, installing, confirming, rebuilding, next_rebuild}
 use Rattle.store_core.specs.Told.{Told, Seen}
 use Rattle.store_core.specs.Write.{old_parts, trying}
@@ -21,11 +21,11 @@ use Rattle.store_calls.specs.EndLaws.{IsLook}
 use Rattle.store_calls.specs.NamedServers.{found_missing}
 use Rattle.store_losses.proofs.HeardLosses.{LostAt, PartHeard, PartsHeard}
 use Rattle.store_losses.proofs.LossesRows.{AllOf, RowHeard, RowsHeard, DrawHeard}
-use Rattle.store_losses.proofs.LossesHeard.{AllSeen, PutHeard, ReadHeard, WriteHeard, InstallHeard, ChunkAsked, ChunkHeard, RebuildHeard, HeardBy}
+use Rattle.store_losses.proofs.LossesHeard.{AllSeen, AllParts, read_parts, write_parts, PutHeard, ReadHeard, WriteHeard, InstallHeard, ChunkAsked, ChunkHeard, RebuildHeard, HeardBy}
 
 -- ---- where less is said
 module _ (g : Shape) (target : ℕ) (P Less : Seen → ℕ → Found → Type 0) (W Wide : Seen → Type 0) (D Deep : ℕ → Type 0) (Q Quiet : ℕ → ℕ → Placement → Type 0)
-    (p : (seen : Seen) (server : ℕ) (found : Found) → P seen server found → Less seen server found) (w : (seen : Seen) → W seen → Wide seen) (d : (version : ℕ) → D version → Deep version)
+    (p : (seen : Seen) → W seen → (server : ℕ) (found : Found) → P seen server found → Less seen server found) (w : (seen : Seen) → W seen → Wide seen) (d : (version : ℕ) → D version → Deep version)
     (q : (server version : ℕ) (row : Placement) → Q server version row → Quiet server version row) where
   seen_less : (stripes : List Seen) → AllSeen W stripes → AllSeen Wide stripes
   seen_less [] h = tt
@@ -51,15 +51,15 @@ module _ (g : Shape) (target : ℕ) (P Less : Seen → ℕ → Found → Type 0)
   draw_less n (_ ∷ told) h = tt
 
   module _ (R Rest : List Told → Type 0) (rest_less : (told : List Told) → R told → Rest told) where
-    part_less : (part : Part) (told : List Told) → PartHeard g P R part told → PartHeard g Less Rest part told
-    part_less part told h =
-        record { going = h.going; lost = All-weaker (LostAt g P R part.seen) (LostAt g Less Rest part.seen) (λ found k. p part.seen found.0 found.1 k) (found_missing (gather_part g part) [] told) h.lost }
+    part_less : (part : Part) (told : List Told) → W part.seen → PartHeard g P R part told → PartHeard g Less Rest part told
+    part_less part told there h =
+        record { going = h.going; lost = All-weaker (LostAt g P R part.seen) (LostAt g Less Rest part.seen) (λ found k. p part.seen there found.0 found.1 k) (found_missing (gather_part g part) [] told) h.lost }
 
-    parts_less : (parts : List Part) (told : List Told) → PartsHeard g P R parts told → PartsHeard g Less Rest parts told
-    parts_less [] told h = rest_less told h
-    parts_less (part ∷ parts) [] h = part_less part [] h
-    parts_less (part ∷ parts) (Told.Gathered ∷ told) h = parts_less parts told h
-    parts_less (part ∷ parts) (answer ∷ told) h = part_less part (answer ∷ told) h
+    parts_less : (parts : List Part) (told : List Told) → AllParts W parts → PartsHeard g P R parts told → PartsHeard g Less Rest parts told
+    parts_less [] told there h = rest_less told h
+    parts_less (part ∷ parts) [] there h = part_less part [] there.0 h
+    parts_less (part ∷ parts) (Told.Gathered ∷ told) there h = parts_less parts told there.1 h
+    parts_less (part ∷ parts) (answer ∷ told) there h = part_less part (answer ∷ told) there.0 h
 
   put_less : (told : List Told) → PutHeard g target P W D Q told → PutHeard g target Less Wide Deep Quiet told
   put_less [] h = tt
@@ -68,14 +68,14 @@ module _ (g : Shape) (target : ℕ) (P Less : Seen → ℕ → Found → Type 0)
 
   read_less : (note : Note) (told : List Told) → ReadHeard g target P W D Q note told → ReadHeard g target Less Wide Deep Quiet note told
   read_less note [] h = tt
-  read_less note (Told.Pinned point length_now stripes ∷ told) h = (seen_less stripes h.0, parts_less (λ _. Unit {0}) (λ _. Unit {0}) (λ _ k. k) (parts_of g note length_now stripes) told h.1)
+  read_less note (Told.Pinned point length_now stripes ∷ told) h = (seen_less stripes h.0, parts_less (λ _. Unit {0}) (λ _. Unit {0}) (λ _ k. k) (parts_of g note length_now stripes) told (read_parts W g (read_start note) (read_end note length_now) stripes h.0) h.1)
   read_less note (_ ∷ told) h = tt
 
   write_less : (told : List Told) → WriteHeard g target P W D Q told → WriteHeard g target Less Wide Deep Quiet told
   write_less [] h = tt
   write_less (Told.Changed base newer ∷ told) h = write_less told h
   write_less (Told.Ready base length_now stripes ∷ told) h =
-      (seen_less stripes h.0, parts_less (DrawHeard D Q (chunk_count g)) (DrawHeard Deep Quiet (chunk_count g)) (draw_less (chunk_count g)) (old_parts g length_now stripes) told h.1)
+      (seen_less stripes h.0, parts_less (DrawHeard D Q (chunk_count g)) (DrawHeard Deep Quiet (chunk_count g)) (draw_less (chunk_count g)) (old_parts g length_now stripes) told (write_parts W g length_now stripes h.0) h.1)
   write_less (_ ∷ told) h = tt
 
   install_less : (seen : Seen) (told : List Told) → InstallHeard g target P W D Q seen told → InstallHeard g target Less Wide Deep Quiet seen told
@@ -85,21 +85,21 @@ module _ (g : Shape) (target : ℕ) (P Less : Seen → ℕ → Found → Type 0)
   install_less seen (Told.Current ∷ _ ∷ told) h = tt
   install_less seen (_ ∷ told) h = tt
 
-  asked_less : (seen : Seen) (told : List Told) → ChunkAsked g target P W D Q seen told → ChunkAsked g target Less Wide Deep Quiet seen told
-  asked_less seen told h =
+  asked_less : (seen : Seen) (told : List Told) → W seen → ChunkAsked g target P W D Q seen told → ChunkAsked g target Less Wide Deep Quiet seen told
+  asked_less seen told there h =
       record {
         going = h.going;
-        lost = All-weaker (LostAt g P (λ _. Unit {0}) seen) (LostAt g Less (λ _. Unit {0}) seen) (λ found k. p seen found.0 found.1 k) (found_missing (gather_chunk g seen target) [] told) h.lost;
+        lost = All-weaker (LostAt g P (λ _. Unit {0}) seen) (LostAt g Less (λ _. Unit {0}) seen) (λ found k. p seen there found.0 found.1 k) (found_missing (gather_chunk g seen target) [] told) h.lost;
       }
 
-  chunk_less : (seen : Seen) (told : List Told) → ChunkHeard g target P W D Q seen told → ChunkHeard g target Less Wide Deep Quiet seen told
-  chunk_less seen [] h = asked_less seen [] h
-  chunk_less seen (Told.Gathered ∷ told) h = install_less seen told h
-  chunk_less seen (answer ∷ told) h = asked_less seen (answer ∷ told) h
+  chunk_less : (seen : Seen) (told : List Told) → W seen → ChunkHeard g target P W D Q seen told → ChunkHeard g target Less Wide Deep Quiet seen told
+  chunk_less seen [] there h = asked_less seen [] there h
+  chunk_less seen (Told.Gathered ∷ told) there h = install_less seen told h
+  chunk_less seen (answer ∷ told) there h = asked_less seen (answer ∷ told) there h
 
   rebuild_less : (told : List Told) → RebuildHeard g target P W D Q told → RebuildHeard g target Less Wide Deep Quiet told
   rebuild_less [] h = tt
-  rebuild_less (Told.PinnedStripe seen ∷ told) h = (w seen h.0, chunk_less seen told h.1)
+  rebuild_less (Told.PinnedStripe seen ∷ told) h = (w seen h.0, chunk_less seen told h.0 h.1)
   rebuild_less (_ ∷ told) h = tt
 
   -- of any call
