@@ -17,3 +17,6 @@ pub mod LossesRuns
 pub mod LossesKept
 pub mod FoundOutcomes
 pub mod FoundActs
+pub mod FoundEnded
+pub mod FoundRuns
+pub mod FoundLines

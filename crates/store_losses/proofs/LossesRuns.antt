@@ -471,7 +471,7 @@ module _ (script : Script) (can : CanRun script) (some : 0 < chunk_count script.
           two false = at_directory_so (DirectoryStep.Swept version) tt Sweeper.Idle tt
 
   -- ---- runs
-  runs_hold : KeptBySteps script can Has
+  pub runs_hold : KeptBySteps script can Has
   runs_hold =
       record {
         quiet = λ past next core is_quiet has rest is_now.
@@ -487,7 +487,7 @@ module _ (script : Script) (can : CanRun script) (some : 0 < chunk_count script.
         reap_repairer = λ past core kept has i. reap_holds past (token.ReapRepairer i) core kept has (actor.Repairer i);
       }
 
-  first_holds : Has [] (first_core script)
+  pub first_holds : Has [] (first_core script)
   first_holds rest is_now =
       record {
         known = record { kept = λ n version e. absurd (none-some version e); tells = λ n version e. absurd (none-some version e) };
