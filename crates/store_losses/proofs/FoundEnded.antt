@@ -93,7 +93,7 @@ module _ (most downs : ℕ → ℕ) where
       by seen w server found (inr lost) = lost
 
 -- ---- a pass that ends
-abbrev EndsPass : Told → Type 0
+abbrev pub EndsPass : Told → Type 0
 EndsPass Told.Ended = Unit {0}
 EndsPass answer = ⊥
 
@@ -179,7 +179,7 @@ over_apart (Act.Finish outcome) h = refl
 over_apart a h = absurd h
 
 -- ---- one step
-no_ended : (answer : Told) → (EndsPass answer → ⊥) → IsEnded answer → ⊥
+pub no_ended : (answer : Told) → (EndsPass answer → ⊥) → IsEnded answer → ⊥
 no_ended answer other e = other (subst EndsPass (sym e) tt)
 
 settled_only : (version : ℕ) (answer : Told) → ServerAnswers (ServerStep.Settle version) answer → answer ≡ Told.Settled

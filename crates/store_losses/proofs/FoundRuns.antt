@@ -31,7 +31,7 @@ use Rattle.store_losses.proofs.LossesRuns.{Holds, Has, runs_hold, first_holds}
 use Rattle.store_losses.proofs.LossesServers.{wiped, made_away}
 
 -- what stands in a list with one more
-pushed : {X : Type 0} (xs : List X) (x : X) (k : ℕ) (y : X) → slice_get (xs ++ x ∷ []) k ≡ Some y → (slice_get xs k ≡ Some y) ⊎ (x ≡ y)
+pub pushed : {X : Type 0} (xs : List X) (x : X) (k : ℕ) (y : X) → slice_get (xs ++ x ∷ []) k ≡ Some y → (slice_get xs k ≡ Some y) ⊎ (x ≡ y)
 pushed [] x zero y e = inr (same_Some x y e)
 pushed [] x (suc k) y e = absurd (none-some y e)
 pushed (z ∷ xs) x zero y e = inl e
@@ -88,10 +88,10 @@ module _ (script : Script) (can : CanRun script) (some : 0 < chunk_count script.
   abbrev downs : ℕ → ℕ
   downs = made_away all
 
-  abbrev SureWhile : List Token → Core → Type 0
+  abbrev pub SureWhile : List Token → Core → Type 0
   SureWhile past core = (rest : List Token) → all ≡ past ++ rest → AllSure most downs script core
 
-  abbrev Both : List Token → Core → Type 0
+  abbrev pub Both : List Token → Core → Type 0
   Both past core = Has script can some all few past core × SureWhile past core
 
   next_so : (past : List Token) (next : Token) (rest : List Token) → all ≡ (past ++ next ∷ []) ++ rest → all ≡ past ++ (next ∷ rest)
@@ -108,7 +108,7 @@ module _ (script : Script) (can : CanRun script) (some : 0 < chunk_count script.
   keeps : KeptBySteps script can (Has script can some all few)
   keeps = runs_hold script can some all few
 
-  both_kept : KeptBySteps script can Both
+  pub both_kept : KeptBySteps script can Both
   both_kept =
       record {
         quiet = λ past next core is_quiet h. (keeps.quiet past next core is_quiet h.0, same_calls past next core core refl refl h.1);
@@ -155,7 +155,7 @@ module _ (script : Script) (can : CanRun script) (some : 0 < chunk_count script.
   fresh : (work : Work) (c : Calling) → new_calling (chunk_count script.geometry) ≡ c → CallsSure most downs script work c
   fresh work c e = subst (λ (x : Calling). CallsSure most downs script work x) e (record { in_work = λ job is none. absurd none; ended = λ number x is. absurd (none-some x is) })
 
-  both_first : Both [] (first_core script)
+  pub both_first : Both [] (first_core script)
   both_first = (
     first_holds script can some all few,
     λ rest is. record {

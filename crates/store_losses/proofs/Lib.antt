@@ -20,3 +20,6 @@ pub mod FoundActs
 pub mod FoundEnded
 pub mod FoundRuns
 pub mod FoundLines
+pub mod FoundOwn
+pub mod OwnRuns
+pub mod OwnLines

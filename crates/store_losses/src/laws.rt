@@ -2,6 +2,7 @@
 
 ghost use Rattle.store_losses.specs.FoundMissing.{RunsFindMissing};
 ghost use Rattle.store_losses.specs.KeptChunks.{RunsKeepChunks};
+ghost use Rattle.store_losses.specs.OwnResults.{RunsNameLosses};
 
 /// A chunk that a server took is held until the sweeper takes its version, unless the operator emptied
 /// the server since.
@@ -13,4 +14,10 @@ pub fn runs_keep_chunks()
 /// chunk, each of them by the operator.
 pub fn runs_find_missing()
     ensures { RunsFindMissing }
+{}
+
+/// A rebuild that is unavailable names its own stripe, and one that ends for a server that was away
+/// names its own server.
+pub fn runs_name_losses()
+    ensures { RunsNameLosses }
 {}
