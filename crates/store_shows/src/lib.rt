@@ -1,0 +1,4 @@
+//! What a run shows is a history.
+#![tactic(auto)]
+
+pub mod laws;
