@@ -8,6 +8,7 @@ use Rattle.transcript_text.specs.declared.cause.RepairResult.TheVariants as resu
 use Rattle.transcript_text.specs.declared.line.RLine.{RLine}
 use Rattle.transcript_text.specs.declared.transcript.Transcript.{Transcript}
 use Rattle.hist_rules.specs.Calls.{rebuild_of}
+use Rattle.hist_rules.proofs.HistoryLaw.{legal_is_history}
 use Rattle.hist_rules.specs.GivenUpOrLost.{NamesOwn}
 use Rattle.store_core.specs.Shown.{shown_of}
 use Rattle.store_history.proofs.GivenUpLines.{runs_give_up}
@@ -19,7 +20,7 @@ use Rattle.store_losses.proofs.OwnLines.{runs_name_losses}
 use Rattle.store_races.specs.RaceLaws.{NamesChange}
 use Rattle.store_races.proofs.RaceLines.{runs_lose_races, runs_name_changes}
 use Rattle.store_takes.proofs.ColumnRuns.{runs_add_up}
-use Rattle.store_shows.specs.ShowsLaws.{RunsShowHistories}
+use Rattle.store_shows.specs.ShowsLaws.{RunsShowHistories, RunsAreLegal}
 
 module _ (script : Script) (t : Transcript) where
   -- a rebuild's result names its own change, or its own loss
@@ -64,3 +65,6 @@ runs_show_histories script shortages geometry valid =
       results = all_names script (shown_of script shortages) (shown_of script shortages).repairs (runs_name_changes script shortages geometry valid script.schedule few) (runs_name_losses script shortages geometry valid);
       takes = runs_add_up script shortages geometry valid script.schedule few;
     }
+
+pub runs_are_legal : RunsAreLegal
+runs_are_legal script shortages geometry valid = (legal_is_history script (shown_of script shortages)).1 (runs_show_histories script shortages geometry valid)

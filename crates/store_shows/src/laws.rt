@@ -1,8 +1,13 @@
-//! The law, as a function that does nothing and whose contract is the law.
+//! The laws, as functions that do nothing and whose contracts are the laws.
 
-ghost use Rattle.store_shows.specs.ShowsLaws.{RunsShowHistories};
+ghost use Rattle.store_shows.specs.ShowsLaws.{RunsShowHistories, RunsAreLegal};
 
 /// Of every valid script, whatever is wanting of memory, what its run shows is a history.
 pub fn runs_show_histories()
     ensures { RunsShowHistories }
+{}
+
+/// So its verdict is that it is legal.
+pub fn runs_are_legal()
+    ensures { RunsAreLegal }
 {}
