@@ -1,3 +1,1 @@
 pub mod KeptChunks
-pub mod FoundMissing
-pub mod OwnResults

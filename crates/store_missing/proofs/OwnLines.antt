@@ -24,10 +24,10 @@ use Rattle.store_history.proofs.NamedCalls.{inside}
 use Rattle.store_history.proofs.OrderEnds.{EndKnown, repairer_has}
 use Rattle.store_history.proofs.OrderLists.{all_indexed}
 use Rattle.store_history.proofs.OrderRuns.{end_known}
-use Rattle.store_losses.specs.OwnResults.{NamesLoss, RunsNameLosses}
-use Rattle.store_losses.proofs.FoundOwn.{OwnOutcome}
+use Rattle.store_missing.specs.OwnResults.{NamesLoss, RunsNameLosses}
+use Rattle.store_missing.proofs.FoundOwn.{OwnOutcome}
 use Rattle.store_losses.proofs.LossesServers.{wiped, made_away}
-use Rattle.store_losses.proofs.OwnRuns.{AllOwn, all_own}
+use Rattle.store_missing.proofs.OwnRuns.{AllOwn, all_own}
 
 module _ (script : Script) (core : Core) (known : EndKnown script core) (own : AllOwn (wiped script.schedule) (made_away script.schedule) script core) where
   -- a repairer's job is its rebuild

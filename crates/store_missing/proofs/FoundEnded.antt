@@ -37,7 +37,7 @@ use Rattle.store_runs.proofs.Proper.{IsProper, HasTry, acts_proper}
 use Rattle.store_sound.proofs.SoundLists.{at_all}
 use Rattle.store_history.proofs.AtWork.{AtWork, first, act, after, stands, answered}
 use Rattle.store_history.proofs.GivenUpRuns.{told_either}
-use Rattle.store_losses.proofs.FoundActs.{OutcomeLacks, ActLacks, act_lacks}
+use Rattle.store_missing.proofs.FoundActs.{OutcomeLacks, ActLacks, act_lacks}
 use Rattle.store_losses.proofs.LossesActs.{Heard, Missed, SeenBy, There, TookAt}
 use Rattle.store_losses.proofs.LossesCalls.{first_heard}
 use Rattle.store_losses.proofs.LossesHeard.{HeardBy, Says, heard_more}

@@ -25,7 +25,7 @@ use Rattle.store_runs.proofs.Scripts.{replicated}
 use Rattle.store_history.proofs.ActorLines.{each_changed}
 use Rattle.store_history.proofs.AtWork.{AtWork, client_at, repairer_at, first, act, after}
 use Rattle.store_history.proofs.Induction.{KeptBySteps, run_has}
-use Rattle.store_losses.proofs.FoundEnded.{CallSure, OutcomeSure, step_ended, outcome_sure}
+use Rattle.store_missing.proofs.FoundEnded.{CallSure, OutcomeSure, step_ended, outcome_sure}
 use Rattle.store_losses.proofs.LossesActs.{Heard}
 use Rattle.store_losses.proofs.LossesRuns.{Holds, Has, runs_hold, first_holds}
 use Rattle.store_losses.proofs.LossesServers.{wiped, made_away}

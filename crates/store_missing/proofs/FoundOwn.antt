@@ -39,7 +39,7 @@ use Rattle.store_calls.proofs.Causes.{causes}
 use Rattle.store_runs.proofs.Proper.{IsProper, HasTry}
 use Rattle.store_history.proofs.AtWork.{AtWork, first, act, after, proper, answered}
 use Rattle.store_history.proofs.GivenUpRuns.{told_either}
-use Rattle.store_losses.proofs.FoundEnded.{CallSure, SureLost, SureSeen, SureThere, SureTook, step_ended}
+use Rattle.store_missing.proofs.FoundEnded.{CallSure, SureLost, SureSeen, SureThere, SureTook, step_ended}
 use Rattle.store_losses.proofs.HeardLosses.{AsksOf, chunk_asks_of}
 use Rattle.store_losses.proofs.LossesActs.{Heard, AllServers}
 use Rattle.store_losses.proofs.LossesHeard.{RebuildHeard, HeardBy}

@@ -56,11 +56,11 @@ use Rattle.store_history.proofs.OrderEnds.{EndKnown, client_has, repairer_has}
 use Rattle.store_history.proofs.OrderLists.{all_indexed}
 use Rattle.store_history.proofs.OrderRuns.{end_known}
 use Rattle.store_history.proofs.PointsOfCalls.{OfScript, job_call}
-use Rattle.store_losses.specs.FoundMissing.{RunsFindMissing}
-use Rattle.store_losses.proofs.FoundActs.{Skips}
-use Rattle.store_losses.proofs.FoundEnded.{SureLost, SureSeen, SureThere, SureTook, OutcomeSure}
-use Rattle.store_losses.proofs.FoundOutcomes.{Lacks}
-use Rattle.store_losses.proofs.FoundRuns.{AllSure, all_sure}
+use Rattle.store_missing.specs.FoundMissing.{RunsFindMissing}
+use Rattle.store_missing.proofs.FoundActs.{Skips}
+use Rattle.store_missing.proofs.FoundEnded.{SureLost, SureSeen, SureThere, SureTook, OutcomeSure}
+use Rattle.store_missing.proofs.FoundOutcomes.{Lacks}
+use Rattle.store_missing.proofs.FoundRuns.{AllSure, all_sure}
 use Rattle.store_losses.proofs.LossesRows.{RowFrom}
 use Rattle.store_losses.proofs.LossesServers.{wiped, made_away}
 use Rattle.store_losses.proofs.LossesState.{TellsPlaced, LostSo}

@@ -18,7 +18,7 @@ use Rattle.store_core.specs.Told.{Told, Seen, Lost}
 use Rattle.store_core.specs.Write.{old_parts, trying}
 use Rattle.store_calls.specs.NamedServers.{found_missing, NamesTheAsked}
 use Rattle.store_calls.proofs.Gatherings.{gatherings_end}
-use Rattle.store_losses.proofs.FoundOutcomes.{front_found, named_all, Lacks, part_lacks}
+use Rattle.store_missing.proofs.FoundOutcomes.{front_found, named_all, Lacks, part_lacks}
 use Rattle.store_losses.proofs.HeardLosses.{NotDone, PartHeard, PartsHeard}
 use Rattle.store_losses.proofs.LossesHeard.{AllParts, read_parts, write_parts, PutHeard, ReadHeard, WriteHeard, ChunkAsked, ChunkHeard, RebuildHeard, HeardBy}
 use Rattle.store_losses.proofs.LossesRows.{RowHeard, RowsHeard, DrawHeard, RowFrom, row_push}

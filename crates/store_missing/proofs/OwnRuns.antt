@@ -24,9 +24,9 @@ use Rattle.store_runs.proofs.Scripts.{replicated}
 use Rattle.store_history.proofs.ActorLines.{each_changed}
 use Rattle.store_history.proofs.AtWork.{AtWork, repairer_at, first, act, after}
 use Rattle.store_history.proofs.Induction.{KeptBySteps, run_has}
-use Rattle.store_losses.proofs.FoundEnded.{CallSure}
-use Rattle.store_losses.proofs.FoundOwn.{OwnTold, OwnOutcome, own_now, own_outcome}
-use Rattle.store_losses.proofs.FoundRuns.{AllSure, Both, both_kept, both_first}
+use Rattle.store_missing.proofs.FoundEnded.{CallSure}
+use Rattle.store_missing.proofs.FoundOwn.{OwnTold, OwnOutcome, own_now, own_outcome}
+use Rattle.store_missing.proofs.FoundRuns.{AllSure, Both, both_kept, both_first}
 use Rattle.store_losses.proofs.LossesActs.{Heard, AllServers}
 use Rattle.store_losses.proofs.LossesRuns.{Holds, all_servers}
 use Rattle.store_losses.proofs.LossesServers.{wiped, made_away}

@@ -1,0 +1,2 @@
+pub mod FoundMissing
+pub mod OwnResults
