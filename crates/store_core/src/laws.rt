@@ -7,14 +7,14 @@ ghost use Rattle.store_core.specs.PlaceLaws.{ServersCountUp, DirectoryKeepsPlace
 ghost use Rattle.store_core.specs.ActorLaws.{ActsChangeOnePlace, StepsChangeOneActor};
 ghost use Rattle.store_core.specs.Run.{Run};
 
-/// No step at a server lowers its epoch or its count of subchunks taken, while both fit 64 bits, and
-/// both still fit.
+/// No step at a server lowers its epoch, its count of times down or its count of subchunks taken,
+/// while they fit 64 bits, and they still fit.
 pub fn servers_count_up()
     ensures { ServersCountUp }
 {}
 
 /// At the directory points and versions only come, and each is told as the place at which it stands.
-/// The points stay as they are; of a version only its placed epochs and its standing change.
+/// The points stay as they are; of a version only its placements and its standing change.
 pub fn points_and_versions_are_places()
     ensures { DirectoryKeepsPlaces }
 {}
