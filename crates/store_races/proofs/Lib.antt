@@ -1,6 +1,6 @@
-mod Changes
+pub mod Changes
 mod RaceSteps
-mod ToldChanges
+pub mod ToldChanges
 mod RaceRuns
 mod ChangeLines
 pub mod RaceLines

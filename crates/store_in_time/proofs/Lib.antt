@@ -1,0 +1,11 @@
+mod Stepwise
+mod Traced
+mod Past
+mod Counts
+mod Points
+mod Timely
+mod StepPasses
+mod Within
+mod Callers
+mod PointRuns
+mod PointLines

@@ -1,0 +1,5 @@
+pub mod Trace
+pub mod Steps
+pub mod Moments
+pub mod InTime
+pub mod InTimeLaws
