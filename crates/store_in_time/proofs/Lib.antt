@@ -9,3 +9,8 @@ mod Within
 mod Callers
 mod PointRuns
 mod PointLines
+mod ServerTells
+mod LossTold
+mod LossSteps
+mod LossRuns
+mod LossLines

@@ -59,7 +59,7 @@ pub record Stood (made : Made) (who : Actor) (before : Directory) (now : Pass) :
   pub same : now ≡ record pass { reaped = now.reaped }
   pub reaps : (point : ℕ) → now.reaped ≡ Some point → (pass.reaped ≡ Some point) ⊎ ((new_point made.answer ≡ Some point) × ReapOf who made)
 
-as_before : (made : Made) (who : Actor) (before : Directory) (now : Pass) → pass_of who before ≡ Some now → Stood made who before now
+pub as_before : (made : Made) (who : Actor) (before : Directory) (now : Pass) → pass_of who before ≡ Some now → Stood made who before now
 as_before made who before now found = record { pass = now; found = found; same_base = refl; same_note = refl; same = refl; reaps = λ point is. inl is }
 
 -- after a reap
@@ -97,6 +97,18 @@ reaps_so made who target d is_act (Some pass) e is now found = by pass.reaped is
         from (pass_of who d) refl told
         (sym (mapped_found who (one_changed pass.actor (λ other. record other { reaped = Some (length d.points) })) (keeps_actor pass.actor (λ other. record other { reaped = Some (length d.points) }) (λ p. refl)) d.passes) ∙ k)
 
+-- after a step of the sweeper or the operator
+pub others_stood : (d : Directory) (servers : List Server) (acting : Actor) (a : Act) → IsOperatorAct a → (who : Actor)
+    → (now : Pass) → pass_of who (at_places false acting 0 a (record { directory = d; servers = servers })).0.directory ≡ Some now → Stood (act_made acting a (record { directory = d; servers = servers })) who d now
+others_stood d servers acting (Act.AtDirectory DirectoryStep.NextGarbage) k who now found = as_before _ who d now (sym (sweeps_apart who (first_garbage d) d) ∙ found)
+others_stood d servers acting (Act.AtDirectory (DirectoryStep.Swept version)) k who now found = as_before _ who d now found
+others_stood d servers acting (Act.AtDirectory (DirectoryStep.Reap target)) k who now found =
+    reaps_so (act_made acting (Act.AtDirectory (DirectoryStep.Reap target)) (record { directory = d; servers = servers })) who target d refl (pass_of target d) refl refl now found
+others_stood d servers acting (Act.AtDirectory step) k who now found = absurd k
+others_stood d servers acting (Act.AtServer n step) k who now found =
+    as_before _ who d now (sym (ap (pass_of who) (server_same false n step (record { directory = d; servers = servers }) (slice_get servers n))) ∙ found)
+others_stood d servers acting (Act.Finish outcome) k who now found = absurd k
+
 -- agreement is left to others
 agrees_on : (short : Bool) (acting : Actor) (number : ℕ) (a : Act) (places : Places) (who : Actor) → same_actor acting who ≡ false → (held : Pass) (told : Option ℕ) → held.actor ≡ who
     → AgreesWithPass places.directory (record { pass = held; told = told }) → AgreesWithPass (at_places short acting number a places).0.directory (record { pass = held; told = told })
@@ -131,7 +143,7 @@ module _ (script : Script) (who : Actor) (job : Job) (calling : Calling) (places
   abbrev step_made : Made
   step_made = call_made script shortages who calling places job
 
-  other_pass : (other : Actor) → same_actor other who ≡ false → pass_of other done.0.directory ≡ pass_of other places.directory
+  pub other_pass : (other : Actor) → same_actor other who ≡ false → pass_of other done.0.directory ≡ pass_of other places.directory
   other_pass other apart = by (act script who job calling places at shortages.coding shortages.step) (proper script who job calling places at shortages.coding shortages.step)
     where
       by : (a : Act) → IsProper script.geometry job (HasTry job.note.kind (tries_of script) (first script who job calling places at shortages.coding shortages.step)) a
@@ -199,25 +211,16 @@ module _ (script : Script) (can : CanRun script) (some : 0 < script.geometry.par
         clients = λ i c e work is.
             subst (λ (x : Directory). ActorThen (trace ++ act_made acting a (places_in core) ∷ []) x (actor.Client i) work.jobs c) (sym same)
             (stays trace (act_made acting a (places_in core)) core.directory (at_places false acting 0 a (places_in core)).0.directory (actor.Client i) work.jobs c
-            (stands_on trace false acting 0 a (places_in core) (act_made acting a (places_in core)) refl (actor.Client i) (apart_clients i) (stood (actor.Client i) a is_others refl))
+            (stands_on trace false acting 0 a (places_in core) (act_made acting a (places_in core)) refl (actor.Client i) (apart_clients i) (others_stood core.directory core.servers acting a is_others (actor.Client i)))
             (has.clients i c (ap (λ (l : List Calling). slice_get l i) (sym clients) ∙ e) work is));
         repairers = λ i c e work is.
             subst (λ (x : Directory). ActorThen (trace ++ act_made acting a (places_in core) ∷ []) x (actor.Repairer i) work.jobs c) (sym same)
             (stays trace (act_made acting a (places_in core)) core.directory (at_places false acting 0 a (places_in core)).0.directory (actor.Repairer i) work.jobs c
-            (stands_on trace false acting 0 a (places_in core) (act_made acting a (places_in core)) refl (actor.Repairer i) (apart_repairers i) (stood (actor.Repairer i) a is_others refl))
+            (stands_on trace false acting 0 a (places_in core) (act_made acting a (places_in core)) refl (actor.Repairer i) (apart_repairers i) (others_stood core.directory core.servers acting a is_others (actor.Repairer i)))
             (has.repairers i c (ap (λ (l : List Calling). slice_get l i) (sym repairers) ∙ e) work is));
       }
-    where
-      stood : (who : Actor) (b : Act) → IsOperatorAct b → a ≡ b → (now : Pass) → pass_of who (at_places false acting 0 b (places_in core)).0.directory ≡ Some now → Stood (act_made acting a (places_in core)) who core.directory now
-      stood who (Act.AtDirectory DirectoryStep.NextGarbage) k e now found = as_before _ who core.directory now (sym (sweeps_apart who (first_garbage core.directory) core.directory) ∙ found)
-      stood who (Act.AtDirectory (DirectoryStep.Swept version)) k e now found = as_before _ who core.directory now found
-      stood who (Act.AtDirectory (DirectoryStep.Reap target)) k e now found =
-          reaps_so (act_made acting a (places_in core)) who target core.directory e (pass_of target core.directory) refl (ap (λ (x : Act). (at_places false acting 0 x (places_in core)).1) e) now found
-      stood who (Act.AtDirectory step) k e now found = absurd k
-      stood who (Act.AtServer n step) k e now found = as_before _ who core.directory now (sym (ap (pass_of who) (server_same false n step (places_in core) (slice_get core.servers n))) ∙ found)
-      stood who (Act.Finish outcome) k e now found = absurd k
 
-  points_kept : KeptByMade script can (PointsSoFar script)
+  pub points_kept : KeptByMade script can (PointsSoFar script)
   points_kept =
       record {
         client = λ trace core kept has i work calling job is_work is_calling is_job shortages kept_after.
@@ -268,7 +271,7 @@ module _ (script : Script) (can : CanRun script) (some : 0 < script.geometry.par
       subst (ActorThen [] (first_core script).directory who jobs) e
       (record { pass = λ job is p found. absurd (none-some p found); lost = λ job is writes. All-nil _; none = λ h. h; ended = λ number x is. absurd (none-some x is) })
 
-  first_points : PointsSoFar script [] (first_core script)
+  pub first_points : PointsSoFar script [] (first_core script)
   first_points =
       record {
         counts = λ j s e. let same : new_server ≡ s = replicated (chunk_count script.geometry) j new_server s e in subst (Counted [] j) same (record { epoch = refl; downs_told = refl });

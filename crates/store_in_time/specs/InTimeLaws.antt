@@ -11,7 +11,7 @@ use Rattle.store_core.specs.Shown.{shown}
 use Rattle.store_core.specs.Step.{Shortage}
 use Rattle.store_in_time.specs.Trace.{Made}
 use Rattle.store_in_time.specs.Steps.{steps_of, run_trace}
-use Rattle.store_in_time.specs.InTime.{HasPointsInTime}
+use Rattle.store_in_time.specs.InTime.{HasPointsInTime, HasLossesInTime}
 
 -- the steps of tokens make the same run
 abbrev pub DrainsAreSteps : Type 0
@@ -26,3 +26,7 @@ RunsShowInTime Has =
 -- its points are in time
 abbrev pub RunsHavePointsInTime : Type 0
 RunsHavePointsInTime = RunsShowInTime HasPointsInTime
+
+-- and its losses
+abbrev pub RunsHaveLossesInTime : Type 0
+RunsHaveLossesInTime = RunsShowInTime HasLossesInTime
