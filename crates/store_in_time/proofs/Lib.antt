@@ -14,3 +14,4 @@ mod LossTold
 mod LossSteps
 mod LossRuns
 mod LossLines
+mod CausedLines

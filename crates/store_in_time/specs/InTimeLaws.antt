@@ -11,6 +11,7 @@ use Rattle.store_core.specs.Shown.{shown}
 use Rattle.store_core.specs.Step.{Shortage}
 use Rattle.store_in_time.specs.Trace.{Made}
 use Rattle.store_in_time.specs.Steps.{steps_of, run_trace}
+use Rattle.store_in_time.specs.LineCauses.{LinesAreCaused}
 use Rattle.store_in_time.specs.InTime.{HasPointsInTime, HasLossesInTime}
 
 -- the steps of tokens make the same run
@@ -30,3 +31,8 @@ RunsHavePointsInTime = RunsShowInTime HasPointsInTime
 -- and its losses
 abbrev pub RunsHaveLossesInTime : Type 0
 RunsHaveLossesInTime = RunsShowInTime HasLossesInTime
+
+-- and each refusal and each result is caused by what its call was told
+abbrev pub RunsShowCauses : Type 0
+RunsShowCauses =
+    (script : Script) (shortages : List Shortage) → IsGeometry script.geometry → IsValid script → (tokens : List Token) → LinesAreCaused script (shown script (run_core script shortages tokens))

@@ -3,3 +3,4 @@ pub mod Steps
 pub mod Moments
 pub mod InTime
 pub mod InTimeLaws
+pub mod LineCauses

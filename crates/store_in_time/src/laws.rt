@@ -1,6 +1,11 @@
 //! The laws, as functions that do nothing and whose contracts are the laws.
 
-ghost use Rattle.store_in_time.specs.InTimeLaws.{DrainsAreSteps, RunsHaveLossesInTime, RunsHavePointsInTime};
+ghost use Rattle.store_in_time.specs.InTimeLaws.{
+  DrainsAreSteps,
+  RunsHaveLossesInTime,
+  RunsHavePointsInTime,
+  RunsShowCauses,
+};
 
 /// A drain is the steps of its rounds: a schedule and the same with each drain step by step make one run.
 pub fn drains_are_steps()
@@ -21,4 +26,10 @@ pub fn runs_have_points_in_time()
 /// so by a server that was away for the named time.
 pub fn runs_have_losses_in_time()
     ensures { RunsHaveLossesInTime }
+{}
+
+/// Each refusal and each rebuild's result that a run shows is its call's outcome after answers that the
+/// call can be told, and those cause it.
+pub fn runs_show_causes()
+    ensures { RunsShowCauses }
 {}
