@@ -46,7 +46,7 @@ use Rattle.store_races.proofs.Changes.{IsChange, last_is, last_late, LastFrom}
 use Rattle.store_races.proofs.ToldChanges.{changes_after, changes_told}
 use Rattle.store_in_time.specs.Trace.{Made, call_made}
 use Rattle.store_in_time.specs.Moments.{Happened}
-use Rattle.store_in_time.specs.InTime.{AnyStep}
+use Rattle.store_in_time.specs.PointsInTime.{AnyStep}
 use Rattle.store_in_time.proofs.Past.{last, on}
 use Rattle.store_in_time.proofs.StepPasses.{DrawsOnly, ChangedBy, SupersededBy, ReapedBy, PassTold, FromOld, FromLook, FromRepair, PassFrom, Moves, step_tells}
 use Rattle.store_in_time.proofs.Within.{Own, PointWithin, ReapOf, latest, late_enough, PassThen, act_appends, stays_then}
@@ -205,7 +205,7 @@ module _ (script : Script) (some : 0 < script.geometry.parity_count) (who : Acto
   act_moves pins touched (Act.AtServer n step) is_proper kind h = server_moves n step (slice_get places.servers n) h
   act_moves pins touched (Act.Finish outcome) is_proper kind h = absurd h
 
-  moved : Moves who job.note d (done.0.directory, done.1)
+  pub moved : Moves who job.note d (done.0.directory, done.1)
   moved =
       act_moves (pin_bound g (size_of script) job.note) (touched_count g job.note) (act script who job calling places at shortages.coding shortages.step)
       (proper script who job calling places at shortages.coding shortages.step) (of_kind script who job calling places at shortages.coding shortages.step)
@@ -452,7 +452,7 @@ module _ (script : Script) (some : 0 < script.geometry.parity_count) (who : Acto
       }
 
   -- the next call has no pass yet
-  no_pass : (j : Job) (c : Calling) → c.told ≡ [] → InWork g (size_of script) (tries_of script) j who c done.0.directory → 1 ≤ tries_of script → (p : Pass) → pass_of who done.0.directory ≡ Some p → ⊥
+  pub no_pass : (j : Job) (c : Calling) → c.told ≡ [] → InWork g (size_of script) (tries_of script) j who c done.0.directory → 1 ≤ tries_of script → (p : Pass) → pass_of who done.0.directory ≡ Some p → ⊥
   no_pass j c fresh in_work tried p found =
       none-some p (sym (none_held (pass_of who done.0.directory) (in_work.stands.pass ∙ ap (λ l. note_if (has_pass (phase_of (next_act g (tries_of script) j l))) j.note) fresh ∙ ap (λ ph. note_if (has_pass ph) j.note) (is_looking j.note.kind g (tries_of script) j tried))) ∙ found)
 

@@ -1,4 +1,4 @@
--- How often each server was emptied and made away is what its counts tell.
+-- How saturated each server was emptied and made away is what its counts tell.
 use Rattle.std.proofs.Common.{◌≡◌, ◌⊎◌, inl, inr, ℕ, ◌+◌, Bool, true, false, cond, nat_eq, List, [], ◌∷◌, ◌++◌, length, filter, Some, refl, sym, ap, subst, ◌∙◌, arith, true≢false, length-append}
 use Rattle.std.proofs.lemmas.Bool.{cond_both, cases_eq, eq-eqb, ne_eqb}
 use Rattle.std.proofs.lemmas.List.Elements.{filter-append}
@@ -12,7 +12,7 @@ use Rattle.store_core.specs.Told.{Told}
 use Rattle.store_core.proofs.Places.{slice_get-change_at}
 use Rattle.store_sound.proofs.SoundVersions.{change_here}
 use Rattle.store_in_time.specs.Trace.{Made}
-use Rattle.store_in_time.specs.Moments.{wipes_it, downs_it, often, wipes, downs}
+use Rattle.store_in_time.specs.Moments.{wipes_it, downs_it, saturated, wipes, downs}
 
 -- 1 where it holds
 abbrev one_if : Bool → ℕ
@@ -104,13 +104,13 @@ count_one p trace made =
     by true = refl
     by false = refl
 
-often_more : (count : ℕ) → raised_by 1 (often count) ≡ often (count + 1)
+often_more : (count : ℕ) → raised_by 1 (saturated count) ≡ saturated (count + 1)
 often_more count = omega arith
 
 -- one more, or as before
-counted : (b : Bool) (count told : ℕ) → told ≡ often count → cond b (raised_by 1 told) told ≡ often (count + one_if b)
+counted : (b : Bool) (count told : ℕ) → told ≡ saturated count → cond b (raised_by 1 told) told ≡ saturated (count + one_if b)
 counted true count told e = ap (raised_by 1) e ∙ often_more count
-counted false count told e = e ∙ ap often (let same : count ≡ count + 0 = omega arith in same)
+counted false count told e = e ∙ ap saturated (let same : count ≡ count + 0 = omega arith in same)
 
 -- ---- all servers
 pub record Counted (trace : List Made) (j : ℕ) (s : Server) : Type 0 where
@@ -124,12 +124,12 @@ module _ (trace : List Made) (made : Made) (j : ℕ) where
   wipes_on : (b : Bool) → wipes_it j made.act ≡ b → (told : ℕ) → told ≡ wipes j trace → cond b (raised_by 1 told) told ≡ wipes j (trace ++ made ∷ [])
   wipes_on b is told e =
       counted b (length (filter (λ (m : Made). wipes_it j m.act) trace)) told e
-      ∙ ap often (ap (λ n. length (filter (λ (m : Made). wipes_it j m.act) trace) + n) (ap one_if (sym is)) ∙ sym (count_one (λ (m : Made). wipes_it j m.act) trace made))
+      ∙ ap saturated (ap (λ n. length (filter (λ (m : Made). wipes_it j m.act) trace) + n) (ap one_if (sym is)) ∙ sym (count_one (λ (m : Made). wipes_it j m.act) trace made))
 
   downs_on : (b : Bool) → downs_it j made.act ≡ b → (told : ℕ) → told ≡ downs j trace → cond b (raised_by 1 told) told ≡ downs j (trace ++ made ∷ [])
   downs_on b is told e =
       counted b (length (filter (λ (m : Made). downs_it j m.act) trace)) told e
-      ∙ ap often (ap (λ n. length (filter (λ (m : Made). downs_it j m.act) trace) + n) (ap one_if (sym is)) ∙ sym (count_one (λ (m : Made). downs_it j m.act) trace made))
+      ∙ ap saturated (ap (λ n. length (filter (λ (m : Made). downs_it j m.act) trace) + n) (ap one_if (sym is)) ∙ sym (count_one (λ (m : Made). downs_it j m.act) trace made))
 
   -- a step that is neither
   quiet_count : (s : Server) → wipes_it j made.act ≡ false → downs_it j made.act ≡ false → Counted trace j s → Counted (trace ++ made ∷ []) j s

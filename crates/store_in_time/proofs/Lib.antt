@@ -15,3 +15,9 @@ mod LossSteps
 mod LossRuns
 mod LossLines
 mod CausedLines
+mod HeldStandings
+mod HeldActs
+mod HeldRuns
+mod HeldSteps
+mod HeldCalls
+mod HeldLines

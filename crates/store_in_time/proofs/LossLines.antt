@@ -44,7 +44,8 @@ use Rattle.store_history.proofs.OrderRuns.{end_known}
 use Rattle.store_losses.proofs.VersionMoves.{StepChange, versions_move}
 use Rattle.store_in_time.specs.Trace.{Made, call_made, act_made}
 use Rattle.store_in_time.specs.Moments.{Happened, IsOf}
-use Rattle.store_in_time.specs.InTime.{Looks, LacksIt, WasLost, WasSkipped, WereMissing, WasAway, Places as PlacesIt, NamesLosses, ResultNamesLosses, HasLossesInTime}
+use Rattle.store_in_time.specs.LostChunks.{Looks, LacksIt, WasLost, WasSkipped, PlacesChunk as PlacesIt}
+use Rattle.store_in_time.specs.LossesInTime.{WereMissing, WasAway, NamesLosses, ResultNamesLosses, HasLossesInTime}
 use Rattle.store_in_time.specs.InTimeLaws.{RunsHaveLossesInTime}
 use Rattle.store_in_time.specs.Steps.{run_trace}
 use Rattle.store_in_time.proofs.LossRuns.{OwnAway, OwnLost, OwnSkipped, OwnMissing, LossesOf, LossThen, stays, heard_none, stepped, own_step}
@@ -57,11 +58,11 @@ use Rattle.store_in_time.proofs.Traced.{KeptByMade, run_traced}
 use Rattle.store_in_time.proofs.Within.{Own}
 
 -- ---- all of a core
-record SoFar (script : Script) (trace : List Made) (core : Core) : Type 0 where
-  points : PointsSoFar script trace core
-  rows : RowsThen trace core.directory.versions
-  clients : (i : ℕ) (c : Calling) → slice_get core.clients i ≡ Some c → (work : Work) → slice_get (client_work script) i ≡ Some work → LossThen script.geometry trace core.directory (actor.Client i) work.jobs c
-  repairers : (i : ℕ) (c : Calling) → slice_get core.repairers i ≡ Some c → (work : Work) → slice_get (repairer_work script) i ≡ Some work → LossThen script.geometry trace core.directory (actor.Repairer i) work.jobs c
+pub record SoFar (script : Script) (trace : List Made) (core : Core) : Type 0 where
+  pub points : PointsSoFar script trace core
+  pub rows : RowsThen trace core.directory.versions
+  pub clients : (i : ℕ) (c : Calling) → slice_get core.clients i ≡ Some c → (work : Work) → slice_get (client_work script) i ≡ Some work → LossThen script.geometry trace core.directory (actor.Client i) work.jobs c
+  pub repairers : (i : ℕ) (c : Calling) → slice_get core.repairers i ≡ Some c → (work : Work) → slice_get (repairer_work script) i ≡ Some work → LossThen script.geometry trace core.directory (actor.Repairer i) work.jobs c
 
 -- the sweeper and the operator leave placements
 others_rows : (trace : List Made) (made : Made) (acting : Actor) (d : Directory) (servers : List Server) (a : Act) → IsOperatorAct a → IsSound d → RowsThen trace d.versions
@@ -98,7 +99,7 @@ module _ (script : Script) (can : CanRun script) (some : 0 < script.geometry.par
   keeps : KeptByMade script can (PointsSoFar script)
   keeps = points_kept script can some
 
-  so_far_kept : KeptByMade script can (SoFar script)
+  pub so_far_kept : KeptByMade script can (SoFar script)
   so_far_kept =
       record {
         client = λ trace core kept has i work calling job is_work is_calling is_job shortages kept_after.
@@ -143,7 +144,7 @@ module _ (script : Script) (can : CanRun script) (some : 0 < script.geometry.par
             };
         sweeper = λ trace core kept has.
             others trace core kept actor.Sweeper (next_sweep (chunk_count script.geometry) core.sweeper) (sweeper_act (chunk_count script.geometry) core.sweeper) has (sweeper_after script core) refl refl refl (keeps.sweeper trace core kept has.points);
-        operator = λ trace core kept has a is. others trace core kept actor.Operator a is has (operator_after a core) refl refl refl (keeps.operator trace core kept has.points a is);
+        operator = λ trace core kept has a is own. others trace core kept actor.Operator a is has (operator_after a core) refl refl refl (keeps.operator trace core kept has.points a is own);
       }
 
   fresh : (who : Actor) (jobs : List Job) (c : Calling) → new_calling (chunk_count script.geometry) ≡ c → LossThen script.geometry [] (first_core script).directory who jobs c
@@ -151,7 +152,7 @@ module _ (script : Script) (can : CanRun script) (some : 0 < script.geometry.par
       subst (LossThen script.geometry [] (first_core script).directory who jobs) e
       (record { heard = λ job is. heard_none script.geometry [] (first_core script).directory who _ job.target job.note.kind job.note.kind job.note; away = λ count h. absurd h; ended = λ number x is. absurd (none-some x is) })
 
-  first_so_far : SoFar script [] (first_core script)
+  pub first_so_far : SoFar script [] (first_core script)
   first_so_far =
       record {
         points = first_points script can some;

@@ -48,7 +48,7 @@ use Rattle.store_losses.proofs.LossesState.{Pinned, PinsIt}
 use Rattle.store_losses.proofs.LossesWeaker.{heard_less, heard_at_look}
 use Rattle.store_losses.proofs.VersionMoves.{row_at, Moved, StepVersions, StepChange, versions_move}
 use Rattle.store_in_time.specs.Trace.{Made}
-use Rattle.store_in_time.specs.InTime.{TellsSeen, Places as PlacesIt}
+use Rattle.store_in_time.specs.LostChunks.{TellsSeen, PlacesChunk as PlacesIt}
 use Rattle.store_in_time.proofs.Counts.{AllCounted}
 use Rattle.store_in_time.proofs.LossTold.{Placed, OwnPlaces, OwnLooks, OwnLacks, Lost, Looked, Any, Took, HeardThen, SaysThen, RowsThen, server_says, all_seen, seen_rows}
 use Rattle.store_in_time.proofs.Past.{last, on, weaker, not_last}
@@ -156,7 +156,7 @@ module _ (script : Script) (who : Actor) (job : Job) (calling : Calling) (places
   installing_short (Act.AtServer server (ServerStep.Install version)) = tt
   installing_short a = tt
 
-  told_heard : HeardThen g trace d who number job told
+  pub told_heard : HeardThen g trace d who number job told
   told_heard = by shortages.coding (is_in_pass (next_act g tries job calling.told))
     where
       by : (coding has : Bool) → HeardThen g trace d who number job (told_first coding has g job calling.told)
@@ -172,7 +172,7 @@ module _ (script : Script) (who : Actor) (job : Job) (calling : Calling) (places
       by true false = heard
       by false has = heard
 
-  first_ready : Ready (drawn_count g job.note) who (length calling.ended) (rank (phase_of (next_act g tries job told))) (versions_told told) places.directory
+  pub first_ready : Ready (drawn_count g job.note) who (length calling.ended) (rank (phase_of (next_act g tries job told))) (versions_told told) places.directory
   first_ready = short_ready g tries job at.target who (length calling.ended) calling.told places.directory shortages.coding (is_in_pass (next_act g tries job calling.told)) at.ready
 
   -- after the step

@@ -16,6 +16,7 @@ use Rattle.store_core.specs.Note.{Kind}
 use Rattle.store_core.specs.Server.{Server, at_server}
 use Rattle.store_core.specs.Told.{Told, Seen}
 use Rattle.store_calls.specs.Answers.{ServerAnswers}
+use Rattle.store_losses.proofs.HeardLosses.{IsAskOf}
 use Rattle.store_losses.proofs.LossesDirectory.{StripesOf}
 use Rattle.store_losses.proofs.LossesHeard.{AllSeen, Asking, Installing, Looking, Says, HeardBy}
 use Rattle.store_losses.proofs.LossesRows.{Placing}
@@ -24,7 +25,7 @@ use Rattle.store_losses.proofs.LossesState.{Pinned}
 use Rattle.store_losses.proofs.VersionMoves.{row_at}
 use Rattle.store_in_time.specs.Trace.{Made}
 use Rattle.store_in_time.specs.Moments.{Happened, IsFoundThen, IsPlacedThen}
-use Rattle.store_in_time.specs.InTime.{TellsPlacement, Places as PlacesIt, TellsSeen}
+use Rattle.store_in_time.specs.LostChunks.{AsksFor, TellsPlacement, PlacesChunk as PlacesIt, TellsSeen}
 use Rattle.store_in_time.proofs.Counts.{Counted}
 use Rattle.store_in_time.proofs.Past.{last}
 use Rattle.store_in_time.proofs.ServerTells.{FoundNow, PlacedNow, TellsNow, tells_now}
@@ -44,7 +45,7 @@ OwnLooks who number seen before made = Own who number made × TellsSeen seen mad
 
 abbrev pub OwnLacks : Actor → ℕ → Seen → ℕ → Found → List Made → Made → Type 0
 OwnLacks who number seen server reason before made =
-    Own who number made × ((step : ServerStep) × (made.act ≡ Act.AtServer server step)) × (made.answer ≡ Told.Missing reason) × IsFoundThen server before reason
+    Own who number made × ((step : ServerStep) × (made.act ≡ Act.AtServer server step) × AsksFor seen.version step) × (made.answer ≡ Told.Missing reason) × IsFoundThen server before reason
     × Happened before (OwnLooks who number seen)
 
 -- what a call heard: P, W, D and Q of the laws on losses
@@ -78,6 +79,12 @@ counted_found trace j s (found.Away told) c h = h ∙ c.downs_told
 counted_placed : (trace : List Made) (j : ℕ) (s : Server) (row : Placement) → Counted trace j s → PlacedNow s row → IsPlacedThen j trace row
 counted_placed trace j s (placement.At epoch) c h = h ∙ c.epoch
 counted_placed trace j s (placement.Skipped told) c h = h ∙ c.downs_told
+
+-- an ask is one
+asks_for : (version : ℕ) (step : ServerStep) → IsAskOf version step → AsksFor version step
+asks_for version (ServerStep.Has other) h = h
+asks_for version (ServerStep.Fetch other layers) h = h
+asks_for version step h = absurd h
 
 -- ---- what a step at a server says
 module _ (g : Shape) (trace : List Made) (d : Directory) (who : Actor) (number : ℕ) (job : Job) (made : Made) (own : Own who number made) where
@@ -114,7 +121,7 @@ module _ (g : Shape) (trace : List Made) (d : Directory) (who : Actor) (number :
       where
         by : (a : Told) → (at_server short step s).1 ≡ a → TellsNow s a → Asking g job.target (Lost more who number) (Looked more d who number job.note.kind) Any (Took more who number) (Act.AtServer server step) a
         by (Told.Missing reason) same t =
-            λ seen w asks. last (OwnLacks who number seen server reason) trace made (own, (step, is_act), is_answer ∙ same, counted_found trace server s reason counted t, before seen w)
+            λ seen w asks. last (OwnLacks who number seen server reason) trace made (own, (step, is_act, asks_for seen.version step asks), is_answer ∙ same, counted_found trace server s reason counted t, before seen w)
         by a same t = tt
 
     installing_so : Installing g job.target (Lost more who number) (Looked more d who number job.note.kind) Any (Took more who number) (Act.AtServer server step) answer

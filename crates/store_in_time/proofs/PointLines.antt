@@ -23,7 +23,7 @@ use Rattle.store_history.proofs.OrderLists.{all_indexed}
 use Rattle.store_history.proofs.OrderRuns.{end_known}
 use Rattle.store_in_time.specs.Trace.{Made}
 use Rattle.store_in_time.specs.Moments.{Happened, IsOf}
-use Rattle.store_in_time.specs.InTime.{ComesWithin, AnyStep, ReapsIts, NamesPoints, ResultNamesPoints, HasPointsInTime}
+use Rattle.store_in_time.specs.PointsInTime.{ComesWithin, AnyStep, ReapsIts, NamesPoints, ResultNamesPoints, HasPointsInTime}
 use Rattle.store_in_time.specs.InTimeLaws.{RunsHavePointsInTime}
 use Rattle.store_in_time.specs.Steps.{run_trace}
 use Rattle.store_in_time.proofs.Callers.{ComesOwn, LostOwn, EndedThen}

@@ -263,7 +263,7 @@ module _ (script : Script) (can : CanRun script) (some : 0 < script.geometry.par
             };
         sweeper = λ trace core kept has.
             others trace core actor.Sweeper (next_sweep (chunk_count script.geometry) core.sweeper) (sweeper_act (chunk_count script.geometry) core.sweeper) (λ i. refl) (λ i. refl) has (sweeper_after script core) refl refl refl refl;
-        operator = λ trace core kept has a is. others trace core actor.Operator a is (λ i. refl) (λ i. refl) has (operator_after a core) refl refl refl refl;
+        operator = λ trace core kept has a is own. others trace core actor.Operator a is (λ i. refl) (λ i. refl) has (operator_after a core) refl refl refl refl;
       }
 
   fresh : (who : Actor) (jobs : List Job) (c : Calling) → new_calling (chunk_count script.geometry) ≡ c → ActorThen [] (first_core script).directory who jobs c

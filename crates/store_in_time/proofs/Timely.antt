@@ -17,7 +17,7 @@ use Rattle.store_core.specs.Shown.{shown}
 use Rattle.store_map.specs.Limits.{size_of}
 use Rattle.store_in_time.specs.Trace.{Made}
 use Rattle.store_in_time.specs.Moments.{Happened, IsOf}
-use Rattle.store_in_time.specs.InTime.{KeepsTime}
+use Rattle.store_in_time.specs.PointsInTime.{KeepsTime}
 use Rattle.store_in_time.proofs.Points.{makes_point, points_in, MadeBy, Makes, PointsThen}
 
 -- ---- two parts of one list

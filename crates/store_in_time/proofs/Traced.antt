@@ -24,6 +24,14 @@ use Rattle.store_in_time.specs.Trace.{Made, call_made, job_made, made_if, made_b
 use Rattle.store_in_time.specs.Steps.{steps_of, first_run, run_trace}
 use Rattle.store_in_time.proofs.Stepwise.{IsStep, AreSteps, steps_flat, drains_are_steps}
 
+-- the operator reaps, empties servers, and makes them away and not away
+abbrev pub IsOfOperator : Act → Type 0
+IsOfOperator (Act.AtDirectory (DirectoryStep.Reap who)) = Unit {0}
+IsOfOperator (Act.AtServer server ServerStep.Wipe) = Unit {0}
+IsOfOperator (Act.AtServer server ServerStep.Down) = Unit {0}
+IsOfOperator (Act.AtServer server ServerStep.Up) = Unit {0}
+IsOfOperator act = ⊥
+
 module _ (script : Script) (can : CanRun script) (P : List Made → Core → Type 0) where
   -- what is kept by each step; the core that it leaves is one of a run again
   pub record KeptByMade : Type 0 where
@@ -41,7 +49,7 @@ module _ (script : Script) (can : CanRun script) (P : List Made → Core → Typ
         (trace : List Made) (core : Core) → RunKeeps script core → P trace core →
         P (trace ++ act_made actor.Sweeper (next_sweep (chunk_count script.geometry) core.sweeper) (places_in core) ∷ []) (sweeper_after script core)
     pub operator :
-        (trace : List Made) (core : Core) → RunKeeps script core → P trace core → (act : Act) → IsOperatorAct act →
+        (trace : List Made) (core : Core) → RunKeeps script core → P trace core → (act : Act) → IsOperatorAct act → IsOfOperator act →
         P (trace ++ act_made actor.Operator act (places_in core) ∷ []) (operator_after act core)
 
   module _ (keeps : KeptByMade) where
@@ -102,18 +110,18 @@ module _ (script : Script) (can : CanRun script) (P : List Made → Core → Typ
         found (Some work) e None k kept = still trace run.core h.has
         found (Some work) e (Some calling) k kept = by work e calling k (has_step work calling) kept
 
-    operator_has : (trace : List Made) (run : Run) → Has trace run → (act : Act) → IsOperatorAct act → Has (trace ++ act_made actor.Operator act (places_in run.core) ∷ []) (operator_step act run)
-    operator_has trace run h act is = record { state = operator_kept script can run h.state act is; has = keeps.operator trace run.core h.state h.has act is }
+    operator_has : (trace : List Made) (run : Run) → Has trace run → (act : Act) → IsOperatorAct act → IsOfOperator act → Has (trace ++ act_made actor.Operator act (places_in run.core) ∷ []) (operator_step act run)
+    operator_has trace run h act is own = record { state = operator_kept script can run h.state act is; has = keeps.operator trace run.core h.state h.has act is own }
 
     token_has : (trace : List Made) (next : Token) (run : Run) → IsStep next → Has trace run → Has (trace ++ made_of script next run) (step_core script next run)
     token_has trace (token.Client i) run is h = client_has trace run h i
     token_has trace (token.Repairer i) run is h = repairer_has trace run h i
     token_has trace token.Sweep run is h = record { state = sweeper_kept script can run h.state; has = keeps.sweeper trace run.core h.state h.has }
-    token_has trace (token.Wipe server) run is h = operator_has trace run h (Act.AtServer server ServerStep.Wipe) tt
-    token_has trace (token.Down server) run is h = operator_has trace run h (Act.AtServer server ServerStep.Down) tt
-    token_has trace (token.Up server) run is h = operator_has trace run h (Act.AtServer server ServerStep.Up) tt
-    token_has trace (token.ReapClient i) run is h = operator_has trace run h (Act.AtDirectory (DirectoryStep.Reap (actor.Client i))) tt
-    token_has trace (token.ReapRepairer i) run is h = operator_has trace run h (Act.AtDirectory (DirectoryStep.Reap (actor.Repairer i))) tt
+    token_has trace (token.Wipe server) run is h = operator_has trace run h (Act.AtServer server ServerStep.Wipe) tt tt
+    token_has trace (token.Down server) run is h = operator_has trace run h (Act.AtServer server ServerStep.Down) tt tt
+    token_has trace (token.Up server) run is h = operator_has trace run h (Act.AtServer server ServerStep.Up) tt tt
+    token_has trace (token.ReapClient i) run is h = operator_has trace run h (Act.AtDirectory (DirectoryStep.Reap (actor.Client i))) tt tt
+    token_has trace (token.ReapRepairer i) run is h = operator_has trace run h (Act.AtDirectory (DirectoryStep.Reap (actor.Repairer i))) tt tt
     token_has trace token.Drain run is h = absurd is
 
     all_tokens : (trace : List Made) (tokens : List Token) (run : Run) → AreSteps tokens → Has trace run → Has (trace ++ trace_of script tokens run) (run_tokens script tokens run)

@@ -15,7 +15,7 @@ use Rattle.store_core.proofs.Places.{directory_keeps_places}
 use Rattle.store_races.proofs.Changes.{IsChange, Grows, change_grows}
 use Rattle.store_in_time.specs.Trace.{Made}
 use Rattle.store_in_time.specs.Moments.{Happened}
-use Rattle.store_in_time.specs.InTime.{AnyStep}
+use Rattle.store_in_time.specs.PointsInTime.{AnyStep}
 use Rattle.store_in_time.proofs.Past.{last, on}
 
 -- a step of an actor's call

@@ -12,7 +12,8 @@ use Rattle.store_core.specs.Step.{Shortage}
 use Rattle.store_in_time.specs.Trace.{Made}
 use Rattle.store_in_time.specs.Steps.{steps_of, run_trace}
 use Rattle.store_in_time.specs.LineCauses.{LinesAreCaused}
-use Rattle.store_in_time.specs.InTime.{HasPointsInTime, HasLossesInTime}
+use Rattle.store_in_time.specs.PointsInTime.{HasPointsInTime}
+use Rattle.store_in_time.specs.LossesInTime.{HasLossesInTime}
 
 -- the steps of tokens make the same run
 abbrev pub DrainsAreSteps : Type 0

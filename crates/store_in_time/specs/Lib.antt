@@ -1,6 +1,9 @@
 pub mod Trace
 pub mod Steps
 pub mod Moments
-pub mod InTime
+pub mod PointsInTime
+pub mod LostChunks
+pub mod LossesInTime
 pub mod InTimeLaws
 pub mod LineCauses
+pub mod Held

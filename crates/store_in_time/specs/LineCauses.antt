@@ -1,4 +1,4 @@
--- Each refusal and each rebuild's result that a run shows is the outcome of its call after answers that cause it.
+-- Each refusal and each rebuild's result that a run shows is an outcome that its call can come to, by answers that cause it.
 use Rattle.std.specs.Prelude.{◌≡◌, List, Option, Some, All, option_and_then}
 use Rattle.std.specs.List.{slice_get}
 use Rattle.store_map.specs.Limits.{size_of, tries_of}
@@ -21,7 +21,7 @@ abbrev pub job_of_call : Script → CallName → Option Job
 job_of_call script (name.Client i number) = option_and_then (λ work. slice_get work.jobs number) (slice_get (client_work script) i)
 job_of_call script (name.Repairer i number) = option_and_then (λ work. slice_get work.jobs number) (slice_get (repairer_work script) i)
 
--- the call was told answers that it can be told, after which it ends with an outcome that they cause
+-- there are answers that the call can be told, after which it ends with an outcome that they cause
 pub record WasCaused (script : Script) (call : CallName) (Shows : Outcome → Type 0) : Type 0 where
   pub job : Job
   pub is_call : job_of_call script call ≡ Some job

@@ -31,15 +31,17 @@ abbrev pub downs_it : ℕ → Act → Bool
 downs_it server (Act.AtServer other ServerStep.Down) = nat_eq server other
 downs_it server act = false
 
--- how often, as a server counts that: its counts of 64 bits stay at their last value
-abbrev pub often : ℕ → ℕ
-often count = min count (2 ^ 64 - 1)
+-- a count of 64 bits stays at its last value
+abbrev pub saturated : ℕ → ℕ
+saturated count = min count (2 ^ 64 - 1)
 
+-- how often a server was emptied, as it counts that
 abbrev pub wipes : ℕ → List Made → ℕ
-wipes server trace = often (length (filter (λ (made : Made). wipes_it server made.act) trace))
+wipes server trace = saturated (length (filter (λ (made : Made). wipes_it server made.act) trace))
 
+-- and made away
 abbrev pub downs : ℕ → List Made → ℕ
-downs server trace = often (length (filter (λ (made : Made). downs_it server made.act) trace))
+downs server trace = saturated (length (filter (λ (made : Made). downs_it server made.act) trace))
 
 -- what a server tells that has no chunk to give is its count at that moment
 abbrev pub IsFoundThen : ℕ → List Made → Found → Type 0

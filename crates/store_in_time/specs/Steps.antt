@@ -20,6 +20,7 @@ abbrev pub sweep_token : Bool → List Token
 sweep_token true = token.Sweep ∷ []
 sweep_token false = []
 
+-- a round from a run on
 abbrev pub round_steps : Script → Run → List Token
 round_steps script run = actors_round script ++ sweep_token (sweeper_has_step (run_tokens script (actors_round script) run).core)
 

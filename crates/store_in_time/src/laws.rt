@@ -6,30 +6,38 @@ ghost use Rattle.store_in_time.specs.InTimeLaws.{
   RunsHavePointsInTime,
   RunsShowCauses,
 };
+ghost use Rattle.store_in_time.specs.Held.{RunsHoldWhatTheyMay};
 
 /// A drain is the steps of its rounds: a schedule and the same with each drain step by step make one run.
 pub fn drains_are_steps()
     ensures { DrainsAreSteps }
 {}
 
-/// In every run a call that was over before another began has the smaller point; each change that a
-/// refused write lost to, or that made a rebuild too late, came while that call ran; and so did the reap
-/// of each call that was given up.
+/// In every run, of two calls with lines in the history the one that was over before the other began has
+/// the smaller point; each point that a refused write lost to, or that made a rebuild too late, came while
+/// that call ran; and so did the reap of each call that was given up.
 pub fn runs_have_points_in_time()
     ensures { RunsHavePointsInTime }
 {}
 
-/// In every run each server that a refusal names told its call, after the call's look, that it lacked the
-/// chunk or was away, with the count that it had at that moment; its placement is the one that the look
-/// told, and had come about before by a prepare or an install. A put or a write that was refused for
-/// servers that were away names those that it asked to keep a chunk. A rebuild that ends as away was told
-/// so by a server that was away for the named time.
+/// In every run each server that a refusal names told its call, after the call's look and asked for a
+/// chunk of the version that the look told, that it lacked the chunk or was away, with the count that it
+/// had at that moment; its placement is the one that the look told, and had come about before by a prepare
+/// or an install. A put or a write that was refused for servers that were away names those that it had a
+/// chunk of one version for. A rebuild that ends as away was told so by a server, whose count of times
+/// down was the named one then.
 pub fn runs_have_losses_in_time()
     ensures { RunsHaveLossesInTime }
 {}
 
-/// Each refusal and each rebuild's result that a run shows is its call's outcome after answers that the
-/// call can be told, and those cause it.
+/// Each refusal and each rebuild's result that a run shows is one that its call can come to, by answers
+/// that cause it.
 pub fn runs_show_causes()
     ensures { RunsShowCauses }
+{}
+
+/// In every run each version that a server holds is not yet swept, or a call that was given up drew it or
+/// looked at it.
+pub fn runs_hold_what_they_may()
+    ensures { RunsHoldWhatTheyMay }
 {}
