@@ -1,0 +1,4 @@
+mod Versions
+mod WrittenStripes
+mod Commits
+mod Drops

@@ -1,0 +1,3 @@
+pub mod StandsFor
+pub mod CommitDrops
+pub mod DropLaws
