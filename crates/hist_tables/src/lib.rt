@@ -1,0 +1,22 @@
+//! What the checker's rules look up: the calls that lines name, sets of calls, numbers by actor,
+//! how often the operator does something, the texts of lines at the end of a transcript, and the line
+//! in which a verdict is printed.
+#![tactic(auto)]
+
+mod actor_table;
+mod call_set;
+mod calls;
+mod deeds;
+mod lines;
+mod reaps;
+mod texts;
+mod verdict_text;
+
+pub use actor_table::ActorTable;
+pub use call_set::CallSet;
+pub use calls::{call_of, count_calls, number_of, rebuild_of, with_number};
+pub use deeds::Deeds;
+pub use lines::{NamesCall, answered_calls, listed_calls, named_calls, unanswered_calls};
+pub use reaps::Reaps;
+pub use texts::{call_line, nothing, object_line, server_line};
+pub use verdict_text::verdict_line;

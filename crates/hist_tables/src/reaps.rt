@@ -1,0 +1,39 @@
+ghost use Rattle.std.specs.Prelude.{◌≡◌, IfOk};
+ghost use Rattle.hist_rules.specs.Counts.{reaps};
+ghost use Rattle.hist_tables.specs.Deeds.{reaps_in};
+ghost use Rattle.transcript_text.specs.declared.call_name.CallName.{CallName};
+
+use crate::deeds::{Deed, Deeds};
+use std::alloc::{AllocError, Global};
+use store_map::Script;
+use transcript_text::CallName;
+
+/// How often the passes of each actor are given up.
+#[derive(Drop)]
+pub struct Reaps {
+    clients: Deeds,
+    repairers: Deeds,
+}
+
+impl Reaps {
+    /// The counts of a script's schedule.
+    pub fn count(alloc: Global, script: &Script) -> Result<Reaps, AllocError>
+        ensures { IfOk result (λ made. (call : CallName) → reaps_in made call ≡ reaps script.now call) }
+    {
+        let schedule = script.schedule.as_slice();
+        Ok(Reaps {
+            clients: Deeds::count(alloc, Deed::ReapClient, schedule)?,
+            repairers: Deeds::count(alloc, Deed::ReapRepairer, schedule)?,
+        })
+    }
+
+    /// How often passes of the call's actor are given up.
+    pub fn of(&self, call: CallName) -> u64
+        ensures { result ≡ reaps_in self.now call }
+    {
+        match call {
+            CallName::Client { actor, .. } => self.clients.of(u64::from(actor)),
+            CallName::Repairer { actor, .. } => self.repairers.of(u64::from(actor)),
+        }
+    }
+}

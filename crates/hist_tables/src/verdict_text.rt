@@ -1,0 +1,105 @@
+ghost use Rattle.std.specs.Prelude.{◌≡◌, ◌++◌, IfOk, OnOk};
+ghost use Rattle.hex.specs.Hex.{encode_lower};
+ghost use Rattle.transcript_text.specs.Words.{reply_text, shown_text};
+ghost use Rattle.hist_rules.specs.VerdictText.{tail_word, verdict_line};
+
+use crate::texts::append;
+use hist_rules::{TailKind, Verdict};
+use std::alloc::{AllocError, Global};
+use store_map::Reply;
+use transcript_text::Shown;
+
+/// Appends the bytes' digits, in lower case.
+fn append_hex(out: &mut Vec<u8>, bytes: &[u8]) -> Result<(), AllocError>
+    ensures { OnOk result (out.new.items ≡ out.old.items ++ encode_lower bytes.now) }
+{
+    let digits = hex::encode(*out.allocator(), bytes)?;
+    out.extend_from_slice(digits.as_bytes())
+}
+
+fn append_reply(out: &mut Vec<u8>, reply: &Reply) -> Result<(), AllocError>
+    ensures { OnOk result (out.new.items ≡ out.old.items ++ reply_text reply.now) }
+{
+    match reply {
+        Reply::Done => append(out, "ok"),
+        Reply::Bytes(bytes) => {
+            append(out, "bytes hex:")?;
+            append_hex(out, bytes.as_slice())
+        }
+        Reply::Length(length) => append(out, format_args!("length {length}")),
+        Reply::NoSuch => append(out, "nosuch"),
+        Reply::OutRange => append(out, "outrange"),
+        Reply::TooLarge => append(out, "toolarge"),
+    }
+}
+
+fn append_shown(out: &mut Vec<u8>, shown: &Shown) -> Result<(), AllocError>
+    ensures { OnOk result (out.new.items ≡ out.old.items ++ shown_text shown.now) }
+{
+    match shown {
+        Shown::Reply(reply) => append_reply(out, reply),
+        Shown::Unfinished => append(out, "open"),
+    }
+}
+
+fn append_tail_word(out: &mut Vec<u8>, kind: TailKind) -> Result<(), AllocError>
+    ensures { OnOk result (out.new.items ≡ out.old.items ++ tail_word kind) }
+{
+    match kind {
+        TailKind::Unlisted => append(out, "open"),
+        TailKind::Names => append(out, "list"),
+        TailKind::Taken => append(out, "taken"),
+    }
+}
+
+/// Appends the verdict's line.
+fn append_verdict(out: &mut Vec<u8>, verdict: &Verdict) -> Result<(), AllocError>
+    ensures { OnOk result (out.new.items ≡ out.old.items ++ verdict_line verdict.now) }
+{
+    match verdict {
+        Verdict::Legal => append(out, "legal\n"),
+        Verdict::Differs {
+            call,
+            expected,
+            got,
+        } => {
+            append(out, format_args!("differs {call} expected "))?;
+            append_reply(out, expected)?;
+            append(out, " got ")?;
+            append_shown(out, got)?;
+            append(out, "\n")
+        }
+        Verdict::Misplaced {
+            call,
+            first,
+            second,
+        } => append(out, format_args!("misplaced {call} {first} {second}\n")),
+        Verdict::BadCause {
+            call,
+            first,
+            second,
+        } => append(out, format_args!("cause {call} {first} {second}\n")),
+        Verdict::BadTail {
+            kind,
+            expected,
+            got,
+        } => {
+            append(out, "tail ")?;
+            append_tail_word(out, *kind)?;
+            append(out, " expected ")?;
+            out.extend_from_slice(expected.as_slice())?;
+            append(out, " got ")?;
+            out.extend_from_slice(got.as_slice())?;
+            append(out, "\n")
+        }
+    }
+}
+
+/// The line in which the verdict is printed, with its line feed.
+pub fn verdict_line(alloc: Global, verdict: &Verdict) -> Result<Vec<u8>, AllocError>
+    ensures { IfOk result (λ bytes. bytes.items ≡ verdict_line verdict.now) }
+{
+    let mut out = Vec::new(alloc);
+    append_verdict(&mut out, verdict)?;
+    Ok(out)
+}
