@@ -1,0 +1,80 @@
+ghost use Rattle.std.specs.Prelude.{◌≡◌, ◌+◌, ◌<◌, ◌≤◌, ◌^◌, get_or, sum_by, IfOk};
+ghost use Rattle.transcript_text.specs.declared.line.GLine.{GLine};
+ghost use Rattle.hist_rules.specs.TakesAddUp.{server_adds_up, takes_add_up};
+ghost use Rattle.hist_causes.specs.Losses.{AreWipes};
+
+use hist_rules::{TailKind, Verdict};
+use hist_tables::{Deeds, server_line};
+use std::alloc::{AllocError, Global};
+use store_map::Script;
+use transcript_text::{GLine, TLine, Transcript};
+
+/// What the call took of a server.
+fn taken_by(line: &GLine, server: u32) -> u64
+    ensures { result ≡ get_or line.now.takes server 0 }
+{
+    let takes = line.takes.as_slice();
+    takes.get(server as usize).copied().unwrap_or(0)
+}
+
+fn add(sum: u128, taken: u64) -> u128
+    requires room { sum + 2 ^ 64 ≤ 2 ^ 128 }
+    ensures value { result ≡ sum + taken }
+    ensures step { result < sum + 2 ^ 64 }
+{
+    sum + u128::from(taken)
+}
+
+/// What all calls took of a server. The sum may pass 64 bits.
+fn taken_of(lines: &[GLine], server: u32) -> u128
+    ensures { result ≡ sum_by (λ (line : GLine). get_or line.takes server 0) lines.now }
+{
+    let mut sum = 0;
+    for line in lines {
+        sum = add(sum, taken_by(line, server));
+    }
+    sum
+}
+
+/// Whether a server gave what all calls took of it, and was emptied so often.
+fn server_adds_up(
+    alloc: Global,
+    script: &Script,
+    transcript: &Transcript,
+    deeds: &Deeds,
+    line: &TLine,
+) -> Result<Option<Verdict>, AllocError>
+    requires wipes { AreWipes script.now deeds.now }
+    ensures { IfOk result (λ found. found ≡ server_adds_up script.now transcript.now line.now) }
+{
+    let taken = taken_of(transcript.takes.as_slice(), line.server);
+    let epoch = deeds.of(u64::from(line.server));
+    let printed = u128::from(line.taken);
+    if printed == taken && line.epoch == epoch {
+        return Ok(None);
+    }
+    Ok(Some(Verdict::BadTail {
+        kind: TailKind::Taken,
+        expected: server_line(alloc, line.server, taken, line.held, epoch)?,
+        got: server_line(alloc, line.server, printed, line.held, line.epoch)?,
+    }))
+}
+
+/// The fault of the first server whose line is wrong. Each line of takes has one number for each
+/// server, so each number is read once.
+pub fn find_wrong_sum(
+    alloc: Global,
+    script: &Script,
+    transcript: &Transcript,
+) -> Result<Option<Verdict>, AllocError>
+    ensures { IfOk result (λ found. found ≡ takes_add_up script.now transcript.now) }
+{
+    let deeds = Deeds::wipes(alloc, script)?;
+    let lines = transcript.servers.as_slice();
+    for line in lines {
+        if let Some(fault) = server_adds_up(alloc, script, transcript, &deeds, line)? {
+            return Ok(Some(fault));
+        }
+    }
+    Ok(None)
+}
