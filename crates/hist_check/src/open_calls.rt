@@ -1,0 +1,132 @@
+ghost use Rattle.std.specs.Prelude.{◌≡◌, ◌<◌, ◌^◌, List, Option, length, map, find, IfOk, OnOk};
+ghost use Rattle.std.specs.Option.{option_or, option_map};
+ghost use Rattle.hist_rules.specs.Calls.{number_of, same_actor};
+ghost use Rattle.hist_rules.specs.First.{first_fault, first_fault_along};
+ghost use Rattle.hist_rules.specs.Named.{answered_calls};
+ghost use Rattle.hist_rules.specs.OneOpenCall.{is_unanswered, is_only_one, is_next_call, one_open_call};
+ghost use Rattle.transcript_text.specs.declared.call_name.CallName.{CallName};
+ghost use Rattle.transcript_text.specs.declared.transcript.Transcript.{Transcript};
+ghost use Rattle.hist_tables.specs.Tables.{has, IsSetOf};
+ghost use Rattle.hist_check.specs.Reached.{AreReached};
+
+use crate::least_missing::least_missing;
+use crate::order::follows;
+use hist_rules::Verdict;
+use hist_tables::{ActorTable, CallSet, answered_calls, count_calls, number_of, unanswered_calls};
+use std::alloc::{AllocError, Global};
+use store_map::Script;
+use transcript_text::{CallName, HLine, Shown, Transcript};
+
+/// Whether a line without a reply has its call among those without a reply.
+fn is_unanswered(script: &Script, unanswered: &CallSet, line: &HLine) -> Option<Verdict>
+    ensures { (t : Transcript) → IsSetOf unanswered.now (map (λ other. other.call) t.unanswered)
+        → result ≡ is_unanswered script.now t line.now.call line.now.reply }
+{
+    let call = line.call;
+    match line.reply {
+        Shown::Reply(_) => None,
+        Shown::Unfinished => {
+            if unanswered.contains(call) {
+                return None;
+            }
+            Some(Verdict::Misplaced {
+                call,
+                first: u64::from(number_of(call)),
+                second: count_calls(script, call) as u64,
+            })
+        }
+    }
+}
+
+/// Whether the call is the first of its actor that isn't answered.
+fn is_next_call(
+    answered: &[CallName],
+    set: &CallSet,
+    reached: &mut ActorTable,
+    call: CallName,
+) -> Result<Option<Verdict>, AllocError>
+    requires few { length answered.now < 2 ^ 32 }
+    requires set { IsSetOf set.now answered.now }
+    requires reached { AreReached answered.now reached.old }
+    ensures found { IfOk result (λ found. found ≡ is_next_call answered.now call) }
+    ensures reached { OnOk result (AreReached answered.now reached.new) }
+{
+    let follows = follows(answered, set, reached, call)?;
+    if follows && !set.contains(call) {
+        return Ok(None);
+    }
+    Ok(Some(Verdict::Misplaced {
+        call,
+        first: least_missing(answered, set, call),
+        second: u64::from(number_of(call)),
+    }))
+}
+
+/// Whether the actor has no such line before.
+fn is_only_one(first: Option<u64>, call: CallName) -> Option<Verdict>
+    ensures { (before : Option CallName) → first ≡ option_map number_of before → result ≡ is_only_one before call }
+{
+    match first {
+        None => None,
+        Some(first) => Some(Verdict::Misplaced {
+            call,
+            first,
+            second: u64::from(number_of(call)),
+        }),
+    }
+}
+
+/// The first line of the history without a reply whose call has no line of its own.
+fn find_effect(script: &Script, unanswered: &CallSet, lines: &[HLine]) -> Option<Verdict>
+    ensures { (t : Transcript) → IsSetOf unanswered.now (map (λ other. other.call) t.unanswered)
+        → result ≡ first_fault (λ line. is_unanswered script.now t line.call line.reply) lines.now }
+{
+    for line in lines {
+        if let Some(fault) = is_unanswered(script, unanswered, line) {
+            return Some(fault);
+        }
+    }
+    None
+}
+
+/// The first call without a reply that isn't its actor's next one.
+fn find_early(
+    alloc: Global,
+    answered: &[CallName],
+    calls: &[CallName],
+) -> Result<Option<Verdict>, AllocError>
+    requires few { length answered.now < 2 ^ 32 }
+    ensures { IfOk result (λ found. found ≡ first_fault_along (λ before call. option_or (is_only_one (find (same_actor call) before) call) (is_next_call answered.now call)) calls.now) }
+{
+    let set = CallSet::from_calls(alloc, answered)?;
+    let mut reached = ActorTable::new(alloc);
+    let mut firsts = ActorTable::new(alloc);
+    for call in calls {
+        if let Some(fault) = is_only_one(firsts.get(*call), *call) {
+            return Ok(Some(fault));
+        }
+        if let Some(fault) = is_next_call(answered, &set, &mut reached, *call)? {
+            return Ok(Some(fault));
+        }
+        firsts.set(*call, u64::from(number_of(*call)))?;
+    }
+    Ok(None)
+}
+
+/// The first line of a call without a reply that is wrong, those of the history first.
+pub fn find_wrong_open(
+    alloc: Global,
+    script: &Script,
+    transcript: &Transcript,
+) -> Result<Option<Verdict>, AllocError>
+    requires few { length (answered_calls transcript.now) < 2 ^ 32 }
+    ensures { IfOk result (λ found. found ≡ one_open_call script.now transcript.now) }
+{
+    let waiting = unanswered_calls(alloc, transcript)?;
+    let set = CallSet::from_calls(alloc, &waiting)?;
+    if let Some(fault) = find_effect(script, &set, transcript.history.as_slice()) {
+        return Ok(Some(fault));
+    }
+    let answered = answered_calls(alloc, transcript)?;
+    find_early(alloc, &answered, &waiting)
+}

@@ -1,0 +1,122 @@
+ghost use Rattle.std.specs.Prelude.{◌≡◌, ◌<◌, ◌≤◌, ◌^◌, ◌↔◌, ℕ, List, true, length, IsTrue, IfOk, OnOk};
+ghost use Rattle.std.specs.Option.{option_or};
+ghost use Rattle.hist_rules.specs.Calls.{with_number, number_of, is_named};
+ghost use Rattle.hist_rules.specs.CallsInOrder.{follows, follows_answered, is_first_answer, calls_in_order};
+ghost use Rattle.hist_rules.specs.Named.{answered_calls};
+ghost use Rattle.hist_rules.specs.First.{first_fault_along};
+ghost use Rattle.transcript_text.specs.declared.call_name.CallName.{CallName};
+ghost use Rattle.hist_tables.specs.Tables.{has, IsSetOf};
+ghost use Rattle.hist_check.specs.Reached.{AreReached};
+
+use crate::least_missing::least_missing;
+use hist_rules::Verdict;
+use hist_tables::{ActorTable, CallSet, answered_calls, number_of, with_number};
+use std::alloc::{AllocError, Global};
+use transcript_text::{CallName, Transcript};
+
+/// Whether the set has the calls of the call's actor from a number up to another.
+fn has_between(set: &CallSet, call: CallName, from: u64, to: u32) -> bool
+    ensures { IsTrue result ↔ ((number : ℕ) → from ≤ number → number < to → has set.now (with_number call number) ≡ true) }
+{
+    for number in from..u64::from(to) {
+        if !set.contains(with_number(call, number as u32)) {
+            return false;
+        }
+    }
+    true
+}
+
+/// Whether all earlier calls of the call's actor are among the calls, of which the set is made.
+/// The table keeps how far each actor's calls were found, so that no call is looked up twice.
+pub fn follows(
+    calls: &[CallName],
+    set: &CallSet,
+    reached: &mut ActorTable,
+    call: CallName,
+) -> Result<bool, AllocError>
+    requires set { IsSetOf set.now calls.now }
+    requires reached { AreReached calls.now reached.old }
+    ensures holds { IfOk result (λ holds. holds ≡ follows calls.now call) }
+    ensures reached { OnOk result (AreReached calls.now reached.new) }
+{
+    let from = reached.get(call).unwrap_or(0);
+    let number = number_of(call);
+    if u64::from(number) <= from {
+        return Ok(true);
+    }
+    if !has_between(set, call, from, number) {
+        return Ok(false);
+    }
+    reached.set(call, u64::from(number))?;
+    Ok(true)
+}
+
+/// Whether the call stands behind its actor's earlier answers.
+fn follows_answered(
+    calls: &[CallName],
+    set: &CallSet,
+    reached: &mut ActorTable,
+    call: CallName,
+) -> Result<Option<Verdict>, AllocError>
+    requires few { length calls.now < 2 ^ 32 }
+    requires set { IsSetOf set.now calls.now }
+    requires reached { AreReached calls.now reached.old }
+    ensures found { IfOk result (λ found. found ≡ follows_answered calls.now call) }
+    ensures reached { OnOk result (AreReached calls.now reached.new) }
+{
+    if follows(calls, set, reached, call)? {
+        return Ok(None);
+    }
+    Ok(Some(Verdict::Misplaced {
+        call,
+        first: least_missing(calls, set, call),
+        second: u64::from(number_of(call)),
+    }))
+}
+
+/// Whether no earlier line answers the call.
+fn is_first_answer(before: &CallSet, call: CallName) -> Option<Verdict>
+    ensures { (calls : List CallName) → IsSetOf before.now calls → result ≡ is_first_answer calls call }
+{
+    if !before.contains(call) {
+        return None;
+    }
+    let number = u64::from(number_of(call));
+    Some(Verdict::Misplaced {
+        call,
+        first: number + 1,
+        second: number,
+    })
+}
+
+/// The first of the calls that stands out of order.
+fn find_disorder(alloc: Global, calls: &[CallName]) -> Result<Option<Verdict>, AllocError>
+    requires few { length calls.now < 2 ^ 32 }
+    ensures { IfOk result (λ found. found ≡ first_fault_along (λ before call. option_or (follows_answered calls.now call) (is_first_answer before call)) calls.now) }
+{
+    let set = CallSet::from_calls(alloc, calls)?;
+    let mut reached = ActorTable::new(alloc);
+    let mut before = CallSet::new(alloc);
+    for call in calls {
+        if let Some(fault) = follows_answered(calls, &set, &mut reached, *call)? {
+            return Ok(Some(fault));
+        }
+        if let Some(fault) = is_first_answer(&before, *call) {
+            return Ok(Some(fault));
+        }
+        before.insert(*call)?;
+    }
+    Ok(None)
+}
+
+/// The first answer that stands out of order.
+pub fn find_wrong_answer(
+    alloc: Global,
+    transcript: &Transcript,
+) -> Result<Option<Verdict>, AllocError>
+    requires few { length (answered_calls transcript.now) < 2 ^ 32 }
+    ensures { IfOk result (λ found. found ≡ calls_in_order transcript.now) }
+{
+    let calls = answered_calls(alloc, transcript)?;
+    find_disorder(alloc, &calls)
+}

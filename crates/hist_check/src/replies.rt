@@ -1,0 +1,70 @@
+ghost use Rattle.std.specs.Prelude.{◌≡◌, IfOk};
+ghost use Rattle.std.specs.Option.{option_copied};
+ghost use Rattle.hist_rules.specs.RepliesMatch.{same_reply, is_put_or_write, shows_reply};
+ghost use Rattle.hist_rules.specs.Named.{is_ok};
+
+use std::alloc::AllocError;
+use store_map::{Call, Reply};
+use transcript_text::Shown;
+
+/// Whether two replies are the same.
+fn same_reply(one: &Reply, other: &Reply) -> bool
+    ensures { result ≡ same_reply one.now other.now }
+{
+    match (one, other) {
+        (Reply::Done, Reply::Done) => true,
+        (Reply::Bytes(one), Reply::Bytes(other)) => one.as_slice() == other.as_slice(),
+        (Reply::Length(one), Reply::Length(other)) => *one == *other,
+        (Reply::NoSuch, Reply::NoSuch) => true,
+        (Reply::OutRange, Reply::OutRange) => true,
+        (Reply::TooLarge, Reply::TooLarge) => true,
+        _ => false,
+    }
+}
+
+fn is_ok(reply: &Reply) -> bool
+    ensures { result ≡ is_ok reply.now }
+{
+    matches!(reply, Reply::Done)
+}
+
+fn is_put_or_write(call: &Call) -> bool
+    ensures { result ≡ is_put_or_write call.now }
+{
+    matches!(call, Call::Put { .. } | Call::Write { .. })
+}
+
+/// Whether what is shown of a call agrees with the map's reply.
+pub fn shows_reply(call: Option<&Call>, reply: &Reply, shown: &Shown) -> bool
+    ensures { result ≡ shows_reply (option_copied call.entry) reply.now shown.now }
+{
+    match shown {
+        Shown::Reply(printed) => same_reply(reply, printed),
+        Shown::Unfinished => match call {
+            Some(call) => is_ok(reply) && is_put_or_write(call),
+            None => false,
+        },
+    }
+}
+
+fn copy_reply(reply: &Reply) -> Result<Reply, AllocError>
+    ensures { IfOk result (λ copy. copy ≡ reply.now) }
+{
+    Ok(match reply {
+        Reply::Done => Reply::Done,
+        Reply::Bytes(bytes) => Reply::Bytes(bytes.copy()?),
+        Reply::Length(length) => Reply::Length(*length),
+        Reply::NoSuch => Reply::NoSuch,
+        Reply::OutRange => Reply::OutRange,
+        Reply::TooLarge => Reply::TooLarge,
+    })
+}
+
+pub fn copy_shown(shown: &Shown) -> Result<Shown, AllocError>
+    ensures { IfOk result (λ copy. copy ≡ shown.now) }
+{
+    match shown {
+        Shown::Reply(reply) => Ok(Shown::Reply(copy_reply(reply)?)),
+        Shown::Unfinished => Ok(Shown::Unfinished),
+    }
+}
