@@ -4,3 +4,4 @@ pub mod Numbers
 pub mod Reach
 pub mod Replays
 pub mod Rules
+pub mod Groups

@@ -22,3 +22,16 @@ last_decides [] None none = refl
 last_decides [] (Some fault) none = refl
 last_decides (test ∷ tests) last none =
     last_decides tests last none.1 ∙ sym (ap (λ (found : Option Verdict). option_or found (first_of (tests ++ last ∷ []))) none.0)
+
+or_assoc : (one other third : Option Verdict) → option_or one (option_or other third) ≡ option_or (option_or one other) third
+or_assoc None other third = refl
+or_assoc (Some fault) other third = refl
+
+-- tests in a row
+append_tests : (tests others : List (Option Verdict)) → first_of (tests ++ others) ≡ option_or (first_of tests) (first_of others)
+append_tests [] others = refl
+append_tests (test ∷ tests) others =
+    ap (λ (found : Option Verdict). option_or test found) (append_tests tests others) ∙ or_assoc test (first_of tests) (first_of others)
+
+pub found_behind : (tests others : List (Option Verdict)) (found : Option Verdict) → None ≡ first_of tests → found ≡ first_of others → found ≡ first_of (tests ++ others)
+found_behind tests others found none is = is ∙ sym (append_tests tests others ∙ ap (λ (first : Option Verdict). option_or first (first_of others)) (sym none))

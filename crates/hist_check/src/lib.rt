@@ -2,11 +2,14 @@
 //! over the lines.
 #![tactic(auto)]
 
-pub mod calls_exist;
-pub mod least_missing;
-pub mod open_calls;
-pub mod order;
-pub mod replay;
-pub mod replies;
-pub mod rising;
-pub mod unlisted;
+mod calls_exist;
+mod least_missing;
+mod open_calls;
+mod order;
+mod replay;
+mod replies;
+mod rising;
+mod unlisted;
+mod verdict;
+
+pub use verdict::check;
