@@ -1,5 +1,5 @@
 -- What holds of transcripts and faults.
-use Rattle.std.specs.Prelude.{◌≡◌, ℕ, List}
+use Rattle.std.specs.Prelude.{◌≡◌, ◌≢◌, ℕ, ◌+◌, ◌≤◌, List, length}
 use Rattle.line_grammar.specs.declared.fault.FaultKind.{FaultKind}
 use Rattle.transcript_text.specs.Text.{text_of}
 use Rattle.transcript_text.specs.declared.transcript.Transcript.{Transcript}
@@ -24,3 +24,15 @@ IsOneFault =
     (servers : ℕ) (bytes : List ℕ) (number number' : ℕ) (kind kind' : FaultKind)
     → IsFault servers bytes number kind → IsFault servers bytes number' kind'
     → (number ≡ number') × (kind ≡ kind')
+
+-- no bytes are without a transcript and without a fault
+abbrev pub IsCovered : Type 0
+IsCovered =
+    (servers : ℕ) (bytes : List ℕ) → ((t : Transcript) → IsWellFormed servers t → bytes ≢ text_of t)
+    → ((number : ℕ) (kind : FaultKind) → ¬ IsFault servers bytes number kind) → ⊥
+
+-- the faulty line is one of the text's, or the one behind them
+abbrev pub IsFaultWithin : Type 0
+IsFaultWithin =
+    (servers : ℕ) (bytes : List ℕ) (number : ℕ) (kind : FaultKind) → IsFault servers bytes number kind
+    → number ≤ length bytes + 1
