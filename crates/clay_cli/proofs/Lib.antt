@@ -1,4 +1,3 @@
 mod Outputs
 mod Refusals
 mod Statuses
-mod WordLaws

@@ -7,7 +7,7 @@ use Rattle.store_world.specs.OneClient.{HasOneClient}
 use Rattle.clay_cli.specs.Top.{Answers}
 use Rattle.clay_cli.specs.declared.status.Status.{Status}
 use Rattle.clay_cli.specs.declared.status.Status.TheVariants.{ScriptRefused}
-use Rattle.clay_cli.specs.declared.words.Command.TheVariants.{Play}
+use Rattle.clay_words.specs.declared.words.Task.TheVariants.{Play}
 
 -- the input spells a script of a form that isn't built
 pub not_built : (input : List ℕ) (script : Script) (status : Status) (line : List ℕ) → Spelled input script → ¬ HasOneClient script

@@ -1,13 +1,14 @@
 -- What the top call owes for its words and its input.
-use Rattle.std.specs.Prelude.{◌≡◌, ◌⊎◌, ℕ, Option, Some, List, codes}
-use Rattle.clay_cli.specs.Words.{Asks}
+use Rattle.std.specs.Prelude.{◌≡◌, ◌⊎◌, ℕ, Option, Some, List, [], codes}
+use Rattle.clay_bytes.specs.Stream.{Gains, IsPrefixWritten}
+use Rattle.clay_words.specs.Words.{AsksTask}
 use Rattle.clay_cli.specs.Play.{IsTranscriptFor, IsRefusal}
 use Rattle.clay_cli.specs.Chunks.{IsChunkLines, IsDataRefused}
 use Rattle.clay_cli.specs.Recover.{IsRecovered, IsNotRecovered}
-use Rattle.clay_cli.specs.declared.words.Command.{Command}
-use Rattle.clay_cli.specs.declared.words.Command.TheVariants.{Play, Chunks, Recover}
+use Rattle.clay_words.specs.declared.words.Task.{Task}
+use Rattle.clay_words.specs.declared.words.Task.TheVariants.{Play, Chunks, Recover}
 use Rattle.clay_cli.specs.declared.status.Status.{Status}
-use Rattle.clay_cli.specs.declared.status.Status.TheVariants.{Done, ScriptRefused, InputTooLong, ReadFault, OutOfMemory, DataRefused}
+use Rattle.clay_cli.specs.declared.status.Status.TheVariants.{Done, ScriptRefused, InputTooLong, ReadFault, WriteFault, OutOfMemory, DataRefused}
 
 abbrev pub usage_line : List ℕ
 usage_line = codes "usage: clay play | run WORKERS | verify | chunks K M W | recover K M W | gen START SIZE | trial START SIZE WORKERS\n"
@@ -16,8 +17,8 @@ usage_line = codes "usage: clay play | run WORKERS | verify | chunks K M W | rec
 abbrev pub WhereTold : Option (List ℕ) → (List ℕ → Type 0) → Type 0
 WhereTold told P = (bytes : List ℕ) → told ≡ Some bytes → P bytes
 
--- the output of a command for an input, with its status; the other statuses have none
-abbrev pub Answers : Command → List ℕ → Status → List ℕ → Type 0
+-- the output of a task for an input, with its status; the other statuses have none
+abbrev pub Answers : Task → List ℕ → Status → List ℕ → Type 0
 Answers Play input Done output = IsTranscriptFor input output
 Answers Play input ScriptRefused output = IsRefusal input output
 Answers Play input _ output = ⊥
@@ -30,7 +31,14 @@ Answers (Recover g) input _ output = ⊥
 
 -- the output of an input that these words ask for, with its status
 abbrev pub Owes : List (List ℕ) → List ℕ → Status → List ℕ → Type 0
-Owes words input status output = (command : Command) × Asks words command × Answers command input status output
+Owes words input status output = (task : Task) × AsksTask words task × Answers task input status output
+
+-- an output without an input was written, or a prefix of it where the sink failed, or nothing where memory was wanting
+abbrev pub Writes : Status → Option (List ℕ) → List ℕ → Option (List ℕ) → Type 0
+Writes status old output new =
+    ((status ≡ Done) × Gains old output new)
+    ⊎ ((status ≡ WriteFault) × IsPrefixWritten old output new)
+    ⊎ ((status ≡ OutOfMemory) × Gains old [] new)
 
 -- the statuses of an output that was made of the input
 abbrev pub IsOfInput : Status → Type 0

@@ -1,7 +1,7 @@
 // The command `chunks`.
 ghost use Rattle.std.specs.Prelude.{IfOk};
 ghost use Rattle.clay_cli.specs.Top.{Answers, IsOfInput};
-ghost use Rattle.clay_cli.specs.declared.words.Command.TheVariants.{Chunks};
+ghost use Rattle.clay_words.specs.declared.words.Task.TheVariants.{Chunks};
 
 use crate::Status;
 use crate::output::Output;

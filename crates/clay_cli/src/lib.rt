@@ -2,13 +2,13 @@
 #![tactic(auto)]
 
 mod chunks;
+mod generate;
 mod output;
 mod play;
 mod program;
 mod recover;
 mod status;
 mod top;
-mod words;
 
 pub use program::run;
 pub use status::Status;

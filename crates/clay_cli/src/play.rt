@@ -4,7 +4,7 @@ ghost use Rattle.store_map.specs.Naming.{IsValid};
 ghost use Rattle.store_world.specs.OneClient.{HasOneClient};
 ghost use Rattle.clay_cli.specs.Play.{IsTextOf, kind_text, refusal_line};
 ghost use Rattle.clay_cli.specs.Top.{Answers, IsOfInput};
-ghost use Rattle.clay_cli.specs.declared.words.Command.TheVariants.{Play};
+ghost use Rattle.clay_words.specs.declared.words.Task.TheVariants.{Play};
 
 use crate::Status;
 use crate::output::Output;

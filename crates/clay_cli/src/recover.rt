@@ -1,7 +1,7 @@
 // The command `recover`.
 ghost use Rattle.std.specs.Prelude.{IfOk};
 ghost use Rattle.clay_cli.specs.Top.{Answers, IsOfInput};
-ghost use Rattle.clay_cli.specs.declared.words.Command.TheVariants.{Recover};
+ghost use Rattle.clay_words.specs.declared.words.Task.TheVariants.{Recover};
 
 use crate::Status;
 use crate::output::Output;

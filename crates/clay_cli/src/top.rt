@@ -1,16 +1,20 @@
 // The top call: from words, a source and a sink to a status.
 ghost use Rattle.std.specs.Prelude.{◌≡◌, ◌≢◌, ◌⊎◌, ◌≤◌, ◌<◌, ℕ, List, [], IfOk, IfErr, IsErrOf, map, string_bytes, length};
 ghost use Rattle.clay_bytes.specs.Stream.{Rises, Gains, GivesAtMost, IsCutOff, IsPrefixWritten};
-ghost use Rattle.clay_cli.specs.Words.{AsksNothing, Asks};
-ghost use Rattle.clay_cli.specs.Top.{WhereTold, Answers, Owes, IsOfInput, IsSilent, usage_line};
+ghost use Rattle.clay_gen.specs.Script.{generated};
+ghost use Rattle.script_text.specs.Spelling.{spelling};
+ghost use Rattle.clay_words.specs.Words.{Asks, AsksNothing, AsksForInput};
+ghost use Rattle.clay_cli.specs.Top.{WhereTold, Answers, Owes, Writes, IsOfInput, IsSilent, usage_line};
+ghost use Rattle.clay_words.specs.declared.words.Command.TheVariants.{Generate};
 
 use crate::Status;
 use crate::chunks::chunks;
+use crate::generate::script_from;
 use crate::output::Output;
 use crate::play::play;
 use crate::recover::recover;
-use crate::words::{Command, command_of};
 use clay_bytes::{InFault, Sink, Source, read_all, write_all};
+use clay_words::{Command, Task, command_of};
 use std::alloc::Global;
 
 const INPUT_LIMIT: u64 = 167_772_160;
@@ -18,25 +22,25 @@ const INPUT_LIMIT: u64 = 167_772_160;
 const USAGE_LINE: &[u8] =
     b"usage: clay play | run WORKERS | verify | chunks K M W | recover K M W | gen START SIZE | trial START SIZE WORKERS\n";
 
-// The command's output for a whole input.
-fn output_of(alloc: Global, command: Command, input: &[u8]) -> Result<Output, Status>
+// The task's output for a whole input.
+fn output_of(alloc: Global, task: Task, input: &[u8]) -> Result<Output, Status>
     ensures status { IfOk result (λ output. IsOfInput output.status) }
-    ensures answers { IfOk result (λ output. Answers command input.now output.status output.bytes.items) }
+    ensures answers { IfOk result (λ output. Answers task input.now output.status output.bytes.items) }
     ensures memory { IfErr result (λ status. status ≡ Status.OutOfMemory) }
 {
-    let made = match command {
-        Command::Play => play(alloc, input),
-        Command::Chunks(g) => chunks(alloc, g, input),
-        Command::Recover(g) => recover(alloc, g, input),
+    let made = match task {
+        Task::Play => play(alloc, input),
+        Task::Chunks(g) => chunks(alloc, g, input),
+        Task::Recover(g) => recover(alloc, g, input),
     };
     made.map_err(|_| Status::OutOfMemory)
 }
 
-// Reads the whole input and makes the command's output.
-fn answer<S: Source>(alloc: Global, command: Command, source: &mut S) -> Result<Output, Status>
+// Reads the whole input and makes the task's output.
+fn answer<S: Source>(alloc: Global, task: Task, source: &mut S) -> Result<Output, Status>
     ensures status { IfOk result (λ output. IsOfInput output.status) }
     ensures answers { IfOk result (λ output. WhereTold (S.left source.old) (λ input.
-        (length input ≤ 167772160) × Answers command input output.status output.bytes.items)) }
+        (length input ≤ 167772160) × Answers task input output.status output.bytes.items)) }
     ensures silent { IfErr result IsSilent }
     ensures too_long { IfErr result (λ status. status ≡ Status.InputTooLong → IsCutOff (S.left source.old) 167772161 (S.left source.new)) }
     ensures in_budget { (IsErrOf result Status.InputTooLong → ⊥) → GivesAtMost (S.left source.old) 167772160 (S.left source.new) }
@@ -44,7 +48,7 @@ fn answer<S: Source>(alloc: Global, command: Command, source: &mut S) -> Result<
     ensures read_fault { IfErr result (λ status. status ≡ Status.ReadFault → Rises (S.faults source.old) (S.faults source.new)) }
 {
     match read_all(alloc, source, INPUT_LIMIT) {
-        Ok(input) => output_of(alloc, command, &input),
+        Ok(input) => output_of(alloc, task, &input),
         Err(InFault::ReadFault) => Err(Status::ReadFault),
         Err(InFault::InputTooLong) => Err(Status::InputTooLong),
         Err(InFault::OutOfMemory) => Err(Status::OutOfMemory),
@@ -64,10 +68,23 @@ fn write_out<K: Sink>(sink: &mut K, bytes: &[u8], wanted: Status) -> Status
     }
 }
 
+// Writes the script that a number gives.
+fn write_generated<K: Sink>(alloc: Global, sink: &mut K, start: u64, size: u32) -> Status
+    requires { size ≤ 4096 }
+    ensures written { Writes result (K.written sink.old) (spelling (generated start size)) (K.written sink.new) }
+    ensures write_fault { result ≡ Status.WriteFault → Rises (K.faults sink.old) (K.faults sink.new) }
+    ensures steady { (result ≡ Status.WriteFault → ⊥) → K.faults sink.new ≡ K.faults sink.old }
+{
+    match script_from(alloc, start, size) {
+        Ok(text) => write_out(sink, &text, Status::Done),
+        Err(_) => Status::OutOfMemory,
+    }
+}
+
 /// Reads the words of one command and its input, writes its output, and says how that ended.
 ///
-/// The words are those after the program's name. Nothing is read where they ask for no command. An output is made whole before its
-/// first byte is written.
+/// The words are those after the program's name. Nothing is read where they ask for no command or for a generated script. An output
+/// is made whole before its first byte is written.
 pub fn clay_main<R, S: Source, K: Sink>(
     _rt: &R,
     alloc: Global,
@@ -80,10 +97,12 @@ pub fn clay_main<R, S: Source, K: Sink>(
         × (((result ≡ Status.Usage) × Gains (K.written sink.old) usage_line (K.written sink.new))
         ⊎ ((result ≡ Status.WriteFault) × IsPrefixWritten (K.written sink.old) usage_line (K.written sink.new))) }
     ensures usage_only { result ≡ Status.Usage → AsksNothing (map string_bytes words.now) }
-    ensures output { IsOfInput result → WhereTold (S.left source.old) (λ input.
+    ensures generated { (start size : ℕ) → Asks (map string_bytes words.now) (Generate start size) →
+        (source.new ≡ source.old) × Writes result (K.written sink.old) (spelling (generated start size)) (K.written sink.new) }
+    ensures output { IsOfInput result → AsksForInput (map string_bytes words.now) → WhereTold (S.left source.old) (λ input.
         (length input ≤ 167772160)
         × ((output : List ℕ) × Owes (map string_bytes words.now) input result output × Gains (K.written sink.old) output (K.written sink.new))) }
-    ensures prefix { result ≡ Status.WriteFault → (AsksNothing (map string_bytes words.now) → ⊥) → WhereTold (S.left source.old) (λ input.
+    ensures prefix { result ≡ Status.WriteFault → AsksForInput (map string_bytes words.now) → WhereTold (S.left source.old) (λ input.
         (status : Status) × (output : List ℕ) × Owes (map string_bytes words.now) input status output
         × IsPrefixWritten (K.written sink.old) output (K.written sink.new)) }
     ensures silent { IsSilent result → Gains (K.written sink.old) [] (K.written sink.new) }
@@ -93,16 +112,20 @@ pub fn clay_main<R, S: Source, K: Sink>(
     ensures write_fault { result ≡ Status.WriteFault → Rises (K.faults sink.old) (K.faults sink.new) }
     ensures read_steady { (result ≡ Status.ReadFault → ⊥) → S.faults source.new ≡ S.faults source.old }
     ensures write_steady { (result ≡ Status.WriteFault → ⊥) → K.faults sink.new ≡ K.faults sink.old }
-    ensures complete { (AsksNothing (map string_bytes words.now) → ⊥) → WhereTold (S.left source.old) (λ input. length input ≤ 167772160 →
+    ensures complete { AsksForInput (map string_bytes words.now) → WhereTold (S.left source.old) (λ input. length input ≤ 167772160 →
         (Rises (S.faults source.old) (S.faults source.new) → ⊥) → (Rises (K.faults sink.old) (K.faults sink.new) → ⊥) →
         IsOfInput result ⊎ (result ≡ Status.OutOfMemory)) }
-    ensures complete_long { (AsksNothing (map string_bytes words.now) → ⊥) → WhereTold (S.left source.old) (λ input. 167772160 < length input →
+    ensures complete_long { AsksForInput (map string_bytes words.now) → WhereTold (S.left source.old) (λ input. 167772160 < length input →
         (Rises (S.faults source.old) (S.faults source.new) → ⊥) → (result ≡ Status.InputTooLong) ⊎ (result ≡ Status.OutOfMemory)) }
 {
     let Some(command) = command_of(words) else {
         return write_out(sink, USAGE_LINE, Status::Usage);
     };
-    match answer(alloc, command, source) {
+    let task = match command {
+        Command::Generate { start, size } => return write_generated(alloc, sink, start, size),
+        Command::OfInput(task) => task,
+    };
+    match answer(alloc, task, source) {
         Ok(output) => write_out(sink, &output.bytes, output.status),
         Err(status) => status,
     }

@@ -1,20 +1,47 @@
-use Rattle.clay_cli.proofs.Statuses.{not_failed, only_too_long, written, prefix_written}
+use Rattle.std.proofs.Common.{ap₂, refl}
+use Rattle.clay_gen.specs.Script.{generated}
+use Rattle.script_text.specs.Spelling.{spelling}
+use Rattle.clay_words.specs.declared.words.Command.TheVariants.{Generate, OfInput}
+use Rattle.clay_words.proofs.WordLaws.{asked_as, drawn_once}
+use Rattle.clay_cli.proofs.Statuses.{not_failed, only_too_long, written, prefix_written, writes_same}
 use Rattle.clay_cli.proofs.top.clay_main.Goals as goal
 
+pub returns-in_default-clause-generated : goal.returns-in_default-clause-generated
+returns-in_default-clause-generated g c = λ start size asked. absurd (c.in_default.ensures (Generate start size) asked)
+
+pub returns-in_default-clause-prefix : goal.returns-in_default-clause-prefix
+returns-in_default-clause-prefix g c = λ failed asks. absurd (c.in_default.ensures (OfInput asks.0) asks.1)
+
+pub returns-in_default-clause-complete : goal.returns-in_default-clause-complete
+returns-in_default-clause-complete g c = λ asks. absurd (c.in_default.ensures (OfInput asks.0) asks.1)
+
+pub returns-in_default-clause-complete_long : goal.returns-in_default-clause-complete_long
+returns-in_default-clause-complete_long g c = λ asks. absurd (c.in_default.ensures (OfInput asks.0) asks.1)
+
+pub returns-in-Generate-clause-generated : goal.returns-in-Generate-clause-generated
+returns-in-Generate-clause-generated g c = λ start size asked.
+    let same = drawn_once _ c.in-Generate.start c.in-Generate.size start size (asked_as _ _ _ c.in-Generate.is c.in-Some.ensures) asked in
+    (refl, writes_same _ _ _ _ _ (ap₂ (λ start size. spelling (generated start size)) same.0 same.1) c.write_generated.ensures.written)
+
 pub returns-in-Ok-clause-output : goal.returns-in-Ok-clause-output
-returns-in-Ok-clause-output g c = λ has input told.
+returns-in-Ok-clause-output g c = λ has asks input told.
     let wrote = c.write_out-in-Ok.ensures.whole (not_failed _ has) in
     let made = c.in-Ok.ensures.answers input told in (
       made.0,
-      written _ input c.in-Ok.output.status _ c.in-Ok.output.bytes.items _ _ _ wrote.0 c.deref.ensures.value wrote.1 (c.in-Some.command, c.in-Some.ensures, made.1),
+      written _ input c.in-Ok.output.status _ c.in-Ok.output.bytes.items _ _ _ wrote.0 c.deref.ensures.value wrote.1
+          (c.in-OfInput.task, asked_as _ _ _ c.in-OfInput.is c.in-Some.ensures, made.1),
     )
 
 pub returns-in-Ok-clause-prefix : goal.returns-in-Ok-clause-prefix
-returns-in-Ok-clause-prefix g c = λ failed some input told.
+returns-in-Ok-clause-prefix g c = λ failed asks input told.
     let wrote = c.write_out-in-Ok.ensures.prefix failed (not_failed _ c.in-Ok.ensures.status) in
-    let made = c.in-Ok.ensures.answers input told in
-    (c.in-Ok.output.status, c.in-Ok.output.bytes.items, (c.in-Some.command, c.in-Some.ensures, made.1), prefix_written _ _ _ _ c.deref.ensures.value wrote.0)
+    let made = c.in-Ok.ensures.answers input told in (
+      c.in-Ok.output.status,
+      c.in-Ok.output.bytes.items,
+      (c.in-OfInput.task, asked_as _ _ _ c.in-OfInput.is c.in-Some.ensures, made.1),
+      prefix_written _ _ _ _ c.deref.ensures.value wrote.0,
+    )
 
 pub returns-in-Err-clause-complete_long : goal.returns-in-Err-clause-complete_long
-returns-in-Err-clause-complete_long g c = λ some input told long fault.
+returns-in-Err-clause-complete_long g c = λ asks input told long fault.
     only_too_long _ c.in-Err.ensures.silent (λ failed. fault (c.in-Err.ensures.read_fault failed))

@@ -1,6 +1,6 @@
 use Rattle.std.proofs.Common.{refl}
-use Rattle.clay_cli.proofs.WordLaws.{not_code}
-use Rattle.clay_cli.proofs.words.geometry_of_numbers.Goals as goal
+use Rattle.clay_words.proofs.WordLaws.{not_code}
+use Rattle.clay_words.proofs.words.geometry_of_numbers.Goals as goal
 
 pub returns-in-Err-clause-none : goal.returns-in-Err-clause-none
 returns-in-Err-clause-none c =

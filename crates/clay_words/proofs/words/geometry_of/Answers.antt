@@ -1,8 +1,8 @@
 use Rattle.std.proofs.Common.{sym, subst, ◌∙◌, IfNone, Option}
 use Rattle.clay_grid.specs.Shape.{Shape}
-use Rattle.clay_cli.specs.Words.{IsCode}
-use Rattle.clay_cli.proofs.WordLaws.{found_code, found_none, code_numbers}
-use Rattle.clay_cli.proofs.words.geometry_of.Goals as goal
+use Rattle.clay_words.specs.Words.{IsCode}
+use Rattle.clay_words.proofs.WordLaws.{found_code, found_none, code_numbers}
+use Rattle.clay_words.proofs.words.geometry_of.Goals as goal
 
 pub returns-in_err-data_count-clause-none : goal.returns-in_err-data_count-clause-none
 returns-in_err-data_count-clause-none c =

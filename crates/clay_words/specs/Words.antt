@@ -1,0 +1,43 @@
+-- The words that the commands are asked for by.
+use Rattle.std.specs.Prelude.{◌≡◌, ◌⊎◌, ◌<◌, ◌≤◌, ◌^◌, ℕ, List, [], ◌∷◌, codes, decimal}
+use Rattle.clay_grid.specs.Shape.{Shape}
+use Rattle.clay_grid.specs.Limits.{IsWithinLimits}
+use Rattle.clay_words.specs.declared.words.Command.{Command}
+use Rattle.clay_words.specs.declared.words.Command.TheVariants.{Generate, OfInput}
+use Rattle.clay_words.specs.declared.words.Task.{Task}
+use Rattle.clay_words.specs.declared.words.Task.TheVariants.{Play, Chunks, Recover}
+
+-- three words spell the numbers of a code within its limits
+pub record IsCode (g : Shape) (k m w : List ℕ) : Type 0 where
+  pub data_count : k ≡ decimal g.data_count
+  pub parity_count : m ≡ decimal g.parity_count
+  pub width : w ≡ decimal g.width
+  pub limits : IsWithinLimits g
+
+-- a command's name, and the numbers of its code
+pub record AreCodeWords (words : List (List ℕ)) (name : List ℕ) (g : Shape) : Type 0 where
+  pub k : List ℕ
+  pub m : List ℕ
+  pub w : List ℕ
+  pub words_are : words ≡ name ∷ k ∷ m ∷ w ∷ []
+  pub code : IsCode g k m w
+
+-- the words for what is made of an input
+abbrev pub AsksTask : List (List ℕ) → Task → Type 0
+AsksTask words Play = (words ≡ []) ⊎ (words ≡ codes "play" ∷ [])
+AsksTask words (Chunks g) = AreCodeWords words (codes "chunks") g
+AsksTask words (Recover g) = AreCodeWords words (codes "recover") g
+
+-- the words of a command
+abbrev pub Asks : List (List ℕ) → Command → Type 0
+Asks words (OfInput task) = AsksTask words task
+Asks words (Generate start size) =
+    (words ≡ codes "gen" ∷ decimal start ∷ decimal size ∷ []) × (start < 2 ^ 64) × (1 ≤ size) × (size ≤ 4096)
+
+-- the words ask for no command
+abbrev pub AsksNothing : List (List ℕ) → Type 0
+AsksNothing words = (command : Command) → Asks words command → ⊥
+
+-- the words ask for a command that reads an input
+abbrev pub AsksForInput : List (List ℕ) → Type 0
+AsksForInput words = (task : Task) × Asks words (OfInput task)

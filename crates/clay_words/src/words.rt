@@ -1,0 +1,119 @@
+// The words that a command is asked for by.
+ghost use Rattle.std.specs.Prelude.{◌≡◌, ◌≢◌, ◌<◌, ◌≤◌, ◌^◌, ◌∷◌, [], codes, ℕ, List, map, string_bytes, MatchOption, decimal, IfSome, IfNone};
+ghost use Rattle.clay_grid.specs.Shape.{Shape};
+ghost use Rattle.clay_words.specs.Words.{Asks, AsksNothing, IsCode};
+
+use clay_gen::MAX_GENERATED;
+use clay_grid::Geometry;
+use line_grammar::{is_number, read_number};
+
+/// What is made of an input.
+#[derive(Clone, Copy)]
+pub enum Task {
+    Play,
+    Chunks(Geometry),
+    Recover(Geometry),
+}
+
+/// What a call of the program asks for.
+#[derive(Clone, Copy)]
+pub enum Command {
+    /// The script that a number gives, with so many calls of each client. No input is read.
+    Generate { start: u64, size: u32 },
+    OfInput(Task),
+}
+
+fn geometry_of_numbers(k: u32, m: u32, w: u32) -> Option<Geometry>
+    ensures found { IfSome result (λ g. IsCode g (decimal k) (decimal m) (decimal w)) }
+    ensures none { IfNone result ((g : Shape) → IsCode g (decimal k) (decimal m) (decimal w) → ⊥) }
+{
+    match Geometry::new(k, m, w) {
+        Ok(geometry) => Some(geometry),
+        Err(_) => None,
+    }
+}
+
+// The geometry of three words that spell its numbers.
+fn geometry_of(k: &str, m: &str, w: &str) -> Option<Geometry>
+    ensures found { IfSome result (λ g. IsCode g k.now m.now w.now) }
+    ensures none { IfNone result ((g : Shape) → IsCode g k.now m.now w.now → ⊥) }
+{
+    let data_count = read_number(k.as_bytes())?;
+    let parity_count = read_number(m.as_bytes())?;
+    let width = read_number(w.as_bytes())?;
+    geometry_of_numbers(data_count, parity_count, width)
+}
+
+// The number below 2^64 that a word spells.
+fn start_of(word: &str) -> Option<u64>
+    ensures { MatchOption result ((n : ℕ) → n < 2 ^ 64 → word.now ≢ decimal n)
+        (λ n. (n < 2 ^ 64) × (word.now ≡ decimal n)) }
+{
+    if !is_number(word.as_bytes()) {
+        return None;
+    }
+    word.parse().ok()
+}
+
+// The size of a generated script that a word spells.
+fn size_of_script(word: &str) -> Option<u32>
+    ensures found { IfSome result (λ n. (word.now ≡ decimal n) × (1 ≤ n) × (n ≤ 4096)) }
+    ensures none { IfNone result ((n : ℕ) → 1 ≤ n → n ≤ 4096 → word.now ≢ decimal n) }
+{
+    let size = read_number(word.as_bytes())?;
+    if size >= 1 && size <= MAX_GENERATED {
+        Some(size)
+    } else {
+        None
+    }
+}
+
+// The command of one word.
+fn plain_command(word: &str) -> Option<Command>
+    ensures { MatchOption result (AsksNothing (word.now ∷ [])) (λ command. Asks (word.now ∷ []) command) }
+{
+    if word == "play" {
+        Some(Command::OfInput(Task::Play))
+    } else {
+        None
+    }
+}
+
+// The command that has a number and a size.
+fn draw_command(name: &str, first: &str, second: &str) -> Option<Command>
+    ensures { MatchOption result (AsksNothing (name.now ∷ first.now ∷ second.now ∷ [])) (λ command. Asks (name.now ∷ first.now ∷ second.now ∷ []) command) }
+{
+    if name != "gen" {
+        return None;
+    }
+    let start = start_of(first)?;
+    let size = size_of_script(second)?;
+    Some(Command::Generate { start, size })
+}
+
+// The command of a name and the numbers of a code.
+fn code_command(name: &str, k: &str, m: &str, w: &str) -> Option<Command>
+    ensures { MatchOption result (AsksNothing (name.now ∷ k.now ∷ m.now ∷ w.now ∷ [])) (λ command. Asks (name.now ∷ k.now ∷ m.now ∷ w.now ∷ []) command) }
+{
+    let geometry = geometry_of(k, m, w)?;
+    if name == "chunks" {
+        Some(Command::OfInput(Task::Chunks(geometry)))
+    } else if name == "recover" {
+        Some(Command::OfInput(Task::Recover(geometry)))
+    } else {
+        None
+    }
+}
+
+/// The command that the words after the program's name ask for.
+pub fn command_of(words: &[String]) -> Option<Command>
+    ensures { MatchOption result (AsksNothing (map string_bytes words.now)) (λ command. Asks (map string_bytes words.now) command) }
+{
+    match words {
+        [] => Some(Command::OfInput(Task::Play)),
+        [word] => plain_command(word.as_str()),
+        [name, start, size] => draw_command(name.as_str(), start.as_str(), size.as_str()),
+        [name, k, m, w] => code_command(name.as_str(), k.as_str(), m.as_str(), w.as_str()),
+        _ => None,
+    }
+}
