@@ -49,7 +49,7 @@ module _ (s : ServerState) (valid : IsValid s) where
   valid-adding mark chunk here sealed =
       record {
         rising = rises _ _ (versions-hold (record { version = chunk.stamp.version; mark = mark; chunk = chunk }) s.held) (holds_in_order.rising false (ServerStep.Prepare chunk.stamp.version) (record (core_of s) { away = false }) valid.rising);
-        own = All-hold (IsOwn s.book.home s.number s.geometry) (record { version = chunk.stamp.version; mark = mark; chunk = chunk }) s.held (record { here = here; version = refl; sealed = sealed }) valid.own;
+        own = All-hold (IsOwn s.book.home s.number s.book.geometry) (record { version = chunk.stamp.version; mark = mark; chunk = chunk }) s.held (record { here = here; version = refl; sealed = sealed }) valid.own;
       }
 
   -- after one was settled
@@ -57,7 +57,7 @@ module _ (s : ServerState) (valid : IsValid s) where
   valid-settle version =
       record {
         rising = rises _ _ (versions-settled_at version s.held) valid.rising;
-        own = All-settled_at s.book.home s.number s.geometry version s.held valid.own;
+        own = All-settled_at s.book.home s.number s.book.geometry version s.held valid.own;
       }
 
   -- after one went
@@ -65,9 +65,9 @@ module _ (s : ServerState) (valid : IsValid s) where
   valid-discard version =
       record {
         rising = rises _ _ (versions-let_go version s.held) (holds_in_order.rising false (ServerStep.Discard version) (core_of s) valid.rising);
-        own = All-filter (λ (chunk : Held). not (nat_eq version chunk.version)) (IsOwn s.book.home s.number s.geometry) s.held valid.own;
+        own = All-filter (λ (chunk : Held). not (nat_eq version chunk.version)) (IsOwn s.book.home s.number s.book.geometry) s.held valid.own;
       }
 
   -- after all went
   pub valid-wipe : IsValid (after_wipe s)
-  valid-wipe = record { rising = tt; own = All-nil (IsOwn s.book.home s.number s.geometry) }
+  valid-wipe = record { rising = tt; own = All-nil (IsOwn s.book.home s.number s.book.geometry) }

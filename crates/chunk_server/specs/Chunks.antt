@@ -19,7 +19,6 @@ state_in a =
     record {
       number = a.number;
       book = a.opening;
-      geometry = a.geometry;
       epoch = a.epoch;
       taken = a.taken;
       downs = a.downs;

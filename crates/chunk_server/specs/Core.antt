@@ -11,7 +11,7 @@ use Rattle.chunk_server.specs.declared.answers.Fetched.TheVariants as fetched
 use Rattle.chunk_server.specs.declared.answers.Installed.{Installed}
 use Rattle.chunk_server.specs.declared.answers.Installed.TheVariants as installed
 
--- the server without its number, its book, its code, its marks and its chunks' contents
+-- the server without its number, its book, its marks and its chunks' contents
 abbrev pub core_of : ServerState → Server
 core_of s = record { held = versions_of s.held; epoch = s.epoch; taken = s.taken; downs = s.downs; away = s.away }
 

@@ -44,11 +44,11 @@ fifth = record { version = 5; mark = Settled; chunk = chunk_at 5 other_chunk }
 
 -- server 1 with these counts and chunks
 abbrev pub server_with : ℕ → ℕ → List Held → ServerState
-server_with epoch taken chunks = record { number = 1; book = some_book; geometry = small_code; epoch = epoch; taken = taken; downs = 0; away = false; held = chunks }
+server_with epoch taken chunks = record { number = 1; book = some_book; epoch = epoch; taken = taken; downs = 0; away = false; held = chunks }
 
 -- the same after the install of version 5 and then the prepare of version 3
 abbrev pub used_server : ServerState
-used_server = (prepare_of (chunk_at 3 one_chunk) (install_of (chunk_at 5 other_chunk) (empty_server 1 some_book small_code)).0).0
+used_server = (prepare_of (chunk_at 3 one_chunk) (install_of (chunk_at 5 other_chunk) (empty_server 1 some_book)).0).0
 
 -- what it is then, and what each further step makes of it and answers
 pub record AreRowsOfAServer : Type 0 where

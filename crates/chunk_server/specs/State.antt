@@ -1,6 +1,5 @@
 -- A chunk server as a record, and the list of the chunks that it holds.
 use Rattle.std.specs.Prelude.{ℕ, Bool, false, not, nat_eq, nat_lt, List, [], ◌∷◌, map, filter, find, Option, if◌then◌else◌}
-use Rattle.clay_grid.specs.Shape.{Shape}
 use Rattle.store_map.specs.declared.placement.Found.{Found}
 use Rattle.store_map.specs.declared.placement.Found.TheVariants as found
 use Rattle.store_core.specs.Lists.{is_among}
@@ -15,11 +14,10 @@ pub record Held : Type 0 where
   pub mark : Mark
   pub chunk : ChunkOf
 
--- which of the servers it is, the book of its versions, its code, how often it was emptied, how many subchunks were taken from it, how often it was made away, whether it is, and its chunks
+-- which of the servers it is, the book of its versions, how often it was emptied, how many subchunks were taken from it, how often it was made away, whether it is, and its chunks
 pub record ServerState : Type 0 where
   pub number : ℕ
   pub book : BookOf
-  pub geometry : Shape
   pub epoch : ℕ
   pub taken : ℕ
   pub downs : ℕ
@@ -27,8 +25,8 @@ pub record ServerState : Type 0 where
   pub held : List Held
 
 -- a server that was never used
-abbrev pub empty_server : ℕ → BookOf → Shape → ServerState
-empty_server number book g = record { number = number; book = book; geometry = g; epoch = 0; taken = 0; downs = 0; away = false; held = [] }
+abbrev pub empty_server : ℕ → BookOf → ServerState
+empty_server number book = record { number = number; book = book; epoch = 0; taken = 0; downs = 0; away = false; held = [] }
 
 -- the versions of chunks, in the chunks' order
 abbrev pub versions_of : List Held → List ℕ

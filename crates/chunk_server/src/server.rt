@@ -42,7 +42,6 @@ struct HeldChunk {
 pub struct Server {
     number: u32,
     opening: Opening,
-    geometry: Geometry,
     epoch: u64,
     taken: u64,
     downs: u64,
@@ -64,14 +63,13 @@ impl Model for Server {
 }
 
 impl Server {
-    /// An empty server of this book's stripes, of this code, the `number`th from 0.
-    pub fn new(alloc: Global, number: u32, opening: Opening, geometry: Geometry) -> Server
-        ensures { result ≡ empty_server number opening geometry }
+    /// An empty server of this book's stripes, the `number`th from 0.
+    pub fn new(alloc: Global, number: u32, opening: Opening) -> Server
+        ensures { result ≡ empty_server number opening }
     {
         Server {
             number,
             opening,
-            geometry,
             epoch: 0,
             taken: 0,
             downs: 0,
@@ -87,11 +85,11 @@ impl Server {
         self.number
     }
 
-    /// The code whose chunks it holds.
+    /// The code whose chunks it holds, which is its book's.
     pub fn geometry(&self) -> Geometry
-        ensures { result ≡ self.now.geometry }
+        ensures { result ≡ self.now.book.geometry }
     {
-        self.geometry
+        self.opening.geometry()
     }
 
     /// How often the server was emptied.
@@ -199,7 +197,7 @@ impl Server {
     /// and where the server is away the count of downs. Where memory is wanting the server is as
     /// before.
     pub fn fetch(&mut self, version: Version, layers: &[u32]) -> Result<Fetched, AllocError>
-        requires { All (λ layer. layer < layer_count self.old.geometry) layers.now }
+        requires { All (λ layer. layer < layer_count self.old.book.geometry) layers.now }
         ensures ok { IfOk result (λ answer.
             (self.new, answer) ≡ fetch_of version.0 layers.now self.old) }
         ensures missing { (result ≡ Ok (Fetched.Missing (found_at self.old)))

@@ -13,4 +13,4 @@ pub record IsShelf (shelf : ShelfOf) : Type 0 where
   pub small : IsSmall shelf.book
   pub home : shelf.server.book.home ≡ shelf.book.home
   pub number : shelf.server.number ≡ 1
-  pub code : shelf.server.geometry ≡ small_code
+  pub code : shelf.server.book.geometry ≡ small_code

@@ -1,8 +1,9 @@
 //! Chunks of a put of one stripe, sealed in a book without a script.
 
-ghost use Rattle.std.specs.Prelude.{◌≡◌, ◌<◌, ◌∷◌, [], Some, IfOk, length, All};
+ghost use Rattle.std.specs.Prelude.{◌≡◌, ◌<◌, ◌∷◌, [], Some, IfOk, IfErr, length, All};
 ghost use Rattle.clay_grid.specs.Shape.{chunk_count};
 ghost use Rattle.version_seal.specs.Entry.{IsBaseIn};
+ghost use Rattle.version_seal.specs.Room.{IsSealedBefore};
 ghost use Rattle.clay_decode.specs.Left.{AreLong};
 ghost use Rattle.store_tests.specs.Small.{small_code, stripe_bytes, IsSmall, IsStampOf, IsChunkFor};
 
@@ -12,7 +13,7 @@ use clay_grid::Geometry;
 use std::alloc::{AllocError, Global};
 use std::test::Fail;
 use store_map::{Actor, Call, Content, Name, Version};
-use version_seal::{Book, CallNote, SealedChunk, SealedPart, Stamp};
+use version_seal::{Book, SealError, SealedChunk, SealedPart, Stamp};
 
 /// The code of all these: 2 data chunks and 2 parity chunks of 4 subchunks of a byte.
 pub fn small_geometry() -> Result<Geometry, Fail>
@@ -28,10 +29,11 @@ pub fn stripe(alloc: Global) -> Result<Vec<u8>, Fail>
     Ok(Vec::from_slice(alloc, &[1, 2, 3, 4, 5, 6, 7, 8])?)
 }
 
-/// Seals the version as one that the put drew.
-pub fn stamp(alloc: Global, book: &Book, version: Version) -> Result<Stamp, Fail>
+// Seals the version as one that the put drew, if it isn't sealed.
+fn sealed(alloc: Global, book: &Book, version: Version) -> Result<Result<Stamp, SealError>, Fail>
     requires { IsSmall book.now }
-    ensures { IfOk result (IsStampOf book.now version.0) }
+    ensures new { IfOk result (λ sealed. IfOk sealed (IsStampOf book.now version.0)) }
+    ensures before { IfOk result (λ sealed. IfErr sealed (IsSealedBefore book.now version.0)) }
 {
     let name = Name::new(alloc, "a")?;
     let content = Content::Ramp {
@@ -39,12 +41,32 @@ pub fn stamp(alloc: Global, book: &Book, version: Version) -> Result<Stamp, Fail
         length: 8,
     };
     let actor = Actor::Client(0);
-    let request = book.request(CallNote {
-        actor,
-        number: 0,
-        call: Call::Put { name, content },
-    })?;
-    Ok(book.seal(version, actor, 0, 0, Some(&request), None)?)
+    let request = book.request(actor, 0, &Call::Put { name, content });
+    let room = book.reserve(version, 1)?;
+    Ok(book.seal(&room, version, actor, 0, 0, Some(&request), None))
+}
+
+/// Seals the version as one that the put drew.
+pub fn stamp(alloc: Global, book: &Book, version: Version) -> Result<Stamp, Fail>
+    requires { IsSmall book.now }
+    ensures { IfOk result (IsStampOf book.now version.0) }
+{
+    Ok(sealed(alloc, book, version)??)
+}
+
+/// Seals a version that was sealed before: what is told is its stamp.
+pub fn sealed_before(alloc: Global, book: &Book, first: &Stamp) -> Result<Stamp, Fail>
+    requires book { IsSmall book.now }
+    requires stamp { first.now.home ≡ book.now.home }
+    ensures { IfOk result (λ stamp. stamp ≡ first.now) }
+{
+    match sealed(alloc, book, first.version())? {
+        Err(SealError::Sealed(stamp)) => {
+            book.agrees(&stamp, first);
+            Ok(stamp)
+        }
+        Ok(_) | Err(SealError::Contended) => Err(AllocError)?,
+    }
 }
 
 /// A server's chunk of such a version.
@@ -69,16 +91,30 @@ pub fn stamp_over(alloc: Global, book: &Book, version: Version, base: &Stamp) ->
     let name = Name::new(alloc, "a")?;
     let content = Content::Fill { byte: 9, length: 3 };
     let actor = Actor::Client(0);
-    let request = book.request(CallNote {
-        actor,
-        number: 1,
-        call: Call::Write {
-            name,
-            offset: 0,
-            content,
-        },
-    })?;
-    Ok(book.seal(version, actor, 1, 0, Some(&request), Some(base))?)
+    let call = Call::Write {
+        name,
+        offset: 0,
+        content,
+    };
+    let request = book.request(actor, 1, &call);
+    let room = book.reserve(version, 1)?;
+    Ok(book.seal(&room, version, actor, 1, 0, Some(&request), Some(base))?)
+}
+
+/// The subchunks of a server's chunk at layers that there are.
+pub fn part(
+    alloc: Global,
+    book: &Book,
+    stamp: &Stamp,
+    server: u32,
+    layers: &[u32],
+) -> Result<SealedPart, Fail>
+    requires book { IsSmall book.now }
+    requires stamp { stamp.now.content ≡ stripe_bytes }
+    requires server { server < 4 }
+    requires layers { All (λ layer. layer < 4) layers.now }
+{
+    Ok(chunk(alloc, book, stamp, server)?.part(layers)?)
 }
 
 /// What a server gives of its chunk: all of it.
@@ -88,7 +124,7 @@ pub fn fetched(alloc: Global, book: &Book, stamp: &Stamp, server: u32) -> Result
     requires server { server < 4 }
     ensures { IfOk result (λ part. length part.bytes ≡ 4) }
 {
-    let mut at = Server::new(alloc, server, book.opening(), small_geometry()?);
+    let mut at = Server::new(alloc, server, book.opening());
     at.prepare(chunk(alloc, book, stamp, server)?)?;
     match at.fetch(stamp.version(), &[0, 1, 2, 3])? {
         Fetched::Part(part) => Ok(part),

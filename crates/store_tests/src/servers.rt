@@ -46,7 +46,7 @@ fn lacks(
 #[test]
 fn fetches_in_the_order_asked(rt: HostRuntime) -> Result<(), Fail> {
     let book = Book::free(rt.alloc(), small_geometry()?)?;
-    let mut shelf = Shelf::new(rt.alloc(), &book)?;
+    let mut shelf = Shelf::new(rt.alloc(), &book);
     assert_eq!(rt; shelf.prepare(rt.alloc(), 0)?, Placement::At(0));
     gives(&rt, &mut shelf, 0, &[1, 0], &[6, 5])?;
     gives(&rt, &mut shelf, 0, &[0, 1, 2, 3], &[5, 6, 7, 8])?;
@@ -64,7 +64,7 @@ fn fetches_in_the_order_asked(rt: HostRuntime) -> Result<(), Fail> {
 #[test]
 fn a_held_version_keeps_its_chunk(rt: HostRuntime) -> Result<(), Fail> {
     let book = Book::free(rt.alloc(), small_geometry()?)?;
-    let mut shelf = Shelf::new(rt.alloc(), &book)?;
+    let mut shelf = Shelf::new(rt.alloc(), &book);
     assert_eq!(rt;
         shelf.prepare_and_install(rt.alloc(), 7)?,
         (Placement::At(0), Installed::AlreadyThere)
@@ -93,7 +93,7 @@ fn a_held_version_keeps_its_chunk(rt: HostRuntime) -> Result<(), Fail> {
 #[test]
 fn a_discard_leaves_the_others(rt: HostRuntime) -> Result<(), Fail> {
     let book = Book::free(rt.alloc(), small_geometry()?)?;
-    let mut shelf = Shelf::new(rt.alloc(), &book)?;
+    let mut shelf = Shelf::new(rt.alloc(), &book);
     for version in [2, 3, 1] {
         assert_eq!(rt; shelf.prepare(rt.alloc(), version)?, Placement::At(0));
     }
@@ -108,7 +108,7 @@ fn a_discard_leaves_the_others(rt: HostRuntime) -> Result<(), Fail> {
 #[test]
 fn a_wipe_raises_the_epoch(rt: HostRuntime) -> Result<(), Fail> {
     let book = Book::free(rt.alloc(), small_geometry()?)?;
-    let mut shelf = Shelf::new(rt.alloc(), &book)?;
+    let mut shelf = Shelf::new(rt.alloc(), &book);
     assert_eq!(rt; shelf.prepare(rt.alloc(), 0)?, Placement::At(0));
     gives(&rt, &mut shelf, 0, &[1, 0], &[6, 5])?;
     shelf.wipe();
@@ -127,7 +127,7 @@ fn a_wipe_raises_the_epoch(rt: HostRuntime) -> Result<(), Fail> {
 #[test]
 fn an_away_server_gives_and_takes_nothing(rt: HostRuntime) -> Result<(), Fail> {
     let book = Book::free(rt.alloc(), small_geometry()?)?;
-    let mut shelf = Shelf::new(rt.alloc(), &book)?;
+    let mut shelf = Shelf::new(rt.alloc(), &book);
     assert_eq!(rt; shelf.prepare(rt.alloc(), 0)?, Placement::At(0));
     shelf.down();
     shelf.down();

@@ -3,7 +3,7 @@
 ghost use Rattle.std.specs.Prelude.{◌≡◌, ◌<◌, ◌∷◌, [], All, IfOk};
 ghost use Rattle.store_tests.specs.Small.{IsSmall};
 
-use crate::sealing::{chunk, small_geometry, stamp};
+use crate::sealing::{chunk, stamp};
 use chunk_server::{Fetched, Installed, Server};
 use std::alloc::Global;
 use std::marker::Model;
@@ -34,13 +34,13 @@ impl<'a> Shelf<'a> {
     ghost use Rattle.chunk_server.specs.Valid.{IsFor};
     ghost use Rattle.store_tests.specs.Small.{small_code};
 
-    pub fn new(alloc: Global, book: &'a Book) -> Result<Shelf<'a>, Fail>
+    pub fn new(alloc: Global, book: &'a Book) -> Shelf<'a>
         requires { IsSmall book.now }
     {
-        Ok(Shelf {
+        Shelf {
             book,
-            server: Server::new(alloc, 1, book.opening(), small_geometry()?),
-        })
+            server: Server::new(alloc, 1, book.opening()),
+        }
     }
 
     pub fn server(&self) -> &Server {

@@ -3,14 +3,16 @@ ghost use Rattle.store_map.specs.declared.actor.Actor.TheVariants.{Client};
 ghost use Rattle.store_core.specs.History.{call_of};
 ghost use Rattle.version_seal.specs.Entry.{is_writing};
 
-use crate::sealing::{fetched, gathered, small_geometry, stamp, stamp_over, stripe};
+use crate::sealing::{
+    fetched, gathered, part, sealed_before, small_geometry, stamp, stamp_over, stripe,
+};
 use clay_decode::decode;
 use std::alloc::Global;
 use std::test::Fail;
 use std::thread;
 use std::thread::Threads;
 use store_map::{Actor, Call, ClientPart, Content, ListOf, Name, Script, Version};
-use version_seal::{Book, CallNote};
+use version_seal::{Book, ReserveError};
 
 // What a thread read of the version that it sealed, and whether it sealed the one that both tried.
 type Seen = (u32, u32, bool);
@@ -22,17 +24,21 @@ fn seal_and_read(alloc: Global, book: &Book, version: u64, stripe: u32) -> Optio
     let name = Name::new(alloc, "a").ok()?;
     let content = Content::Fill { byte: 7, length: 3 };
     let actor = Actor::Client(0);
-    let request = book
-        .request(CallNote {
-            actor,
-            number: 5,
-            call: Call::Put { name, content },
-        })
-        .ok()?;
+    let request = book.request(actor, 5, &Call::Put { name, content });
+    let room = book.reserve(Version(version), 1).ok()?;
     let own = book
-        .seal(Version(version), actor, 5, stripe, Some(&request), None)
+        .seal(
+            &room,
+            Version(version),
+            actor,
+            5,
+            stripe,
+            Some(&request),
+            None,
+        )
         .ok()?;
-    let won = book.seal(Version(9), actor, 5, 0, Some(&request), None);
+    let room = book.reserve(Version(9), 1).ok()?;
+    let won = book.seal(&room, Version(9), actor, 5, 0, Some(&request), None);
     let note = book.note(&own);
     Some((note.number, note.stripe, won.is_ok()))
 }
@@ -48,6 +54,8 @@ fn both<R: Threads + Sync>(rt: &R, alloc: Global, book: &Book) -> (Option<Seen>,
 #[test]
 fn threads_share_a_book(rt: HostRuntime) -> Result<(), Fail> {
     let book = Book::free(rt.alloc(), small_geometry()?)?;
+    // The rows are there, so no two threads make one.
+    let _ = book.reserve(Version(0), 8192)?;
     let (one, other) = both(&rt, rt.alloc(), &book);
     let (Some(one), Some(other)) = (one, other) else {
         assert!(rt; false, "a thread sealed nothing");
@@ -81,33 +89,43 @@ fn a_put_is_decoded_from_two_servers(rt: HostRuntime) -> Result<(), Fail> {
 
 #[test]
 fn a_version_is_sealed_once(rt: HostRuntime) -> Result<(), Fail> {
-    let alloc = rt.alloc();
-    let book = Book::free(alloc, small_geometry()?)?;
-    book.reserve(Version(0))?;
-    let first = stamp(alloc, &book, Version(0))?;
-    book.agrees(&first, &first.copy());
-    let next = stamp_over(alloc, &book, Version(4096), &first)?;
+    let book = Book::free(rt.alloc(), small_geometry()?)?;
+    let first = stamp(rt.alloc(), &book, Version(0))?;
+    let again = sealed_before(rt.alloc(), &book, &first)?;
+    assert_eq!(rt; format!(in rt.alloc(); "{again:?}")?.as_str(), "Stamp(0)");
+    Ok(())
+}
+
+#[test]
+fn a_write_is_laid_over_its_base(rt: HostRuntime) -> Result<(), Fail> {
+    let book = Book::free(rt.alloc(), small_geometry()?)?;
+    let first = stamp(rt.alloc(), &book, Version(0))?;
+    let next = stamp_over(rt.alloc(), &book, Version(4096), &first)?;
     let note = book.note(&next);
     assert_eq!(rt; (note.actor, note.number), (Actor::Client(0), 1));
     assert_eq!(rt; (note.stripe, note.base), (0, Some(0)));
-    let request = book.request(CallNote {
-        actor: Actor::Client(0),
-        number: 2,
-        call: Call::Put {
-            name: Name::new(alloc, "a")?,
-            content: Content::Fill { byte: 7, length: 3 },
-        },
-    })?;
-    for (version, sealed) in [
-        (0, false),
-        (4096, false),
-        (268_435_455, true),
-        (268_435_456, false),
-    ] {
-        let actor = Actor::Client(0);
-        let stamp = book.seal(Version(version), actor, 2, 0, Some(&request), None);
-        assert_eq!(rt; stamp.is_ok(), sealed, "{version}");
+    Ok(())
+}
+
+#[test]
+fn room_ends_with_the_book(rt: HostRuntime) -> Result<(), Fail> {
+    let book = Book::free(rt.alloc(), small_geometry()?)?;
+    let past = 1 << 28;
+    assert!(rt; book.reserve(Version(past - 1), 1).is_ok());
+    assert!(rt; book.reserve(Version(4000), 5000).is_ok());
+    assert!(rt; book.reserve(Version(past), 0).is_ok());
+    for (first, count) in [(past, 1), (past - 1, 2), (u64::MAX, u64::MAX)] {
+        assert!(rt; matches!(book.reserve(Version(first), count), Err(ReserveError::Full)));
     }
+    Ok(())
+}
+
+#[test]
+fn a_part_has_its_layers_alone(rt: HostRuntime) -> Result<(), Fail> {
+    let book = Book::free(rt.alloc(), small_geometry()?)?;
+    let first = stamp(rt.alloc(), &book, Version(0))?;
+    let two = part(rt.alloc(), &book, &first, 1, &[3, 0])?;
+    assert_eq!(rt; two.bytes(), [8, 5].as_slice());
     Ok(())
 }
 
@@ -136,13 +154,11 @@ fn one_put(alloc: Global) -> Result<Script, Fail>
 fn a_script_has_room_for_its_versions(rt: HostRuntime) -> Result<(), Fail> {
     let book = Book::new(rt.alloc(), one_put(rt.alloc())?)?;
     let actor = Actor::Client(0);
-    let last = book.seal(Version(2_097_151), actor, 0, 0, None, None)?;
+    let room = book.reserve(Version(2_097_151), 1)?;
+    let last = book.seal(&room, Version(2_097_151), actor, 0, 0, None, None)?;
     assert_eq!(rt; last.version(), Version(2_097_151));
-    assert!(rt;
-        book.seal(Version(2_097_152), actor, 0, 0, None, None)
-            .is_err()
-    );
+    assert!(rt; book.reserve(Version(2_097_152), 1).is_err());
     assert_eq!(rt; book.script().map(|script| script.clients.len()), Some(1));
-    let _ = book.opening().copy();
+    assert_eq!(rt; book.opening().copy().geometry(), small_geometry()?);
     Ok(())
 }

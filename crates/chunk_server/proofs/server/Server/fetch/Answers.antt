@@ -40,8 +40,8 @@ found c =
     ∙ ap (option_map (λ held. chunk_in (c.args.version, held))) (sym c.in-Some.ensures.value)
 
 -- it is the server's own
-own : (c : In-Some) → IsOwn c.self.inside.opening.home c.self.inside.number c.self.inside.geometry (chunk_in (c.args.version, c.in-Some.held.now))
-own c = All-chunk_of (IsOwn c.self.inside.opening.home c.self.inside.number c.self.inside.geometry) c.args.version.0 (chunks_in c.self.inside.held.entries) _ c.self.invariant.own (found c)
+own : (c : In-Some) → IsOwn c.self.inside.opening.home c.self.inside.number c.self.inside.opening.geometry (chunk_in (c.args.version, c.in-Some.held.now))
+own c = All-chunk_of (IsOwn c.self.inside.opening.home c.self.inside.number c.self.inside.opening.geometry) c.args.version.0 (chunks_in c.self.inside.held.entries) _ c.self.invariant.own (found c)
 
 -- its version is held
 held : (c : In-Some) → is_held c.args.version.0 c.args.self.now.held ≡ true
@@ -51,7 +51,7 @@ held c =
 
 pub part-requires : goal.part-requires
 part-requires c =
-    let geometry = (own (goal.at.part-requires c).In-Some).here.same_code ∙ ap (λ s. s.geometry) c.self.view_is in
+    let geometry = (own (goal.at.part-requires c).In-Some).here.same_code ∙ ap (λ s. s.book.geometry) c.self.view_is in
     subst (λ g. All (λ layer. layer < layer_count g) c.args.layers.now) (sym geometry) c.requires
 
 -- so is it given, since the server is present
@@ -100,7 +100,7 @@ pub returns-clause-part : goal.returns-clause-part
 returns-clause-part c =
     let mine = own (goal.at.returns-clause-part c).In-Some in
     let layers = c.args.layers.now in
-    let long : length c.in_ok-part.part.bytes ≡ length layers * c.self.inside.geometry.width =
+    let long : length c.in_ok-part.part.bytes ≡ length layers * c.self.inside.opening.geometry.width =
     c.in_ok-part.ensures.length ∙ ap (λ g. length layers * g.width) mine.here.same_code
     in
     let is : c.in_ok-part.part ≡ part_of c.in-Some.held.now.chunk layers = c.in_ok-part.ensures.value in
