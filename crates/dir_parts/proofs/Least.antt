@@ -164,18 +164,18 @@ free_from n pins (entry ∷ entries) same =
     by false false e rest = rest
 
 pub free_is : (entries : List Entry) → option_map (λ (e : ℕ × Entry). e.0) (find (λ (e : ℕ × Entry). is_garbage e.1) (enumerate_from 0 entries))
-    ≡ first_free (record { listed = map version_in entries; pins = map (λ entry. entry.pins) entries })
+    ≡ first_free (record { listed = map version_in entries; pins = map (λ entry. entry.pins) entries; room = 0 })
 free_is entries = free_from 0 (λ k. get_or (map (λ entry. entry.pins) entries) k 0) entries (λ k less. ap (λ j. get_or (map (λ entry. entry.pins) entries) j 0) (let same : 0 + k ≡ k = omega arith in same))
 
 -- there is garbage where the heap isn't empty
 pub some_garbage : (entries : List Entry) (held : List ℕ) (size : ℕ) → IsPermutation held (places is_garbage 0 entries) → size ≡ length held
-    → not (nat_eq size 0) ≡ is_some (first_free (record { listed = map version_in entries; pins = map (λ entry. entry.pins) entries }))
+    → not (nat_eq size 0) ≡ is_some (first_free (record { listed = map version_in entries; pins = map (λ entry. entry.pins) entries; room = 0 }))
 some_garbage entries held size kept count = by (places is_garbage 0 entries) refl
   where
     sizes : length (places is_garbage 0 entries) ≡ length held
     sizes = length_permutation held (places is_garbage 0 entries) kept
 
-    by : (l : List ℕ) → places is_garbage 0 entries ≡ l → not (nat_eq size 0) ≡ is_some (first_free (record { listed = map version_in entries; pins = map (λ entry. entry.pins) entries }))
+    by : (l : List ℕ) → places is_garbage 0 entries ≡ l → not (nat_eq size 0) ≡ is_some (first_free (record { listed = map version_in entries; pins = map (λ entry. entry.pins) entries; room = 0 }))
     by [] e =
         let none : size ≡ 0 = (let empty : length (places is_garbage 0 entries) ≡ 0 = ap length e in omega (arith, empty, count, sizes)) in
         ap (λ n. not (nat_eq n 0)) none ∙ ap is_some (sym (none_of is_garbage 0 entries e) ∙ free_is entries)
@@ -184,13 +184,13 @@ some_garbage entries held size kept count = by (places is_garbage 0 entries) ref
         ap (λ n. not (nat_eq n 0)) more ∙ ap not (ne_eqb (suc (length ps)) 0 (λ same. omega (arith, same))) ∙ ap is_some (sym (First.found (first_of is_garbage 0 entries p ps e)) ∙ free_is entries)
 
 pub no_garbage : (entries : List Entry) (held : List ℕ) → IsPermutation held (places is_garbage 0 entries) → length held ≡ 0
-    → None ≡ first_free (record { listed = map version_in entries; pins = map (λ entry. entry.pins) entries })
+    → None ≡ first_free (record { listed = map version_in entries; pins = map (λ entry. entry.pins) entries; room = 0 })
 no_garbage entries held kept count = by (places is_garbage 0 entries) refl
   where
     sizes : length (places is_garbage 0 entries) ≡ length held
     sizes = length_permutation held (places is_garbage 0 entries) kept
 
-    by : (l : List ℕ) → places is_garbage 0 entries ≡ l → None ≡ first_free (record { listed = map version_in entries; pins = map (λ entry. entry.pins) entries })
+    by : (l : List ℕ) → places is_garbage 0 entries ≡ l → None ≡ first_free (record { listed = map version_in entries; pins = map (λ entry. entry.pins) entries; room = 0 })
     by [] e = sym (none_of is_garbage 0 entries e) ∙ free_is entries
     by (p ∷ ps) e = absurd (let some : length (places is_garbage 0 entries) ≡ suc (length ps) = ap length e in omega (arith, some, count, sizes))
 

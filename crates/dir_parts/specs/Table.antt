@@ -1,5 +1,5 @@
 -- The versions and the counts of their pins, as the fields keep them.
-use Rattle.std.specs.Prelude.{ℕ, ◌≤◌, Bool, true, false, ◌&&◌, nat_eq, List, map, vec_len}
+use Rattle.std.specs.Prelude.{ℕ, ◌≤◌, ◌-◌, min, Bool, true, false, ◌&&◌, nat_eq, List, map, vec_len, vec_capacity}
 use Rattle.std.specs.List.Sorted.{IsPermutation}
 use Rattle.std.specs.BinaryHeap.{heap_items, heap_capacity, IsHeap}
 use Rattle.std.specs.Ordering.{nat_cmp}
@@ -13,10 +13,11 @@ use Rattle.dir_parts.specs.declared.versions.Standing.TheVariants as standing
 use Rattle.dir_parts.specs.declared.versions.Entry.{Entry}
 use Rattle.dir_parts.specs.declared.versions.Versions.TheInside.{Inside}
 
--- every version, and how often passes that aren't reaped pin it
+-- every version, how often passes that aren't reaped pin it, and how many more fit without memory
 pub record Table : Type 0 where
   pub listed : List Version
   pub pins : List ℕ
+  pub room : ℕ
 
 -- a standing in the words of the definitions
 abbrev pub standing_in : Standing → CoreStanding
@@ -32,7 +33,12 @@ version_in entry =
     record { actor = entry.actor; number = entry.number; stripe = entry.stripe; base = entry.base; placed = entry.placed.items; standing = standing_in entry.standing }
 
 abbrev pub table_in : Inside → Table
-table_in a = record { listed = map version_in a.entries.items; pins = map (λ entry. entry.pins) a.entries.items }
+table_in a =
+    record {
+      listed = map version_in a.entries.items;
+      pins = map (λ entry. entry.pins) a.entries.items;
+      room = min (vec_capacity a.entries - vec_len a.entries) (heap_capacity a.garbage - vec_len a.entries);
+    }
 
 -- superseded and not taken yet
 abbrev pub is_superseded : Standing → Bool

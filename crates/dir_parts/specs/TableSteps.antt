@@ -10,6 +10,10 @@ use Rattle.store_core.specs.Directory.{Version, Pin}
 use Rattle.store_core.specs.Directory.{Standing as CoreStanding}
 use Rattle.dir_parts.specs.Table.{Table}
 
+-- the version that pins name for a stripe, if they name one
+abbrev pub base_version : List Pin → ℕ → Option ℕ
+base_version pins stripe = option_map (λ pin. pin.version) (find (λ pin. nat_eq stripe pin.stripe) pins)
+
 -- a version that a call with these pins draws, laid over the pinned one of its stripe
 abbrev pub drawn_version : Actor → ℕ → List Pin → ℕ → Version
 drawn_version who number pins stripe =
@@ -17,7 +21,7 @@ drawn_version who number pins stripe =
       actor = who;
       number = number;
       stripe = stripe;
-      base = option_map (λ pin. pin.version) (find (λ pin. nat_eq stripe pin.stripe) pins);
+      base = base_version pins stripe;
       placed = [];
       standing = CoreStanding.Drawn;
     }

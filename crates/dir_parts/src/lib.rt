@@ -9,4 +9,4 @@ mod versions;
 pub use history::{Answer, Event, History, PointEntry};
 pub use objects::{Contents, Objects};
 pub use passes::{CallNote, Kind, OpenPass, Passes, Pinned};
-pub use versions::Versions;
+pub use versions::{Versions, base_of};

@@ -11,7 +11,7 @@ ghost use Rattle.store_core.specs.Placements.{placed_anew};
 ghost use Rattle.store_core.specs.AtDirectory.{swept_standing};
 ghost use Rattle.dir_parts.specs.Counts.{unpinned, pinned_more};
 ghost use Rattle.dir_parts.specs.Table.{is_garbage, number_in, least_first, version_in, swept};
-ghost use Rattle.dir_parts.specs.TableSteps.{drawn_version, first_free, taken_from, placed_anew_by};
+ghost use Rattle.dir_parts.specs.TableSteps.{base_version, drawn_version, first_free, taken_from, placed_anew_by};
 ghost use Rattle.dir_parts.specs.Places.{places};
 ghost use Rattle.dir_parts.specs.declared.versions.Standing.TheVariants as standing;
 
@@ -177,9 +177,9 @@ fn push_reserved(garbage: &mut BinaryHeap<Reverse<u64>>, number: u64)
     }
 }
 
-// The version of a stripe that is pinned, if one is.
-fn base_of(pins: &[Pinned], stripe: u32) -> Option<u64>
-    ensures { result ≡ option_map (λ pin. pin.version) (find (λ pin. nat_eq stripe pin.stripe) pins.now) }
+/// The version of a stripe that is pinned, if one is.
+pub fn base_of(pins: &[Pinned], stripe: u32) -> Option<u64>
+    ensures { result ≡ base_version pins.now stripe }
 {
     let mut at = 0;
     while at < pins.len() {
@@ -232,32 +232,33 @@ impl Versions {
         self.entries.len()
     }
 
-    /// A new version of each of these stripes, drawn by a call with these pins. Takes the room in
-    /// which they are kept once they are garbage, too.
-    pub fn draw(
-        &mut self,
-        actor: Actor,
-        number: u32,
-        pins: &[Pinned],
-        first: u32,
-        count: u32,
-    ) -> Result<(), AllocError>
-        requires { first + count ≤ 2 ^ 32 }
-        ensures listed { OnOk result (self.new.listed ≡ self.old.listed ++ map (drawn_version actor number pins.now) (range_with_len first count)) }
-        ensures pins { OnOk result (self.new.pins ≡ self.old.pins ++ replicate count 0) }
-        ensures err { OnErr result (self.new ≡ self.old) }
+    /// A new version of each of these stripes, drawn by a call with these pins.
+    pub fn draw(&mut self, actor: Actor, number: u32, pins: &[Pinned], first: u32, count: u32)
+        requires room { count ≤ self.old.room }
+        requires fits { first + count ≤ 2 ^ 32 }
+        ensures listed { self.new.listed ≡ self.old.listed ++ map (drawn_version actor number pins.now) (range_with_len first count) }
+        ensures pins { self.new.pins ≡ self.old.pins ++ replicate count 0 }
+    {
+        push_drawn(&mut self.entries, actor, number, pins, first, count);
+    }
+
+    /// Takes the room for so many versions more, and that in which they are kept once they are garbage.
+    pub fn reserve(&mut self, count: u32) -> Result<(), AllocError>
+        ensures listed { self.new.listed ≡ self.old.listed }
+        ensures pins { self.new.pins ≡ self.old.pins }
+        ensures ok { OnOk result (count ≤ self.new.room) }
     {
         self.entries.reserve(count as usize)?;
         let all = self.entries.len().saturating_add(count as usize);
         let more = all.saturating_sub(self.garbage.len());
         self.garbage.reserve(more)?;
-        push_drawn(&mut self.entries, actor, number, pins, first, count);
         Ok(())
     }
 
     /// No versions.
     pub fn new(alloc: Global) -> Versions
-        ensures { result ≡ record { listed = []; pins = [] } }
+        ensures listed { result.listed ≡ [] }
+        ensures pins { result.pins ≡ [] }
     {
         Versions {
             entries: Vec::new(alloc),

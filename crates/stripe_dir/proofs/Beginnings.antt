@@ -8,7 +8,7 @@ use Rattle.store_core.specs.Lists.{change_at}
 use Rattle.store_core.specs.Directory.{Standing, Version, Object, Pin, Pass, Directory}
 use Rattle.store_core.specs.Lookups.{is_live, holds_standing, is_superseded_standing}
 use Rattle.store_core.specs.Look.{pin_of, seen_at}
-use Rattle.store_core.specs.Sound.{IsSound}
+use Rattle.stripe_dir.specs.ItsStripes.{IsWhole}
 use Rattle.store_core.specs.SoundPasses.{Stands}
 use Rattle.dir_parts.specs.Counts.{one_if, times, pins_of, pins_by, points_due, objects_due, may_append, pinned_more}
 use Rattle.dir_parts.specs.OpenPass.{Desk}
@@ -16,7 +16,9 @@ use Rattle.dir_parts.specs.Table.{Table}
 use Rattle.dir_parts.specs.Parts.{Shelf, Book}
 use Rattle.dir_parts.proofs.TableSteps.{length-change_at}
 use Rattle.stripe_dir.specs.Stripes.{pin_by}
-use Rattle.stripe_dir.specs.Kept.{directory_in, IsKept}
+use Rattle.store_contents.proofs.Grows.{origins}
+use Rattle.stripe_dir.specs.Kept.{directory_in, sealed_in, IsKept}
+use Rattle.stripe_dir.proofs.Stamps.{same_count, stamps_stay}
 use Rattle.stripe_dir.specs.declared.directory.Directory.TheInside.{Inside}
 
 -- of each pass there is at most one
@@ -121,41 +123,43 @@ module _ (a : Inside) (kept : IsKept a) (objects : Shelf) (desk : Desk) (history
       record {
         stripes = kept.stripes;
         desk = roomy.stripe ∙ kept.desk;
-        sound = subst IsSound (sym same_directory) kept.sound;
+        whole = subst IsWhole (sym same_directory) kept.whole;
         counted = kept.counted;
         pins = λ v. kept.pins v ∙ ap (pins_by v) (sym roomy.passes);
         named = subst (λ (ps : List Pass). All (λ pass. Contains history.names pass.note.name) ps) (sym roomy.passes) still_named;
         points_room = omega (arith, ap points_due roomy.passes, roomy.points_room, kept.points_room);
         objects_room = omega (arith, ap objects_due roomy.passes, roomy.objects_room, kept.objects_room);
+        stamps = stamps_stay (sealed_in a) kept.stamps (directory_in (record a { objects = objects; passes = desk; history = history })) refl refl;
       }
 
   -- and one point more, with objects and versions that may have changed
-  pub kept_pointed : (shelf : Shelf) (table : Table) (book : Book) → IsSound (directory_in (record a { objects = shelf; versions = table; passes = desk; history = book })) → length a.passes.listed + 2 ≤ history.room → history.room ≤ book.room + 1
-      → book.names ≡ history.names → table.pins ≡ a.versions.pins → length table.listed ≡ length a.versions.listed → a.objects.room ≤ shelf.room → IsKept (record a { objects = shelf; versions = table; passes = desk; history = book })
-  kept_pointed shelf table book sound more left names pins size shelf_room =
+  pub kept_pointed : (shelf : Shelf) (table : Table) (book : Book) → IsWhole (directory_in (record a { objects = shelf; versions = table; passes = desk; history = book })) → length a.passes.listed + 2 ≤ history.room → history.room ≤ book.room + 1
+      → book.names ≡ history.names → table.pins ≡ a.versions.pins → origins table.listed ≡ origins a.versions.listed → a.objects.room ≤ shelf.room → IsKept (record a { objects = shelf; versions = table; passes = desk; history = book })
+  kept_pointed shelf table book whole more left names pins same shelf_room =
       record {
         stripes = kept.stripes;
         desk = roomy.stripe ∙ kept.desk;
-        sound = sound;
-        counted = ap length pins ∙ kept.counted ∙ sym size;
+        whole = whole;
+        counted = ap length pins ∙ kept.counted ∙ sym (same_count a.versions.listed table.listed same);
         pins = λ v. ap (λ l. get_or l v 0) pins ∙ kept.pins v ∙ ap (pins_by v) (sym roomy.passes);
         named =
             subst (λ (ps : List Pass). All (λ pass. Contains book.names pass.note.name) ps) (sym roomy.passes)
             (subst (λ (names : List (List ℕ)). All (λ (pass : Pass). Contains names pass.note.name) a.passes.listed) (sym names) still_named);
         points_room = omega (arith, ap points_due roomy.passes, at_most_one (λ (q : Pass). is_live q.reaped) a.passes.listed, more, left);
         objects_room = omega (arith, ap objects_due roomy.passes, kept.objects_room, shelf_room);
+        stamps = stamps_stay (sealed_in a) kept.stamps (directory_in (record a { objects = shelf; versions = table; passes = desk; history = book })) refl same;
       }
 
   -- and one pass more
-  pub kept_begun : (table : Table) (now : Desk) (book : Book) (n : Pass) → n.reaped ≡ None → IsSound (directory_in (record a { objects = objects; versions = table; passes = now; history = book })) → now.listed ≡ n ∷ a.passes.listed → now.stripe ≡ desk.stripe
+  pub kept_begun : (table : Table) (now : Desk) (book : Book) (n : Pass) → n.reaped ≡ None → IsWhole (directory_in (record a { objects = objects; versions = table; passes = now; history = book })) → now.listed ≡ n ∷ a.passes.listed → now.stripe ≡ desk.stripe
       → table.listed ≡ a.versions.listed → table.pins ≡ pinned_more n.pinned a.versions.pins → All (λ pin. pin.version < length a.versions.listed) n.pinned
       → length a.passes.listed + 2 ≤ history.room → history.room ≤ book.room + 1 → book.names ≡ history.names → Contains history.names n.note.name → length a.passes.listed + 1 ≤ objects.room
       → IsKept (record a { objects = objects; versions = table; passes = now; history = book })
-  kept_begun table now book n live sound passes stripe listed pins within more left names named more_objects =
+  kept_begun table now book n live whole passes stripe listed pins within more left names named more_objects =
       record {
         stripes = kept.stripes;
         desk = stripe ∙ roomy.stripe ∙ kept.desk;
-        sound = sound;
+        whole = whole;
         counted = ap length pins ∙ length-pinned n.pinned a.versions.pins ∙ kept.counted ∙ sym (ap length listed);
         pins = λ v.
             let mine : pins_of v n ≡ times v n.pinned = ap (λ (r : Option ℕ). cond {A = ℕ} (is_live r) (times v n.pinned) 0) live in
@@ -170,6 +174,7 @@ module _ (a : Inside) (kept : IsKept a) (objects : Shelf) (desk : Desk) (history
             (All-cons (λ (q : Pass). Contains history.names q.note.name) n a.passes.listed named still_named));
         points_room = omega (arith, ap points_due passes, at_most_one (λ (q : Pass). is_live q.reaped) (n ∷ a.passes.listed), more, left);
         objects_room = omega (arith, ap objects_due passes, at_most_one (λ (q : Pass). may_append q.note.kind && is_live q.reaped) (n ∷ a.passes.listed), more_objects);
+        stamps = stamps_stay (sealed_in a) kept.stamps (directory_in (record a { objects = objects; versions = table; passes = now; history = book })) refl (ap origins listed);
       }
 
 -- what a call ensures that answered no error

@@ -1,5 +1,5 @@
 -- What a draw leaves.
-use Rattle.std.proofs.Common.{◌≡◌, ℕ, ◌+◌, ◌-◌, ◌/◌, Bool, true, false, cond, ◌&&◌, List, [], ◌++◌, length, get_or, map, replicate, find, sum_by, if◌then◌else◌, Option, None, Some, All, Contains, refl, sym, ap, subst, ◌∙◌, arith, length-append}
+use Rattle.std.proofs.Common.{◌≡◌, ℕ, ◌+◌, ◌-◌, ◌/◌, Bool, true, false, cond, ◌&&◌, List, [], ◌++◌, length, get_or, map, replicate, find, sum_by, if◌then◌else◌, Option, None, Some, Vec, Global, All, Contains, refl, sym, ap, subst, ◌∙◌, arith, length-append}
 use Rattle.std.proofs.lemmas.List.{length-map, length-replicate}
 use Rattle.std.proofs.lemmas.List.FromFn.{length-range_with_len}
 use Rattle.std.specs.List.{range_with_len}
@@ -8,11 +8,11 @@ use Rattle.store_map.specs.Limits.{stripes_met}
 use Rattle.store_map.specs.declared.actor.Actor.{Actor}
 use Rattle.store_core.specs.Told.{Told}
 use Rattle.store_core.specs.Act.{DirectoryStep}
-use Rattle.store_core.specs.Directory.{Pass}
+use Rattle.store_core.specs.Directory.{Version, Pass}
 use Rattle.store_core.specs.Lookups.{same_actor, is_live}
 use Rattle.store_core.specs.PassSteps.{touched, draw, new_version}
 use Rattle.store_core.specs.Conditions.{IsWriting}
-use Rattle.store_core.specs.Sound.{IsSound}
+use Rattle.stripe_dir.specs.ItsStripes.{IsWhole}
 use Rattle.store_core.specs.AtDirectory.{unless_reaped, on_pass, at_directory}
 use Rattle.dir_parts.specs.Counts.{one_if, pins_of, may_append}
 use Rattle.dir_parts.specs.OpenPass.{Desk}
@@ -20,9 +20,15 @@ use Rattle.dir_parts.specs.Table.{Table}
 use Rattle.dir_parts.specs.TableSteps.{drawn_version}
 use Rattle.dir_parts.proofs.Actors.{same_is, find_passes}
 use Rattle.dir_parts.proofs.Growing.{get_or-zeros, sum_by-changed, all_changed}
-use Rattle.stripe_dir.specs.Kept.{directory_in, IsKept}
+use Rattle.version_seal.specs.Entry.{StampOf, RequestOf}
+use Rattle.stripe_dir.specs.Sealed.{stamps_touched}
+use Rattle.stripe_dir.specs.Stamped.{AreBases, HasStamps}
+use Rattle.stripe_dir.specs.Kept.{directory_in, sealed_in, IsKept}
+use Rattle.stripe_dir.proofs.Stamps.{bases_in, stamps_drawn}
 use Rattle.stripe_dir.specs.declared.directory.Directory.TheInside.{Inside}
-use Rattle.stripe_dir.proofs.Sound.{keeps_sound}
+use Rattle.stripe_dir.proofs.Sound.{keeps_whole}
+use Rattle.stripe_dir.proofs.Garbage.{kept_versions}
+use Rattle.store_contents.proofs.Grows.{origins}
 
 -- what a pass keeps that may get what was drawn
 still : {X : Type 0} (f : Pass → X) (dr : List ℕ) → ((q : Pass) → f (record q { drawn = dr }) ≡ f q) → (b : Bool) (q : Pass) → f (cond {A = Pass} b (record q { drawn = dr }) q) ≡ f q
@@ -32,6 +38,28 @@ still f dr same false q = refl
 stays : (P : Pass → Type 0) (dr : List ℕ) → ((q : Pass) → P q → P (record q { drawn = dr })) → (b : Bool) (q : Pass) → P q → P (cond {A = Pass} b (record q { drawn = dr }) q)
 stays P dr keeps true q h = keeps q h
 stays P dr keeps false q h = h
+
+-- what a pass pins are versions of its pins' stripes, by the stamps
+pub bases_of : (a : Inside) → IsKept a → (who : Actor) (p : Pass) → find (λ pass. same_actor who pass.actor) a.passes.listed ≡ Some p → AreBases a.stamps.items p.pinned
+bases_of a kept who p found = bases_in (sealed_in a) kept.whole kept.stamps who p found
+
+-- where nothing is drawn, only room may have changed
+pub kept_undrawn : (a : Inside) → IsKept a → (table : Table) (stamps : Vec StampOf Global) → table.listed ≡ a.versions.listed → table.pins ≡ a.versions.pins → stamps.items ≡ a.stamps.items → IsKept (record a { versions = table; stamps = stamps })
+kept_undrawn a kept table stamps listed pins same =
+    let rest : IsKept (record a { versions = table }) =
+    kept_versions a kept table (subst (λ (vs : List Version). IsWhole (record (directory_in a) { versions = vs })) (sym listed) kept.whole) pins (ap origins listed)
+    in
+    record {
+      stripes = rest.stripes;
+      desk = rest.desk;
+      whole = rest.whole;
+      stamps = subst (λ (l : List StampOf). HasStamps (record { core = directory_in (record a { versions = table }); book = a.opening; stamps = l })) (sym same) rest.stamps;
+      counted = rest.counted;
+      pins = rest.pins;
+      named = rest.named;
+      points_room = rest.points_room;
+      objects_room = rest.objects_room;
+    }
 
 module _ (a : Inside) (kept : IsKept a) (who : Actor) (p : Pass) (found : find (λ pass. same_actor who pass.actor) a.passes.listed ≡ Some p) (live : p.reaped ≡ None) (stripe : ℕ) (stripe_is : stripe ≡ stripe_length a.geometry) where
   -- the stripes that the call touches, and how many
@@ -74,13 +102,13 @@ module _ (a : Inside) (kept : IsKept a) (who : Actor) (p : Pass) (found : find (
     counted_by : (f : Pass → ℕ) → ((q : Pass) → f (record q { drawn = dr }) ≡ f q) → sum_by f desk.listed ≡ sum_by f a.passes.listed
     counted_by f same = ap (sum_by f) passes ∙ sum_by-changed f (λ (other : Pass). if same_actor who other.actor then record other { drawn = dr } else other) (λ q. still f dr same (same_actor who q.actor) q) a.passes.listed
 
-    pub kept_drawn : desk.stripe ≡ a.passes.stripe → table.pins ≡ a.versions.pins ++ replicate (stripes_met stripe p.note.offset p.note.length) 0 → ((pass : Pass) × IsWriting (directory_in a) who pass × (pass.drawn ≡ []))
-        → IsKept (record a { versions = table; passes = desk })
-    kept_drawn same_stripe pins may =
+    pub kept_drawn : (stamps : Vec StampOf Global) (request : Option RequestOf) → stamps.items ≡ a.stamps.items ++ stamps_touched a.opening a.stamps.items stripe p request → desk.stripe ≡ a.passes.stripe → table.pins ≡ a.versions.pins ++ replicate (stripes_met stripe p.note.offset p.note.length) 0 → ((pass : Pass) × IsWriting (directory_in a) who pass × (pass.drawn ≡ []))
+        → IsKept (record a { versions = table; passes = desk; stamps = stamps })
+    kept_drawn stamps request added same_stripe pins may =
         record {
           stripes = kept.stripes;
           desk = same_stripe ∙ kept.desk;
-          sound = subst IsSound (sym (ap (λ r. r.0) (draw_step 0))) (keeps_sound who 0 DirectoryStep.Draw (directory_in a) kept.stripes kept.sound may);
+          whole = subst IsWhole (sym (ap (λ r. r.0) (draw_step 0))) (keeps_whole who 0 DirectoryStep.Draw (directory_in a) kept.stripes kept.whole may);
           counted = omega (
             arith,
             ap length pins,
@@ -97,6 +125,10 @@ module _ (a : Inside) (kept : IsKept a) (who : Actor) (p : Pass) (found : find (
               subst (λ (ps : List Pass). All (λ pass. Contains a.history.names pass.note.name) ps) (sym passes)
               (all_changed (λ (q : Pass). Contains a.history.names q.note.name) (λ (other : Pass). if same_actor who other.actor then record other { drawn = dr } else other)
               (λ q h. stays (λ (q : Pass). Contains a.history.names q.note.name) dr (λ q h. h) (same_actor who q.actor) q h) a.passes.listed kept.named);
+          stamps =
+              subst (λ (l : List StampOf). HasStamps (record { core = directory_in (record a { versions = table; passes = desk }); book = a.opening; stamps = l })) (sym added)
+              (stamps_drawn (sealed_in a) kept.stamps p (bases_of a kept who p found) (p.note.offset / stripe) (stripes_met stripe p.note.offset p.note.length) request
+              (directory_in (record a { versions = table; passes = desk })) refl listed);
           points_room = omega (arith, counted_by (λ (q : Pass). one_if (is_live q.reaped)) (λ q. refl), kept.points_room);
           objects_room = omega (arith, counted_by (λ (q : Pass). one_if (may_append q.note.kind && is_live q.reaped)) (λ q. refl), kept.objects_room);
         }

@@ -23,10 +23,12 @@ use Rattle.dir_parts.specs.OpenPass.{Desk}
 use Rattle.dir_parts.specs.Table.{Table}
 use Rattle.dir_parts.specs.TableSteps.{placed_anew_by}
 use Rattle.dir_parts.specs.Parts.{Shelf, Book}
-use Rattle.store_core.specs.Sound.{IsSound}
-use Rattle.stripe_dir.specs.Kept.{directory_in, IsKept}
+use Rattle.stripe_dir.specs.ItsStripes.{IsWhole}
+use Rattle.store_contents.proofs.Grows.{origins}
+use Rattle.stripe_dir.specs.Kept.{directory_in, sealed_in, IsKept}
+use Rattle.stripe_dir.proofs.Stamps.{same_count, stamps_stay}
 use Rattle.stripe_dir.specs.declared.directory.Directory.TheInside.{Inside}
-use Rattle.stripe_dir.proofs.Sound.{keeps_sound}
+use Rattle.stripe_dir.proofs.Sound.{keeps_whole}
 
 -- what is found has what all have
 pub found_has : {X : Type 0} (P : X → Type 0) (test : X → Bool) (xs : List X) (x : X) → All P xs → find test xs ≡ Some x → P x
@@ -160,34 +162,36 @@ module _ (a : Inside) (kept : IsKept a) (who : Actor) (p : Pass) (desk : Desk) (
       record {
         stripes = kept.stripes;
         desk = gone.stripe ∙ kept.desk;
-        sound =
-            subst IsSound (sym (ap (λ r. r.0) (reaped_any (directory_in a) who p desk.listed gone.found gone.left gone.perm end_pass point reaped)))
-            (keeps_sound who 0 DirectoryStep.End (directory_in a) kept.stripes kept.sound tt);
+        whole =
+            subst IsWhole (sym (ap (λ r. r.0) (reaped_any (directory_in a) who p desk.listed gone.found gone.left gone.perm end_pass point reaped)))
+            (keeps_whole who 0 DirectoryStep.End (directory_in a) kept.stripes kept.whole tt);
         counted = kept.counted;
         pins = λ v. kept.pins v ∙ pins_reaped (directory_in a) who p desk.listed gone.found gone.left gone.perm point v reaped;
         named = rest_has (directory_in a) who p desk.listed gone.found gone.left gone.perm (λ pass. Contains a.history.names pass.note.name) kept.named;
         points_room = omega (arith, points_left (directory_in a) who p desk.listed gone.found gone.left gone.perm, kept.points_room);
         objects_room = omega (arith, objects_left (directory_in a) who p desk.listed gone.found gone.left gone.perm, kept.objects_room);
+        stamps = stamps_stay (sealed_in a) kept.stamps (directory_in (record a { passes = desk })) refl refl;
       }
 
   -- where it wasn't, and its pins are gone with it
-  pub kept_ended : p.reaped ≡ None → (objects : Shelf) (table : Table) (history : Book) → IsSound (directory_in (record a { objects = objects; versions = table; passes = desk; history = history }))
-      → table.pins ≡ unpinned p.pinned a.versions.pins → length table.listed ≡ length a.versions.listed → history.names ≡ a.history.names → a.history.room ≤ history.room + 1
+  pub kept_ended : p.reaped ≡ None → (objects : Shelf) (table : Table) (history : Book) → IsWhole (directory_in (record a { objects = objects; versions = table; passes = desk; history = history }))
+      → table.pins ≡ unpinned p.pinned a.versions.pins → origins table.listed ≡ origins a.versions.listed → history.names ≡ a.history.names → a.history.room ≤ history.room + 1
       → a.objects.room ≤ objects.room + one_if (may_append p.note.kind) → IsKept (record a { objects = objects; versions = table; passes = desk; history = history })
-  kept_ended live objects table history sound pins size names points_room objects_room =
+  kept_ended live objects table history whole pins same names points_room objects_room =
       let one : one_if (is_live p.reaped) ≡ 1 = ap (λ (r : Option ℕ). one_if (is_live r)) live in
       let also : one_if (may_append p.note.kind && is_live p.reaped) ≡ one_if (may_append p.note.kind) = ap (λ (r : Option ℕ). one_if (may_append p.note.kind && is_live r)) live ∙ with_true (may_append p.note.kind) in
       record {
         stripes = kept.stripes;
         desk = gone.stripe ∙ kept.desk;
-        sound = sound;
-        counted = ap length pins ∙ length-unpinned p.pinned a.versions.pins ∙ kept.counted ∙ sym size;
+        whole = whole;
+        counted = ap length pins ∙ length-unpinned p.pinned a.versions.pins ∙ kept.counted ∙ sym (same_count a.versions.listed table.listed same);
         pins = λ v. ap (λ cs. get_or cs v 0) pins ∙ pins_ended (directory_in a) who p desk.listed gone.found gone.left gone.perm a.versions.pins v live (kept.pins v);
         named =
             subst (λ names. All (λ pass. Contains names pass.note.name) desk.listed) (sym names)
             (rest_has (directory_in a) who p desk.listed gone.found gone.left gone.perm (λ pass. Contains a.history.names pass.note.name) kept.named);
         points_room = omega (arith, one, points_left (directory_in a) who p desk.listed gone.found gone.left gone.perm, kept.points_room, points_room);
         objects_room = omega (arith, also, sums (directory_in a) who p desk.listed gone.found gone.left gone.perm (λ (q : Pass). one_if (may_append q.note.kind && is_live q.reaped)), kept.objects_room, objects_room);
+        stamps = stamps_stay (sealed_in a) kept.stamps (directory_in (record a { objects = objects; versions = table; passes = desk; history = history })) refl same;
       }
     where
       with_true : (b : Bool) → one_if (b && true) ≡ one_if b

@@ -11,14 +11,15 @@ use Rattle.store_core.specs.Lists.{change_at}
 use Rattle.store_core.specs.Directory.{Version, Pin, Pass, Directory}
 use Rattle.store_core.specs.Lookups.{is_live, is_pinned, is_superseded_standing, first_garbage}
 use Rattle.store_core.specs.AtDirectory.{at_directory, take_garbage, swept_standing}
-use Rattle.store_core.specs.Sound.{IsSound}
+use Rattle.stripe_dir.specs.ItsStripes.{IsWhole}
 use Rattle.dir_parts.specs.Counts.{one_if, times, pins_of, pins_by}
 use Rattle.dir_parts.specs.Table.{Table}
 use Rattle.dir_parts.specs.TableSteps.{first_free, taken_from}
-use Rattle.dir_parts.proofs.TableSteps.{length-set_standing, length-change_at}
-use Rattle.stripe_dir.specs.Kept.{directory_in, IsKept}
+use Rattle.store_contents.proofs.Grows.{origins, set_keeps, swept_keeps}
+use Rattle.stripe_dir.specs.Kept.{directory_in, sealed_in, IsKept}
+use Rattle.stripe_dir.proofs.Stamps.{same_count, stamps_stay}
 use Rattle.stripe_dir.specs.declared.directory.Directory.TheInside.{Inside}
-use Rattle.stripe_dir.proofs.Sound.{keeps_sound}
+use Rattle.stripe_dir.proofs.Sound.{keeps_whole}
 use Rattle.store_core.specs.Directory.{Standing}
 
 none_sum : (m n : ℕ) → nat_eq (m + n) 0 ≡ (nat_eq m 0 && nat_eq n 0)
@@ -59,18 +60,19 @@ module _ (a : Inside) (kept : IsKept a) where
       λ i. option_map (λ (entry : ℕ × Version). entry.0)
       (find (λ (entry : ℕ × Version). is_superseded_standing entry.1.standing && unpinned_is (directory_in a) entry.0 (get_or a.versions.pins entry.0 0) (kept.pins entry.0) i) (enumerate_from 0 a.versions.listed))
 
-  -- other versions, as many, with the same pins
-  pub kept_versions : (t : Table) → IsSound (directory_in (record a { versions = t })) → t.pins ≡ a.versions.pins → length t.listed ≡ length a.versions.listed → IsKept (record a { versions = t })
-  kept_versions t sound pins size =
+  -- other versions that keep what they are laid over, with the same pins
+  pub kept_versions : (t : Table) → IsWhole (directory_in (record a { versions = t })) → t.pins ≡ a.versions.pins → origins t.listed ≡ origins a.versions.listed → IsKept (record a { versions = t })
+  kept_versions t whole pins same =
       record {
         stripes = kept.stripes;
         desk = kept.desk;
-        sound = sound;
-        counted = ap length pins ∙ kept.counted ∙ sym size;
+        whole = whole;
+        counted = ap length pins ∙ kept.counted ∙ sym (same_count a.versions.listed t.listed same);
         pins = λ v. ap (λ ps. get_or ps v 0) pins ∙ kept.pins v;
         named = kept.named;
         points_room = kept.points_room;
         objects_room = kept.objects_room;
+        stamps = stamps_stay (sealed_in a) kept.stamps (directory_in (record a { versions = t })) refl same;
       }
 
   pub taken_step : (t : Table) (taken : Option ℕ) → taken ≡ first_free a.versions → t.listed ≡ taken_from taken a.versions.listed → (who : Actor) (number : ℕ)
@@ -85,15 +87,15 @@ module _ (a : Inside) (kept : IsKept a) where
   pub kept_taken : (t : Table) (taken : Option ℕ) → taken ≡ first_free a.versions → t.listed ≡ taken_from taken a.versions.listed → t.pins ≡ a.versions.pins → IsKept (record a { versions = t })
   kept_taken t taken is listed pins =
       kept_versions t
-      (subst IsSound (sym (ap (λ r. r.0) (taken_step t taken is listed actor.Sweeper 0))) (keeps_sound actor.Sweeper 0 DirectoryStep.NextGarbage (directory_in a) kept.stripes kept.sound tt)) pins
-      (ap length listed ∙ by taken)
+      (subst IsWhole (sym (ap (λ r. r.0) (taken_step t taken is listed actor.Sweeper 0))) (keeps_whole actor.Sweeper 0 DirectoryStep.NextGarbage (directory_in a) kept.stripes kept.whole tt)) pins
+      (ap origins listed ∙ by taken)
     where
-      by : (o : Option ℕ) → length (taken_from o a.versions.listed) ≡ length a.versions.listed
+      by : (o : Option ℕ) → origins (taken_from o a.versions.listed) ≡ origins a.versions.listed
       by None = refl
-      by (Some v) = length-set_standing Standing.Taken (v ∷ []) a.versions.listed
+      by (Some v) = set_keeps Standing.Taken (v ∷ []) a.versions.listed
 
   pub kept_swept : (t : Table) (v : ℕ) → t.listed ≡ change_at v (λ version. record version { standing = swept_standing version.standing }) a.versions.listed → t.pins ≡ a.versions.pins → IsKept (record a { versions = t })
   kept_swept t v listed pins =
       kept_versions t
-      (subst IsSound (λ i. record (directory_in a) { versions = sym listed i }) (keeps_sound actor.Sweeper 0 (DirectoryStep.Swept v) (directory_in a) kept.stripes kept.sound tt)) pins
-      (ap length listed ∙ length-change_at v _ a.versions.listed)
+      (subst IsWhole (λ i. record (directory_in a) { versions = sym listed i }) (keeps_whole actor.Sweeper 0 (DirectoryStep.Swept v) (directory_in a) kept.stripes kept.whole tt)) pins
+      (ap origins listed ∙ swept_keeps v a.versions.listed)

@@ -11,7 +11,7 @@ use Rattle.store_core.specs.Directory.{Standing, Event, Pass}
 use Rattle.store_core.specs.Lookups.{same_actor, is_live}
 use Rattle.store_core.specs.Look.{set_standing}
 use Rattle.store_core.specs.AtDirectory.{at_directory, reap, reap_pass}
-use Rattle.store_core.specs.Sound.{IsSound}
+use Rattle.stripe_dir.specs.ItsStripes.{IsWhole}
 use Rattle.dir_parts.specs.Counts.{one_if, times, pins_of, pins_by, points_due, objects_due, may_append, unpinned}
 use Rattle.dir_parts.specs.OpenPass.{Desk}
 use Rattle.dir_parts.specs.Table.{Table}
@@ -19,9 +19,11 @@ use Rattle.dir_parts.specs.Parts.{Book}
 use Rattle.dir_parts.proofs.Actors.{same_is, both_of, find_passes}
 use Rattle.dir_parts.proofs.TableSteps.{length-set_standing}
 use Rattle.dir_parts.proofs.Growing.{all_changed}
-use Rattle.stripe_dir.specs.Kept.{directory_in, IsKept}
+use Rattle.store_contents.proofs.Grows.{origins, set_keeps}
+use Rattle.stripe_dir.specs.Kept.{directory_in, sealed_in, IsKept}
+use Rattle.stripe_dir.proofs.Stamps.{stamps_stay}
 use Rattle.stripe_dir.specs.declared.directory.Directory.TheInside.{Inside}
-use Rattle.stripe_dir.proofs.Sound.{keeps_sound}
+use Rattle.stripe_dir.proofs.Sound.{keeps_whole}
 use Rattle.stripe_dir.proofs.Ending.{get_or-unpinned, length-unpinned}
 
 -- no other pass is of the same actor
@@ -109,13 +111,14 @@ module _ (a : Inside) (kept : IsKept a) (who : Actor) (p : Pass) (found : find (
         record {
           stripes = kept.stripes;
           desk = stripe ∙ kept.desk;
-          sound = subst IsSound (sym (ap (λ r. r.0) (reap_step actor.Operator 0))) (keeps_sound actor.Operator 0 (DirectoryStep.Reap who) (directory_in a) kept.stripes kept.sound tt);
+          whole = subst IsWhole (sym (ap (λ r. r.0) (reap_step actor.Operator 0))) (keeps_whole actor.Operator 0 (DirectoryStep.Reap who) (directory_in a) kept.stripes kept.whole tt);
           counted = ap length pins ∙ length-unpinned p.pinned a.versions.pins ∙ kept.counted ∙ sym (ap length listed ∙ length-set_standing Standing.Superseded p.drawn a.versions.listed);
+          stamps = stamps_stay (sealed_in a) kept.stamps (directory_in (record a { versions = table; passes = desk; history = book })) refl (ap origins listed ∙ set_keeps Standing.Superseded p.drawn a.versions.listed);
           pins = λ v.
               let mine : pins_of v p ≡ times v p.pinned = ap (λ (r : Option ℕ). cond {A = ℕ} (is_live r) (times v p.pinned) 0) live in
               let none : pins_of v (marked p) ≡ 0 = refl in
               let less : get_or table.pins v 0 ≡ get_or a.versions.pins v 0 - times v p.pinned = ap (λ l. get_or l v 0) pins ∙ get_or-unpinned v p.pinned a.versions.pins in
-              let sums : pins_by v (map (λ q. if same_actor who q.actor then marked q else q) a.passes.listed) + pins_of v p ≡ pins_by v a.passes.listed + pins_of v (marked p) = sum_changed who marked (pins_of v) p a.passes.listed kept.sound.passes found in
+              let sums : pins_by v (map (λ q. if same_actor who q.actor then marked q else q) a.passes.listed) + pins_of v p ≡ pins_by v a.passes.listed + pins_of v (marked p) = sum_changed who marked (pins_of v) p a.passes.listed kept.whole.sound.passes found in
               let same : pins_by v desk.listed ≡ pins_by v (map (λ q. if same_actor who q.actor then marked q else q) a.passes.listed) = ap (pins_by v) passes_are in
               omega (arith, mine, none, less, sums, same, kept.pins v);
           named =
@@ -125,12 +128,12 @@ module _ (a : Inside) (kept : IsKept a) (who : Actor) (p : Pass) (found : find (
           points_room =
               (let mine : one_if (is_live p.reaped) ≡ 1 = ap (λ (r : Option ℕ). one_if (is_live r)) live in
               let none : one_if (is_live (marked p).reaped) ≡ 0 = refl in
-              let sums : points_due (map (λ q. if same_actor who q.actor then marked q else q) a.passes.listed) + one_if (is_live p.reaped) ≡ points_due a.passes.listed + one_if (is_live (marked p).reaped) = sum_changed who marked (λ (q : Pass). one_if (is_live q.reaped)) p a.passes.listed kept.sound.passes found in
+              let sums : points_due (map (λ q. if same_actor who q.actor then marked q else q) a.passes.listed) + one_if (is_live p.reaped) ≡ points_due a.passes.listed + one_if (is_live (marked p).reaped) = sum_changed who marked (λ (q : Pass). one_if (is_live q.reaped)) p a.passes.listed kept.whole.sound.passes found in
               omega (arith, mine, none, sums, ap points_due passes_are, kept.points_room, room));
           objects_room =
               (let none : one_if (may_append (marked p).note.kind && is_live (marked p).reaped) ≡ 0 = both (may_append p.note.kind) in
               let sums : objects_due (map (λ q. if same_actor who q.actor then marked q else q) a.passes.listed) + one_if (may_append p.note.kind && is_live p.reaped) ≡ objects_due a.passes.listed + one_if (may_append (marked p).note.kind && is_live (marked p).reaped) =
-              sum_changed who marked (λ (q : Pass). one_if (may_append q.note.kind && is_live q.reaped)) p a.passes.listed kept.sound.passes found
+              sum_changed who marked (λ (q : Pass). one_if (may_append q.note.kind && is_live q.reaped)) p a.passes.listed kept.whole.sound.passes found
               in
               omega (arith, none, sums, ap objects_due passes_are, kept.objects_room));
         }

@@ -1,4 +1,7 @@
+pub mod StripeLists
+pub mod StripeSteps
 pub mod Sound
+pub mod Stamps
 pub mod Ending
 pub mod Garbage
 pub mod GivenUp
@@ -6,3 +9,5 @@ pub mod Commits
 pub mod Draws
 pub mod Beginnings
 pub mod Lookings
+pub mod StampSteps
+pub mod Opened

@@ -2,8 +2,10 @@
 use Rattle.std.specs.Prelude.{◌≡◌, ℕ, ◌<◌, ◌≤◌, length, get_or, All, Contains}
 use Rattle.clay_grid.specs.Shape.{stripe_length}
 use Rattle.store_core.specs.Directory.{Directory}
-use Rattle.store_core.specs.Sound.{IsSound}
 use Rattle.dir_parts.specs.Counts.{pins_by, points_due, objects_due}
+use Rattle.stripe_dir.specs.Sealed.{Sealed}
+use Rattle.stripe_dir.specs.ItsStripes.{IsWhole}
+use Rattle.stripe_dir.specs.Stamped.{HasStamps}
 use Rattle.stripe_dir.specs.declared.directory.Directory.TheInside.{Inside}
 
 abbrev pub directory_in : Inside → Directory
@@ -17,11 +19,15 @@ directory_in a =
       points = a.history.points;
     }
 
--- the lists are sound, the counts are those of the passes, and there is room for what passes may still add
+abbrev pub sealed_in : Inside → Sealed
+sealed_in a = record { core = directory_in a; book = a.opening; stamps = a.stamps.items }
+
+-- the lists are sound, the stamps are those of the versions, the counts are those of the passes, and there is room for what passes may still add
 pub record IsKept (a : Inside) : Type 0 where
   pub stripes : 0 < stripe_length a.geometry
   pub desk : a.passes.stripe ≡ stripe_length a.geometry
-  pub sound : IsSound (directory_in a)
+  pub whole : IsWhole (directory_in a)
+  pub stamps : HasStamps (sealed_in a)
   pub counted : length a.versions.pins ≡ length a.versions.listed
   pub pins : (version : ℕ) → get_or a.versions.pins version 0 ≡ pins_by version a.passes.listed
   pub named : All (λ pass. Contains a.history.names pass.note.name) a.passes.listed

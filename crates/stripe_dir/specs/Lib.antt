@@ -1,7 +1,13 @@
 pub mod Tokens
 pub mod Answers
+pub mod AnswerTokens
+pub mod AnswerStamps
 pub mod Kept
 pub mod Installed
 pub mod Stripes
 pub mod Begun
 pub mod Seats
+pub mod Sealed
+pub mod ItsStripes
+pub mod Stamped
+pub mod StampLaws

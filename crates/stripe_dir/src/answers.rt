@@ -1,11 +1,12 @@
 use crate::tokens::{Pass, Seat};
-use store_map::{Placement, Point, Reply, Version};
+use store_map::{Placement, Point, Reply};
+use version_seal::Stamp;
 
-/// A pinned stripe, with its version that is current now and how each server took that version's chunk.
+/// A pinned stripe, with the stamp of its version that is current now and how each server took that version's chunk.
 #[derive(Drop)]
 pub struct Seen {
     pub stripe: u32,
-    pub version: Version,
+    pub stamp: Stamp,
     pub placed: Vec<Placement>,
 }
 
@@ -41,7 +42,7 @@ pub enum RepairLook {
 
 /// What was drawn.
 pub enum Drawn {
-    Versions { pass: Pass, versions: Vec<Version> },
+    Versions { pass: Pass, stamps: Vec<Stamp> },
     Reaped { seat: Seat, at: Point },
 }
 

@@ -1,4 +1,4 @@
-ghost use Rattle.std.specs.Prelude.{◌≡◌, ◌<◌, true, None, Some, option_map, is_err, if◌then◌else◌};
+ghost use Rattle.std.specs.Prelude.{◌≡◌, ◌<◌, true, None, Some, option_map, IfOk, is_err, if◌then◌else◌};
 ghost use Rattle.store_core.specs.Note.{note_of};
 ghost use Rattle.store_core.specs.Act.{DirectoryStep};
 ghost use Rattle.store_core.specs.Lookups.{find_object, last_change};
@@ -6,10 +6,12 @@ ghost use Rattle.store_core.specs.Looks.{accept};
 ghost use Rattle.store_core.specs.Agreement.{AgreesWithSeat};
 ghost use Rattle.store_core.specs.Tokens.{MayLook, after_look};
 ghost use Rattle.store_core.specs.AtDirectory.{at_directory};
-ghost use Rattle.store_core.specs.Sound.{IsSound};
+ghost use Rattle.stripe_dir.specs.ItsStripes.{IsWhole};
 ghost use Rattle.dir_parts.specs.Parts.{object_or_new};
 ghost use Rattle.dir_parts.specs.Passes.{kind_in};
-ghost use Rattle.stripe_dir.specs.Answers.{told_look, token_look, told_or_short, token_or_seat};
+ghost use Rattle.stripe_dir.specs.Answers.{told_look, told_or_short};
+ghost use Rattle.stripe_dir.specs.AnswerTokens.{token_look, token_or_seat};
+ghost use Rattle.stripe_dir.specs.AnswerStamps.{AreSeenIn};
 ghost use Rattle.stripe_dir.specs.Begun.{base_by, begins_pass, has_point, or_short};
 
 use crate::answers::Look;
@@ -69,10 +71,13 @@ impl Directory {
         length: u64,
     ) -> Result<Look, Seat>
         requires goes_on { begins_pass note.kind ≡ true }
-        requires length { length ≡ (object_or_new note.name self.old.objects).length }
-        requires sound { IsSound (accept seat.actor number note self.old note.kind (object_or_new note.name self.old.objects)).0 }
-        ensures step { (self.new, told_or_short told_look result) ≡ or_short (is_err result) self.old (accept seat.actor number note self.old note.kind (object_or_new note.name self.old.objects)) }
+        requires length { length ≡ (object_or_new note.name self.old.core.objects).length }
+        requires whole { IsWhole (accept seat.actor number note self.old.core note.kind (object_or_new note.name self.old.core.objects)).0 }
+        ensures step { (self.new.core, told_or_short told_look result) ≡ or_short (is_err result) self.old.core (accept seat.actor number note self.old.core note.kind (object_or_new note.name self.old.core.objects)) }
         ensures token { token_or_seat token_look result ≡ after_look seat number note (told_or_short told_look result) }
+        ensures book { self.new.book ≡ self.old.book }
+        ensures stamps { self.new.stamps ≡ self.old.stamps }
+        ensures seen { IfOk result (AreSeenIn self.old.stamps) }
     {
         let kind = note.kind;
         let base = base_of(&self.history, &note);
@@ -113,10 +118,13 @@ impl Directory {
 
     // The look of a client's call, by what is kept of it.
     fn look_by(&mut self, seat: Seat, number: u32, note: CallNote) -> Result<Look, Seat>
-        requires agrees { AgreesWithSeat self.old seat }
+        requires agrees { AgreesWithSeat self.old.core seat }
         requires may { MayLook seat number (DirectoryStep.Look note) }
-        ensures step { (self.new, told_or_short told_look result) ≡ at_directory (is_err result) seat.actor number (DirectoryStep.Look note) self.old }
+        ensures step { (self.new.core, told_or_short told_look result) ≡ at_directory (is_err result) seat.actor number (DirectoryStep.Look note) self.old.core }
         ensures token { token_or_seat token_look result ≡ after_look seat number note (told_or_short told_look result) }
+        ensures book { self.new.book ≡ self.old.book }
+        ensures stamps { self.new.stamps ≡ self.old.stamps }
+        ensures seen { IfOk result (AreSeenIn self.old.stamps) }
     {
         let found = length_of(&self.objects, &note.name);
         if let Some(reply) = refusal(self.max, note.kind, note.offset, note.length, found) {
@@ -134,10 +142,13 @@ impl Directory {
     /// Begins a client's call under an unused number. Takes the memory for the end and the reap of the
     /// pass that it begins; where memory is wanting nothing changes.
     pub fn look(&mut self, seat: Seat, number: u32, call: &Call) -> Result<Look, Seat>
-        requires agrees { AgreesWithSeat self.old seat }
+        requires agrees { AgreesWithSeat self.old.core seat }
         requires may { MayLook seat number (DirectoryStep.Look (note_of call.now)) }
-        ensures step { (self.new, told_or_short told_look result) ≡ at_directory (is_err result) seat.actor number (DirectoryStep.Look (note_of call.now)) self.old }
+        ensures step { (self.new.core, told_or_short told_look result) ≡ at_directory (is_err result) seat.actor number (DirectoryStep.Look (note_of call.now)) self.old.core }
         ensures token { token_or_seat token_look result ≡ after_look seat number (note_of call.now) (told_or_short told_look result) }
+        ensures book { self.new.book ≡ self.old.book }
+        ensures stamps { self.new.stamps ≡ self.old.stamps }
+        ensures seen { IfOk result (AreSeenIn self.old.stamps) }
     {
         let Ok(note) = note_of(call) else {
             return Err(seat);

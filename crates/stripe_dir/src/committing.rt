@@ -9,7 +9,8 @@ ghost use Rattle.store_core.specs.Tokens.{MayGoOn, after_pass_step};
 ghost use Rattle.store_core.specs.AtDirectory.{at_directory};
 ghost use Rattle.dir_parts.specs.Parts.{object_or_new};
 ghost use Rattle.dir_parts.specs.Passes.{kind_in};
-ghost use Rattle.stripe_dir.specs.Answers.{told_committed, token_committed};
+ghost use Rattle.stripe_dir.specs.Answers.{told_committed};
+ghost use Rattle.stripe_dir.specs.AnswerTokens.{token_committed};
 ghost use Rattle.stripe_dir.specs.Installed.{installed, dropped, changed_by};
 
 use crate::answers::Committed;
@@ -74,8 +75,8 @@ fn install(
 impl Directory {
     // Where the actor's pass is a write whose object was changed since its look: its base, and the change.
     fn overtaken(&self, actor: Actor) -> Option<(u64, u64)>
-        requires { IsTrue (is_some (pass_of actor self.now)) }
-        ensures { IfSome (pass_of actor self.now) (λ pass. result ≡ changed_by pass (last_change pass.note.name self.now.points)) }
+        requires { IsTrue (is_some (pass_of actor self.now.core)) }
+        ensures { IfSome (pass_of actor self.now.core) (λ pass. result ≡ changed_by pass (last_change pass.note.name self.now.core.points)) }
     {
         match self.passes.find(actor) {
             Some(open) => {
@@ -92,12 +93,14 @@ impl Directory {
 
     // Commits what a pass has drawn that wasn't reaped, and whose object wasn't changed.
     fn finish(&mut self, pass: Pass, placed: Vec<Vec<Placement>>) -> Committed
-        requires agrees { AgreesWithPass self.old pass }
-        requires may { MayGoOn self.old pass (DirectoryStep.Commit (map (λ row. row.items) placed.items)) }
-        requires live { IfSome (pass_of pass.pass.actor self.old) (λ own. own.reaped ≡ None) }
-        requires still { IfSome (pass_of pass.pass.actor self.old) (λ own. changed_by own (last_change own.note.name self.old.points) ≡ None) }
-        ensures step { (self.new, told_committed result) ≡ at_directory false pass.pass.actor pass.pass.number (DirectoryStep.Commit (map (λ row. row.items) placed.items)) self.old }
+        requires agrees { AgreesWithPass self.old.core pass }
+        requires may { MayGoOn self.old.core pass (DirectoryStep.Commit (map (λ row. row.items) placed.items)) }
+        requires live { IfSome (pass_of pass.pass.actor self.old.core) (λ own. own.reaped ≡ None) }
+        requires still { IfSome (pass_of pass.pass.actor self.old.core) (λ own. changed_by own (last_change own.note.name self.old.core.points) ≡ None) }
+        ensures step { (self.new.core, told_committed result) ≡ at_directory false pass.pass.actor pass.pass.number (DirectoryStep.Commit (map (λ row. row.items) placed.items)) self.old.core }
         ensures token { token_committed result ≡ after_pass_step pass (told_committed result) }
+        ensures book { self.new.book ≡ self.old.book }
+        ensures stamps { self.new.stamps ≡ self.old.stamps }
     {
         let Pass {
             actor,
@@ -135,10 +138,12 @@ impl Directory {
 
     /// Commits what the pass has drawn, with a row of placements for each version.
     pub fn commit(&mut self, pass: Pass, placed: Vec<Vec<Placement>>) -> Committed
-        requires agrees { AgreesWithPass self.old pass }
-        requires may { MayGoOn self.old pass (DirectoryStep.Commit (map (λ row. row.items) placed.items)) }
-        ensures step { (self.new, told_committed result) ≡ at_directory false pass.pass.actor pass.pass.number (DirectoryStep.Commit (map (λ row. row.items) placed.items)) self.old }
+        requires agrees { AgreesWithPass self.old.core pass }
+        requires may { MayGoOn self.old.core pass (DirectoryStep.Commit (map (λ row. row.items) placed.items)) }
+        ensures step { (self.new.core, told_committed result) ≡ at_directory false pass.pass.actor pass.pass.number (DirectoryStep.Commit (map (λ row. row.items) placed.items)) self.old.core }
         ensures token { token_committed result ≡ after_pass_step pass (told_committed result) }
+        ensures book { self.new.book ≡ self.old.book }
+        ensures stamps { self.new.stamps ≡ self.old.stamps }
     {
         if let Some(point) = self.reap_of(pass.actor) {
             let seat = self.end_reaped(pass, point);

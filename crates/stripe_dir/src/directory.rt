@@ -2,8 +2,9 @@ use clay_grid::Geometry;
 use dir_parts::{History, Objects, Passes, Versions};
 use std::alloc::Global;
 use std::marker::Model;
+use version_seal::{Opening, Stamp};
 
-/// The objects, the versions of their stripes, the calls in work and the history.
+/// The objects, the versions of their stripes with their stamps, the calls in work and the history.
 #[derive(Drop)]
 pub struct Directory {
     pub(crate) alloc: Global,
@@ -13,16 +14,18 @@ pub struct Directory {
     pub(crate) versions: Versions,
     pub(crate) passes: Passes,
     pub(crate) history: History,
+    pub(crate) opening: Opening,
+    pub(crate) stamps: Vec<Stamp>,
 }
 
 impl Model for Directory {
-    ghost use Rattle.store_core.specs.Directory.{Directory as CoreDirectory};
+    ghost use Rattle.stripe_dir.specs.Sealed.{Sealed};
 
-    ghost Value = { CoreDirectory };
+    ghost Value = { Sealed };
 
-    ghost use Rattle.stripe_dir.specs.Kept.{directory_in, IsKept};
+    ghost use Rattle.stripe_dir.specs.Kept.{sealed_in, IsKept};
 
-    ghost view = { directory_in };
+    ghost view = { sealed_in };
 
     ghost invariant = { IsKept };
 }

@@ -1,4 +1,4 @@
-ghost use Rattle.std.specs.Prelude.{◌≡◌, ◌+◌, ◌<◌, ◌≤◌, ◌/◌, ◌^◌, ◌++◌, length, map, replicate, false, None, IfOk, OnOk, OnErr, IfSome, is_err, vec_capacity};
+ghost use Rattle.std.specs.Prelude.{◌≡◌, ◌+◌, ◌<◌, ◌≤◌, ◌/◌, ◌^◌, ◌++◌, length, map, replicate, option_map, false, None, IfOk, OnOk, OnErr, IfSome, is_err, vec_capacity};
 ghost use Rattle.std.specs.List.{range_with_len};
 ghost use Rattle.store_map.specs.Limits.{stripes_met};
 ghost use Rattle.store_core.specs.Note.{Kind as CoreKind};
@@ -8,21 +8,27 @@ ghost use Rattle.store_core.specs.Tokens.{MayGoOn, after_pass_step};
 ghost use Rattle.store_core.specs.AtDirectory.{at_directory};
 ghost use Rattle.dir_parts.specs.Passes.{kind_in};
 ghost use Rattle.dir_parts.specs.TableSteps.{drawn_version};
-ghost use Rattle.stripe_dir.specs.Answers.{told_drawn, token_drawn, told_or_short, token_or_pass};
+ghost use Rattle.stripe_dir.specs.Sealed.{stamps_touched, CanSeal};
+ghost use Rattle.stripe_dir.specs.Stamped.{AreOf, AreBases};
+ghost use Rattle.stripe_dir.specs.Answers.{told_drawn, told_or_short};
+ghost use Rattle.stripe_dir.specs.AnswerTokens.{token_drawn, token_or_pass};
+ghost use Rattle.stripe_dir.specs.AnswerStamps.{stamps_given, AreDrawn};
 
 use crate::answers::Drawn;
 use crate::directory::Directory;
+use crate::sealing::{Drawing, draw_stamps};
 use crate::stripes::met;
 use crate::tokens::Pass;
 use dir_parts::{Kind, OpenPass, Versions};
 use std::alloc::{AllocError, Global};
-use store_map::{Point, Version};
+use store_map::Point;
+use version_seal::{Book, Request, Stamp};
 
-// What a draw gives: the numbers for the pass, the same for the caller, and room for the object's versions.
+// What a draw gives: the numbers for the pass, their stamps, and room for the object's versions.
 #[derive(Drop)]
 struct Fresh {
     drawn: Vec<u64>,
-    versions: Vec<Version>,
+    stamps: Vec<Stamp>,
     memory: Vec<u64>,
 }
 
@@ -38,18 +44,6 @@ fn numbers(alloc: Global, first: u64, count: u32) -> Result<Vec<u64>, AllocError
     Ok(numbers)
 }
 
-// The same as versions.
-fn versions_from(alloc: Global, first: u64, count: u32) -> Result<Vec<Version>, AllocError>
-    requires { first + count ≤ 2 ^ 64 }
-    ensures { IfOk result (λ versions. map (λ version. version.0) versions.items ≡ range_with_len first count) }
-{
-    let mut versions = Vec::with_capacity(alloc, count as usize)?;
-    for i in 0..count {
-        versions.push_reserved(Version(first + u64::from(i)));
-    }
-    Ok(versions)
-}
-
 // Room for an object's versions up to the last that a write draws; none for other calls.
 fn room_for(alloc: Global, kind: Kind, first: u32, count: u32) -> Result<Vec<u64>, AllocError>
     ensures { IfOk result (λ memory. kind_in kind ≡ CoreKind.Write → first + count ≤ vec_capacity memory) }
@@ -60,15 +54,29 @@ fn room_for(alloc: Global, kind: Kind, first: u32, count: u32) -> Result<Vec<u64
     }
 }
 
-// A new version for each stripe that the pass's call touches.
-fn draw_fresh(versions: &mut Versions, pass: &OpenPass, stripe: u32) -> Result<Fresh, AllocError>
-    requires { 0 < stripe }
+// A new version for each stripe that the pass's call touches, with its stamp. Takes all memory before it
+// seals; where that is wanting nothing is drawn.
+fn draw_fresh(
+    versions: &mut Versions,
+    stamps: &mut Vec<Stamp>,
+    pass: &OpenPass,
+    stripe: u32,
+    book: &Book,
+    request: Option<&Request>,
+) -> Result<Fresh, AllocError>
+    requires stripe { 0 < stripe }
+    requires call { CanSeal book.now pass.now.pass (option_map (λ r. r.now) request) }
+    requires stamps { AreOf book.now stamps.old.items }
+    requires bases { AreBases stamps.old.items pass.now.pass.pinned }
     ensures listed { OnOk result (versions.new.listed ≡ versions.old.listed ++ map (drawn_version pass.now.pass.actor pass.now.pass.number pass.now.pass.pinned) (range_with_len (pass.now.pass.note.offset / stripe) (stripes_met stripe pass.now.pass.note.offset pass.now.pass.note.length))) }
     ensures pins { OnOk result (versions.new.pins ≡ versions.old.pins ++ replicate (stripes_met stripe pass.now.pass.note.offset pass.now.pass.note.length) 0) }
     ensures drawn { IfOk result (λ fresh. fresh.drawn.items ≡ range_with_len (length versions.old.listed) (stripes_met stripe pass.now.pass.note.offset pass.now.pass.note.length)) }
-    ensures told { IfOk result (λ fresh. map (λ version. version.0) fresh.versions.items ≡ range_with_len (length versions.old.listed) (stripes_met stripe pass.now.pass.note.offset pass.now.pass.note.length)) }
+    ensures told { IfOk result (λ fresh. fresh.stamps.items ≡ stamps_touched book.now stamps.old.items stripe pass.now.pass (option_map (λ r. r.now) request.entry)) }
+    ensures stamps { OnOk result (stamps.new.items ≡ stamps.old.items ++ stamps_touched book.now stamps.old.items stripe pass.now.pass (option_map (λ r. r.now) request.entry)) }
     ensures memory { IfOk result (λ fresh. pass.now.pass.note.kind ≡ CoreKind.Write → pass.now.pass.note.offset / stripe + stripes_met stripe pass.now.pass.note.offset pass.now.pass.note.length ≤ vec_capacity fresh.memory) }
-    ensures err { OnErr result (versions.new ≡ versions.old) }
+    ensures err_listed { OnErr result (versions.new.listed ≡ versions.old.listed) }
+    ensures err_pins { OnErr result (versions.new.pins ≡ versions.old.pins) }
+    ensures err_stamps { OnErr result (stamps.new.items ≡ stamps.old.items) }
 {
     let alloc = *pass.drawn.allocator();
     let note = &pass.note;
@@ -82,24 +90,44 @@ fn draw_fresh(versions: &mut Versions, pass: &OpenPass, stripe: u32) -> Result<F
         return Err(AllocError);
     }
     let drawn = numbers(alloc, from, count)?;
-    let told = versions_from(alloc, from, count)?;
     let memory = room_for(alloc, note.kind, first, count)?;
-    versions.draw(pass.actor, pass.number, &pass.pinned, first, count)?;
+    versions.reserve(count)?;
+    let drawing = Drawing {
+        book,
+        pass,
+        first,
+        count,
+        request,
+    };
+    let fresh = draw_stamps(stamps, &drawing)?;
+    versions.draw(pass.actor, pass.number, &pass.pinned, first, count);
     Ok(Fresh {
         drawn,
-        versions: told,
+        stamps: fresh,
         memory,
     })
 }
 
 impl Directory {
     /// A new version for each stripe that the put or the write touches, rising. Takes all memory that
-    /// the later steps on the pass need.
-    pub fn draw(&mut self, pass: Pass) -> Result<Drawn, Pass>
-        requires agrees { AgreesWithPass self.old pass }
-        requires may { MayGoOn self.old pass DirectoryStep.Draw }
-        ensures step { (self.new, told_or_short told_drawn result) ≡ at_directory (is_err result) pass.pass.actor pass.pass.number DirectoryStep.Draw self.old }
+    /// the later steps on the pass need, and seals the versions then. In a book without a script it
+    /// wants the call's request. A number that was sealed in this book by another than the directory is
+    /// answered as want of memory.
+    pub fn draw(
+        &mut self,
+        pass: Pass,
+        book: &Book,
+        request: Option<&Request>,
+    ) -> Result<Drawn, Pass>
+        requires agrees { AgreesWithPass self.old.core pass }
+        requires may { MayGoOn self.old.core pass DirectoryStep.Draw }
+        requires book { book.now ≡ self.old.book }
+        requires call { CanSeal self.old.book pass.pass (option_map (λ r. r.now) request) }
+        ensures step { (self.new.core, told_or_short told_drawn result) ≡ at_directory (is_err result) pass.pass.actor pass.pass.number DirectoryStep.Draw self.old.core }
         ensures token { token_or_pass token_drawn result ≡ after_pass_step pass (told_or_short told_drawn result) }
+        ensures book { self.new.book ≡ self.old.book }
+        ensures stamps { self.new.stamps ≡ self.old.stamps ++ stamps_given result }
+        ensures drawn { AreDrawn self.old pass.pass (option_map (λ r. r.now) request.entry) result }
     {
         if let Some(point) = self.reap_of(pass.actor) {
             let seat = self.end_reaped(pass, point);
@@ -112,12 +140,19 @@ impl Directory {
         let Some(open) = self.passes.find(pass.actor) else {
             unreachable!()
         };
-        let Ok(fresh) = draw_fresh(&mut self.versions, open, stripe) else {
+        let Ok(fresh) = draw_fresh(
+            &mut self.versions,
+            &mut self.stamps,
+            open,
+            stripe,
+            book,
+            request,
+        ) else {
             return Err(pass);
         };
         let Fresh {
             drawn,
-            versions,
+            stamps,
             memory,
         } = fresh;
         let Pass {
@@ -128,7 +163,7 @@ impl Directory {
         let entry = self.passes.draw(actor, drawn, memory);
         Ok(Drawn::Versions {
             pass: Pass { actor, told, entry },
-            versions,
+            stamps,
         })
     }
 }

@@ -5,11 +5,14 @@ ghost use Rattle.store_map.specs.declared.reply.Reply.TheVariants as CoreReply;
 ghost use Rattle.store_core.specs.Told.{Told};
 ghost use Rattle.store_core.specs.Looks.{answer};
 ghost use Rattle.store_core.specs.Tokens.{after_look};
-ghost use Rattle.store_core.specs.Sound.{IsSound};
 ghost use Rattle.store_core.specs.SoundPasses.{Stands};
 ghost use Rattle.dir_parts.specs.Events.{reply_in};
 ghost use Rattle.dir_parts.specs.Parts.{object_or_new};
-ghost use Rattle.stripe_dir.specs.Answers.{seen_in, told_look, token_look, told_or_short, token_or_seat};
+ghost use Rattle.stripe_dir.specs.Answers.{seen_in, told_look, told_or_short};
+ghost use Rattle.stripe_dir.specs.AnswerTokens.{token_look, token_or_seat};
+ghost use Rattle.stripe_dir.specs.AnswerStamps.{AreSeenIn, IsSeenIn};
+ghost use Rattle.std.specs.List.{range_with_len};
+ghost use Rattle.stripe_dir.specs.ItsStripes.{IsWhole};
 ghost use Rattle.stripe_dir.specs.Stripes.{seen_by, pin_by};
 ghost use Rattle.stripe_dir.specs.Begun.{begun_in, begun_pass, deleted, seen_in_object, or_short};
 
@@ -22,6 +25,7 @@ use dir_parts::{Answer, CallNote, Event, Objects, OpenPass, Versions};
 use std::alloc::{AllocError, Global};
 use std::snapshot::Snapshot;
 use store_map::{Actor, Name, Point};
+use version_seal::Stamp;
 
 /// A pass that has begun, and what its look saw.
 #[derive(Drop)]
@@ -34,17 +38,21 @@ pub(crate) struct Begun {
 fn see_object(
     alloc: Global,
     versions: &Versions,
+    stamps: &[Stamp],
     objects: &Objects,
     name: &Name,
     stripes: &[u32],
 ) -> Result<Sight, AllocError>
-    requires { All (λ stripe. get_or (object_or_new name.now objects.now.objects).versions stripe 0 < length versions.now.listed) stripes.now }
+    requires stamped { length stamps.now ≡ length versions.now.listed }
+    requires numbered { map (λ stamp. stamp.version) stamps.now ≡ range_with_len 0 (length stamps.now) }
+    requires there { All (λ stripe. get_or (object_or_new name.now objects.now.objects).versions stripe 0 < length versions.now.listed) stripes.now }
     ensures seen { IfOk result (λ sight. map seen_in sight.seen.items ≡ map (seen_by versions.now.listed (object_or_new name.now objects.now.objects).versions) stripes.now) }
     ensures pinned { IfOk result (λ sight. sight.pinned.items ≡ map (pin_by (object_or_new name.now objects.now.objects).versions) stripes.now) }
+    ensures stamps { IfOk result (λ sight. All (IsSeenIn stamps.now) sight.seen.items) }
 {
     match objects.find(name) {
-        Some(contents) => see(alloc, versions, &contents.versions, stripes),
-        None => see(alloc, versions, &[], stripes),
+        Some(contents) => see(alloc, versions, stamps, &contents.versions, stripes),
+        None => see(alloc, versions, stamps, &[], stripes),
     }
 }
 
@@ -72,12 +80,15 @@ impl Directory {
         stripes: &[u32],
         base: Option<u64>,
     ) -> Result<Begun, AllocError>
-        requires stands { All (λ stripe. Stands self.old Standing.Current (get_or (object_or_new note.name self.old.objects).versions stripe 0)) stripes.now }
-        requires sound { IsSound (begun_in actor number note stripes.now base self.old) }
-        ensures after { OnOk result (self.new ≡ begun_in actor number note stripes.now base self.old) }
-        ensures entry { IfOk result (λ begun. begun.entry.value.pass ≡ begun_pass actor number note (seen_in_object self.old note stripes.now) base) }
-        ensures seen { IfOk result (λ begun. map seen_in begun.seen.items ≡ seen_in_object self.old note stripes.now) }
-        ensures err { OnErr result (self.new ≡ self.old) }
+        requires stands { All (λ stripe. Stands self.old.core Standing.Current (get_or (object_or_new note.name self.old.core.objects).versions stripe 0)) stripes.now }
+        requires whole { IsWhole (begun_in actor number note stripes.now base self.old.core) }
+        ensures after { OnOk result (self.new.core ≡ begun_in actor number note stripes.now base self.old.core) }
+        ensures entry { IfOk result (λ begun. begun.entry.value.pass ≡ begun_pass actor number note (seen_in_object self.old.core note stripes.now) base) }
+        ensures seen { IfOk result (λ begun. map seen_in begun.seen.items ≡ seen_in_object self.old.core note stripes.now) }
+        ensures told { IfOk result (λ begun. All (IsSeenIn self.old.stamps) begun.seen.items) }
+        ensures err { OnErr result (self.new.core ≡ self.old.core) }
+        ensures book { self.new.book ≡ self.old.book }
+        ensures stamps { self.new.stamps ≡ self.old.stamps }
     {
         make_room(
             &mut self.history,
@@ -89,6 +100,7 @@ impl Directory {
         let Sight { seen, pinned } = see_object(
             alloc,
             &self.versions,
+            &self.stamps,
             &self.objects,
             &note.name,
             stripes,
@@ -119,9 +131,12 @@ impl Directory {
         note: CallNote,
         reply: Answer,
     ) -> Result<Look, Seat>
-        requires sound { IsSound (append_point seat.actor number note (CoreEvent.Answer (reply_in reply)) self.old) }
-        ensures step { (self.new, told_or_short told_look result) ≡ or_short (is_err result) self.old (answer seat.actor number note self.old (reply_in reply) self.old) }
+        requires whole { IsWhole (append_point seat.actor number note (CoreEvent.Answer (reply_in reply)) self.old.core) }
+        ensures step { (self.new.core, told_or_short told_look result) ≡ or_short (is_err result) self.old.core (answer seat.actor number note self.old.core (reply_in reply) self.old.core) }
         ensures token { token_or_seat token_look result ≡ after_look seat number note (told_or_short told_look result) }
+        ensures book { self.new.book ≡ self.old.book }
+        ensures stamps { self.new.stamps ≡ self.old.stamps }
+        ensures seen { IfOk result (AreSeenIn self.old.stamps) }
     {
         if make_room(
             &mut self.history,
@@ -157,11 +172,15 @@ impl Directory {
             reply: reply.reply(),
         })
     }
+
     // Ends a delete at its look: its object goes. Where memory is wanting nothing changes.
     pub(crate) fn delete(&mut self, seat: Seat, number: u32, note: CallNote) -> Result<Look, Seat>
-        requires sound { IsSound (deleted seat.actor number note self.old) }
-        ensures step { (self.new, told_or_short told_look result) ≡ or_short (is_err result) self.old (deleted seat.actor number note self.old, Told.Answer (length self.old.points) CoreReply.Done) }
+        requires whole { IsWhole (deleted seat.actor number note self.old.core) }
+        ensures step { (self.new.core, told_or_short told_look result) ≡ or_short (is_err result) self.old.core (deleted seat.actor number note self.old.core, Told.Answer (length self.old.core.points) CoreReply.Done) }
         ensures token { token_or_seat token_look result ≡ after_look seat number note (told_or_short told_look result) }
+        ensures book { self.new.book ≡ self.old.book }
+        ensures stamps { self.new.stamps ≡ self.old.stamps }
+        ensures seen { IfOk result (AreSeenIn self.old.stamps) }
     {
         if make_room(
             &mut self.history,

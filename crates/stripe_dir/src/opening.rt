@@ -1,9 +1,11 @@
-ghost use Rattle.std.specs.Prelude.{◌≡◌, ◌+◌, ◌≤◌, ◌<◌, ◌++◌, vec_len, vec_capacity, map, length, option_map, slice_get, nat_lt, IfOk};
+ghost use Rattle.std.specs.Prelude.{◌≡◌, ◌+◌, ◌≤◌, ◌<◌, ◌++◌, [], vec_len, vec_capacity, map, length, option_map, slice_get, nat_lt, IfOk};
 ghost use Rattle.std.specs.List.{range_with_len};
 ghost use Rattle.dir_parts.specs.Book.{told_of};
 ghost use Rattle.dir_parts.specs.Parts.{object_of};
 ghost use Rattle.store_core.specs.Directory.{new_directory};
 ghost use Rattle.stripe_dir.specs.Seats.{client_seat, repairer_seat};
+ghost use Rattle.stripe_dir.specs.ItsStripes.{IsWhole};
+ghost use Rattle.stripe_dir.specs.Stamped.{HasStamps};
 
 use crate::directory::Directory;
 use crate::tokens::Seat;
@@ -11,6 +13,7 @@ use clay_grid::Geometry;
 use dir_parts::{Contents, History, Objects, Passes, PointEntry, Versions};
 use std::alloc::{AllocError, Global};
 use store_map::{Actor, Name, Version};
+use version_seal::{Opening, Stamp};
 
 // So many clients' seats, then so many repairers'.
 fn seats(alloc: Global, clients: u32, repairers: u32) -> Result<Vec<Seat>, AllocError>
@@ -53,19 +56,20 @@ fn add_repairers(seats: &mut Vec<Seat>, count: u32)
 }
 
 impl Directory {
-    /// A directory without objects, whose objects may have `max` bytes each, and the seats of its
-    /// clients, then of its repairers.
+    /// A directory without objects, of a book's versions, whose objects may have `max` bytes each, and the
+    /// seats of its clients, then of its repairers.
     pub fn new(
         alloc: Global,
-        geometry: Geometry,
+        opening: Opening,
         max: u32,
         clients: u32,
         repairers: u32,
     ) -> Result<(Directory, Vec<Seat>), AllocError>
-        ensures directory { IfOk result (λ made. made.0 ≡ new_directory geometry max) }
+        ensures directory { IfOk result (λ made. made.0 ≡ record { core = new_directory opening.geometry max; book = opening; stamps = [] }) }
         ensures seats { IfOk result (λ made. made.1.items ≡ map client_seat (range_with_len 0 clients) ++ map repairer_seat (range_with_len 0 repairers)) }
     {
         let seats = seats(alloc, clients, repairers)?;
+        let geometry = opening.geometry();
         let stripe = geometry.stripe_len();
         let directory = Directory {
             alloc,
@@ -75,48 +79,65 @@ impl Directory {
             versions: Versions::new(alloc),
             passes: Passes::new(alloc, stripe),
             history: History::new(alloc),
+            opening,
+            stamps: Vec::new(alloc),
         };
         Ok((directory, seats))
     }
 
     /// The code of the stripes.
     pub fn geometry(&self) -> Geometry
-        ensures { result ≡ self.now.shape }
+        ensures { result ≡ self.now.core.shape }
     {
         self.geometry
     }
 
     /// How many objects there are.
     pub fn objects(&self) -> usize
-        ensures { result ≡ length self.now.objects }
+        ensures { result ≡ length self.now.core.objects }
     {
         self.objects.len()
     }
 
     /// The object at this place in the order of creation: its name, its length and its versions.
     pub fn object_at(&self, place: usize) -> Option<(&Name, &Contents)>
-        ensures { option_map (λ p. object_of p.0.now p.1.now) result ≡ slice_get self.now.objects place }
+        ensures { option_map (λ p. object_of p.0.now p.1.now) result ≡ slice_get self.now.core.objects place }
     {
         self.objects.get(place)
     }
 
     /// How many points the history has.
     pub fn points(&self) -> usize
-        ensures { result ≡ length self.now.points }
+        ensures { result ≡ length self.now.core.points }
     {
         self.history.len()
     }
 
     /// The point of the history with this number.
     pub fn point_at(&self, point: usize) -> Option<PointEntry>
-        ensures { option_map told_of result ≡ option_map (λ entry. (entry.actor, entry.number, entry.event)) (slice_get self.now.points point) }
+        ensures { option_map told_of result ≡ option_map (λ entry. (entry.actor, entry.number, entry.event)) (slice_get self.now.core.points point) }
     {
         self.history.get(point)
     }
 
+    /// The stamp of a version that the directory has drawn.
+    pub fn stamp(&self, version: Version) -> Option<&Stamp>
+        ensures { option_map (λ stamp. stamp.now) result ≡ slice_get self.now.stamps version.0 }
+    {
+        self.stamps.get(version.0 as usize)
+    }
+
+    /// What every directory keeps. It does nothing when it runs.
+    pub fn keeps(&self)
+        ensures whole { IsWhole self.now.core }
+        ensures stamps { HasStamps self.now }
+    {
+        let _ = &self.alloc;
+    }
+
     /// Whether the directory has drawn the version.
     pub fn knows(&self, version: Version) -> bool
-        ensures { result ≡ nat_lt version.0 (length self.now.versions) }
+        ensures { result ≡ nat_lt version.0 (length self.now.core.versions) }
     {
         version.0 < self.versions.len() as u64
     }

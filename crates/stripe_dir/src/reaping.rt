@@ -42,7 +42,9 @@ impl Directory {
     /// Gives up the actor's pass, where it has one that isn't reaped. The pass stays until its actor's
     /// next step at the directory.
     pub fn reap(&mut self, actor: Actor) -> Option<Point>
-        ensures { (who : CoreActor) → (number : ℕ) → (self.new, Told.GivenUp (option_map (λ point. point.0) result)) ≡ at_directory false who number (DirectoryStep.Reap actor) self.old }
+        ensures step { (who : CoreActor) → (number : ℕ) → (self.new.core, Told.GivenUp (option_map (λ point. point.0) result)) ≡ at_directory false who number (DirectoryStep.Reap actor) self.old.core }
+        ensures book { self.new.book ≡ self.old.book }
+        ensures stamps { self.new.stamps ≡ self.old.stamps }
     {
         let open = self.passes.find(actor)?;
         if open.reaped.is_some() {

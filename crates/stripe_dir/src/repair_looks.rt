@@ -6,7 +6,9 @@ ghost use Rattle.store_core.specs.Tokens.{MayLook, after_look};
 ghost use Rattle.store_core.specs.AtDirectory.{at_directory};
 ghost use Rattle.dir_parts.specs.Parts.{object_or_new};
 ghost use Rattle.std.specs.Prelude.{length};
-ghost use Rattle.stripe_dir.specs.Answers.{told_repair_look, token_repair_look, told_or_short, token_or_seat};
+ghost use Rattle.stripe_dir.specs.Answers.{told_repair_look, told_or_short};
+ghost use Rattle.stripe_dir.specs.AnswerTokens.{token_repair_look, token_or_seat};
+ghost use Rattle.stripe_dir.specs.AnswerStamps.{IsSeenByRepair};
 
 use crate::answers::RepairLook;
 use crate::directory::Directory;
@@ -35,10 +37,13 @@ impl Directory {
         name: &Name,
         stripe: u32,
     ) -> Result<RepairLook, Seat>
-        requires agrees { AgreesWithSeat self.old seat }
+        requires agrees { AgreesWithSeat self.old.core seat }
         requires may { MayLook seat number (DirectoryStep.LookRepair (record { kind = CoreKind.Rebuild; name = name.now; offset = stripe; length = 0 })) }
-        ensures step { (self.new, told_or_short told_repair_look result) ≡ at_directory (is_err result) seat.actor number (DirectoryStep.LookRepair (record { kind = CoreKind.Rebuild; name = name.now; offset = stripe; length = 0 })) self.old }
+        ensures step { (self.new.core, told_or_short told_repair_look result) ≡ at_directory (is_err result) seat.actor number (DirectoryStep.LookRepair (record { kind = CoreKind.Rebuild; name = name.now; offset = stripe; length = 0 })) self.old.core }
         ensures token { token_or_seat token_repair_look result ≡ after_look seat number (record { kind = CoreKind.Rebuild; name = name.now; offset = stripe; length = 0 }) (told_or_short told_repair_look result) }
+        ensures book { self.new.book ≡ self.old.book }
+        ensures stamps { self.new.stamps ≡ self.old.stamps }
+        ensures seen { IfOk result (IsSeenByRepair self.old.stamps) }
     {
         if stripe as usize >= stripes_of(&self.objects, name) {
             return Ok(RepairLook::NoSuch { seat });

@@ -7,7 +7,8 @@ ghost use Rattle.store_core.specs.Lookups.{pass_of, last_change, is_current, hol
 ghost use Rattle.store_core.specs.Agreement.{AgreesWithPass};
 ghost use Rattle.store_core.specs.Tokens.{MayGoOn, after_pass_step};
 ghost use Rattle.store_core.specs.AtDirectory.{at_directory, on_pass};
-ghost use Rattle.stripe_dir.specs.Answers.{told_ended, token_ended, told_confirmed, token_confirmed};
+ghost use Rattle.stripe_dir.specs.Answers.{told_ended, told_confirmed};
+ghost use Rattle.stripe_dir.specs.AnswerTokens.{token_ended, token_confirmed};
 
 use crate::answers::{Confirmed, Ended};
 use crate::directory::Directory;
@@ -63,8 +64,8 @@ fn are_current(versions: &Versions, pins: &[Pinned]) -> bool
 impl Directory {
     // Where the actor's pass was reaped, if it was.
     pub(crate) fn reap_of(&self, actor: Actor) -> Option<u64>
-        requires { IsTrue (is_some (pass_of actor self.now)) }
-        ensures { IfSome (pass_of actor self.now) (λ pass. result ≡ pass.reaped) }
+        requires { IsTrue (is_some (pass_of actor self.now.core)) }
+        ensures { IfSome (pass_of actor self.now.core) (λ pass. result ≡ pass.reaped) }
     {
         match self.passes.find(actor) {
             Some(open) => open.reaped,
@@ -74,10 +75,12 @@ impl Directory {
 
     // Ends a pass that was reaped, in place of any step on it.
     pub(crate) fn end_reaped(&mut self, pass: Pass, point: u64) -> Seat
-        requires agrees { AgreesWithPass self.old pass }
-        requires reaped { IfSome (pass_of pass.pass.actor self.old) (λ own. own.reaped ≡ Some point) }
-        ensures step { (step : CorePass → CoreDirectory → CoreDirectory × Told) → (self.new, Told.Reaped point) ≡ on_pass step (pass_of pass.pass.actor self.old) self.old }
+        requires agrees { AgreesWithPass self.old.core pass }
+        requires reaped { IfSome (pass_of pass.pass.actor self.old.core) (λ own. own.reaped ≡ Some point) }
+        ensures step { (step : CorePass → CoreDirectory → CoreDirectory × Told) → (self.new.core, Told.Reaped point) ≡ on_pass step (pass_of pass.pass.actor self.old.core) self.old.core }
         ensures seat { result ≡ record { actor = pass.pass.actor; unused = pass.pass.number + 1; told = Some point } }
+        ensures book { self.new.book ≡ self.old.book }
+        ensures stamps { self.new.stamps ≡ self.old.stamps }
     {
         let Pass {
             actor,
@@ -90,10 +93,12 @@ impl Directory {
 
     // Gives up a pass that wasn't reaped, with its pins and what it drew.
     pub(crate) fn end_live(&mut self, pass: Pass) -> Seat
-        requires agrees { AgreesWithPass self.old pass }
-        requires live { IfSome (pass_of pass.pass.actor self.old) (λ own. own.reaped ≡ None) }
-        ensures step { (self.new, Told.Ended) ≡ at_directory false pass.pass.actor pass.pass.number DirectoryStep.End self.old }
+        requires agrees { AgreesWithPass self.old.core pass }
+        requires live { IfSome (pass_of pass.pass.actor self.old.core) (λ own. own.reaped ≡ None) }
+        ensures step { (self.new.core, Told.Ended) ≡ at_directory false pass.pass.actor pass.pass.number DirectoryStep.End self.old.core }
         ensures seat { result ≡ record { actor = pass.pass.actor; unused = pass.pass.number + 1; told = pass.told } }
+        ensures book { self.new.book ≡ self.old.book }
+        ensures stamps { self.new.stamps ≡ self.old.stamps }
     {
         let Pass {
             actor,
@@ -108,9 +113,11 @@ impl Directory {
 
     /// Gives up the pass, with its pins and what it drew.
     pub fn end(&mut self, pass: Pass) -> Ended
-        requires agrees { AgreesWithPass self.old pass }
-        ensures step { (self.new, told_ended result) ≡ at_directory false pass.pass.actor pass.pass.number DirectoryStep.End self.old }
+        requires agrees { AgreesWithPass self.old.core pass }
+        ensures step { (self.new.core, told_ended result) ≡ at_directory false pass.pass.actor pass.pass.number DirectoryStep.End self.old.core }
         ensures token { token_ended result ≡ after_pass_step pass (told_ended result) }
+        ensures book { self.new.book ≡ self.old.book }
+        ensures stamps { self.new.stamps ≡ self.old.stamps }
     {
         if let Some(point) = self.reap_of(pass.actor) {
             let seat = self.end_reaped(pass, point);
@@ -126,10 +133,12 @@ impl Directory {
 
     /// Whether the pinned version of a rebuild is current still. Where it isn't, the pass ends.
     pub fn confirm(&mut self, pass: Pass) -> Confirmed
-        requires agrees { AgreesWithPass self.old pass }
-        requires may { MayGoOn self.old pass DirectoryStep.Confirm }
-        ensures step { (self.new, told_confirmed result) ≡ at_directory false pass.pass.actor pass.pass.number DirectoryStep.Confirm self.old }
+        requires agrees { AgreesWithPass self.old.core pass }
+        requires may { MayGoOn self.old.core pass DirectoryStep.Confirm }
+        ensures step { (self.new.core, told_confirmed result) ≡ at_directory false pass.pass.actor pass.pass.number DirectoryStep.Confirm self.old.core }
         ensures token { token_confirmed result ≡ after_pass_step pass (told_confirmed result) }
+        ensures book { self.new.book ≡ self.old.book }
+        ensures stamps { self.new.stamps ≡ self.old.stamps }
     {
         if let Some(point) = self.reap_of(pass.actor) {
             let seat = self.end_reaped(pass, point);
@@ -157,10 +166,12 @@ impl Directory {
 
     /// The chunk of a rebuild's pinned version was placed anew at a server, at this epoch.
     pub fn repaired(&mut self, pass: Pass, server: u32, epoch: u64) -> Ended
-        requires agrees { AgreesWithPass self.old pass }
-        requires may { MayGoOn self.old pass (DirectoryStep.Repaired server epoch) }
-        ensures step { (self.new, told_ended result) ≡ at_directory false pass.pass.actor pass.pass.number (DirectoryStep.Repaired server epoch) self.old }
+        requires agrees { AgreesWithPass self.old.core pass }
+        requires may { MayGoOn self.old.core pass (DirectoryStep.Repaired server epoch) }
+        ensures step { (self.new.core, told_ended result) ≡ at_directory false pass.pass.actor pass.pass.number (DirectoryStep.Repaired server epoch) self.old.core }
         ensures token { token_ended result ≡ after_pass_step pass (told_ended result) }
+        ensures book { self.new.book ≡ self.old.book }
+        ensures stamps { self.new.stamps ≡ self.old.stamps }
     {
         if let Some(point) = self.reap_of(pass.actor) {
             let seat = self.end_reaped(pass, point);
@@ -184,8 +195,8 @@ impl Directory {
 
     // Whether the versions that the actor's pass pins are current.
     fn has_current_pins(&self, actor: Actor) -> bool
-        requires { IsTrue (is_some (pass_of actor self.now)) }
-        ensures { IfSome (pass_of actor self.now) (λ pass. result ≡ list_all (λ pin. is_current self.now pin.version) pass.pinned) }
+        requires { IsTrue (is_some (pass_of actor self.now.core)) }
+        ensures { IfSome (pass_of actor self.now.core) (λ pass. result ≡ list_all (λ pin. is_current self.now.core pin.version) pass.pinned) }
     {
         match self.passes.find(actor) {
             Some(open) => are_current(&self.versions, &open.pinned),

@@ -4,12 +4,14 @@ ghost use Rattle.store_map.specs.Limits.{stripes_met};
 ghost use Rattle.store_core.specs.Note.{Kind as CoreKind};
 ghost use Rattle.dir_parts.specs.Passes.{kind_in};
 ghost use Rattle.stripe_dir.specs.Answers.{seen_in};
+ghost use Rattle.stripe_dir.specs.AnswerStamps.{IsSeenIn};
 ghost use Rattle.stripe_dir.specs.Stripes.{keeps, seen_by, pin_by, read_to, pinned_of};
 
 use crate::answers::Seen;
+use crate::sealing::copy_of;
 use dir_parts::{Kind, Pinned, Versions};
 use std::alloc::{AllocError, Global};
-use store_map::Version;
+use version_seal::Stamp;
 
 /// How many stripes meet so many bytes from a first one on. Numbers that don't fit count as want of
 /// memory here and below: no object is so long.
@@ -121,11 +123,15 @@ pub(crate) struct Sight {
 fn see_one(
     alloc: Global,
     versions: &Versions,
+    stamps: &[Stamp],
     held: &[u64],
     stripe: u32,
 ) -> Result<Seen, AllocError>
-    requires { get_or held.now stripe 0 < length versions.now.listed }
-    ensures { IfOk result (λ seen. seen_in seen ≡ seen_by versions.now.listed held.now stripe) }
+    requires there { get_or held.now stripe 0 < length versions.now.listed }
+    requires stamped { length stamps.now ≡ length versions.now.listed }
+    requires numbered { map (λ stamp. stamp.version) stamps.now ≡ range_with_len 0 (length stamps.now) }
+    ensures seen { IfOk result (λ seen. seen_in seen ≡ seen_by versions.now.listed held.now stripe) }
+    ensures stamp { IfOk result (IsSeenIn stamps.now) }
 {
     let version = match held.get(stripe as usize) {
         Some(version) => *version,
@@ -134,7 +140,7 @@ fn see_one(
     let placed = versions.placed(alloc, version)?;
     Ok(Seen {
         stripe,
-        version: Version(version),
+        stamp: copy_of(stamps, version),
         placed,
     })
 }
@@ -143,18 +149,22 @@ fn see_one(
 pub(crate) fn see(
     alloc: Global,
     versions: &Versions,
+    stamps: &[Stamp],
     held: &[u64],
     stripes: &[u32],
 ) -> Result<Sight, AllocError>
-    requires { All (λ stripe. get_or held.now stripe 0 < length versions.now.listed) stripes.now }
+    requires stamped { length stamps.now ≡ length versions.now.listed }
+    requires numbered { map (λ stamp. stamp.version) stamps.now ≡ range_with_len 0 (length stamps.now) }
+    requires there { All (λ stripe. get_or held.now stripe 0 < length versions.now.listed) stripes.now }
     ensures seen { IfOk result (λ sight. map seen_in sight.seen.items ≡ map (seen_by versions.now.listed held.now) stripes.now) }
     ensures pinned { IfOk result (λ sight. sight.pinned.items ≡ map (pin_by held.now) stripes.now) }
+    ensures stamps { IfOk result (λ sight. All (IsSeenIn stamps.now) sight.seen.items) }
 {
     let mut seen = Vec::with_capacity(alloc, stripes.len())?;
     let mut pinned = Vec::with_capacity(alloc, stripes.len())?;
     for stripe in stripes {
-        let one = see_one(alloc, versions, held, *stripe)?;
-        let version = one.version.0;
+        let one = see_one(alloc, versions, stamps, held, *stripe)?;
+        let version = one.stamp.version().0;
         pinned.push(Pinned {
             stripe: *stripe,
             version,

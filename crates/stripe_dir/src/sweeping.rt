@@ -6,13 +6,14 @@ ghost use Rattle.store_core.specs.AtDirectory.{at_directory};
 ghost use Rattle.store_core.specs.Lookups.{first_garbage};
 
 use crate::directory::Directory;
-use dir_parts::{CallNote, Event, History};
-use store_map::{Actor, Point, Version};
+use store_map::Version;
 
 impl Directory {
     /// Takes the least version that is superseded and that no pass pins which isn't reaped.
     pub fn next_garbage(&mut self) -> Option<Version>
-        ensures { (who : CoreActor) → (number : ℕ) → (self.new, Told.Taken (option_map (λ version. version.0) result)) ≡ at_directory false who number DirectoryStep.NextGarbage self.old }
+        ensures step { (who : CoreActor) → (number : ℕ) → (self.new.core, Told.Taken (option_map (λ version. version.0) result)) ≡ at_directory false who number DirectoryStep.NextGarbage self.old.core }
+        ensures book { self.new.book ≡ self.old.book }
+        ensures stamps { self.new.stamps ≡ self.old.stamps }
     {
         match self.versions.take_least() {
             Some(version) => Some(Version(version)),
@@ -22,14 +23,16 @@ impl Directory {
 
     /// Whether there is such a version.
     pub fn has_garbage(&self) -> bool
-        ensures { result ≡ is_some (first_garbage self.now) }
+        ensures { result ≡ is_some (first_garbage self.now.core) }
     {
         self.versions.has_garbage()
     }
 
     /// A version that was taken is swept; nothing where it isn't taken.
     pub fn swept(&mut self, version: Version)
-        ensures { (who : CoreActor) → (number : ℕ) → (self.new, Told.Made) ≡ at_directory false who number (DirectoryStep.Swept version.0) self.old }
+        ensures step { (who : CoreActor) → (number : ℕ) → (self.new.core, Told.Made) ≡ at_directory false who number (DirectoryStep.Swept version.0) self.old.core }
+        ensures book { self.new.book ≡ self.old.book }
+        ensures stamps { self.new.stamps ≡ self.old.stamps }
     {
         self.versions.sweep(version.0);
     }

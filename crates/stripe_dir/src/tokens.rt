@@ -36,3 +36,14 @@ impl Model for Pass {
 
     ghost view = { held_in };
 }
+
+impl Seat {
+    /// Leaves the directory: its actor makes no call any more.
+    pub fn leave(self) {
+        let Seat {
+            actor: _,
+            unused: _,
+            told: _,
+        } = self;
+    }
+}

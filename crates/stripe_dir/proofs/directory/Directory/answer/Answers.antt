@@ -1,8 +1,9 @@
+use Rattle.stripe_dir.specs.Sealed.{Sealed}
 use Rattle.std.proofs.Common.{◌≡◌, ◌∷◌, ◌++◌, [], is_err, false, refl, ap, sym, subst, ◌∙◌, arith}
 use Rattle.store_core.specs.Directory.{Event, Directory}
 use Rattle.store_core.specs.Look.{append_point}
 use Rattle.store_core.specs.Agreement.{Seat}
-use Rattle.store_core.specs.Sound.{IsSound}
+use Rattle.stripe_dir.specs.ItsStripes.{IsWhole}
 use Rattle.dir_parts.specs.Events.{reply_in}
 use Rattle.stripe_dir.specs.Kept.{directory_in}
 use Rattle.stripe_dir.specs.declared.directory.Directory.TheInside.{Inside}
@@ -13,7 +14,7 @@ pub invariant_of-self : goal.invariant_of-self
 invariant_of-self c =
     let a : Inside = c.self.inside in
     let d : Directory = directory_in a in
-    let view : d ≡ c.args.self.now = c.self.view_is in
+    let view : d ≡ c.args.self.now.core = (ap (λ (s : Sealed). s.core) c.self.view_is) in
     let m = c.make_room.ensures in
     let roomy : Roomy a c.make_room.new.objects c.make_room.new.passes c.make_room.new.history =
     record { points = m.points; others = m.others; points_room = m.points_room; objects = m.objects; objects_room = m.objects_room; passes = m.passes; stripe = m.stripe }
@@ -24,7 +25,7 @@ pub invariant_of-self-2 : goal.invariant_of-self-2
 invariant_of-self-2 c =
     let a : Inside = c.self.inside in
     let d : Directory = directory_in a in
-    let view : d ≡ c.args.self.now = c.self.view_is in
+    let view : d ≡ c.args.self.now.core = (ap (λ (s : Sealed). s.core) c.self.view_is) in
     let m = c.make_room.ensures in
     let roomy : Roomy a c.make_room.new.objects c.make_room.new.passes c.make_room.new.history =
     record { points = m.points; others = m.others; points_room = m.points_room; objects = m.objects; objects_room = m.objects_room; passes = m.passes; stripe = m.stripe }
@@ -39,5 +40,5 @@ invariant_of-self-2 c =
     })
     in
     kept_pointed a c.self.invariant c.make_room.new.objects c.make_room.new.passes c.make_room.new.history roomy c.make_room.new.objects a.versions c.add-point.new.self
-    (subst IsSound (sym made) (subst (λ (x : Directory). IsSound (append_point c.args.seat.actor c.args.number c.args.note (Event.Answer (reply_in c.args.reply)) x)) (sym view) c.requires.sound))
+    (subst IsWhole (sym made) (subst (λ (x : Directory). IsWhole (append_point c.args.seat.actor c.args.number c.args.note (Event.Answer (reply_in c.args.reply)) x)) (sym view) c.requires.whole))
     (ok_of c.make_room.result fine m.more_points) (omega (arith, c.add-point.ensures.room)) c.add-point.ensures.names refl refl m.objects_room

@@ -1,8 +1,9 @@
+use Rattle.stripe_dir.specs.Sealed.{Sealed}
 use Rattle.std.proofs.Common.{◌≡◌, ℕ, ◌+◌, ◌<◌, ◌^◌, ◌∷◌, ◌++◌, List, length, map, get_or, slice_get, None, All, Contains, true, false, refl, ap, sym, subst, ◌∙◌}
 use Rattle.store_core.specs.Note.{Note}
 use Rattle.store_core.specs.Directory.{Object, Standing, Pin, Pass, Directory}
 use Rattle.store_core.specs.Lookups.{holds_standing, is_superseded_standing}
-use Rattle.store_core.specs.Sound.{IsSound}
+use Rattle.stripe_dir.specs.ItsStripes.{IsWhole}
 use Rattle.store_core.specs.SoundPasses.{Stands}
 use Rattle.dir_parts.specs.Counts.{pinned_more}
 use Rattle.dir_parts.specs.OpenPass.{Open}
@@ -18,7 +19,7 @@ pub invariant_of-self : goal.invariant_of-self
 invariant_of-self c =
     let a : Inside = c.self.inside in
     let d : Directory = directory_in a in
-    let view : d ≡ c.args.self.now = c.self.view_is in
+    let view : d ≡ c.args.self.now.core = (ap (λ (s : Sealed). s.core) c.self.view_is) in
     let m = c.make_room.ensures in
     let roomy : Roomy a c.make_room.new.objects c.make_room.new.passes c.make_room.new.history =
     record { points = m.points; others = m.others; points_room = m.points_room; objects = m.objects; objects_room = m.objects_room; passes = m.passes; stripe = m.stripe }
@@ -29,7 +30,7 @@ pub invariant_of-self-in_err-seen : goal.invariant_of-self-in_err-seen
 invariant_of-self-in_err-seen c =
     let a : Inside = c.self.inside in
     let d : Directory = directory_in a in
-    let view : d ≡ c.args.self.now = c.self.view_is in
+    let view : d ≡ c.args.self.now.core = (ap (λ (s : Sealed). s.core) c.self.view_is) in
     let m = c.make_room.ensures in
     let roomy : Roomy a c.make_room.new.objects c.make_room.new.passes c.make_room.new.history =
     record { points = m.points; others = m.others; points_room = m.points_room; objects = m.objects; objects_room = m.objects_room; passes = m.passes; stripe = m.stripe }
@@ -40,7 +41,7 @@ pub invariant_of-self-then-not-can_pin : goal.invariant_of-self-then-not-can_pin
 invariant_of-self-then-not-can_pin c =
     let a : Inside = c.self.inside in
     let d : Directory = directory_in a in
-    let view : d ≡ c.args.self.now = c.self.view_is in
+    let view : d ≡ c.args.self.now.core = (ap (λ (s : Sealed). s.core) c.self.view_is) in
     let m = c.make_room.ensures in
     let roomy : Roomy a c.make_room.new.objects c.make_room.new.passes c.make_room.new.history =
     record { points = m.points; others = m.others; points_room = m.points_room; objects = m.objects; objects_room = m.objects_room; passes = m.passes; stripe = m.stripe }
@@ -51,7 +52,7 @@ pub can_pin-requires : goal.can_pin-requires
 can_pin-requires c =
     let a : Inside = c.self.inside in
     let d : Directory = directory_in a in
-    let view : d ≡ c.args.self.now = c.self.view_is in
+    let view : d ≡ c.args.self.now.core = (ap (λ (s : Sealed). s.core) c.self.view_is) in
     let m = c.make_room.ensures in
     let roomy : Roomy a c.make_room.new.objects c.make_room.new.passes c.make_room.new.history =
     record { points = m.points; others = m.others; points_room = m.points_room; objects = m.objects; objects_room = m.objects_room; passes = m.passes; stripe = m.stripe }
@@ -65,13 +66,13 @@ can_pin-requires c =
     let pinned_is : c.in_ok-seen.field-0.pinned.items ≡ map (pin_by object.versions) stripes =
     c.in_ok-seen.ensures.pinned ∙ ap (λ h. map (pin_by h) stripes) held_is
     in
-    subst (λ (ps : List Pin). All (λ pin. pin.version < length d.versions) ps) (sym (c.deref.ensures.value ∙ pinned_is)) (pins_have (λ v. v < length d.versions) object.versions stripes (λ k x less. (stands k x less).1))
+    subst (λ (ps : List Pin). All (λ pin. pin.version < length d.versions) ps) (sym (c.deref-2.ensures.value ∙ pinned_is)) (pins_have (λ v. v < length d.versions) object.versions stripes (λ k x less. (stands k x less).1))
 
 pub pin_all-requires-clause-others : goal.pin_all-requires-clause-others
 pin_all-requires-clause-others c =
     let a : Inside = c.self.inside in
     let d : Directory = directory_in a in
-    let view : d ≡ c.args.self.now = c.self.view_is in
+    let view : d ≡ c.args.self.now.core = (ap (λ (s : Sealed). s.core) c.self.view_is) in
     let m = c.make_room.ensures in
     let roomy : Roomy a c.make_room.new.objects c.make_room.new.passes c.make_room.new.history =
     record { points = m.points; others = m.others; points_room = m.points_room; objects = m.objects; objects_room = m.objects_room; passes = m.passes; stripe = m.stripe }
@@ -85,19 +86,19 @@ pin_all-requires-clause-others c =
     let pinned_is : c.in_ok-seen.field-0.pinned.items ≡ map (pin_by object.versions) stripes =
     c.in_ok-seen.ensures.pinned ∙ ap (λ h. map (pin_by h) stripes) held_is
     in
-    subst (λ (ps : List Pin). All (λ pin. (pin.version < length d.versions) × (holds_standing is_superseded_standing (slice_get d.versions pin.version) ≡ false)) ps) (sym (c.deref-2.ensures.value ∙ pinned_is))
+    subst (λ (ps : List Pin). All (λ pin. (pin.version < length d.versions) × (holds_standing is_superseded_standing (slice_get d.versions pin.version) ≡ false)) ps) (sym (c.deref-3.ensures.value ∙ pinned_is))
     (pins_have (λ v. (v < length d.versions) × (holds_standing is_superseded_standing (slice_get d.versions v) ≡ false)) object.versions stripes (λ k x less. ((stands k x less).1, current_other d (get_or object.versions (get_or stripes k x) 0) (stands k x less))))
 
 pub pin_all-requires-clause-fits : goal.pin_all-requires-clause-fits
 pin_all-requires-clause-fits c =
     let yes : c.can_pin.result ≡ true = c.if-not-can_pin.false in
-    subst (λ (ps : List Pin). All (λ pin. get_or c.self.inside.versions.pins pin.version 0 + length ps < 2 ^ 64) ps) (c.deref.ensures.value ∙ sym c.deref-2.ensures.value) (c.can_pin.ensures yes)
+    subst (λ (ps : List Pin). All (λ pin. get_or c.self.inside.versions.pins pin.version 0 + length ps < 2 ^ 64) ps) (c.deref-2.ensures.value ∙ sym c.deref-3.ensures.value) (c.can_pin.ensures yes)
 
 pub invariant_of-self-2 : goal.invariant_of-self-2
 invariant_of-self-2 c =
     let a : Inside = c.self.inside in
     let d : Directory = directory_in a in
-    let view : d ≡ c.args.self.now = c.self.view_is in
+    let view : d ≡ c.args.self.now.core = (ap (λ (s : Sealed). s.core) c.self.view_is) in
     let m = c.make_room.ensures in
     let roomy : Roomy a c.make_room.new.objects c.make_room.new.passes c.make_room.new.history =
     record { points = m.points; others = m.others; points_room = m.points_room; objects = m.objects; objects_room = m.objects_room; passes = m.passes; stripe = m.stripe }
@@ -122,8 +123,8 @@ invariant_of-self-2 c =
     (λ i. record d { objects = m.objects i; versions = c.pin_all.ensures.listed i; passes = passes i; points = points i })
     in
     kept_begun a c.self.invariant c.make_room.new.objects c.make_room.new.passes c.make_room.new.history roomy c.pin_all.new.self c.begin-entry.new.self c.add_look.new.history n refl
-    (subst IsSound (sym made) (subst (λ (x : Directory). IsSound (begun_in c.args.actor c.args.number c.args.note stripes c.args.base x)) (sym view) c.requires.sound))
-    passes c.begin-entry.ensures.stripe c.pin_all.ensures.listed (c.pin_all.ensures.pins ∙ ap (λ ps. pinned_more ps a.versions.pins) (c.deref-2.ensures.value ∙ pins))
+    (subst IsWhole (sym made) (subst (λ (x : Directory). IsWhole (begun_in c.args.actor c.args.number c.args.note stripes c.args.base x)) (sym view) c.requires.whole))
+    passes c.begin-entry.ensures.stripe c.pin_all.ensures.listed (c.pin_all.ensures.pins ∙ ap (λ ps. pinned_more ps a.versions.pins) (c.deref-3.ensures.value ∙ pins))
     (subst (λ (ps : List Pin). All (λ pin. pin.version < length d.versions) ps) (sym (pins_are d object stripes)) (pins_have (λ v. v < length d.versions) object.versions stripes (λ k x less. (stands k x less).1)))
     c.in_ok-make_room.ensures.more_points c.add_look.ensures.left c.add_look.ensures.names (subst (λ (n : Note). Contains c.make_room.new.history.names n.name) c.note.view_is c.in_ok-make_room.ensures.named) c.in_ok-make_room.ensures.more_objects
 
@@ -131,7 +132,7 @@ pub returns-clause-after : goal.returns-clause-after
 returns-clause-after c =
     let a : Inside = c.self.inside in
     let d : Directory = directory_in a in
-    let view : d ≡ c.args.self.now = c.self.view_is in
+    let view : d ≡ c.args.self.now.core = (ap (λ (s : Sealed). s.core) c.self.view_is) in
     let m = c.make_room.ensures in
     let roomy : Roomy a c.make_room.new.objects c.make_room.new.passes c.make_room.new.history =
     record { points = m.points; others = m.others; points_room = m.points_room; objects = m.objects; objects_room = m.objects_room; passes = m.passes; stripe = m.stripe }
@@ -161,7 +162,7 @@ pub returns-clause-entry : goal.returns-clause-entry
 returns-clause-entry c =
     let a : Inside = c.self.inside in
     let d : Directory = directory_in a in
-    let view : d ≡ c.args.self.now = c.self.view_is in
+    let view : d ≡ c.args.self.now.core = (ap (λ (s : Sealed). s.core) c.self.view_is) in
     let m = c.make_room.ensures in
     let roomy : Roomy a c.make_room.new.objects c.make_room.new.passes c.make_room.new.history =
     record { points = m.points; others = m.others; points_room = m.points_room; objects = m.objects; objects_room = m.objects_room; passes = m.passes; stripe = m.stripe }
@@ -185,7 +186,7 @@ pub returns-clause-seen : goal.returns-clause-seen
 returns-clause-seen c =
     let a : Inside = c.self.inside in
     let d : Directory = directory_in a in
-    let view : d ≡ c.args.self.now = c.self.view_is in
+    let view : d ≡ c.args.self.now.core = (ap (λ (s : Sealed). s.core) c.self.view_is) in
     let m = c.make_room.ensures in
     let roomy : Roomy a c.make_room.new.objects c.make_room.new.passes c.make_room.new.history =
     record { points = m.points; others = m.others; points_room = m.points_room; objects = m.objects; objects_room = m.objects_room; passes = m.passes; stripe = m.stripe }

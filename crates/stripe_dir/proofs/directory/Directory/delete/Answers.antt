@@ -1,3 +1,4 @@
+use Rattle.stripe_dir.specs.Sealed.{Sealed}
 use Rattle.std.proofs.Common.{◌≡◌, ◌<◌, ◌∷◌, ◌++◌, [], List, All, length, is_err, false, ap, sym, subst, ◌∙◌, arith}
 use Rattle.store_map.specs.declared.reply.Reply.TheVariants as reply
 use Rattle.store_core.specs.Told.{Told}
@@ -5,9 +6,9 @@ use Rattle.store_core.specs.Note.{Note}
 use Rattle.store_core.specs.Directory.{Object, Standing, Event, Directory}
 use Rattle.store_core.specs.Look.{remove_object, set_standing}
 use Rattle.store_core.specs.Agreement.{Seat}
-use Rattle.store_core.specs.Sound.{IsSound}
+use Rattle.stripe_dir.specs.ItsStripes.{IsWhole}
 use Rattle.dir_parts.specs.Parts.{object_or_new}
-use Rattle.dir_parts.proofs.TableSteps.{length-set_standing}
+use Rattle.store_contents.proofs.Grows.{origins, set_keeps}
 use Rattle.stripe_dir.specs.Begun.{deleted}
 use Rattle.stripe_dir.specs.Kept.{directory_in}
 use Rattle.stripe_dir.specs.declared.directory.Directory.TheInside.{Inside}
@@ -19,7 +20,7 @@ pub invariant_of-self : goal.invariant_of-self
 invariant_of-self c =
     let a : Inside = c.self.inside in
     let d : Directory = directory_in a in
-    let view : d ≡ c.args.self.now = c.self.view_is in
+    let view : d ≡ c.args.self.now.core = (ap (λ (s : Sealed). s.core) c.self.view_is) in
     let m = c.make_room.ensures in
     let roomy : Roomy a c.make_room.new.objects c.make_room.new.passes c.make_room.new.history =
     record { points = m.points; others = m.others; points_room = m.points_room; objects = m.objects; objects_room = m.objects_room; passes = m.passes; stripe = m.stripe }
@@ -30,18 +31,18 @@ pub remove_object-requires : goal.remove_object-requires
 remove_object-requires c =
     let a : Inside = c.self.inside in
     let d : Directory = directory_in a in
-    let view : d ≡ c.args.self.now = c.self.view_is in
+    let view : d ≡ c.args.self.now.core = (ap (λ (s : Sealed). s.core) c.self.view_is) in
     let m = c.make_room.ensures in
     let roomy : Roomy a c.make_room.new.objects c.make_room.new.passes c.make_room.new.history =
     record { points = m.points; others = m.others; points_room = m.points_room; objects = m.objects; objects_room = m.objects_room; passes = m.passes; stripe = m.stripe }
     in
-    subst (λ (os : List Object). All (λ number. number < length d.versions) (object_or_new c.note.inside.name os).versions) (sym m.objects) (λ k x less. (old_current d c.self.invariant.sound c.note.inside.name k x less).1)
+    subst (λ (os : List Object). All (λ number. number < length d.versions) (object_or_new c.note.inside.name os).versions) (sym m.objects) (λ k x less. (old_current d c.self.invariant.whole.sound c.note.inside.name k x less).1)
 
 pub invariant_of-self-2 : goal.invariant_of-self-2
 invariant_of-self-2 c =
     let a : Inside = c.self.inside in
     let d : Directory = directory_in a in
-    let view : d ≡ c.args.self.now = c.self.view_is in
+    let view : d ≡ c.args.self.now.core = (ap (λ (s : Sealed). s.core) c.self.view_is) in
     let m = c.make_room.ensures in
     let roomy : Roomy a c.make_room.new.objects c.make_room.new.passes c.make_room.new.history =
     record { points = m.points; others = m.others; points_room = m.points_room; objects = m.objects; objects_room = m.objects_room; passes = m.passes; stripe = m.stripe }
@@ -60,15 +61,15 @@ invariant_of-self-2 c =
     in
     let fine : is_err c.make_room.result ≡ false = sym c.is_err.ensures.value ∙ c.if-is_err.false in
     kept_pointed a c.self.invariant c.make_room.new.objects c.make_room.new.passes c.make_room.new.history roomy c.remove_object.new.objects c.remove_object.new.versions c.add-point.new.self
-    (subst IsSound (sym made) (subst (λ (x : Directory). IsSound (deleted c.args.seat.actor c.args.number c.args.note x)) (sym view) c.requires.sound))
-    (ok_of c.make_room.result fine m.more_points) (omega (arith, c.add-point.ensures.room)) c.add-point.ensures.names c.remove_object.ensures.pins (ap length listed ∙ length-set_standing Standing.Superseded object.versions d.versions)
+    (subst IsWhole (sym made) (subst (λ (x : Directory). IsWhole (deleted c.args.seat.actor c.args.number c.args.note x)) (sym view) c.requires.whole))
+    (ok_of c.make_room.result fine m.more_points) (omega (arith, c.add-point.ensures.room)) c.add-point.ensures.names c.remove_object.ensures.pins (ap origins listed ∙ set_keeps Standing.Superseded object.versions d.versions)
     (omega (arith, m.objects_room, c.remove_object.ensures.room))
 
 pub returns-clause-step : goal.returns-clause-step
 returns-clause-step c =
     let a : Inside = c.self.inside in
     let d : Directory = directory_in a in
-    let view : d ≡ c.args.self.now = c.self.view_is in
+    let view : d ≡ c.args.self.now.core = (ap (λ (s : Sealed). s.core) c.self.view_is) in
     let m = c.make_room.ensures in
     let roomy : Roomy a c.make_room.new.objects c.make_room.new.passes c.make_room.new.history =
     record { points = m.points; others = m.others; points_room = m.points_room; objects = m.objects; objects_room = m.objects_room; passes = m.passes; stripe = m.stripe }

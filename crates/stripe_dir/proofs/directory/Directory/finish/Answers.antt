@@ -1,3 +1,4 @@
+use Rattle.stripe_dir.specs.Sealed.{Sealed}
 use Rattle.std.proofs.Common.{◌≡◌, ◌⊎◌, ℕ, ◌+◌, ◌<◌, ◌∷◌, ◌++◌, ◌&&◌, List, [], length, map, zip, slice_get, Vec, Global, Option, None, Some, IfSome, IsTrue, All, Contains, false, ap, sym, subst, ◌∙◌, arith}
 use Rattle.std.proofs.lemmas.List.{length-map}
 use Rattle.clay_grid.specs.Shape.{stripe_length}
@@ -11,7 +12,7 @@ use Rattle.store_core.specs.Lookups.{pass_of, is_live, last_change, is_supersede
 use Rattle.store_core.specs.Look.{set_standing}
 use Rattle.store_core.specs.Commit.{place_all, put_object, is_overtaken}
 use Rattle.store_core.specs.Conditions.{IsPrepared}
-use Rattle.store_core.specs.Sound.{IsSound}
+use Rattle.stripe_dir.specs.ItsStripes.{IsWhole}
 use Rattle.store_core.specs.SoundPasses.{HasVersions, IsLive}
 use Rattle.store_core.specs.AtDirectory.{at_directory}
 use Rattle.store_core.specs.Agreement.{HeldPass, AgreesWithPass, ActorToken}
@@ -19,11 +20,12 @@ use Rattle.dir_parts.specs.Counts.{unpinned, one_if, may_append, points_due}
 use Rattle.dir_parts.specs.Passes.{note_in}
 use Rattle.dir_parts.specs.OpenPass.{Open}
 use Rattle.dir_parts.specs.Parts.{object_or_new}
-use Rattle.dir_parts.proofs.TableSteps.{length-set_standing, length-place_all}
+use Rattle.dir_parts.proofs.TableSteps.{length-place_all}
+use Rattle.store_contents.proofs.Grows.{origins, set_keeps, place_keeps}
 use Rattle.stripe_dir.specs.Kept.{directory_in}
 use Rattle.stripe_dir.specs.Installed.{installed, dropped, changed_by}
 use Rattle.stripe_dir.specs.declared.directory.Directory.TheInside.{Inside}
-use Rattle.stripe_dir.proofs.Sound.{keeps_sound}
+use Rattle.stripe_dir.proofs.Sound.{keeps_whole}
 use Rattle.stripe_dir.proofs.Ending.{Gone, kept_ended, agreed, is_there, said_of, it_has, own, sums}
 use Rattle.stripe_dir.proofs.Commits.{commit_step, not_changed, drawn_other, old_current, dropped_has, may_one}
 use Rattle.stripe_dir.proofs.GivenUp.{one_due}
@@ -31,7 +33,7 @@ use Rattle.stripe_dir.proofs.directory.Directory.finish.Goals as goal
 
 pub take-open-requires-clause-there : goal.take-open-requires-clause-there
 take-open-requires-clause-there c =
-    is_there (directory_in c.self.inside) c.args.pass c.pass.inside.actor (ap (λ (h : HeldPass). h.pass.actor) c.pass.view_is) (subst (λ (d : Directory). AgreesWithPass d c.args.pass) (sym c.self.view_is) c.requires.agrees)
+    is_there (directory_in c.self.inside) c.args.pass c.pass.inside.actor (ap (λ (h : HeldPass). h.pass.actor) c.pass.view_is) (subst (λ (d : Directory). AgreesWithPass d c.args.pass) (sym (ap (λ (s : Sealed). s.core) c.self.view_is)) c.requires.agrees)
 
 pub unpin_all-requires : goal.unpin_all-requires
 unpin_all-requires c =
@@ -39,11 +41,11 @@ unpin_all-requires c =
     let d : Directory = directory_in a in
     let p : Pass = c.take-open.result.pass in
     let who : Actor = c.pass.inside.actor in
-    let view : d ≡ c.args.self.now = c.self.view_is in
+    let view : d ≡ c.args.self.now.core = (ap (λ (s : Sealed). s.core) c.self.view_is) in
     let same : who ≡ c.args.pass.pass.actor = ap (λ (h : HeldPass). h.pass.actor) c.pass.view_is in
     let gone : Gone a who p c.take-open.new.self = record { found = c.take-open.ensures.found; left = c.take-open.ensures.left; perm = c.take-open.ensures.others; stripe = c.take-open.ensures.stripe } in
     let pinned : c.deref.result.now ≡ p.pinned = c.deref.ensures.value ∙ ap (λ (o : Open). o.pass.pinned) c.open.view_is in
-    subst (λ (pins : List Pin). All (λ pin. pin.version < length d.versions) pins) (sym pinned) (it_has d who p c.take-open.new.self.listed gone.found gone.left gone.perm (HasVersions d) c.self.invariant.sound.versions).pinned
+    subst (λ (pins : List Pin). All (λ pin. pin.version < length d.versions) pins) (sym pinned) (it_has d who p c.take-open.new.self.listed gone.found gone.left gone.perm (HasVersions d) c.self.invariant.whole.sound.versions).pinned
 
 pub place_all-requires-clause-rows : goal.place_all-requires-clause-rows
 place_all-requires-clause-rows c =
@@ -51,7 +53,7 @@ place_all-requires-clause-rows c =
     let d : Directory = directory_in a in
     let p : Pass = c.take-open.result.pass in
     let who : Actor = c.pass.inside.actor in
-    let view : d ≡ c.args.self.now = c.self.view_is in
+    let view : d ≡ c.args.self.now.core = (ap (λ (s : Sealed). s.core) c.self.view_is) in
     let same : who ≡ c.args.pass.pass.actor = ap (λ (h : HeldPass). h.pass.actor) c.pass.view_is in
     let gone : Gone a who p c.take-open.new.self = record { found = c.take-open.ensures.found; left = c.take-open.ensures.left; perm = c.take-open.ensures.others; stripe = c.take-open.ensures.stripe } in
     let is : record p { reaped = None } ≡ c.args.pass.pass = agreed d c.args.pass who p same gone.found (subst (λ (d : Directory). AgreesWithPass d c.args.pass) (sym view) c.requires.agrees) in
@@ -66,11 +68,11 @@ place_all-requires-clause-drawn c =
     let d : Directory = directory_in a in
     let p : Pass = c.take-open.result.pass in
     let who : Actor = c.pass.inside.actor in
-    let view : d ≡ c.args.self.now = c.self.view_is in
+    let view : d ≡ c.args.self.now.core = (ap (λ (s : Sealed). s.core) c.self.view_is) in
     let same : who ≡ c.args.pass.pass.actor = ap (λ (h : HeldPass). h.pass.actor) c.pass.view_is in
     let gone : Gone a who p c.take-open.new.self = record { found = c.take-open.ensures.found; left = c.take-open.ensures.left; perm = c.take-open.ensures.others; stripe = c.take-open.ensures.stripe } in
     let live : p.reaped ≡ None = said_of (λ (own : Pass). own.reaped ≡ None) (pass_of who d) p gone.found (subst (λ (o : Option Pass). IfSome o (λ own. own.reaped ≡ None)) (λ i. pass_of (sym same i) (sym view i)) c.requires.live) in
-    let alive : IsLive d p = it_has d who p c.take-open.new.self.listed gone.found gone.left gone.perm (λ (q : Pass). IsTrue (is_live q.reaped) → IsLive d q) c.self.invariant.sound.live (ap is_live live) in
+    let alive : IsLive d p = it_has d who p c.take-open.new.self.listed gone.found gone.left gone.perm (λ (q : Pass). IsTrue (is_live q.reaped) → IsLive d q) c.self.invariant.whole.sound.live (ap is_live live) in
     let drawn_now : c.deref-2.result.now ≡ p.drawn = c.deref-2.ensures.value ∙ ap (λ (o : Open). o.pass.drawn) c.open.view_is in
     subst (λ (vs : List Version). All (λ n. (n < length vs) × (holds_standing is_superseded_standing (slice_get vs n) ≡ false)) c.deref-2.result.now) (sym c.unpin_all.ensures.listed)
     (subst (λ (ns : List ℕ). All (λ n. (n < length d.versions) × (holds_standing is_superseded_standing (slice_get d.versions n) ≡ false)) ns) (sym drawn_now) (λ k x less. ((alive.drawn k x less).1, drawn_other d _ (alive.drawn k x less))))
@@ -81,7 +83,7 @@ add-point-requires-clause-room c =
     let d : Directory = directory_in a in
     let p : Pass = c.take-open.result.pass in
     let who : Actor = c.pass.inside.actor in
-    let view : d ≡ c.args.self.now = c.self.view_is in
+    let view : d ≡ c.args.self.now.core = (ap (λ (s : Sealed). s.core) c.self.view_is) in
     let same : who ≡ c.args.pass.pass.actor = ap (λ (h : HeldPass). h.pass.actor) c.pass.view_is in
     let gone : Gone a who p c.take-open.new.self = record { found = c.take-open.ensures.found; left = c.take-open.ensures.left; perm = c.take-open.ensures.others; stripe = c.take-open.ensures.stripe } in
     let live : p.reaped ≡ None = said_of (λ (own : Pass). own.reaped ≡ None) (pass_of who d) p gone.found (subst (λ (o : Option Pass). IfSome o (λ own. own.reaped ≡ None)) (λ i. pass_of (sym same i) (sym view i)) c.requires.live) in
@@ -94,7 +96,7 @@ add-point-requires-clause-named c =
     let d : Directory = directory_in a in
     let p : Pass = c.take-open.result.pass in
     let who : Actor = c.pass.inside.actor in
-    let view : d ≡ c.args.self.now = c.self.view_is in
+    let view : d ≡ c.args.self.now.core = (ap (λ (s : Sealed). s.core) c.self.view_is) in
     let same : who ≡ c.args.pass.pass.actor = ap (λ (h : HeldPass). h.pass.actor) c.pass.view_is in
     let gone : Gone a who p c.take-open.new.self = record { found = c.take-open.ensures.found; left = c.take-open.ensures.left; perm = c.take-open.ensures.others; stripe = c.take-open.ensures.stripe } in
     let note : note_in c.note.inside ≡ p.note = c.note.view_is ∙ ap (λ (o : Open). o.pass.note) c.open.view_is in
@@ -106,7 +108,7 @@ install-replaced-requires-clause-room c =
     let d : Directory = directory_in a in
     let p : Pass = c.take-open.result.pass in
     let who : Actor = c.pass.inside.actor in
-    let view : d ≡ c.args.self.now = c.self.view_is in
+    let view : d ≡ c.args.self.now.core = (ap (λ (s : Sealed). s.core) c.self.view_is) in
     let same : who ≡ c.args.pass.pass.actor = ap (λ (h : HeldPass). h.pass.actor) c.pass.view_is in
     let gone : Gone a who p c.take-open.new.self = record { found = c.take-open.ensures.found; left = c.take-open.ensures.left; perm = c.take-open.ensures.others; stripe = c.take-open.ensures.stripe } in
     let live : p.reaped ≡ None = said_of (λ (own : Pass). own.reaped ≡ None) (pass_of who d) p gone.found (subst (λ (o : Option Pass). IfSome o (λ own. own.reaped ≡ None)) (λ i. pass_of (sym same i) (sym view i)) c.requires.live) in
@@ -121,7 +123,7 @@ supersede_all-requires c =
     let d : Directory = directory_in a in
     let p : Pass = c.take-open.result.pass in
     let who : Actor = c.pass.inside.actor in
-    let view : d ≡ c.args.self.now = c.self.view_is in
+    let view : d ≡ c.args.self.now.core = (ap (λ (s : Sealed). s.core) c.self.view_is) in
     let same : who ≡ c.args.pass.pass.actor = ap (λ (h : HeldPass). h.pass.actor) c.pass.view_is in
     let gone : Gone a who p c.take-open.new.self = record { found = c.take-open.ensures.found; left = c.take-open.ensures.left; perm = c.take-open.ensures.others; stripe = c.take-open.ensures.stripe } in
     let is : record p { reaped = None } ≡ c.args.pass.pass = agreed d c.args.pass who p same gone.found (subst (λ (d : Directory). AgreesWithPass d c.args.pass) (sym view) c.requires.agrees) in
@@ -139,7 +141,7 @@ supersede_all-requires c =
     let size : length c.place_all.new.self.listed ≡ length d.versions = ap length placed ∙ length-place_all (zip p.drawn rows) d.versions in
     subst (λ (ns : List ℕ). All (λ number. number < length c.place_all.new.self.listed) ns) (sym replaced)
     (dropped_has (λ number. number < length c.place_all.new.self.listed) p.note.kind (stripe_length d.shape) p.note p.drawn (object_or_new p.note.name d.objects).versions
-    (λ k x less. (let current = old_current d c.self.invariant.sound p.note.name k x less in omega (arith, size, current.1))))
+    (λ k x less. (let current = old_current d c.self.invariant.whole.sound p.note.name k x less in omega (arith, size, current.1))))
 
 pub invariant_of-self : goal.invariant_of-self
 invariant_of-self c =
@@ -147,7 +149,7 @@ invariant_of-self c =
     let d : Directory = directory_in a in
     let p : Pass = c.take-open.result.pass in
     let who : Actor = c.pass.inside.actor in
-    let view : d ≡ c.args.self.now = c.self.view_is in
+    let view : d ≡ c.args.self.now.core = (ap (λ (s : Sealed). s.core) c.self.view_is) in
     let same : who ≡ c.args.pass.pass.actor = ap (λ (h : HeldPass). h.pass.actor) c.pass.view_is in
     let gone : Gone a who p c.take-open.new.self = record { found = c.take-open.ensures.found; left = c.take-open.ensures.left; perm = c.take-open.ensures.others; stripe = c.take-open.ensures.stripe } in
     let live : p.reaped ≡ None = said_of (λ (own : Pass). own.reaped ≡ None) (pass_of who d) p gone.found (subst (λ (o : Option Pass). IfSome o (λ own. own.reaped ≡ None)) (λ i. pass_of (sym same i) (sym view i)) c.requires.live) in
@@ -166,7 +168,7 @@ invariant_of-self c =
     in
     let still : is_overtaken p.note.kind p.base (last_change p.note.name d.points) ≡ false =
     not_changed p (last_change p.note.name d.points) (said_of (λ (own : Pass). changed_by own (last_change own.note.name d.points) ≡ None) (pass_of who d) p gone.found
-    (subst (λ (x : Directory). IfSome (pass_of who x) (λ own. changed_by own (last_change own.note.name x.points) ≡ None)) (sym view) (subst (λ (b : Actor). IfSome (pass_of b c.args.self.now) (λ own. changed_by own (last_change own.note.name c.args.self.now.points) ≡ None)) (sym same) c.requires.still)))
+    (subst (λ (x : Directory). IfSome (pass_of who x) (λ own. changed_by own (last_change own.note.name x.points) ≡ None)) (sym view) (subst (λ (b : Actor). IfSome (pass_of b c.args.self.now.core) (λ own. changed_by own (last_change own.note.name c.args.self.now.core.points) ≡ None)) (sym same) c.requires.still)))
     in
     let listed : c.supersede_all.new.self.listed ≡ set_standing Standing.Superseded (dropped p.note.kind (stripe_length d.shape) p.note p.drawn (object_or_new p.note.name d.objects).versions) (place_all (zip p.drawn rows) d.versions) =
     c.supersede_all.ensures.listed ∙ (λ i. set_standing Standing.Superseded (replaced i) (placed i))
@@ -184,9 +186,9 @@ invariant_of-self c =
     in
     let one : one_if (may_append p.note.kind) ≡ 1 = ap one_if (may_one p.note.kind kind) in
     kept_ended a c.self.invariant who p c.take-open.new.self gone live c.install-replaced.new.objects c.supersede_all.new.self c.add-point.new.self
-    (subst IsSound (sym (ap (λ r. r.0) (commit_step d who p c.take-open.new.self.listed gone.found gone.left gone.perm live still c.args.pass.pass.number rows c.install-replaced.new.objects.objects c.supersede_all.new.self.listed c.add-point.new.self.points objects listed points)))
-    (keeps_sound who c.args.pass.pass.number (DirectoryStep.Commit rows) d c.self.invariant.stripes c.self.invariant.sound (p, record { is_pass = gone.found; kind = kind }, record { drawn = asked.drawn; rows = asked.rows; whole = asked.whole })))
-    counts (ap length listed ∙ length-set_standing Standing.Superseded (dropped p.note.kind (stripe_length d.shape) p.note p.drawn (object_or_new p.note.name d.objects).versions) (place_all (zip p.drawn rows) d.versions) ∙ length-place_all (zip p.drawn rows) d.versions) c.add-point.ensures.names (omega (arith, c.add-point.ensures.room)) (omega (arith, one, c.install-replaced.ensures.left))
+    (subst IsWhole (sym (ap (λ r. r.0) (commit_step d who p c.take-open.new.self.listed gone.found gone.left gone.perm live still c.args.pass.pass.number rows c.install-replaced.new.objects.objects c.supersede_all.new.self.listed c.add-point.new.self.points objects listed points)))
+    (keeps_whole who c.args.pass.pass.number (DirectoryStep.Commit rows) d c.self.invariant.stripes c.self.invariant.whole (p, record { is_pass = gone.found; kind = kind }, record { drawn = asked.drawn; rows = asked.rows; whole = asked.whole })))
+    counts (ap origins listed ∙ set_keeps Standing.Superseded (dropped p.note.kind (stripe_length d.shape) p.note p.drawn (object_or_new p.note.name d.objects).versions) (place_all (zip p.drawn rows) d.versions) ∙ place_keeps (zip p.drawn rows) d.versions) c.add-point.ensures.names (omega (arith, c.add-point.ensures.room)) (omega (arith, one, c.install-replaced.ensures.left))
 
 pub returns-clause-step : goal.returns-clause-step
 returns-clause-step c =
@@ -194,7 +196,7 @@ returns-clause-step c =
     let d : Directory = directory_in a in
     let p : Pass = c.take-open.result.pass in
     let who : Actor = c.pass.inside.actor in
-    let view : d ≡ c.args.self.now = c.self.view_is in
+    let view : d ≡ c.args.self.now.core = (ap (λ (s : Sealed). s.core) c.self.view_is) in
     let same : who ≡ c.args.pass.pass.actor = ap (λ (h : HeldPass). h.pass.actor) c.pass.view_is in
     let gone : Gone a who p c.take-open.new.self = record { found = c.take-open.ensures.found; left = c.take-open.ensures.left; perm = c.take-open.ensures.others; stripe = c.take-open.ensures.stripe } in
     let live : p.reaped ≡ None = said_of (λ (own : Pass). own.reaped ≡ None) (pass_of who d) p gone.found (subst (λ (o : Option Pass). IfSome o (λ own. own.reaped ≡ None)) (λ i. pass_of (sym same i) (sym view i)) c.requires.live) in
@@ -212,7 +214,7 @@ returns-clause-step c =
     in
     let still : is_overtaken p.note.kind p.base (last_change p.note.name d.points) ≡ false =
     not_changed p (last_change p.note.name d.points) (said_of (λ (own : Pass). changed_by own (last_change own.note.name d.points) ≡ None) (pass_of who d) p gone.found
-    (subst (λ (x : Directory). IfSome (pass_of who x) (λ own. changed_by own (last_change own.note.name x.points) ≡ None)) (sym view) (subst (λ (b : Actor). IfSome (pass_of b c.args.self.now) (λ own. changed_by own (last_change own.note.name c.args.self.now.points) ≡ None)) (sym same) c.requires.still)))
+    (subst (λ (x : Directory). IfSome (pass_of who x) (λ own. changed_by own (last_change own.note.name x.points) ≡ None)) (sym view) (subst (λ (b : Actor). IfSome (pass_of b c.args.self.now.core) (λ own. changed_by own (last_change own.note.name c.args.self.now.core.points) ≡ None)) (sym same) c.requires.still)))
     in
     let listed : c.supersede_all.new.self.listed ≡ set_standing Standing.Superseded (dropped p.note.kind (stripe_length d.shape) p.note p.drawn (object_or_new p.note.name d.objects).versions) (place_all (zip p.drawn rows) d.versions) =
     c.supersede_all.ensures.listed ∙ (λ i. set_standing Standing.Superseded (replaced i) (placed i))
@@ -235,7 +237,7 @@ returns-clause-token c =
     let d : Directory = directory_in a in
     let p : Pass = c.take-open.result.pass in
     let who : Actor = c.pass.inside.actor in
-    let view : d ≡ c.args.self.now = c.self.view_is in
+    let view : d ≡ c.args.self.now.core = (ap (λ (s : Sealed). s.core) c.self.view_is) in
     let same : who ≡ c.args.pass.pass.actor = ap (λ (h : HeldPass). h.pass.actor) c.pass.view_is in
     let gone : Gone a who p c.take-open.new.self = record { found = c.take-open.ensures.found; left = c.take-open.ensures.left; perm = c.take-open.ensures.others; stripe = c.take-open.ensures.stripe } in
     let is : record p { reaped = None } ≡ c.args.pass.pass = agreed d c.args.pass who p same gone.found (subst (λ (d : Directory). AgreesWithPass d c.args.pass) (sym view) c.requires.agrees) in

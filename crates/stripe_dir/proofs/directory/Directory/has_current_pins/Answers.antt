@@ -13,4 +13,4 @@ are_current-requires c =
     let p : Pass = c.in-Some.open.now.pass in
     let found : find (λ (pass : Pass). same_actor c.args.actor pass.actor) d.passes ≡ Some p = sym c.in-Some.ensures in
     let pinned : c.deref.result.now ≡ p.pinned = c.deref.ensures.value ∙ ap (λ (o : Open). o.pass.pinned) c.open.view_is in
-    subst (λ (pins : List Pin). All (λ pin. pin.version < length d.versions) pins) (sym pinned) (found_has (HasVersions d) (λ (pass : Pass). same_actor c.args.actor pass.actor) d.passes p c.self.invariant.sound.versions found).pinned
+    subst (λ (pins : List Pin). All (λ pin. pin.version < length d.versions) pins) (sym pinned) (found_has (HasVersions d) (λ (pass : Pass). same_actor c.args.actor pass.actor) d.passes p c.self.invariant.whole.sound.versions found).pinned

@@ -1,3 +1,4 @@
+use Rattle.stripe_dir.specs.Sealed.{Sealed}
 use Rattle.std.proofs.Common.{◌≡◌, ℕ, ◌<◌, List, length, get_or, cond, All, refl, ap, sym, subst, ◌∙◌}
 use Rattle.clay_grid.specs.Shape.{stripe_length}
 use Rattle.store_core.specs.Told.{Told}
@@ -6,7 +7,7 @@ use Rattle.store_core.specs.Directory.{Object, Standing, Directory}
 use Rattle.store_core.specs.Lookups.{last_change}
 use Rattle.store_core.specs.Look.{pinned_by}
 use Rattle.store_core.specs.Agreement.{Seat}
-use Rattle.store_core.specs.Sound.{IsSound}
+use Rattle.stripe_dir.specs.ItsStripes.{IsWhole}
 use Rattle.store_core.specs.SoundPasses.{Stands}
 use Rattle.dir_parts.specs.Parts.{object_or_new}
 use Rattle.stripe_dir.specs.Stripes.{pinned_of}
@@ -19,12 +20,12 @@ use Rattle.stripe_dir.proofs.directory.Directory.look_on.Goals as goal
 pub begin-requires-clause-stands : goal.begin-requires-clause-stands
 begin-requires-clause-stands c =
     let a : Inside = c.self.inside in
-    let x : Directory = c.args.self.now in
-    let view : directory_in a ≡ x = c.self.view_is in
+    let x : Directory = c.args.self.now.core in
+    let view : directory_in a ≡ x = (ap (λ (s : Sealed). s.core) c.self.view_is) in
     let note : Note = c.args.note in
     let object : Object = object_or_new note.name x.objects in
     let some : 0 < stripe_length x.shape = subst (λ (y : Directory). 0 < stripe_length y.shape) view c.self.invariant.stripes in
-    let sound : IsSound x = subst IsSound view c.self.invariant.sound in
+    let whole : IsWhole x = subst IsWhole view c.self.invariant.whole in
     let stripe : c.stripe_len-stripe.result ≡ stripe_length x.shape = c.stripe_len-stripe.ensures.value ∙ ap (λ (y : Directory). stripe_length y.shape) view in
     let stripes : c.deref.result.now ≡ pinned_by note.kind x.shape note object.length =
     c.deref.ensures.value ∙ c.in-Ok.ensures ∙ (λ i. pinned_of (c.note.view_is i).kind (stripe i) (c.note.view_is i).offset (c.note.view_is i).length (c.requires.length i)) ∙ pinned_is note.kind x.shape note object.length refl
@@ -32,17 +33,17 @@ begin-requires-clause-stands c =
     let base : c.base_of-base.result ≡ base_by note.kind (last_change note.name x.points) = c.base_of-base.ensures ∙ (λ i. base_by note.kind (last_change note.name (view i).points)) in
     let actor : c.seat.inside.actor ≡ c.args.seat.actor = ap (λ (s : Seat). s.actor) c.seat.view_is in
     let begins = accept_begins c.args.seat.actor c.args.number note x note.kind c.requires.goes_on refl c.base_of-base.result base in
-    subst (λ (ss : List ℕ). All (λ s. Stands x Standing.Current (get_or object.versions s 0)) ss) (sym stripes) (pins_stand x some sound note.kind note)
+    subst (λ (ss : List ℕ). All (λ s. Stands x Standing.Current (get_or object.versions s 0)) ss) (sym stripes) (pins_stand x some whole.sound note.kind note)
 
-pub begin-requires-clause-sound : goal.begin-requires-clause-sound
-begin-requires-clause-sound c =
+pub begin-requires-clause-whole : goal.begin-requires-clause-whole
+begin-requires-clause-whole c =
     let a : Inside = c.self.inside in
-    let x : Directory = c.args.self.now in
-    let view : directory_in a ≡ x = c.self.view_is in
+    let x : Directory = c.args.self.now.core in
+    let view : directory_in a ≡ x = (ap (λ (s : Sealed). s.core) c.self.view_is) in
     let note : Note = c.args.note in
     let object : Object = object_or_new note.name x.objects in
     let some : 0 < stripe_length x.shape = subst (λ (y : Directory). 0 < stripe_length y.shape) view c.self.invariant.stripes in
-    let sound : IsSound x = subst IsSound view c.self.invariant.sound in
+    let whole : IsWhole x = subst IsWhole view c.self.invariant.whole in
     let stripe : c.stripe_len-stripe.result ≡ stripe_length x.shape = c.stripe_len-stripe.ensures.value ∙ ap (λ (y : Directory). stripe_length y.shape) view in
     let stripes : c.deref.result.now ≡ pinned_by note.kind x.shape note object.length =
     c.deref.ensures.value ∙ c.in-Ok.ensures ∙ (λ i. pinned_of (c.note.view_is i).kind (stripe i) (c.note.view_is i).offset (c.note.view_is i).length (c.requires.length i)) ∙ pinned_is note.kind x.shape note object.length refl
@@ -50,17 +51,17 @@ begin-requires-clause-sound c =
     let base : c.base_of-base.result ≡ base_by note.kind (last_change note.name x.points) = c.base_of-base.ensures ∙ (λ i. base_by note.kind (last_change note.name (view i).points)) in
     let actor : c.seat.inside.actor ≡ c.args.seat.actor = ap (λ (s : Seat). s.actor) c.seat.view_is in
     let begins = accept_begins c.args.seat.actor c.args.number note x note.kind c.requires.goes_on refl c.base_of-base.result base in
-    subst (λ (r : Directory). IsSound r) (ap (λ r. r.0) begins ∙ (λ i. begun_in (sym actor i) c.args.number note (sym stripes i) c.base_of-base.result x)) c.requires.sound
+    subst (λ (r : Directory). IsWhole r) (ap (λ r. r.0) begins ∙ (λ i. begun_in (sym actor i) c.args.number note (sym stripes i) c.base_of-base.result x)) c.requires.whole
 
 pub returns-clause-step : goal.returns-clause-step
 returns-clause-step c =
     let a : Inside = c.self.inside in
-    let x : Directory = c.args.self.now in
-    let view : directory_in a ≡ x = c.self.view_is in
+    let x : Directory = c.args.self.now.core in
+    let view : directory_in a ≡ x = (ap (λ (s : Sealed). s.core) c.self.view_is) in
     let note : Note = c.args.note in
     let object : Object = object_or_new note.name x.objects in
     let some : 0 < stripe_length x.shape = subst (λ (y : Directory). 0 < stripe_length y.shape) view c.self.invariant.stripes in
-    let sound : IsSound x = subst IsSound view c.self.invariant.sound in
+    let whole : IsWhole x = subst IsWhole view c.self.invariant.whole in
     let stripe : c.stripe_len-stripe.result ≡ stripe_length x.shape = c.stripe_len-stripe.ensures.value ∙ ap (λ (y : Directory). stripe_length y.shape) view in
     let stripes : c.deref.result.now ≡ pinned_by note.kind x.shape note object.length =
     c.deref.ensures.value ∙ c.in-Ok.ensures ∙ (λ i. pinned_of (c.note.view_is i).kind (stripe i) (c.note.view_is i).offset (c.note.view_is i).length (c.requires.length i)) ∙ pinned_is note.kind x.shape note object.length refl

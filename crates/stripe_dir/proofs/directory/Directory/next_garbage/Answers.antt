@@ -1,3 +1,4 @@
+use Rattle.stripe_dir.specs.Sealed.{Sealed}
 use Rattle.std.proofs.Common.{◌≡◌, ℕ, Option, false, option_map, ap, sym, ◌∙◌}
 use Rattle.store_map.specs.declared.actor.Version.{Version}
 use Rattle.store_core.specs.Told.{Told}
@@ -13,8 +14,8 @@ use Rattle.stripe_dir.proofs.directory.Directory.next_garbage.Goals as goal
 pub invariant_of-self : goal.invariant_of-self
 invariant_of-self c = kept_taken c.self.inside c.self.invariant c.take_least.new.self c.take_least.result c.take_least.ensures.taken c.take_least.ensures.listed c.take_least.ensures.pins
 
-pub returns : goal.returns
-returns c = λ who number.
+pub returns-clause-step : goal.returns-clause-step
+returns-clause-step c = λ who number.
     let a : Inside = c.self.inside in
     let after : Directory = directory_in (record a { versions = c.take_least.new.self }) in
     let told : option_map (λ (version : Version). version.0) c.match-take_least.result ≡ c.take_least.result =
@@ -22,4 +23,4 @@ returns c = λ who number.
     in
     ap (λ (o : Option ℕ). (after, Told.Taken o)) told
     ∙ taken_step a c.self.invariant c.take_least.new.self c.take_least.result c.take_least.ensures.taken c.take_least.ensures.listed who number
-    ∙ ap (at_directory false who number DirectoryStep.NextGarbage) c.self.view_is
+    ∙ ap (at_directory false who number DirectoryStep.NextGarbage) (ap (λ (s : Sealed). s.core) c.self.view_is)

@@ -1,3 +1,4 @@
+use Rattle.stripe_dir.specs.Sealed.{Sealed}
 use Rattle.std.proofs.Common.{◌≡◌, ◌<◌, None, Some, Contains, false, find, ap, sym, ◌∙◌, arith}
 use Rattle.store_core.specs.Act.{DirectoryStep}
 use Rattle.store_core.specs.Directory.{Pass, Directory}
@@ -19,7 +20,7 @@ give_up-point-requires-clause-pinned c =
     let d : Directory = directory_in a in
     let p : Pass = c.in_ok-open.open.now.pass in
     let found : find (λ (pass : Pass). same_actor c.args.actor pass.actor) d.passes ≡ Some p = sym c.in_ok-open.ensures in
-    (found_has (HasVersions d) (λ (pass : Pass). same_actor c.args.actor pass.actor) d.passes p c.self.invariant.sound.versions found).pinned
+    (found_has (HasVersions d) (λ (pass : Pass). same_actor c.args.actor pass.actor) d.passes p c.self.invariant.whole.sound.versions found).pinned
 
 pub give_up-point-requires-clause-drawn : goal.give_up-point-requires-clause-drawn
 give_up-point-requires-clause-drawn c =
@@ -27,7 +28,7 @@ give_up-point-requires-clause-drawn c =
     let d : Directory = directory_in a in
     let p : Pass = c.in_ok-open.open.now.pass in
     let found : find (λ (pass : Pass). same_actor c.args.actor pass.actor) d.passes ≡ Some p = sym c.in_ok-open.ensures in
-    (found_has (HasVersions d) (λ (pass : Pass). same_actor c.args.actor pass.actor) d.passes p c.self.invariant.sound.versions found).drawn
+    (found_has (HasVersions d) (λ (pass : Pass). same_actor c.args.actor pass.actor) d.passes p c.self.invariant.whole.sound.versions found).drawn
 
 pub give_up-point-requires-clause-named : goal.give_up-point-requires-clause-named
 give_up-point-requires-clause-named c =
@@ -57,8 +58,8 @@ invariant_of-self c =
     kept_given_up a c.self.invariant c.args.actor p found live c.give_up-point.result c.give_up-point.ensures.point c.reap.new.self c.give_up-point.new.versions c.give_up-point.new.history c.reap.ensures.listed
     c.give_up-point.ensures.listed c.give_up-point.ensures.points c.reap.ensures.stripe c.give_up-point.ensures.pins c.give_up-point.ensures.names c.give_up-point.ensures.left
 
-pub returns : goal.returns
-returns c = λ who number.
+pub returns-clause-step : goal.returns-clause-step
+returns-clause-step c = λ who number.
     let a : Inside = c.self.inside in
     let d : Directory = directory_in a in
     let p : Pass = c.in_ok-open.open.now.pass in
@@ -66,4 +67,4 @@ returns c = λ who number.
     let live : p.reaped ≡ None = sym (ap (λ (o : Open). o.pass.reaped) c.open.view_is) ∙ none_is c.open.inside.reaped (sym c.is_some.ensures ∙ c.if-is_some.false) in
     reap_step a c.self.invariant c.args.actor p found live c.give_up-point.result c.give_up-point.ensures.point c.reap.new.self c.give_up-point.new.versions c.give_up-point.new.history c.reap.ensures.listed
     c.give_up-point.ensures.listed c.give_up-point.ensures.points who number
-    ∙ ap (at_directory false who number (DirectoryStep.Reap c.args.actor)) c.self.view_is
+    ∙ ap (at_directory false who number (DirectoryStep.Reap c.args.actor)) (ap (λ (s : Sealed). s.core) c.self.view_is)

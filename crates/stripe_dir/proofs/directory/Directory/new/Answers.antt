@@ -1,0 +1,25 @@
+use Rattle.std.proofs.Common.{◌<◌, ap, sym, ◌∙◌, arith, mul-pos}
+use Rattle.clay_grid.specs.Shape.{Shape, layer_count, chunk_length, stripe_length}
+use Rattle.clay_grid.specs.Limits.{IsGeometry}
+use Rattle.dir_parts.specs.OpenPass.{Desk}
+use Rattle.stripe_dir.proofs.Opened.{first_kept}
+use Rattle.stripe_dir.proofs.directory.Directory.new.Goals as goal
+
+some_bytes : (g : Shape) → IsGeometry g → 0 < stripe_length g
+some_bytes g geometry =
+    let layers : 0 < layer_count g = omega (arith, geometry.some_layers, geometry.limits.parity_chunks) in
+    let chunk : 0 < chunk_length g = mul-pos layers (omega (arith, geometry.limits.width)) in
+    mul-pos (omega (arith, geometry.limits.data_chunks)) chunk
+
+pub invariant_of-directory : goal.invariant_of-directory
+invariant_of-directory c =
+    first_kept _
+    (record {
+      objects = c.new.ensures;
+      versions = c.new-2.ensures.listed;
+      pins = c.new-2.ensures.pins;
+      passes = ap (λ (desk : Desk). desk.listed) c.new-3.ensures;
+      points = c.new-4.ensures.points;
+      stamps = c.new-5.ensures.items;
+    })
+    (sym c.geometry-geometry.ensures) (some_bytes c.geometry-geometry.result c.stripe_len-stripe.ensures.geometry) (ap (λ (desk : Desk). desk.stripe) c.new-3.ensures ∙ c.stripe_len-stripe.ensures.value)

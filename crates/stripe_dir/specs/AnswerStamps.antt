@@ -1,0 +1,42 @@
+-- The stamps that come with the answers.
+use Rattle.std.specs.Prelude.{◌≡◌, List, [], Result, Ok, Err, Option, Some, All, ⊤}
+use Rattle.std.specs.List.{slice_get}
+use Rattle.clay_grid.specs.Shape.{stripe_length}
+use Rattle.store_core.specs.Directory.{Pass}
+use Rattle.store_core.specs.Agreement.{HeldPass}
+use Rattle.version_seal.specs.Entry.{StampOf, RequestOf}
+use Rattle.stripe_dir.specs.Sealed.{Sealed, stamps_touched}
+use Rattle.stripe_dir.specs.declared.answers.Seen.{Seen}
+use Rattle.stripe_dir.specs.declared.answers.Look.{Look}
+use Rattle.stripe_dir.specs.declared.answers.Look.TheVariants as look
+use Rattle.stripe_dir.specs.declared.answers.RepairLook.{RepairLook}
+use Rattle.stripe_dir.specs.declared.answers.RepairLook.TheVariants as repair
+use Rattle.stripe_dir.specs.declared.answers.Drawn.{Drawn}
+use Rattle.stripe_dir.specs.declared.answers.Drawn.TheVariants as drawn
+
+-- the stamps that are told are the directory's own
+abbrev pub IsSeenIn : List StampOf → Seen → Type 0
+IsSeenIn stamps seen = slice_get stamps seen.stamp.version ≡ Some seen.stamp
+
+-- so are those of a client's look
+abbrev pub AreSeenIn : List StampOf → Look → Type 0
+AreSeenIn stamps (look.Answer seat point reply) = ⊤
+AreSeenIn stamps (look.Pinned pass point length seen) = All (IsSeenIn stamps) seen.items
+AreSeenIn stamps (look.Ready pass base length seen) = All (IsSeenIn stamps) seen.items
+
+-- and that of a repairer's
+abbrev pub IsSeenByRepair : List StampOf → RepairLook → Type 0
+IsSeenByRepair stamps (repair.NoSuch seat) = ⊤
+IsSeenByRepair stamps (repair.Pinned pass seen) = IsSeenIn stamps seen
+
+-- the stamps that a draw gives
+abbrev pub stamps_given : Result Drawn HeldPass → List StampOf
+stamps_given (Ok (drawn.Versions held stamps)) = stamps.items
+stamps_given (Ok (drawn.Reaped seat at)) = []
+stamps_given (Err held) = []
+
+-- where versions are drawn, they are those of the stripes that the pass's call touches
+abbrev pub AreDrawn : Sealed → Pass → Option RequestOf → Result Drawn HeldPass → Type 0
+AreDrawn s pass request (Ok (drawn.Versions held stamps)) = stamps.items ≡ stamps_touched s.book s.stamps (stripe_length s.core.shape) pass request
+AreDrawn s pass request (Ok (drawn.Reaped seat at)) = ⊤
+AreDrawn s pass request (Err held) = ⊤

@@ -1,0 +1,58 @@
+-- The tokens that come back with the answers.
+use Rattle.std.specs.Prelude.{Result, Ok, Err}
+use Rattle.store_core.specs.Agreement.{Seat, HeldPass, ActorToken}
+use Rattle.stripe_dir.specs.declared.answers.Look.{Look}
+use Rattle.stripe_dir.specs.declared.answers.Look.TheVariants as look
+use Rattle.stripe_dir.specs.declared.answers.RepairLook.{RepairLook}
+use Rattle.stripe_dir.specs.declared.answers.RepairLook.TheVariants as repair
+use Rattle.stripe_dir.specs.declared.answers.Drawn.{Drawn}
+use Rattle.stripe_dir.specs.declared.answers.Drawn.TheVariants as drawn
+use Rattle.stripe_dir.specs.declared.answers.Committed.{Committed}
+use Rattle.stripe_dir.specs.declared.answers.Committed.TheVariants as committed
+use Rattle.stripe_dir.specs.declared.answers.Ended.{Ended}
+use Rattle.stripe_dir.specs.declared.answers.Ended.TheVariants as ended
+use Rattle.stripe_dir.specs.declared.answers.Confirmed.{Confirmed}
+use Rattle.stripe_dir.specs.declared.answers.Confirmed.TheVariants as confirmed
+
+-- the token after a client's look
+abbrev pub token_look : Look → ActorToken
+token_look (look.Answer seat point reply) = ActorToken.Seated seat
+token_look (look.Pinned pass point length stripes) = ActorToken.InCall pass
+token_look (look.Ready pass base length stripes) = ActorToken.InCall pass
+
+-- after a repairer's look
+abbrev pub token_repair_look : RepairLook → ActorToken
+token_repair_look (repair.NoSuch seat) = ActorToken.Seated seat
+token_repair_look (repair.Pinned pass seen) = ActorToken.InCall pass
+
+-- after a draw
+abbrev pub token_drawn : Drawn → ActorToken
+token_drawn (drawn.Versions pass stamps) = ActorToken.InCall pass
+token_drawn (drawn.Reaped seat at) = ActorToken.Seated seat
+
+-- after a commit
+abbrev pub token_committed : Committed → ActorToken
+token_committed (committed.Done seat point) = ActorToken.Seated seat
+token_committed (committed.Changed seat base newer) = ActorToken.Seated seat
+token_committed (committed.Reaped seat at) = ActorToken.Seated seat
+
+-- after the end of a pass
+abbrev pub token_ended : Ended → ActorToken
+token_ended (ended.Ended seat) = ActorToken.Seated seat
+token_ended (ended.Reaped seat at) = ActorToken.Seated seat
+
+-- after a confirmation
+abbrev pub token_confirmed : Confirmed → ActorToken
+token_confirmed (confirmed.Current pass) = ActorToken.InCall pass
+token_confirmed (confirmed.Superseded seat newer) = ActorToken.Seated seat
+token_confirmed (confirmed.Reaped seat at) = ActorToken.Seated seat
+
+-- where memory was wanting the seat comes back
+abbrev pub token_or_seat : {A : Type 0} → (A → ActorToken) → Result A Seat → ActorToken
+token_or_seat token (Ok answer) = token answer
+token_or_seat token (Err seat) = ActorToken.Seated seat
+
+-- where memory was wanting the pass comes back
+abbrev pub token_or_pass : {A : Type 0} → (A → ActorToken) → Result A HeldPass → ActorToken
+token_or_pass token (Ok answer) = token answer
+token_or_pass token (Err pass) = ActorToken.InCall pass
