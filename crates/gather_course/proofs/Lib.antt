@@ -1,0 +1,10 @@
+pub mod Nexts
+pub mod Moves
+pub mod Heard
+pub mod Keeping
+pub mod Missed
+pub mod CourseKept
+pub mod MissingOnes
+pub mod Layered
+pub mod Begins
+pub mod BeginsRange
