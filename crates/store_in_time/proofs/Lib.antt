@@ -14,10 +14,11 @@ mod LossTold
 mod LossSteps
 mod LossRuns
 mod LossLines
-mod CausedLines
+mod CausedCalls
 mod HeldStandings
 mod HeldActs
 mod HeldRuns
 mod HeldSteps
 mod HeldCalls
 mod HeldLines
+mod CausedLines

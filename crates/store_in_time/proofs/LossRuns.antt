@@ -1,5 +1,5 @@
 -- In every run what calls were told of lost chunks, and of servers away, was so at that moment.
-use Rattle.std.proofs.Common.{◌≡◌, ◌⊎◌, inl, inr, ℕ, ◌+◌, ◌<◌, Bool, true, false, List, [], ◌∷◌, ◌++◌, length, map, Option, None, Some, IfSome, All, get_or, refl, sym, ap, subst, ◌∙◌}
+use Rattle.std.proofs.Common.{◌≡◌, ◌⊎◌, inl, inr, ℕ, ◌+◌, ◌<◌, Bool, true, false, ◌&&◌, List, [], ◌∷◌, ◌++◌, length, map, Option, None, Some, IfSome, All, get_or, refl, sym, ap, subst, ◌∙◌}
 use Rattle.std.proofs.lemmas.List.Elements.{All-nil, All-cons, All-head, All-tail}
 use Rattle.std.proofs.lemmas.Option.{same_Some}
 use Rattle.std.specs.List.{slice_get}
@@ -13,6 +13,7 @@ use Rattle.store_map.specs.declared.placement.Placement.TheVariants as placement
 use Rattle.store_map.specs.declared.script.Script.{Script}
 use Rattle.transcript_text.specs.declared.cause.Triple.{Triple}
 use Rattle.store_core.specs.Act.{Act, DirectoryStep, ServerStep, Outcome}
+use Rattle.store_core.specs.ActPlace.{is_in_pass}
 use Rattle.store_core.specs.Bounds.{touched_count}
 use Rattle.store_core.specs.Directory.{Pass, Directory}
 use Rattle.store_core.specs.Lookups.{pass_of}
@@ -191,7 +192,7 @@ module _ (script : Script) (some : 0 < script.geometry.parity_count) (who : Acto
   first_away count false has h = h
 
   away_made : (pins touched : ℕ) (count : ℕ) (a : Act) → Answers pins touched a (at_places shortages.step who (length calling.ended) a places).1 → TellsAway count (at_places shortages.step who (length calling.ended) a places).1
-      → OwnAway who number count trace (record { who = who; number = length calling.ended; act = a; answer = (at_places shortages.step who (length calling.ended) a places).1 })
+      → OwnAway who number count trace (record { who = who; number = length calling.ended; short = shortages.coding && is_in_pass (next_act script.geometry (tries_of script) job calling.told); act = a; answer = (at_places shortages.step who (length calling.ended) a places).1 })
   away_made pins touched count (Act.Finish outcome) h t = absurd h
   away_made pins touched count (Act.AtDirectory step) h t = absurd (none step (at_places shortages.step who (length calling.ended) (Act.AtDirectory step) places).1 h t)
     where
@@ -204,7 +205,7 @@ module _ (script : Script) (some : 0 < script.geometry.parity_count) (who : Acto
   away_made pins touched count (Act.AtServer server step) h t = by (slice_get places.servers server) refl t
     where
       by : (f : Option Server) → slice_get places.servers server ≡ f → TellsAway count (at_server_there shortages.step server step places f).1
-          → OwnAway who number count trace (record { who = who; number = length calling.ended; act = Act.AtServer server step; answer = (at_server_there shortages.step server step places f).1 })
+          → OwnAway who number count trace (record { who = who; number = length calling.ended; short = shortages.coding && is_in_pass (next_act script.geometry (tries_of script) job calling.told); act = Act.AtServer server step; answer = (at_server_there shortages.step server step places f).1 })
       by None e k = absurd k
       by (Some s) e k = one (at_server shortages.step step s).1 refl (tells_now shortages.step step s) k
         where
@@ -212,7 +213,7 @@ module _ (script : Script) (some : 0 < script.geometry.parity_count) (who : Acto
           c = counts server s e
 
           one : (answer : Told) → (at_server shortages.step step s).1 ≡ answer → TellsNow s answer → TellsAway count answer
-              → OwnAway who number count trace (record { who = who; number = length calling.ended; act = Act.AtServer server step; answer = (at_server shortages.step step s).1 })
+              → OwnAway who number count trace (record { who = who; number = length calling.ended; short = shortages.coding && is_in_pass (next_act script.geometry (tries_of script) job calling.told); act = Act.AtServer server step; answer = (at_server shortages.step step s).1 })
           one (Told.Away n) same t k = ((refl, refl), (server, step, refl, sym k ∙ t ∙ c.downs_told, inl (same ∙ ap Told.Away k)))
           one (Told.Missing (found.Away n)) same t k = ((refl, refl), (server, step, refl, sym k ∙ t ∙ c.downs_told, inr (same ∙ ap (λ x. Told.Missing (found.Away x)) k)))
           one (Told.Missing (found.Absent n)) same t k = absurd k

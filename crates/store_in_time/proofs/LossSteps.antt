@@ -1,5 +1,5 @@
 -- A step of a call: what it hears of chunks stays so in the trace, and placements come about by steps.
-use Rattle.std.proofs.Common.{◌≡◌, ◌⊎◌, inl, inr, ℕ, zero, suc, ◌+◌, ◌<◌, Bool, true, false, List, [], ◌∷◌, ◌++◌, length, map, zip, Option, None, Some, IfSome, max, refl, sym, ap, subst, ◌∙◌, arith}
+use Rattle.std.proofs.Common.{◌≡◌, ◌⊎◌, inl, inr, ℕ, zero, suc, ◌+◌, ◌<◌, Bool, true, false, ◌&&◌, List, [], ◌∷◌, ◌++◌, length, map, zip, Option, None, Some, IfSome, max, refl, sym, ap, subst, ◌∙◌, arith}
 use Rattle.std.proofs.lemmas.Option.{none-some, same_Some}
 use Rattle.std.specs.List.{slice_get}
 use Rattle.clay_grid.specs.Shape.{Shape, chunk_count}
@@ -141,7 +141,7 @@ module _ (script : Script) (who : Actor) (job : Job) (calling : Calling) (places
   done x = at_places shortages.step who (length calling.ended) x places
 
   abbrev made : Act → Made
-  made x = record { who = who; number = length calling.ended; act = x; answer = (at_places shortages.step who (length calling.ended) x places).1 }
+  made x = record { who = who; number = length calling.ended; short = shortages.coding && is_in_pass (next_act script.geometry (tries_of script) job calling.told); act = x; answer = (at_places shortages.step who (length calling.ended) x places).1 }
 
   -- ---- want of memory before the act
   placing_short : (a : Act) → Placing Any (Took trace who number) a Told.Short
@@ -358,8 +358,8 @@ module _ (script : Script) (who : Actor) (job : Job) (calling : Calling) (places
   -- ---- at a server
   abbrev AtServer : ℕ → ServerStep → Places × Told → Type 0
   AtServer server step r =
-      HeardThen g (trace ++ record { who = who; number = length calling.ended; act = Act.AtServer server step; answer = r.1 } ∷ []) r.0.directory who number job (tell g job told r.1)
-      × RowsThen (trace ++ record { who = who; number = length calling.ended; act = Act.AtServer server step; answer = r.1 } ∷ []) r.0.directory.versions
+      HeardThen g (trace ++ record { who = who; number = length calling.ended; short = shortages.coding && is_in_pass (next_act script.geometry (tries_of script) job calling.told); act = Act.AtServer server step; answer = r.1 } ∷ []) r.0.directory who number job (tell g job told r.1)
+      × RowsThen (trace ++ record { who = who; number = length calling.ended; short = shortages.coding && is_in_pass (next_act script.geometry (tries_of script) job calling.told); act = Act.AtServer server step; answer = r.1 } ∷ []) r.0.directory.versions
 
   no_answer : (step : ServerStep) → ServerAnswers step Told.NotMade → ⊥
   no_answer (ServerStep.Prepare version) h = h
@@ -388,10 +388,10 @@ module _ (script : Script) (who : Actor) (job : Job) (calling : Calling) (places
   )
     where
       m : Made
-      m = record { who = who; number = length calling.ended; act = Act.AtServer server step; answer = (at_server shortages.step step s).1 }
+      m = record { who = who; number = length calling.ended; short = shortages.coding && is_in_pass (next_act script.geometry (tries_of script) job calling.told); act = Act.AtServer server step; answer = (at_server shortages.step step s).1 }
 
       more : List Made
-      more = trace ++ record { who = who; number = length calling.ended; act = Act.AtServer server step; answer = (at_server shortages.step step s).1 } ∷ []
+      more = trace ++ record { who = who; number = length calling.ended; short = shortages.coding && is_in_pass (next_act script.geometry (tries_of script) job calling.told); act = Act.AtServer server step; answer = (at_server shortages.step step s).1 } ∷ []
 
   after_by : (x : Act) → next_act g tries job told ≡ x → Answers (pin_bound g (size_of script) job.note) (touched_count g job.note) x (done x).1 → IsProper g job (HasTry job.note.kind tries told) x → ActOfKind g job.note.kind x → After x
   after_by (Act.AtDirectory step) e answers is_proper kinds = directory_after step e answers (call_step job (HasTry job.note.kind tries told) step is_proper) kinds

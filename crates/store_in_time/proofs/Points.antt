@@ -192,12 +192,12 @@ module _ (trace : List Made) (made : Made) (d : Directory) (h : PointsThen trace
           (subst (λ who. made.act ≡ Act.AtDirectory (DirectoryStep.Reap who)) (pass_is target d pass e) act) h
 
 pub others_points : (trace : List Made) (who : Actor) (places : Places) (a : Act) → IsOperatorAct a → PointsThen trace places.directory.points
-    → PointsThen (trace ++ record { who = who; number = 0; act = a; answer = (at_places false who 0 a places).1 } ∷ []) (at_places false who 0 a places).0.directory.points
+    → PointsThen (trace ++ record { who = who; number = 0; short = false; act = a; answer = (at_places false who 0 a places).1 } ∷ []) (at_places false who 0 a places).0.directory.points
 others_points trace who places (Act.AtDirectory DirectoryStep.NextGarbage) is h = taken_points trace _ places.directory h (first_garbage places.directory) refl
 others_points trace who places (Act.AtDirectory (DirectoryStep.Swept version)) is h = no_point trace _ places.directory.points refl h
 others_points trace who places (Act.AtDirectory (DirectoryStep.Reap target)) is h = reaped_points trace _ places.directory h target refl (pass_of target places.directory) refl refl
 others_points trace who places (Act.AtDirectory step) is h = absurd is
 others_points trace who places (Act.AtServer n step) is h =
-    subst (λ (d : Directory). PointsThen (trace ++ record { who = who; number = 0; act = Act.AtServer n step; answer = (at_server_there false n step places (slice_get places.servers n)).1 } ∷ []) d.points) (sym (server_same false n step places (slice_get places.servers n)))
+    subst (λ (d : Directory). PointsThen (trace ++ record { who = who; number = 0; short = false; act = Act.AtServer n step; answer = (at_server_there false n step places (slice_get places.servers n)).1 } ∷ []) d.points) (sym (server_same false n step places (slice_get places.servers n)))
     (no_point trace _ places.directory.points (server_no_point false n step places (slice_get places.servers n)) h)
 others_points trace who places (Act.Finish outcome) is h = absurd is

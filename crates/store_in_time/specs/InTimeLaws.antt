@@ -36,4 +36,4 @@ RunsHaveLossesInTime = RunsShowInTime HasLossesInTime
 -- and each refusal and each result is caused by what its call was told
 abbrev pub RunsShowCauses : Type 0
 RunsShowCauses =
-    (script : Script) (shortages : List Shortage) → IsGeometry script.geometry → IsValid script → (tokens : List Token) → LinesAreCaused script (shown script (run_core script shortages tokens))
+    (script : Script) (shortages : List Shortage) → IsGeometry script.geometry → IsValid script → (tokens : List Token) → LinesAreCaused script (run_trace script shortages tokens) (shown script (run_core script shortages tokens))

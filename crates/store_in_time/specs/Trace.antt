@@ -1,5 +1,5 @@
 -- The trace of a run: each step that was made, with its answer.
-use Rattle.std.specs.Prelude.{ℕ, Bool, true, false, List, [], ◌∷◌, ◌++◌, length, Option, None, Some}
+use Rattle.std.specs.Prelude.{ℕ, Bool, true, false, ◌&&◌, List, [], ◌∷◌, ◌++◌, length, Option, None, Some}
 use Rattle.std.specs.List.{slice_get}
 use Rattle.clay_grid.specs.Shape.{chunk_count}
 use Rattle.store_map.specs.Limits.{tries_of}
@@ -18,19 +18,21 @@ use Rattle.store_core.specs.Sweep.{next_sweep}
 use Rattle.store_core.specs.Told.{Told}
 use Rattle.store_core.specs.Work.{Calling, Work, client_work, repairer_work, has_step}
 
--- a step: whose, in which of its calls, what was done and what was answered
+-- a step: whose, in which of its calls, whether memory was wanting in the coding before it, what was done and what was answered
 pub record Made : Type 0 where
   pub who : Actor
   pub number : ℕ
+  pub short : Bool
   pub act : Act
   pub answer : Told
 
 -- the next step of an actor's call
 abbrev pub call_made : Script → Shortage → Actor → Calling → Places → Job → Made
 call_made script shortage who calling places job =
-    let told : List Told = told_first shortage.coding (is_in_pass (next_act script.geometry (tries_of script) job calling.told)) script.geometry job calling.told in
+    let has_pass : Bool = is_in_pass (next_act script.geometry (tries_of script) job calling.told) in
+    let told : List Told = told_first shortage.coding has_pass script.geometry job calling.told in
     let act : Act = next_act script.geometry (tries_of script) job told in
-    record { who = who; number = length calling.ended; act = act; answer = (at_places shortage.step who (length calling.ended) act places).1 }
+    record { who = who; number = length calling.ended; short = shortage.coding && has_pass; act = act; answer = (at_places shortage.step who (length calling.ended) act places).1 }
 
 -- if it has a call that is left
 abbrev pub job_made : Script → Shortage → Actor → Calling → Places → Option Job → List Made
@@ -48,7 +50,7 @@ made_by script shortage who work calling places = []
 
 -- the step of an actor without calls
 abbrev pub act_made : Actor → Act → Places → Made
-act_made who act places = record { who = who; number = 0; act = act; answer = (at_places false who 0 act places).1 }
+act_made who act places = record { who = who; number = 0; short = false; act = act; answer = (at_places false who 0 act places).1 }
 
 -- the step of one token, but for a drain
 abbrev pub made_of : Script → Token → Run → List Made

@@ -30,8 +30,8 @@ pub fn runs_have_losses_in_time()
     ensures { RunsHaveLossesInTime }
 {}
 
-/// Each refusal and each rebuild's result that a run shows is one that its call can come to, by answers
-/// that cause it.
+/// In every run each refusal and each rebuild's result that is shown is its call's outcome after all that
+/// the steps of the run told it, in their order, which it can be told and which causes it.
 pub fn runs_show_causes()
     ensures { RunsShowCauses }
 {}
