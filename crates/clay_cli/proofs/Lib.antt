@@ -1,3 +1,4 @@
 mod Outputs
 mod Refusals
 mod Statuses
+mod VerifyLaws

@@ -3,12 +3,13 @@ use Rattle.std.proofs.Common.{◌≡◌, ◌⊎◌, inl, inr, ◌∙◌, sym, su
 use Rattle.clay_bytes.specs.Stream.{IsCutOff, Gains, IsPrefixWritten}
 use Rattle.clay_cli.specs.Top.{Owes, Writes, IsOfInput, IsSilent}
 use Rattle.clay_cli.specs.declared.status.Status.{Status}
-use Rattle.clay_cli.specs.declared.status.Status.TheVariants.{Done, ScriptRefused, InputTooLong, ReadFault, WriteFault, OutOfMemory, DataRefused}
+use Rattle.clay_cli.specs.declared.status.Status.TheVariants.{Done, ScriptRefused, InputTooLong, ReadFault, WriteFault, OutOfMemory, NotLegal, DataRefused}
 
 pub not_failed : (s : Status) → IsOfInput s → s ≡ WriteFault → ⊥
 not_failed s (inl done) e = let h : Done ≡ WriteFault = sym done ∙ e in cc
 not_failed s (inr (inl refused)) e = let h : ScriptRefused ≡ WriteFault = sym refused ∙ e in cc
-not_failed s (inr (inr refused)) e = let h : DataRefused ≡ WriteFault = sym refused ∙ e in cc
+not_failed s (inr (inr (inl broken))) e = let h : NotLegal ≡ WriteFault = sym broken ∙ e in cc
+not_failed s (inr (inr (inr refused))) e = let h : DataRefused ≡ WriteFault = sym refused ∙ e in cc
 
 cut_long : (n : ℕ) (bytes : List ℕ) (new : Option (List ℕ)) → IsCutOff (Some bytes) n new → n ≤ length bytes
 cut_long n bytes None cut = absurd cut

@@ -5,10 +5,11 @@ use Rattle.clay_words.specs.Words.{AsksTask}
 use Rattle.clay_cli.specs.Play.{IsTranscriptFor, IsRefusal}
 use Rattle.clay_cli.specs.Chunks.{IsChunkLines, IsDataRefused}
 use Rattle.clay_cli.specs.Recover.{IsRecovered, IsNotRecovered}
+use Rattle.clay_cli.specs.Verify.{IsLegal, IsNotLegal, IsUnreadable}
 use Rattle.clay_words.specs.declared.words.Task.{Task}
-use Rattle.clay_words.specs.declared.words.Task.TheVariants.{Play, Chunks, Recover}
+use Rattle.clay_words.specs.declared.words.Task.TheVariants.{Play, Verify, Chunks, Recover}
 use Rattle.clay_cli.specs.declared.status.Status.{Status}
-use Rattle.clay_cli.specs.declared.status.Status.TheVariants.{Done, ScriptRefused, InputTooLong, ReadFault, WriteFault, OutOfMemory, DataRefused}
+use Rattle.clay_cli.specs.declared.status.Status.TheVariants.{Done, ScriptRefused, InputTooLong, ReadFault, WriteFault, OutOfMemory, NotLegal, DataRefused}
 
 abbrev pub usage_line : List ℕ
 usage_line = codes "usage: clay play | run WORKERS | verify | chunks K M W | recover K M W | gen START SIZE | trial START SIZE WORKERS\n"
@@ -22,6 +23,10 @@ abbrev pub Answers : Task → List ℕ → Status → List ℕ → Type 0
 Answers Play input Done output = IsTranscriptFor input output
 Answers Play input ScriptRefused output = IsRefusal input output
 Answers Play input _ output = ⊥
+Answers Verify input Done output = IsLegal input output
+Answers Verify input NotLegal output = IsNotLegal input output
+Answers Verify input ScriptRefused output = IsUnreadable input output
+Answers Verify input _ output = ⊥
 Answers (Chunks g) input Done output = IsChunkLines g input output
 Answers (Chunks g) input DataRefused output = IsDataRefused g input output
 Answers (Chunks g) input _ output = ⊥
@@ -42,7 +47,7 @@ Writes status old output new =
 
 -- the statuses of an output that was made of the input
 abbrev pub IsOfInput : Status → Type 0
-IsOfInput status = (status ≡ Done) ⊎ (status ≡ ScriptRefused) ⊎ (status ≡ DataRefused)
+IsOfInput status = (status ≡ Done) ⊎ (status ≡ ScriptRefused) ⊎ (status ≡ NotLegal) ⊎ (status ≡ DataRefused)
 
 -- the statuses with which nothing is written
 abbrev pub IsSilent : Status → Type 0

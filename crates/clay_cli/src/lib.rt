@@ -9,6 +9,7 @@ mod program;
 mod recover;
 mod status;
 mod top;
+mod verify;
 
 pub use program::run;
 pub use status::Status;

@@ -18,6 +18,8 @@ pub enum Status {
     WriteFault,
     /// Memory was wanting; nothing was written.
     OutOfMemory,
+    /// The transcript can't be that of a run of the script; one line that says why was written.
+    NotLegal,
     /// The input isn't the data that the command asks for; one line that says so was written.
     DataRefused,
 }
@@ -35,6 +37,7 @@ impl Status {
             Status::ReadFault => 4,
             Status::WriteFault => 5,
             Status::OutOfMemory => 6,
+            Status::NotLegal => 8,
             Status::DataRefused => 9,
         }
     }

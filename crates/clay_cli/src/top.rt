@@ -13,6 +13,7 @@ use crate::generate::script_from;
 use crate::output::Output;
 use crate::play::play;
 use crate::recover::recover;
+use crate::verify::verify;
 use clay_bytes::{InFault, Sink, Source, read_all, write_all};
 use clay_words::{Command, Task, command_of};
 use std::alloc::Global;
@@ -24,12 +25,14 @@ const USAGE_LINE: &[u8] =
 
 // The task's output for a whole input.
 fn output_of(alloc: Global, task: Task, input: &[u8]) -> Result<Output, Status>
+    requires { length input.now ≤ 167772160 }
     ensures status { IfOk result (λ output. IsOfInput output.status) }
     ensures answers { IfOk result (λ output. Answers task input.now output.status output.bytes.items) }
     ensures memory { IfErr result (λ status. status ≡ Status.OutOfMemory) }
 {
     let made = match task {
         Task::Play => play(alloc, input),
+        Task::Verify => verify(alloc, input),
         Task::Chunks(g) => chunks(alloc, g, input),
         Task::Recover(g) => recover(alloc, g, input),
     };

@@ -10,7 +10,7 @@ use Rattle.clay_words.specs.Words.{Asks, AsksNothing, IsCode, AreCodeWords}
 use Rattle.clay_words.specs.declared.words.Command.{Command}
 use Rattle.clay_words.specs.declared.words.Command.TheVariants.{Generate, OfInput}
 use Rattle.clay_words.specs.declared.words.Task.{Task}
-use Rattle.clay_words.specs.declared.words.Task.TheVariants.{Play, Chunks, Recover}
+use Rattle.clay_words.specs.declared.words.Task.TheVariants.{Play, Verify, Chunks, Recover}
 
 -- a list of one entry, which is x
 pub alone : {A : Type 0} (xs : List A) (x : A) → length xs ≡ 1 → x ≡ get_or xs 0 x → xs ≡ x ∷ []
@@ -93,6 +93,7 @@ pub asks_length : (words : List (List ℕ)) (command : Command) → Asks words c
     → (length words ≡ 0) ⊎ (length words ≡ 1) ⊎ (length words ≡ 3) ⊎ (length words ≡ 4)
 asks_length words (OfInput Play) (inl asked) = inl (ap length asked)
 asks_length words (OfInput Play) (inr asked) = inr (inl (ap length asked))
+asks_length words (OfInput Verify) asked = inr (inl (ap length asked))
 asks_length words (OfInput (Chunks g)) asked = inr (inr (inr (ap length asked.words_are)))
 asks_length words (OfInput (Recover g)) asked = inr (inr (inr (ap length asked.words_are)))
 asks_length words (Generate start size) asked = inr (inr (inl (ap length asked.0)))
@@ -114,12 +115,13 @@ same_answer answer words same is h = subst (λ list. MatchOption answer (AsksNot
 
 -- ---- one word
 
-pub nothing_of_one : (word : List ℕ) → (word ≡ codes "play" → ⊥) → AsksNothing (word ∷ [])
-nothing_of_one word play (OfInput Play) (inl asked) = apart _ _ asked (λ e. let h : 1 ≡ 0 = e in omega arith)
-nothing_of_one word play (OfInput Play) (inr asked) = play (ap (λ l. get_or l 0 []) asked)
-nothing_of_one word play (OfInput (Chunks g)) asked = apart _ _ asked.words_are (λ e. let h : 1 ≡ 4 = e in omega arith)
-nothing_of_one word play (OfInput (Recover g)) asked = apart _ _ asked.words_are (λ e. let h : 1 ≡ 4 = e in omega arith)
-nothing_of_one word play (Generate start size) asked = apart _ _ asked.0 (λ e. let h : 1 ≡ 3 = e in omega arith)
+pub nothing_of_one : (word : List ℕ) → (word ≡ codes "play" → ⊥) → (word ≡ codes "verify" → ⊥) → AsksNothing (word ∷ [])
+nothing_of_one word play verify (OfInput Play) (inl asked) = apart _ _ asked (λ e. let h : 1 ≡ 0 = e in omega arith)
+nothing_of_one word play verify (OfInput Play) (inr asked) = play (ap (λ l. get_or l 0 []) asked)
+nothing_of_one word play verify (OfInput Verify) asked = verify (ap (λ l. get_or l 0 []) asked)
+nothing_of_one word play verify (OfInput (Chunks g)) asked = apart _ _ asked.words_are (λ e. let h : 1 ≡ 4 = e in omega arith)
+nothing_of_one word play verify (OfInput (Recover g)) asked = apart _ _ asked.words_are (λ e. let h : 1 ≡ 4 = e in omega arith)
+nothing_of_one word play verify (Generate start size) asked = apart _ _ asked.0 (λ e. let h : 1 ≡ 3 = e in omega arith)
 
 -- ---- three words
 
@@ -128,6 +130,7 @@ pub nothing_of_three : (name first second : List ℕ)
     → AsksNothing (name ∷ first ∷ second ∷ [])
 nothing_of_three name first second none (OfInput Play) (inl asked) = apart _ _ asked (λ e. let h : 3 ≡ 0 = e in omega arith)
 nothing_of_three name first second none (OfInput Play) (inr asked) = apart _ _ asked (λ e. let h : 3 ≡ 1 = e in omega arith)
+nothing_of_three name first second none (OfInput Verify) asked = apart _ _ asked (λ e. let h : 3 ≡ 1 = e in omega arith)
 nothing_of_three name first second none (OfInput (Chunks g)) asked = apart _ _ asked.words_are (λ e. let h : 3 ≡ 4 = e in omega arith)
 nothing_of_three name first second none (OfInput (Recover g)) asked = apart _ _ asked.words_are (λ e. let h : 3 ≡ 4 = e in omega arith)
 nothing_of_three name first second none (Generate start size) asked =
@@ -162,6 +165,7 @@ pub nothing_of_four : (name k m w : List ℕ) → ((g : Shape) → name ≡ code
     → AsksNothing (name ∷ k ∷ m ∷ w ∷ [])
 nothing_of_four name k m w chunks recover (OfInput Play) (inl asked) = apart _ _ asked (λ e. let h : 4 ≡ 0 = e in omega arith)
 nothing_of_four name k m w chunks recover (OfInput Play) (inr asked) = apart _ _ asked (λ e. let h : 4 ≡ 1 = e in omega arith)
+nothing_of_four name k m w chunks recover (OfInput Verify) asked = apart _ _ asked (λ e. let h : 4 ≡ 1 = e in omega arith)
 nothing_of_four name k m w chunks recover (OfInput (Chunks g)) asked = let h = code_back name k m w (codes "chunks") g asked in chunks g h.0 h.1
 nothing_of_four name k m w chunks recover (OfInput (Recover g)) asked = let h = code_back name k m w (codes "recover") g asked in recover g h.0 h.1
 nothing_of_four name k m w chunks recover (Generate start size) asked = apart _ _ asked.0 (λ e. let h : 4 ≡ 3 = e in omega arith)
@@ -180,6 +184,7 @@ asked_as words command other is asked = let P : Command → Type 0 = λ c. Asks 
 pub drawn_alone : (words : List (List ℕ)) (start size : ℕ) (task : Task) → Asks words (Generate start size) → Asks words (OfInput task) → ⊥
 drawn_alone words start size Play drawn (inl asked) = apart _ _ (sym drawn.0 ∙ asked) (λ e. let h : 3 ≡ 0 = e in omega arith)
 drawn_alone words start size Play drawn (inr asked) = apart _ _ (sym drawn.0 ∙ asked) (λ e. let h : 3 ≡ 1 = e in omega arith)
+drawn_alone words start size Verify drawn asked = apart _ _ (sym drawn.0 ∙ asked) (λ e. let h : 3 ≡ 1 = e in omega arith)
 drawn_alone words start size (Chunks g) drawn asked = apart _ _ (sym drawn.0 ∙ asked.words_are) (λ e. let h : 3 ≡ 4 = e in omega arith)
 drawn_alone words start size (Recover g) drawn asked = apart _ _ (sym drawn.0 ∙ asked.words_are) (λ e. let h : 3 ≡ 4 = e in omega arith)
 

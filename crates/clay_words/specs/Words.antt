@@ -5,7 +5,7 @@ use Rattle.clay_grid.specs.Limits.{IsWithinLimits}
 use Rattle.clay_words.specs.declared.words.Command.{Command}
 use Rattle.clay_words.specs.declared.words.Command.TheVariants.{Generate, OfInput}
 use Rattle.clay_words.specs.declared.words.Task.{Task}
-use Rattle.clay_words.specs.declared.words.Task.TheVariants.{Play, Chunks, Recover}
+use Rattle.clay_words.specs.declared.words.Task.TheVariants.{Play, Verify, Chunks, Recover}
 
 -- three words spell the numbers of a code within its limits
 pub record IsCode (g : Shape) (k m w : List ℕ) : Type 0 where
@@ -25,6 +25,7 @@ pub record AreCodeWords (words : List (List ℕ)) (name : List ℕ) (g : Shape) 
 -- the words for what is made of an input
 abbrev pub AsksTask : List (List ℕ) → Task → Type 0
 AsksTask words Play = (words ≡ []) ⊎ (words ≡ codes "play" ∷ [])
+AsksTask words Verify = words ≡ codes "verify" ∷ []
 AsksTask words (Chunks g) = AreCodeWords words (codes "chunks") g
 AsksTask words (Recover g) = AreCodeWords words (codes "recover") g
 

@@ -11,6 +11,7 @@ use line_grammar::{is_number, read_number};
 #[derive(Clone, Copy)]
 pub enum Task {
     Play,
+    Verify,
     Chunks(Geometry),
     Recover(Geometry),
 }
@@ -74,6 +75,8 @@ fn plain_command(word: &str) -> Option<Command>
 {
     if word == "play" {
         Some(Command::OfInput(Task::Play))
+    } else if word == "verify" {
+        Some(Command::OfInput(Task::Verify))
     } else {
         None
     }

@@ -1,0 +1,76 @@
+// The command `verify`.
+ghost use Rattle.std.specs.Prelude.{◌≡◌, ◌≢◌, ◌⊎◌, ◌≤◌, ◌<◌, ◌+◌, ◌^◌, length, IfOk};
+ghost use Rattle.hist_rules.specs.Verdict.{verdict_of};
+ghost use Rattle.hist_rules.specs.VerdictText.{verdict_line};
+ghost use Rattle.clay_cli.specs.Top.{Answers, IsOfInput};
+ghost use Rattle.clay_cli.specs.Verify.{line_count};
+ghost use Rattle.clay_words.specs.declared.words.Task.TheVariants.{Verify};
+
+use crate::Status;
+use crate::output::Output;
+use crate::play::refusal;
+use hist_check::check;
+use hist_rules::Verdict;
+use hist_tables::verdict_line;
+use line_grammar::FaultKind;
+use script_text::{ScriptFault, read_front};
+use std::alloc::{AllocError, Global};
+use store_map::Script;
+use transcript_read::read_transcript;
+use transcript_text::Transcript;
+
+// The number of whole lines.
+fn line_count(text: &[u8]) -> usize
+    ensures count { result ≡ line_count text.now }
+    ensures few { result ≤ length text.now }
+{
+    text.iter().filter(|byte| **byte == b'\n').count()
+}
+
+// The fault, with its line counted from the top of the lines before it too. Want of memory has no line.
+fn behind(before: &[u8], fault: ScriptFault) -> ScriptFault
+    requires before { length before.now ≤ 167772160 }
+    requires line { fault.line ≤ 167772161 }
+    ensures kind { result.kind ≡ fault.kind }
+    ensures line { fault.kind ≢ FaultKind.OutOfMemory → result.line ≡ line_count before.now + fault.line }
+{
+    let line = line_count(before) as u32 + fault.line;
+    ScriptFault {
+        line,
+        kind: fault.kind,
+    }
+}
+
+// The line that a script's transcript gets.
+fn judge(alloc: Global, script: &Script, transcript: &Transcript) -> Result<Output, AllocError>
+    requires few { length transcript.now.history + length transcript.now.refused + length transcript.now.repairs < 2 ^ 32 }
+    ensures line { IfOk result (λ output. output.bytes.items ≡ verdict_line (verdict_of script.now transcript.now)) }
+    ensures legal { IfOk result (λ output. output.status ≡ Status.Done → verdict_of script.now transcript.now ≡ Verdict.Legal) }
+    ensures broken { IfOk result (λ output. output.status ≡ Status.NotLegal → verdict_of script.now transcript.now ≢ Verdict.Legal) }
+    ensures which { IfOk result (λ output. (output.status ≡ Status.Done) ⊎ (output.status ≡ Status.NotLegal)) }
+{
+    let verdict = check(alloc, script, transcript)?;
+    let status = match verdict {
+        Verdict::Legal => Status::Done,
+        _ => Status::NotLegal,
+    };
+    let bytes = verdict_line(alloc, &verdict)?;
+    Ok(Output { status, bytes })
+}
+
+/// The verdict on the script and the transcript that the input spells, or a line that says why there is none.
+pub fn verify(alloc: Global, input: &[u8]) -> Result<Output, AllocError>
+    requires { length input.now ≤ 167772160 }
+    ensures status { IfOk result (λ output. IsOfInput output.status) }
+    ensures answers { IfOk result (λ output. Answers Verify input.now output.status output.bytes.items) }
+{
+    let (script, length) = match read_front(alloc, input) {
+        Ok(front) => front,
+        Err(fault) => return refusal(alloc, fault),
+    };
+    let (front, rest) = input.split_at(length);
+    match read_transcript(alloc, rest, script.geometry.n()) {
+        Ok(transcript) => judge(alloc, &script, &transcript),
+        Err(fault) => refusal(alloc, behind(front, fault)),
+    }
+}
