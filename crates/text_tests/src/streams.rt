@@ -123,15 +123,25 @@ impl Write for Full {
 }
 
 #[test]
-fn tries_again_after_an_interruption(rt: HostRuntime) -> Result<(), Fail> {
+fn reads_again_after_an_interruption(rt: HostRuntime) -> Result<(), Fail> {
     let mut buf = [0; 4];
     let mut source = StdSource::new(Flaky { calls: 0, left: 1 });
     assert_eq!(rt; source.read(&mut buf), Ok(1));
     assert_eq!(rt; buf, [b'x', 0, 0, 0]);
     assert_eq!(rt; source.read(&mut buf), Err(Failed));
+    Ok(())
+}
+
+#[test]
+fn writes_again_after_an_interruption(rt: HostRuntime) -> Result<(), Fail> {
     let mut sink = StdSink::new(Flaky { calls: 0, left: 2 });
     assert_eq!(rt; write_all(&mut sink, b"ab"), Ok(()));
     assert_eq!(rt; write_all(&mut sink, b"c"), Err(WriteFault));
+    Ok(())
+}
+
+#[test]
+fn writes_nothing_where_nothing_is_taken(rt: HostRuntime) -> Result<(), Fail> {
     assert_eq!(rt; write_all(&mut StdSink::new(Full), b"c"), Err(WriteFault));
     assert_eq!(rt; write_all(&mut StdSink::new(Full), b""), Ok(()));
     Ok(())

@@ -1,5 +1,4 @@
-use line_grammar::FaultKind;
-use line_grammar::FaultKind::{MissingEnd, Syntax};
+use crate::faults::{Around, Reader, have_faults};
 use script_text::ScriptFault;
 use std::alloc::Global;
 use std::process::Abort;
@@ -50,26 +49,19 @@ fn read(alloc: Global, text: &[u8], servers: u32) -> Result<Result<Transcript, S
     Ok(read_transcript(alloc, text, servers))
 }
 
-fn fault_of(alloc: Global, text: &[u8], servers: u32) -> Result<ScriptFault, Fail> {
-    match read(alloc, text, servers)? {
-        Ok(_) => Err(Fail::from("no fault")),
-        Err(fault) => Ok(fault),
-    }
-}
-
-/// Holds the first fault of each text, with two servers, against its line and kind.
+/// Holds the text of each row of a table, with this behind it, against the fault of that row.
 fn has_faults(
     rt: &(impl Abort + AllocGlobal),
-    texts: &[(&[u8], u32, FaultKind)],
+    behind: &[u8],
+    servers: u32,
+    rows: usize,
+    table: &[u8],
 ) -> Result<(), Fail> {
-    for (text, line, kind) in texts.iter() {
-        let mut whole = Vec::from_slice(rt.alloc(), text)?;
-        whole.extend_from_slice(SERVERS)?;
-        let fault = fault_of(rt.alloc(), whole.as_slice(), 2)?;
-        assert_eq!(rt; fault.line, *line);
-        assert_eq!(rt; fault.kind, *kind);
-    }
-    Ok(())
+    let around = Around {
+        before: b"",
+        behind,
+    };
+    have_faults(rt, Reader::Transcript(servers), around, rows, table)
 }
 
 #[test]
@@ -88,37 +80,39 @@ fn reads_every_form_of_line(rt: HostRuntime) -> Result<(), Fail> {
 fn refuses_lines_without_their_form(rt: HostRuntime) -> Result<(), Fail> {
     has_faults(
         &rt,
-        &[
-            (b"\n", 1, Syntax),
-            (b"H 00 c0.0 ok\n", 1, Syntax),
-            (b"H 18446744073709551616 c0.0 ok\n", 1, Syntax),
-            (b"H 0 c4294967296.0 ok\n", 1, Syntax),
-            (b"H 0 c0 ok\n", 1, Syntax),
-            (b"H 0 r0.0 ok\n", 1, Syntax),
-            (b"H 0 c0.0 ok \n", 1, Syntax),
-            (b"H 0  c0.0 ok\n", 1, Syntax),
-            (b"H 0 c0.0\n", 1, Syntax),
-            (b"H 0 c0.0 bytes hex:0\n", 1, Syntax),
-            (b"H 0 c0.0 bytes hex:0A\n", 1, Syntax),
-            (b"H 0 c0.0 length -1\n", 1, Syntax),
-            (b"X r0.0 nomem\n", 1, Syntax),
-            (b"X c0.0 contended\n", 1, Syntax),
-            (b"X c0.0 contended 1\n", 1, Syntax),
-            (b"X c0.0 contended 1/2/3\n", 1, Syntax),
-            (b"X c0.0 unavailable stripe 0 missing\n", 1, Syntax),
-            (b"X c0.0 unavailable stripe 0 missing 0/a1/0\n", 1, Syntax),
-            (b"X c0.0 unavailable stripe 0 missing 0/1/u0\n", 1, Syntax),
-            (b"X c0.0 rebuilt\n", 1, Syntax),
-            (b"R c0.0 here\n", 1, Syntax),
-            (b"R r0.0 away\n", 1, Syntax),
-            (b"O c0.0 \n", 1, Syntax),
-            (b"L A 0\n", 1, Syntax),
-            (b"G c0.0 1\n", 1, Syntax),
-            (b"G c0.0 1 0 0\n", 1, Syntax),
-            (b"G c0.0 0 0\n", 1, Syntax),
-            (b"T 1 0 0 0\n", 1, Syntax),
-            (b"end\n", 1, Syntax),
-        ],
+        SERVERS,
+        2,
+        29,
+        b"\
+        line 1: syntax>\n|\
+        line 1: syntax>H 00 c0.0 ok\n|\
+        line 1: syntax>H 18446744073709551616 c0.0 ok\n|\
+        line 1: syntax>H 0 c4294967296.0 ok\n|\
+        line 1: syntax>H 0 c0 ok\n|\
+        line 1: syntax>H 0 r0.0 ok\n|\
+        line 1: syntax>H 0 c0.0 ok \n|\
+        line 1: syntax>H 0  c0.0 ok\n|\
+        line 1: syntax>H 0 c0.0\n|\
+        line 1: syntax>H 0 c0.0 bytes hex:0\n|\
+        line 1: syntax>H 0 c0.0 bytes hex:0A\n|\
+        line 1: syntax>H 0 c0.0 length -1\n|\
+        line 1: syntax>X r0.0 nomem\n|\
+        line 1: syntax>X c0.0 contended\n|\
+        line 1: syntax>X c0.0 contended 1\n|\
+        line 1: syntax>X c0.0 contended 1/2/3\n|\
+        line 1: syntax>X c0.0 unavailable stripe 0 missing\n|\
+        line 1: syntax>X c0.0 unavailable stripe 0 missing 0/a1/0\n|\
+        line 1: syntax>X c0.0 unavailable stripe 0 missing 0/1/u0\n|\
+        line 1: syntax>X c0.0 rebuilt\n|\
+        line 1: syntax>R c0.0 here\n|\
+        line 1: syntax>R r0.0 away\n|\
+        line 1: syntax>O c0.0 \n|\
+        line 1: syntax>L A 0\n|\
+        line 1: syntax>G c0.0 1\n|\
+        line 1: syntax>G c0.0 1 0 0\n|\
+        line 1: syntax>G c0.0 0 0\n|\
+        line 1: syntax>T 1 0 0 0\n|\
+        line 1: syntax>end\n",
     )
 }
 
@@ -126,37 +120,40 @@ fn refuses_lines_without_their_form(rt: HostRuntime) -> Result<(), Fail> {
 fn refuses_lines_out_of_order(rt: HostRuntime) -> Result<(), Fail> {
     has_faults(
         &rt,
-        &[
-            (b"H 1 c0.0 ok\nH 1 c0.1 ok\n", 2, Syntax),
-            (b"X c0.0 nomem\nH 1 c0.1 ok\n", 2, Syntax),
-            (b"X c1.0 nomem\nX c0.1 nomem\n", 2, Syntax),
-            (b"X c1.1 nomem\nX c1.1 nomem\n", 2, Syntax),
-            (b"O r0.0\nO c1.1\n", 2, Syntax),
-            (b"L a 0\nL a 0\nO c0.0\n", 3, Syntax),
-            (b"G c0.1 1 0\nG c0.0 0 1\n", 2, Syntax),
-            (b"T 0 0 0 0\nT 0 0 0 0\n", 2, Syntax),
-            (b"T 0 0 0 0\nend\n", 2, Syntax),
-            (b"T 0 0 0 0\nT 1 0 0 0\nT 2 0 0 0\n", 3, Syntax),
-            (SERVERS, 4, Syntax),
-        ],
+        SERVERS,
+        2,
+        11,
+        b"\
+        line 2: syntax>H 1 c0.0 ok\nH 1 c0.1 ok\n|\
+        line 2: syntax>X c0.0 nomem\nH 1 c0.1 ok\n|\
+        line 2: syntax>X c1.0 nomem\nX c0.1 nomem\n|\
+        line 2: syntax>X c1.1 nomem\nX c1.1 nomem\n|\
+        line 2: syntax>O r0.0\nO c1.1\n|\
+        line 3: syntax>L a 0\nL a 0\nO c0.0\n|\
+        line 2: syntax>G c0.1 1 0\nG c0.0 0 1\n|\
+        line 2: syntax>T 0 0 0 0\nT 0 0 0 0\n|\
+        line 2: syntax>T 0 0 0 0\nend\n|\
+        line 3: syntax>T 0 0 0 0\nT 1 0 0 0\nT 2 0 0 0\n|\
+        line 4: syntax>T 0 0 0 0\nT 1 0 0 0\nend\n",
     )
 }
 
 #[test]
 fn misses_the_last_line(rt: HostRuntime) -> Result<(), Fail> {
-    for (text, line, kind) in [
-        (b"".as_slice(), 1, MissingEnd),
-        (b"en".as_slice(), 1, MissingEnd),
-        (b"end".as_slice(), 1, MissingEnd),
-        (b"O c0.0\nO c0.1".as_slice(), 2, MissingEnd),
-        (b"O c0.1\nO c0.0\nO c0".as_slice(), 2, Syntax),
-        (b"end\nx".as_slice(), 2, Syntax),
-        (b"end\n\n".as_slice(), 2, Syntax),
-    ] {
-        let fault = fault_of(rt.alloc(), text, 0)?;
-        assert_eq!(rt; fault.line, line);
-        assert_eq!(rt; fault.kind, kind);
-    }
+    has_faults(
+        &rt,
+        b"",
+        0,
+        7,
+        b"\
+        line 1: missing end>|\
+        line 1: missing end>en|\
+        line 1: missing end>end|\
+        line 2: missing end>O c0.0\nO c0.1|\
+        line 2: syntax>O c0.1\nO c0.0\nO c0|\
+        line 2: syntax>end\nx|\
+        line 2: syntax>end\n\n",
+    )?;
     assert!(rt; read(rt.alloc(), b"end\n", 0)?.is_ok());
     Ok(())
 }

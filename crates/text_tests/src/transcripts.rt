@@ -1,3 +1,4 @@
+use crate::faults::same;
 use std::alloc::{AllocError, Global};
 use std::test::Fail;
 use store_map::{Found, ListOf, Name, Placement, Reply};
@@ -131,52 +132,67 @@ fn repairs(alloc: Global) -> Result<ListOf<RLine>, AllocError> {
     Ok(lines)
 }
 
-#[test]
-fn writes_every_form_of_line(rt: HostRuntime) -> Result<(), Fail> {
-    let alloc = rt.alloc();
+fn unanswered(alloc: Global) -> Result<ListOf<OLine>, AllocError> {
+    Ok(ListOf::from_vec(vec![in alloc;
+        OLine { call: client(0, 7) },
+        OLine {
+            call: repairer(15, 4095)
+        },
+    ]?))
+}
+
+fn objects(alloc: Global) -> Result<ListOf<LLine>, Fail> {
+    let mut lines = ListOf::new(alloc);
+    for (name, length) in [("a-name_of.10", 8), ("b", 0)] {
+        let name = Name::new(alloc, name)?;
+        lines.push(LLine { name, length })?;
+    }
+    Ok(lines)
+}
+
+fn takes(alloc: Global) -> Result<ListOf<GLine>, AllocError> {
     let takes = ListOf::from_vec(vec![in alloc; 4, 4, 0, 0]?);
-    let transcript = Transcript {
+    let mut lines = ListOf::new(alloc);
+    lines.push(GLine {
+        call: client(0, 1),
+        takes,
+    })?;
+    Ok(lines)
+}
+
+fn servers(alloc: Global) -> Result<ListOf<TLine>, AllocError> {
+    Ok(ListOf::from_vec(vec![in alloc;
+        TLine {
+            server: 0,
+            taken: 4,
+            held: 1,
+            epoch: 0
+        },
+        TLine {
+            server: 23,
+            taken: u64::MAX,
+            held: 0,
+            epoch: 2
+        },
+    ]?))
+}
+
+fn whole(alloc: Global) -> Result<Transcript, Fail> {
+    Ok(Transcript {
         history: history(alloc)?,
         refused: refused(alloc)?,
         repairs: repairs(alloc)?,
-        unanswered: ListOf::from_vec(vec![in alloc;
-            OLine { call: client(0, 7) },
-            OLine {
-                call: repairer(15, 4095)
-            },
-        ]?),
-        objects: ListOf::from_vec(vec![in alloc;
-            LLine {
-                name: Name::new(alloc, "a-name_of.10")?,
-                length: 8
-            },
-            LLine {
-                name: Name::new(alloc, "b")?,
-                length: 0
-            },
-        ]?),
-        takes: ListOf::from_vec(vec![in alloc;
-            GLine {
-                call: client(0, 1),
-                takes
-            },
-        ]?),
-        servers: ListOf::from_vec(vec![in alloc;
-            TLine {
-                server: 0,
-                taken: 4,
-                held: 1,
-                epoch: 0
-            },
-            TLine {
-                server: 23,
-                taken: u64::MAX,
-                held: 0,
-                epoch: 2
-            },
-        ]?),
-    };
-    let text = write_transcript(alloc, &transcript)?;
-    assert_eq!(rt; text.as_slice(), TEXT.as_bytes());
+        unanswered: unanswered(alloc)?,
+        objects: objects(alloc)?,
+        takes: takes(alloc)?,
+        servers: servers(alloc)?,
+    })
+}
+
+#[test]
+fn writes_every_form_of_line(rt: HostRuntime) -> Result<(), Fail> {
+    let transcript = whole(rt.alloc())?;
+    let text = write_transcript(rt.alloc(), &transcript)?;
+    same(&rt, &text, TEXT.as_bytes());
     Ok(())
 }

@@ -1,0 +1,91 @@
+//! Tables of faults, each a text: a table that is an array is proved row by row.
+
+use script_text::read_script;
+use std::alloc::Global;
+use std::process::Abort;
+use std::test::Fail;
+use transcript_read::read_transcript;
+
+/// What reads a text.
+#[derive(Clone, Copy)]
+pub enum Reader {
+    Script,
+    /// Of a transcript with so many servers.
+    Transcript(u32),
+}
+
+/// What stands around the text of each row.
+#[derive(Clone, Copy)]
+pub struct Around<'a> {
+    pub before: &'a [u8],
+    pub behind: &'a [u8],
+}
+
+/// The parts of a row before and behind its first `>`: what is wanted, and the text.
+pub fn parts(row: &[u8]) -> Result<(&[u8], &[u8]), Fail> {
+    let at = row
+        .iter()
+        .position(|byte| *byte == b'>')
+        .ok_or("a row without what is wanted")?;
+    Ok((&row[..at], &row[at + 1..]))
+}
+
+/// The first fault of the text, as it is printed.
+pub fn fault_in(alloc: Global, reader: Reader, text: &[u8]) -> Result<String, Fail> {
+    if text.len() >= 1 << 31 {
+        return Err(Fail::from("too long"));
+    }
+    let fault = match reader {
+        Reader::Script => read_script(alloc, text).err(),
+        Reader::Transcript(servers) => read_transcript(alloc, text, servers).err(),
+    };
+    match fault {
+        Some(fault) => Ok(format!(in alloc; "{fault}")?),
+        None => Err(Fail::from("no fault")),
+    }
+}
+
+/// Three texts, one behind the other.
+pub fn joined(alloc: Global, first: &[u8], second: &[u8], third: &[u8]) -> Result<Vec<u8>, Fail> {
+    let mut whole = Vec::from_slice(alloc, first)?;
+    whole.extend_from_slice(second)?;
+    whole.extend_from_slice(third)?;
+    Ok(whole)
+}
+
+/// Holds what was found against what is wanted. It is a function of its own, since each assertion in a
+/// function makes all of that function dearer to prove.
+pub fn same(rt: &(impl Abort + AllocGlobal), found: &[u8], wanted: &[u8]) {
+    assert_eq!(rt; found, wanted);
+}
+
+fn has_fault(
+    rt: &(impl Abort + AllocGlobal),
+    reader: Reader,
+    around: Around<'_>,
+    row: &[u8],
+) -> Result<(), Fail> {
+    let (fault, text) = parts(row)?;
+    let whole = joined(rt.alloc(), around.before, text, around.behind)?;
+    let found = fault_in(rt.alloc(), reader, &whole)?;
+    same(rt, found.as_bytes(), fault);
+    Ok(())
+}
+
+/// Holds the text of each row, with what stands around it, against the fault of that row, which is written
+/// as it is printed, `>` behind it. The rows are parted by `|`; there are so many.
+pub fn have_faults(
+    rt: &(impl Abort + AllocGlobal),
+    reader: Reader,
+    around: Around<'_>,
+    rows: usize,
+    table: &[u8],
+) -> Result<(), Fail> {
+    let mut held: usize = 0;
+    for row in table.split(|byte| *byte == b'|') {
+        has_fault(rt, reader, around, row)?;
+        held = held.saturating_add(1);
+    }
+    assert_eq!(rt; held, rows);
+    Ok(())
+}
