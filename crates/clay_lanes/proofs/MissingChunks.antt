@@ -1,17 +1,19 @@
 -- The numbers of the missing chunks, and the missing chunks and the others put together.
-use Rattle.std.proofs.Common.{◌≡◌, ◌≢◌, ℕ, suc, subst, ◌+◌, ◌-◌, ◌*◌, ◌/◌, ◌%◌, ◌<◌, ◌≤◌, true, false, cond, List, [], ◌∷◌, ◌++◌, length, get_or, set, take, drop, map, Option, Some, None, is_none, Vec, Global, All, refl, sym, ap, ◌∙◌, arith, append_assoc}
+use Rattle.std.proofs.Common.{◌≡◌, ◌≢◌, ℕ, suc, subst, ◌+◌, ◌-◌, ◌*◌, ◌/◌, ◌%◌, ◌<◌, ◌≤◌, true, false, cond, List, [], ◌∷◌, ◌++◌, length, get_or, set, take, drop, map, Option, Some, None, is_none, Vec, Global, All, IfSome, inl, inr, refl, sym, ap, ◌∙◌, arith, append_assoc}
 use Rattle.std.specs.List.{insert}
-use Rattle.std.proofs.lemmas.Bool.{true≢false}
+use Rattle.std.proofs.lemmas.Bool.{true≢false, cases_eq}
 use Rattle.std.proofs.lemmas.Nat.{mod_below, div_below, div-add-mod'}
 use Rattle.std.proofs.lemmas.List.{ext_get_or, get_or_default, get_or-set_same, get_or-set_other, take_more, take-map, drop-map, length-map, length-take-le, length_push}
-use Rattle.std.proofs.lemmas.List.Edits.{length-insert}
+use Rattle.std.proofs.lemmas.List.Edits.{length-insert, get_or-insert_below, get_or-insert_at}
 use Rattle.std.proofs.lemmas.List.Elements.{All-append, All-cons, All-take, All-drop}
 use Rattle.std.proofs.lemmas.List as lists
 use Rattle.std.proofs.Math.Seq.{take-append_seam, drop-append_seam}
 use Rattle.clay_grid.specs.Shape.{Shape, chunk_count, layer_count, chunk_length}
 use Rattle.clay_grid.proofs.Rising.{Lists-filter}
+use Rattle.clay_model.specs.Code.{AgreesWith}
 use Rattle.clay_encode.specs.Chunks.{contents}
-use Rattle.clay_decode.specs.Left.{AreLong, Completes}
+use Rattle.clay_decode.specs.Left.{parts, AreLong, Completes}
+use Rattle.clay_decode.proofs.Agreeing.{agrees_of}
 use Rattle.clay_decode.proofs.Nodes.{agreeing_chunk, long_chunk}
 use Rattle.clay_repair.specs.Coding.{AreRecovered}
 use Rattle.clay_lanes.specs.Recovered.{HoldsByte, missing_from, missing_of, AreMissing}
@@ -81,6 +83,7 @@ missing_later have c v h some =
 pub record StandBefore (g : Shape) (have : List (Option (Vec ℕ Global))) (c : ℕ) (chunks : List (List ℕ)) : Type 0 where
   pub count : length chunks ≡ c + length (missing_from have c (length have - c))
   pub lengths : All (λ chunk. length chunk ≡ chunk_length g) chunks
+  pub kept : (i : ℕ) → i < c → IfSome (get_or have i None) (λ v. get_or chunks i [] ≡ v.items)
   pub value : (word : List (List ℕ)) → Completes g have word → chunks ≡ take c word ++ map (λ i. get_or word i []) (missing_from have c (length have - c))
 
 pub StandBefore-none : (g : Shape) (have : List (Option (Vec ℕ Global))) (chunks : List (List ℕ)) → AreMissing g have chunks → StandBefore g have 0 chunks
@@ -92,6 +95,7 @@ StandBefore-none g have chunks missing =
     record {
       count = omega (arith, counted, counts);
       lengths = missing.lengths;
+      kept = λ i h. absurd (omega (arith, h));
       value = λ word fits. missing.value word fits ∙ ap (map (λ i. get_or word i [])) same;
     }
 
@@ -104,6 +108,10 @@ StandBefore-missing g have c chunks all h none before =
     record {
       count = omega (arith, counted, longer);
       lengths = before.lengths;
+      kept = λ i below. elim (cases_eq i c) [
+        | inl same ↦ subst (λ o. IfSome o (λ v. get_or chunks i [] ≡ v.items)) (sym (ap (λ k. get_or have k None) same ∙ none)) tt
+        | inr other ↦ before.kept i (omega (arith, below, other))
+      ];
       value = λ word fits.
           let value : ℕ → List ℕ = λ i. get_or word i [] in
           let within : c < length word = omega (arith, fits.codeword.count, all) in
@@ -141,6 +149,14 @@ StandBefore-present g have c vs v u all long h some same before =
     subst (StandBefore g have (c + 1)) (sym is) (record {
       count = omega (arith, counted, shorter, more);
       lengths = All-insert (λ chunk. length chunk ≡ chunk_length g) (contents vs) c v.items before.lengths (long_chunk (chunk_length g) have long c v h some);
+      kept = λ i below. elim (cases_eq i c) [
+        | inl same ↦
+            subst (λ o. IfSome o (λ w. get_or (insert (contents vs) c v.items) i [] ≡ w.items)) (sym (ap (λ k. get_or have k None) same ∙ some))
+            (ap (λ k. get_or (insert (contents vs) c v.items) k []) same ∙ get_or-insert_at (contents vs) c v.items [] room)
+        | inr other ↦
+            let early : i < c = omega (arith, below, other) in
+            subst (λ l. IfSome (get_or have i None) (λ w. l ≡ w.items)) (sym (get_or-insert_below (contents vs) c v.items [] i early room)) (before.kept i early)
+      ];
       value = λ word fits.
           let value : ℕ → List ℕ = λ i. get_or word i [] in
           let within : c < length word = omega (arith, fits.codeword.count, all) in
@@ -166,3 +182,7 @@ all_stand g have c chunks all end before =
           ∙ lists.append-nil (take c word)
           ∙ lists.take_all c word whole;
     }
+
+-- the chunks that are there stay as they are
+pub all_kept : (g : Shape) (have : List (Option (Vec ℕ Global))) (c : ℕ) (chunks : List (List ℕ)) → c ≡ length have → StandBefore g have c chunks → AgreesWith (parts have) chunks
+all_kept g have c chunks end before = agrees_of have chunks (λ i h. before.kept i (omega (arith, h, end)))

@@ -26,7 +26,7 @@ pub record IsNodePlan (g : Shape) (have : List (Option (Vec ℕ Global))) (plan 
 -- a call of decoding works with the plan of the missing chunks, the factors of their nodes, and the products of the inverse of 5
 pub record IsLanePlan (g : Shape) (have : List (Option (Vec ℕ Global))) (plan : Plan) : Type 0 where
   pub nodes : IsNodePlan g have plan
-  pub generator : IsGeneratorOf g plan.points.items plan.generator.unknown plan.generator.factors.items
+  pub generator : IsGeneratorOf g plan.points.items plan.generator.unknown plan.generator.each
   pub fifths : plan.fifths ≡ 0xA7
 
 -- a piece has the bytes from `at` on of node i's subchunk n, as many as len

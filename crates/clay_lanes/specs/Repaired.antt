@@ -19,7 +19,7 @@ pub record IsRepairPlan (g : Shape) (plan : RepairPlan) : Type 0 where
   pub column : plan.column ≡ node_of_chunk g plan.lost / row_count g
   pub nodes : length plan.erased.items ≡ node_count g
   pub erased_are : (i : ℕ) → i < node_count g → get_or plan.erased.items i false ≡ eqb (i / row_count g) plan.column
-  pub generator : IsGeneratorOf g (column_nodes g plan.column) plan.generator.unknown plan.generator.factors.items
+  pub generator : IsGeneratorOf g (column_nodes g plan.column) plan.generator.unknown plan.generator.each
   pub layers : plan.layers.items ≡ repair_layers_of g plan.lost
   pub empty : plan.zeros.items ≡ replicate g.width 0
   pub halves : plan.halves ≡ 0x8E

@@ -13,10 +13,12 @@ mod products;
 mod repair;
 mod repair_plan;
 
-pub use chunks::{encode, parity};
+pub use chunks::{BLOCK, add_pieces, encode, last_column, parity, solve_group};
 pub use coder::LaneCoder;
+pub use coupling::fifths;
 pub use generator::Generator;
 pub use kernels::add_rows;
 pub use lost::{decode, missing};
+pub use plan::zeros;
 pub use products::Products;
 pub use repair::rebuild;

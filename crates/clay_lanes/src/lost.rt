@@ -1,8 +1,9 @@
 //! The missing chunks, a block of bytes of each subchunk after another.
 ghost use Rattle.std.specs.Prelude.{◌≡◌, ℕ, ◌+◌, ◌*◌, ◌<◌, ◌≤◌, ◌↔◌, List, [], length, min, replicate, IfOk, IsErrOf, All, slice_index, slice_index_or, true, false, count_by, is_none, None};
 ghost use Rattle.clay_grid.specs.Shape.{chunk_count, node_count, layer_count, chunk_length};
+ghost use Rattle.clay_model.specs.Code.{AgreesWith};
 ghost use Rattle.clay_encode.specs.Chunks.{contents};
-ghost use Rattle.clay_decode.specs.Left.{AreLong, Completes};
+ghost use Rattle.clay_decode.specs.Left.{parts, AreLong, Completes};
 ghost use Rattle.clay_repair.specs.Coding.{AreLeft, AreRecovered};
 ghost use Rattle.clay_lanes.specs.Recovered.{IsLanePlan, IsCoupled, HoldsLayerRows, HoldsByte, missing_of, AreMissing};
 
@@ -305,7 +306,8 @@ fn with_present(
     requires count { length have.now ≡ chunk_count g }
     requires lengths { AreLong (chunk_length g) have.now }
     requires missing { AreMissing g have.now (contents missing.items) }
-    ensures { IfOk result (λ chunks. AreRecovered g have.now (contents chunks.items)) }
+    ensures kept { IfOk result (λ chunks. AgreesWith (parts have.now) (contents chunks.items)) }
+    ensures recovered { IfOk result (λ chunks. AreRecovered g have.now (contents chunks.items)) }
 {
     let mut chunks = missing;
     for (c, part) in have.iter().enumerate() {
@@ -323,15 +325,17 @@ pub fn recover(
     have: &[Option<Vec<u8>>],
 ) -> Result<Vec<Vec<u8>>, AllocError>
     requires { AreLeft g have.now }
-    ensures { IfOk result (λ chunks. AreRecovered g have.now (contents chunks.items)) }
+    ensures kept { IfOk result (λ chunks. AgreesWith (parts have.now) (contents chunks.items)) }
+    ensures recovered { IfOk result (λ chunks. AreRecovered g have.now (contents chunks.items)) }
 {
     let missing = recover_missing(alloc, g, have)?;
     with_present(alloc, g, have, missing)
 }
 
-/// The chunks of the codeword that agrees with the chunks that are there, where one does.
+/// The chunks of the codeword that agrees with the chunks that are there, where one does. The chunks that are there stay as they are in
+/// any case.
 ///
-/// `have` has an entry for each chunk, `None` for a missing one. Where no codeword agrees, the others are some bytes.
+/// `have` has an entry for each chunk, `None` for a missing one. Where no codeword agrees, the missing ones are some bytes.
 pub fn decode(
     alloc: Global,
     g: Geometry,
@@ -340,7 +344,8 @@ pub fn decode(
     requires count { length have.now ≡ chunk_count g }
     requires lengths { AreLong (chunk_length g) have.now }
     ensures too_few { IsErrOf result DecodeFault.TooFew ↔ (g.parity_count < count_by is_none have.now) }
-    ensures chunks { IfOk result (λ chunks. AreRecovered g have.now (contents chunks.items)) }
+    ensures kept { IfOk result (λ chunks. AgreesWith (parts have.now) (contents chunks.items)) }
+    ensures recovered { IfOk result (λ chunks. AreRecovered g have.now (contents chunks.items)) }
 {
     if missing_count(have) > g.m() as usize {
         return Err(DecodeFault::TooFew);

@@ -87,7 +87,7 @@ fn erased_points(alloc: Global, erased: &[bool]) -> Result<Vec<u8>, AllocError>
 pub fn generator_of(alloc: Global, g: Geometry, points: &[u8]) -> Result<Generator, AllocError>
     requires few { length points.now ≤ 8 }
     requires distinct { AreDistinct points.now }
-    ensures { IfOk result (λ made. IsGeneratorOf g points.now made.unknown made.factors.items) }
+    ensures { IfOk result (λ made. IsGeneratorOf g points.now made.unknown made.each) }
 {
     let all = nodes(alloc, 0, g.nodes())?;
     let generator = Generator::new(alloc, points, &all)?;

@@ -28,7 +28,7 @@ loop-node-preserved c =
     let z : ℕ = c.args.z in
     let erased = plan.erased.items in
     let points = plan.points.items in
-    let factors = plan.generator.factors.items in
+    let factors = plan.generator.each in
     let node : ℕ = c.loop-node.node in
     let below : node < node_count g = omega (arith, c.loop-node-test.true, c.nodes-node-end.ensures.value) in
     let within : node < length erased = omega (arith, c.requires.plan.nodes.nodes) in
@@ -55,6 +55,6 @@ returns c =
     let nodes = c.requires.plan.nodes in
     let len : ℕ = length c.args.values.now in
     let all : c.loop-node.node ≡ node_count g = omega (arith, c.loop-node-test.false, c.loop-node.auto.node-end, c.nodes-node-end.ensures.value) in
-    rows_of_sums g fits c.args.at len plan.erased.items plan.points.items plan.generator.unknown plan.generator.factors.items c.args.z c.loop-node.rows
+    rows_of_sums g fits c.args.at len plan.erased.items plan.points.items plan.generator.unknown plan.generator.each c.args.z c.loop-node.rows
     nodes.geometry c.requires.plan.generator nodes.few nodes.points_are (λ word f. f.codeword) c.requires.within
-    (subst (λ n. HoldsSums g fits c.args.at len plan.erased.items plan.points.items plan.generator.factors.items c.args.z n c.loop-node.rows) all c.loop-node.invariant)
+    (subst (λ n. HoldsSums g fits c.args.at len plan.erased.items plan.points.items plan.generator.each c.args.z n c.loop-node.rows) all c.loop-node.invariant)

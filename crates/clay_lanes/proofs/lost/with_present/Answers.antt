@@ -1,7 +1,7 @@
 use Rattle.std.proofs.Common.{◌≡◌, ℕ, ◌+◌, ◌<◌, length, get_or, None, sym, subst, ◌∙◌, arith}
 use Rattle.std.proofs.lemmas.List.{get_or_read}
 use Rattle.clay_encode.specs.Chunks.{contents}
-use Rattle.clay_lanes.proofs.MissingChunks.{StandBefore, StandBefore-missing, StandBefore-present}
+use Rattle.clay_lanes.proofs.MissingChunks.{StandBefore, StandBefore-missing, StandBefore-present, all_kept}
 use Rattle.clay_lanes.proofs.lost.with_present.Goals as goal
 use Rattle.clay_lanes.proofs.lost.with_present.Goals.{in-Some+in_ok-from_slice+in_ok-insert, in_default}
 
@@ -22,3 +22,8 @@ loop-c-preserved c =
           subst (λ v. StandBefore g have (i + 1) (contents v.items)) (sym w.chunks-is)
           (StandBefore-missing g have i (contents c.loop-c.chunks.items) c.requires.count within (sym read ∙ w.in_default.is) c.loop-c.invariant)
     ]
+
+pub returns-clause-kept : goal.returns-clause-kept
+returns-clause-kept c =
+    let end : c.loop-c.c ≡ length c.args.have.now = omega (arith, c.loop-c-test.false, c.loop-c.auto.c-end) in
+    all_kept c.args.g c.args.have.now c.loop-c.c (contents c.loop-c.chunks.items) end c.loop-c.invariant

@@ -12,7 +12,7 @@ returns c =
     record {
       count = kept.count;
       long = kept.long ∙ ap (λ n. n * length c.args.points.now) known_long;
-      generates = all_generates (node_count g) c.args.points.now c.deref.result.now made.factors.items known_long
+      generates = all_generates (node_count g) c.args.points.now c.deref.result.now made.each known_long
           (λ i h. ap (λ l. get_or l i 0) c.deref.ensures.value ∙ c.in_ok-all.ensures.value i (subst (λ n. i < n) (sym c.nodes.ensures.value) h))
           kept.generates;
     }

@@ -51,6 +51,6 @@ returns c =
         order = subst (λ e. IsByScore g e c.in_ok-layers.layers.items) c.deref-3.ensures.value c.in_ok-layers.ensures;
         empty = c.in_ok-zeros.ensures ∙ ap (λ n. replicate n 0) c.w.ensures.value;
       };
-      generator = subst (λ p. IsGeneratorOf g p c.in_ok-generator.generator.unknown c.in_ok-generator.generator.factors.items) c.deref-2.ensures.value c.in_ok-generator.ensures;
+      generator = subst (λ p. IsGeneratorOf g p c.in_ok-generator.generator.unknown c.in_ok-generator.generator.each) c.deref-2.ensures.value c.in_ok-generator.ensures;
       fifths = c.fifths.ensures;
     }

@@ -33,7 +33,7 @@ loop-node-preserved c =
     let z : ℕ = c.args.z in
     let erased = plan.erased.items in
     let points = column_nodes g plan.column in
-    let factors = plan.generator.factors.items in
+    let factors = plan.generator.each in
     let node : ℕ = c.loop-node.node in
     let below : node < node_count g = omega (arith, c.loop-node-test.true, c.nodes-node-end.ensures.value) in
     let within : node < length erased = omega (arith, c.requires.plan.nodes) in
@@ -65,9 +65,9 @@ returns c =
     let below : plan.column < column_count g = subst (λ y. y < column_count g) (sym c.requires.plan.column) (column_below g plan.lost some inside) in
     let all : c.loop-node.node ≡ node_count g = omega (arith, c.loop-node-test.false, c.loop-node.auto.node-end, c.nodes-node-end.ensures.value) in
     let few : length points ≤ g.parity_count = omega (arith, length-column_nodes g plan.column) in
-    rows_of_sums g fits c.args.at len plan.erased.items points plan.generator.unknown plan.generator.factors.items c.args.z c.loop-node.rows
+    rows_of_sums g fits c.args.at len plan.erased.items points plan.generator.unknown plan.generator.each c.args.z c.loop-node.rows
     geometry c.requires.plan.generator few (column_points_are g plan.column plan.erased.items some below c.requires.plan.erased_are) (λ word f. f.codeword) c.requires.within
-    (subst (λ n. HoldsSums g fits c.args.at len plan.erased.items points plan.generator.factors.items c.args.z n c.loop-node.rows) all c.loop-node.invariant)
+    (subst (λ n. HoldsSums g fits c.args.at len plan.erased.items points plan.generator.each c.args.z n c.loop-node.rows) all c.loop-node.invariant)
 
 pub uncouple_other-requires-clause-column : goal.uncouple_other-requires-clause-column
 uncouple_other-requires-clause-column c =

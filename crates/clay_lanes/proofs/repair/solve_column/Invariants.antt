@@ -6,4 +6,4 @@ use Rattle.clay_lanes.proofs.repair.solve_column.Given as goal
 
 abbrev pub invariant-loop-node : goal.invariant-loop-node
 invariant-loop-node l =
-    HoldsSums l.fn.g (λ word. HasParts l.fn.g l.plan.lost l.parts word) l.at (length l.fn.values) l.plan.erased.items (column_nodes l.fn.g l.plan.column) l.plan.generator.factors.items l.z l.node l.rows
+    HoldsSums l.fn.g (λ word. HasParts l.fn.g l.plan.lost l.parts word) l.at (length l.fn.values) l.plan.erased.items (column_nodes l.fn.g l.plan.column) l.plan.generator.each l.z l.node l.rows

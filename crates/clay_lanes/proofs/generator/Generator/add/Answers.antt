@@ -10,12 +10,12 @@ add_rows-requires c =
     let m : ℕ = c.args.self.now.unknown in
     let start : ℕ = c.args.node * m in
     let width : start + m - start ≡ m = omega arith in
-    let count = ap length c.of_node-factors.ensures ∙ length-between c.args.self.now.factors.items start (start + m) c.requires.node ∙ width in
+    let count = ap length c.of_node-factors.ensures ∙ length-between c.args.self.now.each start (start + m) c.requires.node ∙ width in
     c.requires.rows_len ∙ ap (λ n. n * length c.args.values.now) (sym count)
 
 pub returns : goal.returns
 returns c =
-    let factors = c.args.self.now.factors.items in
+    let factors = c.args.self.now.each in
     let m : ℕ = c.args.self.now.unknown in
     let products = c.of_node-factors.result.now in
     let values = c.args.values.now in
