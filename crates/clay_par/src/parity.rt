@@ -1,0 +1,242 @@
+//! The parity chunks of a stripe, by groups of layers and then by chunks.
+ghost use Rattle.std.specs.Prelude.{◌≡◌, ℕ, ◌+◌, ◌*◌, ◌/◌, ◌%◌, ◌<◌, ◌≤◌, [], length, slice_index_or, slice_range, IfOk, All};
+ghost use Rattle.clay_grid.specs.Shape.{row_count, layer_count, chunk_length, stripe_length};
+ghost use Rattle.clay_model.specs.Code.{Codes};
+ghost use Rattle.clay_encode.specs.Chunks.{contents};
+ghost use Rattle.clay_lanes.specs.Blocks.{HoldsGroup};
+ghost use Rattle.clay_lanes.specs.Generated.{IsLastGenerator, layer_value};
+ghost use Rattle.clay_lanes.specs.Parity.{data_pieces, AreParity};
+ghost use Rattle.clay_par.specs.Groups.{HasRoom, AreGroups, IsRow, AreRows};
+
+use crate::made::all_made;
+use clay_grid::Geometry;
+use clay_lanes::{BLOCK, Generator, add_pieces, fifths, last_column, solve_group, zeros};
+use rayon::current_num_threads;
+use std::alloc::{AllocError, Global};
+use std::thread;
+use std::thread::Threads;
+
+/// A group of layers that differ in the last digit alone: the last column's uncoupled values in them, and room for a block of one node's.
+#[derive(Drop)]
+pub struct Group {
+    pub number: u32,
+    pub values: Vec<u8>,
+    pub solved: Vec<u8>,
+}
+
+/// A group of layers, with room for its values.
+fn make_group(alloc: Global, g: Geometry, number: u32) -> Result<Group, AllocError>
+    requires { number * row_count g + row_count g ≤ layer_count g }
+    ensures room { IfOk result (HasRoom g) }
+    ensures number { IfOk result (λ group. group.number ≡ number) }
+{
+    let q = g.q() as usize;
+    let w = g.w() as usize;
+    let values = zeros(alloc, w.min(BLOCK))?;
+    let solved = zeros(alloc, q * (q * w))?;
+    Ok(Group {
+        number,
+        values,
+        solved,
+    })
+}
+
+/// The groups of all layers, rising.
+fn make_groups(alloc: Global, g: Geometry) -> Result<Vec<Group>, AllocError>
+    ensures { IfOk result (λ groups. AreGroups g groups.items) }
+{
+    let count = g.alpha() / g.q();
+    let mut groups = Vec::with_capacity(alloc, count as usize)?;
+    for number in 0..count {
+        groups.push(make_group(alloc, g, number)?)?;
+    }
+    Ok(groups)
+}
+
+/// Writes the last column's uncoupled values in the layers of a group.
+fn solve(g: Geometry, generator: &Generator, stripe: &[u8], group: &mut Group)
+    requires whole { length stripe.now ≡ stripe_length g }
+    requires generator { IsLastGenerator g generator.now.unknown generator.now.each }
+    requires room { HasRoom g group.old }
+    ensures room { HasRoom g group.new }
+    ensures number { group.new.number ≡ group.old.number }
+    ensures values { HoldsGroup g.parity_count g.width group.old.number g.parity_count
+        (layer_value g generator.now.each stripe.now) group.new.solved.items }
+{
+    solve_group(
+        g,
+        generator,
+        stripe,
+        group.number,
+        &mut group.values,
+        &mut group.solved,
+    );
+}
+
+/// Writes the last column's uncoupled values in the layers of all groups.
+fn solve_all<R: Threads + Sync>(
+    rt: &R,
+    g: Geometry,
+    generator: &Generator,
+    stripe: &[u8],
+    groups: &mut [Group],
+)
+    requires whole { length stripe.now ≡ stripe_length g }
+    requires generator { IsLastGenerator g generator.now.unknown generator.now.each }
+    requires room { All (HasRoom g) groups.old }
+    ensures room { All (HasRoom g) groups.new }
+    ensures values { (i : ℕ) (d : _) → i < length groups.old →
+        HoldsGroup g.parity_count g.width (slice_index_or groups.old i d).number g.parity_count
+        (layer_value g generator.now.each stripe.now) (slice_index_or groups.new i d).solved.items }
+{
+    let threads = current_num_threads(rt);
+    thread::for_each_mut(
+        rt,
+        groups,
+        threads,
+        &|_, group| solve(g, generator, stripe, group),
+    );
+}
+
+/// The parity chunk of a row, from the values of all groups.
+fn parity_chunk(
+    alloc: Global,
+    g: Geometry,
+    groups: &[Group],
+    row: usize,
+) -> Result<Vec<u8>, AllocError>
+    requires row { row < row_count g }
+    requires room { All (HasRoom g) groups.now }
+    ensures { IfOk result (λ chunk. IsRow g groups.now row chunk.items) }
+{
+    let fifths = fifths();
+    let mut values = zeros(alloc, (g.w() as usize).min(BLOCK))?;
+    let mut chunk = Vec::with_capacity(alloc, g.chunk_len() as usize)?;
+    for group in groups {
+        add_pieces(
+            g,
+            &fifths,
+            &group.solved,
+            row as u32,
+            &mut values,
+            &mut chunk,
+        )?;
+    }
+    Ok(chunk)
+}
+
+/// For each row its parity chunk, or that memory ran out.
+fn each_row<R: Threads + Sync>(
+    rt: &R,
+    alloc: Global,
+    g: Geometry,
+    groups: &[Group],
+) -> Result<Vec<Result<Vec<u8>, AllocError>>, AllocError>
+    requires { All (HasRoom g) groups.now }
+    ensures count { IfOk result (λ rows. length rows.items ≡ row_count g) }
+    ensures each { IfOk result (λ rows. (x : ℕ) (d : _) → x < row_count g →
+        IfOk (slice_index_or rows.items x d) (λ chunk. IsRow g groups.now x chunk.items)) }
+{
+    thread::map_indices(
+        rt,
+        alloc,
+        g.q() as usize,
+        &|row| parity_chunk(alloc, g, groups, row),
+    )
+}
+
+/// The parity chunks, by rising row, from the values of all groups.
+fn parity_chunks<R: Threads + Sync>(
+    rt: &R,
+    alloc: Global,
+    g: Geometry,
+    groups: &[Group],
+) -> Result<Vec<Vec<u8>>, AllocError>
+    requires { All (HasRoom g) groups.now }
+    ensures count { IfOk result (λ chunks. length chunks.items ≡ row_count g) }
+    ensures rows { IfOk result (λ chunks. AreRows g groups.now (contents chunks.items)) }
+{
+    let rows = each_row(rt, alloc, g, groups)?;
+    all_made(alloc, rows)
+}
+
+/// The parity chunks of the stripe's codeword, by rising row.
+pub fn parity<R: Threads + Sync>(
+    rt: &R,
+    alloc: Global,
+    g: Geometry,
+    stripe: &[u8],
+) -> Result<Vec<Vec<u8>>, AllocError>
+    requires { length stripe.now ≡ stripe_length g }
+    ensures { IfOk result (λ chunks. AreParity g stripe.now (contents chunks.items)) }
+{
+    let generator = last_column(alloc, g)?;
+    let mut groups = make_groups(alloc, g)?;
+    solve_all(rt, g, &generator, stripe, &mut groups);
+    parity_chunks(rt, alloc, g, &groups)
+}
+
+/// A data chunk, which is a piece of the stripe.
+fn data_chunk(
+    alloc: Global,
+    g: Geometry,
+    stripe: &[u8],
+    chunk: usize,
+) -> Result<Vec<u8>, AllocError>
+    requires whole { length stripe.now ≡ stripe_length g }
+    requires data { chunk < g.data_count }
+    ensures { IfOk result (λ v. v.items ≡ slice_range stripe.now (chunk * chunk_length g) ((chunk + 1) * chunk_length g)) }
+{
+    let len = g.chunk_len() as usize;
+    Vec::from_slice(alloc, &stripe[chunk * len..(chunk + 1) * len])
+}
+
+/// Each data chunk, or that memory ran out.
+fn each_piece<R: Threads + Sync>(
+    rt: &R,
+    alloc: Global,
+    g: Geometry,
+    stripe: &[u8],
+) -> Result<Vec<Result<Vec<u8>, AllocError>>, AllocError>
+    requires { length stripe.now ≡ stripe_length g }
+    ensures count { IfOk result (λ pieces. length pieces.items ≡ g.data_count) }
+    ensures each { IfOk result (λ pieces. (c : ℕ) (d : _) → c < g.data_count →
+        IfOk (slice_index_or pieces.items c d) (λ v. v.items ≡ slice_range stripe.now (c * chunk_length g) ((c + 1) * chunk_length g))) }
+{
+    thread::map_indices(
+        rt,
+        alloc,
+        g.k() as usize,
+        &|chunk| data_chunk(alloc, g, stripe, chunk),
+    )
+}
+
+/// The chunks that are pieces of the stripe.
+fn data_chunks<R: Threads + Sync>(
+    rt: &R,
+    alloc: Global,
+    g: Geometry,
+    stripe: &[u8],
+) -> Result<Vec<Vec<u8>>, AllocError>
+    requires { length stripe.now ≡ stripe_length g }
+    ensures { IfOk result (λ chunks. contents chunks.items ≡ data_pieces g stripe.now) }
+{
+    let pieces = each_piece(rt, alloc, g, stripe)?;
+    all_made(alloc, pieces)
+}
+
+/// The chunks of the stripe's codeword: the data chunks, which joined are the stripe, then the parity chunks.
+pub fn encode<R: Threads + Sync>(
+    rt: &R,
+    alloc: Global,
+    g: Geometry,
+    stripe: &[u8],
+) -> Result<Vec<Vec<u8>>, AllocError>
+    requires { length stripe.now ≡ stripe_length g }
+    ensures { IfOk result (λ chunks. Codes g stripe.now (contents chunks.items)) }
+{
+    let mut chunks = data_chunks(rt, alloc, g, stripe)?;
+    let mut others = parity(rt, alloc, g, stripe)?;
+    chunks.append(&mut others)?;
+    Ok(chunks)
+}
