@@ -28,7 +28,7 @@ use Rattle.store_sound.proofs.SoundVersions.{StandsThere, stands_there}
 use Rattle.store_sound.proofs.SoundParts.{Before, there_is}
 use Rattle.store_sound.proofs.SoundClose.{held_pass}
 use Rattle.store_commits.specs.CommitDrops.{CommitDrops, DeleteDrops, GivesUp}
-use Rattle.store_commits.specs.DropLaws.{CommitsDrop, AllCommitsDrop, AllDeletesDrop, AllEndsDrop}
+use Rattle.store_commits.specs.DropLaws.{IsCommitAnswer, CommitsDrop, AllCommitsDrop, AllDeletesDrop, AllEndsDrop}
 use Rattle.store_commits.proofs.Versions.{not_there, set_other, set_becomes}
 use Rattle.store_commits.proofs.Commits.{AreOf, are_of, commit_drops}
 
@@ -90,17 +90,19 @@ module _ (rows : List (List Placement)) (d : Directory) (pass : Pass) (some : 0 
   abbrev Drops : Directory × Told → Type 0
   Drops after = CommitsDrop rows d pass after
 
-  done_drops : (after : Directory × Told) → is_changed after.1 ≡ false → reaped_at after.1 ≡ None → CommitDrops pass.note.kind d after.0.versions pass rows → Drops after
-  done_drops after no_change no_reap drops =
+  done_drops : (after : Directory × Told) → IsCommitAnswer after.1 → is_changed after.1 ≡ false → reaped_at after.1 ≡ None → CommitDrops pass.note.kind d after.0.versions pass rows → Drops after
+  done_drops after answered no_change no_reap drops =
       record {
+        answered = answered;
         done = λ point e. drops;
         changed = λ base newer e. absurd (true≢false (sym (ap is_changed e) ∙ no_change));
         reaped = λ point e. absurd (none-some point (sym no_reap ∙ ap reaped_at e));
       }
 
-  changed_drops : (after : Directory × Told) → is_done after.1 ≡ false → reaped_at after.1 ≡ None → GivesUp d after.0.versions pass → Drops after
-  changed_drops after no_done no_reap gives =
+  changed_drops : (after : Directory × Told) → IsCommitAnswer after.1 → is_done after.1 ≡ false → reaped_at after.1 ≡ None → GivesUp d after.0.versions pass → Drops after
+  changed_drops after answered no_done no_reap gives =
       record {
+        answered = answered;
         done = λ point e. absurd (true≢false (sym (ap is_done e) ∙ no_done));
         changed = λ base newer e. gives;
         reaped = λ point e. absurd (none-some point (sym no_reap ∙ ap reaped_at e));
@@ -112,14 +114,15 @@ module _ (rows : List (List Placement)) (d : Directory) (pass : Pass) (some : 0 
       (close_pass pass (give_up_drawn pass d), Told.Changed (unwrap_or pass.base 0) (unwrap_or (last_change pass.note.name d.points) 0))
       (commit_object rows pass (unwrap_or (find_object pass.note.name d.objects) nothing) d) Drops
       (λ _.
-      changed_drops (close_pass pass (give_up_drawn pass d), Told.Changed (unwrap_or pass.base 0) (unwrap_or (last_change pass.note.name d.points) 0)) refl refl
+      changed_drops (close_pass pass (give_up_drawn pass d), Told.Changed (unwrap_or pass.base 0) (unwrap_or (last_change pass.note.name d.points) 0)) tt refl refl
       (given_up d sound who pass writing.is_pass))
-      (λ _. done_drops (commit_object rows pass (unwrap_or (find_object pass.note.name d.objects) nothing) d) refl refl (made live (find_object pass.note.name d.objects) refl))
+      (λ _. done_drops (commit_object rows pass (unwrap_or (find_object pass.note.name d.objects) nothing) d) tt refl refl (made live (find_object pass.note.name d.objects) refl))
 
   pass_drops : (reaped : Option ℕ) → pass.reaped ≡ reaped → Drops (unless_reaped (commit rows) pass reaped d)
   pass_drops None e = live_drops e
   pass_drops (Some at) e =
       record {
+        answered = tt;
         done = λ point h. absurd (false≢true (ap is_done h));
         changed = λ base newer h. absurd (false≢true (ap is_changed h));
         reaped = λ point h. (e ∙ ap reaped_at h, refl);

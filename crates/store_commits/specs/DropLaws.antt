@@ -1,5 +1,5 @@
 -- The laws on which versions are dropped, by what a step at a sound directory is answered.
-use Rattle.std.specs.Prelude.{◌≡◌, ℕ, ◌<◌, Bool, List, Some}
+use Rattle.std.specs.Prelude.{◌≡◌, ℕ, ◌<◌, Bool, List, Some, ⊤}
 use Rattle.clay_grid.specs.Shape.{stripe_length}
 use Rattle.store_map.specs.declared.actor.Actor.{Actor}
 use Rattle.store_map.specs.declared.placement.Placement.{Placement}
@@ -14,8 +14,16 @@ use Rattle.store_core.specs.Conditions.{IsWriting, IsPrepared}
 use Rattle.store_core.specs.Sound.{IsSound}
 use Rattle.store_commits.specs.CommitDrops.{CommitDrops, DeleteDrops, GivesUp}
 
--- a commit that may be made, by its answer; where it tells of a reap, that has dropped what was drawn, and the commit drops nothing more
+-- what a commit that may be made is answered
+abbrev pub IsCommitAnswer : Told → Type 0
+IsCommitAnswer (Told.Done point) = ⊤
+IsCommitAnswer (Told.Changed base newer) = ⊤
+IsCommitAnswer (Told.Reaped point) = ⊤
+IsCommitAnswer answer = ⊥
+
+-- a commit that may be made, by its answer; where it tells of a reap, that is the pass's own, and no version changes
 pub record CommitsDrop (rows : List (List Placement)) (d : Directory) (pass : Pass) (after : Directory × Told) : Type 0 where
+  pub answered : IsCommitAnswer after.1
   pub done : (point : ℕ) → after.1 ≡ Told.Done point → CommitDrops pass.note.kind d after.0.versions pass rows
   pub changed : (base newer : ℕ) → after.1 ≡ Told.Changed base newer → GivesUp d after.0.versions pass
   pub reaped : (point : ℕ) → after.1 ≡ Told.Reaped point → (pass.reaped ≡ Some point) × (after.0.versions ≡ d.versions)

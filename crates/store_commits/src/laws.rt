@@ -5,7 +5,8 @@ ghost use Rattle.store_commits.specs.DropLaws.{AllCommitsDrop, AllDeletesDrop, A
 /// A commit makes current what was drawn, each version with its row of placements. Of the object's
 /// earlier versions a put drops those of all stripes, a write those of the stripes that it writes
 /// into; every other version of any object stays as it was. A commit that tells of a change drops
-/// just what was drawn; one that tells of a reap drops nothing, since the reap has done so.
+/// just what was drawn; one that tells of a reap tells its own pass's, and no version changes. A
+/// commit that may be made has one of these three answers.
 pub fn commits_drop_what_they_replace()
     ensures { AllCommitsDrop }
 {}
@@ -15,7 +16,7 @@ pub fn deletes_drop_all_of_their_object()
     ensures { AllDeletesDrop }
 {}
 
-/// A pass that ends without a commit, or that is reaped, drops just what it drew.
+/// A pass that ends by its step `end`, or that is reaped, drops just what it drew.
 pub fn ends_drop_what_was_drawn()
     ensures { AllEndsDrop }
 {}
