@@ -5,3 +5,4 @@ pub mod Codewords
 pub mod LayerNumbers
 pub mod Stripes
 pub mod Worked
+mod Written
