@@ -22,7 +22,7 @@ fn put_then_get(rt: HostRuntime) -> Result<(), Fail> {
 
 #[test]
 fn words_of_no_command(rt: HostRuntime) -> Result<(), Fail> {
-    let lists: [&[&str]; 11] = [
+    let lists: [&[&str]; 16] = [
         &["playy"],
         &["play", "play"],
         &["Play"],
@@ -34,6 +34,11 @@ fn words_of_no_command(rt: HostRuntime) -> Result<(), Fail> {
         &["chunks", "20", "4", "1"],
         &["recover", "2", "9", "1"],
         &["recover", "2", "2", "1", "1"],
+        &["gen", "0"],
+        &["gen", "0", "1", "1"],
+        &["run", "1"],
+        &["verify", "verify"],
+        &["trial", "0", "1", "1"],
     ];
     for words in lists {
         let Ran { status, written } = run(&rt, words, PUT_THEN_GET)?;
