@@ -22,7 +22,7 @@ fn part_of(alloc: Global, chunk: &[u8], gone: bool) -> Result<Option<Vec<u8>>, A
 }
 
 // What is left of chunks where those of the bits of `gone` are missing.
-fn left_of(
+pub fn left_of(
     rt: &impl Abort,
     alloc: Global,
     g: Geometry,
@@ -43,14 +43,14 @@ fn left_of(
     Ok(have)
 }
 
-fn expect_chunks(rt: &impl Abort, chunks: &[Vec<u8>], expected: &[Vec<u8>]) {
+pub fn expect_chunks(rt: &impl Abort, chunks: &[Vec<u8>], expected: &[Vec<u8>]) {
     assert_eq!(rt; chunks.len(), expected.len());
     for (c, chunk) in chunks.iter().enumerate() {
         assert_eq!(rt; chunk.as_slice(), expected[c].as_slice());
     }
 }
 
-fn gone_count(have: &[Option<Vec<u8>>]) -> usize
+pub fn gone_count(have: &[Option<Vec<u8>>]) -> usize
     ensures { result ≡ count_by is_none have.now }
 {
     have.iter().filter(|chunk| chunk.is_none()).count()

@@ -1,4 +1,4 @@
-//! The fast coder beside the plain one, for many codes, widths and losses, and its kernels beside `add_scaled`.
+//! The fast coders beside the plain one, for many codes, widths and losses, and its kernels beside `add_scaled`.
 #![tactic(auto)]
 
 #[cfg(test)]
@@ -9,3 +9,5 @@ mod encoding;
 mod kernels;
 #[cfg(test)]
 mod rebuilding;
+#[cfg(test)]
+mod threads;
