@@ -1,0 +1,10 @@
+pub mod Among
+pub mod Stages
+pub mod Shelves
+pub mod Answers
+pub mod Gathered
+pub mod Fetched
+pub mod Pieces
+pub mod Making
+pub mod Serving
+pub mod Taking

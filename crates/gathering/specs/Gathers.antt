@@ -1,0 +1,74 @@
+-- A gathering as callers see it: plain data.
+use Rattle.std.specs.Prelude.{◌≡◌, ⊤, ℕ, Bool, true, false, List, Option, None, Some}
+use Rattle.clay_grid.specs.Shape.{Shape}
+use Rattle.store_core.specs.Lists.{change_at}
+use Rattle.store_core.specs.Told.{Told}
+use Rattle.store_core.specs.Server.{Server, raised_by, at_server}
+use Rattle.store_resume.specs.Stage.{Aim, Stage}
+use Rattle.store_resume.specs.StageAfter.{step_asked}
+use Rattle.version_seal.specs.Entry.{StampOf}
+use Rattle.version_seal.specs.Sealed.{PartOf}
+use Rattle.chunk_server.specs.State.{ServerState}
+use Rattle.gather_course.specs.Courses.{CourseOf, new_course, server_of, layers_asked, has_bytes, after_answer}
+use Rattle.gathering.specs.declared.need.Need.{Need}
+use Rattle.gathering.specs.declared.need.Need.TheVariants as need
+
+-- the stamp of the pinned version, its course, whether it was coded since its last step, and whether memory was wanting in its last coding and in its last step
+pub record GatherOf : Type 0 where
+  pub stamp : StampOf
+  pub course : CourseOf
+  pub coded : Bool
+  pub coding : Bool
+  pub step : Bool
+
+-- a gathering before its first step
+abbrev pub new_gather : StampOf → Shape → Aim → GatherOf
+new_gather stamp g aim = record { stamp = stamp; course = new_course g aim; coded = false; coding = false; step = false }
+
+-- the gathering after an answer, in a step that wanted memory or not
+abbrev pub heard : GatherOf → Told → Bool → GatherOf
+heard w answer short = record w { course = after_answer w.course answer; coded = false; coding = false; step = short }
+
+-- what its call has taken after it
+abbrev pub taking : Told → Option ℕ → List ℕ → List ℕ
+taking (Told.Given layers) (Some server) takes = change_at server (raised_by layers) takes
+taking answer server takes = takes
+
+-- one step at the server that is asked, by the stage
+abbrev pub stepped_at : GatherOf → Bool → Server → List ℕ → Stage → Server × GatherOf × List ℕ
+stepped_at w short s takes (Stage.Asks asking) =
+    let after : Server × Told = at_server short (step_asked w.course.geometry w.course.aim asking) s in
+    (after.0, heard w after.1 short, taking after.1 (server_of w.course) takes)
+stepped_at w short s takes stage = (s, w, takes)
+
+-- the server, the gathering and what its call has taken after it, where memory was wanting or not
+abbrev pub stepped : GatherOf → Bool → Server → List ℕ → Server × GatherOf × List ℕ
+stepped w short s takes = stepped_at w short s takes w.course.stage
+
+-- the same server of the same book
+pub record IsSame (old new : ServerState) : Type 0 where
+  pub number : new.number ≡ old.number
+  pub book : new.book ≡ old.book
+
+-- what it needs: a server, or the coder once all parts have come
+abbrev pub need_by : Option ℕ → Bool → Bool → Need
+need_by (Some server) bytes coded = need.Server server
+need_by None true false = need.Coder
+need_by None bytes coded = need.Finished
+
+-- by its stage
+abbrev pub need_of : GatherOf → Need
+need_of w = need_by (server_of w.course) (has_bytes w.course.stage) w.coded
+
+-- of the server that is needed
+abbrev pub IfServer : Need → (ℕ → Type 0) → Type 0
+IfServer (need.Server server) holds = holds server
+IfServer needed holds = ⊤
+
+-- a part that was asked for: of the version, its book and code, of the server that was asked and the layers it was asked for
+pub record IsOwnPart (w : GatherOf) (part : PartOf) : Type 0 where
+  pub of_version : part.stamp.version ≡ w.stamp.version
+  pub of_home : part.stamp.home ≡ w.stamp.home
+  pub of_code : part.geometry ≡ w.course.geometry
+  pub of_server : Some part.server ≡ server_of w.course
+  pub of_layers : part.layers ≡ layers_asked w.course

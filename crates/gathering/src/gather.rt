@@ -1,0 +1,302 @@
+//! A gathering's steps at sealed servers.
+ghost use Rattle.std.specs.Prelude.{◌≡◌, ◌<◌, ◌≤◌, ℕ, true, false, List, None, Some, IfOk, length, replicate};
+ghost use Rattle.clay_grid.specs.Shape.{chunk_count, stripe_length};
+ghost use Rattle.store_core.specs.Told.{Told};
+ghost use Rattle.store_resume.specs.Stage.{Aim};
+ghost use Rattle.chunk_server.specs.Core.{core_of};
+ghost use Rattle.gather_course.specs.Courses.{IsAskingStage, new_course, server_of, is_look, is_fetch, layers_asked};
+ghost use Rattle.gathering.specs.Gathers.{new_gather, heard, taking, stepped, IsOwnPart, IsSame};
+ghost use Rattle.gathering.specs.Parts.{IsPart, AreNone};
+
+use crate::need::Need;
+use chunk_server::{Fetched, Presence, Server};
+use clay_grid::Geometry;
+use gather_course::Course;
+use read_ledger::Takes;
+use std::alloc::{AllocError, Global};
+use std::marker::Model;
+use store_map::{Found, Placement};
+use version_seal::{SealedPart, Stamp};
+
+/// A pinned stripe: its version that was current, and how each server took that version's chunk.
+#[derive(Drop)]
+pub struct Pinned {
+    pub stripe: u32,
+    pub stamp: Stamp,
+    pub placed: Vec<Placement>,
+}
+
+/// A gathering of one pinned stripe, with what has come of its version's chunks.
+#[derive(Drop)]
+pub struct Gather {
+    stamp: Stamp,
+    pub(crate) course: Course,
+    // by server: the layers with wanted bytes
+    pub(crate) parts: Vec<Option<Vec<u8>>>,
+    // by server: what missing chunks are made of, the repair layers of one, or whole chunks
+    pub(crate) helpers: Vec<Option<Vec<u8>>>,
+    pub(crate) coded: bool,
+    pub(crate) coding: bool,
+    step: bool,
+}
+
+impl Model for Gather {
+    ghost use Rattle.gathering.specs.Gathers.{GatherOf};
+
+    ghost Value = { GatherOf };
+
+    ghost use Rattle.gathering.specs.Inside.{gather_in, IsGatherIn};
+
+    ghost view = { gather_in };
+
+    ghost invariant = { IsGatherIn };
+}
+
+// No bytes yet from so many servers.
+#[tactic(auto, using(std::proofs::lemmas::List::replicate_more))]
+pub(crate) fn empty_shelf(alloc: Global, servers: u32) -> Result<Vec<Option<Vec<u8>>>, AllocError>
+    ensures { IfOk result (λ shelf. shelf.items ≡ replicate servers None) }
+{
+    let mut shelf = Vec::with_capacity(alloc, servers as usize)?;
+    for _made in 0..servers {
+        shelf.push(None)?;
+    }
+    Ok(shelf)
+}
+
+// What has come for the chunks to be made goes where it was for one lost chunk alone.
+fn let_go_of_one(helpers: &mut [Option<Vec<u8>>], missing: usize)
+    ensures few { missing < 2 → AreNone helpers.new }
+    ensures many { 2 ≤ missing → helpers.new ≡ helpers.old }
+{
+    if missing < 2 {
+        clear(helpers);
+    }
+}
+
+#[tactic(auto, using(crate::proofs::Shelves::none_more, crate::proofs::Shelves::none_all))]
+fn clear(helpers: &mut [Option<Vec<u8>>])
+    ensures { AreNone helpers.new }
+{
+    for i in 0..helpers.len() {
+        helpers[i] = None;
+    }
+}
+
+impl Gather {
+    ghost use Rattle.gathering.specs.Gathers.{need_of, IfServer};
+
+    /// The gathering of a stripe's bytes from `start` up to `end`.
+    pub fn range(
+        alloc: Global,
+        geometry: Geometry,
+        pinned: Pinned,
+        start: u32,
+        end: u32,
+    ) -> Result<Gather, AllocError>
+        requires placed { length pinned.placed.items ≡ chunk_count geometry }
+        requires some { start < end }
+        requires within { end ≤ stripe_length geometry }
+        ensures { IfOk result (λ gather. gather ≡ new_gather pinned.stamp geometry (Aim.Range
+            (record { seen = record { stripe = pinned.stripe; version = pinned.stamp.version; placed = pinned.placed.items }; start = start; end = end }))) }
+    {
+        let Pinned {
+            stripe,
+            stamp,
+            placed,
+        } = pinned;
+        let servers = geometry.n();
+        let version = stamp.version();
+        let course = Course::range(alloc, geometry, stripe, version, placed, start, end)?;
+        let parts = empty_shelf(alloc, servers)?;
+        let helpers = empty_shelf(alloc, servers)?;
+        Ok(Gather {
+            stamp,
+            course,
+            parts,
+            helpers,
+            coded: false,
+            coding: false,
+            step: false,
+        })
+    }
+
+    /// The gathering that makes the stripe's chunk of the server `target` anew.
+    pub fn chunk(
+        alloc: Global,
+        geometry: Geometry,
+        pinned: Pinned,
+        target: u32,
+    ) -> Result<Gather, AllocError>
+        requires placed { length pinned.placed.items ≡ chunk_count geometry }
+        requires target { target < chunk_count geometry }
+        ensures { IfOk result (λ gather. gather ≡ new_gather pinned.stamp geometry (Aim.Chunk
+            (record { stripe = pinned.stripe; version = pinned.stamp.version; placed = pinned.placed.items }) target)) }
+    {
+        let Pinned {
+            stripe,
+            stamp,
+            placed,
+        } = pinned;
+        let servers = geometry.n();
+        let version = stamp.version();
+        let course = Course::chunk(alloc, geometry, stripe, version, placed, target)?;
+        let parts = empty_shelf(alloc, servers)?;
+        let helpers = empty_shelf(alloc, servers)?;
+        Ok(Gather {
+            stamp,
+            course,
+            parts,
+            helpers,
+            coded: false,
+            coding: false,
+            step: false,
+        })
+    }
+
+    /// Where the gathering has to go on: at a server, with the coder once all parts have come, or
+    /// nowhere once it was coded or has ended without its bytes.
+    pub fn need(&self) -> Need
+        ensures need { result ≡ need_of self.now }
+        ensures below { IfServer result (λ server. server < chunk_count self.now.course.geometry) }
+    {
+        match self.course.asked() {
+            Some(server) => Need::Server(server),
+            None if self.course.has_bytes() && !self.coded => Need::Coder,
+            None => Need::Finished,
+        }
+    }
+
+    /// One step at the server that is asked. Afterwards the gathering tells whether memory was
+    /// wanting in it.
+    pub fn on_server(&mut self, s: &mut Server, takes: &mut Takes)
+        requires asked { server_of self.old.course ≡ Some s.old.number }
+        requires home { s.old.book.home ≡ self.old.stamp.home }
+        requires code { s.old.book.geometry ≡ self.old.course.geometry }
+        requires counts { length takes.old ≡ chunk_count self.old.course.geometry }
+        ensures step { (core_of s.new, self.new, takes.new)
+            ≡ stepped self.old self.new.step (core_of s.old) takes.old }
+        ensures same { IsSame s.old s.new }
+    {
+        if self.course.asks_whether() {
+            self.look(s);
+        } else {
+            self.fetch(s, takes);
+        }
+    }
+
+    fn look(&mut self, s: &mut Server)
+        requires asking { IsAskingStage self.old.course.stage }
+        requires look { is_look self.old.course.stage ≡ true }
+        ensures step { (takes : List ℕ) → (core_of s.new, self.new, takes)
+            ≡ stepped self.old self.new.step (core_of s.old) takes }
+        ensures same { IsSame s.old s.new }
+    {
+        match s.has(self.course.version()) {
+            Presence::Here => self.hear_here(),
+            Presence::Missing { found } => self.hear_missing(found),
+        }
+    }
+
+    fn fetch(&mut self, s: &mut Server, takes: &mut Takes)
+        requires asked { server_of self.old.course ≡ Some s.old.number }
+        requires part { is_look self.old.course.stage ≡ false }
+        requires home { s.old.book.home ≡ self.old.stamp.home }
+        requires code { s.old.book.geometry ≡ self.old.course.geometry }
+        requires counts { length takes.old ≡ chunk_count self.old.course.geometry }
+        ensures step { (core_of s.new, self.new, takes.new)
+            ≡ stepped self.old self.new.step (core_of s.old) takes.old }
+        ensures same { IsSame s.old s.new }
+    {
+        let alloc = *self.helpers.allocator();
+        let Ok(layers) = self.course.layers(alloc) else {
+            self.hear_short();
+            return;
+        };
+        match s.fetch(self.course.version(), &layers) {
+            Ok(Fetched::Part(part)) => self.hear_part(layers.len(), part, takes),
+            Ok(Fetched::Missing { found }) => self.hear_missing(found),
+            Err(_) => self.hear_short(),
+        }
+    }
+
+    fn hear_short(&mut self)
+        requires { IsAskingStage self.old.course.stage }
+        ensures { self.new ≡ heard self.old Told.Short true }
+    {
+        self.course.told_short();
+        self.coded = false;
+        self.coding = false;
+        self.step = true;
+    }
+
+    fn hear_here(&mut self)
+        requires { IsAskingStage self.old.course.stage }
+        ensures { self.new ≡ heard self.old Told.Here false }
+    {
+        self.course.told_here();
+        self.coded = false;
+        self.coding = false;
+        self.step = false;
+    }
+
+    fn hear_missing(&mut self, found: Found)
+        requires { IsAskingStage self.old.course.stage }
+        ensures { self.new ≡ heard self.old (Told.Missing found) false }
+    {
+        let missing = self.course.gone().len();
+        let_go_of_one(&mut self.helpers, missing);
+        self.course.told_missing(found);
+        self.coded = false;
+        self.coding = false;
+        self.step = false;
+    }
+
+    fn hear_part(&mut self, layers: usize, part: SealedPart, takes: &mut Takes)
+        requires own { IsOwnPart self.old part }
+        requires part { is_look self.old.course.stage ≡ false }
+        requires layers { layers ≡ length part.layers }
+        requires counts { length takes.old ≡ chunk_count self.old.course.geometry }
+        ensures gather { self.new ≡ heard self.old (Told.Given layers) false }
+        ensures takes { takes.new ≡ taking (Told.Given layers) (server_of self.old.course) takes.old }
+    {
+        part.stamp().agrees(&self.stamp);
+        let server = part.server();
+        let bytes = part.into_bytes();
+        takes.add(server, layers as u64);
+        if self.course.asks_for_wanted() {
+            self.hear_wanted(layers, server, bytes);
+        } else {
+            self.hear_helper(layers, server, bytes);
+        }
+    }
+
+    fn hear_wanted(&mut self, layers: usize, server: u32, bytes: Vec<u8>)
+        requires own { IsPart self.old.course.geometry self.old.stamp.content server (layers_asked self.old.course) bytes.items }
+        requires asked { server_of self.old.course ≡ Some server }
+        requires below { server < chunk_count self.old.course.geometry }
+        requires fetch { is_fetch self.old.course.stage ≡ true }
+        ensures { self.new ≡ heard self.old (Told.Given layers) false }
+    {
+        self.parts[server as usize] = Some(bytes);
+        self.course.told_given(layers);
+        self.coded = false;
+        self.coding = false;
+        self.step = false;
+    }
+
+    fn hear_helper(&mut self, layers: usize, server: u32, bytes: Vec<u8>)
+        requires own { IsPart self.old.course.geometry self.old.stamp.content server (layers_asked self.old.course) bytes.items }
+        requires asked { server_of self.old.course ≡ Some server }
+        requires below { server < chunk_count self.old.course.geometry }
+        requires part { is_look self.old.course.stage ≡ false }
+        requires fetch { is_fetch self.old.course.stage ≡ false }
+        ensures { self.new ≡ heard self.old (Told.Given layers) false }
+    {
+        self.helpers[server as usize] = Some(bytes);
+        self.course.told_given(layers);
+        self.coded = false;
+        self.coding = false;
+        self.step = false;
+    }
+}

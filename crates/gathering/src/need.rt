@@ -1,0 +1,12 @@
+/// Where a call has to go on.
+#[derive(Clone, Copy, PartialEq, Eq, Debug)]
+pub enum Need {
+    /// At the directory.
+    Directory,
+    /// At the server of this number.
+    Server(u32),
+    /// With a coder. It makes no step.
+    Coder,
+    /// Nowhere: it has come to its end.
+    Finished,
+}
