@@ -1,5 +1,4 @@
-//! Whether a transcript can be that of a run of a script: the checker's rules, each in one pass
-//! over the lines.
+//! The verdict on a script and a transcript: the checker's rules, each in one pass over the lines.
 #![tactic(auto)]
 
 mod calls_exist;
