@@ -2,3 +2,5 @@ mod Outputs
 mod Refusals
 mod Statuses
 mod VerifyLaws
+mod GeneratedLaws
+mod OneVerdict

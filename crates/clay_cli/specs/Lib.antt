@@ -4,3 +4,4 @@ pub mod Recover
 pub mod Verify
 pub mod Top
 pub mod ExitStatus
+pub mod Laws

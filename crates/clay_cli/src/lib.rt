@@ -3,6 +3,7 @@
 
 mod chunks;
 mod generate;
+pub mod laws;
 mod output;
 mod play;
 mod program;
