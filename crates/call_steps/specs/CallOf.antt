@@ -1,0 +1,38 @@
+-- A call in work, as callers of its machine see it: plain data.
+use Rattle.std.specs.Prelude.{ℕ, Bool, false, List}
+use Rattle.store_core.specs.Told.{Told}
+use Rattle.store_core.specs.Act.{Act}
+use Rattle.store_core.specs.NextAct.{Job}
+use Rattle.store_core.specs.Step.{take_from}
+use Rattle.store_core.specs.Agreement.{ActorToken}
+use Rattle.store_resume.specs.State.{CallState}
+use Rattle.store_resume.specs.StateActs.{act_of_state}
+use Rattle.store_resume.specs.CallLaws.{next_call}
+use Rattle.version_seal.specs.Entry.{BookOf}
+
+-- the book of its versions, how often a write is tried, the call, its number, its actor's token, where it stands, what it took from each server,
+-- whether coding is due before its next step, and whether memory was wanting in its last coding and in its last step
+pub record CallOf : Type 0 where
+  pub book : BookOf
+  pub tries : ℕ
+  pub job : Job
+  pub number : ℕ
+  pub token : ActorToken
+  pub state : CallState
+  pub takes : List ℕ
+  pub due : Bool
+  pub coding : Bool
+  pub step : Bool
+
+-- what it does next
+abbrev pub act_of : CallOf → Act
+act_of c = act_of_state c.book.geometry c.tries c.job c.state
+
+-- where it stands after an answer
+abbrev pub state_told : CallOf → Told → CallState
+state_told c answer = next_call c.book.geometry c.job c.state answer
+
+-- after the answer to an act, in a step that wanted memory or not; whether coding is due then
+abbrev pub heard : CallOf → Act → Told → Bool → Bool → CallOf
+heard c act answer short due =
+    record c { state = state_told c answer; takes = take_from act answer c.takes; due = due; coding = false; step = short }

@@ -1,0 +1,4 @@
+pub mod TokenAfter
+pub mod CallOf
+pub mod Steps
+pub mod Outcomes

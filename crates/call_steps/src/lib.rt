@@ -1,0 +1,7 @@
+//! A call in work, as each machine of a call shows itself: where it stands, what it does next, and
+//! how it ended. The machines stand on it: of a put, of a read, of a write, of a rebuild.
+#![tactic(auto)]
+
+mod outcomes;
+
+pub use outcomes::{Change, Outcome, RepairOutcome};
