@@ -11,7 +11,7 @@ use Rattle.store_core.specs.Content.{contents_by}
 use Rattle.store_core.specs.Directory.{Pass, Directory}
 use Rattle.store_core.specs.Lookups.{pass_of}
 use Rattle.store_core.specs.Note.{Note}
-use Rattle.store_core.specs.PassSteps.{touched, new_version, draw}
+use Rattle.store_core.specs.PassSteps.{touched, new_version, draw, close_pass}
 use Rattle.store_contents.specs.Contents.{stored_in}
 use Rattle.store_contents.proofs.Grows.{origins, same_contents}
 use Rattle.store_contents.proofs.VersionsMove.{Draws, versions_move}
@@ -48,9 +48,18 @@ stamps_keep_contents calls =
     record {
       first = λ book max. refl;
       still = λ s short who number step other are. by s short who number step other are (versions_move short who number step s.core).moved;
+      short = λ s who number are. are;
+      reaped = λ s who number pass point found given_up are. closed s who number pass point found given_up are;
       draw = λ s who number pass request some whole has found live written are. drawn calls s who number pass request whole has found live written are;
     }
   where
+    closed : (s : Sealed) (who : Actor) (number : ℕ) (pass : Pass) (point : ℕ) → pass_of who s.core ≡ Some pass → pass.reaped ≡ Some point → HaveContents calls s
+        → HaveContents calls (record s { core = (at_directory false who number DirectoryStep.Draw s.core).0 })
+    closed s who number pass point found given_up are =
+        let without : (at_directory false who number DirectoryStep.Draw s.core).0 ≡ close_pass pass s.core =
+        ap (λ (o : Option Pass). (on_pass draw o s.core).0) found ∙ ap (λ (r : Option ℕ). (unless_reaped draw pass r s.core).0) given_up in
+        still calls s (at_directory false who number DirectoryStep.Draw s.core).0 (ap (λ (d : Directory). d.shape) without) (ap (λ (d : Directory). origins d.versions) without) are
+
     by : (s : Sealed) (short : Bool) (who : Actor) (number : ℕ) (step : DirectoryStep) → (step ≡ DirectoryStep.Draw → ⊥) → HaveContents calls s
         → (origins (at_directory short who number step s.core).0.versions ≡ origins s.core.versions) ⊎ Draws who step s.core (at_directory short who number step s.core).0
         → HaveContents calls (record s { core = (at_directory short who number step s.core).0 })

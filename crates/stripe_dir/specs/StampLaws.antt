@@ -1,5 +1,5 @@
 -- That stamps keep the contents of their versions, and hold the bytes of the plain map, by whatever calls were made.
-use Rattle.std.specs.Prelude.{◌≡◌, ◌≢◌, ℕ, ◌<◌, Bool, false, [], ◌++◌, map, Option, Some, None}
+use Rattle.std.specs.Prelude.{◌≡◌, ◌≢◌, ℕ, ◌<◌, Bool, true, false, [], ◌++◌, map, Option, Some, None}
 use Rattle.clay_grid.specs.Shape.{stripe_length}
 use Rattle.store_map.specs.declared.actor.Actor.{Actor}
 use Rattle.store_core.specs.Act.{DirectoryStep}
@@ -14,12 +14,18 @@ use Rattle.stripe_dir.specs.ItsStripes.{IsWhole}
 use Rattle.stripe_dir.specs.Sealed.{Sealed, stamps_touched}
 use Rattle.stripe_dir.specs.Stamped.{HaveContents, HasStamps}
 
--- a directory without versions has no contents; steps that aren't a draw keep stamps and contents; a draw keeps them where its call is sealed
+-- a directory without versions has no contents; steps that aren't a draw keep stamps and contents, so does a draw that wants memory or whose pass was reaped; one that draws keeps them where its call is sealed
 pub record StampsKeepContents (calls : Calls) : Type 0 where
   pub first : (book : BookOf) (max : ℕ) → HaveContents calls (record { core = new_directory book.geometry max; book = book; stamps = [] })
   pub still :
       (s : Sealed) (short : Bool) (who : Actor) (number : ℕ) (step : DirectoryStep) → step ≢ DirectoryStep.Draw →
       HaveContents calls s → HaveContents calls (record s { core = (at_directory short who number step s.core).0 })
+  pub short :
+      (s : Sealed) (who : Actor) (number : ℕ) → HaveContents calls s →
+      HaveContents calls (record s { core = (at_directory true who number DirectoryStep.Draw s.core).0 })
+  pub reaped :
+      (s : Sealed) (who : Actor) (number : ℕ) (pass : Pass) (point : ℕ) → pass_of who s.core ≡ Some pass → pass.reaped ≡ Some point → HaveContents calls s →
+      HaveContents calls (record s { core = (at_directory false who number DirectoryStep.Draw s.core).0 })
   pub draw :
       (s : Sealed) (who : Actor) (number : ℕ) (pass : Pass) (request : Option RequestOf) → 0 < stripe_length s.core.shape →
       IsWhole s.core → HasStamps s → pass_of who s.core ≡ Some pass → pass.reaped ≡ None →

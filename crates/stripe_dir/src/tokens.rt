@@ -47,3 +47,14 @@ impl Seat {
         } = self;
     }
 }
+
+impl Pass {
+    /// Leaves the directory in the middle of a call, whose pass stays open there.
+    pub fn leave(self) {
+        let Pass {
+            actor: _,
+            told: _,
+            entry: _,
+        } = self;
+    }
+}
