@@ -1,0 +1,6 @@
+pub mod Acts
+pub mod Fitting
+pub mod Hears
+pub mod Codings
+pub mod Steps
+pub mod Tokens

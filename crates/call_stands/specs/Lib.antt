@@ -1,0 +1,5 @@
+pub mod Stands
+pub mod Ready
+pub mod After
+pub mod StandLaws
+pub mod TokenLaws
