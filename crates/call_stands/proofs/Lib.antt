@@ -3,4 +3,6 @@ pub mod Fitting
 pub mod Hears
 pub mod Codings
 pub mod Steps
+pub mod Needs
 pub mod Tokens
+pub mod Agreement

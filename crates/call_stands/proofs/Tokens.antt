@@ -10,8 +10,7 @@ use Rattle.store_core.specs.Tokens.{actor_of, after_look, after_pass_step}
 use Rattle.store_core.specs.Server.{Server}
 use Rattle.call_steps.specs.TokenAfter.{token_after, IfInCall}
 use Rattle.call_steps.specs.CallOf.{CallOf, act_of}
-use Rattle.call_steps.specs.Steps.{at_directory_by, at_server_by, coded, need_by}
-use Rattle.call_stands.specs.StandLaws.{EndsStay}
+use Rattle.call_steps.specs.Steps.{at_directory_by, at_server_by, coded}
 use Rattle.call_stands.specs.TokenLaws.{TokensStay, PassesAreOfCalls}
 
 -- ---- a token keeps its actor
@@ -74,12 +73,3 @@ its_note (ActorToken.InCall held) note number h = h.0
 
 pub passes_are_of_calls : PassesAreOfCalls
 passes_are_of_calls d c agrees holds = by_token d c.job.note c.token agrees (its_note c.token c.job.note c.number holds.its)
-
--- ---- a call that is over stays
-pub ends_stay : EndsStay
-ends_stay =
-    record {
-      needs = λ c outcome over. ap (λ (act : Act). need_by act c.due) over;
-      directory = λ c outcome d short due over. ap (λ (act : Act). at_directory_by act short due c d) over;
-      server = λ c outcome s short due over. ap (λ (act : Act). at_server_by act short due c s) over;
-    }

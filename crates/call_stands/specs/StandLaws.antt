@@ -4,7 +4,7 @@ use Rattle.std.specs.List.{slice_get}
 use Rattle.clay_grid.specs.Shape.{Shape}
 use Rattle.store_map.specs.declared.actor.Actor.{Actor}
 use Rattle.store_core.specs.Lists.{change_at}
-use Rattle.store_core.specs.Act.{Act, DirectoryStep, ServerStep, Outcome}
+use Rattle.store_core.specs.Act.{Act, DirectoryStep, ServerStep}
 use Rattle.store_core.specs.NextAct.{Job, next_act}
 use Rattle.store_core.specs.Directory.{Directory}
 use Rattle.store_core.specs.Lookups.{pass_of}
@@ -12,9 +12,8 @@ use Rattle.store_core.specs.Tokens.{actor_of}
 use Rattle.store_core.specs.Server.{Server}
 use Rattle.store_core.specs.Step.{Places, actor_step}
 use Rattle.store_core.specs.Work.{Calling}
-use Rattle.gathering.specs.declared.need.Need.TheVariants as need
 use Rattle.call_steps.specs.CallOf.{CallOf, act_of}
-use Rattle.call_steps.specs.Steps.{stepped_at_directory, stepped_at_server, need_of, IsDueInPass}
+use Rattle.call_steps.specs.Steps.{stepped_at_directory, stepped_at_server, IsDueInPass}
 use Rattle.call_stands.specs.Stands.{Stands, IsFirst, IsBetweenCalls}
 use Rattle.call_stands.specs.Ready.{ready, shortage_of, actor_coded}
 use Rattle.call_stands.specs.After.{StepsTo}
@@ -57,9 +56,3 @@ StepsAtServers =
     let stepped : Server × CallOf = stepped_at_server short due (ready coding c) s in
     StepsTo g tries job actor (actor_step g tries (shortage_of coding short c) who job actor places)
     (record places { servers = change_at server (λ _. stepped.0) places.servers }) stepped.1
-
--- a call that is over needs nothing, and makes no step
-pub record EndsStay : Type 0 where
-  pub needs : (c : CallOf) (outcome : Outcome) → act_of c ≡ Act.Finish outcome → need_of c ≡ need.Finished
-  pub directory : (c : CallOf) (outcome : Outcome) (d : Directory) (short due : Bool) → act_of c ≡ Act.Finish outcome → stepped_at_directory short due c d ≡ (d, c)
-  pub server : (c : CallOf) (outcome : Outcome) (s : Server) (short due : Bool) → act_of c ≡ Act.Finish outcome → stepped_at_server short due c s ≡ (s, c)

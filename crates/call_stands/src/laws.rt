@@ -1,7 +1,8 @@
 //! The laws, as functions that do nothing and whose contracts are the laws.
 
-ghost use Rattle.call_stands.specs.StandLaws.{ActsStand, EndsStay, FirstsStand, StepsAtDirectory, StepsAtServers};
-ghost use Rattle.call_stands.specs.TokenLaws.{PassesAreOfCalls, TokensStay};
+ghost use Rattle.call_stands.specs.StandLaws.{ActsStand, FirstsStand, StepsAtDirectory, StepsAtServers};
+ghost use Rattle.call_stands.specs.NeedLaws.{EndsStay, NeedsTellActs};
+ghost use Rattle.call_stands.specs.TokenLaws.{AgreementStays, PassesAreOfCalls, TokensStay};
 
 /// The machine of a call that hasn't begun stands for its actor between two calls.
 pub fn first_machines_stand()
@@ -15,16 +16,18 @@ pub fn standing_machines_make_the_acts()
 {}
 
 /// Each step of such a machine, at the directory or at a server that is there, is the step of the
-/// definitions: it leaves the place as they say, and either the machine stands for its actor again, or it has come
-/// to its end, and with the same outcome and takes the actor's call has ended.
+/// definitions: it leaves the place as they say, and either the machine stands for its actor again, or
+/// it has come to its end, and with the same outcome and takes the actor's call has ended.
 pub fn steps_are_those_of_the_definitions()
     ensures directory { StepsAtDirectory }
     ensures servers { StepsAtServers }
 {}
 
-/// A call that is over needs nothing and makes no step.
-pub fn ended_calls_stay()
-    ensures { EndsStay }
+/// Where a call needs the directory or a server its next step is there, and no coding is due before
+/// it; where it needs nothing it is over, and then it makes no step.
+pub fn needs_tell_acts()
+    ensures acts { NeedsTellActs }
+    ensures ends { EndsStay }
 {}
 
 /// A token keeps its actor through all steps of a call; and where the directory agrees with it, the
@@ -32,4 +35,10 @@ pub fn ended_calls_stay()
 pub fn tokens_keep_their_actors()
     ensures tokens { TokensStay }
     ensures passes { PassesAreOfCalls }
+{}
+
+/// Where a directory agrees with a call's token, it does so after each step of the call, with the token
+/// that the call has then; and with the tokens of all other actors.
+pub fn steps_keep_agreement()
+    ensures { AgreementStays }
 {}
