@@ -211,6 +211,17 @@ impl Course {
         &self.missing[..self.count]
     }
 
+    /// The same, moved out. It takes no memory.
+    pub fn into_missing(self) -> Vec<LostChunk>
+        ensures { IsTooMany self.stage (map lost_in result.items) }
+    {
+        let Course {
+            mut missing, count, ..
+        } = self;
+        missing.truncate(count);
+        missing
+    }
+
     /// The layers of the part that the server is asked for.
     #[tactic(auto, using(crate::proofs::Layered::below_all, crate::proofs::Layered::below_for, crate::proofs::Layered::below_repair))]
     pub fn layers(&self, alloc: Global) -> Result<Vec<u32>, AllocError>

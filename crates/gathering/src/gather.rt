@@ -1,17 +1,18 @@
 //! A gathering's steps at sealed servers.
-ghost use Rattle.std.specs.Prelude.{◌≡◌, ◌<◌, ◌≤◌, ℕ, true, false, List, None, Some, IfOk, length, replicate};
+ghost use Rattle.std.specs.Prelude.{◌≡◌, ◌<◌, ◌≤◌, ℕ, true, false, List, None, Some, IfOk, length, map, replicate};
 ghost use Rattle.clay_grid.specs.Shape.{chunk_count, stripe_length};
 ghost use Rattle.store_core.specs.Told.{Told};
 ghost use Rattle.store_resume.specs.Stage.{Aim};
 ghost use Rattle.chunk_server.specs.Core.{core_of};
 ghost use Rattle.gather_course.specs.Courses.{IsAskingStage, new_course, server_of, is_look, is_fetch, layers_asked};
+ghost use Rattle.gather_course.specs.Aims.{lost_in, IsTooMany};
 ghost use Rattle.gathering.specs.Gathers.{new_gather, heard, taking, stepped, IsOwnPart, IsSame};
 ghost use Rattle.gathering.specs.Parts.{IsPart, AreNone};
 
 use crate::need::Need;
 use chunk_server::{Fetched, Presence, Server};
 use clay_grid::Geometry;
-use gather_course::Course;
+use gather_course::{Course, LostChunk};
 use read_ledger::Takes;
 use std::alloc::{AllocError, Global};
 use std::marker::Model;
@@ -167,6 +168,36 @@ impl Gather {
         }
     }
 
+    /// Which server it asks, and what becomes of it.
+    pub fn course(&self) -> &Course
+        ensures { result.now ≡ self.now.course }
+    {
+        &self.course
+    }
+
+    /// Whether memory was wanting in its last step.
+    pub fn step_was_short(&self) -> bool
+        ensures { result ≡ self.now.step }
+    {
+        self.step
+    }
+
+    /// Whether memory was wanting in its coding since that step.
+    pub fn coding_was_short(&self) -> bool
+        ensures { result ≡ self.now.coding }
+    {
+        self.coding
+    }
+
+    /// The servers that were found missing, with what the look and they themselves told of them, in
+    /// the order found. It takes no memory.
+    pub fn into_missing(self) -> Vec<LostChunk>
+        ensures { IsTooMany self.course.stage (map lost_in result.items) }
+    {
+        let Gather { course, .. } = self;
+        course.into_missing()
+    }
+
     /// One step at the server that is asked. Afterwards the gathering tells whether memory was
     /// wanting in it.
     pub fn on_server(&mut self, s: &mut Server, takes: &mut Takes)
@@ -177,6 +208,7 @@ impl Gather {
         ensures step { (core_of s.new, self.new, takes.new)
             ≡ stepped self.old self.new.step (core_of s.old) takes.old }
         ensures same { IsSame s.old s.new }
+        ensures look { is_look self.old.course.stage ≡ true → self.new.step ≡ false }
     {
         if self.course.asks_whether() {
             self.look(s);
@@ -191,6 +223,7 @@ impl Gather {
         ensures step { (takes : List ℕ) → (core_of s.new, self.new, takes)
             ≡ stepped self.old self.new.step (core_of s.old) takes }
         ensures same { IsSame s.old s.new }
+        ensures room { self.new.step ≡ false }
     {
         match s.has(self.course.version()) {
             Presence::Here => self.hear_here(),
