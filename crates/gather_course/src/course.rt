@@ -216,7 +216,9 @@ impl Course {
         ensures { IsTooMany self.stage (map lost_in result.items) }
     {
         let Course {
-            mut missing, count, ..
+            mut missing,
+            count,
+            ..
         } = self;
         missing.truncate(count);
         missing
@@ -242,10 +244,10 @@ impl Course {
         }
     }
 
-    /// A part of so many layers was given.
+    /// A part was given, of however many layers.
     #[tactic(auto, using(crate::proofs::CourseKept::course_moved))]
-    pub fn told_given(&mut self, layers: usize)
-        ensures { self.new ≡ after_answer self.old (Told.Given layers) }
+    pub fn told_given(&mut self)
+        ensures { (layers : ℕ) → self.new ≡ after_answer self.old (Told.Given layers) }
     {
         self.position = after_given(
             self.geometry,

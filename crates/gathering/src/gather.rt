@@ -298,36 +298,36 @@ impl Gather {
         let bytes = part.into_bytes();
         takes.add(server, layers as u64);
         if self.course.asks_for_wanted() {
-            self.hear_wanted(layers, server, bytes);
+            self.hear_wanted(server, bytes);
         } else {
-            self.hear_helper(layers, server, bytes);
+            self.hear_helper(server, bytes);
         }
     }
 
-    fn hear_wanted(&mut self, layers: usize, server: u32, bytes: Vec<u8>)
+    fn hear_wanted(&mut self, server: u32, bytes: Vec<u8>)
         requires own { IsPart self.old.course.geometry self.old.stamp.content server (layers_asked self.old.course) bytes.items }
         requires asked { server_of self.old.course ≡ Some server }
         requires below { server < chunk_count self.old.course.geometry }
         requires fetch { is_fetch self.old.course.stage ≡ true }
-        ensures { self.new ≡ heard self.old (Told.Given layers) false }
+        ensures { (layers : ℕ) → self.new ≡ heard self.old (Told.Given layers) false }
     {
         self.parts[server as usize] = Some(bytes);
-        self.course.told_given(layers);
+        self.course.told_given();
         self.coded = false;
         self.coding = false;
         self.step = false;
     }
 
-    fn hear_helper(&mut self, layers: usize, server: u32, bytes: Vec<u8>)
+    fn hear_helper(&mut self, server: u32, bytes: Vec<u8>)
         requires own { IsPart self.old.course.geometry self.old.stamp.content server (layers_asked self.old.course) bytes.items }
         requires asked { server_of self.old.course ≡ Some server }
         requires below { server < chunk_count self.old.course.geometry }
         requires part { is_look self.old.course.stage ≡ false }
         requires fetch { is_fetch self.old.course.stage ≡ false }
-        ensures { self.new ≡ heard self.old (Told.Given layers) false }
+        ensures { (layers : ℕ) → self.new ≡ heard self.old (Told.Given layers) false }
     {
         self.helpers[server as usize] = Some(bytes);
-        self.course.told_given(layers);
+        self.course.told_given();
         self.coded = false;
         self.coding = false;
         self.step = false;

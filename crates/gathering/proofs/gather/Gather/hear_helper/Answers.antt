@@ -10,10 +10,10 @@ pub invariant_of-self : goal.invariant_of-self
 invariant_of-self c =
     let a = c.self.inside in
     let was = sym c.self.view_is in
-    after_helper a.stamp a.course c.told_given.new.self a.parts.items a.helpers.items c.self.invariant c.args.server c.args.layers c.args.bytes
+    after_helper a.stamp a.course c.told_given.new.self a.parts.items a.helpers.items c.self.invariant c.args.server 0 c.args.bytes
     (subst (λ (w : GatherOf). is_look w.course.stage ≡ false) was c.requires.part)
     (subst (λ (w : GatherOf). is_fetch w.course.stage ≡ false) was c.requires.fetch)
     (subst (λ (w : GatherOf). server_of w.course ≡ Some c.args.server) was c.requires.asked)
     (subst (λ (w : GatherOf). c.args.server < chunk_count w.course.geometry) was c.requires.below)
     (subst (λ (w : GatherOf). IsPart w.course.geometry w.stamp.content c.args.server (layers_asked w.course) c.args.bytes.items) was c.requires.own)
-    c.told_given.ensures
+    (c.told_given.ensures 0)
