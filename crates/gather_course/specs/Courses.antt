@@ -58,6 +58,11 @@ abbrev pub has_bytes : Stage → Bool
 has_bytes Stage.HasBytes = true
 has_bytes stage = false
 
+-- too many servers are missing
+abbrev pub is_lost : Stage → Bool
+is_lost (Stage.TooMany missing) = true
+is_lost stage = false
+
 -- the layers that are asked for
 abbrev pub layers_at : Shape → Aim → Stage → List ℕ
 layers_at g aim (Stage.Asks (Asking.Fetch server more missing)) = wanted_layers g aim server

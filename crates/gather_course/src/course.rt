@@ -6,7 +6,7 @@ ghost use Rattle.store_core.specs.GatheringParts.{chunks_in_range};
 ghost use Rattle.store_resume.specs.Stage.{Aim, seen_of};
 ghost use Rattle.gather_course.specs.Positions.{IsPlaced, asked_by};
 ghost use Rattle.gather_course.specs.Hearing.{IsAsking};
-ghost use Rattle.gather_course.specs.Courses.{new_course, IsAskingStage, is_look, is_fetch, has_bytes, layers_asked, server_of, after_answer};
+ghost use Rattle.gather_course.specs.Courses.{new_course, IsAskingStage, is_look, is_fetch, has_bytes, is_lost, layers_asked, server_of, after_answer};
 ghost use Rattle.gather_course.specs.Aims.{target_of, IfRange, lost_in, IsTooMany};
 
 use crate::layers::{all_layers, chunks_in_range, layers_for};
@@ -167,6 +167,13 @@ impl Course {
         self.geometry
     }
 
+    /// The pinned stripe.
+    pub fn stripe(&self) -> u32
+        ensures { result ≡ (seen_of self.now.aim).stripe }
+    {
+        self.stripe
+    }
+
     /// The version of the pinned stripe.
     pub fn version(&self) -> Version
         ensures { result.0 ≡ (seen_of self.now.aim).version }
@@ -193,6 +200,13 @@ impl Course {
         ensures { result ≡ has_bytes self.now.stage }
     {
         matches!(self.position.doing, Doing::HasBytes)
+    }
+
+    /// Whether more servers were found missing than there are parity chunks.
+    pub fn is_lost(&self) -> bool
+        ensures { result ≡ is_lost self.now.stage }
+    {
+        matches!(self.position.doing, Doing::TooMany)
     }
 
     /// The servers that were found missing, in the order found.

@@ -98,8 +98,9 @@ impl Gather {
         requires placed { length pinned.placed.items ≡ chunk_count geometry }
         requires some { start < end }
         requires within { end ≤ stripe_length geometry }
-        ensures { IfOk result (λ gather. gather ≡ new_gather pinned.stamp geometry (Aim.Range
+        ensures begins { IfOk result (λ gather. gather ≡ new_gather pinned.stamp geometry (Aim.Range
             (record { seen = record { stripe = pinned.stripe; version = pinned.stamp.version; placed = pinned.placed.items }; start = start; end = end }))) }
+        ensures asks { IfOk result (λ gather. IsAskingStage gather.course.stage) }
     {
         let Pinned {
             stripe,
