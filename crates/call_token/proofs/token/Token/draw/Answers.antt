@@ -1,0 +1,28 @@
+use Rattle.std.proofs.Common.{rules, IfOk, ap, subst, ◌∙◌, is_err, option_map}
+use Rattle.store_core.specs.Act.{DirectoryStep}
+use Rattle.stripe_dir.specs.Answers.{told_or_short}
+use Rattle.call_token.specs.Answers.{told_by_draw}
+use Rattle.store_core.specs.Agreement.{HeldPass}
+use Rattle.call_token.specs.Stamps.{IfDrawn}
+use Rattle.call_token.specs.TokenView.{token_at}
+use Rattle.call_token.proofs.Agreeing.{agrees_after}
+use Rattle.call_token.proofs.Draws.{held_or, if_drawn}
+use Rattle.call_token.proofs.token.Token.draw.Goals as goal
+
+pub returns-clause-step : goal.returns-clause-step
+returns-clause-step c = search rules
+
+pub returns-clause-token : goal.returns-clause-token
+returns-clause-token c = search rules
+
+pub returns-clause-agrees : goal.returns-clause-agrees
+returns-clause-agrees c =
+    agrees_after (is_err c.split_drawn-held.result.1) c.args.number c.args.directory.now.core c.keeps.ensures.bytes c.keeps.ensures.sound c.draw.new.self.core (told_or_short told_by_draw c.split_drawn-held.result.1) (token_at c.put.new.place) c.args.self.now
+    DirectoryStep.Draw c.requires.agrees c.requires.may (returns-clause-step c) (returns-clause-token c)
+
+pub returns-clause-drawn : goal.returns-clause-drawn
+returns-clause-drawn c = λ held is.
+    subst (λ (h : HeldPass). IfOk c.split_drawn-held.result.1 (IfDrawn c.args.directory.now h (option_map (λ r. r.now) c.args.request)))
+    (ap (held_or held) (c.take_pass-pass.ensures.pass ∙ c.self.view_is ∙ is))
+    (if_drawn c.args.directory.now c.take_pass-pass.result (option_map (λ r. r.now) c.args.request) c.split_drawn-held.result.1
+    (c.split_drawn-held.ensures.drawn c.args.directory.now c.take_pass-pass.result.pass (option_map (λ r. r.now) c.args.request) c.draw.ensures.drawn))

@@ -1,0 +1,4 @@
+pub mod TokenView
+pub mod Answers
+pub mod Shown
+pub mod Stamps
