@@ -1,0 +1,99 @@
+ghost use Rattle.std.specs.Prelude.{◌≡◌, ◌<◌, ℕ};
+ghost use Rattle.store_map.specs.declared.actor.Actor.{Actor as CoreActor};
+ghost use Rattle.store_core.specs.Sweep.{is_busy};
+ghost use Rattle.chunk_server.specs.Core.{core_of};
+ghost use Rattle.gathering.specs.Gathers.{IfServer, IsSame};
+ghost use Rattle.sweeper.specs.Sweeps.{new_sweeper, need_of, stepped_at_directory, stepped_at_server, discarded_at};
+
+use chunk_server::Server;
+use gathering::Need;
+use std::marker::Model;
+use store_map::Version;
+use stripe_dir::Directory;
+
+/// The sweeper of the stripes of one store. No step of it takes memory.
+#[derive(Drop)]
+pub struct Sweeper {
+    servers: u32,
+    // the version that was taken, and the server that discards it next
+    version: Option<Version>,
+    server: u32,
+}
+
+impl Model for Sweeper {
+    ghost use Rattle.sweeper.specs.Sweeps.{SweeperOf};
+
+    ghost Value = { SweeperOf };
+
+    ghost use Rattle.sweeper.specs.Inside.{sweeper_in};
+
+    ghost view = { sweeper_in };
+}
+
+impl Sweeper {
+    /// A sweeper that has taken no version, of stripes with so many servers.
+    pub fn new(servers: u32) -> Sweeper
+        ensures { result ≡ new_sweeper servers }
+    {
+        Sweeper {
+            servers,
+            version: None,
+            server: 0,
+        }
+    }
+
+    /// Where it has to go on: at the directory, or at the server that discards the version next.
+    pub fn need(&self) -> Need
+        ensures need { result ≡ need_of self.now }
+        ensures below { IfServer result (λ server. server < self.now.servers) }
+    {
+        if self.version.is_some() && self.server < self.servers {
+            return Need::Server(self.server);
+        }
+        Need::Directory
+    }
+
+    /// Whether it has begun with a version.
+    pub fn busy(&self) -> bool
+        ensures { result ≡ is_busy self.now.at }
+    {
+        self.version.is_some()
+    }
+
+    /// One step at the directory: it takes the least version that may be swept, or tells that the
+    /// version is swept.
+    pub fn on_directory(&mut self, d: &mut Directory)
+        requires { need_of self.old ≡ Need.Directory }
+        ensures step { (who : CoreActor) → (number : ℕ) →
+            (d.new.core, self.new) ≡ stepped_at_directory who number self.old d.old.core }
+        ensures book { d.new.book ≡ d.old.book }
+        ensures stamps { d.new.stamps ≡ d.old.stamps }
+    {
+        match self.version {
+            Some(version) => {
+                d.swept(version);
+                self.version = None;
+            }
+            None => {
+                self.version = d.next_garbage();
+                self.server = 0;
+            }
+        }
+    }
+
+    /// One step at the server that is needed: it discards its chunk of the version.
+    pub fn on_server(&mut self, s: &mut Server)
+        requires { need_of self.old ≡ Need.Server s.old.number }
+        ensures step { (core_of s.new, self.new) ≡ stepped_at_server self.old (core_of s.old) }
+        ensures server { s.new ≡ discarded_at self.old.at s.old }
+        ensures same { IsSame s.old s.new }
+    {
+        match self.version {
+            Some(version) => s.discard(version),
+            None => unreachable!(),
+        }
+        // That there are so many servers bounds the sum.
+        let _servers = self.servers;
+        self.server += 1;
+    }
+}
