@@ -4,11 +4,12 @@ ghost use Rattle.clay_grid.specs.Shape.{chunk_count, layer_count};
 ghost use Rattle.store_core.specs.Told.{Told};
 ghost use Rattle.store_core.specs.GatheringParts.{chunks_in_range};
 ghost use Rattle.store_resume.specs.Stage.{Aim, seen_of};
-ghost use Rattle.gather_course.specs.Positions.{IsPlaced, asked_by};
+ghost use Rattle.gather_course.specs.Positions.{IsPlaced, asked_by, first_lost, downs_of};
 ghost use Rattle.gather_course.specs.Hearing.{IsAsking};
 ghost use Rattle.gather_course.specs.Courses.{new_course, IsAskingStage, is_look, is_fetch, has_bytes, is_lost, layers_asked, server_of, after_answer};
-ghost use Rattle.gather_course.specs.Aims.{target_of, IfRange, lost_in, IsTooMany};
+ghost use Rattle.gather_course.specs.Aims.{target_of, IfRange, lost_in, IsTooMany, ending_at};
 
+use crate::ending::Ending;
 use crate::layers::{all_layers, chunks_in_range, layers_for};
 use crate::lost::LostChunk;
 use crate::position::{Doing, Position, after_given, after_here, after_missing, ended, on_fetch};
@@ -209,6 +210,21 @@ impl Course {
         matches!(self.position.doing, Doing::TooMany)
     }
 
+    /// How it has ended without its bytes, if it has.
+    pub fn ending(&self) -> Option<Ending>
+        ensures { result ≡ ending_at self.now.stage }
+    {
+        match self.position.doing {
+            Doing::TooMany => Some(Ending::TooMany),
+            Doing::AtTarget => Some(Ending::AtTarget),
+            Doing::TargetAway => Some(Ending::TargetAway {
+                downs: first_downs(&self.missing[..self.count]),
+            }),
+            Doing::Short => Some(Ending::Short),
+            _ => None,
+        }
+    }
+
     /// The servers that were found missing, in the order found.
     pub fn gone(&self) -> &[u32]
         ensures { result.now ≡ self.now.gone }
@@ -315,6 +331,19 @@ impl Course {
         ensures { self.new ≡ after_answer self.old Told.Short }
     {
         self.position = ended(Doing::Short);
+    }
+}
+
+// How often the first missing server had been made away, where it is away.
+fn first_downs(missing: &[LostChunk]) -> u64
+    ensures { result ≡ downs_of (first_lost (map lost_in missing.now)).found }
+{
+    match missing.first() {
+        Some(lost) => match lost.found {
+            Found::Away { downs } => downs,
+            Found::Absent { .. } => 0,
+        },
+        None => 0,
     }
 }
 

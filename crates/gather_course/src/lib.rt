@@ -3,10 +3,12 @@
 #![tactic(auto)]
 
 mod course;
+mod ending;
 mod layers;
 mod lost;
 mod position;
 mod servers;
 
 pub use course::Course;
+pub use ending::Ending;
 pub use lost::LostChunk;
