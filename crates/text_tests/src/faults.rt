@@ -2,7 +2,6 @@
 
 use script_text::read_script;
 use std::alloc::Global;
-use std::process::Abort;
 use std::test::Fail;
 use transcript_read::read_transcript;
 
@@ -53,29 +52,31 @@ pub fn joined(alloc: Global, first: &[u8], second: &[u8], third: &[u8]) -> Resul
     Ok(whole)
 }
 
-/// Holds what was found against what is wanted. It is a function of its own, since each assertion in a
+/// Holds what was found against what is wanted. It is a function of its own, since each comparison in a
 /// function makes all of that function dearer to prove.
-pub fn same(rt: &(impl Abort + AllocGlobal), found: &[u8], wanted: &[u8]) {
-    assert_eq!(rt; found, wanted);
+pub fn same(found: &[u8], wanted: &[u8]) -> Result<(), Fail> {
+    if found == wanted {
+        return Ok(());
+    }
+    Err(Fail::from("not what is wanted"))
 }
 
 fn has_fault(
-    rt: &(impl Abort + AllocGlobal),
+    alloc: Global,
     reader: Reader,
     around: Around<'_>,
     row: &[u8],
 ) -> Result<(), Fail> {
     let (fault, text) = parts(row)?;
-    let whole = joined(rt.alloc(), around.before, text, around.behind)?;
-    let found = fault_in(rt.alloc(), reader, &whole)?;
-    same(rt, found.as_bytes(), fault);
-    Ok(())
+    let whole = joined(alloc, around.before, text, around.behind)?;
+    let found = fault_in(alloc, reader, &whole)?;
+    same(found.as_bytes(), fault)
 }
 
 /// Holds the text of each row, with what stands around it, against the fault of that row, which is written
 /// as it is printed, `>` behind it. The rows are parted by `|`; there are so many.
 pub fn have_faults(
-    rt: &(impl Abort + AllocGlobal),
+    alloc: Global,
     reader: Reader,
     around: Around<'_>,
     rows: usize,
@@ -83,9 +84,11 @@ pub fn have_faults(
 ) -> Result<(), Fail> {
     let mut held: usize = 0;
     for row in table.split(|byte| *byte == b'|') {
-        has_fault(rt, reader, around, row)?;
+        has_fault(alloc, reader, around, row)?;
         held = held.saturating_add(1);
     }
-    assert_eq!(rt; held, rows);
+    if held != rows {
+        return Err(Fail::from("not so many rows"));
+    }
     Ok(())
 }

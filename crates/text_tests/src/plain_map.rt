@@ -159,8 +159,7 @@ fn three_bytes(alloc: Global) -> Result<ByteList, Fail> {
 fn lists_are_copied(rt: HostRuntime) -> Result<(), Fail> {
     let list = three_bytes(rt.alloc())?;
     let copy = list.copy()?;
-    same(&rt, copy.as_slice(), &[3, 4, 5]);
-    Ok(())
+    same(copy.as_slice(), &[3, 4, 5])
 }
 
 #[test]
@@ -168,8 +167,7 @@ fn lists_are_written_over(rt: HostRuntime) -> Result<(), Fail> {
     let mut list = three_bytes(rt.alloc())?;
     list.write_over(0, &[8])?;
     let part = list.copy_part(0, 2)?;
-    same(&rt, part.as_slice(), &[8, 4]);
-    Ok(())
+    same(part.as_slice(), &[8, 4])
 }
 
 #[test]

@@ -61,7 +61,7 @@ fn has_faults(
         before: b"",
         behind,
     };
-    have_faults(rt, Reader::Transcript(servers), around, rows, table)
+    have_faults(rt.alloc(), Reader::Transcript(servers), around, rows, table)
 }
 
 #[test]

@@ -193,6 +193,5 @@ fn whole(alloc: Global) -> Result<Transcript, Fail> {
 fn writes_every_form_of_line(rt: HostRuntime) -> Result<(), Fail> {
     let transcript = whole(rt.alloc())?;
     let text = write_transcript(rt.alloc(), &transcript)?;
-    same(&rt, &text, TEXT.as_bytes());
-    Ok(())
+    same(&text, TEXT.as_bytes())
 }

@@ -1,4 +1,4 @@
-use crate::faults::{Around, Reader, have_faults, joined, parts, same};
+use text_tests::faults::{Around, Reader, have_faults, joined, parts, same};
 use line_grammar::FaultKind::{
     Geometry, Limit, MissingEnd, NoSuchActor, NoSuchServer, OutOfMemory, Syntax,
 };
@@ -39,7 +39,7 @@ fn has_faults(
         before: head,
         behind: b"",
     };
-    have_faults(rt, Reader::Script, around, rows, table)
+    have_faults(rt.alloc(), Reader::Script, around, rows, table)
 }
 
 /// The text of the script that is read.
@@ -61,8 +61,7 @@ fn written_front(alloc: Global, text: &[u8], wanted: usize) -> Result<Vec<u8>, F
 fn begins_with(rt: &(impl Abort + AllocGlobal), text: &[u8], behind: &[u8]) -> Result<(), Fail> {
     let longer = joined(rt.alloc(), text, behind, b"")?;
     let front = written_front(rt.alloc(), &longer, text.len())?;
-    same(rt, &front, text);
-    Ok(())
+    same(&front, text)
 }
 
 #[test]
@@ -594,7 +593,7 @@ const WRITTEN: &[u8] = b"\
 
 fn writes_back(rt: &(impl Abort + AllocGlobal), text: &[u8]) -> Result<(), Fail> {
     let whole = written(rt.alloc(), text)?;
-    same(rt, &whole, text);
+    same(&whole, text)?;
     begins_with(rt, text, b"H 0 c0.0 ok\nend\n")
 }
 
