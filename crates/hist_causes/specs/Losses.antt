@@ -2,17 +2,17 @@
 use Rattle.std.specs.Prelude.{◌≡◌, ℕ}
 use Rattle.store_map.specs.declared.script.Script.{Script}
 use Rattle.hist_rules.specs.Counts.{wipes, downs}
-use Rattle.hist_tables.specs.Deeds.{count_in}
-use Rattle.hist_tables.specs.declared.deeds.Deeds.{Deeds}
+use Rattle.hist_tables.specs.OperatorCounts.{count_in}
+use Rattle.hist_tables.specs.declared.operator_counts.OperatorCounts.{OperatorCounts}
 use Rattle.hist_causes.specs.declared.chunks.Losses.{Losses}
 
 -- how often each server is emptied
-abbrev pub AreWipes : Script → Deeds → Type 0
-AreWipes script deeds = (server : ℕ) → count_in deeds server ≡ wipes script server
+abbrev pub AreWipes : Script → OperatorCounts → Type 0
+AreWipes script counted = (server : ℕ) → count_in counted server ≡ wipes script server
 
 -- how often each server is made away
-abbrev pub AreDowns : Script → Deeds → Type 0
-AreDowns script deeds = (server : ℕ) → count_in deeds server ≡ downs script server
+abbrev pub AreDowns : Script → OperatorCounts → Type 0
+AreDowns script counted = (server : ℕ) → count_in counted server ≡ downs script server
 
 -- both
 pub record AreLosses (script : Script) (losses : Losses) : Type 0 where

@@ -7,7 +7,7 @@ ghost use Rattle.hist_rules.specs.declared.verdict.Verdict.TheVariants.{BadCause
 ghost use Rattle.hist_causes.specs.Losses.{AreDowns};
 
 use hist_rules::Verdict;
-use hist_tables::Deeds;
+use hist_tables::OperatorCounts;
 use transcript_text::CallName;
 
 /// The fault of a call's cause, unless a test of it holds.
@@ -26,10 +26,10 @@ pub fn blame_unless(holds: bool, call: CallName, first: u64, second: u64) -> Opt
 }
 
 /// Whether a server can have told that it was made away so often.
-pub fn downs_fit(deeds: &Deeds, call: CallName, server: u64, told: u64) -> Option<Verdict>
-    ensures { (script : Script) → AreDowns script deeds.now
+pub fn downs_fit(counted: &OperatorCounts, call: CallName, server: u64, told: u64) -> Option<Verdict>
+    ensures { (script : Script) → AreDowns script counted.now
         → result ≡ unless (is_told_downs script server told) (BadCause call (downs script server) told) }
 {
-    let most = deeds.of(server);
+    let most = counted.of(server);
     blame_unless(1 <= told && told <= most, call, most, told)
 }

@@ -8,7 +8,7 @@ ghost use Rattle.hist_causes.specs.Losses.{AreLosses};
 
 use crate::blame::{blame_unless, downs_fit};
 use hist_rules::Verdict;
-use hist_tables::{Deeds, call_of};
+use hist_tables::{OperatorCounts, call_of};
 use std::alloc::{AllocError, Global};
 use store_map::{Call, Found, Placement, Script};
 use transcript_text::{CallName, Triple};
@@ -16,8 +16,8 @@ use transcript_text::{CallName, Triple};
 /// How often the operator empties each server, and makes it away.
 #[derive(Drop)]
 pub struct Losses {
-    pub wipes: Deeds,
-    pub downs: Deeds,
+    pub wipes: OperatorCounts,
+    pub downs: OperatorCounts,
 }
 
 impl Losses {
@@ -26,8 +26,8 @@ impl Losses {
         ensures { IfOk result (AreLosses script.now) }
     {
         Ok(Losses {
-            wipes: Deeds::wipes(alloc, script)?,
-            downs: Deeds::downs(alloc, script)?,
+            wipes: OperatorCounts::wipes(alloc, script)?,
+            downs: OperatorCounts::downs(alloc, script)?,
         })
     }
 }

@@ -7,7 +7,7 @@ ghost use Rattle.hist_causes.specs.Losses.{AreDowns};
 use crate::blame::{blame_unless, downs_fit};
 use crate::changes::is_change_point;
 use hist_rules::Verdict;
-use hist_tables::{Deeds, rebuild_of};
+use hist_tables::{OperatorCounts, rebuild_of};
 use std::alloc::{AllocError, Global};
 use store_map::{Rebuild, Script};
 use transcript_text::{RLine, RepairResult, Transcript};
@@ -16,12 +16,12 @@ use transcript_text::{RLine, RepairResult, Transcript};
 fn result_named(
     script: &Script,
     transcript: &Transcript,
-    deeds: &Deeds,
+    counted: &OperatorCounts,
     line: &RLine,
     rebuild: &Rebuild,
 ) -> Option<Verdict>
     requires rising { points_rise transcript.now ≡ None }
-    requires downs { AreDowns script.now deeds.now }
+    requires downs { AreDowns script.now counted.now }
     ensures { result ≡ result_named script.now transcript.now line.now.call line.now.result rebuild.now }
 {
     let call = line.call;
@@ -35,7 +35,7 @@ fn result_named(
             blame_unless(own == *stripe, call, own, *stripe)
         }
         RepairResult::Away { downs } => {
-            downs_fit(deeds, call, u64::from(rebuild.server), *downs)
+            downs_fit(counted, call, u64::from(rebuild.server), *downs)
         }
         _ => None,
     }
@@ -45,15 +45,15 @@ fn result_named(
 fn line_named(
     script: &Script,
     transcript: &Transcript,
-    deeds: &Deeds,
+    counted: &OperatorCounts,
     line: &RLine,
 ) -> Option<Verdict>
     requires rising { points_rise transcript.now ≡ None }
-    requires downs { AreDowns script.now deeds.now }
+    requires downs { AreDowns script.now counted.now }
     ensures { result ≡ option_and_then (result_named script.now transcript.now line.now.call line.now.result) (rebuild_of script.now line.now.call) }
 {
     let rebuild = rebuild_of(script, line.call)?;
-    result_named(script, transcript, deeds, line, rebuild)
+    result_named(script, transcript, counted, line, rebuild)
 }
 
 /// The fault of the first rebuild's result that names another object, stripe or server.
@@ -65,10 +65,10 @@ pub fn find_false_result(
     requires rising { points_rise transcript.now ≡ None }
     ensures { IfOk result (λ found. found ≡ causes_named script.now transcript.now) }
 {
-    let deeds = Deeds::downs(alloc, script)?;
+    let counted = OperatorCounts::downs(alloc, script)?;
     let lines = transcript.repairs.as_slice();
     for line in lines {
-        if let Some(fault) = line_named(script, transcript, &deeds, line) {
+        if let Some(fault) = line_named(script, transcript, &counted, line) {
             return Ok(Some(fault));
         }
     }

@@ -4,7 +4,7 @@ ghost use Rattle.hist_rules.specs.TakesAddUp.{server_adds_up, takes_add_up};
 ghost use Rattle.hist_causes.specs.Losses.{AreWipes};
 
 use hist_rules::{TailKind, Verdict};
-use hist_tables::{Deeds, server_line};
+use hist_tables::{OperatorCounts, server_line};
 use std::alloc::{AllocError, Global};
 use store_map::Script;
 use transcript_text::{GLine, TLine, Transcript};
@@ -41,14 +41,14 @@ fn server_adds_up(
     alloc: Global,
     script: &Script,
     transcript: &Transcript,
-    deeds: &Deeds,
+    counted: &OperatorCounts,
     line: &TLine,
 ) -> Result<Option<Verdict>, AllocError>
-    requires wipes { AreWipes script.now deeds.now }
+    requires wipes { AreWipes script.now counted.now }
     ensures { IfOk result (λ found. found ≡ server_adds_up script.now transcript.now line.now) }
 {
     let taken = taken_of(transcript.takes.as_slice(), line.server);
-    let epoch = deeds.of(u64::from(line.server));
+    let epoch = counted.of(u64::from(line.server));
     let printed = u128::from(line.taken);
     if printed == taken && line.epoch == epoch {
         return Ok(None);
@@ -69,10 +69,10 @@ pub fn find_wrong_sum(
 ) -> Result<Option<Verdict>, AllocError>
     ensures { IfOk result (λ found. found ≡ takes_add_up script.now transcript.now) }
 {
-    let deeds = Deeds::wipes(alloc, script)?;
+    let counted = OperatorCounts::wipes(alloc, script)?;
     let lines = transcript.servers.as_slice();
     for line in lines {
-        if let Some(fault) = server_adds_up(alloc, script, transcript, &deeds, line)? {
+        if let Some(fault) = server_adds_up(alloc, script, transcript, &counted, line)? {
             return Ok(Some(fault));
         }
     }

@@ -1,9 +1,9 @@
 ghost use Rattle.std.specs.Prelude.{◌≡◌, IfOk};
 ghost use Rattle.hist_rules.specs.Counts.{reaps};
-ghost use Rattle.hist_tables.specs.Deeds.{reaps_in};
+ghost use Rattle.hist_tables.specs.OperatorCounts.{reaps_in};
 ghost use Rattle.transcript_text.specs.declared.call_name.CallName.{CallName};
 
-use crate::deeds::{Deed, Deeds};
+use crate::operator_counts::{OperatorAction, OperatorCounts};
 use std::alloc::{AllocError, Global};
 use store_map::Script;
 use transcript_text::CallName;
@@ -11,8 +11,8 @@ use transcript_text::CallName;
 /// How often the passes of each actor are given up.
 #[derive(Drop)]
 pub struct Reaps {
-    clients: Deeds,
-    repairers: Deeds,
+    clients: OperatorCounts,
+    repairers: OperatorCounts,
 }
 
 impl Reaps {
@@ -22,8 +22,8 @@ impl Reaps {
     {
         let schedule = script.schedule.as_slice();
         Ok(Reaps {
-            clients: Deeds::count(alloc, Deed::ReapClient, schedule)?,
-            repairers: Deeds::count(alloc, Deed::ReapRepairer, schedule)?,
+            clients: OperatorCounts::count(alloc, OperatorAction::ReapClient, schedule)?,
+            repairers: OperatorCounts::count(alloc, OperatorAction::ReapRepairer, schedule)?,
         })
     }
 
