@@ -1,12 +1,15 @@
-use Rattle.std.proofs.Common.{rules, map, false}
+use Rattle.std.proofs.Common.{rules, map, false, refl, sym, ◌∙◌}
 use Rattle.store_core.specs.Act.{DirectoryStep}
+use Rattle.stripe_dir.specs.Answers.{told_committed}
 use Rattle.call_token.specs.Answers.{told_by_commit}
 use Rattle.call_token.specs.TokenView.{token_at}
-use Rattle.call_token.proofs.Agreeing.{agrees_after}
+use Rattle.call_token.proofs.Agreeing.{agrees_after, made_in_call}
 use Rattle.call_token.proofs.token.Token.commit.Goals as goal
 
 pub returns-clause-step : goal.returns-clause-step
-returns-clause-step c = search rules
+returns-clause-step c =
+    made_in_call c.args.number (DirectoryStep.Commit (map (λ row. row.items) c.args.placed.items)) c.args.directory.now.core c.commit.new.self.core c.args.self.now false false refl (told_committed c.commit.result) (told_by_commit c.split_committed-held.result.1) (sym c.split_committed-held.ensures.told) c.take_pass-pass.result
+    (c.take_pass-pass.ensures.pass ∙ c.self.view_is) c.requires.may c.commit.ensures.step
 
 pub returns-clause-token : goal.returns-clause-token
 returns-clause-token c = search rules

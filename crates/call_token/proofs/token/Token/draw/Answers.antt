@@ -1,16 +1,18 @@
-use Rattle.std.proofs.Common.{rules, IfOk, ap, subst, ◌∙◌, is_err, option_map}
+use Rattle.std.proofs.Common.{rules, IfOk, ap, subst, ◌∙◌, is_err, option_map, sym}
 use Rattle.store_core.specs.Act.{DirectoryStep}
-use Rattle.stripe_dir.specs.Answers.{told_or_short}
+use Rattle.stripe_dir.specs.Answers.{told_drawn, told_or_short}
 use Rattle.call_token.specs.Answers.{told_by_draw}
 use Rattle.store_core.specs.Agreement.{HeldPass}
 use Rattle.call_token.specs.Stamps.{IfDrawn}
 use Rattle.call_token.specs.TokenView.{token_at}
-use Rattle.call_token.proofs.Agreeing.{agrees_after}
+use Rattle.call_token.proofs.Agreeing.{agrees_after, made_in_call}
 use Rattle.call_token.proofs.Draws.{held_or, if_drawn}
 use Rattle.call_token.proofs.token.Token.draw.Goals as goal
 
 pub returns-clause-step : goal.returns-clause-step
-returns-clause-step c = search rules
+returns-clause-step c =
+    made_in_call c.args.number DirectoryStep.Draw c.args.directory.now.core c.draw.new.self.core c.args.self.now (is_err c.draw.result) (is_err c.split_drawn-held.result.1) (sym c.split_drawn-held.ensures.short) (told_or_short told_drawn c.draw.result) (told_or_short told_by_draw c.split_drawn-held.result.1) (sym c.split_drawn-held.ensures.told) c.take_pass-pass.result
+    (c.take_pass-pass.ensures.pass ∙ c.self.view_is) c.requires.may c.draw.ensures.step
 
 pub returns-clause-token : goal.returns-clause-token
 returns-clause-token c = search rules

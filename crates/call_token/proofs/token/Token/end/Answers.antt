@@ -1,12 +1,15 @@
-use Rattle.std.proofs.Common.{rules, false}
+use Rattle.std.proofs.Common.{rules, false, refl, sym, ◌∙◌}
 use Rattle.store_core.specs.Act.{DirectoryStep}
+use Rattle.stripe_dir.specs.Answers.{told_ended}
 use Rattle.call_token.specs.Answers.{told_by_end}
 use Rattle.call_token.specs.TokenView.{token_at}
-use Rattle.call_token.proofs.Agreeing.{agrees_after}
+use Rattle.call_token.proofs.Agreeing.{agrees_after, made_in_call}
 use Rattle.call_token.proofs.token.Token.end.Goals as goal
 
 pub returns-clause-step : goal.returns-clause-step
-returns-clause-step c = search rules
+returns-clause-step c =
+    made_in_call c.args.number DirectoryStep.End c.args.directory.now.core c.end.new.self.core c.args.self.now false false refl (told_ended c.end.result) (told_by_end c.split_ended-held.result.1) (sym c.split_ended-held.ensures.told) c.take_pass-pass.result
+    (c.take_pass-pass.ensures.pass ∙ c.self.view_is) c.requires.may c.end.ensures.step
 
 pub returns-clause-token : goal.returns-clause-token
 returns-clause-token c = search rules

@@ -1,16 +1,18 @@
-use Rattle.std.proofs.Common.{rules, is_err}
+use Rattle.std.proofs.Common.{rules, is_err, sym, ◌∙◌}
 use Rattle.store_core.specs.Note.{note_of}
 use Rattle.store_core.specs.Act.{DirectoryStep}
 use Rattle.store_core.specs.Tokens.{actor_of}
-use Rattle.stripe_dir.specs.Answers.{told_or_short}
+use Rattle.stripe_dir.specs.Answers.{told_look, told_or_short}
 use Rattle.call_token.specs.Answers.{told_by_look}
 use Rattle.call_token.specs.TokenView.{token_at}
-use Rattle.call_token.proofs.Agreeing.{agrees_after}
+use Rattle.call_token.proofs.Agreeing.{agrees_after, made_seated}
 use Rattle.call_token.proofs.Rows.{shown_by_look}
 use Rattle.call_token.proofs.token.Token.look.Goals as goal
 
 pub returns-clause-step : goal.returns-clause-step
-returns-clause-step c = search rules
+returns-clause-step c =
+    made_seated c.args.number (DirectoryStep.Look (note_of c.args.call.now)) c.args.directory.now.core c.look.new.self.core c.args.self.now (is_err c.look.result) (is_err c.split_look-held.result.1) (sym c.split_look-held.ensures.short) (told_or_short told_look c.look.result) (told_or_short told_by_look c.split_look-held.result.1) (sym c.split_look-held.ensures.told) c.take_seat-seat.result
+    (c.take_seat-seat.ensures.seat ∙ c.self.view_is) c.look.ensures.step
 
 pub returns-clause-token : goal.returns-clause-token
 returns-clause-token c = search rules
