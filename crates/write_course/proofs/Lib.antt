@@ -1,0 +1,5 @@
+pub mod Placements
+pub mod Transitions
+pub mod Opened
+pub mod Kept
+pub mod Steps
