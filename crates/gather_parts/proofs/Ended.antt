@@ -1,0 +1,85 @@
+-- Gatherings that are over.
+use Rattle.std.proofs.Common.{◌≡◌, ℕ, Bool, true, false, List, [], ◌∷◌, ◌++◌, Option, None, Some, refl, sym, ap, ◌∙◌, append-nil}
+use Rattle.std.proofs.lemmas.Bool.{true≢false}
+use Rattle.clay_grid.specs.Shape.{Shape}
+use Rattle.store_core.specs.Told.{Lost}
+use Rattle.store_core.specs.Act.{Outcome}
+use Rattle.store_core.specs.Gathering.{Part}
+use Rattle.store_resume.specs.Stage.{Aim, Stage, seen_of}
+use Rattle.store_resume.specs.State.{Sequel, State}
+use Rattle.store_resume.specs.States.{sequel_state, stage_state, open_parts}
+use Rattle.gathering.specs.Gathers.{GatherOf}
+use Rattle.gather_parts.specs.declared.standing.Standing.{Standing}
+use Rattle.gather_parts.specs.declared.standing.Standing.TheVariants as standing
+use Rattle.gather_parts.specs.Wanted.{Wanted, parts_of, bytes_of}
+use Rattle.gather_parts.specs.Gatherings.{GatheringsOf, bytes_at_work, owed}
+use Rattle.gather_parts.specs.Standings.{standing_at, standing_by, unless_short, standing_of}
+use Rattle.gather_parts.specs.States.{state_by, unless_wanting, state_in}
+
+abbrev is_done : Standing → Bool
+is_done standing.Done = true
+is_done now = false
+
+abbrev is_too_many : Standing → Bool
+is_too_many standing.TooMany = true
+is_too_many now = false
+
+not_done : {A : Type 0} (now : Standing) → is_done now ≡ false → now ≡ standing.Done → A
+not_done now none e = absurd (true≢false (sym (ap is_done e) ∙ none))
+
+not_many : {A : Type 0} (now : Standing) → is_too_many now ≡ false → now ≡ standing.TooMany → A
+not_many now none e = absurd (true≢false (sym (ap is_too_many e) ∙ none))
+
+never_done : (g : Shape) (aim : Aim) (stage : Stage) → is_done (standing_at g aim stage) ≡ false
+never_done g aim (Stage.Asks asking) = refl
+never_done g aim Stage.HasBytes = refl
+never_done g aim (Stage.TooMany missing) = refl
+never_done g aim Stage.AtTarget = refl
+never_done g aim (Stage.TargetAway downs) = refl
+never_done g aim Stage.Short = refl
+
+module _ (g : Shape) (after : Sequel) where
+  done_by : (current : Option GatherOf) (left : List Wanted) → standing_by g current left ≡ standing.Done → state_by g (parts_of left) after current ≡ sequel_state after
+  done_by (Some w) left e = not_done (standing_at g w.course.aim w.course.stage) (never_done g w.course.aim w.course.stage) e
+  done_by None [] e = refl
+  done_by None (wanted ∷ left) e = not_done standing.Due refl e
+
+  done_unless : (coding : Bool) (current : Option GatherOf) (left : List Wanted) → unless_short coding (standing_by g current left) ≡ standing.Done
+      → unless_wanting coding (state_by g (parts_of left) after current) ≡ sequel_state after
+  done_unless true current left e = not_done standing.Short refl e
+  done_unless false current left e = done_by current left e
+
+pub done_state : (p : GatheringsOf) (after : Sequel) → standing_of p ≡ standing.Done → state_in p after ≡ sequel_state after
+done_state p after e = done_unless p.book.geometry after p.coding p.current p.left e
+
+nothing_left : (g : Shape) (coding : Bool) (current : Option GatherOf) (left : List Wanted) → unless_short coding (standing_by g current left) ≡ standing.Done
+    → bytes_at_work current ++ bytes_of left ≡ []
+nothing_left g true current left e = not_done standing.Short refl e
+nothing_left g false (Some w) left e = not_done (standing_at g w.course.aim w.course.stage) (never_done g w.course.aim w.course.stage) e
+nothing_left g false None [] e = refl
+nothing_left g false None (wanted ∷ left) e = not_done standing.Due refl e
+
+pub done_owed : (p : GatheringsOf) → standing_of p ≡ standing.Done → owed p ≡ p.bytes
+done_owed p e = ap (λ (l : List ℕ). p.bytes ++ l) (nothing_left p.book.geometry p.coding p.current p.left e) ∙ append-nil p.bytes
+
+abbrev Ends : (Sequel → State) → Type 0
+Ends at = (stripe : ℕ) × (missing : List Lost) × ((after : Sequel) → at after ≡ State.Ending (Outcome.Unavailable stripe missing))
+
+lost_stage : (g : Shape) (aim : Aim) (parts : List Part) (stage : Stage) → standing_at g aim stage ≡ standing.TooMany
+    → Ends (λ after. stage_state (open_parts g parts after) aim parts after stage)
+lost_stage g aim parts (Stage.TooMany missing) e = ((seen_of aim).stripe, missing, λ after. refl)
+lost_stage g aim parts (Stage.Asks asking) e = not_many (standing_at g aim (Stage.Asks asking)) refl e
+lost_stage g aim parts Stage.HasBytes e = not_many standing.Due refl e
+lost_stage g aim parts Stage.AtTarget e = not_many standing.Short refl e
+lost_stage g aim parts (Stage.TargetAway downs) e = not_many standing.Short refl e
+lost_stage g aim parts Stage.Short e = not_many standing.Short refl e
+
+lost_unless : (g : Shape) (coding : Bool) (current : Option GatherOf) (left : List Wanted) → unless_short coding (standing_by g current left) ≡ standing.TooMany
+    → Ends (λ after. unless_wanting coding (state_by g (parts_of left) after current))
+lost_unless g true current left e = not_many standing.Short refl e
+lost_unless g false (Some w) left e = lost_stage g w.course.aim (parts_of left) w.course.stage e
+lost_unless g false None [] e = not_many standing.Done refl e
+lost_unless g false None (wanted ∷ left) e = not_many standing.Due refl e
+
+pub lost_state : (p : GatheringsOf) → standing_of p ≡ standing.TooMany → Ends (state_in p)
+lost_state p e = lost_unless p.book.geometry p.coding p.current p.left e

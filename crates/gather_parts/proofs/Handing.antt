@@ -1,0 +1,198 @@
+-- A coding of gatherings leaves the state of their call, or leads it to its end.
+use Rattle.std.proofs.Common.{◌≡◌, ℕ, Bool, true, false, List, [], ◌∷◌, ◌++◌, Option, None, Some, refl, sym, ap, subst, ◌∙◌, append_assoc}
+use Rattle.std.specs.Prelude.{IsTrue}
+use Rattle.std.proofs.lemmas.Bool.{true≢false}
+use Rattle.clay_grid.specs.Shape.{Shape}
+use Rattle.store_core.specs.Told.{Told}
+use Rattle.store_core.specs.NextAct.{Job}
+use Rattle.store_core.specs.Gathering.{Part}
+use Rattle.store_core.specs.Act.{Outcome}
+use Rattle.store_core.specs.ActPlace.{is_in_pass}
+use Rattle.store_resume.specs.Stage.{Aim, Asking, Stage}
+use Rattle.store_resume.specs.Stages.{first_stage}
+use Rattle.store_resume.specs.State.{Sequel, State, CallState}
+use Rattle.store_resume.specs.States.{sequel_state, stage_state, open_parts}
+use Rattle.store_resume.specs.StateActs.{act_at}
+use Rattle.store_resume.specs.CallLaws.{next_call}
+use Rattle.gathering.specs.Gathers.{GatherOf}
+use Rattle.gathering.specs.declared.need.Need.TheVariants as need
+use Rattle.call_steps.specs.CallOf.{CallOf, act_of}
+use Rattle.call_steps.specs.Steps.{need_by, need_of, coded as call_coded}
+use Rattle.gather_parts.specs.Steps.{next_of, handed_on, coded}
+use Rattle.gather_parts.specs.declared.standing.Standing.{Standing}
+use Rattle.gather_parts.specs.declared.standing.Standing.TheVariants as standing
+use Rattle.gather_parts.specs.Wanted.{Wanted, parts_of, bytes_of}
+use Rattle.gather_parts.specs.Gatherings.{GatheringsOf, bytes_at_work, owed}
+use Rattle.gather_parts.specs.Standings.{standing_at, standing_by, unless_short, standing_of, is_due_at, is_due}
+use Rattle.gather_parts.specs.States.{state_by, unless_wanting, state_in, StandsIn, moved}
+use Rattle.gather_parts.proofs.Moving.{standing_call, stands_as}
+use Rattle.gather_parts.proofs.Nexts.{next_state, next_bytes}
+
+not_due : {A : Type 0} (now : Standing) → is_due_at now ≡ false → now ≡ standing.Due → A
+not_due now none e = absurd (true≢false (sym (ap is_due_at e) ∙ none))
+
+-- where coding is due, the parts that are left are next
+module _ (g : Shape) (parts : List Part) (after : Sequel) where
+  due_stage : (aim : Aim) (stage : Stage) → standing_at g aim stage ≡ standing.Due → stage_state (open_parts g parts after) aim parts after stage ≡ open_parts g parts after
+  due_stage aim (Stage.Asks asking) e = not_due (standing_at g aim (Stage.Asks asking)) refl e
+  due_stage aim Stage.HasBytes e = refl
+  due_stage aim (Stage.TooMany missing) e = not_due standing.TooMany refl e
+  due_stage aim Stage.AtTarget e = not_due standing.Short refl e
+  due_stage aim (Stage.TargetAway downs) e = not_due standing.Short refl e
+  due_stage aim Stage.Short e = not_due standing.Short refl e
+
+  due_by : (current : Option GatherOf) (left : List Wanted) → standing_by g current left ≡ standing.Due → state_by g parts after current ≡ open_parts g parts after
+  due_by (Some w) left e = due_stage w.course.aim w.course.stage e
+  due_by None left e = refl
+
+  due_unless : (coding : Bool) (current : Option GatherOf) (left : List Wanted) → unless_short coding (standing_by g current left) ≡ standing.Due
+      → unless_wanting coding (state_by g parts after current) ≡ open_parts g parts after
+  due_unless true current left e = not_due standing.Short refl e
+  due_unless false current left e = due_by current left e
+
+pub due_open : (p : GatheringsOf) (after : Sequel) → standing_of p ≡ standing.Due → state_in p after ≡ open_parts p.book.geometry (parts_of p.left) after
+due_open p after e = due_unless p.book.geometry (parts_of p.left) after p.coding p.current p.left e
+
+-- the call has a step to make then, and goes on to its end where memory is wanting
+module _ (g : Shape) (tries : ℕ) (job : Job) (pairs : List (ℕ × ℕ)) (after : Sequel) where
+  abbrev at_end : CallState
+  at_end = record { pairs = pairs; at = State.Ending Outcome.NoMemory }
+
+  abbrev short_at : State → Type 0
+  short_at at = next_call g job (record { pairs = pairs; at = at }) Told.Short ≡ at_end
+
+  abbrev goes_at : State → Type 0
+  goes_at at = need_by (act_at g tries job pairs at) true ≡ need.Coder
+
+  sequel_goes : (after : Sequel) → goes_at (sequel_state after)
+  sequel_goes (Sequel.Serve point) = refl
+  sequel_goes Sequel.Draw = refl
+  sequel_goes (Sequel.Confirm seen target) = refl
+
+  stage_goes : (bytes : State) (aim : Aim) (parts : List Part) (stage : Stage) → goes_at bytes → goes_at (stage_state bytes aim parts after stage)
+  stage_goes bytes aim parts (Stage.Asks asking) h = refl
+  stage_goes bytes aim parts Stage.HasBytes h = h
+  stage_goes bytes aim parts (Stage.TooMany missing) h = refl
+  stage_goes bytes aim parts Stage.AtTarget h = refl
+  stage_goes bytes aim parts (Stage.TargetAway downs) h = refl
+  stage_goes bytes aim parts Stage.Short h = refl
+
+  pub open_goes : (parts : List Part) → goes_at (open_parts g parts after)
+  open_goes [] = sequel_goes after
+  open_goes (part ∷ parts) = stage_goes (open_parts g parts after) (Aim.Range part) parts (first_stage g (Aim.Range part)) (open_goes parts)
+
+  abbrev in_pass_at : State → Type 0
+  in_pass_at at = is_in_pass (act_at g tries job pairs at) ≡ true
+
+  sequel_in_pass : (after : Sequel) → in_pass_at (sequel_state after)
+  sequel_in_pass (Sequel.Serve point) = refl
+  sequel_in_pass Sequel.Draw = refl
+  sequel_in_pass (Sequel.Confirm seen target) = refl
+
+  asking_in_pass : (aim : Aim) (parts : List Part) (asking : Asking) → in_pass_at (State.Gather aim asking parts after)
+  asking_in_pass aim parts (Asking.Fetch server more missing) = refl
+  asking_in_pass aim parts (Asking.Look server more missing) = refl
+  asking_in_pass aim parts (Asking.Repair server more lost) = refl
+  asking_in_pass aim parts (Asking.Whole server more wanted missing) = refl
+  asking_in_pass aim parts (Asking.Target server) = refl
+
+  stage_in_pass : (bytes : State) (aim : Aim) (parts : List Part) (stage : Stage) → in_pass_at bytes → in_pass_at (stage_state bytes aim parts after stage)
+  stage_in_pass bytes aim parts (Stage.Asks asking) h = asking_in_pass aim parts asking
+  stage_in_pass bytes aim parts Stage.HasBytes h = h
+  stage_in_pass bytes aim parts (Stage.TooMany missing) h = refl
+  stage_in_pass bytes aim parts Stage.AtTarget h = refl
+  stage_in_pass bytes aim parts (Stage.TargetAway downs) h = refl
+  stage_in_pass bytes aim parts Stage.Short h = refl
+
+  pub open_in_pass : (parts : List Part) → in_pass_at (open_parts g parts after)
+  open_in_pass [] = sequel_in_pass after
+  open_in_pass (part ∷ parts) = stage_in_pass (open_parts g parts after) (Aim.Range part) parts (first_stage g (Aim.Range part)) (open_in_pass parts)
+
+  sequel_short : (after : Sequel) → short_at (sequel_state after)
+  sequel_short (Sequel.Serve point) = refl
+  sequel_short Sequel.Draw = refl
+  sequel_short (Sequel.Confirm seen target) = refl
+
+  asking_short : (aim : Aim) (parts : List Part) (asking : Asking) → short_at (State.Gather aim asking parts after)
+  asking_short aim parts (Asking.Fetch server more missing) = refl
+  asking_short aim parts (Asking.Look server more missing) = refl
+  asking_short aim parts (Asking.Repair server more lost) = refl
+  asking_short aim parts (Asking.Whole server more wanted missing) = refl
+  asking_short aim parts (Asking.Target server) = refl
+
+  stage_short : (bytes : State) (aim : Aim) (parts : List Part) (stage : Stage) → short_at bytes → short_at (stage_state bytes aim parts after stage)
+  stage_short bytes aim parts (Stage.Asks asking) h = asking_short aim parts asking
+  stage_short bytes aim parts Stage.HasBytes h = h
+  stage_short bytes aim parts (Stage.TooMany missing) h = refl
+  stage_short bytes aim parts Stage.AtTarget h = refl
+  stage_short bytes aim parts (Stage.TargetAway downs) h = refl
+  stage_short bytes aim parts Stage.Short h = refl
+
+  pub open_short : (parts : List Part) → short_at (open_parts g parts after)
+  open_short [] = sequel_short after
+  open_short (part ∷ parts) = stage_short (open_parts g parts after) (Aim.Range part) parts (first_stage g (Aim.Range part)) (open_short parts)
+
+-- a call needs the coder where coding is due
+pub due_needs : (c : CallOf) (p : GatheringsOf) (after : Sequel) → standing_of p ≡ standing.Due → StandsIn c p after → c.due ≡ is_due p → need.Coder ≡ need_of c
+due_needs c p after e stands due =
+    sym (open_goes p.book.geometry c.tries c.job c.state.pairs after (parts_of p.left))
+    ∙ ap (λ at. need_by (act_at p.book.geometry c.tries c.job c.state.pairs at) true) (sym (due_open p after e))
+    ∙ ap (λ (x : CallOf). need_by (act_at x.book.geometry x.tries x.job x.state.pairs x.state.at) true) (sym (stands_as c p after stands))
+    ∙ ap (λ b. need_of (record c { due = b })) (sym (ap is_due_at e) ∙ sym due)
+
+-- it is in its pass then
+state_in_pass : (p : GatheringsOf) (after : Sequel) (coding : Bool) (current : Option GatherOf) (left : List Wanted) (tries : ℕ) (job : Job) (pairs : List (ℕ × ℕ))
+    → is_in_pass (act_at p.book.geometry tries job pairs (unless_wanting coding (state_by p.book.geometry (parts_of left) after current))) ≡ true
+state_in_pass p after true current left tries job pairs = refl
+state_in_pass p after false (Some w) left tries job pairs =
+    stage_in_pass p.book.geometry tries job pairs after (open_parts p.book.geometry (parts_of left) after) w.course.aim (parts_of left) w.course.stage
+    (open_in_pass p.book.geometry tries job pairs after (parts_of left))
+state_in_pass p after false None left tries job pairs = open_in_pass p.book.geometry tries job pairs after (parts_of left)
+
+pub stands_in_pass : (c : CallOf) (p : GatheringsOf) (after : Sequel) → StandsIn c p after → IsTrue (is_in_pass (act_of c))
+stands_in_pass c p after stands =
+    subst (λ (x : CallOf). IsTrue (is_in_pass (act_of x))) (sym (stands_as c p after stands))
+    (state_in_pass p after p.coding p.current p.left c.tries c.job c.state.pairs)
+
+-- a coding that wanted no memory leaves the state and the bytes that are owed
+due_coding : (coding : Bool) (now : Standing) → unless_short coding now ≡ standing.Due → coding ≡ false
+due_coding true now e = not_due standing.Short refl e
+due_coding false now e = refl
+
+pub going_on : (p : GatheringsOf) → standing_of p ≡ standing.Due → p.coding ≡ false
+going_on p e = due_coding p.coding (standing_by p.book.geometry p.current p.left) e
+
+pub handed_state : (p : GatheringsOf) (after : Sequel) → standing_of p ≡ standing.Due → state_in (handed_on p) after ≡ state_in p after
+handed_state p after e =
+    let g : Shape = p.book.geometry in
+    ap (λ b. unless_wanting b (state_by g (parts_of (next_of g p.left).1) after (next_of g p.left).0)) (going_on p e)
+    ∙ next_state g p.left after
+    ∙ sym (due_open p after e)
+
+pub handed_owed : (p : GatheringsOf) → owed (handed_on p) ≡ owed p
+handed_owed p =
+    append_assoc p.bytes (bytes_at_work p.current) (bytes_at_work (next_of p.book.geometry p.left).0 ++ bytes_of (next_of p.book.geometry p.left).1)
+    ∙ ap (λ (l : List ℕ). p.bytes ++ (bytes_at_work p.current ++ l)) (next_bytes p.book.geometry p.left)
+
+-- the coding of gatherings is that of a call that stands in them
+abbrev Codes : CallOf → GatheringsOf → Sequel → Bool → Type 0
+Codes c p after short = moved c (coded short p) after (is_due (coded short p)) short c.step ≡ call_coded short c
+
+codes_at : (c : CallOf) (p : GatheringsOf) (after : Sequel) (short : Bool) → standing_of p ≡ standing.Due → is_due (coded short p) ≡ false → Codes (standing_call c p after) p after short
+codes_at c p after true e settled =
+    let ends : next_call p.book.geometry c.job (record { pairs = c.state.pairs; at = state_in p after }) Told.Short ≡ record { pairs = c.state.pairs; at = State.Ending Outcome.NoMemory } =
+    ap (λ at. next_call p.book.geometry c.job (record { pairs = c.state.pairs; at = at }) Told.Short) (due_open p after e)
+    ∙ open_short p.book.geometry c.tries c.job c.state.pairs after (parts_of p.left)
+    in
+    λ i. record (standing_call c p after) { state = sym ends i; due = settled i; coding = true }
+codes_at c p after false e settled =
+    λ i. record (standing_call c p after) { state = record { pairs = c.state.pairs; at = handed_state p after e i }; due = settled i; coding = false }
+
+coding_codes : (c : CallOf) (p : GatheringsOf) (after : Sequel) (short : Bool) → standing_of p ≡ standing.Due → is_due (coded short p) ≡ false → StandsIn c p after → Codes c p after short
+coding_codes c p after short e settled stands =
+    subst (λ (x : CallOf). moved x (coded short p) after (is_due (coded short p)) short x.step ≡ call_coded short x) (sym (stands_as c p after stands)) (codes_at c p after short e settled)
+
+pub moved_coded : (c : CallOf) (p later : GatheringsOf) (after : Sequel) → later ≡ coded later.coding p → is_due later ≡ false → standing_of p ≡ standing.Due → StandsIn c p after
+    → moved c later after (is_due later) later.coding c.step ≡ call_coded later.coding c
+moved_coded c p later after e settled due stands =
+    ap (λ x. moved c x after (is_due x) later.coding c.step) e ∙ coding_codes c p after later.coding due (sym (ap is_due e) ∙ settled) stands

@@ -1,0 +1,124 @@
+-- A call that stands in gatherings makes their steps.
+use Rattle.std.proofs.Common.{◌≡◌, ℕ, Bool, true, false, List, [], ◌∷◌, map, Option, None, Some, IfSome, refl, sym, ap, subst, ◌∙◌}
+use Rattle.std.proofs.lemmas.Bool.{true≢false}
+use Rattle.clay_grid.specs.Shape.{Shape}
+use Rattle.store_core.specs.Told.{Told}
+use Rattle.store_core.specs.Note.{Kind}
+use Rattle.store_core.specs.NextAct.{Job}
+use Rattle.store_core.specs.Gathering.{Part}
+use Rattle.store_core.specs.Read.{part_of}
+use Rattle.stripe_dir.specs.declared.answers.Seen.{Seen}
+use Rattle.stripe_dir.specs.Answers.{seen_in}
+use Rattle.store_core.specs.Server.{Server, at_server}
+use Rattle.store_resume.specs.Stage.{Aim, Asking, Stage}
+use Rattle.store_resume.specs.StageAfter.{step_asked, server_asked, stage_after}
+use Rattle.store_resume.specs.State.{Sequel}
+use Rattle.store_resume.specs.States.{parts_state, stage_state, open_parts, open_state}
+use Rattle.store_resume.proofs.Opened.{opened_next}
+use Rattle.gathering.specs.Gathers.{GatherOf}
+use Rattle.gathering.proofs.Taking.{takes_follow}
+use Rattle.call_steps.specs.CallOf.{CallOf}
+use Rattle.call_steps.specs.Steps.{stepped_at_server}
+use Rattle.gather_parts.specs.declared.standing.Standing.{Standing}
+use Rattle.gather_parts.specs.declared.standing.Standing.TheVariants as standing
+use Rattle.gather_parts.specs.Wanted.{Wanted, wanted_of, parts_of}
+use Rattle.gather_parts.specs.Gatherings.{GatheringsOf}
+use Rattle.gather_parts.specs.Steps.{stepped}
+use Rattle.gather_parts.specs.Standings.{standing_at, standing_by, unless_short, standing_of}
+use Rattle.gather_parts.specs.States.{state_in, StandsIn, moved}
+
+-- a question is asked
+abbrev pub is_question : Standing → Bool
+is_question (standing.Asks server) = true
+is_question now = false
+
+no_question : {A : Type 0} (now : Standing) (server : ℕ) → is_question now ≡ false → now ≡ standing.Asks server → A
+no_question now server none e = absurd (true≢false (sym (ap is_question e) ∙ none))
+
+-- a gathering at a stage, opened
+pub opened_stage : (g : Shape) (kind : Kind) (job : Job) (pairs : List (ℕ × ℕ)) (parts : List Part) (after : Sequel) (aim : Aim) (stage : Stage)
+    → open_state g (stage_state (parts_state parts after) aim parts after stage) ≡ stage_state (open_parts g parts after) aim parts after stage
+opened_stage g kind job pairs parts after aim (Stage.Asks asking) = refl
+opened_stage g kind job pairs parts after aim Stage.HasBytes = opened_next g kind job pairs parts after
+opened_stage g kind job pairs parts after aim (Stage.TooMany missing) = refl
+opened_stage g kind job pairs parts after aim Stage.AtTarget = refl
+opened_stage g kind job pairs parts after aim (Stage.TargetAway downs) = refl
+opened_stage g kind job pairs parts after aim Stage.Short = refl
+
+-- the parts that a look told are gathered next
+parts_told : (g : Shape) (start end : ℕ) (stripes : List Seen) → parts_of (map (wanted_of g start end) stripes) ≡ map (part_of g start end) (map seen_in stripes)
+parts_told g start end [] = refl
+parts_told g start end (seen ∷ stripes) = ap (λ l. part_of g start end (seen_in seen) ∷ l) (parts_told g start end stripes)
+
+any_job : Job
+any_job = record { note = record { kind = Kind.Get; name = []; offset = 0; length = 0 }; target = 0 }
+
+pub told_opened : (g : Shape) (start end : ℕ) (stripes : List Seen) (after : Sequel)
+    → open_parts g (parts_of (map (wanted_of g start end) stripes)) after ≡ open_state g (parts_state (map (part_of g start end) (map seen_in stripes)) after)
+told_opened g start end stripes after =
+    ap (λ parts. open_parts g parts after) (parts_told g start end stripes)
+    ∙ sym (opened_next g Kind.Get any_job [] (map (part_of g start end) (map seen_in stripes)) after)
+
+-- the call, with what the gatherings say of it written out
+abbrev pub standing_call : CallOf → GatheringsOf → Sequel → CallOf
+standing_call c p after = record c { book = p.book; state = record { pairs = c.state.pairs; at = state_in p after }; takes = p.takes }
+
+pub stands_as : (c : CallOf) (p : GatheringsOf) (after : Sequel) → StandsIn c p after → c ≡ standing_call c p after
+stands_as c p after h = λ i. record c { book = h.book i; state = record { pairs = c.state.pairs; at = h.state i }; takes = h.takes i }
+
+-- the step of the one is that of the other
+abbrev Moves : CallOf → Sequel → Bool → Bool → Server → GatheringsOf → Type 0
+Moves c after due short s p =
+    ((stepped p short s).0, moved (standing_call c p after) (stepped p short s).1 after due false short) ≡ stepped_at_server short due (standing_call c p after) s
+
+module _ (c : CallOf) (after : Sequel) (due short : Bool) (s : Server) (p : GatheringsOf) where
+  asked_moves : (w : GatherOf) (asking : Asking)
+      → Moves c after due short s
+      (record p { current = Some (record w { course = record (w.course) { geometry = p.book.geometry; stage = Stage.Asks asking } }); coding = false })
+  asked_moves w asking =
+      let g : Shape = p.book.geometry in
+      let told : Server × Told = at_server short (step_asked g w.course.aim asking) s in
+      let stage : Stage = stage_after g w.course.aim asking told.1 in
+      λ i. (
+        told.0,
+        record c {
+          book = p.book;
+          state = record { pairs = c.state.pairs; at = sym (opened_stage g c.job.note.kind c.job c.state.pairs (parts_of p.left) after w.course.aim stage) i };
+          takes = takes_follow told.1 (server_asked g w.course.aim asking) (step_asked g w.course.aim asking) p.takes i;
+          due = due;
+          coding = false;
+          step = short;
+        },
+      )
+
+  stage_moves : (w : GatherOf) (stage : Stage) (server : ℕ) → standing_at p.book.geometry w.course.aim stage ≡ standing.Asks server
+      → Moves c after due short s (record p { current = Some (record w { course = record (w.course) { geometry = p.book.geometry; stage = stage } }); coding = false })
+  stage_moves w (Stage.Asks asking) server e = asked_moves w asking
+  stage_moves w Stage.HasBytes server e = no_question standing.Due server refl e
+  stage_moves w (Stage.TooMany missing) server e = no_question standing.TooMany server refl e
+  stage_moves w Stage.AtTarget server e = no_question standing.Short server refl e
+  stage_moves w (Stage.TargetAway downs) server e = no_question standing.Short server refl e
+  stage_moves w Stage.Short server e = no_question standing.Short server refl e
+
+  current_moves : (current : Option GatherOf) (server : ℕ) → IfSome current (λ w. w.course.geometry ≡ p.book.geometry)
+      → standing_by p.book.geometry current p.left ≡ standing.Asks server → Moves c after due short s (record p { current = current; coding = false })
+  current_moves (Some w) server code e =
+      subst (λ g. Moves c after due short s (record p { current = Some (record w { course = record (w.course) { geometry = g } }); coding = false })) (sym code)
+      (stage_moves w w.course.stage server e)
+  current_moves None server code e = none_left p.left e
+    where
+      none_left : (left : List Wanted) → standing_by p.book.geometry None left ≡ standing.Asks server → Moves c after due short s (record p { current = None; coding = false })
+      none_left [] e = no_question standing.Done server refl e
+      none_left (wanted ∷ left) e = no_question standing.Due server refl e
+
+  coding_moves : (coding : Bool) (server : ℕ) → IfSome p.current (λ w. w.course.geometry ≡ p.book.geometry)
+      → unless_short coding (standing_by p.book.geometry p.current p.left) ≡ standing.Asks server → Moves c after due short s (record p { coding = coding })
+  coding_moves true server code e = no_question standing.Short server refl e
+  coding_moves false server code e = current_moves p.current server code e
+
+  -- a call that stands in gatherings which ask makes their step
+  pub step_moves : (server : ℕ) → IfSome p.current (λ w. w.course.geometry ≡ p.book.geometry) → standing_of p ≡ standing.Asks server → StandsIn c p after
+      → ((stepped p short s).0, moved c (stepped p short s).1 after due false short) ≡ stepped_at_server short due c s
+  step_moves server code asks stands =
+      subst (λ (x : CallOf). ((stepped p short s).0, moved x (stepped p short s).1 after due false short) ≡ stepped_at_server short due x s) (sym (stands_as c p after stands))
+      (coding_moves p.coding server code asks)

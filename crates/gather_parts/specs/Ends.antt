@@ -1,0 +1,25 @@
+-- What gatherings came to.
+use Rattle.std.specs.Prelude.{⊤, ℕ, nat_lt, List, map, Option, None, Some, Vec, if◌then◌else◌}
+use Rattle.std.specs.List.{list_any}
+use Rattle.std.specs.declared.alloc.Global.{Global}
+use Rattle.store_core.specs.Act.{Outcome}
+use Rattle.store_resume.specs.State.{Sequel, State}
+use Rattle.store_resume.specs.States.{sequel_state}
+use Rattle.gather_course.specs.Aims.{lost_in}
+use Rattle.gather_parts.specs.declared.ends.Gathered.{Gathered}
+use Rattle.gather_parts.specs.declared.ends.Gathered.TheVariants as gathered
+
+-- what a call took, where it took something
+abbrev pub taken_of : List ℕ → Option (List ℕ)
+taken_of takes = if list_any (nat_lt 0) takes then Some takes else None
+
+-- the state in which the call goes on
+abbrev pub end_state : Sequel → Gathered → State
+end_state after (gathered.Bytes bytes) = sequel_state after
+end_state after (gathered.TooMany stripe missing) = State.Ending (Outcome.Unavailable stripe (map lost_in missing.items))
+end_state after gathered.Short = State.Ending Outcome.NoMemory
+
+-- of bytes, where they are there
+abbrev pub IfBytes : Gathered → (Vec ℕ Global → Type 0) → Type 0
+IfBytes (gathered.Bytes bytes) holds = holds bytes
+IfBytes ended holds = ⊤

@@ -1,0 +1,179 @@
+//! The gatherings of a call, and their steps at servers.
+ghost use Rattle.std.specs.Prelude.{◌≡◌, ◌<◌, ℕ, Bool, false, IsTrue, All, map};
+ghost use Rattle.clay_grid.specs.Shape.{chunk_count};
+ghost use Rattle.store_core.specs.Act.{Outcome};
+ghost use Rattle.store_core.specs.ActPlace.{is_in_pass};
+ghost use Rattle.store_core.specs.Read.{part_of};
+ghost use Rattle.store_resume.specs.State.{State, Sequel};
+ghost use Rattle.store_resume.specs.States.{parts_state, open_state};
+ghost use Rattle.stripe_dir.specs.Answers.{seen_in};
+ghost use Rattle.chunk_server.specs.Core.{core_of};
+ghost use Rattle.gathering.specs.Gathers.{IsSame, IfServer};
+ghost use Rattle.gather_parts.specs.Wanted.{wanted_of, IsPinned};
+ghost use Rattle.gather_parts.specs.Gatherings.{new_gatherings, begun, step_of, owed};
+ghost use Rattle.gather_parts.specs.Steps.{stepped};
+ghost use Rattle.gather_parts.specs.Standings.{standing_at, standing_of, is_due, need_at, IfAsks};
+ghost use Rattle.call_steps.specs.CallOf.{CallOf, act_of};
+ghost use Rattle.call_steps.specs.Steps.{need_of, stepped_at_server};
+ghost use Rattle.gather_parts.specs.States.{state_in, StandsIn, moved};
+
+use crate::standing::Standing;
+use chunk_server::Server;
+use gather_course::Course;
+use gathering::{Gather, Need};
+use read_ledger::Takes;
+use std::alloc::Global;
+use std::marker::Model;
+use std::vec::IntoIter;
+use stripe_dir::Seen;
+use version_seal::Opening;
+
+/// The gatherings of a call's parts. Memory is taken in a coding alone, which stands before each
+/// stripe's first question.
+#[derive(Drop)]
+pub struct PartGatherings {
+    pub(crate) opening: Opening,
+    pub(crate) takes: Option<Takes>,
+    pub(crate) current: Option<Gather>,
+    // the stripes after it, and the wanted bytes of the object
+    pub(crate) left: IntoIter<Seen>,
+    pub(crate) start: u64,
+    pub(crate) end: u64,
+    // those of the stripes before it
+    pub(crate) bytes: Vec<u8>,
+    pub(crate) coding: bool,
+}
+
+impl Model for PartGatherings {
+    ghost use Rattle.gather_parts.specs.Gatherings.{GatheringsOf};
+
+    ghost Value = { GatheringsOf };
+
+    ghost use Rattle.gather_parts.specs.Inside.{gatherings_in, IsKept};
+
+    ghost view = { gatherings_in };
+
+    ghost invariant = { IsKept };
+}
+
+// By the course of the gathering at work.
+fn standing_by(course: &Course) -> Standing
+    ensures standing { result ≡ standing_at course.now.geometry course.now.aim course.now.stage }
+    ensures below { IfAsks result (λ server. server < chunk_count course.now.geometry) }
+{
+    match course.asked() {
+        Some(server) => Standing::Asks(server),
+        None if course.has_bytes() => Standing::Due,
+        None if course.is_lost() => Standing::TooMany,
+        None => Standing::Short,
+    }
+}
+
+impl PartGatherings {
+    /// Of a call that has pinned no stripes yet. It takes no memory.
+    pub fn new(alloc: Global, opening: Opening) -> PartGatherings
+        ensures { result ≡ new_gatherings opening }
+    {
+        PartGatherings {
+            opening,
+            takes: None,
+            current: None,
+            left: Vec::new(alloc).into_iter(),
+            start: 0,
+            end: 0,
+            bytes: Vec::new(alloc),
+            coding: false,
+        }
+    }
+
+    /// Of the object's bytes from `start` up to `end` those in these stripes are to be gathered. What
+    /// was gathered before goes, but what the call took stays counted. It takes no memory.
+    pub fn begin(&mut self, stripes: Vec<Seen>, start: u64, end: u64)
+        requires { All (IsPinned self.old.book) stripes.items }
+        ensures begun { self.new ≡ begun self.old (map (wanted_of self.old.book.geometry start end) stripes.items) }
+        ensures state { (after : Sequel) → state_in self.new after ≡ open_state self.old.book.geometry
+            (parts_state (map (part_of self.old.book.geometry start end) (map seen_in stripes.items)) after) }
+    {
+        self.current = None;
+        self.left = stripes.into_iter();
+        self.start = start;
+        self.end = end;
+        self.bytes.clear();
+        self.coding = false;
+    }
+
+    /// Where they stand.
+    pub fn standing(&self) -> Standing
+        ensures standing { result ≡ standing_of self.now }
+        ensures below { IfAsks result (λ server. server < chunk_count self.now.book.geometry) }
+        ensures short { result ≡ Standing.Short → (after : Sequel) → state_in self.now after ≡ State.Ending Outcome.NoMemory }
+    {
+        if self.coding {
+            return Standing::Short;
+        }
+        match &self.current {
+            Some(gather) => standing_by(gather.course()),
+            None if 0 < self.left.len() => Standing::Due,
+            None => Standing::Done,
+        }
+    }
+
+    /// What a call needs that stands in them. After the last gathering, or once they have ended without
+    /// their bytes, it goes on at the directory.
+    pub fn need(&self) -> Need
+        ensures need { result ≡ need_at (standing_of self.now) }
+        ensures below { IfServer result (λ server. server < chunk_count self.now.book.geometry) }
+        ensures call { (c : CallOf) (after : Sequel) → StandsIn c self.now after → c.due ≡ is_due self.now → result ≡ need_of c }
+        ensures in_pass { (c : CallOf) (after : Sequel) → StandsIn c self.now after → IsTrue (is_in_pass (act_of c)) }
+    {
+        match self.standing() {
+            Standing::Asks(server) => Need::Server(server),
+            Standing::Due => Need::Coder,
+            _ => Need::Directory,
+        }
+    }
+
+    /// Whether memory was wanting in the last coding.
+    pub fn coding_was_short(&self) -> bool
+        ensures { result ≡ self.now.coding }
+    {
+        self.coding
+    }
+
+    /// Whether memory was wanting in the last step.
+    pub fn step_was_short(&self) -> bool
+        ensures { result ≡ step_of self.now.current }
+    {
+        match &self.current {
+            Some(gather) => gather.step_was_short(),
+            None => false,
+        }
+    }
+
+    /// The bytes of the stripes that were gathered, one after another.
+    pub fn bytes(&self) -> &[u8]
+        ensures { result.now ≡ self.now.bytes }
+    {
+        &self.bytes
+    }
+
+    /// One step at the server that is asked. Afterwards the gatherings tell whether memory was wanting
+    /// in it.
+    pub fn on_server(&mut self, s: &mut Server)
+        requires asked { standing_of self.old ≡ Standing.Asks s.old.number }
+        requires book { s.old.book ≡ self.old.book }
+        ensures step { (core_of s.new, self.new) ≡ stepped self.old (step_of self.new.current) (core_of s.old) }
+        ensures same { IsSame s.old s.new }
+        ensures owed { owed self.new ≡ owed self.old }
+        ensures call { (c : CallOf) (after : Sequel) (due : Bool) → StandsIn c self.old after →
+            (core_of s.new, moved c self.new after due false (step_of self.new.current)) ≡ stepped_at_server (step_of self.new.current) due c (core_of s.old) }
+    {
+        let Some(gather) = &mut self.current else {
+            unreachable!()
+        };
+        let Some(takes) = &mut self.takes else {
+            unreachable!()
+        };
+        gather.on_server(s, takes);
+    }
+}

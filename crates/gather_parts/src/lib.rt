@@ -1,0 +1,14 @@
+//! The gatherings of a call's parts, one pinned stripe after another, with the bytes that they gather
+//! and what the call took.
+#![tactic(auto)]
+
+mod coding;
+mod ends;
+mod gatherings;
+pub mod laws;
+mod parts;
+mod standing;
+
+pub use ends::Gathered;
+pub use gatherings::PartGatherings;
+pub use standing::Standing;

@@ -1,0 +1,14 @@
+/// Where the gatherings of a call stand.
+#[derive(Clone, Copy, PartialEq, Eq, Debug)]
+pub enum Standing {
+    /// The server of this number is asked next.
+    Asks(u32),
+    /// A coding is due before the next step.
+    Due,
+    /// All bytes are there.
+    Done,
+    /// More chunks of a stripe are missing than the code can make anew.
+    TooMany,
+    /// Memory was wanting.
+    Short,
+}
