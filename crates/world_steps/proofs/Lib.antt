@@ -1,0 +1,6 @@
+pub mod Actors
+pub mod Firsts
+pub mod Parts
+pub mod Turns
+pub mod Made
+pub mod TurnLaws
