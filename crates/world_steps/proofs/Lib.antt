@@ -4,3 +4,4 @@ pub mod Parts
 pub mod Turns
 pub mod Made
 pub mod TurnLaws
+pub mod PlaceLaws

@@ -5,3 +5,4 @@ pub mod FirstWorld
 pub mod Leads
 pub mod ActorAfter
 pub mod TurnLaws
+pub mod PlaceLaws
