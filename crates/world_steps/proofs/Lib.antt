@@ -5,3 +5,6 @@ pub mod Turns
 pub mod Made
 pub mod TurnLaws
 pub mod PlaceLaws
+pub mod Ends
+pub mod Rounds
+pub mod Runs

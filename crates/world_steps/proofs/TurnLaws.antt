@@ -24,7 +24,7 @@ abbrev pub with_places : Directory → List Server → WorldOf → WorldOf
 with_places d servers w = record w { directory = d; servers = servers }
 
 -- memory is ample
-abbrev ample : Shortage
+abbrev pub ample : Shortage
 ample = record { coding = false; step = false }
 
 -- an actor that isn't there has no step

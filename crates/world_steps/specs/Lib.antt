@@ -6,3 +6,5 @@ pub mod Leads
 pub mod ActorAfter
 pub mod TurnLaws
 pub mod PlaceLaws
+pub mod RoundLaws
+pub mod RunLaws

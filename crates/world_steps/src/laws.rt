@@ -7,6 +7,8 @@ ghost use Rattle.world_steps.specs.World.{WorldOf};
 ghost use Rattle.world_steps.specs.FirstWorld.{FirstWorldsStand};
 ghost use Rattle.world_steps.specs.Leads.{PartsLeadWorlds};
 ghost use Rattle.world_steps.specs.TurnLaws.{ClientsMakeTurns, RepairersMakeTurns};
+ghost use Rattle.world_steps.specs.RunLaws.{RunsReach, DrainsOfValidScriptsReach};
+ghost use Rattle.world_steps.specs.RoundLaws.{EndsAreKnown, RoundsAreRounds};
 ghost use Rattle.world_steps.specs.PlaceLaws.{SweeperMakesTurns, OperatorMakesActions};
 
 /// The world before the first step stands for the first core of its script.
@@ -32,4 +34,19 @@ pub fn turns_are_steps()
 pub fn sweeps_and_actions_are_steps()
     ensures sweeper { (script : Script) (w : WorldOf) (shortage : Shortage) → SweeperMakesTurns script w shortage }
     ensures operator { (script : Script) (w : WorldOf) (shortage : Shortage) → OperatorMakesActions script w shortage }
+{}
+
+/// Whether somebody has a step is known of the world alone; and the turns of all clients, of all
+/// repairers and of the sweeper are a round.
+pub fn rounds_are_rounds()
+    ensures ends { EndsAreKnown }
+    ensures rounds { (script : Script) (w : WorldOf) → RoundsAreRounds script w }
+{}
+
+/// The first world is reached by no token, and each token whose step leads from a world that is reached
+/// to another leads on; the world that is reached stands for the core of its tokens and shortages. A
+/// drain of a valid script goes by rounds until nobody has a step, and makes no more than its fuel.
+pub fn runs_are_reached()
+    ensures tokens { (script : Script) → RunsReach script }
+    ensures drains { DrainsOfValidScriptsReach }
 {}
