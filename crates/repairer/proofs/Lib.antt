@@ -1,0 +1,6 @@
+pub mod Counts
+pub mod Stages
+pub mod Steps
+pub mod Beginning
+pub mod Asking
+pub mod Asked

@@ -1,0 +1,85 @@
+use Rattle.std.proofs.Common.{◌≡◌, false, [], None, Some, if◌then◌else◌, refl, sym, ap, ◌∙◌}
+use Rattle.store_resume.specs.Stage.{Aim}
+use Rattle.store_resume.specs.State.{Sequel, State}
+use Rattle.store_resume.specs.States.{stage_state}
+use Rattle.chunk_server.specs.Core.{core_of}
+use Rattle.gather_course.specs.Courses.{CourseOf, has_bytes}
+use Rattle.gather_course.specs.Aims.{ending_at}
+use Rattle.gathering.specs.Gathers.{stepped}
+use Rattle.call_steps.specs.Outcomes.{repair_outcome_of}
+use Rattle.repairer.specs.declared.stage.Stage.TheVariants as stage
+use Rattle.repairer.specs.Standing.{seen_at}
+use Rattle.repairer.specs.Calls.{call_at}
+use Rattle.repairer.proofs.Asking.{follows, goes_on, keeps_on}
+use Rattle.repairer.proofs.Asked.{IsAsked, is_asked, steps}
+use Rattle.repairer.proofs.repair_call.RepairCall.ask.Goals as goal
+
+pub invariant_of-self-in-None : goal.invariant_of-self-in-None
+invariant_of-self-in-None c =
+    let a = c.self.inside in
+    let w = c.in-Some-Some.gather in
+    let takes = c.in-Some-Some.takes in
+    let next = c.on_server.new.self in
+    let ready = c.has_bytes-ready.result in
+    let is : IsAsked a w takes =
+    is_asked a c.args.self.now w takes c.args.s.now.number c.self.invariant c.self.view_is c.requires.stage c.requires.need c.in-Some-Some.ensures.value c.in-Some-Some.ensures'.value
+    in
+    let none : ending_at next.course.stage ≡ None = ap (λ (course : CourseOf). ending_at course.stage) (sym c.course-2.ensures) ∙ sym c.ending.ensures ∙ c.in-None.is in
+    let has : ready ≡ has_bytes next.course.stage = c.has_bytes-ready.ensures ∙ ap (λ (course : CourseOf). has_bytes course.stage) c.course.ensures in
+    record {
+      below = c.self.invariant.below;
+      kept =
+        keeps_on
+        (record a { stage = c.stage_after-self-inside.result; gather = Some next; takes = Some c.on_server.new.takes; due = ready; coding = false; step = c.step_was_short-self-inside.result })
+        w takes c.stage_after-self-inside.result is.of_call is.asking next c.on_server.new.takes
+        (follows w next takes c.on_server.new.takes next.step (core_of c.args.s.now) (core_of c.on_server.new.s) is.asks c.on_server.ensures.step)
+        none (c.stage_after-self-inside.ensures ∙ ap (λ b. if b then stage.Confirming else stage.Gathering) has) refl refl has;
+    }
+
+pub returns-in-None-clause-step : goal.returns-in-None-clause-step
+returns-in-None-clause-step c =
+    let a = c.self.inside in
+    let w = c.in-Some-Some.gather in
+    let takes = c.in-Some-Some.takes in
+    let next = c.on_server.new.self in
+    let ready = c.has_bytes-ready.result in
+    let short = c.step_was_short-self-inside.result in
+    let is : IsAsked a w takes =
+    is_asked a c.args.self.now w takes c.args.s.now.number c.self.invariant c.self.view_is c.requires.stage c.requires.need c.in-Some-Some.ensures.value c.in-Some-Some.ensures'.value
+    in
+    let none : ending_at next.course.stage ≡ None = ap (λ (course : CourseOf). ending_at course.stage) (sym c.course-2.ensures) ∙ sym c.ending.ensures ∙ c.in-None.is in
+    let has : ready ≡ has_bytes next.course.stage = c.has_bytes-ready.ensures ∙ ap (λ (course : CourseOf). has_bytes course.stage) c.course.ensures in
+    (λ i.
+    (core_of c.on_server.new.s,
+      call_at a.opening a.rebuild a.number a.token
+      (goes_on (seen_at a.seen) a.rebuild.server a.epoch (repair_outcome_of a.outcome) next.course.stage c.stage_after-self-inside.result none
+      (c.stage_after-self-inside.ensures ∙ ap (λ b. if b then stage.Confirming else stage.Gathering) has) i)
+      c.on_server.new.takes ready false short))
+    ∙ steps a c.args.self.now w next takes c.on_server.new.takes short ready (core_of c.args.s.now) (core_of c.on_server.new.s) is c.self.view_is
+    c.in-Some-Some.ensures.value c.in-Some-Some.ensures'.value
+    (c.on_server.ensures.step ∙ ap (λ b. stepped w b (core_of c.args.s.now) takes) (sym c.step_was_short-self-inside.ensures))
+
+pub returns-in-Some-clause-step : goal.returns-in-Some-clause-step
+returns-in-Some-clause-step c =
+    let a = c.self.inside in
+    let w = c.in-Some-Some.gather in
+    let takes = c.in-Some-Some.takes in
+    let next = c.on_server.new.self in
+    let short = c.step_was_short-self-inside.result in
+    let seen = seen_at a.seen in
+    let is : IsAsked a w takes =
+    is_asked a c.args.self.now w takes c.args.s.now.number c.self.invariant c.self.view_is c.requires.stage c.requires.need c.in-Some-Some.ensures.value c.in-Some-Some.ensures'.value
+    in
+    let aim : next.course.aim ≡ Aim.Chunk seen a.rebuild.server =
+    (follows w next takes c.on_server.new.takes next.step (core_of c.args.s.now) (core_of c.on_server.new.s) is.asks c.on_server.ensures.step).aim ∙ is.aim
+    in
+    let confirm : Sequel = Sequel.Confirm seen a.rebuild.server in
+    (λ i.
+    (core_of c.on_server.new.s,
+      call_at a.opening a.rebuild a.number a.token
+      ((sym (c.outcome_of.ensures (State.Confirming seen a.rebuild.server) [] confirm)
+      ∙ ap (λ (wanted : Aim). stage_state (State.Confirming seen a.rebuild.server) wanted [] confirm next.course.stage) aim) i)
+      c.on_server.new.takes c.has_bytes-ready.result false short))
+    ∙ steps a c.args.self.now w next takes c.on_server.new.takes short c.has_bytes-ready.result (core_of c.args.s.now) (core_of c.on_server.new.s) is c.self.view_is
+    c.in-Some-Some.ensures.value c.in-Some-Some.ensures'.value
+    (c.on_server.ensures.step ∙ ap (λ b. stepped w b (core_of c.args.s.now) takes) (sym c.step_was_short-self-inside.ensures))

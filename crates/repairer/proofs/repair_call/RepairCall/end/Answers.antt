@@ -1,0 +1,26 @@
+use Rattle.std.proofs.Common.{◌≡◌, false, ap, ◌∙◌}
+use Rattle.clay_grid.specs.Shape.{chunk_count}
+use Rattle.store_resume.specs.GatherAfter.{ending_after}
+use Rattle.call_token.specs.Answers.{told_by_end}
+use Rattle.call_steps.specs.declared.outcomes.RepairOutcome.{RepairOutcome}
+use Rattle.call_steps.specs.CallOf.{CallOf}
+use Rattle.call_steps.specs.Outcomes.{repair_outcome_of}
+use Rattle.call_steps.specs.Steps.{stepped_at_directory}
+use Rattle.repairer.specs.declared.stage.Stage.TheVariants as stage
+use Rattle.repairer.specs.Inside.{takes_at, call_by}
+use Rattle.repairer.proofs.Stages.{is_at, seen_by}
+use Rattle.repairer.proofs.Steps.{ended}
+use Rattle.repairer.proofs.repair_call.RepairCall.end.Goals as goal
+
+pub returns-clause-step : goal.returns-clause-step
+returns-clause-step c =
+    let a = c.self.inside in
+    let told = told_by_end c.end-answer.result in
+    let view : call_by stage.Ending a ≡ c.args.self.now =
+    seen_by a c.args.self.now stage.Ending c.self.view_is (is_at a c.args.self.now stage.Ending c.self.invariant c.self.view_is c.requires.stage)
+    in
+    ended a.opening a.rebuild a.number a.token c.end-answer.new.self (takes_at (chunk_count a.opening.geometry) a.takes) a.due a.coding a.step
+    (repair_outcome_of a.outcome) (repair_outcome_of c.ended_with.result) told c.args.d.now.core c.end-answer.new.directory.core
+    c.end-answer.ensures.step c.end-answer.ensures.token
+    (c.ended_with.ensures ∙ ap (λ (outcome : RepairOutcome). ending_after (repair_outcome_of outcome) told) c.replace-outcome.ensures.value)
+    ∙ ap (λ (call : CallOf). stepped_at_directory false a.due call c.args.d.now.core) view

@@ -1,0 +1,47 @@
+use Rattle.std.proofs.Common.{◌≡◌, Ok, Some, Option, Result, All, refl, sym, ap, subst, ◌∙◌, ◌∷◌, [], arith}
+use Rattle.std.specs.declared.alloc.AllocError.{AllocError}
+use Rattle.clay_grid.specs.Shape.{chunk_count}
+use Rattle.store_core.specs.Note.{note_of_rebuild}
+use Rattle.store_core.specs.Act.{DirectoryStep}
+use Rattle.version_seal.specs.Entry.{BookOf}
+use Rattle.stripe_dir.specs.declared.answers.Seen.{Seen}
+use Rattle.stripe_dir.specs.Answers.{seen_in, told_or_short}
+use Rattle.call_steps.specs.CallOf.{CallOf}
+use Rattle.call_steps.specs.TokenAfter.{token_after}
+use Rattle.call_token.specs.Answers.{told_by_repair_look}
+use Rattle.call_token.specs.Shown.{IsShown, AreShown, stripe_seen}
+use Rattle.repairer.specs.declared.stage.Stage.TheVariants as stage
+use Rattle.repairer.specs.Moments.{IsNew}
+use Rattle.repairer.proofs.Stages.{is_at, keeps}
+use Rattle.repairer.proofs.Steps.{begun}
+use Rattle.repairer.proofs.repair_call.RepairCall.look.Goals as goal
+
+pub invariant_of-self : goal.invariant_of-self
+invariant_of-self c =
+    let a = c.self.inside in
+    let d = c.args.d.now in
+    let seen = c.in-Ok-Some.seen in
+    let new : IsNew a.token a.number a.rebuild a.gather a.takes a.due =
+    keeps a stage.Start c.self.invariant (is_at a c.args.self.now stage.Start c.self.invariant c.self.view_is c.requires.stage)
+    in
+    let is : c.look_repair-look.result ≡ Ok (Some seen) = c.in-Ok-Some.is ∙ ap Ok c.in-Ok-Some.field-0-is in
+    let all : All (IsShown d) (seen ∷ []) = subst (λ (r : Result (Option Seen) AllocError). AreShown d stripe_seen r) is c.look_repair-look.ensures.seen in
+    let shown : IsShown d seen = all 0 seen (omega arith) in
+    let book : d.book ≡ a.opening = c.requires.book ∙ sym (ap (λ (call : CallOf). call.book) c.self.view_is) in
+    record {
+      below = c.self.invariant.below;
+      kept =
+        (begun a.token c.look_repair-look.new.self a.number (note_of_rebuild a.rebuild) (seen_in seen) new.may refl
+        (c.look_repair-look.ensures.token
+        ∙ ap (λ (r : Result (Option Seen) AllocError). token_after a.token a.number (DirectoryStep.LookRepair (note_of_rebuild a.rebuild)) (told_or_short told_by_repair_look r)) is),
+          record {
+            seen = seen;
+            is_seen = refl;
+            pinned = record {
+              home = shown.home ∙ ap (λ (b : BookOf). b.home) book;
+              whole = shown.row.whole ∙ ap chunk_count (sym c.keeps.ensures.stamps.code ∙ ap (λ (b : BookOf). b.geometry) book);
+            };
+            none = new.none;
+            nothing = new.nothing;
+          });
+    }

@@ -1,0 +1,35 @@
+-- A rebuild as callers see it.
+use Rattle.std.specs.Prelude.{ℕ, Bool, false, nat_lt, List, [], replicate, Option, None, Some, if◌then◌else◌}
+use Rattle.std.specs.List.{list_any}
+use Rattle.clay_grid.specs.Shape.{chunk_count}
+use Rattle.store_map.specs.declared.call.Rebuild.{Rebuild}
+use Rattle.store_core.specs.NextAct.{rebuild_job}
+use Rattle.store_core.specs.Agreement.{Seat, ActorToken}
+use Rattle.store_resume.specs.State.{State}
+use Rattle.version_seal.specs.Entry.{BookOf}
+use Rattle.call_steps.specs.CallOf.{CallOf}
+
+-- a call of a repairer; how often a write is tried says nothing of it
+abbrev pub call_at : BookOf → Rebuild → ℕ → ActorToken → State → List ℕ → Bool → Bool → Bool → CallOf
+call_at book rebuild number token at takes due coding step =
+    record {
+      book = book;
+      tries = 0;
+      job = rebuild_job rebuild;
+      number = number;
+      token = token;
+      state = record { pairs = []; at = at };
+      takes = takes;
+      due = due;
+      coding = coding;
+      step = step;
+    }
+
+-- before its first step
+abbrev pub new_call : BookOf → Rebuild → ℕ → Seat → CallOf
+new_call book rebuild number seat =
+    call_at book rebuild number (ActorToken.Seated seat) State.Start (replicate (chunk_count book.geometry) 0) false false false
+
+-- what was taken, unless nothing was
+abbrev pub taken : List ℕ → Option (List ℕ)
+taken takes = if list_any (nat_lt 0) takes then Some takes else None

@@ -1,0 +1,40 @@
+-- The parts of a rebuild: its token, its pinned stripe, the gathering of its chunk, and the chunk.
+use Rattle.std.specs.Prelude.{◌≡◌, ℕ, length}
+use Rattle.clay_grid.specs.Shape.{chunk_count}
+use Rattle.store_core.specs.Note.{Note, Kind}
+use Rattle.store_core.specs.Act.{DirectoryStep}
+use Rattle.store_core.specs.Agreement.{ActorToken}
+use Rattle.store_core.specs.Tokens.{MayLook}
+use Rattle.store_resume.specs.Stage.{Aim}
+use Rattle.version_seal.specs.Entry.{BookOf}
+use Rattle.version_seal.specs.Sealed.{ChunkOf}
+use Rattle.stripe_dir.specs.declared.answers.Seen.{Seen}
+use Rattle.stripe_dir.specs.Answers.{seen_in}
+use Rattle.gathering.specs.Gathers.{GatherOf}
+
+-- a seat with which its actor may begin the call
+abbrev pub MayStart : ActorToken → ℕ → Note → Type 0
+MayStart (ActorToken.Seated seat) number note = MayLook seat number (DirectoryStep.LookRepair note)
+MayStart (ActorToken.InCall held) number note = ⊥
+
+-- the pass of the call
+abbrev pub IsOfCall : ActorToken → ℕ → Type 0
+IsOfCall (ActorToken.Seated seat) number = ⊥
+IsOfCall (ActorToken.InCall held) number = (held.pass.number ≡ number) × (held.pass.note.kind ≡ Kind.Rebuild)
+
+-- a pinned stripe is of the book and has a placement for each server
+pub record IsPinned (book : BookOf) (seen : Seen) : Type 0 where
+  pub home : seen.stamp.home ≡ book.home
+  pub whole : length seen.placed.items ≡ chunk_count book.geometry
+
+-- the gathering of its chunk
+pub record IsGatherOf (book : BookOf) (seen : Seen) (target : ℕ) (gather : GatherOf) : Type 0 where
+  pub code : gather.course.geometry ≡ book.geometry
+  pub aim : gather.course.aim ≡ Aim.Chunk (seen_in seen) target
+  pub stamp : gather.stamp ≡ seen.stamp
+
+-- its chunk
+pub record IsChunkFor (book : BookOf) (seen : Seen) (target : ℕ) (chunk : ChunkOf) : Type 0 where
+  pub stamp : chunk.stamp ≡ seen.stamp
+  pub server : chunk.server ≡ target
+  pub code : chunk.geometry ≡ book.geometry

@@ -1,0 +1,128 @@
+ghost use Rattle.std.specs.Prelude.{◌≡◌};
+ghost use Rattle.store_core.specs.Agreement.{Agrees};
+ghost use Rattle.store_resume.specs.State.{State};
+ghost use Rattle.store_resume.specs.GatherAfter.{ending_after};
+ghost use Rattle.call_token.specs.Answers.{told_by_end};
+ghost use Rattle.call_steps.specs.Outcomes.{repair_outcome_of};
+ghost use Rattle.call_steps.specs.Steps.{need_of, stepped_at_directory};
+ghost use Rattle.repairer.specs.Standing.{stage_of};
+
+use crate::repair_call::RepairCall;
+use crate::stage::Stage;
+use call_steps::RepairOutcome;
+use call_token::{ConfirmAnswer, EndAnswer};
+use gathering::Need;
+use std::mem;
+use stripe_dir::Directory;
+
+// How a call ends whose pass was to be ended with this outcome.
+fn ended_with(answer: EndAnswer, outcome: RepairOutcome) -> RepairOutcome
+    ensures { State.Finished (repair_outcome_of result)
+        ≡ ending_after (repair_outcome_of outcome) (told_by_end answer) }
+{
+    match answer {
+        EndAnswer::Ended => outcome,
+        EndAnswer::Reaped { at } => RepairOutcome::Reaped { at },
+    }
+}
+
+impl RepairCall {
+    pub(crate) fn look(&mut self, d: &mut Directory)
+        requires stage { stage_of self.old.state.at ≡ Stage.Start }
+        requires need { need_of self.old ≡ Need.Directory }
+        requires agrees { Agrees d.old.core self.old.token }
+        requires book { d.old.book ≡ self.old.book }
+        ensures step { (d.new.core, self.new)
+            ≡ stepped_at_directory self.new.step self.new.due self.old d.old.core }
+        ensures agrees { Agrees d.new.core self.new.token }
+        ensures book { d.new.book ≡ d.old.book }
+        ensures stamps { d.new.stamps ≡ d.old.stamps }
+    {
+        // That the directory is of the book's code is needed below.
+        d.keeps();
+        let rebuild = &self.rebuild;
+        let look = self.token.look_repair(d, self.number, &rebuild.name, rebuild.stripe);
+        self.coding = false;
+        self.step = false;
+        match look {
+            Ok(Some(seen)) => {
+                self.seen = Some(seen);
+                self.due = true;
+                self.stage = Stage::Gathering;
+            }
+            Ok(None) => {
+                self.outcome = RepairOutcome::NoSuch;
+                self.stage = Stage::Finished;
+            }
+            Err(_) => {
+                self.step = true;
+                self.outcome = RepairOutcome::NoMemory;
+                self.stage = Stage::Finished;
+            }
+        }
+    }
+
+    pub(crate) fn confirm(&mut self, d: &mut Directory)
+        requires stage { stage_of self.old.state.at ≡ Stage.Confirming }
+        requires need { need_of self.old ≡ Need.Directory }
+        requires agrees { Agrees d.old.core self.old.token }
+        requires book { d.old.book ≡ self.old.book }
+        ensures step { (d.new.core, self.new)
+            ≡ stepped_at_directory self.new.step self.new.due self.old d.old.core }
+        ensures agrees { Agrees d.new.core self.new.token }
+        ensures book { d.new.book ≡ d.old.book }
+        ensures stamps { d.new.stamps ≡ d.old.stamps }
+    {
+        let answer = self.token.confirm(d, self.number);
+        self.coding = false;
+        self.step = false;
+        match answer {
+            ConfirmAnswer::Current => self.stage = Stage::Installing,
+            ConfirmAnswer::Superseded { newer } => {
+                self.outcome = RepairOutcome::Superseded { newer };
+                self.stage = Stage::Finished;
+            }
+            ConfirmAnswer::Reaped { at } => {
+                self.outcome = RepairOutcome::Reaped { at };
+                self.stage = Stage::Finished;
+            }
+        }
+    }
+
+    pub(crate) fn tell_placed(&mut self, d: &mut Directory)
+        requires stage { stage_of self.old.state.at ≡ Stage.Placing }
+        requires agrees { Agrees d.old.core self.old.token }
+        requires book { d.old.book ≡ self.old.book }
+        ensures step { (d.new.core, self.new)
+            ≡ stepped_at_directory self.new.step self.new.due self.old d.old.core }
+        ensures agrees { Agrees d.new.core self.new.token }
+        ensures book { d.new.book ≡ d.old.book }
+        ensures stamps { d.new.stamps ≡ d.old.stamps }
+    {
+        // That the directory is of the book's code is needed below.
+        d.keeps();
+        let server = self.rebuild.server;
+        let answer = self.token.repaired(d, self.number, server, self.epoch);
+        self.coding = false;
+        self.step = false;
+        self.outcome = ended_with(answer, RepairOutcome::Rebuilt);
+        self.stage = Stage::Finished;
+    }
+
+    pub(crate) fn end(&mut self, d: &mut Directory)
+        requires stage { stage_of self.old.state.at ≡ Stage.Ending }
+        requires agrees { Agrees d.old.core self.old.token }
+        ensures step { (d.new.core, self.new)
+            ≡ stepped_at_directory self.new.step self.new.due self.old d.old.core }
+        ensures agrees { Agrees d.new.core self.new.token }
+        ensures book { d.new.book ≡ d.old.book }
+        ensures stamps { d.new.stamps ≡ d.old.stamps }
+    {
+        let answer = self.token.end(d, self.number);
+        self.coding = false;
+        self.step = false;
+        let outcome = mem::replace(&mut self.outcome, RepairOutcome::NoMemory);
+        self.outcome = ended_with(answer, outcome);
+        self.stage = Stage::Finished;
+    }
+}

@@ -1,0 +1,111 @@
+ghost use Rattle.std.specs.Prelude.{◌≡◌, List, Some, if◌then◌else◌};
+ghost use Rattle.store_core.specs.Gathering.{Part};
+ghost use Rattle.store_resume.specs.State.{Sequel, State};
+ghost use Rattle.store_resume.specs.States.{stage_state};
+ghost use Rattle.gather_course.specs.Aims.{ending_at};
+ghost use Rattle.chunk_server.specs.Core.{core_of};
+ghost use Rattle.gathering.specs.Gathers.{IsSame};
+ghost use Rattle.call_steps.specs.Outcomes.{repair_outcome_of};
+ghost use Rattle.call_steps.specs.Steps.{need_of, stepped_at_server};
+ghost use Rattle.repairer.specs.Standing.{stage_of};
+
+use crate::repair_call::RepairCall;
+use crate::stage::Stage;
+use call_steps::RepairOutcome;
+use chunk_server::{Installed, Server};
+use gather_course::Ending;
+use gathering::{Gather, Need};
+
+// How a call ends whose gathering has ended without its bytes.
+fn outcome_of(ending: Ending, gather: Gather) -> RepairOutcome
+    requires { ending_at gather.course.stage ≡ Some ending }
+    ensures { (bytes : State) (parts : List Part) (after : Sequel) →
+        stage_state bytes gather.course.aim parts after gather.course.stage
+        ≡ State.Ending (repair_outcome_of result) }
+{
+    match ending {
+        Ending::TooMany => RepairOutcome::Unavailable {
+            stripe: gather.course().stripe(),
+            missing: gather.into_missing(),
+        },
+        Ending::AtTarget => RepairOutcome::Here,
+        Ending::TargetAway { downs } => RepairOutcome::Away { downs },
+        Ending::Short => RepairOutcome::NoMemory,
+    }
+}
+
+// Where a call stands whose gathering hasn't ended without its bytes.
+fn stage_after(has_bytes: bool) -> Stage
+    ensures { result ≡ (if has_bytes then Stage.Confirming else Stage.Gathering) }
+{
+    if has_bytes {
+        Stage::Confirming
+    } else {
+        Stage::Gathering
+    }
+}
+
+impl RepairCall {
+    pub(crate) fn ask(&mut self, s: &mut Server)
+        requires stage { stage_of self.old.state.at ≡ Stage.Gathering }
+        requires need { need_of self.old ≡ Need.Server s.old.number }
+        requires book { s.old.book ≡ self.old.book }
+        ensures step { (core_of s.new, self.new)
+            ≡ stepped_at_server self.new.step self.new.due self.old (core_of s.old) }
+        ensures same { IsSame s.old s.new }
+    {
+        let (Some(mut gather), Some(mut takes)) = (self.gather.take(), self.takes.take()) else {
+            unreachable!()
+        };
+        gather.on_server(s, &mut takes);
+        self.takes = Some(takes);
+        self.coding = false;
+        self.step = gather.step_was_short();
+        let ready = gather.course().has_bytes();
+        self.due = ready;
+        match gather.course().ending() {
+            Some(ending) => {
+                self.outcome = outcome_of(ending, gather);
+                self.stage = Stage::Ending;
+            }
+            None => {
+                self.gather = Some(gather);
+                self.stage = stage_after(ready);
+            }
+        }
+    }
+
+    pub(crate) fn install(&mut self, s: &mut Server)
+        requires stage { stage_of self.old.state.at ≡ Stage.Installing }
+        requires need { need_of self.old ≡ Need.Server s.old.number }
+        requires book { s.old.book ≡ self.old.book }
+        ensures step { (core_of s.new, self.new)
+            ≡ stepped_at_server self.new.step self.new.due self.old (core_of s.old) }
+        ensures same { IsSame s.old s.new }
+    {
+        let Some(chunk) = self.chunk.take() else {
+            unreachable!()
+        };
+        self.coding = false;
+        self.step = false;
+        match s.install(chunk) {
+            Ok(Installed::Placed { epoch }) => {
+                self.epoch = epoch;
+                self.stage = Stage::Placing;
+            }
+            Ok(Installed::AlreadyThere) => {
+                self.outcome = RepairOutcome::Here;
+                self.stage = Stage::Ending;
+            }
+            Ok(Installed::Away { downs }) => {
+                self.outcome = RepairOutcome::Away { downs };
+                self.stage = Stage::Ending;
+            }
+            Err(_) => {
+                self.step = true;
+                self.outcome = RepairOutcome::NoMemory;
+                self.stage = Stage::Ending;
+            }
+        }
+    }
+}

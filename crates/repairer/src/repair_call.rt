@@ -1,0 +1,239 @@
+ghost use Rattle.std.specs.Prelude.{◌≡◌, ◌<◌, ℕ, option_map};
+ghost use Rattle.clay_grid.specs.Shape.{chunk_count};
+ghost use Rattle.store_core.specs.Act.{DirectoryStep};
+ghost use Rattle.store_core.specs.Note.{note_of_rebuild};
+ghost use Rattle.store_core.specs.Agreement.{Agrees, ActorToken};
+ghost use Rattle.store_core.specs.Tokens.{MayLook};
+ghost use Rattle.store_resume.specs.State.{State};
+ghost use Rattle.chunk_server.specs.Core.{core_of};
+ghost use Rattle.gathering.specs.Gathers.{IfServer, IsSame};
+ghost use Rattle.call_steps.specs.Outcomes.{repair_outcome_of};
+ghost use Rattle.call_steps.specs.Steps.{need_of, stepped_at_directory, stepped_at_server, coded, IsDueInPass};
+ghost use Rattle.repairer.specs.Calls.{new_call, taken};
+ghost use Rattle.repairer.specs.Inside.{takes_at};
+
+use crate::stage::Stage;
+use call_steps::RepairOutcome;
+use call_token::Token;
+use chunk_server::Server;
+use clay_repair::Coder;
+use gathering::{Gather, Need};
+use read_ledger::Takes;
+use std::marker::Model;
+use std::thread::Threads;
+use store_map::Rebuild;
+use stripe_dir::{Directory, Seat, Seen};
+use version_seal::{Opening, SealedChunk};
+
+/// A rebuild in work. It has to be spent.
+///
+/// Memory is taken in its look, in the steps at servers and in its two codings: before the first
+/// question, and once all parts have come. Where it is wanting the call ends with
+/// [`RepairOutcome::NoMemory`].
+pub struct RepairCall {
+    pub(crate) stage: Stage,
+    pub(crate) token: Token,
+    pub(crate) rebuild: Rebuild,
+    pub(crate) number: u32,
+    pub(crate) opening: Opening,
+    pub(crate) seen: Option<Seen>,
+    pub(crate) gather: Option<Gather>,
+    pub(crate) chunk: Option<SealedChunk>,
+    pub(crate) takes: Option<Takes>,
+    // the epoch at which the chunk was placed
+    pub(crate) epoch: u64,
+    // how the call ends, once that is known
+    pub(crate) outcome: RepairOutcome,
+    pub(crate) due: bool,
+    pub(crate) coding: bool,
+    pub(crate) step: bool,
+}
+
+impl Model for RepairCall {
+    ghost use Rattle.call_steps.specs.CallOf.{CallOf};
+
+    ghost Value = { CallOf };
+
+    ghost use Rattle.repairer.specs.Inside.{call_in};
+    ghost use Rattle.repairer.specs.Kept.{IsRepair};
+
+    ghost view = { call_in };
+
+    ghost invariant = { IsRepair };
+}
+
+impl RepairCall {
+    /// A repairer's call with this number, which its seat has not used yet, before its first step.
+    /// The opening is that of the book of the store's versions.
+    pub fn new(seat: Seat, number: u32, call: Rebuild, opening: Opening) -> RepairCall
+        requires may { MayLook seat number (DirectoryStep.LookRepair (note_of_rebuild call)) }
+        requires server { call.server < chunk_count opening.geometry }
+        ensures { result ≡ new_call opening call number seat }
+    {
+        RepairCall {
+            stage: Stage::Start,
+            token: Token::new(seat),
+            rebuild: call,
+            number,
+            opening,
+            seen: None,
+            gather: None,
+            chunk: None,
+            takes: None,
+            epoch: 0,
+            outcome: RepairOutcome::NoMemory,
+            due: false,
+            coding: false,
+            step: false,
+        }
+    }
+
+    /// Where the call has to go on.
+    pub fn need(&self) -> Need
+        ensures need { result ≡ need_of self.now }
+        ensures below { IfServer result (λ server. server < chunk_count self.now.book.geometry) }
+        ensures in_pass { IsDueInPass self.now }
+    {
+        if self.due {
+            return Need::Coder;
+        }
+        match self.stage {
+            Stage::Gathering => match &self.gather {
+                Some(gather) => gather.need(),
+                None => unreachable!(),
+            },
+            Stage::Installing => Need::Server(self.rebuild.server),
+            Stage::Finished => Need::Finished,
+            _ => Need::Directory,
+        }
+    }
+
+    /// What was taken from each server so far, or none where nothing was.
+    pub fn takes(&self) -> Option<&Takes>
+        ensures { option_map (λ takes. takes.now) result ≡ taken self.now.takes }
+    {
+        match &self.takes {
+            Some(takes) => {
+                if takes.any() {
+                    Some(takes)
+                } else {
+                    None
+                }
+            }
+            None => None,
+        }
+    }
+
+    /// The actor's seat, how the call ended, and what it took from each server, or none where it took
+    /// nothing.
+    pub fn finish(self) -> (Seat, RepairOutcome, Option<Takes>)
+        requires { need_of self ≡ Need.Finished }
+        ensures outcome { self.state.at ≡ State.Finished (repair_outcome_of result.1) }
+        ensures seat { ActorToken.Seated result.0 ≡ self.token }
+        ensures takes { result.2 ≡ taken self.takes }
+    {
+        let RepairCall {
+            stage: _,
+            token,
+            rebuild: _,
+            number: _,
+            opening: _,
+            seen: _,
+            gather: _,
+            chunk: _,
+            takes,
+            epoch: _,
+            outcome,
+            due: _,
+            coding: _,
+            step: _,
+        } = self;
+        (token.into_seat(), outcome, some_taken(takes))
+    }
+
+    /// Gives the call up where it stands: its actor makes no step any more, and a pass stays open.
+    pub fn leave(self) {
+        let RepairCall {
+            stage: _,
+            token,
+            rebuild: _,
+            number: _,
+            opening: _,
+            seen: _,
+            gather: _,
+            chunk: _,
+            takes: _,
+            epoch: _,
+            outcome: _,
+            due: _,
+            coding: _,
+            step: _,
+        } = self;
+        token.leave();
+    }
+
+    /// One step at the directory. Afterwards the call tells whether memory was wanting in it.
+    pub fn on_directory(&mut self, d: &mut Directory)
+        requires need { need_of self.old ≡ Need.Directory }
+        requires agrees { Agrees d.old.core self.old.token }
+        requires book { d.old.book ≡ self.old.book }
+        ensures step { (d.new.core, self.new)
+            ≡ stepped_at_directory self.new.step self.new.due self.old d.old.core }
+        ensures agrees { Agrees d.new.core self.new.token }
+        ensures book { d.new.book ≡ d.old.book }
+        ensures stamps { d.new.stamps ≡ d.old.stamps }
+    {
+        match self.stage {
+            Stage::Start => self.look(d),
+            Stage::Confirming => self.confirm(d),
+            Stage::Placing => self.tell_placed(d),
+            Stage::Ending => self.end(d),
+            _ => unreachable!(),
+        }
+    }
+
+    /// One step at the server that is needed. Afterwards the call tells whether memory was wanting in
+    /// it.
+    pub fn on_server(&mut self, s: &mut Server)
+        requires need { need_of self.old ≡ Need.Server s.old.number }
+        requires book { s.old.book ≡ self.old.book }
+        ensures step { (core_of s.new, self.new)
+            ≡ stepped_at_server self.new.step self.new.due self.old (core_of s.old) }
+        ensures same { IsSame s.old s.new }
+    {
+        match self.stage {
+            Stage::Gathering => self.ask(s),
+            Stage::Installing => self.install(s),
+            _ => unreachable!(),
+        }
+    }
+
+    /// Makes the gathering of the chunk, or the chunk itself. It makes no step. Afterwards the call
+    /// tells whether memory was wanting in it.
+    pub fn on_coder<R: Threads + Sync, C: Coder>(&mut self, rt: &R, coder: &C)
+        requires { need_of self.old ≡ Need.Coder }
+        ensures { self.new ≡ coded self.new.coding self.old }
+    {
+        match self.stage {
+            Stage::Gathering => self.begin(),
+            Stage::Confirming => self.make(rt, coder),
+            _ => unreachable!(),
+        }
+    }
+}
+
+// The takes, where a server gave something.
+fn some_taken(takes: Option<Takes>) -> Option<Takes>
+    ensures { (servers : ℕ) → result ≡ taken (takes_at servers takes) }
+{
+    match takes {
+        Some(takes) => {
+            if takes.any() {
+                Some(takes)
+            } else {
+                None
+            }
+        }
+        None => None,
+    }
+}
