@@ -8,3 +8,4 @@ pub mod PlaceLaws
 pub mod Ends
 pub mod Rounds
 pub mod Runs
+pub mod Shows

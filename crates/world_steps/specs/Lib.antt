@@ -8,3 +8,4 @@ pub mod TurnLaws
 pub mod PlaceLaws
 pub mod RoundLaws
 pub mod RunLaws
+pub mod ShowLaws

@@ -7,6 +7,7 @@ ghost use Rattle.world_steps.specs.World.{WorldOf};
 ghost use Rattle.world_steps.specs.FirstWorld.{FirstWorldsStand};
 ghost use Rattle.world_steps.specs.Leads.{PartsLeadWorlds};
 ghost use Rattle.world_steps.specs.TurnLaws.{ClientsMakeTurns, RepairersMakeTurns};
+ghost use Rattle.world_steps.specs.ShowLaws.{WorldsShow};
 ghost use Rattle.world_steps.specs.RunLaws.{RunsReach, DrainsOfValidScriptsReach};
 ghost use Rattle.world_steps.specs.RoundLaws.{EndsAreKnown, RoundsAreRounds};
 ghost use Rattle.world_steps.specs.PlaceLaws.{SweeperMakesTurns, OperatorMakesActions};
@@ -49,4 +50,10 @@ pub fn rounds_are_rounds()
 pub fn runs_are_reached()
     ensures tokens { (script : Script) → RunsReach script }
     ensures drains { DrainsOfValidScriptsReach }
+{}
+
+/// A world shows what each core shows for which it stands; so after the tokens of a run it shows that
+/// run.
+pub fn worlds_show()
+    ensures { (script : Script) (w : WorldOf) → WorldsShow script w }
 {}
