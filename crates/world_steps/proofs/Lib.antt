@@ -9,3 +9,4 @@ pub mod Ends
 pub mod Rounds
 pub mod Runs
 pub mod Shows
+pub mod Agreed

@@ -9,3 +9,5 @@ pub mod PlaceLaws
 pub mod RoundLaws
 pub mod RunLaws
 pub mod ShowLaws
+pub mod Tokens
+pub mod TokenLaws

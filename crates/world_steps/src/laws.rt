@@ -7,6 +7,7 @@ ghost use Rattle.world_steps.specs.World.{WorldOf};
 ghost use Rattle.world_steps.specs.FirstWorld.{FirstWorldsStand};
 ghost use Rattle.world_steps.specs.Leads.{PartsLeadWorlds};
 ghost use Rattle.world_steps.specs.TurnLaws.{ClientsMakeTurns, RepairersMakeTurns};
+ghost use Rattle.world_steps.specs.TokenLaws.{WorldsStayAgreed, FirstTokensAgree};
 ghost use Rattle.world_steps.specs.ShowLaws.{WorldsShow};
 ghost use Rattle.world_steps.specs.RunLaws.{RunsReach, DrainsOfValidScriptsReach};
 ghost use Rattle.world_steps.specs.RoundLaws.{EndsAreKnown, RoundsAreRounds};
@@ -56,4 +57,12 @@ pub fn runs_are_reached()
 /// run.
 pub fn worlds_show()
     ensures { (script : Script) (w : WorldOf) → WorldsShow script w }
+{}
+
+/// The first directory agrees with the first tokens of all actors; and where the directory of a world
+/// agrees with the tokens of all its actors, it does so after each step. A call's number is how many of
+/// its actor's calls ended before it, and between two calls the next number is unused.
+pub fn tokens_agree()
+    ensures first { FirstTokensAgree }
+    ensures stays { WorldsStayAgreed }
 {}
