@@ -26,7 +26,12 @@ pub fn blame_unless(holds: bool, call: CallName, first: u64, second: u64) -> Opt
 }
 
 /// Whether a server can have told that it was made away so often.
-pub fn downs_fit(counted: &OperatorCounts, call: CallName, server: u64, told: u64) -> Option<Verdict>
+pub fn downs_fit(
+    counted: &OperatorCounts,
+    call: CallName,
+    server: u64,
+    told: u64,
+) -> Option<Verdict>
     ensures { (script : Script) → AreDowns script counted.now
         → result ≡ unless (is_told_downs script server told) (BadCause call (downs script server) told) }
 {

@@ -38,7 +38,11 @@ pub struct OperatorCounts {
 
 impl OperatorCounts {
     /// The counts of the lines of a schedule.
-    pub fn count(alloc: Global, action: OperatorAction, schedule: &[Token]) -> Result<OperatorCounts, AllocError>
+    pub fn count(
+        alloc: Global,
+        action: OperatorAction,
+        schedule: &[Token],
+    ) -> Result<OperatorCounts, AllocError>
         ensures { IfOk result (AreCounted action schedule.now) }
     {
         let mut counts = HashMap::new(alloc);

@@ -1,4 +1,3 @@
-use text_tests::faults::{Around, Reader, have_faults, joined, parts, same};
 use line_grammar::FaultKind::{
     Geometry, Limit, MissingEnd, NoSuchActor, NoSuchServer, OutOfMemory, Syntax,
 };
@@ -8,6 +7,7 @@ use std::alloc::Global;
 use std::process::Abort;
 use std::test::Fail;
 use store_map::{Call, Content, Name, Rebuild, Script, Token};
+use text_tests::faults::{Around, Reader, have_faults, joined, parts, same};
 
 // A code of four servers, whose stripes have 8 bytes.
 const HEAD: &[u8] = b"clay 1\ncode 2 2 1\n";

@@ -61,12 +61,7 @@ pub fn same(found: &[u8], wanted: &[u8]) -> Result<(), Fail> {
     Err(Fail::from("not what is wanted"))
 }
 
-fn has_fault(
-    alloc: Global,
-    reader: Reader,
-    around: Around<'_>,
-    row: &[u8],
-) -> Result<(), Fail> {
+fn has_fault(alloc: Global, reader: Reader, around: Around<'_>, row: &[u8]) -> Result<(), Fail> {
     let (fault, text) = parts(row)?;
     let whole = joined(alloc, around.before, text, around.behind)?;
     let found = fault_in(alloc, reader, &whole)?;
