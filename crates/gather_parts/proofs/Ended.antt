@@ -13,7 +13,7 @@ use Rattle.gather_parts.specs.declared.standing.Standing.{Standing}
 use Rattle.gather_parts.specs.declared.standing.Standing.TheVariants as standing
 use Rattle.gather_parts.specs.Wanted.{Wanted, parts_of, bytes_of}
 use Rattle.gather_parts.specs.Gatherings.{GatheringsOf, bytes_at_work, owed}
-use Rattle.gather_parts.specs.Standings.{standing_at, standing_by, unless_short, standing_of}
+use Rattle.gather_parts.specs.Standings.{standing_at, standing_by, unless_short, standing_of, IsOver}
 use Rattle.gather_parts.specs.States.{state_by, unless_wanting, state_in}
 
 abbrev is_done : Standing → Bool
@@ -83,3 +83,27 @@ lost_unless g false None (wanted ∷ left) e = not_many standing.Due refl e
 
 pub lost_state : (p : GatheringsOf) → standing_of p ≡ standing.TooMany → Ends (state_in p)
 lost_state p e = lost_unless p.book.geometry p.coding p.current p.left e
+
+-- gatherings that are over end the pass of a read
+module _ (g : Shape) (point : ℕ) where
+  abbrev Closes : State → Type 0
+  Closes at = (outcome : Outcome) × (at ≡ State.Ending outcome)
+
+  over_stage : (parts : List Part) (aim : Aim) (stage : Stage) → IsOver (standing_at g aim stage)
+      → Closes (stage_state (open_parts g parts (Sequel.Serve point)) aim parts (Sequel.Serve point) stage)
+  over_stage parts aim (Stage.Asks asking) over = absurd over
+  over_stage parts aim Stage.HasBytes over = absurd over
+  over_stage parts aim (Stage.TooMany missing) over = (Outcome.Unavailable (seen_of aim).stripe missing, refl)
+  over_stage parts aim Stage.AtTarget over = (Outcome.Here, refl)
+  over_stage parts aim (Stage.TargetAway downs) over = (Outcome.Away downs, refl)
+  over_stage parts aim Stage.Short over = (Outcome.NoMemory, refl)
+
+  over_unless : (coding : Bool) (current : Option GatherOf) (left : List Wanted) → IsOver (unless_short coding (standing_by g current left))
+      → Closes (unless_wanting coding (state_by g (parts_of left) (Sequel.Serve point) current))
+  over_unless true current left over = (Outcome.NoMemory, refl)
+  over_unless false (Some w) left over = over_stage (parts_of left) w.course.aim w.course.stage over
+  over_unless false None [] over = (Outcome.Served point, refl)
+  over_unless false None (wanted ∷ left) over = absurd over
+
+pub over_closes : (p : GatheringsOf) (point : ℕ) → IsOver (standing_of p) → (outcome : Outcome) × (state_in p (Sequel.Serve point) ≡ State.Ending outcome)
+over_closes p point over = over_unless p.book.geometry point p.coding p.current p.left over

@@ -23,7 +23,7 @@ use Rattle.gather_parts.specs.declared.standing.Standing.{Standing}
 use Rattle.gather_parts.specs.declared.standing.Standing.TheVariants as standing
 use Rattle.gather_parts.specs.Wanted.{Wanted, parts_of, bytes_of}
 use Rattle.gather_parts.specs.Gatherings.{GatheringsOf, bytes_at_work, owed}
-use Rattle.gather_parts.specs.Standings.{standing_at, standing_by, unless_short, standing_of, is_due_at, is_due}
+use Rattle.gather_parts.specs.Standings.{standing_at, standing_by, unless_short, standing_of, is_due_at, is_due, need_at}
 use Rattle.gather_parts.specs.States.{state_by, unless_wanting, state_in, StandsIn, moved}
 use Rattle.gather_parts.proofs.Moving.{standing_call, stands_as}
 use Rattle.gather_parts.proofs.Nexts.{next_state, next_bytes}
@@ -140,8 +140,37 @@ due_needs c p after e stands due =
     ∙ ap (λ (x : CallOf). need_by (act_at x.book.geometry x.tries x.job x.state.pairs x.state.at) true) (sym (stands_as c p after stands))
     ∙ ap (λ b. need_of (record c { due = b })) (sym (ap is_due_at e) ∙ sym due)
 
+-- what gatherings need is what a call needs that stands in them
+module _ (g : Shape) (tries : ℕ) (job : Job) (pairs : List (ℕ × ℕ)) (after : Sequel) where
+  stage_needs : (left : List Wanted) (aim : Aim) (stage : Stage)
+      → need_by (act_at g tries job pairs (stage_state (open_parts g (parts_of left) after) aim (parts_of left) after stage)) (is_due_at (standing_at g aim stage))
+      ≡ need_at (standing_at g aim stage)
+  stage_needs left aim (Stage.Asks asking) = refl
+  stage_needs left aim Stage.HasBytes = open_goes g tries job pairs after (parts_of left)
+  stage_needs left aim (Stage.TooMany missing) = refl
+  stage_needs left aim Stage.AtTarget = refl
+  stage_needs left aim (Stage.TargetAway downs) = refl
+  stage_needs left aim Stage.Short = refl
+
+  sequel_needs : (after : Sequel) → need_by (act_at g tries job pairs (sequel_state after)) false ≡ need.Directory
+  sequel_needs (Sequel.Serve point) = refl
+  sequel_needs Sequel.Draw = refl
+  sequel_needs (Sequel.Confirm seen target) = refl
+
+  standing_needs : (coding : Bool) (current : Option GatherOf) (left : List Wanted)
+      → need_by (act_at g tries job pairs (unless_wanting coding (state_by g (parts_of left) after current))) (is_due_at (unless_short coding (standing_by g current left)))
+      ≡ need_at (unless_short coding (standing_by g current left))
+  standing_needs true current left = refl
+  standing_needs false (Some w) left = stage_needs left w.course.aim w.course.stage
+  standing_needs false None [] = sequel_needs after
+  standing_needs false None (wanted ∷ left) = open_goes g tries job pairs after (parts_of (wanted ∷ left))
+
+pub state_needs : (p : GatheringsOf) (tries : ℕ) (job : Job) (pairs : List (ℕ × ℕ)) (after : Sequel)
+    → need_by (act_at p.book.geometry tries job pairs (state_in p after)) (is_due p) ≡ need_at (standing_of p)
+state_needs p tries job pairs after = standing_needs p.book.geometry tries job pairs after p.coding p.current p.left
+
 -- it is in its pass then
-state_in_pass : (p : GatheringsOf) (after : Sequel) (coding : Bool) (current : Option GatherOf) (left : List Wanted) (tries : ℕ) (job : Job) (pairs : List (ℕ × ℕ))
+pub state_in_pass : (p : GatheringsOf) (after : Sequel) (coding : Bool) (current : Option GatherOf) (left : List Wanted) (tries : ℕ) (job : Job) (pairs : List (ℕ × ℕ))
     → is_in_pass (act_at p.book.geometry tries job pairs (unless_wanting coding (state_by p.book.geometry (parts_of left) after current))) ≡ true
 state_in_pass p after true current left tries job pairs = refl
 state_in_pass p after false (Some w) left tries job pairs =

@@ -1,0 +1,4 @@
+pub mod Standings
+pub mod Looking
+pub mod Pinned
+pub mod Serving

@@ -1,0 +1,84 @@
+//! The steps at the directory of a call that reads.
+ghost use Rattle.std.specs.Prelude.{◌≡◌, true};
+ghost use Rattle.store_core.specs.Agreement.{Agrees};
+ghost use Rattle.store_resume.specs.State.{State};
+ghost use Rattle.call_steps.specs.Steps.{stepped_at_directory, need_of};
+ghost use Rattle.client_read.specs.Stages.{is_ending};
+ghost use Rattle.client_read.specs.Owed.{owed_after};
+
+use crate::read::ReadCall;
+use crate::stage::{Looked, Stage, after_look};
+use call_steps::Outcome;
+use call_token::EndAnswer;
+use gathering::Need;
+use stripe_dir::Directory;
+
+impl<'a> ReadCall<'a> {
+    /// One step at the directory.
+    pub fn on_directory(&mut self, directory: &mut Directory)
+        requires need { need_of self.old.call ≡ Need.Directory }
+        requires agrees { Agrees directory.old.core self.old.call.token }
+        requires book { directory.old.book ≡ self.old.call.book }
+        ensures step { (directory.new.core, self.new.call)
+            ≡ stepped_at_directory self.new.call.step self.new.call.due self.old.call directory.old.core }
+        ensures agrees { Agrees directory.new.core self.new.call.token }
+        ensures owed { self.new.owed ≡ owed_after self.new.call.step self.old.call directory.old self.old.owed }
+        ensures book { directory.new.book ≡ directory.old.book }
+        ensures stamps { directory.new.stamps ≡ directory.old.stamps }
+    {
+        match self.stage {
+            Stage::Looking => self.look(directory),
+            _ => self.end(directory),
+        }
+    }
+
+    fn look(&mut self, directory: &mut Directory)
+        requires first { self.old.call.state.at ≡ State.Start }
+        requires agrees { Agrees directory.old.core self.old.call.token }
+        requires book { directory.old.book ≡ self.old.call.book }
+        ensures step { (directory.new.core, self.new.call)
+            ≡ stepped_at_directory self.new.call.step self.new.call.due self.old.call directory.old.core }
+        ensures agrees { Agrees directory.new.core self.new.call.token }
+        ensures owed { self.new.owed ≡ owed_after self.new.call.step self.old.call directory.old self.old.owed }
+        ensures book { directory.new.book ≡ directory.old.book }
+        ensures stamps { directory.new.stamps ≡ directory.old.stamps }
+    {
+        directory.keeps();
+        let answer = self.token.look(directory, self.number, self.call);
+        self.coding = false;
+        self.step = answer.is_err();
+        let looked = after_look(answer, self.call, &mut self.gatherings);
+        let Looked {
+            stage,
+            point,
+            outcome,
+        } = looked;
+        self.stage = stage;
+        self.point = point;
+        self.outcome = outcome;
+    }
+
+    // The pass ends.
+    fn end(&mut self, directory: &mut Directory)
+        requires need { need_of self.old.call ≡ Need.Directory }
+        requires ending { is_ending self.old.call.state.at ≡ true }
+        requires agrees { Agrees directory.old.core self.old.call.token }
+        ensures step { (directory.new.core, self.new.call)
+            ≡ stepped_at_directory self.new.call.step self.new.call.due self.old.call directory.old.core }
+        ensures agrees { Agrees directory.new.core self.new.call.token }
+        ensures owed { self.new.owed ≡ self.old.owed }
+        ensures book { directory.new.book ≡ directory.old.book }
+        ensures stamps { directory.new.stamps ≡ directory.old.stamps }
+    {
+        let answer = self.token.end(directory, self.number);
+        self.coding = false;
+        self.step = false;
+        match answer {
+            EndAnswer::Ended => self.stage = Stage::Ended,
+            EndAnswer::Reaped { at } => {
+                self.outcome = Outcome::Reaped { at };
+                self.stage = Stage::Finished;
+            }
+        }
+    }
+}

@@ -1,0 +1,113 @@
+//! What a call that reads does next, by the answer of its look.
+ghost use Rattle.std.specs.Prelude.{◌≡◌, ◌+◌, ℕ, List, true, All, IfOk};
+ghost use Rattle.clay_grid.specs.Shape.{Shape};
+ghost use Rattle.store_core.specs.Note.{note_of};
+ghost use Rattle.store_core.specs.NextAct.{job_of};
+ghost use Rattle.store_core.specs.Read.{read_start, read_end};
+ghost use Rattle.store_calls.specs.AnswersByKind.{MayPin, FitsKind};
+ghost use Rattle.store_resume.specs.States.{open_state};
+ghost use Rattle.store_resume.specs.LookAfter.{start_after};
+ghost use Rattle.version_seal.specs.Entry.{StampOf};
+ghost use Rattle.stripe_dir.specs.Answers.{told_or_short};
+ghost use Rattle.stripe_dir.specs.AnswerStamps.{IsSeenIn};
+ghost use Rattle.call_token.specs.Answers.{told_by_look};
+ghost use Rattle.call_token.specs.Shown.{stripes_seen};
+ghost use Rattle.gather_parts.specs.Wanted.{IsPinned};
+ghost use Rattle.gather_parts.specs.Gatherings.{owed};
+ghost use Rattle.client_read.specs.Reads.{is_read};
+ghost use Rattle.client_read.specs.Ends.{IsPlain};
+ghost use Rattle.client_read.specs.Stages.{state_by, IsLooked};
+ghost use Rattle.client_read.specs.Owed.{owed_after_look};
+
+use call_steps::Outcome;
+use call_token::LookAnswer;
+use gather_parts::PartGatherings;
+use std::alloc::AllocError;
+use store_map::{Call, Point};
+
+/// What the call does next, or how it has ended.
+#[derive(Clone, Copy, PartialEq, Eq, Debug)]
+pub(crate) enum Stage {
+    /// It looks next.
+    Looking,
+    /// It gathers the bytes of what was pinned, and ends its pass then.
+    Gathering,
+    /// Its pass has ended, and it is over with what its gatherings came to.
+    Ended,
+    /// It is over, with an outcome of its own.
+    Finished,
+}
+
+// What a look leads to: the point of the bytes, or how the call has ended.
+pub(crate) struct Looked {
+    pub(crate) stage: Stage,
+    pub(crate) point: Point,
+    pub(crate) outcome: Outcome,
+}
+
+// Where the bytes begin and end that the call asks for, of an object of this length.
+fn range_of(call: &Call, length: u64) -> (u64, u64)
+    requires { MayPin (note_of call.now).kind }
+    ensures { result ≡ (read_start (note_of call.now), read_end (note_of call.now) length) }
+{
+    match call {
+        Call::Get { .. } => (0, length),
+        Call::ReadAt {
+            offset,
+            length: count,
+            ..
+        } => {
+            let start = u64::from(*offset);
+            (start, (start + u64::from(*count)).min(length))
+        }
+        _ => unreachable!(),
+    }
+}
+
+// Where the call goes on after its look. What was pinned is to be gathered.
+pub(crate) fn after_look(
+    answer: Result<LookAnswer, AllocError>,
+    call: &Call,
+    gatherings: &mut PartGatherings,
+) -> Looked
+    requires read { is_read call.now ≡ true }
+    requires fits { FitsKind (note_of call.now).kind (told_or_short told_by_look answer) }
+    requires pinned { IfOk answer (λ answer. All (IsPinned gatherings.old.book) (stripes_seen answer)) }
+    ensures state { state_by result.stage gatherings.new result.point result.outcome
+        ≡ open_state gatherings.old.book.geometry (start_after gatherings.old.book.geometry (note_of call.now).kind (job_of call.now) (told_or_short told_by_look answer)) }
+    ensures plain { IsPlain result.outcome }
+    ensures kept { IsLooked (told_or_short told_by_look answer) result.stage }
+    ensures book { gatherings.new.book ≡ gatherings.old.book }
+    ensures takes { gatherings.new.takes ≡ gatherings.old.takes }
+    ensures owed { (stamps : List StampOf) → IfOk answer (λ answer. All (IsSeenIn stamps) (stripes_seen answer)) →
+        owed gatherings.new ≡ owed_after_look gatherings.old.book.geometry (note_of call.now) stamps (told_or_short told_by_look answer) (owed gatherings.old) }
+{
+    match answer {
+        Ok(LookAnswer::Answer { point, reply }) => Looked {
+            stage: Stage::Finished,
+            point,
+            outcome: Outcome::Answered { point, reply },
+        },
+        Ok(
+            LookAnswer::Pinned {
+                point,
+                length,
+                stripes,
+            },
+        ) => {
+            let (start, end) = range_of(call, length);
+            gatherings.begin(stripes, start, end);
+            Looked {
+                stage: Stage::Gathering,
+                point,
+                outcome: Outcome::NoMemory,
+            }
+        }
+        Ok(LookAnswer::Ready { .. }) => unreachable!(),
+        Err(_) => Looked {
+            stage: Stage::Finished,
+            point: Point(0),
+            outcome: Outcome::NoMemory,
+        },
+    }
+}
