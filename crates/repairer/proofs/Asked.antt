@@ -1,5 +1,5 @@
 -- What a step at a server leaves of a rebuild whose gathering asks.
-use Rattle.std.proofs.Common.{◌≡◌, ℕ, Bool, false, List, [], Option, Some, refl, sym, ap, subst, ◌∙◌}
+use Rattle.std.proofs.Common.{◌≡◌, ℕ, Bool, false, List, Option, Some, sym, ap, subst, ◌∙◌}
 use Rattle.clay_grid.specs.Shape.{chunk_count}
 use Rattle.store_core.specs.Server.{Server}
 use Rattle.store_resume.specs.Stage.{Aim}
@@ -17,7 +17,7 @@ use Rattle.repairer.specs.Parts.{IsOfCall, IsGatherOf}
 use Rattle.repairer.specs.Moments.{IsAsking}
 use Rattle.repairer.specs.Kept.{GathersAt, IsRepair}
 use Rattle.repairer.proofs.Stages.{is_at, seen_by, keeps, not_due}
-use Rattle.repairer.proofs.Asking.{gathering, Follows, asked, follows, of_gather}
+use Rattle.repairer.proofs.Asking.{gathering, asked, of_gather}
 
 -- a call whose gathering asks, with that gathering and its takes
 pub record IsAsked (a : Inside) (w : GatherOf) (takes : List ℕ) : Type 0 where

@@ -1,16 +1,14 @@
 -- A step of a rebuild at the server that its gathering asks.
-use Rattle.std.proofs.Common.{◌≡◌, ℕ, Bool, true, false, List, [], length, Option, None, Some, unwrap_or, if◌then◌else◌, refl, sym, ap, subst, ◌∙◌}
+use Rattle.std.proofs.Common.{◌≡◌, ℕ, Bool, false, List, length, Option, None, Some, unwrap_or, if◌then◌else◌, refl, sym, ap, subst, ◌∙◌}
 use Rattle.clay_grid.specs.Shape.{Shape}
 use Rattle.store_map.specs.declared.call.Rebuild.{Rebuild}
 use Rattle.store_core.specs.Told.{Told, Seen as CoreSeen}
-use Rattle.store_core.specs.Act.{Act, ServerStep, Outcome}
+use Rattle.store_core.specs.Act.{Outcome}
 use Rattle.store_core.specs.Server.{Server, raised_by, at_server}
-use Rattle.store_core.specs.Step.{take_from}
 use Rattle.store_core.specs.Agreement.{ActorToken}
 use Rattle.store_core.proofs.Places.{length-change_at}
 use Rattle.store_resume.specs.Stage.{Aim, Asking, Stage as CoreStage}
 use Rattle.store_resume.specs.StageAfter.{stage_after, server_asked, step_asked}
-use Rattle.store_resume.specs.State.{State}
 use Rattle.store_resume.specs.States.{open_state}
 use Rattle.version_seal.specs.Entry.{BookOf, StampOf}
 use Rattle.stripe_dir.specs.declared.answers.Seen.{Seen}
@@ -61,11 +59,12 @@ module _ (book : BookOf) (rebuild : Rebuild) (number : ℕ) (token : ActorToken)
       ap (λ (all : Server × GatherOf × List ℕ). (all.0, gathering all.1.course.stage all.2 due false short)) e
       ∙ (let at : Aim = Aim.Chunk seen rebuild.server in
       let made : Server × Told = at_server short (step_asked book.geometry at asking) s in
-      λ i.
-      (made.0,
+      λ i. (
+        made.0,
         call_at book rebuild number token (opened book.geometry seen rebuild.server (stage_after book.geometry at asking made.1) i)
-        (takes_follow made.1 (server_asked book.geometry at asking) (step_asked book.geometry at asking) takes i)
-        due false short))
+            (takes_follow made.1 (server_asked book.geometry at asking) (step_asked book.geometry at asking) takes i)
+            due false short,
+      ))
 
   -- its step is that of the call
   pub asked : (w next : GatherOf) (takes counts : List ℕ) (short due coding step : Bool) (s after : Server)
@@ -111,8 +110,8 @@ follows w next takes counts short s after asks e = by w.course.stage refl asks
           aim = ap (λ (all : Server × GatherOf × List ℕ). all.1.course.aim) made;
           fresh = ap (λ (all : Server × GatherOf × List ℕ). all.1.coded) made;
           servers =
-            ap (λ (all : Server × GatherOf × List ℕ). length all.2) made
-            ∙ taking_length (at_server short (step_asked w.course.geometry w.course.aim asking) s).1 (server_of w.course) takes;
+              ap (λ (all : Server × GatherOf × List ℕ). length all.2) made
+              ∙ taking_length (at_server short (step_asked w.course.geometry w.course.aim asking) s).1 (server_of w.course) takes;
         }
     by at is asks = absurd asks
 
@@ -147,34 +146,36 @@ keeps_on a w takes s of_call is next counts goes none e gather_is takes_is due_i
 
     by : (at : CoreStage) → next.course.stage ≡ at → ending_at at ≡ None → s ≡ (if has_bytes at then stage.Confirming else stage.Gathering) → Keeps s a
     by (CoreStage.Asks asking) at none e =
-        subst (λ s. Keeps s a) (sym e)
-        (of_call,
+        subst (λ s. Keeps s a) (sym e) (
+          of_call,
           subst (λ b. GathersAt b a) (sym (due_is ∙ ap has_bytes at))
-          record {
-            seen = is.seen;
-            gather = next;
-            takes = counts;
-            is_seen = is.is_seen;
-            is_gather = gather_is;
-            is_takes = takes_is;
-            pinned = is.pinned;
-            its = its;
-            asks = subst IsAskingStage (sym at) tt;
-            servers = goes.servers ∙ ap (λ (l : List ℕ). length l) (sym (of_takes a.opening a.rebuild.server a.seen (Some w) takes is)) ∙ is.servers;
-          })
+              record {
+                seen = is.seen;
+                gather = next;
+                takes = counts;
+                is_seen = is.is_seen;
+                is_gather = gather_is;
+                is_takes = takes_is;
+                pinned = is.pinned;
+                its = its;
+                asks = subst IsAskingStage (sym at) tt;
+                servers = goes.servers ∙ ap (λ (l : List ℕ). length l) (sym (of_takes a.opening a.rebuild.server a.seen (Some w) takes is)) ∙ is.servers;
+              },
+        )
     by CoreStage.HasBytes at none e =
-        subst (λ s. Keeps s a) (sym e)
-        (of_call,
+        subst (λ s. Keeps s a) (sym e) (
+          of_call,
           subst (λ b. ConfirmsAt b a) (sym (due_is ∙ ap has_bytes at))
-          record {
-            seen = is.seen;
-            gather = next;
-            is_seen = is.is_seen;
-            is_gather = gather_is;
-            pinned = is.pinned;
-            its = its;
-            ready = λ i. need_by (server_at next.course.geometry next.course.aim (at i)) (has_bytes (at i)) (goes.fresh i);
-          })
+              record {
+                seen = is.seen;
+                gather = next;
+                is_seen = is.is_seen;
+                is_gather = gather_is;
+                pinned = is.pinned;
+                its = its;
+                ready = λ i. need_by (server_at next.course.geometry next.course.aim (at i)) (has_bytes (at i)) (goes.fresh i);
+              },
+        )
     by (CoreStage.TooMany missing) at none e = cc
     by CoreStage.AtTarget at none e = cc
     by (CoreStage.TargetAway downs) at none e = cc

@@ -1,10 +1,8 @@
 -- The gathering of a rebuild is made.
-use Rattle.std.proofs.Common.{◌≡◌, ℕ, false, List, length, replicate, Option, None, Some, refl, sym, ap, subst, ◌∙◌}
+use Rattle.std.proofs.Common.{◌≡◌, ℕ, List, length, replicate, Option, Some, refl, sym, ap, subst, ◌∙◌}
 use Rattle.std.proofs.lemmas.List.{length-replicate}
-use Rattle.clay_grid.specs.Shape.{Shape, chunk_count}
-use Rattle.store_core.specs.Told.{Seen as CoreSeen}
+use Rattle.clay_grid.specs.Shape.{chunk_count}
 use Rattle.store_resume.specs.Stage.{Aim}
-use Rattle.store_resume.specs.State.{State}
 use Rattle.version_seal.specs.Entry.{BookOf}
 use Rattle.stripe_dir.specs.declared.answers.Seen.{Seen}
 use Rattle.stripe_dir.specs.Answers.{seen_in}

@@ -1,6 +1,6 @@
 -- The stage of a rebuild, by what callers see of it.
 use Rattle.std.proofs.Common.{◌≡◌, ℕ, Bool, true, false, Option, refl, sym, ap, subst, ◌∙◌}
-use Rattle.store_core.specs.Act.{Act, DirectoryStep, ServerStep}
+use Rattle.store_core.specs.Act.{Act}
 use Rattle.store_core.specs.Told.{Seen as CoreSeen}
 use Rattle.store_resume.specs.Stage.{Stage as CoreStage}
 use Rattle.gathering.specs.declared.need.Need.TheVariants as need

@@ -41,7 +41,9 @@ impl RepairCall {
         // That the directory is of the book's code is needed below.
         d.keeps();
         let rebuild = &self.rebuild;
-        let look = self.token.look_repair(d, self.number, &rebuild.name, rebuild.stripe);
+        let look = self
+            .token
+            .look_repair(d, self.number, &rebuild.name, rebuild.stripe);
         self.coding = false;
         self.step = false;
         match look {

@@ -20,11 +20,7 @@ use stripe_dir::Seen;
 use version_seal::{Opening, SealedChunk};
 
 // The gathering of the server's chunk, and the takes of its call.
-fn gathering_of(
-    opening: &Opening,
-    seen: &Seen,
-    server: u32,
-) -> Result<(Gather, Takes), AllocError>
+fn gathering_of(opening: &Opening, seen: &Seen, server: u32) -> Result<(Gather, Takes), AllocError>
     requires pinned { IsPinned opening.now seen.now }
     requires below { server < chunk_count opening.now.geometry }
     ensures gather { IfOk result (λ made. made.0 ≡ new_gather seen.now.stamp opening.now.geometry (Aim.Chunk (seen_in seen.now) server)) }

@@ -113,13 +113,7 @@ impl RepairCall {
         ensures { option_map (λ takes. takes.now) result ≡ taken self.now.takes }
     {
         match &self.takes {
-            Some(takes) => {
-                if takes.any() {
-                    Some(takes)
-                } else {
-                    None
-                }
-            }
+            Some(takes) => { if takes.any() { Some(takes) } else { None } }
             None => None,
         }
     }
@@ -227,13 +221,7 @@ fn some_taken(takes: Option<Takes>) -> Option<Takes>
     ensures { (servers : ℕ) → result ≡ taken (takes_at servers takes) }
 {
     match takes {
-        Some(takes) => {
-            if takes.any() {
-                Some(takes)
-            } else {
-                None
-            }
-        }
+        Some(takes) => { if takes.any() { Some(takes) } else { None } }
         None => None,
     }
 }

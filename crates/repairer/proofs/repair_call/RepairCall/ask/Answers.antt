@@ -29,11 +29,11 @@ invariant_of-self-in-None c =
     record {
       below = c.self.invariant.below;
       kept =
-        keeps_on
-        (record a { stage = c.stage_after-self-inside.result; gather = Some next; takes = Some c.on_server.new.takes; due = ready; coding = false; step = c.step_was_short-self-inside.result })
-        w takes c.stage_after-self-inside.result is.of_call is.asking next c.on_server.new.takes
-        (follows w next takes c.on_server.new.takes next.step (core_of c.args.s.now) (core_of c.on_server.new.s) is.asks c.on_server.ensures.step)
-        none (c.stage_after-self-inside.ensures ∙ ap (λ b. if b then stage.Confirming else stage.Gathering) has) refl refl has;
+          keeps_on
+          (record a { stage = c.stage_after-self-inside.result; gather = Some next; takes = Some c.on_server.new.takes; due = ready; coding = false; step = c.step_was_short-self-inside.result })
+          w takes c.stage_after-self-inside.result is.of_call is.asking next c.on_server.new.takes
+          (follows w next takes c.on_server.new.takes next.step (core_of c.args.s.now) (core_of c.on_server.new.s) is.asks c.on_server.ensures.step)
+          none (c.stage_after-self-inside.ensures ∙ ap (λ b. if b then stage.Confirming else stage.Gathering) has) refl refl has;
     }
 
 pub returns-in-None-clause-step : goal.returns-in-None-clause-step
@@ -49,12 +49,13 @@ returns-in-None-clause-step c =
     in
     let none : ending_at next.course.stage ≡ None = ap (λ (course : CourseOf). ending_at course.stage) (sym c.course-2.ensures) ∙ sym c.ending.ensures ∙ c.in-None.is in
     let has : ready ≡ has_bytes next.course.stage = c.has_bytes-ready.ensures ∙ ap (λ (course : CourseOf). has_bytes course.stage) c.course.ensures in
-    (λ i.
-    (core_of c.on_server.new.s,
+    (λ i. (
+      core_of c.on_server.new.s,
       call_at a.opening a.rebuild a.number a.token
-      (goes_on (seen_at a.seen) a.rebuild.server a.epoch (repair_outcome_of a.outcome) next.course.stage c.stage_after-self-inside.result none
-      (c.stage_after-self-inside.ensures ∙ ap (λ b. if b then stage.Confirming else stage.Gathering) has) i)
-      c.on_server.new.takes ready false short))
+          (goes_on (seen_at a.seen) a.rebuild.server a.epoch (repair_outcome_of a.outcome) next.course.stage c.stage_after-self-inside.result none
+          (c.stage_after-self-inside.ensures ∙ ap (λ b. if b then stage.Confirming else stage.Gathering) has) i)
+          c.on_server.new.takes ready false short,
+    ))
     ∙ steps a c.args.self.now w next takes c.on_server.new.takes short ready (core_of c.args.s.now) (core_of c.on_server.new.s) is c.self.view_is
     c.in-Some-Some.ensures.value c.in-Some-Some.ensures'.value
     (c.on_server.ensures.step ∙ ap (λ b. stepped w b (core_of c.args.s.now) takes) (sym c.step_was_short-self-inside.ensures))
@@ -74,12 +75,13 @@ returns-in-Some-clause-step c =
     (follows w next takes c.on_server.new.takes next.step (core_of c.args.s.now) (core_of c.on_server.new.s) is.asks c.on_server.ensures.step).aim ∙ is.aim
     in
     let confirm : Sequel = Sequel.Confirm seen a.rebuild.server in
-    (λ i.
-    (core_of c.on_server.new.s,
+    (λ i. (
+      core_of c.on_server.new.s,
       call_at a.opening a.rebuild a.number a.token
-      ((sym (c.outcome_of.ensures (State.Confirming seen a.rebuild.server) [] confirm)
-      ∙ ap (λ (wanted : Aim). stage_state (State.Confirming seen a.rebuild.server) wanted [] confirm next.course.stage) aim) i)
-      c.on_server.new.takes c.has_bytes-ready.result false short))
+          ((sym (c.outcome_of.ensures (State.Confirming seen a.rebuild.server) [] confirm)
+          ∙ ap (λ (wanted : Aim). stage_state (State.Confirming seen a.rebuild.server) wanted [] confirm next.course.stage) aim) i)
+          c.on_server.new.takes c.has_bytes-ready.result false short,
+    ))
     ∙ steps a c.args.self.now w next takes c.on_server.new.takes short c.has_bytes-ready.result (core_of c.args.s.now) (core_of c.on_server.new.s) is c.self.view_is
     c.in-Some-Some.ensures.value c.in-Some-Some.ensures'.value
     (c.on_server.ensures.step ∙ ap (λ b. stepped w b (core_of c.args.s.now) takes) (sym c.step_was_short-self-inside.ensures))

@@ -26,11 +26,12 @@ invariant_of-self c =
     record {
       below = c.self.invariant.below;
       kept =
-        subst (λ (s : Stage). Keeps s (record a { gather = Some c.in-Ok.gather; takes = Some c.in-Ok.takes; due = false; coding = false })) (sym at)
-        (kept.0,
-          asks a.opening a.rebuild.server a.seen a.gather a.takes c.in-Ok.gather c.in-Ok.takes is
-          (c.in-Ok.ensures.gather ∙ ap (λ (seen : Seen). new_gather seen.stamp a.opening.geometry (Aim.Chunk (seen_in seen) a.rebuild.server)) same)
-          c.in-Ok.ensures.takes);
+          subst (λ (s : Stage). Keeps s (record a { gather = Some c.in-Ok.gather; takes = Some c.in-Ok.takes; due = false; coding = false })) (sym at) (
+            kept.0,
+            asks a.opening a.rebuild.server a.seen a.gather a.takes c.in-Ok.gather c.in-Ok.takes is
+                (c.in-Ok.ensures.gather ∙ ap (λ (seen : Seen). new_gather seen.stamp a.opening.geometry (Aim.Chunk (seen_in seen) a.rebuild.server)) same)
+                c.in-Ok.ensures.takes,
+          );
     }
 
 pub returns-in-Ok : goal.returns-in-Ok

@@ -30,18 +30,19 @@ invariant_of-self c =
     let book : d.book ≡ a.opening = c.requires.book ∙ sym (ap (λ (call : CallOf). call.book) c.self.view_is) in
     record {
       below = c.self.invariant.below;
-      kept =
-        (begun a.token c.look_repair-look.new.self a.number (note_of_rebuild a.rebuild) (seen_in seen) new.may refl
-        (c.look_repair-look.ensures.token
-        ∙ ap (λ (r : Result (Option Seen) AllocError). token_after a.token a.number (DirectoryStep.LookRepair (note_of_rebuild a.rebuild)) (told_or_short told_by_repair_look r)) is),
-          record {
-            seen = seen;
-            is_seen = refl;
-            pinned = record {
-              home = shown.home ∙ ap (λ (b : BookOf). b.home) book;
-              whole = shown.row.whole ∙ ap chunk_count (sym c.keeps.ensures.stamps.code ∙ ap (λ (b : BookOf). b.geometry) book);
-            };
-            none = new.none;
-            nothing = new.nothing;
-          });
+      kept = (
+        begun a.token c.look_repair-look.new.self a.number (note_of_rebuild a.rebuild) (seen_in seen) new.may refl
+            (c.look_repair-look.ensures.token
+            ∙ ap (λ (r : Result (Option Seen) AllocError). token_after a.token a.number (DirectoryStep.LookRepair (note_of_rebuild a.rebuild)) (told_or_short told_by_repair_look r)) is),
+        record {
+          seen = seen;
+          is_seen = refl;
+          pinned = record {
+            home = shown.home ∙ ap (λ (b : BookOf). b.home) book;
+            whole = shown.row.whole ∙ ap chunk_count (sym c.keeps.ensures.stamps.code ∙ ap (λ (b : BookOf). b.geometry) book);
+          };
+          none = new.none;
+          nothing = new.nothing;
+        },
+      );
     }

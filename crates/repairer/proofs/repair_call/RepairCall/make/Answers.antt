@@ -21,14 +21,15 @@ invariant_of-self g c =
     record {
       below = c.self.invariant.below;
       kept =
-        subst (λ (s : Stage). Keeps s (record a { gather = c.take.new.self; chunk = Some c.in-Ok.chunk; due = false; coding = false })) (sym at)
-        (kept.0,
-          record {
-            seen = seen;
-            chunk = c.in-Ok.chunk;
-            is_seen = c.in-Some-Some.is-1;
-            is_chunk = refl;
-            pinned = subst (λ (s : Seen). IsPinned a.opening s) same is.pinned;
-            its = c.in-Ok.ensures;
-          });
+          subst (λ (s : Stage). Keeps s (record a { gather = c.take.new.self; chunk = Some c.in-Ok.chunk; due = false; coding = false })) (sym at) (
+            kept.0,
+            record {
+              seen = seen;
+              chunk = c.in-Ok.chunk;
+              is_seen = c.in-Some-Some.is-1;
+              is_chunk = refl;
+              pinned = subst (λ (s : Seen). IsPinned a.opening s) same is.pinned;
+              its = c.in-Ok.ensures;
+            },
+          );
     }
