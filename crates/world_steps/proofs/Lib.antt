@@ -10,3 +10,5 @@ pub mod Rounds
 pub mod Runs
 pub mod Shows
 pub mod Agreed
+pub mod Measures
+pub mod FuelFits

@@ -1,5 +1,5 @@
 -- Runs of the world, and their drains.
-use Rattle.std.proofs.Common.{◌≡◌, ℕ, zero, suc, ◌+◌, ◌<◌, ◌≤◌, Bool, true, false, List, [], ◌∷◌, ◌++◌, refl, sym, ap, subst, ◌∙◌, arith, true≢false, append_assoc, append-nil}
+use Rattle.std.proofs.Common.{◌≡◌, ℕ, zero, suc, ◌+◌, ◌-◌, ◌^◌, ◌<◌, ◌≤◌, Bool, true, false, List, [], ◌∷◌, ◌++◌, refl, sym, ap, subst, ◌∙◌, arith, true≢false, append_assoc, append-nil}
 use Rattle.clay_grid.specs.Limits.{IsGeometry}
 use Rattle.store_map.specs.Naming.{IsValid}
 use Rattle.store_map.specs.declared.actor.Token.{Token}
@@ -12,6 +12,8 @@ use Rattle.store_core.specs.Schedule.{is_unfinished, round, drain, step_core, ru
 use Rattle.store_core.specs.Step.{Shortage}
 use Rattle.store_runs.specs.RoundLaws.{rounds, rounds_left, GoesByRounds}
 use Rattle.store_runs.proofs.Drains.{run_more}
+use Rattle.store_runs.proofs.Runs.{CanRun}
+use Rattle.store_runs.proofs.Scripts.{can_run}
 use Rattle.store_runs.proofs.Rounds.{drains_go_by_rounds}
 use Rattle.world_steps.specs.World.{WorldOf}
 use Rattle.world_steps.specs.Known.{core_of}
@@ -20,6 +22,8 @@ use Rattle.world_steps.specs.Leads.{IsAt, LeadsWorld}
 use Rattle.world_steps.specs.RunLaws.{Reaches, ReachesInDrain, RunsReach, DrainsReach, DrainsOfValidScriptsReach}
 use Rattle.world_steps.proofs.Firsts.{first_worlds_stand}
 use Rattle.world_steps.proofs.Parts.{goes_on}
+use Rattle.world_steps.proofs.FuelFits.{fuel_fits}
+use Rattle.world_steps.proofs.Measures.{rounds_few}
 use Rattle.world_steps.proofs.Ends.{ends_are_known, round_idle}
 
 -- ---- token by token
@@ -115,6 +119,18 @@ module _ (script : Script) (geometry : IsGeometry script.geometry) (valid : IsVa
       subst (λ (l : List Shortage). count < fuel_of script (run_tokens script tokens (start script l)).core) (append-nil shortages)
       (few_rounds script (run_of ms) (λ n. drains_go_by_rounds script ms geometry valid tokens n) count (ends_are_known script w (rounds count script (run_of ms)).core stands ∙ busy))
 
+  fits : (count : ℕ) (w : WorldOf) (shortages : List Shortage) → ReachesInDrain script tokens count shortages w → is_unfinished script (core_of script w) ≡ true → count < 2 ^ 64 - 1
+  unfolding run_of
+  fits count w shortages reached busy =
+      let ms : List Shortage = shortages ++ [] in
+      let can : CanRun script = can_run script geometry valid in
+      let stands : StandsFor script w (rounds count script (run_of ms)).core = (reached []).stands in
+      let most : count ≤ fuel_of script (first_core script) = rounds_few script can ms tokens count (ends_are_known script w (rounds count script (run_of ms)).core stands ∙ busy) in
+      let fuel : ℕ = fuel_of script (first_core script) in
+      let low : count ≤ fuel = most in
+      let small : fuel < 2 ^ 64 - 1 = fuel_fits script geometry valid can in
+      omega (arith, low, small)
+
   ends : (count : ℕ) (w : WorldOf) (shortages : List Shortage) → ReachesInDrain script tokens count shortages w → is_unfinished script (core_of script w) ≡ false
       → Reaches script (tokens ++ token.Drain ∷ []) shortages w
   unfolding run_of
@@ -134,6 +150,7 @@ module _ (script : Script) (geometry : IsGeometry script.geometry) (valid : IsVa
             λ rest. subst (λ n. IsAt script after rest (rounds n script (run_tokens script tokens (start script ((shortages ++ more) ++ rest))))) (sym one)
             (after_tokens script (round script) (λ run. rounds count script (run_tokens script tokens run)) w after shortages more reached leads rest);
         few = few;
+        fits = fits;
         ends = ends;
       }
 

@@ -1,5 +1,5 @@
 -- Runs of the world, token by token, and their drains.
-use Rattle.std.specs.Prelude.{◌≡◌, ℕ, ◌+◌, ◌<◌, true, false, List, [], ◌∷◌, ◌++◌}
+use Rattle.std.specs.Prelude.{◌≡◌, ℕ, ◌+◌, ◌-◌, ◌^◌, ◌<◌, true, false, List, [], ◌∷◌, ◌++◌}
 use Rattle.clay_grid.specs.Limits.{IsGeometry}
 use Rattle.store_map.specs.Naming.{IsValid}
 use Rattle.store_map.specs.declared.actor.Token.{Token}
@@ -34,7 +34,7 @@ pub record RunsReach (script : Script) : Type 0 where
       LeadsWorld script (step_core script token) w more after → Reaches script (tokens ++ token ∷ []) (shortages ++ more) after
   pub core : (tokens : List Token) (w : WorldOf) (shortages : List Shortage) → Reaches script tokens shortages w → StandsFor script w (run_core script shortages tokens)
 
--- a drain of a valid script: it begins with no round, and ends where nobody has a step; as long as somebody has one, fewer rounds were made than its fuel
+-- a drain of a valid script: it begins with no round, and ends where nobody has a step; as long as somebody has one, fewer rounds were made than its fuel, and than a count of 64 bits holds
 pub record DrainsReach (script : Script) (tokens : List Token) : Type 0 where
   pub begins : (w : WorldOf) (shortages : List Shortage) → Reaches script tokens shortages w → ReachesInDrain script tokens 0 shortages w
   pub next :
@@ -43,6 +43,9 @@ pub record DrainsReach (script : Script) (tokens : List Token) : Type 0 where
   pub few :
       (count : ℕ) (w : WorldOf) (shortages : List Shortage) → ReachesInDrain script tokens count shortages w →
       is_unfinished script (core_of script w) ≡ true → count < fuel_of script (run_core script shortages tokens)
+  pub fits :
+      (count : ℕ) (w : WorldOf) (shortages : List Shortage) → ReachesInDrain script tokens count shortages w →
+      is_unfinished script (core_of script w) ≡ true → count < 2 ^ 64 - 1
   pub ends :
       (count : ℕ) (w : WorldOf) (shortages : List Shortage) → ReachesInDrain script tokens count shortages w →
       is_unfinished script (core_of script w) ≡ false → Reaches script (tokens ++ token.Drain ∷ []) shortages w
