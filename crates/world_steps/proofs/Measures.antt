@@ -63,8 +63,8 @@ module _ (script : Script) (can : CanRun script) where
   idle_same core Sweeper.Idle is idle None garbage none =
       let n : ℕ = chunk_count script.geometry in
       let by : Sweeper → Core = λ s.
-          with_places (at_places false actor.Sweeper 0 (next_sweep n s) (places_in core)).0
-          (record core { sweeper = after_sweep n s (at_places false actor.Sweeper 0 (next_sweep n s) (places_in core)).1 }) in
+      with_places (at_places false actor.Sweeper 0 (next_sweep n s) (places_in core)).0
+      (record core { sweeper = after_sweep n s (at_places false actor.Sweeper 0 (next_sweep n s) (places_in core)).1 }) in
       let taken : Option ℕ → Core = λ found. record core { directory = (take_garbage found core.directory).0; sweeper = after_sweep n Sweeper.Idle (take_garbage found core.directory).1 } in
       ap (λ (s : Sweeper). measure script (by s)) is ∙ ap (λ (found : Option ℕ). measure script (taken found)) garbage ∙ ap (λ (s : Sweeper). measure script (record core { sweeper = s })) (sym is)
 
