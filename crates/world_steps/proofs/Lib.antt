@@ -12,3 +12,4 @@ pub mod Shows
 pub mod Agreed
 pub mod Measures
 pub mod FuelFits
+pub mod UnderWay

@@ -11,3 +11,4 @@ pub mod RunLaws
 pub mod ShowLaws
 pub mod Tokens
 pub mod TokenLaws
+pub mod WayLaws

@@ -3,10 +3,11 @@
 ghost use Rattle.std.specs.Prelude.{ℕ};
 ghost use Rattle.store_map.specs.declared.script.Script.{Script};
 ghost use Rattle.store_core.specs.Step.{Shortage};
-ghost use Rattle.world_steps.specs.World.{WorldOf};
+ghost use Rattle.world_steps.specs.World.{ActorOf, WorldOf};
 ghost use Rattle.world_steps.specs.FirstWorld.{FirstWorldsStand};
 ghost use Rattle.world_steps.specs.Leads.{PartsLeadWorlds};
 ghost use Rattle.world_steps.specs.TurnLaws.{ClientsMakeTurns, RepairersMakeTurns};
+ghost use Rattle.world_steps.specs.WayLaws.{CallsAreUnderWay};
 ghost use Rattle.world_steps.specs.TokenLaws.{WorldsStayAgreed, FirstTokensAgree};
 ghost use Rattle.world_steps.specs.ShowLaws.{WorldsShow};
 ghost use Rattle.world_steps.specs.RunLaws.{RunsReach, DrainsOfValidScriptsReach};
@@ -65,4 +66,10 @@ pub fn worlds_show()
 pub fn tokens_agree()
     ensures first { FirstTokensAgree }
     ensures stays { WorldsStayAgreed }
+{}
+
+/// A call in work is never over: after its last step its actor has none. So its next step is at the
+/// directory or at a server, once a coding that is due was made.
+pub fn calls_are_under_way()
+    ensures { (script : Script) (a : ActorOf) → CallsAreUnderWay script a }
 {}
