@@ -27,6 +27,7 @@ fn ended_with(answer: EndAnswer, outcome: RepairOutcome) -> RepairOutcome
 }
 
 impl RepairCall {
+    // Pins the stripe, if it is there.
     pub(crate) fn look(&mut self, d: &mut Directory)
         requires stage { stage_of self.old.state.at ≡ Stage.Start }
         requires need { need_of self.old ≡ Need.Directory }
@@ -64,6 +65,7 @@ impl RepairCall {
         }
     }
 
+    // Asks whether the version is current still.
     pub(crate) fn confirm(&mut self, d: &mut Directory)
         requires stage { stage_of self.old.state.at ≡ Stage.Confirming }
         requires need { need_of self.old ≡ Need.Directory }
@@ -91,6 +93,7 @@ impl RepairCall {
         }
     }
 
+    // Tells at which epoch the chunk was placed, which ends the pass.
     pub(crate) fn tell_placed(&mut self, d: &mut Directory)
         requires stage { stage_of self.old.state.at ≡ Stage.Placing }
         requires agrees { Agrees d.old.core self.old.token }
@@ -111,6 +114,7 @@ impl RepairCall {
         self.stage = Stage::Finished;
     }
 
+    // Ends the pass of a call whose outcome is known.
     pub(crate) fn end(&mut self, d: &mut Directory)
         requires stage { stage_of self.old.state.at ≡ Stage.Ending }
         requires agrees { Agrees d.old.core self.old.token }

@@ -46,6 +46,7 @@ fn stage_after(has_bytes: bool) -> Stage
 }
 
 impl RepairCall {
+    // The next question of the gathering.
     pub(crate) fn ask(&mut self, s: &mut Server)
         requires stage { stage_of self.old.state.at ≡ Stage.Gathering }
         requires need { need_of self.old ≡ Need.Server s.old.number }
@@ -75,6 +76,7 @@ impl RepairCall {
         }
     }
 
+    // The chunk goes to its server.
     pub(crate) fn install(&mut self, s: &mut Server)
         requires stage { stage_of self.old.state.at ≡ Stage.Installing }
         requires need { need_of self.old ≡ Need.Server s.old.number }

@@ -36,6 +36,7 @@ pub struct RepairCall {
     pub(crate) rebuild: Rebuild,
     pub(crate) number: u32,
     pub(crate) opening: Opening,
+    // the pinned stripe, from the look on
     pub(crate) seen: Option<Seen>,
     pub(crate) gather: Option<Gather>,
     pub(crate) chunk: Option<SealedChunk>,
@@ -44,7 +45,9 @@ pub struct RepairCall {
     pub(crate) epoch: u64,
     // how the call ends, once that is known
     pub(crate) outcome: RepairOutcome,
+    // whether a coding comes before the next step
     pub(crate) due: bool,
+    // whether memory was wanting in the last coding, and in the last step
     pub(crate) coding: bool,
     pub(crate) step: bool,
 }
