@@ -1,0 +1,5 @@
+pub mod Numbered
+pub mod NoTakes
+pub mod Keeping
+pub mod Begun
+pub mod SoFar

@@ -1,0 +1,16 @@
+use Rattle.std.proofs.Common.{length}
+use Rattle.transcript_text.specs.declared.call_name.CallName.TheVariants as name
+use Rattle.store_core.specs.Shown.{take_lines}
+use Rattle.world_lines.specs.Ended.{client_of}
+use Rattle.world_lines.proofs.Numbered.{lines_more, names_at}
+use Rattle.world_lines.proofs.takes.push_clients.Goals as goal
+
+pub push_client-requires : goal.push_client-requires
+push_client-requires c =
+    (names_at (λ calls. length calls.ended.items) c.args.clients.now c.loop-i.i c.index-clients-i.result c.requires c.loop-i-test.true c.index-clients-i.is).1
+
+pub loop-i-preserved : goal.loop-i-preserved
+loop-i-preserved c = λ servers.
+    lines_more (client_of servers) (λ i. take_lines (name.Client i)) c.args.lines.now c.loop-i.lines c.push_client.new.lines
+    c.args.clients.now c.loop-i.i c.index-clients-i.result c.loop-i-test.true c.index-clients-i.is
+    (c.loop-i.invariant servers) (c.in_ok-push_client.ensures servers)

@@ -1,0 +1,11 @@
+use Rattle.transcript_text.specs.declared.call_name.CallName.TheVariants as name
+use Rattle.store_core.specs.Shown.{take_line}
+use Rattle.world_lines.specs.Ended.{repaired_of}
+use Rattle.world_lines.proofs.Numbered.{lines_more_of}
+use Rattle.world_lines.proofs.takes.push_ended_repairs.Goals as goal
+
+pub loop-number-preserved : goal.loop-number-preserved
+loop-number-preserved c = λ servers.
+    lines_more_of (repaired_of servers) (λ number ended. take_line (name.Repairer c.args.actor number) ended.takes) c.args.lines.now c.loop-number.lines c.push_takes.new.lines
+    c.args.repairer.now.ended.items c.deref-ended-items.result.now c.loop-number.number c.ended-item.result c.deref-ended-items.ensures.value c.loop-number-test.true c.ended-item.is
+    (c.loop-number.invariant servers) (c.in_ok-push_takes.ensures servers)

@@ -1,0 +1,5 @@
+pub mod Ended
+pub mod Lists
+pub mod Served
+pub mod Taken
+pub mod Shown

@@ -1,0 +1,113 @@
+ghost use Rattle.std.specs.Prelude.{◌≡◌, ℕ, [], ◌++◌, map, Some, IfOk, OnOk};
+ghost use Rattle.store_map.specs.declared.actor.Actor.TheVariants as kind;
+ghost use Rattle.store_core.specs.Calls.{Calls};
+ghost use Rattle.store_core.specs.Directory.{Event as CoreEvent};
+ghost use Rattle.store_core.specs.History.{name_of, line_of, history_from};
+ghost use Rattle.dir_parts.specs.Events.{event_in};
+ghost use Rattle.world_lines.specs.Ended.{client_of};
+ghost use Rattle.world_lines.specs.Lists.{answered_by};
+ghost use Rattle.world_lines.specs.Served.{ended_at, answered_at, bytes_of, ServedAre};
+ghost use Rattle.world_lines.specs.Taken.{shown_by, KeepsCall};
+
+use crate::calls::ClientCalls;
+use crate::served::{is_answered, take_served};
+use dir_parts::{Event, PointEntry};
+use std::alloc::{AllocError, Global};
+use store_map::{Actor, ListOf, Reply};
+use stripe_dir::Directory;
+use transcript_text::{CallName, HLine, Shown};
+
+// How a call is named; the sweeper and the operator have none.
+fn name_of(actor: Actor, number: u32) -> Option<CallName>
+    ensures { result ≡ name_of actor number }
+{
+    match actor {
+        Actor::Client(actor) => Some(CallName::Client { actor, number }),
+        Actor::Repairer(actor) => Some(CallName::Repairer { actor, number }),
+        Actor::Sweeper => None,
+        Actor::Operator => None,
+    }
+}
+
+// The bytes that the call of a pinned point was served, taken out of its outcome.
+fn take_pinned(
+    alloc: Global,
+    clients: &mut [ClientCalls],
+    actor: Actor,
+    number: u32,
+) -> Option<Shown>
+    ensures shown { result ≡ shown_by CoreEvent.Pinned (answered_at clients.old actor number) (bytes_of clients.old actor number) }
+    ensures others { (i n : ℕ) → KeepsCall ((actor ≡ kind.Client i) × (n ≡ number)) (ended_at clients.old i n) (ended_at clients.new i n) }
+{
+    let Actor::Client(client) = actor else {
+        return None;
+    };
+    let bytes = take_served(alloc, clients, client, number)?;
+    Some(Shown::Reply(Reply::Bytes(bytes)))
+}
+
+// What a commit shows.
+fn shown_done(clients: &[ClientCalls], actor: Actor, number: u32) -> Shown
+    ensures { Some result ≡ shown_by CoreEvent.Done (answered_at clients.now actor number) (bytes_of clients.now actor number) }
+{
+    if is_answered(clients, actor, number) {
+        Shown::Reply(Reply::Done)
+    } else {
+        Shown::Unfinished
+    }
+}
+
+// What a point shows. The bytes of a pinned point's call are taken out of its outcome.
+fn shown_at(alloc: Global, clients: &mut [ClientCalls], entry: PointEntry) -> Option<Shown>
+    ensures shown { result ≡ shown_by (event_in entry.event) (answered_at clients.old entry.actor entry.number) (bytes_of clients.old entry.actor entry.number) }
+    ensures others { (i n : ℕ) → KeepsCall ((entry.actor ≡ kind.Client i) × (n ≡ entry.number) × (event_in entry.event ≡ CoreEvent.Pinned)) (ended_at clients.old i n) (ended_at clients.new i n) }
+{
+    match entry.event {
+        Event::Answer(answer) => Some(Shown::Reply(answer.reply())),
+        Event::Pinned => take_pinned(alloc, clients, entry.actor, entry.number),
+        Event::Done => Some(shown_done(clients, entry.actor, entry.number)),
+        Event::Reaped => None,
+    }
+}
+
+// The line of a point, if it has one.
+fn push_point(
+    alloc: Global,
+    lines: &mut ListOf<HLine>,
+    clients: &mut [ClientCalls],
+    point: u64,
+    entry: PointEntry,
+) -> Result<(), AllocError>
+    ensures lines { OnOk result (lines.new ≡ lines.old ++ line_of point (name_of entry.actor entry.number)
+        (shown_by (event_in entry.event) (answered_at clients.old entry.actor entry.number) (bytes_of clients.old entry.actor entry.number))) }
+    ensures others { (i n : ℕ) → KeepsCall ((entry.actor ≡ kind.Client i) × (n ≡ entry.number) × (event_in entry.event ≡ CoreEvent.Pinned)) (ended_at clients.old i n) (ended_at clients.new i n) }
+{
+    let Some(call) = name_of(entry.actor, entry.number) else {
+        return Ok(());
+    };
+    let Some(reply) = shown_at(alloc, clients, entry) else {
+        return Ok(());
+    };
+    lines.push(HLine { point, call, reply })?;
+    Ok(())
+}
+
+/// The lines of the directory's points. The bytes of a call that was served are moved out of its
+/// outcome into its line, so the clients' calls are used up: this list is made last.
+pub fn history_lines(
+    alloc: Global,
+    directory: &Directory,
+    clients: Vec<ClientCalls>,
+) -> Result<ListOf<HLine>, AllocError>
+    ensures { IfOk result (λ lines. (max servers : ℕ) (calls : Calls) → ServedAre max calls directory.now.core.points clients.items
+        → lines ≡ history_from max calls (answered_by (map (client_of servers) clients.items)) 0 [] directory.now.core.points) }
+{
+    let mut lines = ListOf::new(alloc);
+    let mut clients = clients;
+    for place in 0..directory.points() {
+        if let Some(entry) = directory.point_at(place) {
+            push_point(alloc, &mut lines, &mut clients, place as u64, entry)?;
+        }
+    }
+    Ok(lines)
+}

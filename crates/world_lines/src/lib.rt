@@ -1,0 +1,19 @@
+//! The lines of a transcript, list by list, from what a world holds when its run is over.
+#![tactic(auto)]
+
+mod calls;
+mod causes;
+mod history;
+pub mod laws;
+mod refused;
+mod served;
+mod stored;
+mod takes;
+mod unanswered;
+
+pub use calls::{ClientCalls, EndedCall, EndedRepair, RepairCalls};
+pub use history::history_lines;
+pub use refused::{refused_lines, repair_lines};
+pub use stored::{object_lines, server_lines};
+pub use takes::take_lines;
+pub use unanswered::unanswered_lines;
