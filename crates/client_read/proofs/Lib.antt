@@ -2,3 +2,4 @@ pub mod Standings
 pub mod Looking
 pub mod Pinned
 pub mod Serving
+pub mod Closing

@@ -1,5 +1,5 @@
 -- The look of a call that reads.
-use Rattle.std.proofs.Common.{◌≡◌, ◌≢◌, ℕ, ◌≤◌, Bool, true, false, List, [], ◌∷◌, ◌++◌, map, Result, Ok, Err, IfOk, All, Option, option_map, refl, sym, ap, subst, ◌∙◌, ◌⊎◌, inl, inr}
+use Rattle.std.proofs.Common.{◌≡◌, ◌≢◌, ℕ, Bool, true, false, List, [], map, Result, Ok, Err, IfOk, All, Option, option_map, refl, sym, ap, subst, ◌∙◌, inl, inr}
 use Rattle.std.specs.declared.alloc.AllocError.{AllocError}
 use Rattle.std.proofs.lemmas.Bool.{true≢false}
 use Rattle.store_map.specs.declared.actor.Actor.{Actor}
@@ -8,16 +8,16 @@ use Rattle.store_map.specs.declared.call.Call.{Call}
 use Rattle.store_map.specs.declared.call.Call.TheVariants as call
 use Rattle.store_core.specs.Told.{Told, Seen}
 use Rattle.store_core.specs.Note.{Note, Kind, note_of}
-use Rattle.store_core.specs.NextAct.{Job, job_of}
+use Rattle.store_core.specs.NextAct.{job_of}
 use Rattle.store_core.specs.Act.{Act, DirectoryStep}
 use Rattle.store_core.specs.Conditions.{IsOfClient}
 use Rattle.store_core.specs.Directory.{Directory}
 use Rattle.store_core.specs.AtDirectory.{at_directory}
-use Rattle.store_core.specs.Agreement.{Seat, ActorToken}
+use Rattle.store_core.specs.Agreement.{ActorToken}
 use Rattle.store_core.specs.Tokens.{actor_of}
 use Rattle.store_calls.specs.AnswersByKind.{FitsKind}
 use Rattle.store_calls.proofs.PlaceKinds.{places_answer_by_kind}
-use Rattle.store_resume.specs.State.{State, CallState}
+use Rattle.store_resume.specs.State.{State}
 use Rattle.store_resume.specs.States.{open_state}
 use Rattle.store_resume.specs.LookAfter.{start_after}
 use Rattle.store_resume.specs.CallAfter.{pairs_with}
@@ -27,7 +27,7 @@ use Rattle.stripe_dir.specs.Answers.{told_or_short}
 use Rattle.stripe_dir.specs.Sealed.{Sealed}
 use Rattle.stripe_dir.specs.Answers.{seen_in}
 use Rattle.store_map.specs.declared.actor.Point.{Point}
-use Rattle.call_steps.specs.TokenAfter.{token_after, MayMake, IsSeated}
+use Rattle.call_steps.specs.TokenAfter.{token_after, MayMake}
 use Rattle.call_steps.specs.CallOf.{CallOf, act_of, state_told, heard}
 use Rattle.call_steps.specs.Steps.{at_directory_by, stepped_at_directory}
 use Rattle.call_token.specs.declared.answers.LookAnswer.{LookAnswer}
@@ -41,7 +41,6 @@ use Rattle.client_read.specs.Stages.{IsLooked}
 use Rattle.client_read.specs.Owed.{owed_after_look, owed_by, owed_after}
 use Rattle.client_read.specs.Inside.{IsWaiting, Keeps}
 use Rattle.client_read.specs.declared.stage.Stage.{Stage}
-use Rattle.client_read.specs.declared.stage.Stage.TheVariants as stage
 use Rattle.client_read.proofs.Standings.{looks_first}
 
 -- what a look tells

@@ -1,7 +1,6 @@
 -- The bytes of what was pinned, by the directory's stamps.
-use Rattle.std.proofs.Common.{◌≡◌, ℕ, List, [], ◌∷◌, ◌++◌, map, Some, All, refl, sym, ap, ◌∙◌}
+use Rattle.std.proofs.Common.{◌≡◌, ℕ, List, [], ◌∷◌, ◌++◌, map, All, refl, sym, ap}
 use Rattle.std.proofs.lemmas.List.Elements.{All-head, All-tail}
-use Rattle.std.specs.List.{slice_get}
 use Rattle.clay_grid.specs.Shape.{Shape}
 use Rattle.store_core.specs.Gathering.{Part}
 use Rattle.store_core.specs.Read.{part_of}

@@ -1,5 +1,5 @@
 -- Where a call stands, by what it does next.
-use Rattle.std.proofs.Common.{◌≡◌, ℕ, Bool, true, false, List, [], refl, sym, ap, subst, ◌∙◌}
+use Rattle.std.proofs.Common.{◌≡◌, ℕ, Bool, true, false, [], refl, sym, ap, subst, ◌∙◌}
 use Rattle.std.specs.Prelude.{IsTrue}
 use Rattle.std.proofs.lemmas.Bool.{true≢false}
 use Rattle.store_map.specs.declared.actor.Point.{Point}
@@ -16,7 +16,7 @@ use Rattle.gathering.specs.declared.need.Need.{Need}
 use Rattle.gathering.specs.declared.need.Need.TheVariants as need
 use Rattle.call_steps.specs.CallOf.{CallOf, act_of}
 use Rattle.call_steps.specs.TokenAfter.{IfInCall, IsSeated}
-use Rattle.call_steps.specs.Steps.{need_by, need_of, HoldsItsPass}
+use Rattle.call_steps.specs.Steps.{need_by, HoldsItsPass}
 use Rattle.call_steps.specs.declared.outcomes.Outcome.{Outcome}
 use Rattle.gather_parts.specs.declared.standing.Standing.{Standing}
 use Rattle.gather_parts.specs.declared.standing.Standing.TheVariants as standing
@@ -26,7 +26,7 @@ use Rattle.gather_parts.specs.States.{state_in, StandsIn}
 use Rattle.gather_parts.proofs.Handing.{state_needs, state_in_pass}
 use Rattle.gather_parts.proofs.Ended.{over_closes}
 use Rattle.client_read.specs.Reads.{is_read}
-use Rattle.client_read.specs.Stages.{finished_of, state_by, due_by}
+use Rattle.client_read.specs.Stages.{finished_of, state_by, due_by, is_ending}
 use Rattle.client_read.specs.Inside.{IsWaiting, IsHolding, Keeps, read_in, IsRead}
 use Rattle.client_read.specs.declared.read.ReadCall.TheInside.{Inside}
 use Rattle.client_read.specs.declared.stage.Stage.{Stage}
@@ -44,6 +44,14 @@ looks_first (call.Delete name) tries is g = absurd (true≢false (sym is))
 abbrev is_finished_need : Need → Bool
 is_finished_need need.Finished = true
 is_finished_need needed = false
+
+abbrev pub is_server_need : Need → Bool
+is_server_need (need.Server server) = true
+is_server_need needed = false
+
+abbrev pub is_coder_need : Need → Bool
+is_coder_need need.Coder = true
+is_coder_need needed = false
 
 abbrev is_directory_need : Need → Bool
 is_directory_need need.Directory = true
@@ -116,6 +124,23 @@ never_finished standing.Short e = true≢false (sym (ap is_finished_need e))
 module _ (read : Call) (number : ℕ) (token : ActorToken) (p : GatheringsOf) (point : Point) (outcome : Outcome) (is : is_read read ≡ true) where
   abbrev need_at_stage : Stage → Need
   need_at_stage now = need_by (act_at p.book.geometry 0 (job_of read) [] (state_by now p point outcome)) (due_by now p)
+
+  -- needs of a server or the coder are those of its gatherings
+  pub needs_gathering : (test : Need → Bool) → test need.Directory ≡ false → test need.Finished ≡ false → (now : Stage) → Keeps now number (note_of read) token p
+      → test (need_at_stage now) ≡ true → now ≡ stage.Gathering
+  needs_gathering test first last stage.Looking kept e =
+      absurd (true≢false (sym e ∙ ap test (ap (λ act. need_by act false) (looks_first read 0 is p.book.geometry)) ∙ first))
+  needs_gathering test first last stage.Gathering kept e = refl
+  needs_gathering test first last stage.Ended kept e =
+      absurd (true≢false (sym e ∙ ap (λ at. test (need_by (act_at p.book.geometry 0 (job_of read) [] at) false)) (closed_finished p point.0 kept.1).1 ∙ last))
+  needs_gathering test first last stage.Finished kept e = absurd (true≢false (sym e ∙ last))
+
+  -- so is the end of its pass
+  pub ends_gathering : (now : Stage) → Keeps now number (note_of read) token p → is_ending (state_by now p point outcome) ≡ true → now ≡ stage.Gathering
+  ends_gathering stage.Looking kept e = absurd (true≢false (sym e))
+  ends_gathering stage.Gathering kept e = refl
+  ends_gathering stage.Ended kept e = absurd (true≢false (sym e ∙ ap is_ending (closed_finished p point.0 kept.1).1))
+  ends_gathering stage.Finished kept e = absurd (true≢false (sym e))
 
   pub over_seated : (now : Stage) → Keeps now number (note_of read) token p → need_at_stage now ≡ need.Finished → IsSeated token
   over_seated stage.Looking kept e = absurd (true≢false (sym (ap is_finished_need (sym (ap (λ act. need_by act false) (looks_first read 0 is p.book.geometry)) ∙ e))))

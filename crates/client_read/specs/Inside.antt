@@ -1,5 +1,5 @@
 -- The fields of a call that reads as callers see them, and what they keep.
-use Rattle.std.specs.Prelude.{◌≡◌, ⊤, ℕ, ◌≤◌, Bool, true, []}
+use Rattle.std.specs.Prelude.{◌≡◌, ℕ, ◌≤◌, true, []}
 use Rattle.store_core.specs.Note.{Note, note_of}
 use Rattle.store_core.specs.NextAct.{job_of}
 use Rattle.store_core.specs.Agreement.{HeldPass, ActorToken}

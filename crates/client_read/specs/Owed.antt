@@ -2,7 +2,7 @@
 use Rattle.std.specs.Prelude.{ℕ, Bool, List, [], ◌∷◌, ◌++◌, Option, None, Some}
 use Rattle.std.specs.List.{slice_get}
 use Rattle.clay_grid.specs.Shape.{Shape}
-use Rattle.store_core.specs.Told.{Told, Seen}
+use Rattle.store_core.specs.Told.{Told}
 use Rattle.store_core.specs.Note.{Note}
 use Rattle.store_core.specs.Act.{Act, DirectoryStep}
 use Rattle.store_core.specs.Gathering.{Part}

@@ -63,3 +63,11 @@ owed_by p short s (Some w) = ap (λ l. p.bytes ++ (l ++ bytes_of p.left)) (bytes
 
 pub still_owed : (p : GatheringsOf) (short : Bool) (s : Server) → owed (stepped p short s).1 ≡ owed p
 still_owed p short s = owed_by p short s p.current
+
+-- so does the book
+book_by : (p : GatheringsOf) (short : Bool) (s : Server) (current : Option GatherOf) → (stepped_by current p short s).1.book ≡ p.book
+book_by p short s None = refl
+book_by p short s (Some w) = refl
+
+pub same_book : (p : GatheringsOf) (short : Bool) (s : Server) → (stepped p short s).1.book ≡ p.book
+same_book p short s = book_by p short s p.current

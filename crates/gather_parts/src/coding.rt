@@ -39,6 +39,7 @@ impl PartGatherings {
         requires { standing_of self.old ≡ Standing.Due }
         ensures coded { self.new ≡ coded self.new.coding self.old }
         ensures settled { is_due self.new ≡ false }
+        ensures book { self.new.book ≡ self.old.book }
         ensures state { self.new.coding ≡ false → (after : Sequel) → state_in self.new after ≡ state_in self.old after }
         ensures owed { self.new.coding ≡ false → owed self.new ≡ owed self.old }
         ensures call { (c : CallOf) (after : Sequel) → StandsIn c self.old after →

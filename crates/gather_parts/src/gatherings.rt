@@ -164,6 +164,7 @@ impl PartGatherings {
         requires book { s.old.book ≡ self.old.book }
         ensures step { (core_of s.new, self.new) ≡ stepped self.old (step_of self.new.current) (core_of s.old) }
         ensures same { IsSame s.old s.new }
+        ensures book { self.new.book ≡ self.old.book }
         ensures owed { owed self.new ≡ owed self.old }
         ensures call { (c : CallOf) (after : Sequel) (due : Bool) → StandsIn c self.old after →
             (core_of s.new, moved c self.new after due false (step_of self.new.current)) ≡ stepped_at_server (step_of self.new.current) due c (core_of s.old) }

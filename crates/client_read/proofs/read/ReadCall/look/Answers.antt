@@ -1,6 +1,5 @@
-use Rattle.std.proofs.Common.{◌≡◌, Bool, [], refl, sym, ap, subst, ◌∙◌}
+use Rattle.std.proofs.Common.{Bool, [], refl, sym, ap, subst, ◌∙◌}
 use Rattle.store_core.specs.Note.{note_of}
-use Rattle.store_core.specs.NextAct.{job_of}
 use Rattle.store_core.specs.Act.{DirectoryStep}
 use Rattle.store_core.specs.AtDirectory.{at_directory}
 use Rattle.gather_parts.specs.Gatherings.{owed}
@@ -10,7 +9,6 @@ use Rattle.client_read.specs.Reads.{ReadOf, IsClient}
 use Rattle.client_read.specs.Stages.{state_by, due_by}
 use Rattle.client_read.specs.Owed.{owed_after}
 use Rattle.client_read.specs.Inside.{read_in, Keeps}
-use Rattle.client_read.specs.declared.read.ReadCall.TheInside.{Inside}
 use Rattle.client_read.proofs.Standings.{waits_first}
 use Rattle.client_read.proofs.Looking.{may_look, look_fits, kept_looked, client_looked, look_step, look_owed, all_own}
 use Rattle.client_read.proofs.read.ReadCall.look.Goals as goal

@@ -1,16 +1,13 @@
-use Rattle.std.proofs.Common.{◌≡◌, refl, ap, subst, ◌∙◌}
+use Rattle.std.proofs.Common.{refl, ap, subst, ◌∙◌}
 use Rattle.std.specs.Prelude.{IsTrue}
 use Rattle.store_core.specs.Note.{note_of}
 use Rattle.store_core.specs.ActPlace.{is_in_pass}
 use Rattle.store_resume.specs.State.{Sequel}
 use Rattle.call_steps.specs.CallOf.{act_of}
 use Rattle.call_steps.specs.Steps.{need_of, HoldsItsPass}
-use Rattle.gather_parts.specs.States.{StandsIn}
 use Rattle.client_read.specs.Reads.{ReadOf}
-use Rattle.client_read.specs.Stages.{state_by, due_by}
+use Rattle.client_read.specs.Stages.{due_by}
 use Rattle.client_read.specs.Inside.{read_in, Keeps}
-use Rattle.client_read.specs.declared.read.ReadCall.TheInside.{Inside}
-use Rattle.client_read.specs.declared.stage.Stage.TheVariants as stage
 use Rattle.client_read.proofs.Standings.{gathering_stands, gathering_holds}
 use Rattle.client_read.proofs.read.ReadCall.need.Goals as goal
 

@@ -7,7 +7,7 @@ use Rattle.gather_parts.specs.Gatherings.{GatheringsOf, owed}
 use Rattle.gather_parts.specs.Steps.{stepped}
 use Rattle.gather_parts.specs.Inside.{IsAtWork}
 use Rattle.gather_parts.specs.States.{moved}
-use Rattle.gather_parts.proofs.AtWork.{still_at_work, still_counted, stepped_is, still_owed}
+use Rattle.gather_parts.proofs.AtWork.{still_at_work, still_counted, stepped_is, still_owed, same_book}
 use Rattle.gather_parts.proofs.Moving.{step_moves}
 use Rattle.gather_parts.proofs.gatherings.PartGatherings.on_server.Goals as goal
 
@@ -46,3 +46,7 @@ returns-clause-call c = λ call after due stands.
     (subst (λ o. IfSome o (λ (w : GatherOf). w.course.geometry ≡ a.opening.geometry)) (sym c.in-Some.is)
     (subst (λ o. IfSome o (IsAtWork a.opening)) c.in-Some.is c.self.invariant.current).code))
     c.requires.asked stands
+
+pub returns-clause-book : goal.returns-clause-book
+returns-clause-book c =
+    ap (λ (r : Server × GatheringsOf). r.1.book) (returns-clause-step c) ∙ same_book c.args.self.now c.on_server.new.self.step (core_of c.args.s.now)

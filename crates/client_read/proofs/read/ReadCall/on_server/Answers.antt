@@ -1,0 +1,40 @@
+use Rattle.std.proofs.Common.{◌≡◌, Bool, false, [], refl, sym, ap, subst, ◌∙◌}
+use Rattle.store_resume.specs.State.{Sequel}
+use Rattle.chunk_server.specs.Core.{core_of}
+use Rattle.call_steps.specs.CallOf.{CallOf}
+use Rattle.call_steps.specs.Steps.{need_of, stepped_at_server}
+use Rattle.gather_parts.specs.Gatherings.{GatheringsOf}
+use Rattle.gather_parts.specs.States.{moved}
+use Rattle.client_read.specs.Reads.{ReadOf}
+use Rattle.client_read.specs.Stages.{state_by, due_by}
+use Rattle.client_read.specs.Inside.{read_in}
+use Rattle.client_read.specs.declared.stage.Stage.TheVariants as stage
+use Rattle.client_read.proofs.Standings.{gathering_stands, needs_gathering, is_server_need}
+use Rattle.client_read.proofs.read.ReadCall.on_server.Goals as goal
+
+pub returns-clause-step : goal.returns-clause-step
+returns-clause-step c =
+    let a = c.self.inside in
+    let s = core_of c.args.s.now in
+    let later : GatheringsOf = c.on_server.new.self in
+    let short : Bool = c.step_was_short-self-inside.result in
+    let call : CallOf = (read_in a).call in
+    let due : Bool = due_by a.stage later in
+    let is : a.stage ≡ stage.Gathering =
+    needs_gathering a.call.now a.number a.token a.gatherings a.point a.outcome c.self.invariant.read is_server_need refl refl a.stage c.self.invariant.kept
+    (ap is_server_need (ap (λ (r : ReadOf). need_of r.call) c.self.view_is ∙ c.requires.need))
+    in
+    (λ i. (
+      core_of c.on_server.new.s,
+      record call {
+        book = c.on_server.ensures.book i;
+        state = record { pairs = []; at = state_by (is i) later a.point a.outcome };
+        takes = later.takes;
+        due = due;
+        coding = false;
+        step = short;
+      },
+    ))
+    ∙ subst (λ x. (core_of c.on_server.new.s, moved call later (Sequel.Serve a.point.0) due false x) ≡ stepped_at_server x due call s) (sym c.step_was_short-self-inside.ensures)
+    (c.on_server.ensures.call call (Sequel.Serve a.point.0) due (gathering_stands a is))
+    ∙ ap (λ (r : ReadOf). stepped_at_server short due r.call s) c.self.view_is
