@@ -3,3 +3,4 @@ pub mod Transitions
 pub mod Opened
 pub mod Kept
 pub mod Steps
+pub mod OfTheCall

@@ -30,6 +30,10 @@ abbrev pub is_preparing : State → Bool
 is_preparing (State.Preparing stripe version server servers row later placed versions) = true
 is_preparing at = false
 
+abbrev pub is_committing : State → Bool
+is_committing (State.Committing versions placed) = true
+is_committing at = false
+
 abbrev pub is_settling : State → Bool
 is_settling (State.Settling point place places) = true
 is_settling at = false

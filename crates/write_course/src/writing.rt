@@ -10,7 +10,7 @@ ghost use Rattle.store_resume.specs.States.{prepare_all_state, settle_state};
 ghost use Rattle.gather_course.specs.Aims.{lost_in};
 ghost use Rattle.chunk_server.specs.Core.{core_of};
 ghost use Rattle.write_course.specs.States.{placed_on};
-ghost use Rattle.write_course.specs.Writings.{versions_of, server_of, is_preparing, is_settling, begins_version, place_of, stamp_at_work, point_of};
+ghost use Rattle.write_course.specs.Writings.{versions_of, server_of, is_preparing, is_committing, is_settling, begins_version, place_of, stamp_at_work, point_of};
 ghost use Rattle.write_course.specs.WritingSteps.{stepped, IsDoing};
 
 use crate::doing::{Doing, prepares_or_commits, settles_or_is_done};
@@ -283,7 +283,7 @@ impl Writing {
 
     /// The rows of placements for the commit, moved out: a whole one for each version.
     pub fn rows(&mut self) -> Vec<Vec<Placement>>
-        requires { IsDoing Doing.Committing self.old }
+        requires { is_committing self.old.state ≡ true }
         ensures rows { self.old.state
             ≡ State.Committing (versions_of self.old.stamps) (map (λ row. row.items) result.items) }
         ensures whole { All (IsRow self.old.book.geometry) (map (λ row. row.items) result.items) }
