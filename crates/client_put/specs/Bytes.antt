@@ -1,0 +1,10 @@
+-- The bytes of a put in one stripe.
+use Rattle.std.specs.Prelude.{ℕ, List, replicate}
+use Rattle.clay_grid.specs.Shape.{Shape, stripe_length}
+use Rattle.store_map.specs.Content.{content_bytes}
+use Rattle.store_map.specs.declared.content.Content.{Content}
+use Rattle.store_core.specs.Content.{lay_over}
+
+-- those of a content that begins with its object, laid over zeros
+abbrev pub stripe_of : Shape → ℕ → Content → List ℕ
+stripe_of g stripe content = lay_over g stripe (replicate (stripe_length g) 0) 0 (content_bytes content)
