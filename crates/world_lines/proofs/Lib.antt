@@ -3,3 +3,4 @@ pub mod NoTakes
 pub mod Keeping
 pub mod Begun
 pub mod SoFar
+pub mod Together

@@ -101,6 +101,14 @@ done_same : (answered : Bool) (served : Option (List ℕ)) (mapped : Reply) → 
 done_same true served mapped = refl
 done_same false served mapped = refl
 
+-- a commit of a call that was answered
+pub done_shown : (answered : Bool) (served : Option (List ℕ)) → true ≡ answered → Some (shown.Reply reply.Done) ≡ shown_by Event.Done answered served
+done_shown answered served e = ap (λ b. shown_by Event.Done b served) e
+
+-- and of one that wasn't
+pub unfinished_shown : (answered : Bool) (served : Option (List ℕ)) → false ≡ answered → Some shown.Unfinished ≡ shown_by Event.Done answered served
+unfinished_shown answered served e = ap (λ b. shown_by Event.Done b served) e
+
 -- a pinned point of a client's call
 pinned_same : (o : Option CoreOutcome) (before now : Option (List ℕ)) (place : ℕ) (mapped : Reply) → Matches o before → Matches o now
     → (now ≡ before) ⊎ ((p : ℕ) × (o ≡ Some (CoreOutcome.Served p)) × (p < place))

@@ -9,6 +9,7 @@ mod refused;
 mod served;
 mod stored;
 mod takes;
+mod transcript;
 mod unanswered;
 
 pub use calls::{ClientCalls, EndedCall, EndedRepair, RepairCalls};
@@ -16,4 +17,5 @@ pub use history::history_lines;
 pub use refused::{refused_lines, repair_lines};
 pub use stored::{object_lines, server_lines};
 pub use takes::take_lines;
+pub use transcript::make_transcript;
 pub use unanswered::unanswered_lines;

@@ -1,0 +1,53 @@
+ghost use Rattle.std.specs.Prelude.{◌≡◌, ◌^◌, ◌≤◌, length, IfOk};
+ghost use Rattle.store_map.specs.Limits.{size_of};
+ghost use Rattle.store_map.specs.declared.script.Script.{Script};
+ghost use Rattle.store_core.specs.Core.{Core};
+ghost use Rattle.store_core.specs.History.{call_of};
+ghost use Rattle.store_core.specs.Shown.{shown};
+ghost use Rattle.world_lines.specs.Ended.{client_counts, repairer_counts, HaveNames};
+ghost use Rattle.world_lines.specs.Served.{ServedAre};
+ghost use Rattle.world_lines.specs.Shown.{Holds};
+
+use crate::calls::{ClientCalls, RepairCalls};
+use crate::history::history_lines;
+use crate::refused::{refused_lines, repair_lines};
+use crate::stored::{object_lines, server_lines};
+use crate::takes::take_lines;
+use crate::unanswered::unanswered_lines;
+use chunk_server::Server;
+use std::alloc::{AllocError, Global};
+use stripe_dir::Directory;
+use transcript_text::Transcript;
+
+/// The transcript of a run that is over, from the directory, the servers in their order, and the
+/// actors' calls. The bytes that calls were served are moved into it.
+pub fn make_transcript(
+    alloc: Global,
+    directory: &Directory,
+    servers: &[Server],
+    clients: Vec<ClientCalls>,
+    repairers: &[RepairCalls],
+) -> Result<Transcript, AllocError>
+    requires servers { length servers.now ≤ 2 ^ 32 }
+    requires clients { HaveNames (client_counts clients.items) }
+    requires repairers { HaveNames (repairer_counts repairers.now) }
+    ensures { IfOk result (λ transcript. (script : Script) (core : Core) → Holds core directory.now.core servers.now clients.items repairers.now
+        → ServedAre (size_of script) (call_of script) directory.now.core.points clients.items → transcript ≡ shown script core) }
+{
+    let refused = refused_lines(alloc, &clients)?;
+    let repairs = repair_lines(alloc, repairers)?;
+    let unanswered = unanswered_lines(alloc, &clients, repairers)?;
+    let objects = object_lines(alloc, directory)?;
+    let takes = take_lines(alloc, &clients, repairers)?;
+    let servers = server_lines(alloc, servers)?;
+    let history = history_lines(alloc, directory, clients)?;
+    Ok(Transcript {
+        history,
+        refused,
+        repairs,
+        unanswered,
+        objects,
+        takes,
+        servers,
+    })
+}
