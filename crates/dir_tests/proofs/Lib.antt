@@ -1,1 +1,4 @@
 pub mod Goes
+pub mod At
+pub mod Made
+pub mod Placed

@@ -1,3 +1,7 @@
-pub mod Seated
-pub mod Told
 pub mod Small
+pub mod Callers
+pub mod Opened
+pub mod After
+pub mod Inside
+pub mod Stores
+pub mod StoreInside

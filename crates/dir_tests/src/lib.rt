@@ -1,10 +1,14 @@
-//! Tests of the directory: whole calls of one client, each step keeping the directory in agreement
-//! with the client's token.
+//! Tests of the directory: two clients and a repairer make their steps one by one, and each step
+//! keeps the directory in agreement with all their tokens.
 #![tactic(auto)]
 
-pub mod flows;
+pub mod asking;
+pub mod caller;
+pub mod calls;
 pub mod opening;
-pub mod steps;
-pub mod walk;
+pub mod placing;
+pub mod said;
+pub mod stage;
+pub mod store;
 #[cfg(test)]
 mod walks;

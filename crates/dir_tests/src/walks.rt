@@ -1,55 +1,73 @@
-ghost use Rattle.std.specs.Prelude.{IfOk, IsTrue, Some};
-ghost use Rattle.version_seal.specs.Entry.{is_writing};
+//! Puts of one client, of which the operator may give one up.
 
-use crate::flows::{Cut, Outcome};
+use crate::asking::{Who, asks, has_points, look, puts, reaps, takes};
+use crate::caller::Step;
+use crate::calls::put;
 use crate::opening::small_geometry;
-use crate::walk::{Walk, put_twice};
+use crate::store::Store;
 use std::alloc::Global;
 use std::test::Fail;
-use store_map::{Call, Content, Name, Point, Version};
+use store_map::Actor;
 use version_seal::Book;
 
-// A put of three stripes.
-fn three_stripes(alloc: Global) -> Result<Call, Fail>
-    ensures { IfOk result (λ call. IsTrue (is_writing (Some call))) }
-{
-    let name = Name::new(alloc, "a")?;
-    let content = Content::Fill {
-        byte: 5,
-        length: 20,
-    };
-    Ok(Call::Put { name, content })
+// A put that is reaped at point 0 between its look and its draw, and one after it.
+fn reaped_before_draw(alloc: Global, store: &mut Store<'_>) -> Result<(), Fail> {
+    let call = put(alloc, "a", 20)?;
+    asks(alloc, store, Who::First, look(0, &call), "ready, 0 bytes")?;
+    reaps(alloc, store, Actor::Client(0), Some(0))?;
+    asks(alloc, store, Who::First, Step::Draw, "reaped 0")?;
+    let answers = ["ready, 0 bytes", "versions 0 1 2", "done 1"];
+    puts(alloc, store, Who::First, 1, 20, answers)?;
+    has_points(alloc, store, 2)?;
+    takes(alloc, store, None)
 }
 
-fn walk(alloc: Global, cut: Cut) -> Result<Walk, Fail> {
-    let book = Book::free(alloc, small_geometry()?)?;
-    let call = three_stripes(alloc)?;
-    Ok(put_twice(alloc, &book, &call, cut)?)
+// One that is reaped between its draw and its commit.
+fn reaped_before_commit(alloc: Global, store: &mut Store<'_>) -> Result<(), Fail> {
+    let call = put(alloc, "a", 20)?;
+    asks(alloc, store, Who::First, look(0, &call), "ready, 0 bytes")?;
+    asks(alloc, store, Who::First, Step::Draw, "versions 0 1 2")?;
+    reaps(alloc, store, Actor::Client(0), Some(0))?;
+    asks(alloc, store, Who::First, Step::Commit, "reaped 0")?;
+    let answers = ["ready, 0 bytes", "versions 3 4 5", "done 1"];
+    puts(alloc, store, Who::First, 1, 20, answers)?;
+    has_points(alloc, store, 2)?;
+    takes(alloc, store, Some(0))
+}
+
+// A put over a put.
+fn put_twice(alloc: Global, store: &mut Store<'_>) -> Result<(), Fail> {
+    let answers = ["ready, 0 bytes", "versions 0 1 2", "done 0"];
+    puts(alloc, store, Who::First, 0, 20, answers)?;
+    let answers = ["ready, 20 bytes", "versions 3 4 5", "done 1"];
+    puts(alloc, store, Who::First, 1, 20, answers)?;
+    has_points(alloc, store, 2)?;
+    takes(alloc, store, Some(0))
 }
 
 #[test]
 fn a_reap_between_look_and_draw(rt: HostRuntime) -> Result<(), Fail> {
-    let walk = walk(rt.alloc(), Cut::BeforeDraw)?;
-    assert_eq!(rt; walk.first, Outcome::Reaped(Point(0)));
-    assert_eq!(rt; walk.second, Outcome::Done(Point(1)));
-    assert_eq!(rt; (walk.points, walk.garbage), (2, None));
-    Ok(())
+    let book = Book::free(rt.alloc(), small_geometry()?)?;
+    let mut store = Store::open(rt.alloc(), &book)?;
+    let walked = reaped_before_draw(rt.alloc(), &mut store);
+    store.leave();
+    walked
 }
 
 #[test]
 fn a_reap_between_draw_and_commit(rt: HostRuntime) -> Result<(), Fail> {
-    let walk = walk(rt.alloc(), Cut::BeforeCommit)?;
-    assert_eq!(rt; walk.first, Outcome::Reaped(Point(0)));
-    assert_eq!(rt; walk.second, Outcome::Done(Point(1)));
-    assert_eq!(rt; (walk.points, walk.garbage), (2, Some(Version(0))));
-    Ok(())
+    let book = Book::free(rt.alloc(), small_geometry()?)?;
+    let mut store = Store::open(rt.alloc(), &book)?;
+    let walked = reaped_before_commit(rt.alloc(), &mut store);
+    store.leave();
+    walked
 }
 
 #[test]
 fn a_put_over_a_put(rt: HostRuntime) -> Result<(), Fail> {
-    let walk = walk(rt.alloc(), Cut::Nowhere)?;
-    assert_eq!(rt; walk.first, Outcome::Done(Point(0)));
-    assert_eq!(rt; walk.second, Outcome::Done(Point(1)));
-    assert_eq!(rt; (walk.points, walk.garbage), (2, Some(Version(0))));
-    Ok(())
+    let book = Book::free(rt.alloc(), small_geometry()?)?;
+    let mut store = Store::open(rt.alloc(), &book)?;
+    let walked = put_twice(rt.alloc(), &mut store);
+    store.leave();
+    walked
 }
