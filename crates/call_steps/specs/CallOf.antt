@@ -1,5 +1,7 @@
 -- A call in work, as callers of its machine see it: plain data.
-use Rattle.std.specs.Prelude.{ℕ, Bool, false, List}
+use Rattle.std.specs.Prelude.{ℕ, Bool, false, List, Option, None, Some}
+use Rattle.store_map.specs.Limits.{tries_of}
+use Rattle.store_map.specs.declared.script.Script.{Script}
 use Rattle.store_core.specs.Told.{Told}
 use Rattle.store_core.specs.Act.{Act}
 use Rattle.store_core.specs.NextAct.{Job}
@@ -23,6 +25,11 @@ pub record CallOf : Type 0 where
   pub due : Bool
   pub coding : Bool
   pub step : Bool
+
+-- how often a write is tried by a book's script, if it has one
+abbrev pub tries_by : Option Script → ℕ
+tries_by None = 0
+tries_by (Some script) = tries_of script
 
 -- what it does next
 abbrev pub act_of : CallOf → Act

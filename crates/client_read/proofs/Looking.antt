@@ -121,19 +121,19 @@ module _ (c : CallOf) (read : Call) (is : is_read read ≡ true) (job : c.job �
   first_act : act_of c ≡ Act.AtDirectory (DirectoryStep.Look (note_of read))
   first_act = (λ i. act_of (record c { job = job i; state = state i })) ∙ looks_first read c.tries is c.book.geometry
 
-  pub look_step : (due : Bool) (token : ActorToken) (at : State) (book : BookOf) (takes : List ℕ)
+  pub look_step : (due : Bool) (token : ActorToken) (at : State) (book : BookOf) (tries : ℕ) (takes : List ℕ)
       → token ≡ token_after c.token c.number (DirectoryStep.Look (note_of read)) (looked answer)
       → at ≡ open_state c.book.geometry (start_after c.book.geometry (note_of read).kind (job_of read) (looked answer))
-      → book ≡ c.book → takes ≡ c.takes
-      → (after, record c { book = book; token = token; state = record { pairs = []; at = at }; takes = takes; due = due; coding = false; step = short })
+      → book ≡ c.book → tries ≡ c.tries → takes ≡ c.takes
+      → (after, record c { book = book; tries = tries; token = token; state = record { pairs = []; at = at }; takes = takes; due = due; coding = false; step = short })
       ≡ stepped_at_directory short due c d
-  look_step due token at book takes t s b k =
+  look_step due token at book tries takes t s b n k =
       let step : DirectoryStep = DirectoryStep.Look (note_of read) in
       let told : Told = looked answer in
       let states : record { pairs = []; at = at } ≡ state_told c told =
       (λ i. record { pairs = no_pairs answer i; at = s i }) ∙ (λ i. next_call c.book.geometry (sym job i) (sym state i) told)
       in
-      (λ i. (after, record c { book = b i; token = t i; state = states i; takes = k i; due = due; coding = false; step = short }))
+      (λ i. (after, record c { book = b i; tries = n i; token = t i; state = states i; takes = k i; due = due; coding = false; step = short }))
       ∙ ap (λ (r : Directory × Told). (r.0, record (heard c (Act.AtDirectory step) r.1 short due) { token = token_after c.token c.number step r.1 })) e
       ∙ ap (λ act. at_directory_by act short due c d) (sym first_act)
 

@@ -14,7 +14,7 @@ use Rattle.store_resume.specs.State.{Sequel, State}
 use Rattle.store_resume.specs.StateActs.{act_at}
 use Rattle.gathering.specs.declared.need.Need.{Need}
 use Rattle.gathering.specs.declared.need.Need.TheVariants as need
-use Rattle.call_steps.specs.CallOf.{CallOf, act_of}
+use Rattle.call_steps.specs.CallOf.{CallOf, act_of, tries_by}
 use Rattle.call_steps.specs.TokenAfter.{IfInCall, IsSeated}
 use Rattle.call_steps.specs.Steps.{need_by, HoldsItsPass}
 use Rattle.call_steps.specs.declared.outcomes.Outcome.{Outcome}
@@ -64,8 +64,8 @@ not_over (Act.AtDirectory step) inside e = true≢false (sym (ap is_finished_nee
 not_over (Act.AtServer server step) inside e = true≢false (sym (ap is_finished_need e))
 
 -- while it gathers it is in its pass
-pub gathering_in_pass : (p : GatheringsOf) (job : Job) (point : ℕ) → is_in_pass (act_at p.book.geometry 0 job [] (state_in p (Sequel.Serve point))) ≡ true
-gathering_in_pass p job point = state_in_pass p (Sequel.Serve point) p.coding p.current p.left 0 job []
+pub gathering_in_pass : (p : GatheringsOf) (job : Job) (point : ℕ) → is_in_pass (act_at p.book.geometry (tries_by p.book.script) job [] (state_in p (Sequel.Serve point))) ≡ true
+gathering_in_pass p job point = state_in_pass p (Sequel.Serve point) p.coding p.current p.left (tries_by p.book.script) job []
 
 pub gathering_holds : (c : CallOf) (number : ℕ) (note : Note) (token : ActorToken) → c.token ≡ token → c.job.note ≡ note → c.number ≡ number → IsTrue (is_in_pass (act_of c))
     → IsHolding number note token → HoldsItsPass c
@@ -84,8 +84,8 @@ over_by standing.Done e = tt
 over_by standing.TooMany e = tt
 over_by standing.Short e = tt
 
-pub gathering_over : (p : GatheringsOf) (job : Job) (point : ℕ) → need_by (act_at p.book.geometry 0 job [] (state_in p (Sequel.Serve point))) (is_due p) ≡ need.Directory → IsOver (standing_of p)
-gathering_over p job point e = over_by (standing_of p) (sym (state_needs p 0 job [] (Sequel.Serve point)) ∙ e)
+pub gathering_over : (p : GatheringsOf) (job : Job) (point : ℕ) → need_by (act_at p.book.geometry (tries_by p.book.script) job [] (state_in p (Sequel.Serve point))) (is_due p) ≡ need.Directory → IsOver (standing_of p)
+gathering_over p job point e = over_by (standing_of p) (sym (state_needs p (tries_by p.book.script) job [] (Sequel.Serve point)) ∙ e)
 
 pub closed_finished : (p : GatheringsOf) (point : ℕ) → IsOver (standing_of p) → (outcome : CoreOutcome) × (finished_of (state_in p (Sequel.Serve point)) ≡ State.Finished outcome)
 closed_finished p point over = let closes = over_closes p point over in (closes.0, ap finished_of closes.1)
@@ -100,8 +100,8 @@ pub before_look : (now : Stage) (p : GatheringsOf) (point : Point) (outcome : Ou
 before_look stage.Looking p point outcome read number token is kept e = refl
 before_look stage.Gathering p point outcome read number token is kept e =
     absurd (true≢false (sym (gathering_in_pass p (job_of read) point.0)
-    ∙ ap (λ at. is_in_pass (act_at p.book.geometry 0 (job_of read) [] at)) e
-    ∙ ap is_in_pass (looks_first read 0 is p.book.geometry)))
+    ∙ ap (λ at. is_in_pass (act_at p.book.geometry (tries_by p.book.script) (job_of read) [] at)) e
+    ∙ ap is_in_pass (looks_first read (tries_by p.book.script) is p.book.geometry)))
 before_look stage.Ended p point outcome read number token is kept e = absurd (true≢false (sym (ap is_start e) ∙ ap is_start (closed_finished p point.0 kept.1).1))
 before_look stage.Finished p point outcome read number token is kept e = absurd (true≢false (sym (ap is_start e)))
 
@@ -123,16 +123,16 @@ never_finished standing.Short e = true≢false (sym (ap is_finished_need e))
 
 module _ (read : Call) (number : ℕ) (token : ActorToken) (p : GatheringsOf) (point : Point) (outcome : Outcome) (is : is_read read ≡ true) where
   abbrev need_at_stage : Stage → Need
-  need_at_stage now = need_by (act_at p.book.geometry 0 (job_of read) [] (state_by now p point outcome)) (due_by now p)
+  need_at_stage now = need_by (act_at p.book.geometry (tries_by p.book.script) (job_of read) [] (state_by now p point outcome)) (due_by now p)
 
   -- needs of a server or the coder are those of its gatherings
   pub needs_gathering : (test : Need → Bool) → test need.Directory ≡ false → test need.Finished ≡ false → (now : Stage) → Keeps now number (note_of read) token p
       → test (need_at_stage now) ≡ true → now ≡ stage.Gathering
   needs_gathering test first last stage.Looking kept e =
-      absurd (true≢false (sym e ∙ ap test (ap (λ act. need_by act false) (looks_first read 0 is p.book.geometry)) ∙ first))
+      absurd (true≢false (sym e ∙ ap test (ap (λ act. need_by act false) (looks_first read (tries_by p.book.script) is p.book.geometry)) ∙ first))
   needs_gathering test first last stage.Gathering kept e = refl
   needs_gathering test first last stage.Ended kept e =
-      absurd (true≢false (sym e ∙ ap (λ at. test (need_by (act_at p.book.geometry 0 (job_of read) [] at) false)) (closed_finished p point.0 kept.1).1 ∙ last))
+      absurd (true≢false (sym e ∙ ap (λ at. test (need_by (act_at p.book.geometry (tries_by p.book.script) (job_of read) [] at) false)) (closed_finished p point.0 kept.1).1 ∙ last))
   needs_gathering test first last stage.Finished kept e = absurd (true≢false (sym e ∙ last))
 
   -- so is the end of its pass
@@ -143,13 +143,13 @@ module _ (read : Call) (number : ℕ) (token : ActorToken) (p : GatheringsOf) (p
   ends_gathering stage.Finished kept e = absurd (true≢false (sym e))
 
   pub over_seated : (now : Stage) → Keeps now number (note_of read) token p → need_at_stage now ≡ need.Finished → IsSeated token
-  over_seated stage.Looking kept e = absurd (true≢false (sym (ap is_finished_need (sym (ap (λ act. need_by act false) (looks_first read 0 is p.book.geometry)) ∙ e))))
-  over_seated stage.Gathering kept e = absurd (never_finished (standing_of p) (sym (state_needs p 0 (job_of read) [] (Sequel.Serve point.0)) ∙ e))
+  over_seated stage.Looking kept e = absurd (true≢false (sym (ap is_finished_need (sym (ap (λ act. need_by act false) (looks_first read (tries_by p.book.script) is p.book.geometry)) ∙ e))))
+  over_seated stage.Gathering kept e = absurd (never_finished (standing_of p) (sym (state_needs p (tries_by p.book.script) (job_of read) [] (Sequel.Serve point.0)) ∙ e))
   over_seated stage.Ended kept e = kept.0
   over_seated stage.Finished kept e = kept
 
   pub over_ended : (now : Stage) → Keeps now number (note_of read) token p → need_at_stage now ≡ need.Finished → (now ≡ stage.Finished → ⊥) → now ≡ stage.Ended
-  over_ended stage.Looking kept e other = absurd (true≢false (sym (ap is_finished_need (sym (ap (λ act. need_by act false) (looks_first read 0 is p.book.geometry)) ∙ e))))
-  over_ended stage.Gathering kept e other = absurd (never_finished (standing_of p) (sym (state_needs p 0 (job_of read) [] (Sequel.Serve point.0)) ∙ e))
+  over_ended stage.Looking kept e other = absurd (true≢false (sym (ap is_finished_need (sym (ap (λ act. need_by act false) (looks_first read (tries_by p.book.script) is p.book.geometry)) ∙ e))))
+  over_ended stage.Gathering kept e other = absurd (never_finished (standing_of p) (sym (state_needs p (tries_by p.book.script) (job_of read) [] (Sequel.Serve point.0)) ∙ e))
   over_ended stage.Ended kept e other = refl
   over_ended stage.Finished kept e other = absurd (other refl)

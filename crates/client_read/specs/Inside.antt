@@ -12,6 +12,7 @@ use Rattle.client_read.specs.Ends.{IsPlain}
 use Rattle.client_read.specs.Stages.{state_by, due_by}
 use Rattle.client_read.specs.declared.stage.Stage.{Stage}
 use Rattle.client_read.specs.declared.stage.Stage.TheVariants as stage
+use Rattle.call_steps.specs.CallOf.{tries_by}
 use Rattle.client_read.specs.declared.read.ReadCall.TheInside.{Inside}
 
 -- what callers see
@@ -20,7 +21,7 @@ read_in a =
     record {
       call = record {
         book = a.gatherings.book;
-        tries = 0;
+        tries = tries_by a.gatherings.book.script;
         job = job_of a.call.now;
         number = a.number;
         token = a.token;

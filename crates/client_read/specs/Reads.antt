@@ -9,7 +9,7 @@ use Rattle.store_core.specs.Agreement.{Seat, ActorToken}
 use Rattle.store_core.specs.NextAct.{job_of}
 use Rattle.store_resume.specs.State.{first_state}
 use Rattle.version_seal.specs.Entry.{BookOf}
-use Rattle.call_steps.specs.CallOf.{CallOf}
+use Rattle.call_steps.specs.CallOf.{CallOf, tries_by}
 
 -- the call in work, and the bytes that it gathers
 pub record ReadOf : Type 0 where
@@ -28,13 +28,13 @@ abbrev pub IsClient : Actor → Type 0
 IsClient (actor.Client i) = ⊤
 IsClient who = ⊥
 
--- a call before its first step; it isn't tried again
+-- a call before its first step
 abbrev pub first_read : BookOf → Seat → ℕ → Call → ReadOf
 first_read book seat number read =
     record {
       call = record {
         book = book;
-        tries = 0;
+        tries = tries_by book.script;
         job = job_of read;
         number = number;
         token = ActorToken.Seated seat;

@@ -2,19 +2,13 @@
 use Rattle.std.specs.Prelude.{ℕ, Bool, false, nat_lt, List, [], replicate, Option, None, Some, if◌then◌else◌}
 use Rattle.std.specs.List.{list_any}
 use Rattle.clay_grid.specs.Shape.{chunk_count}
-use Rattle.store_map.specs.Limits.{tries_of}
 use Rattle.store_map.specs.declared.call.Rebuild.{Rebuild}
 use Rattle.store_map.specs.declared.script.Script.{Script}
 use Rattle.store_core.specs.NextAct.{rebuild_job}
 use Rattle.store_core.specs.Agreement.{Seat, ActorToken}
 use Rattle.store_resume.specs.State.{State}
 use Rattle.version_seal.specs.Entry.{BookOf}
-use Rattle.call_steps.specs.CallOf.{CallOf}
-
--- how often a write is tried by the book's script, if it has one; a rebuild doesn't ask
-abbrev pub tries_by : Option Script → ℕ
-tries_by None = 0
-tries_by (Some script) = tries_of script
+use Rattle.call_steps.specs.CallOf.{CallOf, tries_by}
 
 -- a call of a repairer
 abbrev pub call_at : BookOf → Rebuild → ℕ → ActorToken → State → List ℕ → Bool → Bool → Bool → CallOf

@@ -5,6 +5,7 @@ use Rattle.store_core.specs.Act.{DirectoryStep}
 use Rattle.store_core.specs.Tokens.{actor_of}
 use Rattle.store_resume.specs.StateActs.{act_at}
 use Rattle.call_steps.specs.TokenAfter.{token_after, IsSeated}
+use Rattle.call_steps.specs.CallOf.{tries_by}
 use Rattle.call_steps.specs.Steps.{need_by, need_of}
 use Rattle.call_token.specs.Answers.{told_by_end}
 use Rattle.client_read.specs.Reads.{ReadOf, IsClient}
@@ -32,7 +33,7 @@ invariant_of-self c =
       kept = (
         subst IsSeated (sym ended) (end_seated a.token a.number (note_of a.call.now) holds),
         gathering_over a.gatherings (job_of a.call.now) a.point.0
-            (ap (λ now. need_by (act_at a.gatherings.book.geometry 0 (job_of a.call.now) [] (state_by now a.gatherings a.point a.outcome)) (due_by now a.gatherings)) (sym is)
+            (ap (λ now. need_by (act_at a.gatherings.book.geometry (tries_by a.gatherings.book.script) (job_of a.call.now) [] (state_by now a.gatherings a.point a.outcome)) (due_by now a.gatherings)) (sym is)
             ∙ ap (λ (r : ReadOf). need_of r.call) c.self.view_is ∙ c.requires.need),
       );
     }

@@ -4,6 +4,8 @@ use Rattle.store_core.specs.Act.{DirectoryStep}
 use Rattle.store_core.specs.AtDirectory.{at_directory}
 use Rattle.gather_parts.specs.Gatherings.{owed}
 use Rattle.store_core.specs.Tokens.{actor_of}
+use Rattle.version_seal.specs.Entry.{BookOf}
+use Rattle.call_steps.specs.CallOf.{tries_by}
 use Rattle.call_steps.specs.Steps.{stepped_at_directory}
 use Rattle.client_read.specs.Reads.{ReadOf, IsClient}
 use Rattle.client_read.specs.Stages.{state_by, due_by}
@@ -49,8 +51,8 @@ returns-clause-step c =
     look_step (read_in a).call a.call.now c.self.invariant.read refl (ap (λ at. record { pairs = []; at = at }) (ap (λ (r : ReadOf). r.call.state.at) c.self.view_is ∙ c.requires.first))
     d c.look-answer.new.directory.core short c.look-answer.result
     (c.look-answer.ensures.step ∙ ap (λ s. at_directory s (actor_of a.token) a.number (DirectoryStep.Look (note_of a.call.now)) d) (sym c.is_err-self-inside.ensures.value))
-    due c.look-answer.new.self (state_by next.result.stage next.new.gatherings next.result.point next.result.outcome) next.new.gatherings.book next.new.gatherings.takes
-    c.look-answer.ensures.token next.ensures.state next.ensures.book next.ensures.takes
+    due c.look-answer.new.self (state_by next.result.stage next.new.gatherings next.result.point next.result.outcome) next.new.gatherings.book (tries_by next.new.gatherings.book.script) next.new.gatherings.takes
+    c.look-answer.ensures.token next.ensures.state next.ensures.book (ap (λ (book : BookOf). tries_by book.script) next.ensures.book) next.ensures.takes
     ∙ ap (λ (r : ReadOf). stepped_at_directory short due r.call d) c.self.view_is
 
 pub returns-clause-owed : goal.returns-clause-owed

@@ -1,6 +1,6 @@
 use Rattle.std.proofs.Common.{◌≡◌, Bool, [], refl, sym, ap, subst, ◌∙◌}
 use Rattle.store_resume.specs.State.{Sequel}
-use Rattle.call_steps.specs.CallOf.{CallOf}
+use Rattle.call_steps.specs.CallOf.{CallOf, tries_by}
 use Rattle.call_steps.specs.Steps.{need_of, coded}
 use Rattle.gather_parts.specs.Gatherings.{GatheringsOf}
 use Rattle.gather_parts.specs.Standings.{is_due}
@@ -24,6 +24,7 @@ returns-clause-coded g c =
     in
     (λ i. record call {
       book = c.on_coder.ensures.book i;
+      tries = tries_by (c.on_coder.ensures.book i).script;
       state = record { pairs = []; at = state_by (is i) later a.point a.outcome };
       takes = later.takes;
       due = due_by (is i) later;

@@ -1,7 +1,7 @@
 use Rattle.std.proofs.Common.{◌≡◌, Bool, false, [], refl, sym, ap, subst, ◌∙◌}
 use Rattle.store_resume.specs.State.{Sequel}
 use Rattle.chunk_server.specs.Core.{core_of}
-use Rattle.call_steps.specs.CallOf.{CallOf}
+use Rattle.call_steps.specs.CallOf.{CallOf, tries_by}
 use Rattle.call_steps.specs.Steps.{need_of, stepped_at_server}
 use Rattle.gather_parts.specs.Gatherings.{GatheringsOf}
 use Rattle.gather_parts.specs.States.{moved}
@@ -28,6 +28,7 @@ returns-clause-step c =
       core_of c.on_server.new.s,
       record call {
         book = c.on_server.ensures.book i;
+        tries = tries_by (c.on_server.ensures.book i).script;
         state = record { pairs = []; at = state_by (is i) later a.point a.outcome };
         takes = later.takes;
         due = due;
