@@ -34,11 +34,12 @@ use Rattle.call_token.specs.Stamps.{AreDrawnFor}
 use Rattle.write_course.specs.Laws.{call_at}
 use Rattle.write_course.specs.Writings.{WritingOf, versions_of}
 use Rattle.write_course.proofs.OfTheCall.{steps_are_of_the_call}
-use Rattle.client_put.specs.Bytes.{stripe_of}
+use Rattle.client_put.specs.Bytes.{stripe_of, content_in}
 use Rattle.client_put.specs.Draws.{request_of, stamps_told, stamps_of_draw, stamps_by, stamps_drawn}
 use Rattle.client_put.specs.Puts.{PutOf, is_put}
 use Rattle.client_put.specs.Stages.{finished_of, state_by}
-use Rattle.client_put.specs.Inside.{put_in, content_in, IsHolding, HasToken, IsOfCall, Keeps, IsPut}
+use Rattle.client_put.specs.Holds.{IsHolding, HasToken, IsOfCall, Keeps}
+use Rattle.client_put.specs.Inside.{put_in, IsPut}
 use Rattle.client_put.specs.declared.stage.Stage.{Stage}
 use Rattle.client_put.specs.declared.stage.Stage.TheVariants as stage
 use Rattle.client_put.specs.declared.put.PutCall.TheInside.{Inside}

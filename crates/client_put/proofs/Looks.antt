@@ -20,7 +20,7 @@ use Rattle.store_resume.specs.State.{State}
 use Rattle.write_course.specs.Writings.{WritingOf, versions_of}
 use Rattle.client_put.specs.Puts.{is_put}
 use Rattle.client_put.specs.Stages.{finished_of, state_by, IsPutLook, IsLooked}
-use Rattle.client_put.specs.Inside.{IsWaiting, HasToken, Keeps}
+use Rattle.client_put.specs.Holds.{IsWaiting, HasToken, Keeps}
 use Rattle.client_put.specs.declared.stage.Stage.{Stage}
 use Rattle.client_put.specs.declared.stage.Stage.TheVariants as stage
 

@@ -18,10 +18,11 @@ use Rattle.gathering.specs.declared.need.Need.TheVariants as need
 use Rattle.call_steps.specs.Steps.{need_by, need_of, coded, stepped_at_server}
 use Rattle.write_course.specs.Writings.{WritingOf, versions_of, begins_version, place_of, stamp_at_work}
 use Rattle.write_course.specs.WritingSteps.{stepped}
-use Rattle.client_put.specs.Bytes.{stripe_of}
+use Rattle.client_put.specs.Bytes.{stripe_of, content_in}
 use Rattle.client_put.specs.Puts.{PutOf}
 use Rattle.client_put.specs.Stages.{state_by, due_by}
-use Rattle.client_put.specs.Inside.{put_in, content_in, HasToken, IsOfCall, Keeps, IsPut}
+use Rattle.client_put.specs.Holds.{HasToken, IsOfCall, Keeps}
+use Rattle.client_put.specs.Inside.{put_in, IsPut}
 use Rattle.client_put.specs.declared.stage.Stage.TheVariants as stage
 use Rattle.client_put.specs.declared.put.PutCall.TheInside.{Inside}
 use Rattle.client_put.proofs.Kept.{same_call, stepped_has, short_has}

@@ -7,7 +7,7 @@ ghost use Rattle.write_course.specs.Writings.{WritingOf};
 ghost use Rattle.call_token.specs.Answers.{told_by_look};
 ghost use Rattle.client_put.specs.Puts.{is_put};
 ghost use Rattle.client_put.specs.Stages.{state_by, after_end, IsPutLook, IsLooked};
-ghost use Rattle.client_put.specs.Inside.{content_in};
+ghost use Rattle.client_put.specs.Bytes.{content_in};
 
 use call_steps::Outcome;
 use call_token::LookAnswer;

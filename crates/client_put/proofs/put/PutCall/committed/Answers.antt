@@ -1,7 +1,7 @@
 use Rattle.std.proofs.Common.{ap, subst, sym, ◌∙◌}
 use Rattle.client_put.specs.Puts.{PutOf, point_of}
 use Rattle.client_put.specs.Stages.{state_by}
-use Rattle.client_put.specs.Inside.{Keeps}
+use Rattle.client_put.specs.Holds.{Keeps}
 use Rattle.client_put.proofs.Points.{point_of_writing, no_point}
 use Rattle.client_put.proofs.put.PutCall.committed.Goals as goal
 

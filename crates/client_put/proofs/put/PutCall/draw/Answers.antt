@@ -14,7 +14,8 @@ use Rattle.call_token.specs.declared.answers.DrawAnswer.TheVariants as draw
 use Rattle.write_course.specs.Writings.{versions_of}
 use Rattle.client_put.specs.Draws.{request_of}
 use Rattle.client_put.specs.Puts.{PutOf}
-use Rattle.client_put.specs.Inside.{put_in, content_in}
+use Rattle.client_put.specs.Bytes.{content_in}
+use Rattle.client_put.specs.Inside.{put_in}
 use Rattle.client_put.proofs.Kept.{token_stays}
 use Rattle.client_put.proofs.Drawing.{holding, draw_step, draw_stamps, draw_kept, draw_count}
 use Rattle.client_put.proofs.put.PutCall.draw.Goals as goal

@@ -1,7 +1,6 @@
 use Rattle.std.proofs.Common.{◌≡◌, ℕ, ◌+◌, List, Option, None, Some, IfSome, true, option_map, ap, subst, sym, ◌∙◌}
 use Rattle.write_course.specs.Writings.{begins_version, place_of, stamp_at_work}
-use Rattle.client_put.specs.Bytes.{stripe_of}
-use Rattle.client_put.specs.Inside.{content_in}
+use Rattle.client_put.specs.Bytes.{stripe_of, content_in}
 use Rattle.client_put.proofs.Serving.{coding_keeps, coding_due, encoded_kept, content_at_work, place_begins}
 use Rattle.client_put.proofs.put.PutCall.encode.Goals as goal
 
@@ -17,8 +16,11 @@ pub encode-requires-clause-content : goal.encode-requires-clause-content
 encode-requires-clause-content g c =
     let a = c.self.inside in
     let its = (coding_keeps a c.self.invariant c.args.self.now c.self.view_is c.requires).0 in
+    let here : stripe_of c.geometry-geometry.result c.in-Some.stripe c.content_of.result.now ≡ stripe_of c.self.inside.opening.geometry c.in-Some.stripe (content_in c.self.inside.call)
+    = (λ i. stripe_of (c.geometry-geometry.ensures i) c.in-Some.stripe (c.content_of.ensures i)) in
+    let filled : c.in_ok-content.content.items ≡ stripe_of c.geometry-geometry.result c.in-Some.stripe c.content_of.result.now = c.in_ok-content.ensures.bytes in
     let bytes : stripe_of c.self.inside.opening.geometry c.in-Some.stripe (content_in c.self.inside.call) ≡ c.deref.result.now
-    = sym (c.deref.ensures.value ∙ c.in_ok-content.ensures.bytes ∙ (λ i. stripe_of (c.geometry-geometry.ensures i) c.in-Some.stripe (c.content_of.ensures i))) in
+    = sym here ∙ sym filled ∙ sym c.deref.ensures.value in
     λ κs lives.
     subst (λ (bytes : List ℕ). IfSome (stamp_at_work c.self.inside.writing) (λ stamp. stamp.content ≡ bytes)) bytes
     (content_at_work a.opening a.call a.writing c.in-Some.stripe its (sym c.stripe_at_work.ensures ∙ c.in-Some.is))

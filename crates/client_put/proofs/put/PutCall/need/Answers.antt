@@ -5,7 +5,7 @@ use Rattle.version_seal.specs.Entry.{BookOf}
 use Rattle.call_steps.specs.Steps.{need_by, need_of}
 use Rattle.client_put.specs.Puts.{PutOf}
 use Rattle.client_put.specs.Stages.{state_by, due_by}
-use Rattle.client_put.specs.Inside.{Keeps}
+use Rattle.client_put.specs.Holds.{Keeps}
 use Rattle.client_put.proofs.put.PutCall.need.Goals as goal
 
 pub returns-in-Writing-clause-need : goal.returns-in-Writing-clause-need
