@@ -1,5 +1,6 @@
-//! Calls of clients on objects with short names.
+//! Calls in words.
 
+use crate::words::{number_at, word_at};
 use std::alloc::Global;
 use std::test::Fail;
 use store_map::{Call, Content, Name};
@@ -8,15 +9,9 @@ fn bytes(length: u32) -> Content {
     Content::Fill { byte: 5, length }
 }
 
-pub fn put(alloc: Global, name: &str, length: u32) -> Result<Call, Fail> {
-    let name = Name::new(alloc, name)?;
-    let content = bytes(length);
-    Ok(Call::Put { name, content })
-}
-
-pub fn write(alloc: Global, name: &str, offset: u32, length: u32) -> Result<Call, Fail> {
-    let name = Name::new(alloc, name)?;
-    let content = bytes(length);
+fn write(name: Name, words: &[&str]) -> Result<Call, Fail> {
+    let offset = number_at(words, 3)?;
+    let content = bytes(number_at(words, 4)?);
     Ok(Call::Write {
         name,
         offset,
@@ -24,13 +19,9 @@ pub fn write(alloc: Global, name: &str, offset: u32, length: u32) -> Result<Call
     })
 }
 
-pub fn get(alloc: Global, name: &str) -> Result<Call, Fail> {
-    let name = Name::new(alloc, name)?;
-    Ok(Call::Get { name })
-}
-
-pub fn read(alloc: Global, name: &str, offset: u32, length: u32) -> Result<Call, Fail> {
-    let name = Name::new(alloc, name)?;
+fn read(name: Name, words: &[&str]) -> Result<Call, Fail> {
+    let offset = number_at(words, 3)?;
+    let length = number_at(words, 4)?;
     Ok(Call::ReadAt {
         name,
         offset,
@@ -38,12 +29,19 @@ pub fn read(alloc: Global, name: &str, offset: u32, length: u32) -> Result<Call,
     })
 }
 
-pub fn stat(alloc: Global, name: &str) -> Result<Call, Fail> {
-    let name = Name::new(alloc, name)?;
-    Ok(Call::Stat { name })
-}
-
-pub fn delete(alloc: Global, name: &str) -> Result<Call, Fail> {
-    let name = Name::new(alloc, name)?;
-    Ok(Call::Delete { name })
+/// A client's call: what it is, its number, its object's name, and its offset and length where it has them.
+pub fn call(alloc: Global, words: &[&str]) -> Result<Call, Fail> {
+    let name = Name::new(alloc, word_at(words, 2)?)?;
+    match word_at(words, 0)? {
+        "put" => {
+            let content = bytes(number_at(words, 3)?);
+            Ok(Call::Put { name, content })
+        }
+        "write" => write(name, words),
+        "get" => Ok(Call::Get { name }),
+        "read" => read(name, words),
+        "stat" => Ok(Call::Stat { name }),
+        "delete" => Ok(Call::Delete { name }),
+        _ => Err(Fail::from("no call")),
+    }
 }

@@ -2,13 +2,16 @@
 //! keeps the directory in agreement with all their tokens.
 #![tactic(auto)]
 
-pub mod asking;
+#[cfg(test)]
+mod answers;
 pub mod caller;
 pub mod calls;
 pub mod opening;
 pub mod placing;
+pub mod rows;
 pub mod said;
 pub mod stage;
 pub mod store;
 #[cfg(test)]
 mod walks;
+pub mod words;
