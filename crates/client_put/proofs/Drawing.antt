@@ -26,7 +26,7 @@ use Rattle.store_resume.specs.StateActs.{act_of_state}
 use Rattle.store_resume.specs.CallLaws.{next_call}
 use Rattle.version_seal.specs.Entry.{BookOf, StampOf, RequestOf, call_written, content_over}
 use Rattle.stripe_dir.specs.Sealed.{Sealed, base_stamp, drawn_stamp, stamps_touched}
-use Rattle.call_steps.specs.CallOf.{CallOf, act_of, heard}
+use Rattle.call_steps.specs.CallOf.{tries_by, CallOf, act_of, heard}
 use Rattle.call_steps.specs.Steps.{at_directory_by, stepped_at_directory}
 use Rattle.call_steps.specs.TokenAfter.{token_after}
 use Rattle.call_steps.specs.declared.outcomes.Outcome.{Outcome}
@@ -143,7 +143,7 @@ module _ (a : Inside) (kept : IsPut a) (old : PutOf) (view : put_in a ≡ old) (
   holding = holds_to_draw a.opening a.number a.call a.token a.writing a.outcome a.stage kept.kept at_draw
 
   draws : act_of ((put_in a).call) ≡ Act.AtDirectory DirectoryStep.Draw
-  draws = ap (λ at. act_of_state a.opening.geometry 0 (job_of a.call) (call_at [] at)) at_draw
+  draws = ap (λ at. act_of_state a.opening.geometry (tries_by a.opening.script) (job_of a.call) (call_at [] at)) at_draw
 
   -- the step
   pub draw_step : (short : Bool) (before after : Directory) (versions : List ℕ) (token : ActorToken) (w : WritingOf)

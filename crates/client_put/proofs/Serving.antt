@@ -18,6 +18,7 @@ use Rattle.gathering.specs.declared.need.Need.TheVariants as need
 use Rattle.call_steps.specs.Steps.{need_by, need_of, coded, stepped_at_server}
 use Rattle.write_course.specs.Writings.{WritingOf, versions_of, begins_version, place_of, stamp_at_work}
 use Rattle.write_course.specs.WritingSteps.{stepped}
+use Rattle.call_steps.specs.CallOf.{tries_by}
 use Rattle.client_put.specs.Bytes.{stripe_of, content_in}
 use Rattle.client_put.specs.Puts.{PutOf}
 use Rattle.client_put.specs.Stages.{state_by, due_by}
@@ -57,7 +58,7 @@ module _ (a : Inside) (kept : IsPut a) (old : PutOf) (view : put_in a ≡ old) w
     asked : Asks a.writing.state a.writing.due server
     asked =
         asks_server a.opening a.number a.call a.token a.writing a.outcome (job_of a.call) server keeps
-        (ap (λ s. need_by (act_at a.opening.geometry 0 (job_of a.call) [] (state_by s a.writing a.outcome)) (due_by s a.writing)) (sym writing_is) ∙ ap (λ (p : PutOf). need_of p.call) view ∙ needs)
+        (ap (λ s. need_by (act_at a.opening.geometry (tries_by a.opening.script) (job_of a.call) [] (state_by s a.writing a.outcome)) (due_by s a.writing)) (sym writing_is) ∙ ap (λ (p : PutOf). need_of p.call) view ∙ needs)
 
     -- what is kept after the step
     pub served_kept : (now : WritingOf) (short : Bool) (before after : Server) → (after, now.state) ≡ stepped a.writing.book.geometry short before a.writing.state
@@ -97,8 +98,8 @@ module _ (a : Inside) (kept : IsPut a) (old : PutOf) (view : put_in a ≡ old) w
 
     pub coding_due : a.writing.due ≡ true
     coding_due =
-        codes a.opening.geometry (job_of a.call) a.number (note_of a.call) (versions_of a.writing.stamps) a.token a.writing.state a.writing.due coding_keeps.1
-        (ap (λ s. need_by (act_at a.opening.geometry 0 (job_of a.call) [] (state_by s a.writing a.outcome)) (due_by s a.writing)) (sym coding_is) ∙ ap (λ (p : PutOf). need_of p.call) view ∙ needs)
+        codes a.opening.geometry (tries_by a.opening.script) (job_of a.call) a.number (note_of a.call) (versions_of a.writing.stamps) a.token a.writing.state a.writing.due coding_keeps.1
+        (ap (λ s. need_by (act_at a.opening.geometry (tries_by a.opening.script) (job_of a.call) [] (state_by s a.writing a.outcome)) (due_by s a.writing)) (sym coding_is) ∙ ap (λ (p : PutOf). need_of p.call) view ∙ needs)
 
     -- what is kept after the coding
     pub encoded_kept : {E : Type 0} (now : WritingOf) (result : Result (Unit {0}) E) → OnOk result (now ≡ record a.writing { due = false }) → OnErr result (now ≡ a.writing)
@@ -125,7 +126,7 @@ module _ (a : Inside) (kept : IsPut a) (old : PutOf) (view : put_in a ≡ old) w
     pub coded_short : (now : WritingOf) → begins_version a.writing.state ≡ true → now ≡ record a.writing { state = State.Ending Outcome.NoMemory; due = false }
         → record ((put_in a).call) { state = record { pairs = []; at = state_by a.stage now a.outcome }; due = due_by a.stage now; coding = true } ≡ coded true old.call
     coded_short now begins is =
-        let law : IsShortOfMemory a.opening.geometry 0 (job_of a.call) [] a.writing.state = steps_are_of_the_call.short a.opening.geometry 0 (job_of a.call) [] a.writing.state begins in
+        let law : IsShortOfMemory a.opening.geometry (tries_by a.opening.script) (job_of a.call) [] a.writing.state = steps_are_of_the_call.short a.opening.geometry (tries_by a.opening.script) (job_of a.call) [] a.writing.state begins in
         let state : call_at [] (State.Ending Outcome.NoMemory) ≡ next_call a.opening.geometry (job_of a.call) (call_at [] (state_by a.stage a.writing a.outcome)) Told.Short
         = sym law.after ∙ ap (λ s. next_call a.opening.geometry (job_of a.call) (call_at [] (state_by s a.writing a.outcome)) Told.Short) (sym coding_is) in
         let shown : record ((put_in a).call) { state = call_at [] (state_by a.stage now a.outcome); due = due_by a.stage now; coding = true }

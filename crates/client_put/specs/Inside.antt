@@ -6,6 +6,7 @@ use Rattle.store_core.specs.Tokens.{actor_of}
 use Rattle.client_put.specs.Puts.{PutOf, is_put, IsClient, IsOfScript}
 use Rattle.client_put.specs.Stages.{state_by, due_by}
 use Rattle.client_put.specs.declared.put.PutCall.TheInside.{Inside}
+use Rattle.call_steps.specs.CallOf.{tries_by}
 use Rattle.client_put.specs.Holds.{Keeps}
 
 -- what callers see
@@ -14,7 +15,7 @@ put_in a =
     record {
       call = record {
         book = a.opening;
-        tries = 0;
+        tries = tries_by a.opening.script;
         job = job_of a.call;
         number = a.number;
         token = a.token;

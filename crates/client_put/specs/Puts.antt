@@ -13,7 +13,7 @@ use Rattle.store_core.specs.History.{call_of}
 use Rattle.store_core.specs.NextAct.{job_of}
 use Rattle.store_resume.specs.State.{State, first_state}
 use Rattle.version_seal.specs.Entry.{BookOf}
-use Rattle.call_steps.specs.CallOf.{CallOf}
+use Rattle.call_steps.specs.CallOf.{tries_by, CallOf}
 
 -- the call in work, and what it puts
 pub record PutOf : Type 0 where
@@ -34,13 +34,13 @@ IsClient who = ⊥
 abbrev pub IsOfScript : BookOf → Actor → ℕ → Call → Type 0
 IsOfScript book who number written = IfSome book.script (λ script. call_of script who number ≡ Some written)
 
--- a put before its first step; it isn't tried again
+-- a put before its first step
 abbrev pub first_put : BookOf → Seat → ℕ → Call → PutOf
 first_put book seat number written =
     record {
       call = record {
         book = book;
-        tries = 0;
+        tries = tries_by book.script;
         job = job_of written;
         number = number;
         token = ActorToken.Seated seat;
