@@ -1,10 +1,13 @@
 -- Each step as an actor makes it.
-use Rattle.std.proofs.Common.{◌≡◌, ◌⊎◌, ℕ, ◌+◌, ◌<◌, ◌≤◌, Bool, true, false, List, length, map, Option, None, Some, Result, Ok, Err, IfOk, Vec, Global, refl, sym, ap, subst, ◌∙◌, arith}
+use Rattle.std.proofs.Common.{◌≡◌, ◌⊎◌, ℕ, ◌+◌, ◌<◌, ◌≤◌, Bool, true, false, List, [], length, map, option_map, Option, None, Some, Result, Ok, Err, IfOk, Vec, Global, refl, sym, ap, subst, ◌∙◌, arith}
 use Rattle.clay_grid.specs.Shape.{Shape}
+use Rattle.store_map.specs.declared.actor.Actor.{Actor}
+use Rattle.store_map.specs.declared.actor.Point.{Point}
 use Rattle.store_map.specs.declared.call.Call.{Call}
 use Rattle.store_core.specs.Told.{Told}
 use Rattle.store_core.specs.Note.{Kind, note_of}
-use Rattle.store_core.specs.Look.{stripes_between}
+use Rattle.store_core.specs.Look.{stripes_between, pin_of}
+use Rattle.stripe_dir.specs.Answers.{seen_in}
 use Rattle.store_core.specs.Act.{DirectoryStep}
 use Rattle.store_core.specs.AtDirectory.{at_directory}
 use Rattle.store_core.specs.Agreement.{Seat, HeldPass, ActorToken, Agrees}
@@ -16,6 +19,8 @@ use Rattle.call_steps.specs.TokenAfter.{token_after}
 use Rattle.call_token.specs.Shown.{repair_note}
 use Rattle.call_token.specs.Stamps.{IfDrawn}
 use Rattle.call_token.specs.declared.answers.LookAnswer.{LookAnswer}
+use Rattle.call_token.specs.declared.answers.LookAnswer.TheVariants as look
+use Rattle.dir_tests.specs.Begun.{HasBegun, IfBegun}
 use Rattle.call_token.specs.declared.answers.DrawAnswer.{DrawAnswer}
 use Rattle.call_token.specs.declared.answers.DrawAnswer.TheVariants as draw
 use Rattle.call_token.specs.declared.answers.CommitAnswer.{CommitAnswer}

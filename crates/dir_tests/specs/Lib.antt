@@ -5,3 +5,7 @@ pub mod After
 pub mod Inside
 pub mod Stores
 pub mod StoreInside
+pub mod Begun
+pub mod StripePut
+pub mod Shelf
+pub mod ShelfInside

@@ -1,6 +1,8 @@
-ghost use Rattle.std.specs.Prelude.{◌≡◌};
-ghost use Rattle.store_core.specs.Agreement.{ActorToken};
+ghost use Rattle.std.specs.Prelude.{◌≡◌, IfOk};
+ghost use Rattle.store_core.specs.Agreement.{ActorToken, HeldPass};
 ghost use Rattle.dir_tests.specs.Callers.{IsReady, Steps, is_seated};
+ghost use Rattle.call_token.specs.Stamps.{IfDrawn};
+ghost use Rattle.dir_tests.specs.Begun.{IfBegun};
 ghost use Rattle.dir_tests.specs.Opened.{new_caller};
 
 use crate::placing::rows;
@@ -129,7 +131,8 @@ impl Caller {
         matches!(self.stage, Stage::Seated)
     }
 
-    fn look(
+    /// Begins a client's call, where it is in none.
+    pub fn look(
         &mut self,
         directory: &mut Directory,
         book: &Book,
@@ -138,6 +141,7 @@ impl Caller {
     ) -> Result<LookAnswer, Refusal>
         requires ready { IsReady book.now directory.old self.old }
         ensures steps { Steps directory.old self.old directory.new self.new }
+        ensures begun { IfOk result (λ answer. IfBegun book.now.home call.now number answer self.new) }
     {
         let Stage::Seated = self.stage else {
             return Err(Refusal::NotNow);
@@ -177,9 +181,11 @@ impl Caller {
         Ok(answer)
     }
 
-    fn draw(&mut self, directory: &mut Directory, book: &Book) -> Result<DrawAnswer, Refusal>
+    /// Draws the versions of a put or a write that has begun.
+    pub fn draw(&mut self, directory: &mut Directory, book: &Book) -> Result<DrawAnswer, Refusal>
         requires ready { IsReady book.now directory.old self.old }
         ensures steps { Steps directory.old self.old directory.new self.new }
+        ensures drawn { (held : HeldPass) → self.old.token ≡ ActorToken.InCall held → IfOk result (IfDrawn directory.old held self.old.request) }
     {
         let Stage::Begun = self.stage else {
             return Err(Refusal::NotNow);

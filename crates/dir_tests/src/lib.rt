@@ -10,8 +10,12 @@ pub mod opening;
 pub mod placing;
 pub mod rows;
 pub mod said;
+pub mod shelf;
 pub mod stage;
 pub mod store;
+#[cfg(test)]
+mod strays;
+pub mod stripe;
 #[cfg(test)]
 mod walks;
 pub mod words;

@@ -1,10 +1,15 @@
-ghost use Rattle.std.specs.Prelude.{◌≡◌, ◌<◌, ◌∷◌, ◌++◌, [], length, None};
+ghost use Rattle.std.specs.Prelude.{◌≡◌, ◌<◌, ◌∷◌, ◌++◌, [], length, None, IfOk};
+ghost use Rattle.store_core.specs.Agreement.{ActorToken, HeldPass};
+ghost use Rattle.call_token.specs.Stamps.{IfDrawn};
+ghost use Rattle.dir_tests.specs.Begun.{IfBegun};
+ghost use Rattle.dir_tests.specs.Stores.{IsStore};
 
 use crate::caller::{Answer, Caller, Refusal, Step};
+use call_token::{DrawAnswer, LookAnswer};
 use std::alloc::{AllocError, Global};
 use std::marker::Model;
 use std::test::Fail;
-use store_map::{Actor, Point, Version};
+use store_map::{Actor, Call, Point, Version};
 use stripe_dir::{Directory, Seat};
 use version_seal::Book;
 
@@ -44,7 +49,8 @@ fn last(seats: &mut Vec<Seat>) -> Seat
 impl<'a> Store<'a> {
     /// A directory without objects, whose objects may have 64 bytes each.
     pub fn open(alloc: Global, book: &'a Book) -> Result<Store<'a>, AllocError>
-        requires { book.now.script ≡ None }
+        requires free { book.now.script ≡ None }
+        ensures book { IfOk result (λ store. store.book ≡ book.now) }
     {
         let (directory, seats) = Directory::new(alloc, book.opening(), 64, 2, 1)?;
         let mut seats = seats;
@@ -79,6 +85,30 @@ impl<'a> Store<'a> {
 
     pub fn directory(&self) -> &Directory {
         &self.directory
+    }
+
+    /// What every store keeps. It does nothing when it runs.
+    pub fn keeps(&self)
+        ensures whole { IsStore self.now }
+        ensures code { self.now.sealed.core.shape ≡ self.now.book.geometry }
+    {
+        self.directory.keeps();
+    }
+
+    /// A look of the first client.
+    pub fn begin(&mut self, number: u32, call: &Call) -> Result<LookAnswer, Refusal>
+        ensures begun { IfOk result (λ answer. IfBegun self.old.book.home call.now number answer self.new.first) }
+        ensures book { self.new.book ≡ self.old.book }
+    {
+        self.first
+            .look(&mut self.directory, self.book, number, call)
+    }
+
+    /// A draw of the first client.
+    pub fn draw(&mut self) -> Result<DrawAnswer, Refusal>
+        ensures drawn { (held : HeldPass) → self.old.first.token ≡ ActorToken.InCall held → IfOk result (IfDrawn self.old.sealed held self.old.first.request) }
+    {
+        self.first.draw(&mut self.directory, self.book)
     }
 
     /// A step of the first client.
