@@ -1,0 +1,6 @@
+//! A client's write or delete: a write looks, gathers the old bytes that it keeps, draws versions, has
+//! their chunks made and placed, commits and settles, and is tried again where its object was changed.
+#![tactic(auto)]
+
+mod bytes;
+pub mod laws;
