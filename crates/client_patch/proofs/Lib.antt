@@ -1,3 +1,10 @@
 pub mod Padding
 pub mod Olds
 pub mod Ramps
+pub mod Standings
+pub mod OfWrites
+pub mod Gathered
+pub mod Points
+pub mod Tokens
+pub mod Servers
+pub mod Serving

@@ -4,3 +4,7 @@
 
 mod bytes;
 pub mod laws;
+mod patch;
+mod stage;
+
+pub use patch::PatchCall;

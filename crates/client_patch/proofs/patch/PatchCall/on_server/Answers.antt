@@ -1,0 +1,49 @@
+use Rattle.std.proofs.Common.{false, ap, sym, ◌∙◌}
+use Rattle.client_patch.specs.Patches.{PatchOf}
+use Rattle.chunk_server.specs.Core.{core_of}
+use Rattle.write_course.specs.WritingSteps.{stepped}
+use Rattle.client_patch.proofs.Serving.{gathering_knows, served_kept, served_step, served_knows}
+use Rattle.client_patch.proofs.patch.PatchCall.on_server.Goals as goal
+
+pub invariant_of-self-in_default : goal.invariant_of-self-in_default
+invariant_of-self-in_default c =
+    let a = c.self.inside in
+    let kept = c.self.invariant in
+    let step =
+        c.on_server-in_default.ensures.step
+        ∙ ap (λ short. stepped a.writing.book.geometry short (core_of c.args.s.now) a.writing.state) (sym c.is_err-self-inside.ensures.value) in
+    record {
+      patch = kept.patch;
+      client = kept.client;
+      actor_is = kept.actor_is;
+      script = kept.script;
+      book = kept.book;
+      tries = kept.tries;
+      kept =
+          served_kept c.steps_are_of_the_call.ensures a kept c.args.self.now c.self.view_is c.args.s.now.number c.requires.need c.in_default.not-Gathering
+          c.on_server-in_default.new.self c.is_err-self-inside.result _ _ step c.on_server-in_default.ensures.same false c.is_err-self-inside.result;
+    }
+
+pub returns-in-Gathering-clause-knows : goal.returns-in-Gathering-clause-knows
+returns-in-Gathering-clause-knows c =
+    gathering_knows c.steps_are_of_the_call.ensures c.self.inside c.self.invariant c.args.self.now c.self.view_is c.args.s.now.number c.requires.need c.in-Gathering.is
+    c.on_server.new.self c.on_server.ensures.owed false c.step_was_short-self-inside.result
+
+pub returns-in_default : goal.returns-in_default
+returns-in_default c =
+    let a = c.self.inside in
+    let kept = c.self.invariant in
+    let step =
+        c.on_server-in_default.ensures.step
+        ∙ ap (λ short. stepped a.writing.book.geometry short (core_of c.args.s.now) a.writing.state) (sym c.is_err-self-inside.ensures.value) in
+    record {
+      step =
+          served_step c.steps_are_of_the_call.ensures a kept c.args.self.now c.self.view_is c.args.s.now.number c.requires.need c.in_default.not-Gathering
+          c.on_server-in_default.new.self c.is_err-self-inside.result _ _ step c.on_server-in_default.ensures.same;
+      written = ap (λ (p : PatchOf). p.written) c.self.view_is;
+      knows = λ d _.
+          served_knows c.steps_are_of_the_call.ensures a kept c.args.self.now c.self.view_is c.args.s.now.number c.requires.need c.in_default.not-Gathering
+          c.on_server-in_default.new.self c.is_err-self-inside.result _ _ step c.on_server-in_default.ensures.same false c.is_err-self-inside.result d;
+      number = c.on_server-in_default.ensures.number;
+      book = c.on_server-in_default.ensures.book;
+    }

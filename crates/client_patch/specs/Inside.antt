@@ -1,0 +1,123 @@
+-- The fields of a write or a delete as callers see them, and what they keep.
+use Rattle.std.specs.Prelude.{◌≡◌, ⊤, ◌⊎◌, ℕ, ◌+◌, ◌/◌, ◌<◌, ◌≤◌, Bool, true, List, [], length, map, None, Some, vec_capacity}
+use Rattle.std.specs.List.{slice_get}
+use Rattle.clay_grid.specs.Shape.{stripe_length}
+use Rattle.store_map.specs.declared.call.Call.{Call}
+use Rattle.store_core.specs.Note.{Note, note_of}
+use Rattle.store_core.specs.Look.{stripes_between}
+use Rattle.store_core.specs.NextAct.{job_of}
+use Rattle.store_core.specs.Agreement.{HeldPass, ActorToken}
+use Rattle.store_core.specs.Tokens.{actor_of}
+use Rattle.store_core.specs.Act.{Outcome as CoreOutcome}
+use Rattle.store_resume.specs.State.{State}
+use Rattle.version_seal.specs.Entry.{BookOf, StampOf}
+use Rattle.call_steps.specs.TokenAfter.{IsSeated}
+use Rattle.call_steps.specs.declared.outcomes.Change.{Change}
+use Rattle.gather_parts.specs.Gatherings.{GatheringsOf, owed}
+use Rattle.gather_parts.specs.Standings.{standing_of}
+use Rattle.gather_parts.specs.declared.standing.Standing.{Standing}
+use Rattle.gather_parts.specs.declared.standing.Standing.TheVariants as standing
+use Rattle.write_course.specs.Writings.{WritingOf, versions_of}
+use Rattle.client_patch.specs.Kept.{new_of}
+use Rattle.client_patch.specs.Patches.{PatchOf, is_write, is_patch, IsClient, IsOfScript, point_ended}
+use Rattle.client_patch.specs.Stages.{state_by, due_by, IsFresh}
+use Rattle.client_patch.specs.declared.stage.Stage.{Stage}
+use Rattle.client_patch.specs.declared.stage.Stage.TheVariants as stage
+use Rattle.client_patch.specs.declared.patch.PatchCall.TheInside.{Inside}
+
+-- changes as the definitions keep them
+abbrev pub pairs_in : List Change → List (ℕ × ℕ)
+pairs_in changes = map (λ change. (change.base.0, change.newer.0)) changes
+
+-- what callers see
+abbrev pub patch_in : Inside → PatchOf
+patch_in a =
+    record {
+      call = record {
+        book = a.opening;
+        tries = a.tries;
+        job = job_of a.call.now;
+        number = a.number;
+        token = a.token;
+        state = record { pairs = pairs_in a.changes.items; at = state_by a.stage a.gatherings a.writing a.outcome };
+        takes = a.gatherings.takes;
+        due = due_by a.stage a.gatherings a.writing;
+        coding = a.coding;
+        step = a.step;
+      };
+      written = a.call.now;
+      size = a.size;
+      kept = owed a.gatherings;
+    }
+
+-- the token before a look: a seat under which the call's number is unused
+abbrev pub IsWaiting : ℕ → ActorToken → Type 0
+IsWaiting number (ActorToken.Seated seat) = seat.unused ≤ number
+IsWaiting number (ActorToken.InCall held) = ⊥
+
+-- the token from then on: the pass of this call, which has drawn these versions
+abbrev pub IsHolding : ℕ → Note → List ℕ → ActorToken → Type 0
+IsHolding number note drawn (ActorToken.Seated seat) = ⊥
+IsHolding number note drawn (ActorToken.InCall held) = (held.pass.note ≡ note) × (held.pass.number ≡ number) × (held.pass.drawn ≡ drawn)
+
+-- whatever it has drawn
+abbrev pub IsPassing : ℕ → Note → ActorToken → Type 0
+IsPassing number note (ActorToken.Seated seat) = ⊥
+IsPassing number note (ActorToken.InCall held) = (held.pass.note ≡ note) × (held.pass.number ≡ number)
+
+-- while there is a writing the token is the pass up to the commit, and a seat from then on
+abbrev pub HasToken : ℕ → Note → List ℕ → ActorToken → State → Type 0
+HasToken number note drawn token (State.Preparing stripe version server servers row later placed versions) = IsHolding number note drawn token
+HasToken number note drawn token (State.Committing versions placed) = IsHolding number note drawn token
+HasToken number note drawn token (State.Ending outcome) = IsHolding number note drawn token × (point_ended outcome ≡ None)
+HasToken number note drawn token (State.Settling point place places) = IsSeated token
+HasToken number note drawn token (State.Finished outcome) = IsSeated token
+HasToken number note drawn token at = ⊥
+
+-- the end of a writing that was given up
+pub record IsGivenUp (at : State) : Type 0 where
+  pub ending : CoreOutcome
+  pub is : at ≡ State.Ending ending
+  pub pointless : point_ended ending ≡ None
+
+-- the versions are those of the stripes of the call, with its bytes over the old ones
+pub record IsOfCall (book : BookOf) (written : Call) (size : ℕ) (kept : List ℕ) (w : WritingOf) : Type 0 where
+  pub book_is : w.book ≡ book
+  pub first : w.first ≡ (note_of written).offset / stripe_length book.geometry
+  pub count : length w.stamps ≡ length (stripes_between book.geometry (note_of written).offset ((note_of written).offset + (note_of written).length))
+  pub contents : (place : ℕ) (stamp : StampOf) → slice_get w.stamps place ≡ Some stamp → stamp.content ≡ new_of book.geometry written size kept (w.first + place)
+
+-- gatherings that have ended without their bytes
+abbrev pub IsUngathered : Standing → Type 0
+IsUngathered standing.TooMany = ⊤
+IsUngathered standing.Short = ⊤
+IsUngathered now = ⊥
+
+-- before the commit there is room for one change more
+abbrev pub HasRoom : State → ℕ → ℕ → Type 0
+HasRoom (State.Settling point place places) count room = ⊤
+HasRoom (State.Finished outcome) count room = ⊤
+HasRoom at count room = count < room
+
+-- by its stage
+abbrev pub Keeps : Stage → Inside → Type 0
+Keeps stage.Looking a = IsWaiting a.number a.token × ((is_write a.call.now ≡ true) ⊎ (a.changes.items ≡ []))
+Keeps stage.Looked a = IsHolding a.number (note_of a.call.now) [] a.token × IsFresh a.gatherings × (is_write a.call.now ≡ true)
+Keeps stage.Gathering a = IsHolding a.number (note_of a.call.now) [] a.token × (length a.changes.items < vec_capacity a.changes) × (is_write a.call.now ≡ true)
+Keeps stage.Ungathered a = IsSeated a.token × IsUngathered (standing_of a.gatherings)
+Keeps stage.Writing a =
+    IsOfCall a.opening a.call.now a.size a.gatherings.bytes a.writing × HasToken a.number (note_of a.call.now) (versions_of a.writing.stamps) a.token a.writing.state
+    × HasRoom a.writing.state (length a.changes.items) (vec_capacity a.changes) × (is_write a.call.now ≡ true)
+Keeps stage.GivenUp a = IsSeated a.token × IsGivenUp a.writing.state
+Keeps stage.Ending a = IsPassing a.number (note_of a.call.now) a.token
+Keeps stage.Finished a = IsSeated a.token
+
+-- what every call keeps
+pub record IsPatch (a : Inside) : Type 0 where
+  pub patch : is_patch a.call.now ≡ true
+  pub client : IsClient a.actor
+  pub actor_is : actor_of a.token ≡ a.actor
+  pub script : IsOfScript a.opening a.actor a.number a.call.now
+  pub book : a.gatherings.book ≡ a.opening
+  pub tries : 0 < a.tries
+  pub kept : Keeps a.stage a

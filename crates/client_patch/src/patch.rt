@@ -1,0 +1,312 @@
+//! A write or a delete as a machine of steps.
+ghost use Rattle.std.specs.Prelude.{◌≡◌, ◌<◌, ◌≤◌, ℕ, List, true, false, None, Some, IfSome, OnOk};
+ghost use Rattle.std.specs.Option.{option_map};
+ghost use Rattle.clay_grid.specs.Shape.{chunk_count};
+ghost use Rattle.store_core.specs.Act.{Act};
+ghost use Rattle.store_core.specs.NextAct.{Job};
+ghost use Rattle.store_core.specs.Agreement.{ActorToken};
+ghost use Rattle.store_resume.specs.State.{Sequel, State};
+ghost use Rattle.store_resume.specs.StateActs.{act_at};
+ghost use Rattle.chunk_server.specs.Core.{core_of};
+ghost use Rattle.gathering.specs.Gathers.{IfServer};
+ghost use Rattle.stripe_dir.specs.Sealed.{Sealed};
+ghost use Rattle.call_steps.specs.CallOf.{act_of};
+ghost use Rattle.call_steps.specs.Steps.{stepped_at_server, coded, need_by, need_of, HoldsItsPass, IsDueInPass};
+ghost use Rattle.call_steps.specs.Outcomes.{outcome_of};
+ghost use Rattle.gather_parts.specs.Ends.{taken_of};
+ghost use Rattle.gather_parts.specs.States.{state_in};
+ghost use Rattle.gather_parts.specs.Standings.{standing_of};
+ghost use Rattle.write_course.specs.Writings.{begins_version};
+ghost use Rattle.client_patch.specs.Inside.{IsUngathered};
+ghost use Rattle.client_patch.specs.Known.{KnowsOld};
+ghost use Rattle.client_patch.specs.Patches.{is_patch, IsClient, IsOfScript, first_patch, point_ended, point_of};
+ghost use Rattle.client_patch.specs.Stages.{finished_of, IsStanding, IsOver};
+
+use crate::stage::Stage;
+use call_steps::{Change, Outcome};
+use call_token::Token;
+use chunk_server::Server;
+use gather_parts::{Gathered, PartGatherings};
+use gathering::Need;
+use read_ledger::Takes;
+use std::alloc::Global;
+use std::marker::Model;
+use store_map::{Actor, Call, Point, Reply};
+use stripe_dir::Seat;
+use version_seal::Opening;
+use write_course::laws::steps_are_of_the_call;
+use write_course::{Doing, Writing};
+
+/// A client's write or delete in work. It has to be finished or abandoned.
+pub struct PatchCall<'a> {
+    pub(crate) alloc: Global,
+    pub(crate) stage: Stage,
+    pub(crate) token: Token,
+    pub(crate) actor: Actor,
+    pub(crate) call: &'a Call,
+    pub(crate) number: u32,
+    // how often a write is tried
+    pub(crate) tries: u32,
+    pub(crate) opening: Opening,
+    // of its object at the last look, in bytes
+    pub(crate) size: u64,
+    pub(crate) gatherings: PartGatherings,
+    // of no versions until some are drawn
+    pub(crate) writing: Writing,
+    // one for each try that found its object changed
+    pub(crate) changes: Vec<Change>,
+    // how it has ended, where neither gatherings nor writing nor changes say it
+    pub(crate) outcome: Outcome,
+    pub(crate) coding: bool,
+    pub(crate) step: bool,
+}
+
+impl<'a> Model for PatchCall<'a> {
+    ghost use Rattle.client_patch.specs.Patches.{PatchOf};
+
+    ghost Value = { PatchOf };
+
+    ghost use Rattle.client_patch.specs.Inside.{patch_in, IsPatch};
+
+    ghost view = { patch_in };
+
+    ghost invariant = { IsPatch };
+}
+
+// What a writing needs that stands between two steps.
+fn need_of_writing(writing: &Writing) -> Need
+    requires { IsStanding writing.now.state }
+    ensures need { (tries : ℕ) (job : Job) (pairs : List (ℕ × ℕ)) → result
+        ≡ need_by (act_at writing.now.book.geometry tries job pairs writing.now.state) writing.now.due }
+    ensures begins { writing.now.due ≡ true → begins_version writing.now.state ≡ true }
+    ensures below { IfServer result (λ server. server < chunk_count writing.now.book.geometry) }
+{
+    if writing.due() {
+        return Need::Coder;
+    }
+    match writing.asked() {
+        Some(server) => Need::Server(server),
+        None => match writing.doing() {
+            Doing::Done => Need::Finished,
+            _ => Need::Directory,
+        },
+    }
+}
+
+// How a writing has ended.
+fn outcome_of_writing(writing: Writing) -> Outcome
+    requires { IsOver writing.state }
+    ensures { finished_of writing.state ≡ State.Finished (outcome_of result) }
+{
+    if let Some(point) = writing.committed_at() {
+        return Outcome::Answered {
+            point,
+            reply: Reply::Done,
+        };
+    }
+    match writing.doing() {
+        Doing::TooManyAway => {
+            let (stripe, missing) = writing.into_away();
+            Outcome::Unavailable { stripe, missing }
+        }
+        _ => Outcome::NoMemory,
+    }
+}
+
+// The point of a call that was answered ok.
+fn point_of_outcome(outcome: &Outcome) -> Option<Point>
+    ensures { option_map (λ point. point.0) result ≡ point_ended (outcome_of outcome.now) }
+{
+    match outcome {
+        Outcome::Answered {
+            point,
+            reply: Reply::Done,
+        } => Some(*point),
+        _ => None,
+    }
+}
+
+// How gatherings have ended without their bytes, and what the call took.
+fn outcome_of_gatherings(gatherings: PartGatherings) -> (Outcome, Option<Takes>)
+    requires { IsUngathered (standing_of gatherings) }
+    ensures outcome { finished_of (state_in gatherings Sequel.Draw) ≡ State.Finished (outcome_of result.0) }
+    ensures takes { result.1 ≡ taken_of gatherings.takes }
+{
+    let (gathered, takes) = gatherings.finish();
+    match gathered {
+        Gathered::TooMany { stripe, missing } => (Outcome::Unavailable { stripe, missing }, takes),
+        Gathered::Short => (Outcome::NoMemory, takes),
+        Gathered::Bytes(_bytes) => unreachable!(),
+    }
+}
+
+impl<'a> PatchCall<'a> {
+    /// A write or a delete of a client that is in no call, under an unused number. In a book with a
+    /// script it is the script's call of that number. It takes no memory.
+    pub fn new(
+        alloc: Global,
+        seat: Seat,
+        actor: Actor,
+        number: u32,
+        call: &'a Call,
+        opening: Opening,
+        tries: u32,
+    ) -> PatchCall<'a>
+        requires patch { is_patch call.now ≡ true }
+        requires client { IsClient actor }
+        requires own { seat.actor ≡ actor }
+        requires unused { seat.unused ≤ number }
+        requires tries { 0 < tries }
+        requires script { IsOfScript opening actor number call.now }
+        ensures { result ≡ first_patch opening tries seat number call.now }
+    {
+        let gatherings = PartGatherings::new(alloc, opening.copy());
+        let writing = Writing::new(alloc, opening.copy(), 0, Vec::new(alloc));
+        PatchCall {
+            alloc,
+            stage: Stage::Looking,
+            token: Token::new(seat),
+            actor,
+            call,
+            number,
+            tries,
+            opening,
+            size: 0,
+            gatherings,
+            writing,
+            changes: Vec::new(alloc),
+            outcome: Outcome::NoMemory,
+            coding: false,
+            step: false,
+        }
+    }
+
+    /// Where the call has to go on.
+    pub fn need(&self) -> Need
+        ensures need { result ≡ need_of self.now.call }
+        ensures in_pass { IsDueInPass self.now.call }
+        ensures pass { HoldsItsPass self.now.call }
+        ensures below { IfServer result (λ server. server < chunk_count self.now.call.book.geometry) }
+    {
+        match self.stage {
+            Stage::Looking if self.changes.len() >= self.tries as usize => Need::Finished,
+            Stage::Looking | Stage::Ending => Need::Directory,
+            Stage::Looked => Need::Coder,
+            Stage::Gathering => self.gatherings.need(),
+            Stage::Writing => need_of_writing(&self.writing),
+            Stage::Ungathered | Stage::GivenUp | Stage::Finished => Need::Finished,
+        }
+    }
+
+    /// One step at the server that is needed.
+    pub fn on_server(&mut self, s: &mut Server)
+        requires need { need_of self.old.call ≡ Need.Server s.old.number }
+        requires book { s.old.book ≡ self.old.call.book }
+        ensures step { (core_of s.new, self.new.call)
+            ≡ stepped_at_server self.new.call.step self.new.call.due self.old.call (core_of s.old) }
+        ensures written { self.new.written ≡ self.old.written }
+        ensures knows { (d : Sealed) → KnowsOld d self.old → KnowsOld d self.new }
+        ensures number { s.new.number ≡ s.old.number }
+        ensures book { s.new.book ≡ s.old.book }
+    {
+        steps_are_of_the_call();
+        self.coding = false;
+        match self.stage {
+            Stage::Gathering => {
+                self.gatherings.on_server(s);
+                self.step = self.gatherings.step_was_short();
+            }
+            _ => self.step = self.writing.on_server(s).is_err(),
+        }
+    }
+
+    /// The point of its change, once it has come: of a write's commit, or of a delete that was answered
+    /// ok.
+    pub fn committed(&self) -> Option<Point>
+        ensures { option_map (λ point. point.0) result ≡ point_of self.now.call.state.at }
+    {
+        match self.stage {
+            Stage::Writing => {
+                // How it has ended is needed below.
+                let _ = self.writing.doing();
+                self.writing.committed_at()
+            }
+            Stage::Finished => point_of_outcome(&self.outcome),
+            _ => None,
+        }
+    }
+
+    /// What it has taken in all its tries, or none where it has taken nothing.
+    pub fn takes(&self) -> Option<&Takes>
+        ensures { option_map (λ takes. takes.now) result ≡ taken_of self.now.call.takes }
+    {
+        self.gatherings.takes()
+    }
+
+    /// The seat of the client whose call is over, how it ended, and what it has taken, or none where
+    /// it has taken nothing.
+    pub fn finish(self) -> (Seat, Outcome, Option<Takes>)
+        requires { need_of self.call ≡ Need.Finished }
+        ensures seat { ActorToken.Seated result.0 ≡ self.entry.call.token }
+        ensures outcome { act_of self.entry.call ≡ Act.Finish (outcome_of result.1) }
+        ensures takes { result.2 ≡ taken_of self.entry.call.takes }
+    {
+        // That it holds no pass is needed below.
+        let _ = self.need();
+        let PatchCall {
+            alloc: _,
+            stage,
+            token,
+            actor: _,
+            call: _,
+            number: _,
+            tries: _,
+            opening: _opening,
+            size: _,
+            gatherings,
+            writing,
+            changes,
+            outcome,
+            coding: _,
+            step: _,
+        } = self;
+        let seat = token.into_seat();
+        match stage {
+            Stage::Looking => (seat, Outcome::Contended { changes }, gatherings.into_takes()),
+            Stage::Ungathered => {
+                let (outcome, takes) = outcome_of_gatherings(gatherings);
+                (seat, outcome, takes)
+            }
+            Stage::Writing | Stage::GivenUp => {
+                (seat, outcome_of_writing(writing), gatherings.into_takes())
+            }
+            _ => (seat, outcome, gatherings.into_takes()),
+        }
+    }
+
+    /// Leaves the directory in the middle of the call: what it has taken, or none where it has taken
+    /// nothing.
+    pub fn abandon(self) -> Option<Takes>
+        ensures { result ≡ taken_of self.entry.call.takes }
+    {
+        let PatchCall {
+            alloc: _,
+            stage: _,
+            token,
+            actor: _,
+            call: _,
+            number: _,
+            tries: _,
+            opening: _opening,
+            size: _,
+            gatherings,
+            writing: _writing,
+            changes: _changes,
+            outcome: _outcome,
+            coding: _,
+            step: _,
+        } = self;
+        token.leave();
+        gatherings.into_takes()
+    }
+}

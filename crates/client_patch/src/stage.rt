@@ -1,0 +1,102 @@
+//! What a write or a delete does next, by its answers.
+ghost use Rattle.std.specs.Prelude.{◌≡◌, true, map, All, IfOk};
+ghost use Rattle.store_core.specs.Note.{note_of};
+ghost use Rattle.store_core.specs.NextAct.{job_of};
+ghost use Rattle.store_resume.specs.States.{open_state};
+ghost use Rattle.store_resume.specs.LookAfter.{start_after};
+ghost use Rattle.stripe_dir.specs.Answers.{told_or_short};
+ghost use Rattle.write_course.specs.Writings.{WritingOf};
+ghost use Rattle.call_token.specs.Answers.{told_by_look};
+ghost use Rattle.call_token.specs.Shown.{stripes_seen};
+ghost use Rattle.gather_parts.specs.Wanted.{wanted_of, IsPinned};
+ghost use Rattle.gather_parts.specs.Gatherings.{begun};
+ghost use Rattle.client_patch.specs.Patches.{is_write, is_patch};
+ghost use Rattle.client_patch.specs.Stages.{state_by, after_end, looked_stripes, IsPatchLook, IsLooked};
+
+use call_steps::Outcome;
+use call_token::LookAnswer;
+use gather_parts::PartGatherings;
+use std::alloc::AllocError;
+use store_map::Call;
+
+/// What the call does next, or how it has ended.
+#[derive(Clone, Copy, PartialEq, Eq, Debug)]
+pub(crate) enum Stage {
+    /// It looks next, or no try is left.
+    Looking,
+    /// What was pinned is to be gathered, once there is room for one change more.
+    Looked,
+    /// It gathers the old bytes that it keeps, and draws then.
+    Gathering,
+    /// The directory was told that the gatherings have ended without their bytes.
+    Ungathered,
+    /// What was drawn is written, or its end has come.
+    Writing,
+    /// The directory was told that the writing has ended without a commit.
+    GivenUp,
+    /// Memory was wanting, and the directory is told next that the pass ends.
+    Ending,
+    /// It is over, with an outcome of its own.
+    Finished,
+}
+
+// What a look leads to: the object's size, or how the call has ended.
+pub(crate) struct Looked {
+    pub(crate) stage: Stage,
+    pub(crate) size: u64,
+    pub(crate) outcome: Outcome,
+}
+
+// Where the call goes on after its look. The old bytes of what was pinned are to be gathered.
+pub(crate) fn after_look(
+    answer: Result<LookAnswer, AllocError>,
+    call: &Call,
+    gatherings: &mut PartGatherings,
+) -> Looked
+    requires fits { IsPatchLook (is_write call.now) (told_or_short told_by_look answer) }
+    requires patch { is_patch call.now ≡ true }
+    requires pinned { IfOk answer (λ answer. All (IsPinned gatherings.old.book) (stripes_seen answer)) }
+    ensures state { (w : WritingOf) → state_by result.stage gatherings.new w result.outcome
+        ≡ open_state gatherings.old.book.geometry (start_after gatherings.old.book.geometry (note_of call.now).kind (job_of call.now) (told_or_short told_by_look answer)) }
+    ensures looked { IsLooked (told_or_short told_by_look answer) result.stage }
+    ensures begun { result.stage ≡ Stage.Looked → gatherings.new ≡ begun gatherings.old (map (wanted_of gatherings.old.book.geometry 0 result.size) (looked_stripes answer)) }
+    ensures book { gatherings.new.book ≡ gatherings.old.book }
+    ensures takes { gatherings.new.takes ≡ gatherings.old.takes }
+{
+    match answer {
+        Ok(LookAnswer::Answer { point, reply }) => Looked {
+            stage: Stage::Finished,
+            size: 0,
+            outcome: Outcome::Answered { point, reply },
+        },
+        Ok(
+            LookAnswer::Ready {
+                length, stripes, ..
+            },
+        ) => {
+            gatherings.begin(stripes, 0, length);
+            Looked {
+                stage: Stage::Looked,
+                size: length,
+                outcome: Outcome::NoMemory,
+            }
+        }
+        Ok(LookAnswer::Pinned { .. }) => unreachable!(),
+        Err(_) => Looked {
+            stage: Stage::Finished,
+            size: 0,
+            outcome: Outcome::NoMemory,
+        },
+    }
+}
+
+// Where the call goes on that has told the directory of the end of its pass.
+pub(crate) fn after_end(stage: Stage) -> Stage
+    ensures { result ≡ after_end stage }
+{
+    match stage {
+        Stage::Gathering => Stage::Ungathered,
+        Stage::Writing => Stage::GivenUp,
+        _ => Stage::Finished,
+    }
+}
