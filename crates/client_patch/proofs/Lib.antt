@@ -8,3 +8,5 @@ pub mod Points
 pub mod Tokens
 pub mod Servers
 pub mod Serving
+pub mod Contents
+pub mod Codings

@@ -3,6 +3,7 @@
 #![tactic(auto)]
 
 mod bytes;
+mod coding;
 pub mod laws;
 mod patch;
 mod stage;

@@ -1,0 +1,127 @@
+//! What a write or a delete does between two steps.
+ghost use Rattle.std.specs.Prelude.{◌≡◌, ◌<◌, true, false, length, vec_capacity, OnOk, OnErr};
+ghost use Rattle.store_resume.specs.State.{Sequel, State};
+ghost use Rattle.stripe_dir.specs.Sealed.{Sealed};
+ghost use Rattle.call_steps.specs.Steps.{coded, need_of};
+ghost use Rattle.gather_parts.specs.Gatherings.{owed};
+ghost use Rattle.write_course.specs.Writings.{WritingOf};
+ghost use Rattle.client_patch.specs.Inside.{IsOfCall};
+ghost use Rattle.client_patch.specs.Known.{KnowsOld};
+ghost use Rattle.client_patch.specs.Patches.{is_write};
+ghost use Rattle.client_patch.specs.Stages.{IsFresh, IsBegun};
+
+use crate::bytes::stripe_bytes;
+use crate::patch::PatchCall;
+use crate::stage::Stage;
+use call_steps::{Change, Outcome};
+use clay_grid::Geometry;
+use clay_repair::Coder;
+use gather_parts::{PartGatherings, Standing};
+use gathering::Need;
+use std::alloc::{AllocError, Global};
+use std::thread::Threads;
+use store_map::Call;
+use write_course::Writing;
+use write_course::laws::steps_are_of_the_call;
+
+// Takes room for one change more and begins to gather. It tells where the call goes on, and whether
+// memory was wanting.
+fn begin_gathering<R: Threads + Sync, C: Coder>(
+    rt: &R,
+    coder: &C,
+    changes: &mut Vec<Change>,
+    gatherings: &mut PartGatherings,
+) -> (Stage, bool)
+    requires { IsFresh gatherings.old }
+    ensures begun { IsBegun gatherings.old gatherings.new result.0 result.1 }
+    ensures changes { changes.new.items ≡ changes.old.items }
+    ensures room { result.0 ≡ Stage.Gathering → length changes.new.items < vec_capacity changes.new }
+{
+    if changes.reserve(1).is_err() {
+        return (Stage::Ending, true);
+    }
+    if matches!(gatherings.standing(), Standing::Due) {
+        gatherings.on_coder(rt, coder);
+    }
+    (Stage::Gathering, gatherings.coding_was_short())
+}
+
+// Makes the chunks of the version at work.
+fn encode<R: Threads + Sync, C: Coder>(
+    rt: &R,
+    coder: &C,
+    alloc: Global,
+    geometry: Geometry,
+    call: &Call,
+    size: u64,
+    kept: &[u8],
+    writing: &mut Writing,
+) -> Result<(), AllocError>
+    requires write { is_write call.now ≡ true }
+    requires code { geometry ≡ writing.old.book.geometry }
+    requires its { IsOfCall writing.old.book call.now size kept.now writing.old }
+    requires due { writing.old.due ≡ true }
+    ensures ok { OnOk result (writing.new ≡ record writing.old { due = false }) }
+    ensures err { OnErr result (writing.new ≡ writing.old) }
+{
+    let Call::Write {
+        offset, content, ..
+    } = call
+    else {
+        unreachable!()
+    };
+    // That a version is at work is needed below.
+    let _due = writing.due();
+    let Some(stripe) = writing.stripe_at_work() else {
+        unreachable!()
+    };
+    let bytes = stripe_bytes(alloc, geometry, size, *offset, content, kept, stripe)?;
+    writing.encode(rt, coder, &bytes)
+}
+
+impl<'a> PatchCall<'a> {
+    /// What is due before the next step: memory for one try more and for the next stripe's questions,
+    /// the old bytes of a stripe that has come, or the chunks of the version at work. It makes no step.
+    /// Afterwards the call tells whether memory was wanting in it.
+    pub fn on_coder<R: Threads + Sync, C: Coder>(&mut self, rt: &R, coder: &C)
+        requires { need_of self.old.call ≡ Need.Coder }
+        ensures coded { self.new.call ≡ coded self.new.call.coding self.old.call }
+        ensures written { self.new.written ≡ self.old.written }
+        ensures knows { (d : Sealed) → KnowsOld d self.old → KnowsOld d self.new }
+    {
+        match self.stage {
+            Stage::Looked => {
+                let (stage, short) =
+                    begin_gathering(rt, coder, &mut self.changes, &mut self.gatherings);
+                self.stage = stage;
+                self.outcome = Outcome::NoMemory;
+                self.coding = short;
+            }
+            Stage::Gathering => {
+                self.gatherings.on_coder(rt, coder);
+                self.coding = self.gatherings.coding_was_short();
+            }
+            _ => {
+                // That a version is at work, and what follows then, is needed below.
+                steps_are_of_the_call();
+                let _due = self.writing.due();
+                let geometry = self.opening.geometry();
+                let kept = self.gatherings.bytes();
+                let encoded = encode(
+                    rt,
+                    coder,
+                    self.alloc,
+                    geometry,
+                    self.call,
+                    self.size,
+                    kept,
+                    &mut self.writing,
+                );
+                self.coding = encoded.is_err();
+                if self.coding {
+                    self.writing.hear_short();
+                }
+            }
+        }
+    }
+}
