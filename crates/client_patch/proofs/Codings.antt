@@ -1,15 +1,13 @@
 -- What a call does between two steps.
-use Rattle.std.proofs.Common.{◌≡◌, ℕ, Bool, true, false, List, length, Option, None, Some, OnOk, OnErr, Result, Ok, Err, vec_capacity, is_err, refl, ap, subst, sym, ◌∙◌}
+use Rattle.std.proofs.Common.{◌≡◌, ℕ, Bool, true, false, List, length, OnOk, OnErr, Result, Ok, Err, vec_capacity, is_err, refl, ap, subst, sym, ◌∙◌}
 use Rattle.clay_grid.specs.Shape.{Shape}
 use Rattle.store_core.specs.Note.{note_of}
 use Rattle.store_core.specs.Act.{Act, Outcome as CoreOutcome}
 use Rattle.store_core.specs.NextAct.{Job, job_of}
 use Rattle.store_core.specs.Told.{Told}
-use Rattle.store_resume.specs.State.{Sequel, State, CallState}
-use Rattle.store_resume.specs.States.{open_parts}
+use Rattle.store_resume.specs.State.{Sequel, State}
 use Rattle.store_resume.specs.StateActs.{act_at}
 use Rattle.store_resume.specs.CallLaws.{next_call}
-use Rattle.gathering.specs.Gathers.{GatherOf}
 use Rattle.gathering.specs.declared.need.Need.TheVariants as need
 use Rattle.stripe_dir.specs.Sealed.{Sealed}
 use Rattle.call_steps.specs.CallOf.{CallOf}
@@ -26,13 +24,12 @@ use Rattle.write_course.specs.Writings.{WritingOf, versions_of, begins_version}
 use Rattle.client_patch.specs.Patches.{PatchOf}
 use Rattle.client_patch.specs.Known.{AreOldBytes, UpToDraw, KnowsOld}
 use Rattle.client_patch.specs.Stages.{finished_of, state_by, due_by, IsFresh, IsBegun}
-use Rattle.client_patch.specs.Inside.{pairs_in, patch_in, HasToken, HasRoom, IsOfCall, Keeps, IsPatch}
+use Rattle.client_patch.specs.Inside.{pairs_in, patch_in, HasRoom, Keeps, IsPatch}
 use Rattle.client_patch.specs.declared.patch.PatchCall.TheInside.{Inside}
 use Rattle.client_patch.specs.declared.stage.Stage.{Stage}
 use Rattle.client_patch.specs.declared.stage.Stage.TheVariants as stage
-use Rattle.client_patch.proofs.Gathered.{EndsSo, ungathered_ends}
-use Rattle.client_patch.proofs.Tokens.{short_has, known_drawn, room_at}
-use Rattle.client_patch.proofs.Servers.{start_undue, codes}
+use Rattle.client_patch.proofs.Tokens.{short_has}
+use Rattle.client_patch.proofs.Servers.{codes}
 
 -- want of memory right after the look
 fresh_short : (g : Shape) (tries : ℕ) (job : Job) (pairs : List (ℕ × ℕ)) (p : GatheringsOf) → p.book.geometry ≡ g → IsFresh p

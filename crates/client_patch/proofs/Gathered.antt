@@ -1,5 +1,5 @@
 -- A call that stands in its gatherings.
-use Rattle.std.proofs.Common.{◌≡◌, ℕ, Bool, true, false, List, [], ◌∷◌, Option, None, Some, refl, sym, ap, ◌∙◌}
+use Rattle.std.proofs.Common.{◌≡◌, ℕ, Bool, true, false, List, [], ◌∷◌, Option, None, Some, refl}
 use Rattle.clay_grid.specs.Shape.{Shape}
 use Rattle.store_core.specs.Act.{Act, Outcome as CoreOutcome}
 use Rattle.store_core.specs.Gathering.{Part}
@@ -124,3 +124,27 @@ known_at H (State.Installing seen target) h = tt
 known_at H (State.Placing target epoch) h = tt
 known_at H (State.Ending outcome) h = tt
 known_at H (State.Finished outcome) h = tt
+
+-- what is so at questions, before the draw and at ends is so while it gathers
+module _ {A : Type 0} (f : State → A) (v : A) (asked : (aim : Aim) (asking : Asking) (parts : List Part) (after : Sequel) → f (State.Gather aim asking parts after) ≡ v)
+    (drawing : f State.Drawing ≡ v) (ending : (outcome : CoreOutcome) → f (State.Ending outcome) ≡ v) (g : Shape) where
+  stage_gives : (bytes : State) (aim : Aim) (parts : List Part) (stage : Stage) → f bytes ≡ v → f (stage_state bytes aim parts Sequel.Draw stage) ≡ v
+  stage_gives bytes aim parts (Stage.Asks asking) h = asked aim asking parts Sequel.Draw
+  stage_gives bytes aim parts Stage.HasBytes h = h
+  stage_gives bytes aim parts (Stage.TooMany missing) h = ending _
+  stage_gives bytes aim parts Stage.AtTarget h = ending _
+  stage_gives bytes aim parts (Stage.TargetAway downs) h = ending _
+  stage_gives bytes aim parts Stage.Short h = ending _
+
+  open_gives : (parts : List Part) → f (open_parts g parts Sequel.Draw) ≡ v
+  open_gives [] = drawing
+  open_gives (part ∷ parts) = stage_gives (open_parts g parts Sequel.Draw) (Aim.Range part) parts (first_stage g (Aim.Range part)) (open_gives parts)
+
+  pub gives_by : (parts : List Part) (coding : Bool) (current : Option GatherOf) → f (unless_wanting coding (state_by g parts Sequel.Draw current)) ≡ v
+  gives_by parts true current = ending CoreOutcome.NoMemory
+  gives_by parts false None = open_gives parts
+  gives_by parts false (Some w) = stage_gives (open_parts g parts Sequel.Draw) w.course.aim parts w.course.stage (open_gives parts)
+
+pub gathering_gives : {A : Type 0} (f : State → A) (v : A) → ((aim : Aim) (asking : Asking) (parts : List Part) (after : Sequel) → f (State.Gather aim asking parts after) ≡ v)
+    → f State.Drawing ≡ v → ((outcome : CoreOutcome) → f (State.Ending outcome) ≡ v) → (p : GatheringsOf) → f (state_in p Sequel.Draw) ≡ v
+gathering_gives f v asked drawing ending p = gives_by f v asked drawing ending p.book.geometry (parts_of p.left) p.coding p.current

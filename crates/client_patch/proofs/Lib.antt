@@ -10,3 +10,10 @@ pub mod Servers
 pub mod Serving
 pub mod Contents
 pub mod Codings
+pub mod Ends
+pub mod Commits
+pub mod Drawing
+pub mod KeptBytes
+pub mod Knowing
+pub mod Looks
+pub mod Learning

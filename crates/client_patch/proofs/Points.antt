@@ -1,6 +1,6 @@
 -- The point of a call.
-use Rattle.std.proofs.Common.{◌≡◌, Option, None, refl, sym, ap, ◌∙◌}
-use Rattle.store_resume.specs.State.{Sequel, State}
+use Rattle.std.proofs.Common.{◌≡◌, None, refl, sym, ap, ◌∙◌}
+use Rattle.store_resume.specs.State.{Sequel}
 use Rattle.gather_parts.specs.States.{state_in}
 use Rattle.client_patch.specs.Patches.{point_of}
 use Rattle.client_patch.specs.Stages.{finished_of, state_by}

@@ -1,5 +1,5 @@
 -- A call that needs a server, by its fields.
-use Rattle.std.proofs.Common.{◌≡◌, ℕ, Bool, true, false, List, length, Some, vec_capacity, refl, ap, subst, sym, ◌∙◌}
+use Rattle.std.proofs.Common.{◌≡◌, ℕ, Bool, false, List, length, vec_capacity, ap, subst, sym, ◌∙◌}
 use Rattle.store_core.specs.Note.{note_of}
 use Rattle.store_core.specs.NextAct.{job_of}
 use Rattle.store_core.specs.Server.{Server}
@@ -8,7 +8,6 @@ use Rattle.store_resume.specs.StateActs.{act_at}
 use Rattle.version_seal.specs.Entry.{BookOf, StampOf}
 use Rattle.stripe_dir.specs.Sealed.{Sealed}
 use Rattle.gathering.specs.declared.need.Need.TheVariants as need
-use Rattle.call_steps.specs.CallOf.{CallOf}
 use Rattle.call_steps.specs.TokenAfter.{IfInCall}
 use Rattle.call_steps.specs.Steps.{need_by, need_of, stepped_at_server}
 use Rattle.gather_parts.specs.Gatherings.{GatheringsOf, owed}
@@ -19,9 +18,8 @@ use Rattle.write_course.specs.WritingSteps.{stepped}
 use Rattle.client_patch.specs.Patches.{PatchOf}
 use Rattle.client_patch.specs.Known.{AreOldBytes, UpToDraw, KnowsOld}
 use Rattle.client_patch.specs.Stages.{state_by, due_by}
-use Rattle.client_patch.specs.Inside.{pairs_in, patch_in, HasToken, HasRoom, IsOfCall, Keeps, IsPatch}
+use Rattle.client_patch.specs.Inside.{pairs_in, patch_in, HasToken, HasRoom, Keeps, IsPatch}
 use Rattle.client_patch.specs.declared.patch.PatchCall.TheInside.{Inside}
-use Rattle.client_patch.specs.declared.stage.Stage.{Stage}
 use Rattle.client_patch.specs.declared.stage.Stage.TheVariants as stage
 use Rattle.client_patch.proofs.Gathered.{asks_up_to_draw, known_at}
 use Rattle.client_patch.proofs.Tokens.{same_call, stepped_has, stepped_room, known_drawn}

@@ -1,23 +1,18 @@
 -- Where a call stands, by what it does next.
-use Rattle.std.proofs.Common.{◌≡◌, ℕ, Bool, true, false, cond, nat_lt, List, [], length, Some, refl, sym, ap, subst, ◌∙◌}
+use Rattle.std.proofs.Common.{◌≡◌, ℕ, Bool, true, false, List, refl, sym, subst, ◌∙◌}
 use Rattle.std.specs.Prelude.{IsTrue}
-use Rattle.store_core.specs.Note.{Note, Kind, note_of}
-use Rattle.store_core.specs.NextAct.{Job, job_of}
-use Rattle.store_core.specs.Act.{Act, DirectoryStep, Outcome as CoreOutcome}
+use Rattle.store_core.specs.Note.{Note}
+use Rattle.store_core.specs.Act.{Act}
 use Rattle.store_core.specs.ActPlace.{is_in_pass}
 use Rattle.store_core.specs.Agreement.{ActorToken}
-use Rattle.store_resume.specs.State.{Sequel, State}
-use Rattle.store_resume.specs.StateActs.{start_act, act_at}
-use Rattle.gathering.specs.declared.need.Need.{Need}
+use Rattle.store_resume.specs.State.{Sequel}
 use Rattle.gathering.specs.declared.need.Need.TheVariants as need
 use Rattle.call_steps.specs.CallOf.{CallOf, act_of}
 use Rattle.call_steps.specs.TokenAfter.{IfInCall, IsSeated}
 use Rattle.call_steps.specs.Steps.{need_by, need_of, HoldsItsPass}
-use Rattle.gather_parts.specs.Gatherings.{GatheringsOf}
 use Rattle.gather_parts.specs.States.{state_in, StandsIn}
-use Rattle.client_patch.specs.Patches.{PatchOf}
 use Rattle.client_patch.specs.Stages.{state_by}
-use Rattle.client_patch.specs.Inside.{pairs_in, patch_in, IsHolding, IsPatch}
+use Rattle.client_patch.specs.Inside.{patch_in, IsHolding, IsPatch}
 use Rattle.client_patch.specs.declared.patch.PatchCall.TheInside.{Inside}
 
 -- a call in its pass needs the coder where coding is due, and isn't over
@@ -38,10 +33,9 @@ gathers a kept e = record { book = sym kept.book; state = e; takes = refl }
 -- it holds its pass
 pub holds : (c : CallOf) (number : ℕ) (note : Note) (drawn : List ℕ) (token : ActorToken) → c.token ≡ token → c.job.note ≡ note → c.number ≡ number → IsTrue (is_in_pass (act_of c))
     → IsHolding number note drawn token → HoldsItsPass c
-holds c number note drawn (ActorToken.Seated seat) t j n inside h = absurd h
-holds c number note drawn (ActorToken.InCall held) t j n inside h =
+holds c number note drawn token t j n inside h =
     record {
-      its = subst (λ x. IfInCall x (λ held. (held.pass.note ≡ c.job.note) × (held.pass.number ≡ c.number))) (sym t) (h.0 ∙ sym j, h.1 ∙ sym n);
+      its = subst (λ x. IfInCall x (λ held. (held.pass.note ≡ c.job.note) × (held.pass.number ≡ c.number))) (sym (t ∙ h.is)) (h.its ∙ sym j, h.its_number ∙ sym n);
       none = λ e. absurd (not_over (act_of c) inside e);
     }
 

@@ -1,20 +1,21 @@
 -- The token of a call that writes.
 use Rattle.std.proofs.Common.{◌≡◌, ℕ, ◌+◌, ◌<◌, Bool, true, false, cond, ltb, List, [], ◌∷◌, ◌++◌, Some, refl, sym, ap, subst, ◌∙◌}
-use Rattle.std.specs.List.{range_with_len, slice_get}
+use Rattle.std.specs.List.{range_with_len}
 use Rattle.clay_grid.specs.Shape.{Shape, chunk_count}
 use Rattle.store_map.specs.declared.placement.Placement.{Placement}
 use Rattle.store_map.specs.declared.call.Call.{Call}
 use Rattle.store_core.specs.Told.{Told}
 use Rattle.store_core.specs.Note.{Note}
-use Rattle.store_core.specs.Act.{Outcome as CoreOutcome}
+use Rattle.store_core.specs.Act.{DirectoryStep, Outcome as CoreOutcome}
 use Rattle.store_core.specs.Placements.{skipped_from, skipped_count}
 use Rattle.store_core.specs.Server.{Server}
-use Rattle.store_core.specs.Agreement.{ActorToken}
+use Rattle.store_core.specs.Agreement.{Seat, HeldPass, ActorToken}
+use Rattle.store_core.specs.Tokens.{actor_of, after_look, after_pass_step}
 use Rattle.store_resume.specs.State.{State}
 use Rattle.store_resume.specs.States.{prepare_state, prepare_all_state, settle_state}
 use Rattle.store_resume.specs.WriteAfter.{unless_few, prepare_rest_state, preparing_after}
-use Rattle.version_seal.specs.Entry.{BookOf, StampOf}
-use Rattle.call_steps.specs.TokenAfter.{IsSeated}
+use Rattle.version_seal.specs.Entry.{BookOf}
+use Rattle.call_steps.specs.TokenAfter.{token_after, IsSeated}
 use Rattle.write_course.specs.Writings.{WritingOf, server_of, begins_version}
 use Rattle.write_course.specs.WritingSteps.{stepped}
 use Rattle.client_patch.specs.Known.{UpToDraw}
@@ -88,13 +89,42 @@ module _ (number : ℕ) (note : Note) (drawn : List ℕ) (token : ActorToken) wh
   known_drawn H (State.Finished outcome) h = tt
   known_drawn H _ h = absurd h
 
+-- a token stays with its actor
+looks_stay : (seat : Seat) (number : ℕ) (note : Note) (told : Told) → actor_of (after_look seat number note told) ≡ seat.actor
+looks_stay seat number note (Told.Answer point answer) = refl
+looks_stay seat number note (Told.Pinned point length_now seen) = refl
+looks_stay seat number note (Told.Ready base length_now seen) = refl
+looks_stay seat number note (Told.PinnedStripe seen) = refl
+looks_stay seat number note _ = refl
+
+passes_stay : (held : HeldPass) (told : Told) → actor_of (after_pass_step held told) ≡ held.pass.actor
+passes_stay held (Told.Versions versions) = refl
+passes_stay held (Told.Done point) = refl
+passes_stay held (Told.Changed base newer) = refl
+passes_stay held Told.Ended = refl
+passes_stay held (Told.Superseded newer) = refl
+passes_stay held (Told.Reaped point) = refl
+passes_stay held _ = refl
+
+pub token_stays : (token : ActorToken) (number : ℕ) (step : DirectoryStep) (told : Told) → actor_of (token_after token number step told) ≡ actor_of token
+token_stays (ActorToken.Seated seat) number (DirectoryStep.Look note) told = looks_stay seat number note told
+token_stays (ActorToken.Seated seat) number (DirectoryStep.LookRepair note) told = looks_stay seat number note told
+token_stays (ActorToken.Seated seat) number _ told = refl
+token_stays (ActorToken.InCall held) number step told = passes_stay held told
+
+-- the seat after a pass
+pub seated_by : (token now : ActorToken) (number : ℕ) (step : DirectoryStep) (held : HeldPass) (told : Told) → token ≡ ActorToken.InCall held → now ≡ token_after token number step told
+    → IsSeated (after_pass_step held told) → IsSeated now
+seated_by token now number step held told is after seated =
+    subst IsSeated (sym (after ∙ ap (λ (t : ActorToken). token_after t number step told) is)) seated
+
 -- room for one change more
 pub room_at : (at : State) (count room : ℕ) → count < room → HasRoom at count room
 room_at (State.Settling point place places) count room h = tt
 room_at (State.Finished outcome) count room h = tt
 room_at _ count room h = h
 
-settle_room : (point : ℕ) (places : List (ℕ × ℕ)) (count room : ℕ) → HasRoom (settle_state point places) count room
+pub settle_room : (point : ℕ) (places : List (ℕ × ℕ)) (count room : ℕ) → HasRoom (settle_state point places) count room
 settle_room point [] count room = tt
 settle_room point (place ∷ places) count room = tt
 

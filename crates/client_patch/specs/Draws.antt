@@ -1,5 +1,5 @@
 -- The stamps that a write draws.
-use Rattle.std.specs.Prelude.{ℕ, Bool, List, [], Some}
+use Rattle.std.specs.Prelude.{Bool, List, [], Some}
 use Rattle.clay_grid.specs.Shape.{stripe_length}
 use Rattle.store_core.specs.Told.{Told}
 use Rattle.store_core.specs.Act.{Act, DirectoryStep}

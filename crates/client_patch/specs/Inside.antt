@@ -1,5 +1,5 @@
 -- The fields of a write or a delete as callers see them, and what they keep.
-use Rattle.std.specs.Prelude.{◌≡◌, ⊤, ◌⊎◌, ℕ, ◌+◌, ◌/◌, ◌<◌, ◌≤◌, Bool, true, List, [], length, map, None, Some, vec_capacity}
+use Rattle.std.specs.Prelude.{◌≡◌, ⊤, ◌⊎◌, ℕ, ◌+◌, ◌/◌, ◌<◌, ◌≤◌, true, List, [], length, map, None, Some, vec_capacity}
 use Rattle.std.specs.List.{slice_get}
 use Rattle.clay_grid.specs.Shape.{stripe_length}
 use Rattle.store_map.specs.declared.call.Call.{Call}
@@ -13,7 +13,7 @@ use Rattle.store_resume.specs.State.{State}
 use Rattle.version_seal.specs.Entry.{BookOf, StampOf}
 use Rattle.call_steps.specs.TokenAfter.{IsSeated}
 use Rattle.call_steps.specs.declared.outcomes.Change.{Change}
-use Rattle.gather_parts.specs.Gatherings.{GatheringsOf, owed}
+use Rattle.gather_parts.specs.Gatherings.{owed}
 use Rattle.gather_parts.specs.Standings.{standing_of}
 use Rattle.gather_parts.specs.declared.standing.Standing.{Standing}
 use Rattle.gather_parts.specs.declared.standing.Standing.TheVariants as standing
@@ -56,14 +56,17 @@ IsWaiting number (ActorToken.Seated seat) = seat.unused ≤ number
 IsWaiting number (ActorToken.InCall held) = ⊥
 
 -- the token from then on: the pass of this call, which has drawn these versions
-abbrev pub IsHolding : ℕ → Note → List ℕ → ActorToken → Type 0
-IsHolding number note drawn (ActorToken.Seated seat) = ⊥
-IsHolding number note drawn (ActorToken.InCall held) = (held.pass.note ≡ note) × (held.pass.number ≡ number) × (held.pass.drawn ≡ drawn)
+pub record IsHolding (number : ℕ) (note : Note) (drawn : List ℕ) (token : ActorToken) : Type 0 where
+  pub held : HeldPass
+  pub is : token ≡ ActorToken.InCall held
+  pub its : held.pass.note ≡ note
+  pub its_number : held.pass.number ≡ number
+  pub its_drawn : held.pass.drawn ≡ drawn
 
 -- whatever it has drawn
-abbrev pub IsPassing : ℕ → Note → ActorToken → Type 0
-IsPassing number note (ActorToken.Seated seat) = ⊥
-IsPassing number note (ActorToken.InCall held) = (held.pass.note ≡ note) × (held.pass.number ≡ number)
+pub record IsPassing (number : ℕ) (note : Note) (token : ActorToken) : Type 0 where
+  pub drawn : List ℕ
+  pub holding : IsHolding number note drawn token
 
 -- while there is a writing the token is the pass up to the commit, and a seat from then on
 abbrev pub HasToken : ℕ → Note → List ℕ → ActorToken → State → Type 0

@@ -1,13 +1,13 @@
 -- That a write knows the old bytes of the stripes that its pass pins.
-use Rattle.std.specs.Prelude.{◌≡◌, ⊤, ℕ, ◌+◌, ◌<◌, ◌++◌, List, length, All, Contains}
-use Rattle.store_core.specs.Note.{note_of}
+use Rattle.std.specs.Prelude.{◌≡◌, ⊤, ℕ, ◌+◌, ◌/◌, ◌<◌, ◌++◌, List, length, All}
+use Rattle.clay_grid.specs.Shape.{stripe_length}
+use Rattle.store_map.specs.Limits.{stripes_met}
+use Rattle.store_core.specs.Note.{Note, note_of}
 use Rattle.store_core.specs.Directory.{Pass}
-use Rattle.store_core.specs.Look.{stripes_between}
 use Rattle.store_resume.specs.State.{State}
 use Rattle.version_seal.specs.Entry.{StampOf, BookOf, old_bytes}
 use Rattle.stripe_dir.specs.Sealed.{Sealed, base_stamp}
 use Rattle.call_steps.specs.TokenAfter.{IfInCall}
-use Rattle.store_core.specs.Note.{Note}
 use Rattle.client_patch.specs.Kept.{old_of}
 use Rattle.client_patch.specs.Patches.{PatchOf}
 
@@ -15,7 +15,8 @@ use Rattle.client_patch.specs.Patches.{PatchOf}
 pub record AreOldBytes (stamps : List StampOf) (book : BookOf) (note : Note) (size : ℕ) (kept : List ℕ) (pass : Pass) : Type 0 where
   pub pins : All (λ pin. pin.version < length stamps) pass.pinned
   pub bytes :
-      (stripe : ℕ) → Contains (stripes_between book.geometry note.offset (note.offset + note.length)) stripe →
+      (place : ℕ) → place < stripes_met (stripe_length book.geometry) note.offset note.length →
+      let stripe : ℕ = note.offset / stripe_length book.geometry + place in
       old_bytes book.geometry (base_stamp stamps pass.pinned stripe) ≡ old_of book.geometry note size kept stripe
 
 -- up to its draw

@@ -68,6 +68,11 @@ abbrev pub looked_stripes : Result LookAnswer AllocError → List Seen
 looked_stripes (Ok answer) = stripes_seen answer
 looked_stripes (Err e) = []
 
+-- the object's size, where a write goes on
+abbrev pub size_told : Told → ℕ
+size_told (Told.Ready base size stripes) = size
+size_told answer = 0
+
 -- a writing that stands between two steps, and one that has ended
 abbrev pub IsStanding : State → Type 0
 IsStanding (State.Preparing stripe version server servers row later placed versions) = ⊤

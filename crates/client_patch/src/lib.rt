@@ -4,6 +4,7 @@
 
 mod bytes;
 mod coding;
+mod directory;
 pub mod laws;
 mod patch;
 mod stage;

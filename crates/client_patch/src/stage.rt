@@ -11,7 +11,7 @@ ghost use Rattle.call_token.specs.Shown.{stripes_seen};
 ghost use Rattle.gather_parts.specs.Wanted.{wanted_of, IsPinned};
 ghost use Rattle.gather_parts.specs.Gatherings.{begun};
 ghost use Rattle.client_patch.specs.Patches.{is_write, is_patch};
-ghost use Rattle.client_patch.specs.Stages.{state_by, after_end, looked_stripes, IsPatchLook, IsLooked};
+ghost use Rattle.client_patch.specs.Stages.{state_by, after_end, looked_stripes, size_told, IsPatchLook, IsLooked};
 
 use call_steps::Outcome;
 use call_token::LookAnswer;
@@ -60,6 +60,7 @@ pub(crate) fn after_look(
         ≡ open_state gatherings.old.book.geometry (start_after gatherings.old.book.geometry (note_of call.now).kind (job_of call.now) (told_or_short told_by_look answer)) }
     ensures looked { IsLooked (told_or_short told_by_look answer) result.stage }
     ensures begun { result.stage ≡ Stage.Looked → gatherings.new ≡ begun gatherings.old (map (wanted_of gatherings.old.book.geometry 0 result.size) (looked_stripes answer)) }
+    ensures size { size_told (told_or_short told_by_look answer) ≡ result.size }
     ensures book { gatherings.new.book ≡ gatherings.old.book }
     ensures takes { gatherings.new.takes ≡ gatherings.old.takes }
 {

@@ -1,6 +1,4 @@
-use Rattle.std.proofs.Common.{◌≡◌, ℕ, List, IfSome, sym, ap, subst, ◌∙◌}
-use Rattle.clay_grid.specs.Shape.{Shape}
-use Rattle.store_map.specs.declared.call.Call.{Call}
+use Rattle.std.proofs.Common.{◌≡◌, ℕ, List, IfSome, sym, subst, ◌∙◌}
 use Rattle.write_course.specs.Writings.{stamp_at_work}
 use Rattle.client_patch.specs.Kept.{new_of}
 use Rattle.client_patch.proofs.Contents.{content_at_work, due_has_place}

@@ -1,4 +1,4 @@
-use Rattle.std.proofs.Common.{◌≡◌, ℕ, true, List, map, Ok, ap, sym, subst, ◌∙◌}
+use Rattle.std.proofs.Common.{◌≡◌, true, List, map, Ok, ap, sym, subst, ◌∙◌}
 use Rattle.store_core.specs.Note.{note_of}
 use Rattle.store_core.specs.NextAct.{job_of}
 use Rattle.store_core.specs.Told.{Told, Seen}

@@ -1,4 +1,4 @@
-use Rattle.std.proofs.Common.{◌≡◌, true, [], refl, ap, subst, sym, ◌∙◌}
+use Rattle.std.proofs.Common.{[], refl, ap, subst, sym, ◌∙◌}
 use Rattle.std.specs.Prelude.{IsTrue}
 use Rattle.store_core.specs.Note.{note_of}
 use Rattle.store_core.specs.NextAct.{job_of}
@@ -8,12 +8,10 @@ use Rattle.store_resume.specs.StateActs.{act_at}
 use Rattle.version_seal.specs.Entry.{BookOf}
 use Rattle.call_steps.specs.CallOf.{act_of}
 use Rattle.call_steps.specs.Steps.{need_by, need_of, HoldsItsPass}
-use Rattle.gather_parts.specs.States.{StandsIn}
 use Rattle.gather_parts.proofs.Handing.{stands_in_pass}
 use Rattle.client_patch.specs.Patches.{PatchOf}
 use Rattle.client_patch.specs.Stages.{state_by, due_by}
 use Rattle.client_patch.specs.Inside.{pairs_in, patch_in, Keeps}
-use Rattle.client_patch.specs.declared.stage.Stage.TheVariants as stage
 use Rattle.client_patch.proofs.Standings.{in_pass_codes, gathers, holds}
 use Rattle.client_patch.proofs.patch.PatchCall.need.Goals as goal
 

@@ -1,0 +1,159 @@
+-- The commit of a write.
+use Rattle.std.proofs.Common.{◌≡◌, ℕ, ◌<◌, true, false, List, [], length, All, vec_capacity, inr, refl, sym, ap, subst, ◌∙◌}
+use Rattle.std.proofs.lemmas.Bool.{true≢false}
+use Rattle.std.proofs.lemmas.List.{length-map}
+use Rattle.clay_grid.specs.Shape.{chunk_count}
+use Rattle.store_map.specs.declared.placement.Placement.{Placement}
+use Rattle.store_core.specs.Told.{Told}
+use Rattle.store_core.specs.Note.{Note, Kind, note_of}
+use Rattle.store_core.specs.Lists.{places_of}
+use Rattle.store_core.specs.Act.{DirectoryStep}
+use Rattle.store_core.specs.AtDirectory.{at_directory}
+use Rattle.store_core.specs.Directory.{Directory}
+use Rattle.store_core.specs.PassSteps.{touched}
+use Rattle.store_core.specs.Placements.{IsRow}
+use Rattle.store_core.specs.NextAct.{job_of}
+use Rattle.store_core.specs.Agreement.{ActorToken}
+use Rattle.store_core.specs.Tokens.{actor_of}
+use Rattle.store_resume.specs.State.{Sequel, State}
+use Rattle.store_resume.specs.States.{settle_state}
+use Rattle.store_resume.specs.StateActs.{act_of_state}
+use Rattle.store_resume.specs.CallLaws.{next_call}
+use Rattle.version_seal.specs.Entry.{BookOf}
+use Rattle.call_steps.specs.Steps.{stepped_at_directory}
+use Rattle.call_steps.specs.TokenAfter.{token_after, MayMake, IsSeated}
+use Rattle.gather_parts.specs.States.{state_in}
+use Rattle.write_course.specs.Laws.{call_at}
+use Rattle.write_course.specs.Writings.{WritingOf, versions_of, is_preparing, is_settling}
+use Rattle.write_course.specs.WritingSteps.{IsDoing}
+use Rattle.write_course.specs.declared.doing.Doing.{Doing}
+use Rattle.write_course.specs.declared.doing.Doing.TheVariants as doing
+use Rattle.client_patch.specs.Patches.{PatchOf}
+use Rattle.client_patch.specs.Stages.{finished_of, state_by, due_by, is_committing}
+use Rattle.client_patch.specs.Inside.{pairs_in, patch_in, IsHolding, HasRoom, Keeps, IsPatch}
+use Rattle.client_patch.specs.declared.patch.PatchCall.TheInside.{Inside}
+use Rattle.client_patch.specs.declared.stage.Stage.{Stage}
+use Rattle.client_patch.specs.declared.stage.Stage.TheVariants as stage
+use Rattle.client_patch.proofs.OfWrites.{write_kind}
+use Rattle.client_patch.proofs.Gathered.{EndsSo, ungathered_ends, gathering_gives}
+use Rattle.client_patch.proofs.Tokens.{settle_has, settle_room, holds_to_commit, seated_by}
+use Rattle.client_patch.proofs.Ends.{directory_step}
+
+no_prepare : (at : State) → is_preparing at ≡ true → is_committing at ≡ true → ⊥
+no_prepare (State.Preparing stripe version server servers row later placed versions) p h = cc
+no_prepare _ p h = cc
+
+no_settle : (at : State) → is_settling at ≡ true → is_committing at ≡ true → ⊥
+no_settle (State.Settling point place places) p h = cc
+no_settle _ p h = cc
+
+-- a writing whose commit is next
+pub doing_commit : (d : Doing) (w : WritingOf) → IsDoing d w → is_committing w.state ≡ true → IsDoing doing.Committing w
+doing_commit doing.Preparing w h e = absurd (no_prepare w.state h e)
+doing_commit doing.Committing w h e = h
+doing_commit doing.Committed w h e = (let no : is_committing w.state ≡ false = ap is_committing h in absurd (cc))
+doing_commit doing.Settling w h e = absurd (no_settle w.state h e)
+doing_commit doing.Done w h e = (let no : is_committing w.state ≡ false = ap is_committing h.1 in absurd (cc))
+doing_commit doing.TooManyAway w h e = (let no : is_committing w.state ≡ false = ap is_committing h.2 in absurd (cc))
+doing_commit doing.Short w h e = (let no : is_committing w.state ≡ false = ap is_committing h in absurd (cc))
+
+-- a pass that may commit
+may_commit : (d : Directory) (number : ℕ) (note : Note) (drawn : List ℕ) (token : ActorToken) (placed : List (List Placement)) → IsHolding number note drawn token → note.kind ≡ Kind.Write
+    → length drawn ≡ length (touched d note) → length placed ≡ length drawn → All (IsRow d.shape) placed → MayMake d token number (DirectoryStep.Commit placed)
+may_commit d number note drawn token placed h kind count rows whole =
+    subst (λ t. MayMake d t number (DirectoryStep.Commit placed)) (sym h.is)
+    (
+      h.its_number,
+      (
+        inr (ap (λ (note : Note). note.kind) h.its ∙ kind),
+        record {
+          drawn = ap length h.its_drawn ∙ count ∙ ap (λ note. length (touched d note)) (sym h.its);
+          rows = rows ∙ ap length (sym h.its_drawn);
+          whole = whole;
+        },
+      ),
+    )
+
+module _ (a : Inside) (kept : IsPatch a) (old : PatchOf) (view : patch_in a ≡ old) (committing : is_committing old.call.state.at ≡ true) where
+  commits_here : is_committing (state_by a.stage a.gatherings a.writing a.outcome) ≡ true
+  commits_here = ap (λ (p : PatchOf). is_committing p.call.state.at) view ∙ committing
+
+  gathers_first : is_committing (state_in a.gatherings Sequel.Draw) ≡ false
+  gathers_first = gathering_gives is_committing false (λ aim asking parts after. refl) refl (λ outcome. refl) a.gatherings
+
+  commits_by : (s : Stage) → Keeps s a → is_committing (state_by s a.gatherings a.writing a.outcome) ≡ true → s ≡ stage.Writing
+  commits_by stage.Looking k h = absurd (cc)
+  commits_by stage.Looked k h = absurd (true≢false (sym h ∙ gathers_first))
+  commits_by stage.Gathering k h = absurd (true≢false (sym h ∙ gathers_first))
+  commits_by stage.Ungathered k h =
+      let ends : EndsSo (state_in a.gatherings Sequel.Draw) = ungathered_ends a.gatherings k.1 in
+      let is : is_committing (finished_of (state_in a.gatherings Sequel.Draw)) ≡ false = ap (λ at. is_committing (finished_of at)) ends.is in
+      absurd (cc)
+  commits_by stage.Writing k h = refl
+  commits_by stage.GivenUp k h =
+      let is : is_committing (finished_of a.writing.state) ≡ false = ap (λ at. is_committing (finished_of at)) k.1.is in
+      absurd (cc)
+  commits_by stage.Ending k h = absurd (cc)
+  commits_by stage.Finished k h = absurd (cc)
+
+  pub commit_is : a.stage ≡ stage.Writing
+  commit_is = commits_by a.stage kept.kept commits_here
+
+  pub commit_keeps : Keeps stage.Writing a
+  commit_keeps = subst (λ s. Keeps s a) commit_is kept.kept
+
+  pub writing_commits : is_committing a.writing.state ≡ true
+  writing_commits = ap (λ s. is_committing (state_by s a.gatherings a.writing a.outcome)) (sym commit_is) ∙ commits_here
+
+  pub commit_holding : IsHolding a.number (note_of a.call.now) (versions_of a.writing.stamps) a.token
+  commit_holding = holds_to_commit a.number (note_of a.call.now) (versions_of a.writing.stamps) a.token a.writing.state commit_keeps.1 writing_commits
+
+  pub commit_may : (d : Directory) (placed : List (List Placement)) → d.shape ≡ a.opening.geometry → length placed ≡ length a.writing.stamps → All (IsRow a.writing.book.geometry) placed
+      → MayMake d a.token a.number (DirectoryStep.Commit placed)
+  commit_may d placed shape count whole =
+      let versions : length (versions_of a.writing.stamps) ≡ length a.writing.stamps = length-map a.writing.stamps (λ stamp. stamp.version) in
+      may_commit d a.number (note_of a.call.now) (versions_of a.writing.stamps) a.token placed commit_holding (write_kind a.call.now commit_keeps.3)
+      (versions ∙ commit_keeps.0.count ∙ ap (λ g. length (touched (record d { shape = g }) (note_of a.call.now))) (sym shape))
+      (count ∙ sym versions)
+      (subst (λ g. All (IsRow g) placed) (ap (λ (book : BookOf). book.geometry) commit_keeps.0.book_is ∙ sym shape) whole)
+
+  pub commit_room : length a.changes.items < vec_capacity a.changes
+  commit_room = room_of a.writing.state writing_commits commit_keeps.2
+    where
+      room_of : (at : State) → is_committing at ≡ true → HasRoom at (length a.changes.items) (vec_capacity a.changes) → length a.changes.items < vec_capacity a.changes
+      room_of (State.Committing versions placed) e h = h
+      room_of _ e h = absurd (cc)
+
+  module _ (point : ℕ) (placed : List (List Placement)) (committed : a.writing.state ≡ State.Committing (versions_of a.writing.stamps) placed) (w : WritingOf)
+      (w_is : w ≡ record (a.writing) { state = settle_state point (places_of (chunk_count a.writing.book.geometry) (versions_of a.writing.stamps)) })
+      (token : ActorToken) (token_is : token ≡ token_after a.token a.number (DirectoryStep.Commit placed) (Told.Done point)) where
+    seated : IsSeated token
+    seated = seated_by a.token token a.number (DirectoryStep.Commit placed) commit_holding.held (Told.Done point) commit_holding.is token_is tt
+
+    pub done_kept : (now : Inside) → now ≡ record a { token = token; writing = w; changes = now.changes; coding = false; step = false } → Keeps a.stage now
+    done_kept now same =
+        subst (λ s. Keeps s now) (sym commit_is) (subst (Keeps stage.Writing) (sym same)
+        (subst (λ (w : WritingOf). Keeps stage.Writing (record a { token = token; writing = w; changes = now.changes; coding = false; step = false })) (sym w_is)
+        (
+          record { book_is = commit_keeps.0.book_is; first = commit_keeps.0.first; count = commit_keeps.0.count; contents = commit_keeps.0.contents },
+          settle_has a.number (note_of a.call.now) (versions_of a.writing.stamps) token point (places_of (chunk_count a.writing.book.geometry) (versions_of a.writing.stamps)) seated,
+          settle_room point (places_of (chunk_count a.writing.book.geometry) (versions_of a.writing.stamps)) (length now.changes.items) (vec_capacity now.changes),
+          commit_keeps.3,
+        )))
+
+    pub done_step : (before after : Directory) (pairs : List (ℕ × ℕ)) → pairs ≡ []
+        → (after, Told.Done point) ≡ at_directory false (actor_of a.token) a.number (DirectoryStep.Commit placed) before
+        → (after, record ((patch_in a).call) { token = token; state = call_at pairs (state_by a.stage a.gatherings w a.outcome); due = due_by a.stage a.gatherings w; coding = false; step = false })
+        ≡ stepped_at_directory false (due_by a.stage a.gatherings w) old.call before
+    done_step before after pairs none made =
+        let at : state_by a.stage a.gatherings a.writing a.outcome ≡ State.Committing (versions_of a.writing.stamps) placed
+        = ap (λ s. state_by s a.gatherings a.writing a.outcome) commit_is ∙ committed in
+        let code : a.writing.book.geometry ≡ a.opening.geometry = ap (λ (book : BookOf). book.geometry) commit_keeps.0.book_is in
+        let now : state_by a.stage a.gatherings w a.outcome ≡ settle_state point (places_of (chunk_count a.opening.geometry) (versions_of a.writing.stamps))
+        = ap (λ s. state_by s a.gatherings w a.outcome) commit_is ∙ ap (λ (w : WritingOf). w.state) w_is
+        ∙ ap (λ g. settle_state point (places_of (chunk_count g) (versions_of a.writing.stamps))) code in
+        let state : call_at pairs (state_by a.stage a.gatherings w a.outcome) ≡ next_call a.opening.geometry (job_of a.call.now) ((patch_in a).call.state) (Told.Done point)
+        = (λ i. call_at (none i) (now i)) ∙ ap (λ at. next_call a.opening.geometry (job_of a.call.now) (call_at (pairs_in a.changes.items) at) (Told.Done point)) (sym at) in
+        directory_step (patch_in a).call (DirectoryStep.Commit placed) false (due_by a.stage a.gatherings w) before after (Told.Done point) token (call_at pairs (state_by a.stage a.gatherings w a.outcome))
+        (ap (λ at. act_of_state a.opening.geometry a.tries (job_of a.call.now) (call_at (pairs_in a.changes.items) at)) at) made token_is state refl
+        ∙ ap (λ (p : PatchOf). stepped_at_directory false (due_by a.stage a.gatherings w) p.call before) view

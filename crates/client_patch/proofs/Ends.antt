@@ -1,0 +1,206 @@
+-- The end of a call's pass.
+use Rattle.std.proofs.Common.{◌≡◌, ℕ, Bool, true, false, List, [], ◌∷◌, ◌++◌, Option, None, Some, append-nil, refl, sym, ap, subst, ◌∙◌}
+use Rattle.clay_grid.specs.Shape.{Shape}
+use Rattle.store_core.specs.Told.{Told}
+use Rattle.store_core.specs.Note.{note_of}
+use Rattle.store_core.specs.Act.{Act, DirectoryStep}
+use Rattle.store_core.specs.AtDirectory.{at_directory}
+use Rattle.store_core.specs.Directory.{Directory}
+use Rattle.store_core.specs.Gathering.{Part}
+use Rattle.store_core.specs.NextAct.{Job, job_of}
+use Rattle.store_core.specs.Agreement.{ActorToken}
+use Rattle.store_core.specs.Tokens.{actor_of}
+use Rattle.store_resume.specs.Stage.{Stage as GatherStage}
+use Rattle.store_resume.specs.State.{Sequel, State, CallState}
+use Rattle.store_resume.specs.States.{stage_state, open_parts}
+use Rattle.store_resume.specs.StateActs.{act_at}
+use Rattle.store_resume.specs.CallLaws.{next_call}
+use Rattle.gathering.specs.Gathers.{GatherOf}
+use Rattle.gathering.specs.declared.need.Need.TheVariants as need
+use Rattle.call_steps.specs.CallOf.{CallOf, act_of, heard}
+use Rattle.call_steps.specs.Steps.{need_by, need_of, at_directory_by, stepped_at_directory}
+use Rattle.call_steps.specs.TokenAfter.{token_after, IsSeated}
+use Rattle.gather_parts.specs.Wanted.{Wanted, parts_of}
+use Rattle.gather_parts.specs.Gatherings.{GatheringsOf}
+use Rattle.gather_parts.specs.declared.standing.Standing.TheVariants as standing
+use Rattle.gather_parts.specs.Standings.{standing_at, standing_by, unless_short, standing_of, is_due_at, is_due}
+use Rattle.gather_parts.specs.States.{state_by as gathering_state, unless_wanting, state_in}
+use Rattle.write_course.specs.Laws.{call_at}
+use Rattle.write_course.specs.Writings.{versions_of}
+use Rattle.stripe_dir.specs.Sealed.{Sealed}
+use Rattle.client_patch.specs.Draws.{stamps_by, stamps_drawn}
+use Rattle.client_patch.specs.Patches.{PatchOf}
+use Rattle.client_patch.specs.Stages.{finished_of, state_by, due_by, is_ending, after_end}
+use Rattle.client_patch.specs.Inside.{pairs_in, patch_in, IsPassing, IsUngathered, Keeps, IsPatch}
+use Rattle.client_patch.specs.declared.patch.PatchCall.TheInside.{Inside}
+use Rattle.client_patch.specs.declared.stage.Stage.{Stage}
+use Rattle.client_patch.specs.declared.stage.Stage.TheVariants as stage
+use Rattle.client_patch.proofs.Gathered.{EndsSo, ungathered_ends}
+use Rattle.client_patch.proofs.Tokens.{holds_to_end}
+
+-- the call after a step at the directory
+pub directory_step : (c : CallOf) (step : DirectoryStep) (short due : Bool) (before after : Directory) (told : Told) (token : ActorToken) (state : CallState)
+    → act_of c ≡ Act.AtDirectory step → (after, told) ≡ at_directory short (actor_of c.token) c.number step before → token ≡ token_after c.token c.number step told
+    → state ≡ next_call c.book.geometry c.job c.state told → c.takes ≡ (heard c (Act.AtDirectory step) told short due).takes
+    → (after, record c { token = token; state = state; due = due; coding = false; step = short }) ≡ stepped_at_directory short due c before
+directory_step c step short due before after told token state act made token_is state_is takes_is =
+    let here : (after, record c { token = token; state = state; due = due; coding = false; step = short })
+    ≡ (after, record (heard c (Act.AtDirectory step) told short due) { token = token_after c.token c.number step told })
+    = λ i. (after, record c { token = token_is i; state = state_is i; takes = takes_is i; due = due; coding = false; step = short }) in
+    here
+    ∙ ap (λ (x : Directory × Told). (x.0, record (heard c (Act.AtDirectory step) x.1 short due) { token = token_after c.token c.number step x.1 })) made
+    ∙ ap (λ act. at_directory_by act short due c before) (sym act)
+
+pub no_directory : (act : Act) → need_by act true ≡ need.Directory → ⊥
+no_directory (Act.Finish outcome) e = cc
+no_directory (Act.AtDirectory step) e = cc
+no_directory (Act.AtServer server step) e = cc
+
+-- gatherings of which the end is next have ended without their bytes
+module _ (g : Shape) (tries : ℕ) (job : Job) (pairs : List (ℕ × ℕ)) (parts : List Part) where
+  ungathered_by : (coding : Bool) (current : Option GatherOf) (left : List Wanted)
+      → need_by (act_at g tries job pairs (unless_wanting coding (gathering_state g parts Sequel.Draw current))) (is_due_at (unless_short coding (standing_by g current left))) ≡ need.Directory
+      → (left ≡ [] → parts ≡ []) → is_ending (unless_wanting coding (gathering_state g parts Sequel.Draw current)) ≡ true → IsUngathered (unless_short coding (standing_by g current left))
+  ungathered_by true current left e same h = tt
+  ungathered_by false None (wanted ∷ left) e same h = absurd (no_directory (act_at g tries job pairs (open_parts g parts Sequel.Draw)) e)
+  ungathered_by false None [] e same h =
+      let none : is_ending (open_parts g parts Sequel.Draw) ≡ false = ap (λ parts. is_ending (open_parts g parts Sequel.Draw)) (same refl) in
+      absurd (cc)
+  ungathered_by false (Some w) left e same h = by w.course.stage e h
+    where
+      by : (stage : GatherStage) → need_by (act_at g tries job pairs (stage_state (open_parts g parts Sequel.Draw) w.course.aim parts Sequel.Draw stage)) (is_due_at (standing_at g w.course.aim stage)) ≡ need.Directory
+          → is_ending (stage_state (open_parts g parts Sequel.Draw) w.course.aim parts Sequel.Draw stage) ≡ true → IsUngathered (standing_at g w.course.aim stage)
+      by (GatherStage.Asks asking) e h = absurd (cc)
+      by GatherStage.HasBytes e h = absurd (no_directory (act_at g tries job pairs (open_parts g parts Sequel.Draw)) e)
+      by (GatherStage.TooMany missing) e h = tt
+      by GatherStage.AtTarget e h = tt
+      by (GatherStage.TargetAway downs) e h = tt
+      by GatherStage.Short e h = tt
+
+pub ungathered_at : (p : GatheringsOf) (tries : ℕ) (job : Job) (pairs : List (ℕ × ℕ)) → need_by (act_at p.book.geometry tries job pairs (state_in p Sequel.Draw)) (is_due p) ≡ need.Directory
+    → is_ending (state_in p Sequel.Draw) ≡ true → IsUngathered (standing_of p)
+ungathered_at p tries job pairs e h = ungathered_by p.book.geometry tries job pairs (parts_of p.left) p.coding p.current p.left e (ap parts_of) h
+
+-- gatherings of which the draw is next are done
+module _ (g : Shape) (tries : ℕ) (job : Job) (pairs : List (ℕ × ℕ)) (parts : List Part) where
+  done_by : (coding : Bool) (current : Option GatherOf) (left : List Wanted)
+      → need_by (act_at g tries job pairs (unless_wanting coding (gathering_state g parts Sequel.Draw current))) (is_due_at (unless_short coding (standing_by g current left))) ≡ need.Directory
+      → unless_wanting coding (gathering_state g parts Sequel.Draw current) ≡ State.Drawing → unless_short coding (standing_by g current left) ≡ standing.Done
+  done_by true current left e h = absurd (cc)
+  done_by false None (wanted ∷ left) e h = absurd (no_directory (act_at g tries job pairs (open_parts g parts Sequel.Draw)) e)
+  done_by false None [] e h = refl
+  done_by false (Some w) left e h = by w.course.stage e h
+    where
+      by : (stage : GatherStage) → need_by (act_at g tries job pairs (stage_state (open_parts g parts Sequel.Draw) w.course.aim parts Sequel.Draw stage)) (is_due_at (standing_at g w.course.aim stage)) ≡ need.Directory
+          → stage_state (open_parts g parts Sequel.Draw) w.course.aim parts Sequel.Draw stage ≡ State.Drawing → standing_at g w.course.aim stage ≡ standing.Done
+      by (GatherStage.Asks asking) e h = absurd (cc)
+      by GatherStage.HasBytes e h = absurd (no_directory (act_at g tries job pairs (open_parts g parts Sequel.Draw)) e)
+      by (GatherStage.TooMany missing) e h = absurd (cc)
+      by GatherStage.AtTarget e h = absurd (cc)
+      by (GatherStage.TargetAway downs) e h = absurd (cc)
+      by GatherStage.Short e h = absurd (cc)
+
+pub done_at : (p : GatheringsOf) (tries : ℕ) (job : Job) (pairs : List (ℕ × ℕ)) → need_by (act_at p.book.geometry tries job pairs (state_in p Sequel.Draw)) (is_due p) ≡ need.Directory
+    → state_in p Sequel.Draw ≡ State.Drawing → standing_of p ≡ standing.Done
+done_at p tries job pairs e h = done_by p.book.geometry tries job pairs (parts_of p.left) p.coding p.current p.left e h
+
+-- the end told
+ending_next : (g : Shape) (job : Job) (pairs : List (ℕ × ℕ)) (at : State) → is_ending at ≡ true → call_at pairs (finished_of at) ≡ next_call g job (call_at pairs at) Told.Ended
+ending_next g job pairs (State.Ending outcome) e = refl
+ending_next g job pairs _ e = absurd (cc)
+
+ending_act : (g : Shape) (tries : ℕ) (job : Job) (pairs : List (ℕ × ℕ)) (at : State) → is_ending at ≡ true → act_at g tries job pairs at ≡ Act.AtDirectory DirectoryStep.End
+ending_act g tries job pairs (State.Ending outcome) e = refl
+ending_act g tries job pairs _ e = absurd (cc)
+
+module _ (a : Inside) (kept : IsPatch a) (old : PatchOf) (view : patch_in a ≡ old) (needs : need_of old.call ≡ need.Directory) (ending : is_ending old.call.state.at ≡ true) where
+  ends_here : is_ending (state_by a.stage a.gatherings a.writing a.outcome) ≡ true
+  ends_here = ap (λ (p : PatchOf). is_ending p.call.state.at) view ∙ ending
+
+  needs_here : need_of (patch_in a).call ≡ need.Directory
+  needs_here = ap (λ (p : PatchOf). need_of p.call) view ∙ needs
+
+  not_ungathered : Keeps stage.Ungathered a → is_ending (finished_of (state_in a.gatherings Sequel.Draw)) ≡ true → ⊥
+  not_ungathered k h =
+      let ends : EndsSo (state_in a.gatherings Sequel.Draw) = ungathered_ends a.gatherings k.1 in
+      let is : is_ending (finished_of (state_in a.gatherings Sequel.Draw)) ≡ false = ap (λ at. is_ending (finished_of at)) ends.is in
+      cc
+
+  not_given_up : Keeps stage.GivenUp a → is_ending (finished_of a.writing.state) ≡ true → ⊥
+  not_given_up k h =
+      let is : is_ending (finished_of a.writing.state) ≡ false = ap (λ at. is_ending (finished_of at)) k.1.is in
+      cc
+
+  -- the token that ends
+  holding_by : (s : Stage) → Keeps s a → is_ending (state_by s a.gatherings a.writing a.outcome) ≡ true → IsPassing a.number (note_of a.call.now) a.token
+  holding_by stage.Looking k h = absurd (cc)
+  holding_by stage.Looked k h = record { drawn = []; holding = k.0 }
+  holding_by stage.Gathering k h = record { drawn = []; holding = k.0 }
+  holding_by stage.Ungathered k h = absurd (not_ungathered k h)
+  holding_by stage.Writing k h = record { drawn = _; holding = (holds_to_end a.number (note_of a.call.now) (versions_of a.writing.stamps) a.token a.writing.state k.1 h).0 }
+  holding_by stage.GivenUp k h = absurd (not_given_up k h)
+  holding_by stage.Ending k h = k
+  holding_by stage.Finished k h = absurd (cc)
+
+  pub end_holding : IsPassing a.number (note_of a.call.now) a.token
+  end_holding = holding_by a.stage kept.kept ends_here
+
+  -- what is kept then
+  kept_by : (s : Stage) → Keeps s a → is_ending (state_by s a.gatherings a.writing a.outcome) ≡ true
+      → need_by (act_at a.opening.geometry a.tries (job_of a.call.now) (pairs_in a.changes.items) (state_by s a.gatherings a.writing a.outcome)) (due_by s a.gatherings a.writing) ≡ need.Directory
+      → (next : Stage) (token : ActorToken) (coding step : Bool) → IsSeated token → Keeps (after_end s) (record a { stage = next; token = token; coding = coding; step = step })
+  kept_by stage.Looking k h n next token coding step seated = absurd (cc)
+  kept_by stage.Looked k h n next token coding step seated = absurd (no_directory (act_at a.opening.geometry a.tries (job_of a.call.now) (pairs_in a.changes.items) (state_in a.gatherings Sequel.Draw)) n)
+  kept_by stage.Gathering k h n next token coding step seated =
+      (seated, ungathered_at a.gatherings a.tries (job_of a.call.now) (pairs_in a.changes.items)
+      (subst (λ book. need_by (act_at book.geometry a.tries (job_of a.call.now) (pairs_in a.changes.items) (state_in a.gatherings Sequel.Draw)) (is_due a.gatherings) ≡ need.Directory) (sym kept.book) n) h)
+  kept_by stage.Ungathered k h n next token coding step seated = absurd (not_ungathered k h)
+  kept_by stage.Writing k h n next token coding step seated = (seated, (holds_to_end a.number (note_of a.call.now) (versions_of a.writing.stamps) a.token a.writing.state k.1 h).1)
+  kept_by stage.GivenUp k h n next token coding step seated = absurd (not_given_up k h)
+  kept_by stage.Ending k h n next token coding step seated = seated
+  kept_by stage.Finished k h n next token coding step seated = absurd (cc)
+
+  pub end_kept : (next : Stage) (token : ActorToken) (coding step : Bool) → IsSeated token → Keeps (after_end a.stage) (record a { stage = next; token = token; coding = coding; step = step })
+  end_kept = kept_by a.stage kept.kept ends_here needs_here
+
+  -- where it stands then
+  state_then : (s : Stage) → Keeps s a → is_ending (state_by s a.gatherings a.writing a.outcome) ≡ true
+      → need_by (act_at a.opening.geometry a.tries (job_of a.call.now) (pairs_in a.changes.items) (state_by s a.gatherings a.writing a.outcome)) (due_by s a.gatherings a.writing) ≡ need.Directory
+      → state_by (after_end s) a.gatherings a.writing a.outcome ≡ finished_of (state_by s a.gatherings a.writing a.outcome)
+  state_then stage.Looking k h n = absurd (cc)
+  state_then stage.Looked k h n = absurd (no_directory (act_at a.opening.geometry a.tries (job_of a.call.now) (pairs_in a.changes.items) (state_in a.gatherings Sequel.Draw)) n)
+  state_then stage.Gathering k h n = refl
+  state_then stage.Ungathered k h n = absurd (not_ungathered k h)
+  state_then stage.Writing k h n = refl
+  state_then stage.GivenUp k h n = absurd (not_given_up k h)
+  state_then stage.Ending k h n = refl
+  state_then stage.Finished k h n = absurd (cc)
+
+  due_then : (s : Stage) → false ≡ due_by (after_end s) a.gatherings a.writing
+  due_then stage.Looking = refl
+  due_then stage.Looked = refl
+  due_then stage.Gathering = refl
+  due_then stage.Ungathered = refl
+  due_then stage.Writing = refl
+  due_then stage.GivenUp = refl
+  due_then stage.Ending = refl
+  due_then stage.Finished = refl
+
+  pub end_step : (next : Stage) → next ≡ after_end a.stage → (token : ActorToken) (before after : Directory)
+      → (after, Told.Ended) ≡ at_directory false (actor_of a.token) a.number DirectoryStep.End before → token ≡ token_after a.token a.number DirectoryStep.End Told.Ended
+      → (after, record ((patch_in a).call) { token = token; state = call_at (pairs_in a.changes.items) (state_by next a.gatherings a.writing a.outcome); due = due_by next a.gatherings a.writing; coding = false; step = false })
+      ≡ stepped_at_directory false (due_by next a.gatherings a.writing) old.call before
+  end_step next is token before after made token_is =
+      let state : call_at (pairs_in a.changes.items) (state_by next a.gatherings a.writing a.outcome) ≡ next_call a.opening.geometry (job_of a.call.now) ((patch_in a).call.state) Told.Ended
+      = ap (λ s. call_at (pairs_in a.changes.items) (state_by s a.gatherings a.writing a.outcome)) is
+      ∙ ap (call_at (pairs_in a.changes.items)) (state_then a.stage kept.kept ends_here needs_here)
+      ∙ ending_next a.opening.geometry (job_of a.call.now) (pairs_in a.changes.items) (state_by a.stage a.gatherings a.writing a.outcome) ends_here in
+      directory_step (patch_in a).call DirectoryStep.End false (due_by next a.gatherings a.writing) before after Told.Ended token (call_at (pairs_in a.changes.items) (state_by next a.gatherings a.writing a.outcome))
+      (ending_act a.opening.geometry a.tries (job_of a.call.now) (pairs_in a.changes.items) (state_by a.stage a.gatherings a.writing a.outcome) ends_here) made token_is state refl
+      ∙ ap (λ (p : PatchOf). stepped_at_directory false (due_by next a.gatherings a.writing) p.call before) view
+
+-- an end draws nothing
+pub end_draws : (before after : Sealed) (p : PatchOf) (short : Bool) → is_ending p.call.state.at ≡ true → after.stamps ≡ before.stamps → after.stamps ≡ before.stamps ++ stamps_drawn short before p
+end_draws before after p short ending same =
+    same ∙ sym (append-nil before.stamps)
+    ∙ ap (λ act. before.stamps ++ stamps_by act short before p) (sym (ending_act p.call.book.geometry p.call.tries p.call.job p.call.state.pairs p.call.state.at ending))

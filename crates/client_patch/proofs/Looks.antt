@@ -1,0 +1,170 @@
+-- The look of a write or a delete.
+use Rattle.std.proofs.Common.{◌≡◌, ℕ, nat_lt, Bool, true, false, cond, List, [], length, Option, None, Some, option_map, Result, refl, sym, ap, subst, ◌∙◌}
+use Rattle.std.specs.declared.alloc.AllocError.{AllocError}
+use Rattle.clay_grid.specs.Shape.{Shape}
+use Rattle.store_map.specs.declared.actor.Actor.{Actor}
+use Rattle.store_map.specs.declared.call.Call.{Call}
+use Rattle.store_map.specs.declared.call.Call.TheVariants as call
+use Rattle.store_map.specs.declared.reply.Reply.{Reply}
+use Rattle.store_core.specs.Told.{Told}
+use Rattle.store_core.specs.Note.{note_of, refusal}
+use Rattle.store_core.specs.NextAct.{job_of}
+use Rattle.store_core.specs.Act.{Act, DirectoryStep, Outcome as CoreOutcome}
+use Rattle.store_core.specs.Agreement.{ActorToken}
+use Rattle.store_core.specs.AtDirectory.{at_directory}
+use Rattle.store_core.specs.Directory.{Object, Directory}
+use Rattle.store_core.specs.Looks.{look_by}
+use Rattle.store_core.specs.Lookups.{find_object}
+use Rattle.store_core.specs.Tokens.{actor_of}
+use Rattle.store_resume.specs.State.{Sequel, State}
+use Rattle.store_resume.specs.States.{open_state}
+use Rattle.store_resume.specs.StateActs.{act_at}
+use Rattle.store_resume.specs.CallAfter.{pairs_with}
+use Rattle.store_resume.specs.CallLaws.{next_call}
+use Rattle.store_resume.specs.LookAfter.{start_after}
+use Rattle.version_seal.specs.Entry.{BookOf}
+use Rattle.stripe_dir.specs.Answers.{told_or_short}
+use Rattle.gathering.specs.declared.need.Need.TheVariants as need
+use Rattle.call_steps.specs.CallOf.{act_of}
+use Rattle.call_steps.specs.Steps.{need_by, need_of, stepped_at_directory}
+use Rattle.call_steps.specs.TokenAfter.{token_after, IsSeated}
+use Rattle.call_token.specs.declared.answers.LookAnswer.{LookAnswer}
+use Rattle.call_token.specs.Answers.{told_by_look}
+use Rattle.gather_parts.specs.States.{state_in}
+use Rattle.write_course.specs.Laws.{call_at}
+use Rattle.write_course.specs.Writings.{versions_of}
+use Rattle.client_patch.specs.Patches.{PatchOf, is_write, is_patch}
+use Rattle.client_patch.specs.Stages.{finished_of, state_by, due_by, IsFresh, IsPatchLook, IsLooked}
+use Rattle.client_patch.specs.Inside.{pairs_in, patch_in, IsWaiting, IsHolding, HasToken, Keeps, IsPatch}
+use Rattle.client_patch.specs.declared.patch.PatchCall.TheInside.{Inside}
+use Rattle.client_patch.specs.declared.stage.Stage.{Stage}
+use Rattle.client_patch.specs.declared.stage.Stage.TheVariants as stage
+use Rattle.client_patch.proofs.Ends.{directory_step}
+use Rattle.client_patch.proofs.Gathered.{EndsSo, ungathered_ends}
+
+-- what a look tells
+abbrev pub looked : Result LookAnswer AllocError → Told
+looked answer = told_or_short told_by_look answer
+
+-- it is answered, or a write goes on
+pub patch_looks : (short : Bool) (who : Actor) (number : ℕ) (written : Call) (d : Directory) → is_patch written ≡ true
+    → IsPatchLook (is_write written) (at_directory short who number (DirectoryStep.Look (note_of written)) d).1
+patch_looks true who number written d e = tt
+patch_looks false who number (call.Write name offset content) d e = by (refusal d.max (note_of (call.Write name offset content)) (option_map (λ (object : Object). object.length) (find_object name d.objects)))
+  where
+    by : (refused : Option Reply) → IsPatchLook true (look_by who number (note_of (call.Write name offset content)) d (find_object name d.objects) refused).1
+    by (Some reply) = tt
+    by None = refl
+patch_looks false who number (call.Delete name) d e = by (refusal d.max (note_of (call.Delete name)) (option_map (λ (object : Object). object.length) (find_object name d.objects)))
+  where
+    by : (refused : Option Reply) → IsPatchLook false (look_by who number (note_of (call.Delete name)) d (find_object name d.objects) refused).1
+    by (Some reply) = tt
+    by None = tt
+patch_looks false who number _ d e = absurd (cc)
+
+-- ---- what is kept
+module _ (a : Inside) (kept : IsPatch a) (old : PatchOf) (view : patch_in a ≡ old) (first : old.call.state.at ≡ State.Start) (seated : IsSeated old.call.token) where
+  at_start : state_by a.stage a.gatherings a.writing a.outcome ≡ State.Start
+  at_start = ap (λ (p : PatchOf). p.call.state.at) view ∙ first
+
+  seated_here : IsSeated a.token
+  seated_here = subst (λ (p : PatchOf). IsSeated p.call.token) (sym view) seated
+
+  no_pass : (drawn : List ℕ) → IsHolding a.number (note_of a.call.now) drawn a.token → ⊥
+  no_pass drawn h = subst IsSeated h.is seated_here
+
+  waits_by : (s : Stage) → Keeps s a → state_by s a.gatherings a.writing a.outcome ≡ State.Start → IsWaiting a.number a.token
+  waits_by stage.Looking k e = k.0
+  waits_by stage.Looked k e = absurd (no_pass [] k.0)
+  waits_by stage.Gathering k e = absurd (no_pass [] k.0)
+  waits_by stage.Ungathered k e =
+      let ends : EndsSo (state_in a.gatherings Sequel.Draw) = ungathered_ends a.gatherings k.1 in
+      let is : finished_of (state_in a.gatherings Sequel.Draw) ≡ State.Finished (ends.outcome) = ap finished_of ends.is in
+      absurd (cc)
+  waits_by stage.Writing k e = absurd (subst (HasToken a.number (note_of a.call.now) (versions_of a.writing.stamps) a.token) e k.1)
+  waits_by stage.GivenUp k e =
+      let is : finished_of a.writing.state ≡ State.Finished (k.1.ending) = ap finished_of k.1.is in
+      absurd (cc)
+  waits_by stage.Ending k e = absurd (cc)
+  waits_by stage.Finished k e = absurd (cc)
+
+  pub waits : IsWaiting a.number a.token
+  waits = waits_by a.stage kept.kept at_start
+
+-- by the answer
+kept_by : (told : Told) (a now : Inside) → IsPatchLook (is_write a.call.now) told → IsLooked told now.stage → IsWaiting a.number a.token
+    → now.token ≡ token_after a.token a.number (DirectoryStep.Look (note_of a.call.now)) told → now.number ≡ a.number → now.call.now ≡ a.call.now → (now.stage ≡ stage.Looked → IsFresh now.gatherings)
+    → Keeps now.stage now
+kept_by (Told.Answer point answer) a now fits goes waiting token number written fresh = by a.token waiting token
+  where
+    by : (t : ActorToken) → IsWaiting a.number t → now.token ≡ token_after t a.number (DirectoryStep.Look (note_of a.call.now)) (Told.Answer point answer) → Keeps now.stage now
+    by (ActorToken.Seated seat) w e = subst (λ s. Keeps s now) (sym goes) (subst IsSeated (sym e) tt)
+    by (ActorToken.InCall held) w e = absurd w
+kept_by Told.Short a now fits goes waiting token number written fresh = by a.token waiting token
+  where
+    by : (t : ActorToken) → IsWaiting a.number t → now.token ≡ token_after t a.number (DirectoryStep.Look (note_of a.call.now)) Told.Short → Keeps now.stage now
+    by (ActorToken.Seated seat) w e = subst (λ s. Keeps s now) (sym goes) (subst IsSeated (sym e) tt)
+    by (ActorToken.InCall held) w e = absurd w
+kept_by (Told.Ready base size stripes) a now fits goes waiting token number written fresh = by a.token waiting token
+  where
+    by : (t : ActorToken) → IsWaiting a.number t → now.token ≡ token_after t a.number (DirectoryStep.Look (note_of a.call.now)) (Told.Ready base size stripes) → Keeps now.stage now
+    by (ActorToken.Seated seat) w e =
+        subst (λ s. Keeps s now) (sym goes)
+        (record { held = _; is = e; its = ap note_of (sym written); its_number = sym number; its_drawn = refl }, fresh goes, ap is_write written ∙ fits)
+    by (ActorToken.InCall held) w e = absurd w
+kept_by _ a now fits goes waiting token number written fresh = absurd fits
+
+pub look_kept : (told : Told) (a now : Inside) → IsPatchLook (is_write a.call.now) told → IsLooked told now.stage → IsWaiting a.number a.token
+    → now.token ≡ token_after a.token a.number (DirectoryStep.Look (note_of a.call.now)) told → now.number ≡ a.number → now.call.now ≡ a.call.now → (now.stage ≡ stage.Looked → IsFresh now.gatherings)
+    → Keeps now.stage now
+look_kept = kept_by
+
+-- ---- the step
+no_pairs : (writes : Bool) (pairs : List (ℕ × ℕ)) (told : Told) → IsPatchLook writes told → pairs ≡ pairs_with pairs told
+no_pairs writes pairs (Told.Answer point answer) h = refl
+no_pairs writes pairs (Told.Ready base size stripes) h = refl
+no_pairs writes pairs Told.Short h = refl
+no_pairs writes pairs _ h = absurd h
+
+directory_undue : (act : Act) (due : Bool) → need_by act due ≡ need.Directory → need_by act false ≡ need.Directory
+directory_undue act false e = e
+directory_undue (Act.Finish outcome) true e = absurd (cc)
+directory_undue (Act.AtDirectory step) true e = refl
+directory_undue (Act.AtServer server step) true e = absurd (cc)
+
+looks_first : (g : Shape) (tries : ℕ) (written : Call) (pairs : List (ℕ × ℕ)) → is_patch written ≡ true → need_by (act_at g tries (job_of written) pairs State.Start) false ≡ need.Directory
+    → act_at g tries (job_of written) pairs State.Start ≡ Act.AtDirectory (DirectoryStep.Look (note_of written))
+looks_first g tries (call.Write name offset content) pairs is e = by (nat_lt (length pairs) tries) e
+  where
+    by : (b : Bool) → need_by (cond b (Act.AtDirectory (DirectoryStep.Look (note_of (call.Write name offset content)))) (Act.Finish (CoreOutcome.Contended pairs))) false ≡ need.Directory
+        → cond b (Act.AtDirectory (DirectoryStep.Look (note_of (call.Write name offset content)))) (Act.Finish (CoreOutcome.Contended pairs)) ≡ Act.AtDirectory (DirectoryStep.Look (note_of (call.Write name offset content)))
+    by true e = refl
+    by false e = absurd (cc)
+looks_first g tries (call.Delete name) pairs is e = refl
+looks_first g tries _ pairs is e = absurd (cc)
+
+module _ (a : Inside) (kept : IsPatch a) (old : PatchOf) (view : patch_in a ≡ old) (first : old.call.state.at ≡ State.Start) (needs : need_of old.call ≡ need.Directory) where
+  start_here : (patch_in a).call.state.at ≡ State.Start
+  start_here = ap (λ (p : PatchOf). p.call.state.at) view ∙ first
+
+  looks_here : act_of (patch_in a).call ≡ Act.AtDirectory (DirectoryStep.Look (note_of a.call.now))
+  looks_here =
+      ap (λ at. act_at a.opening.geometry a.tries (job_of a.call.now) (pairs_in a.changes.items) at) start_here
+      ∙ looks_first a.opening.geometry a.tries a.call.now (pairs_in a.changes.items) kept.patch
+      (directory_undue (act_at a.opening.geometry a.tries (job_of a.call.now) (pairs_in a.changes.items) State.Start) (due_by a.stage a.gatherings a.writing)
+      (ap (λ at. need_by (act_at a.opening.geometry a.tries (job_of a.call.now) (pairs_in a.changes.items) at) (due_by a.stage a.gatherings a.writing)) (sym start_here)
+      ∙ ap (λ (p : PatchOf). need_of p.call) view ∙ needs))
+
+  pub look_step : (told : Told) → IsPatchLook (is_write a.call.now) told → (short due : Bool) (before after : Directory) → (after, told) ≡ at_directory short (actor_of a.token) a.number (DirectoryStep.Look (note_of a.call.now)) before
+      → (token : ActorToken) → token ≡ token_after a.token a.number (DirectoryStep.Look (note_of a.call.now)) told
+      → (at : State) → at ≡ open_state a.gatherings.book.geometry (start_after a.gatherings.book.geometry (note_of a.call.now).kind (job_of a.call.now) told)
+      → (takes : List ℕ) → takes ≡ a.gatherings.takes
+      → (after, record ((patch_in a).call) { token = token; state = call_at (pairs_in a.changes.items) at; takes = takes; due = due; coding = false; step = short }) ≡ stepped_at_directory short due old.call before
+  look_step told fits short due before after made token token_is at at_is takes takes_is =
+      let states : call_at (pairs_in a.changes.items) at ≡ next_call a.opening.geometry (job_of a.call.now) ((patch_in a).call.state) told
+      = (λ i. record { pairs = no_pairs (is_write a.call.now) (pairs_in a.changes.items) told fits i;
+          at = (at_is ∙ ap (λ (book : BookOf). open_state book.geometry (start_after book.geometry (note_of a.call.now).kind (job_of a.call.now) told)) kept.book) i })
+      ∙ ap (λ at. next_call a.opening.geometry (job_of a.call.now) (call_at (pairs_in a.changes.items) at) told) (sym start_here) in
+      (λ i. (after, record ((patch_in a).call) { token = token; state = call_at (pairs_in a.changes.items) at; takes = takes_is i; due = due; coding = false; step = short }))
+      ∙ directory_step (patch_in a).call (DirectoryStep.Look (note_of a.call.now)) short due before after told token (call_at (pairs_in a.changes.items) at) looks_here made token_is states refl
+      ∙ ap (λ (p : PatchOf). stepped_at_directory short due p.call before) view

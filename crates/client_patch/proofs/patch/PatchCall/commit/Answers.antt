@@ -1,0 +1,54 @@
+use Rattle.std.proofs.Common.{◌<◌, vec_capacity, map, refl, ap, subst, sym, ◌∙◌}
+use Rattle.std.proofs.lemmas.List.{length-map}
+use Rattle.clay_grid.specs.Shape.{chunk_count}
+use Rattle.store_core.specs.Lists.{places_of}
+use Rattle.store_core.specs.Told.{Told}
+use Rattle.store_core.specs.Act.{DirectoryStep}
+use Rattle.store_core.specs.Tokens.{actor_of}
+use Rattle.store_resume.specs.States.{settle_state}
+use Rattle.version_seal.specs.Entry.{BookOf}
+use Rattle.write_course.specs.Writings.{WritingOf, versions_of}
+use Rattle.client_patch.specs.Patches.{PatchOf}
+use Rattle.client_patch.specs.Inside.{pairs_in}
+use Rattle.client_patch.proofs.Tokens.{token_stays}
+use Rattle.client_patch.proofs.Commits.{doing_commit, commit_may, commit_room, writing_commits, done_kept, done_step}
+use Rattle.client_patch.proofs.patch.PatchCall.commit.Goals as goal
+
+pub rows-rows-requires : goal.rows-rows-requires
+rows-rows-requires c = doing_commit c.doing-doing.result c.self.inside.writing c.doing-doing.ensures (writing_commits c.self.inside c.self.invariant c.args.self.now c.self.view_is c.requires.committing)
+
+pub commit-answer-requires-clause-may : goal.commit-answer-requires-clause-may
+commit-answer-requires-clause-may c =
+    commit_may c.self.inside c.self.invariant c.args.self.now c.self.view_is c.requires.committing c.args.directory.now.core (map (λ row. row.items) c.rows-rows.result.items)
+    (sym c.keeps.ensures.stamps.code ∙ ap (λ (book : BookOf). book.geometry) (c.requires.its ∙ sym (ap (λ (p : PatchOf). p.call.book) c.self.view_is)))
+    (length-map c.rows-rows.result.items (λ row. row.items) ∙ c.rows-rows.ensures.count) c.rows-rows.ensures.whole
+
+pub invariant_of-self : goal.invariant_of-self
+invariant_of-self c =
+    let a = c.self.inside in
+    let kept = c.self.invariant in
+    let placed = map (λ row. row.items) c.rows-rows.result.items in
+    let writing = c.committed.ensures
+        ∙ ap (λ (w : WritingOf). record w { state = settle_state c.in-Done.point.0 (places_of (chunk_count w.book.geometry) (versions_of w.stamps)) }) c.rows-rows.ensures.after in
+    record {
+      patch = kept.patch;
+      client = kept.client;
+      actor_is = ap actor_of c.in-Done.ensures.token ∙ token_stays a.token a.number (DirectoryStep.Commit placed) (Told.Done c.in-Done.point.0) ∙ kept.actor_is;
+      script = kept.script;
+      book = kept.book;
+      tries = kept.tries;
+      kept = done_kept a kept c.args.self.now c.self.view_is c.requires.committing c.in-Done.point.0 placed c.rows-rows.ensures.rows c.committed.new.self writing
+          c.commit-answer.new.self c.in-Done.ensures.token _ refl;
+    }
+
+pub push_reserved-requires : goal.push_reserved-requires
+push_reserved-requires c =
+    subst (λ n. n < vec_capacity c.self.inside.changes) (sym c.self.inside.changes.ok.0) (commit_room c.self.inside c.self.invariant c.args.self.now c.self.view_is c.requires.committing)
+
+pub returns-in-Done-clause-step : goal.returns-in-Done-clause-step
+returns-in-Done-clause-step c =
+    let placed = map (λ row. row.items) c.rows-rows.result.items in
+    let writing = c.committed.ensures
+        ∙ ap (λ (w : WritingOf). record w { state = settle_state c.in-Done.point.0 (places_of (chunk_count w.book.geometry) (versions_of w.stamps)) }) c.rows-rows.ensures.after in
+    done_step c.self.inside c.self.invariant c.args.self.now c.self.view_is c.requires.committing c.in-Done.point.0 placed c.rows-rows.ensures.rows c.committed.new.self writing
+    c.commit-answer.new.self c.in-Done.ensures.token c.args.directory.now.core c.commit-answer.new.directory.core (pairs_in c.clear.new.self.items) (ap pairs_in c.clear.ensures.items) c.in-Done.ensures.step

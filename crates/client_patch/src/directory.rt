@@ -1,0 +1,203 @@
+//! The steps of a write or a delete at the directory.
+ghost use Rattle.std.specs.Prelude.{◌≡◌, ◌+◌, ◌-◌, ◌^◌, ◌<◌, ◌++◌, true};
+ghost use Rattle.store_core.specs.Note.{note_of};
+ghost use Rattle.store_core.specs.Agreement.{Agrees};
+ghost use Rattle.store_resume.specs.State.{State};
+ghost use Rattle.call_steps.specs.Steps.{stepped_at_directory, need_of};
+ghost use Rattle.call_steps.specs.TokenAfter.{IsSeated};
+ghost use Rattle.client_patch.specs.Draws.{stamps_drawn};
+ghost use Rattle.client_patch.specs.Known.{KnowsOld};
+ghost use Rattle.client_patch.specs.Padded.{ArePadded};
+ghost use Rattle.client_patch.specs.Patches.{is_write};
+ghost use Rattle.client_patch.specs.Stages.{is_committing, is_ending};
+
+use crate::patch::PatchCall;
+use crate::stage::{Looked, Stage, after_end, after_look};
+use call_steps::{Change, Outcome};
+use call_token::{CommitAnswer, DrawAnswer, EndAnswer};
+use gather_parts::Standing;
+use gathering::Need;
+use store_map::Call;
+use stripe_dir::Directory;
+use version_seal::Book;
+use write_course::{Doing, Writing};
+
+// Where a write begins, and how many bytes it writes.
+fn range_of(call: &Call) -> (u32, u32)
+    requires { is_write call.now ≡ true }
+    ensures offset { result.0 ≡ (note_of call.now).offset }
+    ensures length { result.1 ≡ (note_of call.now).length }
+    ensures fits { result.0 + result.1 < 2 ^ 33 - 1 }
+{
+    match call {
+        Call::Write {
+            offset, content, ..
+        } => (*offset, content.length()),
+        _ => unreachable!(),
+    }
+}
+
+impl<'a> PatchCall<'a> {
+    /// One step at the directory of this book. What it draws is sealed in the book. Behind the ends of
+    /// the directory's objects its stamps have zeros: no bytes are gathered of these.
+    pub fn on_directory(&mut self, directory: &mut Directory, book: &Book)
+        requires need { need_of self.old.call ≡ Need.Directory }
+        requires agrees { Agrees directory.old.core self.old.call.token }
+        requires its { directory.old.book ≡ self.old.call.book }
+        requires book { book.now ≡ self.old.call.book }
+        requires padded { ArePadded directory.old }
+        requires knows { KnowsOld directory.old self.old }
+        ensures step { (directory.new.core, self.new.call)
+            ≡ stepped_at_directory self.new.call.step self.new.call.due self.old.call directory.old.core }
+        ensures agrees { Agrees directory.new.core self.new.call.token }
+        ensures knows { KnowsOld directory.new self.new }
+        ensures written { self.new.written ≡ self.old.written }
+        ensures book { directory.new.book ≡ directory.old.book }
+        ensures stamps { directory.new.stamps
+            ≡ directory.old.stamps ++ stamps_drawn self.new.call.step directory.old self.old }
+    {
+        match self.stage {
+            Stage::Looking => self.look(directory),
+            Stage::Gathering if matches!(self.gatherings.standing(), Standing::Done) => {
+                self.draw(directory, book)
+            }
+            Stage::Writing if matches!(self.writing.doing(), Doing::Committing) => {
+                self.commit(directory)
+            }
+            _ => self.end(directory),
+        }
+    }
+
+    fn look(&mut self, directory: &mut Directory)
+        requires need { need_of self.old.call ≡ Need.Directory }
+        requires first { self.old.call.state.at ≡ State.Start }
+        requires seated { IsSeated self.old.call.token }
+        requires agrees { Agrees directory.old.core self.old.call.token }
+        requires its { directory.old.book ≡ self.old.call.book }
+        requires padded { ArePadded directory.old }
+        ensures step { (directory.new.core, self.new.call)
+            ≡ stepped_at_directory self.new.call.step self.new.call.due self.old.call directory.old.core }
+        ensures agrees { Agrees directory.new.core self.new.call.token }
+        ensures knows { KnowsOld directory.new self.new }
+        ensures written { self.new.written ≡ self.old.written }
+        ensures book { directory.new.book ≡ directory.old.book }
+        ensures stamps { directory.new.stamps ≡ directory.old.stamps }
+    {
+        directory.keeps();
+        // That a stripe has bytes is needed below.
+        let _long = self.opening.geometry().stripe_len();
+        let answer = self.token.look(directory, self.number, self.call);
+        self.coding = false;
+        self.step = answer.is_err();
+        let Looked {
+            stage,
+            size,
+            outcome,
+        } = after_look(answer, self.call, &mut self.gatherings);
+        self.stage = stage;
+        self.size = size;
+        self.outcome = outcome;
+    }
+
+    fn draw(&mut self, directory: &mut Directory, book: &Book)
+        requires drawing { self.old.call.state.at ≡ State.Drawing }
+        requires need { need_of self.old.call ≡ Need.Directory }
+        requires agrees { Agrees directory.old.core self.old.call.token }
+        requires its { directory.old.book ≡ self.old.call.book }
+        requires book { book.now ≡ self.old.call.book }
+        requires knows { KnowsOld directory.old self.old }
+        ensures step { (directory.new.core, self.new.call)
+            ≡ stepped_at_directory self.new.call.step self.new.call.due self.old.call directory.old.core }
+        ensures agrees { Agrees directory.new.core self.new.call.token }
+        ensures knows { KnowsOld directory.new self.new }
+        ensures written { self.new.written ≡ self.old.written }
+        ensures book { directory.new.book ≡ directory.old.book }
+        ensures stamps { directory.new.stamps
+            ≡ directory.old.stamps ++ stamps_drawn self.new.call.step directory.old self.old }
+    {
+        directory.keeps();
+        let request = book.request(self.actor, self.number, self.call);
+        let answer = self
+            .token
+            .draw(directory, self.number, book, Some(&request));
+        self.coding = false;
+        self.step = answer.is_err();
+        match answer {
+            Ok(DrawAnswer::Versions { stamps }) => {
+                let (offset, _length) = range_of(self.call);
+                let first = offset / self.opening.geometry().stripe_len();
+                self.writing = Writing::new(self.alloc, self.opening.copy(), first, stamps);
+                self.stage = Stage::Writing;
+            }
+            Ok(DrawAnswer::Reaped { at }) => {
+                self.outcome = Outcome::Reaped { at };
+                self.stage = Stage::Finished;
+            }
+            Err(_) => {
+                self.outcome = Outcome::NoMemory;
+                self.stage = Stage::Ending;
+            }
+        }
+    }
+
+    fn commit(&mut self, directory: &mut Directory)
+        requires committing { is_committing self.old.call.state.at ≡ true }
+        requires agrees { Agrees directory.old.core self.old.call.token }
+        requires its { directory.old.book ≡ self.old.call.book }
+        ensures step { (directory.new.core, self.new.call)
+            ≡ stepped_at_directory self.new.call.step self.new.call.due self.old.call directory.old.core }
+        ensures agrees { Agrees directory.new.core self.new.call.token }
+        ensures knows { KnowsOld directory.new self.new }
+        ensures written { self.new.written ≡ self.old.written }
+        ensures book { directory.new.book ≡ directory.old.book }
+        ensures stamps { directory.new.stamps ≡ directory.old.stamps }
+    {
+        directory.keeps();
+        // That it commits next is needed below.
+        let _doing = self.writing.doing();
+        let rows = self.writing.rows();
+        let answer = self.token.commit(directory, self.number, rows);
+        self.coding = false;
+        self.step = false;
+        match answer {
+            CommitAnswer::Done { point } => {
+                self.changes.clear();
+                self.writing.committed(point);
+            }
+            CommitAnswer::Changed { base, newer } => {
+                self.changes.push_reserved(Change { base, newer });
+                self.stage = Stage::Looking;
+            }
+            CommitAnswer::Reaped { at } => {
+                self.outcome = Outcome::Reaped { at };
+                self.stage = Stage::Finished;
+            }
+        }
+    }
+
+    // The pass ends.
+    fn end(&mut self, directory: &mut Directory)
+        requires need { need_of self.old.call ≡ Need.Directory }
+        requires ending { is_ending self.old.call.state.at ≡ true }
+        requires agrees { Agrees directory.old.core self.old.call.token }
+        ensures step { (directory.new.core, self.new.call)
+            ≡ stepped_at_directory self.new.call.step self.new.call.due self.old.call directory.old.core }
+        ensures agrees { Agrees directory.new.core self.new.call.token }
+        ensures knows { KnowsOld directory.new self.new }
+        ensures written { self.new.written ≡ self.old.written }
+        ensures book { directory.new.book ≡ directory.old.book }
+        ensures stamps { directory.new.stamps
+            ≡ directory.old.stamps ++ stamps_drawn self.new.call.step directory.old self.old }
+    {
+        let answer = self.token.end(directory, self.number);
+        self.coding = false;
+        self.step = false;
+        match answer {
+            EndAnswer::Ended => self.stage = after_end(self.stage),
+            EndAnswer::Reaped { at } => {
+                self.outcome = Outcome::Reaped { at };
+                self.stage = Stage::Finished;
+            }
+        }
+    }
+}
