@@ -30,7 +30,8 @@ use Rattle.write_course.specs.declared.doing.Doing.{Doing}
 use Rattle.write_course.specs.declared.doing.Doing.TheVariants as doing
 use Rattle.client_patch.specs.Patches.{PatchOf}
 use Rattle.client_patch.specs.Stages.{finished_of, state_by, due_by, is_committing}
-use Rattle.client_patch.specs.Inside.{pairs_in, patch_in, IsHolding, HasRoom, Keeps, IsPatch}
+use Rattle.client_patch.specs.Inside.{pairs_in, patch_in, Keeps, IsPatch}
+use Rattle.client_patch.specs.Holds.{IsHolding, HasRoom}
 use Rattle.client_patch.specs.declared.patch.PatchCall.TheInside.{Inside}
 use Rattle.client_patch.specs.declared.stage.Stage.{Stage}
 use Rattle.client_patch.specs.declared.stage.Stage.TheVariants as stage

@@ -7,7 +7,7 @@ use Rattle.store_resume.specs.State.{State}
 use Rattle.version_seal.specs.Entry.{BookOf, StampOf}
 use Rattle.write_course.specs.Writings.{WritingOf, begins_version, place_of, stamp_at_work}
 use Rattle.client_patch.specs.Kept.{new_of}
-use Rattle.client_patch.specs.Inside.{IsOfCall}
+use Rattle.client_patch.specs.Holds.{IsOfCall}
 
 pub content_at_work : (book : BookOf) (written : Call) (size : ℕ) (kept : List ℕ) (w : WritingOf) (stripe : ℕ) → IsOfCall book written size kept w
     → option_map (λ place. w.first + place) (place_of w.state) ≡ Some stripe

@@ -31,7 +31,8 @@ use Rattle.stripe_dir.specs.Sealed.{Sealed}
 use Rattle.client_patch.specs.Draws.{stamps_by, stamps_drawn}
 use Rattle.client_patch.specs.Patches.{PatchOf}
 use Rattle.client_patch.specs.Stages.{finished_of, state_by, due_by, is_ending, after_end}
-use Rattle.client_patch.specs.Inside.{pairs_in, patch_in, IsPassing, IsUngathered, Keeps, IsPatch}
+use Rattle.client_patch.specs.Inside.{pairs_in, patch_in, Keeps, IsPatch}
+use Rattle.client_patch.specs.Holds.{IsPassing, IsUngathered}
 use Rattle.client_patch.specs.declared.patch.PatchCall.TheInside.{Inside}
 use Rattle.client_patch.specs.declared.stage.Stage.{Stage}
 use Rattle.client_patch.specs.declared.stage.Stage.TheVariants as stage

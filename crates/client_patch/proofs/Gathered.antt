@@ -18,7 +18,7 @@ use Rattle.gather_parts.specs.Standings.{standing_at, standing_by, unless_short,
 use Rattle.gather_parts.specs.States.{state_by, unless_wanting, state_in}
 use Rattle.client_patch.specs.Patches.{point_ended, point_of}
 use Rattle.client_patch.specs.Known.{UpToDraw}
-use Rattle.client_patch.specs.Inside.{IsUngathered}
+use Rattle.client_patch.specs.Holds.{IsUngathered}
 
 -- how gatherings end without their bytes
 pub record EndsSo (at : State) : Type 0 where

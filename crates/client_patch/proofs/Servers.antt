@@ -19,7 +19,8 @@ use Rattle.write_course.specs.Writings.{server_of}
 use Rattle.write_course.specs.WritingSteps.{stepped}
 use Rattle.write_course.specs.Laws.{StepsAreOfTheCall, call_at, IsServerStep}
 use Rattle.client_patch.specs.Stages.{finished_of, state_by, due_by}
-use Rattle.client_patch.specs.Inside.{HasToken, Keeps}
+use Rattle.client_patch.specs.Holds.{HasToken}
+use Rattle.client_patch.specs.Inside.{Keeps}
 use Rattle.client_patch.specs.declared.patch.PatchCall.TheInside.{Inside}
 use Rattle.client_patch.specs.declared.stage.Stage.{Stage}
 use Rattle.client_patch.specs.declared.stage.Stage.TheVariants as stage

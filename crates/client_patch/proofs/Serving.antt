@@ -18,7 +18,8 @@ use Rattle.write_course.specs.WritingSteps.{stepped}
 use Rattle.client_patch.specs.Patches.{PatchOf}
 use Rattle.client_patch.specs.Known.{AreOldBytes, UpToDraw, KnowsOld}
 use Rattle.client_patch.specs.Stages.{state_by, due_by}
-use Rattle.client_patch.specs.Inside.{pairs_in, patch_in, HasToken, HasRoom, Keeps, IsPatch}
+use Rattle.client_patch.specs.Inside.{pairs_in, patch_in, Keeps, IsPatch}
+use Rattle.client_patch.specs.Holds.{HasToken, HasRoom}
 use Rattle.client_patch.specs.declared.patch.PatchCall.TheInside.{Inside}
 use Rattle.client_patch.specs.declared.stage.Stage.TheVariants as stage
 use Rattle.client_patch.proofs.Gathered.{asks_up_to_draw, known_at}

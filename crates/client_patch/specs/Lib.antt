@@ -4,4 +4,6 @@ pub mod Patches
 pub mod Known
 pub mod Draws
 pub mod Stages
+pub mod LookAfter
+pub mod Holds
 pub mod Inside

@@ -5,10 +5,10 @@ ghost use Rattle.stripe_dir.specs.Sealed.{Sealed};
 ghost use Rattle.call_steps.specs.Steps.{coded, need_of};
 ghost use Rattle.gather_parts.specs.Gatherings.{owed};
 ghost use Rattle.write_course.specs.Writings.{WritingOf};
-ghost use Rattle.client_patch.specs.Inside.{IsOfCall};
+ghost use Rattle.client_patch.specs.Holds.{IsOfCall};
 ghost use Rattle.client_patch.specs.Known.{KnowsOld};
 ghost use Rattle.client_patch.specs.Patches.{is_write};
-ghost use Rattle.client_patch.specs.Stages.{IsFresh, IsBegun};
+ghost use Rattle.client_patch.specs.LookAfter.{IsFresh, IsBegun};
 
 use crate::bytes::stripe_bytes;
 use crate::patch::PatchCall;

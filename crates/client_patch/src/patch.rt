@@ -17,7 +17,7 @@ ghost use Rattle.gather_parts.specs.Ends.{taken_of};
 ghost use Rattle.gather_parts.specs.States.{state_in};
 ghost use Rattle.gather_parts.specs.Standings.{standing_of};
 ghost use Rattle.write_course.specs.Writings.{begins_version};
-ghost use Rattle.client_patch.specs.Inside.{IsUngathered};
+ghost use Rattle.client_patch.specs.Holds.{IsUngathered};
 ghost use Rattle.client_patch.specs.Known.{KnowsOld};
 ghost use Rattle.client_patch.specs.Patches.{is_patch, IsClient, IsOfScript, first_patch, point_ended, point_of};
 ghost use Rattle.client_patch.specs.Stages.{finished_of, IsStanding, IsOver};

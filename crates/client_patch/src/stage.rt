@@ -11,7 +11,8 @@ ghost use Rattle.call_token.specs.Shown.{stripes_seen};
 ghost use Rattle.gather_parts.specs.Wanted.{wanted_of, IsPinned};
 ghost use Rattle.gather_parts.specs.Gatherings.{begun};
 ghost use Rattle.client_patch.specs.Patches.{is_write, is_patch};
-ghost use Rattle.client_patch.specs.Stages.{state_by, after_end, looked_stripes, size_told, IsPatchLook, IsLooked};
+ghost use Rattle.client_patch.specs.Stages.{state_by, after_end};
+ghost use Rattle.client_patch.specs.LookAfter.{looked_stripes, size_told, IsPatchLook, IsLooked};
 
 use call_steps::Outcome;
 use call_token::LookAnswer;

@@ -10,7 +10,7 @@ use Rattle.call_token.specs.Answers.{told_by_look}
 use Rattle.call_token.specs.declared.answers.LookAnswer.TheVariants as look
 use Rattle.gather_parts.proofs.OldParts.{old_are_parts}
 use Rattle.client_patch.specs.Patches.{is_write}
-use Rattle.client_patch.specs.Stages.{IsPatchLook}
+use Rattle.client_patch.specs.LookAfter.{IsPatchLook}
 use Rattle.client_patch.proofs.OfWrites.{write_kind}
 use Rattle.client_patch.proofs.stage.after_look.Goals as goal
 

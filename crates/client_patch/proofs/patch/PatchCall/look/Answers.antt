@@ -6,7 +6,8 @@ use Rattle.store_core.specs.Told.{Told}
 use Rattle.store_core.specs.Directory.{Directory}
 use Rattle.store_core.specs.Tokens.{actor_of}
 use Rattle.client_patch.specs.Patches.{PatchOf, is_write}
-use Rattle.client_patch.specs.Stages.{state_by, due_by, looked_stripes, IsPatchLook}
+use Rattle.client_patch.specs.Stages.{state_by, due_by}
+use Rattle.client_patch.specs.LookAfter.{looked_stripes, IsPatchLook}
 use Rattle.client_patch.proofs.Tokens.{token_stays}
 use Rattle.client_patch.proofs.Looks.{looked, patch_looks, waits, look_kept, look_step}
 use Rattle.client_patch.proofs.Learning.{look_knows}

@@ -1,0 +1,48 @@
+-- Where a write or a delete goes on after its look, and how it begins to gather.
+use Rattle.std.specs.Prelude.{◌≡◌, ⊤, ℕ, Bool, true, false, List, [], None, Result, Ok, Err}
+use Rattle.std.specs.declared.alloc.AllocError.{AllocError}
+use Rattle.store_core.specs.Told.{Told}
+use Rattle.store_core.specs.Act.{Outcome as CoreOutcome}
+use Rattle.store_resume.specs.State.{Sequel, State}
+use Rattle.gather_parts.specs.Gatherings.{GatheringsOf, owed}
+use Rattle.gather_parts.specs.Standings.{is_due}
+use Rattle.gather_parts.specs.States.{state_in}
+use Rattle.stripe_dir.specs.declared.answers.Seen.{Seen}
+use Rattle.call_token.specs.declared.answers.LookAnswer.{LookAnswer}
+use Rattle.call_token.specs.Shown.{stripes_seen}
+use Rattle.client_patch.specs.declared.stage.Stage.{Stage}
+use Rattle.client_patch.specs.declared.stage.Stage.TheVariants as stage
+
+-- gatherings of which nothing was asked yet
+pub record IsFresh (p : GatheringsOf) : Type 0 where
+  pub none : p.current ≡ None
+  pub going : p.coding ≡ false
+
+-- gatherings that have begun after a coding, in which memory was wanting or not, or that the call has given up before
+abbrev pub IsBegun : GatheringsOf → GatheringsOf → Stage → Bool → Type 0
+IsBegun p now stage.Gathering false = (state_in now Sequel.Draw ≡ state_in p Sequel.Draw) × (is_due now ≡ false) × (owed now ≡ owed p) × (now.takes ≡ p.takes) × (now.book ≡ p.book)
+IsBegun p now stage.Gathering true = (state_in now Sequel.Draw ≡ State.Ending CoreOutcome.NoMemory) × (is_due now ≡ false) × (now.takes ≡ p.takes) × (now.book ≡ p.book)
+IsBegun p now stage.Ending true = now ≡ p
+IsBegun p now next short = ⊥
+
+-- what the look of a write or a delete is answered
+abbrev pub IsPatchLook : Bool → Told → Type 0
+IsPatchLook writes (Told.Answer point answer) = ⊤
+IsPatchLook writes (Told.Ready base size stripes) = writes ≡ true
+IsPatchLook writes Told.Short = ⊤
+IsPatchLook writes answer = ⊥
+
+-- where it goes on after its look
+abbrev pub IsLooked : Told → Stage → Type 0
+IsLooked (Told.Ready base size stripes) next = next ≡ stage.Looked
+IsLooked answer next = next ≡ stage.Finished
+
+-- the stripes that come with a look, where memory sufficed
+abbrev pub looked_stripes : Result LookAnswer AllocError → List Seen
+looked_stripes (Ok answer) = stripes_seen answer
+looked_stripes (Err e) = []
+
+-- the object's size, where a write goes on
+abbrev pub size_told : Told → ℕ
+size_told (Told.Ready base size stripes) = size
+size_told answer = 0
