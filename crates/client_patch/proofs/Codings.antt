@@ -112,8 +112,7 @@ module _ (a : Inside) (kept : IsPatch a) (old : PatchOf) (view : patch_in a ≡ 
     pub wanting_keeps : Keeps a.stage (record a { writing = now; coding = coding })
     wanting_keeps =
         subst (λ s. Keeps s (record a { writing = now; coding = coding })) (sym coding_is)
-        (subst (λ (w : WritingOf). Keeps stage.Writing (record a { writing = w; coding = coding })) (sym same)
-        (
+        (subst (λ (w : WritingOf). Keeps stage.Writing (record a { writing = w; coding = coding })) (sym same) (
           record { book_is = coding_keeps.0.book_is; first = coding_keeps.0.first; count = coding_keeps.0.count; contents = coding_keeps.0.contents },
           short_has a.number (note_of a.call.now) (versions_of a.writing.stamps) a.token a.writing.state coding_keeps.1 begins,
           room_before a.writing.state begins coding_keeps.2,
@@ -135,10 +134,10 @@ module _ (a : Inside) (kept : IsPatch a) (old : PatchOf) (view : patch_in a ≡ 
     wanting_coded laws is =
         let c : CallOf = (patch_in a).call in
         let short : next_call a.opening.geometry (job_of a.call.now) (record { pairs = pairs_in a.changes.items; at = a.writing.state }) Told.Short ≡ record { pairs = pairs_in a.changes.items; at = State.Ending CoreOutcome.NoMemory }
-          = (laws.short a.opening.geometry a.tries (job_of a.call.now) (pairs_in a.changes.items) a.writing.state begins).after in
+        = (laws.short a.opening.geometry a.tries (job_of a.call.now) (pairs_in a.changes.items) a.writing.state begins).after in
         let states : record { pairs = pairs_in a.changes.items; at = state_by a.stage a.gatherings now a.outcome } ≡ next_call a.opening.geometry (job_of a.call.now) c.state Told.Short
-          = (λ i. record { pairs = pairs_in a.changes.items; at = state_by (coding_is i) a.gatherings (same i) a.outcome }) ∙ sym short
-            ∙ ap (λ s. next_call a.opening.geometry (job_of a.call.now) (record { pairs = pairs_in a.changes.items; at = state_by s a.gatherings a.writing a.outcome }) Told.Short) (sym coding_is) in
+        = (λ i. record { pairs = pairs_in a.changes.items; at = state_by (coding_is i) a.gatherings (same i) a.outcome }) ∙ sym short
+        ∙ ap (λ s. next_call a.opening.geometry (job_of a.call.now) (record { pairs = pairs_in a.changes.items; at = state_by s a.gatherings a.writing a.outcome }) Told.Short) (sym coding_is) in
         let dues : due_by a.stage a.gatherings now ≡ false = (λ i. due_by (coding_is i) a.gatherings (same i)) in
         (λ i. record ((patch_in a).call) { state = states i; due = dues i; coding = is i })
         ∙ ap (λ b. coded b (patch_in a).call) (sym is)

@@ -62,8 +62,7 @@ doing_commit doing.Short w h e = (let no : is_committing w.state ≡ false = ap 
 may_commit : (d : Directory) (number : ℕ) (note : Note) (drawn : List ℕ) (token : ActorToken) (placed : List (List Placement)) → IsHolding number note drawn token → note.kind ≡ Kind.Write
     → length drawn ≡ length (touched d note) → length placed ≡ length drawn → All (IsRow d.shape) placed → MayMake d token number (DirectoryStep.Commit placed)
 may_commit d number note drawn token placed h kind count rows whole =
-    subst (λ t. MayMake d t number (DirectoryStep.Commit placed)) (sym h.is)
-    (
+    subst (λ t. MayMake d t number (DirectoryStep.Commit placed)) (sym h.is) (
       h.its_number,
       (
         inr (ap (λ (note : Note). note.kind) h.its ∙ kind),
@@ -134,8 +133,7 @@ module _ (a : Inside) (kept : IsPatch a) (old : PatchOf) (view : patch_in a ≡ 
     pub done_kept : (now : Inside) → now ≡ record a { token = token; writing = w; changes = now.changes; coding = false; step = false } → Keeps a.stage now
     done_kept now same =
         subst (λ s. Keeps s now) (sym commit_is) (subst (Keeps stage.Writing) (sym same)
-        (subst (λ (w : WritingOf). Keeps stage.Writing (record a { token = token; writing = w; changes = now.changes; coding = false; step = false })) (sym w_is)
-        (
+        (subst (λ (w : WritingOf). Keeps stage.Writing (record a { token = token; writing = w; changes = now.changes; coding = false; step = false })) (sym w_is) (
           record { book_is = commit_keeps.0.book_is; first = commit_keeps.0.first; count = commit_keeps.0.count; contents = commit_keeps.0.contents },
           settle_has a.number (note_of a.call.now) (versions_of a.writing.stamps) token point (places_of (chunk_count a.writing.book.geometry) (versions_of a.writing.stamps)) seated,
           settle_room point (places_of (chunk_count a.writing.book.geometry) (versions_of a.writing.stamps)) (length now.changes.items) (vec_capacity now.changes),

@@ -152,9 +152,11 @@ module _ (a : Inside) (kept : IsPatch a) (old : PatchOf) (view : patch_in a ≡ 
       → (next : Stage) (token : ActorToken) (coding step : Bool) → IsSeated token → Keeps (after_end s) (record a { stage = next; token = token; coding = coding; step = step })
   kept_by stage.Looking k h n next token coding step seated = absurd (cc)
   kept_by stage.Looked k h n next token coding step seated = absurd (no_directory (act_at a.opening.geometry a.tries (job_of a.call.now) (pairs_in a.changes.items) (state_in a.gatherings Sequel.Draw)) n)
-  kept_by stage.Gathering k h n next token coding step seated =
-      (seated, ungathered_at a.gatherings a.tries (job_of a.call.now) (pairs_in a.changes.items)
-      (subst (λ book. need_by (act_at book.geometry a.tries (job_of a.call.now) (pairs_in a.changes.items) (state_in a.gatherings Sequel.Draw)) (is_due a.gatherings) ≡ need.Directory) (sym kept.book) n) h)
+  kept_by stage.Gathering k h n next token coding step seated = (
+    seated,
+    ungathered_at a.gatherings a.tries (job_of a.call.now) (pairs_in a.changes.items)
+        (subst (λ book. need_by (act_at book.geometry a.tries (job_of a.call.now) (pairs_in a.changes.items) (state_in a.gatherings Sequel.Draw)) (is_due a.gatherings) ≡ need.Directory) (sym kept.book) n) h,
+  )
   kept_by stage.Ungathered k h n next token coding step seated = absurd (not_ungathered k h)
   kept_by stage.Writing k h n next token coding step seated = (seated, (holds_to_end a.number (note_of a.call.now) (versions_of a.writing.stamps) a.token a.writing.state k.1 h).1)
   kept_by stage.GivenUp k h n next token coding step seated = absurd (not_given_up k h)

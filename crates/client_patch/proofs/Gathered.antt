@@ -90,6 +90,7 @@ module _ (g : Shape) (tries : ℕ) (job : Job) (pairs : List (ℕ × ℕ)) (H : 
       stage_by part parts Stage.AtTarget e h on = absurd (cc)
       stage_by part parts (Stage.TargetAway downs) e h on = absurd (cc)
       stage_by part parts Stage.Short e h on = absurd (cc)
+
       open_by : (parts : List Part) → need_by (act_at g tries job pairs (open_parts g parts Sequel.Draw)) false ≡ need.Server server → UpToDraw (open_parts g parts Sequel.Draw) H → H
       open_by [] e h = h
       open_by (part ∷ parts) e h = stage_by part parts (first_stage g (Aim.Range part)) e h (open_by parts)

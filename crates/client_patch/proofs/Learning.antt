@@ -188,7 +188,7 @@ module _ (s : Sealed) (stamps : List StampOf) (same : stamps ≡ s.stamps) (some
   knows_by seat (Ok (look_answer.Ready base length stripes)) short after next size kept fits made shown goes long is =
       let kind : (note_of written).kind ≡ Kind.Write = write_kind written fits in
       let told : (length ≡ (object_or_new (note_of written).name s.core.objects).length)
-          × (map seen_in stripes.items ≡ map (seen_at s.core (object_or_new (note_of written).name s.core.objects)) (pinned_by Kind.Write s.core.shape (note_of written) (object_or_new (note_of written).name s.core.objects).length))
+      × (map seen_in stripes.items ≡ map (seen_at s.core (object_or_new (note_of written).name s.core.objects)) (pinned_by Kind.Write s.core.shape (note_of written) (object_or_new (note_of written).name s.core.objects).length))
       = ready_told seat.actor number (note_of written) s.core kind short (option_map (λ (point : Point). point.0) base) length (map seen_in stripes.items) (ap (λ (x : Directory × Told). x.1) made) in
       let pass : Pass = record { actor = seat.actor; number = number; note = note_of written; pinned = map pin_of (map seen_in stripes.items); drawn = []; base = option_map (λ (point : Point). point.0) base; reaped = None } in
       subst (λ stamps. AreOldBytes stamps book (note_of written) size kept pass) (sym same)

@@ -164,8 +164,10 @@ module _ (a : Inside) (kept : IsPatch a) (old : PatchOf) (view : patch_in a ≡ 
       → (after, record ((patch_in a).call) { token = token; state = call_at (pairs_in a.changes.items) at; takes = takes; due = due; coding = false; step = short }) ≡ stepped_at_directory short due old.call before
   look_step told fits short due before after made token token_is at at_is takes takes_is =
       let states : call_at (pairs_in a.changes.items) at ≡ next_call a.opening.geometry (job_of a.call.now) ((patch_in a).call.state) told
-      = (λ i. record { pairs = no_pairs (is_write a.call.now) (pairs_in a.changes.items) told fits i;
-          at = (at_is ∙ ap (λ (book : BookOf). open_state book.geometry (start_after book.geometry (note_of a.call.now).kind (job_of a.call.now) told)) kept.book) i })
+      = (λ i. record {
+        pairs = no_pairs (is_write a.call.now) (pairs_in a.changes.items) told fits i;
+        at = (at_is ∙ ap (λ (book : BookOf). open_state book.geometry (start_after book.geometry (note_of a.call.now).kind (job_of a.call.now) told)) kept.book) i;
+      })
       ∙ ap (λ at. next_call a.opening.geometry (job_of a.call.now) (call_at (pairs_in a.changes.items) at) told) (sym start_here) in
       (λ i. (after, record ((patch_in a).call) { token = token; state = call_at (pairs_in a.changes.items) at; takes = takes_is i; due = due; coding = false; step = short }))
       ∙ directory_step (patch_in a).call (DirectoryStep.Look (note_of a.call.now)) short due before after told token (call_at (pairs_in a.changes.items) at) looks_here made token_is states refl

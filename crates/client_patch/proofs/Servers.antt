@@ -36,10 +36,10 @@ server_step laws c pairs at server is asked short due before after now step =
     let answer : Told = (at_server short law.step before).1 in
     let places : after ≡ (at_server short law.step before).0 = ap (λ (made : Server × State). made.0) step ∙ sym (law.server_after short before) in
     let state : call_at pairs now ≡ next_call c.book.geometry c.job c.state answer
-      = ap (λ (made : Server × State). call_at pairs made.1) step ∙ sym (law.call_after short before) ∙ ap (λ (s : CallState). next_call c.book.geometry c.job s (at_server short law.step before).1) (sym is) in
+    = ap (λ (made : Server × State). call_at pairs made.1) step ∙ sym (law.call_after short before) ∙ ap (λ (s : CallState). next_call c.book.geometry c.job s (at_server short law.step before).1) (sym is) in
     let takes : c.takes ≡ take_from (Act.AtServer server law.step) answer c.takes = sym (law.takes_after short before c.takes) in
     let made : (after, record c { state = call_at pairs now; due = due; coding = false; step = short }) ≡ at_server_by (Act.AtServer server law.step) short due c before
-      = λ i. (places i, record c { state = state i; takes = takes i; due = due; coding = false; step = short }) in
+    = λ i. (places i, record c { state = state i; takes = takes i; due = due; coding = false; step = short }) in
     made ∙ ap (λ act. at_server_by act short due c before) (sym act)
 
 -- a look needs no server, nor the coder

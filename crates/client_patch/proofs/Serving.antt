@@ -37,10 +37,10 @@ module _ (laws : StepsAreOfTheCall) (a : Inside) (kept : IsPatch a) (old : Patch
       let before : KnowsOld d (patch_in a) = subst (KnowsOld d) (sym view) knows in
       let known : List ℕ → Type 0 = λ bytes. IfInCall a.token (λ held. AreOldBytes d.stamps a.opening (note_of a.call.now) a.size bytes held.pass) in
       let asked : need_by (act_at a.gatherings.book.geometry a.tries (job_of a.call.now) (pairs_in a.changes.items) (state_in a.gatherings Sequel.Draw)) (due_by stage.Gathering a.gatherings a.writing) ≡ need.Server server
-        = (λ i. need_by (act_at (kept.book i).geometry a.tries (job_of a.call.now) (pairs_in a.changes.items) (state_by (sym is i) a.gatherings a.writing a.outcome)) (due_by (sym is i) a.gatherings a.writing)) ∙ needs_here in
+      = (λ i. need_by (act_at (kept.book i).geometry a.tries (job_of a.call.now) (pairs_in a.changes.items) (state_by (sym is i) a.gatherings a.writing a.outcome)) (due_by (sym is i) a.gatherings a.writing)) ∙ needs_here in
       let held : known (owed a.gatherings)
-        = asks_up_to_draw (known (owed a.gatherings)) a.gatherings a.tries (job_of a.call.now) (pairs_in a.changes.items) server asked
-          (subst (λ s. UpToDraw (state_by s a.gatherings a.writing a.outcome) (known (owed a.gatherings))) is before) in
+      = asks_up_to_draw (known (owed a.gatherings)) a.gatherings a.tries (job_of a.call.now) (pairs_in a.changes.items) server asked
+      (subst (λ s. UpToDraw (state_by s a.gatherings a.writing a.outcome) (known (owed a.gatherings))) is before) in
       known_at (known (owed p)) (state_by a.stage p a.writing a.outcome) (subst known (sym same) held)
 
   module _ (other : a.stage ≡ stage.Gathering → ⊥) where
@@ -86,9 +86,9 @@ module _ (laws : StepsAreOfTheCall) (a : Inside) (kept : IsPatch a) (old : Patch
       pub served_step : (after, (patch_in (record a { writing = now; coding = false; step = short })).call) ≡ stepped_at_server short (due_by a.stage a.gatherings now) old.call before
       served_step =
           let here : (after, now.state) ≡ stepped a.opening.geometry short before a.writing.state
-            = step ∙ ap (λ (book : BookOf). stepped book.geometry short before a.writing.state) keeps.0.book_is in
+          = step ∙ ap (λ (book : BookOf). stepped book.geometry short before a.writing.state) keeps.0.book_is in
           ap (λ s. (after, record ((patch_in a).call) { state = record { pairs = pairs_in a.changes.items; at = state_by s a.gatherings now a.outcome }; due = due_by s a.gatherings now; coding = false; step = short })) writing_is
           ∙ server_step laws (patch_in a).call (pairs_in a.changes.items) a.writing.state server
-            (ap (λ s. record { pairs = pairs_in a.changes.items; at = state_by s a.gatherings a.writing a.outcome }) writing_is) asked.asked short now.due before after now.state here
+          (ap (λ s. record { pairs = pairs_in a.changes.items; at = state_by s a.gatherings a.writing a.outcome }) writing_is) asked.asked short now.due before after now.state here
           ∙ ap (λ s. stepped_at_server short (due_by s a.gatherings now) (patch_in a).call before) (sym writing_is)
           ∙ ap (λ (p : PatchOf). stepped_at_server short (due_by a.stage a.gatherings now) p.call before) view

@@ -65,7 +65,9 @@ fn encode<R: Threads + Sync, C: Coder>(
     ensures err { OnErr result (writing.new ≡ writing.old) }
 {
     let Call::Write {
-        offset, content, ..
+        offset,
+        content,
+        ..
     } = call
     else {
         unreachable!()
@@ -91,8 +93,12 @@ impl<'a> PatchCall<'a> {
     {
         match self.stage {
             Stage::Looked => {
-                let (stage, short) =
-                    begin_gathering(rt, coder, &mut self.changes, &mut self.gatherings);
+                let (stage, short) = begin_gathering(
+                    rt,
+                    coder,
+                    &mut self.changes,
+                    &mut self.gatherings,
+                );
                 self.stage = stage;
                 self.outcome = Outcome::NoMemory;
                 self.coding = short;

@@ -31,7 +31,9 @@ fn range_of(call: &Call) -> (u32, u32)
 {
     match call {
         Call::Write {
-            offset, content, ..
+            offset,
+            content,
+            ..
         } => (*offset, content.length()),
         _ => unreachable!(),
     }

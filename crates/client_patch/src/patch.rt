@@ -272,7 +272,11 @@ impl<'a> PatchCall<'a> {
         } = self;
         let seat = token.into_seat();
         match stage {
-            Stage::Looking => (seat, Outcome::Contended { changes }, gatherings.into_takes()),
+            Stage::Looking => (
+                seat,
+                Outcome::Contended { changes },
+                gatherings.into_takes(),
+            ),
             Stage::Ungathered => {
                 let (outcome, takes) = outcome_of_gatherings(gatherings);
                 (seat, outcome, takes)

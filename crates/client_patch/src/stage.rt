@@ -73,7 +73,9 @@ pub(crate) fn after_look(
         },
         Ok(
             LookAnswer::Ready {
-                length, stripes, ..
+                length,
+                stripes,
+                ..
             },
         ) => {
             gatherings.begin(stripes, 0, length);

@@ -29,7 +29,7 @@ invariant_of-self c =
     let kept = c.self.invariant in
     let placed = map (λ row. row.items) c.rows-rows.result.items in
     let writing = c.committed.ensures
-        ∙ ap (λ (w : WritingOf). record w { state = settle_state c.in-Done.point.0 (places_of (chunk_count w.book.geometry) (versions_of w.stamps)) }) c.rows-rows.ensures.after in
+    ∙ ap (λ (w : WritingOf). record w { state = settle_state c.in-Done.point.0 (places_of (chunk_count w.book.geometry) (versions_of w.stamps)) }) c.rows-rows.ensures.after in
     record {
       patch = kept.patch;
       client = kept.client;
@@ -49,6 +49,6 @@ pub returns-in-Done-clause-step : goal.returns-in-Done-clause-step
 returns-in-Done-clause-step c =
     let placed = map (λ row. row.items) c.rows-rows.result.items in
     let writing = c.committed.ensures
-        ∙ ap (λ (w : WritingOf). record w { state = settle_state c.in-Done.point.0 (places_of (chunk_count w.book.geometry) (versions_of w.stamps)) }) c.rows-rows.ensures.after in
+    ∙ ap (λ (w : WritingOf). record w { state = settle_state c.in-Done.point.0 (places_of (chunk_count w.book.geometry) (versions_of w.stamps)) }) c.rows-rows.ensures.after in
     done_step c.self.inside c.self.invariant c.args.self.now c.self.view_is c.requires.committing c.in-Done.point.0 placed c.rows-rows.ensures.rows c.committed.new.self writing
     c.commit-answer.new.self c.in-Done.ensures.token c.args.directory.now.core c.commit-answer.new.directory.core (pairs_in c.clear.new.self.items) (ap pairs_in c.clear.ensures.items) c.in-Done.ensures.step

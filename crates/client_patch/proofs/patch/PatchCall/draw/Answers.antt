@@ -62,8 +62,8 @@ pub new-requires-clause-numbered : goal.new-requires-clause-numbered
 new-requires-clause-numbered c =
     let geometry : c.geometry.result ≡ c.self.inside.opening.geometry = c.geometry.ensures in
     let few = draw_count c.self.inside c.self.invariant c.args.self.now c.self.view_is c.requires.drawing c.requires.need c.args.directory.now c.in-Ok-Versions.stamps.items c.request-request.result (its c) c.keeps.ensures.stamps.code (drawn c)
-        (subst IsGeometry geometry c.stripe_len.ensures.geometry)
-        (subst (λ n. n < 2 ^ 33 - 1) (λ i. c.range_of-offset.ensures.offset i + c.range_of-offset.ensures.length i) c.range_of-offset.ensures.fits) in
+    (subst IsGeometry geometry c.stripe_len.ensures.geometry)
+    (subst (λ n. n < 2 ^ 33 - 1) (λ i. c.range_of-offset.ensures.offset i + c.range_of-offset.ensures.length i) c.range_of-offset.ensures.fits) in
     subst (λ n. n + length c.in-Ok-Versions.stamps.items ≤ 2 ^ 32) (sym (λ i. c.range_of-offset.ensures.offset i / (c.stripe_len.ensures.value ∙ ap stripe_length geometry) i)) few
 
 pub invariant_of-self : goal.invariant_of-self

@@ -10,8 +10,8 @@ invariant_of-self-in_default c =
     let a = c.self.inside in
     let kept = c.self.invariant in
     let step =
-        c.on_server-in_default.ensures.step
-        ∙ ap (λ short. stepped a.writing.book.geometry short (core_of c.args.s.now) a.writing.state) (sym c.is_err-self-inside.ensures.value) in
+    c.on_server-in_default.ensures.step
+    ∙ ap (λ short. stepped a.writing.book.geometry short (core_of c.args.s.now) a.writing.state) (sym c.is_err-self-inside.ensures.value) in
     record {
       patch = kept.patch;
       client = kept.client;
@@ -34,8 +34,8 @@ returns-in_default c =
     let a = c.self.inside in
     let kept = c.self.invariant in
     let step =
-        c.on_server-in_default.ensures.step
-        ∙ ap (λ short. stepped a.writing.book.geometry short (core_of c.args.s.now) a.writing.state) (sym c.is_err-self-inside.ensures.value) in
+    c.on_server-in_default.ensures.step
+    ∙ ap (λ short. stepped a.writing.book.geometry short (core_of c.args.s.now) a.writing.state) (sym c.is_err-self-inside.ensures.value) in
     record {
       step =
           served_step c.steps_are_of_the_call.ensures a kept c.args.self.now c.self.view_is c.args.s.now.number c.requires.need c.in_default.not-Gathering
