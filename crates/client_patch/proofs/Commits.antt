@@ -24,10 +24,7 @@ use Rattle.call_steps.specs.Steps.{stepped_at_directory}
 use Rattle.call_steps.specs.TokenAfter.{token_after, MayMake, IsSeated}
 use Rattle.gather_parts.specs.States.{state_in}
 use Rattle.write_course.specs.Laws.{call_at}
-use Rattle.write_course.specs.Writings.{WritingOf, versions_of, is_preparing, is_settling}
-use Rattle.write_course.specs.WritingSteps.{IsDoing}
-use Rattle.write_course.specs.declared.doing.Doing.{Doing}
-use Rattle.write_course.specs.declared.doing.Doing.TheVariants as doing
+use Rattle.write_course.specs.Writings.{WritingOf, versions_of}
 use Rattle.client_patch.specs.Patches.{PatchOf}
 use Rattle.client_patch.specs.Stages.{finished_of, state_by, due_by, is_committing}
 use Rattle.client_patch.specs.Inside.{pairs_in, patch_in, Keeps, IsPatch}
@@ -39,24 +36,6 @@ use Rattle.client_patch.proofs.OfWrites.{write_kind}
 use Rattle.client_patch.proofs.Gathered.{EndsSo, ungathered_ends, gathering_gives}
 use Rattle.client_patch.proofs.Tokens.{settle_has, settle_room, holds_to_commit, seated_by}
 use Rattle.client_patch.proofs.Ends.{directory_step}
-
-no_prepare : (at : State) → is_preparing at ≡ true → is_committing at ≡ true → ⊥
-no_prepare (State.Preparing stripe version server servers row later placed versions) p h = cc
-no_prepare _ p h = cc
-
-no_settle : (at : State) → is_settling at ≡ true → is_committing at ≡ true → ⊥
-no_settle (State.Settling point place places) p h = cc
-no_settle _ p h = cc
-
--- a writing whose commit is next
-pub doing_commit : (d : Doing) (w : WritingOf) → IsDoing d w → is_committing w.state ≡ true → IsDoing doing.Committing w
-doing_commit doing.Preparing w h e = absurd (no_prepare w.state h e)
-doing_commit doing.Committing w h e = h
-doing_commit doing.Committed w h e = (let no : is_committing w.state ≡ false = ap is_committing h in absurd (cc))
-doing_commit doing.Settling w h e = absurd (no_settle w.state h e)
-doing_commit doing.Done w h e = (let no : is_committing w.state ≡ false = ap is_committing h.1 in absurd (cc))
-doing_commit doing.TooManyAway w h e = (let no : is_committing w.state ≡ false = ap is_committing h.2 in absurd (cc))
-doing_commit doing.Short w h e = (let no : is_committing w.state ≡ false = ap is_committing h in absurd (cc))
 
 -- a pass that may commit
 may_commit : (d : Directory) (number : ℕ) (note : Note) (drawn : List ℕ) (token : ActorToken) (placed : List (List Placement)) → IsHolding number note drawn token → note.kind ≡ Kind.Write

@@ -155,8 +155,6 @@ impl<'a> PatchCall<'a> {
         ensures stamps { directory.new.stamps ≡ directory.old.stamps }
     {
         directory.keeps();
-        // That it commits next is needed below.
-        let _doing = self.writing.doing();
         let rows = self.writing.rows();
         let answer = self.token.commit(directory, self.number, rows);
         self.coding = false;

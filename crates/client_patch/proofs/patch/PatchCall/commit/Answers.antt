@@ -11,11 +11,11 @@ use Rattle.write_course.specs.Writings.{WritingOf, versions_of}
 use Rattle.client_patch.specs.Patches.{PatchOf}
 use Rattle.client_patch.specs.Inside.{pairs_in}
 use Rattle.client_patch.proofs.Tokens.{token_stays}
-use Rattle.client_patch.proofs.Commits.{doing_commit, commit_may, commit_room, writing_commits, done_kept, done_step}
+use Rattle.client_patch.proofs.Commits.{commit_may, commit_room, writing_commits, done_kept, done_step}
 use Rattle.client_patch.proofs.patch.PatchCall.commit.Goals as goal
 
 pub rows-rows-requires : goal.rows-rows-requires
-rows-rows-requires c = doing_commit c.doing-doing.result c.self.inside.writing c.doing-doing.ensures (writing_commits c.self.inside c.self.invariant c.args.self.now c.self.view_is c.requires.committing)
+rows-rows-requires c = writing_commits c.self.inside c.self.invariant c.args.self.now c.self.view_is c.requires.committing
 
 pub commit-answer-requires-clause-may : goal.commit-answer-requires-clause-may
 commit-answer-requires-clause-may c =
