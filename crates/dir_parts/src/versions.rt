@@ -1,4 +1,4 @@
-ghost use Rattle.std.specs.Prelude.{◌≡◌, ◌+◌, ◌-◌, ◌<◌, ◌≤◌, ◌∷◌, [], length, map, zip, slice_get, false, true, All, vec_len, vec_capacity, ◌^◌, ◌++◌, replicate, OnOk, OnErr, IfOk, is_some, get_or, find, option_map, nat_eq, IsTrue};
+ghost use Rattle.std.specs.Prelude.{◌≡◌, ◌+◌, ◌-◌, ◌<◌, ◌≤◌, ◌↔◌, ◌∷◌, [], length, map, zip, slice_get, false, true, All, vec_len, vec_capacity, ◌^◌, ◌++◌, replicate, OnOk, OnErr, IfOk, is_some, get_or, find, option_map, nat_eq, IsTrue};
 ghost use Rattle.std.specs.List.Sorted.{IsPermutation};
 ghost use Rattle.std.specs.BinaryHeap.{heap_items, heap_len, heap_capacity, IsHeap};
 ghost use Rattle.std.specs.List.{range_with_len};
@@ -402,7 +402,7 @@ impl Versions {
     /// Whether the counts of these versions can take one pin more for each of the pins.
     pub fn can_pin(&self, pins: &[Pinned]) -> bool
         requires { All (λ pin. pin.version < length self.now.listed) pins.now }
-        ensures { result ≡ true → All (λ pin. get_or self.now.pins pin.version 0 + length pins.now < 2 ^ 64) pins.now }
+        ensures { IsTrue result ↔ All (λ pin. get_or self.now.pins pin.version 0 + length pins.now < 2 ^ 64) pins.now }
     {
         let most = u64::MAX - pins.len() as u64;
         for pin in pins {

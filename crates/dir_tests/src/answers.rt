@@ -1,6 +1,6 @@
 //! Each answer of the directory, with its values.
 
-use crate::rows::hold_anew;
+use dir_walks::rows::hold_anew;
 use std::test::Fail;
 
 // Looks that are refused, answered, and pin all stripes or one; writes of a whole stripe and of parts of two, of

@@ -1,13 +1,13 @@
 //! The chunks of a put that was given up and whose versions were swept come to their servers all the same.
 
 ghost use Rattle.std.specs.Prelude.{◌≡◌};
-ghost use Rattle.dir_tests.specs.Small.{small_code, IsStripeStamp};
+ghost use Rattle.dir_walks.specs.Small.{small_code, IsStripeStamp};
 
-use crate::opening::small_geometry;
-use crate::rows::hold;
-use crate::shelf::Shelf;
-use crate::store::Store;
-use crate::stripe::drawn_stripe;
+use dir_walks::opening::small_geometry;
+use dir_walks::rows::hold;
+use dir_walks::shelf::Shelf;
+use dir_walks::store::Store;
+use dir_walks::stripe::drawn_stripe;
 use std::alloc::Global;
 use std::test::Fail;
 use store_map::{Placement, Version};

@@ -1,6 +1,6 @@
 //! Puts of one client, of which the operator may give one up.
 
-use crate::rows::hold_anew;
+use dir_walks::rows::hold_anew;
 use std::test::Fail;
 
 const REAPED_BEFORE_DRAW: &str = "\

@@ -1,4 +1,4 @@
-//! Tests of scripts: what is read and written, and each damaged script with its first fault.
+//! Tests of scripts: what is read of them, and what is written again.
 #![tactic(auto)]
 
 #[cfg(test)]

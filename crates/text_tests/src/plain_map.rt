@@ -1,10 +1,10 @@
 ghost use Rattle.std.specs.Prelude.{◌<◌, ◌^◌, length};
 
-use crate::faults::same;
 use std::alloc::Global;
 use std::process::Abort;
 use std::test::Fail;
 use store_map::{ByteList, Call, Content, HexBytes, Name, NameFault, ObjectMap, Rebuild, Reply};
+use text_tables::faults::same;
 
 #[test]
 fn names(rt: HostRuntime) -> Result<(), Fail> {

@@ -92,7 +92,7 @@ pin_all-requires-clause-others c =
 pub pin_all-requires-clause-fits : goal.pin_all-requires-clause-fits
 pin_all-requires-clause-fits c =
     let yes : c.can_pin.result ≡ true = c.if-not-can_pin.false in
-    subst (λ (ps : List Pin). All (λ pin. get_or c.self.inside.versions.pins pin.version 0 + length ps < 2 ^ 64) ps) (c.deref-2.ensures.value ∙ sym c.deref-3.ensures.value) (c.can_pin.ensures yes)
+    subst (λ (ps : List Pin). All (λ pin. get_or c.self.inside.versions.pins pin.version 0 + length ps < 2 ^ 64) ps) (c.deref-2.ensures.value ∙ sym c.deref-3.ensures.value) (c.can_pin.ensures.0 yes)
 
 pub invariant_of-self-2 : goal.invariant_of-self-2
 invariant_of-self-2 c =

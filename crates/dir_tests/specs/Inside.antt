@@ -1,7 +1,0 @@
--- The fields as the record.
-use Rattle.dir_tests.specs.Callers.{CallerOf}
-use Rattle.dir_tests.specs.declared.caller.Caller.TheInside.{Inside}
-
-abbrev pub caller_in : Inside → CallerOf
-caller_in a =
-    record { who = a.who; token = a.token; stage = a.stage; number = a.number; unused = a.unused; drawn = a.drawn; request = a.request }

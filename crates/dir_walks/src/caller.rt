@@ -1,0 +1,306 @@
+ghost use Rattle.std.specs.Prelude.{◌≡◌, IfOk};
+ghost use Rattle.store_core.specs.Agreement.{ActorToken, HeldPass};
+ghost use Rattle.dir_walks.specs.Callers.{IsReady, Steps, is_seated};
+ghost use Rattle.call_token.specs.Stamps.{IfDrawn};
+ghost use Rattle.dir_walks.specs.Begun.{IfBegun};
+ghost use Rattle.dir_walks.specs.Opened.{new_caller};
+
+use crate::placing::rows;
+use crate::stage::{
+    Stage, drawn_by, is_client, is_repairer, stage_after_confirm, stage_after_draw,
+    stage_after_look, stage_after_repair_look, unused_after_commit,
+};
+use call_token::{CommitAnswer, ConfirmAnswer, DrawAnswer, EndAnswer, LookAnswer, Token};
+use std::alloc::{AllocError, Global};
+use std::marker::Model;
+use store_map::{Actor, Call, Name};
+use stripe_dir::{Directory, Seat, Seen};
+use version_seal::{Book, Request};
+
+/// A step of an actor at the directory.
+#[derive(Clone, Copy)]
+pub enum Step<'a> {
+    Look {
+        number: u32,
+        call: &'a Call,
+    },
+    LookRepair {
+        number: u32,
+        name: &'a Name,
+        stripe: u32,
+    },
+    Draw,
+    Commit,
+    End,
+    Confirm,
+    Repaired {
+        server: u32,
+        epoch: u64,
+    },
+}
+
+/// What it is answered.
+#[derive(Drop)]
+pub enum Answer {
+    Look(LookAnswer),
+    LookRepair(Option<Seen>),
+    Draw(DrawAnswer),
+    Commit(CommitAnswer),
+    End(EndAnswer),
+    Confirm(ConfirmAnswer),
+}
+
+/// Why no step is made.
+#[derive(Clone, Copy, PartialEq, Eq, Debug, Drop)]
+pub enum Refusal {
+    /// The actor may not make it now.
+    NotNow,
+    Short,
+}
+
+impl From<AllocError> for Refusal {
+    fn from(_: AllocError) -> Refusal {
+        Refusal::Short
+    }
+}
+
+/// An actor with its token, and what its next steps go by. It has to be spent.
+pub struct Caller {
+    who: Actor,
+    token: Token,
+    stage: Stage,
+    // of its last call
+    number: u32,
+    // from this one on all are
+    unused: u64,
+    // how many versions it has drawn
+    drawn: usize,
+    // its put or write
+    request: Option<Request>,
+}
+
+impl Model for Caller {
+    ghost use Rattle.dir_walks.specs.Callers.{CallerOf};
+
+    ghost Value = { CallerOf };
+
+    ghost use Rattle.dir_walks.specs.Inside.{caller_in};
+
+    ghost view = { caller_in };
+}
+
+impl Caller {
+    /// An actor that has made no call.
+    pub fn new(who: Actor, seat: Seat) -> Caller
+        ensures { result ≡ new_caller who (ActorToken.Seated seat) }
+    {
+        Caller {
+            who,
+            token: Token::new(seat),
+            stage: Stage::Seated,
+            number: 0,
+            unused: 0,
+            drawn: 0,
+            request: None,
+        }
+    }
+
+    pub fn who(&self) -> Actor
+        ensures { result ≡ self.now.who }
+    {
+        self.who
+    }
+
+    /// Leaves the directory.
+    pub fn leave(self) {
+        let Caller {
+            who: _,
+            token,
+            stage: _,
+            number: _,
+            unused: _,
+            drawn: _,
+            request: _,
+        } = self;
+        token.leave();
+    }
+
+    fn is_seated(&self) -> bool
+        ensures { result ≡ is_seated self.now.stage }
+    {
+        matches!(self.stage, Stage::Seated)
+    }
+
+    /// Begins a client's call, where it is in none.
+    pub fn look(
+        &mut self,
+        directory: &mut Directory,
+        book: &Book,
+        number: u32,
+        call: &Call,
+    ) -> Result<LookAnswer, Refusal>
+        requires ready { IsReady book.now directory.old self.old }
+        ensures steps { Steps directory.old self.old directory.new self.new }
+        ensures begun { IfOk result (λ answer. IfBegun book.now.home call.now number answer self.new) }
+    {
+        let Stage::Seated = self.stage else {
+            return Err(Refusal::NotNow);
+        };
+        if u64::from(number) < self.unused || !is_client(self.who) {
+            return Err(Refusal::NotNow);
+        }
+        let answer = self.token.look(directory, number, call)?;
+        self.stage = stage_after_look(&answer, call);
+        self.number = number;
+        self.unused = u64::from(number) + 1;
+        self.request = Some(book.request(self.who, number, call));
+        Ok(answer)
+    }
+
+    fn look_repair(
+        &mut self,
+        directory: &mut Directory,
+        book: &Book,
+        number: u32,
+        name: &Name,
+        stripe: u32,
+    ) -> Result<Option<Seen>, Refusal>
+        requires ready { IsReady book.now directory.old self.old }
+        ensures steps { Steps directory.old self.old directory.new self.new }
+    {
+        let _ = book;
+        let Stage::Seated = self.stage else {
+            return Err(Refusal::NotNow);
+        };
+        if u64::from(number) < self.unused || !is_repairer(self.who) {
+            return Err(Refusal::NotNow);
+        }
+        let answer = self.token.look_repair(directory, number, name, stripe)?;
+        self.stage = stage_after_repair_look(&answer);
+        self.number = number;
+        Ok(answer)
+    }
+
+    /// Draws the versions of a put or a write that has begun.
+    pub fn draw(&mut self, directory: &mut Directory, book: &Book) -> Result<DrawAnswer, Refusal>
+        requires ready { IsReady book.now directory.old self.old }
+        ensures steps { Steps directory.old self.old directory.new self.new }
+        ensures drawn { (held : HeldPass) → self.old.token ≡ ActorToken.InCall held → IfOk result (IfDrawn directory.old held self.old.request) }
+    {
+        let Stage::Begun = self.stage else {
+            return Err(Refusal::NotNow);
+        };
+        directory.keeps();
+        let answer = self
+            .token
+            .draw(directory, self.number, book, self.request.as_ref())?;
+        self.stage = stage_after_draw(&answer);
+        self.drawn = drawn_by(&answer);
+        self.unused = u64::from(self.number) + 1;
+        Ok(answer)
+    }
+
+    fn commit(
+        &mut self,
+        directory: &mut Directory,
+        book: &Book,
+        alloc: Global,
+    ) -> Result<CommitAnswer, Refusal>
+        requires ready { IsReady book.now directory.old self.old }
+        ensures steps { Steps directory.old self.old directory.new self.new }
+    {
+        let _ = book;
+        let Stage::Drawn = self.stage else {
+            return Err(Refusal::NotNow);
+        };
+        directory.keeps();
+        let placed = rows(alloc, directory.geometry(), self.drawn)?;
+        let answer = self.token.commit(directory, self.number, placed);
+        self.stage = Stage::Seated;
+        self.unused = unused_after_commit(&answer, self.number);
+        Ok(answer)
+    }
+
+    fn end(&mut self, directory: &mut Directory, book: &Book) -> Result<EndAnswer, Refusal>
+        requires ready { IsReady book.now directory.old self.old }
+        ensures steps { Steps directory.old self.old directory.new self.new }
+    {
+        let _ = book;
+        if self.is_seated() {
+            return Err(Refusal::NotNow);
+        }
+        let answer = self.token.end(directory, self.number);
+        self.stage = Stage::Seated;
+        self.unused = u64::from(self.number) + 1;
+        Ok(answer)
+    }
+
+    fn confirm(&mut self, directory: &mut Directory, book: &Book) -> Result<ConfirmAnswer, Refusal>
+        requires ready { IsReady book.now directory.old self.old }
+        ensures steps { Steps directory.old self.old directory.new self.new }
+    {
+        let _ = book;
+        let Stage::Rebuilding = self.stage else {
+            return Err(Refusal::NotNow);
+        };
+        let answer = self.token.confirm(directory, self.number);
+        self.stage = stage_after_confirm(&answer);
+        self.unused = u64::from(self.number) + 1;
+        Ok(answer)
+    }
+
+    fn repaired(
+        &mut self,
+        directory: &mut Directory,
+        book: &Book,
+        server: u32,
+        epoch: u64,
+    ) -> Result<EndAnswer, Refusal>
+        requires ready { IsReady book.now directory.old self.old }
+        ensures steps { Steps directory.old self.old directory.new self.new }
+    {
+        let _ = book;
+        let Stage::Rebuilding = self.stage else {
+            return Err(Refusal::NotNow);
+        };
+        if server >= directory.geometry().n() {
+            return Err(Refusal::NotNow);
+        }
+        let answer = self.token.repaired(directory, self.number, server, epoch);
+        self.stage = Stage::Seated;
+        self.unused = u64::from(self.number) + 1;
+        Ok(answer)
+    }
+
+    /// Makes a step, where the actor may.
+    pub fn make(
+        &mut self,
+        directory: &mut Directory,
+        book: &Book,
+        alloc: Global,
+        step: Step<'_>,
+    ) -> Result<Answer, Refusal>
+        requires ready { IsReady book.now directory.old self.old }
+        ensures steps { Steps directory.old self.old directory.new self.new }
+    {
+        match step {
+            Step::Look { number, call } => {
+                self.look(directory, book, number, call).map(Answer::Look)
+            }
+            Step::LookRepair {
+                number,
+                name,
+                stripe,
+            } => self
+                .look_repair(directory, book, number, name, stripe)
+                .map(Answer::LookRepair),
+            Step::Draw => self.draw(directory, book).map(Answer::Draw),
+            Step::Commit => self.commit(directory, book, alloc).map(Answer::Commit),
+            Step::End => self.end(directory, book).map(Answer::End),
+            Step::Confirm => self.confirm(directory, book).map(Answer::Confirm),
+            Step::Repaired { server, epoch } => self
+                .repaired(directory, book, server, epoch)
+                .map(Answer::End),
+        }
+    }
+}

@@ -1,0 +1,105 @@
+ghost use Rattle.std.specs.Prelude.{◌≡◌, ◌+◌, true, if◌then◌else◌};
+ghost use Rattle.dir_walks.specs.Callers.{is_client, is_repairer};
+ghost use Rattle.dir_walks.specs.After.{writes, stage_after_look, stage_after_repair_look, stage_after_draw, drawn_by, unused_after_commit, stage_after_confirm};
+
+use call_token::{CommitAnswer, ConfirmAnswer, DrawAnswer, LookAnswer};
+use store_map::{Actor, Call};
+use stripe_dir::Seen;
+
+/// Where an actor is in its calls.
+#[derive(Clone, Copy, PartialEq, Eq, Debug)]
+pub enum Stage {
+    Seated,
+    /// A get or a read has begun.
+    Reading,
+    /// A put or a write has begun, and has drawn nothing.
+    Begun,
+    /// It has drawn its versions.
+    Drawn,
+    Rebuilding,
+}
+
+/// Whether it is a client.
+pub fn is_client(who: Actor) -> bool
+    ensures { result ≡ is_client who }
+{
+    matches!(who, Actor::Client(_))
+}
+
+/// Whether it is a repairer.
+pub fn is_repairer(who: Actor) -> bool
+    ensures { result ≡ is_repairer who }
+{
+    matches!(who, Actor::Repairer(_))
+}
+
+// Whether it is a put or a write.
+fn writes(call: &Call) -> bool
+    ensures { result ≡ writes call.now }
+{
+    matches!(call, Call::Put { .. } | Call::Write { .. })
+}
+
+/// After a look of a call.
+pub fn stage_after_look(answer: &LookAnswer, call: &Call) -> Stage
+    ensures { result ≡ stage_after_look call.now answer.now }
+{
+    if matches!(answer, LookAnswer::Answer { .. }) {
+        return Stage::Seated;
+    }
+    if writes(call) {
+        Stage::Begun
+    } else {
+        Stage::Reading
+    }
+}
+
+/// After a look of a rebuild.
+pub fn stage_after_repair_look(answer: &Option<Seen>) -> Stage
+    ensures { result ≡ stage_after_repair_look answer.now }
+{
+    match answer {
+        Some(_) => Stage::Rebuilding,
+        None => Stage::Seated,
+    }
+}
+
+/// After a draw.
+pub fn stage_after_draw(answer: &DrawAnswer) -> Stage
+    ensures { result ≡ stage_after_draw answer.now }
+{
+    match answer {
+        DrawAnswer::Versions { .. } => Stage::Drawn,
+        DrawAnswer::Reaped { .. } => Stage::Seated,
+    }
+}
+
+/// How many versions were drawn.
+pub fn drawn_by(answer: &DrawAnswer) -> usize
+    ensures { result ≡ drawn_by answer.now }
+{
+    match answer {
+        DrawAnswer::Versions { stamps } => stamps.len(),
+        DrawAnswer::Reaped { .. } => 0,
+    }
+}
+
+/// The least unused number after a commit: a write that was overtaken may use its own once more.
+pub fn unused_after_commit(answer: &CommitAnswer, number: u32) -> u64
+    ensures { result ≡ unused_after_commit number answer.now }
+{
+    match answer {
+        CommitAnswer::Changed { .. } => u64::from(number),
+        _ => u64::from(number) + 1,
+    }
+}
+
+/// After a confirmation.
+pub fn stage_after_confirm(answer: &ConfirmAnswer) -> Stage
+    ensures { result ≡ stage_after_confirm answer.now }
+{
+    match answer {
+        ConfirmAnswer::Current => Stage::Rebuilding,
+        _ => Stage::Seated,
+    }
+}

@@ -1,0 +1,146 @@
+ghost use Rattle.std.specs.Prelude.{◌≡◌, ◌<◌, ◌∷◌, ◌++◌, [], length, None, IfOk};
+ghost use Rattle.store_core.specs.Agreement.{ActorToken, HeldPass};
+ghost use Rattle.call_token.specs.Stamps.{IfDrawn};
+ghost use Rattle.dir_walks.specs.Begun.{IfBegun};
+ghost use Rattle.dir_walks.specs.Stores.{IsStore};
+
+use crate::caller::{Answer, Caller, Refusal, Step};
+use call_token::{DrawAnswer, LookAnswer};
+use std::alloc::{AllocError, Global};
+use std::marker::Model;
+use std::test::Fail;
+use store_map::{Actor, Call, Point, Version};
+use stripe_dir::{Directory, Seat};
+use version_seal::Book;
+
+/// A directory with two clients and a repairer. It has to be left.
+pub struct Store<'a> {
+    alloc: Global,
+    book: &'a Book,
+    directory: Directory,
+    first: Caller,
+    second: Caller,
+    repairer: Caller,
+}
+
+impl<'a> Model for Store<'a> {
+    ghost use Rattle.dir_walks.specs.Stores.{StoreOf};
+
+    ghost Value = { StoreOf };
+
+    ghost use Rattle.dir_walks.specs.StoreInside.{store_in, IsStoreIn};
+
+    ghost view = { store_in };
+
+    ghost invariant = { IsStoreIn };
+}
+
+// The last seat.
+fn last(seats: &mut Vec<Seat>) -> Seat
+    requires { 0 < length seats.old.items }
+    ensures { seats.old.items ≡ seats.new.items ++ result ∷ [] }
+{
+    match seats.pop() {
+        Some(seat) => seat,
+        None => unreachable!(),
+    }
+}
+
+impl<'a> Store<'a> {
+    /// A directory without objects, whose objects may have 64 bytes each.
+    pub fn open(alloc: Global, book: &'a Book) -> Result<Store<'a>, AllocError>
+        requires free { book.now.script ≡ None }
+        ensures book { IfOk result (λ store. store.book ≡ book.now) }
+    {
+        let (directory, seats) = Directory::new(alloc, book.opening(), 64, 2, 1)?;
+        let mut seats = seats;
+        let repairer = last(&mut seats);
+        let second = last(&mut seats);
+        let first = last(&mut seats);
+        seats.destroy_empty();
+        Ok(Store {
+            alloc,
+            book,
+            directory,
+            first: Caller::new(Actor::Client(0), first),
+            second: Caller::new(Actor::Client(1), second),
+            repairer: Caller::new(Actor::Repairer(0), repairer),
+        })
+    }
+
+    /// All actors leave.
+    pub fn leave(self) {
+        let Store {
+            alloc: _,
+            book: _,
+            directory: _,
+            first,
+            second,
+            repairer,
+        } = self;
+        first.leave();
+        second.leave();
+        repairer.leave();
+    }
+
+    pub fn directory(&self) -> &Directory {
+        &self.directory
+    }
+
+    /// What every store keeps. It does nothing when it runs.
+    pub fn keeps(&self)
+        ensures whole { IsStore self.now }
+        ensures code { self.now.sealed.core.shape ≡ self.now.book.geometry }
+    {
+        self.directory.keeps();
+    }
+
+    /// A look of the first client.
+    pub fn begin(&mut self, number: u32, call: &Call) -> Result<LookAnswer, Refusal>
+        ensures begun { IfOk result (λ answer. IfBegun self.old.book.home call.now number answer self.new.first) }
+        ensures book { self.new.book ≡ self.old.book }
+    {
+        self.first
+            .look(&mut self.directory, self.book, number, call)
+    }
+
+    /// A draw of the first client.
+    pub fn draw(&mut self) -> Result<DrawAnswer, Refusal>
+        ensures drawn { (held : HeldPass) → self.old.first.token ≡ ActorToken.InCall held → IfOk result (IfDrawn self.old.sealed held self.old.first.request) }
+    {
+        self.first.draw(&mut self.directory, self.book)
+    }
+
+    /// A step of the first client.
+    pub fn first(&mut self, step: Step<'_>) -> Result<Answer, Refusal> {
+        self.first
+            .make(&mut self.directory, self.book, self.alloc, step)
+    }
+
+    /// A step of the second client.
+    pub fn second(&mut self, step: Step<'_>) -> Result<Answer, Refusal> {
+        self.second
+            .make(&mut self.directory, self.book, self.alloc, step)
+    }
+
+    /// A step of the repairer.
+    pub fn repairer(&mut self, step: Step<'_>) -> Result<Answer, Refusal> {
+        self.repairer
+            .make(&mut self.directory, self.book, self.alloc, step)
+    }
+
+    /// The operator gives up an actor's pass.
+    pub fn reap(&mut self, who: Actor) -> Option<Point> {
+        self.directory.reap(who)
+    }
+
+    /// The sweeper takes a version.
+    pub fn next_garbage(&mut self) -> Option<Version> {
+        self.directory.next_garbage()
+    }
+
+    /// The sweeper tells that it is swept.
+    pub fn swept(&mut self, version: Version) {
+        self.directory.swept(version);
+    }
+}

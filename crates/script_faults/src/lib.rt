@@ -1,0 +1,5 @@
+//! Tests of damaged scripts, each with its first fault.
+#![tactic(auto)]
+
+#[cfg(test)]
+mod faults;
