@@ -23,9 +23,9 @@ invariant_of-result c =
           record {
             word = sealed.word.word;
             codes = subst (λ stamp. Codes g stamp.content sealed.word.word) (sym c.copy.ensures) sealed.word.codes;
-            here = (λ i. subchunks_at g.width (sealed.word.here i) (c.in_ok-layers.ensures.items i)) ∙ sym copied;
+            here = (λ i. subchunks_at g.width (sealed.word.here i) (c.of.ensures i)) ∙ sym copied;
           };
-      long = ap length copied ∙ part-long (chunk_in c.self.inside) sealed layers within ∙ sym (ap (λ list. length list * g.width) c.in_ok-layers.ensures.items);
+      long = ap length copied ∙ part-long (chunk_in c.self.inside) sealed layers within ∙ sym (ap (λ list. length list * g.width) c.of.ensures);
     }
 
 pub returns-clause-length : goal.returns-clause-length
