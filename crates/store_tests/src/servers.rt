@@ -16,10 +16,7 @@ fn gives(
 ) -> Result<(), Fail> {
     assert!(rt; layers.iter().all(|layer| *layer < 4));
     match shelf.fetch(version, layers)? {
-        Fetched::Part(part) => {
-            assert_eq!(rt; part.layers(), layers);
-            assert_eq!(rt; part.bytes(), bytes);
-        }
+        Fetched::Part(part) => assert_eq!(rt; part.bytes(), bytes),
         Fetched::Missing { found } => assert!(rt; false, "{found:?}"),
     }
     Ok(())

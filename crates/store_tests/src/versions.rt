@@ -80,7 +80,6 @@ fn a_put_is_decoded_from_two_servers(rt: HostRuntime) -> Result<(), Fail> {
         (1, Version(0))
     );
     assert_eq!(rt; second.bytes(), [5, 6, 7, 8].as_slice());
-    assert_eq!(rt; second.layers(), [0, 1, 2, 3].as_slice());
     let chunks = decode(alloc, geometry, &gathered(alloc, &second, &last)?)?;
     let bytes = stripe(alloc)?;
     assert_eq!(rt; chunks.iter().take(2).flatten().eq(bytes.iter()), true);
