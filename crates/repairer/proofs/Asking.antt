@@ -4,6 +4,7 @@ use Rattle.clay_grid.specs.Shape.{Shape}
 use Rattle.store_map.specs.declared.call.Rebuild.{Rebuild}
 use Rattle.store_core.specs.Told.{Told, Seen as CoreSeen}
 use Rattle.store_core.specs.Act.{Outcome}
+use Rattle.store_core.specs.Note.{note_of_rebuild}
 use Rattle.store_core.specs.Server.{Server, raised_by, at_server}
 use Rattle.store_core.specs.Agreement.{ActorToken}
 use Rattle.store_core.proofs.Places.{length-change_at}
@@ -133,15 +134,15 @@ pub of_takes : (book : BookOf) (target : ℕ) (looked : Option Seen) (made : Opt
 of_takes book target looked made takes is = ap (λ (o : Option (List ℕ)). unwrap_or o takes) (sym is.is_takes)
 
 -- what it keeps then
-pub keeps_on : (a : Inside) (w : GatherOf) (takes : List ℕ) (s : Stage) → IsOfCall a.token a.number
-    → (is : IsAsking a.opening a.rebuild.server a.seen (Some w) (Some takes)) (next : GatherOf) (counts : List ℕ) → Follows w next takes counts
+pub keeps_on : (a : Inside) (w : GatherOf) (takes : List ℕ) (s : Stage) → IsOfCall a.token a.number (note_of_rebuild a.rebuild.now)
+    → (is : IsAsking a.opening a.rebuild.now.server a.seen (Some w) (Some takes)) (next : GatherOf) (counts : List ℕ) → Follows w next takes counts
     → ending_at next.course.stage ≡ None → s ≡ (if has_bytes next.course.stage then stage.Confirming else stage.Gathering)
     → a.gather ≡ Some next → a.takes ≡ Some counts → a.due ≡ has_bytes next.course.stage → Keeps s a
 keeps_on a w takes s of_call is next counts goes none e gather_is takes_is due_is = by next.course.stage refl none e
   where
-    its : IsGatherOf a.opening is.seen a.rebuild.server next
+    its : IsGatherOf a.opening is.seen a.rebuild.now.server next
     its =
-        let now : IsGatherOf a.opening is.seen a.rebuild.server w = subst (λ (v : GatherOf). IsGatherOf a.opening is.seen a.rebuild.server v) (of_gather a.opening a.rebuild.server a.seen w (Some takes) is) is.its in
+        let now : IsGatherOf a.opening is.seen a.rebuild.now.server w = subst (λ (v : GatherOf). IsGatherOf a.opening is.seen a.rebuild.now.server v) (of_gather a.opening a.rebuild.now.server a.seen w (Some takes) is) is.its in
         record { code = goes.code ∙ now.code; aim = goes.aim ∙ now.aim; stamp = goes.stamp ∙ now.stamp }
 
     by : (at : CoreStage) → next.course.stage ≡ at → ending_at at ≡ None → s ≡ (if has_bytes at then stage.Confirming else stage.Gathering) → Keeps s a
@@ -159,7 +160,7 @@ keeps_on a w takes s of_call is next counts goes none e gather_is takes_is due_i
                 pinned = is.pinned;
                 its = its;
                 asks = subst IsAskingStage (sym at) tt;
-                servers = goes.servers ∙ ap (λ (l : List ℕ). length l) (sym (of_takes a.opening a.rebuild.server a.seen (Some w) takes is)) ∙ is.servers;
+                servers = goes.servers ∙ ap (λ (l : List ℕ). length l) (sym (of_takes a.opening a.rebuild.now.server a.seen (Some w) takes is)) ∙ is.servers;
               },
         )
     by CoreStage.HasBytes at none e =

@@ -4,3 +4,4 @@ pub mod Steps
 pub mod Beginning
 pub mod Asking
 pub mod Asked
+pub mod Holding

@@ -22,12 +22,13 @@ asking seen target at asks = absurd asks
 
 gathering : (a : Inside) (due : Bool) → GathersAt due a → stage_of (state_at stage.Gathering a) ≡ stage.Gathering
 gathering a true kept =
-    ap (λ (gather : Option GatherOf). stage_of (gathered_state (seen_at a.seen) a.rebuild.server (course_at a.opening.geometry (seen_at a.seen) a.rebuild.server gather).stage)) kept.none
+    ap (λ (gather : Option GatherOf). stage_of (gathered_state (seen_at a.seen) a.rebuild.now.server (course_at a.opening.geometry (seen_at a.seen) a.rebuild.now.server gather).stage)) kept.none
 gathering a false kept =
-    ap (λ (gather : Option GatherOf). stage_of (gathered_state (seen_at a.seen) a.rebuild.server (course_at a.opening.geometry (seen_at a.seen) a.rebuild.server gather).stage)) kept.is_gather
-    ∙ asking (seen_at a.seen) a.rebuild.server kept.gather.course.stage kept.asks
+    ap (λ (gather : Option GatherOf). stage_of (gathered_state (seen_at a.seen) a.rebuild.now.server (course_at a.opening.geometry (seen_at a.seen) a.rebuild.now.server gather).stage)) kept.is_gather
+    ∙ asking (seen_at a.seen) a.rebuild.now.server kept.gather.course.stage kept.asks
 
-shown : (a : Inside) (at : Stage) → Keeps at a → stage_of (state_at at a) ≡ at
+-- callers see the stage
+pub shown : (a : Inside) (at : Stage) → Keeps at a → stage_of (state_at at a) ≡ at
 shown a stage.Start kept = refl
 shown a stage.Gathering kept = gathering a a.due kept.1
 shown a stage.Confirming kept = refl

@@ -1,7 +1,7 @@
 -- Steps of a rebuild.
 use Rattle.std.proofs.Common.{◌≡◌, ℕ, Bool, false, List, refl, sym, ap, subst, ◌∙◌}
 use Rattle.store_map.specs.declared.call.Rebuild.{Rebuild}
-use Rattle.store_core.specs.Note.{Note, Kind}
+use Rattle.store_core.specs.Note.{Note}
 use Rattle.store_core.specs.Told.{Told, Seen as CoreSeen}
 use Rattle.store_core.specs.Act.{Act, DirectoryStep, ServerStep, Outcome}
 use Rattle.store_core.specs.Directory.{Directory}
@@ -61,7 +61,7 @@ placed book rebuild number token seen takes due was coding step version epoch s 
     (made ∙ ap (λ v. at_server false (ServerStep.Install v) s) is)
 
 -- a rebuild that has seen its stripe has a pass
-pub begun : (token next : ActorToken) (number : ℕ) (note : Note) (seen : CoreSeen) → MayStart token number note → note.kind ≡ Kind.Rebuild
-    → next ≡ token_after token number (DirectoryStep.LookRepair note) (Told.PinnedStripe seen) → IsOfCall next number
-begun (ActorToken.Seated seat) next number note seen may kind e = subst (λ (t : ActorToken). IsOfCall t number) (sym e) (refl, kind)
-begun (ActorToken.InCall held) next number note seen may kind e = absurd may
+pub begun : (token next : ActorToken) (number : ℕ) (note : Note) (seen : CoreSeen) → MayStart token number note
+    → next ≡ token_after token number (DirectoryStep.LookRepair note) (Told.PinnedStripe seen) → IsOfCall next number note
+begun (ActorToken.Seated seat) next number note seen may e = subst (λ (t : ActorToken). IsOfCall t number note) (sym e) (refl, refl)
+begun (ActorToken.InCall held) next number note seen may e = absurd may

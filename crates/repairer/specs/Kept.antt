@@ -1,6 +1,7 @@
 -- What every rebuild keeps, by its stage.
 use Rattle.std.specs.Prelude.{◌≡◌, ◌<◌, Bool, true, false}
 use Rattle.clay_grid.specs.Shape.{chunk_count}
+use Rattle.store_core.specs.Note.{note_of_rebuild}
 use Rattle.call_steps.specs.TokenAfter.{IsSeated}
 use Rattle.repairer.specs.declared.stage.Stage.{Stage}
 use Rattle.repairer.specs.declared.stage.Stage.TheVariants as stage
@@ -11,24 +12,24 @@ use Rattle.repairer.specs.Moments.{IsNew, IsSeen, IsAsking, IsGathered, IsMade}
 -- before and after the coding that makes the gathering
 abbrev pub GathersAt : Bool → Inside → Type 0
 GathersAt true a = IsSeen a.opening a.seen a.gather a.takes
-GathersAt false a = IsAsking a.opening a.rebuild.server a.seen a.gather a.takes
+GathersAt false a = IsAsking a.opening a.rebuild.now.server a.seen a.gather a.takes
 
 -- before and after the coding that makes the chunk
 abbrev pub ConfirmsAt : Bool → Inside → Type 0
-ConfirmsAt true a = IsGathered a.opening a.rebuild.server a.seen a.gather
-ConfirmsAt false a = IsMade a.opening a.rebuild.server a.seen a.chunk
+ConfirmsAt true a = IsGathered a.opening a.rebuild.now.server a.seen a.gather
+ConfirmsAt false a = IsMade a.opening a.rebuild.now.server a.seen a.chunk
 
 -- at a stage
 abbrev pub Keeps : Stage → Inside → Type 0
-Keeps stage.Start a = IsNew a.token a.number a.rebuild a.gather a.takes a.due
-Keeps stage.Gathering a = IsOfCall a.token a.number × GathersAt a.due a
-Keeps stage.Confirming a = IsOfCall a.token a.number × ConfirmsAt a.due a
-Keeps stage.Installing a = IsOfCall a.token a.number × (a.due ≡ false) × IsMade a.opening a.rebuild.server a.seen a.chunk
-Keeps stage.Placing a = IsOfCall a.token a.number × (a.due ≡ false)
-Keeps stage.Ending a = IsOfCall a.token a.number × (a.due ≡ false)
+Keeps stage.Start a = IsNew a.token a.number a.rebuild.now a.gather a.takes a.due
+Keeps stage.Gathering a = IsOfCall a.token a.number (note_of_rebuild a.rebuild.now) × GathersAt a.due a
+Keeps stage.Confirming a = IsOfCall a.token a.number (note_of_rebuild a.rebuild.now) × ConfirmsAt a.due a
+Keeps stage.Installing a = IsOfCall a.token a.number (note_of_rebuild a.rebuild.now) × (a.due ≡ false) × IsMade a.opening a.rebuild.now.server a.seen a.chunk
+Keeps stage.Placing a = IsOfCall a.token a.number (note_of_rebuild a.rebuild.now) × (a.due ≡ false)
+Keeps stage.Ending a = IsOfCall a.token a.number (note_of_rebuild a.rebuild.now) × (a.due ≡ false)
 Keeps stage.Finished a = IsSeated a.token × (a.due ≡ false)
 
 -- at its own, and the server is one of the stripe's
 pub record IsRepair (a : Inside) : Type 0 where
-  pub below : a.rebuild.server < chunk_count a.opening.geometry
+  pub below : a.rebuild.now.server < chunk_count a.opening.geometry
   pub kept : Keeps a.stage a

@@ -1,7 +1,7 @@
 -- The parts of a rebuild: its token, its pinned stripe, the gathering of its chunk, and the chunk.
 use Rattle.std.specs.Prelude.{◌≡◌, ℕ, length}
 use Rattle.clay_grid.specs.Shape.{chunk_count}
-use Rattle.store_core.specs.Note.{Note, Kind}
+use Rattle.store_core.specs.Note.{Note}
 use Rattle.store_core.specs.Act.{DirectoryStep}
 use Rattle.store_core.specs.Agreement.{ActorToken}
 use Rattle.store_core.specs.Tokens.{MayLook}
@@ -18,9 +18,9 @@ MayStart (ActorToken.Seated seat) number note = MayLook seat number (DirectorySt
 MayStart (ActorToken.InCall held) number note = ⊥
 
 -- the pass of the call
-abbrev pub IsOfCall : ActorToken → ℕ → Type 0
-IsOfCall (ActorToken.Seated seat) number = ⊥
-IsOfCall (ActorToken.InCall held) number = (held.pass.number ≡ number) × (held.pass.note.kind ≡ Kind.Rebuild)
+abbrev pub IsOfCall : ActorToken → ℕ → Note → Type 0
+IsOfCall (ActorToken.Seated seat) number note = ⊥
+IsOfCall (ActorToken.InCall held) number note = (held.pass.number ≡ number) × (held.pass.note ≡ note)
 
 -- a pinned stripe is of the book and has a placement for each server
 pub record IsPinned (book : BookOf) (seen : Seen) : Type 0 where

@@ -26,7 +26,7 @@ fn ended_with(answer: EndAnswer, outcome: RepairOutcome) -> RepairOutcome
     }
 }
 
-impl RepairCall {
+impl<'a> RepairCall<'a> {
     // Pins the stripe, if it is there.
     pub(crate) fn look(&mut self, d: &mut Directory)
         requires stage { stage_of self.old.state.at ≡ Stage.Start }
@@ -41,7 +41,7 @@ impl RepairCall {
     {
         // That the directory is of the book's code is needed below.
         d.keeps();
-        let rebuild = &self.rebuild;
+        let rebuild = self.rebuild;
         let look = self
             .token
             .look_repair(d, self.number, &rebuild.name, rebuild.stripe);

@@ -45,7 +45,7 @@ fn stage_after(has_bytes: bool) -> Stage
     }
 }
 
-impl RepairCall {
+impl<'a> RepairCall<'a> {
     // The next question of the gathering.
     pub(crate) fn ask(&mut self, s: &mut Server)
         requires stage { stage_of self.old.state.at ≡ Stage.Gathering }

@@ -61,7 +61,7 @@ fn chunk_of<R: Threads + Sync, C: Coder>(
     Ok(SealedChunk::new(opening.geometry(), stamp, server, bytes))
 }
 
-impl RepairCall {
+impl<'a> RepairCall<'a> {
     // Makes the gathering.
     pub(crate) fn begin(&mut self)
         requires stage { stage_of self.old.state.at ≡ Stage.Gathering }

@@ -8,7 +8,7 @@ ghost use Rattle.store_resume.specs.State.{State};
 ghost use Rattle.chunk_server.specs.Core.{core_of};
 ghost use Rattle.gathering.specs.Gathers.{IfServer, IsSame};
 ghost use Rattle.call_steps.specs.Outcomes.{repair_outcome_of};
-ghost use Rattle.call_steps.specs.Steps.{need_of, stepped_at_directory, stepped_at_server, coded, IsDueInPass};
+ghost use Rattle.call_steps.specs.Steps.{need_of, stepped_at_directory, stepped_at_server, coded, HoldsItsPass, IsDueInPass};
 ghost use Rattle.repairer.specs.Calls.{new_call, taken};
 ghost use Rattle.repairer.specs.Inside.{takes_at};
 
@@ -30,10 +30,10 @@ use version_seal::{Opening, SealedChunk};
 /// Memory is taken in its look, in the steps at servers and in its two codings: before the first
 /// question, and once all parts have come. Where it is wanting the call ends with
 /// [`RepairOutcome::NoMemory`].
-pub struct RepairCall {
+pub struct RepairCall<'a> {
     pub(crate) stage: Stage,
     pub(crate) token: Token,
-    pub(crate) rebuild: Rebuild,
+    pub(crate) rebuild: &'a Rebuild,
     pub(crate) number: u32,
     pub(crate) opening: Opening,
     // the pinned stripe, from the look on
@@ -52,7 +52,7 @@ pub struct RepairCall {
     pub(crate) step: bool,
 }
 
-impl Model for RepairCall {
+impl<'a> Model for RepairCall<'a> {
     ghost use Rattle.call_steps.specs.CallOf.{CallOf};
 
     ghost Value = { CallOf };
@@ -65,13 +65,13 @@ impl Model for RepairCall {
     ghost invariant = { IsRepair };
 }
 
-impl RepairCall {
+impl<'a> RepairCall<'a> {
     /// A repairer's call with this number, which its seat has not used yet, before its first step.
     /// The opening is that of the book of the store's versions.
-    pub fn new(seat: Seat, number: u32, call: Rebuild, opening: Opening) -> RepairCall
-        requires may { MayLook seat number (DirectoryStep.LookRepair (note_of_rebuild call)) }
-        requires server { call.server < chunk_count opening.geometry }
-        ensures { result ≡ new_call opening call number seat }
+    pub fn new(seat: Seat, number: u32, call: &'a Rebuild, opening: Opening) -> RepairCall<'a>
+        requires may { MayLook seat number (DirectoryStep.LookRepair (note_of_rebuild call.now)) }
+        requires server { call.now.server < chunk_count opening.geometry }
+        ensures { result ≡ new_call opening call.now number seat }
     {
         RepairCall {
             stage: Stage::Start,
@@ -92,10 +92,12 @@ impl RepairCall {
     }
 
     /// Where the call has to go on.
+    #[tactic(auto, using(crate::proofs::Holding::holds))]
     pub fn need(&self) -> Need
         ensures need { result ≡ need_of self.now }
         ensures below { IfServer result (λ server. server < chunk_count self.now.book.geometry) }
         ensures in_pass { IsDueInPass self.now }
+        ensures pass { HoldsItsPass self.now }
     {
         if self.due {
             return Need::Coder;
@@ -125,9 +127,9 @@ impl RepairCall {
     /// nothing.
     pub fn finish(self) -> (Seat, RepairOutcome, Option<Takes>)
         requires { need_of self ≡ Need.Finished }
-        ensures outcome { self.state.at ≡ State.Finished (repair_outcome_of result.1) }
-        ensures seat { ActorToken.Seated result.0 ≡ self.token }
-        ensures takes { result.2 ≡ taken self.takes }
+        ensures outcome { self.entry.state.at ≡ State.Finished (repair_outcome_of result.1) }
+        ensures seat { ActorToken.Seated result.0 ≡ self.entry.token }
+        ensures takes { result.2 ≡ taken self.entry.takes }
     {
         let RepairCall {
             stage: _,
@@ -148,8 +150,11 @@ impl RepairCall {
         (token.into_seat(), outcome, some_taken(takes))
     }
 
-    /// Gives the call up where it stands: its actor makes no step any more, and a pass stays open.
-    pub fn leave(self) {
+    /// Gives the call up where it stands, and tells what it took from each server, or none where it took
+    /// nothing. Its actor makes no step any more, and a pass stays open.
+    pub fn abandon(self) -> Option<Takes>
+        ensures { result ≡ taken self.entry.takes }
+    {
         let RepairCall {
             stage: _,
             token,
@@ -159,7 +164,7 @@ impl RepairCall {
             seen: _,
             gather: _,
             chunk: _,
-            takes: _,
+            takes,
             epoch: _,
             outcome: _,
             due: _,
@@ -167,6 +172,12 @@ impl RepairCall {
             step: _,
         } = self;
         token.leave();
+        some_taken(takes)
+    }
+
+    /// Gives the call up where it stands: its actor makes no step any more, and a pass stays open.
+    pub fn leave(self) {
+        let _taken = self.abandon();
     }
 
     /// One step at the directory. Afterwards the call tells whether memory was wanting in it.

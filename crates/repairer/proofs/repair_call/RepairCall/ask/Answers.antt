@@ -51,8 +51,8 @@ returns-in-None-clause-step c =
     let has : ready ≡ has_bytes next.course.stage = c.has_bytes-ready.ensures ∙ ap (λ (course : CourseOf). has_bytes course.stage) c.course.ensures in
     (λ i. (
       core_of c.on_server.new.s,
-      call_at a.opening a.rebuild a.number a.token
-          (goes_on (seen_at a.seen) a.rebuild.server a.epoch (repair_outcome_of a.outcome) next.course.stage c.stage_after-self-inside.result none
+      call_at a.opening a.rebuild.now a.number a.token
+          (goes_on (seen_at a.seen) a.rebuild.now.server a.epoch (repair_outcome_of a.outcome) next.course.stage c.stage_after-self-inside.result none
           (c.stage_after-self-inside.ensures ∙ ap (λ b. if b then stage.Confirming else stage.Gathering) has) i)
           c.on_server.new.takes ready false short,
     ))
@@ -71,15 +71,15 @@ returns-in-Some-clause-step c =
     let is : IsAsked a w takes =
     is_asked a c.args.self.now w takes c.args.s.now.number c.self.invariant c.self.view_is c.requires.stage c.requires.need c.in-Some-Some.ensures.value c.in-Some-Some.ensures'.value
     in
-    let aim : next.course.aim ≡ Aim.Chunk seen a.rebuild.server =
+    let aim : next.course.aim ≡ Aim.Chunk seen a.rebuild.now.server =
     (follows w next takes c.on_server.new.takes next.step (core_of c.args.s.now) (core_of c.on_server.new.s) is.asks c.on_server.ensures.step).aim ∙ is.aim
     in
-    let confirm : Sequel = Sequel.Confirm seen a.rebuild.server in
+    let confirm : Sequel = Sequel.Confirm seen a.rebuild.now.server in
     (λ i. (
       core_of c.on_server.new.s,
-      call_at a.opening a.rebuild a.number a.token
-          ((sym (c.outcome_of.ensures (State.Confirming seen a.rebuild.server) [] confirm)
-          ∙ ap (λ (wanted : Aim). stage_state (State.Confirming seen a.rebuild.server) wanted [] confirm next.course.stage) aim) i)
+      call_at a.opening a.rebuild.now a.number a.token
+          ((sym (c.outcome_of.ensures (State.Confirming seen a.rebuild.now.server) [] confirm)
+          ∙ ap (λ (wanted : Aim). stage_state (State.Confirming seen a.rebuild.now.server) wanted [] confirm next.course.stage) aim) i)
           c.on_server.new.takes c.has_bytes-ready.result false short,
     ))
     ∙ steps a c.args.self.now w next takes c.on_server.new.takes short c.has_bytes-ready.result (core_of c.args.s.now) (core_of c.on_server.new.s) is c.self.view_is

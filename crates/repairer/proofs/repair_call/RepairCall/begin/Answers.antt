@@ -28,8 +28,8 @@ invariant_of-self c =
       kept =
           subst (λ (s : Stage). Keeps s (record a { gather = Some c.in-Ok.gather; takes = Some c.in-Ok.takes; due = false; coding = false })) (sym at) (
             kept.0,
-            asks a.opening a.rebuild.server a.seen a.gather a.takes c.in-Ok.gather c.in-Ok.takes is
-                (c.in-Ok.ensures.gather ∙ ap (λ (seen : Seen). new_gather seen.stamp a.opening.geometry (Aim.Chunk (seen_in seen) a.rebuild.server)) same)
+            asks a.opening a.rebuild.now.server a.seen a.gather a.takes c.in-Ok.gather c.in-Ok.takes is
+                (c.in-Ok.ensures.gather ∙ ap (λ (seen : Seen). new_gather seen.stamp a.opening.geometry (Aim.Chunk (seen_in seen) a.rebuild.now.server)) same)
                 c.in-Ok.ensures.takes,
           );
     }
@@ -45,9 +45,9 @@ returns-in-Ok c =
     let next = record a { gather = Some c.in-Ok.gather; takes = Some c.in-Ok.takes; due = false; coding = false } in
     let stands_still : state_at a.stage next ≡ state_at a.stage a =
     subst (λ (s : Stage). state_at s next ≡ state_at s a) (sym at)
-    (stands a.opening a.rebuild.server a.seen a.gather a.takes c.in-Ok.gather is
-    (c.in-Ok.ensures.gather ∙ ap (λ (seen : Seen). new_gather seen.stamp a.opening.geometry (Aim.Chunk (seen_in seen) a.rebuild.server)) same))
+    (stands a.opening a.rebuild.now.server a.seen a.gather a.takes c.in-Ok.gather is
+    (c.in-Ok.ensures.gather ∙ ap (λ (seen : Seen). new_gather seen.stamp a.opening.geometry (Aim.Chunk (seen_in seen) a.rebuild.now.server)) same))
     in
     (λ i.
-    call_at a.opening a.rebuild a.number a.token (stands_still i) (took a.opening a.seen a.gather a.takes c.in-Ok.takes is c.in-Ok.ensures.takes i) false false a.step)
+    call_at a.opening a.rebuild.now a.number a.token (stands_still i) (took a.opening a.seen a.gather a.takes c.in-Ok.takes is c.in-Ok.ensures.takes i) false false a.step)
     ∙ ap (coded false) c.self.view_is

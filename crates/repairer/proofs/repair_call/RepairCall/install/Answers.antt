@@ -23,7 +23,7 @@ pub returns-in-Ok-Placed-clause-step : goal.returns-in-Ok-Placed-clause-step
 returns-in-Ok-Placed-clause-step c =
     let a = c.self.inside in
     let at = is_at a c.args.self.now stage.Installing c.self.invariant c.self.view_is c.requires.stage in
-    let made : IsMade a.opening a.rebuild.server a.seen a.chunk = (keeps a stage.Installing c.self.invariant at).2 in
+    let made : IsMade a.opening a.rebuild.now.server a.seen a.chunk = (keeps a stage.Installing c.self.invariant at).2 in
     let same : c.in-Some.chunk ≡ made.chunk = ap (λ (o : Option ChunkOf). unwrap_or o made.chunk) (c.in-Some.ensures.value ∙ made.is_chunk) in
     let version : c.in-Some.chunk.stamp.version ≡ (seen_at a.seen).version =
     ap (λ (chunk : ChunkOf). chunk.stamp.version) same ∙ ap (λ stamp. stamp.version) made.its.stamp ∙ ap (λ (o : Option Seen). (seen_at o).version) (sym made.is_seen)
@@ -34,6 +34,6 @@ returns-in-Ok-Placed-clause-step c =
     ∙ c.install.ensures.core
     ∙ ap (λ (r : Result Installed AllocError). at_server (is_err r) (ServerStep.Install c.in-Some.chunk.stamp.version) (core_of c.args.s.now)) is
     in
-    placed a.opening a.rebuild a.number a.token (seen_at a.seen) (takes_at (chunk_count a.opening.geometry) a.takes) a.due a.due a.coding a.step c.in-Some.chunk.stamp.version
+    placed a.opening a.rebuild.now a.number a.token (seen_at a.seen) (takes_at (chunk_count a.opening.geometry) a.takes) a.due a.due a.coding a.step c.in-Some.chunk.stamp.version
     c.in-Ok-Placed.epoch (core_of c.args.s.now) (core_of c.install.new.self) step version
     ∙ ap (λ (call : CallOf). stepped_at_server false a.due call (core_of c.args.s.now)) (seen_by a c.args.self.now stage.Installing c.self.view_is at)

@@ -21,7 +21,7 @@ invariant_of-self c =
     let a = c.self.inside in
     let d = c.args.d.now in
     let seen = c.in-Ok-Some.seen in
-    let new : IsNew a.token a.number a.rebuild a.gather a.takes a.due =
+    let new : IsNew a.token a.number a.rebuild.now a.gather a.takes a.due =
     keeps a stage.Start c.self.invariant (is_at a c.args.self.now stage.Start c.self.invariant c.self.view_is c.requires.stage)
     in
     let is : c.look_repair-look.result ≡ Ok (Some seen) = c.in-Ok-Some.is ∙ ap Ok c.in-Ok-Some.field-0-is in
@@ -31,9 +31,9 @@ invariant_of-self c =
     record {
       below = c.self.invariant.below;
       kept = (
-        begun a.token c.look_repair-look.new.self a.number (note_of_rebuild a.rebuild) (seen_in seen) new.may refl
+        begun a.token c.look_repair-look.new.self a.number (note_of_rebuild a.rebuild.now) (seen_in seen) new.may
             (c.look_repair-look.ensures.token
-            ∙ ap (λ (r : Result (Option Seen) AllocError). token_after a.token a.number (DirectoryStep.LookRepair (note_of_rebuild a.rebuild)) (told_or_short told_by_repair_look r)) is),
+            ∙ ap (λ (r : Result (Option Seen) AllocError). token_after a.token a.number (DirectoryStep.LookRepair (note_of_rebuild a.rebuild.now)) (told_or_short told_by_repair_look r)) is),
         record {
           seen = seen;
           is_seen = refl;

@@ -15,7 +15,7 @@ invariant_of-self g c =
     let at = is_at a c.args.self.now stage.Confirming c.self.invariant c.self.view_is c.requires.stage in
     let kept = keeps a stage.Confirming c.self.invariant at in
     let due : a.due ≡ true = ap (λ (call : CallOf). call.due) c.self.view_is ∙ is_due (act_of c.args.self.now) c.args.self.now.due c.requires.need in
-    let is : IsGathered a.opening a.rebuild.server a.seen a.gather = subst (λ b. ConfirmsAt b a) due kept.1 in
+    let is : IsGathered a.opening a.rebuild.now.server a.seen a.gather = subst (λ b. ConfirmsAt b a) due kept.1 in
     let seen = c.in-Some-Some.seen in
     let same : is.seen ≡ seen = ap (λ (o : Option Seen). unwrap_or o seen) (sym is.is_seen ∙ c.in-Some-Some.is-1) in
     record {
