@@ -139,11 +139,11 @@ module _ (a : Inside) (kept : IsPut a) (old : PutOf) (view : put_in a ≡ old) (
   at_draw : state_by a.stage a.writing a.outcome ≡ State.Drawing
   at_draw = ap (λ (p : PutOf). p.call.state.at) view ∙ drawing
 
-  pub holding : IsHolding a.number (note_of a.call) [] a.token
-  holding = holds_to_draw a.opening a.number a.call a.token a.writing a.outcome a.stage kept.kept at_draw
+  pub holding : IsHolding a.number (note_of a.call.now) [] a.token
+  holding = holds_to_draw a.opening a.number a.call.now a.token a.writing a.outcome a.stage kept.kept at_draw
 
   draws : act_of ((put_in a).call) ≡ Act.AtDirectory DirectoryStep.Draw
-  draws = ap (λ at. act_of_state a.opening.geometry (tries_by a.opening.script) (job_of a.call) (call_at [] at)) at_draw
+  draws = ap (λ at. act_of_state a.opening.geometry (tries_by a.opening.script) (job_of a.call.now) (call_at [] at)) at_draw
 
   -- the step
   pub draw_step : (short : Bool) (before after : Directory) (versions : List ℕ) (token : ActorToken) (w : WritingOf)
@@ -152,13 +152,13 @@ module _ (a : Inside) (kept : IsPut a) (old : PutOf) (view : put_in a ≡ old) (
       → w.state ≡ prepare_all_state a.opening.geometry versions 0 versions []
       → (after, record ((put_in a).call) { token = token; state = call_at [] w.state; due = w.due; coding = false; step = short }) ≡ stepped_at_directory short w.due old.call before
   draw_step short before after versions token w made token_is state_is =
-      let from : (note_of a.call).offset / stripe_length a.opening.geometry ≡ 0
-      = ap (λ n. n / stripe_length a.opening.geometry) (begins_at_zero a.call kept.put) ∙ zero-div (stripe_length a.opening.geometry) in
-      let state : call_at [] w.state ≡ next_call a.opening.geometry (job_of a.call) (call_at [] (state_by a.stage a.writing a.outcome)) (Told.Versions versions)
+      let from : (note_of a.call.now).offset / stripe_length a.opening.geometry ≡ 0
+      = ap (λ n. n / stripe_length a.opening.geometry) (begins_at_zero a.call.now kept.put) ∙ zero-div (stripe_length a.opening.geometry) in
+      let state : call_at [] w.state ≡ next_call a.opening.geometry (job_of a.call.now) (call_at [] (state_by a.stage a.writing a.outcome)) (Told.Versions versions)
       = ap (call_at []) state_is
       ∙ ap (λ n. call_at [] (prepare_all_state a.opening.geometry versions n versions [])) (sym from)
-      ∙ sym (steps_are_of_the_call.drawn a.opening.geometry (job_of a.call) [] versions)
-      ∙ ap (λ at. next_call a.opening.geometry (job_of a.call) (call_at [] at) (Told.Versions versions)) (sym at_draw) in
+      ∙ sym (steps_are_of_the_call.drawn a.opening.geometry (job_of a.call.now) [] versions)
+      ∙ ap (λ at. next_call a.opening.geometry (job_of a.call.now) (call_at [] at) (Told.Versions versions)) (sym at_draw) in
       directory_step (put_in a).call DirectoryStep.Draw short w.due before after (Told.Versions versions) token (call_at [] w.state) draws made token_is state
       ∙ ap (λ (p : PutOf). stepped_at_directory short w.due p.call before) view
 
@@ -179,10 +179,10 @@ module _ (a : Inside) (kept : IsPut a) (old : PutOf) (view : put_in a ≡ old) (
 
   -- how many
   pub draw_count : (s : Sealed) (stamps : List StampOf) (request : RequestOf) → s.book ≡ a.opening → s.book.geometry ≡ s.core.shape → AreDrawnFor s holding.held (Some request) stamps
-      → length stamps ≤ content_length (content_in a.call)
+      → length stamps ≤ content_length (content_in a.call.now)
   draw_count s stamps request its code drawn =
       let shape : s.core.shape ≡ a.opening.geometry = sym code ∙ ap (λ (book : BookOf). book.geometry) its in
-      few_versions a.opening.geometry a.call (length stamps) kept.put
+      few_versions a.opening.geometry a.call.now (length stamps) kept.put
       (drawn.count ∙ (λ i. length (stripes_between (shape i) ((holding.its i).offset) ((holding.its i).offset + (holding.its i).length))))
 
   -- what is kept
@@ -190,17 +190,17 @@ module _ (a : Inside) (kept : IsPut a) (old : PutOf) (view : put_in a ≡ old) (
       → s.book ≡ a.opening → s.book.geometry ≡ s.core.shape → request ≡ request_of (put_in a) → AreDrawnFor s holding.held (Some request) stamps → w.stamps ≡ stamps → w.book ≡ a.opening → w.first ≡ 0
       → w.state ≡ prepare_all_state a.opening.geometry (versions_of w.stamps) 0 (versions_of w.stamps) []
       → token ≡ token_after a.token a.number DirectoryStep.Draw (Told.Versions (versions_of w.stamps))
-      → Keeps stage.Writing a.opening a.number a.call token w a.outcome
+      → Keeps stage.Writing a.opening a.number a.call.now token w a.outcome
   draw_kept s stamps request token w its code request_is drawn w_stamps w_book first state_is token_is =
       let held : HeldPass = holding.held in
       let who : holding.held.pass.actor ≡ a.actor = ap actor_of (sym holding.is) ∙ kept.actor_is in
-      let says : call_written s.book.script holding.held.pass.actor holding.held.pass.number (Some request) ≡ Some a.call
+      let says : call_written s.book.script holding.held.pass.actor holding.held.pass.number (Some request) ≡ Some a.call.now
       = (λ i. call_written ((its i).script) (who i) (holding.its_number i) (Some request))
-      ∙ written_is a.opening.script a.actor a.number a.call request kept.script (ap (λ (r : RequestOf). r.call) request_is) in
+      ∙ written_is a.opening.script a.actor a.number a.call.now request kept.script (ap (λ (r : RequestOf). r.call) request_is) in
       let after : token ≡ ActorToken.InCall (record held { pass = record (held.pass) { drawn = versions_of w.stamps } })
       = token_is ∙ ap (λ (token : ActorToken). token_after token a.number DirectoryStep.Draw (Told.Versions (versions_of w.stamps))) holding.is in (
-        drawn_of_call s a.opening a.call held request w its code kept.put holding.its holding.pins says (subst (AreDrawnFor s held (Some request)) (sym w_stamps) drawn) w_book first,
-        subst (HasToken a.number (note_of a.call) (versions_of w.stamps) token) (sym state_is)
-            (prepare_has a.number (note_of a.call) (versions_of w.stamps) token a.opening.geometry (versions_of w.stamps) 0 (versions_of w.stamps) []
+        drawn_of_call s a.opening a.call.now held request w its code kept.put holding.its holding.pins says (subst (AreDrawnFor s held (Some request)) (sym w_stamps) drawn) w_book first,
+        subst (HasToken a.number (note_of a.call.now) (versions_of w.stamps) token) (sym state_is)
+            (prepare_has a.number (note_of a.call.now) (versions_of w.stamps) token a.opening.geometry (versions_of w.stamps) 0 (versions_of w.stamps) []
             (record { held = _; is = after; its = holding.its; its_number = holding.its_number; its_drawn = refl; pins = holding.pins })),
       )

@@ -50,28 +50,28 @@ content_at_work book written w stripe its is = by (place_of w.state) is
 module _ (a : Inside) (kept : IsPut a) (old : PutOf) (view : put_in a ≡ old) where
   module _ (server : ℕ) (needs : need_of old.call ≡ need.Server server) where
     writing_is : a.stage ≡ stage.Writing
-    writing_is = writes_at_server a.opening a.number a.call a.token a.writing a.outcome (job_of a.call) a.stage server kept.kept (ap (λ (p : PutOf). need_of p.call) view ∙ needs)
+    writing_is = writes_at_server a.opening a.number a.call.now a.token a.writing a.outcome (job_of a.call.now) a.stage server kept.kept (ap (λ (p : PutOf). need_of p.call) view ∙ needs)
 
-    keeps : Keeps stage.Writing a.opening a.number a.call a.token a.writing a.outcome
-    keeps = subst (λ s. Keeps s a.opening a.number a.call a.token a.writing a.outcome) writing_is kept.kept
+    keeps : Keeps stage.Writing a.opening a.number a.call.now a.token a.writing a.outcome
+    keeps = subst (λ s. Keeps s a.opening a.number a.call.now a.token a.writing a.outcome) writing_is kept.kept
 
     asked : Asks a.writing.state a.writing.due server
     asked =
-        asks_server a.opening a.number a.call a.token a.writing a.outcome (job_of a.call) server keeps
-        (ap (λ s. need_by (act_at a.opening.geometry (tries_by a.opening.script) (job_of a.call) [] (state_by s a.writing a.outcome)) (due_by s a.writing)) (sym writing_is) ∙ ap (λ (p : PutOf). need_of p.call) view ∙ needs)
+        asks_server a.opening a.number a.call.now a.token a.writing a.outcome (job_of a.call.now) server keeps
+        (ap (λ s. need_by (act_at a.opening.geometry (tries_by a.opening.script) (job_of a.call.now) [] (state_by s a.writing a.outcome)) (due_by s a.writing)) (sym writing_is) ∙ ap (λ (p : PutOf). need_of p.call) view ∙ needs)
 
     -- what is kept after the step
     pub served_kept : (now : WritingOf) (short : Bool) (before after : Server) → (after, now.state) ≡ stepped a.writing.book.geometry short before a.writing.state
-        → now ≡ record a.writing { state = now.state; due = now.due } → Keeps a.stage a.opening a.number a.call a.token now a.outcome
+        → now ≡ record a.writing { state = now.state; due = now.due } → Keeps a.stage a.opening a.number a.call.now a.token now a.outcome
     served_kept now short before after step same =
         let stamps : a.writing.stamps ≡ now.stamps = sym (ap (λ (w : WritingOf). w.stamps) same) in
-        let has : HasToken a.number (note_of a.call) (versions_of a.writing.stamps) a.token (stepped a.writing.book.geometry short before a.writing.state).1
-        = stepped_has a.number (note_of a.call) (versions_of a.writing.stamps) a.token a.writing.book.geometry short before a.writing.state server keeps.1 (asked.asked) in
-        let now_has : HasToken a.number (note_of a.call) (versions_of a.writing.stamps) a.token now.state
-        = subst (λ (made : Server × State). HasToken a.number (note_of a.call) (versions_of a.writing.stamps) a.token made.1) (sym step) has in
-        subst (λ s. Keeps s a.opening a.number a.call a.token now a.outcome) (sym writing_is) (
-          same_call a.opening a.call a.writing now same keeps.0,
-          subst (λ (stamps : List StampOf). HasToken a.number (note_of a.call) (versions_of stamps) a.token now.state) stamps now_has,
+        let has : HasToken a.number (note_of a.call.now) (versions_of a.writing.stamps) a.token (stepped a.writing.book.geometry short before a.writing.state).1
+        = stepped_has a.number (note_of a.call.now) (versions_of a.writing.stamps) a.token a.writing.book.geometry short before a.writing.state server keeps.1 (asked.asked) in
+        let now_has : HasToken a.number (note_of a.call.now) (versions_of a.writing.stamps) a.token now.state
+        = subst (λ (made : Server × State). HasToken a.number (note_of a.call.now) (versions_of a.writing.stamps) a.token made.1) (sym step) has in
+        subst (λ s. Keeps s a.opening a.number a.call.now a.token now a.outcome) (sym writing_is) (
+          same_call a.opening a.call.now a.writing now same keeps.0,
+          subst (λ (stamps : List StampOf). HasToken a.number (note_of a.call.now) (versions_of stamps) a.token now.state) stamps now_has,
         )
 
     -- the step
@@ -91,44 +91,44 @@ module _ (a : Inside) (kept : IsPut a) (old : PutOf) (view : put_in a ≡ old) w
 
   module _ (needs : need_of old.call ≡ need.Coder) where
     pub coding_is : a.stage ≡ stage.Writing
-    coding_is = writes_with_coder a.opening a.number a.call a.token a.writing a.outcome (job_of a.call) a.stage kept.kept (ap (λ (p : PutOf). need_of p.call) view ∙ needs)
+    coding_is = writes_with_coder a.opening a.number a.call.now a.token a.writing a.outcome (job_of a.call.now) a.stage kept.kept (ap (λ (p : PutOf). need_of p.call) view ∙ needs)
 
-    pub coding_keeps : Keeps stage.Writing a.opening a.number a.call a.token a.writing a.outcome
-    coding_keeps = subst (λ s. Keeps s a.opening a.number a.call a.token a.writing a.outcome) coding_is kept.kept
+    pub coding_keeps : Keeps stage.Writing a.opening a.number a.call.now a.token a.writing a.outcome
+    coding_keeps = subst (λ s. Keeps s a.opening a.number a.call.now a.token a.writing a.outcome) coding_is kept.kept
 
     pub coding_due : a.writing.due ≡ true
     coding_due =
-        codes a.opening.geometry (tries_by a.opening.script) (job_of a.call) a.number (note_of a.call) (versions_of a.writing.stamps) a.token a.writing.state a.writing.due coding_keeps.1
-        (ap (λ s. need_by (act_at a.opening.geometry (tries_by a.opening.script) (job_of a.call) [] (state_by s a.writing a.outcome)) (due_by s a.writing)) (sym coding_is) ∙ ap (λ (p : PutOf). need_of p.call) view ∙ needs)
+        codes a.opening.geometry (tries_by a.opening.script) (job_of a.call.now) a.number (note_of a.call.now) (versions_of a.writing.stamps) a.token a.writing.state a.writing.due coding_keeps.1
+        (ap (λ s. need_by (act_at a.opening.geometry (tries_by a.opening.script) (job_of a.call.now) [] (state_by s a.writing a.outcome)) (due_by s a.writing)) (sym coding_is) ∙ ap (λ (p : PutOf). need_of p.call) view ∙ needs)
 
     -- what is kept after the coding
     pub encoded_kept : {E : Type 0} (now : WritingOf) (result : Result (Unit {0}) E) → OnOk result (now ≡ record a.writing { due = false }) → OnErr result (now ≡ a.writing)
-        → Keeps a.stage a.opening a.number a.call a.token now a.outcome
+        → Keeps a.stage a.opening a.number a.call.now a.token now a.outcome
     encoded_kept now (Ok done) ok err =
-        subst (λ s. Keeps s a.opening a.number a.call a.token now a.outcome) (sym coding_is)
-        (subst (λ (w : WritingOf). Keeps stage.Writing a.opening a.number a.call a.token w a.outcome) (sym ok)
-        (same_call a.opening a.call a.writing (record a.writing { due = false }) refl coding_keeps.0, coding_keeps.1))
+        subst (λ s. Keeps s a.opening a.number a.call.now a.token now a.outcome) (sym coding_is)
+        (subst (λ (w : WritingOf). Keeps stage.Writing a.opening a.number a.call.now a.token w a.outcome) (sym ok)
+        (same_call a.opening a.call.now a.writing (record a.writing { due = false }) refl coding_keeps.0, coding_keeps.1))
     encoded_kept now (Err e) ok err =
-        subst (λ s. Keeps s a.opening a.number a.call a.token now a.outcome) (sym coding_is)
-        (subst (λ (w : WritingOf). Keeps stage.Writing a.opening a.number a.call a.token w a.outcome) (sym err) coding_keeps)
+        subst (λ s. Keeps s a.opening a.number a.call.now a.token now a.outcome) (sym coding_is)
+        (subst (λ (w : WritingOf). Keeps stage.Writing a.opening a.number a.call.now a.token w a.outcome) (sym err) coding_keeps)
 
     -- and where memory was wanting
     pub shortened_kept : (now : WritingOf) → begins_version a.writing.state ≡ true → now ≡ record a.writing { state = State.Ending Outcome.NoMemory; due = false }
-        → Keeps a.stage a.opening a.number a.call a.token now a.outcome
+        → Keeps a.stage a.opening a.number a.call.now a.token now a.outcome
     shortened_kept now begins is =
-        subst (λ s. Keeps s a.opening a.number a.call a.token now a.outcome) (sym coding_is)
-        (subst (λ (w : WritingOf). Keeps stage.Writing a.opening a.number a.call a.token w a.outcome) (sym is) (
-          same_call a.opening a.call a.writing (record a.writing { state = State.Ending Outcome.NoMemory; due = false }) refl coding_keeps.0,
-          short_has a.number (note_of a.call) (versions_of a.writing.stamps) a.token a.writing.state coding_keeps.1 begins,
+        subst (λ s. Keeps s a.opening a.number a.call.now a.token now a.outcome) (sym coding_is)
+        (subst (λ (w : WritingOf). Keeps stage.Writing a.opening a.number a.call.now a.token w a.outcome) (sym is) (
+          same_call a.opening a.call.now a.writing (record a.writing { state = State.Ending Outcome.NoMemory; due = false }) refl coding_keeps.0,
+          short_has a.number (note_of a.call.now) (versions_of a.writing.stamps) a.token a.writing.state coding_keeps.1 begins,
         ))
 
     -- the call then
     pub coded_short : (now : WritingOf) → begins_version a.writing.state ≡ true → now ≡ record a.writing { state = State.Ending Outcome.NoMemory; due = false }
         → record ((put_in a).call) { state = record { pairs = []; at = state_by a.stage now a.outcome }; due = due_by a.stage now; coding = true } ≡ coded true old.call
     coded_short now begins is =
-        let law : IsShortOfMemory a.opening.geometry (tries_by a.opening.script) (job_of a.call) [] a.writing.state = steps_are_of_the_call.short a.opening.geometry (tries_by a.opening.script) (job_of a.call) [] a.writing.state begins in
-        let state : call_at [] (State.Ending Outcome.NoMemory) ≡ next_call a.opening.geometry (job_of a.call) (call_at [] (state_by a.stage a.writing a.outcome)) Told.Short
-        = sym law.after ∙ ap (λ s. next_call a.opening.geometry (job_of a.call) (call_at [] (state_by s a.writing a.outcome)) Told.Short) (sym coding_is) in
+        let law : IsShortOfMemory a.opening.geometry (tries_by a.opening.script) (job_of a.call.now) [] a.writing.state = steps_are_of_the_call.short a.opening.geometry (tries_by a.opening.script) (job_of a.call.now) [] a.writing.state begins in
+        let state : call_at [] (State.Ending Outcome.NoMemory) ≡ next_call a.opening.geometry (job_of a.call.now) (call_at [] (state_by a.stage a.writing a.outcome)) Told.Short
+        = sym law.after ∙ ap (λ s. next_call a.opening.geometry (job_of a.call.now) (call_at [] (state_by s a.writing a.outcome)) Told.Short) (sym coding_is) in
         let shown : record ((put_in a).call) { state = call_at [] (state_by a.stage now a.outcome); due = due_by a.stage now; coding = true }
         ≡ record ((put_in a).call) { state = call_at [] (State.Ending Outcome.NoMemory); due = false; coding = true }
         = ap (λ s. record ((put_in a).call) { state = call_at [] (state_by s now a.outcome); due = due_by s now; coding = true }) coding_is

@@ -16,7 +16,7 @@ put_in a =
       call = record {
         book = a.opening;
         tries = tries_by a.opening.script;
-        job = job_of a.call;
+        job = job_of a.call.now;
         number = a.number;
         token = a.token;
         state = record { pairs = []; at = state_by a.stage a.writing a.outcome };
@@ -25,13 +25,13 @@ put_in a =
         coding = a.coding;
         step = a.step;
       };
-      written = a.call;
+      written = a.call.now;
     }
 
 -- what every put keeps
 pub record IsPut (a : Inside) : Type 0 where
-  pub put : is_put a.call ≡ true
+  pub put : is_put a.call.now ≡ true
   pub client : IsClient a.actor
   pub actor_is : actor_of a.token ≡ a.actor
-  pub script : IsOfScript a.opening a.actor a.number a.call
-  pub kept : Keeps a.stage a.opening a.number a.call a.token a.writing a.outcome
+  pub script : IsOfScript a.opening a.actor a.number a.call.now
+  pub kept : Keeps a.stage a.opening a.number a.call.now a.token a.writing a.outcome

@@ -16,7 +16,7 @@ use stripe_dir::Directory;
 use version_seal::Book;
 use write_course::{Doing, Writing};
 
-impl PutCall {
+impl<'a> PutCall<'a> {
     /// One step at the directory of this book. What it draws is sealed in the book.
     pub fn on_directory(&mut self, directory: &mut Directory, book: &Book)
         requires need { need_of self.old.call ≡ Need.Directory }
@@ -74,7 +74,7 @@ impl PutCall {
         ensures book { directory.new.book ≡ directory.old.book }
         ensures stamps { directory.new.stamps ≡ directory.old.stamps }
     {
-        let answer = self.token.look(directory, self.number, &self.call);
+        let answer = self.token.look(directory, self.number, self.call);
         self.coding = false;
         self.step = answer.is_err();
         let (stage, outcome) = after_look(answer);
@@ -97,8 +97,8 @@ impl PutCall {
     {
         directory.keeps();
         // That the length fits is needed below.
-        let _length = content_of(&self.call).length();
-        let request = book.request(self.actor, self.number, &self.call);
+        let _length = content_of(self.call).length();
+        let request = book.request(self.actor, self.number, self.call);
         let answer = self
             .token
             .draw(directory, self.number, book, Some(&request));

@@ -33,13 +33,13 @@ use version_seal::Opening;
 use write_course::{Doing, Writing};
 
 /// A client's put in work. It has to be finished, or to leave the directory.
-pub struct PutCall {
+pub struct PutCall<'a> {
     pub(crate) alloc: Global,
     pub(crate) stage: Stage,
     pub(crate) token: Token,
     pub(crate) actor: Actor,
     pub(crate) number: u32,
-    pub(crate) call: Call,
+    pub(crate) call: &'a Call,
     pub(crate) opening: Opening,
     // of no versions until some are drawn
     pub(crate) writing: Writing,
@@ -49,7 +49,7 @@ pub struct PutCall {
     pub(crate) step: bool,
 }
 
-impl Model for PutCall {
+impl<'a> Model for PutCall<'a> {
     ghost use Rattle.client_put.specs.Puts.{PutOf};
 
     ghost Value = { PutOf };
@@ -101,7 +101,7 @@ fn outcome_of_writing(writing: Writing) -> Outcome
     }
 }
 
-impl PutCall {
+impl<'a> PutCall<'a> {
     /// A put of a client that is in no call, under an unused number. In a book with a script it is the
     /// script's call of that number.
     pub fn new(
@@ -109,15 +109,15 @@ impl PutCall {
         seat: Seat,
         actor: Actor,
         number: u32,
-        call: Call,
+        call: &'a Call,
         opening: Opening,
-    ) -> PutCall
-        requires put { is_put call ≡ true }
+    ) -> PutCall<'a>
+        requires put { is_put call.now ≡ true }
         requires client { IsClient actor }
         requires own { seat.actor ≡ actor }
         requires unused { seat.unused ≤ number }
-        requires script { IsOfScript opening actor number call }
-        ensures { result ≡ first_put opening seat number call }
+        requires script { IsOfScript opening actor number call.now }
+        ensures { result ≡ first_put opening seat number call.now }
     {
         let writing = Writing::new(alloc, opening.copy(), 0, Vec::new(alloc));
         PutCall {
@@ -192,7 +192,7 @@ impl PutCall {
             unreachable!()
         };
         let geometry = self.opening.geometry();
-        let content = stripe_bytes(self.alloc, geometry, stripe, content_of(&self.call))?;
+        let content = stripe_bytes(self.alloc, geometry, stripe, content_of(self.call))?;
         self.writing.encode(rt, coder, &content)
     }
 
@@ -218,10 +218,10 @@ impl PutCall {
     /// The seat of the client whose put is over, how it ended, and what it has taken: nothing.
     pub fn finish(self) -> (Seat, Outcome, Option<Takes>)
         requires { need_of self.call ≡ Need.Finished }
-        ensures seat { ActorToken.Seated result.0 ≡ self.call.token }
-        ensures outcome { self.call.state.at ≡ State.Finished (outcome_of result.1) }
+        ensures seat { ActorToken.Seated result.0 ≡ self.entry.call.token }
+        ensures outcome { self.entry.call.state.at ≡ State.Finished (outcome_of result.1) }
         ensures none { result.2 ≡ None }
-        ensures nothing { self.call.takes ≡ replicate (chunk_count self.call.book.geometry) 0 }
+        ensures nothing { self.entry.call.takes ≡ replicate (chunk_count self.entry.call.book.geometry) 0 }
     {
         let PutCall {
             alloc: _,
@@ -229,7 +229,7 @@ impl PutCall {
             token,
             actor: _,
             number: _,
-            call: _call,
+            call: _,
             opening: _opening,
             writing,
             outcome,
@@ -251,7 +251,7 @@ impl PutCall {
             token,
             actor: _,
             number: _,
-            call: _call,
+            call: _,
             opening: _opening,
             writing: _writing,
             outcome: _outcome,

@@ -37,7 +37,7 @@ its c = c.requires.its ∙ sym (ap (λ (p : PutOf). p.call.book) c.self.view_is)
 
 -- the request is the put's
 asked : (c : After-copy) → c.request-request.result ≡ request_of (put_in c.self.inside)
-asked c = c.request-request.ensures ∙ (λ i. record { home = (book i).home; actor = sym c.self.invariant.actor_is i; number = c.self.inside.number; call = c.self.inside.call })
+asked c = c.request-request.ensures ∙ (λ i. record { home = (book i).home; actor = sym c.self.invariant.actor_is i; number = c.self.inside.number; call = c.self.inside.call.now })
   where
     book : c.args.book.now ≡ c.self.inside.opening
     book = c.requires.book ∙ sym (ap (λ (p : PutOf). p.call.book) c.self.view_is)
@@ -61,9 +61,9 @@ token c = c.draw-answer.ensures.token ∙ ap (token_after c.self.inside.token c.
 
 pub new-requires-clause-numbered : goal.new-requires-clause-numbered
 new-requires-clause-numbered c =
-    let few : length c.in-Ok-Versions.stamps.items ≤ content_length (content_in c.self.inside.call)
+    let few : length c.in-Ok-Versions.stamps.items ≤ content_length (content_in c.self.inside.call.now)
     = draw_count c.self.inside c.self.invariant c.args.self.now c.self.view_is c.requires.drawing c.args.directory.now c.in-Ok-Versions.stamps.items c.request-request.result (its c) c.keeps.ensures.stamps.code (drawn c) in
-    let long : c.length-length.result ≡ content_length (content_in c.self.inside.call) = c.length-length.ensures.number ∙ ap (λ (content : Content). content_length content) c.content_of.ensures in
+    let long : c.length-length.result ≡ content_length (content_in c.self.inside.call.now) = c.length-length.ensures.number ∙ ap (λ (content : Content). content_length content) c.content_of.ensures in
     omega (arith, c.length-length.type_inv)
 
 pub invariant_of-self : goal.invariant_of-self

@@ -16,14 +16,14 @@ pub encode-requires-clause-content : goal.encode-requires-clause-content
 encode-requires-clause-content g c =
     let a = c.self.inside in
     let its = (coding_keeps a c.self.invariant c.args.self.now c.self.view_is c.requires).0 in
-    let here : stripe_of c.geometry-geometry.result c.in-Some.stripe c.content_of.result.now ≡ stripe_of c.self.inside.opening.geometry c.in-Some.stripe (content_in c.self.inside.call)
+    let here : stripe_of c.geometry-geometry.result c.in-Some.stripe c.content_of.result.now ≡ stripe_of c.self.inside.opening.geometry c.in-Some.stripe (content_in c.self.inside.call.now)
     = (λ i. stripe_of (c.geometry-geometry.ensures i) c.in-Some.stripe (c.content_of.ensures i)) in
     let filled : c.in_ok-content.content.items ≡ stripe_of c.geometry-geometry.result c.in-Some.stripe c.content_of.result.now = c.in_ok-content.ensures.bytes in
-    let bytes : stripe_of c.self.inside.opening.geometry c.in-Some.stripe (content_in c.self.inside.call) ≡ c.deref.result.now
+    let bytes : stripe_of c.self.inside.opening.geometry c.in-Some.stripe (content_in c.self.inside.call.now) ≡ c.deref.result.now
     = sym here ∙ sym filled ∙ sym c.deref.ensures.value in
     λ κs lives.
     subst (λ (bytes : List ℕ). IfSome (stamp_at_work c.self.inside.writing) (λ stamp. stamp.content ≡ bytes)) bytes
-    (content_at_work a.opening a.call a.writing c.in-Some.stripe its (sym c.stripe_at_work.ensures ∙ c.in-Some.is))
+    (content_at_work a.opening a.call.now a.writing c.in-Some.stripe its (sym c.stripe_at_work.ensures ∙ c.in-Some.is))
 
 pub invariant_of-self : goal.invariant_of-self
 invariant_of-self g c =
