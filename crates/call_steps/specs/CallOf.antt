@@ -1,5 +1,6 @@
 -- A call in work, as callers of its machine see it: plain data.
-use Rattle.std.specs.Prelude.{ℕ, Bool, false, List, Option, None, Some}
+use Rattle.std.specs.Prelude.{ℕ, Bool, false, nat_lt, List, Option, None, Some, if◌then◌else◌}
+use Rattle.std.specs.List.{list_any}
 use Rattle.store_map.specs.Limits.{tries_of}
 use Rattle.store_map.specs.declared.script.Script.{Script}
 use Rattle.store_core.specs.Told.{Told}
@@ -30,6 +31,10 @@ pub record CallOf : Type 0 where
 abbrev pub tries_by : Option Script → ℕ
 tries_by None = 0
 tries_by (Some script) = tries_of script
+
+-- what a call took, where it took something
+abbrev pub taken_of : List ℕ → Option (List ℕ)
+taken_of takes = if list_any (nat_lt 0) takes then Some takes else None
 
 -- what it does next
 abbrev pub act_of : CallOf → Act

@@ -23,7 +23,8 @@ use Rattle.write_course.specs.Laws.{StepsAreOfTheCall}
 use Rattle.write_course.specs.Writings.{WritingOf, versions_of, begins_version}
 use Rattle.client_patch.specs.Patches.{PatchOf}
 use Rattle.client_patch.specs.Known.{AreOldBytes, UpToDraw, KnowsOld}
-use Rattle.client_patch.specs.Stages.{finished_of, state_by, due_by}
+use Rattle.client_patch.specs.Stages.{state_by, due_by}
+use Rattle.call_steps.specs.Ends.{finished_of}
 use Rattle.client_patch.specs.LookAfter.{IsFresh, IsBegun}
 use Rattle.client_patch.specs.Inside.{pairs_in, patch_in, Keeps, IsPatch}
 use Rattle.client_patch.specs.Holds.{HasRoom}

@@ -26,7 +26,8 @@ use Rattle.gather_parts.specs.States.{state_in}
 use Rattle.write_course.specs.Laws.{call_at}
 use Rattle.write_course.specs.Writings.{WritingOf, versions_of}
 use Rattle.client_patch.specs.Patches.{PatchOf}
-use Rattle.client_patch.specs.Stages.{finished_of, state_by, due_by, is_committing}
+use Rattle.client_patch.specs.Stages.{state_by, due_by, is_committing}
+use Rattle.call_steps.specs.Ends.{finished_of}
 use Rattle.client_patch.specs.Inside.{pairs_in, patch_in, Keeps, IsPatch}
 use Rattle.client_patch.specs.Holds.{IsHolding, HasRoom}
 use Rattle.client_patch.specs.declared.patch.PatchCall.TheInside.{Inside}

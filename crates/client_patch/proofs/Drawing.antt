@@ -37,7 +37,8 @@ use Rattle.client_patch.specs.Kept.{new_of}
 use Rattle.client_patch.specs.Known.{AreOldBytes, UpToDraw, KnowsOld}
 use Rattle.client_patch.specs.Draws.{request_of, stamps_told, stamps_of_draw, stamps_by, stamps_drawn}
 use Rattle.client_patch.specs.Patches.{PatchOf}
-use Rattle.client_patch.specs.Stages.{finished_of, state_by, due_by}
+use Rattle.client_patch.specs.Stages.{state_by, due_by}
+use Rattle.call_steps.specs.Ends.{finished_of}
 use Rattle.client_patch.specs.Inside.{pairs_in, patch_in, Keeps, IsPatch}
 use Rattle.client_patch.specs.Holds.{IsHolding, HasToken, IsOfCall}
 use Rattle.client_patch.specs.declared.patch.PatchCall.TheInside.{Inside}

@@ -30,7 +30,8 @@ use Rattle.write_course.specs.Writings.{versions_of}
 use Rattle.stripe_dir.specs.Sealed.{Sealed}
 use Rattle.client_patch.specs.Draws.{stamps_by, stamps_drawn}
 use Rattle.client_patch.specs.Patches.{PatchOf}
-use Rattle.client_patch.specs.Stages.{finished_of, state_by, due_by, is_ending, after_end}
+use Rattle.client_patch.specs.Stages.{state_by, due_by, after_end}
+use Rattle.call_steps.specs.Ends.{finished_of, is_ending}
 use Rattle.client_patch.specs.Inside.{pairs_in, patch_in, Keeps, IsPatch}
 use Rattle.client_patch.specs.Holds.{IsPassing, IsUngathered}
 use Rattle.client_patch.specs.declared.patch.PatchCall.TheInside.{Inside}

@@ -16,7 +16,7 @@ use Rattle.gather_parts.specs.Wanted.{Wanted, parts_of}
 use Rattle.gather_parts.specs.Gatherings.{GatheringsOf}
 use Rattle.gather_parts.specs.Standings.{standing_at, standing_by, unless_short, standing_of, is_due_at, is_due}
 use Rattle.gather_parts.specs.States.{state_by, unless_wanting, state_in}
-use Rattle.client_patch.specs.Patches.{point_ended, point_of}
+use Rattle.call_steps.specs.Ends.{point_ended, point_of}
 use Rattle.client_patch.specs.Known.{UpToDraw}
 use Rattle.client_patch.specs.Holds.{IsUngathered}
 

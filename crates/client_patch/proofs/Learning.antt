@@ -37,7 +37,7 @@ use Rattle.client_patch.specs.Known.{AreOldBytes}
 use Rattle.client_patch.specs.Known.{UpToDraw}
 use Rattle.client_patch.specs.Patches.{is_write}
 use Rattle.client_patch.specs.LookAfter.{size_told, looked_stripes, IsPatchLook, IsLooked}
-use Rattle.client_patch.specs.Holds.{IsWaiting}
+use Rattle.call_steps.specs.Callers.{IsWaiting}
 use Rattle.client_patch.specs.declared.stage.Stage.{Stage}
 use Rattle.client_patch.specs.declared.stage.Stage.TheVariants as stage
 use Rattle.store_map.specs.declared.actor.Point.{Point}

@@ -34,10 +34,12 @@ use Rattle.gather_parts.specs.States.{state_in}
 use Rattle.write_course.specs.Laws.{call_at}
 use Rattle.write_course.specs.Writings.{versions_of}
 use Rattle.client_patch.specs.Patches.{PatchOf, is_write, is_patch}
-use Rattle.client_patch.specs.Stages.{finished_of, state_by, due_by}
+use Rattle.client_patch.specs.Stages.{state_by, due_by}
+use Rattle.call_steps.specs.Ends.{finished_of}
+use Rattle.call_steps.specs.Callers.{IsWaiting}
 use Rattle.client_patch.specs.LookAfter.{IsFresh, IsPatchLook, IsLooked}
 use Rattle.client_patch.specs.Inside.{pairs_in, patch_in, Keeps, IsPatch}
-use Rattle.client_patch.specs.Holds.{IsWaiting, IsHolding, HasToken}
+use Rattle.client_patch.specs.Holds.{IsHolding, HasToken}
 use Rattle.client_patch.specs.declared.patch.PatchCall.TheInside.{Inside}
 use Rattle.client_patch.specs.declared.stage.Stage.{Stage}
 use Rattle.client_patch.specs.declared.stage.Stage.TheVariants as stage

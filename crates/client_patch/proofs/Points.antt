@@ -2,8 +2,8 @@
 use Rattle.std.proofs.Common.{◌≡◌, None, refl, sym, ap, ◌∙◌}
 use Rattle.store_resume.specs.State.{Sequel}
 use Rattle.gather_parts.specs.States.{state_in}
-use Rattle.client_patch.specs.Patches.{point_of}
-use Rattle.client_patch.specs.Stages.{finished_of, state_by}
+use Rattle.call_steps.specs.Ends.{point_of, finished_of}
+use Rattle.client_patch.specs.Stages.{state_by}
 use Rattle.client_patch.specs.Inside.{Keeps}
 use Rattle.client_patch.specs.declared.patch.PatchCall.TheInside.{Inside}
 use Rattle.client_patch.specs.declared.stage.Stage.{Stage}

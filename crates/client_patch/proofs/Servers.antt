@@ -18,7 +18,8 @@ use Rattle.gather_parts.specs.States.{state_in}
 use Rattle.write_course.specs.Writings.{server_of}
 use Rattle.write_course.specs.WritingSteps.{stepped}
 use Rattle.write_course.specs.Laws.{StepsAreOfTheCall, call_at, IsServerStep}
-use Rattle.client_patch.specs.Stages.{finished_of, state_by, due_by}
+use Rattle.client_patch.specs.Stages.{state_by, due_by}
+use Rattle.call_steps.specs.Ends.{finished_of}
 use Rattle.client_patch.specs.Holds.{HasToken}
 use Rattle.client_patch.specs.Inside.{Keeps}
 use Rattle.client_patch.specs.declared.patch.PatchCall.TheInside.{Inside}

@@ -19,7 +19,8 @@ use Rattle.call_steps.specs.TokenAfter.{token_after, IsSeated}
 use Rattle.write_course.specs.Writings.{WritingOf, server_of, begins_version}
 use Rattle.write_course.specs.WritingSteps.{stepped}
 use Rattle.client_patch.specs.Known.{UpToDraw}
-use Rattle.client_patch.specs.Stages.{is_committing, is_ending}
+use Rattle.client_patch.specs.Stages.{is_committing}
+use Rattle.call_steps.specs.Ends.{is_ending}
 use Rattle.client_patch.specs.Holds.{IsHolding, HasToken, HasRoom, IsGivenUp, IsOfCall}
 
 module _ (number : ℕ) (note : Note) (drawn : List ℕ) (token : ActorToken) where

@@ -1,5 +1,5 @@
 -- The token of a write or a delete, and what it keeps of its gatherings and its versions.
-use Rattle.std.specs.Prelude.{◌≡◌, ⊤, ℕ, ◌+◌, ◌/◌, ◌<◌, ◌≤◌, List, length, None, Some}
+use Rattle.std.specs.Prelude.{◌≡◌, ⊤, ℕ, ◌+◌, ◌/◌, ◌<◌, List, length, None, Some}
 use Rattle.std.specs.List.{slice_get}
 use Rattle.clay_grid.specs.Shape.{stripe_length}
 use Rattle.store_map.specs.declared.call.Call.{Call}
@@ -14,12 +14,7 @@ use Rattle.gather_parts.specs.declared.standing.Standing.{Standing}
 use Rattle.gather_parts.specs.declared.standing.Standing.TheVariants as standing
 use Rattle.write_course.specs.Writings.{WritingOf}
 use Rattle.client_patch.specs.Kept.{new_of}
-use Rattle.client_patch.specs.Patches.{point_ended}
-
--- the token before a look: a seat under which the call's number is unused
-abbrev pub IsWaiting : ℕ → ActorToken → Type 0
-IsWaiting number (ActorToken.Seated seat) = seat.unused ≤ number
-IsWaiting number (ActorToken.InCall held) = ⊥
+use Rattle.call_steps.specs.Ends.{point_ended}
 
 -- the token from then on: the pass of this call, which has drawn these versions
 pub record IsHolding (number : ℕ) (note : Note) (drawn : List ℕ) (token : ActorToken) : Type 0 where

@@ -8,13 +8,14 @@ use Rattle.call_steps.specs.declared.outcomes.Change.{Change}
 use Rattle.gather_parts.specs.Gatherings.{owed}
 use Rattle.gather_parts.specs.Standings.{standing_of}
 use Rattle.write_course.specs.Writings.{versions_of}
-use Rattle.client_patch.specs.Patches.{PatchOf, is_write, is_patch, IsClient, IsOfScript}
+use Rattle.client_patch.specs.Patches.{PatchOf, is_write, is_patch}
+use Rattle.call_steps.specs.Callers.{IsClient, IsOfScript, IsWaiting}
 use Rattle.client_patch.specs.LookAfter.{IsFresh}
 use Rattle.client_patch.specs.Stages.{state_by, due_by}
 use Rattle.client_patch.specs.declared.stage.Stage.{Stage}
 use Rattle.client_patch.specs.declared.stage.Stage.TheVariants as stage
 use Rattle.client_patch.specs.declared.patch.PatchCall.TheInside.{Inside}
-use Rattle.client_patch.specs.Holds.{IsWaiting, IsHolding, IsPassing, HasToken, IsGivenUp, IsOfCall, IsUngathered, HasRoom}
+use Rattle.client_patch.specs.Holds.{IsHolding, IsPassing, HasToken, IsGivenUp, IsOfCall, IsUngathered, HasRoom}
 
 -- changes as the definitions keep them
 abbrev pub pairs_in : List Change → List (ℕ × ℕ)

@@ -1,19 +1,15 @@
 -- Where a write or a delete stands, by what its program keeps.
-use Rattle.std.specs.Prelude.{⊤, Bool, true, false}
+use Rattle.std.specs.Prelude.{Bool, true, false}
 use Rattle.store_resume.specs.State.{Sequel, State}
 use Rattle.call_steps.specs.Outcomes.{outcome_of}
 use Rattle.call_steps.specs.declared.outcomes.Outcome.{Outcome}
+use Rattle.call_steps.specs.Ends.{finished_of}
 use Rattle.gather_parts.specs.Gatherings.{GatheringsOf}
 use Rattle.gather_parts.specs.Standings.{is_due}
 use Rattle.gather_parts.specs.States.{state_in}
 use Rattle.write_course.specs.Writings.{WritingOf}
 use Rattle.client_patch.specs.declared.stage.Stage.{Stage}
 use Rattle.client_patch.specs.declared.stage.Stage.TheVariants as stage
-
--- the end of a pass was told
-abbrev pub finished_of : State → State
-finished_of (State.Ending outcome) = State.Finished outcome
-finished_of at = at
 
 -- by its stage
 abbrev pub state_by : Stage → GatheringsOf → WritingOf → Outcome → State
@@ -33,28 +29,10 @@ due_by stage.Gathering p w = is_due p
 due_by stage.Writing p w = w.due
 due_by _ p w = false
 
--- a writing that stands between two steps, and one that has ended
-abbrev pub IsStanding : State → Type 0
-IsStanding (State.Preparing stripe version server servers row later placed versions) = ⊤
-IsStanding (State.Committing versions placed) = ⊤
-IsStanding (State.Ending outcome) = ⊤
-IsStanding (State.Settling point place places) = ⊤
-IsStanding (State.Finished outcome) = ⊤
-IsStanding at = ⊥
-
-abbrev pub IsOver : State → Type 0
-IsOver (State.Ending outcome) = ⊤
-IsOver (State.Finished outcome) = ⊤
-IsOver at = ⊥
-
--- the commit, and the end of the pass is next
+-- the commit is next
 abbrev pub is_committing : State → Bool
 is_committing (State.Committing versions placed) = true
 is_committing at = false
-
-abbrev pub is_ending : State → Bool
-is_ending (State.Ending outcome) = true
-is_ending at = false
 
 -- the pass's end was told
 abbrev pub after_end : Stage → Stage

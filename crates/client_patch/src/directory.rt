@@ -9,7 +9,8 @@ ghost use Rattle.client_patch.specs.Draws.{stamps_drawn};
 ghost use Rattle.client_patch.specs.Known.{KnowsOld};
 ghost use Rattle.client_patch.specs.Padded.{ArePadded};
 ghost use Rattle.client_patch.specs.Patches.{is_write};
-ghost use Rattle.client_patch.specs.Stages.{is_committing, is_ending};
+ghost use Rattle.client_patch.specs.Stages.{is_committing};
+ghost use Rattle.call_steps.specs.Ends.{is_ending};
 
 use crate::patch::PatchCall;
 use crate::stage::{Looked, Stage, after_end, after_look};

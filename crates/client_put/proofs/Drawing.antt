@@ -37,7 +37,8 @@ use Rattle.write_course.proofs.OfTheCall.{steps_are_of_the_call}
 use Rattle.client_put.specs.Bytes.{stripe_of, content_in}
 use Rattle.client_put.specs.Draws.{request_of, stamps_told, stamps_of_draw, stamps_by, stamps_drawn}
 use Rattle.client_put.specs.Puts.{PutOf, is_put}
-use Rattle.client_put.specs.Stages.{finished_of, state_by}
+use Rattle.client_put.specs.Stages.{state_by}
+use Rattle.call_steps.specs.Ends.{finished_of}
 use Rattle.client_put.specs.Holds.{IsHolding, HasToken, IsOfCall, Keeps}
 use Rattle.client_put.specs.Inside.{put_in, IsPut}
 use Rattle.client_put.specs.declared.stage.Stage.{Stage}

@@ -19,7 +19,8 @@ use Rattle.call_steps.specs.TokenAfter.{token_after, IsSeated}
 use Rattle.call_steps.specs.declared.outcomes.Outcome.{Outcome}
 use Rattle.write_course.specs.Writings.{WritingOf, versions_of, server_of, begins_version, is_committing}
 use Rattle.write_course.specs.WritingSteps.{stepped}
-use Rattle.client_put.specs.Stages.{finished_of, state_by, is_ending, after_end}
+use Rattle.client_put.specs.Stages.{state_by, after_end}
+use Rattle.call_steps.specs.Ends.{finished_of, is_ending}
 use Rattle.client_put.specs.Holds.{IsHolding, HasToken, IsGivenUp, IsOfCall, Keeps}
 use Rattle.client_put.specs.declared.stage.Stage.{Stage}
 use Rattle.client_put.specs.declared.stage.Stage.TheVariants as stage

@@ -19,8 +19,10 @@ use Rattle.call_steps.specs.declared.outcomes.Outcome.{Outcome}
 use Rattle.store_resume.specs.State.{State}
 use Rattle.write_course.specs.Writings.{WritingOf, versions_of}
 use Rattle.client_put.specs.Puts.{is_put}
-use Rattle.client_put.specs.Stages.{finished_of, state_by, IsPutLook, IsLooked}
-use Rattle.client_put.specs.Holds.{IsWaiting, HasToken, Keeps}
+use Rattle.client_put.specs.Stages.{state_by, IsPutLook, IsLooked}
+use Rattle.call_steps.specs.Ends.{finished_of}
+use Rattle.call_steps.specs.Callers.{IsWaiting}
+use Rattle.client_put.specs.Holds.{HasToken, Keeps}
 use Rattle.client_put.specs.declared.stage.Stage.{Stage}
 use Rattle.client_put.specs.declared.stage.Stage.TheVariants as stage
 

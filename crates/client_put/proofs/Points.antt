@@ -10,8 +10,8 @@ use Rattle.version_seal.specs.Entry.{BookOf}
 use Rattle.call_steps.specs.Outcomes.{outcome_of}
 use Rattle.call_steps.specs.declared.outcomes.Outcome.{Outcome}
 use Rattle.write_course.specs.Writings.{WritingOf, versions_of, point_of_end, point_of as writing_point}
-use Rattle.client_put.specs.Puts.{point_answered, point_ended, point_of}
-use Rattle.client_put.specs.Stages.{finished_of, state_by, IsRefused}
+use Rattle.call_steps.specs.Ends.{point_answered, point_ended, point_of, finished_of}
+use Rattle.client_put.specs.Stages.{state_by, IsRefused}
 use Rattle.client_put.specs.Holds.{HasToken, Keeps}
 use Rattle.client_put.specs.declared.stage.Stage.{Stage}
 use Rattle.client_put.specs.declared.stage.Stage.TheVariants as stage

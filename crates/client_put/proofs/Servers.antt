@@ -21,7 +21,8 @@ use Rattle.write_course.specs.Writings.{WritingOf, versions_of, server_of}
 use Rattle.write_course.specs.WritingSteps.{stepped}
 use Rattle.write_course.specs.Laws.{call_at, IsServerStep}
 use Rattle.write_course.proofs.OfTheCall.{steps_are_of_the_call}
-use Rattle.client_put.specs.Stages.{finished_of, state_by, due_by}
+use Rattle.client_put.specs.Stages.{state_by, due_by}
+use Rattle.call_steps.specs.Ends.{finished_of}
 use Rattle.client_put.specs.Holds.{HasToken, Keeps}
 use Rattle.client_put.specs.declared.stage.Stage.{Stage}
 use Rattle.client_put.specs.declared.stage.Stage.TheVariants as stage

@@ -1,5 +1,5 @@
 -- What a put holds at each stage: its token, and what was drawn.
-use Rattle.std.specs.Prelude.{◌≡◌, ℕ, ◌+◌, ◌≤◌, List, [], length, Some}
+use Rattle.std.specs.Prelude.{◌≡◌, ℕ, ◌+◌, List, [], length, Some}
 use Rattle.std.specs.List.{slice_get}
 use Rattle.store_map.specs.declared.call.Call.{Call}
 use Rattle.store_map.specs.declared.reply.Reply.TheVariants as reply
@@ -12,16 +12,12 @@ use Rattle.version_seal.specs.Entry.{BookOf, StampOf}
 use Rattle.call_steps.specs.TokenAfter.{IsSeated}
 use Rattle.call_steps.specs.Outcomes.{outcome_of}
 use Rattle.call_steps.specs.declared.outcomes.Outcome.{Outcome}
+use Rattle.call_steps.specs.Callers.{IsWaiting}
 use Rattle.write_course.specs.Writings.{WritingOf, versions_of}
 use Rattle.client_put.specs.Stages.{IsRefused}
 use Rattle.client_put.specs.declared.stage.Stage.{Stage}
 use Rattle.client_put.specs.declared.stage.Stage.TheVariants as stage
 use Rattle.client_put.specs.Bytes.{stripe_of, content_in}
-
--- the token before the look: a seat under which the call's number is unused
-abbrev pub IsWaiting : ℕ → ActorToken → Type 0
-IsWaiting number (ActorToken.Seated seat) = seat.unused ≤ number
-IsWaiting number (ActorToken.InCall held) = ⊥
 
 -- the token from then on: the pass of this call, which pins nothing and has drawn these versions
 pub record IsHolding (number : ℕ) (note : Note) (drawn : List ℕ) (token : ActorToken) : Type 0 where

@@ -3,7 +3,8 @@ use Rattle.std.specs.Prelude.{◌≡◌, true, [], replicate}
 use Rattle.clay_grid.specs.Shape.{chunk_count}
 use Rattle.store_core.specs.NextAct.{job_of}
 use Rattle.store_core.specs.Tokens.{actor_of}
-use Rattle.client_put.specs.Puts.{PutOf, is_put, IsClient, IsOfScript}
+use Rattle.client_put.specs.Puts.{PutOf, is_put}
+use Rattle.call_steps.specs.Callers.{IsClient, IsOfScript}
 use Rattle.client_put.specs.Stages.{state_by, due_by}
 use Rattle.client_put.specs.declared.put.PutCall.TheInside.{Inside}
 use Rattle.call_steps.specs.CallOf.{tries_by}

@@ -1,19 +1,15 @@
 -- Where a put stands, by what its program keeps.
-use Rattle.std.specs.Prelude.{◌≡◌, ⊤, Bool, true, false, []}
+use Rattle.std.specs.Prelude.{◌≡◌, ⊤, Bool, false, []}
 use Rattle.store_map.specs.declared.reply.Reply.TheVariants as reply
 use Rattle.store_core.specs.Told.{Told}
 use Rattle.store_core.specs.Act.{Outcome as CoreOutcome}
 use Rattle.store_resume.specs.State.{State}
 use Rattle.call_steps.specs.Outcomes.{outcome_of}
 use Rattle.call_steps.specs.declared.outcomes.Outcome.{Outcome}
+use Rattle.call_steps.specs.Ends.{finished_of, IsStanding}
 use Rattle.write_course.specs.Writings.{WritingOf}
 use Rattle.client_put.specs.declared.stage.Stage.{Stage}
 use Rattle.client_put.specs.declared.stage.Stage.TheVariants as stage
-
--- the end of a pass was told
-abbrev pub finished_of : State → State
-finished_of (State.Ending outcome) = State.Finished outcome
-finished_of at = at
 
 -- by its stage
 abbrev pub state_by : Stage → WritingOf → Outcome → State
@@ -45,26 +41,6 @@ IsRefused outcome = ⊤
 abbrev pub IsLooked : Told → Stage → Outcome → Type 0
 IsLooked (Told.Ready base length stripes) next outcome = next ≡ stage.Drawing
 IsLooked answer next outcome = (next ≡ stage.Finished) × IsRefused (outcome_of outcome)
-
--- the end of the pass is next
-abbrev pub is_ending : State → Bool
-is_ending (State.Ending outcome) = true
-is_ending at = false
-
--- a writing that stands between two steps
-abbrev pub IsStanding : State → Type 0
-IsStanding (State.Preparing stripe version server servers row later placed versions) = ⊤
-IsStanding (State.Committing versions placed) = ⊤
-IsStanding (State.Ending outcome) = ⊤
-IsStanding (State.Settling point place places) = ⊤
-IsStanding (State.Finished outcome) = ⊤
-IsStanding at = ⊥
-
--- one that has ended
-abbrev pub IsOver : State → Type 0
-IsOver (State.Ending outcome) = ⊤
-IsOver (State.Finished outcome) = ⊤
-IsOver at = ⊥
 
 -- the pass's end was told
 abbrev pub after_end : Stage → Stage

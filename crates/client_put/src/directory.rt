@@ -5,7 +5,8 @@ ghost use Rattle.store_resume.specs.State.{State};
 ghost use Rattle.call_steps.specs.Steps.{stepped_at_directory, need_of};
 ghost use Rattle.client_put.specs.Draws.{stamps_drawn};
 ghost use Rattle.write_course.specs.Writings.{is_committing};
-ghost use Rattle.client_put.specs.Stages.{is_ending, IsBegun};
+ghost use Rattle.client_put.specs.Stages.{IsBegun};
+ghost use Rattle.call_steps.specs.Ends.{is_ending};
 
 use crate::put::PutCall;
 use crate::stage::{Stage, after_end, after_look, content_of};

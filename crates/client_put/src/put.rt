@@ -13,8 +13,9 @@ ghost use Rattle.call_steps.specs.CallOf.{CallOf};
 ghost use Rattle.call_steps.specs.Steps.{stepped_at_server, coded, need_by, need_of, HoldsItsPass, IsDueInPass};
 ghost use Rattle.call_steps.specs.Outcomes.{outcome_of};
 ghost use Rattle.write_course.specs.Writings.{begins_version};
-ghost use Rattle.client_put.specs.Puts.{is_put, IsClient, IsOfScript, first_put, point_of};
-ghost use Rattle.client_put.specs.Stages.{finished_of, IsStanding, IsOver};
+ghost use Rattle.client_put.specs.Puts.{is_put, first_put};
+ghost use Rattle.call_steps.specs.Callers.{IsClient, IsOfScript};
+ghost use Rattle.call_steps.specs.Ends.{point_of, finished_of, IsStanding, IsOver};
 
 use crate::bytes::stripe_bytes;
 use crate::stage::{Stage, content_of};

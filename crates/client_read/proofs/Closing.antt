@@ -6,7 +6,7 @@ use Rattle.store_core.specs.Act.{DirectoryStep}
 use Rattle.store_core.specs.Agreement.{ActorToken}
 use Rattle.store_core.specs.Tokens.{actor_of}
 use Rattle.call_steps.specs.TokenAfter.{token_after, IsSeated}
-use Rattle.client_read.specs.Reads.{IsClient}
+use Rattle.call_steps.specs.Callers.{IsClient}
 use Rattle.client_read.specs.Inside.{IsHolding}
 
 pub end_seated : (token : ActorToken) (number : ℕ) (note : Note) → IsHolding number note token → IsSeated (token_after token number DirectoryStep.End Told.Ended)

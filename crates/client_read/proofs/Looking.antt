@@ -36,10 +36,11 @@ use Rattle.call_token.specs.Answers.{told_by_look}
 use Rattle.call_token.specs.Shown.{AreShown, stripes_seen}
 use Rattle.stripe_dir.specs.AnswerStamps.{IsSeenIn}
 use Rattle.gather_parts.specs.Gatherings.{GatheringsOf}
-use Rattle.client_read.specs.Reads.{is_read, IsClient}
+use Rattle.client_read.specs.Reads.{is_read}
+use Rattle.call_steps.specs.Callers.{IsClient, IsWaiting}
 use Rattle.client_read.specs.Stages.{IsLooked}
 use Rattle.client_read.specs.Owed.{owed_after_look, owed_by, owed_after}
-use Rattle.client_read.specs.Inside.{IsWaiting, Keeps}
+use Rattle.client_read.specs.Inside.{Keeps}
 use Rattle.client_read.specs.declared.stage.Stage.{Stage}
 use Rattle.client_read.proofs.Standings.{looks_first}
 

@@ -26,8 +26,10 @@ use Rattle.gather_parts.specs.States.{state_in, StandsIn}
 use Rattle.gather_parts.proofs.Handing.{state_needs, state_in_pass}
 use Rattle.gather_parts.proofs.Ended.{over_closes}
 use Rattle.client_read.specs.Reads.{is_read}
-use Rattle.client_read.specs.Stages.{finished_of, state_by, due_by, is_ending}
-use Rattle.client_read.specs.Inside.{IsWaiting, IsHolding, Keeps, read_in, IsRead}
+use Rattle.client_read.specs.Stages.{state_by, due_by}
+use Rattle.call_steps.specs.Ends.{finished_of, is_ending}
+use Rattle.call_steps.specs.Callers.{IsWaiting}
+use Rattle.client_read.specs.Inside.{IsHolding, Keeps, read_in, IsRead}
 use Rattle.client_read.specs.declared.read.ReadCall.TheInside.{Inside}
 use Rattle.client_read.specs.declared.stage.Stage.{Stage}
 use Rattle.client_read.specs.declared.stage.Stage.TheVariants as stage

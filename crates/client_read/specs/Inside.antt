@@ -1,5 +1,5 @@
 -- The fields of a call that reads as callers see them, and what they keep.
-use Rattle.std.specs.Prelude.{◌≡◌, ℕ, ◌≤◌, true, []}
+use Rattle.std.specs.Prelude.{◌≡◌, ℕ, true, []}
 use Rattle.store_core.specs.Note.{Note, note_of}
 use Rattle.store_core.specs.NextAct.{job_of}
 use Rattle.store_core.specs.Agreement.{HeldPass, ActorToken}
@@ -7,7 +7,8 @@ use Rattle.store_core.specs.Tokens.{actor_of}
 use Rattle.call_steps.specs.TokenAfter.{IsSeated}
 use Rattle.gather_parts.specs.Gatherings.{GatheringsOf, owed}
 use Rattle.gather_parts.specs.Standings.{standing_of, IsOver}
-use Rattle.client_read.specs.Reads.{ReadOf, is_read, IsClient}
+use Rattle.client_read.specs.Reads.{ReadOf, is_read}
+use Rattle.call_steps.specs.Callers.{IsClient, IsWaiting}
 use Rattle.client_read.specs.Ends.{IsPlain}
 use Rattle.client_read.specs.Stages.{state_by, due_by}
 use Rattle.client_read.specs.declared.stage.Stage.{Stage}
@@ -33,11 +34,6 @@ read_in a =
       };
       owed = owed a.gatherings;
     }
-
--- the token before the look: a seat under which the call's number is unused
-abbrev pub IsWaiting : ℕ → ActorToken → Type 0
-IsWaiting number (ActorToken.Seated seat) = seat.unused ≤ number
-IsWaiting number (ActorToken.InCall held) = ⊥
 
 -- the pass of this call
 pub record IsOfCall (number : ℕ) (note : Note) (held : HeldPass) : Type 0 where

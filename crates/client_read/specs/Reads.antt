@@ -1,8 +1,7 @@
 -- A get, a read or a stat in work, as callers see it.
-use Rattle.std.specs.Prelude.{⊤, ℕ, Bool, true, false, List, [], replicate}
+use Rattle.std.specs.Prelude.{ℕ, Bool, true, false, List, [], replicate}
 use Rattle.clay_grid.specs.Shape.{chunk_count}
 use Rattle.store_map.specs.declared.actor.Actor.{Actor}
-use Rattle.store_map.specs.declared.actor.Actor.TheVariants as actor
 use Rattle.store_map.specs.declared.call.Call.{Call}
 use Rattle.store_map.specs.declared.call.Call.TheVariants as call
 use Rattle.store_core.specs.Agreement.{Seat, ActorToken}
@@ -22,11 +21,6 @@ is_read (call.Get name) = true
 is_read (call.ReadAt name offset count) = true
 is_read (call.Stat name) = true
 is_read _ = false
-
--- a client
-abbrev pub IsClient : Actor → Type 0
-IsClient (actor.Client i) = ⊤
-IsClient who = ⊥
 
 -- a call before its first step
 abbrev pub first_read : BookOf → Seat → ℕ → Call → ReadOf

@@ -1,20 +1,16 @@
 -- Where a call that reads stands, by what its program keeps.
-use Rattle.std.specs.Prelude.{◌≡◌, Bool, true, false}
+use Rattle.std.specs.Prelude.{◌≡◌, Bool, false}
 use Rattle.store_core.specs.Told.{Told}
 use Rattle.store_map.specs.declared.actor.Point.{Point}
 use Rattle.store_resume.specs.State.{Sequel, State}
 use Rattle.call_steps.specs.Outcomes.{outcome_of}
 use Rattle.call_steps.specs.declared.outcomes.Outcome.{Outcome}
+use Rattle.call_steps.specs.Ends.{finished_of}
 use Rattle.gather_parts.specs.Gatherings.{GatheringsOf}
 use Rattle.gather_parts.specs.Standings.{is_due}
 use Rattle.gather_parts.specs.States.{state_in}
 use Rattle.client_read.specs.declared.stage.Stage.{Stage}
 use Rattle.client_read.specs.declared.stage.Stage.TheVariants as stage
-
--- the end of a pass was told
-abbrev pub finished_of : State → State
-finished_of (State.Ending outcome) = State.Finished outcome
-finished_of at = at
 
 -- by its stage
 abbrev pub state_by : Stage → GatheringsOf → Point → Outcome → State
@@ -32,8 +28,3 @@ due_by _ p = false
 abbrev pub IsLooked : Told → Stage → Type 0
 IsLooked (Told.Pinned point length stripes) next = next ≡ stage.Gathering
 IsLooked answer next = next ≡ stage.Finished
-
--- the end of its pass is next
-abbrev pub is_ending : State → Bool
-is_ending (State.Ending outcome) = true
-is_ending at = false

@@ -3,7 +3,7 @@ ghost use Rattle.std.specs.Prelude.{◌≡◌, true};
 ghost use Rattle.store_core.specs.Agreement.{Agrees};
 ghost use Rattle.store_resume.specs.State.{State};
 ghost use Rattle.call_steps.specs.Steps.{stepped_at_directory, need_of};
-ghost use Rattle.client_read.specs.Stages.{is_ending};
+ghost use Rattle.call_steps.specs.Ends.{is_ending};
 ghost use Rattle.client_read.specs.Owed.{owed_after};
 
 use crate::read::ReadCall;

@@ -8,9 +8,11 @@ ghost use Rattle.chunk_server.specs.Core.{core_of};
 ghost use Rattle.gathering.specs.Gathers.{IfServer, IsSame};
 ghost use Rattle.call_steps.specs.Steps.{stepped_at_server, coded, need_of, HoldsItsPass, IsDueInPass};
 ghost use Rattle.call_steps.specs.Outcomes.{outcome_of};
-ghost use Rattle.gather_parts.specs.Ends.{taken_of, end_state};
-ghost use Rattle.client_read.specs.Reads.{is_read, IsClient, first_read};
-ghost use Rattle.client_read.specs.Stages.{finished_of};
+ghost use Rattle.gather_parts.specs.Ends.{end_state};
+ghost use Rattle.call_steps.specs.CallOf.{taken_of};
+ghost use Rattle.call_steps.specs.Callers.{IsClient};
+ghost use Rattle.call_steps.specs.Ends.{finished_of};
+ghost use Rattle.client_read.specs.Reads.{is_read, first_read};
 ghost use Rattle.client_read.specs.Ends.{IfServed, AreBytes};
 
 use crate::stage::Stage;

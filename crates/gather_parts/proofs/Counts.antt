@@ -1,7 +1,7 @@
 -- Counts of a call that took nothing.
 use Rattle.std.proofs.Common.{◌≡◌, ℕ, zero, suc, nat_lt, Bool, false, cond, replicate, None, Some, refl, ap}
 use Rattle.std.specs.List.{list_any}
-use Rattle.gather_parts.specs.Ends.{taken_of}
+use Rattle.call_steps.specs.CallOf.{taken_of}
 
 no_count : (servers : ℕ) → list_any (nat_lt 0) (replicate {A = ℕ} servers 0) ≡ false
 no_count zero = refl

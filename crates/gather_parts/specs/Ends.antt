@@ -1,6 +1,5 @@
 -- What gatherings came to.
-use Rattle.std.specs.Prelude.{⊤, ℕ, nat_lt, List, map, Option, None, Some, Vec, if◌then◌else◌}
-use Rattle.std.specs.List.{list_any}
+use Rattle.std.specs.Prelude.{⊤, ℕ, map, Vec}
 use Rattle.std.specs.declared.alloc.Global.{Global}
 use Rattle.store_core.specs.Act.{Outcome}
 use Rattle.store_resume.specs.State.{Sequel, State}
@@ -8,10 +7,6 @@ use Rattle.store_resume.specs.States.{sequel_state}
 use Rattle.gather_course.specs.Aims.{lost_in}
 use Rattle.gather_parts.specs.declared.ends.Gathered.{Gathered}
 use Rattle.gather_parts.specs.declared.ends.Gathered.TheVariants as gathered
-
--- what a call took, where it took something
-abbrev pub taken_of : List ℕ → Option (List ℕ)
-taken_of takes = if list_any (nat_lt 0) takes then Some takes else None
 
 -- the state in which the call goes on
 abbrev pub end_state : Sequel → Gathered → State

@@ -7,7 +7,8 @@ ghost use Rattle.gather_parts.specs.Standings.{standing_of, IsOver};
 ghost use Rattle.gather_parts.specs.States.{state_in};
 ghost use Rattle.clay_grid.specs.Shape.{Shape};
 ghost use Rattle.gather_parts.specs.Inside.{takes_in};
-ghost use Rattle.gather_parts.specs.Ends.{taken_of, end_state, IfBytes};
+ghost use Rattle.gather_parts.specs.Ends.{end_state, IfBytes};
+ghost use Rattle.call_steps.specs.CallOf.{taken_of};
 
 use crate::gatherings::PartGatherings;
 use crate::standing::Standing;

@@ -1,9 +1,7 @@
 -- A rebuild as callers see it.
-use Rattle.std.specs.Prelude.{ℕ, Bool, false, nat_lt, List, [], replicate, Option, None, Some, if◌then◌else◌}
-use Rattle.std.specs.List.{list_any}
+use Rattle.std.specs.Prelude.{ℕ, Bool, false, List, [], replicate}
 use Rattle.clay_grid.specs.Shape.{chunk_count}
 use Rattle.store_map.specs.declared.call.Rebuild.{Rebuild}
-use Rattle.store_map.specs.declared.script.Script.{Script}
 use Rattle.store_core.specs.NextAct.{rebuild_job}
 use Rattle.store_core.specs.Agreement.{Seat, ActorToken}
 use Rattle.store_resume.specs.State.{State}
@@ -30,7 +28,3 @@ call_at book rebuild number token at takes due coding step =
 abbrev pub new_call : BookOf → Rebuild → ℕ → Seat → CallOf
 new_call book rebuild number seat =
     call_at book rebuild number (ActorToken.Seated seat) State.Start (replicate (chunk_count book.geometry) 0) false false false
-
--- what was taken, unless nothing was
-abbrev pub taken : List ℕ → Option (List ℕ)
-taken takes = if list_any (nat_lt 0) takes then Some takes else None

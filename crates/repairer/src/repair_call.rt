@@ -9,7 +9,8 @@ ghost use Rattle.chunk_server.specs.Core.{core_of};
 ghost use Rattle.gathering.specs.Gathers.{IfServer, IsSame};
 ghost use Rattle.call_steps.specs.Outcomes.{repair_outcome_of};
 ghost use Rattle.call_steps.specs.Steps.{need_of, stepped_at_directory, stepped_at_server, coded, HoldsItsPass, IsDueInPass};
-ghost use Rattle.repairer.specs.Calls.{new_call, taken};
+ghost use Rattle.repairer.specs.Calls.{new_call};
+ghost use Rattle.call_steps.specs.CallOf.{taken_of};
 ghost use Rattle.repairer.specs.Inside.{takes_at};
 
 use crate::stage::Stage;
@@ -115,7 +116,7 @@ impl<'a> RepairCall<'a> {
 
     /// What was taken from each server so far, or none where nothing was.
     pub fn takes(&self) -> Option<&Takes>
-        ensures { option_map (λ takes. takes.now) result ≡ taken self.now.takes }
+        ensures { option_map (λ takes. takes.now) result ≡ taken_of self.now.takes }
     {
         match &self.takes {
             Some(takes) => { if takes.any() { Some(takes) } else { None } }
@@ -129,7 +130,7 @@ impl<'a> RepairCall<'a> {
         requires { need_of self ≡ Need.Finished }
         ensures outcome { self.entry.state.at ≡ State.Finished (repair_outcome_of result.1) }
         ensures seat { ActorToken.Seated result.0 ≡ self.entry.token }
-        ensures takes { result.2 ≡ taken self.entry.takes }
+        ensures takes { result.2 ≡ taken_of self.entry.takes }
     {
         let RepairCall {
             stage: _,
@@ -153,7 +154,7 @@ impl<'a> RepairCall<'a> {
     /// Gives the call up where it stands, and tells what it took from each server, or none where it took
     /// nothing. Its actor makes no step any more, and a pass stays open.
     pub fn abandon(self) -> Option<Takes>
-        ensures { result ≡ taken self.entry.takes }
+        ensures { result ≡ taken_of self.entry.takes }
     {
         let RepairCall {
             stage: _,
@@ -232,7 +233,7 @@ impl<'a> RepairCall<'a> {
 
 // The takes, where a server gave something.
 fn some_taken(takes: Option<Takes>) -> Option<Takes>
-    ensures { (servers : ℕ) → result ≡ taken (takes_at servers takes) }
+    ensures { (servers : ℕ) → result ≡ taken_of (takes_at servers takes) }
 {
     match takes {
         Some(takes) => { if takes.any() { Some(takes) } else { None } }

@@ -1,7 +1,7 @@
 use Rattle.std.proofs.Common.{sym, ap}
 use Rattle.store_resume.specs.State.{Sequel}
 use Rattle.gather_parts.specs.Ends.{end_state}
-use Rattle.client_read.specs.Stages.{finished_of}
+use Rattle.call_steps.specs.Ends.{finished_of}
 use Rattle.client_read.proofs.read.outcome_by.Goals as goal
 
 pub returns-in-Bytes-clause-state : goal.returns-in-Bytes-clause-state

@@ -1,5 +1,6 @@
 use Rattle.std.proofs.Common.{ap, ◌∙◌}
-use Rattle.client_patch.specs.Patches.{PatchOf, point_of}
+use Rattle.client_patch.specs.Patches.{PatchOf}
+use Rattle.call_steps.specs.Ends.{point_of}
 use Rattle.client_patch.proofs.Points.{no_point}
 use Rattle.client_patch.proofs.patch.PatchCall.committed.Goals as goal
 

@@ -1,5 +1,6 @@
 use Rattle.std.proofs.Common.{ap, subst, sym, ◌∙◌}
-use Rattle.client_put.specs.Puts.{PutOf, point_of}
+use Rattle.client_put.specs.Puts.{PutOf}
+use Rattle.call_steps.specs.Ends.{point_of}
 use Rattle.client_put.specs.Stages.{state_by}
 use Rattle.client_put.specs.Holds.{Keeps}
 use Rattle.client_put.proofs.Points.{point_of_writing, no_point}

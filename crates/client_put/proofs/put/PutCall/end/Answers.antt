@@ -3,7 +3,8 @@ use Rattle.store_core.specs.Told.{Told}
 use Rattle.store_core.specs.Act.{DirectoryStep}
 use Rattle.store_core.specs.Tokens.{actor_of}
 use Rattle.client_put.specs.Puts.{PutOf}
-use Rattle.client_put.specs.Stages.{state_by, is_ending}
+use Rattle.client_put.specs.Stages.{state_by}
+use Rattle.call_steps.specs.Ends.{is_ending}
 use Rattle.client_put.proofs.Kept.{token_stays, ended_kept, holds_at_end, seated_by}
 use Rattle.client_put.proofs.put.PutCall.end.Goals as goal
 

@@ -8,8 +8,10 @@ use Rattle.call_steps.specs.TokenAfter.{token_after, IsSeated}
 use Rattle.call_steps.specs.CallOf.{tries_by}
 use Rattle.call_steps.specs.Steps.{need_by, need_of}
 use Rattle.call_token.specs.Answers.{told_by_end}
-use Rattle.client_read.specs.Reads.{ReadOf, IsClient}
-use Rattle.client_read.specs.Stages.{state_by, due_by, is_ending}
+use Rattle.client_read.specs.Reads.{ReadOf}
+use Rattle.call_steps.specs.Callers.{IsClient}
+use Rattle.call_steps.specs.Ends.{is_ending}
+use Rattle.client_read.specs.Stages.{state_by, due_by}
 use Rattle.client_read.specs.Inside.{Keeps, IsHolding}
 use Rattle.client_read.specs.declared.stage.Stage.TheVariants as stage
 use Rattle.client_read.proofs.Standings.{ends_gathering, gathering_over}

@@ -2,11 +2,12 @@ use Rattle.std.proofs.Common.{◌≡◌, sym, ap, subst, ◌∙◌}
 use Rattle.store_resume.specs.State.{Sequel}
 use Rattle.gathering.specs.declared.need.Need.TheVariants as need
 use Rattle.call_steps.specs.Steps.{need_of}
-use Rattle.gather_parts.specs.Ends.{taken_of}
+use Rattle.call_steps.specs.CallOf.{taken_of}
+use Rattle.call_steps.specs.Ends.{finished_of}
 use Rattle.gather_parts.specs.Gatherings.{owed}
 use Rattle.client_read.specs.Reads.{ReadOf}
 use Rattle.client_read.specs.Ends.{IfServed}
-use Rattle.client_read.specs.Stages.{finished_of, state_by}
+use Rattle.client_read.specs.Stages.{state_by}
 use Rattle.client_read.specs.Inside.{read_in}
 use Rattle.client_read.specs.declared.stage.Stage.TheVariants as stage
 use Rattle.client_read.proofs.Standings.{over_seated, over_ended}

@@ -7,7 +7,8 @@ use Rattle.store_core.specs.Tokens.{actor_of}
 use Rattle.version_seal.specs.Entry.{BookOf}
 use Rattle.call_steps.specs.CallOf.{tries_by}
 use Rattle.call_steps.specs.Steps.{stepped_at_directory}
-use Rattle.client_read.specs.Reads.{ReadOf, IsClient}
+use Rattle.client_read.specs.Reads.{ReadOf}
+use Rattle.call_steps.specs.Callers.{IsClient}
 use Rattle.client_read.specs.Stages.{state_by, due_by}
 use Rattle.client_read.specs.Owed.{owed_after}
 use Rattle.client_read.specs.Inside.{read_in, Keeps}
