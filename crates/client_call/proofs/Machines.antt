@@ -1,7 +1,7 @@
 -- What a call of one machine leaves of clauses that speak of all.
 use Rattle.std.proofs.Common.{◌≡◌, ℕ, replicate, None, sym, ap, subst, ◌∙◌}
 use Rattle.stripe_dir.specs.Sealed.{Sealed}
-use Rattle.gather_parts.specs.Ends.{taken_of}
+use Rattle.call_steps.specs.CallOf.{taken_of}
 use Rattle.gather_parts.proofs.Counts.{none_taken}
 use Rattle.client_put.specs.Puts.{PutOf}
 use Rattle.client_patch.specs.Patches.{PatchOf}
