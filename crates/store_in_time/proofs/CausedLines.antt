@@ -43,9 +43,9 @@ use Rattle.store_in_time.proofs.CausedCalls.{CauseThen, stays, own_step}
 use Rattle.store_in_time.proofs.Traced.{KeptByMade, run_traced}
 
 -- ---- in every run
-record CausesSoFar (script : Script) (trace : List Made) (core : Core) : Type 0 where
-  clients : (i : ℕ) (c : Calling) → slice_get core.clients i ≡ Some c → (work : Work) → slice_get (client_work script) i ≡ Some work → CauseThen script.geometry (size_of script) (tries_of script) trace (actor.Client i) work.jobs c
-  repairers : (i : ℕ) (c : Calling) → slice_get core.repairers i ≡ Some c → (work : Work) → slice_get (repairer_work script) i ≡ Some work → CauseThen script.geometry (size_of script) (tries_of script) trace (actor.Repairer i) work.jobs c
+pub record CausesSoFar (script : Script) (trace : List Made) (core : Core) : Type 0 where
+  pub clients : (i : ℕ) (c : Calling) → slice_get core.clients i ≡ Some c → (work : Work) → slice_get (client_work script) i ≡ Some work → CauseThen script.geometry (size_of script) (tries_of script) trace (actor.Client i) work.jobs c
+  pub repairers : (i : ℕ) (c : Calling) → slice_get core.repairers i ≡ Some c → (work : Work) → slice_get (repairer_work script) i ≡ Some work → CauseThen script.geometry (size_of script) (tries_of script) trace (actor.Repairer i) work.jobs c
 
 module _ (script : Script) (can : CanRun script) where
   abbrev Then : List Made → Actor → List Job → Calling → Type 0
@@ -106,7 +106,7 @@ module _ (script : Script) (can : CanRun script) where
         repairers = λ i c e work is. fresh (actor.Repairer i) work.jobs c (replicated (length script.repairers) i (new_calling (chunk_count script.geometry)) c e);
       }
 
-  all_causes : (shortages : List Shortage) (tokens : List Token) → CausesSoFar script (run_trace script shortages tokens) (run_core script shortages tokens)
+  pub all_causes : (shortages : List Shortage) (tokens : List Token) → CausesSoFar script (run_trace script shortages tokens) (run_core script shortages tokens)
   all_causes shortages tokens = (run_traced script can (CausesSoFar script) causes_kept shortages first_causes tokens).1
 
 -- ---- by lines

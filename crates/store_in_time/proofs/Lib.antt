@@ -8,17 +8,17 @@ mod StepPasses
 mod Within
 mod Callers
 mod PointRuns
-mod PointLines
+pub mod PointLines
 mod ServerTells
 mod LossTold
 mod LossSteps
 mod LossRuns
-mod LossLines
-mod CausedCalls
+pub mod LossLines
+pub mod CausedCalls
 mod HeldStandings
 mod HeldActs
 mod HeldRuns
 mod HeldSteps
 mod HeldCalls
 mod HeldLines
-mod CausedLines
+pub mod CausedLines
