@@ -1,0 +1,3 @@
+pub mod Overs
+pub mod Refusals
+pub mod Plays

@@ -1,0 +1,55 @@
+-- Calls that nothing hindered are answered, and what a run shows as a whole.
+use Rattle.std.proofs.Common.{◌⊎◌, inl, inr, List, refl, sym, subst}
+use Rattle.transcript_text.specs.declared.call_name.CallName.{CallName}
+use Rattle.transcript_text.specs.declared.call_name.CallName.TheVariants as name
+use Rattle.transcript_text.specs.declared.transcript.Transcript.{Transcript}
+use Rattle.hist_rules.specs.Finished.{Finished}
+use Rattle.store_core.specs.Schedule.{run_core}
+use Rattle.store_core.specs.Shown.{shown, shown_of}
+use Rattle.store_history.proofs.Finishing.{runs_finish}
+use Rattle.store_missing.proofs.FoundLines.{runs_find_missing}
+use Rattle.store_in_time.proofs.CausedLines.{runs_show_causes}
+use Rattle.store_in_time.proofs.LossLines.{runs_have_losses_in_time}
+use Rattle.store_in_time.proofs.PointLines.{runs_have_points_in_time}
+use Rattle.store_in_time.specs.Steps.{run_trace}
+use Rattle.store_in_time.specs.Trace.{Made}
+use Rattle.store_shows.proofs.Shows.{runs_show_histories, runs_are_legal}
+use Rattle.store_answers.specs.Answered.{IsAnswered, IsRefused, TellsEnds}
+use Rattle.store_answers.specs.PlayedLaws.{RunsAnswer, RunsArePlayed}
+use Rattle.store_answers.proofs.Overs.{runs_tell_ends}
+use Rattle.store_answers.proofs.Refusals.{not_refused, is_done}
+
+answered : (t : Transcript) (call : CallName) → (IsRefused t call → ⊥) → IsAnswered t call ⊎ IsRefused t call → IsAnswered t call × (IsRefused t call → ⊥)
+answered t call never (inl has) = (has, never)
+answered t call never (inr refused) = absurd (never refused)
+
+pub runs_answer : RunsAnswer
+runs_answer script shortages geometry valid =
+    let t : Transcript = shown_of script shortages in
+    let trace : List Made = run_trace script shortages script.schedule in
+    let ends : TellsEnds script trace t = runs_tell_ends script shortages geometry valid script.schedule in
+    record {
+      clients = λ i number over free tries.
+          answered t (name.Client i number)
+          (not_refused script trace t (runs_find_missing script shortages geometry valid) (runs_have_losses_in_time script shortages geometry valid script.schedule) (runs_show_causes script shortages geometry valid script.schedule) (name.Client i number) free tries)
+          (ends.clients i number over);
+      repairers = λ i number over free place.
+          is_done script trace t (runs_find_missing script shortages geometry valid) (runs_have_losses_in_time script shortages geometry valid script.schedule) (runs_show_causes script shortages geometry valid script.schedule) (name.Repairer i number) free place
+          (ends.repairers i number over);
+    }
+
+pub runs_are_played : RunsArePlayed
+runs_are_played script shortages geometry valid =
+    record {
+      shortages = shortages;
+      shows = refl;
+      history = runs_show_histories script shortages geometry valid;
+      legal = runs_are_legal script shortages geometry valid;
+      points = runs_have_points_in_time script shortages geometry valid script.schedule;
+      losses = runs_have_losses_in_time script shortages geometry valid script.schedule;
+      causes = runs_show_causes script shortages geometry valid script.schedule;
+      ends = runs_tell_ends script shortages geometry valid script.schedule;
+      finished = λ tokens is.
+          subst (λ schedule. Finished (record script { schedule = schedule }) (shown script (run_core script shortages schedule))) (sym is) (runs_finish script shortages geometry valid tokens);
+      answers = runs_answer script shortages geometry valid;
+    }

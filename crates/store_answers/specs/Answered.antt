@@ -1,0 +1,45 @@
+-- What a transcript shows of calls that are over, and that calls which nothing hindered are answered.
+use Rattle.std.specs.Prelude.{ℕ, ◌⊎◌, List, Contains, ⊤}
+use Rattle.store_map.specs.declared.reply.Reply.{Reply}
+use Rattle.store_map.specs.declared.script.Script.{Script}
+use Rattle.transcript_text.specs.declared.call_name.CallName.{CallName}
+use Rattle.transcript_text.specs.declared.call_name.CallName.TheVariants as name
+use Rattle.transcript_text.specs.declared.cause.Cause.{Cause}
+use Rattle.transcript_text.specs.declared.cause.RepairResult.{RepairResult}
+use Rattle.transcript_text.specs.declared.cause.RepairResult.TheVariants as result
+use Rattle.transcript_text.specs.declared.shown.Shown.TheVariants as shown
+use Rattle.transcript_text.specs.declared.transcript.Transcript.{Transcript}
+use Rattle.store_in_time.specs.Trace.{Made}
+use Rattle.store_answers.specs.Unhindered.{IsOver, IsUnhindered, HasTriesLeft, HasItsPlace}
+
+-- the history has the call with a reply
+abbrev pub IsAnswered : Transcript → CallName → Type 0
+IsAnswered t call = (point : ℕ) × (reply : Reply) × Contains t.history (record { point = point; call = call; reply = shown.Reply reply })
+
+-- the call was refused
+abbrev pub IsRefused : Transcript → CallName → Type 0
+IsRefused t call = (cause : Cause) × Contains t.refused (record { call = call; cause = cause })
+
+-- a rebuild has a result of which this holds
+abbrev pub HasResult : (RepairResult → Type 0) → Transcript → CallName → Type 0
+HasResult Is t call = (result : RepairResult) × Is result × Contains t.repairs (record { call = call; result = result })
+
+-- the target has its chunk
+abbrev pub IsDone : RepairResult → Type 0
+IsDone result.Rebuilt = ⊤
+IsDone result.Here = ⊤
+IsDone what = ⊥
+
+-- each call that is over is told of: a client's by a reply or a refusal, a rebuild by its result
+pub record TellsEnds (script : Script) (trace : List Made) (t : Transcript) : Type 0 where
+  pub clients : (i number : ℕ) → IsOver script trace (name.Client i number) → IsAnswered t (name.Client i number) ⊎ IsRefused t (name.Client i number)
+  pub repairers : (i number : ℕ) → IsOver script trace (name.Repairer i number) → HasResult (λ what. ⊤) t (name.Repairer i number)
+
+-- a call that is over and that nothing hindered is answered: a client's has a reply and no refusal, and a rebuild has left its target with its chunk
+pub record AnswersTheUnhindered (script : Script) (trace : List Made) (t : Transcript) : Type 0 where
+  pub clients :
+      (i number : ℕ) → IsOver script trace (name.Client i number) → IsUnhindered script trace (name.Client i number) → HasTriesLeft script trace (name.Client i number) →
+      IsAnswered t (name.Client i number) × ¬ IsRefused t (name.Client i number)
+  pub repairers :
+      (i number : ℕ) → IsOver script trace (name.Repairer i number) → IsUnhindered script trace (name.Repairer i number) → HasItsPlace trace (name.Repairer i number) →
+      HasResult IsDone t (name.Repairer i number)

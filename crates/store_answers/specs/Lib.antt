@@ -1,0 +1,4 @@
+pub mod Unhindered
+pub mod Answered
+pub mod Played
+pub mod PlayedLaws

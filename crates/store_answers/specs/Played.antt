@@ -1,0 +1,39 @@
+-- What a run of a script shows, as a whole.
+use Rattle.std.specs.Prelude.{◌≡◌, List, [], ◌∷◌, ◌++◌}
+use Rattle.store_map.specs.declared.actor.Token.{Token}
+use Rattle.store_map.specs.declared.actor.Token.TheVariants as token
+use Rattle.store_map.specs.declared.script.Script.{Script}
+use Rattle.transcript_text.specs.declared.transcript.Transcript.{Transcript}
+use Rattle.store_core.specs.Shown.{shown_of}
+use Rattle.store_core.specs.Step.{Shortage}
+use Rattle.hist_rules.specs.declared.verdict.Verdict.TheVariants.{Legal}
+use Rattle.hist_rules.specs.Finished.{Finished}
+use Rattle.hist_rules.specs.IsHistory.{IsHistory}
+use Rattle.hist_rules.specs.Verdict.{verdict_of}
+use Rattle.store_in_time.specs.LineCauses.{LinesAreCaused}
+use Rattle.store_in_time.specs.LossesInTime.{HasLossesInTime}
+use Rattle.store_in_time.specs.PointsInTime.{HasPointsInTime}
+use Rattle.store_in_time.specs.Steps.{run_trace}
+use Rattle.store_answers.specs.Answered.{TellsEnds, AnswersTheUnhindered}
+
+-- a transcript that a run of the script shows
+pub record IsPlayed (script : Script) (t : Transcript) : Type 0 where
+  -- the steps in which memory was wanting, or before which: nothing else is left open, so without them the script alone determines the transcript
+  pub shortages : List Shortage
+  pub shows : t ≡ shown_of script shortages
+  -- one history of a plain map: each answered call stands in it once, in its caller's order, with the map's reply
+  pub history : IsHistory script t
+  -- so the checker finds no fault in it
+  pub legal : verdict_of script t ≡ Legal
+  -- its points are in the order in which calls were made, and what a refusal names of points came while its call ran
+  pub points : HasPointsInTime (run_trace script shortages script.schedule) t
+  -- what a refusal names of servers was so when its call asked them
+  pub losses : HasLossesInTime (run_trace script shortages script.schedule) t
+  -- each refusal and each rebuild's result is caused by what the run told its call
+  pub causes : LinesAreCaused script (run_trace script shortages script.schedule) t
+  -- each call that was over is told of
+  pub ends : TellsEnds script (run_trace script shortages script.schedule) t
+  -- where the schedule ends with a drain, that is each call but a last one under a step limit
+  pub finished : (tokens : List Token) → script.schedule ≡ tokens ++ token.Drain ∷ [] → Finished script t
+  -- and a call that nothing hindered is answered
+  pub answers : AnswersTheUnhindered script (run_trace script shortages script.schedule) t

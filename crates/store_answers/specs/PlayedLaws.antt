@@ -1,0 +1,27 @@
+-- Calls that nothing hinders are answered in every run, and what a run shows is as a whole what it should be.
+use Rattle.std.specs.Prelude.{List}
+use Rattle.clay_grid.specs.Limits.{IsGeometry}
+use Rattle.store_map.specs.Naming.{IsValid}
+use Rattle.store_map.specs.declared.actor.Token.{Token}
+use Rattle.store_map.specs.declared.script.Script.{Script}
+use Rattle.store_core.specs.Schedule.{run_core}
+use Rattle.store_core.specs.Shown.{shown, shown_of}
+use Rattle.store_core.specs.Step.{Shortage}
+use Rattle.store_in_time.specs.Steps.{run_trace}
+use Rattle.store_answers.specs.Answered.{TellsEnds, AnswersTheUnhindered}
+use Rattle.store_answers.specs.Played.{IsPlayed}
+
+-- of every valid script, by whatever tokens, each call that is over is told of
+abbrev pub RunsTellEnds : Type 0
+RunsTellEnds =
+    (script : Script) → (shortages : List Shortage) → IsGeometry script.geometry → IsValid script → (tokens : List Token) →
+    TellsEnds script (run_trace script shortages tokens) (shown script (run_core script shortages tokens))
+
+-- and by its schedule, each call that nothing hinders is answered
+abbrev pub RunsAnswer : Type 0
+RunsAnswer =
+    (script : Script) (shortages : List Shortage) → IsGeometry script.geometry → IsValid script → AnswersTheUnhindered script (run_trace script shortages script.schedule) (shown_of script shortages)
+
+-- whatever is wanting of memory
+abbrev pub RunsArePlayed : Type 0
+RunsArePlayed = (script : Script) (shortages : List Shortage) → IsGeometry script.geometry → IsValid script → IsPlayed script (shown_of script shortages)
