@@ -1,3 +1,5 @@
+mod ListsTold
+mod MoreSteps
 pub mod Overs
-pub mod Refusals
+mod Refusals
 pub mod Plays

@@ -1,41 +1,56 @@
 -- Calls that nothing hindered are answered, and what a run shows as a whole.
-use Rattle.std.proofs.Common.{◌⊎◌, inl, inr, List, refl, sym, subst}
+use Rattle.std.proofs.Common.{◌≡◌, ◌⊎◌, inl, inr, List, Some, refl, sym, subst}
+use Rattle.std.specs.List.{slice_get}
+use Rattle.store_map.specs.declared.script.Script.{Script}
 use Rattle.transcript_text.specs.declared.call_name.CallName.{CallName}
 use Rattle.transcript_text.specs.declared.call_name.CallName.TheVariants as name
 use Rattle.transcript_text.specs.declared.transcript.Transcript.{Transcript}
 use Rattle.hist_rules.specs.Finished.{Finished}
+use Rattle.store_core.specs.NextAct.{Job}
 use Rattle.store_core.specs.Schedule.{run_core}
-use Rattle.store_core.specs.Shown.{shown, shown_of}
+use Rattle.store_core.specs.Shown.{shown}
+use Rattle.store_core.specs.Work.{Work, client_work, repairer_work}
+use Rattle.store_calls.specs.StepLaws.{HasTarget}
+use Rattle.store_runs.proofs.Runs.{CanRun}
+use Rattle.store_runs.proofs.Scripts.{can_run}
 use Rattle.store_history.proofs.Finishing.{runs_finish}
-use Rattle.store_missing.proofs.FoundLines.{runs_find_missing}
+use Rattle.store_in_time.specs.LineCauses.{job_of_call, LinesAreCaused}
+use Rattle.store_in_time.specs.LossesInTime.{HasLossesInTime}
+use Rattle.store_in_time.specs.Steps.{run_trace}
+use Rattle.store_in_time.specs.Trace.{Made}
 use Rattle.store_in_time.proofs.CausedLines.{runs_show_causes}
 use Rattle.store_in_time.proofs.LossLines.{runs_have_losses_in_time}
 use Rattle.store_in_time.proofs.PointLines.{runs_have_points_in_time}
-use Rattle.store_in_time.specs.Steps.{run_trace}
-use Rattle.store_in_time.specs.Trace.{Made}
 use Rattle.store_shows.proofs.Shows.{runs_show_histories, runs_are_legal}
 use Rattle.store_answers.specs.Answered.{IsAnswered, IsRefused, TellsEnds}
 use Rattle.store_answers.specs.PlayedLaws.{RunsAnswer, RunsArePlayed}
-use Rattle.store_answers.proofs.Overs.{runs_tell_ends}
+use Rattle.store_answers.proofs.Overs.{job_there, runs_tell_ends}
 use Rattle.store_answers.proofs.Refusals.{not_refused, is_done}
 
 answered : (t : Transcript) (call : CallName) → (IsRefused t call → ⊥) → IsAnswered t call ⊎ IsRefused t call → IsAnswered t call × (IsRefused t call → ⊥)
 answered t call never (inl has) = (has, never)
 answered t call never (inr refused) = absurd (never refused)
 
+-- a rebuild of the script has a target that there is
+targets : (script : Script) → CanRun script → (call : CallName) (job : Job) → job_of_call script call ≡ Some job → HasTarget script.geometry job
+targets script can (name.Client i number) job is =
+    let there : (work : Work) × (slice_get (client_work script) i ≡ Some work) × (slice_get work.jobs number ≡ Some job) = job_there (client_work script) i number job is in
+    can.clients.targets i there.0 there.1 number job there.2
+targets script can (name.Repairer i number) job is =
+    let there : (work : Work) × (slice_get (repairer_work script) i ≡ Some work) × (slice_get work.jobs number ≡ Some job) = job_there (repairer_work script) i number job is in
+    can.repairers.targets i there.0 there.1 number job there.2
+
 pub runs_answer : RunsAnswer
-runs_answer script shortages geometry valid =
-    let t : Transcript = shown_of script shortages in
-    let trace : List Made = run_trace script shortages script.schedule in
-    let ends : TellsEnds script trace t = runs_tell_ends script shortages geometry valid script.schedule in
+runs_answer script shortages geometry valid tokens =
+    let t : Transcript = shown script (run_core script shortages tokens) in
+    let trace : List Made = run_trace script shortages tokens in
+    let ends : TellsEnds script trace t = runs_tell_ends script shortages geometry valid tokens in
+    let losses : HasLossesInTime trace t = runs_have_losses_in_time script shortages geometry valid tokens in
+    let causes : LinesAreCaused script trace t = runs_show_causes script shortages geometry valid tokens in
     record {
       clients = λ i number over free tries.
-          answered t (name.Client i number)
-          (not_refused script trace t (runs_find_missing script shortages geometry valid) (runs_have_losses_in_time script shortages geometry valid script.schedule) (runs_show_causes script shortages geometry valid script.schedule) (name.Client i number) free tries)
-          (ends.clients i number over);
-      repairers = λ i number over free place.
-          is_done script trace t (runs_find_missing script shortages geometry valid) (runs_have_losses_in_time script shortages geometry valid script.schedule) (runs_show_causes script shortages geometry valid script.schedule) (name.Repairer i number) free place
-          (ends.repairers i number over);
+          answered t (name.Client i number) (not_refused script trace t (targets script (can_run script geometry valid)) losses causes (name.Client i number) free tries) (ends.clients i number over);
+      repairers = λ i number over free place. is_done script trace t (targets script (can_run script geometry valid)) losses causes (name.Repairer i number) free place (ends.repairers i number over);
     }
 
 pub runs_are_played : RunsArePlayed
@@ -51,5 +66,5 @@ runs_are_played script shortages geometry valid =
       ends = runs_tell_ends script shortages geometry valid script.schedule;
       finished = λ tokens is.
           subst (λ schedule. Finished (record script { schedule = schedule }) (shown script (run_core script shortages schedule))) (sym is) (runs_finish script shortages geometry valid tokens);
-      answers = runs_answer script shortages geometry valid;
+      answers = runs_answer script shortages geometry valid script.schedule;
     }

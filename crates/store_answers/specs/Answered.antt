@@ -1,5 +1,5 @@
 -- What a transcript shows of calls that are over, and that calls which nothing hindered are answered.
-use Rattle.std.specs.Prelude.{ℕ, ◌⊎◌, List, Contains, ⊤}
+use Rattle.std.specs.Prelude.{ℕ, ◌⊎◌, List, All, Contains, ⊤}
 use Rattle.store_map.specs.declared.reply.Reply.{Reply}
 use Rattle.store_map.specs.declared.script.Script.{Script}
 use Rattle.transcript_text.specs.declared.call_name.CallName.{CallName}
@@ -9,6 +9,7 @@ use Rattle.transcript_text.specs.declared.cause.RepairResult.{RepairResult}
 use Rattle.transcript_text.specs.declared.cause.RepairResult.TheVariants as result
 use Rattle.transcript_text.specs.declared.shown.Shown.TheVariants as shown
 use Rattle.transcript_text.specs.declared.transcript.Transcript.{Transcript}
+use Rattle.hist_rules.specs.Named.{answered_calls}
 use Rattle.store_in_time.specs.Trace.{Made}
 use Rattle.store_answers.specs.Unhindered.{IsOver, IsUnhindered, HasTriesLeft, HasItsPlace}
 
@@ -34,6 +35,8 @@ IsDone what = ⊥
 pub record TellsEnds (script : Script) (trace : List Made) (t : Transcript) : Type 0 where
   pub clients : (i number : ℕ) → IsOver script trace (name.Client i number) → IsAnswered t (name.Client i number) ⊎ IsRefused t (name.Client i number)
   pub repairers : (i number : ℕ) → IsOver script trace (name.Repairer i number) → HasResult (λ what. ⊤) t (name.Repairer i number)
+  -- and no other
+  pub only : All (IsOver script trace) (answered_calls t)
 
 -- a call that is over and that nothing hindered is answered: a client's has a reply and no refusal, and a rebuild has left its target with its chunk
 pub record AnswersTheUnhindered (script : Script) (trace : List Made) (t : Transcript) : Type 0 where

@@ -1,6 +1,6 @@
 //! The laws, as functions that do nothing and whose contracts are the laws.
 
-ghost use Rattle.store_answers.specs.PlayedLaws.{RunsTellEnds, RunsAnswer, RunsArePlayed};
+ghost use Rattle.store_answers.specs.PlayedLaws.{RunsTellEnds, EnoughStepsEndCalls, RunsAnswer, RunsArePlayed};
 
 /// In every run of a valid script each call that is over by what its steps were told is told of: a
 /// client's call by a reply or a refusal, a rebuild by its result.
@@ -8,7 +8,12 @@ pub fn runs_tell_ends()
     ensures { RunsTellEnds }
 {}
 
-/// Such a call of a client has a reply, and no refusal, if memory was wanting in none of its steps, nobody
+/// A call is over that has made all the steps that such a call makes at most, where memory was ample.
+pub fn enough_steps_end_calls()
+    ensures { EnoughStepsEndCalls }
+{}
+
+/// A call of a client that is over has a reply, and no refusal, if memory was wanting in none of its steps, nobody
 /// gave it up, no more servers than there are parity chunks lacked their chunk of a version that it
 /// gathered or were away when it had one for them, and its object changed under it fewer times than it has
 /// tries. Such a rebuild has left its target with its chunk, if its stripe was there and stayed current
