@@ -3,3 +3,5 @@ mod MoreSteps
 pub mod Overs
 mod Refusals
 pub mod Plays
+mod LowServers
+mod WorkedCalls

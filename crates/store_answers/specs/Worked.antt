@@ -1,0 +1,23 @@
+-- Worked calls that are over and that nothing hindered.
+use Rattle.std.specs.Prelude.{List, []}
+use Rattle.transcript_text.specs.declared.call_name.CallName.{CallName}
+use Rattle.store_rows.specs.Rows.{Row}
+use Rattle.store_in_time.specs.Steps.{run_trace}
+use Rattle.store_in_time.specs.Trace.{Made}
+use Rattle.store_answers.specs.Unhindered.{IsOver, IsUnhindered, HasTriesLeft, HasItsPlace}
+
+-- the trace of a row's run
+abbrev pub row_trace : Row → List Made
+row_trace row = run_trace row.script [] row.script.schedule
+
+-- a client's call that the law answers
+pub record IsAnswerable (row : Row) (call : CallName) : Type 0 where
+  pub over : IsOver row.script (row_trace row) call
+  pub free : IsUnhindered row.script (row_trace row) call
+  pub tries : HasTriesLeft row.script (row_trace row) call
+
+-- a rebuild that it answers
+pub record IsRebuildable (row : Row) (call : CallName) : Type 0 where
+  pub over : IsOver row.script (row_trace row) call
+  pub free : IsUnhindered row.script (row_trace row) call
+  pub place : HasItsPlace (row_trace row) call
