@@ -51,7 +51,7 @@ module _ (script : Script) (can : CanRun script) where
   abbrev Then : List Made → Actor → List Job → Calling → Type 0
   Then trace who jobs c = CauseThen script.geometry (size_of script) (tries_of script) trace who jobs c
 
-  causes_kept : KeptByMade script can (CausesSoFar script)
+  pub causes_kept : KeptByMade script can (CausesSoFar script)
   causes_kept =
       record {
         client = λ trace core kept has i work calling job is_work is_calling is_job shortages kept_after.
@@ -99,7 +99,7 @@ module _ (script : Script) (can : CanRun script) where
   fresh : (who : Actor) (jobs : List Job) (c : Calling) → new_calling (chunk_count script.geometry) ≡ c → Then [] who jobs c
   fresh who jobs c e = subst (Then [] who jobs) e (record { in_work = λ job is. record { are_told = tt; kept = refl }; later = λ k high. refl; ended = λ k job x is_job is. absurd (none-some x is) })
 
-  first_causes : CausesSoFar script [] (first_core script)
+  pub first_causes : CausesSoFar script [] (first_core script)
   first_causes =
       record {
         clients = λ i c e work is. fresh (actor.Client i) work.jobs c (replicated (length script.clients) i (new_calling (chunk_count script.geometry)) c e);

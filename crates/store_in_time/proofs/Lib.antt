@@ -1,6 +1,6 @@
 mod Stepwise
-mod Traced
-mod Past
+pub mod Traced
+pub mod Past
 mod Counts
 mod Points
 mod Timely

@@ -27,10 +27,10 @@ abbrev first_or : Made → List Made → Made
 first_or d [] = d
 first_or d (x ∷ xs) = x
 
-never_empty : (xs : List Made) (m : Made) (ys : List Made) → [] ≡ xs ++ m ∷ ys → ⊥
+pub never_empty : (xs : List Made) (m : Made) (ys : List Made) → [] ≡ xs ++ m ∷ ys → ⊥
 never_empty xs m ys e = absurd (let size : 0 ≡ length xs + length (m ∷ ys) = ap (λ (l : List Made). length l) e ∙ length-append xs (m ∷ ys) in omega (arith, size))
 
-last_or_not : (trace : List Made) (made : Made) (before : List Made) (m : Made) (after : List Made) → trace ++ made ∷ [] ≡ before ++ m ∷ after
+pub last_or_not : (trace : List Made) (made : Made) (before : List Made) (m : Made) (after : List Made) → trace ++ made ∷ [] ≡ before ++ m ∷ after
     → ((before ≡ trace) × (m ≡ made)) ⊎ ((rest : List Made) × (trace ≡ before ++ m ∷ rest))
 last_or_not [] made [] m after e = inl (refl, sym (ap (first_or made) e))
 last_or_not [] made (b ∷ before) m after e = absurd (never_empty before m after (ap rest_of e))
