@@ -1,6 +1,8 @@
 mod ListsTold
 mod MoreSteps
 pub mod Overs
+pub mod Acts
+mod TargetsAway
 mod Refusals
 pub mod Plays
 mod LowServers

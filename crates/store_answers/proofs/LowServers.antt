@@ -25,12 +25,16 @@ is_low most act answer = true
 abbrev pub are_low : ℕ → List Made → Bool
 are_low most trace = list_all (λ (made : Made). is_low most made.act made.answer) trace
 
+-- what holds of all steps holds of one that happened
+pub of_all : (test : Made → Bool) (trace : List Made) → list_all test trace ≡ true → (Is : List Made → Made → Type 0) (h : Happened trace Is) → test h.made ≡ true
+of_all test trace all Is h = in_all (subst (λ l. Contains l h.made) (sym h.split) (Contains-append_right h.before (h.made ∷ h.after) h.made (contains_at (h.made ∷ h.after) 0 h.made refl)))
+  where
+    in_all : Contains trace h.made → test h.made ≡ true
+    in_all has = All-contains (λ (made : Made). test made ≡ true) trace h.made (AllPass-from_list_all test trace all) has
+
 module _ (most : ℕ) (trace : List Made) (low : are_low most trace ≡ true) where
   made_low : (Is : List Made → Made → Type 0) (h : Happened trace Is) → is_low most h.made.act h.made.answer ≡ true
-  made_low Is h = in_all (subst (λ l. Contains l h.made) (sym h.split) (Contains-append_right h.before (h.made ∷ h.after) h.made (contains_at (h.made ∷ h.after) 0 h.made refl)))
-    where
-      in_all : Contains trace h.made → is_low most h.made.act h.made.answer ≡ true
-      in_all has = All-contains (λ (made : Made). is_low most made.act made.answer ≡ true) trace h.made (AllPass-from_list_all (λ (made : Made). is_low most made.act made.answer) trace low) has
+  made_low Is h = of_all (λ (made : Made). is_low most made.act made.answer) trace low Is h
 
   lacks_low : (call : CallName) (version server : ℕ) → LacksChunk trace call version server → server < most
   lacks_low call version server h = ltb-true server most (sym (λ k. is_low most (h.is.1.1 k) (h.is.2.1 k)) ∙ made_low _ h)

@@ -24,7 +24,9 @@ use Rattle.store_in_time.proofs.PointLines.{runs_have_points_in_time}
 use Rattle.store_shows.proofs.Shows.{runs_show_histories, runs_are_legal}
 use Rattle.store_answers.specs.Answered.{IsAnswered, IsRefused, TellsEnds}
 use Rattle.store_answers.specs.PlayedLaws.{RunsAnswer, RunsArePlayed}
-use Rattle.store_answers.proofs.Overs.{job_there, runs_tell_ends}
+use Rattle.store_answers.proofs.Overs.{job_there, runs_tell_ends, enough_steps_end_calls}
+use Rattle.store_answers.proofs.Acts.{runs_step_next}
+use Rattle.store_answers.proofs.TargetsAway.{target_told}
 use Rattle.store_answers.proofs.Refusals.{not_refused, is_done}
 
 answered : (t : Transcript) (call : CallName) → (IsRefused t call → ⊥) → IsAnswered t call ⊎ IsRefused t call → IsAnswered t call × (IsRefused t call → ⊥)
@@ -50,7 +52,9 @@ runs_answer script shortages geometry valid tokens =
     record {
       clients = λ i number over free tries.
           answered t (name.Client i number) (not_refused script trace t (targets script (can_run script geometry valid)) losses causes (name.Client i number) free tries) (ends.clients i number over);
-      repairers = λ i number over free place. is_done script trace t (targets script (can_run script geometry valid)) losses causes (name.Repairer i number) free place (ends.repairers i number over);
+      repairers = λ i number over free place.
+          is_done script trace t (targets script (can_run script geometry valid)) losses causes (name.Repairer i number) free place
+          (target_told script trace (runs_step_next script shortages geometry valid tokens) i number) (ends.repairers i number over);
     }
 
 pub runs_are_played : RunsArePlayed
@@ -64,6 +68,7 @@ runs_are_played script shortages geometry valid =
       losses = runs_have_losses_in_time script shortages geometry valid script.schedule;
       causes = runs_show_causes script shortages geometry valid script.schedule;
       ends = runs_tell_ends script shortages geometry valid script.schedule;
+      enough = enough_steps_end_calls script shortages geometry valid script.schedule;
       finished = λ tokens is.
           subst (λ schedule. Finished (record script { schedule = schedule }) (shown script (run_core script shortages schedule))) (sym is) (runs_finish script shortages geometry valid tokens);
       answers = runs_answer script shortages geometry valid script.schedule;

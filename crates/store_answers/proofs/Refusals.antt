@@ -6,7 +6,7 @@ use Rattle.std.proofs.lemmas.List.Elements.{All-nil, All-cons, All-map, All-weak
 use Rattle.std.proofs.lemmas.List.Kept.{AllPairs-cons}
 use Rattle.std.proofs.lemmas.Option.{none-some, same_Some}
 use Rattle.clay_grid.specs.Shape.{Shape}
-use Rattle.store_map.specs.Limits.{tries_of}
+use Rattle.store_map.specs.Limits.{size_of, tries_of}
 use Rattle.store_map.specs.declared.placement.Found.TheVariants as found
 use Rattle.store_map.specs.declared.placement.Placement.{Placement}
 use Rattle.store_map.specs.declared.placement.Placement.TheVariants as placement
@@ -23,17 +23,18 @@ use Rattle.store_core.specs.NextAct.{Job}
 use Rattle.store_core.specs.Outcomes.{triple_of, cause_of, result_of}
 use Rattle.store_core.specs.Placements.{skipped_from}
 use Rattle.store_core.specs.Told.{Told, Seen, Lost}
-use Rattle.store_calls.specs.CauseLaws.{changes_of}
+use Rattle.store_calls.specs.CauseLaws.{changes_of, IsToldAway}
 use Rattle.store_calls.specs.Losses.{IsLost}
 use Rattle.store_calls.specs.OutcomeLaws.{HasCauseInSteps}
 use Rattle.store_calls.specs.StepLaws.{HasTarget}
+use Rattle.store_calls.specs.ToldInSteps.{AreTold}
 use Rattle.store_calls.proofs.Gatherings.{gatherings_end}
 use Rattle.store_history.proofs.OrderLists.{no_pairs, map_pairs}
 use Rattle.store_in_time.specs.LineCauses.{job_of_call, WasCaused, LinesAreCaused}
 use Rattle.store_in_time.specs.LossesInTime.{WereMissing, NamesLosses, ResultNamesLosses, HasLossesInTime}
 use Rattle.store_in_time.specs.LostChunks.{TellsPlacement, WasLost, WasSkipped}
 use Rattle.store_in_time.specs.Trace.{Made}
-use Rattle.store_answers.specs.Unhindered.{answers_to, LacksChunk, SkipsChunk, IsUnhindered, HasTriesLeft, HasItsPlace}
+use Rattle.store_answers.specs.Unhindered.{answers_to, LacksChunk, SkipsChunk, IsUnhindered, HasTriesLeft, TargetWasAway, HasItsPlace}
 use Rattle.store_answers.specs.Answered.{IsRefused, HasResult, IsDone}
 use Rattle.store_answers.proofs.ListsTold.{told_in}
 
@@ -145,8 +146,10 @@ module _ (script : Script) (trace : List Made) (t : Transcript) (targets : (call
         by outcome shows h = none-some refused.0 shows
 
     -- a rebuild
-    pub is_done : HasItsPlace trace call → HasResult (λ what. ⊤) t call → HasResult IsDone t call
-    is_done place has = (has.0, by caused.outcome caused.shows caused.caused, has.2)
+    pub is_done : HasItsPlace script trace call
+        → ((job : Job) → job_of_call script call ≡ Some job → AreTold script.geometry (size_of script) (tries_of script) job (answers_to call trace) → (downs : ℕ) → IsToldAway downs (answers_to call trace) → TargetWasAway script trace call)
+        → HasResult (λ what. ⊤) t call → HasResult IsDone t call
+    is_done place told has = (has.0, by caused.outcome caused.shows caused.caused, has.2)
       where
         caused : WasCaused script trace call (λ outcome. result_of outcome ≡ Some has.0)
         caused = All-contains (λ (l : RLine). WasCaused script trace l.call (λ outcome. result_of outcome ≡ Some l.result)) t.repairs (record { call = call; result = has.0 }) causes.repairs has.2
@@ -154,7 +157,7 @@ module _ (script : Script) (trace : List Made) (t : Transcript) (targets : (call
         by : (outcome : Outcome) → result_of outcome ≡ Some has.0 → HasCauseInSteps script.geometry (tries_of script) caused.job outcome (answers_to call trace) → IsDone has.0
         by Outcome.Rebuilt shows h = subst IsDone (same_Some result.Rebuilt has.0 shows) tt
         by Outcome.Here shows h = subst IsDone (same_Some result.Here has.0 shows) tt
-        by (Outcome.Away downs) shows h = absurd (place.target downs h.0)
+        by (Outcome.Away downs) shows h = absurd (place.target (told caused.job caused.is_call caused.are_told downs h.0))
         by Outcome.NoSuch shows h = absurd (place.found (told_in (answers_to call trace) Told.NoSuch h))
         by (Outcome.Superseded newer) shows h = absurd (place.current newer (told_in (answers_to call trace) (Told.Superseded newer) h))
         by (Outcome.Unavailable stripe missing) shows h =

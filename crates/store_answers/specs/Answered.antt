@@ -44,5 +44,5 @@ pub record AnswersTheUnhindered (script : Script) (trace : List Made) (t : Trans
       (i number : ℕ) → IsOver script trace (name.Client i number) → IsUnhindered script trace (name.Client i number) → HasTriesLeft script trace (name.Client i number) →
       IsAnswered t (name.Client i number) × ¬ IsRefused t (name.Client i number)
   pub repairers :
-      (i number : ℕ) → IsOver script trace (name.Repairer i number) → IsUnhindered script trace (name.Repairer i number) → HasItsPlace trace (name.Repairer i number) →
+      (i number : ℕ) → IsOver script trace (name.Repairer i number) → IsUnhindered script trace (name.Repairer i number) → HasItsPlace script trace (name.Repairer i number) →
       HasResult IsDone t (name.Repairer i number)

@@ -1,4 +1,5 @@
 pub mod Unhindered
+pub mod NextSteps
 pub mod Answered
 pub mod Played
 pub mod PlayedLaws

@@ -1,11 +1,13 @@
 -- What a run of a script shows, as a whole.
-use Rattle.std.specs.Prelude.{◌≡◌, List, [], ◌∷◌, ◌++◌}
+use Rattle.std.specs.Prelude.{◌≡◌, List, [], ◌∷◌, ◌++◌, Contains}
 use Rattle.store_map.specs.declared.actor.Token.{Token}
 use Rattle.store_map.specs.declared.actor.Token.TheVariants as token
 use Rattle.store_map.specs.declared.script.Script.{Script}
+use Rattle.transcript_text.specs.declared.call_name.CallName.{CallName}
 use Rattle.transcript_text.specs.declared.transcript.Transcript.{Transcript}
 use Rattle.store_core.specs.Shown.{shown_of}
 use Rattle.store_core.specs.Step.{Shortage}
+use Rattle.store_core.specs.Told.{Told}
 use Rattle.hist_rules.specs.declared.verdict.Verdict.TheVariants.{Legal}
 use Rattle.hist_rules.specs.Finished.{Finished}
 use Rattle.hist_rules.specs.IsHistory.{IsHistory}
@@ -14,6 +16,7 @@ use Rattle.store_in_time.specs.LineCauses.{LinesAreCaused}
 use Rattle.store_in_time.specs.LossesInTime.{HasLossesInTime}
 use Rattle.store_in_time.specs.PointsInTime.{HasPointsInTime}
 use Rattle.store_in_time.specs.Steps.{run_trace}
+use Rattle.store_answers.specs.Unhindered.{answers_to, IsOver, MadeAllSteps}
 use Rattle.store_answers.specs.Answered.{TellsEnds, AnswersTheUnhindered}
 
 -- a transcript that a run of the script shows
@@ -33,7 +36,11 @@ pub record IsPlayed (script : Script) (t : Transcript) : Type 0 where
   pub causes : LinesAreCaused script (run_trace script shortages script.schedule) t
   -- each call that was over is told of
   pub ends : TellsEnds script (run_trace script shortages script.schedule) t
-  -- where the schedule ends with a drain, that is each call but a last one under a step limit
+  -- that is each call that has made all the steps that such a call makes at most, where memory was ample
+  pub enough :
+      (call : CallName) → ¬ Contains (answers_to call (run_trace script shortages script.schedule)) Told.Short →
+      MadeAllSteps script (run_trace script shortages script.schedule) call → IsOver script (run_trace script shortages script.schedule) call
+  -- and where the schedule ends with a drain, each call but a last one under a step limit
   pub finished : (tokens : List Token) → script.schedule ≡ tokens ++ token.Drain ∷ [] → Finished script t
   -- and a call that nothing hindered is answered
   pub answers : AnswersTheUnhindered script (run_trace script shortages script.schedule) t

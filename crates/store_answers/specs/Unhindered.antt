@@ -1,16 +1,19 @@
 -- What hinders a call, by the steps of a run: want of memory, a reap, too many servers without their chunk or away, too many changes of its object.
-use Rattle.std.specs.Prelude.{◌≡◌, ◌≢◌, ℕ, ◌<◌, ◌≤◌, ◌&&◌, nat_eq, List, length, count_by, Some, All, AllPairs, Contains}
+use Rattle.std.specs.Prelude.{◌≡◌, ◌≢◌, ℕ, ◌<◌, ◌≤◌, ◌⊎◌, ◌&&◌, nat_eq, List, length, count_by, Some, All, AllPairs, Contains}
 use Rattle.store_map.specs.Limits.{size_of, tries_of}
+use Rattle.store_map.specs.declared.call.Rebuild.{Rebuild}
 use Rattle.store_map.specs.declared.placement.Found.{Found}
+use Rattle.store_map.specs.declared.placement.Found.TheVariants as found
 use Rattle.store_map.specs.declared.placement.Placement.TheVariants as placement
 use Rattle.store_map.specs.declared.script.Script.{Script}
 use Rattle.transcript_text.specs.declared.call_name.CallName.{CallName}
+use Rattle.hist_rules.specs.Calls.{rebuild_of}
 use Rattle.store_core.specs.Act.{Act, ServerStep, Outcome}
 use Rattle.store_core.specs.Bounds.{step_bound}
 use Rattle.store_core.specs.Lookups.{same_actor}
 use Rattle.store_core.specs.NextAct.{Job}
 use Rattle.store_core.specs.Told.{Told}
-use Rattle.store_calls.specs.CauseLaws.{changes_of, IsToldAway}
+use Rattle.store_calls.specs.CauseLaws.{changes_of}
 use Rattle.store_calls.specs.ToldInSteps.{act_after}
 use Rattle.store_in_time.specs.LineCauses.{told_to, caller_of, number_of, job_of_call}
 use Rattle.store_in_time.specs.LostChunks.{AsksFor}
@@ -64,8 +67,15 @@ pub record IsUnhindered (script : Script) (trace : List Made) (call : CallName) 
 abbrev pub HasTriesLeft : Script → List Made → CallName → Type 0
 HasTriesLeft script trace call = length (changes_of (answers_to call trace)) < tries_of script
 
+-- the target of a rebuild told it that it was away, when it was asked for its chunk or when the chunk came
+abbrev pub TargetWasAway : Script → List Made → CallName → Type 0
+TargetWasAway script trace call =
+    (rebuild : Rebuild) × (rebuild_of script call ≡ Some rebuild) ×
+    Happened trace
+    (λ before made. IsOf call made × ((step : ServerStep) × (made.act ≡ Act.AtServer rebuild.server step)) × ((downs : ℕ) × ((made.answer ≡ Told.Away downs) ⊎ (made.answer ≡ Told.Missing (found.Away downs)))))
+
 -- a rebuild found its stripe, which was not superseded, and its target, which was not away
-pub record HasItsPlace (trace : List Made) (call : CallName) : Type 0 where
+pub record HasItsPlace (script : Script) (trace : List Made) (call : CallName) : Type 0 where
   pub found : ¬ Contains (answers_to call trace) Told.NoSuch
   pub current : (newer : ℕ) → ¬ Contains (answers_to call trace) (Told.Superseded newer)
-  pub target : (downs : ℕ) → ¬ IsToldAway downs (answers_to call trace)
+  pub target : ¬ TargetWasAway script trace call

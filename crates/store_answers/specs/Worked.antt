@@ -20,4 +20,4 @@ pub record IsAnswerable (row : Row) (call : CallName) : Type 0 where
 pub record IsRebuildable (row : Row) (call : CallName) : Type 0 where
   pub over : IsOver row.script (row_trace row) call
   pub free : IsUnhindered row.script (row_trace row) call
-  pub place : HasItsPlace (row_trace row) call
+  pub place : HasItsPlace row.script (row_trace row) call

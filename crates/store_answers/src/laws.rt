@@ -1,6 +1,13 @@
 //! The laws, as functions that do nothing and whose contracts are the laws.
 
+ghost use Rattle.store_answers.specs.NextSteps.{RunsStepNext};
 ghost use Rattle.store_answers.specs.PlayedLaws.{RunsTellEnds, EnoughStepsEndCalls, RunsAnswer, RunsArePlayed};
+
+/// In every run of a valid script each step of a call is the one that the call makes next after what its
+/// steps before were told.
+pub fn runs_step_next()
+    ensures { RunsStepNext }
+{}
 
 /// In every run of a valid script each call that is over by what its steps were told is told of: a
 /// client's call by a reply or a refusal, a rebuild by its result.
