@@ -3,6 +3,7 @@ mod MoreSteps
 pub mod Overs
 pub mod Acts
 mod TargetsAway
+mod ClientLines
 mod Refusals
 pub mod Plays
 mod LowServers

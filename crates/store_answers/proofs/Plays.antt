@@ -14,6 +14,7 @@ use Rattle.store_calls.specs.StepLaws.{HasTarget}
 use Rattle.store_runs.proofs.Runs.{CanRun}
 use Rattle.store_runs.proofs.Scripts.{can_run}
 use Rattle.store_history.proofs.Finishing.{runs_finish}
+use Rattle.store_history.proofs.OrderRuns.{end_known}
 use Rattle.store_in_time.specs.LineCauses.{job_of_call, LinesAreCaused}
 use Rattle.store_in_time.specs.LossesInTime.{HasLossesInTime}
 use Rattle.store_in_time.specs.Steps.{run_trace}
@@ -25,6 +26,7 @@ use Rattle.store_shows.proofs.Shows.{runs_show_histories, runs_are_legal}
 use Rattle.store_answers.specs.Answered.{IsAnswered, IsRefused, TellsEnds}
 use Rattle.store_answers.specs.PlayedLaws.{RunsAnswer, RunsArePlayed}
 use Rattle.store_answers.proofs.Overs.{job_there, runs_tell_ends, enough_steps_end_calls}
+use Rattle.store_answers.proofs.ClientLines.{clients_only}
 use Rattle.store_answers.proofs.Acts.{runs_step_next}
 use Rattle.store_answers.proofs.TargetsAway.{target_told}
 use Rattle.store_answers.proofs.Refusals.{not_refused, is_done}
@@ -63,6 +65,7 @@ runs_are_played script shortages geometry valid =
       shortages = shortages;
       shows = refl;
       history = runs_show_histories script shortages geometry valid;
+      clients = clients_only script (run_core script shortages script.schedule) (end_known script geometry valid shortages script.schedule);
       legal = runs_are_legal script shortages geometry valid;
       points = runs_have_points_in_time script shortages geometry valid script.schedule;
       losses = runs_have_losses_in_time script shortages geometry valid script.schedule;

@@ -11,6 +11,7 @@ use Rattle.store_core.specs.Told.{Told}
 use Rattle.hist_rules.specs.declared.verdict.Verdict.TheVariants.{Legal}
 use Rattle.hist_rules.specs.Finished.{Finished}
 use Rattle.hist_rules.specs.IsHistory.{IsHistory}
+use Rattle.hist_rules.specs.LineLaws.{IsOfClients}
 use Rattle.hist_rules.specs.Verdict.{verdict_of}
 use Rattle.store_in_time.specs.LineCauses.{LinesAreCaused}
 use Rattle.store_in_time.specs.LossesInTime.{HasLossesInTime}
@@ -26,6 +27,8 @@ pub record IsPlayed (script : Script) (t : Transcript) : Type 0 where
   pub shows : t ≡ shown_of script shortages
   -- one history of a plain map: each answered call stands in it once, in its caller's order, with the map's reply
   pub history : IsHistory script t
+  -- of clients' calls alone, so that a reply of the map stands beside each of its lines
+  pub clients : IsOfClients t
   -- so the checker finds no fault in it
   pub legal : verdict_of script t ≡ Legal
   -- its points are in the order in which calls were made, and what a refusal names of points came while its call ran
