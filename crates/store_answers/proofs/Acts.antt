@@ -30,7 +30,7 @@ use Rattle.store_in_time.proofs.CausedCalls.{CauseThen}
 use Rattle.store_in_time.proofs.CausedLines.{CausesSoFar, causes_kept, first_causes}
 use Rattle.store_in_time.proofs.Past.{never_empty, last_or_not}
 use Rattle.store_in_time.proofs.Traced.{KeptByMade, run_traced}
-use Rattle.store_answers.specs.Unhindered.{answers_to}
+use Rattle.store_answers.specs.Over.{answers_to}
 use Rattle.store_answers.specs.NextSteps.{told_before, StepsAreNext, RunsStepNext}
 
 -- ---- one step more

@@ -8,3 +8,4 @@ mod Refusals
 pub mod Plays
 mod LowServers
 mod WorkedCalls
+mod FirstLines

@@ -49,7 +49,7 @@ use Rattle.store_in_time.specs.Steps.{run_trace}
 use Rattle.store_in_time.specs.Trace.{Made}
 use Rattle.store_in_time.proofs.CausedCalls.{CauseThen, ToldSo}
 use Rattle.store_in_time.proofs.CausedLines.{CausesSoFar, all_causes}
-use Rattle.store_answers.specs.Unhindered.{answers_to, steps_made, IsOver, MadeAllSteps}
+use Rattle.store_answers.specs.Over.{answers_to, steps_made, IsOver, MadeAllSteps}
 use Rattle.store_answers.specs.Answered.{IsAnswered, IsRefused as WasRefused, HasResult}
 use Rattle.store_answers.specs.PlayedLaws.{RunsTellEnds, EnoughStepsEndCalls}
 use Rattle.store_answers.proofs.ListsTold.{told_in, of_mapped}

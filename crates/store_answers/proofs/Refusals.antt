@@ -34,7 +34,8 @@ use Rattle.store_in_time.specs.LineCauses.{job_of_call, WasCaused, LinesAreCause
 use Rattle.store_in_time.specs.LossesInTime.{WereMissing, NamesLosses, ResultNamesLosses, HasLossesInTime}
 use Rattle.store_in_time.specs.LostChunks.{TellsPlacement, WasLost, WasSkipped}
 use Rattle.store_in_time.specs.Trace.{Made}
-use Rattle.store_answers.specs.Unhindered.{answers_to, LacksChunk, SkipsChunk, IsUnhindered, HasTriesLeft, TargetWasAway, HasItsPlace}
+use Rattle.store_answers.specs.Over.{answers_to}
+use Rattle.store_answers.specs.Unhindered.{LacksChunk, SkipsChunk, IsUnhindered, HasTriesLeft, TargetWasAway, HasItsPlace}
 use Rattle.store_answers.specs.Answered.{IsRefused, HasResult, IsDone}
 use Rattle.store_answers.proofs.ListsTold.{told_in}
 

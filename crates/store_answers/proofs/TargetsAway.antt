@@ -32,7 +32,8 @@ use Rattle.store_sound.proofs.Passes.{same_is}
 use Rattle.store_in_time.specs.LineCauses.{told_by, told_if, told_to, job_of_call}
 use Rattle.store_in_time.specs.Moments.{IsOf}
 use Rattle.store_in_time.specs.Trace.{Made}
-use Rattle.store_answers.specs.Unhindered.{answers_to, TargetWasAway}
+use Rattle.store_answers.specs.Over.{answers_to}
+use Rattle.store_answers.specs.Unhindered.{TargetWasAway}
 use Rattle.store_answers.specs.NextSteps.{told_before, StepsAreNext}
 
 -- ---- tests and lists

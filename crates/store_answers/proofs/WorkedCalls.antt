@@ -7,7 +7,8 @@ use Rattle.transcript_text.specs.declared.call_name.CallName.{CallName}
 use Rattle.store_core.specs.Told.{Told}
 use Rattle.store_rows.specs.Rows.{Row}
 use Rattle.store_in_time.specs.Trace.{Made}
-use Rattle.store_answers.specs.Unhindered.{answers_to, IsUnhindered, HasItsPlace}
+use Rattle.store_answers.specs.Over.{answers_to}
+use Rattle.store_answers.specs.Unhindered.{IsUnhindered, HasItsPlace}
 use Rattle.store_answers.specs.Worked.{row_trace}
 use Rattle.store_answers.proofs.LowServers.{are_low, few_lack, few_skip, of_all, not_told}
 

@@ -11,7 +11,8 @@ use Rattle.transcript_text.specs.declared.shown.Shown.TheVariants as shown
 use Rattle.transcript_text.specs.declared.transcript.Transcript.{Transcript}
 use Rattle.hist_rules.specs.Named.{answered_calls}
 use Rattle.store_in_time.specs.Trace.{Made}
-use Rattle.store_answers.specs.Unhindered.{IsOver, IsUnhindered, HasTriesLeft, HasItsPlace}
+use Rattle.store_answers.specs.Over.{IsOver}
+use Rattle.store_answers.specs.Unhindered.{IsUnhindered, HasTriesLeft, HasItsPlace}
 
 -- the history has the call with a reply
 abbrev pub IsAnswered : Transcript → CallName → Type 0

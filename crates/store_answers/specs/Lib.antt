@@ -1,6 +1,9 @@
+pub mod Over
 pub mod Unhindered
 pub mod NextSteps
 pub mod Answered
 pub mod Played
 pub mod PlayedLaws
 pub mod Worked
+pub mod Facts
+pub mod Hindered

@@ -14,7 +14,7 @@ use Rattle.store_in_time.specs.LineCauses.{job_of_call}
 use Rattle.store_in_time.specs.Moments.{IsOf}
 use Rattle.store_in_time.specs.Steps.{run_trace}
 use Rattle.store_in_time.specs.Trace.{Made}
-use Rattle.store_answers.specs.Unhindered.{answers_to}
+use Rattle.store_answers.specs.Over.{answers_to}
 
 -- want of memory in the coding before a step is told before it
 abbrev pub told_before : Bool → List Told

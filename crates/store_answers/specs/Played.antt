@@ -17,7 +17,7 @@ use Rattle.store_in_time.specs.LineCauses.{LinesAreCaused}
 use Rattle.store_in_time.specs.LossesInTime.{HasLossesInTime}
 use Rattle.store_in_time.specs.PointsInTime.{HasPointsInTime}
 use Rattle.store_in_time.specs.Steps.{run_trace}
-use Rattle.store_answers.specs.Unhindered.{answers_to, IsOver, MadeAllSteps}
+use Rattle.store_answers.specs.Over.{answers_to, IsOver, MadeAllSteps}
 use Rattle.store_answers.specs.Answered.{TellsEnds, AnswersTheUnhindered}
 
 -- a transcript that a run of the script shows

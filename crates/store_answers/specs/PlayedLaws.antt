@@ -10,7 +10,7 @@ use Rattle.store_core.specs.Shown.{shown, shown_of}
 use Rattle.store_core.specs.Step.{Shortage}
 use Rattle.store_core.specs.Told.{Told}
 use Rattle.store_in_time.specs.Steps.{run_trace}
-use Rattle.store_answers.specs.Unhindered.{answers_to, IsOver, MadeAllSteps}
+use Rattle.store_answers.specs.Over.{answers_to, IsOver, MadeAllSteps}
 use Rattle.store_answers.specs.Answered.{TellsEnds, AnswersTheUnhindered}
 use Rattle.store_answers.specs.Played.{IsPlayed}
 

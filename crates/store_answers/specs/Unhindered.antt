@@ -1,6 +1,6 @@
 -- What hinders a call, by the steps of a run: want of memory, a reap, too many servers without their chunk or away, too many changes of its object.
-use Rattle.std.specs.Prelude.{◌≡◌, ◌≢◌, ℕ, ◌<◌, ◌≤◌, ◌⊎◌, ◌&&◌, nat_eq, List, length, count_by, Some, All, AllPairs, Contains}
-use Rattle.store_map.specs.Limits.{size_of, tries_of}
+use Rattle.std.specs.Prelude.{◌≡◌, ◌≢◌, ℕ, ◌<◌, ◌≤◌, ◌⊎◌, List, length, Some, All, AllPairs, Contains}
+use Rattle.store_map.specs.Limits.{tries_of}
 use Rattle.store_map.specs.declared.call.Rebuild.{Rebuild}
 use Rattle.store_map.specs.declared.placement.Found.{Found}
 use Rattle.store_map.specs.declared.placement.Found.TheVariants as found
@@ -8,35 +8,13 @@ use Rattle.store_map.specs.declared.placement.Placement.TheVariants as placement
 use Rattle.store_map.specs.declared.script.Script.{Script}
 use Rattle.transcript_text.specs.declared.call_name.CallName.{CallName}
 use Rattle.hist_rules.specs.Calls.{rebuild_of}
-use Rattle.store_core.specs.Act.{Act, ServerStep, Outcome}
-use Rattle.store_core.specs.Bounds.{step_bound}
-use Rattle.store_core.specs.Lookups.{same_actor}
-use Rattle.store_core.specs.NextAct.{Job}
+use Rattle.store_core.specs.Act.{Act, ServerStep}
 use Rattle.store_core.specs.Told.{Told}
 use Rattle.store_calls.specs.CauseLaws.{changes_of}
-use Rattle.store_calls.specs.ToldInSteps.{act_after}
-use Rattle.store_in_time.specs.LineCauses.{told_to, caller_of, number_of, job_of_call}
 use Rattle.store_in_time.specs.LostChunks.{AsksFor}
 use Rattle.store_in_time.specs.Moments.{Happened, IsOf}
 use Rattle.store_in_time.specs.Trace.{Made}
-
--- all that the steps of a run told a call, in order
-abbrev pub answers_to : CallName → List Made → List Told
-answers_to call trace = told_to (caller_of call) (number_of call) trace
-
--- after them the call has no step left
-abbrev pub IsOver : Script → List Made → CallName → Type 0
-IsOver script trace call =
-    (job : Job) × (job_of_call script call ≡ Some job) × ((outcome : Outcome) × (act_after script.geometry (tries_of script) job (answers_to call trace) ≡ Act.Finish outcome))
-
--- how many steps the call made
-abbrev pub steps_made : CallName → List Made → ℕ
-steps_made call trace = count_by (λ (made : Made). same_actor (caller_of call) made.who && nat_eq (number_of call) made.number) trace
-
--- it made as many as such a call makes at most
-abbrev pub MadeAllSteps : Script → List Made → CallName → Type 0
-MadeAllSteps script trace call =
-    (job : Job) × (job_of_call script call ≡ Some job) × (step_bound script.geometry (size_of script) (tries_of script) job.note ≤ steps_made call trace)
+use Rattle.store_answers.specs.Over.{answers_to}
 
 -- the call asked a server for a chunk of a version, and was told that it had none to give
 abbrev pub LacksChunk : List Made → CallName → ℕ → ℕ → Type 0

@@ -4,7 +4,8 @@ use Rattle.transcript_text.specs.declared.call_name.CallName.{CallName}
 use Rattle.store_rows.specs.Rows.{Row}
 use Rattle.store_in_time.specs.Steps.{run_trace}
 use Rattle.store_in_time.specs.Trace.{Made}
-use Rattle.store_answers.specs.Unhindered.{IsOver, IsUnhindered, HasTriesLeft, HasItsPlace}
+use Rattle.store_answers.specs.Over.{IsOver}
+use Rattle.store_answers.specs.Unhindered.{IsUnhindered, HasTriesLeft, HasItsPlace}
 
 -- the trace of a row's run
 abbrev pub row_trace : Row → List Made

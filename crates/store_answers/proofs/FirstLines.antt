@@ -1,0 +1,31 @@
+-- A call is told of by the first line of its kind.
+use Rattle.std.proofs.Common.{◌≡◌, List, [], ◌∷◌, Some}
+use Rattle.std.specs.List.{slice_get}
+use Rattle.transcript_text.specs.declared.call_name.CallName.{CallName}
+use Rattle.transcript_text.specs.declared.cause.Cause.{Cause}
+use Rattle.transcript_text.specs.declared.cause.Cause.TheVariants as cause
+use Rattle.transcript_text.specs.declared.cause.RepairResult.{RepairResult}
+use Rattle.transcript_text.specs.declared.cause.RepairResult.TheVariants as result
+use Rattle.transcript_text.specs.declared.line.XLine.{XLine}
+use Rattle.transcript_text.specs.declared.line.RLine.{RLine}
+use Rattle.transcript_text.specs.declared.transcript.Transcript.{Transcript}
+use Rattle.store_sound.proofs.SoundLists.{contains_at}
+use Rattle.store_answers.specs.Answered.{IsRefused, IsDone}
+use Rattle.store_answers.specs.Hindered.{IsLeft, IsUnmade}
+
+abbrev pub first_cause : List XLine → Cause
+first_cause [] = cause.NoMemory
+first_cause (line ∷ lines) = line.cause
+
+pub refused_first : (t : Transcript) (call : CallName) → slice_get t.refused 0 ≡ Some (record { call = call; cause = first_cause t.refused }) → IsRefused t call
+refused_first t call first = (first_cause t.refused, contains_at t.refused 0 (record { call = call; cause = first_cause t.refused }) first)
+
+pub left_first : (t : Transcript) (call : CallName) → slice_get t.unanswered 0 ≡ Some (record { call = call }) → IsLeft t call
+left_first t call first = contains_at t.unanswered 0 (record { call = call }) first
+
+abbrev pub first_result : List RLine → RepairResult
+first_result [] = result.NoMemory
+first_result (line ∷ lines) = line.result
+
+pub result_first : (t : Transcript) (call : CallName) → slice_get t.repairs 0 ≡ Some (record { call = call; result = first_result t.repairs }) → (IsDone (first_result t.repairs) → ⊥) → IsUnmade t call
+result_first t call first undone = (first_result t.repairs, undone, contains_at t.repairs 0 (record { call = call; result = first_result t.repairs }) first)
