@@ -4,6 +4,7 @@ pub mod Overs
 pub mod Acts
 mod TargetsAway
 mod ClientLines
+mod NeverPrepares
 mod Refusals
 pub mod Plays
 mod LowServers

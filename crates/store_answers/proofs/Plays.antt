@@ -1,5 +1,6 @@
 -- Calls that nothing hindered are answered, and what a run shows as a whole.
-use Rattle.std.proofs.Common.{◌≡◌, ◌⊎◌, inl, inr, List, Some, refl, sym, subst}
+use Rattle.std.proofs.Common.{◌≡◌, ◌⊎◌, inl, inr, ℕ, List, [], ◌∷◌, Some, refl, sym, subst, arith}
+use Rattle.std.proofs.lemmas.List.Elements.{All-head}
 use Rattle.std.specs.List.{slice_get}
 use Rattle.store_map.specs.declared.script.Script.{Script}
 use Rattle.transcript_text.specs.declared.call_name.CallName.{CallName}
@@ -24,11 +25,13 @@ use Rattle.store_in_time.proofs.LossLines.{runs_have_losses_in_time}
 use Rattle.store_in_time.proofs.PointLines.{runs_have_points_in_time}
 use Rattle.store_shows.proofs.Shows.{runs_show_histories, runs_are_legal}
 use Rattle.store_answers.specs.Answered.{IsAnswered, IsRefused, TellsEnds}
+use Rattle.store_answers.specs.Unhindered.{SkipsChunk, AtMost}
 use Rattle.store_answers.specs.PlayedLaws.{RunsAnswer, RunsArePlayed}
 use Rattle.store_answers.proofs.Overs.{job_there, runs_tell_ends, enough_steps_end_calls}
 use Rattle.store_answers.proofs.ClientLines.{clients_only}
 use Rattle.store_answers.proofs.Acts.{runs_step_next}
 use Rattle.store_answers.proofs.TargetsAway.{target_told}
+use Rattle.store_answers.proofs.NeverPrepares.{never_skips}
 use Rattle.store_answers.proofs.Refusals.{not_refused, is_done}
 
 answered : (t : Transcript) (call : CallName) → (IsRefused t call → ⊥) → IsAnswered t call ⊎ IsRefused t call → IsAnswered t call × (IsRefused t call → ⊥)
@@ -44,6 +47,11 @@ targets script can (name.Repairer i number) job is =
     let there : (work : Work) × (slice_get (repairer_work script) i ≡ Some work) × (slice_get work.jobs number ≡ Some job) = job_there (repairer_work script) i number job is in
     can.repairers.targets i there.0 there.1 number job there.2
 
+-- what holds of no server holds of few
+none_at_all : (most : ℕ) (Is : ℕ → Type 0) → ((server : ℕ) → Is server → ⊥) → AtMost most Is
+none_at_all most Is never [] differ all = omega arith
+none_at_all most Is never (server ∷ servers) differ all = absurd (never server (All-head Is server servers all))
+
 pub runs_answer : RunsAnswer
 runs_answer script shortages geometry valid tokens =
     let t : Transcript = shown script (run_core script shortages tokens) in
@@ -56,7 +64,8 @@ runs_answer script shortages geometry valid tokens =
           answered t (name.Client i number) (not_refused script trace t (targets script (can_run script geometry valid)) losses causes (name.Client i number) free tries) (ends.clients i number over);
       repairers = λ i number over free place.
           is_done script trace t (targets script (can_run script geometry valid)) losses causes (name.Repairer i number) free place
-          (target_told script trace (runs_step_next script shortages geometry valid tokens) i number) (ends.repairers i number over);
+          (target_told script trace (runs_step_next script shortages geometry valid tokens) i number)
+          (λ job is version. none_at_all script.geometry.parity_count (SkipsChunk trace (name.Repairer i number) version) (never_skips script trace (runs_step_next script shortages geometry valid tokens) i number job is (targets script (can_run script geometry valid) (name.Repairer i number) job is) version)) (ends.repairers i number over);
     }
 
 pub runs_are_played : RunsArePlayed

@@ -35,7 +35,7 @@ use Rattle.store_in_time.specs.LossesInTime.{WereMissing, NamesLosses, ResultNam
 use Rattle.store_in_time.specs.LostChunks.{TellsPlacement, WasLost, WasSkipped}
 use Rattle.store_in_time.specs.Trace.{Made}
 use Rattle.store_answers.specs.Over.{answers_to}
-use Rattle.store_answers.specs.Unhindered.{LacksChunk, SkipsChunk, IsUnhindered, HasTriesLeft, TargetWasAway, HasItsPlace}
+use Rattle.store_answers.specs.Unhindered.{LacksChunk, SkipsChunk, IsUnhindered, CouldWrite, AtMost, TargetWasAway, HasItsPlace}
 use Rattle.store_answers.specs.Answered.{IsRefused, HasResult, IsDone}
 use Rattle.store_answers.proofs.ListsTold.{told_in}
 
@@ -92,8 +92,8 @@ module _ (script : Script) (trace : List Made) (call : CallName) (free : IsUnhin
       let asked : (h.3.is.1.0 ≡ ServerStep.Prepare version) × (h.3.made.answer ≡ Told.Prepared (placement.Skipped h.0)) = skip_told version h.3.is.1.0 h.3.made.answer h.0 h.3.is.1.2 in
       record { before = h.3.before; made = h.3.made; after = h.3.after; split = h.3.split; is = (h.3.is.0, h.3.is.1.1 ∙ ap (Act.AtServer lost.server) asked.0, (h.0, asked.1)) }
 
-  too_many : (stripe : ℕ) (missing : List Lost) → length missing ≡ script.geometry.parity_count + 1 → AllPairs Differ missing → WereMissing trace call stripe (map triple_of missing) → ⊥
-  too_many stripe missing count differ were =
+  too_many : ((version : ℕ) → AtMost script.geometry.parity_count (SkipsChunk trace call version)) → (stripe : ℕ) (missing : List Lost) → length missing ≡ script.geometry.parity_count + 1 → AllPairs Differ missing → WereMissing trace call stripe (map triple_of missing) → ⊥
+  too_many prepared stripe missing count differ were =
       by were
     where
       more : length (map (λ (lost : Triple). lost.server) (map triple_of missing)) ≤ script.geometry.parity_count → ⊥
@@ -108,7 +108,7 @@ module _ (script : Script) (trace : List Made) (call : CallName) (free : IsUnhin
           (All-map (LacksChunk trace call lost.0.version) (λ (l : Triple). l.server) (map triple_of missing)
           (All-weaker (WasLost trace call lost.0) (λ (l : Triple). LacksChunk trace call lost.0.version l.server) (lacks lost.0) (map triple_of missing) lost.2)))
       by (inr skipped) =
-          more (free.prepared skipped.0 (map (λ (l : Triple). l.server) (map triple_of missing)) (servers_differ missing differ)
+          more (prepared skipped.0 (map (λ (l : Triple). l.server) (map triple_of missing)) (servers_differ missing differ)
           (All-map (SkipsChunk trace call skipped.0) (λ (l : Triple). l.server) (map triple_of missing)
           (All-weaker (WasSkipped trace call skipped.0) (λ (l : Triple). SkipsChunk trace call skipped.0 l.server) (skips skipped.0) (map triple_of missing) skipped.1)))
 
@@ -117,14 +117,14 @@ module _ (script : Script) (trace : List Made) (t : Transcript) (targets : (call
     (causes : LinesAreCaused script trace t) where
   module _ (call : CallName) (free : IsUnhindered script trace call) where
     -- the servers of a loss that the call was told of are named by no line
-    told_of_loss : (job : Job) → job_of_call script call ≡ Some job → (stripe : ℕ) (missing : List Lost) → HasCauseInSteps script.geometry (tries_of script) job (Outcome.Unavailable stripe missing) (answers_to call trace)
+    told_of_loss : ((version : ℕ) → AtMost script.geometry.parity_count (SkipsChunk trace call version)) → (job : Job) → job_of_call script call ≡ Some job → (stripe : ℕ) (missing : List Lost) → HasCauseInSteps script.geometry (tries_of script) job (Outcome.Unavailable stripe missing) (answers_to call trace)
         → WereMissing trace call stripe (map triple_of missing) → ⊥
-    told_of_loss job is stripe missing h were =
-        too_many script trace call free stripe missing h.0.0 (losses_differ script.geometry job (targets call job is) h.1.looked stripe missing h.1.told h.1.lost) were
+    told_of_loss prepared job is stripe missing h were =
+        too_many script trace call free prepared stripe missing h.0.0 (losses_differ script.geometry job (targets call job is) h.1.looked stripe missing h.1.told h.1.lost) were
 
     -- a client's call
-    pub not_refused : HasTriesLeft script trace call → IsRefused t call → ⊥
-    not_refused tries refused = by caused.outcome caused.shows caused.caused
+    pub not_refused : CouldWrite script trace call → IsRefused t call → ⊥
+    not_refused writes refused = by caused.outcome caused.shows caused.caused
       where
         line : XLine
         line = record { call = call; cause = refused.0 }
@@ -139,9 +139,9 @@ module _ (script : Script) (trace : List Made) (t : Transcript) (targets : (call
         by (Outcome.Unavailable stripe missing) shows h =
             let there : Contains t.refused (record { call = call; cause = cause.Unavailable stripe (map triple_of missing) }) =
             subst (λ c. Contains t.refused (record { call = call; cause = c })) (sym (same_Some (cause.Unavailable stripe (map triple_of missing)) refused.0 shows)) refused.1 in
-            told_of_loss caused.job caused.is_call stripe missing h
+            told_of_loss writes.prepared caused.job caused.is_call stripe missing h
             (All-contains (λ (l : XLine). NamesLosses trace l.call l.cause) t.refused (record { call = call; cause = cause.Unavailable stripe (map triple_of missing) }) losses.refused there)
-        by (Outcome.Contended pairs) shows h = too_few pairs (changes_of (answers_to call trace)) h.0 h.1 tries
+        by (Outcome.Contended pairs) shows h = too_few pairs (changes_of (answers_to call trace)) h.0 h.1 writes.tries
         by (Outcome.Reaped point) shows h = free.kept point (told_in (answers_to call trace) (Told.Reaped point) h)
         by Outcome.NoMemory shows h = free.memory (told_in (answers_to call trace) Told.Short h)
         by outcome shows h = none-some refused.0 shows
@@ -149,8 +149,8 @@ module _ (script : Script) (trace : List Made) (t : Transcript) (targets : (call
     -- a rebuild
     pub is_done : HasItsPlace script trace call
         → ((job : Job) → job_of_call script call ≡ Some job → AreTold script.geometry (size_of script) (tries_of script) job (answers_to call trace) → (downs : ℕ) → IsToldAway downs (answers_to call trace) → TargetWasAway script trace call)
-        → HasResult (λ what. ⊤) t call → HasResult IsDone t call
-    is_done place told has = (has.0, by caused.outcome caused.shows caused.caused, has.2)
+        → ((job : Job) → job_of_call script call ≡ Some job → (version : ℕ) → AtMost script.geometry.parity_count (SkipsChunk trace call version)) → HasResult (λ what. ⊤) t call → HasResult IsDone t call
+    is_done place told prepared has = (has.0, by caused.outcome caused.shows caused.caused, has.2)
       where
         caused : WasCaused script trace call (λ outcome. result_of outcome ≡ Some has.0)
         caused = All-contains (λ (l : RLine). WasCaused script trace l.call (λ outcome. result_of outcome ≡ Some l.result)) t.repairs (record { call = call; result = has.0 }) causes.repairs has.2
@@ -164,7 +164,7 @@ module _ (script : Script) (trace : List Made) (t : Transcript) (targets : (call
         by (Outcome.Unavailable stripe missing) shows h =
             let there : Contains t.repairs (record { call = call; result = result.Unavailable stripe (map triple_of missing) }) =
             subst (λ r. Contains t.repairs (record { call = call; result = r })) (sym (same_Some (result.Unavailable stripe (map triple_of missing)) has.0 shows)) has.2 in
-            absurd (told_of_loss caused.job caused.is_call stripe missing h
+            absurd (told_of_loss (prepared caused.job caused.is_call) caused.job caused.is_call stripe missing h
             (All-contains (λ (l : RLine). ResultNamesLosses trace l.call l.result) t.repairs (record { call = call; result = result.Unavailable stripe (map triple_of missing) }) losses.repairs there))
         by (Outcome.Reaped point) shows h = absurd (free.kept point (told_in (answers_to call trace) (Told.Reaped point) h))
         by Outcome.NoMemory shows h = absurd (free.memory (told_in (answers_to call trace) Told.Short h))

@@ -168,7 +168,7 @@ first_two downs (Told.PinnedStripe seen ∷ answer ∷ told) h = absurd h
 first_two downs (answer ∷ told) h = absurd h
 
 -- the rebuild of a job
-rebuild_is : (script : Script) (i number : ℕ) (job : Job) → job_of_call script (name.Repairer i number) ≡ Some job → (rebuild : Rebuild) × (rebuild_of script (name.Repairer i number) ≡ Some rebuild) × (rebuild_job rebuild ≡ job)
+pub rebuild_is : (script : Script) (i number : ℕ) (job : Job) → job_of_call script (name.Repairer i number) ≡ Some job → (rebuild : Rebuild) × (rebuild_of script (name.Repairer i number) ≡ Some rebuild) × (rebuild_job rebuild ≡ job)
 rebuild_is script i number job e = by (slice_get script.repairers i) refl (sym (ap (option_and_then (λ (w : Work). slice_get w.jobs number)) (slice_get-map work_of script.repairers i)) ∙ e)
   where
     work_of : RepairPart → Work

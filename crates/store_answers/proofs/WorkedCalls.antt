@@ -1,14 +1,16 @@
 -- Worked calls are over and unhindered, computed.
-use Rattle.std.proofs.Common.{◌≡◌, ◌⊎◌, inl, inr, ℕ, Bool, true, false, refl, sym, ap, ◌∙◌, true≢false}
+use Rattle.std.proofs.Common.{◌≡◌, length, ◌⊎◌, inl, inr, ℕ, ◌<◌, Bool, true, false, refl, sym, ap, ◌∙◌, true≢false}
 use Rattle.std.specs.List.{list_all}
+use Rattle.store_map.specs.Limits.{tries_of}
 use Rattle.store_map.specs.declared.placement.Found.{Found}
 use Rattle.store_map.specs.declared.placement.Found.TheVariants as found
 use Rattle.transcript_text.specs.declared.call_name.CallName.{CallName}
 use Rattle.store_core.specs.Told.{Told}
+use Rattle.store_calls.specs.CauseLaws.{changes_of}
 use Rattle.store_rows.specs.Rows.{Row}
 use Rattle.store_in_time.specs.Trace.{Made}
 use Rattle.store_answers.specs.Over.{answers_to}
-use Rattle.store_answers.specs.Unhindered.{IsUnhindered, HasItsPlace}
+use Rattle.store_answers.specs.Unhindered.{IsUnhindered, CouldWrite, HasItsPlace}
 use Rattle.store_answers.specs.Worked.{row_trace}
 use Rattle.store_answers.proofs.LowServers.{are_low, few_lack, few_skip, of_all, not_told}
 
@@ -24,8 +26,10 @@ unhindered row call low kept =
       memory = not_told is_kept (answers_to call (row_trace row)) kept Told.Short refl;
       kept = λ point. not_told is_kept (answers_to call (row_trace row)) kept (Told.Reaped point) refl;
       gathered = few_lack row.script.geometry.parity_count (row_trace row) low call;
-      prepared = few_skip row.script.geometry.parity_count (row_trace row) low call;
     }
+
+pub could_write : (row : Row) (call : CallName) → are_low row.script.geometry.parity_count (row_trace row) ≡ true → length (changes_of (answers_to call (row_trace row))) < tries_of row.script → CouldWrite row.script (row_trace row) call
+could_write row call low tries = record { prepared = few_skip row.script.geometry.parity_count (row_trace row) low call; tries = tries }
 
 -- ---- a rebuild
 -- its stripe is there, and current

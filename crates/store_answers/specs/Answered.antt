@@ -12,7 +12,7 @@ use Rattle.transcript_text.specs.declared.transcript.Transcript.{Transcript}
 use Rattle.hist_rules.specs.Named.{answered_calls}
 use Rattle.store_in_time.specs.Trace.{Made}
 use Rattle.store_answers.specs.Over.{IsOver}
-use Rattle.store_answers.specs.Unhindered.{IsUnhindered, HasTriesLeft, HasItsPlace}
+use Rattle.store_answers.specs.Unhindered.{IsUnhindered, CouldWrite, HasItsPlace}
 
 -- the history has the call with a reply
 abbrev pub IsAnswered : Transcript → CallName → Type 0
@@ -26,7 +26,7 @@ IsRefused t call = (cause : Cause) × Contains t.refused (record { call = call; 
 abbrev pub HasResult : (RepairResult → Type 0) → Transcript → CallName → Type 0
 HasResult Is t call = (result : RepairResult) × Is result × Contains t.repairs (record { call = call; result = result })
 
--- the target has its chunk
+-- the rebuild ended with its chunk at its target
 abbrev pub IsDone : RepairResult → Type 0
 IsDone result.Rebuilt = ⊤
 IsDone result.Here = ⊤
@@ -39,10 +39,10 @@ pub record TellsEnds (script : Script) (trace : List Made) (t : Transcript) : Ty
   -- and no other
   pub only : All (IsOver script trace) (answered_calls t)
 
--- a call that is over and that nothing hindered is answered: a client's has a reply and no refusal, and a rebuild has left its target with its chunk
+-- a call that is over and that nothing hindered is answered: a client's has a reply and no refusal, and a rebuild ended with its chunk at its target
 pub record AnswersTheUnhindered (script : Script) (trace : List Made) (t : Transcript) : Type 0 where
   pub clients :
-      (i number : ℕ) → IsOver script trace (name.Client i number) → IsUnhindered script trace (name.Client i number) → HasTriesLeft script trace (name.Client i number) →
+      (i number : ℕ) → IsOver script trace (name.Client i number) → IsUnhindered script trace (name.Client i number) → CouldWrite script trace (name.Client i number) →
       IsAnswered t (name.Client i number) × ¬ IsRefused t (name.Client i number)
   pub repairers :
       (i number : ℕ) → IsOver script trace (name.Repairer i number) → IsUnhindered script trace (name.Repairer i number) → HasItsPlace script trace (name.Repairer i number) →

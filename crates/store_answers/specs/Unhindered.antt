@@ -1,4 +1,4 @@
--- What hinders a call, by the steps of a run: want of memory, a reap, too many servers without their chunk or away, too many changes of its object.
+-- What hinders a call, by the steps of a run: want of memory, a reap, too many servers without their chunk or away, too many changes of its object; a rebuild also that its stripe isn't there or not current, or its target away.
 use Rattle.std.specs.Prelude.{◌≡◌, ◌≢◌, ℕ, ◌<◌, ◌≤◌, ◌⊎◌, List, length, Some, All, AllPairs, Contains}
 use Rattle.store_map.specs.Limits.{tries_of}
 use Rattle.store_map.specs.declared.call.Rebuild.{Rebuild}
@@ -30,7 +30,7 @@ SkipsChunk trace call version server =
 abbrev pub AtMost : ℕ → (ℕ → Type 0) → Type 0
 AtMost most Is = (servers : List ℕ) → AllPairs (λ one other. one ≢ other) servers → All Is servers → length servers ≤ most
 
--- nothing hindered a call, a client's or a rebuild
+-- a call met nothing that can hinder clients' calls and rebuilds alike
 pub record IsUnhindered (script : Script) (trace : List Made) (call : CallName) : Type 0 where
   -- memory was wanting in none of its steps, nor in the coding before one
   pub memory : ¬ Contains (answers_to call trace) Told.Short
@@ -38,12 +38,13 @@ pub record IsUnhindered (script : Script) (trace : List Made) (call : CallName) 
   pub kept : (point : ℕ) → ¬ Contains (answers_to call trace) (Told.Reaped point)
   -- of each version that it gathered no more servers lacked their chunk than there are parity chunks
   pub gathered : (version : ℕ) → AtMost script.geometry.parity_count (LacksChunk trace call version)
-  -- and of each version that it prepared no more were away
-  pub prepared : (version : ℕ) → AtMost script.geometry.parity_count (SkipsChunk trace call version)
 
--- a client's call was told of a change of its object fewer times than a write has tries
-abbrev pub HasTriesLeft : Script → List Made → CallName → Type 0
-HasTriesLeft script trace call = length (changes_of (answers_to call trace)) < tries_of script
+-- nor anything that can hinder puts and writes alone
+pub record CouldWrite (script : Script) (trace : List Made) (call : CallName) : Type 0 where
+  -- of each version that the call prepared no more servers were away than there are parity chunks
+  pub prepared : (version : ℕ) → AtMost script.geometry.parity_count (SkipsChunk trace call version)
+  -- it was told of a change of its object fewer times than a write has tries
+  pub tries : length (changes_of (answers_to call trace)) < tries_of script
 
 -- the target of a rebuild told it that it was away, when it was asked for its chunk or when the chunk came
 abbrev pub TargetWasAway : Script → List Made → CallName → Type 0
@@ -52,7 +53,7 @@ TargetWasAway script trace call =
     Happened trace
     (λ before made. IsOf call made × ((step : ServerStep) × (made.act ≡ Act.AtServer rebuild.server step)) × ((downs : ℕ) × ((made.answer ≡ Told.Away downs) ⊎ (made.answer ≡ Told.Missing (found.Away downs)))))
 
--- a rebuild found its stripe, which was not superseded, and its target, which was not away
+-- nor anything that can hinder rebuilds alone: it found its stripe, which was not superseded, and its target, which was not away
 pub record HasItsPlace (script : Script) (trace : List Made) (call : CallName) : Type 0 where
   pub found : ¬ Contains (answers_to call trace) Told.NoSuch
   pub current : (newer : ℕ) → ¬ Contains (answers_to call trace) (Told.Superseded newer)

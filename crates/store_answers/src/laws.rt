@@ -9,8 +9,8 @@ pub fn runs_step_next()
     ensures { RunsStepNext }
 {}
 
-/// In every run of a valid script each call that is over by what its steps were told is told of: a
-/// client's call by a reply or a refusal, a rebuild by its result.
+/// In every run of a valid script each call that is over by what its steps were told is told of, a client's
+/// by a reply or a refusal, a rebuild by its result; and no other call is.
 pub fn runs_tell_ends()
     ensures { RunsTellEnds }
 {}
@@ -20,17 +20,18 @@ pub fn enough_steps_end_calls()
     ensures { EnoughStepsEndCalls }
 {}
 
-/// A call of a client that is over has a reply, and no refusal, if memory was wanting in none of its steps, nobody
-/// gave it up, no more servers than there are parity chunks lacked their chunk of a version that it
-/// gathered or were away when it had one for them, and its object changed under it fewer times than it has
-/// tries. Such a rebuild has left its target with its chunk, if its stripe was there and stayed current
-/// and its target was not away.
+/// A client's call that is over has a reply, and no refusal, where memory was wanting in none of its steps,
+/// it was not given up, of each version no more servers than there are parity chunks lacked their chunk when
+/// it asked or were away when it had one for them, and it was told of a change of its object fewer times
+/// than a write has tries. A rebuild that is over ended with its chunk at its target, where memory was
+/// wanting in none of its steps, it was not given up, no more servers lacked their chunk, its stripe was
+/// there and current, and its target was not away.
 pub fn runs_answer_unhindered_calls()
     ensures { RunsAnswer }
 {}
 
 /// What a run of a valid script shows is one history of a plain map, legal, in time, with a cause for each
-/// refusal and an answer for each call that nothing hindered.
+/// refusal, an end for each call that is over, and an answer for each of these that nothing hindered.
 pub fn runs_are_played()
     ensures { RunsArePlayed }
 {}
