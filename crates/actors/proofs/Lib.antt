@@ -1,0 +1,9 @@
+pub mod Turning
+pub mod Leading
+pub mod Concluding
+pub mod Serving
+pub mod Clients
+pub mod Owing
+pub mod Keeping
+pub mod Repairs
+pub mod Ending

@@ -1,0 +1,15 @@
+use Rattle.actors.proofs.Clients.{client_after}
+use Rattle.actors.proofs.Serving.{served_after}
+use Rattle.call_steps.specs.CallOf.{act_of}
+use Rattle.client_call.specs.Kinds.{machine_of}
+use Rattle.actors.proofs.client_actor.over.Goals as goal
+
+pub returns-clause-actor : goal.returns-clause-actor
+returns-clause-actor c a is =
+    client_after c.args.call.call a c.args.ended.now.items c.push_reserved.new.self.items (record { outcome = c.finish-seat.result.1; takes = c.finish-seat.result.2 }) c.finish-seat.result.0 _
+    c.finish-seat.ensures.outcome c.finish-seat.ensures.takes c.requires.servers c.push_reserved.ensures.items c.finish-seat.ensures.seat is
+
+pub returns-clause-served : goal.returns-clause-served
+returns-clause-served c =
+    served_after (act_of c.args.call.call) (record { outcome = c.finish-seat.result.1; takes = c.finish-seat.result.2 }) (machine_of c.args.call.written) c.args.call.owed
+    c.args.ended.now.items c.push_reserved.new.self.items c.finish-seat.ensures.outcome c.push_reserved.ensures.items c.finish-seat.ensures.served

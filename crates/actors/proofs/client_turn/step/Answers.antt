@@ -1,0 +1,27 @@
+use Rattle.std.proofs.Common.{◌≡◌, ℕ, ◌<◌, slice_get, Some, sym, subst, ◌∙◌}
+use Rattle.clay_grid.specs.Shape.{chunk_count}
+use Rattle.actors.proofs.Turning.{others, got, served_at}
+use Rattle.actors.proofs.Owing.{owed_at_server, stamps_at_server}
+use Rattle.actors.proofs.client_turn.step.Goals as goal
+
+pub returns-in-Server-clause-made : goal.returns-in-Server-clause-made
+returns-in-Server-clause-made c =
+    let below : c.in-Server.server < chunk_count c.args.call.now.call.book.geometry = c.in-Server.ensures.below in
+    served_at c.args.call.now.call c.on_server.new.self.call c.on_server.new.self.call.step c.on_server.new.self.call.due c.args.directory.now.core c.args.servers.now.items c.in-Server.server
+    c.index_mut.result.now c.on_server.new.s c.in-Server.ensures.need (subst (λ (n : ℕ). c.in-Server.server < n) (sym c.requires.servers.count) below) c.index_mut.ensures.value c.on_server.ensures.step
+
+pub returns-in-Server-clause-servers : goal.returns-in-Server-clause-servers
+returns-in-Server-clause-servers c =
+    let below : c.in-Server.server < chunk_count c.args.call.now.call.book.geometry = c.in-Server.ensures.below in
+    let there : slice_get c.args.servers.now.items c.in-Server.server ≡ Some c.index_mut.result.now =
+    got c.args.servers.now.items c.in-Server.server c.index_mut.result.now (subst (λ (n : ℕ). c.in-Server.server < n) (sym c.requires.servers.count) below) c.index_mut.ensures.value in
+    let each : (c.index_mut.result.now.number ≡ c.in-Server.server) × (c.index_mut.result.now.book ≡ c.args.call.now.call.book) = c.requires.servers.each _ _ there in
+    others c.args.call.now.call.book c.args.servers.now.items c.in-Server.server c.on_server.new.s c.requires.servers (c.on_server.ensures.same.number ∙ each.0) (c.on_server.ensures.same.book ∙ each.1)
+
+pub returns-in-Server-clause-owed : goal.returns-in-Server-clause-owed
+returns-in-Server-clause-owed c =
+    c.on_server.ensures.owed ∙ owed_at_server c.on_server.new.self.call.step c.args.directory.now c.args.call.now c.in-Server.server (sym c.in-Server.ensures.need)
+
+pub returns-in-Server-clause-stamps : goal.returns-in-Server-clause-stamps
+returns-in-Server-clause-stamps c =
+    stamps_at_server c.on_server.new.self.call.step c.args.directory.now c.args.call.now c.in-Server.server (sym c.in-Server.ensures.need)

@@ -1,0 +1,10 @@
+pub mod Turns
+pub mod Turned
+pub mod LeadLaws
+pub mod Clients
+pub mod Owing
+pub mod ClientTurns
+pub mod Beginning
+pub mod Inside
+pub mod Repairers
+pub mod RepairInside
