@@ -44,12 +44,16 @@ fn numbers(alloc: Global, first: u64, count: u32) -> Result<Vec<u64>, AllocError
     Ok(numbers)
 }
 
-// Room for an object's versions up to the last that a write draws; none for other calls.
+// Room for an object's versions up to the last that a write draws, and for as many more, so that they seldom
+// move where an object grows by many writes; none for other calls.
 fn room_for(alloc: Global, kind: Kind, first: u32, count: u32) -> Result<Vec<u64>, AllocError>
     ensures { IfOk result (λ memory. kind_in kind ≡ CoreKind.Write → first + count ≤ vec_capacity memory) }
 {
     match kind {
-        Kind::Write => Vec::with_capacity(alloc, first as usize + count as usize),
+        Kind::Write => {
+            let needed = first as usize + count as usize;
+            Vec::with_capacity(alloc, 2 * needed)
+        }
         _ => Ok(Vec::new(alloc)),
     }
 }
