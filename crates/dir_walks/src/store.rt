@@ -47,12 +47,12 @@ fn last(seats: &mut Vec<Seat>) -> Seat
 }
 
 impl<'a> Store<'a> {
-    /// A directory without objects, whose objects may have 64 bytes each.
-    pub fn open(alloc: Global, book: &'a Book) -> Result<Store<'a>, AllocError>
+    /// A directory without objects, whose objects may have `max` bytes each.
+    pub fn open(alloc: Global, book: &'a Book, max: u32) -> Result<Store<'a>, AllocError>
         requires free { book.now.script ≡ None }
         ensures book { IfOk result (λ store. store.book ≡ book.now) }
     {
-        let (directory, seats) = Directory::new(alloc, book.opening(), 64, 2, 1)?;
+        let (directory, seats) = Directory::new(alloc, book.opening(), max, 2, 1)?;
         let mut seats = seats;
         let repairer = last(&mut seats);
         let second = last(&mut seats);
