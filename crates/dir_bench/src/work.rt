@@ -1,0 +1,207 @@
+//! The steps that are timed.
+
+use crate::calls::{delete, put, read, stat, write};
+use dir_walks::caller::{Refusal, Step};
+use dir_walks::store::Store;
+use std::alloc::{AllocError, Global};
+use store_map::Call;
+
+/// Why nothing is told.
+#[derive(Clone, Copy, PartialEq, Eq, Debug, Drop)]
+pub enum Trouble {
+    /// No such work.
+    Words,
+    /// A step wasn't made.
+    Step,
+    Memory,
+}
+
+impl From<AllocError> for Trouble {
+    fn from(_: AllocError) -> Trouble {
+        Trouble::Memory
+    }
+}
+
+impl From<Refusal> for Trouble {
+    fn from(_: Refusal) -> Trouble {
+        Trouble::Step
+    }
+}
+
+/// What is made many times.
+#[derive(Clone, Copy, PartialEq, Eq, Debug)]
+pub enum Kind {
+    /// A write over the middle stripe of an object.
+    Write,
+    /// A read of it.
+    Read,
+    /// A write of a stripe behind the end.
+    Append,
+    /// A put of all stripes.
+    Put,
+    /// A delete of the oldest object, which is put again.
+    Renew,
+    Stat,
+}
+
+impl Kind {
+    /// By its word.
+    pub fn named(word: &str) -> Option<Kind> {
+        match word {
+            "write" => Some(Kind::Write),
+            "read" => Some(Kind::Read),
+            "append" => Some(Kind::Append),
+            "put" => Some(Kind::Put),
+            "renew" => Some(Kind::Renew),
+            "stat" => Some(Kind::Stat),
+            _ => None,
+        }
+    }
+}
+
+// Makes a call to its end. Each call has one point, so that the count of points is an unused number.
+fn make(store: &mut Store<'_>, call: &Call) -> Result<(), Trouble> {
+    let Ok(number) = u32::try_from(store.directory().points()) else {
+        return Err(Trouble::Words);
+    };
+    store.first(Step::Look { number, call })?;
+    match call {
+        Call::Put { .. } | Call::Write { .. } => {
+            store.first(Step::Draw)?;
+            store.first(Step::Commit)?;
+        }
+        Call::Get { .. } | Call::ReadAt { .. } => {
+            store.first(Step::End)?;
+        }
+        Call::Stat { .. } | Call::Delete { .. } => {}
+    }
+    Ok(())
+}
+
+// Sweeps all garbage: so many versions.
+fn sweep(store: &mut Store<'_>) -> u64 {
+    let mut swept: u64 = 0;
+    for _ in 0..u64::MAX {
+        let Some(version) = store.next_garbage() else {
+            return swept;
+        };
+        store.swept(version);
+        swept = swept.saturating_add(1);
+    }
+    swept
+}
+
+// A call so many times, swept after each.
+fn repeat(store: &mut Store<'_>, call: &Call, steps: u32) -> Result<u64, Trouble> {
+    let mut swept: u64 = 0;
+    for _ in 0..steps {
+        make(store, call)?;
+        swept = swept.saturating_add(sweep(store));
+    }
+    Ok(swept)
+}
+
+// So many writes of a stripe, each behind the object's end.
+fn append(alloc: Global, store: &mut Store<'_>, stripes: u32, steps: u32) -> Result<u64, Trouble> {
+    for step in 0..steps {
+        let call = write(alloc, 0, stripes.saturating_add(step))?;
+        make(store, &call)?;
+    }
+    Ok(sweep(store))
+}
+
+// So many objects of a stripe.
+fn put_all(alloc: Global, store: &mut Store<'_>, objects: u32) -> Result<u64, Trouble> {
+    for object in 0..objects {
+        let call = put(alloc, object, 1)?;
+        make(store, &call)?;
+    }
+    Ok(0)
+}
+
+// So many times the oldest object is deleted and put again, as the newest.
+fn renew(alloc: Global, store: &mut Store<'_>, objects: u32, steps: u32) -> Result<u64, Trouble> {
+    let mut swept: u64 = 0;
+    for step in 0..steps {
+        let Some(oldest) = step.checked_rem(objects) else {
+            return Err(Trouble::Words);
+        };
+        let gone = delete(alloc, oldest)?;
+        make(store, &gone)?;
+        let anew = put(alloc, oldest, 1)?;
+        make(store, &anew)?;
+        swept = swept.saturating_add(sweep(store));
+    }
+    Ok(swept)
+}
+
+// So many writes of the middle stripe of an object.
+fn write_middle(
+    alloc: Global,
+    store: &mut Store<'_>,
+    stripes: u32,
+    steps: u32,
+) -> Result<u64, Trouble> {
+    let call = write(alloc, 0, stripes / 2)?;
+    repeat(store, &call, steps)
+}
+
+// So many reads of it.
+fn read_middle(
+    alloc: Global,
+    store: &mut Store<'_>,
+    stripes: u32,
+    steps: u32,
+) -> Result<u64, Trouble> {
+    let call = read(alloc, 0, stripes / 2)?;
+    repeat(store, &call, steps)
+}
+
+// So many puts of an object of so many stripes.
+fn put_whole(
+    alloc: Global,
+    store: &mut Store<'_>,
+    stripes: u32,
+    steps: u32,
+) -> Result<u64, Trouble> {
+    let call = put(alloc, 0, stripes)?;
+    repeat(store, &call, steps)
+}
+
+// So many questions for the length of an object.
+fn ask(alloc: Global, store: &mut Store<'_>, steps: u32) -> Result<u64, Trouble> {
+    let call = stat(alloc, 0)?;
+    repeat(store, &call, steps)
+}
+
+/// Makes a directory of this size: an object's stripes, objects or points.
+pub fn prepare(
+    alloc: Global,
+    store: &mut Store<'_>,
+    kind: Kind,
+    size: u32,
+) -> Result<u64, Trouble> {
+    match kind {
+        Kind::Renew => put_all(alloc, store, size),
+        Kind::Stat => ask(alloc, store, size),
+        _ => put_whole(alloc, store, size, 1),
+    }
+}
+
+/// So many steps of a kind in a directory of this size: how many versions were swept.
+pub fn work(
+    alloc: Global,
+    store: &mut Store<'_>,
+    kind: Kind,
+    size: u32,
+    steps: u32,
+) -> Result<u64, Trouble> {
+    match kind {
+        Kind::Write => write_middle(alloc, store, size, steps),
+        Kind::Read => read_middle(alloc, store, size, steps),
+        Kind::Put => put_whole(alloc, store, size, steps),
+        Kind::Append => append(alloc, store, size, steps),
+        Kind::Renew => renew(alloc, store, size, steps),
+        Kind::Stat => ask(alloc, store, steps),
+    }
+}
