@@ -3,4 +3,5 @@ mod Refusals
 mod Statuses
 mod VerifyLaws
 mod GeneratedLaws
+mod Asked
 mod OneVerdict

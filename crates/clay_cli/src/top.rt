@@ -98,7 +98,8 @@ pub fn clay_main<R, S: Source, K: Sink>(
     ensures usage { AsksNothing (map string_bytes words.now) →
         (source.new ≡ source.old)
         × (((result ≡ Status.Usage) × Gains (K.written sink.old) usage_line (K.written sink.new))
-        ⊎ ((result ≡ Status.WriteFault) × IsPrefixWritten (K.written sink.old) usage_line (K.written sink.new))) }
+        ⊎ ((result ≡ Status.WriteFault) × IsPrefixWritten (K.written sink.old) usage_line (K.written sink.new))
+        ⊎ ((result ≡ Status.OutOfMemory) × Gains (K.written sink.old) [] (K.written sink.new))) }
     ensures usage_only { result ≡ Status.Usage → AsksNothing (map string_bytes words.now) }
     ensures generated { (start size : ℕ) → Asks (map string_bytes words.now) (Generate start size) →
         (source.new ≡ source.old) × Writes result (K.written sink.old) (spelling (generated start size)) (K.written sink.new) }
@@ -121,8 +122,10 @@ pub fn clay_main<R, S: Source, K: Sink>(
     ensures complete_long { AsksForInput (map string_bytes words.now) → WhereTold (S.left source.old) (λ input. 167772160 < length input →
         (Rises (S.faults source.old) (S.faults source.new) → ⊥) → (result ≡ Status.InputTooLong) ⊎ (result ≡ Status.OutOfMemory)) }
 {
-    let Some(command) = command_of(words) else {
-        return write_out(sink, USAGE_LINE, Status::Usage);
+    let command = match command_of(alloc, words) {
+        Ok(Some(command)) => command,
+        Ok(None) => return write_out(sink, USAGE_LINE, Status::Usage),
+        Err(_) => return Status::OutOfMemory,
     };
     let task = match command {
         Command::Generate { start, size } => return write_generated(alloc, sink, start, size),

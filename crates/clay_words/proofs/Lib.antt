@@ -1,2 +1,9 @@
 pub mod StartLaws
 pub mod WordLaws
+pub mod WordMet
+pub mod Walks
+pub mod Levels
+pub mod Stops
+pub mod Taken
+pub mod Held
+pub mod Unspelled

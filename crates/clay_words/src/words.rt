@@ -1,5 +1,5 @@
 // The words that a command is asked for by.
-ghost use Rattle.std.specs.Prelude.{◌≡◌, ◌≢◌, ◌<◌, ◌≤◌, ◌^◌, ◌∷◌, [], codes, ℕ, List, map, string_bytes, MatchOption, decimal, IfSome, IfNone};
+ghost use Rattle.std.specs.Prelude.{◌≡◌, ◌≢◌, ◌<◌, ◌≤◌, ◌^◌, ◌∷◌, [], codes, ℕ, MatchOption, decimal, IfSome, IfNone};
 ghost use Rattle.clay_grid.specs.Shape.{Shape};
 ghost use Rattle.clay_words.specs.Words.{Asks, AsksNothing, IsCode};
 
@@ -70,7 +70,7 @@ fn size_of_script(word: &str) -> Option<u32>
 }
 
 // The command of one word.
-fn plain_command(word: &str) -> Option<Command>
+pub(crate) fn plain_command(word: &str) -> Option<Command>
     ensures { MatchOption result (AsksNothing (word.now ∷ [])) (λ command. Asks (word.now ∷ []) command) }
 {
     if word == "play" {
@@ -83,7 +83,7 @@ fn plain_command(word: &str) -> Option<Command>
 }
 
 // The command that has a number and a size.
-fn draw_command(name: &str, first: &str, second: &str) -> Option<Command>
+pub(crate) fn draw_command(name: &str, first: &str, second: &str) -> Option<Command>
     ensures { MatchOption result (AsksNothing (name.now ∷ first.now ∷ second.now ∷ [])) (λ command. Asks (name.now ∷ first.now ∷ second.now ∷ []) command) }
 {
     if name != "gen" {
@@ -95,7 +95,7 @@ fn draw_command(name: &str, first: &str, second: &str) -> Option<Command>
 }
 
 // The command of a name and the numbers of a code.
-fn code_command(name: &str, k: &str, m: &str, w: &str) -> Option<Command>
+pub(crate) fn code_command(name: &str, k: &str, m: &str, w: &str) -> Option<Command>
     ensures { MatchOption result (AsksNothing (name.now ∷ k.now ∷ m.now ∷ w.now ∷ [])) (λ command. Asks (name.now ∷ k.now ∷ m.now ∷ w.now ∷ []) command) }
 {
     let geometry = geometry_of(k, m, w)?;
@@ -105,18 +105,5 @@ fn code_command(name: &str, k: &str, m: &str, w: &str) -> Option<Command>
         Some(Command::OfInput(Task::Recover(geometry)))
     } else {
         None
-    }
-}
-
-/// The command that the words after the program's name ask for.
-pub fn command_of(words: &[String]) -> Option<Command>
-    ensures { MatchOption result (AsksNothing (map string_bytes words.now)) (λ command. Asks (map string_bytes words.now) command) }
-{
-    match words {
-        [] => Some(Command::OfInput(Task::Play)),
-        [word] => plain_command(word.as_str()),
-        [name, start, size] => draw_command(name.as_str(), start.as_str(), size.as_str()),
-        [name, k, m, w] => code_command(name.as_str(), k.as_str(), m.as_str(), w.as_str()),
-        _ => None,
     }
 }

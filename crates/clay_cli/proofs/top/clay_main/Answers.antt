@@ -3,24 +3,25 @@ use Rattle.clay_gen.specs.Script.{generated}
 use Rattle.script_text.specs.Spelling.{spelling}
 use Rattle.clay_words.specs.declared.words.Command.TheVariants.{Generate, OfInput}
 use Rattle.clay_words.proofs.WordLaws.{asked_as, drawn_once}
+use Rattle.clay_cli.proofs.Asked.{at_none, at_some}
 use Rattle.clay_cli.proofs.Statuses.{not_failed, only_too_long, written, prefix_written, writes_same}
 use Rattle.clay_cli.proofs.top.clay_main.Goals as goal
 
-pub returns-in_default-clause-generated : goal.returns-in_default-clause-generated
-returns-in_default-clause-generated g c = λ start size asked. absurd (c.in_default.ensures (Generate start size) asked)
+pub returns-in-Ok-None-clause-generated : goal.returns-in-Ok-None-clause-generated
+returns-in-Ok-None-clause-generated g c = λ start size asked. absurd (at_none _ _ _ c.in-Ok-None.field-0-is c.in-Ok-None.ensures (Generate start size) asked)
 
-pub returns-in_default-clause-prefix : goal.returns-in_default-clause-prefix
-returns-in_default-clause-prefix g c = λ failed asks. absurd (c.in_default.ensures (OfInput asks.0) asks.1)
+pub returns-in-Ok-None-clause-prefix : goal.returns-in-Ok-None-clause-prefix
+returns-in-Ok-None-clause-prefix g c = λ failed asks. absurd (at_none _ _ _ c.in-Ok-None.field-0-is c.in-Ok-None.ensures (OfInput asks.0) asks.1)
 
-pub returns-in_default-clause-complete : goal.returns-in_default-clause-complete
-returns-in_default-clause-complete g c = λ asks. absurd (c.in_default.ensures (OfInput asks.0) asks.1)
+pub returns-in-Ok-None-clause-complete : goal.returns-in-Ok-None-clause-complete
+returns-in-Ok-None-clause-complete g c = λ asks. absurd (at_none _ _ _ c.in-Ok-None.field-0-is c.in-Ok-None.ensures (OfInput asks.0) asks.1)
 
-pub returns-in_default-clause-complete_long : goal.returns-in_default-clause-complete_long
-returns-in_default-clause-complete_long g c = λ asks. absurd (c.in_default.ensures (OfInput asks.0) asks.1)
+pub returns-in-Ok-None-clause-complete_long : goal.returns-in-Ok-None-clause-complete_long
+returns-in-Ok-None-clause-complete_long g c = λ asks. absurd (at_none _ _ _ c.in-Ok-None.field-0-is c.in-Ok-None.ensures (OfInput asks.0) asks.1)
 
 pub returns-in-Generate-clause-generated : goal.returns-in-Generate-clause-generated
 returns-in-Generate-clause-generated g c = λ start size asked.
-    let same = drawn_once _ c.in-Generate.start c.in-Generate.size start size (asked_as _ _ _ c.in-Generate.is c.in-Some.ensures) asked in
+    let same = drawn_once _ c.in-Generate.start c.in-Generate.size start size (asked_as _ _ _ c.in-Generate.is (at_some _ _ _ _ c.in-Ok-Some.field-0-is c.in-Ok-Some.ensures)) asked in
     (refl, writes_same _ _ _ _ _ (ap₂ (λ start size. spelling (generated start size)) same.0 same.1) c.write_generated.ensures.written)
 
 pub returns-in-Ok-clause-output : goal.returns-in-Ok-clause-output
@@ -29,7 +30,7 @@ returns-in-Ok-clause-output g c = λ has asks input told.
     let made = c.in-Ok.ensures.answers input told in (
       made.0,
       written _ input c.in-Ok.output.status _ c.in-Ok.output.bytes.items _ _ _ wrote.0 c.deref.ensures.value wrote.1
-          (c.in-OfInput.task, asked_as _ _ _ c.in-OfInput.is c.in-Some.ensures, made.1),
+          (c.in-OfInput.task, asked_as _ _ _ c.in-OfInput.is (at_some _ _ _ _ c.in-Ok-Some.field-0-is c.in-Ok-Some.ensures), made.1),
     )
 
 pub returns-in-Ok-clause-prefix : goal.returns-in-Ok-clause-prefix
@@ -38,10 +39,10 @@ returns-in-Ok-clause-prefix g c = λ failed asks input told.
     let made = c.in-Ok.ensures.answers input told in (
       c.in-Ok.output.status,
       c.in-Ok.output.bytes.items,
-      (c.in-OfInput.task, asked_as _ _ _ c.in-OfInput.is c.in-Some.ensures, made.1),
+      (c.in-OfInput.task, asked_as _ _ _ c.in-OfInput.is (at_some _ _ _ _ c.in-Ok-Some.field-0-is c.in-Ok-Some.ensures), made.1),
       prefix_written _ _ _ _ c.deref.ensures.value wrote.0,
     )
 
-pub returns-in-Err-clause-complete_long : goal.returns-in-Err-clause-complete_long
-returns-in-Err-clause-complete_long g c = λ asks input told long fault.
-    only_too_long _ c.in-Err.ensures.silent (λ failed. fault (c.in-Err.ensures.read_fault failed))
+pub returns-in-Err-answer-clause-complete_long : goal.returns-in-Err-answer-clause-complete_long
+returns-in-Err-answer-clause-complete_long g c = λ asks input told long fault.
+    only_too_long _ c.in-Err-answer.ensures.silent (λ failed. fault (c.in-Err-answer.ensures.read_fault failed))

@@ -1,0 +1,50 @@
+-- Words that have no command's form ask for nothing.
+use Rattle.std.proofs.Common.{◌≡◌, ℕ, suc, ◌<◌, ◌^◌, List, [], ◌∷◌, length, refl, sym, ap, subst, ◌∙◌, arith, inl, inr, decimal}
+use Rattle.std.specs.Prelude.{◌⊎◌, ◌==◌, true, map}
+use Rattle.line_grammar.specs.Numbers.{IsNumberWord}
+use Rattle.line_grammar.proofs.NumberLaws.{number_word_is}
+use Rattle.clay_grid.specs.Shape.{Shape}
+use Rattle.clay_words.specs.Spelled.{IsSpelled}
+use Rattle.clay_words.specs.Words.{Asks, AsksNothing, IsCode}
+use Rattle.clay_words.specs.declared.words.Command.{Command}
+use Rattle.clay_words.specs.declared.words.Command.TheVariants.{Generate, OfInput}
+use Rattle.clay_words.specs.declared.words.Task.TheVariants.{Play, Verify, Chunks, Recover}
+use Rattle.clay_words.proofs.WordLaws.{code_numbers}
+
+number : (word : List ℕ) (n : ℕ) → n < 2 ^ 64 → word ≡ decimal n → IsNumberWord word
+number word n small is = (n, is ∙ sym (number_word_is n small))
+
+code_is_numbers : (g : Shape) (k m w : List ℕ) → IsCode g k m w → IsNumberWord k × IsNumberWord m × IsNumberWord w
+code_is_numbers g k m w code =
+    let small = code_numbers g code.limits in (
+      number k g.data_count (omega (arith, small.0)) code.data_count,
+      number m g.parity_count (omega (arith, small.1)) code.parity_count,
+      number w g.width (omega (arith, small.2)) code.width,
+    )
+
+-- words that ask for a command are none, or have its form
+asked_spelled : (words : List (List ℕ)) (command : Command) → Asks words command → (words ≡ []) ⊎ IsSpelled words
+asked_spelled words (OfInput Play) (inl asked) = inl asked
+asked_spelled words (OfInput Play) (inr asked) = inr (subst IsSpelled (sym asked) (inl refl))
+asked_spelled words (OfInput Verify) asked = inr (subst IsSpelled (sym asked) (inr refl))
+asked_spelled words (OfInput (Chunks g)) asked =
+    let numbers = code_is_numbers g asked.k asked.m asked.w asked.code in
+    inr (subst IsSpelled (sym asked.words_are) (inl refl, numbers.0, numbers.1, numbers.2))
+asked_spelled words (OfInput (Recover g)) asked =
+    let numbers = code_is_numbers g asked.k asked.m asked.w asked.code in
+    inr (subst IsSpelled (sym asked.words_are) (inr refl, numbers.0, numbers.1, numbers.2))
+asked_spelled words (Generate start size) asked =
+    let few = asked.3 in
+    inr (subst IsSpelled (sym asked.0) (refl, number (decimal start) start asked.1 refl, number (decimal size) size (omega (arith, few)) refl))
+
+pub unspelled : (words : List (List ℕ)) → (IsSpelled words → ⊥) → (words ≡ [] → ⊥) → AsksNothing words
+unspelled words other some command asked = pick (asked_spelled words command asked)
+  where
+    pick : (words ≡ []) ⊎ IsSpelled words → ⊥
+    pick (inl none) = some none
+    pick (inr spelled) = other spelled
+
+-- a list of which nothing is made is empty
+pub is_empty : {A B : Type 0} (f : A → B) (xs : List A) → map f xs ≡ [] → (length xs == 0) ≡ true
+is_empty f [] none = refl
+is_empty f (x ∷ xs) none = let bad : suc (length (map f xs)) ≡ 0 = ap length none in absurd (omega arith)

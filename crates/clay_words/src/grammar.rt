@@ -1,0 +1,57 @@
+// The program's commands, as clap is told them.
+ghost use Rattle.std.specs.Prelude.{◌≡◌, false, IfOk};
+ghost use Rattle.clap.specs.Words.{app_of, rule_of};
+ghost use Rattle.clap.specs.declared.builder.Command.TheViews.{out-Command as fields_of};
+ghost use Rattle.clay_words.specs.Grammar.{bare_app, clay_app, code_app, draw_app, number_rule};
+
+use clap::{Arg, Command};
+use std::alloc::{AllocError, Global};
+
+// A number that must stand there.
+fn number<'a>(alloc: Global, id: &'a str) -> Arg<'a>
+    ensures rule { rule_of result ≡ number_rule id.entry.now }
+    ensures local { result.global ≡ false }
+{
+    Arg::new(alloc, id).required(true)
+}
+
+// A command with the numbers of a code.
+fn code_grammar<'a>(alloc: Global, name: &'a str) -> Result<Command<'a>, AllocError>
+    ensures shape { IfOk result (λ command. app_of command ≡ code_app name.entry.now) }
+    ensures local { IfOk result (λ command. (fields_of command).has_globals ≡ false) }
+{
+    let with_data_count = Command::new(alloc, name).arg(number(alloc, "k"))?;
+    let with_parity_count = with_data_count.arg(number(alloc, "m"))?;
+    with_parity_count.arg(number(alloc, "w"))
+}
+
+// A command with a number and a size.
+fn draw_grammar<'a>(alloc: Global, name: &'a str) -> Result<Command<'a>, AllocError>
+    ensures shape { IfOk result (λ command. app_of command ≡ draw_app name.entry.now) }
+    ensures local { IfOk result (λ command. (fields_of command).has_globals ≡ false) }
+{
+    let with_start = Command::new(alloc, name).arg(number(alloc, "start"))?;
+    with_start.arg(number(alloc, "size"))
+}
+
+// The program without its commands.
+fn bare_grammar<'a>(alloc: Global) -> Command<'a>
+    ensures shape { app_of result ≡ bare_app }
+    ensures local { (fields_of result).has_globals ≡ false }
+{
+    Command::new(alloc, "clay")
+        .no_binary_name(true)
+        .disable_help_flag(true)
+        .disable_help_subcommand(true)
+}
+
+/// The program with its commands.
+pub fn clay_grammar<'a>(alloc: Global) -> Result<Command<'a>, AllocError>
+    ensures { IfOk result (λ command. app_of command ≡ clay_app) }
+{
+    let with_play = bare_grammar(alloc).subcommand(Command::new(alloc, "play"))?;
+    let with_verify = with_play.subcommand(Command::new(alloc, "verify"))?;
+    let with_chunks = with_verify.subcommand(code_grammar(alloc, "chunks")?)?;
+    let with_recover = with_chunks.subcommand(code_grammar(alloc, "recover")?)?;
+    with_recover.subcommand(draw_grammar(alloc, "gen")?)
+}
