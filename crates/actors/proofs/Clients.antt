@@ -21,13 +21,12 @@ use Rattle.store_core.specs.Work.{Ended, has_step}
 use Rattle.version_seal.specs.Entry.{BookOf}
 use Rattle.chunk_server.specs.State.{ServerState}
 use Rattle.dir_parts.proofs.Entries.{slice_get-map}
-use Rattle.gather_parts.specs.Ends.{taken_of}
+use Rattle.call_steps.specs.Callers.{IsOfScript as IsCallOfScript}
 use Rattle.stripe_dir.specs.Sealed.{Sealed}
-use Rattle.call_steps.specs.CallOf.{CallOf, act_of, tries_by}
+use Rattle.call_steps.specs.CallOf.{CallOf, act_of, tries_by, taken_of}
 use Rattle.call_steps.specs.Outcomes.{outcome_of}
 use Rattle.call_steps.specs.Steps.{HoldsItsPass, IsDueInPass, need_by, need_of}
 use Rattle.call_stands.specs.Stands.{IsFirst}
-use Rattle.client_put.specs.Puts.{IsOfScript as IsCallOfScript}
 use Rattle.client_call.specs.Kinds.{Machine, machine_of, IfPatches, UnlessReads}
 use Rattle.client_call.specs.Calls.{ClientCallOf, first_call, tries_in, KnowsOldOf}
 use Rattle.world_lines.specs.Ended.{ended_of}

@@ -6,8 +6,7 @@ use Rattle.store_core.specs.Act.{Act, Outcome}
 use Rattle.store_core.specs.Work.{Ended}
 use Rattle.store_resume.specs.State.{State}
 use Rattle.store_resume.specs.StateActs.{act_at}
-use Rattle.gather_parts.specs.Ends.{taken_of}
-use Rattle.call_steps.specs.CallOf.{CallOf, act_of}
+use Rattle.call_steps.specs.CallOf.{CallOf, act_of, taken_of}
 use Rattle.call_steps.specs.Steps.{need_by, need_of}
 use Rattle.world_steps.specs.World.{DoingOf, ActorOf, steps_of}
 use Rattle.world_steps.specs.ActorAfter.{actor_after_by, actor_after}

@@ -6,7 +6,7 @@ use Rattle.store_map.specs.declared.script.ClientPart.{ClientPart}
 use Rattle.store_map.specs.declared.script.RepairPart.{RepairPart}
 use Rattle.store_core.specs.Work.{Calling}
 use Rattle.version_seal.specs.Entry.{BookOf}
-use Rattle.gather_parts.specs.Ends.{taken_of}
+use Rattle.call_steps.specs.CallOf.{taken_of}
 use Rattle.client_call.specs.Calls.{ClientCallOf}
 use Rattle.world_lines.specs.Ended.{ended_of, client_of, repaired_of, repairer_of}
 use Rattle.world_lines.specs.declared.calls.ClientCalls.{ClientCalls}

@@ -17,11 +17,11 @@ use Rattle.store_core.specs.Work.{Ended, has_step}
 use Rattle.store_resume.specs.State.{State}
 use Rattle.version_seal.specs.Entry.{BookOf}
 use Rattle.dir_parts.proofs.Entries.{slice_get-map}
-use Rattle.call_steps.specs.CallOf.{CallOf, tries_by}
+use Rattle.call_steps.specs.CallOf.{CallOf, tries_by, taken_of}
 use Rattle.call_steps.specs.Outcomes.{repair_outcome_of}
 use Rattle.call_steps.specs.Steps.{HoldsItsPass, IsDueInPass}
 use Rattle.call_stands.specs.Stands.{IsFirst}
-use Rattle.repairer.specs.Calls.{new_call, taken}
+use Rattle.repairer.specs.Calls.{new_call}
 use Rattle.world_lines.specs.Ended.{repaired_of}
 use Rattle.world_lines.specs.declared.calls.EndedRepair.{EndedRepair}
 use Rattle.world_steps.specs.World.{DoingOf, ActorOf, steps_of}

@@ -6,7 +6,7 @@ use Rattle.store_map.specs.declared.call.Call.{Call}
 use Rattle.store_map.specs.declared.script.ClientPart.{ClientPart}
 use Rattle.store_core.specs.Agreement.{Seat}
 use Rattle.version_seal.specs.Entry.{BookOf}
-use Rattle.client_put.specs.Puts.{IsOfScript}
+use Rattle.call_steps.specs.Callers.{IsOfScript}
 use Rattle.client_call.specs.Kinds.{machine_of, IfPatches, UnlessReads}
 use Rattle.client_call.specs.Calls.{ClientCallOf, first_call}
 use Rattle.actors.specs.declared.client_actor.Doing.{Doing}

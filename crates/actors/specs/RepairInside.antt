@@ -5,9 +5,8 @@ use Rattle.store_map.specs.declared.actor.Actor.TheVariants as actor
 use Rattle.store_map.specs.declared.script.RepairPart.{RepairPart}
 use Rattle.store_core.specs.Agreement.{ActorToken}
 use Rattle.version_seal.specs.Entry.{BookOf}
-use Rattle.call_steps.specs.CallOf.{CallOf}
+use Rattle.call_steps.specs.CallOf.{CallOf, taken_of}
 use Rattle.call_steps.specs.Steps.{need_of}
-use Rattle.repairer.specs.Calls.{taken}
 use Rattle.world_lines.specs.declared.calls.EndedRepair.{EndedRepair}
 use Rattle.world_lines.specs.Ended.{repaired_of}
 use Rattle.world_steps.specs.World.{DoingOf}
