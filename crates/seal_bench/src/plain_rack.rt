@@ -54,6 +54,14 @@ impl<'a, const LENGTH: usize> Rack for PlainRack<'a, LENGTH> {
         Ok(())
     }
 
+    fn look(&self) -> usize {
+        let mut long = 0usize;
+        for (_version, chunk) in &self.waiting {
+            long = long.saturating_add(chunk.bytes.len());
+        }
+        long
+    }
+
     fn prepare(&mut self) -> Result<(), AllocError> {
         for _version in 0..VERSIONS {
             if let Some((version, chunk)) = self.waiting.pop() {

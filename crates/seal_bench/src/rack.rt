@@ -15,6 +15,10 @@ pub trait Rack {
     /// Makes a chunk of each version, which waits to come.
     fn stock(&mut self) -> Result<(), AllocError>;
 
+    /// Tells how many bytes wait. A round looks at them before they come, since in the store a
+    /// chunk that comes was made just before.
+    fn look(&self) -> usize;
+
     /// Prepares the chunks that wait.
     fn prepare(&mut self) -> Result<(), AllocError>;
 

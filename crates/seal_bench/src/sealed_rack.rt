@@ -116,6 +116,14 @@ impl<'a> Rack for SealedRack<'a> {
         Ok(())
     }
 
+    fn look(&self) -> usize {
+        let mut long = 0usize;
+        for chunk in &self.waiting {
+            long = long.saturating_add(chunk.bytes().len());
+        }
+        long
+    }
+
     fn prepare(&mut self) -> Result<(), AllocError> {
         for _version in 0..VERSIONS {
             if let Some(chunk) = self.next() {

@@ -49,6 +49,7 @@ impl Times {
 /// Times each call once, with the chunks of all versions, and tells how much came of it.
 pub fn round<R: CpuClock, K: Rack>(rt: &R, rack: &mut K, times: &mut Times) -> io::Result<usize> {
     rack.stock()?;
+    let mut came = rack.look();
     let begun = rt.thread_cpu_time()?;
     rack.prepare()?;
     times.prepare.note(rt, begun)?;
@@ -68,13 +69,15 @@ pub fn round<R: CpuClock, K: Rack>(rt: &R, rack: &mut K, times: &mut Times) -> i
     rack.discard();
     times.discard.note(rt, begun)?;
     rack.stock()?;
+    came = came.saturating_add(rack.look());
     let begun = rt.thread_cpu_time()?;
     rack.install()?;
     times.install.note(rt, begun)?;
     let begun = rt.thread_cpu_time()?;
     rack.wipe();
     times.wipe.note(rt, begun)?;
-    Ok(one.saturating_add(half).saturating_add(held as usize))
+    came = came.saturating_add(one).saturating_add(half);
+    Ok(came.saturating_add(held as usize))
 }
 
 // Prints one call's times, each for one version, and their ratio in hundredths.
