@@ -2,7 +2,7 @@
 use Rattle.std.proofs.Common.{◌≡◌, ℕ, zero, suc, ◌<◌, ◌≤◌, Bool, true, false, List, [], ◌∷◌, ◌++◌, length, map, replicate, get_or, slice_get, Option, None, Some, IfSome, refl, sym, ap, subst, ◌∙◌, arith, lt-ltb, nat_lt, if◌then◌else◌}
 use Rattle.std.proofs.lemmas.List.{length-map, length-replicate, map-append}
 use Rattle.std.proofs.lemmas.Option.{same_Some, none-some}
-use Rattle.std.specs.Prelude.{unwrap_or, option_and_then, ◌&&◌}
+use Rattle.std.specs.Prelude.{unwrap_or, option_and_then}
 use Rattle.clay_grid.specs.Shape.{Shape, chunk_count}
 use Rattle.store_map.specs.Limits.{tries_of}
 use Rattle.store_map.specs.declared.actor.Actor.TheVariants as actor
@@ -35,12 +35,12 @@ use Rattle.world_steps.specs.World.{DoingOf, ActorOf, steps_of}
 use Rattle.world_steps.specs.Known.{calling_of}
 use Rattle.world_steps.specs.ActorAfter.{IsCallBefore, actor_after}
 use Rattle.world_steps.specs.Tokens.{KeepsToken, AreNumbered, token_of}
-use Rattle.actors.specs.Turns.{GoesOn, IsTurn}
+use Rattle.actors.specs.Turns.{GoesOn}
 use Rattle.actors.specs.Clients.{ClientOf, IsOfScript, IsPartOf, work_of}
 use Rattle.actors.specs.Owing.{AreServed, left_by, owed_now}
 use Rattle.actors.specs.ClientTurns.{IsCallTurn, MakesClientTurn}
 use Rattle.actors.specs.Beginning.{MayTake, MayBegin, IsBegun}
-use Rattle.actors.specs.Inside.{doing_by, work_by, doing_at, served_of, client_by, IsInWork, KeepsDoing}
+use Rattle.actors.specs.Inside.{doing_by, work_by, served_of, client_by, IsInWork}
 use Rattle.actors.specs.declared.client_actor.Doing.{Doing}
 use Rattle.actors.specs.declared.client_actor.Doing.TheVariants as doing
 use Rattle.actors.proofs.Concluding.{ended_after, taken_back}

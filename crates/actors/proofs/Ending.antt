@@ -1,10 +1,9 @@
 -- An actor's calls at the end of a run.
-use Rattle.std.proofs.Common.{◌≡◌, ℕ, List, [], length, map, replicate, Option, Some, IfSome, refl, sym, ap, subst, ◌∙◌}
+use Rattle.std.proofs.Common.{◌≡◌, ℕ, List, [], length, map, replicate, Option, Some, IfSome, sym, ap, subst, ◌∙◌}
 use Rattle.std.specs.Prelude.{unwrap_or, option_and_then}
 use Rattle.clay_grid.specs.Shape.{chunk_count}
 use Rattle.store_map.specs.declared.script.ClientPart.{ClientPart}
 use Rattle.store_map.specs.declared.script.RepairPart.{RepairPart}
-use Rattle.store_core.specs.Work.{Calling}
 use Rattle.version_seal.specs.Entry.{BookOf}
 use Rattle.call_steps.specs.CallOf.{taken_of}
 use Rattle.client_call.specs.Calls.{ClientCallOf}

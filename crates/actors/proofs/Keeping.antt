@@ -1,6 +1,5 @@
 -- What a client keeps through a turn.
-use Rattle.std.proofs.Common.{◌≡◌, ℕ, List, length, slice_get, Option, None, Some, IfSome, refl, sym, ap, subst, ◌∙◌}
-use Rattle.clay_grid.specs.Shape.{chunk_count}
+use Rattle.std.proofs.Common.{◌≡◌, ℕ, List, length, slice_get, Option, Some, IfSome, sym, ap, subst, ◌∙◌}
 use Rattle.store_map.specs.declared.call.Call.{Call}
 use Rattle.store_map.specs.declared.script.ClientPart.{ClientPart}
 use Rattle.store_core.specs.Act.{Act}

@@ -1,5 +1,5 @@
 -- What an ended call leaves of the bytes that it was served.
-use Rattle.std.proofs.Common.{◌≡◌, ℕ, List, [], ◌∷◌, ◌++◌, Option, None, Some, refl, sym, ap, subst, ◌∙◌}
+use Rattle.std.proofs.Common.{◌≡◌, ℕ, List, [], ◌∷◌, ◌++◌, Option, sym, ap, subst, ◌∙◌}
 use Rattle.std.proofs.lemmas.List.{map-append}
 use Rattle.store_core.specs.Act.{Act}
 use Rattle.call_steps.specs.Outcomes.{outcome_of}
@@ -9,7 +9,7 @@ use Rattle.client_read.specs.Ends.{IfServed}
 use Rattle.client_call.specs.Kinds.{Machine, IfReads}
 use Rattle.world_lines.specs.declared.calls.EndedCall.{EndedCall}
 use Rattle.world_lines.specs.Served.{bytes_in}
-use Rattle.actors.specs.Owing.{AreServed, IsServed}
+use Rattle.actors.specs.Owing.{AreServed}
 use Rattle.actors.specs.Inside.{served_of}
 
 by_outcome : (ended : Outcome) (m : Machine) (owed : List ℕ) (served after : List (Option (List ℕ))) → after ≡ served ++ bytes_in ended ∷ []

@@ -1,5 +1,5 @@
 -- The fields of a client as callers see them, and what they keep.
-use Rattle.std.specs.Prelude.{◌≡◌, ⊤, ℕ, ◌<◌, ◌≤◌, ◌^◌, List, length, map, Option, None, Some, is_some, IsTrue, IfSome, vec_capacity}
+use Rattle.std.specs.Prelude.{◌≡◌, ℕ, ◌<◌, ◌≤◌, ◌^◌, List, length, map, Option, None, Some, is_some, IsTrue, IfSome, vec_capacity}
 use Rattle.std.specs.List.{slice_get}
 use Rattle.clay_grid.specs.Shape.{chunk_count}
 use Rattle.store_map.specs.declared.actor.Actor.TheVariants as actor

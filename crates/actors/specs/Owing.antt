@@ -1,5 +1,5 @@
 -- What a client's turn leaves of the bytes that its call reads, and of the directory's stamps.
-use Rattle.std.specs.Prelude.{◌≡◌, ⊤, ℕ, Bool, false, ◌&&◌, List, [], ◌∷◌, ◌++◌, length, Option, None, Some}
+use Rattle.std.specs.Prelude.{◌≡◌, ℕ, Bool, false, ◌&&◌, List, [], ◌∷◌, ◌++◌, length, Option, None, Some}
 use Rattle.std.specs.List.{slice_get}
 use Rattle.store_core.specs.Act.{Act, Outcome}
 use Rattle.stripe_dir.specs.Sealed.{Sealed}
