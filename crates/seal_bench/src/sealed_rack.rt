@@ -4,6 +4,7 @@ ghost use Rattle.chunk_server.specs.Valid.{IsFor, MayCome};
 
 use crate::rack::{HALF, ONE, Rack, VERSIONS};
 use chunk_server::{Fetched, Presence, Server};
+use clay_grid::Geometry;
 use std::alloc::{AllocError, Global};
 use std::marker::Model;
 use store_map::Version;
@@ -31,16 +32,13 @@ impl<'a> Model for SealedRack<'a> {
 }
 
 // The same chunk.
-fn copy(alloc: Global, chunk: &SealedChunk) -> Result<SealedChunk, AllocError>
+fn copy(alloc: Global, geometry: Geometry, chunk: &SealedChunk) -> Result<SealedChunk, AllocError>
+    requires { chunk.now.geometry ≡ geometry }
     ensures { IfOk result (λ copied. copied ≡ chunk.now) }
 {
     let bytes = Vec::from_slice(alloc, chunk.bytes())?;
-    Ok(SealedChunk::new(
-        chunk.geometry(),
-        chunk.stamp().copy(),
-        chunk.server(),
-        bytes,
-    ))
+    let stamp = chunk.stamp().copy();
+    Ok(SealedChunk::new(geometry, stamp, chunk.server(), bytes))
 }
 
 fn prepare_one(server: &mut Server, chunk: SealedChunk) -> Result<(), AllocError>
@@ -110,7 +108,7 @@ impl<'a> SealedRack<'a> {
 impl<'a> Rack for SealedRack<'a> {
     fn stock(&mut self) -> Result<(), AllocError> {
         for chunk in self.chunks {
-            let chunk = copy(self.alloc, chunk)?;
+            let chunk = copy(self.alloc, self.server.geometry(), chunk)?;
             self.put_by(chunk)?;
         }
         Ok(())
