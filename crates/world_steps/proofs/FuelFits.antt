@@ -62,7 +62,7 @@ module _ (g : Shape) (max tries : ℕ) (some : 0 < stripe_length g) (few : chunk
   touched : (offset n : ℕ) → n ≤ 2097152 → stripes_met (stripe_length g) offset n ≤ 2097152
   touched offset n long = let met : stripes_met (stripe_length g) offset n ≤ n = met_most (stripe_length g) some offset n in omega (arith, met, long)
 
-  steps_most : (c : Call) → data_length c ≤ 2097152 → step_bound g max tries (note_of c) ≤ 536870912
+  pub steps_most : (c : Call) → data_length c ≤ 2097152 → step_bound g max tries (note_of c) ≤ 536870912
   steps_most (call.Put name content) long = put_most (chunk_count g) (stripes_met (stripe_length g) 0 (content_length content)) few (touched 0 (content_length content) long)
   steps_most (call.Write name offset content) long = write_most (chunk_count g) tries (stripes_met (stripe_length g) offset (content_length content)) few less (touched offset (content_length content) long)
   steps_most (call.Get name) long =
@@ -121,17 +121,17 @@ actors_most f most works callings each =
     all
 
 module _ (script : Script) (geometry : IsGeometry script.geometry) (valid : IsValid script) (can : CanRun script) where
-  servers : chunk_count script.geometry ≤ 24
+  pub servers : chunk_count script.geometry ≤ 24
   servers = let one : chunk_count script.geometry ≤ node_count script.geometry = geometry.chunks in let two : node_count script.geometry ≤ 24 = geometry.nodes in omega (arith, one, two)
 
-  size : size_of script ≤ 1048576
+  pub size : size_of script ≤ 1048576
   size = by script.size valid.limits.size
     where
       by : (found : Option ℕ) → IfSome found (λ n. (1 ≤ n) × (n ≤ 1048576)) → unwrap_or found 65536 ≤ 1048576
       by None h = omega arith
       by (Some n) h = h.1
 
-  tries : tries_of script ≤ 8
+  pub tries : tries_of script ≤ 8
   tries = by script.tries valid.limits.tries
     where
       by : (found : Option ℕ) → IfSome found (λ n. (1 ≤ n) × (n ≤ 8)) → unwrap_or found 8 ≤ 8
@@ -139,7 +139,7 @@ module _ (script : Script) (geometry : IsGeometry script.geometry) (valid : IsVa
       by (Some n) h = h.1
 
   -- a client's calls
-  client_most : (f : Job → ℕ) (most : ℕ) → ((c : Call) → data_length c ≤ 2097152 → f (job_of c) ≤ most) → (i n : ℕ) (work : Work) → slice_get (client_work script) i ≡ Some work → sum_by f (drop n work.jobs) ≤ 4096 * most
+  pub client_most : (f : Job → ℕ) (most : ℕ) → ((c : Call) → data_length c ≤ 2097152 → f (job_of c) ≤ most) → (i n : ℕ) (work : Work) → slice_get (client_work script) i ≡ Some work → sum_by f (drop n work.jobs) ≤ 4096 * most
   client_most f most each i n work is_work =
       let of : Mapped (λ (part : ClientPart). record { jobs = map job_of part.calls; leave = part.leave }) script.clients i work =
       mapped (λ (part : ClientPart). record { jobs = map job_of part.calls; leave = part.leave }) script.clients i work is_work in
@@ -151,7 +151,7 @@ module _ (script : Script) (geometry : IsGeometry script.geometry) (valid : IsVa
       (jobs_most f most n (map job_of of.source.calls) (omega (arith, count, few)) (All-map (λ (job : Job). f job ≤ most) job_of of.source.calls (λ k d within. each _ (long k d within))))
 
   -- a repairer's
-  repairer_most : (f : Job → ℕ) (most : ℕ) → ((c : RebuildCall) → f (rebuild_job c) ≤ most) → (i n : ℕ) (work : Work) → slice_get (repairer_work script) i ≡ Some work → sum_by f (drop n work.jobs) ≤ 4096 * most
+  pub repairer_most : (f : Job → ℕ) (most : ℕ) → ((c : RebuildCall) → f (rebuild_job c) ≤ most) → (i n : ℕ) (work : Work) → slice_get (repairer_work script) i ≡ Some work → sum_by f (drop n work.jobs) ≤ 4096 * most
   repairer_most f most each i n work is_work =
       let of : Mapped (λ (part : RepairPart). record { jobs = map rebuild_job part.calls; leave = part.leave }) script.repairers i work =
       mapped (λ (part : RepairPart). record { jobs = map rebuild_job part.calls; leave = part.leave }) script.repairers i work is_work in
@@ -160,7 +160,7 @@ module _ (script : Script) (geometry : IsGeometry script.geometry) (valid : IsVa
       subst (λ (w : Work). sum_by f (drop n w.jobs) ≤ 4096 * most) of.is_image
       (jobs_most f most n (map rebuild_job of.source.calls) (omega (arith, count, few)) (All-map (λ (job : Job). f job ≤ most) rebuild_job of.source.calls (λ k d within. each _)))
 
-  abbrev steps_by : Job → ℕ
+  abbrev pub steps_by : Job → ℕ
   steps_by job = step_bound script.geometry (size_of script) (tries_of script) job.note
 
   abbrev draws_by : Job → ℕ
@@ -200,7 +200,7 @@ module _ (script : Script) (geometry : IsGeometry script.geometry) (valid : IsVa
       let product : length (client_work script) * 68719476736 ≤ 64 * 68719476736 = mul-le-mul_right 68719476736 client_count in
       omega (arith, sum, product)
 
-  rebuild_steps : (c : RebuildCall) → steps_by (rebuild_job c) ≤ 75
+  pub rebuild_steps : (c : RebuildCall) → steps_by (rebuild_job c) ≤ 75
   rebuild_steps c = let few : chunk_count script.geometry ≤ 24 = servers in omega (arith, few)
 
   repairer_steps : (callings : List Calling) → sum_by (λ (both : Work × Calling). steps_left script both.0 both.1) (zip (repairer_work script) callings) ≤ 16 * 307200
