@@ -34,7 +34,7 @@ left_at [] n less = absurd (omega arith)
 left_at (job ∷ jobs) zero less = record { job = job; there = refl }
 left_at (first ∷ jobs) (suc n) less = let rest : IsLeft jobs n = left_at jobs n (omega arith) in record { job = rest.job; there = rest.there }
 
-has_left : (work : Work) (calling : Calling) → has_step work calling ≡ true → length calling.ended < length work.jobs
+pub has_left : (work : Work) (calling : Calling) → has_step work calling ≡ true → length calling.ended < length work.jobs
 has_left work calling has = by (nat_lt 0 (length work.jobs - length calling.ended)) refl
   where
     by : (b : Bool) → nat_lt 0 (length work.jobs - length calling.ended) ≡ b → length calling.ended < length work.jobs

@@ -1,0 +1,65 @@
+-- What a world keeps through a change of its parts.
+use Rattle.std.proofs.Common.{◌≡◌, ℕ, List, [], ◌∷◌, length-set, set, slice_get, Some, append-nil, sym, ◌∙◌}
+use Rattle.store_map.specs.declared.actor.Token.{Token}
+use Rattle.store_map.specs.declared.script.Script.{Script}
+use Rattle.store_core.specs.Schedule.{step_core}
+use Rattle.version_seal.specs.Entry.{BookOf}
+use Rattle.chunk_server.specs.State.{ServerState}
+use Rattle.stripe_dir.specs.Sealed.{Sealed}
+use Rattle.sweeper.specs.Sweeps.{SweeperOf}
+use Rattle.world_steps.specs.World.{WorldOf}
+use Rattle.world_steps.specs.Tokens.{TokensAgree}
+use Rattle.world_runs.specs.Goes.{Leads}
+use Rattle.world_runs.proofs.Goes.{worlds_go_on}
+use Rattle.actors.specs.Turns.{AreServers}
+use Rattle.actors.specs.Clients.{ClientOf}
+use Rattle.actors.specs.Repairers.{RepairOf}
+use Rattle.world.specs.Stored.{StoredWorld, world_of}
+use Rattle.world.specs.Kept.{IsClientAt, AreClients, AreRepairers, IsWorld}
+use Rattle.world.proofs.Knowing.{knows_more}
+use Rattle.world.proofs.Lists.{each_set}
+
+-- the world with other parts
+abbrev pub changed : StoredWorld → Sealed → List ServerState → List ClientOf → List RepairOf → SweeperOf → StoredWorld
+changed s d servers clients repairers sweeper =
+    record { script = s.script; book = s.book; directory = d; servers = servers; clients = clients; repairers = repairers; sweeper = sweeper }
+
+pub kept_by : (s : StoredWorld) (d : Sealed) (servers : List ServerState) (clients : List ClientOf) (repairers : List RepairOf) (sweeper : SweeperOf) (t : Token) → IsWorld s
+    → d.book ≡ s.directory.book → AreServers s.book servers → AreClients s.script s.book d clients → AreRepairers s.script s.book repairers
+    → TokensAgree (world_of (changed s d servers clients repairers sweeper))
+    → Leads s.script (step_core s.script t) (world_of s) (world_of (changed s d servers clients repairers sweeper))
+    → IsWorld (changed s d servers clients repairers sweeper)
+kept_by s d servers clients repairers sweeper t is book held callers menders agree leads =
+    let after : WorldOf = world_of (changed s d servers clients repairers sweeper) in
+    record {
+      geometry = is.geometry;
+      valid = is.valid;
+      written = is.written;
+      code = is.code;
+      its = book ∙ is.its;
+      held = held;
+      callers = callers;
+      menders = menders;
+      agree = agree;
+      reached = (worlds_go_on s.script).reached (t ∷ []) (world_of s) after ((worlds_go_on s.script).step t (world_of s) after leads) is.reached;
+    }
+
+-- what clients know stays through steps that draw nothing
+pub callers_stay : (script : Script) (book : BookOf) (d now : Sealed) (clients : List ClientOf) → now.stamps ≡ d.stamps → AreClients script book d clients → AreClients script book now clients
+callers_stay script book d now clients same are =
+    record {
+      count = are.count;
+      each = λ i c there.
+          let of : IsClientAt script book d i c = are.each i c there in
+          record { its = of.its; same_book = of.same_book; often = of.often; knows = knows_more d now [] c (same ∙ sym (append-nil d.stamps)) of.knows };
+    }
+
+-- of the servers one is changed
+pub others_stay : (book : BookOf) (servers : List ServerState) (i : ℕ) (s now : ServerState) → AreServers book servers → slice_get servers i ≡ Some s → now.number ≡ s.number → now.book ≡ s.book
+    → AreServers book (set servers i now)
+others_stay book servers i s now are there number its =
+    let was : (s.number ≡ i) × (s.book ≡ book) = are.each i s there in
+    record {
+      count = length-set servers i now ∙ are.count;
+      each = each_set (λ (k : ℕ) (t : ServerState). (t.number ≡ k) × (t.book ≡ book)) (λ (k : ℕ) (t : ServerState). (t.number ≡ k) × (t.book ≡ book)) servers i now (λ k t of. of) are.each (number ∙ was.0, its ∙ was.1);
+    }

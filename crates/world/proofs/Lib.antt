@@ -1,0 +1,9 @@
+pub mod Lists
+pub mod Knowing
+pub mod Keeping
+pub mod Clients
+pub mod Repairers
+pub mod Places
+pub mod Rounds
+pub mod Drains
+pub mod Padding

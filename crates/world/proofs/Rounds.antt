@@ -1,0 +1,111 @@
+-- Rounds of the world, and whether somebody has a step.
+use Rattle.std.proofs.Common.{◌≡◌, ℕ, suc, ◌+◌, Bool, true, false, ◌||◌, List, [], ◌∷◌, ◌++◌, length, map, slice_get, Some, refl, sym, ap, subst, ◌∙◌, arith}
+use Rattle.std.proofs.lemmas.Option.{same_Some}
+use Rattle.store_map.specs.declared.script.ClientPart.{ClientPart}
+use Rattle.store_map.specs.declared.script.RepairPart.{RepairPart}
+use Rattle.store_map.specs.declared.script.Script.{Script}
+use Rattle.store_core.specs.Core.{sweeper_has_step}
+use Rattle.store_core.specs.NextAct.{job_of, rebuild_job}
+use Rattle.store_core.specs.Run.{client_step, repairer_step, sweeper_step}
+use Rattle.store_core.specs.Schedule.{is_unfinished, round}
+use Rattle.store_core.specs.Work.{client_work, repairer_work, has_step, any_has_step}
+use Rattle.version_seal.specs.Entry.{BookOf}
+use Rattle.world_steps.specs.World.{WorldOf}
+use Rattle.world_steps.specs.Known.{calling_of, core_of}
+use Rattle.world_steps.specs.RoundLaws.{client_turns, repairer_turns, sweep_turn}
+use Rattle.world_steps.proofs.Rounds.{rounds_are_rounds}
+use Rattle.world_runs.specs.Goes.{Leads}
+use Rattle.actors.specs.Clients.{ClientOf, work_of}
+use Rattle.actors.specs.Repairers.{RepairOf, rebuild_work_of}
+use Rattle.world.specs.Stored.{StoredWorld, world_of}
+use Rattle.world.specs.Kept.{IsWorld}
+use Rattle.world.specs.Having.{some_client_has, some_repairer_has, AreOfCode, RepairsAreOfCode}
+
+-- ---- turns
+module _ (script : Script) (w : WorldOf) where
+  pub no_clients : Leads script (client_turns script 0) w w
+  no_clients = record { shortages = []; leads = (rounds_are_rounds script w).clients.none }
+
+  pub no_repairers : Leads script (repairer_turns script 0) w w
+  no_repairers = record { shortages = []; leads = (rounds_are_rounds script w).repairers.none }
+
+  pub one_client_more : (i : ℕ) (middle after : WorldOf) → Leads script (client_turns script i) w middle → Leads script (client_step script i) middle after → Leads script (client_turns script (i + 1)) w after
+  one_client_more i middle after one two =
+      record { shortages = one.shortages ++ two.shortages; leads = (rounds_are_rounds script w).clients.next i middle after one.shortages two.shortages one.leads two.leads }
+
+  pub one_repairer_more : (i : ℕ) (middle after : WorldOf) → Leads script (repairer_turns script i) w middle → Leads script (repairer_step script i) middle after → Leads script (repairer_turns script (i + 1)) w after
+  one_repairer_more i middle after one two =
+      record { shortages = one.shortages ++ two.shortages; leads = (rounds_are_rounds script w).repairers.next i middle after one.shortages two.shortages one.leads two.leads }
+
+  pub sweep_made : (after : WorldOf) → sweeper_has_step (core_of script w) ≡ true → Leads script (sweeper_step script) w after → Leads script (sweep_turn script) w after
+  sweep_made after has one = record { shortages = one.shortages; leads = (rounds_are_rounds script w).sweeper.has has after one.shortages one.leads }
+
+  pub no_sweep : sweeper_has_step (core_of script w) ≡ false → Leads script (sweep_turn script) w w
+  no_sweep has = record { shortages = []; leads = (rounds_are_rounds script w).sweeper.none has }
+
+  pub whole_round : (clients repairers : ℕ) → clients ≡ length script.clients → repairers ≡ length script.repairers → (middle late after : WorldOf) → Leads script (client_turns script clients) w middle
+      → Leads script (repairer_turns script repairers) middle late → Leads script (sweep_turn script) late after → Leads script (round script) w after
+  whole_round clients repairers all_clients all_repairers middle late after one two three =
+      let first : Leads script (client_turns script (length script.clients)) w middle = subst (λ (n : ℕ). Leads script (client_turns script n) w middle) all_clients one in
+      let second : Leads script (repairer_turns script (length script.repairers)) middle late = subst (λ (n : ℕ). Leads script (repairer_turns script n) middle late) all_repairers two in
+      record {
+        shortages = first.shortages ++ second.shortages ++ three.shortages;
+        leads = (rounds_are_rounds script w).whole middle late after first.shortages second.shortages three.shortages first.leads second.leads three.leads;
+      }
+
+-- ---- whether somebody has a step
+any_client : (script : Script) (parts : List ClientPart) (clients : List ClientOf) → length clients ≡ length parts
+    → ((i : ℕ) (c : ClientOf) → slice_get clients i ≡ Some c → slice_get parts i ≡ Some c.part)
+    → any_has_step (map (λ part. record { jobs = map job_of part.calls; leave = part.leave }) parts) (map (calling_of script) (map (λ client. client.actor) clients)) ≡ some_client_has script clients
+any_client script [] [] count each = refl
+any_client script [] (c ∷ clients) count each = absurd (omega (arith, count))
+any_client script (p ∷ parts) [] count each = absurd (omega (arith, count))
+any_client script (p ∷ parts) (c ∷ clients) count each =
+    let same : p ≡ c.part = same_Some p c.part (each 0 c refl) in
+    λ k. has_step (work_of (same k)) (calling_of script c.actor) || any_client script parts clients (omega (arith, count)) (λ i x there. each (suc i) x there) k
+
+any_repairer : (script : Script) (parts : List RepairPart) (repairers : List RepairOf) → length repairers ≡ length parts
+    → ((i : ℕ) (c : RepairOf) → slice_get repairers i ≡ Some c → slice_get parts i ≡ Some c.part)
+    → any_has_step (map (λ part. record { jobs = map rebuild_job part.calls; leave = part.leave }) parts) (map (calling_of script) (map (λ repairer. repairer.actor) repairers)) ≡ some_repairer_has script repairers
+any_repairer script [] [] count each = refl
+any_repairer script [] (c ∷ repairers) count each = absurd (omega (arith, count))
+any_repairer script (p ∷ parts) [] count each = absurd (omega (arith, count))
+any_repairer script (p ∷ parts) (c ∷ repairers) count each =
+    let same : p ≡ c.part = same_Some p c.part (each 0 c refl) in
+    λ k. has_step (rebuild_work_of (same k)) (calling_of script c.actor) || any_repairer script parts repairers (omega (arith, count)) (λ i x there. each (suc i) x there) k
+
+module _ (s : StoredWorld) (is : IsWorld s) where
+  pub clients_of_code : AreOfCode s.script s.clients
+  clients_of_code i c there = ap (λ (b : BookOf). b.geometry) (is.callers.each i c there).same_book ∙ is.code
+
+  pub repairers_of_code : RepairsAreOfCode s.script s.repairers
+  repairers_of_code i c there = ap (λ (b : BookOf). b.geometry) (is.menders.each i c there).same_book ∙ is.code
+
+  -- a client has one, or no client and a repairer, or neither and the sweeper tells
+  clients_known : any_has_step (client_work s.script) (map (calling_of s.script) (world_of s).clients) ≡ some_client_has s.script s.clients
+  clients_known = any_client s.script s.script.clients s.clients is.callers.count (λ i c there. (is.callers.each i c there).its)
+
+  repairers_known : any_has_step (repairer_work s.script) (map (calling_of s.script) (world_of s).repairers) ≡ some_repairer_has s.script s.repairers
+  repairers_known = any_repairer s.script s.script.repairers s.repairers is.menders.count (λ i c there. (is.menders.each i c there).its)
+
+  pub unfinished : (some_client some_repairer : Bool) → some_client ≡ some_client_has s.script s.clients → some_repairer ≡ some_repairer_has s.script s.repairers
+      → (some_client || some_repairer || sweeper_has_step (core_of s.script (world_of s))) ≡ is_unfinished s.script (core_of s.script (world_of s))
+  unfinished some_client some_repairer one two = λ k. (one ∙ sym clients_known) k || (two ∙ sym repairers_known) k || sweeper_has_step (core_of s.script (world_of s))
+
+  pub by_client : (some_client : Bool) → some_client ≡ some_client_has s.script s.clients → some_client ≡ true → true ≡ is_unfinished s.script (core_of s.script (world_of s))
+  by_client some_client one holds =
+      let rest : Bool = some_repairer_has s.script s.repairers in
+      let sweeps : Bool = sweeper_has_step (core_of s.script (world_of s)) in
+      ap (λ (b : Bool). b || rest || sweeps) (sym holds) ∙ unfinished some_client rest one refl
+
+  pub by_repairer : (some_client some_repairer : Bool) → some_client ≡ some_client_has s.script s.clients → some_client ≡ false → some_repairer ≡ some_repairer_has s.script s.repairers → some_repairer ≡ true
+      → true ≡ is_unfinished s.script (core_of s.script (world_of s))
+  by_repairer some_client some_repairer one without two holds =
+      let sweeps : Bool = sweeper_has_step (core_of s.script (world_of s)) in
+      (λ k. sym without k || sym holds k || sweeps) ∙ unfinished some_client some_repairer one two
+
+  pub by_sweeper : (some_client some_repairer : Bool) → some_client ≡ some_client_has s.script s.clients → some_client ≡ false → some_repairer ≡ some_repairer_has s.script s.repairers → some_repairer ≡ false
+      → sweeper_has_step (core_of s.script (world_of s)) ≡ is_unfinished s.script (core_of s.script (world_of s))
+  by_sweeper some_client some_repairer one without two none =
+      let sweeps : Bool = sweeper_has_step (core_of s.script (world_of s)) in
+      (λ k. sym without k || sym none k || sweeps) ∙ unfinished some_client some_repairer one two

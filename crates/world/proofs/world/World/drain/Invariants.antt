@@ -1,0 +1,10 @@
+use Rattle.std.proofs.Common.{◌≡◌}
+use Rattle.world_runs.specs.Drains.{GoesByRounds}
+use Rattle.world.specs.Stored.{world_of}
+use Rattle.world.proofs.world.World.drain.Given as goal
+
+abbrev pub invariant-loop-made : goal.invariant-loop-made
+invariant-loop-made g l = record {
+  same : l.self.script ≡ l.fn.self.script;
+  goes : GoesByRounds l.fn.self.script l._made (world_of l.fn.self) (world_of l.self);
+}

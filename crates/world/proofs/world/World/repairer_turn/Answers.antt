@@ -1,0 +1,75 @@
+use Rattle.std.proofs.Common.{◌≡◌, set, slice_get, Some, subst}
+use Rattle.store_core.specs.Run.{repairer_step}
+use Rattle.world_runs.specs.Goes.{Leads}
+use Rattle.world.specs.Stored.{StoredWorld, world_of}
+use Rattle.world.specs.Inside.{stored_in}
+use Rattle.world.proofs.Keeping.{changed}
+use Rattle.world.proofs.Lists.{got}
+use Rattle.world.proofs.Repairers.{HasTurnNow, ready_repairer, idle_repairer, repairer_leads, repairer_kept}
+use Rattle.world.proofs.world.World.repairer_turn.Goals as goal
+
+pub returns-then-not-repairer_has_step-clause-leads : goal.returns-then-not-repairer_has_step-clause-leads
+returns-then-not-repairer_has_step-clause-leads g c =
+    subst (λ (v : StoredWorld). Leads v.script (repairer_step v.script c.args.i) (world_of v) (world_of v)) c.self.view_is
+    (idle_repairer (stored_in c.self.inside) c.self.invariant c.args.i c.repairer_has_step.result c.repairer_has_step.ensures.has c.if-not-repairer_has_step.true)
+
+pub turn-requires-clause-keeps : goal.turn-requires-clause-keeps
+turn-requires-clause-keeps g c κs within =
+    let there : slice_get c.self.inside.repairers.items c.args.i ≡ Some c.index_mut.result.now =
+    got c.self.inside.repairers.items c.args.i c.index_mut.result.now (c.repairer_has_step.ensures.there c.if-not-repairer_has_step.false) c.index_mut.ensures.value in
+    let ready : HasTurnNow (stored_in c.self.inside) c.args.i c.index_mut.result.now =
+    ready_repairer (stored_in c.self.inside) c.self.invariant c.args.i c.index_mut.result.now there c.repairer_has_step.result c.repairer_has_step.ensures.has c.if-not-repairer_has_step.false in
+    ready.turn.keeps
+
+pub turn-requires-clause-next : goal.turn-requires-clause-next
+turn-requires-clause-next g c κs within =
+    let there : slice_get c.self.inside.repairers.items c.args.i ≡ Some c.index_mut.result.now =
+    got c.self.inside.repairers.items c.args.i c.index_mut.result.now (c.repairer_has_step.ensures.there c.if-not-repairer_has_step.false) c.index_mut.ensures.value in
+    let ready : HasTurnNow (stored_in c.self.inside) c.args.i c.index_mut.result.now =
+    ready_repairer (stored_in c.self.inside) c.self.invariant c.args.i c.index_mut.result.now there c.repairer_has_step.result c.repairer_has_step.ensures.has c.if-not-repairer_has_step.false in
+    ready.turn.next
+
+pub turn-requires-clause-steps : goal.turn-requires-clause-steps
+turn-requires-clause-steps g c κs within =
+    let there : slice_get c.self.inside.repairers.items c.args.i ≡ Some c.index_mut.result.now =
+    got c.self.inside.repairers.items c.args.i c.index_mut.result.now (c.repairer_has_step.ensures.there c.if-not-repairer_has_step.false) c.index_mut.ensures.value in
+    let ready : HasTurnNow (stored_in c.self.inside) c.args.i c.index_mut.result.now =
+    ready_repairer (stored_in c.self.inside) c.self.invariant c.args.i c.index_mut.result.now there c.repairer_has_step.result c.repairer_has_step.ensures.has c.if-not-repairer_has_step.false in
+    ready.turn.steps
+
+pub turn-requires-clause-its : goal.turn-requires-clause-its
+turn-requires-clause-its g c κs within =
+    let there : slice_get c.self.inside.repairers.items c.args.i ≡ Some c.index_mut.result.now =
+    got c.self.inside.repairers.items c.args.i c.index_mut.result.now (c.repairer_has_step.ensures.there c.if-not-repairer_has_step.false) c.index_mut.ensures.value in
+    let ready : HasTurnNow (stored_in c.self.inside) c.args.i c.index_mut.result.now =
+    ready_repairer (stored_in c.self.inside) c.self.invariant c.args.i c.index_mut.result.now there c.repairer_has_step.result c.repairer_has_step.ensures.has c.if-not-repairer_has_step.false in
+    ready.turn.its
+
+pub turn-requires-clause-servers : goal.turn-requires-clause-servers
+turn-requires-clause-servers g c κs within =
+    let there : slice_get c.self.inside.repairers.items c.args.i ≡ Some c.index_mut.result.now =
+    got c.self.inside.repairers.items c.args.i c.index_mut.result.now (c.repairer_has_step.ensures.there c.if-not-repairer_has_step.false) c.index_mut.ensures.value in
+    let ready : HasTurnNow (stored_in c.self.inside) c.args.i c.index_mut.result.now =
+    ready_repairer (stored_in c.self.inside) c.self.invariant c.args.i c.index_mut.result.now there c.repairer_has_step.result c.repairer_has_step.ensures.has c.if-not-repairer_has_step.false in
+    ready.turn.held
+
+pub invariant_of-self : goal.invariant_of-self
+invariant_of-self g c =
+    let there : slice_get c.self.inside.repairers.items c.args.i ≡ Some c.index_mut.result.now =
+    got c.self.inside.repairers.items c.args.i c.index_mut.result.now (c.repairer_has_step.ensures.there c.if-not-repairer_has_step.false) c.index_mut.ensures.value in
+    let ready : HasTurnNow (stored_in c.self.inside) c.args.i c.index_mut.result.now =
+    ready_repairer (stored_in c.self.inside) c.self.invariant c.args.i c.index_mut.result.now there c.repairer_has_step.result c.repairer_has_step.ensures.has c.if-not-repairer_has_step.false in
+    repairer_kept c.turns_lead.ensures (stored_in c.self.inside) c.self.invariant c.args.i c.index_mut.result.now c.turn.new.self there c.turn.new.directory c.turn.new.servers.items
+    (c.turn.ensures.turn c.self.inside.script.now ready.turn.of_script ready.has) c.turn.ensures.same c.turn.ensures.book c.turn.ensures.stamps c.turn.ensures.servers
+
+pub returns-clause-leads : goal.returns-clause-leads
+returns-clause-leads g c =
+    let there : slice_get c.self.inside.repairers.items c.args.i ≡ Some c.index_mut.result.now =
+    got c.self.inside.repairers.items c.args.i c.index_mut.result.now (c.repairer_has_step.ensures.there c.if-not-repairer_has_step.false) c.index_mut.ensures.value in
+    let ready : HasTurnNow (stored_in c.self.inside) c.args.i c.index_mut.result.now =
+    ready_repairer (stored_in c.self.inside) c.self.invariant c.args.i c.index_mut.result.now there c.repairer_has_step.result c.repairer_has_step.ensures.has c.if-not-repairer_has_step.false in
+    let leads : _ = repairer_leads c.turns_lead.ensures (stored_in c.self.inside) c.self.invariant c.args.i c.index_mut.result.now c.turn.new.self there c.turn.new.directory c.turn.new.servers.items (c.turn.ensures.turn c.self.inside.script.now ready.turn.of_script ready.has) in
+    subst
+    (λ (v : StoredWorld). Leads v.script (repairer_step v.script c.args.i) (world_of v)
+    (world_of (changed (stored_in c.self.inside) c.turn.new.directory c.turn.new.servers.items c.self.inside.clients.items (set c.self.inside.repairers.items c.args.i c.turn.new.self) c.self.inside.sweeper)))
+    c.self.view_is leads

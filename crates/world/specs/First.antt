@@ -1,0 +1,38 @@
+-- A world before its first step.
+use Rattle.std.specs.Prelude.{◌≡◌, ◌<◌, ℕ, List, length, Some}
+use Rattle.std.specs.List.{slice_get}
+use Rattle.store_map.specs.Limits.{tries_of}
+use Rattle.store_map.specs.declared.script.ClientPart.{ClientPart}
+use Rattle.store_map.specs.declared.script.RepairPart.{RepairPart}
+use Rattle.store_map.specs.declared.script.Script.{Script}
+use Rattle.store_core.specs.Agreement.{Seat}
+use Rattle.version_seal.specs.Entry.{BookOf}
+use Rattle.stripe_dir.specs.Seats.{client_seat, repairer_seat}
+use Rattle.actors.specs.Clients.{ClientOf, first_client}
+use Rattle.actors.specs.Repairers.{RepairOf, first_repairer}
+
+-- a client at its place of the script that has made no call
+pub record IsFirstClient (script : Script) (book : BookOf) (place : ℕ) (client : ClientOf) : Type 0 where
+  pub part : ClientPart
+  pub its : slice_get script.clients place ≡ Some part
+  pub first : client ≡ first_client part book (tries_of script) (client_seat place)
+
+-- the script's clients
+pub record AreFirstClients (script : Script) (book : BookOf) (clients : List ClientOf) : Type 0 where
+  pub count : length clients ≡ length script.clients
+  pub each : (i : ℕ) (client : ClientOf) → slice_get clients i ≡ Some client → IsFirstClient script book i client
+
+-- a repairer at its place that has made no call
+pub record IsFirstRepairer (script : Script) (book : BookOf) (place : ℕ) (repairer : RepairOf) : Type 0 where
+  pub part : RepairPart
+  pub its : slice_get script.repairers place ≡ Some part
+  pub first : repairer ≡ first_repairer part book (repairer_seat place)
+
+-- the script's repairers
+pub record AreFirstRepairers (script : Script) (book : BookOf) (repairers : List RepairOf) : Type 0 where
+  pub count : length repairers ≡ length script.repairers
+  pub each : (i : ℕ) (repairer : RepairOf) → slice_get repairers i ≡ Some repairer → IsFirstRepairer script book i repairer
+
+-- these seats are the first of some
+abbrev pub BeginWith : (ℕ → Seat) → ℕ → List Seat → Type 0
+BeginWith seat count seats = (i : ℕ) → i < count → slice_get seats i ≡ Some (seat i)

@@ -1,0 +1,50 @@
+-- What every world of a script keeps.
+use Rattle.std.specs.Prelude.{◌≡◌, ℕ, List, length, Some}
+use Rattle.std.specs.List.{slice_get}
+use Rattle.clay_grid.specs.Limits.{IsGeometry}
+use Rattle.store_map.specs.Limits.{tries_of}
+use Rattle.store_map.specs.Naming.{IsValid}
+use Rattle.store_map.specs.declared.script.Script.{Script}
+use Rattle.version_seal.specs.Entry.{BookOf}
+use Rattle.stripe_dir.specs.Sealed.{Sealed}
+use Rattle.world_steps.specs.Tokens.{TokensAgree}
+use Rattle.world_runs.specs.Goes.{IsReached}
+use Rattle.actors.specs.Turns.{AreServers}
+use Rattle.actors.specs.Clients.{ClientOf, Knows}
+use Rattle.actors.specs.Repairers.{RepairOf}
+use Rattle.world.specs.Stored.{StoredWorld, world_of}
+
+-- a client at its place of the script, which knows by the directory's stamps what it keeps
+pub record IsClientAt (script : Script) (book : BookOf) (d : Sealed) (place : ℕ) (client : ClientOf) : Type 0 where
+  pub its : slice_get script.clients place ≡ Some client.part
+  pub same_book : client.book ≡ book
+  pub often : client.tries ≡ tries_of script
+  pub knows : Knows d client
+
+-- as many clients as the script has, each at its place
+pub record AreClients (script : Script) (book : BookOf) (d : Sealed) (clients : List ClientOf) : Type 0 where
+  pub count : length clients ≡ length script.clients
+  pub each : (i : ℕ) (client : ClientOf) → slice_get clients i ≡ Some client → IsClientAt script book d i client
+
+-- a repairer at its place
+pub record IsRepairerAt (script : Script) (book : BookOf) (place : ℕ) (repairer : RepairOf) : Type 0 where
+  pub its : slice_get script.repairers place ≡ Some repairer.part
+  pub same_book : repairer.book ≡ book
+
+-- as many repairers as the script has
+pub record AreRepairers (script : Script) (book : BookOf) (repairers : List RepairOf) : Type 0 where
+  pub count : length repairers ≡ length script.repairers
+  pub each : (i : ℕ) (repairer : RepairOf) → slice_get repairers i ≡ Some repairer → IsRepairerAt script book i repairer
+
+-- the book is the script's, all parts are of it, the directory agrees with the tokens of all actors, and some tokens of the script reach the world
+pub record IsWorld (s : StoredWorld) : Type 0 where
+  pub geometry : IsGeometry s.script.geometry
+  pub valid : IsValid s.script
+  pub written : s.book.script ≡ Some s.script
+  pub code : s.book.geometry ≡ s.script.geometry
+  pub its : s.directory.book ≡ s.book
+  pub held : AreServers s.book s.servers
+  pub callers : AreClients s.script s.book s.directory s.clients
+  pub menders : AreRepairers s.script s.book s.repairers
+  pub agree : TokensAgree (world_of s)
+  pub reached : IsReached s.script (world_of s)

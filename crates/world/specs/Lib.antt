@@ -1,0 +1,5 @@
+pub mod Stored
+pub mod Kept
+pub mod Inside
+pub mod Having
+pub mod First

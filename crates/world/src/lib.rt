@@ -1,0 +1,12 @@
+//! The world of a store: its directory and servers, the actors with their calls in work, and the
+//! sweeper. Its steps are those of the store's definitions.
+#![tactic(auto)]
+
+mod drain;
+mod operator;
+mod step;
+mod sweep;
+mod turns;
+mod world;
+
+pub use world::World;
