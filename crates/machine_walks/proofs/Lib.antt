@@ -1,0 +1,7 @@
+pub mod Whole
+pub mod WholeObjects
+pub mod Waiters
+pub mod Servers
+pub mod Opened
+pub mod Beside
+pub mod Sweeps

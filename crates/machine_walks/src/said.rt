@@ -1,0 +1,115 @@
+//! Ends of calls in words.
+
+use call_steps::{Change, Outcome, RepairOutcome};
+use gather_course::LostChunk;
+use read_ledger::Takes;
+use std::alloc::{AllocError, Global};
+use store_map::{Found, Placement};
+
+/// What was taken from each server.
+fn said_takes(alloc: Global, takes: Option<&Takes>) -> Result<String, AllocError> {
+    match takes {
+        Some(takes) => {
+            let counts = takes.counts();
+            format!(in alloc; "takes {counts:?}")
+        }
+        None => String::from_str(alloc, "takes nothing"),
+    }
+}
+
+fn said_lost(alloc: Global, lost: &LostChunk) -> Result<String, AllocError> {
+    let server = lost.server;
+    let placed = match lost.placed {
+        Placement::At(epoch) => format!(in alloc; "{epoch}")?,
+        Placement::Skipped(downs) => format!(in alloc; "-{downs}")?,
+    };
+    match lost.found {
+        Found::Absent { epoch } => format!(in alloc; " {server}/{placed}/{epoch}"),
+        Found::Away { downs } => format!(in alloc; " {server}/{placed}/-{downs}"),
+    }
+}
+
+fn said_missing(alloc: Global, stripe: u32, missing: &[LostChunk]) -> Result<String, AllocError> {
+    let mut text = format!(in alloc; "unavailable {stripe}:")?;
+    for lost in missing {
+        text.push_str(&said_lost(alloc, lost)?)?;
+    }
+    Ok(text)
+}
+
+// The point on which each try was based, and that of the change.
+fn said_changes(alloc: Global, changes: &[Change]) -> Result<String, AllocError> {
+    let mut text = String::from_str(alloc, "contended:")?;
+    for change in changes {
+        let base = change.base.0;
+        let newer = change.newer.0;
+        text.push_str(&format!(in alloc; " {base}/{newer}")?)?;
+    }
+    Ok(text)
+}
+
+fn said_outcome(alloc: Global, outcome: &Outcome) -> Result<String, AllocError> {
+    match outcome {
+        Outcome::Answered { point, reply } => {
+            let point = point.0;
+            format!(in alloc; "answered {point} {reply:?}")
+        }
+        Outcome::Served { point, bytes } => {
+            let point = point.0;
+            let bytes = bytes.as_slice();
+            format!(in alloc; "served {point} {bytes:?}")
+        }
+        Outcome::Unavailable { stripe, missing } => {
+            said_missing(alloc, *stripe, missing.as_slice())
+        }
+        Outcome::Contended { changes } => said_changes(alloc, changes.as_slice()),
+        Outcome::Reaped { at } => {
+            let at = at.0;
+            format!(in alloc; "reaped {at}")
+        }
+        Outcome::NoMemory => String::from_str(alloc, "no memory"),
+    }
+}
+
+/// How a client's call ended, and what it took.
+pub(crate) fn said(
+    alloc: Global,
+    outcome: &Outcome,
+    takes: Option<&Takes>,
+) -> Result<String, AllocError> {
+    let outcome = said_outcome(alloc, outcome)?;
+    let takes = said_takes(alloc, takes)?;
+    format!(in alloc; "{outcome}, {takes}")
+}
+
+fn said_repair_outcome(alloc: Global, outcome: &RepairOutcome) -> Result<String, AllocError> {
+    match outcome {
+        RepairOutcome::Rebuilt => String::from_str(alloc, "rebuilt"),
+        RepairOutcome::Here => String::from_str(alloc, "here"),
+        RepairOutcome::Away { downs } => format!(in alloc; "away {downs}"),
+        RepairOutcome::NoSuch => String::from_str(alloc, "no such"),
+        RepairOutcome::Superseded { newer } => {
+            let newer = newer.0;
+            format!(in alloc; "superseded {newer}")
+        }
+        RepairOutcome::Unavailable { stripe, missing } => {
+            said_missing(alloc, *stripe, missing.as_slice())
+        }
+        RepairOutcome::Reaped { at } => {
+            let at = at.0;
+            format!(in alloc; "reaped {at}")
+        }
+        RepairOutcome::NoMemory => String::from_str(alloc, "no memory"),
+    }
+}
+
+/// How a rebuild ended, and what it took.
+pub(crate) fn said_repair(
+    alloc: Global,
+    outcome: &RepairOutcome,
+    takes: Option<&Takes>,
+) -> Result<String, AllocError> {
+    let outcome = said_repair_outcome(alloc, outcome)?;
+    let takes = said_takes(alloc, takes)?;
+    format!(in alloc; "{outcome}, {takes}")
+}
