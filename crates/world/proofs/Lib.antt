@@ -7,3 +7,4 @@ pub mod Places
 pub mod Rounds
 pub mod Drains
 pub mod Padding
+pub mod Seating

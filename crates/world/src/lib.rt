@@ -2,6 +2,7 @@
 //! sweeper. Its steps are those of the store's definitions.
 #![tactic(auto)]
 
+mod beginning;
 mod drain;
 mod operator;
 mod step;

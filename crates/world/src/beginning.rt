@@ -1,0 +1,109 @@
+//! The world before its first step.
+ghost use Rattle.std.specs.Prelude.{◌≡◌, ◌≤◌, ◌<◌, ◌^◌, [], ◌∷◌, length, drop, take, map, All, IfOk, OnOk};
+ghost use Rattle.std.specs.List.{range_with_len};
+ghost use Rattle.clay_grid.specs.Shape.{chunk_count};
+ghost use Rattle.store_map.specs.Limits.{tries_of};
+ghost use Rattle.store_map.specs.Naming.{IsValid};
+ghost use Rattle.stripe_dir.specs.Seats.{client_seat, repairer_seat};
+ghost use Rattle.chunk_server.specs.State.{empty_server};
+ghost use Rattle.world_runs.specs.Goes.{IsReachedBy};
+ghost use Rattle.world.specs.First.{AreFirstClients, AreFirstRepairers, BeginWith};
+ghost use Rattle.world.specs.Stored.{world_of};
+
+use crate::world::World;
+use actors::{ClientActor, RepairActor};
+use chunk_server::Server;
+use std::alloc::{AllocError, Global};
+use store_map::Script;
+use stripe_dir::{Directory, Seat};
+use sweeper::Sweeper;
+use version_seal::Book;
+
+// So many servers of the book's stripes, each empty.
+fn new_servers(alloc: Global, book: &Book, count: u32) -> Result<Vec<Server>, AllocError>
+    ensures { IfOk result (λ servers. servers.items ≡ map (λ number. empty_server number book.now) (range_with_len 0 count)) }
+{
+    let mut servers = Vec::with_capacity(alloc, count as usize)?;
+    for number in 0..count {
+        servers.push_reserved(Server::new(alloc, number, book.opening()));
+    }
+    Ok(servers)
+}
+
+// The script's clients, each with its seat.
+fn seat_clients<'a>(
+    alloc: Global,
+    script: &'a Script,
+    book: &Book,
+    seats: &mut Vec<Seat>,
+    clients: &mut Vec<ClientActor<'a>>,
+) -> Result<(), AllocError>
+    requires valid { IsValid script.now }
+    requires seats { BeginWith client_seat (length script.now.clients) seats.old.items }
+    requires enough { length script.now.clients ≤ length seats.old.items }
+    requires none { clients.old.items ≡ [] }
+    ensures clients { OnOk result (AreFirstClients script.now book.now clients.new.items) }
+    ensures seats { OnOk result (seats.new.items ≡ drop (length script.now.clients) seats.old.items) }
+{
+    clients.reserve(script.clients.len())?;
+    for part in script.clients.as_slice() {
+        let seat = seats.remove(0);
+        let client = ClientActor::new(alloc, seat, part, book.opening(), script.max_tries())?;
+        clients.push_reserved(client);
+    }
+    Ok(())
+}
+
+// The script's repairers, each with its seat.
+fn seat_repairers<'a>(
+    alloc: Global,
+    script: &'a Script,
+    book: &Book,
+    seats: &mut Vec<Seat>,
+    repairers: &mut Vec<RepairActor<'a>>,
+) -> Result<(), AllocError>
+    requires valid { IsValid script.now }
+    requires code { book.now.geometry ≡ script.now.geometry }
+    requires seats { BeginWith repairer_seat (length script.now.repairers) seats.old.items }
+    requires enough { length script.now.repairers ≤ length seats.old.items }
+    requires none { repairers.old.items ≡ [] }
+    ensures repairers { OnOk result (AreFirstRepairers script.now book.now repairers.new.items) }
+{
+    repairers.reserve(script.repairers.len())?;
+    for part in script.repairers.as_slice() {
+        let seat = seats.remove(0);
+        let repairer = RepairActor::new(alloc, seat, part, book.opening())?;
+        repairers.push_reserved(repairer);
+    }
+    Ok(())
+}
+
+// The seats that are left are spent.
+fn leave_seats(mut seats: Vec<Seat>) {
+    for _left in 0..seats.len() {
+        if let Some(seat) = seats.pop() {
+            seat.leave();
+        }
+    }
+    seats.destroy_empty();
+}
+
+// Clients that were made for nothing are spent.
+fn leave_clients(mut clients: Vec<ClientActor>) {
+    for _left in 0..clients.len() {
+        if let Some(client) = clients.pop() {
+            let _calls = client.into_calls();
+        }
+    }
+    clients.destroy_empty();
+}
+
+// And repairers.
+fn leave_repairers(mut repairers: Vec<RepairActor>) {
+    for _left in 0..repairers.len() {
+        if let Some(repairer) = repairers.pop() {
+            let _calls = repairer.into_calls();
+        }
+    }
+    repairers.destroy_empty();
+}
