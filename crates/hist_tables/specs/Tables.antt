@@ -1,10 +1,10 @@
 -- What tables hold for a call or for its actor.
-use Rattle.std.specs.Prelude.{◌≡◌, ℕ, Bool, ◌&&◌, nat_eq, List, Option}
+use Rattle.std.specs.Prelude.{◌≡◌, ℕ, Bool, nat_eq, List, Option}
 use Rattle.std.specs.HashMap.{get}
-use Rattle.std.specs.HashSet.{contains}
 use Rattle.transcript_text.specs.declared.call_name.CallName.{CallName}
 use Rattle.transcript_text.specs.declared.call_name.CallName.TheVariants.{Client, Repairer}
 use Rattle.hist_rules.specs.Calls.{is_named}
+use Rattle.hist_tables.specs.Numbers.{holds}
 use Rattle.hist_tables.specs.declared.actor_table.ActorTable.{ActorTable}
 use Rattle.hist_tables.specs.declared.call_set.CallSet.{CallSet}
 
@@ -15,8 +15,8 @@ value_at table (Repairer actor number) = get nat_eq table.repairers actor
 
 -- whether the set has the call
 abbrev pub has : CallSet → CallName → Bool
-has set (Client actor number) = contains (λ one other. nat_eq one.0 other.0 && nat_eq one.1 other.1) set.clients (actor, number)
-has set (Repairer actor number) = contains (λ one other. nat_eq one.0 other.0 && nat_eq one.1 other.1) set.repairers (actor, number)
+has set (Client actor number) = holds set.clients actor number
+has set (Repairer actor number) = holds set.repairers actor number
 
 -- the set has just these calls
 abbrev pub IsSetOf : CallSet → List CallName → Type 0

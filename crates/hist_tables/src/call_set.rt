@@ -3,15 +3,15 @@ ghost use Rattle.hist_rules.specs.Calls.{same_call, is_named};
 ghost use Rattle.hist_tables.specs.Tables.{has, IsSetOf};
 ghost use Rattle.transcript_text.specs.declared.call_name.CallName.{CallName};
 
+use crate::number_set::NumberSet;
 use std::alloc::{AllocError, Global};
-use std::collections::HashSet;
 use transcript_text::CallName;
 
 /// A set of calls, each by its actor and its number.
 #[derive(Drop)]
 pub struct CallSet {
-    clients: HashSet<(u32, u32)>,
-    repairers: HashSet<(u32, u32)>,
+    clients: NumberSet,
+    repairers: NumberSet,
 }
 
 impl CallSet {
@@ -20,8 +20,8 @@ impl CallSet {
         ensures { (call : CallName) → has result call ≡ false }
     {
         CallSet {
-            clients: HashSet::new(alloc),
-            repairers: HashSet::new(alloc),
+            clients: NumberSet::new(alloc),
+            repairers: NumberSet::new(alloc),
         }
     }
 
@@ -29,8 +29,8 @@ impl CallSet {
         ensures { result ≡ has self.now call }
     {
         match call {
-            CallName::Client { actor, number } => self.clients.contains(&(actor, number)),
-            CallName::Repairer { actor, number } => self.repairers.contains(&(actor, number)),
+            CallName::Client { actor, number } => self.clients.contains(actor, number),
+            CallName::Repairer { actor, number } => self.repairers.contains(actor, number),
         }
     }
 
@@ -38,8 +38,8 @@ impl CallSet {
         ensures { OnOk result ((other : CallName) → has self.new other ≡ (same_call other call || has self.old other)) }
     {
         match call {
-            CallName::Client { actor, number } => self.clients.insert((actor, number))?,
-            CallName::Repairer { actor, number } => self.repairers.insert((actor, number))?,
+            CallName::Client { actor, number } => self.clients.insert(actor, number)?,
+            CallName::Repairer { actor, number } => self.repairers.insert(actor, number)?,
         };
         Ok(())
     }

@@ -7,6 +7,7 @@ mod actor_table;
 mod call_set;
 mod calls;
 mod lines;
+mod number_set;
 mod operator_counts;
 mod reaps;
 mod texts;

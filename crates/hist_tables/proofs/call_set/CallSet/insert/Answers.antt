@@ -34,11 +34,11 @@ repairer_added old new actor number added same (Repairer i n) =
 pub returns-in_ok-insert-in-Client : goal.returns-in_ok-insert-in-Client
 returns-in_ok-insert-in-Client c = λ other.
     client_added c.args.self.now (record { clients = c.insert.new.self; repairers = c.args.self.now.repairers }) c.in-Client.actor c.in-Client.number
-    (λ i n. c.in_ok-insert-in-Client.ensures.updates.0 (i, n)) (λ i n. refl) other
+    (λ i n. c.in_ok-insert-in-Client.ensures i n) (λ i n. refl) other
     ∙ ap (λ (call : CallName). same_call other call || has c.args.self.now other) (sym c.in-Client.is)
 
 pub returns-in_ok-insert-in-Repairer : goal.returns-in_ok-insert-in-Repairer
 returns-in_ok-insert-in-Repairer c = λ other.
     repairer_added c.args.self.now (record { clients = c.args.self.now.clients; repairers = c.insert-in-Repairer.new.self }) c.in-Repairer.actor c.in-Repairer.number
-    (λ i n. c.in_ok-insert-in-Repairer.ensures.updates.0 (i, n)) (λ i n. refl) other
+    (λ i n. c.in_ok-insert-in-Repairer.ensures i n) (λ i n. refl) other
     ∙ ap (λ (call : CallName). same_call other call || has c.args.self.now other) (sym c.in-Repairer.is)
