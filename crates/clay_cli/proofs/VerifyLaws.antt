@@ -1,5 +1,5 @@
 -- What `verify` says of an input.
-use Rattle.std.proofs.Common.{◌≡◌, ◌≢◌, ◌++◌, ℕ, ◌+◌, ◌≤◌, List, [], ◌∷◌, length, length-append, take, drop, refl, sym, ap, subst, ◌∙◌, arith, inl, inr}
+use Rattle.std.proofs.Common.{◌≡◌, ◌≢◌, ◌++◌, ℕ, zero, suc, ◌+◌, ◌≤◌, List, [], ◌∷◌, length, length-append, take, drop, refl, sym, ap, subst, ◌∙◌, arith, inl, inr}
 use Rattle.std.specs.Prelude.{Result, Ok, Err, IfOk, ◌⊎◌, ◌<◌, ◌^◌, map}
 use Rattle.std.proofs.lemmas.List.{length-map}
 use Rattle.clay_grid.specs.Shape.{chunk_count}
@@ -121,6 +121,23 @@ judged input front rest script transcript status line values valid form is_front
     })
 
 -- the front that the script's length cuts off is the script's spelling
+
+-- what stands before a place and behind it is the whole
+pub parted_at : (n : ℕ) (input rest : List ℕ) → rest ≡ drop n input → input ≡ take n input ++ rest
+parted_at n input rest is = halves n input ∙ ap (λ (x : List ℕ). take n input ++ x) (sym is)
+  where
+    halves : (k : ℕ) (xs : List ℕ) → xs ≡ take k xs ++ drop k xs
+    halves zero [] = refl
+    halves zero (x ∷ xs) = refl
+    halves (suc k) [] = refl
+    halves (suc k) (x ∷ xs) = ap (λ (l : List ℕ). x ∷ l) (halves k xs)
+
+pub rest_short : (n : ℕ) (input rest : List ℕ) → rest ≡ drop n input → length rest ≤ length input
+rest_short n input rest is =
+    let whole = ap length (parted_at n input rest is) in
+    let parts = length-append (take n input) rest in
+    omega (arith, whole, parts)
+
 pub cut_front : (input front : List ℕ) (script : Script) (n : ℕ) → input ≡ spelling script ++ drop n input → n ≡ length (spelling script) → front ≡ take n input → front ≡ spelling script
 cut_front input front script n spelled is_length is_front =
     is_front ∙ ap (take n) spelled ∙ ap (λ (k : ℕ). take k (spelling script ++ drop n input)) is_length ∙ take_front (spelling script) (drop n input)

@@ -24,17 +24,17 @@ const USAGE_LINE: &[u8] =
     b"usage: clay play | run WORKERS | verify | chunks K M W | recover K M W | gen START SIZE | trial START SIZE WORKERS\n";
 
 // The task's output for a whole input.
-fn output_of(alloc: Global, task: Task, input: &[u8]) -> Result<Output, Status>
-    requires { length input.now ≤ 167772160 }
+fn output_of(alloc: Global, task: Task, input: Vec<u8>) -> Result<Output, Status>
+    requires { length input.items ≤ 167772160 }
     ensures status { IfOk result (λ output. IsOfInput output.status) }
-    ensures answers { IfOk result (λ output. Answers task input.now output.status output.bytes.items) }
+    ensures answers { IfOk result (λ output. Answers task input.items output.status output.bytes.items) }
     ensures memory { IfErr result (λ status. status ≡ Status.OutOfMemory) }
 {
     let made = match task {
-        Task::Play => play(alloc, input),
+        Task::Play => play(alloc, &input),
         Task::Verify => verify(alloc, input),
-        Task::Chunks(g) => chunks(alloc, g, input),
-        Task::Recover(g) => recover(alloc, g, input),
+        Task::Chunks(g) => chunks(alloc, g, &input),
+        Task::Recover(g) => recover(alloc, g, &input),
     };
     made.map_err(|_| Status::OutOfMemory)
 }
@@ -51,7 +51,7 @@ fn answer<S: Source>(alloc: Global, task: Task, source: &mut S) -> Result<Output
     ensures read_fault { IfErr result (λ status. status ≡ Status.ReadFault → Rises (S.faults source.old) (S.faults source.new)) }
 {
     match read_all(alloc, source, INPUT_LIMIT) {
-        Ok(input) => output_of(alloc, task, &input),
+        Ok(input) => output_of(alloc, task, input),
         Err(InFault::ReadFault) => Err(Status::ReadFault),
         Err(InFault::InputTooLong) => Err(Status::InputTooLong),
         Err(InFault::OutOfMemory) => Err(Status::OutOfMemory),
