@@ -1,4 +1,5 @@
-//! Tests of calls, step by step at a directory and its servers: each end of a put, of reads and of rebuilds.
+//! Tests of calls, step by step at a directory and its servers: each end of each kind of call, and the
+//! sweeper's passes.
 #![tactic(auto)]
 
 #[cfg(test)]
