@@ -39,7 +39,7 @@ use Rattle.actors.proofs.Concluding.{over_after, taken_back}
 
 -- ---- a call that is over
 pub repairer_after : (c : CallOf) (a : ActorOf) (ended last : List EndedRepair) (x : EndedRepair) (seat : Seat) (servers : ℕ) → c.state.at ≡ State.Finished (repair_outcome_of x.outcome)
-    → x.takes ≡ taken c.takes → length c.takes ≡ servers → last ≡ ended ++ x ∷ [] → ActorToken.Seated seat ≡ c.token → a.ended ≡ map (repaired_of servers) ended
+    → x.takes ≡ taken_of c.takes → length c.takes ≡ servers → last ≡ ended ++ x ∷ [] → ActorToken.Seated seat ≡ c.token → a.ended ≡ map (repaired_of servers) ended
     → record { ended = map (repaired_of servers) last; doing = DoingOf.Between (ActorToken.Seated seat) } ≡ actor_after c a
 repairer_after c a ended last x seat servers over takes count pushed token is =
     let took : unwrap_or x.takes (replicate servers 0) ≡ c.takes = ap (λ (o : Option (List ℕ)). unwrap_or o (replicate servers 0)) takes ∙ taken_back c.takes servers count in

@@ -29,7 +29,7 @@ repairs_at None = DoingOf.Between (ActorToken.Seated (record { actor = actor.Swe
 -- what its call in work has taken, where it has taken something
 abbrev pub taken_in : RepairDoing → Option (List ℕ)
 taken_in (doing.Between seat) = None
-taken_in (doing.InCall call steps) = taken call.takes
+taken_in (doing.InCall call steps) = taken_of call.takes
 
 -- what callers see of its fields
 abbrev pub repairer_by : RepairPart → BookOf → List EndedRepair → Option RepairDoing → RepairOf
