@@ -1,0 +1,12 @@
+pub mod Moves
+pub mod Looked
+pub mod Grow
+pub mod Acts
+pub mod Lists
+pub mod Opening
+pub mod Steps
+pub mod Looks
+pub mod Made
+pub mod Ready
+pub mod Turns
+pub mod Serving

@@ -1,0 +1,137 @@
+-- Clients serve what their looks have pinned, from a world's first step to its last.
+use Rattle.std.proofs.Common.{◌≡◌, ℕ, zero, suc, ◌<◌, List, [], ◌∷◌, map, length, slice_get, Option, None, Some, IfSome, option_map, option_and_then, is_some, refl, sym, ap, subst, ◌∙◌, true≢false}
+use Rattle.std.proofs.lemmas.List.{length-map}
+use Rattle.clay_grid.specs.Limits.{IsGeometry}
+use Rattle.clay_grid.specs.Shape.{Shape, stripe_length}
+use Rattle.store_map.specs.Limits.{size_of}
+use Rattle.store_map.specs.Naming.{IsValid}
+use Rattle.store_map.specs.declared.reply.Reply.TheVariants as reply
+use Rattle.store_map.specs.declared.script.Script.{Script}
+use Rattle.store_core.specs.Act.{Outcome}
+use Rattle.store_core.specs.Core.{Core}
+use Rattle.store_core.specs.Directory.{Point, Directory}
+use Rattle.store_core.specs.History.{call_of}
+use Rattle.store_core.specs.Schedule.{run_core}
+use Rattle.store_core.specs.Sound.{IsSound}
+use Rattle.store_core.specs.Work.{Ended}
+use Rattle.store_runs.proofs.RunsSound.{RunKeeps}
+use Rattle.store_runs.proofs.Scripts.{can_run}
+use Rattle.store_runs.proofs.DirectoryInvariants.{StepsKeep, Held, runs_hold}
+use Rattle.store_contents.specs.Contents.{HasBytes}
+use Rattle.store_contents.specs.ContentLaws.{StepsKeepBytes}
+use Rattle.store_contents.proofs.ContentSteps.{steps_keep_bytes}
+use Rattle.call_steps.specs.Outcomes.{outcome_of}
+use Rattle.world_lines.specs.declared.calls.ClientCalls.{ClientCalls}
+use Rattle.world_lines.specs.declared.calls.EndedCall.{EndedCall}
+use Rattle.world_lines.specs.Ended.{ended_of}
+use Rattle.world_lines.specs.Served.{bytes_in, outcome_in, served_in, outcome_at, bytes_at, owed_at}
+use Rattle.world_steps.specs.StandsFor.{StandsFor}
+use Rattle.world_steps.specs.World.{WorldOf}
+use Rattle.world_steps.proofs.Runs.{runs_reach}
+use Rattle.world_runs.specs.Goes.{IsReached}
+use Rattle.stripe_dir.specs.Sealed.{Sealed}
+use Rattle.stripe_dir.specs.Stamped.{HaveContents}
+use Rattle.actors.specs.Clients.{ClientOf}
+use Rattle.actors.specs.Inside.{served_of}
+use Rattle.world_owes.specs.Pinned.{pinned_at}
+use Rattle.world_owes.specs.Serving.{IsReplyAt, OwesAt, OwesItsPins, HasInWork, IsInWork, ServesItsPins}
+use Rattle.world_owes.specs.ServeLaws.{HasMorePoints, ClientsGoOnServing, TurnsKeepServing, HasCalls, ServedIsOwed}
+use Rattle.world_owes.proofs.Lists.{none_some}
+use Rattle.world_owes.proofs.Steps.{IsOfMap, reply_stays, owes_stay, if_some}
+use Rattle.world_owes.proofs.Turns.{turn_serves}
+use Rattle.world_steps.specs.World.{DoingOf}
+use Rattle.client_call.specs.Calls.{ClientCallOf}
+
+-- ---- first, and as others go on
+module _ (script : Script) (points now : List Point) (i : ℕ) (grown : HasMorePoints points now) where
+  work_stays : (number : ℕ) (doing : DoingOf) (work : Option ClientCallOf) → IsInWork (OwesItsPins script points i number) doing work → IsInWork (OwesItsPins script now i number) doing work
+  work_stays number (DoingOf.Between token) work none = none
+  work_stays number (DoingOf.InCall call steps) work h =
+      record {
+        c = h.c;
+        is = h.is;
+        same = h.same;
+        held = record {
+          its = h.held.its;
+          job = h.held.job;
+          looked = h.held.looked;
+          owes = if_some (OwesAt script points i number h.c) (OwesAt script now i number h.c) (pinned_at h.c.call.state.at) (λ place of e. owes_stay script points now i number place h.c h.c grown refl refl of) h.held.owes;
+        };
+      }
+
+  stays : (a : ClientOf) → ServesItsPins script points i a → ServesItsPins script now i a
+  stays a was =
+      record {
+        work = work_stays (length a.actor.ended) a.actor.doing a.work was.work;
+        count = was.count;
+        ended = λ number place bytes e u. reply_stays script points now i number place bytes grown (was.ended number place bytes e u);
+      }
+
+pub clients_go_on_serving : (script : Script) → ClientsGoOnServing script
+clients_go_on_serving script =
+    record {
+      first = λ points i part book tries seat. record { work = refl; count = refl; ended = λ number place bytes e u. absurd (none_some (Some bytes) u) };
+      stays = λ points now i a grown was. stays script points now i grown a was;
+    }
+
+-- ---- turns
+bytes_keep : (script : Script) → StepsKeep script (HasBytes (call_of script))
+bytes_keep script =
+    let law : StepsKeepBytes (call_of script) = steps_keep_bytes (call_of script) in
+    record {
+      first = law.first script.geometry (size_of script);
+      step = law.step;
+    }
+
+is_of_map : (script : Script) (w : WorldOf) (d : Sealed) → IsGeometry script.geometry → IsValid script → IsReached script w → w.directory ≡ d.core → HaveContents (call_of script) d → IsOfMap script d
+is_of_map script w d geometry valid reached same contents =
+    record {
+      wide = subst (λ (x : Directory). 0 < stripe_length x.shape) is (subst (λ (g : Shape). 0 < stripe_length g) (sym held.keeps.keeps.shape) (can_run script geometry valid).some);
+      shape = ap (λ (x : Directory). x.shape) (sym is) ∙ held.keeps.keeps.shape;
+      most = ap (λ (x : Directory). x.max) (sym is) ∙ held.keeps.keeps.max;
+      sound = subst IsSound is held.keeps.sound;
+      bytes = subst (HasBytes (call_of script)) is held.holds;
+      contents = contents;
+    }
+  where
+    core : Core
+    core = run_core script reached.by.shortages reached.tokens
+
+    held : Held script (HasBytes (call_of script)) (bytes_keep script) (can_run script geometry valid) core
+    held = runs_hold script (HasBytes (call_of script)) (bytes_keep script) (can_run script geometry valid) reached.by.shortages reached.tokens
+
+    stands : StandsFor script w core
+    stands = (runs_reach script).core reached.tokens w reached.by.shortages reached.by.reaches
+
+    is : core.directory ≡ d.core
+    is = stands.directory ∙ same
+
+pub turns_keep_serving : TurnsKeepServing
+turns_keep_serving script w i a after d now servers others geometry valid reached same contents there keeps makes was =
+    turn_serves script i a after d now servers others (is_of_map script w d geometry valid reached same contents) there keeps makes was
+
+-- ---- the end
+outcome_there : (servers : ℕ) (ended : List EndedCall) (n : ℕ) → outcome_in (slice_get ended n) ≡ option_map (λ (e : Ended). e.outcome) (slice_get (map (ended_of servers) ended) n)
+outcome_there servers [] n = refl
+outcome_there servers (e ∷ ended) zero = refl
+outcome_there servers (e ∷ ended) (suc n) = outcome_there servers ended n
+
+bytes_there : (ended : List EndedCall) (n : ℕ) (bytes : List ℕ) → served_in (slice_get ended n) ≡ Some bytes → slice_get (served_of ended) n ≡ Some (Some bytes)
+bytes_there [] n bytes e = absurd (none_some bytes e)
+bytes_there (x ∷ ended) zero bytes e = ap Some e
+bytes_there (x ∷ ended) (suc n) bytes e = bytes_there ended n bytes e
+
+module _ (script : Script) (points : List Point) (servers : ℕ) (clients : List ClientOf) (calls : List ClientCalls) (serving : (i : ℕ) (a : ClientOf) → slice_get clients i ≡ Some a → ServesItsPins script points i a)
+    (its : (i : ℕ) (of : ClientCalls) → slice_get calls i ≡ Some of → (a : ClientOf) × (slice_get clients i ≡ Some a) × HasCalls servers of a) (place i number : ℕ) (bytes : List ℕ) where
+  by_calls : (found : Option ClientCalls) → slice_get calls i ≡ found → outcome_in (option_and_then (λ (c : ClientCalls). slice_get c.ended.items number) found) ≡ Some (Outcome.Served place)
+      → served_in (option_and_then (λ (c : ClientCalls). slice_get c.ended.items number) found) ≡ Some bytes
+      → owed_at (size_of script) (call_of script) points place i number ≡ reply.Bytes bytes
+  by_calls None found e u = absurd (none_some bytes u)
+  by_calls (Some of) found e u =
+      let h : (a : ClientOf) × (slice_get clients i ≡ Some a) × HasCalls servers of a = its i of found in
+      ((serving i h.0 h.1).ended number place bytes
+      (ap (λ (xs : List Ended). option_map (λ (y : Ended). y.outcome) (slice_get xs number)) h.2.ended ∙ sym (outcome_there servers of.ended.items number) ∙ e)
+      (ap (λ (xs : List (Option (List ℕ))). slice_get xs number) h.2.served ∙ bytes_there of.ended.items number bytes u)).reply
+
+pub served_is_owed : ServedIsOwed
+served_is_owed script points servers clients calls serving its place i number bytes e u = by_calls script points servers clients calls serving its place i number bytes (slice_get calls i) refl e u

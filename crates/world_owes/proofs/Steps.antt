@@ -1,0 +1,151 @@
+-- A step of a client's call leaves it with what its look has pinned.
+use Rattle.std.proofs.Common.{◌≡◌, ◌⊎◌, ℕ, ◌<◌, ◌+◌, Bool, true, false, List, [], ◌∷◌, ◌++◌, length, map, take, slice_get, Option, None, Some, IfSome, append-nil, refl, sym, ap, subst, ◌∙◌, inl, inr, arith, true≢false}
+use Rattle.std.proofs.lemmas.List.{take-append-le, take_at, length-append, length_push}
+use Rattle.clay_grid.specs.Shape.{Shape, stripe_length}
+use Rattle.store_map.specs.Limits.{size_of}
+use Rattle.store_map.specs.declared.actor.Actor.{Actor}
+use Rattle.store_map.specs.declared.actor.Actor.TheVariants as actor
+use Rattle.store_map.specs.declared.call.Call.{Call}
+use Rattle.store_map.specs.declared.reply.Reply.TheVariants as reply
+use Rattle.store_map.specs.declared.script.Script.{Script}
+use Rattle.store_core.specs.Act.{Act, DirectoryStep, ServerStep}
+use Rattle.store_core.specs.AtDirectory.{at_directory}
+use Rattle.store_core.specs.Calls.{IsNoteOf}
+use Rattle.store_core.specs.Conditions.{MayStep}
+use Rattle.store_core.specs.Content.{contents_by}
+use Rattle.store_core.specs.Directory.{Event, Point, Directory}
+use Rattle.store_core.specs.History.{applied, call_of}
+use Rattle.store_core.specs.NextAct.{Job, job_of}
+use Rattle.store_core.specs.Note.{Note, Kind, note_of}
+use Rattle.store_core.specs.PlaceLaws.{KeepsPlaces}
+use Rattle.store_core.proofs.Places.{directory_keeps_places}
+use Rattle.store_core.specs.Read.{parts_of}
+use Rattle.store_core.specs.Sound.{IsSound}
+use Rattle.store_core.specs.Told.{Told, Seen}
+use Rattle.store_core.specs.Tokens.{actor_of}
+use Rattle.store_lengths.specs.MapAfter.{map_by}
+use Rattle.store_contents.specs.Contents.{HasBytes}
+use Rattle.store_reads.specs.PinLaws.{IsReading}
+use Rattle.store_reads.specs.ReadLaws.{bytes_read}
+use Rattle.store_reads.proofs.OwedBytes.{looks_owe_their_pins}
+use Rattle.store_resume.specs.State.{State}
+use Rattle.store_resume.specs.CallLaws.{next_call_from}
+use Rattle.stripe_dir.specs.Sealed.{Sealed}
+use Rattle.stripe_dir.specs.Stamped.{HaveContents}
+use Rattle.call_steps.specs.CallOf.{CallOf, act_of, state_told}
+use Rattle.client_read.specs.Owed.{contents_of, owed_after_look, owed_by as read_by}
+use Rattle.client_call.specs.Kinds.{Machine, machine_of, IfReads}
+use Rattle.client_call.specs.Calls.{ClientCallOf, owed_in, owed_by}
+use Rattle.world_lines.specs.Served.{owed_at}
+use Rattle.world_owes.specs.Pinned.{pinned_at, HasLooked}
+use Rattle.world_owes.specs.Serving.{IsReplyAt, OwesAt, OwesItsPins}
+use Rattle.world_owes.specs.ServeLaws.{HasMorePoints}
+use Rattle.world_owes.proofs.Moves.{point_before, next_pins}
+use Rattle.world_owes.proofs.Looked.{IsRead, next_looked, start_looked}
+use Rattle.world_owes.proofs.Acts.{IsLater, start_or_later, before_later, looked_by, reads_are_read, kinds_read, start_looks, acts_stay}
+use Rattle.world_owes.proofs.Lists.{some_same, contents_read}
+
+-- a directory of the script with the bytes of the map, whose stamps have the contents
+pub record IsOfMap (script : Script) (d : Sealed) : Type 0 where
+  pub wide : 0 < stripe_length d.core.shape
+  pub shape : d.core.shape ≡ script.geometry
+  pub most : d.core.max ≡ size_of script
+  pub sound : IsSound d.core
+  pub bytes : HasBytes (call_of script) d.core
+  pub contents : HaveContents (call_of script) d
+
+-- a call that is about to look, and may
+pub record Opens (script : Script) (d : Directory) (i : ℕ) (c : CallOf) : Type 0 where
+  pub start : c.state.at ≡ State.Start
+  pub may : MayStep d (actor.Client i) c.number (DirectoryStep.Look c.job.note)
+  pub shape : c.book.geometry ≡ script.geometry
+
+-- a client's call that is ready for its step
+pub record IsReady (script : Script) (d : Directory) (i number : ℕ) (r : CallOf) (before : ClientCallOf) : Type 0 where
+  pub is : before.call ≡ r
+  pub job : r.job ≡ job_of before.written
+  pub its : call_of script (actor.Client i) number ≡ Some before.written
+  pub count : r.number ≡ number
+  pub whose : actor_of r.token ≡ actor.Client i
+  pub looked : IfReads (machine_of before.written) (HasLooked r.state.at ⊎ Opens script d i r)
+  pub owes : IfSome (pinned_at r.state.at) (OwesAt script d.points i number before)
+
+-- ---- replies stay
+pub reply_stays : (script : Script) (points now : List Point) (i number place : ℕ) (bytes : List ℕ) → HasMorePoints points now → IsReplyAt script points i number place bytes
+    → IsReplyAt script now i number place bytes
+reply_stays script points now i number place bytes grown of =
+    let less : place < length points = of.within in
+    let long : length (points ++ grown.more) ≡ length points + length grown.more = length-append points grown.more in
+    subst (λ (ps : List Point). IsReplyAt script ps i number place bytes) (sym grown.is)
+    (record {
+      within = omega (arith, less, long);
+      reply =
+          ap (λ (ps : List Point). (applied (size_of script) (map_by (call_of script) (size_of script) ps) Event.Pinned (call_of script (actor.Client i) number)).1)
+          (take-append-le place points grown.more (omega (arith, less)))
+          ∙ of.reply;
+    })
+
+pub owes_stay : (script : Script) (points now : List Point) (i number place : ℕ) (c last : ClientCallOf) → HasMorePoints points now → last.written ≡ c.written → last.owed ≡ c.owed
+    → OwesAt script points i number c place → OwesAt script now i number last place
+owes_stay script points now i number place c last grown written owed of =
+    record {
+      reads = ap machine_of written ∙ of.reads;
+      owed = subst (λ (bytes : List ℕ). IsReplyAt script now i number place bytes) (sym owed) (reply_stays script points now i number place c.owed grown of.owed);
+    }
+
+pub if_some : {A : Type 0} (P Q : A → Type 0) (o : Option A) → ((x : A) → P x → o ≡ Some x → Q x) → IfSome o P → IfSome o Q
+if_some P Q None f h = tt
+if_some P Q (Some x) f h = f x h refl
+
+pub if_reads : (m : Machine) (P Q : Type 0) → (m ≡ Machine.Reads → P → Q) → IfReads m P → IfReads m Q
+if_reads Machine.Reads P Q f h = f refl h
+if_reads Machine.Puts P Q f h = tt
+if_reads Machine.Patches P Q f h = tt
+
+-- ---- after an answer
+module _ (script : Script) (d : Directory) (points : List Point) (i number : ℕ) (r : CallOf) (before last : ClientCallOf) (ready : IsReady script d i number r before) (grown : HasMorePoints d.points points) (next : CallOf) (answer : Told)
+    (is_last : last.call ≡ next) (written : last.written ≡ before.written) (job : next.job ≡ r.job) (state : next.state ≡ state_told r answer) where
+  abbrev kind : Kind
+  kind = r.job.note.kind
+
+  abbrev told : State
+  told = (next_call_from r.book.geometry kind r.job r.state.pairs r.state.at answer).at
+
+  kind_is : kind ≡ (note_of before.written).kind
+  kind_is = ap (λ (j : Job). j.note.kind) ready.job
+
+  looked_now : IfReads (machine_of before.written) (HasLooked told)
+  looked_now =
+      if_reads (machine_of before.written) (HasLooked r.state.at ⊎ Opens script d i r) (HasLooked told) by ready.looked
+    where
+      read_by_machine : machine_of before.written ≡ Machine.Reads → IsRead (note_of before.written).kind
+      read_by_machine reads = subst (λ (m : Machine). IfReads m (IsRead (note_of before.written).kind)) reads (kinds_read before.written)
+
+      by : machine_of before.written ≡ Machine.Reads → HasLooked r.state.at ⊎ Opens script d i r → HasLooked told
+      by reads (inl h) = next_looked r.book.geometry kind r.job r.state.pairs r.state.at answer h
+      by reads (inr opens) =
+          subst (λ (at : State). HasLooked (next_call_from r.book.geometry kind r.job r.state.pairs at answer).at) (sym opens.start)
+          (start_looked r.book.geometry kind r.job r.state.pairs answer (subst IsRead (sym kind_is) (read_by_machine reads)))
+
+  -- where the call owes what it may have pinned
+  pub owes_now : ((p : ℕ) → point_before kind r.state.at answer ≡ Some p → OwesAt script points i number last p) → OwesItsPins script points i number last
+  owes_now owes =
+      let same : last.call.state.at ≡ told = ap (λ (c : CallOf). c.state.at) is_last ∙ ap (λ s. s.at) state in
+      record {
+        its = ready.its ∙ ap (λ (c : Call). Some c) (sym written);
+        job = ap (λ (c : CallOf). c.job) is_last ∙ job ∙ ready.job ∙ ap job_of (sym written);
+        looked =
+            subst (λ (c : Call). IfReads (machine_of c) (HasLooked last.call.state.at)) (sym written)
+            (subst (λ (at : State). IfReads (machine_of before.written) (HasLooked at)) (sym same) looked_now);
+        owes =
+            subst (λ (at : State). IfSome (pinned_at at) (OwesAt script points i number last)) (sym same)
+            (if_some (λ (p : ℕ). point_before kind r.state.at answer ≡ Some p) (OwesAt script points i number last) (pinned_at told) (λ p h e. owes p h)
+            (next_pins r.book.geometry kind r.job r.state.pairs r.state.at answer));
+      }
+
+  -- past the look it is what it owed before
+  pub owes_later : IsLater r.state.at → last.owed ≡ before.owed → (p : ℕ) → point_before kind r.state.at answer ≡ Some p → OwesAt script points i number last p
+  owes_later later owed p is =
+      let pinned : pinned_at r.state.at ≡ Some p = sym (before_later kind r.state.at answer later) ∙ is in
+      owes_stay script d.points points i number p before last grown written owed
+      (subst (λ (o : Option ℕ). IfSome o (OwesAt script d.points i number before)) pinned ready.owes)

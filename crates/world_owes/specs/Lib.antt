@@ -1,0 +1,3 @@
+pub mod Pinned
+pub mod Serving
+pub mod ServeLaws
