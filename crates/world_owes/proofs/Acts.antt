@@ -1,13 +1,13 @@
 -- What a call does next leaves the bytes that it reads, but for its look; and it ends with the point of its pins.
-use Rattle.std.proofs.Common.{◌≡◌, ◌⊎◌, ℕ, Bool, true, false, List, [], ◌∷◌, length, Option, None, Some, IfSome, refl, sym, ap, subst, ◌∙◌, inl, inr, true≢false, is_some, unwrap_or}
+use Rattle.std.proofs.Common.{◌≡◌, ◌⊎◌, ℕ, Bool, true, false, List, [], ◌∷◌, length, Option, None, Some, IfSome, refl, sym, ap, subst, inl, inr, true≢false, is_some, unwrap_or}
 use Rattle.std.specs.Prelude.{⊤, nat_lt, if◌then◌else◌}
 use Rattle.clay_grid.specs.Shape.{Shape}
 use Rattle.store_map.specs.declared.call.Call.{Call}
 use Rattle.store_map.specs.declared.call.Call.TheVariants as call
-use Rattle.store_core.specs.Act.{Act, DirectoryStep, ServerStep, Outcome}
+use Rattle.store_core.specs.Act.{Act, DirectoryStep, Outcome}
 use Rattle.store_core.specs.ActPlace.{is_in_pass}
 use Rattle.store_core.specs.Gathering.{Part}
-use Rattle.store_core.specs.NextAct.{Job, job_of}
+use Rattle.store_core.specs.NextAct.{Job}
 use Rattle.store_core.specs.Note.{Kind, note_of}
 use Rattle.store_core.specs.Told.{Told, Seen}
 use Rattle.store_reads.specs.PinLaws.{IsReading}

@@ -4,7 +4,7 @@ use Rattle.store_map.specs.declared.actor.Actor.{Actor}
 use Rattle.store_core.specs.Act.{Act, DirectoryStep}
 use Rattle.store_core.specs.AtDirectory.{at_directory}
 use Rattle.store_core.specs.Directory.{Point, Directory}
-use Rattle.store_core.specs.PlaceLaws.{new_point, KeepsPlaces}
+use Rattle.store_core.specs.PlaceLaws.{new_point}
 use Rattle.store_core.proofs.Places.{directory_keeps_places}
 use Rattle.store_core.specs.Step.{Places}
 use Rattle.gathering.specs.declared.need.Need.{Need}

@@ -1,6 +1,5 @@
 -- Lists that stand side by side, with one more entry on each.
-use Rattle.std.proofs.Common.{◌≡◌, ◌⊎◌, ℕ, zero, suc, List, [], ◌∷◌, ◌++◌, ◌+◌, length, map, take, drop, get_or, slice_get, Option, None, Some, is_some, unwrap_or, option_map, refl, sym, ap, ◌∙◌, inl, inr, arith, true≢false, ◌-◌}
-use Rattle.std.specs.List.{concat}
+use Rattle.std.proofs.Common.{◌≡◌, ◌⊎◌, ℕ, zero, suc, List, [], ◌∷◌, ◌++◌, ◌+◌, length, map, take, drop, get_or, slice_get, None, Some, is_some, unwrap_or, option_map, refl, sym, ap, inl, inr, arith, true≢false, ◌-◌}
 use Rattle.store_core.specs.Gathering.{Part}
 use Rattle.version_seal.specs.Entry.{StampOf}
 use Rattle.store_reads.specs.ReadLaws.{bytes_read}

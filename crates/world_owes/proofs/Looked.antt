@@ -1,5 +1,5 @@
 -- A call that reads stands after its look at its gatherings or at its end, and memory that was wanting in a coding leaves it no pins.
-use Rattle.std.proofs.Common.{◌≡◌, ℕ, List, [], ◌∷◌, Option, None, Some, IfSome, IsTrue, sym, true≢false}
+use Rattle.std.proofs.Common.{ℕ, List, [], ◌∷◌, None, IsTrue, sym, true≢false}
 use Rattle.std.specs.Prelude.{⊤}
 use Rattle.clay_grid.specs.Shape.{Shape}
 use Rattle.store_core.specs.Act.{Outcome}
@@ -16,11 +16,10 @@ use Rattle.store_resume.specs.State.{Sequel, State}
 use Rattle.store_resume.specs.States.{sequel_state, parts_state, stage_state, open_parts, open_state}
 use Rattle.store_resume.specs.GatherAfter.{ending_after, first_after, parts_after}
 use Rattle.store_resume.specs.LookAfter.{start_after}
-use Rattle.store_resume.specs.CallAfter.{state_after}
 use Rattle.store_resume.specs.CallLaws.{next_call_from}
 use Rattle.store_resume.specs.StateActs.{act_at}
-use Rattle.world_owes.specs.Pinned.{IsServing, HasLooked, point_after}
-use Rattle.world_owes.proofs.Moves.{Keeps, stage, of_parts, open_kept, ending, next_kept}
+use Rattle.world_owes.specs.Pinned.{IsServing, HasLooked}
+use Rattle.world_owes.proofs.Moves.{Keeps, open_kept, next_kept}
 
 -- ---- a call that reads
 sequel : (after : Sequel) → IsServing after → HasLooked (sequel_state after)

@@ -1,8 +1,7 @@
 -- A look that pins stripes leaves its call with the bytes that the map replies there.
-use Rattle.std.proofs.Common.{◌≡◌, ℕ, ◌<◌, ◌+◌, Bool, List, [], ◌∷◌, ◌++◌, length, map, take, Option, None, Some, MatchOption, append-nil, refl, sym, ap, subst, ◌∙◌, arith}
+use Rattle.std.proofs.Common.{◌≡◌, ℕ, ◌<◌, ◌+◌, Bool, List, [], ◌∷◌, ◌++◌, length, map, take, Some, MatchOption, append-nil, refl, sym, ap, subst, ◌∙◌, arith}
 use Rattle.std.proofs.lemmas.List.{take_at, length_push}
 use Rattle.clay_grid.specs.Shape.{Shape}
-use Rattle.store_map.specs.Limits.{size_of}
 use Rattle.store_map.specs.declared.actor.Actor.{Actor}
 use Rattle.store_map.specs.declared.actor.Actor.TheVariants as actor
 use Rattle.store_map.specs.declared.reply.Reply.TheVariants as reply
@@ -26,13 +25,11 @@ use Rattle.store_reads.specs.ReadLaws.{bytes_read}
 use Rattle.store_reads.proofs.OwedBytes.{looks_owe_their_pins}
 use Rattle.store_resume.specs.State.{State}
 use Rattle.store_resume.specs.StateActs.{act_at}
-use Rattle.version_seal.specs.Entry.{StampOf}
 use Rattle.stripe_dir.specs.Sealed.{Sealed}
 use Rattle.call_steps.specs.CallOf.{CallOf, act_of}
 use Rattle.client_read.specs.Owed.{contents_of, owed_after_look, owed_by as read_by}
 use Rattle.client_call.specs.Kinds.{Machine, machine_of}
 use Rattle.client_call.specs.Calls.{ClientCallOf, owed_in, owed_by}
-use Rattle.world_lines.specs.Served.{owed_at}
 use Rattle.world_owes.specs.Serving.{IsReplyAt, OwesAt}
 use Rattle.world_owes.proofs.Acts.{start_looks}
 use Rattle.world_owes.proofs.Lists.{contents_read}

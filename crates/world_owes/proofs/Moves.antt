@@ -1,5 +1,5 @@
 -- Which pins a call reads after one answer more: those that it read, or those of the look that was answered.
-use Rattle.std.proofs.Common.{◌≡◌, ℕ, Bool, true, false, cond, List, [], ◌∷◌, ◌++◌, ◌+◌, Option, None, Some, IfSome, refl}
+use Rattle.std.proofs.Common.{◌≡◌, ℕ, Bool, true, false, List, [], ◌∷◌, ◌++◌, ◌+◌, Option, None, Some, IfSome, refl}
 use Rattle.std.specs.Prelude.{if◌then◌else◌, nat_lt, ◌/◌}
 use Rattle.std.specs.List.{range_with_len}
 use Rattle.clay_grid.specs.Shape.{Shape, chunk_count, stripe_length}

@@ -1,17 +1,17 @@
 -- A call that begins may look, under its number.
-use Rattle.std.proofs.Common.{◌≡◌, ℕ, ◌<◌, ◌≤◌, ◌+◌, IsTrue, Bool, true, false, length, Option, Some, arith, sym, ap, subst, ◌∙◌, inl, inr, refl}
+use Rattle.std.proofs.Common.{◌≡◌, ℕ, ◌<◌, ◌≤◌, IsTrue, arith, sym, ap, subst, inl, inr, refl}
 use Rattle.std.proofs.lemmas.List.Elements.{All-weaker}
 use Rattle.store_map.specs.declared.actor.Actor.{Actor}
 use Rattle.store_map.specs.declared.actor.Actor.TheVariants as actor
 use Rattle.store_map.specs.declared.call.Call.{Call}
 use Rattle.store_map.specs.declared.call.Call.TheVariants as call
 use Rattle.store_core.specs.Act.{DirectoryStep}
-use Rattle.store_core.specs.Agreement.{Seat, HeldPass, ActorToken, AgreesWithSeat, Agrees}
+use Rattle.store_core.specs.Agreement.{Seat, ActorToken, AgreesWithSeat, Agrees}
 use Rattle.store_core.specs.Conditions.{MayBegin, IsOfClient, MayStep}
 use Rattle.store_core.specs.Directory.{Point, Event, Directory}
 use Rattle.store_core.specs.Lookups.{same_actor}
 use Rattle.store_core.specs.NextAct.{job_of}
-use Rattle.store_core.specs.Note.{Note, note_of}
+use Rattle.store_core.specs.Note.{Note}
 use Rattle.store_core.specs.Tokens.{actor_of}
 use Rattle.store_runs.proofs.CallActs.{IsOfClients}
 use Rattle.call_steps.specs.CallOf.{CallOf}

@@ -1,33 +1,32 @@
 -- A client's call as its turn makes it ready for its step.
-use Rattle.std.proofs.Common.{◌≡◌, ◌⊎◌, ℕ, ◌+◌, Bool, true, false, ◌&&◌, List, length, map, slice_get, Option, None, Some, IfSome, IsTrue, if◌then◌else◌, option_and_then, refl, sym, ap, subst, ◌∙◌, inl, inr, true≢false}
+use Rattle.std.proofs.Common.{◌≡◌, ◌⊎◌, ℕ, Bool, true, false, ◌&&◌, List, length, slice_get, Option, None, Some, IfSome, if◌then◌else◌, option_and_then, refl, sym, ap, subst, ◌∙◌, inl, inr, true≢false}
 use Rattle.store_map.specs.declared.actor.Actor.TheVariants as actor
 use Rattle.store_map.specs.declared.call.Call.{Call}
 use Rattle.store_map.specs.declared.script.ClientPart.{ClientPart}
 use Rattle.store_map.specs.declared.script.Script.{Script}
-use Rattle.store_core.specs.Act.{Act}
 use Rattle.store_core.specs.ActPlace.{is_in_pass}
-use Rattle.store_core.specs.Agreement.{ActorToken, Agrees}
+use Rattle.store_core.specs.Agreement.{Agrees}
 use Rattle.store_core.specs.Directory.{Directory}
 use Rattle.store_core.specs.History.{call_of}
-use Rattle.store_core.specs.NextAct.{Job, job_of}
+use Rattle.store_core.specs.NextAct.{job_of}
 use Rattle.store_core.specs.Tokens.{actor_of}
 use Rattle.store_core.specs.Work.{Ended}
-use Rattle.store_resume.specs.State.{State, first_state}
+use Rattle.store_resume.specs.State.{State}
 use Rattle.store_resume.specs.StateActs.{act_at}
 use Rattle.dir_parts.proofs.Entries.{slice_get-map}
-use Rattle.call_steps.specs.CallOf.{CallOf, act_of, state_told}
+use Rattle.call_steps.specs.CallOf.{CallOf, act_of}
 use Rattle.call_steps.specs.Steps.{coded, HoldsItsPass, IsDueInPass}
 use Rattle.call_stands.specs.Ready.{ready}
 use Rattle.store_core.specs.Told.{Told}
 use Rattle.client_call.specs.Kinds.{Machine, machine_of, IfReads}
 use Rattle.client_call.specs.Calls.{ClientCallOf}
-use Rattle.world_steps.specs.World.{DoingOf, ActorOf}
-use Rattle.world_steps.specs.ActorAfter.{IsCallBefore, HasTurn}
+use Rattle.world_steps.specs.World.{DoingOf}
+use Rattle.world_steps.specs.ActorAfter.{IsCallBefore}
 use Rattle.world_steps.specs.Tokens.{IsUsedBelow, token_of, AreNumbered}
-use Rattle.actors.specs.Clients.{ClientOf, work_of}
+use Rattle.actors.specs.Clients.{work_of}
 use Rattle.actors.specs.Owing.{owed_now}
 use Rattle.world_owes.specs.Pinned.{pinned_at, HasLooked}
-use Rattle.world_owes.specs.Serving.{IsReplyAt, OwesAt, OwesItsPins, HasInWork, IsInWork}
+use Rattle.world_owes.specs.Serving.{IsReplyAt, OwesAt, OwesItsPins, IsInWork}
 use Rattle.world_owes.proofs.Looked.{next_looked, short_next}
 use Rattle.world_owes.proofs.Acts.{starts}
 use Rattle.world_owes.proofs.Lists.{none_some, some_same}

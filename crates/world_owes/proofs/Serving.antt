@@ -1,6 +1,5 @@
 -- Clients serve what their looks have pinned, from a world's first step to its last.
-use Rattle.std.proofs.Common.{◌≡◌, ℕ, zero, suc, ◌<◌, List, [], ◌∷◌, map, length, slice_get, Option, None, Some, IfSome, option_map, option_and_then, is_some, refl, sym, ap, subst, ◌∙◌, true≢false}
-use Rattle.std.proofs.lemmas.List.{length-map}
+use Rattle.std.proofs.Common.{◌≡◌, ℕ, zero, suc, ◌<◌, List, [], ◌∷◌, map, length, slice_get, Option, None, Some, option_map, option_and_then, refl, sym, ap, subst, ◌∙◌}
 use Rattle.clay_grid.specs.Limits.{IsGeometry}
 use Rattle.clay_grid.specs.Shape.{Shape, stripe_length}
 use Rattle.store_map.specs.Limits.{size_of}
@@ -14,17 +13,15 @@ use Rattle.store_core.specs.History.{call_of}
 use Rattle.store_core.specs.Schedule.{run_core}
 use Rattle.store_core.specs.Sound.{IsSound}
 use Rattle.store_core.specs.Work.{Ended}
-use Rattle.store_runs.proofs.RunsSound.{RunKeeps}
 use Rattle.store_runs.proofs.Scripts.{can_run}
 use Rattle.store_runs.proofs.DirectoryInvariants.{StepsKeep, Held, runs_hold}
 use Rattle.store_contents.specs.Contents.{HasBytes}
 use Rattle.store_contents.specs.ContentLaws.{StepsKeepBytes}
 use Rattle.store_contents.proofs.ContentSteps.{steps_keep_bytes}
-use Rattle.call_steps.specs.Outcomes.{outcome_of}
 use Rattle.world_lines.specs.declared.calls.ClientCalls.{ClientCalls}
 use Rattle.world_lines.specs.declared.calls.EndedCall.{EndedCall}
 use Rattle.world_lines.specs.Ended.{ended_of}
-use Rattle.world_lines.specs.Served.{bytes_in, outcome_in, served_in, outcome_at, bytes_at, owed_at}
+use Rattle.world_lines.specs.Served.{outcome_in, served_in, owed_at}
 use Rattle.world_steps.specs.StandsFor.{StandsFor}
 use Rattle.world_steps.specs.World.{WorldOf}
 use Rattle.world_steps.proofs.Runs.{runs_reach}
@@ -34,7 +31,7 @@ use Rattle.stripe_dir.specs.Stamped.{HaveContents}
 use Rattle.actors.specs.Clients.{ClientOf}
 use Rattle.actors.specs.Inside.{served_of}
 use Rattle.world_owes.specs.Pinned.{pinned_at}
-use Rattle.world_owes.specs.Serving.{IsReplyAt, OwesAt, OwesItsPins, HasInWork, IsInWork, ServesItsPins}
+use Rattle.world_owes.specs.Serving.{OwesAt, OwesItsPins, IsInWork, ServesItsPins}
 use Rattle.world_owes.specs.ServeLaws.{HasMorePoints, ClientsGoOnServing, TurnsKeepServing, HasCalls, ServedIsOwed}
 use Rattle.world_owes.proofs.Lists.{none_some}
 use Rattle.world_owes.proofs.Steps.{IsOfMap, reply_stays, owes_stay, if_some}

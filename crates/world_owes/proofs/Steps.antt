@@ -1,49 +1,35 @@
 -- A step of a client's call leaves it with what its look has pinned.
-use Rattle.std.proofs.Common.{◌≡◌, ◌⊎◌, ℕ, ◌<◌, ◌+◌, Bool, true, false, List, [], ◌∷◌, ◌++◌, length, map, take, slice_get, Option, None, Some, IfSome, append-nil, refl, sym, ap, subst, ◌∙◌, inl, inr, arith, true≢false}
-use Rattle.std.proofs.lemmas.List.{take-append-le, take_at, length-append, length_push}
-use Rattle.clay_grid.specs.Shape.{Shape, stripe_length}
+use Rattle.std.proofs.Common.{◌≡◌, ◌⊎◌, ℕ, ◌<◌, ◌+◌, List, ◌++◌, length, map, Option, None, Some, IfSome, refl, sym, ap, subst, ◌∙◌, inl, inr, arith}
+use Rattle.std.proofs.lemmas.List.{take-append-le, length-append}
+use Rattle.clay_grid.specs.Shape.{stripe_length}
 use Rattle.store_map.specs.Limits.{size_of}
-use Rattle.store_map.specs.declared.actor.Actor.{Actor}
 use Rattle.store_map.specs.declared.actor.Actor.TheVariants as actor
 use Rattle.store_map.specs.declared.call.Call.{Call}
-use Rattle.store_map.specs.declared.reply.Reply.TheVariants as reply
 use Rattle.store_map.specs.declared.script.Script.{Script}
-use Rattle.store_core.specs.Act.{Act, DirectoryStep, ServerStep}
-use Rattle.store_core.specs.AtDirectory.{at_directory}
-use Rattle.store_core.specs.Calls.{IsNoteOf}
+use Rattle.store_core.specs.Act.{DirectoryStep}
 use Rattle.store_core.specs.Conditions.{MayStep}
-use Rattle.store_core.specs.Content.{contents_by}
 use Rattle.store_core.specs.Directory.{Event, Point, Directory}
 use Rattle.store_core.specs.History.{applied, call_of}
 use Rattle.store_core.specs.NextAct.{Job, job_of}
-use Rattle.store_core.specs.Note.{Note, Kind, note_of}
-use Rattle.store_core.specs.PlaceLaws.{KeepsPlaces}
-use Rattle.store_core.proofs.Places.{directory_keeps_places}
-use Rattle.store_core.specs.Read.{parts_of}
+use Rattle.store_core.specs.Note.{Kind, note_of}
 use Rattle.store_core.specs.Sound.{IsSound}
-use Rattle.store_core.specs.Told.{Told, Seen}
+use Rattle.store_core.specs.Told.{Told}
 use Rattle.store_core.specs.Tokens.{actor_of}
 use Rattle.store_lengths.specs.MapAfter.{map_by}
 use Rattle.store_contents.specs.Contents.{HasBytes}
-use Rattle.store_reads.specs.PinLaws.{IsReading}
-use Rattle.store_reads.specs.ReadLaws.{bytes_read}
-use Rattle.store_reads.proofs.OwedBytes.{looks_owe_their_pins}
 use Rattle.store_resume.specs.State.{State}
 use Rattle.store_resume.specs.CallLaws.{next_call_from}
 use Rattle.stripe_dir.specs.Sealed.{Sealed}
 use Rattle.stripe_dir.specs.Stamped.{HaveContents}
-use Rattle.call_steps.specs.CallOf.{CallOf, act_of, state_told}
-use Rattle.client_read.specs.Owed.{contents_of, owed_after_look, owed_by as read_by}
+use Rattle.call_steps.specs.CallOf.{CallOf, state_told}
 use Rattle.client_call.specs.Kinds.{Machine, machine_of, IfReads}
-use Rattle.client_call.specs.Calls.{ClientCallOf, owed_in, owed_by}
-use Rattle.world_lines.specs.Served.{owed_at}
+use Rattle.client_call.specs.Calls.{ClientCallOf}
 use Rattle.world_owes.specs.Pinned.{pinned_at, HasLooked}
 use Rattle.world_owes.specs.Serving.{IsReplyAt, OwesAt, OwesItsPins}
 use Rattle.world_owes.specs.ServeLaws.{HasMorePoints}
 use Rattle.world_owes.proofs.Moves.{point_before, next_pins}
 use Rattle.world_owes.proofs.Looked.{IsRead, next_looked, start_looked}
-use Rattle.world_owes.proofs.Acts.{IsLater, start_or_later, before_later, looked_by, reads_are_read, kinds_read, start_looks, acts_stay}
-use Rattle.world_owes.proofs.Lists.{some_same, contents_read}
+use Rattle.world_owes.proofs.Acts.{IsLater, before_later, kinds_read}
 
 -- a directory of the script with the bytes of the map, whose stamps have the contents
 pub record IsOfMap (script : Script) (d : Sealed) : Type 0 where

@@ -1,10 +1,9 @@
 -- A client's turn keeps it that its calls serve what their looks have pinned.
-use Rattle.std.proofs.Common.{◌≡◌, ◌⊎◌, ℕ, ◌+◌, Bool, List, [], ◌∷◌, ◌++◌, length, slice_get, Option, None, Some, IfSome, option_map, refl, sym, ap, subst, ◌∙◌, inl, inr, arith}
+use Rattle.std.proofs.Common.{◌≡◌, ◌⊎◌, ℕ, ◌+◌, List, [], ◌∷◌, ◌++◌, length, slice_get, Option, None, Some, IfSome, option_map, refl, sym, ap, subst, ◌∙◌, inl, inr, arith}
 use Rattle.std.proofs.lemmas.List.{length_push}
 use Rattle.store_map.specs.declared.actor.Actor.TheVariants as actor
 use Rattle.store_map.specs.declared.script.Script.{Script}
-use Rattle.store_core.specs.Act.{Act, DirectoryStep, Outcome}
-use Rattle.store_core.specs.Agreement.{Agrees}
+use Rattle.store_core.specs.Act.{Act, Outcome}
 use Rattle.store_core.specs.Directory.{Point}
 use Rattle.store_core.specs.Work.{Ended}
 use Rattle.chunk_server.specs.State.{ServerState}
@@ -18,7 +17,7 @@ use Rattle.world_steps.specs.World.{ActorOf, DoingOf, steps_of}
 use Rattle.world_steps.specs.ActorAfter.{actor_after_by}
 use Rattle.world_steps.specs.Tokens.{KeepsToken}
 use Rattle.actors.specs.Clients.{ClientOf, work_of}
-use Rattle.actors.specs.Owing.{Owes, AreServed, IsServed, left_by, owed_now}
+use Rattle.actors.specs.Owing.{Owes, AreServed, left_by, owed_now}
 use Rattle.actors.specs.ClientTurns.{MakesClientTurn}
 use Rattle.actors.specs.Turned.{MakesTurn}
 use Rattle.actors.specs.Turns.{places_of}

@@ -1,5 +1,5 @@
 -- That clients serve what their looks have pinned, from a world's first step to its last.
-use Rattle.std.specs.Prelude.{◌≡◌, ℕ, Bool, List, ◌++◌, map, Option, Some}
+use Rattle.std.specs.Prelude.{◌≡◌, ℕ, Bool, List, ◌++◌, map, Some}
 use Rattle.std.specs.List.{slice_get}
 use Rattle.clay_grid.specs.Limits.{IsGeometry}
 use Rattle.store_map.specs.Limits.{size_of}
