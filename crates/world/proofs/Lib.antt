@@ -8,3 +8,4 @@ pub mod Rounds
 pub mod Drains
 pub mod Padding
 pub mod Seating
+pub mod First

@@ -1,12 +1,16 @@
 -- A world before its first step.
-use Rattle.std.specs.Prelude.{◌≡◌, ◌<◌, ℕ, List, length, Some}
-use Rattle.std.specs.List.{slice_get}
-use Rattle.store_map.specs.Limits.{tries_of}
+use Rattle.std.specs.Prelude.{◌≡◌, ◌<◌, ℕ, List, [], ◌++◌, length, map, Some}
+use Rattle.std.specs.List.{slice_get, range_with_len}
+use Rattle.clay_grid.specs.Shape.{chunk_count}
+use Rattle.store_map.specs.Limits.{size_of, tries_of}
 use Rattle.store_map.specs.declared.script.ClientPart.{ClientPart}
 use Rattle.store_map.specs.declared.script.RepairPart.{RepairPart}
 use Rattle.store_map.specs.declared.script.Script.{Script}
 use Rattle.store_core.specs.Agreement.{Seat}
+use Rattle.store_core.specs.Directory.{new_directory}
 use Rattle.version_seal.specs.Entry.{BookOf}
+use Rattle.chunk_server.specs.State.{ServerState, empty_server}
+use Rattle.stripe_dir.specs.Sealed.{Sealed}
 use Rattle.stripe_dir.specs.Seats.{client_seat, repairer_seat}
 use Rattle.actors.specs.Clients.{ClientOf, first_client}
 use Rattle.actors.specs.Repairers.{RepairOf, first_repairer}
@@ -36,3 +40,15 @@ pub record AreFirstRepairers (script : Script) (book : BookOf) (repairers : List
 -- these seats are the first of some
 abbrev pub BeginWith : (ℕ → Seat) → ℕ → List Seat → Type 0
 BeginWith seat count seats = (i : ℕ) → i < count → slice_get seats i ≡ Some (seat i)
+
+-- the seats of so many clients, and then of so many repairers
+abbrev pub seats_of : ℕ → ℕ → List Seat
+seats_of clients repairers = map client_seat (range_with_len 0 clients) ++ map repairer_seat (range_with_len 0 repairers)
+
+-- an empty directory
+abbrev pub first_directory : Script → BookOf → Sealed
+first_directory script book = record { core = new_directory book.geometry (size_of script); book = book; stamps = [] }
+
+-- a server for each chunk of a stripe, all of them empty
+abbrev pub first_servers : Script → BookOf → List ServerState
+first_servers script book = map (λ number. empty_server number book) (range_with_len 0 (chunk_count script.geometry))

@@ -7,7 +7,7 @@ ghost use Rattle.store_map.specs.Naming.{IsValid};
 ghost use Rattle.stripe_dir.specs.Seats.{client_seat, repairer_seat};
 ghost use Rattle.chunk_server.specs.State.{empty_server};
 ghost use Rattle.world_runs.specs.Goes.{IsReachedBy};
-ghost use Rattle.world.specs.First.{AreFirstClients, AreFirstRepairers, BeginWith};
+ghost use Rattle.world.specs.First.{AreFirstClients, AreFirstRepairers, BeginWith, seats_of, first_directory, first_servers};
 ghost use Rattle.world.specs.Stored.{world_of};
 
 use crate::world::World;
@@ -106,4 +106,101 @@ fn leave_repairers(mut repairers: Vec<RepairActor>) {
         }
     }
     repairers.destroy_empty();
+}
+
+// The script's actors, each with its seat.
+fn seat_all<'a>(
+    alloc: Global,
+    script: &'a Script,
+    book: &Book,
+    seats: &mut Vec<Seat>,
+    clients: &mut Vec<ClientActor<'a>>,
+    repairers: &mut Vec<RepairActor<'a>>,
+) -> Result<(), AllocError>
+    requires valid { IsValid script.now }
+    requires code { book.now.geometry ≡ script.now.geometry }
+    requires seats { seats.old.items ≡ seats_of (length script.now.clients) (length script.now.repairers) }
+    requires no_client { clients.old.items ≡ [] }
+    requires no_repairer { repairers.old.items ≡ [] }
+    ensures clients { OnOk result (AreFirstClients script.now book.now clients.new.items) }
+    ensures repairers { OnOk result (AreFirstRepairers script.now book.now repairers.new.items) }
+{
+    seat_clients(alloc, script, book, seats, clients)?;
+    seat_repairers(alloc, script, book, seats, repairers)
+}
+
+// The world that these parts make before its first step.
+fn first_world<'a>(
+    script: &'a Script,
+    book: &'a Book,
+    directory: Directory,
+    servers: Vec<Server>,
+    clients: Vec<ClientActor<'a>>,
+    repairers: Vec<RepairActor<'a>>,
+) -> World<'a>
+    requires valid { IsValid script.now }
+    requires written { book.now.script ≡ Some script.now }
+    requires code { book.now.geometry ≡ script.now.geometry }
+    requires directory { directory ≡ first_directory script.now book.now }
+    requires servers { servers.items ≡ first_servers script.now book.now }
+    requires clients { AreFirstClients script.now book.now clients.items }
+    requires repairers { AreFirstRepairers script.now book.now repairers.items }
+    ensures script { result.script ≡ script.now }
+    ensures book { result.book ≡ book.now }
+    ensures reached { IsReachedBy script.now [] (world_of result) }
+{
+    let sweeper = Sweeper::new(script.geometry.n());
+    World {
+        script,
+        book,
+        directory,
+        servers,
+        clients,
+        repairers,
+        sweeper,
+    }
+}
+
+impl<'a> World<'a> {
+    /// The world of a script before its first step, over the book of its versions.
+    pub fn new(alloc: Global, script: &'a Script, book: &'a Book) -> Result<World<'a>, AllocError>
+        requires valid { IsValid script.now }
+        requires written { book.now.script ≡ Some script.now }
+        requires code { book.now.geometry ≡ script.now.geometry }
+        ensures script { IfOk result (λ world. world.script ≡ script.now) }
+        ensures book { IfOk result (λ world. world.book ≡ book.now) }
+        ensures reached { IfOk result (λ world. IsReachedBy script.now [] (world_of world)) }
+    {
+        let servers = new_servers(alloc, book, script.geometry.n())?;
+        let size = script.max_size();
+        let client_count = script.clients.len() as u32;
+        let repairer_count = script.repairers.len() as u32;
+        let opening = book.opening();
+        let (directory, mut seats) = Directory::new(
+            alloc,
+            opening,
+            size,
+            client_count,
+            repairer_count,
+        )?;
+        let mut clients = Vec::new(alloc);
+        let mut repairers = Vec::new(alloc);
+        let seated = seat_all(
+            alloc,
+            script,
+            book,
+            &mut seats,
+            &mut clients,
+            &mut repairers,
+        );
+        leave_seats(seats);
+        match seated {
+            Ok(()) => Ok(first_world(script, book, directory, servers, clients, repairers)),
+            Err(e) => {
+                leave_clients(clients);
+                leave_repairers(repairers);
+                Err(e)
+            }
+        }
+    }
 }
