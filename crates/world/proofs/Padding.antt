@@ -1,14 +1,12 @@
 -- The stamps of a world that is reached have zeros behind the ends of their objects.
-use Rattle.std.proofs.Common.{◌≡◌, Option, Some, IfSome, ap, sym, subst, ◌∙◌}
+use Rattle.std.proofs.Common.{◌≡◌, Option, Some, IfSome, ap, subst, ◌∙◌}
 use Rattle.store_map.specs.declared.script.Script.{Script}
-use Rattle.store_core.specs.Directory.{Directory}
 use Rattle.store_core.specs.History.{call_of}
 use Rattle.store_core.specs.Schedule.{run_core}
 use Rattle.store_core.specs.Sound.{IsSound}
 use Rattle.store_contents.specs.Contents.{HasBytes}
 use Rattle.store_reads.specs.RunContents.{RunsStandForTheMap}
 use Rattle.store_reads.proofs.RunBytes.{all_runs_stand_for_the_map}
-use Rattle.stripe_dir.specs.Sealed.{Sealed}
 use Rattle.stripe_dir.specs.Stamped.{HaveContents, HasStamps}
 use Rattle.client_patch.specs.Padded.{ArePadded, BytesOfTheMapArePadded}
 use Rattle.world_steps.specs.StandsFor.{StandsFor}

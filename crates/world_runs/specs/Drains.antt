@@ -1,5 +1,5 @@
 -- Drains of a world, round by round.
-use Rattle.std.specs.Prelude.{◌≡◌, ℕ, ◌+◌, ◌-◌, ◌^◌, ◌<◌, true, false, List, [], ◌∷◌}
+use Rattle.std.specs.Prelude.{◌≡◌, ℕ, ◌+◌, ◌-◌, ◌^◌, ◌<◌, true, false, List, [], ◌∷◌, ◌++◌}
 use Rattle.clay_grid.specs.Limits.{IsGeometry}
 use Rattle.store_map.specs.Naming.{IsValid}
 use Rattle.store_map.specs.declared.actor.Token.{Token}
@@ -9,17 +9,18 @@ use Rattle.store_core.specs.Schedule.{is_unfinished, round}
 use Rattle.store_core.specs.Step.{Shortage}
 use Rattle.world_steps.specs.World.{WorldOf}
 use Rattle.world_steps.specs.Known.{core_of}
-use Rattle.world_steps.specs.RunLaws.{ReachesInDrain}
-use Rattle.world_runs.specs.Goes.{IsReached, IsReachedBy, Leads, GoesBy}
+use Rattle.world_steps.specs.RunLaws.{Reaches, ReachesInDrain}
+use Rattle.world_runs.specs.Goes.{IsReached, Leads, GoesBy}
 
--- so many rounds after these tokens reach the world, with some shortages
-pub record IsReachedInDrain (script : Script) (tokens : List Token) (count : ℕ) (w : WorldOf) : Type 0 where
-  pub shortages : List Shortage
-  pub reaches : ReachesInDrain script tokens count shortages w
+-- so many rounds after these tokens reach the world with these shortages and then some more
+pub record IsReachedInDrain (script : Script) (tokens : List Token) (count : ℕ) (shortages : List Shortage) (w : WorldOf) : Type 0 where
+  pub more : List Shortage
+  pub reaches : ReachesInDrain script tokens count (shortages ++ more) w
 
--- whatever tokens reach the first world, so many rounds after them reach the second one
+-- whatever tokens reach the first world, with whatever shortages, so many rounds after them reach the second one with the same shortages before
 abbrev pub GoesByRounds : Script → ℕ → WorldOf → WorldOf → Type 0
-GoesByRounds script count w after = (tokens : List Token) → IsReachedBy script tokens w → IsReachedInDrain script tokens count after
+GoesByRounds script count w after =
+    (tokens : List Token) (shortages : List Shortage) → Reaches script tokens shortages w → IsReachedInDrain script tokens count shortages after
 
 -- a drain begins with no round and goes on by rounds; somebody has a step only before fewer rounds than a count of 64 bits holds; where nobody has one, the drain is made
 pub record DrainsGo (script : Script) : Type 0 where

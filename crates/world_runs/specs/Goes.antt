@@ -25,9 +25,15 @@ pub record Leads (script : Script) (part : Run → Run) (w after : WorldOf) : Ty
   pub shortages : List Shortage
   pub leads : LeadsWorld script part w shortages after
 
--- whatever tokens reach the first world, these after them reach the second one
+-- these tokens reach the world with these shortages and then some more
+pub record IsReachedAfter (script : Script) (tokens : List Token) (shortages : List Shortage) (w : WorldOf) : Type 0 where
+  pub more : List Shortage
+  pub reaches : Reaches script tokens (shortages ++ more) w
+
+-- whatever tokens reach the first world, with whatever shortages, these after them reach the second one with the same shortages before: it goes on from the first
 abbrev pub GoesBy : Script → List Token → WorldOf → WorldOf → Type 0
-GoesBy script more w after = (tokens : List Token) → IsReachedBy script tokens w → IsReachedBy script (tokens ++ more) after
+GoesBy script next w after =
+    (tokens : List Token) (shortages : List Shortage) → Reaches script tokens shortages w → IsReachedAfter script (tokens ++ next) shortages after
 
 -- the first world is reached by no token; a token's step goes by that token; no tokens lead nowhere else, and tokens go on after others
 pub record WorldsGoOn (script : Script) : Type 0 where
