@@ -11,6 +11,7 @@ mod rack;
 mod sealed_rack;
 mod times;
 
+use anyhow::ensure;
 use chunks::chunks_of;
 use clay_grid::Geometry;
 use plain_rack::PlainRack;
@@ -39,8 +40,12 @@ fn compare<const LENGTH: usize>(
     let mut of_plain = Times::new();
     let mut of_sealed = Times::new();
     for _round in 0..rounds {
-        round(rt, &mut plain, &mut of_plain)?;
-        round(rt, &mut sealed, &mut of_sealed)?;
+        let by_plain = round(rt, &mut plain, &mut of_plain)?;
+        let by_sealed = round(rt, &mut sealed, &mut of_sealed)?;
+        ensure!(
+            by_plain == by_sealed,
+            "{by_plain} came of the plain server's calls, {by_sealed} of the other's"
+        );
     }
     tell(rt, width, &of_plain, &of_sealed)?;
     Ok(())

@@ -17,7 +17,7 @@ impl Least {
     }
 }
 
-/// That of each call.
+/// The least time of each call.
 #[derive(Clone, Copy)]
 pub struct Times {
     prepare: Least,
