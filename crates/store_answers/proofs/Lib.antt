@@ -6,6 +6,7 @@ mod TargetsAway
 mod ClientLines
 mod NeverPrepares
 mod Refusals
+pub mod Ample
 pub mod Plays
 mod LowServers
 mod WorkedCalls

@@ -1,5 +1,5 @@
 -- Calls that nothing hindered are answered, and what a run shows as a whole.
-use Rattle.std.proofs.Common.{◌≡◌, ◌⊎◌, inl, inr, ℕ, List, [], ◌∷◌, Some, refl, sym, subst, arith}
+use Rattle.std.proofs.Common.{◌≡◌, ◌⊎◌, inl, inr, ℕ, List, [], ◌∷◌, Some, refl, sym, ap, subst, arith}
 use Rattle.std.proofs.lemmas.List.Elements.{All-head}
 use Rattle.std.specs.List.{slice_get}
 use Rattle.store_map.specs.declared.script.Script.{Script}
@@ -27,6 +27,7 @@ use Rattle.store_shows.proofs.Shows.{runs_show_histories, runs_are_legal}
 use Rattle.store_answers.specs.Answered.{IsAnswered, IsRefused, TellsEnds}
 use Rattle.store_answers.specs.Unhindered.{SkipsChunk, AtMost}
 use Rattle.store_answers.specs.PlayedLaws.{RunsAnswer, RunsArePlayed}
+use Rattle.store_answers.proofs.Ample.{ample_runs_are_one}
 use Rattle.store_answers.proofs.Overs.{job_there, runs_tell_ends, enough_steps_end_calls}
 use Rattle.store_answers.proofs.ClientLines.{clients_only}
 use Rattle.store_answers.proofs.Acts.{runs_step_next}
@@ -73,6 +74,7 @@ runs_are_played script shortages geometry valid =
     record {
       shortages = shortages;
       shows = refl;
+      ample = λ all. ap (shown script) (ample_runs_are_one script shortages all script.schedule);
       history = runs_show_histories script shortages geometry valid;
       clients = clients_only script (run_core script shortages script.schedule) (end_known script geometry valid shortages script.schedule);
       legal = runs_are_legal script shortages geometry valid;

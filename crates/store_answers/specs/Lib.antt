@@ -2,6 +2,7 @@ pub mod Over
 pub mod Unhindered
 pub mod NextSteps
 pub mod Answered
+pub mod Ample
 pub mod Played
 pub mod PlayedLaws
 pub mod Worked

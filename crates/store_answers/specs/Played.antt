@@ -1,5 +1,5 @@
 -- What a run of a script shows, as a whole.
-use Rattle.std.specs.Prelude.{◌≡◌, List, [], ◌∷◌, ◌++◌, Contains}
+use Rattle.std.specs.Prelude.{◌≡◌, List, [], ◌∷◌, ◌++◌, All, Contains}
 use Rattle.store_map.specs.declared.actor.Token.{Token}
 use Rattle.store_map.specs.declared.actor.Token.TheVariants as token
 use Rattle.store_map.specs.declared.script.Script.{Script}
@@ -17,6 +17,7 @@ use Rattle.store_in_time.specs.LineCauses.{LinesAreCaused}
 use Rattle.store_in_time.specs.LossesInTime.{HasLossesInTime}
 use Rattle.store_in_time.specs.PointsInTime.{HasPointsInTime}
 use Rattle.store_in_time.specs.Steps.{run_trace}
+use Rattle.store_answers.specs.Ample.{IsAmple}
 use Rattle.store_answers.specs.Over.{answers_to, IsOver, MadeAllSteps}
 use Rattle.store_answers.specs.Answered.{TellsEnds, AnswersTheUnhindered}
 
@@ -25,6 +26,8 @@ pub record IsPlayed (script : Script) (t : Transcript) : Type 0 where
   -- the steps in which memory was wanting, or before which: nothing else is left open, so without them the script alone determines the transcript
   pub shortages : List Shortage
   pub shows : t ≡ shown_of script shortages
+  -- so where memory was wanting in no step it is the one transcript that the script has then
+  pub ample : All IsAmple shortages → t ≡ shown_of script []
   -- one history of a plain map: each answered call stands in it once, in its caller's order, with the map's reply
   pub history : IsHistory script t
   -- of clients' calls alone, so that a reply of the map stands beside each of its lines

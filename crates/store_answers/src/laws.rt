@@ -1,5 +1,6 @@
 //! The laws, as functions that do nothing and whose contracts are the laws.
 
+ghost use Rattle.store_answers.specs.Ample.{AmpleRunsAreOne};
 ghost use Rattle.store_answers.specs.NextSteps.{RunsStepNext};
 ghost use Rattle.store_answers.specs.PlayedLaws.{RunsTellEnds, EnoughStepsEndCalls, RunsAnswer, RunsArePlayed};
 
@@ -28,6 +29,11 @@ pub fn enough_steps_end_calls()
 /// there and current, and its target was not away.
 pub fn runs_answer_unhindered_calls()
     ensures { RunsAnswer }
+{}
+
+/// A run in which memory is wanting in no step is the script's and its tokens' alone.
+pub fn ample_runs_are_one()
+    ensures { AmpleRunsAreOne }
 {}
 
 /// What a run of a valid script shows is one history of a plain map, legal, in time, with a cause for each
