@@ -1,4 +1,4 @@
--- A call is told of by the first line of its kind.
+-- What a call has in a transcript, by the first line of its kind.
 use Rattle.std.proofs.Common.{◌≡◌, List, [], ◌∷◌, Some}
 use Rattle.std.specs.List.{slice_get}
 use Rattle.transcript_text.specs.declared.call_name.CallName.{CallName}

@@ -8,6 +8,7 @@ mod NeverPrepares
 mod Refusals
 pub mod Ample
 pub mod Plays
-mod LowServers
-mod WorkedCalls
+mod Picked
+mod FewServers
+mod FactsExact
 mod FirstLines

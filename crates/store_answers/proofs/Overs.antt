@@ -1,4 +1,4 @@
--- A call that is over by the trace has ended in the core, so what is shown tells of it.
+-- A call that is over by the trace has ended in the core, so what is shown has a reply, a refusal or a result of it.
 use Rattle.std.proofs.Common.{◌≡◌, ◌⊎◌, inl, inr, ℕ, ◌<◌, ◌≤◌, Bool, true, false, List, [], ◌++◌, length, map, filter, Contains, Option, None, Some, option_and_then, refl, sym, ap, subst, ◌∙◌, arith, true≢false}
 use Rattle.std.specs.Bool.{⊤}
 use Rattle.std.proofs.lemmas.Bool.{cases_order}
@@ -264,7 +264,7 @@ module _ (script : Script) (core : Core) (known : EndKnown script core) where
       by (inl has) = first (Contains-append_cases replied_calls refused_calls (name.Repairer i number) has)
       by (inr has) = resulted (name.Repairer i number) has
 
-  -- a call that is told of has ended
+  -- a call that has a reply, a refusal or a result has ended
   told_below : (call : CallName) → Contains (answered_calls t) call → number_of call < ended_count core call
   told_below call has = by (Contains-append_cases (replied_calls ++ refused_calls) repair_calls call has)
     where

@@ -32,11 +32,11 @@ IsDone result.Rebuilt = ⊤
 IsDone result.Here = ⊤
 IsDone what = ⊥
 
--- each call that is over is told of: a client's by a reply or a refusal, a rebuild by its result
+-- each call that is over has a reply, a refusal or a result: a client's one of the first two, a rebuild the last
 pub record TellsEnds (script : Script) (trace : List Made) (t : Transcript) : Type 0 where
   pub clients : (i number : ℕ) → IsOver script trace (name.Client i number) → IsAnswered t (name.Client i number) ⊎ IsRefused t (name.Client i number)
   pub repairers : (i number : ℕ) → IsOver script trace (name.Repairer i number) → HasResult (λ what. ⊤) t (name.Repairer i number)
-  -- and no other
+  -- and no other call has one
   pub only : All (IsOver script trace) (answered_calls t)
 
 -- a call that is over and that nothing hindered is answered: a client's has a reply and no refusal, and a rebuild ended with its chunk at its target

@@ -17,9 +17,9 @@ pub record WasHindered (row : Row) (shortages : List Shortage) (call : CallName)
 
 -- a call that was unhindered but for what is said
 abbrev pub nothing : Facts
-nothing = record { over = true; ample = true; kept = true; lacking = []; skipped = []; changes = 0 }
+nothing = record { over = true; ample = true; kept = true; lacking = []; skipped = []; changes = 0; found = true; current = true; reached = true }
 
--- it is told of as without a reply
+-- it is listed as a call without a reply, a refusal or a result
 abbrev pub IsLeft : Transcript → CallName → Type 0
 IsLeft t call = Contains t.unanswered (record { call = call })
 

@@ -7,4 +7,5 @@ pub mod Played
 pub mod PlayedLaws
 pub mod Worked
 pub mod Facts
+pub mod FactsLaw
 pub mod Hindered

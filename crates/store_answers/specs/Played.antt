@@ -40,7 +40,7 @@ pub record IsPlayed (script : Script) (t : Transcript) : Type 0 where
   pub losses : HasLossesInTime (run_trace script shortages script.schedule) t
   -- each refusal and each rebuild's result is caused by what the run told its call
   pub causes : LinesAreCaused script (run_trace script shortages script.schedule) t
-  -- each call that was over is told of
+  -- each call that was over, and no other, is answered, refused or has its result
   pub ends : TellsEnds script (run_trace script shortages script.schedule) t
   -- that is each call that has made all the steps that such a call makes at most, where memory was ample
   pub enough :

@@ -14,7 +14,7 @@ use Rattle.store_answers.specs.Over.{answers_to, IsOver, MadeAllSteps}
 use Rattle.store_answers.specs.Answered.{TellsEnds, AnswersTheUnhindered}
 use Rattle.store_answers.specs.Played.{IsPlayed}
 
--- of every valid script, by whatever tokens, each call that is over is told of
+-- of every valid script, by whatever tokens, each call that is over has a reply, a refusal or a result
 abbrev pub RunsTellEnds : Type 0
 RunsTellEnds =
     (script : Script) (shortages : List Shortage) → IsGeometry script.geometry → IsValid script → (tokens : List Token) →

@@ -1,6 +1,7 @@
 //! The laws, as functions that do nothing and whose contracts are the laws.
 
 ghost use Rattle.store_answers.specs.Ample.{AmpleRunsAreOne};
+ghost use Rattle.store_answers.specs.FactsLaw.{FactsAreExact};
 ghost use Rattle.store_answers.specs.NextSteps.{RunsStepNext};
 ghost use Rattle.store_answers.specs.PlayedLaws.{RunsTellEnds, EnoughStepsEndCalls, RunsAnswer, RunsArePlayed};
 
@@ -10,8 +11,8 @@ pub fn runs_step_next()
     ensures { RunsStepNext }
 {}
 
-/// In every run of a valid script each call that is over by what its steps were told is told of, a client's
-/// by a reply or a refusal, a rebuild by its result; and no other call is.
+/// In every run of a valid script each call that is over by what its steps were told has a reply, a refusal
+/// or a result, a client's one of the first two and a rebuild the last; and no other call has one.
 pub fn runs_tell_ends()
     ensures { RunsTellEnds }
 {}
@@ -26,7 +27,7 @@ pub fn enough_steps_end_calls()
 /// it asked or were away when it had one for them, and it was told of a change of its object fewer times
 /// than a write has tries. A rebuild that is over ended with its chunk at its target, where memory was
 /// wanting in none of its steps, it was not given up, no more servers lacked their chunk, its stripe was
-/// there and current, and its target was not away.
+/// there and current, and its target never told it that it was away.
 pub fn runs_answer_unhindered_calls()
     ensures { RunsAnswer }
 {}
@@ -34,6 +35,13 @@ pub fn runs_answer_unhindered_calls()
 /// A run in which memory is wanting in no step is the script's and its tokens' alone.
 pub fn ample_runs_are_one()
     ensures { AmpleRunsAreOne }
+{}
+
+/// What is computed of a call, by whatever steps, is what it stands for: that the call is over, each thing
+/// that can hinder it, and that nothing hindered it. So a worked call with these facts is one of which the
+/// law of answers speaks, or one that lacks what the facts say that it lacks.
+pub fn facts_are_exact()
+    ensures { FactsAreExact }
 {}
 
 /// What a run of a valid script shows is one history of a plain map, legal, in time, with a cause for each

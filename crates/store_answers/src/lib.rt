@@ -1,4 +1,4 @@
-//! A call that nothing hinders is answered; and all that is said of what a run shows, in one definition.
+//! A call that nothing hinders is answered once it is over; and all that is said of what a run shows, in one definition.
 #![tactic(auto)]
 
 pub mod laws;

@@ -1,6 +1,6 @@
 //! Worked calls that meet what the law of answers asks for.
 
-ghost use Rattle.std.specs.Prelude.{true, false, [], ◌∷◌};
+ghost use Rattle.std.specs.Prelude.{false, [], ◌∷◌};
 ghost use Rattle.transcript_text.specs.declared.call_name.CallName.TheVariants.{Client, Repairer};
 ghost use Rattle.store_rows.specs.RowsCalls.{put_then_get, each_refusal};
 ghost use Rattle.store_rows.specs.RowsManyLosses.{read_after_two_losses, read_after_three_losses};
@@ -28,22 +28,22 @@ pub fn worked_rebuilds_are_answerable()
     ensures there { IsRebuildable rebuilt_then_here (Repairer 0 1) }
 {}
 
-/// Calls that lack one thing alone that the law asks for, and are refused, or told of without a reply: of
+/// Calls that lack one thing alone that the law asks for, and are refused, or left without an answer: of
 /// codes with two parity chunks three servers that lacked their chunk or that were away, a write's only
 /// try, memory, a reap, and steps enough.
 pub fn worked_calls_need_what_is_asked()
-    ensures lacking { WasHindered read_after_three_losses [] (Client 0 1) (record nothing { lacking = 0 ∷ 1 ∷ 2 ∷ [] }) IsRefused }
-    ensures away { WasHindered refused_put [] (Client 0 0) (record nothing { skipped = 0 ∷ 1 ∷ 2 ∷ [] }) IsRefused }
+    ensures lacking { WasHindered read_after_three_losses [] (Client 0 1) (record nothing { lacking = (0, 0) ∷ (0, 1) ∷ (0, 2) ∷ [] }) IsRefused }
+    ensures away { WasHindered refused_put [] (Client 0 0) (record nothing { skipped = (0, 0) ∷ (0, 1) ∷ (0, 2) ∷ [] }) IsRefused }
     ensures overtaken { WasHindered lost_race [] (Client 1 0) (record nothing { changes = 1 }) IsRefused }
     ensures short { WasHindered put_without_memory short_prepare (Client 0 0) (record nothing { ample = false }) IsRefused }
     ensures given_up { WasHindered reaped_before_commit [] (Client 0 0) (record nothing { kept = false }) IsRefused }
     ensures left { WasHindered left_before_commit [] (Client 0 0) (record nothing { over = false }) IsLeft }
 {}
 
-/// Rebuilds that are over and unhindered as calls are, but whose object wasn't there, whose stripe was
-/// superseded, or whose target was away: they leave it without its chunk.
+/// Rebuilds that lack one thing alone, and leave their target without its chunk: the object wasn't there, the
+/// stripe was superseded, or the target was away.
 pub fn worked_rebuilds_need_what_is_asked()
-    ensures no_object { WasHindered each_refusal [] (Repairer 0 0) nothing IsUnmade }
-    ensures superseded { WasHindered superseded_rebuild [] (Repairer 0 0) (record nothing { lacking = 0 ∷ [] }) IsUnmade }
-    ensures target_away { WasHindered rebuild_of_an_away_server [] (Repairer 0 0) (record nothing { lacking = 0 ∷ [] }) IsUnmade }
+    ensures no_object { WasHindered each_refusal [] (Repairer 0 0) (record nothing { found = false }) IsUnmade }
+    ensures superseded { WasHindered superseded_rebuild [] (Repairer 0 0) (record nothing { lacking = (0, 0) ∷ []; current = false }) IsUnmade }
+    ensures target_away { WasHindered rebuild_of_an_away_server [] (Repairer 0 0) (record nothing { lacking = (0, 0) ∷ []; reached = false }) IsUnmade }
 {}

@@ -1,14 +1,21 @@
 use Rattle.std.proofs.Common.{refl}
 use Rattle.clay_grid.specs.Layers.{digits_of}
+use Rattle.transcript_text.specs.declared.call_name.CallName.{CallName}
 use Rattle.transcript_text.specs.declared.call_name.CallName.TheVariants.{Repairer}
 use Rattle.store_rows.specs.RowsRebuilds.{rebuilt_then_here}
-use Rattle.store_answers.proofs.WorkedCalls.{unhindered, has_its_place}
+use Rattle.store_answers.specs.Facts.{facts_of}
+use Rattle.store_answers.specs.FactsLaw.{AreFactsOf}
+use Rattle.store_answers.specs.Worked.{row_trace}
+use Rattle.store_answers.proofs.FactsExact.{facts_exact}
 use Rattle.store_answers.proofs.worked.worked_rebuilds_are_answerable.Goals as goal
+
+exact : (call : CallName) → AreFactsOf rebuilt_then_here.script (row_trace rebuilt_then_here) call (facts_of rebuilt_then_here.script (row_trace rebuilt_then_here) call)
+exact call = facts_exact rebuilt_then_here.script (row_trace rebuilt_then_here) call
 
 pub returns-clause-lost : goal.returns-clause-lost
 unfolding digits_of
-returns-clause-lost c = record { over = (_, refl, (_, refl)); free = unhindered rebuilt_then_here (Repairer 0 0) refl refl; place = has_its_place rebuilt_then_here (Repairer 0 0) refl refl }
+returns-clause-lost c = record { over = (exact (Repairer 0 0)).over.0 refl; free = (exact (Repairer 0 0)).free.0 refl; place = (exact (Repairer 0 0)).place.0 refl }
 
 pub returns-clause-there : goal.returns-clause-there
 unfolding digits_of
-returns-clause-there c = record { over = (_, refl, (_, refl)); free = unhindered rebuilt_then_here (Repairer 0 1) refl refl; place = has_its_place rebuilt_then_here (Repairer 0 1) refl refl }
+returns-clause-there c = record { over = (exact (Repairer 0 1)).over.0 refl; free = (exact (Repairer 0 1)).free.0 refl; place = (exact (Repairer 0 1)).place.0 refl }
