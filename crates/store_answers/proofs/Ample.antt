@@ -1,5 +1,5 @@
 -- Runs in which memory is wanting in no step are one.
-use Rattle.std.proofs.Common.{◌≡◌, ℕ, zero, suc, Bool, true, false, List, [], ◌∷◌, length, fold, drop, slice_get, Option, None, Some, All, refl, sym, ap, subst, ◌∙◌}
+use Rattle.std.proofs.Common.{◌≡◌, ℕ, zero, suc, Bool, true, false, List, [], ◌∷◌, length, fold, drop, slice_get, Option, None, Some, All, refl, sym, ap, subst}
 use Rattle.std.proofs.lemmas.List.Elements.{All-nil, All-head, All-tail}
 use Rattle.std.specs.List.{range_with_len}
 use Rattle.store_map.specs.declared.actor.Actor.TheVariants as actor

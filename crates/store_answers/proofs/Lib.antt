@@ -1,8 +1,12 @@
 mod ListsTold
 mod MoreSteps
+mod TakesTraced
 pub mod Overs
+mod TakesShown
+mod BytesPinned
 pub mod Acts
 mod TargetsAway
+pub mod TakesOfRuns
 mod ClientLines
 mod NeverPrepares
 mod Refusals

@@ -113,18 +113,18 @@ job_there works i number job e = by (slice_get works i) refl e
     by (Some work) is e = (work, is, e)
 
 -- where a call of a group stands: its actor's work and how far it has come
-record Place (works : List Work) (callings : List Calling) (i number : ℕ) (job : Job) : Type 0 where
-  work : Work
-  is_work : slice_get works i ≡ Some work
-  is_job : slice_get work.jobs number ≡ Some job
-  calling : Calling
-  is_calling : slice_get callings i ≡ Some calling
+pub record Place (works : List Work) (callings : List Calling) (i number : ℕ) (job : Job) : Type 0 where
+  pub work : Work
+  pub is_work : slice_get works i ≡ Some work
+  pub is_job : slice_get work.jobs number ≡ Some job
+  pub calling : Calling
+  pub is_calling : slice_get callings i ≡ Some calling
 
 module _ (script : Script) (core : Core) (known : EndKnown script core) (trace : List Made) (has : CausesSoFar script trace core) where
   abbrev g : Shape
   g = script.geometry
 
-  client_place : (i number : ℕ) (job : Job) → job_of_call script (name.Client i number) ≡ Some job → Place (client_work script) core.clients i number job
+  pub client_place : (i number : ℕ) (job : Job) → job_of_call script (name.Client i number) ≡ Some job → Place (client_work script) core.clients i number job
   client_place i number job is =
       let there : (work : Work) × (slice_get (client_work script) i ≡ Some work) × (slice_get work.jobs number ≡ Some job) = job_there (client_work script) i number job is in
       let low : i < length (client_work script) = slice_get_within (client_work script) i there.0 there.1 in
@@ -133,7 +133,7 @@ module _ (script : Script) (core : Core) (known : EndKnown script core) (trace :
       let calling : (c : Calling) × (slice_get core.clients i ≡ Some c) = inside core.clients i (omega (arith, low, size, same)) in
       record { work = there.0; is_work = there.1; is_job = there.2; calling = calling.0; is_calling = calling.1 }
 
-  repairer_place : (i number : ℕ) (job : Job) → job_of_call script (name.Repairer i number) ≡ Some job → Place (repairer_work script) core.repairers i number job
+  pub repairer_place : (i number : ℕ) (job : Job) → job_of_call script (name.Repairer i number) ≡ Some job → Place (repairer_work script) core.repairers i number job
   repairer_place i number job is =
       let there : (work : Work) × (slice_get (repairer_work script) i ≡ Some work) × (slice_get work.jobs number ≡ Some job) = job_there (repairer_work script) i number job is in
       let low : i < length (repairer_work script) = slice_get_within (repairer_work script) i there.0 there.1 in
@@ -184,7 +184,7 @@ module _ (script : Script) (core : Core) (known : EndKnown script core) (trace :
       (λ h. ample (told_in (told_to (actor.Repairer i) number trace) Told.Short h)) (omega (arith, made, told)))
 
   -- and a call that has ended is over
-  below_over : (call : CallName) → number_of call < ended_count core call → IsOver script trace call
+  pub below_over : (call : CallName) → number_of call < ended_count core call → IsOver script trace call
   below_over (name.Client i number) low = by (slice_get core.clients i) refl low
     where
       by : (found : Option Calling) → slice_get core.clients i ≡ found → number < ended_of found → IsOver script trace (name.Client i number)

@@ -31,6 +31,7 @@ use Rattle.store_answers.proofs.Ample.{ample_runs_are_one}
 use Rattle.store_answers.proofs.Overs.{job_there, runs_tell_ends, enough_steps_end_calls}
 use Rattle.store_answers.proofs.ClientLines.{clients_only}
 use Rattle.store_answers.proofs.Acts.{runs_step_next}
+use Rattle.store_answers.proofs.TakesOfRuns.{runs_take_least}
 use Rattle.store_answers.proofs.TargetsAway.{target_told}
 use Rattle.store_answers.proofs.NeverPrepares.{never_skips}
 use Rattle.store_answers.proofs.Refusals.{not_refused, is_done}
@@ -86,4 +87,5 @@ runs_are_played script shortages geometry valid =
       finished = λ tokens is.
           subst (λ schedule. Finished (record script { schedule = schedule }) (shown script (run_core script shortages schedule))) (sym is) (runs_finish script shortages geometry valid tokens);
       answers = runs_answer script shortages geometry valid script.schedule;
+      takes = runs_take_least script shortages geometry valid script.schedule;
     }

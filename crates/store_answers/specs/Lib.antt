@@ -3,6 +3,7 @@ pub mod Unhindered
 pub mod NextSteps
 pub mod Answered
 pub mod Ample
+pub mod Takes
 pub mod Played
 pub mod PlayedLaws
 pub mod Worked

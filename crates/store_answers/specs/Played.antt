@@ -19,6 +19,7 @@ use Rattle.store_in_time.specs.PointsInTime.{HasPointsInTime}
 use Rattle.store_in_time.specs.Steps.{run_trace}
 use Rattle.store_answers.specs.Ample.{IsAmple}
 use Rattle.store_answers.specs.Over.{answers_to, IsOver, MadeAllSteps}
+use Rattle.store_answers.specs.Takes.{TakesLeast}
 use Rattle.store_answers.specs.Answered.{TellsEnds, AnswersTheUnhindered}
 
 -- a transcript that a run of the script shows
@@ -50,3 +51,5 @@ pub record IsPlayed (script : Script) (t : Transcript) : Type 0 where
   pub finished : (tokens : List Token) → script.schedule ≡ tokens ++ token.Drain ∷ [] → Finished script t
   -- and a call that nothing hindered is answered
   pub answers : AnswersTheUnhindered script (run_trace script shortages script.schedule) t
+  -- what calls took is what their answers gave them: a rebuild that found its chunk alone missing took exactly one part in as many as the grid has rows of each other chunk, and a read that found none missing just the subchunks that have its bytes
+  pub takes : TakesLeast script (run_trace script shortages script.schedule) t

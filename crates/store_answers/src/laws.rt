@@ -4,6 +4,7 @@ ghost use Rattle.store_answers.specs.Ample.{AmpleRunsAreOne};
 ghost use Rattle.store_answers.specs.FactsLaw.{FactsAreExact};
 ghost use Rattle.store_answers.specs.NextSteps.{RunsStepNext};
 ghost use Rattle.store_answers.specs.PlayedLaws.{RunsTellEnds, EnoughStepsEndCalls, RunsAnswer, RunsArePlayed};
+ghost use Rattle.store_answers.specs.Takes.{RunsTakeLeast};
 
 /// In every run of a valid script each step of a call is the one that the call makes next after what its
 /// steps before were told.
@@ -44,8 +45,17 @@ pub fn facts_are_exact()
     ensures { FactsAreExact }
 {}
 
+/// In every run of a valid script a transcript tells of each call what its answers gave it. A rebuild that
+/// found a chunk missing once, which is its target's, took one part of each other chunk, of as many as the
+/// grid has rows, and nothing of its target. A get or a read that has its bytes and found no chunk missing
+/// took just the subchunks that have them.
+pub fn runs_take_least()
+    ensures { RunsTakeLeast }
+{}
+
 /// What a run of a valid script shows is one history of a plain map, legal, in time, with a cause for each
-/// refusal, an end for each call that is over, and an answer for each of these that nothing hindered.
+/// refusal, an end for each call that is over, an answer for each of these that nothing hindered, and no
+/// more taken than rebuilds and reads have to.
 pub fn runs_are_played()
     ensures { RunsArePlayed }
 {}
