@@ -1,6 +1,7 @@
-//! Worked calls that meet what the law of answers asks for.
+//! Worked calls that meet what the law of answers asks for, and some of which the law of takes speaks.
 
-ghost use Rattle.std.specs.Prelude.{false, [], ◌∷◌};
+ghost use Rattle.std.specs.Prelude.{false, [], ◌∷◌, codes};
+ghost use Rattle.store_map.specs.declared.call.Call.TheVariants.{ReadAt};
 ghost use Rattle.transcript_text.specs.declared.call_name.CallName.TheVariants.{Client, Repairer};
 ghost use Rattle.store_rows.specs.RowsCalls.{put_then_get, each_refusal};
 ghost use Rattle.store_rows.specs.RowsManyLosses.{read_after_two_losses, read_after_three_losses};
@@ -12,7 +13,7 @@ ghost use Rattle.store_rows.specs.RowsGivenUp.{reaped_before_commit, left_before
 ghost use Rattle.store_rows.specs.RowsRebuilds.{superseded_rebuild, rebuilt_then_here};
 ghost use Rattle.store_answers.specs.Answered.{IsRefused};
 ghost use Rattle.store_answers.specs.Hindered.{IsLeft, IsUnmade, WasHindered, nothing};
-ghost use Rattle.store_answers.specs.Worked.{IsAnswerable, IsRebuildable};
+ghost use Rattle.store_answers.specs.Worked.{IsAnswerable, IsRebuildable, TookOnePart, TookItsBytes};
 
 /// A put and a get with all servers there, and a get for which as many servers lack their chunk as there
 /// are parity chunks.
@@ -46,4 +47,12 @@ pub fn worked_rebuilds_need_what_is_asked()
     ensures no_object { WasHindered each_refusal [] (Repairer 0 0) (record nothing { found = false }) IsUnmade }
     ensures superseded { WasHindered superseded_rebuild [] (Repairer 0 0) (record nothing { lacking = (0, 0) ∷ []; current = false }) IsUnmade }
     ensures target_away { WasHindered rebuild_of_an_away_server [] (Repairer 0 0) (record nothing { lacking = (0, 0) ∷ []; reached = false }) IsUnmade }
+{}
+
+/// A rebuild that lacked its target's chunk alone took four of the eight subchunks of each other chunk, and
+/// not whole chunks; a read of three bytes over two stripes took the three subchunks that have them, and not
+/// whole chunks.
+pub fn worked_takes_are_least()
+    ensures rebuild { TookOnePart rebuilt_then_here (Repairer 0 0) 1 (8 ∷ 0 ∷ 8 ∷ 8 ∷ 8 ∷ []) }
+    ensures read { TookItsBytes each_refusal (Client 0 7) (ReadAt (codes "a") 7 100) (4 ∷ 4 ∷ 0 ∷ 0 ∷ []) }
 {}
