@@ -2,6 +2,7 @@ pub mod Places
 pub mod Entries
 pub mod TableSteps
 pub mod Actors
+pub mod Births
 pub mod ShelfSteps
 pub mod BookSteps
 pub mod Growing

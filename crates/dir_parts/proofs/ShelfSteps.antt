@@ -1,17 +1,21 @@
 -- The objects by the entries of their map.
-use Rattle.std.proofs.Common.{◌≡◌, ℕ, zero, suc, ◌+◌, ◌<◌, Bool, true, false, cond, not, List, [], ◌∷◌, ◌++◌, length, map, take, drop, max, bytes_eq, Option, None, Some, option_map, is_some, IfSome, position, nat_lt, true≢false, subst, unwrap_or, slice_get, refl, sym, ap, ◌∙◌, arith}
+use Rattle.std.proofs.Common.{◌≡◌, ℕ, zero, suc, ◌+◌, ◌<◌, Bool, true, false, cond, not, List, [], ◌∷◌, ◌++◌, length, map, take, drop, max, bytes_eq, nat_eq, All, IsPermutation, Option, None, Some, option_map, is_some, IfSome, position, nat_lt, true≢false, subst, unwrap_or, slice_get, refl, sym, ap, ◌∙◌, arith}
 use Rattle.std.proofs.lemmas.Bool.{ltb-true}
 use Rattle.std.proofs.lemmas.Slice.Eq.{bytes_eq-Decides}
 use Rattle.std.proofs.lemmas.Option.{none-some, same_Some}
-use Rattle.std.specs.List.{position_or_len}
+use Rattle.std.specs.List.{position_or_len, IsDistinct}
 use Rattle.std.specs.Map.{lookup, keys_of, values_of, remove_entry}
-use Rattle.indexmap.specs.IndexMap.{insert_entry, set_value_at}
+use Rattle.std.proofs.lemmas.List.{length-map}
+use Rattle.std.proofs.lemmas.List.Sorted.{IsPermutation-map}
+use Rattle.std.specs.List.Sorted.{IsNonDecreasingBy}
+use Rattle.indexmap.specs.IndexMap.{insert_entry, swap_remove_entry, set_value_at}
 use Rattle.store_core.specs.Directory.{Object}
 use Rattle.store_core.specs.Lookups.{find_object}
 use Rattle.store_core.specs.Look.{remove_object}
 use Rattle.store_core.specs.Commit.{put_object}
 use Rattle.dir_parts.specs.Parts.{Held, object_of, object_or_new, written_over, written_by, written_object}
-use Rattle.dir_parts.specs.Shelf.{object_in}
+use Rattle.dir_parts.specs.Shelf.{object_in, birth_of, by_birth}
+use Rattle.dir_parts.proofs.Births.{ordered_found, ordered_removed, ordered_added, ordered_changed, set_changed, births_set, ascending_ordered, sorted_ascends, births_moved}
 
 -- an entry that comes is an object that comes
 pub objects-insert : (name : List ℕ) (held : Held) (entries : List (List ℕ × Held)) → map object_in (insert_entry bytes_eq entries name held) ≡ put_object (object_of name held) (map object_in entries)
@@ -44,46 +48,38 @@ objects-remove name (entry ∷ entries) = by (bytes_eq name entry.0) (objects-re
     by true rest = refl
     by false rest = ap (λ (l : List Object). object_in entry ∷ l) rest
 
--- another value in the place of a name
-pub objects-set : (name : List ℕ) (held : Held) (entries : List (List ℕ × Held)) → position_or_len (bytes_eq name) (keys_of entries) < length (keys_of entries)
-    → map object_in (set_value_at entries (position_or_len (bytes_eq name) (keys_of entries)) held) ≡ put_object (object_of name held) (map object_in entries)
-objects-set name held [] within = absurd (let no : 0 < 0 = within in omega (arith, no))
-objects-set name held (entry ∷ entries) within = by (bytes_eq name entry.0) refl (objects-set name held entries) within
-  where
-    at : ℕ
-    at = position_or_len (bytes_eq name) (keys_of entries)
-
-    by : (b : Bool) → bytes_eq name entry.0 ≡ b → (at < length (keys_of entries) → map object_in (set_value_at entries at held) ≡ put_object (object_of name held) (map object_in entries))
-        → cond (not b) (1 + at) 0 < suc (length (keys_of entries))
-        → map object_in (set_value_at (entry ∷ entries) (cond (not b) (1 + at) 0) held) ≡ cond {A = List Object} b (object_of name held ∷ map object_in entries) (object_in entry ∷ put_object (object_of name held) (map object_in entries))
-    by true e rest within = ap (λ (n : List ℕ). object_of n held ∷ map object_in entries) (sym ((bytes_eq-Decides name entry.0).0 e))
-    by false e rest within =
-        let next : 1 + at ≡ suc at = omega arith in
-        ap (λ k. map object_in (set_value_at (entry ∷ entries) k held)) next ∙ ap (λ (l : List Object). object_in entry ∷ l) (rest (let less : 1 + at < suc (length (keys_of entries)) = within in omega (arith, less)))
-
 -- the versions of what is found
 abbrev pub versions_of : Option Held → List ℕ
 versions_of None = []
 versions_of (Some held) = held.versions
 
-pub versions-found : (name : List ℕ) (entries : List (List ℕ × Held)) → (object_or_new name (map object_in entries)).versions ≡ versions_of (lookup (bytes_eq name) entries)
-versions-found name entries = ap (λ (o : Option Object). (unwrap_or o (record { name = name; length = 0; versions = [] })).versions) (objects-found name entries) ∙ by (lookup (bytes_eq name) entries)
-  where
-    by : (o : Option Held) → (unwrap_or (option_map (object_of name) o) (record { name = name; length = 0; versions = [] })).versions ≡ versions_of o
-    by None = refl
-    by (Some held) = refl
+-- what is found in order
+module _ (name : List ℕ) (entries : List (List ℕ × Held)) (names : IsDistinct bytes_eq (keys_of entries)) where
+  abbrev pub ordered : List Object
+  ordered = map object_in (by_birth entries)
+
+  pub shelf-found : find_object name ordered ≡ option_map (object_of name) (lookup (bytes_eq name) entries)
+  shelf-found = objects-found name (by_birth entries) ∙ ap (option_map (object_of name)) (ordered_found name entries names)
+
+  pub versions-found : (object_or_new name ordered).versions ≡ versions_of (lookup (bytes_eq name) entries)
+  versions-found = ap (λ (o : Option Object). (unwrap_or o (record { name = name; length = 0; versions = [] })).versions) shelf-found ∙ by (lookup (bytes_eq name) entries)
+    where
+      by : (o : Option Held) → (unwrap_or (option_map (object_of name) o) (record { name = name; length = 0; versions = [] })).versions ≡ versions_of o
+      by None = refl
+      by (Some held) = refl
 
 -- the object of an entry, or a new one
 abbrev pub object_by : List ℕ → Option Held → Object
 object_by name None = record { name = name; length = 0; versions = [] }
 object_by name (Some held) = object_of name held
 
-pub object-found : (name : List ℕ) (entries : List (List ℕ × Held)) → object_or_new name (map object_in entries) ≡ object_by name (lookup (bytes_eq name) entries)
-object-found name entries = ap (λ (o : Option Object). unwrap_or o (record { name = name; length = 0; versions = [] })) (objects-found name entries) ∙ by (lookup (bytes_eq name) entries)
-  where
-    by : (o : Option Held) → unwrap_or (option_map (object_of name) o) (record { name = name; length = 0; versions = [] }) ≡ object_by name o
-    by None = refl
-    by (Some held) = refl
+module _ (name : List ℕ) (entries : List (List ℕ × Held)) (names : IsDistinct bytes_eq (keys_of entries)) where
+  pub object-found : object_or_new name (ordered name entries names) ≡ object_by name (lookup (bytes_eq name) entries)
+  object-found = ap (λ (o : Option Object). unwrap_or o (record { name = name; length = 0; versions = [] })) (shelf-found name entries names) ∙ by (lookup (bytes_eq name) entries)
+    where
+      by : (o : Option Held) → unwrap_or (option_map (object_of name) o) (record { name = name; length = 0; versions = [] }) ≡ object_by name o
+      by None = refl
+      by (Some held) = refl
 
 -- all drawn versions, where there is no object yet
 pub written-new : (first : ℕ) (drawn : List ℕ) → drawn ≡ written_over first drawn []
@@ -121,48 +117,103 @@ place_is name names at e = by (nat_lt (position_or_len (bytes_eq name) names) (l
     by false less h = absurd (none-some at h)
     by true less h = (same_Some _ at h, ltb-true _ _ less)
 
--- a write to an object that is there, and what it replaces
-module _ (name : List ℕ) (end first : ℕ) (drawn : List ℕ) (entries : List (List ℕ × Held)) (at : ℕ) (is : position (bytes_eq name) (keys_of entries) ≡ Some at)
+pub unfound : (name : List ℕ) (entries : List (List ℕ × Held)) (names : IsDistinct bytes_eq (keys_of entries)) → lookup (bytes_eq name) entries ≡ None → find_object name (map object_in (by_birth entries)) ≡ None
+unfound name entries names none = shelf-found name entries names ∙ ap (option_map (object_of name)) none
+
+pub unfound-entry : (name : List ℕ) (entries : List (List ℕ × Held)) (names : IsDistinct bytes_eq (keys_of entries)) → find_object name (map object_in (by_birth entries)) ≡ None → lookup (bytes_eq name) entries ≡ None
+unfound-entry name entries names none = by (lookup (bytes_eq name) entries) (sym (shelf-found name entries names) ∙ none)
+  where
+    by : (o : Option Held) → option_map (object_of name) o ≡ None → o ≡ None
+    by None e = refl
+    by (Some held) e = absurd (none-some (object_of name held) (sym e))
+
+-- the entries, sorted by their births, are the objects
+pub shelf-listed : {X : Type 0} (entry_of : X → List ℕ × Held) (entries : List (List ℕ × Held)) (listed sorted : List X) → map entry_of listed ≡ entries → IsPermutation listed sorted
+    → IsNonDecreasingBy (λ x. birth_of (entry_of x)) sorted → IsDistinct nat_eq (map birth_of entries) → map (λ x. object_in (entry_of x)) sorted ≡ map object_in (by_birth entries)
+shelf-listed {X} entry_of entries listed sorted is moves up births =
+    let moved : IsPermutation entries (map entry_of sorted) = subst (λ l. IsPermutation l (map entry_of sorted)) is (IsPermutation-map entry_of listed sorted moves) in
+    both sorted ∙ ap (map object_in) (sym (ascending_ordered entries (map entry_of sorted) moved births (sorted_ascends entry_of sorted up (births_moved entries (map entry_of sorted) moved births))))
+  where
+    both : (xs : List X) → map (λ x. object_in (entry_of x)) xs ≡ map object_in (map entry_of xs)
+    both [] = refl
+    both (x ∷ xs) = ap (λ (l : List Object). object_in (entry_of x) ∷ l) (both xs)
+
+-- an entry that goes is an object that goes
+pub shelf-removed : (name : List ℕ) (entries : List (List ℕ × Held)) → IsDistinct nat_eq (map birth_of entries) → IsDistinct bytes_eq (keys_of entries)
+    → map object_in (by_birth (swap_remove_entry (bytes_eq name) entries)) ≡ remove_object name (map object_in (by_birth entries))
+shelf-removed name entries births names = ap (map object_in) (ordered_removed name entries births names) ∙ objects-remove name (by_birth entries)
+
+-- an entry that comes is an object that comes
+pub shelf-added : (name : List ℕ) (held : Held) (entries : List (List ℕ × Held)) → lookup (bytes_eq name) entries ≡ None → All (λ birth. birth < held.birth) (map birth_of entries)
+    → map object_in (by_birth (insert_entry bytes_eq entries name held)) ≡ put_object (object_of name held) (map object_in (by_birth entries))
+shelf-added name held entries none later = ap (map object_in) (ordered_added name held entries none later) ∙ objects-insert name held (by_birth entries)
+
+-- what becomes of an object that is there
+module _ (name : List ℕ) (entries : List (List ℕ × Held)) (names : IsDistinct bytes_eq (keys_of entries)) (at : ℕ) (is : position (bytes_eq name) (keys_of entries) ≡ Some at)
     (value : slice_get (values_of entries) at ≡ lookup (bytes_eq name) entries) (there : true ≡ is_some (lookup (bytes_eq name) entries)) where
-  abbrev held : Option Held → Type 0
-  held o = (h : Held) × (o ≡ Some h)
+  abbrev found : Option Held → Type 0
+  found o = (h : Held) × (o ≡ Some h)
 
-  held_there : (o : Option Held) → true ≡ is_some o → held o
-  held_there None e = absurd (true≢false e)
-  held_there (Some h) e = (h, refl)
+  pub found_there : (o : Option Held) → true ≡ is_some o → found o
+  found_there None e = absurd (true≢false e)
+  found_there (Some h) e = (h, refl)
 
-  abbrev it : held (lookup (bytes_eq name) entries)
-  it = held_there (lookup (bytes_eq name) entries) there
+  abbrev it : found (lookup (bytes_eq name) entries)
+  it = found_there (lookup (bytes_eq name) entries) there
 
-  pub written-there : (new : List (List ℕ × Held)) → IfSome (slice_get (values_of entries) at) (λ held. new ≡ set_value_at entries at (written_by end first drawn held))
-      → map object_in new ≡ put_object (written_object end first drawn (object_or_new name (map object_in entries))) (map object_in entries)
-  written-there new said =
-      let here : position_or_len (bytes_eq name) (keys_of entries) ≡ at = (place_is name (keys_of entries) at is).0 in
-      let set : new ≡ set_value_at entries at (written_by end first drawn it.0) = subst (λ (o : Option Held). IfSome o (λ held. new ≡ set_value_at entries at (written_by end first drawn held))) (value ∙ it.1) said in
-      ap (map object_in) (set ∙ ap (λ k. set_value_at entries k (written_by end first drawn it.0)) (sym here))
-      ∙ objects-set name (written_by end first drawn it.0) entries (place_is name (keys_of entries) at is).1
-      ∙ ap (λ (o : Object). put_object (written_object end first drawn o) (map object_in entries)) (sym (object-found name entries ∙ ap (object_by name) it.1))
+  module _ (new : List (List ℕ × Held)) (held : Held → Held) (kept : (was : Held) → (held was).birth ≡ was.birth) (said : IfSome (slice_get (values_of entries) at) (λ was. new ≡ set_value_at entries at (held was))) where
+    pub shelf-changed : map object_in (by_birth new) ≡ put_object (object_of name (held it.0)) (map object_in (by_birth entries))
+    shelf-changed =
+        let here = place_is name (keys_of entries) at is in
+        let set : new ≡ set_value_at entries at (held it.0) = subst (λ (o : Option Held). IfSome o (λ was. new ≡ set_value_at entries at (held was))) (value ∙ it.1) said in
+        let changed : set_value_at entries at (held it.0) ≡ insert_entry bytes_eq entries name (held it.0) =
+        ap (λ k. set_value_at entries k (held it.0)) (sym here.0) ∙ set_changed name (held it.0) entries (let less : position_or_len (bytes_eq name) (keys_of entries) < length (keys_of entries) = here.1 in omega (arith, less, length-map entries (λ e. e.0))) in
+        ap (λ l. map object_in (by_birth l)) (set ∙ changed)
+        ∙ ap (map object_in) (ordered_changed name (held it.0) entries it.0 names it.1 (sym (kept it.0)))
+        ∙ objects-insert name (held it.0) (by_birth entries)
 
-  pub replaced-there : (result : List ℕ) → IfSome (slice_get (values_of entries) at) (λ held. result ≡ take (length drawn) (drop first held.versions))
-      → result ≡ take (length drawn) (drop first (object_or_new name (map object_in entries)).versions)
-  replaced-there result said =
-      subst (λ (o : Option Held). IfSome o (λ held. result ≡ take (length drawn) (drop first held.versions))) (value ∙ it.1) said
-      ∙ ap (λ (o : Object). take (length drawn) (drop first o.versions)) (sym (object-found name entries ∙ ap (object_by name) it.1))
+    pub births-changed : map birth_of new ≡ map birth_of entries
+    births-changed =
+        ap (map birth_of) (subst (λ (o : Option Held). IfSome o (λ was. new ≡ set_value_at entries at (held was))) (value ∙ it.1) said)
+        ∙ births_set entries at (held it.0) (subst (λ (o : Option Held). IfSome o (λ was. (held it.0).birth ≡ was.birth)) (sym (value ∙ it.1)) (kept it.0))
+
+  object_there : object_or_new name (map object_in (by_birth entries)) ≡ object_of name it.0
+  object_there = object-found name entries names ∙ ap (object_by name) it.1
+
+  pub replaced-whole : (result : List ℕ) → IfSome (slice_get (values_of entries) at) (λ held. result ≡ held.versions) → result ≡ (object_or_new name (map object_in (by_birth entries))).versions
+  replaced-whole result said =
+      subst (λ (o : Option Held). IfSome o (λ held. result ≡ held.versions)) (value ∙ it.1) said ∙ ap (λ (o : Object). o.versions) (sym object_there)
+
+  -- a write
+  module _ (end first : ℕ) (drawn : List ℕ) where
+    pub written-there : (new : List (List ℕ × Held)) → IfSome (slice_get (values_of entries) at) (λ held. new ≡ set_value_at entries at (written_by end first drawn held))
+        → map object_in (by_birth new) ≡ put_object (written_object end first drawn (object_or_new name (map object_in (by_birth entries)))) (map object_in (by_birth entries))
+    written-there new said =
+        shelf-changed new (written_by end first drawn) (λ was. refl) said
+        ∙ ap (λ (o : Object). put_object (written_object end first drawn o) (map object_in (by_birth entries))) (sym object_there)
+
+    pub replaced-there : (result : List ℕ) → IfSome (slice_get (values_of entries) at) (λ held. result ≡ take (length drawn) (drop first held.versions))
+        → result ≡ take (length drawn) (drop first (object_or_new name (map object_in (by_birth entries))).versions)
+    replaced-there result said =
+        subst (λ (o : Option Held). IfSome o (λ held. result ≡ take (length drawn) (drop first held.versions))) (value ∙ it.1) said
+        ∙ ap (λ (o : Object). take (length drawn) (drop first o.versions)) (sym object_there)
 
 -- a write to an object that isn't there
-module _ (name : List ℕ) (end first : ℕ) (drawn : List ℕ) (entries : List (List ℕ × Held)) (none : lookup (bytes_eq name) entries ≡ None) where
-  new_object : object_or_new name (map object_in entries) ≡ record { name = name; length = 0; versions = [] }
-  new_object = object-found name entries ∙ ap (object_by name) none
+module _ (name : List ℕ) (objects : List Object) (none : find_object name objects ≡ None) where
+  new_object : object_or_new name objects ≡ record { name = name; length = 0; versions = [] }
+  new_object = ap (λ (o : Option Object). unwrap_or o (record { name = name; length = 0; versions = [] })) none
 
-  pub written-anew : map object_in (insert_entry bytes_eq entries name (record { length = end; versions = drawn }))
-      ≡ put_object (written_object end first drawn (object_or_new name (map object_in entries))) (map object_in entries)
-  written-anew =
-      objects-insert name (record { length = end; versions = drawn }) entries
-      ∙ (λ i. put_object (record { name = name; length = longer i; versions = written-new first drawn i }) (map object_in entries))
-      ∙ ap (λ (o : Object). put_object (written_object end first drawn o) (map object_in entries)) (sym new_object)
-    where
-      longer : end ≡ max 0 end
-      longer = omega arith
+  pub replaced-none : [] ≡ (object_or_new name objects).versions
+  replaced-none = sym (ap (λ (o : Object). o.versions) new_object)
 
-  pub replaced-anew : [] ≡ take (length drawn) (drop first (object_or_new name (map object_in entries)).versions)
-  replaced-anew = none-replaced first drawn ∙ ap (λ (o : Object). take (length drawn) (drop first o.versions)) (sym new_object)
+  module _ (end first : ℕ) (drawn : List ℕ) where
+    pub written-anew : put_object (record { name = name; length = end; versions = drawn }) objects ≡ put_object (written_object end first drawn (object_or_new name objects)) objects
+    written-anew =
+        (λ i. put_object (record { name = name; length = longer i; versions = written-new first drawn i }) objects)
+        ∙ ap (λ (o : Object). put_object (written_object end first drawn o) objects) (sym new_object)
+      where
+        longer : end ≡ max 0 end
+        longer = omega arith
+
+    pub replaced-anew : [] ≡ take (length drawn) (drop first (object_or_new name objects).versions)
+    replaced-anew = none-replaced first drawn ∙ ap (λ (o : Object). take (length drawn) (drop first o.versions)) (sym new_object)

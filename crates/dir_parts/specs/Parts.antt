@@ -14,10 +14,11 @@ pub record Book : Type 0 where
   pub names : List (List ℕ)
   pub room : ℕ
 
--- an object but for its name
+-- an object but for its name, and how many objects had been created before it
 pub record Held : Type 0 where
   pub length : ℕ
   pub versions : List ℕ
+  pub birth : ℕ
 
 abbrev pub object_of : List ℕ → Held → Object
 object_of name held = record { name = name; length = held.length; versions = held.versions }
@@ -32,7 +33,7 @@ written_over first drawn versions = take first versions ++ drawn ++ drop (first 
 
 -- an object that a write was made to
 abbrev pub written_by : ℕ → ℕ → List ℕ → Held → Held
-written_by end first drawn held = record { length = max held.length end; versions = written_over first drawn held.versions }
+written_by end first drawn held = record { length = max held.length end; versions = written_over first drawn held.versions; birth = held.birth }
 
 abbrev pub written_object : ℕ → ℕ → List ℕ → Object → Object
 written_object end first drawn object =

@@ -1,5 +1,5 @@
-ghost use Rattle.std.specs.Prelude.{◌≡◌, ◌+◌, ◌-◌, ◌<◌, ◌≤◌, ◌++◌, [], length, take, drop, set, get_or, bytes_eq, OnOk, IfSome, option_map, slice_get, vec_len, vec_capacity};
-ghost use Rattle.indexmap.specs.IndexMap.{spare, get, keys, values, insert_entry, set_value_at, IsUnique};
+ghost use Rattle.std.specs.Prelude.{◌≡◌, ◌+◌, ◌-◌, ◌<◌, ◌≤◌, ◌++◌, [], length, map, take, drop, set, get_or, bytes_eq, None, OnOk, IfOk, IfSome, option_map, slice_get, vec_len, vec_capacity};
+ghost use Rattle.indexmap.specs.IndexMap.{spare, index_map_len, keys, values, insert_entry, set_value_at, IsUnique};
 ghost use Rattle.store_core.specs.Lookups.{find_object};
 ghost use Rattle.store_core.specs.Look.{remove_object};
 ghost use Rattle.store_core.specs.Commit.{put_object};
@@ -8,6 +8,7 @@ ghost use Rattle.dir_parts.specs.Parts.{object_of, object_or_new, written_over, 
 use indexmap::IndexMap;
 use std::alloc::{AllocError, Global};
 use std::marker::Model;
+use std::mem;
 use store_map::Name;
 
 /// An object's length in bytes and the current version of each stripe.
@@ -15,12 +16,16 @@ use store_map::Name;
 pub struct Contents {
     pub length: u64,
     pub versions: Vec<u64>,
+    // how many objects had been created before it
+    birth: u64,
 }
 
-/// The objects by their names, in order of creation.
+/// The objects by their names. Their births keep the order of creation, so that one that goes can
+/// leave its place to the last entry.
 #[derive(Drop)]
 pub struct Objects {
     listed: IndexMap<Name, Contents>,
+    births: u64,
 }
 
 impl Model for Contents {
@@ -46,19 +51,14 @@ impl Model for Objects {
 }
 
 // One entry more, or another value, where there is room for an entry.
-fn insert_reserved(
-    listed: &mut IndexMap<Name, Contents>,
-    name: Name,
-    contents: Contents,
-) -> Option<Contents>
+fn insert_reserved(listed: &mut IndexMap<Name, Contents>, name: Name, contents: Contents)
     requires { 0 < spare listed.old }
     ensures entries { listed.new.entries ≡ insert_entry bytes_eq listed.old.entries name contents }
-    ensures old { result ≡ get bytes_eq listed.old name }
     ensures room { spare listed.old ≤ spare listed.new + 1 }
     ensures unique { IsUnique bytes_eq listed.new }
 {
     match listed.insert(name, contents) {
-        Ok(old) => old,
+        Ok(_old) => {}
         Err(_) => unreachable!(),
     }
 }
@@ -147,6 +147,28 @@ fn splice(old: &mut Vec<u64>, first: u32, drawn: Vec<u64>, memory: Vec<u64>) -> 
     drawn
 }
 
+// Another length and other versions of the object at this place. Gives its versions before.
+fn put_at(
+    listed: &mut IndexMap<Name, Contents>,
+    at: usize,
+    length: u64,
+    versions: Vec<u64>,
+) -> Vec<u64>
+    requires { at < index_map_len listed.old }
+    ensures entries { IfSome (slice_get (values listed.old) at) (λ held. listed.new.entries ≡ set_value_at listed.old.entries at (record { length = length; versions = versions.items; birth = held.birth })) }
+    ensures replaced { IfSome (slice_get (values listed.old) at) (λ held. result.items ≡ held.versions) }
+    ensures room { spare listed.old ≤ spare listed.new }
+    ensures unique { IsUnique bytes_eq listed.old → IsUnique bytes_eq listed.new }
+{
+    match listed.get_index_mut(at) {
+        Some(contents) => {
+            contents.length = length;
+            mem::replace(&mut contents.versions, versions)
+        }
+        None => unreachable!(),
+    }
+}
+
 // A write to the object at this place. Gives the versions that it replaces.
 fn write_at(
     listed: &mut IndexMap<Name, Contents>,
@@ -179,6 +201,7 @@ impl Objects {
     {
         Objects {
             listed: IndexMap::new(alloc),
+            births: 0,
         }
     }
 
@@ -188,6 +211,9 @@ impl Objects {
         ensures room { self.old.room ≤ self.new.room }
         ensures ok { OnOk result (more ≤ self.new.room) }
     {
+        if u64::MAX - self.births < more as u64 {
+            return Err(AllocError);
+        }
         self.listed.reserve(more)?;
         Ok(())
     }
@@ -199,11 +225,16 @@ impl Objects {
         self.listed.len()
     }
 
-    /// The object at this place in the order of creation.
-    pub fn get(&self, place: usize) -> Option<(&Name, &Contents)>
-        ensures { option_map (λ p. object_of p.0.now p.1.now) result ≡ slice_get self.now.objects place }
+    /// The objects in order of creation.
+    pub fn in_order(&self, alloc: Global) -> Result<Vec<(&Name, &Contents)>, AllocError>
+        ensures { IfOk result (λ list. map (λ p. object_of p.0.now p.1.now) list.items ≡ self.now.objects) }
     {
-        self.listed.get_index(place)
+        let mut list: Vec<(&Name, &Contents)> = self.listed.iter().collect(alloc)?;
+        list.sort_unstable_by_key(|object| {
+            let contents = object.1;
+            contents.birth
+        });
+        Ok(list)
     }
 
     /// The object with this name.
@@ -211,6 +242,22 @@ impl Objects {
         ensures { option_map (λ held. object_of name.now held.now) result ≡ find_object name.now self.now.objects }
     {
         self.listed.get(name)
+    }
+
+    // A new object goes to the end.
+    fn add(&mut self, name: Name, length: u64, versions: Vec<u64>)
+        requires room { 0 < self.old.room }
+        requires new { find_object name self.old.objects ≡ None }
+        ensures objects { self.new.objects ≡ put_object (record { name = name; length = length; versions = versions.items }) self.old.objects }
+        ensures room { self.old.room ≤ self.new.room + 1 }
+    {
+        let contents = Contents {
+            length,
+            versions,
+            birth: self.births,
+        };
+        insert_reserved(&mut self.listed, name, contents);
+        self.births += 1;
     }
 
     /// The object takes the place of the one with its name, or goes to the end. Gives the versions
@@ -222,9 +269,10 @@ impl Objects {
         ensures replaced { result.items ≡ (object_or_new name self.old.objects).versions }
     {
         let alloc = *self.listed.allocator();
-        if let Some(old) = insert_reserved(&mut self.listed, name, Contents { length, versions }) {
-            return old.versions;
+        if let Some(at) = self.listed.get_index_of(&name) {
+            return put_at(&mut self.listed, at, length, versions);
         }
+        self.add(name, length, versions);
         Vec::new(alloc)
     }
 
@@ -249,11 +297,7 @@ impl Objects {
         if let Some(at) = self.listed.get_index_of(&name) {
             return write_at(&mut self.listed, at, end, first, drawn, memory);
         }
-        let contents = Contents {
-            length: end,
-            versions: drawn,
-        };
-        let _none = insert_reserved(&mut self.listed, name, contents);
+        self.add(name, end, drawn);
         Vec::new(alloc)
     }
 
@@ -263,6 +307,6 @@ impl Objects {
         ensures room { self.old.room ≤ self.new.room }
         ensures removed { option_map (λ held. object_of name.now held) result ≡ find_object name.now self.old.objects }
     {
-        self.listed.shift_remove(name)
+        self.listed.swap_remove(name)
     }
 }

@@ -6,7 +6,7 @@ use crate::opening::small_geometry;
 use crate::said::said;
 use crate::store::Store;
 use crate::words::{number_at, word_at};
-use std::alloc::Global;
+use std::alloc::{AllocError, Global};
 use std::test::Fail;
 use store_map::{Actor, Name, Version};
 use stripe_dir::Directory;
@@ -22,17 +22,18 @@ struct Size {
     length: Option<u64>,
 }
 
-fn size_of(directory: &Directory) -> Size {
-    let length = match directory.object_at(0) {
+fn size_of(alloc: Global, directory: &Directory) -> Result<Size, AllocError> {
+    let objects = directory.objects_in_order(alloc)?;
+    let length = match objects.first() {
         Some((_, contents)) => Some(contents.length),
         None => None,
     };
-    Size {
+    Ok(Size {
         objects: directory.objects(),
         points: directory.points(),
         garbage: directory.has_garbage(),
         length,
-    }
+    })
 }
 
 fn step(store: &mut Store<'_>, who: Actor, step: Step<'_>) -> Result<Answer, Refusal> {
@@ -45,11 +46,16 @@ fn step(store: &mut Store<'_>, who: Actor, step: Step<'_>) -> Result<Answer, Ref
 }
 
 // Where memory was wanting the directory is as it was, and the step is made again.
-fn make(store: &mut Store<'_>, who: Actor, its: Step<'_>) -> Result<Answer, Fail> {
-    let before = size_of(store.directory());
+fn make(
+    alloc: Global,
+    store: &mut Store<'_>,
+    who: Actor,
+    its: Step<'_>,
+) -> Result<Answer, Fail> {
+    let before = size_of(alloc, store.directory())?;
     match step(store, who, its) {
         Err(Refusal::Short) => {
-            if size_of(store.directory()) != before {
+            if size_of(alloc, store.directory())? != before {
                 return Err(Fail::from("want of memory changed the directory"));
             }
             Ok(step(store, who, its)?)
@@ -58,10 +64,15 @@ fn make(store: &mut Store<'_>, who: Actor, its: Step<'_>) -> Result<Answer, Fail
     }
 }
 
-fn repaired(store: &mut Store<'_>, who: Actor, words: &[&str]) -> Result<Answer, Fail> {
+fn repaired(
+    alloc: Global,
+    store: &mut Store<'_>,
+    who: Actor,
+    words: &[&str],
+) -> Result<Answer, Fail> {
     let server = number_at(words, 1)?;
     let epoch = u64::from(number_at(words, 2)?);
-    make(store, who, Step::Repaired { server, epoch })
+    make(alloc, store, who, Step::Repaired { server, epoch })
 }
 
 fn look(alloc: Global, store: &mut Store<'_>, who: Actor, words: &[&str]) -> Result<Answer, Fail> {
@@ -71,7 +82,7 @@ fn look(alloc: Global, store: &mut Store<'_>, who: Actor, words: &[&str]) -> Res
         number,
         call: &call,
     };
-    make(store, who, step)
+    make(alloc, store, who, step)
 }
 
 fn look_repair(
@@ -88,7 +99,7 @@ fn look_repair(
         name: &name,
         stripe,
     };
-    make(store, who, step)
+    make(alloc, store, who, step)
 }
 
 // A step of a client or a repairer.
@@ -99,11 +110,11 @@ fn answer(
     words: &[&str],
 ) -> Result<Answer, Fail> {
     match word_at(words, 0)? {
-        "draw" => make(store, who, Step::Draw),
-        "commit" => make(store, who, Step::Commit),
-        "end" => make(store, who, Step::End),
-        "confirm" => make(store, who, Step::Confirm),
-        "repaired" => repaired(store, who, words),
+        "draw" => make(alloc, store, who, Step::Draw),
+        "commit" => make(alloc, store, who, Step::Commit),
+        "end" => make(alloc, store, who, Step::End),
+        "confirm" => make(alloc, store, who, Step::Confirm),
+        "repaired" => repaired(alloc, store, who, words),
         "rebuild" => look_repair(alloc, store, who, words),
         _ => look(alloc, store, who, words),
     }

@@ -1,15 +1,20 @@
 ghost use Rattle.std.specs.Prelude.{◌≡◌, true};
 ghost use Rattle.machine_walks.specs.Whole.{AreWholeObjects};
 
+use std::alloc::Global;
 use stripe_dir::Directory;
 
-/// Whether there is one object at most, and all its stripes, of 8 bytes each, are whole.
-pub(crate) fn are_padded(directory: &Directory) -> bool
+/// Whether there is one object at most, and all its stripes, of 8 bytes each, are whole. It isn't known
+/// where memory is wanting.
+pub(crate) fn are_padded(alloc: Global, directory: &Directory) -> bool
     ensures { result ≡ true → AreWholeObjects directory.now.core.objects }
 {
-    match directory.object_at(0) {
+    let Ok(objects) = directory.objects_in_order(alloc) else {
+        return false;
+    };
+    match objects.first() {
         Some((_, contents)) => {
-            directory.objects() == 1 && contents.versions.len() as u64 <= contents.length / 8
+            objects.len() == 1 && contents.versions.len() as u64 <= contents.length / 8
         }
         None => true,
     }

@@ -26,6 +26,7 @@ pub(crate) enum Event {
 
 /// A directory and four servers, with those who wait. It has to be left.
 pub(crate) struct Places<'a> {
+    pub(crate) alloc: Global,
     pub(crate) book: &'a Book,
     pub(crate) directory: Directory,
     pub(crate) servers: Vec<Server>,
@@ -64,6 +65,7 @@ impl<'a> Places<'a> {
         let servers = servers(alloc, book)?;
         let (directory, seats) = Directory::new(alloc, book.opening(), 24, 8, 1)?;
         Ok(Places {
+            alloc,
             book,
             directory,
             servers,
@@ -74,6 +76,7 @@ impl<'a> Places<'a> {
     /// All that wait leave.
     pub(crate) fn leave(self) {
         let Places {
+            alloc: _,
             book: _,
             directory: _,
             servers: _,
@@ -125,7 +128,7 @@ impl<'a> Places<'a> {
     {
         match work.need() {
             Need::Directory => {
-                if work.is_ready(&self.directory) {
+                if work.is_ready(self.alloc, &self.directory) {
                     work.on_directory(&mut self.directory, self.book);
                 }
             }

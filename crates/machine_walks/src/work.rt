@@ -86,11 +86,11 @@ impl<'a> Work<'a> {
     }
 
     /// Whether it may make a step at the directory: a write or a delete may where all stripes are whole.
-    pub(crate) fn is_ready(&self, directory: &Directory) -> bool
+    pub(crate) fn is_ready(&self, alloc: Global, directory: &Directory) -> bool
         ensures { result ≡ true → IsReady directory.now self.now }
     {
         match self {
-            Work::Patch(_) => are_padded(directory),
+            Work::Patch(_) => are_padded(alloc, directory),
             _ => true,
         }
     }

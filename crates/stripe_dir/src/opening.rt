@@ -99,11 +99,11 @@ impl Directory {
         self.objects.len()
     }
 
-    /// The object at this place in the order of creation: its name, its length and its versions.
-    pub fn object_at(&self, place: usize) -> Option<(&Name, &Contents)>
-        ensures { option_map (λ p. object_of p.0.now p.1.now) result ≡ slice_get self.now.core.objects place }
+    /// The objects in order of creation: each one's name, its length and its versions.
+    pub fn objects_in_order(&self, alloc: Global) -> Result<Vec<(&Name, &Contents)>, AllocError>
+        ensures { IfOk result (λ list. map (λ p. object_of p.0.now p.1.now) list.items ≡ self.now.core.objects) }
     {
-        self.objects.get(place)
+        self.objects.in_order(alloc)
     }
 
     /// How many points the history has.

@@ -12,14 +12,14 @@ use transcript_text::{LLine, TLine};
 pub fn object_lines(alloc: Global, directory: &Directory) -> Result<ListOf<LLine>, AllocError>
     ensures { IfOk result (λ lines. lines ≡ object_lines directory.now.core.objects) }
 {
+    let objects = directory.objects_in_order(alloc)?;
     let mut lines = ListOf::new(alloc);
-    for place in 0..directory.objects() {
-        if let Some((name, contents)) = directory.object_at(place) {
-            lines.push(LLine {
-                name: name.copy()?,
-                length: contents.length,
-            })?;
-        }
+    for object in objects.iter() {
+        let (name, contents) = *object;
+        lines.push(LLine {
+            name: name.copy()?,
+            length: contents.length,
+        })?;
     }
     Ok(lines)
 }

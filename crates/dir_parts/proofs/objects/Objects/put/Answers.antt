@@ -1,31 +1,43 @@
-use Rattle.std.proofs.Common.{◌≡◌, None, Some, map, bytes_eq, ap, sym, ◌∙◌}
+use Rattle.std.proofs.Common.{◌≡◌, ◌<◌, None, bytes_eq, nat_eq, All, refl, ap, sym, subst, ◌∙◌}
+use Rattle.std.specs.List.{IsDistinct}
 use Rattle.std.specs.Map.{lookup}
+use Rattle.store_core.specs.Lookups.{find_object}
 use Rattle.store_core.specs.Commit.{put_object}
-use Rattle.dir_parts.specs.Parts.{Held, Shelf, object_of, object_or_new}
-use Rattle.dir_parts.specs.Shelf.{object_in}
-use Rattle.dir_parts.proofs.ShelfSteps.{objects-insert, versions-found, versions_of}
+use Rattle.dir_parts.specs.Parts.{Held, Shelf, object_or_new}
+use Rattle.dir_parts.proofs.Naming.{none_is}
+use Rattle.dir_parts.proofs.ShelfSteps.{shelf-changed, births-changed, replaced-whole, unfound, replaced-none}
 use Rattle.dir_parts.proofs.objects.Objects.put.Goals as goal
+
+pub invariant_of-self : goal.invariant_of-self
+invariant_of-self c =
+    let births = births-changed c.args.name c.self.inside.listed.entries c.self.invariant.names c.in-Some.at (sym c.in-Some.ensures.index) c.in-Some.ensures.value c.in-Some.ensures.found
+    c.put_at.new.listed.entries (λ was. record { length = c.args.length; versions = c.args.versions.items; birth = was.birth }) (λ was. refl) c.put_at.ensures.entries in
+    record {
+      names = c.put_at.ensures.unique c.self.invariant.names;
+      births = subst (IsDistinct nat_eq) (sym births) c.self.invariant.births;
+      later = subst (All (λ b. b < c.self.inside.births)) (sym births) c.self.invariant.later;
+    }
 
 pub returns-in-Some-clause-objects : goal.returns-in-Some-clause-objects
 returns-in-Some-clause-objects c =
-    let held : Held = record { length = c.args.length; versions = c.args.versions.items } in
-    ap (map object_in) c.insert_reserved.ensures.entries ∙ objects-insert c.args.name held c.self.inside.listed.entries
-    ∙ ap (λ (s : Shelf). put_object (object_of c.args.name held) s.objects) c.self.view_is
+    shelf-changed c.args.name c.self.inside.listed.entries c.self.invariant.names c.in-Some.at (sym c.in-Some.ensures.index) c.in-Some.ensures.value c.in-Some.ensures.found
+    c.put_at.new.listed.entries (λ was. record { length = c.args.length; versions = c.args.versions.items; birth = was.birth }) (λ was. refl) c.put_at.ensures.entries
+    ∙ ap (λ (s : Shelf). put_object (record { name = c.args.name; length = c.args.length; versions = c.args.versions.items }) s.objects) c.self.view_is
 
 pub returns-in-Some-clause-replaced : goal.returns-in-Some-clause-replaced
 returns-in-Some-clause-replaced c =
-    let old : Some c.in-Some.old ≡ lookup (bytes_eq c.args.name) c.self.inside.listed.entries = c.in-Some.ensures.old in
-    ap (λ (h : Held). h.versions) c.old.view_is ∙ ap versions_of old ∙ sym (versions-found c.args.name c.self.inside.listed.entries)
+    replaced-whole c.args.name c.self.inside.listed.entries c.self.invariant.names c.in-Some.at (sym c.in-Some.ensures.index) c.in-Some.ensures.value c.in-Some.ensures.found
+    c.put_at.result.items c.put_at.ensures.replaced
     ∙ ap (λ (s : Shelf). (object_or_new c.args.name s.objects).versions) c.self.view_is
 
-pub returns-clause-objects : goal.returns-clause-objects
-returns-clause-objects c =
-    let held : Held = record { length = c.args.length; versions = c.args.versions.items } in
-    ap (map object_in) c.insert_reserved.ensures.entries ∙ objects-insert c.args.name held c.self.inside.listed.entries
-    ∙ ap (λ (s : Shelf). put_object (object_of c.args.name held) s.objects) c.self.view_is
+pub add-requires-clause-new : goal.add-requires-clause-new
+add-requires-clause-new c =
+    ap (λ (s : Shelf). find_object c.args.name s.objects) (sym c.self.view_is)
+    ∙ unfound c.args.name c.self.inside.listed.entries c.self.invariant.names (none_is _ (sym c.in_default.ensures.found))
 
 pub returns-clause-replaced : goal.returns-clause-replaced
 returns-clause-replaced c =
-    let old : None ≡ lookup (bytes_eq c.args.name) c.self.inside.listed.entries = sym c.in_default.is ∙ c.insert_reserved.ensures.old in
-    c.new.ensures.items ∙ ap versions_of old ∙ sym (versions-found c.args.name c.self.inside.listed.entries)
-    ∙ ap (λ (s : Shelf). (object_or_new c.args.name s.objects).versions) c.self.view_is
+    let none : find_object c.args.name c.args.self.now.objects ≡ None =
+    ap (λ (s : Shelf). find_object c.args.name s.objects) (sym c.self.view_is)
+    ∙ unfound c.args.name c.self.inside.listed.entries c.self.invariant.names (none_is _ (sym c.in_default.ensures.found)) in
+    c.new.ensures.items ∙ replaced-none c.args.name c.args.self.now.objects none
