@@ -46,12 +46,7 @@ fn step(store: &mut Store<'_>, who: Actor, step: Step<'_>) -> Result<Answer, Ref
 }
 
 // Where memory was wanting the directory is as it was, and the step is made again.
-fn make(
-    alloc: Global,
-    store: &mut Store<'_>,
-    who: Actor,
-    its: Step<'_>,
-) -> Result<Answer, Fail> {
+fn make(alloc: Global, store: &mut Store<'_>, who: Actor, its: Step<'_>) -> Result<Answer, Fail> {
     let before = size_of(alloc, store.directory())?;
     match step(store, who, its) {
         Err(Refusal::Short) => {

@@ -1,5 +1,5 @@
 -- One item more in lists of lines.
-use Rattle.std.proofs.Common.{◌≡◌, ℕ, ◌+◌, ◌^◌, ◌<◌, zero, suc, List, [], ◌∷◌, ◌++◌, length, map, get_or, take, None, Some, sym, ap, subst, ◌∙◌, arith, append_assoc, add-zero, zero-add}
+use Rattle.std.proofs.Common.{◌≡◌, ℕ, ◌+◌, ◌^◌, ◌<◌, zero, suc, List, [], ◌∷◌, ◌++◌, length, map, get_or, take, None, Some, refl, sym, ap, subst, ◌∙◌, arith, append_assoc, add-zero, zero-add}
 use Rattle.std.specs.Prelude.{option_map}
 use Rattle.std.specs.List.{flat_map, enumerate_from, slice_get}
 use Rattle.std.proofs.lemmas.Option.{slice_get_within, get_or_from_slice_get}
@@ -73,13 +73,12 @@ module _ {A Line : Type 0} (line : A → Line) where
       one ∙ ap (λ l. l ++ line x ∷ []) so_far
       ∙ sym (ap (map line) (take_more xs i x (slice_get_within xs i x found) ∙ ap (λ y. take i xs ++ y ∷ []) (get_or_from_slice_get xs i x x found)) ∙ map-append line (take i xs) (x ∷ []))
 
--- a place of a list has an item
-pub none_within : {A : Type 0} (xs : List A) (i : ℕ) → None ≡ slice_get xs i → i < length xs → ⊥
-none_within [] i e below = absurd (omega arith)
-none_within (x ∷ xs) zero e below = cc
-none_within (x ∷ xs) (suc i) e below = none_within xs i e (omega arith)
+-- what is seen of what is seen
+pub map_twice : {A B C : Type 0} (f : A → B) (g : B → C) (xs : List A) → map g (map f xs) ≡ map (λ x. g (f x)) xs
+map_twice f g [] = refl
+map_twice f g (x ∷ xs) = ap (λ l. g (f x) ∷ l) (map_twice f g xs)
 
--- the same as it is seen
+-- a place of a list has an item, as it is seen
 pub none_mapped_within : {A B : Type 0} (see : A → B) (xs : List A) (i : ℕ) → None ≡ option_map see (slice_get xs i) → i < length xs → ⊥
 none_mapped_within see [] i e below = absurd (omega arith)
 none_mapped_within see (x ∷ xs) zero e below = cc
