@@ -25,7 +25,10 @@ struct Size {
 fn size_of(alloc: Global, directory: &Directory) -> Result<Size, AllocError> {
     let objects = directory.objects_in_order(alloc)?;
     let length = match objects.first() {
-        Some((_, contents)) => Some(contents.length),
+        Some(first) => {
+            let contents = first.1;
+            Some(contents.length)
+        }
         None => None,
     };
     Ok(Size {

@@ -13,7 +13,8 @@ pub(crate) fn are_padded(alloc: Global, directory: &Directory) -> bool
         return false;
     };
     match objects.first() {
-        Some((_, contents)) => {
+        Some(first) => {
+            let contents = first.1;
             objects.len() == 1 && contents.versions.len() as u64 <= contents.length / 8
         }
         None => true,
