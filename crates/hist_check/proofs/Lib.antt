@@ -5,3 +5,5 @@ pub mod Reach
 pub mod Replays
 pub mod Rules
 pub mod Groups
+pub mod Searches
+pub mod Made

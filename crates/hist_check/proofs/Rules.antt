@@ -18,20 +18,9 @@ use Rattle.hist_tables.specs.Tables.{has, IsSetOf}
 use Rattle.hist_tables.specs.declared.call_set.CallSet.{CallSet}
 use Rattle.hist_tables.proofs.Faults.{before_more, or_first, or_second}
 
--- an answer, after the ones before it
-abbrev pub answer_fault : List CallName → List CallName → CallName → Option Verdict
-answer_fault calls before call = option_or (follows_answered calls call) (is_first_answer before call)
-
 -- a call without a reply, after the ones before it
 abbrev pub open_fault : List CallName → List CallName → CallName → Option Verdict
 open_fault answered before call = option_or (is_only_one (find (same_actor call) before) call) (is_next_call answered call)
-
--- the set of the calls before, with one more
-pub set_more : (old new : CallSet) (calls : List CallName) (i : ℕ) (d : CallName) → i < length calls
-    → ((other : CallName) → has new other ≡ (same_call other (get_or calls i d) || has old other))
-    → IsSetOf old (reverse (take i calls)) → IsSetOf new (reverse (take (i + 1) calls))
-set_more old new calls i d within added before other =
-    added other ∙ ap (λ (seen : Bool). same_call other (get_or calls i d) || seen) (before other) ∙ sym (ap (is_named other) (before_more calls i d within))
 
 -- the answered calls are no more than the lines that answer
 pub answered_few : (t : Transcript) → length (answered_calls t) ≤ length t.history + length t.refused + length t.repairs

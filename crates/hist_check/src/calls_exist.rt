@@ -1,10 +1,9 @@
-ghost use Rattle.std.specs.Prelude.{◌≡◌, IfOk};
+ghost use Rattle.std.specs.Prelude.{◌≡◌};
 ghost use Rattle.hist_rules.specs.First.{first_fault};
 ghost use Rattle.hist_rules.specs.CallsExist.{call_exists, calls_exist};
 
 use hist_rules::Verdict;
-use hist_tables::{count_calls, named_calls, number_of};
-use std::alloc::{AllocError, Global};
+use hist_tables::{NamesCall, count_calls, number_of};
 use store_map::Script;
 use transcript_text::{CallName, Transcript};
 
@@ -24,12 +23,12 @@ fn call_exists(script: &Script, call: CallName) -> Option<Verdict>
     }
 }
 
-/// The first of the calls that the script doesn't have.
-fn find_unknown_call(script: &Script, calls: &[CallName]) -> Option<Verdict>
-    ensures { result ≡ first_fault (call_exists script.now) calls.now }
+/// The first of the lines whose call the script doesn't have.
+fn find_unknown_call<L: NamesCall>(script: &Script, lines: &[L]) -> Option<Verdict>
+    ensures { result ≡ first_fault (λ line. call_exists script.now (L.call line)) lines.now }
 {
-    for call in calls {
-        if let Some(fault) = call_exists(script, *call) {
+    for line in lines {
+        if let Some(fault) = call_exists(script, line.call()) {
             return Some(fault);
         }
     }
@@ -37,13 +36,12 @@ fn find_unknown_call(script: &Script, calls: &[CallName]) -> Option<Verdict>
 }
 
 /// The first line whose call the script doesn't have.
-pub fn find_made_up(
-    alloc: Global,
-    script: &Script,
-    transcript: &Transcript,
-) -> Result<Option<Verdict>, AllocError>
-    ensures { IfOk result (λ found. found ≡ calls_exist script.now transcript.now) }
+pub fn find_made_up(script: &Script, transcript: &Transcript) -> Option<Verdict>
+    ensures { result ≡ calls_exist script.now transcript.now }
 {
-    let calls = named_calls(alloc, transcript)?;
-    Ok(find_unknown_call(script, &calls))
+    find_unknown_call(script, transcript.history.as_slice())
+        .or(find_unknown_call(script, transcript.refused.as_slice()))
+        .or(find_unknown_call(script, transcript.repairs.as_slice()))
+        .or(find_unknown_call(script, transcript.unanswered.as_slice()))
+        .or(find_unknown_call(script, transcript.takes.as_slice()))
 }

@@ -12,7 +12,7 @@ ghost use Rattle.hist_check.specs.Reached.{AreReached};
 use crate::least_missing::least_missing;
 use crate::order::follows;
 use hist_rules::Verdict;
-use hist_tables::{ActorTable, CallSet, answered_calls, count_calls, number_of, unanswered_calls};
+use hist_tables::{ActorTable, CallSet, count_calls, number_of, unanswered_calls};
 use std::alloc::{AllocError, Global};
 use store_map::Script;
 use transcript_text::{CallName, HLine, Shown, Transcript};
@@ -40,24 +40,24 @@ fn is_unanswered(script: &Script, unanswered: &CallSet, line: &HLine) -> Option<
 
 /// Whether the call is the first of its actor that isn't answered.
 fn is_next_call(
-    answered: &[CallName],
-    set: &CallSet,
+    transcript: &Transcript,
+    answered: &CallSet,
     reached: &mut ActorTable,
     call: CallName,
 ) -> Result<Option<Verdict>, AllocError>
-    requires few { length answered.now < 2 ^ 32 }
-    requires set { IsSetOf set.now answered.now }
-    requires reached { AreReached answered.now reached.old }
-    ensures found { IfOk result (λ found. found ≡ is_next_call answered.now call) }
-    ensures reached { OnOk result (AreReached answered.now reached.new) }
+    requires few { length (answered_calls transcript.now) < 2 ^ 32 }
+    requires answered { IsSetOf answered.now (answered_calls transcript.now) }
+    requires reached { AreReached (answered_calls transcript.now) reached.old }
+    ensures found { IfOk result (λ found. found ≡ is_next_call (answered_calls transcript.now) call) }
+    ensures reached { OnOk result (AreReached (answered_calls transcript.now) reached.new) }
 {
-    let follows = follows(answered, set, reached, call)?;
-    if follows && !set.contains(call) {
+    let follows = follows(transcript, answered, reached, call)?;
+    if follows && !answered.contains(call) {
         return Ok(None);
     }
     Ok(Some(Verdict::Misplaced {
         call,
-        first: least_missing(answered, set, call),
+        first: least_missing(transcript, answered, call),
         second: u64::from(number_of(call)),
     }))
 }
@@ -92,20 +92,20 @@ fn find_effect(script: &Script, unanswered: &CallSet, lines: &[HLine]) -> Option
 /// The first call without a reply that isn't its actor's next one.
 fn find_early(
     alloc: Global,
-    answered: &[CallName],
+    transcript: &Transcript,
     calls: &[CallName],
 ) -> Result<Option<Verdict>, AllocError>
-    requires few { length answered.now < 2 ^ 32 }
-    ensures { IfOk result (λ found. found ≡ first_fault_along (λ before call. option_or (is_only_one (find (same_actor call) before) call) (is_next_call answered.now call)) calls.now) }
+    requires few { length (answered_calls transcript.now) < 2 ^ 32 }
+    ensures { IfOk result (λ found. found ≡ first_fault_along (λ before call. option_or (is_only_one (find (same_actor call) before) call) (is_next_call (answered_calls transcript.now) call)) calls.now) }
 {
-    let set = CallSet::from_calls(alloc, answered)?;
+    let answered = CallSet::of_answers(alloc, transcript)?;
     let mut reached = ActorTable::new(alloc);
     let mut firsts = ActorTable::new(alloc);
     for call in calls {
         if let Some(fault) = is_only_one(firsts.get(*call), *call) {
             return Ok(Some(fault));
         }
-        if let Some(fault) = is_next_call(answered, &set, &mut reached, *call)? {
+        if let Some(fault) = is_next_call(transcript, &answered, &mut reached, *call)? {
             return Ok(Some(fault));
         }
         firsts.set(*call, u64::from(number_of(*call)))?;
@@ -127,6 +127,5 @@ pub fn find_wrong_open(
     if let Some(fault) = find_effect(script, &set, transcript.history.as_slice()) {
         return Ok(Some(fault));
     }
-    let answered = answered_calls(alloc, transcript)?;
-    find_early(alloc, &answered, &waiting)
+    find_early(alloc, transcript, &waiting)
 }

@@ -1,16 +1,15 @@
-ghost use Rattle.std.specs.Prelude.{◌≡◌, ◌<◌, ◌≤◌, ◌^◌, ◌↔◌, ℕ, List, true, length, IsTrue, IfOk, OnOk};
-ghost use Rattle.std.specs.Option.{option_or};
+ghost use Rattle.std.specs.Prelude.{◌≡◌, ◌<◌, ◌≤◌, ◌^◌, ◌↔◌, ℕ, List, true, length, map, filter, IsTrue, IfOk, OnOk};
 ghost use Rattle.hist_rules.specs.Calls.{with_number, number_of, is_named};
 ghost use Rattle.hist_rules.specs.CallsInOrder.{follows, follows_answered, is_first_answer, calls_in_order};
 ghost use Rattle.hist_rules.specs.Named.{answered_calls};
-ghost use Rattle.hist_rules.specs.First.{first_fault_along};
 ghost use Rattle.transcript_text.specs.declared.call_name.CallName.{CallName};
 ghost use Rattle.hist_tables.specs.Tables.{has, IsSetOf};
 ghost use Rattle.hist_check.specs.Reached.{AreReached};
+ghost use Rattle.hist_check.specs.Searched.{IsSearched};
 
 use crate::least_missing::least_missing;
 use hist_rules::Verdict;
-use hist_tables::{ActorTable, CallSet, answered_calls, number_of, with_number};
+use hist_tables::{ActorTable, CallSet, NamesCall, number_of, with_number};
 use std::alloc::{AllocError, Global};
 use transcript_text::{CallName, Transcript};
 
@@ -26,18 +25,18 @@ fn has_between(set: &CallSet, call: CallName, from: u64, to: u32) -> bool
     true
 }
 
-/// Whether all earlier calls of the call's actor are among the calls, of which the set is made.
-/// The table keeps how far each actor's calls were found, so that no call is looked up twice.
+/// Whether all earlier calls of the call's actor are answered. The set is that of the answered
+/// calls. The table keeps how far each actor's calls were found, so that no call is looked up twice.
 pub fn follows(
-    calls: &[CallName],
+    transcript: &Transcript,
     set: &CallSet,
     reached: &mut ActorTable,
     call: CallName,
 ) -> Result<bool, AllocError>
-    requires set { IsSetOf set.now calls.now }
-    requires reached { AreReached calls.now reached.old }
-    ensures holds { IfOk result (λ holds. holds ≡ follows calls.now call) }
-    ensures reached { OnOk result (AreReached calls.now reached.new) }
+    requires set { IsSetOf set.now (answered_calls transcript.now) }
+    requires reached { AreReached (answered_calls transcript.now) reached.old }
+    ensures holds { IfOk result (λ holds. holds ≡ follows (answered_calls transcript.now) call) }
+    ensures reached { OnOk result (AreReached (answered_calls transcript.now) reached.new) }
 {
     let from = reached.get(call).unwrap_or(0);
     let number = number_of(call);
@@ -53,23 +52,23 @@ pub fn follows(
 
 /// Whether the call stands behind its actor's earlier answers.
 fn follows_answered(
-    calls: &[CallName],
+    transcript: &Transcript,
     set: &CallSet,
     reached: &mut ActorTable,
     call: CallName,
 ) -> Result<Option<Verdict>, AllocError>
-    requires few { length calls.now < 2 ^ 32 }
-    requires set { IsSetOf set.now calls.now }
-    requires reached { AreReached calls.now reached.old }
-    ensures found { IfOk result (λ found. found ≡ follows_answered calls.now call) }
-    ensures reached { OnOk result (AreReached calls.now reached.new) }
+    requires few { length (answered_calls transcript.now) < 2 ^ 32 }
+    requires set { IsSetOf set.now (answered_calls transcript.now) }
+    requires reached { AreReached (answered_calls transcript.now) reached.old }
+    ensures found { IfOk result (λ found. found ≡ follows_answered (answered_calls transcript.now) call) }
+    ensures reached { OnOk result (AreReached (answered_calls transcript.now) reached.new) }
 {
-    if follows(calls, set, reached, call)? {
+    if follows(transcript, set, reached, call)? {
         return Ok(None);
     }
     Ok(Some(Verdict::Misplaced {
         call,
-        first: least_missing(calls, set, call),
+        first: least_missing(transcript, set, call),
         second: u64::from(number_of(call)),
     }))
 }
@@ -89,22 +88,34 @@ fn is_first_answer(before: &CallSet, call: CallName) -> Option<Verdict>
     })
 }
 
-/// The first of the calls that stands out of order.
-fn find_disorder(alloc: Global, calls: &[CallName]) -> Result<Option<Verdict>, AllocError>
-    requires few { length calls.now < 2 ^ 32 }
-    ensures { IfOk result (λ found. found ≡ first_fault_along (λ before call. option_or (follows_answered calls.now call) (is_first_answer before call)) calls.now) }
+/// The first of the lines with an answer that stands out of order. The set is that of all answered
+/// calls; the other one has those before, and gets those of the lines.
+fn find_disorder<L: NamesCall>(
+    transcript: &Transcript,
+    set: &CallSet,
+    reached: &mut ActorTable,
+    before: &mut CallSet,
+    lines: &[L],
+) -> Result<Option<Verdict>, AllocError>
+    requires few { length (answered_calls transcript.now) < 2 ^ 32 }
+    requires set { IsSetOf set.now (answered_calls transcript.now) }
+    requires reached { AreReached (answered_calls transcript.now) reached.old }
+    ensures found { (earlier rest : List CallName) → IsSetOf before.old earlier
+        → IfOk result (λ found. IsSearched (answered_calls transcript.now) earlier (map L.call (filter L.is_answer lines.now)) rest found before.new) }
+    ensures reached { OnOk result (AreReached (answered_calls transcript.now) reached.new) }
 {
-    let set = CallSet::from_calls(alloc, calls)?;
-    let mut reached = ActorTable::new(alloc);
-    let mut before = CallSet::new(alloc);
-    for call in calls {
-        if let Some(fault) = follows_answered(calls, &set, &mut reached, *call)? {
+    for line in lines {
+        if !line.is_answer() {
+            continue;
+        }
+        let call = line.call();
+        if let Some(fault) = follows_answered(transcript, set, reached, call)? {
             return Ok(Some(fault));
         }
-        if let Some(fault) = is_first_answer(&before, *call) {
+        if let Some(fault) = is_first_answer(before, call) {
             return Ok(Some(fault));
         }
-        before.insert(*call)?;
+        before.insert(call)?;
     }
     Ok(None)
 }
@@ -117,6 +128,17 @@ pub fn find_wrong_answer(
     requires few { length (answered_calls transcript.now) < 2 ^ 32 }
     ensures { IfOk result (λ found. found ≡ calls_in_order transcript.now) }
 {
-    let calls = answered_calls(alloc, transcript)?;
-    find_disorder(alloc, &calls)
+    let set = CallSet::of_answers(alloc, transcript)?;
+    let mut reached = ActorTable::new(alloc);
+    let mut before = CallSet::new(alloc);
+    let replies = transcript.history.as_slice();
+    if let Some(fault) = find_disorder(transcript, &set, &mut reached, &mut before, replies)? {
+        return Ok(Some(fault));
+    }
+    let refusals = transcript.refused.as_slice();
+    if let Some(fault) = find_disorder(transcript, &set, &mut reached, &mut before, refusals)? {
+        return Ok(Some(fault));
+    }
+    let results = transcript.repairs.as_slice();
+    find_disorder(transcript, &set, &mut reached, &mut before, results)
 }

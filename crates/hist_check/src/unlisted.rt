@@ -6,7 +6,7 @@ ghost use Rattle.hist_tables.specs.Tables.{IsSetOf};
 ghost use Rattle.transcript_text.specs.declared.transcript.Transcript.{Transcript};
 
 use hist_rules::{TailKind, Verdict};
-use hist_tables::{CallSet, call_line, listed_calls, nothing};
+use hist_tables::{CallSet, call_line, nothing};
 use std::alloc::{AllocError, Global};
 use transcript_text::{CallName, GLine, Transcript};
 
@@ -44,7 +44,6 @@ fn find_missing(
 pub fn find_unlisted(alloc: Global, transcript: &Transcript) -> Result<Option<Verdict>, AllocError>
     ensures { IfOk result (λ found. found ≡ takes_have_calls transcript.now) }
 {
-    let calls = listed_calls(alloc, transcript)?;
-    let listed = CallSet::from_calls(alloc, &calls)?;
+    let listed = CallSet::of_listed(alloc, transcript)?;
     find_missing(alloc, &listed, transcript.takes.as_slice())
 }

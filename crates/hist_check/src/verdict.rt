@@ -40,7 +40,7 @@ fn find_wrong_line(
 ) -> Result<Option<Verdict>, AllocError>
     ensures { IfOk result (λ found. found ≡ first_of (calls_exist script.now transcript.now ∷ points_rise transcript.now ∷ [])) }
 {
-    if let Some(fault) = find_made_up(alloc, script, transcript)? {
+    if let Some(fault) = find_made_up(script, transcript) {
         return Ok(Some(fault));
     }
     find_fall(alloc, transcript.history.as_slice())

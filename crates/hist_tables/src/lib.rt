@@ -16,7 +16,7 @@ mod verdict_text;
 pub use actor_table::ActorTable;
 pub use call_set::CallSet;
 pub use calls::{call_of, count_calls, number_of, rebuild_of, with_number};
-pub use lines::{NamesCall, answered_calls, listed_calls, named_calls, unanswered_calls};
+pub use lines::{NamesCall, count_answers, unanswered_calls};
 pub use operator_counts::OperatorCounts;
 pub use reaps::Reaps;
 pub use texts::{call_line, nothing, object_line, server_line};

@@ -1,6 +1,6 @@
-ghost use Rattle.std.specs.Prelude.{◌≡◌, ◌++◌, map, filter, IfOk, OnOk};
+ghost use Rattle.std.specs.Prelude.{◌≡◌, ◌++◌, ◌<◌, ◌^◌, Bool, true, false, length, map, filter, IfOk, OnOk};
 ghost use Rattle.transcript_text.specs.declared.call_name.CallName.{CallName};
-ghost use Rattle.hist_rules.specs.Named.{listed_calls, answered_calls, is_reply};
+ghost use Rattle.hist_rules.specs.Named.{answered_calls, is_reply};
 
 use std::alloc::{AllocError, Global};
 use transcript_text::{CallName, GLine, HLine, OLine, RLine, Shown, Transcript, XLine};
@@ -9,48 +9,84 @@ use transcript_text::{CallName, GLine, HLine, OLine, RLine, Shown, Transcript, X
 pub trait NamesCall {
     ghost call: { Self → CallName };
 
+    ghost is_answer: { Self → Bool };
+
     /// The call.
     fn call(&self) -> CallName
         ensures { result ≡ call self.now };
+
+    /// Whether the line says that the call was answered or refused, or has a result.
+    fn is_answer(&self) -> bool
+        ensures { result ≡ is_answer self.now };
 }
 
 impl NamesCall for HLine {
     ghost call = { λ line. line.call };
 
+    ghost is_answer = { λ line. is_reply line.reply };
+
     fn call(&self) -> CallName {
         self.call
+    }
+
+    fn is_answer(&self) -> bool {
+        is_reply(&self.reply)
     }
 }
 
 impl NamesCall for XLine {
     ghost call = { λ line. line.call };
 
+    ghost is_answer = { λ line. true };
+
     fn call(&self) -> CallName {
         self.call
+    }
+
+    fn is_answer(&self) -> bool {
+        true
     }
 }
 
 impl NamesCall for RLine {
     ghost call = { λ line. line.call };
 
+    ghost is_answer = { λ line. true };
+
     fn call(&self) -> CallName {
         self.call
+    }
+
+    fn is_answer(&self) -> bool {
+        true
     }
 }
 
 impl NamesCall for OLine {
     ghost call = { λ line. line.call };
 
+    ghost is_answer = { λ line. false };
+
     fn call(&self) -> CallName {
         self.call
+    }
+
+    fn is_answer(&self) -> bool {
+        false
     }
 }
 
 impl NamesCall for GLine {
     ghost call = { λ line. line.call };
 
+    ghost is_answer = { λ line. false };
+
     fn call(&self) -> CallName {
         self.call
+    }
+
+    fn is_answer(&self) -> bool {
+        false
     }
 }
 
@@ -70,39 +106,6 @@ fn is_reply(shown: &Shown) -> bool
     matches!(shown, Shown::Reply(_))
 }
 
-/// Appends the calls that were answered.
-fn push_replied(calls: &mut Vec<CallName>, lines: &[HLine]) -> Result<(), AllocError>
-    ensures { OnOk result (calls.new.items ≡ calls.old.items ++ map (λ line. line.call) (filter (λ line. is_reply line.reply) lines.now)) }
-{
-    for line in lines {
-        if is_reply(&line.reply) {
-            calls.push(line.call)?;
-        }
-    }
-    Ok(())
-}
-
-/// The calls of which a line says what became of them.
-pub fn listed_calls(alloc: Global, transcript: &Transcript) -> Result<Vec<CallName>, AllocError>
-    ensures { IfOk result (λ calls. calls.items ≡ listed_calls transcript.now) }
-{
-    let mut calls = Vec::new(alloc);
-    push_calls(&mut calls, transcript.history.as_slice())?;
-    push_calls(&mut calls, transcript.refused.as_slice())?;
-    push_calls(&mut calls, transcript.repairs.as_slice())?;
-    push_calls(&mut calls, transcript.unanswered.as_slice())?;
-    Ok(calls)
-}
-
-/// The calls of all lines that name one.
-pub fn named_calls(alloc: Global, transcript: &Transcript) -> Result<Vec<CallName>, AllocError>
-    ensures { IfOk result (λ calls. calls.items ≡ listed_calls transcript.now ++ map (λ line. line.call) transcript.now.takes) }
-{
-    let mut calls = listed_calls(alloc, transcript)?;
-    push_calls(&mut calls, transcript.takes.as_slice())?;
-    Ok(calls)
-}
-
 /// The calls without a reply.
 pub fn unanswered_calls(alloc: Global, transcript: &Transcript) -> Result<Vec<CallName>, AllocError>
     ensures { IfOk result (λ calls. calls.items ≡ map (λ line. line.call) transcript.now.unanswered) }
@@ -112,13 +115,24 @@ pub fn unanswered_calls(alloc: Global, transcript: &Transcript) -> Result<Vec<Ca
     Ok(calls)
 }
 
-/// The calls that were answered or refused, and the rebuilds that have a result.
-pub fn answered_calls(alloc: Global, transcript: &Transcript) -> Result<Vec<CallName>, AllocError>
-    ensures { IfOk result (λ calls. calls.items ≡ answered_calls transcript.now) }
+/// How many lines have a reply.
+fn count_replied(lines: &[HLine]) -> usize
+    ensures { result ≡ length (filter (λ line. is_reply line.reply) lines.now) }
 {
-    let mut calls = Vec::new(alloc);
-    push_replied(&mut calls, transcript.history.as_slice())?;
-    push_calls(&mut calls, transcript.refused.as_slice())?;
-    push_calls(&mut calls, transcript.repairs.as_slice())?;
-    Ok(calls)
+    let mut count = 0;
+    for line in lines {
+        if is_reply(&line.reply) {
+            count += 1;
+        }
+    }
+    count
+}
+
+/// How many calls were answered or refused, and how many rebuilds have a result.
+pub fn count_answers(transcript: &Transcript) -> usize
+    requires few { length (answered_calls transcript.now) < 2 ^ 32 }
+    ensures { result ≡ length (answered_calls transcript.now) }
+{
+    let replied = count_replied(transcript.history.as_slice());
+    replied + transcript.refused.len() + transcript.repairs.len()
 }

@@ -1,6 +1,7 @@
-use Rattle.std.proofs.Common.{◌≡◌, ◌∙◌}
+use Rattle.std.proofs.Common.{◌≡◌, refl, ◌∙◌}
 use Rattle.std.proofs.lemmas.Result.{IfOk-weaker}
 use Rattle.hist_rules.specs.First.{first_fault_along}
+use Rattle.hist_rules.specs.Named.{answered_calls}
 use Rattle.hist_rules.specs.OneOpenCall.{unanswered_calls, one_open_call}
 use Rattle.hist_check.proofs.Rules.{open_fault, set_of, effect_found, early_found}
 use Rattle.hist_check.proofs.open_calls.find_wrong_open.Goals as goal
@@ -13,10 +14,10 @@ returns-in-Some c =
 
 pub returns : goal.returns
 returns c =
-    IfOk-weaker c.find_early.result (λ found. found ≡ first_fault_along (open_fault c.deref-2.result.now) c.deref-3.result.now) (λ found. found ≡ one_open_call c.args.script.now c.args.transcript.now)
+    IfOk-weaker c.find_early.result (λ found. found ≡ first_fault_along (open_fault (answered_calls c.args.transcript.now)) c.deref-2.result.now) (λ found. found ≡ one_open_call c.args.script.now c.args.transcript.now)
     (λ found is.
-    early_found c.args.script.now c.args.transcript.now c.as_slice.result.now c.deref-2.result.now c.deref-3.result.now found c.as_slice.ensures
+    early_found c.args.script.now c.args.transcript.now c.as_slice.result.now (answered_calls c.args.transcript.now) c.deref-2.result.now found c.as_slice.ensures
     (c.in_default.ensures c.args.transcript.now
     (set_of c.in_ok-set.set c.deref.result.now (unanswered_calls c.args.transcript.now) (c.deref.ensures.value ∙ c.in_ok-waiting.ensures) c.in_ok-set.ensures))
-    (c.deref-2.ensures.value ∙ c.in_ok-answered.ensures) (c.deref-3.ensures.value ∙ c.in_ok-waiting.ensures) is)
+    refl (c.deref-2.ensures.value ∙ c.in_ok-waiting.ensures) is)
     c.find_early.ensures

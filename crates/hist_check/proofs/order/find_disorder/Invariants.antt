@@ -1,18 +1,16 @@
-use Rattle.std.proofs.Common.{◌≡◌, take, drop}
-use Rattle.std.specs.Prelude.{reverse}
-use Rattle.std.specs.Option.{option_or}
-use Rattle.hist_rules.specs.First.{first_fault_after, first_fault_along}
-use Rattle.hist_rules.specs.CallsInOrder.{follows_answered, is_first_answer}
+use Rattle.std.proofs.Common.{List, drop}
+use Rattle.transcript_text.specs.declared.call_name.CallName.{CallName}
+use Rattle.hist_rules.specs.Named.{answered_calls}
 use Rattle.hist_tables.specs.Tables.{IsSetOf}
+use Rattle.hist_tables.proofs.Names.{passing}
 use Rattle.hist_check.specs.Reached.{AreReached}
+use Rattle.hist_check.proofs.Searches.{IsAt}
 use Rattle.hist_check.proofs.order.find_disorder.Given as goal
 
-abbrev pub invariant-loop-call : goal.invariant-loop-call
-invariant-loop-call l = record {
+abbrev pub invariant-loop-line : goal.invariant-loop-line
+invariant-loop-line g l = record {
   so_far :
-      first_fault_after (λ before call. option_or (follows_answered l.calls call) (is_first_answer before call)) (reverse (take l.call-index l.calls)) (drop l.call-index l.calls)
-      ≡ first_fault_along (λ before call. option_or (follows_answered l.calls call) (is_first_answer before call)) l.calls;
-  whole : IsSetOf l.set l.calls;
-  reached : AreReached l.calls l.reached;
-  before : IsSetOf l.before (reverse (take l.call-index l.calls));
+      (earlier rest : List CallName) → IsSetOf l.initial.before earlier
+      → IsAt (answered_calls l.transcript) earlier (passing g.L.NamesCall.call g.L.NamesCall.is_answer l.lines) rest (passing g.L.NamesCall.call g.L.NamesCall.is_answer (drop l.line-index l.lines)) l.before;
+  reached : AreReached (answered_calls l.transcript) l.reached;
 }

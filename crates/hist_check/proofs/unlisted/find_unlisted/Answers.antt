@@ -1,9 +1,7 @@
 use Rattle.std.proofs.Common.{◌≡◌, ap, ◌∙◌}
 use Rattle.std.proofs.lemmas.Result.{IfOk-weaker}
 use Rattle.hist_rules.specs.First.{first_fault}
-use Rattle.hist_rules.specs.Named.{listed_calls}
 use Rattle.hist_rules.specs.TakesHaveCalls.{has_call, takes_have_calls}
-use Rattle.hist_check.proofs.Rules.{set_of}
 use Rattle.hist_check.proofs.unlisted.find_unlisted.Goals as goal
 
 pub returns : goal.returns
@@ -11,4 +9,4 @@ returns c =
     IfOk-weaker c.find_missing.result (λ found. found ≡ first_fault (λ line. has_call c.args.transcript.now line.call) c.as_slice.result.now)
     (λ found. found ≡ takes_have_calls c.args.transcript.now)
     (λ found is. is ∙ ap (first_fault (λ line. has_call c.args.transcript.now line.call)) c.as_slice.ensures)
-    (c.find_missing.ensures c.args.transcript.now (set_of c.in_ok-listed.listed c.deref.result.now (listed_calls c.args.transcript.now) (c.deref.ensures.value ∙ c.in_ok-calls.ensures) c.in_ok-listed.ensures))
+    (c.find_missing.ensures c.args.transcript.now c.in_ok-listed.ensures)
