@@ -4,5 +4,5 @@
 use std::process::ExitCode;
 
 fn main(rt: HostRuntime) -> ExitCode {
-    clay_cli::run(rt)
+    clay_cli::run(&rt)
 }

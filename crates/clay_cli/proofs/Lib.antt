@@ -1,5 +1,4 @@
 mod Outputs
-mod Refusals
 mod Statuses
 mod VerifyLaws
 mod GeneratedLaws

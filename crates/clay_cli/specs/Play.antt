@@ -1,25 +1,23 @@
 -- What `play` prints for its input.
-use Rattle.std.specs.Prelude.{◌≡◌, ◌⊎◌, ℕ, List, ◌++◌, codes, decimal}
+use Rattle.std.specs.Prelude.{◌≡◌, ℕ, List, ◌++◌, codes, decimal}
 use Rattle.store_map.specs.declared.script.Script.{Script}
 use Rattle.script_text.specs.FirstFault.{Spelled, IsFault}
 use Rattle.line_grammar.specs.declared.fault.FaultKind.{FaultKind}
 use Rattle.line_grammar.specs.declared.fault.FaultKind.TheVariants as fault
-use Rattle.store_world.specs.OneClient.{HasOneClient}
-use Rattle.store_world.specs.Shown.{IsShown}
 use Rattle.transcript_text.specs.Text.{text_of}
 use Rattle.transcript_text.specs.declared.transcript.Transcript.{Transcript}
+use Rattle.store_answers.specs.Played.{IsPlayed}
 
--- the text is that of a transcript of the script
+-- the text is that of a transcript that a run of the script shows
 pub record IsTextOf (script : Script) (text : List ℕ) : Type 0 where
   pub transcript : Transcript
-  pub shown : IsShown script transcript
+  pub played : IsPlayed script transcript
   pub written : text ≡ text_of transcript
 
--- the input spells a script of the form that is built, and the text is that of its transcript
+-- the input spells a script, and the text is that of a run's transcript
 pub record IsTranscriptFor (input text : List ℕ) : Type 0 where
   pub script : Script
   pub spelled : Spelled input script
-  pub built : HasOneClient script
   pub text_of_it : IsTextOf script text
 
 -- what is wrong, in words
@@ -42,14 +40,3 @@ pub record IsFaulty (input line : List ℕ) : Type 0 where
   pub kind : FaultKind
   pub fault : IsFault input number kind
   pub line_is : line ≡ refusal_line number (kind_text kind)
-
--- the input spells a script of another form than the one that is built
-pub record IsNotBuilt (input line : List ℕ) : Type 0 where
-  pub script : Script
-  pub spelled : Spelled input script
-  pub not_built : ¬ HasOneClient script
-  pub line_is : line ≡ codes "refused line 0 not built\n"
-
--- the input is refused for what it is
-abbrev pub IsRefusal : List ℕ → List ℕ → Type 0
-IsRefusal input line = IsFaulty input line ⊎ IsNotBuilt input line

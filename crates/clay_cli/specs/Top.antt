@@ -2,7 +2,7 @@
 use Rattle.std.specs.Prelude.{◌≡◌, ◌⊎◌, ℕ, Option, Some, List, [], codes}
 use Rattle.clay_bytes.specs.Stream.{Gains, IsPrefixWritten}
 use Rattle.clay_words.specs.Words.{AsksTask}
-use Rattle.clay_cli.specs.Play.{IsTranscriptFor, IsRefusal}
+use Rattle.clay_cli.specs.Play.{IsTranscriptFor, IsFaulty}
 use Rattle.clay_cli.specs.Chunks.{IsChunkLines, IsDataRefused}
 use Rattle.clay_cli.specs.Recover.{IsRecovered, IsNotRecovered}
 use Rattle.clay_cli.specs.Verify.{IsLegal, IsNotLegal, IsUnreadable}
@@ -21,7 +21,7 @@ WhereTold told P = (bytes : List ℕ) → told ≡ Some bytes → P bytes
 -- the output of a task for an input, with its status; the other statuses have none
 abbrev pub Answers : Task → List ℕ → Status → List ℕ → Type 0
 Answers Play input Done output = IsTranscriptFor input output
-Answers Play input ScriptRefused output = IsRefusal input output
+Answers Play input ScriptRefused output = IsFaulty input output
 Answers Play input _ output = ⊥
 Answers Verify input Done output = IsLegal input output
 Answers Verify input NotLegal output = IsNotLegal input output

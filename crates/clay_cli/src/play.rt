@@ -1,21 +1,19 @@
 // The command `play`.
 ghost use Rattle.std.specs.Prelude.{◌≡◌, ◌≢◌, IfOk};
 ghost use Rattle.store_map.specs.Naming.{IsValid};
-ghost use Rattle.store_world.specs.OneClient.{HasOneClient};
 ghost use Rattle.clay_cli.specs.Play.{IsTextOf, kind_text, refusal_line};
 ghost use Rattle.clay_cli.specs.Top.{Answers, IsOfInput};
 ghost use Rattle.clay_words.specs.declared.words.Task.TheVariants.{Play};
 
 use crate::Status;
 use crate::output::Output;
+use clay_repair::Coder;
 use line_grammar::FaultKind;
 use script_text::{ScriptFault, read_script};
 use std::alloc::{AllocError, Global};
+use std::thread::Threads;
 use store_map::Script;
-use store_world::has_one_client;
 use transcript_text::write_transcript;
-
-const NOT_BUILT: &[u8] = b"refused line 0 not built\n";
 
 // What is wrong with a line, in words.
 fn kind_text(kind: FaultKind) -> &'static str
@@ -46,13 +44,17 @@ pub(crate) fn refusal(alloc: Global, fault: ScriptFault) -> Result<Output, Alloc
 }
 
 // The transcript of a script.
-fn transcript(alloc: Global, script: Script) -> Result<Output, AllocError>
-    requires form { HasOneClient script }
-    requires valid { IsValid script }
+fn transcript<R: Threads + Sync, C: Coder>(
+    rt: &R,
+    alloc: Global,
+    coder: &C,
+    script: Script,
+) -> Result<Output, AllocError>
+    requires { IsValid script }
     ensures status { IfOk result (λ output. output.status ≡ Status.Done) }
     ensures text { IfOk result (λ output. IsTextOf script output.bytes.items) }
 {
-    let transcript = store_world::play(alloc, script)?;
+    let transcript = world::play(rt, alloc, coder, script)?;
     let bytes = write_transcript(alloc, &transcript)?;
     Ok(Output {
         status: Status::Done,
@@ -60,19 +62,18 @@ fn transcript(alloc: Global, script: Script) -> Result<Output, AllocError>
     })
 }
 
-/// The transcript of the script that the input spells, or a line that says why there is none.
-pub fn play(alloc: Global, input: &[u8]) -> Result<Output, AllocError>
+/// The transcript of a run of the script that the input spells, or a line that says why there is none.
+pub fn play<R: Threads + Sync, C: Coder>(
+    rt: &R,
+    alloc: Global,
+    coder: &C,
+    input: &[u8],
+) -> Result<Output, AllocError>
     ensures status { IfOk result (λ output. IsOfInput output.status) }
     ensures answers { IfOk result (λ output. Answers Play input.now output.status output.bytes.items) }
 {
     match read_script(alloc, input) {
-        Ok(script) => {
-            if has_one_client(&script) {
-                transcript(alloc, script)
-            } else {
-                Output::line(alloc, Status::ScriptRefused, NOT_BUILT)
-            }
-        }
+        Ok(script) => transcript(rt, alloc, coder, script),
         Err(fault) => refusal(alloc, fault),
     }
 }

@@ -2,12 +2,14 @@
 use crate::Status;
 use crate::top::clay_main;
 use clay_bytes::{StdSink, StdSource};
-use std::env;
-use std::io::{self, ErrorKind};
+use clay_lanes::LaneCoder;
+use std::env::{self, Env};
+use std::io::{self, ErrorKind, Input, Print};
 use std::process::ExitCode;
+use std::thread::Threads;
 
 // The words after the program's name. Where one of them isn't UTF-8 they are an empty word, which is no command's.
-fn words_of(rt: &HostRuntime) -> io::Result<Vec<String>> {
+fn words_of<R: Env + AllocGlobal>(rt: &R) -> io::Result<Vec<String>> {
     let mut words = Vec::new(rt.alloc());
     match env::args(rt) {
         Ok(args) => {
@@ -25,12 +27,12 @@ fn words_of(rt: &HostRuntime) -> io::Result<Vec<String>> {
 
 /// Runs the command that the process's words ask for, and ends with the number of its status. No
 /// clause speaks of the process's own words, input and output: stored runs try it.
-pub fn run(rt: HostRuntime) -> ExitCode {
-    let Ok(words) = words_of(&rt) else {
+pub fn run<R: Env + AllocGlobal + Input + Print + Threads + Sync>(rt: &R) -> ExitCode {
+    let Ok(words) = words_of(rt) else {
         return ExitCode::from(Status::OutOfMemory.number());
     };
     let mut source = StdSource::new(rt.reader());
-    let mut sink = StdSink::new(io::writer(&rt));
-    let status = clay_main(&rt, rt.alloc(), &words, &mut source, &mut sink);
+    let mut sink = StdSink::new(io::writer(rt));
+    let status = clay_main(rt, rt.alloc(), &LaneCoder, &words, &mut source, &mut sink);
     ExitCode::from(status.number())
 }

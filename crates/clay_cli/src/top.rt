@@ -15,8 +15,10 @@ use crate::play::play;
 use crate::recover::recover;
 use crate::verify::verify;
 use clay_bytes::{InFault, Sink, Source, read_all, write_all};
+use clay_repair::Coder;
 use clay_words::{Command, Task, command_of};
 use std::alloc::Global;
+use std::thread::Threads;
 
 const INPUT_LIMIT: u64 = 167_772_160;
 
@@ -24,14 +26,20 @@ const USAGE_LINE: &[u8] =
     b"usage: clay play | run WORKERS | verify | chunks K M W | recover K M W | gen START SIZE | trial START SIZE WORKERS\n";
 
 // The task's output for a whole input.
-fn output_of(alloc: Global, task: Task, input: Vec<u8>) -> Result<Output, Status>
+fn output_of<R: Threads + Sync, C: Coder>(
+    rt: &R,
+    alloc: Global,
+    coder: &C,
+    task: Task,
+    input: Vec<u8>,
+) -> Result<Output, Status>
     requires { length input.items ≤ 167772160 }
     ensures status { IfOk result (λ output. IsOfInput output.status) }
     ensures answers { IfOk result (λ output. Answers task input.items output.status output.bytes.items) }
     ensures memory { IfErr result (λ status. status ≡ Status.OutOfMemory) }
 {
     let made = match task {
-        Task::Play => play(alloc, &input),
+        Task::Play => play(rt, alloc, coder, &input),
         Task::Verify => verify(alloc, input),
         Task::Chunks(g) => chunks(alloc, g, &input),
         Task::Recover(g) => recover(alloc, g, &input),
@@ -40,7 +48,13 @@ fn output_of(alloc: Global, task: Task, input: Vec<u8>) -> Result<Output, Status
 }
 
 // Reads the whole input and makes the task's output.
-fn answer<S: Source>(alloc: Global, task: Task, source: &mut S) -> Result<Output, Status>
+fn answer<R: Threads + Sync, C: Coder, S: Source>(
+    rt: &R,
+    alloc: Global,
+    coder: &C,
+    task: Task,
+    source: &mut S,
+) -> Result<Output, Status>
     ensures status { IfOk result (λ output. IsOfInput output.status) }
     ensures answers { IfOk result (λ output. WhereTold (S.left source.old) (λ input.
         (length input ≤ 167772160) × Answers task input output.status output.bytes.items)) }
@@ -51,7 +65,7 @@ fn answer<S: Source>(alloc: Global, task: Task, source: &mut S) -> Result<Output
     ensures read_fault { IfErr result (λ status. status ≡ Status.ReadFault → Rises (S.faults source.old) (S.faults source.new)) }
 {
     match read_all(alloc, source, INPUT_LIMIT) {
-        Ok(input) => output_of(alloc, task, input),
+        Ok(input) => output_of(rt, alloc, coder, task, input),
         Err(InFault::ReadFault) => Err(Status::ReadFault),
         Err(InFault::InputTooLong) => Err(Status::InputTooLong),
         Err(InFault::OutOfMemory) => Err(Status::OutOfMemory),
@@ -88,9 +102,10 @@ fn write_generated<K: Sink>(alloc: Global, sink: &mut K, start: u64, size: u32) 
 ///
 /// The words are those after the program's name. Nothing is read where they ask for no command or for a generated script. An output
 /// is made whole before its first byte is written.
-pub fn clay_main<R, S: Source, K: Sink>(
-    _rt: &R,
+pub fn clay_main<R: Threads + Sync, C: Coder, S: Source, K: Sink>(
+    rt: &R,
     alloc: Global,
+    coder: &C,
     words: &[String],
     source: &mut S,
     sink: &mut K,
@@ -131,7 +146,7 @@ pub fn clay_main<R, S: Source, K: Sink>(
         Command::Generate { start, size } => return write_generated(alloc, sink, start, size),
         Command::OfInput(task) => task,
     };
-    match answer(alloc, task, source) {
+    match answer(rt, alloc, coder, task, source) {
         Ok(output) => write_out(sink, &output.bytes, output.status),
         Err(status) => status,
     }

@@ -1,6 +1,7 @@
 // One call of the program over a source and a sink in memory.
 use clay_bytes::{MemSink, MemSource};
 use clay_cli::{Status, clay_main};
+use clay_lanes::LaneCoder;
 use std::test::Fail;
 
 /// How a call ended, and what it wrote.
@@ -31,7 +32,7 @@ pub fn run_failing(
         Vec::with_capacity(alloc, 65536)?,
         Vec::from_slice(alloc, writes)?,
     );
-    let status = clay_main(rt, alloc, &owned, &mut source, &mut sink);
+    let status = clay_main(rt, alloc, &LaneCoder, &owned, &mut source, &mut sink);
     let written = Vec::from_slice(alloc, sink.kept())?;
     Ok(Ran { status, written })
 }

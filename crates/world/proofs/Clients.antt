@@ -5,6 +5,7 @@ use Rattle.store_map.specs.declared.actor.Actor.TheVariants as actor
 use Rattle.store_map.specs.declared.actor.Token.TheVariants as token
 use Rattle.store_map.specs.declared.script.ClientPart.{ClientPart}
 use Rattle.store_map.specs.declared.script.Script.{Script}
+use Rattle.store_core.specs.History.{call_of}
 use Rattle.store_core.specs.NextAct.{job_of}
 use Rattle.store_core.specs.Run.{client_step}
 use Rattle.store_core.specs.Work.{Ended, client_work, has_step}
@@ -13,6 +14,7 @@ use Rattle.chunk_server.specs.State.{ServerState}
 use Rattle.chunk_server.specs.Core.{core_of}
 use Rattle.dir_parts.proofs.Entries.{map-set, slice_get-map}
 use Rattle.stripe_dir.specs.Sealed.{Sealed}
+use Rattle.stripe_dir.specs.Stamped.{HaveContents}
 use Rattle.world_steps.specs.World.{DoingOf, ActorOf, WorldOf, steps_of, with_client}
 use Rattle.world_steps.specs.Known.{calling_by, calling_of}
 use Rattle.world_steps.specs.Tokens.{KeepsToken}
@@ -24,6 +26,9 @@ use Rattle.actors.specs.Turned.{Leads as ActorLeads, with_places}
 use Rattle.actors.specs.LeadLaws.{AllTurnsLead}
 use Rattle.actors.specs.Clients.{ClientOf, work_of, IsOfScript, IsPartOf, Knows}
 use Rattle.actors.specs.ClientTurns.{MakesClientTurn, HasMore}
+use Rattle.world_owes.specs.ServeLaws.{HasMorePoints}
+use Rattle.world_owes.proofs.Grow.{histories_grow}
+use Rattle.world_owes.proofs.Serving.{clients_go_on_serving, turns_keep_serving}
 use Rattle.world.specs.Stored.{StoredWorld, world_of}
 use Rattle.world.specs.Kept.{IsClientAt, IsWorld}
 use Rattle.world.proofs.Keeping.{changed, kept_by}
@@ -48,7 +53,7 @@ ended_of n ended (DoingOf.InCall call steps) = refl
 
 module _ (s : StoredWorld) (is : IsWorld s) (i : ℕ) (c : ClientOf) (there : slice_get s.clients i ≡ Some c) where
   pub at : IsClientAt s.script s.book s.directory i c
-  at = is.callers.each i c there
+  at = is.clients.each i c there
 
   pub actor_there : slice_get (world_of s).clients i ≡ Some c.actor
   actor_there = slice_get-map (λ (client : ClientOf). client.actor) s.clients i c there
@@ -69,12 +74,12 @@ module _ (s : StoredWorld) (is : IsWorld s) (i : ℕ) (c : ClientOf) (there : sl
         keeps = is.agree.clients i c.actor actor_there;
         next = next_by has;
         steps = (worlds_make_few_steps s.script (world_of s) is.geometry is.valid is.reached).clients i (work_of c.part) c.actor work_there actor_there has;
-        its = is.its ∙ sym at.same_book;
+        its = is.directory_book ∙ sym at.same_book;
         book = sym at.same_book;
         part =
             subst (λ (b : BookOf). IsPartOf b i c.part) (sym at.same_book)
             (subst (λ (o : Option Script). IfSome o (λ script. slice_get script.clients i ≡ Some c.part)) (sym is.written) at.its);
-        held = subst (λ (b : BookOf). AreServers b s.servers) (sym at.same_book) is.held;
+        held = subst (λ (b : BookOf). AreServers b s.servers) (sym at.same_book) is.servers;
         knows = at.knows;
         of_script = record {
           book = ap (λ (b : BookOf). b.script) at.same_book ∙ is.written;
@@ -139,9 +144,9 @@ module _ (law : AllTurnsLead) (s : StoredWorld) (is : IsWorld s) (i : ℕ) (c c'
   pub client_leads : Leads s.script (client_step s.script i) (world_of s) (world_of (changed s d servers (set s.clients i c') s.repairers s.sweeper))
   client_leads = record { shortages = led.shortages; leads = led.leads }
 
-  pub client_kept : c' ≡ record c { actor = c'.actor; work = c'.work; served = c'.served } → Knows d c' → d.book ≡ s.directory.book → HasMore s.directory.stamps d.stamps → AreServers c.book servers
+  pub client_kept : c' ≡ record c { actor = c'.actor; work = c'.work; served = c'.served } → HaveContents (call_of s.script) s.directory → Knows d c' → d.book ≡ s.directory.book → HasMore s.directory.stamps d.stamps → AreServers c.book servers
       → IsWorld (changed s d servers (set s.clients i c') s.repairers s.sweeper)
-  client_kept same knows book more held =
+  client_kept same contents knows book more held =
       let was : IsClientAt s.script s.book s.directory i c = at s is i c there in
       let now : IsClientAt s.script s.book d i c' =
       record {
@@ -149,12 +154,15 @@ module _ (law : AllTurnsLead) (s : StoredWorld) (is : IsWorld s) (i : ℕ) (c c'
         same_book = ap (λ (x : ClientOf). x.book) same ∙ was.same_book;
         often = ap (λ (x : ClientOf). x.tries) same ∙ was.often;
         knows = knows;
+        serves = turns_keep_serving s.script (world_of s) i c c' s.directory d s.servers servers is.geometry is.valid is.reached refl contents was.its (is.agree.clients i c.actor (actor_there s is i c there)) makes was.serves;
       } in
+      let grown : HasMorePoints s.directory.core.points d.core.points =
+      histories_grow.turn s.script (actor.Client i) (work_of c.part) c.actor c'.actor (places_of s.directory s.servers) (places_of d servers) makes.makes in
       let again : (k : ℕ) (x : ClientOf) → IsClientAt s.script s.book s.directory k x → IsClientAt s.script s.book d k x =
-      λ k x of. record { its = of.its; same_book = of.same_book; often = of.often; knows = knows_more s.directory d more.more x more.is of.knows } in
+      λ k x of. record { its = of.its; same_book = of.same_book; often = of.often; knows = knows_more s.directory d more.more x more.is of.knows; serves = (clients_go_on_serving s.script).stays s.directory.core.points d.core.points k x grown of.serves } in
       kept_by s d servers (set s.clients i c') s.repairers s.sweeper (token.Client i) is book (subst (λ (b : BookOf). AreServers b servers) was.same_book held)
       (record {
-        count = length-set s.clients i c' ∙ is.callers.count;
-        each = each_set (IsClientAt s.script s.book s.directory) (IsClientAt s.script s.book d) s.clients i c' again is.callers.each now;
+        count = length-set s.clients i c' ∙ is.clients.count;
+        each = each_set (IsClientAt s.script s.book s.directory) (IsClientAt s.script s.book d) s.clients i c' again is.clients.each now;
       })
-      is.menders led.agree client_leads
+      is.repairers led.agree client_leads

@@ -7,7 +7,7 @@ use Rattle.std.proofs.lemmas.Option.{same_Some, none-some}
 use Rattle.std.specs.List.{range_with_len}
 use Rattle.clay_grid.specs.Limits.{IsGeometry}
 use Rattle.clay_grid.specs.Shape.{Shape, chunk_count}
-use Rattle.store_map.specs.Limits.{size_of}
+use Rattle.store_map.specs.Limits.{size_of, tries_of}
 use Rattle.store_map.specs.Naming.{IsValid}
 use Rattle.store_map.specs.declared.actor.Actor.TheVariants as actor
 use Rattle.store_map.specs.declared.script.Script.{Script}
@@ -29,6 +29,8 @@ use Rattle.world_runs.proofs.Goes.{worlds_go_on}
 use Rattle.actors.specs.Turns.{AreServers}
 use Rattle.actors.specs.Clients.{ClientOf, Knows}
 use Rattle.actors.specs.Repairers.{RepairOf}
+use Rattle.world_owes.specs.Serving.{ServesItsPins}
+use Rattle.world_owes.proofs.Serving.{clients_go_on_serving}
 use Rattle.world.specs.First.{IsFirstClient, AreFirstClients, IsFirstRepairer, AreFirstRepairers, BeginWith, seats_of, first_directory, first_servers}
 use Rattle.world.specs.Stored.{StoredWorld, world_of}
 use Rattle.world.specs.Kept.{IsClientAt, IsRepairerAt, IsWorld}
@@ -161,6 +163,7 @@ module _ (s : StoredWorld) (has : HasFirstParts s) where
         same_book = ap (λ (x : ClientOf). x.book) of.first;
         often = ap (λ (x : ClientOf). x.tries) of.first;
         knows = subst (λ (x : ClientOf). Knows s.directory x) (sym of.first) tt;
+        serves = subst (ServesItsPins s.script s.directory.core.points i) (sym of.first) ((clients_go_on_serving s.script).first s.directory.core.points i of.part s.book (tries_of s.script) (client_seat i));
       }
 
   repairer_there : (i : ℕ) (c : RepairOf) → slice_get s.repairers i ≡ Some c → IsRepairerAt s.script s.book i c
@@ -181,10 +184,10 @@ module _ (s : StoredWorld) (has : HasFirstParts s) where
         valid = has.valid;
         written = has.written;
         code = has.code;
-        its = ap (λ (d : Sealed). d.book) has.directory;
-        held = servers_held;
-        callers = record { count = has.clients.count; each = client_there };
-        menders = record { count = has.repairers.count; each = repairer_there };
+        directory_book = ap (λ (d : Sealed). d.book) has.directory;
+        servers = servers_held;
+        clients = record { count = has.clients.count; each = client_there };
+        repairers = record { count = has.repairers.count; each = repairer_there };
         agree = agreed;
         reached = record { tokens = []; by = reached_first };
       }

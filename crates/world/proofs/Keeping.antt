@@ -14,6 +14,8 @@ use Rattle.world_runs.proofs.Goes.{worlds_go_on}
 use Rattle.actors.specs.Turns.{AreServers}
 use Rattle.actors.specs.Clients.{ClientOf}
 use Rattle.actors.specs.Repairers.{RepairOf}
+use Rattle.world_owes.specs.ServeLaws.{HasMorePoints}
+use Rattle.world_owes.proofs.Serving.{clients_go_on_serving}
 use Rattle.world.specs.Stored.{StoredWorld, world_of}
 use Rattle.world.specs.Kept.{IsClientAt, AreClients, AreRepairers, IsWorld}
 use Rattle.world.proofs.Knowing.{knows_more}
@@ -29,29 +31,29 @@ pub kept_by : (s : StoredWorld) (d : Sealed) (servers : List ServerState) (clien
     → TokensAgree (world_of (changed s d servers clients repairers sweeper))
     → Leads s.script (step_core s.script t) (world_of s) (world_of (changed s d servers clients repairers sweeper))
     → IsWorld (changed s d servers clients repairers sweeper)
-kept_by s d servers clients repairers sweeper t is book held callers menders agree leads =
+kept_by s d servers clients repairers sweeper t is book of_book of_clients of_repairers agree leads =
     let after : WorldOf = world_of (changed s d servers clients repairers sweeper) in
     record {
       geometry = is.geometry;
       valid = is.valid;
       written = is.written;
       code = is.code;
-      its = book ∙ is.its;
-      held = held;
-      callers = callers;
-      menders = menders;
+      directory_book = book ∙ is.directory_book;
+      servers = of_book;
+      clients = of_clients;
+      repairers = of_repairers;
       agree = agree;
       reached = (worlds_go_on s.script).reached (t ∷ []) (world_of s) after ((worlds_go_on s.script).step t (world_of s) after leads) is.reached;
     }
 
--- what clients know stays through steps that draw nothing
-pub callers_stay : (script : Script) (book : BookOf) (d now : Sealed) (clients : List ClientOf) → now.stamps ≡ d.stamps → AreClients script book d clients → AreClients script book now clients
-callers_stay script book d now clients same are =
+-- what clients know and serve stays through steps that draw nothing
+pub clients_stay : (script : Script) (book : BookOf) (d now : Sealed) (clients : List ClientOf) → now.stamps ≡ d.stamps → HasMorePoints d.core.points now.core.points → AreClients script book d clients → AreClients script book now clients
+clients_stay script book d now clients same more are =
     record {
       count = are.count;
       each = λ i c there.
           let of : IsClientAt script book d i c = are.each i c there in
-          record { its = of.its; same_book = of.same_book; often = of.often; knows = knows_more d now [] c (same ∙ sym (append-nil d.stamps)) of.knows };
+          record { its = of.its; same_book = of.same_book; often = of.often; knows = knows_more d now [] c (same ∙ sym (append-nil d.stamps)) of.knows; serves = (clients_go_on_serving script).stays d.core.points now.core.points i c more of.serves };
     }
 
 -- of the servers one is changed

@@ -9,3 +9,7 @@ pub mod Drains
 pub mod Padding
 pub mod Seating
 pub mod First
+pub mod Results
+pub mod Few
+pub mod Ended
+pub mod Playing

@@ -27,7 +27,7 @@ module _ (s : StoredWorld) (is : IsWorld s) where
   -- and its stamps the contents
   pub have_contents : HasStamps s.directory → HaveContents (call_of s.script) s.directory
   have_contents stamps =
-      let written : s.directory.book.script ≡ Some s.script = ap (λ b. b.script) is.its ∙ is.written in
+      let written : s.directory.book.script ≡ Some s.script = ap (λ b. b.script) is.directory_book ∙ is.written in
       subst (λ (o : Option Script). IfSome o (λ script. HaveContents (call_of script) s.directory)) written stamps.contents
 
   pub are_padded : BytesOfTheMapArePadded → IsSound s.directory.core → HasStamps s.directory → ArePadded s.directory

@@ -31,9 +31,11 @@ use Rattle.world_steps.proofs.Agreed.{worlds_stay_agreed}
 use Rattle.world_steps.proofs.PlaceLaws.{sweeper_makes_turns}
 use Rattle.world_steps.proofs.Runs.{runs_reach}
 use Rattle.world_runs.specs.Goes.{Leads}
+use Rattle.world_owes.specs.ServeLaws.{HasMorePoints}
+use Rattle.world_owes.proofs.Grow.{histories_grow}
 use Rattle.world.specs.Stored.{StoredWorld, world_of}
 use Rattle.world.specs.Kept.{IsWorld}
-use Rattle.world.proofs.Keeping.{changed, kept_by, callers_stay, others_stay}
+use Rattle.world.proofs.Keeping.{changed, kept_by, clients_stay, others_stay}
 use Rattle.world.proofs.Lists.{below, read_back}
 
 -- a step that wants no memory
@@ -60,7 +62,7 @@ width s is =
 
 pub server_there : (s : StoredWorld) → IsWorld s → (i : ℕ) → i < chunk_count s.script.geometry → i < length s.servers
 server_there s is i less =
-    let same : length s.servers ≡ chunk_count s.script.geometry = is.held.count ∙ ap (λ g. chunk_count g) is.code in
+    let same : length s.servers ≡ chunk_count s.script.geometry = is.servers.count ∙ ap (λ g. chunk_count g) is.code in
     omega (arith, less, same)
 
 module _ (s : StoredWorld) (is : IsWorld s) where
@@ -70,9 +72,9 @@ module _ (s : StoredWorld) (is : IsWorld s) where
     pub directory_leads : Leads s.script (step_core s.script t) (world_of s) (world_of (changed s d s.servers s.clients s.repairers sweeper))
     directory_leads = subst (λ (w : WorldOf). Leads s.script (step_core s.script t) (world_of s) w) same (record { shortages = ample ∷ []; leads = leads })
 
-    pub directory_kept : d.book ≡ s.directory.book → d.stamps ≡ s.directory.stamps → IsWorld (changed s d s.servers s.clients s.repairers sweeper)
-    directory_kept book stamps =
-        kept_by s d s.servers s.clients s.repairers sweeper t is book is.held (callers_stay s.script s.book s.directory d s.clients stamps is.callers) is.menders
+    pub directory_kept : d.book ≡ s.directory.book → d.stamps ≡ s.directory.stamps → HasMorePoints s.directory.core.points d.core.points → IsWorld (changed s d s.servers s.clients s.repairers sweeper)
+    directory_kept book stamps more =
+        kept_by s d s.servers s.clients s.repairers sweeper t is book is.servers (clients_stay s.script s.book s.directory d s.clients stamps more is.clients) is.repairers
         (subst TokensAgree same agree) directory_leads
 
   -- ---- a step at a server
@@ -88,7 +90,7 @@ module _ (s : StoredWorld) (is : IsWorld s) where
 
     pub server_kept : now.number ≡ x.number → now.book ≡ x.book → IsWorld (changed s s.directory (set s.servers i now) s.clients s.repairers sweeper)
     server_kept number book =
-        kept_by s s.directory (set s.servers i now) s.clients s.repairers sweeper t is refl (others_stay s.book s.servers i x now is.held there number book) is.callers is.menders
+        kept_by s s.directory (set s.servers i now) s.clients s.repairers sweeper t is refl (others_stay s.book s.servers i x now is.servers there number book) is.clients is.repairers
         (record { clients = is.agree.clients; repairers = is.agree.repairers }) server_leads
 
 -- ---- the sweeper
@@ -103,8 +105,9 @@ module _ (s : StoredWorld) (is : IsWorld s) where
         directory_leads s is d sweeper token.Sweep _ swept_is ((worlds_stay_agreed s.script (world_of s) is.agree).sweeper) ((sweeper_makes_turns s.script (world_of s) ample).directory needs)
 
     pub sweep_kept : d.book ≡ s.directory.book → d.stamps ≡ s.directory.stamps → IsWorld (changed s d s.servers s.clients s.repairers sweeper)
-    sweep_kept =
-        directory_kept s is d sweeper token.Sweep _ swept_is ((worlds_stay_agreed s.script (world_of s) is.agree).sweeper) ((sweeper_makes_turns s.script (world_of s) ample).directory needs)
+    sweep_kept book stamps =
+        directory_kept s is d sweeper token.Sweep _ swept_is ((worlds_stay_agreed s.script (world_of s) is.agree).sweeper) ((sweeper_makes_turns s.script (world_of s) ample).directory needs) book stamps
+        (subst (λ (p : Directory × SweeperOf). HasMorePoints s.directory.core.points p.0.points) (sym step) (histories_grow.sweep actor.Sweeper 0 s.sweeper s.directory.core))
 
   module _ (i : ℕ) (x now : ServerState) (sweeper : SweeperOf) (there : slice_get s.servers i ≡ Some x) (needs : need_of s.sweeper ≡ need.Server i)
       (step : (core_of now, sweeper) ≡ stepped_at_server s.sweeper (core_of x)) where
@@ -143,4 +146,6 @@ module _ (s : StoredWorld) (is : IsWorld s) where
     reap_leads = directory_leads s is d s.sweeper t _ reaped_is ((worlds_stay_agreed s.script (world_of s) is.agree).operator (DirectoryStep.Reap who)) reaps
 
     pub reap_kept : d.book ≡ s.directory.book → d.stamps ≡ s.directory.stamps → IsWorld (changed s d s.servers s.clients s.repairers s.sweeper)
-    reap_kept = directory_kept s is d s.sweeper t _ reaped_is ((worlds_stay_agreed s.script (world_of s) is.agree).operator (DirectoryStep.Reap who)) reaps
+    reap_kept book stamps =
+        directory_kept s is d s.sweeper t _ reaped_is ((worlds_stay_agreed s.script (world_of s) is.agree).operator (DirectoryStep.Reap who)) reaps book stamps
+        (subst (λ (p : Directory × Told). HasMorePoints s.directory.core.points p.0.points) (sym made) (histories_grow.step false actor.Operator 0 (DirectoryStep.Reap who) s.directory.core))

@@ -23,9 +23,10 @@ use Rattle.actors.specs.Turns.{AreServers, places_of}
 use Rattle.actors.specs.Turned.{MakesTurn, Leads as ActorLeads, with_places}
 use Rattle.actors.specs.LeadLaws.{AllTurnsLead}
 use Rattle.actors.specs.Repairers.{RepairOf, rebuild_work_of, IsRepairerOf}
+use Rattle.world_owes.proofs.Grow.{histories_grow}
 use Rattle.world.specs.Stored.{StoredWorld, world_of}
 use Rattle.world.specs.Kept.{IsRepairerAt, IsWorld}
-use Rattle.world.proofs.Keeping.{changed, kept_by, callers_stay}
+use Rattle.world.proofs.Keeping.{changed, kept_by, clients_stay}
 use Rattle.world.proofs.Lists.{each_set, below, read_back, map_none}
 
 -- what a turn asks of a repairer
@@ -43,7 +44,7 @@ ended_of n ended (DoingOf.InCall call steps) = refl
 
 module _ (s : StoredWorld) (is : IsWorld s) (i : ℕ) (c : RepairOf) (there : slice_get s.repairers i ≡ Some c) where
   pub at : IsRepairerAt s.script s.book i c
-  at = is.menders.each i c there
+  at = is.repairers.each i c there
 
   pub actor_there : slice_get (world_of s).repairers i ≡ Some c.actor
   actor_there = slice_get-map (λ (repairer : RepairOf). repairer.actor) s.repairers i c there
@@ -64,8 +65,8 @@ module _ (s : StoredWorld) (is : IsWorld s) (i : ℕ) (c : RepairOf) (there : sl
         keeps = is.agree.repairers i c.actor actor_there;
         next = next_by has;
         steps = (worlds_make_few_steps s.script (world_of s) is.geometry is.valid is.reached).repairers i (rebuild_work_of c.part) c.actor work_there actor_there has;
-        its = is.its ∙ sym at.same_book;
-        held = subst (λ (b : BookOf). AreServers b s.servers) (sym at.same_book) is.held;
+        its = is.directory_book ∙ sym at.same_book;
+        held = subst (λ (b : BookOf). AreServers b s.servers) (sym at.same_book) is.servers;
         of_script = record {
           book = ap (λ (b : BookOf). b.script) at.same_book ∙ is.written;
           code = ap (λ (b : BookOf). b.geometry) at.same_book ∙ is.code;
@@ -135,9 +136,10 @@ module _ (law : AllTurnsLead) (s : StoredWorld) (is : IsWorld s) (i : ℕ) (c c'
         same_book = ap (λ (x : RepairOf). x.book) same ∙ was.same_book;
       } in
       kept_by s d servers s.clients (set s.repairers i c') s.sweeper (token.Repairer i) is book (subst (λ (b : BookOf). AreServers b servers) was.same_book held)
-      (callers_stay s.script s.book s.directory d s.clients stamps is.callers)
+      (clients_stay s.script s.book s.directory d s.clients stamps
+      (histories_grow.turn s.script (actor.Repairer i) (rebuild_work_of c.part) c.actor c'.actor (places_of s.directory s.servers) (places_of d servers) makes) is.clients)
       (record {
-        count = length-set s.repairers i c' ∙ is.menders.count;
-        each = each_set (IsRepairerAt s.script s.book) (IsRepairerAt s.script s.book) s.repairers i c' (λ k x of. of) is.menders.each now;
+        count = length-set s.repairers i c' ∙ is.repairers.count;
+        each = each_set (IsRepairerAt s.script s.book) (IsRepairerAt s.script s.book) s.repairers i c' (λ k x of. of) is.repairers.each now;
       })
       led.agree repairer_leads

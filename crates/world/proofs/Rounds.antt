@@ -76,17 +76,17 @@ any_repairer script (p ∷ parts) (c ∷ repairers) count each =
 
 module _ (s : StoredWorld) (is : IsWorld s) where
   pub clients_of_code : AreOfCode s.script s.clients
-  clients_of_code i c there = ap (λ (b : BookOf). b.geometry) (is.callers.each i c there).same_book ∙ is.code
+  clients_of_code i c there = ap (λ (b : BookOf). b.geometry) (is.clients.each i c there).same_book ∙ is.code
 
   pub repairers_of_code : RepairsAreOfCode s.script s.repairers
-  repairers_of_code i c there = ap (λ (b : BookOf). b.geometry) (is.menders.each i c there).same_book ∙ is.code
+  repairers_of_code i c there = ap (λ (b : BookOf). b.geometry) (is.repairers.each i c there).same_book ∙ is.code
 
   -- a client has one, or no client and a repairer, or neither and the sweeper tells
   clients_known : any_has_step (client_work s.script) (map (calling_of s.script) (world_of s).clients) ≡ some_client_has s.script s.clients
-  clients_known = any_client s.script s.script.clients s.clients is.callers.count (λ i c there. (is.callers.each i c there).its)
+  clients_known = any_client s.script s.script.clients s.clients is.clients.count (λ i c there. (is.clients.each i c there).its)
 
   repairers_known : any_has_step (repairer_work s.script) (map (calling_of s.script) (world_of s).repairers) ≡ some_repairer_has s.script s.repairers
-  repairers_known = any_repairer s.script s.script.repairers s.repairers is.menders.count (λ i c there. (is.menders.each i c there).its)
+  repairers_known = any_repairer s.script s.script.repairers s.repairers is.repairers.count (λ i c there. (is.repairers.each i c there).its)
 
   pub unfinished : (some_client some_repairer : Bool) → some_client ≡ some_client_has s.script s.clients → some_repairer ≡ some_repairer_has s.script s.repairers
       → (some_client || some_repairer || sweeper_has_step (core_of s.script (world_of s))) ≡ is_unfinished s.script (core_of s.script (world_of s))

@@ -1,5 +1,5 @@
 -- Seats that are given out one by one.
-use Rattle.std.proofs.Common.{◌≡◌, ℕ, zero, suc, ◌+◌, List, [], ◌∷◌, ◌++◌, length, drop, get_or, slice_get, Some, refl, subst, sym, ◌∙◌, arith}
+use Rattle.std.proofs.Common.{◌≡◌, ℕ, zero, suc, ◌+◌, ◌<◌, List, [], ◌∷◌, ◌++◌, length, drop, get_or, slice_get, Some, refl, ap, subst, sym, ◌∙◌, arith}
 use Rattle.std.proofs.lemmas.Option.{same_Some, none-some}
 use Rattle.std.specs.List.{remove}
 
@@ -29,3 +29,9 @@ pub next_seats : {X : Type 0} (now before all : List X) (n : ℕ) → now ≡ re
 next_seats now before all n one is =
     let more : n + 1 ≡ suc n = omega arith in
     one ∙ removed before ∙ (λ i. drop 1 (is i)) ∙ drop_one n all ∙ (λ i. drop (sym more i) all)
+
+-- the first of those that are left
+pub first_left : {X : Type 0} (all : List X) (n : ℕ) (x : X) → n < length all → x ≡ get_or (drop n all) 0 x → slice_get all n ≡ Some x
+first_left [] n x less read = absurd (omega (arith, less))
+first_left (y ∷ ys) zero x less read = ap (λ (z : _). Some z) (sym read)
+first_left (y ∷ ys) (suc n) x less read = first_left ys n x (omega (arith, less)) read

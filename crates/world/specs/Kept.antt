@@ -12,14 +12,16 @@ use Rattle.world_runs.specs.Goes.{IsReached}
 use Rattle.actors.specs.Turns.{AreServers}
 use Rattle.actors.specs.Clients.{ClientOf, Knows}
 use Rattle.actors.specs.Repairers.{RepairOf}
+use Rattle.world_owes.specs.Serving.{ServesItsPins}
 use Rattle.world.specs.Stored.{StoredWorld, world_of}
 
--- a client at its place of the script, which knows by the directory's stamps what it keeps
+-- a client at its place of the script, which knows by the directory's stamps what it keeps, and whose calls read what the map has at the points of their looks
 pub record IsClientAt (script : Script) (book : BookOf) (d : Sealed) (place : ℕ) (client : ClientOf) : Type 0 where
   pub its : slice_get script.clients place ≡ Some client.part
   pub same_book : client.book ≡ book
   pub often : client.tries ≡ tries_of script
   pub knows : Knows d client
+  pub serves : ServesItsPins script d.core.points place client
 
 -- as many clients as the script has, each at its place
 pub record AreClients (script : Script) (book : BookOf) (d : Sealed) (clients : List ClientOf) : Type 0 where
@@ -42,9 +44,9 @@ pub record IsWorld (s : StoredWorld) : Type 0 where
   pub valid : IsValid s.script
   pub written : s.book.script ≡ Some s.script
   pub code : s.book.geometry ≡ s.script.geometry
-  pub its : s.directory.book ≡ s.book
-  pub held : AreServers s.book s.servers
-  pub callers : AreClients s.script s.book s.directory s.clients
-  pub menders : AreRepairers s.script s.book s.repairers
+  pub directory_book : s.directory.book ≡ s.book
+  pub servers : AreServers s.book s.servers
+  pub clients : AreClients s.script s.book s.directory s.clients
+  pub repairers : AreRepairers s.script s.book s.repairers
   pub agree : TokensAgree (world_of s)
   pub reached : IsReached s.script (world_of s)

@@ -3,3 +3,4 @@ pub mod Kept
 pub mod Inside
 pub mod Having
 pub mod First
+pub mod Ending

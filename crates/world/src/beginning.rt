@@ -1,8 +1,7 @@
 //! The world before its first step.
-ghost use Rattle.std.specs.Prelude.{◌≡◌, ◌≤◌, ◌<◌, ◌^◌, [], ◌∷◌, length, drop, take, map, All, IfOk, OnOk};
+ghost use Rattle.std.specs.Prelude.{◌≡◌, ◌≤◌, [], length, drop, map, IfOk, OnOk};
 ghost use Rattle.std.specs.List.{range_with_len};
-ghost use Rattle.clay_grid.specs.Shape.{chunk_count};
-ghost use Rattle.store_map.specs.Limits.{tries_of};
+ghost use Rattle.clay_grid.specs.Limits.{IsGeometry};
 ghost use Rattle.store_map.specs.Naming.{IsValid};
 ghost use Rattle.stripe_dir.specs.Seats.{client_seat, repairer_seat};
 ghost use Rattle.chunk_server.specs.State.{empty_server};
@@ -89,7 +88,7 @@ fn leave_seats(mut seats: Vec<Seat>) {
 }
 
 // Clients that were made for nothing are spent.
-fn leave_clients(mut clients: Vec<ClientActor>) {
+pub(crate) fn leave_clients(mut clients: Vec<ClientActor>) {
     for _left in 0..clients.len() {
         if let Some(client) = clients.pop() {
             let _calls = client.into_calls();
@@ -98,8 +97,8 @@ fn leave_clients(mut clients: Vec<ClientActor>) {
     clients.destroy_empty();
 }
 
-// And repairers.
-fn leave_repairers(mut repairers: Vec<RepairActor>) {
+// And repairers that were made for nothing.
+pub(crate) fn leave_repairers(mut repairers: Vec<RepairActor>) {
     for _left in 0..repairers.len() {
         if let Some(repairer) = repairers.pop() {
             let _calls = repairer.into_calls();
@@ -145,6 +144,7 @@ fn first_world<'a>(
     requires servers { servers.items ≡ first_servers script.now book.now }
     requires clients { AreFirstClients script.now book.now clients.items }
     requires repairers { AreFirstRepairers script.now book.now repairers.items }
+    ensures geometry { IsGeometry script.now.geometry }
     ensures script { result.script ≡ script.now }
     ensures book { result.book ≡ book.now }
     ensures reached { IsReachedBy script.now [] (world_of result) }
@@ -162,11 +162,13 @@ fn first_world<'a>(
 }
 
 impl<'a> World<'a> {
-    /// The world of a script before its first step, over the book of its versions.
+    /// The world of a script before its first step, over the book of its versions, which is to be this
+    /// world's alone.
     pub fn new(alloc: Global, script: &'a Script, book: &'a Book) -> Result<World<'a>, AllocError>
         requires valid { IsValid script.now }
         requires written { book.now.script ≡ Some script.now }
         requires code { book.now.geometry ≡ script.now.geometry }
+        ensures geometry { IfOk result (λ _. IsGeometry script.now.geometry) }
         ensures script { IfOk result (λ world. world.script ≡ script.now) }
         ensures book { IfOk result (λ world. world.book ≡ book.now) }
         ensures reached { IfOk result (λ world. IsReachedBy script.now [] (world_of world)) }

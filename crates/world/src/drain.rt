@@ -43,6 +43,7 @@ impl<'a> World<'a> {
     fn client_turns<R: Threads + Sync, C: Coder>(&mut self, rt: &R, coder: &C, count: u32)
         ensures leads { Leads self.old.script (client_turns self.old.script count) (world_of self.old) (world_of self.new) }
         ensures same { self.new.script ≡ self.old.script }
+        ensures same_book { self.new.book ≡ self.old.book }
     {
         for i in 0..count {
             self.client_turn(rt, coder, i);
@@ -53,6 +54,7 @@ impl<'a> World<'a> {
     fn repairer_turns<R: Threads + Sync, C: Coder>(&mut self, rt: &R, coder: &C, count: u32)
         ensures leads { Leads self.old.script (repairer_turns self.old.script count) (world_of self.old) (world_of self.new) }
         ensures same { self.new.script ≡ self.old.script }
+        ensures same_book { self.new.book ≡ self.old.book }
     {
         for i in 0..count {
             self.repairer_turn(rt, coder, i);
@@ -63,6 +65,7 @@ impl<'a> World<'a> {
     fn round<R: Threads + Sync, C: Coder>(&mut self, rt: &R, coder: &C)
         ensures leads { Leads self.old.script (round self.old.script) (world_of self.old) (world_of self.new) }
         ensures same { self.new.script ≡ self.old.script }
+        ensures same_book { self.new.book ≡ self.old.book }
     {
         let clients = self.script.clients.len() as u32;
         let repairers = self.script.repairers.len() as u32;
@@ -90,8 +93,9 @@ impl<'a> World<'a> {
     pub fn drain<R: Threads + Sync, C: Coder>(&mut self, rt: &R, coder: &C)
         ensures goes { GoesBy self.old.script (Token.Drain ∷ []) (world_of self.old) (world_of self.new) }
         ensures same { self.new.script ≡ self.old.script }
+        ensures same_book { self.new.book ≡ self.old.book }
     {
-        // That the script is valid bounds the rounds.
+        // The proof reads the script here: that it is valid bounds the rounds.
         let _script = self.script;
         for _made in 0..u64::MAX {
             if !self.is_unfinished() {

@@ -4,10 +4,13 @@
 
 mod beginning;
 mod drain;
+mod ending;
 mod operator;
+mod script_run;
 mod step;
 mod sweep;
 mod turns;
 mod world;
 
+pub use script_run::play;
 pub use world::World;

@@ -15,6 +15,7 @@ impl<'a> World<'a> {
         requires { server < chunk_count self.old.script.geometry }
         ensures leads { Leads self.old.script (step_core self.old.script (Token.Wipe server)) (world_of self.old) (world_of self.new) }
         ensures same { self.new.script ≡ self.old.script }
+        ensures same_book { self.new.book ≡ self.old.book }
     {
         self.servers[server as usize].wipe();
     }
@@ -24,6 +25,7 @@ impl<'a> World<'a> {
         requires { server < chunk_count self.old.script.geometry }
         ensures leads { Leads self.old.script (step_core self.old.script (Token.Down server)) (world_of self.old) (world_of self.new) }
         ensures same { self.new.script ≡ self.old.script }
+        ensures same_book { self.new.book ≡ self.old.book }
     {
         self.servers[server as usize].down();
     }
@@ -33,6 +35,7 @@ impl<'a> World<'a> {
         requires { server < chunk_count self.old.script.geometry }
         ensures leads { Leads self.old.script (step_core self.old.script (Token.Up server)) (world_of self.old) (world_of self.new) }
         ensures same { self.new.script ≡ self.old.script }
+        ensures same_book { self.new.book ≡ self.old.book }
     {
         self.servers[server as usize].up();
     }
@@ -41,6 +44,7 @@ impl<'a> World<'a> {
     pub(crate) fn reap_client(&mut self, i: u32)
         ensures leads { Leads self.old.script (step_core self.old.script (Token.ReapClient i)) (world_of self.old) (world_of self.new) }
         ensures same { self.new.script ≡ self.old.script }
+        ensures same_book { self.new.book ≡ self.old.book }
     {
         self.directory.reap(Actor::Client(i));
     }
@@ -49,6 +53,7 @@ impl<'a> World<'a> {
     pub(crate) fn reap_repairer(&mut self, i: u32)
         ensures leads { Leads self.old.script (step_core self.old.script (Token.ReapRepairer i)) (world_of self.old) (world_of self.new) }
         ensures same { self.new.script ≡ self.old.script }
+        ensures same_book { self.new.book ≡ self.old.book }
     {
         self.directory.reap(Actor::Repairer(i));
     }

@@ -1,7 +1,6 @@
 //! One token's step.
 ghost use Rattle.std.specs.Prelude.{◌≡◌, ◌∷◌, []};
 ghost use Rattle.store_map.specs.Naming.{NamesPart};
-ghost use Rattle.store_map.specs.declared.actor.Token.{Token as ScriptToken};
 ghost use Rattle.world_runs.specs.Goes.{GoesBy};
 ghost use Rattle.world.specs.Stored.{world_of};
 
@@ -17,6 +16,7 @@ impl<'a> World<'a> {
         requires { NamesPart self.old.script token }
         ensures goes { GoesBy self.old.script (token ∷ []) (world_of self.old) (world_of self.new) }
         ensures same { self.new.script ≡ self.old.script }
+        ensures same_book { self.new.book ≡ self.old.book }
     {
         match token {
             Token::Client(i) => self.client_turn(rt, coder, i),

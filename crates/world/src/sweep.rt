@@ -14,6 +14,7 @@ impl<'a> World<'a> {
     pub(crate) fn sweeper_turn(&mut self)
         ensures leads { Leads self.old.script (sweeper_step self.old.script) (world_of self.old) (world_of self.new) }
         ensures same { self.new.script ≡ self.old.script }
+        ensures same_book { self.new.book ≡ self.old.book }
     {
         match self.sweeper.need() {
             Need::Directory => self.sweeper.on_directory(&mut self.directory),

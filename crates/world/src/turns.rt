@@ -1,7 +1,7 @@
-//! The turns of the actors and of the sweeper.
+//! The turns of the actors.
 ghost use Rattle.std.specs.Prelude.{◌≡◌, ◌<◌, true, length, slice_get, Some};
 ghost use Rattle.store_map.specs.declared.script.Script.{Script};
-ghost use Rattle.store_core.specs.Run.{client_step, repairer_step, sweeper_step};
+ghost use Rattle.store_core.specs.Run.{client_step, repairer_step};
 ghost use Rattle.store_core.specs.Work.{has_step};
 ghost use Rattle.world_steps.specs.Known.{calling_of};
 ghost use Rattle.world_runs.specs.Goes.{Leads};
@@ -41,10 +41,11 @@ fn repairer_has_step(repairers: &Vec<RepairActor>, i: u32) -> bool
 }
 
 impl<'a> World<'a> {
-    // The turn of client i.
+    // The turn of client i, or nothing where there is none or it has no step.
     pub(crate) fn client_turn<R: Threads + Sync, C: Coder>(&mut self, rt: &R, coder: &C, i: u32)
         ensures leads { Leads self.old.script (client_step self.old.script i) (world_of self.old) (world_of self.new) }
         ensures same { self.new.script ≡ self.old.script }
+        ensures same_book { self.new.book ≡ self.old.book }
     {
         turns_lead();
         bytes_of_the_map_are_padded();
@@ -62,10 +63,11 @@ impl<'a> World<'a> {
         );
     }
 
-    // The turn of repairer i.
+    // The turn of repairer i, or nothing where there is none or it has no step.
     pub(crate) fn repairer_turn<R: Threads + Sync, C: Coder>(&mut self, rt: &R, coder: &C, i: u32)
         ensures leads { Leads self.old.script (repairer_step self.old.script i) (world_of self.old) (world_of self.new) }
         ensures same { self.new.script ≡ self.old.script }
+        ensures same_book { self.new.book ≡ self.old.book }
     {
         turns_lead();
         if !repairer_has_step(&self.repairers, i) {

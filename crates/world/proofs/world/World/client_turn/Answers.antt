@@ -6,7 +6,7 @@ use Rattle.world.specs.Inside.{stored_in}
 use Rattle.world.proofs.Keeping.{changed}
 use Rattle.world.proofs.Lists.{got}
 use Rattle.world.proofs.Clients.{HasTurnNow, ready_client, idle_client, client_leads, client_kept}
-use Rattle.world.proofs.Padding.{are_padded}
+use Rattle.world.proofs.Padding.{have_contents, are_padded}
 use Rattle.world.proofs.world.World.client_turn.Goals as goal
 
 pub returns-then-not-client_has_step-clause-leads : goal.returns-then-not-client_has_step-clause-leads
@@ -85,7 +85,8 @@ invariant_of-self g c =
     let ready : HasTurnNow (stored_in c.self.inside) c.args.i c.index_mut.result.now =
     ready_client (stored_in c.self.inside) c.self.invariant c.args.i c.index_mut.result.now there c.client_has_step.result c.client_has_step.ensures.has c.if-not-client_has_step.false in
     client_kept c.turns_lead.ensures (stored_in c.self.inside) c.self.invariant c.args.i c.index_mut.result.now c.turn.new.self there c.turn.new.directory c.turn.new.servers.items
-    (c.turn.ensures.turn c.self.inside.script.now ready.turn.of_script ready.has) c.turn.ensures.same c.turn.ensures.knows c.turn.ensures.book c.turn.ensures.stamps c.turn.ensures.servers
+    (c.turn.ensures.turn c.self.inside.script.now ready.turn.of_script ready.has) c.turn.ensures.same
+    (have_contents (stored_in c.self.inside) c.self.invariant c.keeps.ensures.stamps) c.turn.ensures.knows c.turn.ensures.book c.turn.ensures.stamps c.turn.ensures.servers
 
 pub returns-clause-leads : goal.returns-clause-leads
 returns-clause-leads g c =

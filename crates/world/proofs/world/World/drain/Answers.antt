@@ -4,11 +4,12 @@ use Rattle.world.proofs.Drains.{drain_begins, drain_goes_on, drain_ends, drain_f
 use Rattle.world.proofs.world.World.drain.Goals as goal
 
 pub loop-made-init : goal.loop-made-init
-loop-made-init g c = record { same = refl; goes = drain_begins c.args.self.now (subst IsWorld c.self.view_is c.self.invariant) }
+loop-made-init g c = record { same = refl; same_book = refl; goes = drain_begins c.args.self.now (subst IsWorld c.self.view_is c.self.invariant) }
 
 pub loop-made-preserved : goal.loop-made-preserved
 loop-made-preserved g c = record {
   same = c.round.ensures.same ∙ c.loop-made.invariant.same;
+  same_book = c.round.ensures.same_book ∙ c.loop-made.invariant.same_book;
   goes = drain_goes_on c.args.self.now (subst IsWorld c.self.view_is c.self.invariant) c.loop-made._made c.loop-made.self c.loop-made.invariant.same c.loop-made.invariant.goes c.round.new.self c.round.ensures.leads;
 }
 

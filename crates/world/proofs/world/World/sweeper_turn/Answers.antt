@@ -25,7 +25,7 @@ on_server-requires c =
     server_there (stored_in c.self.inside) c.self.invariant c.in-Server.server (subst (λ (n : ℕ). c.in-Server.server < n) (width (stored_in c.self.inside) c.self.invariant) c.in-Server.ensures.below) in
     let there : slice_get c.self.inside.servers.items c.in-Server.server ≡ Some c.index_mut.result.now =
     got c.self.inside.servers.items c.in-Server.server c.index_mut.result.now less c.index_mut.ensures.value in
-    sym c.in-Server.ensures.need ∙ ap need.Server (sym (c.self.invariant.held.each c.in-Server.server c.index_mut.result.now there).0)
+    sym c.in-Server.ensures.need ∙ ap need.Server (sym (c.self.invariant.servers.each c.in-Server.server c.index_mut.result.now there).0)
 
 pub invariant_of-self-in-Server : goal.invariant_of-self-in-Server
 invariant_of-self-in-Server c =

@@ -1,0 +1,7 @@
+-- What holds of a result's value.
+use Rattle.std.specs.Prelude.{Result, Ok, Err, IfOk}
+
+-- a fact of the value leads to another
+pub on_ok : {A E : Type 0} {P Q : A → Type 0} (r : Result A E) → ((value : A) → P value → Q value) → IfOk r P → IfOk r Q
+on_ok (Ok value) leads holds = leads value holds
+on_ok (Err e) leads holds = tt

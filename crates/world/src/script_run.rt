@@ -1,0 +1,51 @@
+//! A whole run.
+ghost use Rattle.std.specs.Prelude.{◌≡◌, Some, IfOk};
+ghost use Rattle.store_map.specs.Naming.{IsValid};
+ghost use Rattle.store_answers.specs.Played.{IsPlayed};
+
+use crate::world::World;
+use clay_repair::Coder;
+use std::alloc::{AllocError, Global};
+use std::thread::Threads;
+use store_map::Script;
+use transcript_text::Transcript;
+use version_seal::Book;
+
+// The run over the book of the script's versions.
+fn run<R: Threads + Sync, C: Coder>(
+    rt: &R,
+    alloc: Global,
+    coder: &C,
+    script: &Script,
+    book: &Book,
+) -> Result<Transcript, AllocError>
+    requires valid { IsValid script.now }
+    requires written { book.now.script ≡ Some script.now }
+    requires code { book.now.geometry ≡ script.now.geometry }
+    ensures { IfOk result (IsPlayed script.now) }
+{
+    let mut world = World::new(alloc, script, book)?;
+    for token in script.schedule.as_slice() {
+        world.step(rt, coder, *token);
+    }
+    world.finish(alloc)
+}
+
+/// The transcript of a run of the script: the steps of its schedule one after the other, at a directory
+/// and servers of its own, with chunks that the coder makes. An error is want of memory before the first
+/// step or after the last one; in between, a step that wants memory is a step of the run.
+pub fn play<R: Threads + Sync, C: Coder>(
+    rt: &R,
+    alloc: Global,
+    coder: &C,
+    script: Script,
+) -> Result<Transcript, AllocError>
+    requires { IsValid script }
+    ensures { IfOk result (IsPlayed script) }
+{
+    let book = Book::new(alloc, script)?;
+    match book.script() {
+        Some(script) => run(rt, alloc, coder, script, &book),
+        None => unreachable!(),
+    }
+}
