@@ -4,12 +4,12 @@
 #[cfg(test)]
 mod chunks;
 #[cfg(test)]
+mod faults;
+#[cfg(test)]
 mod generate;
 #[cfg(test)]
 mod play;
 #[cfg(test)]
 mod recover;
-#[cfg(test)]
-mod runs;
 #[cfg(test)]
 mod verify;

@@ -1,22 +1,34 @@
-use crate::runs::{Ran, run, run_failing};
 use clay_cli::Status;
+use run_tables::runs::{Ran, run};
 use std::test::Fail;
+use std::thread::Threads;
 
 const PUT_THEN_GET: &[u8] =
     b"clay 1\ncode 2 2 1\nclient\nput a hex:0100000000000000\nget a\nschedule\ndrain\nend\n";
+
+const TRANSCRIPT: &[u8] = b"\
+H 0 c0.0 ok
+H 1 c0.1 bytes hex:0100000000000000
+L a 8
+G c0.1 4 4 0 0
+T 0 4 1 0
+T 1 4 1 0
+T 2 0 1 0
+T 3 0 1 0
+end
+";
 
 const USAGE: &[u8] =
     b"usage: clay play | run WORKERS | verify | chunks K M W | recover K M W | gen START SIZE | trial START SIZE WORKERS\n";
 
 #[test]
 fn put_then_get(rt: HostRuntime) -> Result<(), Fail> {
-    let transcript: &[u8] = b"H 0 c0.0 ok\nH 1 c0.1 bytes hex:0100000000000000\nL a 8\nend\n";
     let with_no_words = run(&rt, &[], PUT_THEN_GET)?;
     assert_eq!(rt; with_no_words.status, Status::Done);
-    assert_eq!(rt; with_no_words.written.as_slice(), transcript);
+    assert_eq!(rt; with_no_words.written.as_slice(), TRANSCRIPT);
     let with_the_word = run(&rt, &["play"], PUT_THEN_GET)?;
     assert_eq!(rt; with_the_word.status, Status::Done);
-    assert_eq!(rt; with_the_word.written.as_slice(), transcript);
+    assert_eq!(rt; with_the_word.written.as_slice(), TRANSCRIPT);
     Ok(())
 }
 
@@ -48,51 +60,13 @@ fn words_of_no_command(rt: HostRuntime) -> Result<(), Fail> {
     Ok(())
 }
 
-#[test]
-fn first_call_fails(rt: HostRuntime) -> Result<(), Fail> {
-    let failed_read = run_failing(&rt, &[], PUT_THEN_GET, &[0], &[])?;
-    assert_eq!(rt; failed_read.status, Status::ReadFault);
-    assert_eq!(rt; failed_read.written.len(), 0);
-    let failed_write = run_failing(&rt, &[], PUT_THEN_GET, &[], &[0])?;
-    assert_eq!(rt; failed_write.status, Status::WriteFault);
-    assert_eq!(rt; failed_write.written.len(), 0);
-    let failed_usage = run_failing(&rt, &["playy"], PUT_THEN_GET, &[0], &[0])?;
-    assert_eq!(rt; failed_usage.status, Status::WriteFault);
-    assert_eq!(rt; failed_usage.written.len(), 0);
-    Ok(())
-}
-
-const NOT_BUILT: &[u8] = b"refused line 0 not built\n";
-
 // The line with which a script is refused.
-fn refusal_of(rt: &HostRuntime, input: &[u8]) -> Result<Vec<u8>, Fail> {
+fn refusal_of<R: Threads + Sync + AllocGlobal>(rt: &R, input: &[u8]) -> Result<Vec<u8>, Fail> {
     let Ran { status, written } = run(rt, &["play"], input)?;
     if status != Status::ScriptRefused {
         return Err(Fail::from("the script is not refused"));
     }
     Ok(written)
-}
-
-#[test]
-fn scripts_of_forms_that_are_not_built(rt: HostRuntime) -> Result<(), Fail> {
-    let scripts: [&[u8]; 12] = [
-        b"clay 2\ncode 2 2 1\nclient\nget a\nschedule\ndrain\nend\n",
-        b"clay 2\ncode 2 2 1\nclient\nget a\nschedule\ndown 3\nup 3\ndrain\nend\n",
-        b"clay 1\ncode 2 2 1\nschedule\ndrain\nend\n",
-        b"clay 1\ncode 16 4 1\nschedule\nend\n",
-        b"clay 1\ncode 2 2 1\nclient\nschedule\nend\n",
-        b"clay 1\ncode 2 2 1\nclient\nclient\nschedule\ndrain\nend\n",
-        b"clay 1\ncode 2 2 1\nclient\nget a\nrepairer\nrebuild a 0 0\nschedule\ndrain\nend\n",
-        b"clay 1\ncode 2 2 1\nclient\nleave 6\nput a hex:01\nschedule\ndrain\nend\n",
-        b"clay 1\ncode 2 2 1\nclient\nget a\nschedule\ndrain\ndrain\nend\n",
-        b"clay 1\ncode 2 2 1\nclient\nget a\nschedule\nc 0\ndrain\nend\n",
-        b"clay 1\ncode 2 2 1\nclient\nget a\nschedule\nwipe 3\ndrain\nend\n",
-        b"clay 1\ncode 2 2 1\nclient\nget a\nschedule\ndrain\nreap c 0\nend\n",
-    ];
-    for script in scripts {
-        assert_eq!(rt; refusal_of(&rt, script)?.as_slice(), NOT_BUILT);
-    }
-    Ok(())
 }
 
 #[test]
@@ -197,48 +171,6 @@ fn every_cut_of_a_script(rt: HostRuntime) -> Result<(), Fail> {
     Ok(())
 }
 
-#[test]
-fn calls_of_one_client(rt: HostRuntime) -> Result<(), Fail> {
-    let rows: [(&[u8], &[u8]); 8] = [
-        (b"client\n", b"end\n"),
-        (b"client\nget a\n", b"H 0 c0.0 nosuch\nend\n"),
-        (
-            b"client\nput e hex:\nget e\n",
-            b"H 0 c0.0 ok\nH 1 c0.1 bytes hex:\nL e 0\nend\n",
-        ),
-        (
-            b"client\nput b hex:ff\nput a hex:00\nput b hex:0102\nget b\n",
-            b"H 0 c0.0 ok\nH 1 c0.1 ok\nH 2 c0.2 ok\nH 3 c0.3 bytes hex:0102\nL b 2\nL a 1\nend\n",
-        ),
-        (
-            b"client\nget 0123456789abcdefghijklmnopqrstuvwxyz0123456789abcdefghijklm-._9z\n",
-            b"H 0 c0.0 nosuch\nend\n",
-        ),
-        (
-            b"client\nput a ramp:fe:4\nput b fill:a0:3\nget a\nget b\n",
-            b"H 0 c0.0 ok\nH 1 c0.1 ok\nH 2 c0.2 bytes hex:feff0001\nH 3 c0.3 bytes hex:a0a0a0\nL a 4\nL b 3\nend\n",
-        ),
-        (
-            b"size 10\ntries 1\nclient\nwrite a 0 hex:00\nput a fill:00:11\nput a fill:00:8\nwrite a 9 fill:00:9\nwrite a 8 hex:0102\nwrite a 9 hex:0102\nstat a\nread a 7 100\ndelete a\ndelete a\n",
-            b"H 0 c0.0 nosuch\nH 1 c0.1 toolarge\nH 2 c0.2 ok\nH 3 c0.3 outrange\nH 4 c0.4 ok\nH 5 c0.5 toolarge\nH 6 c0.6 length 10\nH 7 c0.7 bytes hex:000102\nH 8 c0.8 ok\nH 9 c0.9 nosuch\nend\n",
-        ),
-        (
-            b"client\nput b fill:00:1\nput a fill:00:3\nput b hex:\ndelete a\nput a fill:00:2\n",
-            b"H 0 c0.0 ok\nH 1 c0.1 ok\nH 2 c0.2 ok\nH 3 c0.3 ok\nH 4 c0.4 ok\nL b 0\nL a 2\nend\n",
-        ),
-    ];
-    let alloc = rt.alloc();
-    for (calls, transcript) in rows {
-        let mut script = Vec::from_slice(alloc, b"clay 1\ncode 3 2 4\n")?;
-        script.extend_from_slice(calls)?;
-        script.extend_from_slice(b"schedule\ndrain\nend\n")?;
-        let Ran { status, written } = run(&rt, &[], &script)?;
-        assert_eq!(rt; status, Status::Done);
-        assert_eq!(rt; written.as_slice(), transcript);
-    }
-    Ok(())
-}
-
 // A script whose only call puts so many bytes.
 fn put_of(rt: &HostRuntime, length: usize) -> Result<Vec<u8>, Fail> {
     let alloc = rt.alloc();
@@ -255,12 +187,12 @@ fn longest_objects(rt: HostRuntime) -> Result<(), Fail> {
     let longest = run(&rt, &[], &put_of(&rt, 65536)?)?;
     assert_eq!(rt;
         longest.written.as_slice(),
-        b"H 0 c0.0 ok\nL a 65536\nend\n".as_slice()
+        b"H 0 c0.0 ok\nL a 65536\nT 0 0 512 0\nT 1 0 512 0\nT 2 0 512 0\nT 3 0 512 0\nend\n".as_slice()
     );
     let longer = run(&rt, &[], &put_of(&rt, 65537)?)?;
     assert_eq!(rt;
         longer.written.as_slice(),
-        b"H 0 c0.0 toolarge\nend\n".as_slice()
+        b"H 0 c0.0 toolarge\nT 0 0 0 0\nT 1 0 0 0\nT 2 0 0 0\nT 3 0 0 0\nend\n".as_slice()
     );
     Ok(())
 }

@@ -1,0 +1,85 @@
+//! A coder that counts what it is asked for.
+use clay_grid::Geometry;
+use clay_lanes::LaneCoder;
+use clay_repair::Coder;
+use std::alloc::{AllocError, Global};
+use std::sync::atomic::{AtomicU64, Ordering};
+use std::thread::Threads;
+
+/// Hands each call on to `LaneCoder`. It counts the encodes, and the rebuilds of chunk 0 of the stripe
+/// 01 00 00 00 00 00 00 00 in the code of 2 and 2 chunks, from the parts of that stripe's repair layers.
+#[derive(Drop)]
+pub struct CountingCoder {
+    encodes: AtomicU64,
+    rebuilds: AtomicU64,
+}
+
+impl CountingCoder {
+    pub fn new() -> Self {
+        CountingCoder {
+            encodes: AtomicU64::new(0),
+            rebuilds: AtomicU64::new(0),
+        }
+    }
+
+    pub fn encodes(&self) -> u64 {
+        self.encodes.load(Ordering::SeqCst)
+    }
+
+    pub fn rebuilds(&self) -> u64 {
+        self.rebuilds.load(Ordering::SeqCst)
+    }
+}
+
+fn holds(part: &Option<Vec<u8>>, bytes: &[u8]) -> bool {
+    match part {
+        Some(part) => part.as_slice() == bytes,
+        None => false,
+    }
+}
+
+fn are_parts_of_the_stripe(lost: u32, parts: &[Option<Vec<u8>>]) -> bool {
+    lost == 0
+        && parts.len() == 4
+        && parts[0].is_none()
+        && holds(&parts[1], &[0x00, 0x00])
+        && holds(&parts[2], &[0x03, 0xa6])
+        && holds(&parts[3], &[0x53, 0x00])
+}
+
+impl Coder for CountingCoder {
+    fn encode<R: Threads + Sync>(
+        &self,
+        rt: &R,
+        alloc: Global,
+        g: Geometry,
+        stripe: &[u8],
+    ) -> Result<Vec<Vec<u8>>, AllocError> {
+        self.encodes.fetch_add(1, Ordering::SeqCst);
+        LaneCoder.encode(rt, alloc, g, stripe)
+    }
+
+    fn recover<R: Threads + Sync>(
+        &self,
+        rt: &R,
+        alloc: Global,
+        g: Geometry,
+        have: &[Option<Vec<u8>>],
+    ) -> Result<Vec<Vec<u8>>, AllocError> {
+        LaneCoder.recover(rt, alloc, g, have)
+    }
+
+    fn rebuild<R: Threads + Sync>(
+        &self,
+        rt: &R,
+        alloc: Global,
+        g: Geometry,
+        lost: u32,
+        parts: &[Option<Vec<u8>>],
+    ) -> Result<Vec<u8>, AllocError> {
+        if are_parts_of_the_stripe(lost, parts) {
+            self.rebuilds.fetch_add(1, Ordering::SeqCst);
+        }
+        LaneCoder.rebuild(rt, alloc, g, lost, parts)
+    }
+}
