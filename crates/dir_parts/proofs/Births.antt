@@ -1,5 +1,5 @@
 -- The entries in the order of their births.
-use Rattle.std.proofs.Common.{◌≡◌, ℕ, zero, suc, ◌+◌, ◌<◌, ◌≤◌, Bool, true, false, cond, not, List, [], ◌∷◌, ◌++◌, length, get_or, map, bytes_eq, nat_lt, nat_eq, position, swap_remove, IsPermutation, Option, None, Some, IfSome, slice_get, All, true≢false, refl, sym, ap, subst, ◌∙◌, arith}
+use Rattle.std.proofs.Common.{◌≡◌, ℕ, zero, suc, ◌+◌, ◌<◌, ◌≤◌, Bool, true, false, cond, not, List, [], ◌∷◌, ◌++◌, length, get_or, map, bytes_eq, nat_lt, nat_eq, position, IsPermutation, Option, None, Some, IfSome, slice_get, All, true≢false, refl, sym, ap, subst, ◌∙◌, arith}
 use Rattle.std.specs.Bool.{⊤}
 use Rattle.std.specs.List.{AllByRecursion, IsDistinct, position_or_len}
 use Rattle.std.specs.List.Sorted.{IsNonDecreasingBy}

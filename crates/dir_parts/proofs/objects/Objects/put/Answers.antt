@@ -1,9 +1,8 @@
-use Rattle.std.proofs.Common.{◌≡◌, ◌<◌, None, bytes_eq, nat_eq, All, refl, ap, sym, subst, ◌∙◌}
+use Rattle.std.proofs.Common.{◌≡◌, ◌<◌, None, nat_eq, All, refl, ap, sym, subst, ◌∙◌}
 use Rattle.std.specs.List.{IsDistinct}
-use Rattle.std.specs.Map.{lookup}
 use Rattle.store_core.specs.Lookups.{find_object}
 use Rattle.store_core.specs.Commit.{put_object}
-use Rattle.dir_parts.specs.Parts.{Held, Shelf, object_or_new}
+use Rattle.dir_parts.specs.Parts.{Shelf, object_or_new}
 use Rattle.dir_parts.proofs.Naming.{none_is}
 use Rattle.dir_parts.proofs.ShelfSteps.{shelf-changed, births-changed, replaced-whole, unfound, replaced-none}
 use Rattle.dir_parts.proofs.objects.Objects.put.Goals as goal
