@@ -8,7 +8,7 @@ pub enum Status {
     Done,
     /// The words ask for no command; the usage line was written.
     Usage,
-    /// The input is no script, or none of those that are built; one line that says so was written.
+    /// The input is no script, or, of `verify`, no transcript behind one; one line that says so was written.
     ScriptRefused,
     /// The input has more than 167,772,160 bytes; nothing was written.
     InputTooLong,

@@ -15,6 +15,7 @@ pub struct CountingCoder {
 }
 
 impl CountingCoder {
+    /// Has counted nothing.
     pub fn new() -> Self {
         CountingCoder {
             encodes: AtomicU64::new(0),
@@ -22,10 +23,12 @@ impl CountingCoder {
         }
     }
 
+    /// How often it was asked to encode.
     pub fn encodes(&self) -> u64 {
         self.encodes.load(Ordering::SeqCst)
     }
 
+    /// How often it was asked to rebuild that chunk from those parts.
     pub fn rebuilds(&self) -> u64 {
         self.rebuilds.load(Ordering::SeqCst)
     }

@@ -35,7 +35,7 @@ pub record IsPlayed (script : Script) (t : Transcript) : Type 0 where
   pub clients : IsOfClients t
   -- so the checker finds no fault in it
   pub legal : verdict_of script t ≡ Legal
-  -- its points are in the order in which calls were made, and what a refusal names of points came while its call ran
+  -- of two calls in it the one that was over before the other began has the smaller point, and the points that a refusal or a rebuild's result names as newer came while its call ran
   pub points : HasPointsInTime (run_trace script shortages script.schedule) t
   -- what a refusal names of servers was so when its call asked them
   pub losses : HasLossesInTime (run_trace script shortages script.schedule) t
@@ -43,7 +43,7 @@ pub record IsPlayed (script : Script) (t : Transcript) : Type 0 where
   pub causes : LinesAreCaused script (run_trace script shortages script.schedule) t
   -- each call that was over, and no other, is answered, refused or has its result
   pub ends : TellsEnds script (run_trace script shortages script.schedule) t
-  -- that is each call that has made all the steps that such a call makes at most, where memory was ample
+  -- and a call is over that has made all the steps that such a call makes at most, where memory was wanting in none of them
   pub enough :
       (call : CallName) → ¬ Contains (answers_to call (run_trace script shortages script.schedule)) Told.Short →
       MadeAllSteps script (run_trace script shortages script.schedule) call → IsOver script (run_trace script shortages script.schedule) call
@@ -51,5 +51,5 @@ pub record IsPlayed (script : Script) (t : Transcript) : Type 0 where
   pub finished : (tokens : List Token) → script.schedule ≡ tokens ++ token.Drain ∷ [] → Finished script t
   -- and a call that nothing hindered is answered
   pub answers : AnswersTheUnhindered script (run_trace script shortages script.schedule) t
-  -- what calls took is what their answers gave them: a rebuild that found its chunk alone missing took exactly one part in as many as the grid has rows of each other chunk, and a read that found none missing just the subchunks that have its bytes
+  -- what calls took is what their answers gave them: a rebuild that is rebuilt and found its chunk alone missing took exactly one part in as many as the grid has rows of each other chunk, and a get or a read that has its bytes and found none missing just the subchunks that have them
   pub takes : TakesLeast script (run_trace script shortages script.schedule) t

@@ -45,7 +45,7 @@ pub record TakesLeast (script : Script) (trace : List Made) (t : Transcript) : T
   pub given :
       (call : CallName) (job : Job) → job_of_call script call ≡ Some job →
       lines_of_takes t call ≡ take_line call (taken_by script.geometry (tries_of script) job (answers_to call trace))
-  -- a rebuild that found a chunk missing once took nothing of its target, and of each other server one part in as many as the grid has rows
+  -- a rebuild that is rebuilt and found a chunk missing once took nothing of its target, and of each other server one part in as many as the grid has rows
   pub rebuilds :
       (call : CallName) (rebuild : Rebuild) → rebuild_of script call ≡ Some rebuild → Contains t.repairs (record { call = call; result = result.Rebuilt }) →
       missing_count (answers_to call trace) ≡ 1 → TookLeast script.geometry rebuild.server (takes_shown t call)

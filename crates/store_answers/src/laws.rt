@@ -46,8 +46,8 @@ pub fn facts_are_exact()
 {}
 
 /// In every run of a valid script a transcript tells of each call what its answers gave it. A rebuild that
-/// found a chunk missing once, which is its target's, took one part of each other chunk, of as many as the
-/// grid has rows, and nothing of its target. A get or a read that has its bytes and found no chunk missing
+/// is rebuilt and found a chunk missing once, which is its target's, took one part of each other chunk, of
+/// as many as the grid has rows, and nothing of its target. A get or a read that has its bytes and found no chunk missing
 /// took just the subchunks that have them.
 pub fn runs_take_least()
     ensures { RunsTakeLeast }

@@ -57,7 +57,8 @@ fn repairer_calls(
 }
 
 impl<'a> World<'a> {
-    /// The transcript of the run that is over. Calls in work are given up.
+    /// The transcript of the run that is over. Calls in work are let go: where they made a step they stand in it
+    /// without a reply.
     pub fn finish(self, alloc: Global) -> Result<Transcript, AllocError>
         ensures { IfOk result (λ transcript. transcript ≡ shown self.entry.script (core_of self.entry.script (world_of self.entry))) }
     {
