@@ -19,7 +19,6 @@ impl Model for DripSource {
 }
 
 impl DripSource {
-    /// Gives these bytes; the reads of these numbers fail.
     pub fn new(bytes: Vec<u8>, failing: Vec<u64>) -> Self
         ensures { result ≡ record { left = bytes.items; failing = failing.items; calls = 0; faults = 0 } }
     {
@@ -64,7 +63,6 @@ impl Model for DripSink {
 }
 
 impl DripSink {
-    /// Keeps as many bytes as there is room for; the writes of these numbers fail.
     pub fn new(room: Vec<u8>, failing: Vec<u64>) -> Self
         requires { vec_len room ≡ 0 }
         ensures { result ≡ record { kept = record { room = vec_capacity room; bytes = []; taken = 0 }; failing = failing.items; calls = 0; faults = 0 } }
