@@ -1,5 +1,5 @@
 use clay_cli::Status;
-use run_tables::tables::{Sweep, all_print, prints_from};
+use run_tables::tables::{Repeated, all_print, prints_from};
 use std::test::Fail;
 
 // Gets after a put whose chunks are lost.
@@ -120,7 +120,7 @@ fn rebuilds(rt: HostRuntime) -> Result<(), Fail> {
 }
 
 // A server is emptied after so many of the put's eleven steps.
-const ONE_LOSS: Sweep<'static> = Sweep {
+const ONE_LOSS: Repeated<'static> = Repeated {
     before: b"\
 clay 1
 code 2 2 1
@@ -168,7 +168,7 @@ fn one_loss_at_each_step_of_a_put(rt: HostRuntime) -> Result<(), Fail> {
 }
 
 // Three servers are emptied after so many of the put's eleven steps.
-const THREE_LOSSES: Sweep<'static> = Sweep {
+const THREE_LOSSES: Repeated<'static> = Repeated {
     before: b"\
 clay 1
 code 2 2 1
@@ -243,7 +243,7 @@ fn three_losses_at_each_step_of_a_put(rt: HostRuntime) -> Result<(), Fail> {
 }
 
 // After a put, a server is emptied after so many of the write's thirteen steps.
-const WRITE: Sweep<'static> = Sweep {
+const WRITE: Repeated<'static> = Repeated {
     before: b"\
 clay 1
 code 2 2 1
@@ -312,7 +312,7 @@ fn a_loss_at_each_step_of_a_write(rt: HostRuntime) -> Result<(), Fail> {
 }
 
 // A second server is emptied after so many of the rebuild's eleven steps.
-const REBUILD: Sweep<'static> = Sweep {
+const REBUILD: Repeated<'static> = Repeated {
     before: b"\
 clay 1
 code 2 2 1

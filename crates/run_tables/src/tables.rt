@@ -64,32 +64,32 @@ pub fn all_print<R: Threads + Sync + AllocGlobal>(
 
 /// A script in which a line of the schedule stands some number of times.
 #[derive(Clone, Copy)]
-pub struct Sweep<'a> {
+pub struct Repeated<'a> {
     pub before: &'a [u8],
     pub line: &'a [u8],
     pub behind: &'a [u8],
 }
 
-// The sweep's script with its line so many times.
-fn script_with(alloc: Global, sweep: Sweep<'_>, times: u32) -> Result<Vec<u8>, Fail> {
-    let mut script = unfolded(alloc, sweep.before)?;
+// The script with its line so many times.
+fn script_with(alloc: Global, repeated: Repeated<'_>, times: u32) -> Result<Vec<u8>, Fail> {
+    let mut script = unfolded(alloc, repeated.before)?;
     for _ in 0..times {
-        add_line(&mut script, sweep.line)?;
+        add_line(&mut script, repeated.line)?;
     }
-    script.extend_from_slice(sweep.behind)?;
+    script.extend_from_slice(repeated.behind)?;
     Ok(script)
 }
 
 /// Holds what `play` prints against the transcript, for each number of times from the first up to the end.
 pub fn prints_from<R: Threads + Sync + AllocGlobal>(
     rt: &R,
-    sweep: Sweep<'_>,
+    repeated: Repeated<'_>,
     first: u32,
     end: u32,
     transcript: &[u8],
 ) -> Result<(), Fail> {
     for times in first..end {
-        let script = script_with(rt.alloc(), sweep, times)?;
+        let script = script_with(rt.alloc(), repeated, times)?;
         if !prints(rt, &script, Status::Done, transcript)? {
             return Err(Fail::new(format_args!("{times} times: not what is wanted")));
         }
