@@ -60,7 +60,7 @@ fn couple_piece(
 }
 
 /// Writes the bytes from `at` on of each subchunk of a missing chunk, as many as `len`.
-fn couple_chunk(
+pub fn couple_chunk(
     g: Geometry,
     have: &[Option<Vec<u8>>],
     plan: &Plan,

@@ -76,7 +76,7 @@ fn uncouple_other(
 }
 
 /// Writes the uncoupled values of the lost node's column in the bytes from `at` on of layer `z`, a row for each node.
-fn solve_column(
+pub fn solve_column(
     g: Geometry,
     parts: &[Option<Vec<u8>>],
     plan: &RepairPlan,
@@ -134,7 +134,7 @@ fn write_subchunk(
 }
 
 /// Writes the bytes from `at` on of the lost chunk's subchunks in the layers that differ from layer `z` at most in the digit of its column.
-fn write_block(
+pub fn write_block(
     g: Geometry,
     parts: &[Option<Vec<u8>>],
     plan: &RepairPlan,

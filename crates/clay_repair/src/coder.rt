@@ -1,5 +1,6 @@
 //! What a coder is.
 ghost use Rattle.std.specs.Prelude.{◌≡◌, length, IfOk};
+ghost use Rattle.std.specs.Thread.{IsSync};
 ghost use Rattle.clay_grid.specs.Shape.{stripe_length};
 ghost use Rattle.clay_model.specs.Code.{Codes};
 ghost use Rattle.clay_encode.specs.Chunks.{contents};
@@ -22,7 +23,8 @@ pub trait Coder {
         g: Geometry,
         stripe: &[u8],
     ) -> Result<Vec<Vec<u8>>, AllocError>
-        requires { length stripe.now ≡ stripe_length g }
+        requires sync { IsSync R.row }
+        requires whole { length stripe.now ≡ stripe_length g }
         ensures { IfOk result (λ chunks. Codes g stripe.now (contents chunks.items)) };
 
     /// The chunks of the codeword that agrees with the chunks that are there, where one does. `have` has an entry for each chunk, `None`
@@ -34,7 +36,8 @@ pub trait Coder {
         g: Geometry,
         have: &[Option<Vec<u8>>],
     ) -> Result<Vec<Vec<u8>>, AllocError>
-        requires { AreLeft g have.now }
+        requires sync { IsSync R.row }
+        requires left { AreLeft g have.now }
         ensures { IfOk result (λ chunks. AreRecovered g have.now (contents chunks.items)) };
 
     /// The lost chunk of the codeword that has these parts, where one does. `parts` has an entry for each chunk: `None` for the lost one,
@@ -47,6 +50,7 @@ pub trait Coder {
         lost: u32,
         parts: &[Option<Vec<u8>>],
     ) -> Result<Vec<u8>, AllocError>
-        requires { AreParts g lost parts.now }
+        requires sync { IsSync R.row }
+        requires parts { AreParts g lost parts.now }
         ensures { IfOk result (λ chunk. IsRebuilt g lost parts.now chunk.items) };
 }

@@ -1,3 +1,4 @@
+use crate::play::{PUT_THEN_GET, TRANSCRIPT};
 use clay_bytes::{DripSink, DripSource, MemSink, MemSource};
 use clay_cli::Status;
 use clay_lanes::LaneCoder;
@@ -5,31 +6,6 @@ use run_tables::runs::{Ran, run_failing, run_with};
 use std::test::Fail;
 use std::thread::Threads;
 use text_tables::faults::same;
-
-// 77 bytes.
-const PUT_THEN_GET: &[u8] = b"\
-clay 1
-code 2 2 1
-client
-put a hex:0100000000000000
-get a
-schedule
-drain
-end
-";
-
-// 113 bytes.
-const TRANSCRIPT: &[u8] = b"\
-H 0 c0.0 ok
-H 1 c0.1 bytes hex:0100000000000000
-L a 8
-G c0.1 4 4 0 0
-T 0 4 1 0
-T 1 4 1 0
-T 2 0 1 0
-T 3 0 1 0
-end
-";
 
 #[test]
 fn first_call_fails(rt: HostRuntime) -> Result<(), Fail> {

@@ -3,10 +3,12 @@ use run_tables::runs::{Ran, run};
 use std::test::Fail;
 use std::thread::Threads;
 
-const PUT_THEN_GET: &[u8] =
+/// A client's put and its get. 77 bytes in eight lines.
+pub(crate) const PUT_THEN_GET: &[u8] =
     b"clay 1\ncode 2 2 1\nclient\nput a hex:0100000000000000\nget a\nschedule\ndrain\nend\n";
 
-const TRANSCRIPT: &[u8] = b"\
+/// What `play` prints of it: 113 bytes.
+pub(crate) const TRANSCRIPT: &[u8] = b"\
 H 0 c0.0 ok
 H 1 c0.1 bytes hex:0100000000000000
 L a 8

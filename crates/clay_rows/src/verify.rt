@@ -1,17 +1,14 @@
+use crate::play::PUT_THEN_GET;
 use clay_cli::Status;
 use run_tables::runs::{Ran, run};
 use std::test::Fail;
 use std::thread::Threads;
 
-// Eight lines.
-const SCRIPT: &[u8] =
-    b"clay 1\ncode 2 2 1\nclient\nput a hex:0100000000000000\nget a\nschedule\ndrain\nend\n";
-
 const TAIL: &[u8] = b"G c0.1 4 4 0 0\nT 0 4 1 0\nT 1 4 1 0\nT 2 0 1 0\nT 3 0 1 0\nend\n";
 
 // What `verify` says of the script and these pieces of a transcript behind it.
 fn verdict<R: Threads + Sync + AllocGlobal>(rt: &R, pieces: &[&[u8]]) -> Result<Ran, Fail> {
-    let mut input = Vec::from_slice(rt.alloc(), SCRIPT)?;
+    let mut input = Vec::from_slice(rt.alloc(), PUT_THEN_GET)?;
     for piece in pieces {
         input.extend_from_slice(*piece)?;
     }
