@@ -1,6 +1,7 @@
 //! Fast coding of one thread: the unknown nodes' values by a fixed matrix of the scalar code, and products sixteen bytes at a time.
 #![tactic(auto)]
 
+mod checked;
 mod chunks;
 mod coder;
 mod coupling;
@@ -13,6 +14,7 @@ mod products;
 mod repair;
 mod repair_plan;
 
+pub use checked::decode_checked;
 pub use chunks::{BLOCK, add_pieces, encode, last_column, parity, solve_group};
 pub use coder::LaneCoder;
 pub use coupling::fifths;

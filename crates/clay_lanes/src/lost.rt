@@ -270,7 +270,7 @@ fn recover_missing(
 }
 
 /// The number of chunks that are missing.
-fn missing_count(have: &[Option<Vec<u8>>]) -> usize
+pub fn missing_count(have: &[Option<Vec<u8>>]) -> usize
     ensures { result ≡ count_by is_none have.now }
 {
     have.iter().filter(|chunk| chunk.is_none()).count()
