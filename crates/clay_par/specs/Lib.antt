@@ -1,1 +1,4 @@
 pub mod Groups
+pub mod Ranges
+pub mod Rebuilt
+pub mod Solved

@@ -1,12 +1,7 @@
 //! The coder of several threads.
-ghost use Rattle.std.specs.Prelude.{◌≡◌, length, IfOk};
-ghost use Rattle.clay_grid.specs.Shape.{stripe_length};
-ghost use Rattle.clay_model.specs.Code.{Codes};
-ghost use Rattle.clay_encode.specs.Chunks.{contents};
-ghost use Rattle.clay_repair.specs.Coding.{AreLeft, AreRecovered};
-ghost use Rattle.clay_repair.specs.Parts.{AreParts, IsRebuilt};
-
+use crate::lost::recover;
 use crate::parity::encode;
+use crate::repair::rebuild;
 use clay_grid::Geometry;
 use clay_lanes::LaneCoder;
 use clay_repair::Coder;
@@ -21,23 +16,19 @@ fn is_small(g: Geometry) -> bool {
     g.stripe_len() < SHARED
 }
 
-/// Encodes in as many threads as there are processors, sixteen bytes at a time; recovers and rebuilds in the thread of its caller. Its calls
-/// are those of a `Coder`, with the same conditions and answers.
+/// Codes in as many threads as there are processors where the stripe is large enough, sixteen bytes at a time. Its chunks are those of
+/// `PlainCoder`.
 #[derive(Clone, Copy, Debug, PartialEq, Eq)]
 pub struct ParCoder;
 
-impl ParCoder {
-    /// The chunks of the codeword of a stripe: those of the data, then those of the parity.
-    pub fn encode<R: Threads + Sync>(
+impl Coder for ParCoder {
+    fn encode<R: Threads + Sync>(
         &self,
         rt: &R,
         alloc: Global,
         g: Geometry,
         stripe: &[u8],
-    ) -> Result<Vec<Vec<u8>>, AllocError>
-        requires { length stripe.now ≡ stripe_length g }
-        ensures { IfOk result (λ chunks. Codes g stripe.now (contents chunks.items)) }
-    {
+    ) -> Result<Vec<Vec<u8>>, AllocError> {
         if is_small(g) {
             LaneCoder.encode(rt, alloc, g, stripe)
         } else {
@@ -45,32 +36,32 @@ impl ParCoder {
         }
     }
 
-    /// The chunks of the codeword that agrees with the chunks that are there, where one does.
-    pub fn recover<R: Threads + Sync>(
+    fn recover<R: Threads + Sync>(
         &self,
         rt: &R,
         alloc: Global,
         g: Geometry,
         have: &[Option<Vec<u8>>],
-    ) -> Result<Vec<Vec<u8>>, AllocError>
-        requires { AreLeft g have.now }
-        ensures { IfOk result (λ chunks. AreRecovered g have.now (contents chunks.items)) }
-    {
-        LaneCoder.recover(rt, alloc, g, have)
+    ) -> Result<Vec<Vec<u8>>, AllocError> {
+        if is_small(g) {
+            LaneCoder.recover(rt, alloc, g, have)
+        } else {
+            recover(rt, alloc, g, have)
+        }
     }
 
-    /// The lost chunk of the codeword that has these parts, where one does.
-    pub fn rebuild<R: Threads + Sync>(
+    fn rebuild<R: Threads + Sync>(
         &self,
         rt: &R,
         alloc: Global,
         g: Geometry,
         lost: u32,
         parts: &[Option<Vec<u8>>],
-    ) -> Result<Vec<u8>, AllocError>
-        requires { AreParts g lost parts.now }
-        ensures { IfOk result (λ chunk. IsRebuilt g lost parts.now chunk.items) }
-    {
-        LaneCoder.rebuild(rt, alloc, g, lost, parts)
+    ) -> Result<Vec<u8>, AllocError> {
+        if is_small(g) {
+            LaneCoder.rebuild(rt, alloc, g, lost, parts)
+        } else {
+            rebuild(rt, alloc, g, lost, parts)
+        }
     }
 }

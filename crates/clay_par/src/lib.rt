@@ -1,9 +1,12 @@
-//! Coding in several threads: groups of layers, each coded as the fast coder does. No clause says that two
-//! threads ran, nor how the work was cut: the answers are those of one thread.
+//! Coding in several threads: groups of layers, pieces of layers, or ranges of byte positions, each coded as the fast coder does. No clause
+//! says that two threads ran, nor how the work was cut: the answers are those of one thread.
 #![tactic(auto)]
 
 mod coder;
+mod lost;
 mod made;
 mod parity;
+mod ranges;
+mod repair;
 
 pub use coder::ParCoder;

@@ -3,9 +3,9 @@ ghost use Rattle.clay_grid.specs.Shape.{chunk_count, chunk_length};
 ghost use Rattle.clay_decode.specs.Left.{AreLong};
 
 use crate::encoding::{CODES, WIDTHS, mixed_bytes};
-use clay_decode::DecodeFault;
+use clay_decode::{CheckedFault, DecodeFault};
 use clay_grid::Geometry;
-use clay_lanes::{LaneCoder, decode, missing};
+use clay_lanes::{LaneCoder, decode, decode_checked, encode, missing};
 use clay_repair::{Coder, PlainCoder};
 use std::alloc::{AllocError, Global};
 use std::process::Abort;
@@ -68,10 +68,15 @@ fn check_loss<R: Abort + Threads + Sync>(
     if gone_count(&have) > g.m() as usize {
         assert_eq!(rt; missing(alloc, g, &have).err(), Some(DecodeFault::TooFew));
         assert_eq!(rt; decode(alloc, g, &have).err(), Some(DecodeFault::TooFew));
+        assert_eq!(rt;
+            decode_checked(alloc, g, &have).err(),
+            Some(CheckedFault::TooFew)
+        );
         return Ok(());
     }
     expect_chunks(rt, &LaneCoder.recover(rt, alloc, g, &have)?, word);
     expect_chunks(rt, &decode(alloc, g, &have)?, word);
+    expect_chunks(rt, &decode_checked(alloc, g, &have)?, word);
     assert!(rt; word.len() < 32);
     let mut lost = Vec::new(alloc);
     for (c, chunk) in word.iter().enumerate() {
@@ -107,6 +112,34 @@ fn codes_recover_alike(rt: HostRuntime) -> Result<(), Fail> {
         for w in WIDTHS {
             check_losses(&rt, rt.alloc(), Geometry::new(k, m, w)?)?;
         }
+    }
+    Ok(())
+}
+
+// Changes a bit of a data chunk or of a parity chunk, and loses the last chunk: what is left is more than makes a codeword.
+fn check_change<R: Abort>(rt: &R, alloc: Global, g: Geometry, changed: usize) -> Result<(), Fail> {
+    let stripe = mixed_bytes(alloc, g.stripe_len())?;
+    assert_eq!(rt; stripe.len(), g.stripe_len() as usize);
+    let mut word = encode(alloc, g, &stripe)?;
+    assert!(rt; changed < word.len());
+    let chunk = &mut word[changed];
+    assert!(rt; !chunk.is_empty());
+    chunk[0] ^= 1;
+    assert!(rt; g.n() < 32);
+    let have = left_of(rt, alloc, g, &word, 1 << (g.n() - 1))?;
+    assert_eq!(rt;
+        decode_checked(alloc, g, &have).err(),
+        Some(CheckedFault::Disagree)
+    );
+    Ok(())
+}
+
+#[test]
+fn changed_chunks_disagree(rt: HostRuntime) -> Result<(), Fail> {
+    for (k, m) in CODES {
+        let g = Geometry::new(k, m, 3)?;
+        check_change(&rt, rt.alloc(), g, 0)?;
+        check_change(&rt, rt.alloc(), g, k as usize)?;
     }
     Ok(())
 }

@@ -1,0 +1,205 @@
+//! The chunks from what is left of them, by ranges of byte positions and then by chunks.
+ghost use Rattle.std.specs.Prelude.{◌≡◌, ℕ, ◌+◌, ◌*◌, ◌<◌, length, slice_index_or, None, IfOk, All};
+ghost use Rattle.clay_grid.specs.Shape.{chunk_count, layer_count, chunk_length};
+ghost use Rattle.clay_encode.specs.Chunks.{contents};
+ghost use Rattle.clay_decode.specs.Left.{Completes};
+ghost use Rattle.clay_repair.specs.Coding.{AreLeft, AreRecovered};
+ghost use Rattle.clay_lanes.specs.Recovered.{IsLanePlan, HoldsByte};
+ghost use Rattle.clay_par.specs.Ranges.{HasRoom, SamePlace};
+ghost use Rattle.clay_par.specs.Solved.{HoldsLayers, AreSolved, IsChunk};
+
+use crate::made::all_made;
+use crate::ranges::{Range, make_ranges};
+use clay_grid::Geometry;
+use clay_lanes::{Plan, couple_chunk, make_plan, solve_layers, zeros};
+use rayon::current_num_threads;
+use std::alloc::{AllocError, Global};
+use std::thread;
+use std::thread::Threads;
+
+/// Writes the erased nodes' uncoupled values in a range. Where no chunk is missing there are none.
+fn solve(g: Geometry, have: &[Option<Vec<u8>>], plan: &Plan, range: &mut Range)
+    requires plan { IsLanePlan g have.now plan.now }
+    requires room { HasRoom g (length plan.now.points.items) (layer_count g) range.old }
+    ensures place { SamePlace range.old range.new }
+    ensures solved { HoldsLayers g have.now plan.now range.new }
+{
+    if plan.points.is_empty() {
+        return;
+    }
+    solve_layers(
+        g,
+        have,
+        plan,
+        range.at,
+        &mut range.values,
+        &mut range.rows,
+        &mut range.solved,
+    );
+}
+
+/// Writes the erased nodes' uncoupled values in all ranges.
+fn solve_all<R: Threads + Sync>(
+    rt: &R,
+    g: Geometry,
+    have: &[Option<Vec<u8>>],
+    plan: &Plan,
+    ranges: &mut [Range],
+)
+    requires plan { IsLanePlan g have.now plan.now }
+    requires room { All (HasRoom g (length plan.now.points.items) (layer_count g)) ranges.old }
+    ensures places { (i : ℕ) (d : _) → i < length ranges.old → SamePlace (slice_index_or ranges.old i d) (slice_index_or ranges.new i d) }
+    ensures solved { All (HoldsLayers g have.now plan.now) ranges.new }
+{
+    let threads = current_num_threads(rt);
+    thread::for_each_mut(rt, ranges, threads, &|_, range| solve(g, have, plan, range));
+}
+
+/// Writes the bytes of a missing chunk that lie in a range.
+fn write_range(
+    g: Geometry,
+    have: &[Option<Vec<u8>>],
+    plan: &Plan,
+    range: &Range,
+    c: u32,
+    chunk: &mut [u8],
+)
+    requires plan { IsLanePlan g have.now plan.now }
+    requires range { HoldsLayers g have.now plan.now range.now }
+    requires chunk { c < chunk_count g }
+    requires missing { slice_index_or have.now c None ≡ None }
+    requires chunk_len { length chunk.old ≡ chunk_length g }
+    ensures written { (z b : ℕ) → z < layer_count g → b < length range.now.values.items →
+        HoldsByte (λ word. Completes g have.now word) c chunk.new (z * g.width + (range.now.at + b)) }
+    ensures kept { (p : ℕ) → HoldsByte (λ word. Completes g have.now word) c chunk.old p
+        → HoldsByte (λ word. Completes g have.now word) c chunk.new p }
+{
+    couple_chunk(
+        g,
+        have,
+        plan,
+        &range.solved,
+        c,
+        range.at,
+        range.values.len(),
+        chunk,
+    );
+}
+
+/// Writes a missing chunk from the values in the ranges.
+fn write_chunk(
+    g: Geometry,
+    have: &[Option<Vec<u8>>],
+    plan: &Plan,
+    ranges: &[Range],
+    c: u32,
+    chunk: &mut [u8],
+)
+    requires plan { IsLanePlan g have.now plan.now }
+    requires ranges { AreSolved g have.now plan.now ranges.now }
+    requires chunk { c < chunk_count g }
+    requires missing { slice_index_or have.now c None ≡ None }
+    requires chunk_len { length chunk.old ≡ chunk_length g }
+    ensures { (z b : ℕ) → z < layer_count g → b < g.width →
+        HoldsByte (λ word. Completes g have.now word) c chunk.new (z * g.width + b) }
+{
+    for range in ranges {
+        write_range(g, have, plan, range, c, chunk);
+    }
+}
+
+/// A missing chunk, from the values in the ranges.
+fn missing_chunk(
+    alloc: Global,
+    g: Geometry,
+    have: &[Option<Vec<u8>>],
+    plan: &Plan,
+    ranges: &[Range],
+    c: u32,
+) -> Result<Vec<u8>, AllocError>
+    requires plan { IsLanePlan g have.now plan.now }
+    requires ranges { AreSolved g have.now plan.now ranges.now }
+    requires chunk { c < chunk_count g }
+    requires missing { slice_index_or have.now c None ≡ None }
+    ensures { IfOk result (λ v. IsChunk g have.now c v.items) }
+{
+    let mut chunk = zeros(alloc, g.chunk_len() as usize)?;
+    write_chunk(g, have, plan, ranges, c, &mut chunk);
+    Ok(chunk)
+}
+
+/// A chunk, which is copied where it is there.
+fn chunk(
+    alloc: Global,
+    g: Geometry,
+    have: &[Option<Vec<u8>>],
+    plan: &Plan,
+    ranges: &[Range],
+    c: usize,
+) -> Result<Vec<u8>, AllocError>
+    requires plan { IsLanePlan g have.now plan.now }
+    requires ranges { AreSolved g have.now plan.now ranges.now }
+    requires chunk { c < chunk_count g }
+    ensures { IfOk result (λ v. IsChunk g have.now c v.items) }
+{
+    match &have[c] {
+        Some(bytes) => bytes.clone(),
+        None => missing_chunk(alloc, g, have, plan, ranges, c as u32),
+    }
+}
+
+/// Each chunk, or that memory ran out.
+fn each_chunk<R: Threads + Sync>(
+    rt: &R,
+    alloc: Global,
+    g: Geometry,
+    have: &[Option<Vec<u8>>],
+    plan: &Plan,
+    ranges: &[Range],
+) -> Result<Vec<Result<Vec<u8>, AllocError>>, AllocError>
+    requires plan { IsLanePlan g have.now plan.now }
+    requires ranges { AreSolved g have.now plan.now ranges.now }
+    ensures count { IfOk result (λ chunks. length chunks.items ≡ chunk_count g) }
+    ensures each { IfOk result (λ chunks. (c : ℕ) (d : _) → c < chunk_count g →
+        IfOk (slice_index_or chunks.items c d) (λ chunk. IsChunk g have.now c chunk.items)) }
+{
+    thread::map_indices(
+        rt,
+        alloc,
+        g.n() as usize,
+        &|c| chunk(alloc, g, have, plan, ranges, c),
+    )
+}
+
+/// All chunks, from the values in the ranges.
+fn chunks<R: Threads + Sync>(
+    rt: &R,
+    alloc: Global,
+    g: Geometry,
+    have: &[Option<Vec<u8>>],
+    plan: &Plan,
+    ranges: &[Range],
+) -> Result<Vec<Vec<u8>>, AllocError>
+    requires plan { IsLanePlan g have.now plan.now }
+    requires ranges { AreSolved g have.now plan.now ranges.now }
+    ensures { IfOk result (λ chunks. AreRecovered g have.now (contents chunks.items)) }
+{
+    let made = each_chunk(rt, alloc, g, have, plan, ranges)?;
+    all_made(alloc, made)
+}
+
+/// The chunks of the codeword that agrees with the chunks that are there, of which no more are missing than there are parity chunks.
+pub fn recover<R: Threads + Sync>(
+    rt: &R,
+    alloc: Global,
+    g: Geometry,
+    have: &[Option<Vec<u8>>],
+) -> Result<Vec<Vec<u8>>, AllocError>
+    requires { AreLeft g have.now }
+    ensures { IfOk result (λ chunks. AreRecovered g have.now (contents chunks.items)) }
+{
+    let plan = make_plan(alloc, g, have)?;
+    let mut ranges = make_ranges(alloc, g, plan.points.len(), g.alpha() as usize)?;
+    solve_all(rt, g, have, &plan, &mut ranges);
+    chunks(rt, alloc, g, have, &plan, &ranges)
+}
