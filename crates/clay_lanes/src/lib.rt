@@ -4,6 +4,7 @@
 mod checked;
 mod chunks;
 mod coder;
+mod column;
 mod coupling;
 mod generator;
 mod kernels;
@@ -13,6 +14,7 @@ mod plan;
 mod products;
 mod repair;
 mod repair_plan;
+mod stripe;
 
 pub use checked::decode_checked;
 pub use chunks::{BLOCK, add_pieces, encode, last_column, parity, solve_group};

@@ -1,0 +1,115 @@
+//! The uncoupled values of the columns that a stripe fills.
+ghost use Rattle.std.specs.Prelude.{◌≡◌, ℕ, ◌+◌, ◌*◌, ◌<◌, ◌≤◌, slice_index, length, bit_xor};
+ghost use Rattle.clay_field.specs.Field.{product};
+ghost use Rattle.clay_grid.specs.Shape.{layer_count, stripe_length};
+ghost use Rattle.clay_grid.specs.Layers.{layer_of};
+ghost use Rattle.clay_grid.specs.Limits.{IsGeometry};
+ghost use Rattle.clay_encode.specs.Columns.{data_byte, uncoupled_value, first_parity, HoldsPieces};
+
+use crate::coupling::{double, uncouple};
+use clay_grid::Geometry;
+
+/// The bytes from `at` on of subchunk `z` of a data chunk, as many as `len`.
+pub fn piece(g: Geometry, stripe: &[u8], chunk: u32, z: u32, at: usize, len: usize) -> &[u8]
+    requires whole { length stripe.now ≡ stripe_length g }
+    requires data { chunk < g.data_count }
+    requires layer { z < layer_count g }
+    requires within { at + len ≤ g.width }
+    ensures geometry { IsGeometry g }
+    ensures len { length result.now ≡ len }
+    ensures bytes { (b : ℕ) → b < len → slice_index result.now b ≡ data_byte g stripe.now (at + b) chunk z }
+{
+    let start = (chunk as usize * g.alpha() as usize + z as usize) * g.w() as usize + at;
+    &stripe[start..start + len]
+}
+
+/// Writes the bytes of a node outside the last column plus twice those of its partner.
+pub fn uncouple_node(
+    g: Geometry,
+    stripe: &[u8],
+    node: u32,
+    z: u32,
+    at: usize,
+    theirs: &[u8],
+    values: &mut [u8],
+)
+    requires whole { length stripe.now ≡ stripe_length g }
+    requires layer { z < layer_count g }
+    requires within { at + length theirs.now ≤ g.width }
+    requires values_len { length values.old ≡ length theirs.now }
+    ensures { (b : ℕ) → b < length theirs.now → slice_index values.new b
+        ≡ bit_xor (data_byte g stripe.now (at + b) node z) (product 2 (slice_index theirs.now b)) }
+{
+    if node < g.k() {
+        uncouple(piece(g, stripe, node, z, at, theirs.len()), theirs, values);
+    } else {
+        double(theirs, values);
+    }
+}
+
+/// Writes the bytes of a node outside the last column, which are 0 at a virtual one.
+fn write_own(g: Geometry, stripe: &[u8], node: u32, z: u32, at: usize, out: &mut [u8])
+    requires whole { length stripe.now ≡ stripe_length g }
+    requires layer { z < layer_count g }
+    requires within { at + length out.old ≤ g.width }
+    ensures { (b : ℕ) → b < length out.old → slice_index out.new b ≡ data_byte g stripe.now (at + b) node z }
+{
+    if node < g.k() {
+        out.copy_from_slice(piece(g, stripe, node, z, at, out.len()));
+    } else {
+        out.fill(0);
+    }
+}
+
+/// Writes the uncoupled value of a node outside the last column in the bytes from `at` on of layer `z`.
+fn write_value(g: Geometry, stripe: &[u8], node: u32, z: u32, at: usize, out: &mut [u8])
+    requires whole { length stripe.now ≡ stripe_length g }
+    requires known { node < first_parity g }
+    requires layer { z < layer_count g }
+    requires within { at + length out.old ≤ g.width }
+    ensures { (b : ℕ) → b < length out.old →
+        slice_index out.new b ≡ uncoupled_value g stripe.now (at + b) node (layer_of g z) }
+{
+    let (x, y) = g.place(node);
+    let partner = g.partner(x, y, z);
+    let other = y * g.q() + partner.x;
+    if partner.x == x {
+        write_own(g, stripe, node, z, at, out);
+    } else if other >= g.k() {
+        // the partner is of a virtual node
+        write_own(g, stripe, node, z, at, out);
+    } else {
+        let theirs = piece(g, stripe, other, partner.z, at, out.len());
+        uncouple_node(g, stripe, node, z, at, theirs, out);
+    }
+}
+
+/// Writes the uncoupled values of four nodes of a column other than the last in the bytes from `at` on of layer `z`, a row for each.
+pub fn write_column(
+    g: Geometry,
+    stripe: &[u8],
+    column: u32,
+    z: u32,
+    at: usize,
+    len: usize,
+    values: &mut [u8],
+)
+    requires whole { length stripe.now ≡ stripe_length g }
+    requires known { column * 4 + 4 ≤ first_parity g }
+    requires layer { z < layer_count g }
+    requires within { at + len ≤ g.width }
+    requires values_len { length values.old ≡ 4 * len }
+    ensures { HoldsPieces len 4 (λ x b. uncoupled_value g stripe.now (at + b) (column * 4 + x) (layer_of g z)) values.new }
+{
+    for x in 0..4u32 {
+        let from = x as usize * len;
+        write_value(
+            g,
+            stripe,
+            column * 4 + x,
+            z,
+            at,
+            &mut values[from..from + len],
+        );
+    }
+}
