@@ -5,7 +5,7 @@ use Rattle.std.specs.declared.alloc.Global.{Global}
 use Rattle.clay_grid.specs.Shape.{Shape, chunk_count, node_count, layer_count, chunk_length}
 use Rattle.clay_grid.specs.Limits.{IsGeometry}
 use Rattle.clay_grid.specs.Score.{score_at, IsByScore}
-use Rattle.clay_scalar.specs.Erased.{erased_below}
+use Rattle.clay_scalar.specs.Erased.{erased_below, present}
 use Rattle.clay_decode.specs.Left.{AreLong, Completes}
 use Rattle.clay_decode.specs.Solved.{is_erased, coupled_byte, uncoupled_byte}
 use Rattle.clay_lanes.specs.Generated.{IsGeneratorOf}
@@ -36,6 +36,15 @@ pub record IsCoupled (g : Shape) (fits : List (List ℕ) → Type 0) (at len i n
 -- the same of the uncoupled value
 pub record IsUncoupled (g : Shape) (fits : List (List ℕ) → Type 0) (at len i n : ℕ) (piece : List ℕ) : Type 0 where
   pub bytes : (word : List (List ℕ)) → fits word → (b : ℕ) → b < len → get_or piece b 0 ≡ uncoupled_byte g word (at + b) i n
+
+-- the same, or zeros for an erased node
+pub record IsPresent (g : Shape) (fits : List (List ℕ) → Type 0) (at len : ℕ) (erased : List Bool) (i n : ℕ) (piece : List ℕ) : Type 0 where
+  pub bytes : (word : List (List ℕ)) → fits word → (b : ℕ) → b < len → get_or piece b 0 ≡ present erased (λ i. uncoupled_byte g word (at + b) i n) i
+
+-- a row of those values for each of the nodes from 4 y on below 4 y + count
+pub record HoldsColumn (g : Shape) (fits : List (List ℕ) → Type 0) (at len : ℕ) (erased : List Bool) (y n count : ℕ) (values : List ℕ) : Type 0 where
+  pub bytes : (word : List (List ℕ)) → fits word → (x b : ℕ) → x < count → b < len
+      → get_or values (x * len + b) 0 ≡ present erased (λ i. uncoupled_byte g word (at + b) i n) (y * 4 + x)
 
 -- a row for each of the nodes: the bytes from `at` on of their uncoupled values in layer n
 pub record HoldsRows (g : Shape) (fits : List (List ℕ) → Type 0) (at len : ℕ) (points : List ℕ) (n : ℕ) (rows : List ℕ) : Type 0 where

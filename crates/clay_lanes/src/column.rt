@@ -7,6 +7,7 @@ ghost use Rattle.std.specs.Prelude.{◌≡◌, ℕ, ◌*◌, ◌+◌, ◌^◌, �
 ghost use Rattle.clay_field.specs.Field.{product};
 ghost use Rattle.clay_lanes.specs.Columns.{AddUp, AreColumn, IsColumn, AddsColumn, EndsColumn, both_of, all_of};
 
+use crate::chunks::BLOCK;
 use crate::products::Products;
 use std::simd::prelude::*;
 
@@ -210,4 +211,11 @@ pub fn end_column(len: usize, rows: &mut [u8])
     let (d1, rest) = rest.split_at_mut(len);
     let (d2, d3) = rest.split_at_mut(len);
     end_rows(d0, d1, d2, d3);
+}
+
+/// Room for the values of a column of four nodes in a block.
+pub fn column_room() -> [u8; 4 * BLOCK]
+    ensures { length result ≡ 16384 }
+{
+    [0; 4 * BLOCK]
 }

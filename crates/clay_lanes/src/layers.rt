@@ -2,10 +2,11 @@
 ghost use Rattle.std.specs.Prelude.{◌≡◌, ℕ, ◌+◌, ◌*◌, ◌<◌, ◌≤◌, length, slice_index, slice_index_or, true, false, Contains};
 ghost use Rattle.clay_grid.specs.Shape.{node_count, layer_count};
 ghost use Rattle.clay_decode.specs.Left.{Completes};
-ghost use Rattle.clay_lanes.specs.Recovered.{IsLanePlan, IsCoupled, IsUncoupled, HoldsRows, HoldsLayerRows, HoldsLower};
+ghost use Rattle.clay_lanes.specs.Recovered.{IsLanePlan, IsCoupled, IsUncoupled, IsPresent, HoldsColumn, HoldsRows, HoldsLayerRows, HoldsLower};
 
+use crate::column::{add_column, column_room, end_column};
 use crate::coupling::{uncouple, uncouple_from};
-use crate::plan::Plan;
+use crate::plan::{Plan, is_column_erased};
 use clay_decode::partner_of;
 use clay_grid::Geometry;
 
@@ -118,8 +119,8 @@ fn uncouple_node(
 }
 
 /// Writes the uncoupled values of the erased nodes in the bytes from `at` on of layer `z`, a row for each, where the layers of lower score
-/// are solved.
-fn solve_layer(
+/// are solved, from one node after another.
+fn solve_by_nodes(
     g: Geometry,
     have: &[Option<Vec<u8>>],
     plan: &Plan,
@@ -146,6 +147,125 @@ fn solve_layer(
     }
 }
 
+/// Writes the uncoupled value of a node in the bytes from `at` on of layer `z`, where the layers of lower score are solved; zeros if it is
+/// erased.
+fn write_value(
+    g: Geometry,
+    have: &[Option<Vec<u8>>],
+    plan: &Plan,
+    solved: &[u8],
+    node: u32,
+    z: u32,
+    at: usize,
+    out: &mut [u8],
+)
+    requires plan { IsLanePlan g have.now plan.now }
+    requires solved_len { length solved.now ≡ layer_count g * (length plan.now.points.items * length out.old) }
+    requires lower { HoldsLower g (λ word. Completes g have.now word) at (length out.old) plan.now.erased.items plan.now.points.items z solved.now }
+    requires node { node < node_count g }
+    requires layer { z < layer_count g }
+    requires within { at + length out.old ≤ g.width }
+    ensures { IsPresent g (λ word. Completes g have.now word) at (length out.old) plan.now.erased.items node z out.new }
+{
+    if plan.erased[node as usize] {
+        out.fill(0);
+    } else {
+        uncouple_node(g, have, plan, solved, node, z, at, out);
+    }
+}
+
+/// Writes the uncoupled values of the four nodes of a column in the bytes from `at` on of layer `z`, a row for each, where the layers of lower
+/// score are solved.
+fn write_column(
+    g: Geometry,
+    have: &[Option<Vec<u8>>],
+    plan: &Plan,
+    solved: &[u8],
+    column: u32,
+    z: u32,
+    at: usize,
+    len: usize,
+    values: &mut [u8],
+)
+    requires plan { IsLanePlan g have.now plan.now }
+    requires solved_len { length solved.now ≡ layer_count g * (length plan.now.points.items * len) }
+    requires lower { HoldsLower g (λ word. Completes g have.now word) at len plan.now.erased.items plan.now.points.items z solved.now }
+    requires column { column * 4 + 4 ≤ node_count g }
+    requires layer { z < layer_count g }
+    requires within { at + len ≤ g.width }
+    requires values_len { length values.old ≡ 4 * len }
+    ensures { HoldsColumn g (λ word. Completes g have.now word) at len plan.now.erased.items column z 4 values.new }
+{
+    for x in 0..4u32 {
+        let from = x as usize * len;
+        let out = &mut values[from..from + len];
+        write_value(g, have, plan, solved, column * 4 + x, z, at, out);
+    }
+}
+
+/// The same as `solve_by_nodes` where the generator has the factors of columns, with room for the values of one.
+fn solve_by_columns(
+    g: Geometry,
+    have: &[Option<Vec<u8>>],
+    plan: &Plan,
+    solved: &[u8],
+    z: u32,
+    at: usize,
+    len: usize,
+    column: &mut [u8],
+    rows: &mut [u8],
+)
+    requires plan { IsLanePlan g have.now plan.now }
+    requires solved_len { length solved.now ≡ layer_count g * (length plan.now.points.items * len) }
+    requires lower { HoldsLower g (λ word. Completes g have.now word) at len plan.now.erased.items plan.now.points.items z solved.now }
+    requires columns { 0 < length plan.now.generator.columns }
+    requires layer { z < layer_count g }
+    requires within { at + len ≤ g.width }
+    requires column_len { length column.old ≡ 4 * len }
+    requires rows_len { length rows.old ≡ length plan.now.points.items * len }
+    ensures { HoldsRows g (λ word. Completes g have.now word) at len plan.now.points.items z rows.new }
+{
+    let columns = plan.generator.columns();
+    rows.fill(0);
+    for y in 0..g.nodes() / 4 {
+        if !is_column_erased(&plan.erased, y as usize) {
+            write_column(g, have, plan, solved, y, z, at, len, column);
+            add_column(len, &columns[y as usize], column, rows);
+        }
+    }
+    end_column(len, rows);
+}
+
+/// Writes the uncoupled values of the erased nodes in the bytes from `at` on of layer `z`, a row for each, where the layers of lower score
+/// are solved, with room for the values of a node and of a column.
+fn solve_layer(
+    g: Geometry,
+    have: &[Option<Vec<u8>>],
+    plan: &Plan,
+    solved: &[u8],
+    z: u32,
+    at: usize,
+    values: &mut [u8],
+    column: &mut [u8],
+    rows: &mut [u8],
+)
+    requires plan { IsLanePlan g have.now plan.now }
+    requires solved_len { length solved.now ≡ layer_count g * (length plan.now.points.items * length values.old) }
+    requires lower { HoldsLower g (λ word. Completes g have.now word) at (length values.old) plan.now.erased.items plan.now.points.items z solved.now }
+    requires layer { z < layer_count g }
+    requires within { at + length values.old ≤ g.width }
+    requires rows_len { length rows.old ≡ length plan.now.points.items * length values.old }
+    ensures { HoldsRows g (λ word. Completes g have.now word) at (length values.old) plan.now.points.items z rows.new }
+{
+    let len = values.len();
+    if plan.generator.columns().is_empty() || len > column.len() / 4 {
+        solve_by_nodes(g, have, plan, solved, z, at, values, rows);
+    } else {
+        let column = &mut column[..4 * len];
+        solve_by_columns(g, have, plan, solved, z, at, len, column, rows);
+    }
+}
+
 /// Writes the uncoupled values of the erased nodes in the bytes from `at` on of each layer.
 pub fn solve_layers(
     g: Geometry,
@@ -164,8 +284,9 @@ pub fn solve_layers(
         HoldsLayerRows g (λ word. Completes g have.now word) at (length values.old) plan.now.points.items n solved.new }
 {
     let part = rows.len();
+    let mut column = column_room();
     for z in &plan.layers {
-        solve_layer(g, have, plan, solved, *z, at, values, rows);
+        solve_layer(g, have, plan, solved, *z, at, values, &mut column, rows);
         let start = *z as usize * part;
         solved[start..start + part].copy_from_slice(rows);
     }

@@ -3,12 +3,13 @@ ghost use Rattle.std.specs.Prelude.{◌≡◌, ◌≢◌, ℕ, ◌+◌, ◌*◌,
 ghost use Rattle.clay_grid.specs.Shape.{row_count, node_count, node_of_chunk, chunk_length};
 ghost use Rattle.clay_repair.specs.Parts.{AreParts, HasParts, IsRebuilt};
 ghost use Rattle.clay_repair.specs.Rebuilt.{IsReadFor, with_digit};
-ghost use Rattle.clay_lanes.specs.Recovered.{IsCoupled, IsUncoupled, HoldsRows, HoldsByte};
+ghost use Rattle.clay_lanes.specs.Recovered.{IsCoupled, IsUncoupled, IsPresent, HoldsColumn, HoldsRows, HoldsByte};
 ghost use Rattle.clay_lanes.specs.Repaired.{IsRepairPlan, column_nodes};
 
 use crate::chunks::BLOCK;
+use crate::column::{add_column, column_room, end_column};
 use crate::coupling::{cross, uncouple};
-use crate::plan::zeros;
+use crate::plan::{is_column_erased, zeros};
 use crate::repair_plan::{RepairPlan, layer_place, make_repair_plan};
 use clay_decode::partner_of;
 use clay_grid::Geometry;
@@ -75,8 +76,9 @@ fn uncouple_other(
     }
 }
 
-/// Writes the uncoupled values of the lost node's column in the bytes from `at` on of layer `z`, a row for each node.
-pub fn solve_column(
+/// Writes the uncoupled values of the lost node's column in the bytes from `at` on of layer `z`, a row for each node, from
+/// one other node after another.
+fn solve_by_nodes(
     g: Geometry,
     parts: &[Option<Vec<u8>>],
     plan: &RepairPlan,
@@ -99,6 +101,136 @@ pub fn solve_column(
             plan.generator.add(node as usize, values, rows);
         }
     }
+}
+
+/// Writes the uncoupled value of a node in the bytes from `at` on of layer `z`; zeros if it stands in the lost node's column.
+fn write_value(
+    g: Geometry,
+    parts: &[Option<Vec<u8>>],
+    plan: &RepairPlan,
+    node: u32,
+    z: u32,
+    at: usize,
+    out: &mut [u8],
+)
+    requires plan { IsRepairPlan g plan.now }
+    requires parts { AreParts g plan.now.lost parts.now }
+    requires node { node < node_count g }
+    requires read { IsReadFor g plan.now.lost z }
+    requires within { at + length out.old ≤ g.width }
+    ensures { IsPresent g (λ word. HasParts g plan.now.lost parts.now word) at (length out.old) plan.now.erased.items node z out.new }
+{
+    if plan.erased[node as usize] {
+        out.fill(0);
+    } else {
+        uncouple_other(g, parts, plan, node, z, at, out);
+    }
+}
+
+/// Writes the uncoupled values of the four nodes of a column in the bytes from `at` on of layer `z`, a row for each.
+fn write_column(
+    g: Geometry,
+    parts: &[Option<Vec<u8>>],
+    plan: &RepairPlan,
+    column: u32,
+    z: u32,
+    at: usize,
+    len: usize,
+    values: &mut [u8],
+)
+    requires plan { IsRepairPlan g plan.now }
+    requires parts { AreParts g plan.now.lost parts.now }
+    requires column { column * 4 + 4 ≤ node_count g }
+    requires read { IsReadFor g plan.now.lost z }
+    requires within { at + len ≤ g.width }
+    requires values_len { length values.old ≡ 4 * len }
+    ensures { HoldsColumn g (λ word. HasParts g plan.now.lost parts.now word) at len plan.now.erased.items column z 4 values.new }
+{
+    for x in 0..4u32 {
+        let from = x as usize * len;
+        let out = &mut values[from..from + len];
+        write_value(g, parts, plan, column * 4 + x, z, at, out);
+    }
+}
+
+/// The same as `solve_by_nodes` where the generator has the factors of columns, with room for the values of one.
+fn solve_by_columns(
+    g: Geometry,
+    parts: &[Option<Vec<u8>>],
+    plan: &RepairPlan,
+    z: u32,
+    at: usize,
+    len: usize,
+    column: &mut [u8],
+    rows: &mut [u8],
+)
+    requires plan { IsRepairPlan g plan.now }
+    requires parts { AreParts g plan.now.lost parts.now }
+    requires read { IsReadFor g plan.now.lost z }
+    requires columns { 0 < length plan.now.generator.columns }
+    requires within { at + len ≤ g.width }
+    requires column_len { length column.old ≡ 4 * len }
+    requires rows_len { length rows.old ≡ row_count g * len }
+    ensures { HoldsRows g (λ word. HasParts g plan.now.lost parts.now word) at len (column_nodes g plan.now.column) z rows.new }
+{
+    let columns = plan.generator.columns();
+    rows.fill(0);
+    for y in 0..g.nodes() / 4 {
+        if !is_column_erased(&plan.erased, y as usize) {
+            write_column(g, parts, plan, y, z, at, len, column);
+            add_column(len, &columns[y as usize], column, rows);
+        }
+    }
+    end_column(len, rows);
+}
+
+/// Writes the uncoupled values of the lost node's column in the bytes from `at` on of layer `z`, a row for each node, with room for the values
+/// of a node and of a column.
+fn solve_block(
+    g: Geometry,
+    parts: &[Option<Vec<u8>>],
+    plan: &RepairPlan,
+    z: u32,
+    at: usize,
+    values: &mut [u8],
+    column: &mut [u8],
+    rows: &mut [u8],
+)
+    requires plan { IsRepairPlan g plan.now }
+    requires parts { AreParts g plan.now.lost parts.now }
+    requires read { IsReadFor g plan.now.lost z }
+    requires within { at + length values.old ≤ g.width }
+    requires rows_len { length rows.old ≡ row_count g * length values.old }
+    ensures { HoldsRows g (λ word. HasParts g plan.now.lost parts.now word) at (length values.old) (column_nodes g plan.now.column) z rows.new }
+{
+    let len = values.len();
+    if plan.generator.columns().is_empty() || len > column.len() / 4 {
+        solve_by_nodes(g, parts, plan, z, at, values, rows);
+    } else {
+        let column = &mut column[..4 * len];
+        solve_by_columns(g, parts, plan, z, at, len, column, rows);
+    }
+}
+
+/// Writes the uncoupled values of the lost node's column in the bytes from `at` on of layer `z`, a row for each node.
+pub fn solve_column(
+    g: Geometry,
+    parts: &[Option<Vec<u8>>],
+    plan: &RepairPlan,
+    z: u32,
+    at: usize,
+    values: &mut [u8],
+    rows: &mut [u8],
+)
+    requires plan { IsRepairPlan g plan.now }
+    requires parts { AreParts g plan.now.lost parts.now }
+    requires read { IsReadFor g plan.now.lost z }
+    requires within { at + length values.old ≤ g.width }
+    requires rows_len { length rows.old ≡ row_count g * length values.old }
+    ensures { HoldsRows g (λ word. HasParts g plan.now.lost parts.now word) at (length values.old) (column_nodes g plan.now.column) z rows.new }
+{
+    let mut column = column_room();
+    solve_block(g, parts, plan, z, at, values, &mut column, rows);
 }
 
 /// Writes the bytes from `at` on of the lost chunk's subchunk in the layer that has the digit `x` of its column and differs from layer `z`
@@ -181,6 +313,7 @@ fn write_layer(
     plan: &RepairPlan,
     z: u32,
     values: &mut [u8],
+    column: &mut [u8],
     rows: &mut [u8],
     chunk: &mut [u8],
 )
@@ -201,18 +334,19 @@ fn write_layer(
     while at < w {
         let len = BLOCK.min(w - at);
         let block = &mut rows[..q * len];
-        solve_column(g, parts, plan, z, at, &mut values[..len], block);
+        solve_block(g, parts, plan, z, at, &mut values[..len], column, block);
         write_block(g, parts, plan, z, at, len, block, chunk);
         at += len;
     }
 }
 
-/// Writes the lost chunk, with room for a block: of one node's values, and of its column's.
+/// Writes the lost chunk, with room for a block: of one node's values, of four nodes', and of its column's.
 fn write_chunk(
     g: Geometry,
     parts: &[Option<Vec<u8>>],
     plan: &RepairPlan,
     values: &mut [u8],
+    column: &mut [u8],
     rows: &mut [u8],
     chunk: &mut [u8],
 )
@@ -224,7 +358,7 @@ fn write_chunk(
     ensures { IsRebuilt g plan.now.lost parts.now chunk.new }
 {
     for z in &plan.layers {
-        write_layer(g, parts, plan, *z, values, rows, chunk);
+        write_layer(g, parts, plan, *z, values, column, rows, chunk);
     }
 }
 
@@ -244,8 +378,17 @@ pub fn rebuild(
     let plan = make_repair_plan(alloc, g, lost)?;
     let len = BLOCK.min(g.w() as usize);
     let mut values = zeros(alloc, len)?;
+    let mut column = zeros(alloc, 4 * len)?;
     let mut rows = zeros(alloc, g.q() as usize * len)?;
     let mut chunk = zeros(alloc, g.alpha() as usize * g.w() as usize)?;
-    write_chunk(g, parts, &plan, &mut values, &mut rows, &mut chunk);
+    write_chunk(
+        g,
+        parts,
+        &plan,
+        &mut values,
+        &mut column,
+        &mut rows,
+        &mut chunk,
+    );
     Ok(chunk)
 }

@@ -1,4 +1,3 @@
-use Rattle.clay_lanes.proofs.ColumnLaws.{two_sums}
 use Rattle.std.proofs.Common.{◌≡◌, ℕ, ◌+◌, ◌*◌, ◌<◌, ◌++◌, length, get_or, refl, subst, sym, ap, ◌∙◌, arith}
 use Rattle.clay_lanes.specs.Columns.{EndsColumn}
 use Rattle.clay_lanes.proofs.ColumnLemmas.{ended_rows, have_joined}

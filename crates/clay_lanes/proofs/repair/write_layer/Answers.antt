@@ -16,7 +16,7 @@ write_block-requires-clause-rows c =
     let width = c.w-w.ensures.value in
     let size : len ≡ min 4096 (g.width - at) = c.min-len.ensures ∙ ap (λ w. min 4096 (w - at)) width in
     let fit : length (take len c.loop-at.values) ≡ len = length-take-le len c.loop-at.values (omega (arith, size, c.loop-at.auto.values, c.requires.values_len)) in
-    subst (λ l. HoldsRows g (λ word. HasParts g plan.lost c.args.parts.now word) at l (column_nodes g plan.column) c.args.z c.solve_column.new.rows) fit c.solve_column.ensures
+    subst (λ l. HoldsRows g (λ word. HasParts g plan.lost c.args.parts.now word) at l (column_nodes g plan.column) c.args.z c.solve_block.new.rows) fit c.solve_block.ensures
 
 pub loop-at-preserved : goal.loop-at-preserved
 loop-at-preserved c =

@@ -5,8 +5,8 @@ use Rattle.clay_encode.proofs.Parts.{piece_fits}
 use Rattle.clay_decode.specs.Left.{Completes}
 use Rattle.clay_lanes.specs.Recovered.{IsUncoupled}
 use Rattle.clay_lanes.proofs.Recovery.{HoldsSums, sums_more, sums_skipped, rows_of_sums}
-use Rattle.clay_lanes.proofs.layers.solve_layer.Goals as goal
-use Rattle.clay_lanes.proofs.layers.solve_layer.Goals.{then-not-index, else-not-index}
+use Rattle.clay_lanes.proofs.layers.solve_by_nodes.Goals as goal
+use Rattle.clay_lanes.proofs.layers.solve_by_nodes.Goals.{then-not-index, else-not-index}
 
 pub add-requires-clause-node : goal.add-requires-clause-node
 add-requires-clause-node c =

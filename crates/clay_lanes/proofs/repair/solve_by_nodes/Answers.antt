@@ -10,8 +10,8 @@ use Rattle.clay_repair.proofs.Column.{node_inside}
 use Rattle.clay_repair.proofs.Rows.{column_below}
 use Rattle.clay_lanes.proofs.RepairLemmas.{length-column_nodes, column_points_are}
 use Rattle.clay_lanes.proofs.Recovery.{HoldsSums, sums_more, sums_skipped, rows_of_sums}
-use Rattle.clay_lanes.proofs.repair.solve_column.Goals as goal
-use Rattle.clay_lanes.proofs.repair.solve_column.Goals.{then-not-index, else-not-index}
+use Rattle.clay_lanes.proofs.repair.solve_by_nodes.Goals as goal
+use Rattle.clay_lanes.proofs.repair.solve_by_nodes.Goals.{then-not-index, else-not-index}
 
 pub add-requires-clause-node : goal.add-requires-clause-node
 add-requires-clause-node c =

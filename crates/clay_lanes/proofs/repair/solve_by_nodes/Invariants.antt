@@ -2,7 +2,7 @@ use Rattle.std.proofs.Common.{length}
 use Rattle.clay_repair.specs.Parts.{HasParts}
 use Rattle.clay_lanes.specs.Repaired.{column_nodes}
 use Rattle.clay_lanes.proofs.Recovery.{HoldsSums}
-use Rattle.clay_lanes.proofs.repair.solve_column.Given as goal
+use Rattle.clay_lanes.proofs.repair.solve_by_nodes.Given as goal
 
 abbrev pub invariant-loop-node : goal.invariant-loop-node
 invariant-loop-node l =

@@ -1,7 +1,7 @@
 use Rattle.std.proofs.Common.{length}
 use Rattle.clay_decode.specs.Left.{Completes}
 use Rattle.clay_lanes.proofs.Recovery.{HoldsSums}
-use Rattle.clay_lanes.proofs.layers.solve_layer.Given as goal
+use Rattle.clay_lanes.proofs.layers.solve_by_nodes.Given as goal
 
 abbrev pub invariant-loop-node : goal.invariant-loop-node
 invariant-loop-node l =

@@ -1,0 +1,24 @@
+use Rattle.std.proofs.Common.{◌≡◌, ℕ, ◌+◌, ◌-◌, ◌*◌, ◌<◌, List, length, take, drop, subst, ◌∙◌, arith}
+use Rattle.std.proofs.lemmas.List.Edits.{length-between}
+use Rattle.clay_encode.proofs.Parts.{piece_fits}
+use Rattle.clay_repair.specs.Parts.{HasParts}
+use Rattle.clay_lanes.specs.Recovered.{IsPresent}
+use Rattle.clay_lanes.proofs.ColumnRows.{one_more_value}
+use Rattle.clay_lanes.proofs.repair.write_column.Goals as goal
+
+pub loop-x-preserved : goal.loop-x-preserved
+loop-x-preserved c =
+    let g = c.args.g in
+    let plan = c.args.plan.now in
+    let fits : List (List ℕ) → Type 0 = λ word. HasParts g plan.lost c.args.parts.now word in
+    let len : ℕ = c.args.len in
+    let x = c.loop-x.x in
+    let values = c.loop-x.values in
+    let out = c.write_value.new.out in
+    let long : length values ≡ 4 * len = c.loop-x.auto.values ∙ c.requires.values_len in
+    let fit = piece_fits x 4 len c.loop-x-test.true in
+    let width : x * len + len - x * len ≡ len = omega arith in
+    let part : length (take (x * len + len - x * len) (drop (x * len) values)) ≡ len = length-between values (x * len) (x * len + len) (omega arith) ∙ width in
+    let new : IsPresent g fits c.args.at len plan.erased.items (c.args.column * 4 + x) c.args.z out =
+    subst (λ n. IsPresent g fits c.args.at n plan.erased.items (c.args.column * 4 + x) c.args.z out) part c.write_value.ensures in
+    one_more_value g fits c.args.at len plan.erased.items c.args.column c.args.z x (x * len + len - x * len) values out (omega arith) (c.write_value.auto.out ∙ part) c.loop-x.invariant new
