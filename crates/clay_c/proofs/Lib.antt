@@ -1,0 +1,4 @@
+pub mod Placing
+pub mod Waiting
+pub mod Taking
+pub mod Recovering

@@ -1,0 +1,97 @@
+-- What was taken out of a caller's bytes.
+use Rattle.std.proofs.Common.{◌≡◌, ◌≢◌, ℕ, suc, ◌+◌, ◌<◌, Bool, true, false, cond, eqb, List, [], ◌∷◌, ◌++◌, map, length, get_or, count_by, filter, Option, Some, None, is_none, IfSome, Vec, Global, refl, sym, ap, ◌∙◌, arith}
+use Rattle.std.specs.Option.{option_map}
+use Rattle.std.specs.List.{range_with_len}
+use Rattle.std.proofs.lemmas.Bool.{eq-eqb, ne_eqb}
+use Rattle.std.proofs.lemmas.List.{map_push, length-map}
+use Rattle.std.proofs.lemmas.List.FromFn.{length-map-range_with_len, get_or-map-range_with_len, map-range_with_len_more}
+use Rattle.std.proofs.lemmas.List.Elements.{All-push}
+use Rattle.std.proofs.lemmas.List.Sums.{length-filter}
+use Rattle.std.proofs.Math.ListN.{get_or-map}
+use Rattle.clay_grid.specs.Shape.{Shape, chunk_count, chunk_length}
+use Rattle.clay_decode.specs.Left.{parts, AreLong}
+use Rattle.clay_repair.specs.Parts.{AreParts, part_length}
+use Rattle.clay_c.specs.Pieces.{piece_at}
+use Rattle.clay_c.specs.Calls.{lost_count, left_of, place_among_others, parts_of}
+
+abbrev items : Option (Vec ℕ Global) → Option (List ℕ)
+items o = option_map (λ (v : Vec ℕ Global). v.items) o
+
+-- one more is taken
+pub parts_more : (f : ℕ → Option (List ℕ)) (have : List (Option (Vec ℕ Global))) (o : Option (Vec ℕ Global)) (c : ℕ) → items o ≡ f c
+    → parts have ≡ map f (range_with_len 0 c) → parts (have ++ o ∷ []) ≡ map f (range_with_len 0 (c + 1))
+parts_more f have o c is before =
+    map_push items have o ∙ (λ i. before i ++ is i ∷ []) ∙ sym (map-range_with_len_more f 0 c c (omega arith))
+
+pub long_more : (n : ℕ) (have : List (Option (Vec ℕ Global))) (o : Option (Vec ℕ Global)) → AreLong n have → IfSome o (λ v. length v.items ≡ n) → AreLong n (have ++ o ∷ [])
+long_more n have o each new = All-push (λ p. IfSome p (λ v. length v.items ≡ n)) have o each new
+
+-- as many as were taken
+pub length_of : (f : ℕ → Option (List ℕ)) (have : List (Option (Vec ℕ Global))) (n : ℕ) → parts have ≡ map f (range_with_len 0 n) → length have ≡ n
+length_of f have n is = sym (length-map have items) ∙ ap length is ∙ length-map-range_with_len f 0 n
+
+entry : (f : ℕ → Option (List ℕ)) (have : List (Option (Vec ℕ Global))) (n c : ℕ) → parts have ≡ map f (range_with_len 0 n) → c < n → items (get_or have c None) ≡ f c
+entry f have n c is h = sym (get_or-map items have c None) ∙ ap (λ l. get_or l c None) is ∙ get_or-map-range_with_len f 0 n c c None h (omega arith)
+
+none_items : (o : Option (Vec ℕ Global)) → is_none (items o) ≡ is_none o
+none_items None = refl
+none_items (Some v) = refl
+
+none_cond : (b : Bool) (l : List ℕ) → is_none (cond b None (Some l)) ≡ b
+none_cond true l = refl
+none_cond false l = refl
+
+none_of : (o : Option (Vec ℕ Global)) → is_none o ≡ true → o ≡ None
+none_of None h = refl
+none_of (Some v) h = cc
+
+-- which are none
+pub gone : (test : ℕ → Bool) (piece : ℕ → List ℕ) (have : List (Option (Vec ℕ Global))) (n c : ℕ) → parts have ≡ map (λ k. cond (test k) None (Some (piece k))) (range_with_len 0 n)
+    → c < n → is_none (get_or have c None) ≡ test c
+gone test piece have n c is h =
+    sym (none_items (get_or have c None)) ∙ ap is_none (entry (λ k. cond (test k) None (Some (piece k))) have n c is h) ∙ none_cond (test c) (piece c)
+
+longer : (b : Bool) (o : Option (Vec ℕ Global)) (os : List (Option (Vec ℕ Global))) (p : ℕ) (ps : List ℕ) → length os ≡ length ps → length (cond b (o ∷ os) os) ≡ length (cond b (p ∷ ps) ps)
+longer true o os p ps same = ap suc same
+longer false o os p ps same = same
+
+same_length : (have : List (Option (Vec ℕ Global))) (present : List ℕ) → length have ≡ length present
+    → ((c : ℕ) → c < length have → is_none (get_or have c None) ≡ eqb (get_or present c 0) 0) → length (filter is_none have) ≡ length (filter (λ mark. eqb mark 0) present)
+same_length [] [] long same = refl
+same_length [] (p ∷ ps) long same = absurd (omega (arith, long))
+same_length (o ∷ os) [] long same = absurd (omega (arith, long))
+same_length (o ∷ os) (p ∷ ps) long same =
+    ap (λ b. length (cond b (o ∷ filter is_none os) (filter is_none os))) (same 0 (omega arith))
+    ∙ longer (eqb p 0) o (filter is_none os) p (filter (λ mark. eqb mark 0) ps) (same_length os ps (omega (arith, long)) (λ c h. same (suc c) (omega (arith, h))))
+
+-- as many chunks are missing as have the mark 0
+pub same_count : (have : List (Option (Vec ℕ Global))) (present : List ℕ) → length have ≡ length present
+    → ((c : ℕ) → c < length have → is_none (get_or have c None) ≡ eqb (get_or present c 0) 0) → count_by is_none have ≡ lost_count present
+same_count have present long same =
+    sym (length-filter is_none have) ∙ same_length have present long same ∙ length-filter (λ mark. eqb mark 0) present
+
+-- which chunks are gone of those that were taken
+pub gone_left : (g : Shape) (present chunks : List ℕ) (have : List (Option (Vec ℕ Global))) (c : ℕ) → parts have ≡ left_of g present chunks → c < chunk_count g → is_none (get_or have c None) ≡ eqb (get_or present c 0) 0
+gone_left g present chunks have c is h = gone (λ k. eqb (get_or present k 0) 0) (λ k. piece_at (chunk_length g) chunks k) have (chunk_count g) c is h
+
+pub length_left : (g : Shape) (present chunks : List ℕ) (have : List (Option (Vec ℕ Global))) → parts have ≡ left_of g present chunks → length have ≡ chunk_count g
+length_left g present chunks have is = length_of (λ k. cond (eqb (get_or present k 0) 0) None (Some (piece_at (chunk_length g) chunks k))) have (chunk_count g) is
+
+-- what is left of the chunks
+pub left_at : (g : Shape) (present chunks : List ℕ) (c : ℕ) → c < chunk_count g → get_or present c 0 ≢ 0 → get_or (left_of g present chunks) c None ≡ Some (piece_at (chunk_length g) chunks c)
+left_at g present chunks c h there =
+    let f : ℕ → Option (List ℕ) = λ k. cond (eqb (get_or present k 0) 0) None (Some (piece_at (chunk_length g) chunks k)) in
+    get_or-map-range_with_len f 0 (chunk_count g) c c None h (omega arith)
+    ∙ ap (λ b. cond b None (Some (piece_at (chunk_length g) chunks c))) (ne_eqb (get_or present c 0) 0 there)
+
+pub are_parts : (g : Shape) (lost : ℕ) (bytes : List ℕ) (have : List (Option (Vec ℕ Global))) → lost < chunk_count g → parts have ≡ parts_of g lost bytes → AreLong (part_length g) have → AreParts g lost have
+are_parts g lost bytes have inside is long =
+    let piece : ℕ → List ℕ = λ c. piece_at (part_length g) bytes (place_among_others lost c) in
+    let test : ℕ → Bool = λ c. eqb c lost in
+    record {
+      chunk = inside;
+      count = length_of (λ c. cond (test c) None (Some (piece c))) have (chunk_count g) is;
+      none = none_of (get_or have lost None) (gone test piece have (chunk_count g) lost is inside ∙ eq-eqb lost lost refl);
+      others = λ c h other. gone test piece have (chunk_count g) c is h ∙ ne_eqb c lost other;
+      lengths = long;
+    }

@@ -1,0 +1,26 @@
+-- How a call from C ends.
+use Rattle.std.specs.Prelude.{ℕ}
+
+-- what was asked is done
+abbrev pub done : ℕ
+done = 0
+
+-- no code has these numbers
+abbrev pub bad_geometry : ℕ
+bad_geometry = 1
+
+-- a buffer has another length than the code asks
+abbrev pub bad_length : ℕ
+bad_length = 2
+
+-- no chunk has this number
+abbrev pub bad_chunk : ℕ
+bad_chunk = 3
+
+-- more chunks are missing than there are parity chunks
+abbrev pub too_few : ℕ
+too_few = 4
+
+-- memory is wanting
+abbrev pub out_of_memory : ℕ
+out_of_memory = 5
