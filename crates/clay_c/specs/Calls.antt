@@ -10,14 +10,14 @@ use Rattle.clay_c.specs.declared.ClayNumbers.{ClayNumbers}
 
 -- the numbers of a code
 pub record HasNumbers (g : Shape) (numbers : ClayNumbers) : Type 0 where
-  pub all_chunks : numbers.chunks ≡ chunk_count g
-  pub grid_rows : numbers.rows ≡ row_count g
-  pub grid_columns : numbers.columns ≡ column_count g
-  pub without_chunk : numbers.virtual_nodes ≡ virtual_count g
-  pub all_layers : numbers.layers ≡ layer_count g
-  pub chunk : numbers.chunk_len ≡ chunk_length g
-  pub stripe : numbers.stripe_len ≡ stripe_length g
-  pub part : numbers.part_len ≡ part_length g
+  pub chunks : numbers.chunks ≡ chunk_count g
+  pub rows : numbers.rows ≡ row_count g
+  pub columns : numbers.columns ≡ column_count g
+  pub virtual_nodes : numbers.virtual_nodes ≡ virtual_count g
+  pub layers : numbers.layers ≡ layer_count g
+  pub chunk_len : numbers.chunk_len ≡ chunk_length g
+  pub stripe_len : numbers.stripe_len ≡ stripe_length g
+  pub part_len : numbers.part_len ≡ part_length g
 
 -- room for the repair layers
 abbrev pub LayersFit : Shape → List ℕ → Type 0

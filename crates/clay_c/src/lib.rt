@@ -21,17 +21,24 @@ use crate::status::{BAD_CHUNK, BAD_GEOMETRY, BAD_LENGTH, DONE, OUT_OF_MEMORY, TO
 use clay_grid::Geometry;
 use std::alloc::Global;
 
-/// The numbers of a code, as C sees them.
+/// The numbers of a code, as C sees them. Lengths are in bytes.
 #[repr(C)]
 #[derive(Clone, Copy, Debug, PartialEq, Eq)]
 pub struct ClayNumbers {
+    /// Data chunks and parity chunks.
     pub chunks: u32,
+    /// The rows of the grid of nodes.
     pub rows: u32,
+    /// The columns of the grid.
     pub columns: u32,
+    /// Nodes that no chunk stands for.
     pub virtual_nodes: u32,
+    /// The layers, and so the subchunks of a chunk.
     pub layers: u32,
     pub chunk_len: u32,
+    /// The data chunks alone.
     pub stripe_len: u32,
+    /// What a rebuild reads of each other chunk.
     pub part_len: u32,
 }
 
@@ -42,9 +49,9 @@ fn geometry(k: u32, m: u32, w: u32) -> Option<Geometry>
     Geometry::new(k, m, w).ok()
 }
 
-/// Writes the numbers of the code of `k` data chunks, `m` parity chunks and subchunks of `w` bytes.
+/// Writes the numbers of the code of `k` data chunks, `m` parity chunks and subchunks of `w` bytes, or ends with `BAD_GEOMETRY`.
 #[unsafe(no_mangle)]
-pub extern "C" fn clay_numbers(k: u32, m: u32, w: u32, numbers: &mut ClayNumbers) -> u32
+pub extern "C" fn clay_geometry(k: u32, m: u32, w: u32, numbers: &mut ClayNumbers) -> u32
     ensures geometry { (result ≡ bad_geometry) ↔ (IsGeometry (shape_of k m w) → ⊥) }
     ensures other { result ≢ bad_geometry → result ≡ done }
     ensures numbers { result ≡ done → HasNumbers (shape_of k m w) numbers.new }
@@ -66,7 +73,9 @@ pub extern "C" fn clay_numbers(k: u32, m: u32, w: u32, numbers: &mut ClayNumbers
     DONE
 }
 
-/// Writes the layers whose subchunks a rebuild of a lost chunk reads, rising.
+/// Writes the layers whose subchunks a rebuild of a lost chunk reads, rising. `layers` has room for just them, the `m`th part of all.
+///
+/// Ends with `BAD_GEOMETRY`, `BAD_CHUNK`, `BAD_LENGTH` or `OUT_OF_MEMORY` otherwise, tested in this order.
 #[unsafe(no_mangle)]
 pub extern "C" fn clay_repair_layers(
     alloc: Global,
@@ -99,7 +108,9 @@ pub extern "C" fn clay_repair_layers(
     DONE
 }
 
-/// Writes the parity chunks of a stripe, one behind another.
+/// Writes the parity chunks of a stripe, one behind another: `stripe` has the bytes of the data chunks, `parity` those of the parity chunks.
+///
+/// Ends with `BAD_GEOMETRY`, `BAD_LENGTH` or `OUT_OF_MEMORY` otherwise, tested in this order.
 #[unsafe(no_mangle)]
 pub extern "C" fn clay_parity(
     alloc: Global,
@@ -129,7 +140,10 @@ pub extern "C" fn clay_parity(
     }
 }
 
-/// Writes the missing ones of all chunks, which stand one behind another. `present` has a byte for each chunk, 0 where it is missing.
+/// Writes the missing ones of all chunks, which stand one behind another, and leaves the others as they are. `present` has a byte for each
+/// chunk, 0 where it is missing.
+///
+/// Ends with `BAD_GEOMETRY`, `BAD_LENGTH`, `TOO_FEW` or `OUT_OF_MEMORY` otherwise, tested in this order.
 #[unsafe(no_mangle)]
 pub extern "C" fn clay_recover(
     alloc: Global,
@@ -161,7 +175,10 @@ pub extern "C" fn clay_recover(
     }
 }
 
-/// Writes the lost chunk, from the parts of the others by rising number, one behind another.
+/// Writes the lost chunk, from the parts of the others by rising number, one behind another. A part has the chunk's subchunks of the repair
+/// layers.
+///
+/// Ends with `BAD_GEOMETRY`, `BAD_CHUNK`, `BAD_LENGTH` or `OUT_OF_MEMORY` otherwise, tested in this order.
 #[unsafe(no_mangle)]
 pub extern "C" fn clay_rebuild(
     alloc: Global,
