@@ -1,0 +1,441 @@
+// The library for C beside Ceph's plugin clay (over ISA-L) and ISA-L's Reed-Solomon code, in one process and thread; bench/code builds and
+// runs it.
+//
+// What is timed: the processor time of this thread, by slices of time that alternate between the coders, several rounds of them. Of a slice
+// the median of its calls counts, and ratios are those of the same round, so that a loaded machine harms them little. Each operation is
+// compared once, byte by byte, before it is timed. GB/s are 10^9 bytes a second: of the data for encoding and decoding, of the lost chunk
+// for repair.
+//
+// - Ceph: a call of the plugin on buffers that are there. It hands present chunks on without a copy, and takes new ones for what it makes.
+// - ISA-L: a call on buffers that are there; the matrix of a decoding and its tables are made anew in each, as for new losses.
+// - "call" is a whole call of libclay_c.a. Its buffers are the caller's: it copies the chunks or parts that it reads into memory of its own,
+//   and what it makes out of that.
+// - "coding" is that call less the same copies, which are timed by themselves in the same round, since Ceph's call has none of them.
+#include <algorithm>
+#include <cstdio>
+#include <cstdlib>
+#include <cstring>
+#include <ctime>
+#include <functional>
+#include <iostream>
+#include <random>
+#include <sstream>
+#include <string>
+#include <vector>
+#include <dlfcn.h>
+#include <malloc.h>
+
+#include "ceph_plugin.h"
+#include <clay.h>
+#include <isa-l.h>
+#include <rados/librados.h>
+
+using std::function;
+using std::make_shared;
+using std::set;
+using std::shared_ptr;
+using std::string;
+using std::vector;
+using Bytes = vector<uint8_t>;
+
+[[noreturn]] static void end_with(const string &message) {
+  std::cerr << "code_peers: " << message << "\n";
+  exit(1);
+}
+
+static void expect(bool holds, const string &what) {
+  if (!holds) end_with(what);
+}
+
+// ---- Codes
+
+// A code, and the losses that are decoded: the chunks of the first column, and as many in several columns.
+struct Code {
+  uint32_t k, m, w;
+  clay_numbers numbers;
+  set<int> column, spread;
+
+  size_t chunk_len() const { return numbers.chunk_len; }
+  size_t stripe_len() const { return numbers.stripe_len; }
+};
+
+static Code code_of(uint32_t k, uint32_t m, uint32_t w) {
+  Code code{k, m, w, {}, {}, {}};
+  expect(clay_geometry(k, m, w, &code.numbers) == CLAY_DONE, "no code has these numbers");
+  for (uint32_t e = 0; e < m; e++) {
+    code.column.insert(e);
+    uint32_t data = e * (m + 1);
+    code.spread.insert(data < k ? data : k + e);
+  }
+  return code;
+}
+
+static Bytes random_bytes(size_t count) {
+  Bytes bytes(count);
+  std::mt19937 random(12345);
+  for (auto &byte : bytes) byte = random();
+  return bytes;
+}
+
+// ---- Measuring
+
+static const char *const kinds[] = {"encode", "decode, a column", "decode, spread", "repair of one"};
+
+// What one coder does in a call, and the seconds of a call in each round.
+struct Operation {
+  string coder, what;
+  double bytes;
+  function<void()> call;
+  vector<double> seconds;
+};
+
+static double median(vector<double> values) {
+  std::sort(values.begin(), values.end());
+  size_t half = values.size() / 2;
+  return values.size() % 2 ? values[half] : (values[half - 1] + values[half]) / 2;
+}
+
+static double thread_seconds() {
+  timespec time;
+  clock_gettime(CLOCK_THREAD_CPUTIME_ID, &time);
+  return time.tv_sec + time.tv_nsec * 1e-9;
+}
+
+// ISA-L's functions, Ceph's plugin among their callers, return with the upper halves of the vector registers in use. Code that has only
+// the lower halves then runs at less than half its speed until they are cleared.
+static void clear_upper_halves() {
+#ifdef __x86_64__
+  if (__builtin_cpu_supports("avx")) asm volatile("vzeroupper" ::: "memory");
+#endif
+}
+
+static double seconds_of_call(const function<void()> &call, double slice) {
+  clear_upper_halves();
+  vector<double> seconds;
+  double begun = thread_seconds();
+  do {
+    double before = thread_seconds();
+    call();
+    seconds.push_back(thread_seconds() - before);
+  } while (thread_seconds() - begun < slice);
+  return median(seconds);
+}
+
+// Slices of the same kind follow each other, so that the coders are compared over as short a time as can be.
+static void measure(vector<Operation> &operations, int rounds, double slice) {
+  for (int round = 0; round < rounds; round++)
+    for (const string kind : kinds)
+      for (auto &operation : operations)
+        if (operation.what == kind) operation.seconds.push_back(seconds_of_call(operation.call, slice));
+}
+
+// ---- Ceph
+
+namespace ceph {
+ErasureCodePluginRegistry ErasureCodePluginRegistry::singleton;
+
+int ErasureCodePluginRegistry::add(const string &name, ErasureCodePlugin *plugin) {
+  return plugins.emplace(name, plugin).second ? 0 : -EEXIST;
+}
+
+int ErasureCodePluginRegistry::factory(const string &name, const string &directory, ErasureCodeProfile &profile,
+                                       ErasureCodeInterfaceRef *made, std::ostream *error) {
+  if (!plugins.count(name)) {
+    string path = directory + "/libec_" + name + ".so", own_name = name, own_directory = directory;
+    void *library = dlopen(path.c_str(), RTLD_NOW);
+    expect(library, path + " can't be loaded");
+    auto start = (int (*)(char *, char *))dlsym(library, "__erasure_code_init");
+    expect(start && start(&own_name[0], &own_directory[0]) == 0, path + " can't be started");
+  }
+  return plugins.at(name)->factory(directory, profile, made, error);
+}
+
+namespace common {
+class CephContext;
+}
+namespace global {
+extern common::CephContext *g_ceph_context;
+}
+} // namespace ceph
+
+static void start_ceph() {
+  rados_t cluster;
+  expect(rados_create(&cluster, nullptr) == 0, "Ceph's library can't be started");
+  ceph::global::g_ceph_context = (ceph::common::CephContext *)rados_cct(cluster);
+}
+
+// The plugin for a code, with a stripe and its chunks. Subchunks of fewer than 32 bytes it codes as of 32, and so is its stripe longer.
+struct CephCode {
+  ceph::ErasureCodeInterfaceRef plugin;
+  ceph::bufferlist stripe;
+  ceph::Chunks chunks;
+  set<int> all;
+  unsigned chunk_len;
+
+  CephCode(const Code &code, const string &directory) {
+    ceph::ErasureCodeProfile profile = {{"plugin", "clay"}, {"scalar_mds", "isa"}, {"k", std::to_string(code.k)},
+                                        {"m", std::to_string(code.m)}, {"d", std::to_string(code.numbers.chunks - 1)}};
+    std::ostringstream error;
+    int status = ceph::ErasureCodePluginRegistry::singleton.factory("clay", directory, profile, &plugin, &error);
+    expect(status == 0 && plugin, "Ceph's plugin clay: " + error.str());
+    chunk_len = plugin->get_chunk_size(code.stripe_len());
+    Bytes bytes = random_bytes(size_t(code.k) * chunk_len);
+    ceph::bufferptr buffer(ceph::buffer::create_aligned(bytes.size(), 4096));
+    memcpy(buffer.c_str(), bytes.data(), bytes.size());
+    stripe.append(buffer);
+    for (uint32_t c = 0; c < code.numbers.chunks; c++) all.insert(c);
+    expect(plugin->encode(all, stripe, &chunks) == 0, "Ceph's encode");
+  }
+
+  ceph::Chunks left(const set<int> &lost) const {
+    ceph::Chunks left = chunks;
+    for (int c : lost) left.erase(c);
+    return left;
+  }
+
+  // of each other chunk the subchunks from which chunk 0 is repaired
+  ceph::Chunks helpers() {
+    set<int> available = all;
+    available.erase(0);
+    ceph::SubChunks runs;
+    expect(plugin->minimum_to_decode({0}, available, &runs) == 0, "Ceph's minimum_to_decode");
+    unsigned subchunk = chunk_len / plugin->get_sub_chunk_count();
+    ceph::Chunks helpers;
+    for (auto &of_chunk : runs) {
+      string part;
+      for (auto &run : of_chunk.second)
+        part.append(chunks[of_chunk.first].c_str() + size_t(run.first) * subchunk, size_t(run.second) * subchunk);
+      ceph::bufferptr buffer(ceph::buffer::create_aligned(part.size(), 4096));
+      memcpy(buffer.c_str(), part.data(), part.size());
+      helpers[of_chunk.first].append(buffer);
+    }
+    return helpers;
+  }
+};
+
+static void add_ceph_decode(vector<Operation> &operations, shared_ptr<CephCode> ceph, const string &what, const set<int> &lost,
+                            const ceph::Chunks &from, int chunk_len, double bytes) {
+  auto decode = [=](ceph::Chunks &made) { expect(ceph->plugin->decode(lost, from, &made, chunk_len) == 0, "Ceph's " + what); };
+  ceph::Chunks made;
+  decode(made);
+  for (int c : lost) expect(made[c].contents_equal(ceph->chunks[c]), "Ceph's " + what + " is wrong");
+  operations.push_back({"Ceph clay(isa)", what, bytes, [=] {
+                          ceph::Chunks made;
+                          decode(made);
+                        }, {}});
+}
+
+static void add_ceph(vector<Operation> &operations, const Code &code, const string &directory) {
+  auto ceph = make_shared<CephCode>(code, directory);
+  double bytes = double(code.k) * ceph->chunk_len;
+  operations.push_back({"Ceph clay(isa)", "encode", bytes, [=] {
+                          ceph::Chunks made;
+                          expect(ceph->plugin->encode(ceph->all, ceph->stripe, &made) == 0, "Ceph's encode");
+                        }, {}});
+  add_ceph_decode(operations, ceph, "decode, a column", code.column, ceph->left(code.column), 0, bytes);
+  add_ceph_decode(operations, ceph, "decode, spread", code.spread, ceph->left(code.spread), 0, bytes);
+  add_ceph_decode(operations, ceph, "repair of one", {0}, ceph->helpers(), ceph->chunk_len, ceph->chunk_len);
+}
+
+// ---- ISA-L
+
+// Reed-Solomon chunks of the same lengths, and room for those that are decoded.
+struct IsalCode {
+  int k, n;
+  size_t len;
+  vector<Bytes> chunks, decoded;
+  Bytes matrix, tables;
+
+  explicit IsalCode(const Code &code) : k(code.k), n(code.numbers.chunks), len(code.chunk_len()), matrix(n * k), tables(32 * k * (n - k)) {
+    for (int c = 0; c < n; c++) chunks.push_back(random_bytes(len + c));
+    decoded.resize(n - k, Bytes(len));
+    gf_gen_cauchy1_matrix(matrix.data(), n, k);
+    ec_init_tables(k, n - k, &matrix[k * k], tables.data());
+    encode();
+  }
+
+  static vector<uint8_t *> pointers(vector<Bytes> &all) {
+    vector<uint8_t *> pointers;
+    for (auto &bytes : all) pointers.push_back(bytes.data());
+    return pointers;
+  }
+
+  void encode() {
+    auto all = pointers(chunks);
+    ec_encode_data(len, k, n - k, tables.data(), all.data(), all.data() + k);
+  }
+
+  // the row by which a lost chunk is made of the first k that are left, whose rows have this inverse
+  Bytes row_of(int lost, const Bytes &inverse) const {
+    Bytes row(k, 0);
+    for (int i = 0; i < k; i++)
+      for (int j = 0; j < k; j++) row[i] ^= gf_mul(inverse[j * k + i], matrix[lost * k + j]);
+    return row;
+  }
+
+  void decode(const set<int> &lost) {
+    vector<uint8_t *> from, to = pointers(decoded);
+    Bytes rows, inverse(k * k), lost_rows, lost_tables(32 * k * lost.size());
+    for (int c = 0; c < n && int(from.size()) < k; c++) {
+      if (lost.count(c)) continue;
+      from.push_back(chunks[c].data());
+      rows.insert(rows.end(), &matrix[c * k], &matrix[c * k] + k);
+    }
+    expect(gf_invert_matrix(rows.data(), inverse.data(), k) == 0, "ISA-L's matrix is singular");
+    for (int c : lost) {
+      Bytes row = row_of(c, inverse);
+      lost_rows.insert(lost_rows.end(), row.begin(), row.end());
+    }
+    ec_init_tables(k, lost.size(), lost_rows.data(), lost_tables.data());
+    ec_encode_data(len, k, lost.size(), lost_tables.data(), from.data(), to.data());
+  }
+
+  void check(const set<int> &lost) {
+    decode(lost);
+    int place = 0;
+    for (int c : lost) expect(memcmp(decoded[place++].data(), chunks[c].data(), len) == 0, "ISA-L's decoding is wrong");
+  }
+};
+
+static void add_isal(vector<Operation> &operations, const Code &code) {
+  auto isal = make_shared<IsalCode>(code);
+  double bytes = code.stripe_len();
+  const string name = "ISA-L RS";
+  for (auto &lost : {code.column, code.spread, set<int>{0}}) isal->check(lost);
+  operations.push_back({name, "encode", bytes, [=] { isal->encode(); }, {}});
+  operations.push_back({name, "decode, a column", bytes, [=] { isal->decode(code.column); }, {}});
+  operations.push_back({name, "decode, spread", bytes, [=] { isal->decode(code.spread); }, {}});
+  operations.push_back({name, "repair of one", double(code.chunk_len()), [=] { isal->decode({0}); }, {}});
+}
+
+// ---- Ours
+
+// The chunks of a stripe one behind another, the parts of all but chunk 0, and room for calls.
+struct OurCode {
+  Code code;
+  Bytes chunks, wanted, parts, rebuilt;
+
+  explicit OurCode(const Code &code) : code(code), chunks(random_bytes(code.numbers.chunks * code.chunk_len())), rebuilt(code.chunk_len()) {
+    encode();
+    wanted = chunks;
+    vector<uint32_t> layers(code.numbers.layers / code.m);
+    expect(clay_repair_layers(code.k, code.m, code.w, 0, layers.data(), layers.size()) == CLAY_DONE, "clay_repair_layers");
+    for (uint32_t c = 1; c < code.numbers.chunks; c++)
+      for (uint32_t layer : layers) {
+        const uint8_t *from = &chunks[c * code.chunk_len() + size_t(layer) * code.w];
+        parts.insert(parts.end(), from, from + code.w);
+      }
+  }
+
+  void encode() {
+    size_t data = code.stripe_len();
+    expect(clay_parity(code.k, code.m, code.w, chunks.data(), data, &chunks[data], chunks.size() - data) == CLAY_DONE, "clay_parity");
+  }
+
+  void decode(const set<int> &lost) {
+    Bytes present(code.numbers.chunks, 1);
+    for (int c : lost) present[c] = 0;
+    expect(clay_recover(code.k, code.m, code.w, present.data(), present.size(), chunks.data(), chunks.size()) == CLAY_DONE, "clay_recover");
+  }
+
+  void repair() {
+    expect(clay_rebuild(code.k, code.m, code.w, 0, parts.data(), parts.size(), rebuilt.data(), rebuilt.size()) == CLAY_DONE, "clay_rebuild");
+  }
+
+  void check() {
+    for (auto &lost : {code.column, code.spread}) {
+      for (int c : lost) memset(&chunks[c * code.chunk_len()], 0, code.chunk_len());
+      decode(lost);
+      expect(chunks == wanted, "a decoding of ours is wrong");
+    }
+    repair();
+    expect(memcmp(rebuilt.data(), wanted.data(), rebuilt.size()) == 0, "a repair of ours is wrong");
+  }
+
+  // what a call copies: pieces into memory of its own, and others of those out of it
+  void copy(uint32_t in, size_t in_len, uint32_t out, size_t out_len) {
+    vector<uint8_t *> pieces;
+    for (uint32_t i = 0; i < in; i++) {
+      pieces.push_back((uint8_t *)malloc(in_len));
+      memcpy(pieces[i], &wanted[i * in_len], in_len);
+    }
+    for (uint32_t i = 0; i < out; i++) memcpy(&chunks[i * out_len], &wanted[i * out_len], out_len);
+    for (uint8_t *piece : pieces) free(piece);
+  }
+};
+
+static void add_ours(vector<Operation> &operations, const Code &code) {
+  auto ours = make_shared<OurCode>(code);
+  ours->check();
+  double bytes = code.stripe_len(), lost_bytes = code.chunk_len();
+  auto add = [&](const string &what, double bytes, function<void()> call, function<void()> copies) {
+    operations.push_back({"clay_c call", what, bytes, call, {}});
+    operations.push_back({"copies", what, bytes, copies, {}});
+  };
+  size_t len = code.chunk_len(), part_len = code.numbers.part_len;
+  uint32_t k = code.k, m = code.m, others = code.numbers.chunks - 1;
+  add("encode", bytes, [=] { ours->encode(); }, [=] { ours->copy(0, 0, m, len); });
+  add("decode, a column", bytes, [=] { ours->decode(code.column); }, [=] { ours->copy(k, len, m, len); });
+  add("decode, spread", bytes, [=] { ours->decode(code.spread); }, [=] { ours->copy(k, len, m, len); });
+  add("repair of one", lost_bytes, [=] { ours->repair(); }, [=] { ours->copy(others, part_len, 1, len); });
+}
+
+// ---- The table
+
+static const Operation &find(const vector<Operation> &operations, const string &coder, const string &what) {
+  for (auto &operation : operations)
+    if (operation.coder == coder && operation.what == what) return operation;
+  end_with("no operation " + what);
+}
+
+// in place of the copies a call without them
+static vector<Operation> with_coding(vector<Operation> operations) {
+  for (auto &operation : operations) {
+    if (operation.coder != "copies") continue;
+    const auto &call = find(operations, "clay_c call", operation.what);
+    for (size_t round = 0; round < call.seconds.size(); round++) operation.seconds[round] = call.seconds[round] - operation.seconds[round];
+    operation.coder = "clay_c coding";
+  }
+  return operations;
+}
+
+static void print(const Code &code, const vector<Operation> &operations) {
+  printf("\n%u+%u, subchunks of %u bytes, a stripe of %zu KiB\n", code.k, code.m, code.w, code.stripe_len() / 1024);
+  printf("  %-18s %-15s %8s   of Ceph's: median (min..max)\n", "", "", "GB/s");
+  for (const string what : kinds) {
+    const auto &ceph = find(operations, "Ceph clay(isa)", what);
+    for (const auto &operation : operations) {
+      if (operation.what != what) continue;
+      vector<double> ratios;
+      for (size_t round = 0; round < ceph.seconds.size(); round++)
+        ratios.push_back(operation.bytes / operation.seconds[round] * ceph.seconds[round] / ceph.bytes);
+      printf("  %-18s %-15s %8.3f   %.2f (%.2f..%.2f)\n", what.c_str(), operation.coder.c_str(),
+             operation.bytes / median(operation.seconds) / 1e9, median(ratios), *std::min_element(ratios.begin(), ratios.end()),
+             *std::max_element(ratios.begin(), ratios.end()));
+    }
+  }
+  fflush(stdout);
+}
+
+// code_peers PLUGINS ROUNDS MILLISECONDS CODE.., where a CODE is K+M:W
+int main(int count, char **words) {
+  expect(count > 4, "too few words");
+  // freed memory stays with the process, for all coders alike
+  mallopt(M_MMAP_THRESHOLD, 1 << 30);
+  mallopt(M_TRIM_THRESHOLD, INT32_MAX);
+  mallopt(M_TOP_PAD, 64 << 20);
+  start_ceph();
+  for (int i = 4; i < count; i++) {
+    uint32_t k, m, w;
+    expect(sscanf(words[i], "%u+%u:%u", &k, &m, &w) == 3, string("no code: ") + words[i]);
+    Code code = code_of(k, m, w);
+    vector<Operation> operations;
+    add_ceph(operations, code, words[1]);
+    add_isal(operations, code);
+    add_ours(operations, code);
+    measure(operations, atoi(words[2]), atof(words[3]) / 1000);
+    print(code, with_coding(operations));
+  }
+  // without Ceph's end, which wants a cluster
+  _Exit(0);
+}

@@ -1,0 +1,72 @@
+/* Clay codes: chunks of a stripe that outlive the loss of any m of them, of which a lost one is rebuilt from 1/m of each other one.
+ *
+ * A stripe is the bytes of k data chunks, one behind another. It gets m parity chunks, which are numbered behind the data chunks. A chunk
+ * has a subchunk of w bytes for each layer, one behind another. All lengths are in bytes but those of lists of layers.
+ *
+ * Each call tests the numbers and the lengths that it is given, and returns a clay_status. Where that isn't CLAY_DONE, it has written
+ * nothing. What it can't test is the caller's to keep: a pointer isn't null and points at as many elements as the length behind it says,
+ * and what a call writes doesn't overlap what it reads. Calls may run in several threads at once. */
+#ifndef CLAY_H
+#define CLAY_H
+
+#include <stddef.h>
+#include <stdint.h>
+
+#ifdef __cplusplus
+extern "C" {
+#endif
+
+/* How a call ends: at the first test that fails, in the order of these numbers but for CLAY_BAD_CHUNK, which is tested before lengths. */
+enum clay_status {
+    CLAY_DONE = 0,
+    CLAY_BAD_GEOMETRY = 1, /* k, m and w aren't within the limits that clay_geometry names */
+    CLAY_BAD_LENGTH = 2,   /* a buffer has another length than the call asks */
+    CLAY_BAD_CHUNK = 3,    /* there is no chunk of this number */
+    CLAY_TOO_FEW = 4,      /* more than m chunks are missing */
+    CLAY_OUT_OF_MEMORY = 5
+};
+
+/* The numbers of a code. */
+struct clay_numbers {
+    uint32_t chunks;        /* n = k + m, at most 24 */
+    uint32_t rows;          /* q = m: rows of the grid in which the nodes stand */
+    uint32_t columns;       /* t: its columns, at most 10 */
+    uint32_t virtual_nodes; /* nu: nodes of the grid without a chunk, q * t - n */
+    uint32_t layers;        /* alpha: subchunks of a chunk, q to the power t, at most 1024 */
+    uint32_t chunk_len;     /* alpha * w bytes, at most 1048576 */
+    uint32_t stripe_len;    /* k * chunk_len bytes */
+    uint32_t part_len;      /* chunk_len / m bytes: what a rebuild reads of each other chunk */
+};
+
+/* Writes the numbers of the code of k data chunks (2 or more), m parity chunks (2 to 8) and subchunks of w bytes (1 to 65536), where it
+ * has at most 1024 layers and 1048576 bytes in a chunk.
+ * CLAY_DONE, CLAY_BAD_GEOMETRY. */
+uint32_t clay_geometry(uint32_t k, uint32_t m, uint32_t w, struct clay_numbers *numbers);
+
+/* Writes the parity chunks of a stripe, one behind another.
+ * stripe_len: as clay_geometry tells. parity_len: m * chunk_len.
+ * CLAY_DONE, CLAY_BAD_GEOMETRY, CLAY_BAD_LENGTH, CLAY_OUT_OF_MEMORY. */
+uint32_t clay_parity(uint32_t k, uint32_t m, uint32_t w, const uint8_t *stripe, size_t stripe_len, uint8_t *parity, size_t parity_len);
+
+/* Writes the missing ones of all chunks, which stand one behind another by rising number, and leaves the others as they are. What stood at
+ * a missing one's place doesn't count. That the others are of one codeword isn't tested: where they aren't, some bytes are written.
+ * present: a byte for each chunk, 0 where it is missing; present_len: n. chunks_len: n * chunk_len.
+ * CLAY_DONE, CLAY_BAD_GEOMETRY, CLAY_BAD_LENGTH, CLAY_TOO_FEW, CLAY_OUT_OF_MEMORY. */
+uint32_t clay_recover(uint32_t k, uint32_t m, uint32_t w, const uint8_t *present, size_t present_len, uint8_t *chunks, size_t chunks_len);
+
+/* Writes the numbers of the layers, rising, whose subchunks a rebuild of chunk `lost` reads of each other chunk.
+ * layers_len: alpha / m elements (not bytes).
+ * CLAY_DONE, CLAY_BAD_GEOMETRY, CLAY_BAD_LENGTH, CLAY_BAD_CHUNK, CLAY_OUT_OF_MEMORY. */
+uint32_t clay_repair_layers(uint32_t k, uint32_t m, uint32_t w, uint32_t lost, uint32_t *layers, size_t layers_len);
+
+/* Writes chunk `lost` from the parts of all others, which stand one behind another by rising number of their chunks. The part of a chunk
+ * is its subchunks of those layers, one behind another. That the parts are of one codeword isn't tested.
+ * parts_len: (n - 1) * part_len. chunk_len: as clay_geometry tells.
+ * CLAY_DONE, CLAY_BAD_GEOMETRY, CLAY_BAD_LENGTH, CLAY_BAD_CHUNK, CLAY_OUT_OF_MEMORY. */
+uint32_t clay_rebuild(uint32_t k, uint32_t m, uint32_t w, uint32_t lost, const uint8_t *parts, size_t parts_len, uint8_t *chunk, size_t chunk_len);
+
+#ifdef __cplusplus
+}
+#endif
+
+#endif
