@@ -1,5 +1,5 @@
 //! Pieces of one length that stand one behind another in a caller's bytes.
-ghost use Rattle.std.specs.Prelude.{◌≡◌, ◌≢◌, ℕ, ◌+◌, ◌*◌, ◌<◌, ◌≤◌, List, [], length, get_or, map, All, IfOk, IfSome, cond, true, Some, None, is_none, slice_index_or};
+ghost use Rattle.std.specs.Prelude.{◌≡◌, ◌≢◌, ℕ, ◌+◌, ◌*◌, ◌<◌, ◌≤◌, List, [], length, get_or, map, IfOk, IfSome, cond, true, Some, None, is_none, slice_index_or};
 ghost use Rattle.std.specs.Option.{option_map};
 ghost use Rattle.clay_encode.specs.Chunks.{contents};
 ghost use Rattle.clay_lanes.specs.Recovered.{missing_of};

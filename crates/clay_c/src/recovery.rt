@@ -1,5 +1,5 @@
 //! Parity and missing chunks, written to a caller's bytes.
-ghost use Rattle.std.specs.Prelude.{◌≡◌, ◌≢◌, ℕ, ◌*◌, ◌≤◌, length, IfOk, OnOk, OnErr};
+ghost use Rattle.std.specs.Prelude.{◌≡◌, ◌*◌, ◌≤◌, length, IfOk, OnOk, OnErr};
 ghost use Rattle.clay_grid.specs.Shape.{chunk_count, chunk_length, stripe_length};
 ghost use Rattle.clay_decode.specs.Left.{parts, AreLong};
 ghost use Rattle.clay_c.specs.Calls.{MakesParity, lost_count, left_of, Recovers};
