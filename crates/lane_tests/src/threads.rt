@@ -1,41 +1,140 @@
+ghost use Rattle.std.specs.Prelude.{◌≡◌, ◌<◌, length};
+ghost use Rattle.clay_grid.specs.Shape.{chunk_count, stripe_length};
+
 use crate::coders::{expect_chunks, gone_count, left_of};
-use crate::encoding::mixed_bytes;
+use crate::encoding::{CODES, WIDTHS, mixed_bytes};
 use crate::rebuilding::parts_of;
 use clay_grid::Geometry;
 use clay_lanes::LaneCoder;
 use clay_par::ParCoder;
-use clay_repair::Coder;
+use clay_repair::{Coder, PlainCoder};
 use std::alloc::Global;
 use std::process::Abort;
 use std::test::Fail;
 use std::thread::Threads;
 
-// Codes a stripe, which may be large enough to be shared among threads, with the chunks of the bits of `gone` missing.
-fn check_coding<R: Abort + Threads + Sync>(
+// The chunks of a stripe, of which each coder says the same.
+fn encoded<R: Abort + Threads + Sync>(
     rt: &R,
     alloc: Global,
     g: Geometry,
-    gone: u32,
-) -> Result<(), Fail> {
+    stripe: &[u8],
+) -> Result<Vec<Vec<u8>>, Fail>
+    requires { length stripe.now ≡ stripe_length g }
+{
+    let word = PlainCoder.encode(rt, alloc, g, stripe)?;
+    expect_chunks(rt, &LaneCoder.encode(rt, alloc, g, stripe)?, &word);
+    expect_chunks(rt, &ParCoder.encode(rt, alloc, g, stripe)?, &word);
+    Ok(word)
+}
+
+// The chunks of some stripe.
+fn word_of<R: Abort + Threads + Sync>(
+    rt: &R,
+    alloc: Global,
+    g: Geometry,
+) -> Result<Vec<Vec<u8>>, Fail> {
     let stripe = mixed_bytes(alloc, g.stripe_len())?;
     assert_eq!(rt; stripe.len(), g.stripe_len() as usize);
-    let word = ParCoder.encode(rt, alloc, g, &stripe)?;
-    expect_chunks(rt, &LaneCoder.encode(rt, alloc, g, &stripe)?, &word);
-    let have = left_of(rt, alloc, g, &word, gone)?;
+    encoded(rt, alloc, g, &stripe)
+}
+
+// Recovers the chunks of the bits of `gone`.
+fn check_loss<R: Abort + Threads + Sync, C: Coder>(
+    rt: &R,
+    alloc: Global,
+    coder: &C,
+    g: Geometry,
+    word: &[Vec<u8>],
+    gone: u32,
+) -> Result<(), Fail> {
+    let have = left_of(rt, alloc, g, word, gone)?;
     assert!(rt; gone_count(&have) <= g.m() as usize);
-    expect_chunks(rt, &ParCoder.recover(rt, alloc, g, &have)?, &word);
-    let lost = g.n() - 1;
-    let parts = parts_of(rt, alloc, g, &word, lost)?;
-    let chunk = ParCoder.rebuild(rt, alloc, g, lost, &parts)?;
+    expect_chunks(rt, &coder.recover(rt, alloc, g, &have)?, word);
+    Ok(())
+}
+
+// Rebuilds a chunk from the parts of the others.
+fn check_rebuild<R: Abort + Threads + Sync, C: Coder>(
+    rt: &R,
+    alloc: Global,
+    coder: &C,
+    g: Geometry,
+    word: &[Vec<u8>],
+    lost: u32,
+) -> Result<(), Fail>
+    requires { lost < chunk_count g }
+{
+    let parts = parts_of(rt, alloc, g, word, lost)?;
     assert_eq!(rt; word.len(), g.n() as usize);
+    let chunk = coder.rebuild(rt, alloc, g, lost, &parts)?;
     assert_eq!(rt; chunk.as_slice(), word[lost as usize].as_slice());
     Ok(())
 }
 
+// The bits of as many chunks as there are parity chunks, among them the last one.
+fn mixed_loss(rt: &impl Abort, g: Geometry) -> u32 {
+    assert!(rt; g.n() < 32);
+    ((1 << g.m()) - 1 >> 1 << 1) | 1 << (g.n() - 1)
+}
+
+// Loses no chunk, one, and as many as there are parity chunks; rebuilds the first and the last one.
+fn check_coder<R: Abort + Threads + Sync, C: Coder>(
+    rt: &R,
+    alloc: Global,
+    coder: &C,
+    g: Geometry,
+    word: &[Vec<u8>],
+) -> Result<(), Fail> {
+    let most = mixed_loss(rt, g);
+    check_loss(rt, alloc, coder, g, word, 0)?;
+    check_loss(rt, alloc, coder, g, word, 1)?;
+    check_loss(rt, alloc, coder, g, word, most)?;
+    check_rebuild(rt, alloc, coder, g, word, 0)?;
+    check_rebuild(rt, alloc, coder, g, word, g.n() - 1)
+}
+
+// The bytes of a stripe that the plain coder codes several times in a moment.
+const SMALL: u32 = 1 << 15;
+
 #[test]
-fn threads_code_alike(rt: HostRuntime) -> Result<(), Fail> {
-    check_coding(&rt, rt.alloc(), Geometry::new(8, 4, 64)?, 0b1111)?;
-    check_coding(&rt, rt.alloc(), Geometry::new(4, 2, 40000)?, 0b10010)?;
-    check_coding(&rt, rt.alloc(), Geometry::new(5, 4, 4099)?, 0b101000010)?;
-    check_coding(&rt, rt.alloc(), Geometry::new(8, 4, 4096)?, 0b1111 << 8)
+fn coders_agree(rt: HostRuntime) -> Result<(), Fail> {
+    for (k, m) in CODES {
+        for w in WIDTHS {
+            let g = Geometry::new(k, m, w)?;
+            if g.stripe_len() < SMALL {
+                let word = word_of(&rt, rt.alloc(), g)?;
+                check_coder(&rt, rt.alloc(), &PlainCoder, g, &word)?;
+                check_coder(&rt, rt.alloc(), &LaneCoder, g, &word)?;
+                check_coder(&rt, rt.alloc(), &ParCoder, g, &word)?;
+            }
+        }
+    }
+    Ok(())
+}
+
+// Codes a stripe of a MiB or more, which is shared among threads.
+fn check_shared<R: Abort + Threads + Sync>(rt: &R, alloc: Global, g: Geometry) -> Result<(), Fail> {
+    let word = word_of(rt, alloc, g)?;
+    let most = mixed_loss(rt, g);
+    check_loss(rt, alloc, &PlainCoder, g, &word, most)?;
+    check_loss(rt, alloc, &LaneCoder, g, &word, most)?;
+    check_coder(rt, alloc, &ParCoder, g, &word)
+}
+
+#[test]
+fn threads_share_one_range(rt: HostRuntime) -> Result<(), Fail> {
+    check_shared(&rt, rt.alloc(), Geometry::new(16, 4, 64)?)
+}
+
+// The last range has three positions.
+#[test]
+fn threads_share_ranges(rt: HostRuntime) -> Result<(), Fail> {
+    check_shared(&rt, rt.alloc(), Geometry::new(5, 4, 4099)?)
+}
+
+// Ranges of as many positions as they ever have, and a shorter one.
+#[test]
+fn threads_share_long_ranges(rt: HostRuntime) -> Result<(), Fail> {
+    check_shared(&rt, rt.alloc(), Geometry::new(4, 2, 33000)?)
 }
