@@ -1,5 +1,5 @@
 -- No text is without a transcript and without a fault, and a fault's line is one of the text's or the one behind them.
-use Rattle.std.proofs.Common.{◌≡◌, ◌≢◌, ℕ, zero, suc, ◌+◌, ◌≤◌, List, [], ◌∷◌, ◌++◌, length, length-append, refl, sym, ap, ◌∙◌, arith, inl, inr, append-nil}
+use Rattle.std.proofs.Common.{◌≡◌, ◌≢◌, ℕ, zero, suc, ◌+◌, ◌≤◌, List, [], ◌∷◌, ◌++◌, length, length-append, refl, ap, ◌∙◌, arith, inl, inr, append-nil}
 use Rattle.std.specs.Prelude.{◌⊎◌}
 use Rattle.std.specs.List.{flat_map}
 use Rattle.std.proofs.lemmas.Bool.{cases_eq}
@@ -15,7 +15,7 @@ use Rattle.transcript_read.specs.Fault.{IsFault}
 use Rattle.transcript_read.specs.Forms.{IsLine}
 use Rattle.transcript_read.specs.Order.{Follows, place_of}
 use Rattle.transcript_read.specs.Reader.{empty, with_line, IsTaken}
-use Rattle.transcript_read.specs.WellFormed.{IsWellFormed, lines_of}
+use Rattle.transcript_read.specs.WellFormed.{IsWellFormed}
 use Rattle.transcript_read.specs.declared.line.Line.{Line}
 use Rattle.transcript_read.specs.declared.place.Place.{Place}
 use Rattle.transcript_read.specs.declared.place.Place.TheVariants as at

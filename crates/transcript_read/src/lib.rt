@@ -10,7 +10,9 @@ mod outcome;
 mod place;
 mod reader;
 mod reply;
+mod rest;
 mod transcript;
 mod triple;
 
-pub use transcript::read_transcript;
+pub use rest::TextRest;
+pub use transcript::{read_transcript, take_transcript};

@@ -6,6 +6,7 @@ ghost use Rattle.transcript_read.specs.Fault.{IsFault};
 
 use crate::field::Unread;
 use crate::reader::Reader;
+use crate::rest::TextRest;
 use line_grammar::{FaultKind, split_at_first};
 use script_text::ScriptFault;
 use std::alloc::Global;
@@ -19,11 +20,28 @@ pub fn read_transcript(alloc: Global, bytes: &[u8], servers: u32) -> Result<Tran
     ensures text { IfOk result (λ transcript. bytes.now ≡ text_of transcript) }
     ensures fault { IfErr result (OrMemory (IsFault servers bytes.now)) }
 {
+    match Vec::from_slice(alloc, bytes) {
+        Ok(text) => take_transcript(alloc, TextRest::new(text), servers),
+        Err(_) => Err(fault_at(0, FaultKind::OutOfMemory)),
+    }
+}
+
+/// The same of what is left of a text, whose memory is given back while it is read.
+pub fn take_transcript(
+    alloc: Global,
+    text: TextRest,
+    servers: u32,
+) -> Result<Transcript, ScriptFault>
+    requires few { length text < 2 ^ 31 }
+    ensures form { IfOk result (IsWellFormed servers) }
+    ensures text { IfOk result (λ transcript. text ≡ text_of transcript) }
+    ensures fault { IfErr result (OrMemory (IsFault servers text)) }
+{
     let mut reader = Reader::new(alloc, servers);
     let mut lines = 0;
-    let mut rest = bytes;
+    let mut rest = text;
     while !reader.has_ended() {
-        let Some((line, behind)) = split_at_first(b'\n', rest) else {
+        let Some((line, _)) = split_at_first(b'\n', rest.as_slice()) else {
             return Err(fault_at(lines + 1, FaultKind::MissingEnd));
         };
         match reader.take_line(alloc, line) {
@@ -32,9 +50,10 @@ pub fn read_transcript(alloc: Global, bytes: &[u8], servers: u32) -> Result<Tran
             Err(Unread::OutOfMemory) => return Err(fault_at(0, FaultKind::OutOfMemory)),
         }
         lines += 1;
-        rest = behind;
+        let length = line.len() + 1;
+        rest.skip(length);
     }
-    if rest.is_empty() {
+    if rest.as_slice().is_empty() {
         Ok(reader.transcript)
     } else {
         Err(fault_at(lines + 1, FaultKind::Syntax))
