@@ -1,9 +1,5 @@
 // The command `verify`.
-ghost use Rattle.std.specs.Prelude.{◌≡◌, ◌≢◌, ◌⊎◌, ◌≤◌, ◌<◌, ◌+◌, ◌^◌, length, take, drop, IfOk, IfErr};
-ghost use Rattle.script_text.specs.FirstFault.{OrMemory};
-ghost use Rattle.transcript_read.specs.Fault.{IsFault};
-ghost use Rattle.transcript_read.specs.WellFormed.{IsWellFormed};
-ghost use Rattle.transcript_text.specs.Text.{text_of};
+ghost use Rattle.std.specs.Prelude.{◌≡◌, ◌≢◌, ◌⊎◌, ◌≤◌, ◌<◌, ◌+◌, ◌^◌, length, take, drop, IfOk};
 ghost use Rattle.hist_rules.specs.Verdict.{verdict_of};
 ghost use Rattle.hist_rules.specs.VerdictText.{verdict_line};
 ghost use Rattle.clay_cli.specs.Top.{Answers, IsOfInput};
@@ -20,7 +16,7 @@ use line_grammar::FaultKind;
 use script_text::{ScriptFault, read_front};
 use std::alloc::{AllocError, Global};
 use store_map::Script;
-use transcript_read::read_transcript;
+use transcript_read::{TextRest, take_transcript};
 use transcript_text::Transcript;
 
 // The number of whole lines.
@@ -31,27 +27,18 @@ fn line_count(text: &[u8]) -> usize
     text.iter().filter(|byte| **byte == b'\n').count()
 }
 
-// The number of lines before a place, and the bytes behind it in memory of their own. Those before it are let go.
-fn part_at(input: Vec<u8>, place: usize) -> Result<(u32, Vec<u8>), AllocError>
+// The number of lines before a place, and what is left behind it. Those lines may be let go.
+fn part_at(input: Vec<u8>, place: usize) -> (u32, TextRest)
     requires place { place ≤ length input.items }
     requires few { length input.items ≤ 167772160 }
-    ensures lines { IfOk result (λ parts. parts.0 ≡ line_count (take place input.items)) }
-    ensures few { IfOk result (λ parts. parts.0 ≤ 167772160) }
-    ensures rest { IfOk result (λ parts. parts.1.items ≡ drop place input.items) }
+    ensures lines { result.0 ≡ line_count (take place input.items) }
+    ensures few { result.0 ≤ 167772160 }
+    ensures rest { result.1 ≡ drop place input.items }
 {
-    let mut front = input;
-    let rest = front.split_off(place)?;
-    Ok((line_count(&front) as u32, rest))
-}
-
-// The transcript that the bytes spell. They are let go.
-fn read_rest(alloc: Global, rest: Vec<u8>, servers: u32) -> Result<Transcript, ScriptFault>
-    requires few { length rest.items < 2 ^ 31 }
-    ensures form { IfOk result (IsWellFormed servers) }
-    ensures text { IfOk result (λ transcript. rest.items ≡ text_of transcript) }
-    ensures fault { IfErr result (OrMemory (IsFault servers rest.items)) }
-{
-    read_transcript(alloc, &rest, servers)
+    let lines = line_count(&input[..place]) as u32;
+    let mut rest = TextRest::new(input);
+    rest.skip(place);
+    (lines, rest)
 }
 
 // The fault, with its line counted from the top of so many lines before it. Want of memory has no line.
@@ -84,8 +71,8 @@ fn judge(alloc: Global, script: &Script, transcript: &Transcript) -> Result<Outp
     Ok(Output { status, bytes })
 }
 
-/// The verdict on the script and the transcript that the input spells, or a line that says why there is none. Each part of the
-/// input is let go where it was read, so that it takes no memory beside what is made of it.
+/// The verdict on the script and the transcript that the input spells, or a line that says why there is none. The input is let go
+/// while it is read, so that it takes little memory beside what is made of it.
 pub fn verify(alloc: Global, input: Vec<u8>) -> Result<Output, AllocError>
     requires { length input.items ≤ 167772160 }
     ensures status { IfOk result (λ output. IsOfInput output.status) }
@@ -95,8 +82,8 @@ pub fn verify(alloc: Global, input: Vec<u8>) -> Result<Output, AllocError>
         Ok(front) => front,
         Err(fault) => return refusal(alloc, fault),
     };
-    let (lines, rest) = part_at(input, length)?;
-    match read_rest(alloc, rest, script.geometry.n()) {
+    let (lines, rest) = part_at(input, length);
+    match take_transcript(alloc, rest, script.geometry.n()) {
         Ok(transcript) => judge(alloc, &script, &transcript),
         Err(fault) => refusal(alloc, behind(lines, fault)),
     }
