@@ -1,10 +1,8 @@
-use Rattle.std.proofs.Common.{◌≡◌, ℕ, ◌+◌, ◌-◌, ◌*◌, ◌<◌, length, get_or, subst, sym, ap, ◌∙◌, arith}
+use Rattle.std.proofs.Common.{◌≡◌, ℕ, ◌+◌, ◌*◌, ◌<◌, length, get_or, subst, sym, ap, ◌∙◌, arith}
 use Rattle.clay_field.specs.Field.{product}
-use Rattle.clay_grid.specs.Shape.{column_count}
 use Rattle.clay_grid.specs.Layers.{layer_of}
 use Rattle.clay_model.specs.Sums.{sum_below}
 use Rattle.clay_encode.specs.Columns.{first_parity, uncoupled_value}
-use Rattle.clay_lanes.specs.Generated.{solved_value}
 use Rattle.clay_lanes.specs.Columns.{IsColumn}
 use Rattle.clay_lanes.proofs.ColumnLaws.{known_sum, last_columns, before_last, column_more, column_ended}
 use Rattle.clay_lanes.proofs.chunks.solve_by_columns.Goals as goal

@@ -1,4 +1,4 @@
-use Rattle.std.proofs.Common.{◌≡◌, ℕ, ◌+◌, ◌*◌, ◌<◌, ◌++◌, length, get_or, subst, sym, ap, ◌∙◌, arith}
+use Rattle.std.proofs.Common.{◌≡◌, ℕ, ◌++◌, length, subst, sym, ap, ◌∙◌, arith}
 use Rattle.clay_lanes.specs.Columns.{AddsColumn}
 use Rattle.clay_lanes.proofs.ColumnLemmas.{added_rows, have_joined, have_cut}
 use Rattle.clay_lanes.proofs.column.add_column.Goals as goal

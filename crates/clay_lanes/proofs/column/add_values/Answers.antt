@@ -1,5 +1,4 @@
-use Rattle.std.proofs.Common.{◌≡◌, ℕ, arith, ◌+◌, ◌≤◌, ◌<◌, length, get_or, ap, ◌∙◌, bit_xor}
-use Rattle.clay_field.specs.Field.{product}
+use Rattle.std.proofs.Common.{ℕ, arith, ◌+◌, ◌≤◌, ◌<◌, length, get_or, bit_xor}
 use Rattle.clay_lanes.specs.Columns.{both_of, all_of}
 use Rattle.clay_lanes.proofs.ScaleLemmas.{HasLanes-product, HasLanes-chunk, HasLanes-left, IsDoneBelow-block, IsDoneBelow-one}
 use Rattle.clay_lanes.proofs.ColumnLemmas.{HasLanes-op}

@@ -1,4 +1,4 @@
-use Rattle.std.proofs.Common.{◌≡◌, ℕ, ◌+◌, ◌*◌, ◌<◌, ◌++◌, length, get_or, refl, subst, sym, ap, ◌∙◌, arith}
+use Rattle.std.proofs.Common.{◌≡◌, ℕ, ◌++◌, length, refl, subst, sym, ap, ◌∙◌, arith}
 use Rattle.clay_lanes.specs.Columns.{EndsColumn}
 use Rattle.clay_lanes.proofs.ColumnLemmas.{ended_rows, have_joined}
 use Rattle.clay_lanes.proofs.column.end_column.Goals as goal

@@ -1,4 +1,4 @@
-use Rattle.std.proofs.Common.{◌≡◌, ℕ, arith, ◌+◌, ◌≤◌, ◌<◌, length, get_or, ap, ◌∙◌, bit_xor}
+use Rattle.std.proofs.Common.{ℕ, arith, ◌+◌, ◌≤◌, ◌<◌, length, get_or, bit_xor}
 use Rattle.clay_lanes.proofs.ScaleLemmas.{HasLanes-chunk, HasLanes-left, IsDoneBelow-block, IsDoneBelow-one}
 use Rattle.clay_lanes.proofs.ColumnLemmas.{HasLanes-op}
 use Rattle.clay_lanes.proofs.column.end_rows.Goals as goal

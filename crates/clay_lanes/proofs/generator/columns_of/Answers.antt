@@ -1,6 +1,4 @@
-use Rattle.std.proofs.Common.{◌≡◌, ℕ, ◌+◌, ◌*◌, ◌/◌, ◌%◌, ◌<◌, length, get_or, refl, sym, subst, ap, ◌∙◌, arith}
-use Rattle.clay_lanes.specs.declared.column.ColumnFactors.{ColumnFactors}
-use Rattle.clay_lanes.specs.Columns.{IsColumn}
+use Rattle.std.proofs.Common.{◌≡◌, ◌*◌, ◌/◌, ◌<◌, length, sym, subst, ap, ◌∙◌, arith}
 use Rattle.clay_lanes.proofs.ColumnLemmas.{columns_more}
 use Rattle.clay_lanes.proofs.generator.columns_of.Goals as goal
 

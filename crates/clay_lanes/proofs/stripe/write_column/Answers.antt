@@ -1,7 +1,7 @@
-use Rattle.std.proofs.Common.{◌≡◌, ℕ, ◌+◌, ◌-◌, ◌*◌, ◌<◌, length, get_or, take, drop, subst, sym, ap, ◌∙◌, arith}
+use Rattle.std.proofs.Common.{◌≡◌, ℕ, ◌+◌, ◌-◌, ◌*◌, ◌<◌, length, take, drop, subst, sym, ◌∙◌, arith}
 use Rattle.std.proofs.lemmas.List.Edits.{length-between}
 use Rattle.clay_grid.specs.Layers.{layer_of}
-use Rattle.clay_encode.specs.Columns.{uncoupled_value, HoldsPieces}
+use Rattle.clay_encode.specs.Columns.{uncoupled_value}
 use Rattle.clay_encode.proofs.Parts.{piece_fits, one_more_piece}
 use Rattle.clay_lanes.proofs.stripe.write_column.Goals as goal
 
