@@ -14,6 +14,7 @@ mod plan;
 mod products;
 mod repair;
 mod repair_plan;
+mod short;
 mod stripe;
 
 pub use checked::decode_checked;

@@ -1,7 +1,10 @@
 //! The uncoupled values of the columns that a stripe fills.
-ghost use Rattle.std.specs.Prelude.{◌≡◌, ℕ, ◌+◌, ◌*◌, ◌<◌, ◌≤◌, slice_index, length, bit_xor};
+//!
+//! The layers that differ in the last digit alone lie side by side in a chunk, and outside the last column so do their partners' subchunks.
+//! So bytes of a layer may run on into the later layers of its group.
+ghost use Rattle.std.specs.Prelude.{◌≡◌, ℕ, ◌+◌, ◌-◌, ◌*◌, ◌%◌, ◌<◌, ◌≤◌, slice_index, length, bit_xor};
 ghost use Rattle.clay_field.specs.Field.{product};
-ghost use Rattle.clay_grid.specs.Shape.{layer_count, stripe_length};
+ghost use Rattle.clay_grid.specs.Shape.{row_count, layer_count, stripe_length};
 ghost use Rattle.clay_grid.specs.Layers.{layer_of};
 ghost use Rattle.clay_grid.specs.Limits.{IsGeometry};
 ghost use Rattle.clay_encode.specs.Columns.{data_byte, uncoupled_value, first_parity, HoldsPieces};
@@ -9,12 +12,12 @@ ghost use Rattle.clay_encode.specs.Columns.{data_byte, uncoupled_value, first_pa
 use crate::coupling::{double, uncouple};
 use clay_grid::Geometry;
 
-/// The bytes from `at` on of subchunk `z` of a data chunk, as many as `len`.
+/// The bytes from `at` on of subchunk `z` of a data chunk, as many as `len`, which may run on up to the end of the layer's group.
 pub fn piece(g: Geometry, stripe: &[u8], chunk: u32, z: u32, at: usize, len: usize) -> &[u8]
     requires whole { length stripe.now ≡ stripe_length g }
     requires data { chunk < g.data_count }
     requires layer { z < layer_count g }
-    requires within { at + len ≤ g.width }
+    requires within { at + len ≤ (row_count g - z % row_count g) * g.width }
     ensures geometry { IsGeometry g }
     ensures len { length result.now ≡ len }
     ensures bytes { (b : ℕ) → b < len → slice_index result.now b ≡ data_byte g stripe.now (at + b) chunk z }
@@ -35,7 +38,7 @@ pub fn uncouple_node(
 )
     requires whole { length stripe.now ≡ stripe_length g }
     requires layer { z < layer_count g }
-    requires within { at + length theirs.now ≤ g.width }
+    requires within { at + length theirs.now ≤ (row_count g - z % row_count g) * g.width }
     requires values_len { length values.old ≡ length theirs.now }
     ensures { (b : ℕ) → b < length theirs.now → slice_index values.new b
         ≡ bit_xor (data_byte g stripe.now (at + b) node z) (product 2 (slice_index theirs.now b)) }
@@ -51,7 +54,7 @@ pub fn uncouple_node(
 fn write_own(g: Geometry, stripe: &[u8], node: u32, z: u32, at: usize, out: &mut [u8])
     requires whole { length stripe.now ≡ stripe_length g }
     requires layer { z < layer_count g }
-    requires within { at + length out.old ≤ g.width }
+    requires within { at + length out.old ≤ (row_count g - z % row_count g) * g.width }
     ensures { (b : ℕ) → b < length out.old → slice_index out.new b ≡ data_byte g stripe.now (at + b) node z }
 {
     if node < g.k() {
@@ -66,7 +69,7 @@ fn write_value(g: Geometry, stripe: &[u8], node: u32, z: u32, at: usize, out: &m
     requires whole { length stripe.now ≡ stripe_length g }
     requires known { node < first_parity g }
     requires layer { z < layer_count g }
-    requires within { at + length out.old ≤ g.width }
+    requires within { at + length out.old ≤ (row_count g - z % row_count g) * g.width }
     ensures { (b : ℕ) → b < length out.old →
         slice_index out.new b ≡ uncoupled_value g stripe.now (at + b) node (layer_of g z) }
 {
@@ -97,7 +100,7 @@ pub fn write_column(
     requires whole { length stripe.now ≡ stripe_length g }
     requires known { column * 4 + 4 ≤ first_parity g }
     requires layer { z < layer_count g }
-    requires within { at + len ≤ g.width }
+    requires within { at + len ≤ (row_count g - z % row_count g) * g.width }
     requires values_len { length values.old ≡ 4 * len }
     ensures { HoldsPieces len 4 (λ x b. uncoupled_value g stripe.now (at + b) (column * 4 + x) (layer_of g z)) values.new }
 {

@@ -2,6 +2,7 @@ use Rattle.std.proofs.Common.{◌+◌, ◌*◌, ◌<◌, ◌≤◌, subst, sym, 
 use Rattle.clay_field.specs.Field.{product}
 use Rattle.clay_grid.specs.Shape.{row_count}
 use Rattle.clay_encode.specs.Columns.{data_byte}
+use Rattle.clay_lanes.proofs.GroupLaws.{partner_room}
 use Rattle.clay_lanes.proofs.NodeLemmas.{unpaired, with_virtual, paired}
 use Rattle.clay_lanes.proofs.stripe.write_value.Goals as goal
 
@@ -35,3 +36,8 @@ returns-else-other-k c = λ b h.
     (c.piece-theirs.ensures.bytes b h ∙ ap (λ q. data_byte g stripe (c.args.at + b) (c.place-x.result.1 * q + p.x) p.z) c.q.ensures.value)
     ∙ paired g rows stripe c.args.node c.args.z c.place-x.result.0 c.place-x.result.1 p.x p.y p.z c.requires.layer c.partner-partner.ensures.in_layers
     c.place-x.ensures.row c.place-x.ensures.column c.partner-partner.ensures.partner c.if-partner-x.false (c.args.at + b)
+
+pub piece-theirs-requires-clause-within : goal.piece-theirs-requires-clause-within
+piece-theirs-requires-clause-within c =
+    let p = c.partner-partner.result in
+    partner_room c.args.g c.q.ensures.geometry c.args.node c.place-x.result.0 c.place-x.result.1 c.args.z p.x p.y p.z (c.args.at + length c.args.out.now) c.requires.known c.place-x.ensures.column c.partner-partner.ensures.partner c.requires.within
