@@ -4,8 +4,8 @@
  * has a subchunk of w bytes for each layer, one behind another. All lengths are in bytes but those of lists of layers.
  *
  * Each call tests the numbers and the lengths that it is given, and returns a clay_status. Where that isn't CLAY_DONE, it has written
- * nothing. What it can't test is the caller's to keep: a pointer isn't null and points at as many elements as the length behind it says,
- * and what a call writes doesn't overlap what it reads. Calls may run in several threads at once. */
+ * nothing. What it can't test is the caller's to keep: a pointer isn't null, is aligned for its type and points at as many elements as the
+ * length behind it says, and what a call writes doesn't overlap what it reads. Calls may run in several threads at once. */
 #ifndef CLAY_H
 #define CLAY_H
 
