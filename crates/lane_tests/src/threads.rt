@@ -94,20 +94,15 @@ fn check_coder<R: Abort + Threads + Sync, C: Coder>(
     check_rebuild(rt, alloc, coder, g, word, g.n() - 1)
 }
 
-// The bytes of a stripe that the plain coder codes several times in a moment.
-const SMALL: u32 = 1 << 15;
-
 #[test]
 fn coders_agree(rt: HostRuntime) -> Result<(), Fail> {
     for (k, m) in CODES {
         for w in WIDTHS {
             let g = Geometry::new(k, m, w)?;
-            if g.stripe_len() < SMALL {
-                let word = word_of(&rt, rt.alloc(), g)?;
-                check_coder(&rt, rt.alloc(), &PlainCoder, g, &word)?;
-                check_coder(&rt, rt.alloc(), &LaneCoder, g, &word)?;
-                check_coder(&rt, rt.alloc(), &ParCoder, g, &word)?;
-            }
+            let word = word_of(&rt, rt.alloc(), g)?;
+            check_coder(&rt, rt.alloc(), &PlainCoder, g, &word)?;
+            check_coder(&rt, rt.alloc(), &LaneCoder, g, &word)?;
+            check_coder(&rt, rt.alloc(), &ParCoder, g, &word)?;
         }
     }
     Ok(())
@@ -130,7 +125,7 @@ fn threads_share_one_range(rt: HostRuntime) -> Result<(), Fail> {
 // The last range has three positions.
 #[test]
 fn threads_share_ranges(rt: HostRuntime) -> Result<(), Fail> {
-    check_shared(&rt, rt.alloc(), Geometry::new(5, 4, 4099)?)
+    check_shared(&rt, rt.alloc(), Geometry::new(8, 4, 2051)?)
 }
 
 // Ranges of as many positions as they ever have, and a shorter one.

@@ -1,4 +1,4 @@
-use Rattle.std.proofs.Common.{◌+◌, ◌*◌, ◌<◌, ◌≤◌, subst, sym, ap, ◌∙◌, arith, bit_xor}
+use Rattle.std.proofs.Common.{length, ◌+◌, ◌*◌, ◌<◌, ◌≤◌, subst, sym, ap, ◌∙◌, arith, bit_xor}
 use Rattle.clay_field.specs.Field.{product}
 use Rattle.clay_grid.specs.Shape.{row_count}
 use Rattle.clay_encode.specs.Columns.{data_byte}

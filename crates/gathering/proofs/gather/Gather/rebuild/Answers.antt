@@ -9,8 +9,8 @@ use Rattle.gathering.specs.Gathers.{GatherOf}
 use Rattle.gathering.proofs.Serving.{parts_of_one, made_of_one}
 use Rattle.gathering.proofs.gather.Gather.rebuild.Goals as goal
 
-pub rebuild-requires : goal.rebuild-requires
-rebuild-requires g c =
+pub rebuild-requires-clause-parts : goal.rebuild-requires-clause-parts
+rebuild-requires-clause-parts g c =
     let a = c.self.inside in
     let was = sym c.self.view_is in
     subst (λ (l : Shelf). AreParts c.geometry-geometry.result c.args.lost l) (sym c.deref.ensures.value)

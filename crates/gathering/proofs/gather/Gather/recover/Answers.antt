@@ -10,8 +10,8 @@ use Rattle.gathering.specs.Gathers.{GatherOf}
 use Rattle.gathering.proofs.Serving.{left_of_many, made_of_many, if_ok}
 use Rattle.gathering.proofs.gather.Gather.recover.Goals as goal
 
-pub recover-requires : goal.recover-requires
-recover-requires g c =
+pub recover-requires-clause-left : goal.recover-requires-clause-left
+recover-requires-clause-left g c =
     let a = c.self.inside in
     let was = sym c.self.view_is in
     subst (λ (l : Shelf). AreLeft c.geometry-geometry.result l) (sym c.deref.ensures.value)
