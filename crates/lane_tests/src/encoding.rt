@@ -60,6 +60,14 @@ fn stripes_are_encoded_alike(rt: HostRuntime) -> Result<(), Fail> {
 }
 
 #[test]
+fn columns_of_four_nodes_are_encoded_alike(rt: HostRuntime) -> Result<(), Fail> {
+    for w in 1..131 {
+        check_stripe(&rt, rt.alloc(), Geometry::new(4, 4, w)?)?;
+    }
+    check_stripe(&rt, rt.alloc(), Geometry::new(3, 4, 4099)?)
+}
+
+#[test]
 fn blocks_are_joined(rt: HostRuntime) -> Result<(), Fail> {
     for w in [4095, 4096, 4097, 8192, 9000] {
         check_stripe(&rt, rt.alloc(), Geometry::new(3, 2, w)?)?;
