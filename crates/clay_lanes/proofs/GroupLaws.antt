@@ -44,6 +44,12 @@ in_stripe layers k w chunk z room end inside below within =
     let start : (chunk * layers + z) * w ≡ chunk * (layers * w) + z * w = omega arith in
     omega arith
 
+-- a column of four nodes other than the last
+pub column_of_four : (g : Shape) (y : ℕ) → row_count g ≡ 4 → y * 4 + 4 ≤ first_parity g → y < column_count g
+column_of_four g y four known =
+    let grid : first_parity g ≡ 4 * column_count g - 4 = λ i. four i * column_count g - four i in
+    omega arith
+
 module _ (g : Shape) (geometry : IsGeometry g) where
   rows : 0 < row_count g
   rows = let some = geometry.limits.parity_chunks.0 in omega arith
@@ -130,9 +136,6 @@ module _ (g : Shape) (geometry : IsGeometry g) where
       ∙ ap (λ v. v % q) (sym (div-div-eq-div-mul n q (q ^ e)))
 
   module _ (number d : ℕ) (digit : d < row_count g) (inside : number * row_count g + row_count g ≤ layer_count g) where
-    first : ℕ
-    first = number * row_count g
-
     same_digit : (y : ℕ) → y < column_count g - 1 → get_or (layer_of g (number * row_count g)) y 0 ≡ get_or (layer_of g (number * row_count g + d)) y 0
     same_digit y before =
         let q : ℕ = row_count g in

@@ -36,3 +36,8 @@ returns c = λ e b he hb.
     column_ended len gen.each value (c.loop-y.y * 4) c.loop-y.rows c.end_column.new.rows c.loop-y.invariant c.end_column.ensures e b (subst (λ n. e < n) counts.four he) hb
     ∙ ap (λ n. known_sum gen.each value n e b) all
     ∙ ap (λ n. sum_below (first_parity g) (λ i. product (get_or gen.each (i * n + e) 0) (value i b))) (sym counts.four)
+
+pub write_column-requires-clause-four : goal.write_column-requires-clause-four
+write_column-requires-clause-four c =
+    let gen = c.args.generator.now in
+    (last_columns c.args.g gen.unknown gen.each gen.columns c.columns-columns.ensures.columns c.requires.columns c.requires.generator).four

@@ -1,5 +1,4 @@
-use Rattle.std.proofs.Common.{◌≡◌, ℕ, ◌+◌, ◌*◌, ◌/◌, ◌%◌, ◌<◌, ◌≤◌, get_or, subst, arith}
-use Rattle.clay_grid.specs.Shape.{row_count}
+use Rattle.std.proofs.Common.{ℕ, ◌+◌, ◌*◌, ◌/◌, ◌%◌, ◌<◌, get_or, subst, arith}
 use Rattle.clay_encode.specs.Columns.{HoldsPieces}
 use Rattle.clay_lanes.specs.Generated.{layer_value}
 use Rattle.clay_lanes.proofs.GroupLaws.{transposed}

@@ -1,4 +1,4 @@
-use Rattle.std.proofs.Common.{ℕ, ◌+◌, ◌*◌, ◌/◌, ◌%◌, get_or}
+use Rattle.std.proofs.Common.{◌+◌, ◌*◌, ◌/◌, ◌%◌, get_or}
 use Rattle.clay_encode.specs.Columns.{HoldsPieces}
 use Rattle.clay_lanes.proofs.short.transpose.Given as goal
 

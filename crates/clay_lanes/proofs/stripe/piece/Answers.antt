@@ -1,4 +1,4 @@
-use Rattle.std.proofs.Common.{◌≡◌, ℕ, ◌+◌, ◌-◌, ◌*◌, ◌%◌, ◌≤◌, length, arith}
+use Rattle.std.proofs.Common.{◌≡◌, ◌+◌, ◌-◌, ◌*◌, ◌%◌, ◌≤◌, length, arith}
 use Rattle.clay_grid.specs.Shape.{row_count, layer_count}
 use Rattle.clay_lanes.proofs.GroupLaws.{group_end, in_stripe}
 use Rattle.clay_lanes.proofs.stripe.piece.Goals as goal

@@ -1,8 +1,11 @@
-use Rattle.std.proofs.Common.{◌≡◌, ℕ, ◌+◌, ◌-◌, ◌*◌, ◌<◌, length, take, drop, subst, sym, ◌∙◌, arith}
+use Rattle.std.proofs.Common.{◌≡◌, ℕ, ◌+◌, ◌-◌, ◌*◌, ◌/◌, ◌%◌, ◌<◌, length, take, drop, subst, sym, ap, ◌∙◌, arith}
 use Rattle.std.proofs.lemmas.List.Edits.{length-between}
+use Rattle.clay_grid.specs.Shape.{row_count}
 use Rattle.clay_grid.specs.Layers.{layer_of}
+use Rattle.clay_grid.proofs.LayerLaws.{partner_vertex, partner_below}
 use Rattle.clay_encode.specs.Columns.{uncoupled_value}
 use Rattle.clay_encode.proofs.Parts.{piece_fits, one_more_piece}
+use Rattle.clay_lanes.proofs.GroupLaws.{column_of_four}
 use Rattle.clay_lanes.proofs.stripe.write_column.Goals as goal
 
 pub loop-x-preserved : goal.loop-x-preserved
@@ -19,3 +22,22 @@ loop-x-preserved c =
     let size : length c.write_value.new.out ≡ len = c.write_value.auto.out ∙ part in
     one_more_piece len x (x * len + len - x * len) value values c.write_value.new.out (omega arith) size c.loop-x.invariant
     (λ b h. c.write_value.ensures b (subst (λ n. b < n) (sym part) h))
+
+pub stride-stride-requires : goal.stride-stride-requires
+stride-stride-requires c = column_of_four c.args.g c.args.column c.requires.four c.requires.known
+
+pub write_value-requires-clause-partner : goal.write_value-requires-clause-partner
+write_value-requires-clause-partner c =
+    let g = c.args.g in
+    let rows : 0 < row_count g = omega (arith, c.requires.four) in
+    let row : c.loop-x.x < row_count g = subst (λ n. c.loop-x.x < n) (sym c.requires.four) c.loop-x-test.true in
+    partner_vertex g c.loop-x.x c.args.column c.args.z c.stride-stride.result _ rows row (column_of_four g c.args.column c.requires.four c.requires.known) c.requires.layer c.stride-stride.ensures.value
+    (ap (λ q. c.args.z / c.stride-stride.result % q) c.q.ensures.value)
+
+pub write_value-requires-clause-other_layer : goal.write_value-requires-clause-other_layer
+write_value-requires-clause-other_layer c =
+    let g = c.args.g in
+    let rows : 0 < row_count g = omega (arith, c.requires.four) in
+    let row : c.loop-x.x < row_count g = subst (λ n. c.loop-x.x < n) (sym c.requires.four) c.loop-x-test.true in
+    partner_below g c.loop-x.x c.args.column c.args.z c.stride-stride.result _ rows row (column_of_four g c.args.column c.requires.four c.requires.known) c.requires.layer c.stride-stride.ensures.value
+    (ap (λ q. c.args.z / c.stride-stride.result % q) c.q.ensures.value)
