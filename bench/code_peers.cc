@@ -2,8 +2,8 @@
 // runs it.
 //
 // What is timed: the processor time of this thread, by slices of time that alternate between the coders, several rounds of them. Of a slice
-// the median of its calls counts, and ratios are those of the same round, so that a loaded machine harms them little. Each operation is
-// compared once, byte by byte, before it is timed. GB/s are 10^9 bytes a second: of the data for encoding and decoding, of the lost chunk
+// the median of its calls counts, and ratios are those of the same round, so that a loaded machine harms them little. Each decoding and
+// repair is compared once, byte by byte, before it is timed. GB/s are 10^9 bytes a second: of the data for encoding and decoding, of the lost chunk
 // for repair.
 //
 // - Ceph: a call of the plugin on buffers that are there. It hands present chunks on without a copy, and takes new ones for what it makes.
@@ -70,9 +70,9 @@ static Code code_of(uint32_t k, uint32_t m, uint32_t w) {
   return code;
 }
 
-static Bytes random_bytes(size_t count) {
+static Bytes random_bytes(size_t count, uint32_t seed = 12345) {
   Bytes bytes(count);
-  std::mt19937 random(12345);
+  std::mt19937 random(seed);
   for (auto &byte : bytes) byte = random();
   return bytes;
 }
@@ -247,7 +247,7 @@ struct IsalCode {
   Bytes matrix, tables;
 
   explicit IsalCode(const Code &code) : k(code.k), n(code.numbers.chunks), len(code.chunk_len()), matrix(n * k), tables(32 * k * (n - k)) {
-    for (int c = 0; c < n; c++) chunks.push_back(random_bytes(len + c));
+    for (int c = 0; c < n; c++) chunks.push_back(random_bytes(len, c));
     decoded.resize(n - k, Bytes(len));
     gf_gen_cauchy1_matrix(matrix.data(), n, k);
     ec_init_tables(k, n - k, &matrix[k * k], tables.data());

@@ -18,6 +18,7 @@ pub record AreColumn (factors : List ℕ) (y sigma tau rho kappa : ℕ) : Type 0
   pub third : AddUp factors (y * 4 + 2) sigma (bit_xor 1 tau) (bit_xor rho kappa)
   pub fourth : AddUp factors (y * 4 + 3) (bit_xor 1 sigma) (bit_xor 1 tau) (bit_xor (bit_xor 1 (bit_xor tau rho)) kappa)
 
+-- the same of factors that are kept for the column
 abbrev pub IsColumn : List ℕ → ℕ → ColumnFactors → Type 0
 IsColumn factors y f = AreColumn factors y f.sigma f.tau f.rho f.kappa
 

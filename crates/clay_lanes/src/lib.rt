@@ -20,6 +20,7 @@ mod stripe;
 pub use checked::decode_checked;
 pub use chunks::{BLOCK, add_pieces, encode, last_column, parity, solve_group};
 pub use coder::LaneCoder;
+pub use column::{ColumnFactors, add_column, end_column};
 pub use coupling::fifths;
 pub use generator::Generator;
 pub use kernels::add_rows;

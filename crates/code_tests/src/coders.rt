@@ -1,4 +1,6 @@
 use clay_grid::Geometry;
+use clay_lanes::LaneCoder;
+use clay_par::ParCoder;
 use clay_repair::{Coder, PlainCoder};
 use std::alloc::Global;
 use std::process::Abort;
@@ -84,4 +86,14 @@ fn check_coder<R: Threads + Sync + Abort, C: Coder>(
 #[test]
 fn plain_coder(rt: HostRuntime) -> Result<(), Fail> {
     check_coder(&rt, rt.alloc(), &PlainCoder)
+}
+
+#[test]
+fn lane_coder(rt: HostRuntime) -> Result<(), Fail> {
+    check_coder(&rt, rt.alloc(), &LaneCoder)
+}
+
+#[test]
+fn thread_coder(rt: HostRuntime) -> Result<(), Fail> {
+    check_coder(&rt, rt.alloc(), &ParCoder)
 }

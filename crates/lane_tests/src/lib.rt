@@ -4,6 +4,8 @@
 #[cfg(test)]
 mod coders;
 #[cfg(test)]
+mod columns;
+#[cfg(test)]
 mod encoding;
 #[cfg(test)]
 mod kernels;

@@ -78,7 +78,7 @@ fn mixed_loss(rt: &impl Abort, g: Geometry) -> u32 {
     ((1 << g.m()) - 1 >> 1 << 1) | 1 << (g.n() - 1)
 }
 
-// Loses no chunk, one, and as many as there are parity chunks; rebuilds the first and the last one.
+// Loses no chunk, one, the first column, all parity chunks, and as many of both kinds; rebuilds the first and the last one.
 fn check_coder<R: Abort + Threads + Sync, C: Coder>(
     rt: &R,
     alloc: Global,
@@ -87,8 +87,12 @@ fn check_coder<R: Abort + Threads + Sync, C: Coder>(
     word: &[Vec<u8>],
 ) -> Result<(), Fail> {
     let most = mixed_loss(rt, g);
+    assert!(rt; g.n() < 32);
+    let column = (1u32 << g.m()) - 1;
     check_loss(rt, alloc, coder, g, word, 0)?;
     check_loss(rt, alloc, coder, g, word, 1)?;
+    check_loss(rt, alloc, coder, g, word, column)?;
+    check_loss(rt, alloc, coder, g, word, column << g.k())?;
     check_loss(rt, alloc, coder, g, word, most)?;
     check_rebuild(rt, alloc, coder, g, word, 0)?;
     check_rebuild(rt, alloc, coder, g, word, g.n() - 1)
