@@ -1,14 +1,10 @@
-//! The fast coders beside the plain one, for many codes, widths and losses, and its kernels beside `add_scaled`.
+//! The fast coders beside the plain one, for many codes, widths and losses.
 #![tactic(auto)]
 
 #[cfg(test)]
 mod coders;
 #[cfg(test)]
-mod columns;
-#[cfg(test)]
 mod encoding;
-#[cfg(test)]
-mod kernels;
 #[cfg(test)]
 mod rebuilding;
 #[cfg(test)]
