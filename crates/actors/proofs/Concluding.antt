@@ -10,8 +10,8 @@ use Rattle.call_steps.specs.CallOf.{CallOf, act_of, taken_of}
 use Rattle.call_steps.specs.Steps.{need_by, need_of}
 use Rattle.world_steps.specs.World.{DoingOf, ActorOf, steps_of}
 use Rattle.world_steps.specs.ActorAfter.{actor_after_by, actor_after}
-use Rattle.gathering.specs.declared.need.Need.{Need}
-use Rattle.gathering.specs.declared.need.Need.TheVariants as need
+use Rattle.call_steps.specs.declared.need.Need.{Need}
+use Rattle.call_steps.specs.declared.need.Need.TheVariants as need
 use Rattle.client_call.specs.Kinds.{Machine}
 use Rattle.client_call.specs.Calls.{ClientCallOf}
 use Rattle.actors.specs.Turns.{GoesOn}

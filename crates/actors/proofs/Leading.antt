@@ -8,8 +8,8 @@ use Rattle.store_core.specs.Agreement.{Agrees}
 use Rattle.store_core.specs.Step.{Places}
 use Rattle.store_core.specs.Run.{Run}
 use Rattle.store_core.specs.Work.{Work}
-use Rattle.gathering.specs.declared.need.Need.{Need}
-use Rattle.gathering.specs.declared.need.Need.TheVariants as need
+use Rattle.call_steps.specs.declared.need.Need.{Need}
+use Rattle.call_steps.specs.declared.need.Need.TheVariants as need
 use Rattle.call_steps.specs.CallOf.{CallOf}
 use Rattle.call_steps.specs.Steps.{need_of, stepped_at_directory, stepped_at_server}
 use Rattle.call_stands.specs.Ready.{ready, shortage_of}

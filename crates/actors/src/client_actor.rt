@@ -24,10 +24,10 @@ ghost use Rattle.actors.specs.Inside.{KeepsDoing, doing_by, work_by, served_of};
 
 use crate::client_turn;
 use crate::left::has_step;
+use call_steps::Need;
 use chunk_server::Server;
 use clay_repair::Coder;
 use client_call::ClientCall;
-use gathering::Need;
 use read_ledger::Takes;
 use std::alloc::{AllocError, Global};
 use std::marker::Model;

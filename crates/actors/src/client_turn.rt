@@ -10,10 +10,10 @@ ghost use Rattle.client_call.specs.Calls.{drawn_by, owed_by, KnowsOldOf};
 ghost use Rattle.actors.specs.Turns.{AreServers, IsMadeAt, HasPlace, GoesOn, IsSameCall, places_of};
 ghost use Rattle.actors.specs.ClientTurns.{IsCallTurn};
 
+use call_steps::Need;
 use chunk_server::Server;
 use clay_repair::Coder;
 use client_call::ClientCall;
-use gathering::Need;
 use std::thread::Threads;
 use stripe_dir::Directory;
 use version_seal::Book;

@@ -17,9 +17,9 @@ ghost use Rattle.actors.specs.RepairInside.{KeepsRepair, repairs_by, taken_in};
 
 use crate::left::has_step;
 use crate::repair_turn;
+use call_steps::Need;
 use chunk_server::Server;
 use clay_repair::Coder;
-use gathering::Need;
 use read_ledger::Takes;
 use repairer::RepairCall;
 use std::alloc::{AllocError, Global};

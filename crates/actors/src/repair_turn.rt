@@ -5,9 +5,9 @@ ghost use Rattle.call_steps.specs.Steps.{need_of, HoldsItsPass, IsDueInPass};
 ghost use Rattle.call_stands.specs.Ready.{ready};
 ghost use Rattle.actors.specs.Turns.{AreServers, IsMadeAt, HasPlace, GoesOn, IsTurn, IsSameCall, places_of};
 
+use call_steps::Need;
 use chunk_server::Server;
 use clay_repair::Coder;
-use gathering::Need;
 use repairer::RepairCall;
 use std::thread::Threads;
 use stripe_dir::Directory;

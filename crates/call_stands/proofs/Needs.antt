@@ -1,8 +1,8 @@
 -- What a call needs tells what it does next.
 use Rattle.std.proofs.Common.{◌≡◌, ℕ, Bool, true, false, refl, sym, ap, true≢false}
 use Rattle.store_core.specs.Act.{Act, DirectoryStep, ServerStep, Outcome}
-use Rattle.gathering.specs.declared.need.Need.{Need}
-use Rattle.gathering.specs.declared.need.Need.TheVariants as need
+use Rattle.call_steps.specs.declared.need.Need.{Need}
+use Rattle.call_steps.specs.declared.need.Need.TheVariants as need
 use Rattle.call_steps.specs.CallOf.{act_of}
 use Rattle.call_steps.specs.Steps.{at_directory_by, at_server_by, need_by}
 use Rattle.call_stands.specs.NeedLaws.{NeedsTellActs, EndsStay}

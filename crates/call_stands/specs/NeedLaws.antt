@@ -3,7 +3,7 @@ use Rattle.std.specs.Prelude.{◌≡◌, ℕ, Bool, true, false}
 use Rattle.store_core.specs.Act.{Act, DirectoryStep, ServerStep, Outcome}
 use Rattle.store_core.specs.Directory.{Directory}
 use Rattle.store_core.specs.Server.{Server}
-use Rattle.gathering.specs.declared.need.Need.TheVariants as need
+use Rattle.call_steps.specs.declared.need.Need.TheVariants as need
 use Rattle.call_steps.specs.CallOf.{CallOf, act_of}
 use Rattle.call_steps.specs.Steps.{stepped_at_directory, stepped_at_server, need_of}
 

@@ -1,7 +1,7 @@
 -- How a call ended, as the store's definitions say it.
 use Rattle.std.specs.Prelude.{map}
 use Rattle.store_core.specs.Act.{Outcome as CoreOutcome}
-use Rattle.gather_course.specs.Aims.{lost_in}
+use Rattle.store_core.specs.Told.{lost_in}
 use Rattle.call_steps.specs.declared.outcomes.Outcome.{Outcome}
 use Rattle.call_steps.specs.declared.outcomes.Outcome.TheVariants as outcome
 use Rattle.call_steps.specs.declared.outcomes.RepairOutcome.{RepairOutcome}

@@ -1,5 +1,5 @@
 -- The steps of a call, its coding, and what it needs.
-use Rattle.std.specs.Prelude.{◌≡◌, ℕ, Bool, true, false, IsTrue}
+use Rattle.std.specs.Prelude.{◌≡◌, ⊤, ℕ, Bool, true, false, IsTrue}
 use Rattle.store_core.specs.Told.{Told}
 use Rattle.store_core.specs.Act.{Act}
 use Rattle.store_core.specs.ActPlace.{is_in_pass}
@@ -8,8 +8,8 @@ use Rattle.store_core.specs.Directory.{Directory}
 use Rattle.store_core.specs.AtDirectory.{at_directory}
 use Rattle.store_core.specs.Server.{Server, at_server}
 use Rattle.store_resume.specs.State.{CallState}
-use Rattle.gathering.specs.declared.need.Need.{Need}
-use Rattle.gathering.specs.declared.need.Need.TheVariants as need
+use Rattle.call_steps.specs.declared.need.Need.{Need}
+use Rattle.call_steps.specs.declared.need.Need.TheVariants as need
 use Rattle.call_steps.specs.TokenAfter.{token_after, IsSeated, IfInCall}
 use Rattle.call_steps.specs.CallOf.{CallOf, act_of, state_told, heard}
 
@@ -63,3 +63,8 @@ pub record HoldsItsPass (c : CallOf) : Type 0 where
 -- coding is due only before a step on its pass, where want of memory is heard
 abbrev pub IsDueInPass : CallOf → Type 0
 IsDueInPass c = c.due ≡ true → IsTrue (is_in_pass (act_of c))
+
+-- of the server that is needed
+abbrev pub IfServer : Need → (ℕ → Type 0) → Type 0
+IfServer (need.Server server) holds = holds server
+IfServer needed holds = ⊤

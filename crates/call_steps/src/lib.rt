@@ -2,6 +2,8 @@
 //! how it ended. The machines stand on it: of a put, of a read, of a write, of a rebuild.
 #![tactic(auto)]
 
+mod need;
 mod outcomes;
 
+pub use need::Need;
 pub use outcomes::{Change, Outcome, RepairOutcome};

@@ -1,5 +1,4 @@
-use gather_course::LostChunk;
-use store_map::{Point, Reply};
+use store_map::{LostChunk, Point, Reply};
 
 /// A change of a write's object since the write looked: the point on which the write was based, and
 /// the point of the change.

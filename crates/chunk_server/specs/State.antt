@@ -44,6 +44,11 @@ chunk_of version chunks = find (λ chunk. nat_eq version chunk.version) chunks
 abbrev pub found_at : ServerState → Found
 found_at s = if s.away then found.Away s.downs else found.Absent s.epoch
 
+-- the same server of the same book
+pub record IsSame (old new : ServerState) : Type 0 where
+  pub number : new.number ≡ old.number
+  pub book : new.book ≡ old.book
+
 -- one chunk more, before those of greater versions; a version that is held already keeps its chunk and its mark
 abbrev pub hold : Held → List Held → List Held
 hold chunk [] = chunk ∷ []

@@ -16,7 +16,7 @@ use Rattle.store_resume.specs.States.{stage_state, open_parts}
 use Rattle.store_resume.specs.StateActs.{act_at}
 use Rattle.store_resume.specs.CallLaws.{next_call}
 use Rattle.gathering.specs.Gathers.{GatherOf}
-use Rattle.gathering.specs.declared.need.Need.TheVariants as need
+use Rattle.call_steps.specs.declared.need.Need.TheVariants as need
 use Rattle.call_steps.specs.CallOf.{CallOf, act_of, heard}
 use Rattle.call_steps.specs.Steps.{need_by, need_of, at_directory_by, stepped_at_directory}
 use Rattle.call_steps.specs.TokenAfter.{token_after, IsSeated}

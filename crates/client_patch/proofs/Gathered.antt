@@ -10,7 +10,7 @@ use Rattle.store_resume.specs.State.{Sequel, State}
 use Rattle.store_resume.specs.States.{stage_state, open_parts}
 use Rattle.store_resume.specs.StateActs.{act_at}
 use Rattle.gathering.specs.Gathers.{GatherOf}
-use Rattle.gathering.specs.declared.need.Need.TheVariants as need
+use Rattle.call_steps.specs.declared.need.Need.TheVariants as need
 use Rattle.call_steps.specs.Steps.{need_by}
 use Rattle.gather_parts.specs.Wanted.{Wanted, parts_of}
 use Rattle.gather_parts.specs.Gatherings.{GatheringsOf}

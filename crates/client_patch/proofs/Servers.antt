@@ -11,7 +11,7 @@ use Rattle.store_core.specs.Agreement.{ActorToken}
 use Rattle.store_resume.specs.State.{Sequel, State, CallState}
 use Rattle.store_resume.specs.StateActs.{start_act, act_at, act_of_state}
 use Rattle.store_resume.specs.CallLaws.{next_call}
-use Rattle.gathering.specs.declared.need.Need.TheVariants as need
+use Rattle.call_steps.specs.declared.need.Need.TheVariants as need
 use Rattle.call_steps.specs.CallOf.{CallOf, act_of}
 use Rattle.call_steps.specs.Steps.{need_by, stepped_at_server, at_server_by}
 use Rattle.gather_parts.specs.States.{state_in}

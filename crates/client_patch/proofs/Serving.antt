@@ -7,7 +7,7 @@ use Rattle.store_resume.specs.State.{Sequel, State}
 use Rattle.store_resume.specs.StateActs.{act_at}
 use Rattle.version_seal.specs.Entry.{BookOf, StampOf}
 use Rattle.stripe_dir.specs.Sealed.{Sealed}
-use Rattle.gathering.specs.declared.need.Need.TheVariants as need
+use Rattle.call_steps.specs.declared.need.Need.TheVariants as need
 use Rattle.call_steps.specs.TokenAfter.{IfInCall}
 use Rattle.call_steps.specs.Steps.{need_by, need_of, stepped_at_server}
 use Rattle.gather_parts.specs.Gatherings.{GatheringsOf, owed}

@@ -14,10 +14,9 @@ ghost use Rattle.call_steps.specs.Ends.{is_ending};
 
 use crate::patch::PatchCall;
 use crate::stage::{Looked, Stage, after_end, after_look};
-use call_steps::{Change, Outcome};
+use call_steps::{Change, Need, Outcome};
 use call_token::{CommitAnswer, DrawAnswer, EndAnswer};
 use gather_parts::Standing;
-use gathering::Need;
 use store_map::Call;
 use stripe_dir::Directory;
 use version_seal::Book;

@@ -13,7 +13,7 @@ use Rattle.store_resume.specs.State.{State, CallState}
 use Rattle.store_resume.specs.StateActs.{start_act, act_at, act_of_state}
 use Rattle.store_resume.specs.CallLaws.{next_call}
 use Rattle.version_seal.specs.Entry.{BookOf}
-use Rattle.gathering.specs.declared.need.Need.TheVariants as need
+use Rattle.call_steps.specs.declared.need.Need.TheVariants as need
 use Rattle.call_steps.specs.CallOf.{tries_by, CallOf, act_of}
 use Rattle.call_steps.specs.Steps.{need_by, stepped_at_server, at_server_by}
 use Rattle.call_steps.specs.declared.outcomes.Outcome.{Outcome}

@@ -14,7 +14,7 @@ use Rattle.write_course.proofs.OfTheCall.{steps_are_of_the_call}
 use Rattle.store_resume.specs.State.{State}
 use Rattle.store_resume.specs.StateActs.{act_at}
 use Rattle.version_seal.specs.Entry.{BookOf, StampOf}
-use Rattle.gathering.specs.declared.need.Need.TheVariants as need
+use Rattle.call_steps.specs.declared.need.Need.TheVariants as need
 use Rattle.call_steps.specs.Steps.{need_by, need_of, coded, stepped_at_server}
 use Rattle.write_course.specs.Writings.{WritingOf, versions_of, begins_version, place_of, stamp_at_work}
 use Rattle.write_course.specs.WritingSteps.{stepped}

@@ -10,9 +10,8 @@ ghost use Rattle.call_steps.specs.Ends.{is_ending};
 
 use crate::put::PutCall;
 use crate::stage::{Stage, after_end, after_look, content_of};
-use call_steps::Outcome;
+use call_steps::{Need, Outcome};
 use call_token::{CommitAnswer, DrawAnswer, EndAnswer};
-use gathering::Need;
 use stripe_dir::Directory;
 use version_seal::Book;
 use write_course::{Doing, Writing};

@@ -8,7 +8,7 @@ ghost use Rattle.store_core.specs.Agreement.{ActorToken};
 ghost use Rattle.store_resume.specs.State.{State};
 ghost use Rattle.store_resume.specs.StateActs.{act_at};
 ghost use Rattle.chunk_server.specs.Core.{core_of};
-ghost use Rattle.gathering.specs.Gathers.{IfServer};
+ghost use Rattle.call_steps.specs.Steps.{IfServer};
 ghost use Rattle.call_steps.specs.CallOf.{CallOf};
 ghost use Rattle.call_steps.specs.Steps.{stepped_at_server, coded, need_by, need_of, HoldsItsPass, IsDueInPass};
 ghost use Rattle.call_steps.specs.Outcomes.{outcome_of};
@@ -19,11 +19,10 @@ ghost use Rattle.call_steps.specs.Ends.{point_of, finished_of, IsStanding, IsOve
 
 use crate::bytes::stripe_bytes;
 use crate::stage::{Stage, content_of};
-use call_steps::Outcome;
+use call_steps::{Need, Outcome};
 use call_token::Token;
 use chunk_server::Server;
 use clay_repair::Coder;
-use gathering::Need;
 use read_ledger::Takes;
 use std::alloc::{AllocError, Global};
 use std::marker::Model;

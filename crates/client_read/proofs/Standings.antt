@@ -12,8 +12,8 @@ use Rattle.store_core.specs.ActPlace.{is_in_pass}
 use Rattle.store_core.specs.Agreement.{ActorToken}
 use Rattle.store_resume.specs.State.{Sequel, State}
 use Rattle.store_resume.specs.StateActs.{act_at}
-use Rattle.gathering.specs.declared.need.Need.{Need}
-use Rattle.gathering.specs.declared.need.Need.TheVariants as need
+use Rattle.call_steps.specs.declared.need.Need.{Need}
+use Rattle.call_steps.specs.declared.need.Need.TheVariants as need
 use Rattle.call_steps.specs.CallOf.{CallOf, act_of, tries_by}
 use Rattle.call_steps.specs.TokenAfter.{IfInCall, IsSeated}
 use Rattle.call_steps.specs.Steps.{need_by, HoldsItsPass}

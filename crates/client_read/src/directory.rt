@@ -8,9 +8,8 @@ ghost use Rattle.client_read.specs.Owed.{owed_after};
 
 use crate::read::ReadCall;
 use crate::stage::{Looked, Stage, after_look};
-use call_steps::Outcome;
+use call_steps::{Need, Outcome};
 use call_token::EndAnswer;
-use gathering::Need;
 use stripe_dir::Directory;
 
 impl<'a> ReadCall<'a> {

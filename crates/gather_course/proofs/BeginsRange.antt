@@ -4,7 +4,7 @@ use Rattle.std.proofs.lemmas.List.Elements.{All-nil, All-cons, All-filter}
 use Rattle.std.proofs.lemmas.Bool.{lt-ltb}
 use Rattle.store_core.specs.Told.{Lost}
 use Rattle.clay_grid.specs.Shape.{Shape, chunk_count}
-use Rattle.gather_course.specs.declared.lost.LostChunk.{LostChunk}
+use Rattle.store_map.specs.declared.placement.LostChunk.{LostChunk}
 use Rattle.gather_course.specs.declared.course.Course.TheInside.{Inside}
 use Rattle.gather_course.specs.declared.position.Doing.{Doing}
 use Rattle.gather_course.specs.declared.position.Doing.TheVariants as doing
@@ -12,7 +12,7 @@ use Rattle.gather_course.specs.declared.position.Position.{Position}
 use Rattle.gather_course.specs.Positions.{IsPlaced, IsPlacedBy}
 use Rattle.gather_course.specs.Hearing.{IsAsking, IsFirst, FitsAim}
 use Rattle.gather_course.specs.Inside.{IsCourse, aim_in, gone_in, missing_in, seen_in}
-use Rattle.gather_course.specs.Aims.{lost_in}
+use Rattle.store_core.specs.Told.{lost_in}
 use Rattle.store_resume.specs.Stage.{Aim, Stage}
 use Rattle.store_resume.specs.Stages.{fetch_stage}
 use Rattle.store_core.specs.Gathering.{Part}

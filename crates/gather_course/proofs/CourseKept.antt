@@ -14,13 +14,13 @@ use Rattle.store_resume.specs.StageAfter.{next_stage}
 use Rattle.gather_course.specs.Courses.{CourseOf, IsAskingStage, server_at, server_of, gone_after, after_answer}
 use Rattle.gather_course.specs.declared.position.Doing.{Doing}
 use Rattle.gather_course.specs.declared.position.Doing.TheVariants as doing
-use Rattle.gather_course.specs.declared.lost.LostChunk.{LostChunk}
+use Rattle.store_map.specs.declared.placement.LostChunk.{LostChunk}
 use Rattle.gather_course.specs.declared.course.Course.TheInside.{Inside}
 use Rattle.gather_course.specs.declared.position.Position.{Position}
 use Rattle.gather_course.specs.Positions.{stage_by, stage_of, asked_by, IsPlaced}
 use Rattle.gather_course.specs.Hearing.{IsAsking, KeepsAim, Knows, FitsAim, HearsMissing}
 use Rattle.gather_course.specs.Inside.{IsCourse, course_in, seen_in, aim_in, gone_in, missing_in}
-use Rattle.gather_course.specs.Aims.{lost_in}
+use Rattle.store_core.specs.Told.{lost_in}
 
 -- the fields with another position
 abbrev pub moved : Inside → Position → Inside

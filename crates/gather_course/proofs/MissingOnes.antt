@@ -2,8 +2,8 @@
 use Rattle.std.proofs.Common.{◌≡◌, ◌<◌, ℕ, min, List, [], ◌∷◌, length, map, take, get_or, All, refl, sym, ap, subst, arith}
 use Rattle.std.proofs.lemmas.List.{length-take, get_or-take}
 use Rattle.store_core.specs.Told.{Lost}
-use Rattle.gather_course.specs.declared.lost.LostChunk.{LostChunk}
-use Rattle.gather_course.specs.Aims.{lost_in}
+use Rattle.store_map.specs.declared.placement.LostChunk.{LostChunk}
+use Rattle.store_core.specs.Told.{lost_in}
 
 -- their numbers are those of the store's definitions
 pub servers_in : (missing : List LostChunk) → map (λ (lost : LostChunk). lost.server) missing ≡ map (λ (lost : Lost). lost.server) (map lost_in missing)

@@ -3,7 +3,6 @@ use Rattle.std.specs.Prelude.{◌≡◌, ⊤, ℕ, List, Option, None, Some}
 use Rattle.store_core.specs.Told.{Lost}
 use Rattle.store_core.specs.Gathering.{Part}
 use Rattle.store_resume.specs.Stage.{Aim, Stage}
-use Rattle.gather_course.specs.declared.lost.LostChunk.{LostChunk}
 use Rattle.gather_course.specs.declared.ending.Ending.{Ending}
 use Rattle.gather_course.specs.declared.ending.Ending.TheVariants as ending
 
@@ -16,10 +15,6 @@ target_of (Aim.Chunk seen target) = Some target
 abbrev pub IfRange : Aim → (Part → Type 0) → Type 0
 IfRange (Aim.Range part) holds = holds part
 IfRange (Aim.Chunk seen target) holds = ⊤
-
--- a missing server of the program
-abbrev pub lost_in : LostChunk → Lost
-lost_in lost = record { server = lost.server; placed = lost.placed; found = lost.found }
 
 -- where too many are missing, these are they
 abbrev pub IsTooMany : Stage → List Lost → Type 0

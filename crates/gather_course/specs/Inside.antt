@@ -3,12 +3,12 @@ use Rattle.std.specs.Prelude.{◌≡◌, ◌<◌, ◌≤◌, ℕ, List, map, tak
 use Rattle.clay_grid.specs.Shape.{chunk_count}
 use Rattle.store_core.specs.Told.{Seen, Lost}
 use Rattle.store_resume.specs.Stage.{Aim, Stage}
-use Rattle.gather_course.specs.declared.lost.LostChunk.{LostChunk}
+use Rattle.store_map.specs.declared.placement.LostChunk.{LostChunk}
 use Rattle.gather_course.specs.declared.course.Course.TheInside.{Inside}
 use Rattle.gather_course.specs.Positions.{stage_of, IsPlaced}
 use Rattle.gather_course.specs.Hearing.{IsAsking, Knows}
 use Rattle.gather_course.specs.Courses.{CourseOf}
-use Rattle.gather_course.specs.Aims.{lost_in}
+use Rattle.store_core.specs.Told.{lost_in}
 
 -- the pinned stripe
 abbrev pub seen_in : Inside → Seen

@@ -7,16 +7,16 @@ ghost use Rattle.store_resume.specs.Stage.{Aim, seen_of};
 ghost use Rattle.gather_course.specs.Positions.{IsPlaced, asked_by, first_lost, downs_of};
 ghost use Rattle.gather_course.specs.Hearing.{IsAsking};
 ghost use Rattle.gather_course.specs.Courses.{new_course, IsAskingStage, is_look, is_fetch, has_bytes, is_lost, layers_asked, server_of, after_answer};
-ghost use Rattle.gather_course.specs.Aims.{target_of, IfRange, lost_in, IsTooMany, ending_at};
+ghost use Rattle.gather_course.specs.Aims.{target_of, IfRange, IsTooMany, ending_at};
+ghost use Rattle.store_core.specs.Told.{lost_in};
 
 use crate::ending::Ending;
 use crate::layers::{all_layers, chunks_in_range, layers_for};
-use crate::lost::LostChunk;
 use crate::position::{Doing, Position, after_given, after_here, after_missing, ended, on_fetch};
 use clay_grid::Geometry;
 use std::alloc::{AllocError, Global};
 use std::marker::Model;
-use store_map::{Found, Placement, Version};
+use store_map::{Found, LostChunk, Placement, Version};
 
 /// The course of a gathering of one pinned stripe. After it was made it takes no memory but that of
 /// the lists of layers that it gives.

@@ -5,10 +5,8 @@
 mod course;
 mod ending;
 mod layers;
-mod lost;
 mod position;
 mod servers;
 
 pub use course::Course;
 pub use ending::Ending;
-pub use lost::LostChunk;

@@ -15,7 +15,7 @@ use Rattle.store_resume.specs.States.{sequel_state, stage_state, open_parts}
 use Rattle.store_resume.specs.StateActs.{act_at}
 use Rattle.store_resume.specs.CallLaws.{next_call}
 use Rattle.gathering.specs.Gathers.{GatherOf}
-use Rattle.gathering.specs.declared.need.Need.TheVariants as need
+use Rattle.call_steps.specs.declared.need.Need.TheVariants as need
 use Rattle.call_steps.specs.CallOf.{CallOf, act_of}
 use Rattle.call_steps.specs.Steps.{need_by, need_of, coded as call_coded}
 use Rattle.gather_parts.specs.Steps.{next_of, handed_on, coded}

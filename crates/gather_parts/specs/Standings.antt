@@ -3,8 +3,8 @@ use Rattle.std.specs.Prelude.{ℕ, ⊤, Bool, true, false, List, [], ◌∷◌, 
 use Rattle.clay_grid.specs.Shape.{Shape}
 use Rattle.store_resume.specs.Stage.{Aim, Stage}
 use Rattle.store_resume.specs.StageAfter.{server_asked}
-use Rattle.gathering.specs.declared.need.Need.{Need}
-use Rattle.gathering.specs.declared.need.Need.TheVariants as need
+use Rattle.call_steps.specs.declared.need.Need.{Need}
+use Rattle.call_steps.specs.declared.need.Need.TheVariants as need
 use Rattle.gathering.specs.Gathers.{GatherOf}
 use Rattle.gather_parts.specs.declared.standing.Standing.{Standing}
 use Rattle.gather_parts.specs.declared.standing.Standing.TheVariants as standing

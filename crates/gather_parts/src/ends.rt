@@ -12,8 +12,8 @@ ghost use Rattle.call_steps.specs.CallOf.{taken_of};
 
 use crate::gatherings::PartGatherings;
 use crate::standing::Standing;
-use gather_course::LostChunk;
 use read_ledger::Takes;
+use store_map::LostChunk;
 
 /// What the gatherings of a call came to.
 #[derive(Drop)]

@@ -10,8 +10,8 @@ use Rattle.version_seal.specs.Entry.{StampOf}
 use Rattle.version_seal.specs.Sealed.{PartOf}
 use Rattle.chunk_server.specs.State.{ServerState}
 use Rattle.gather_course.specs.Courses.{CourseOf, new_course, server_of, layers_asked, has_bytes, after_answer}
-use Rattle.gathering.specs.declared.need.Need.{Need}
-use Rattle.gathering.specs.declared.need.Need.TheVariants as need
+use Rattle.call_steps.specs.declared.need.Need.{Need}
+use Rattle.call_steps.specs.declared.need.Need.TheVariants as need
 
 -- the stamp of the pinned version, its course, whether it was coded since its last step, and whether memory was wanting in its last coding and in its last step
 pub record GatherOf : Type 0 where
@@ -45,11 +45,6 @@ stepped_at w short s takes stage = (s, w, takes)
 abbrev pub stepped : GatherOf → Bool → Server → List ℕ → Server × GatherOf × List ℕ
 stepped w short s takes = stepped_at w short s takes w.course.stage
 
--- the same server of the same book
-pub record IsSame (old new : ServerState) : Type 0 where
-  pub number : new.number ≡ old.number
-  pub book : new.book ≡ old.book
-
 -- what it needs: a server, or the coder once all parts have come
 abbrev pub need_by : Option ℕ → Bool → Bool → Need
 need_by (Some server) bytes coded = need.Server server
@@ -59,11 +54,6 @@ need_by None bytes coded = need.Finished
 -- by its stage
 abbrev pub need_of : GatherOf → Need
 need_of w = need_by (server_of w.course) (has_bytes w.course.stage) w.coded
-
--- of the server that is needed
-abbrev pub IfServer : Need → (ℕ → Type 0) → Type 0
-IfServer (need.Server server) holds = holds server
-IfServer needed holds = ⊤
 
 -- a part that was asked for: of the version, its book and code, of the server that was asked and the layers it was asked for
 pub record IsOwnPart (w : GatherOf) (part : PartOf) : Type 0 where

@@ -5,18 +5,20 @@ ghost use Rattle.store_core.specs.Told.{Told};
 ghost use Rattle.store_resume.specs.Stage.{Aim};
 ghost use Rattle.chunk_server.specs.Core.{core_of};
 ghost use Rattle.gather_course.specs.Courses.{IsAskingStage, new_course, server_of, is_look, is_fetch, layers_asked};
-ghost use Rattle.gather_course.specs.Aims.{lost_in, IsTooMany};
-ghost use Rattle.gathering.specs.Gathers.{new_gather, heard, taking, stepped, IsOwnPart, IsSame};
+ghost use Rattle.gather_course.specs.Aims.{IsTooMany};
+ghost use Rattle.store_core.specs.Told.{lost_in};
+ghost use Rattle.gathering.specs.Gathers.{new_gather, heard, taking, stepped, IsOwnPart};
+ghost use Rattle.chunk_server.specs.State.{IsSame};
 ghost use Rattle.gathering.specs.Parts.{IsPart, AreNone};
 
-use crate::need::Need;
+use call_steps::Need;
 use chunk_server::{Fetched, Presence, Server};
 use clay_grid::Geometry;
-use gather_course::{Course, LostChunk};
+use gather_course::Course;
 use read_ledger::Takes;
 use std::alloc::{AllocError, Global};
 use std::marker::Model;
-use store_map::{Found, Placement};
+use store_map::{Found, LostChunk, Placement};
 use version_seal::{SealedPart, Stamp};
 
 /// A pinned stripe: its version that was current, and how each server took that version's chunk.
@@ -85,7 +87,8 @@ fn clear(helpers: &mut [Option<Vec<u8>>])
 }
 
 impl Gather {
-    ghost use Rattle.gathering.specs.Gathers.{need_of, IfServer};
+    ghost use Rattle.gathering.specs.Gathers.{need_of};
+    ghost use Rattle.call_steps.specs.Steps.{IfServer};
 
     /// The gathering of a stripe's bytes from `start` up to `end`.
     pub fn range(

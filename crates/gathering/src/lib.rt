@@ -5,7 +5,5 @@
 mod coding;
 mod gather;
 pub mod laws;
-mod need;
 
 pub use gather::{Gather, Pinned};
-pub use need::Need;

@@ -6,9 +6,9 @@ ghost use Rattle.machine_walks.specs.Works.{call_of, IsIn, Keeps, KeepsAll};
 
 use crate::waiting::Waiting;
 use crate::work::Work;
+use call_steps::Need;
 use chunk_server::Server;
 use clay_repair::PlainCoder;
-use gathering::Need;
 use std::alloc::{AllocError, Global};
 use std::marker::Model;
 use std::thread::Threads;

@@ -3,7 +3,7 @@ ghost use Rattle.machine_walks.specs.Small.{small_code};
 
 use crate::places::{Event, Places};
 use crate::work::Work;
-use gathering::Need;
+use call_steps::Need;
 use std::alloc::{AllocError, Global};
 use std::marker::Model;
 use std::mem;

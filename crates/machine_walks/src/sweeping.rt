@@ -2,7 +2,7 @@
 ghost use Rattle.machine_walks.specs.Works.{KeepsAll};
 
 use crate::places::Places;
-use gathering::Need;
+use call_steps::Need;
 use std::alloc::{AllocError, Global};
 use sweeper::Sweeper;
 

@@ -1,7 +1,7 @@
 ghost use Rattle.std.specs.Prelude.{◌≡◌, ◌<◌, true};
 ghost use Rattle.clay_grid.specs.Shape.{chunk_count};
 ghost use Rattle.chunk_server.specs.Core.{core_of};
-ghost use Rattle.gathering.specs.Gathers.{IfServer};
+ghost use Rattle.call_steps.specs.Steps.{IfServer};
 ghost use Rattle.store_core.specs.Agreement.{Agrees, ActorToken};
 ghost use Rattle.stripe_dir.specs.Sealed.{Sealed};
 ghost use Rattle.stripe_dir.specs.Seats.{client_seat, repairer_seat};
@@ -13,12 +13,12 @@ ghost use Rattle.machine_walks.specs.Whole.{AreWhole, IsReady, Grows};
 
 use crate::padding::are_padded;
 use crate::said::{said, said_repair};
+use call_steps::Need;
 use chunk_server::Server;
 use clay_repair::Coder;
 use client_patch::PatchCall;
 use client_put::PutCall;
 use client_read::ReadCall;
-use gathering::Need;
 use repairer::RepairCall;
 use std::alloc::{AllocError, Global};
 use std::thread::Threads;

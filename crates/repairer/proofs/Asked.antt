@@ -5,7 +5,7 @@ use Rattle.store_core.specs.Note.{note_of_rebuild}
 use Rattle.store_core.specs.Server.{Server}
 use Rattle.store_resume.specs.Stage.{Aim}
 use Rattle.gather_course.specs.Courses.{IsAskingStage}
-use Rattle.gathering.specs.declared.need.Need.TheVariants as need
+use Rattle.call_steps.specs.declared.need.Need.TheVariants as need
 use Rattle.gathering.specs.Gathers.{GatherOf, stepped}
 use Rattle.call_steps.specs.CallOf.{CallOf, act_of}
 use Rattle.call_steps.specs.Steps.{need_of, stepped_at_server}

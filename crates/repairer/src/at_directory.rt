@@ -9,9 +9,8 @@ ghost use Rattle.repairer.specs.Standing.{stage_of};
 
 use crate::repair_call::RepairCall;
 use crate::stage::Stage;
-use call_steps::RepairOutcome;
+use call_steps::{Need, RepairOutcome};
 use call_token::{ConfirmAnswer, EndAnswer};
-use gathering::Need;
 use std::mem;
 use stripe_dir::Directory;
 

@@ -4,17 +4,17 @@ ghost use Rattle.store_resume.specs.State.{Sequel, State};
 ghost use Rattle.store_resume.specs.States.{stage_state};
 ghost use Rattle.gather_course.specs.Aims.{ending_at};
 ghost use Rattle.chunk_server.specs.Core.{core_of};
-ghost use Rattle.gathering.specs.Gathers.{IsSame};
+ghost use Rattle.chunk_server.specs.State.{IsSame};
 ghost use Rattle.call_steps.specs.Outcomes.{repair_outcome_of};
 ghost use Rattle.call_steps.specs.Steps.{need_of, stepped_at_server};
 ghost use Rattle.repairer.specs.Standing.{stage_of};
 
 use crate::repair_call::RepairCall;
 use crate::stage::Stage;
-use call_steps::RepairOutcome;
+use call_steps::{Need, RepairOutcome};
 use chunk_server::{Installed, Server};
 use gather_course::Ending;
-use gathering::{Gather, Need};
+use gathering::Gather;
 
 // How a call ends whose gathering has ended without its bytes.
 fn outcome_of(ending: Ending, gather: Gather) -> RepairOutcome

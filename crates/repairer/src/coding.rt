@@ -10,9 +10,9 @@ ghost use Rattle.repairer.specs.Standing.{stage_of};
 
 use crate::repair_call::RepairCall;
 use crate::stage::Stage;
-use call_steps::RepairOutcome;
+use call_steps::{Need, RepairOutcome};
 use clay_repair::Coder;
-use gathering::{Gather, Need, Pinned};
+use gathering::{Gather, Pinned};
 use read_ledger::Takes;
 use std::alloc::AllocError;
 use std::thread::Threads;

@@ -7,7 +7,7 @@ mod BytesPinned
 pub mod Acts
 mod TargetsAway
 pub mod TakesOfRuns
-mod ClientLines
+pub mod ClientLines
 mod NeverPrepares
 mod Refusals
 pub mod Ample

@@ -1,6 +1,7 @@
 -- What a step is answered.
 use Rattle.std.specs.Prelude.{ℕ, List, Option}
 use Rattle.store_map.specs.declared.placement.Found.{Found}
+use Rattle.store_map.specs.declared.placement.LostChunk.{LostChunk}
 use Rattle.store_map.specs.declared.placement.Placement.{Placement}
 use Rattle.store_map.specs.declared.reply.Reply.{Reply}
 
@@ -15,6 +16,10 @@ pub record Lost : Type 0 where
   pub server : ℕ
   pub placed : Placement
   pub found : Found
+
+-- a missing server of the program
+abbrev pub lost_in : LostChunk → Lost
+lost_in lost = record { server = lost.server; placed = lost.placed; found = lost.found }
 
 -- an answer of a step, with numbers alone
 pub data Told : Type 0 where

@@ -9,7 +9,7 @@ use Rattle.store_map.specs.declared.script.ClientPart.{ClientPart}
 use Rattle.store_map.specs.declared.script.RepairPart.{RepairPart}
 use Rattle.store_map.specs.declared.script.Script.{Script}
 use Rattle.transcript_text.specs.declared.call_name.CallName.TheVariants as name
-use Rattle.hist_rules.specs.Finished.{kept_calls}
+use Rattle.hist_rules.specs.Finished.{kept_calls, Finished}
 use Rattle.hist_rules.specs.Named.{answered_calls}
 use Rattle.store_core.specs.Core.{Core, sweeper_has_step}
 use Rattle.store_core.specs.NextAct.{job_of, rebuild_job}
@@ -71,17 +71,7 @@ kept_ended calls (Some limit) work c same is e number low = by (is_left work c e
     by (inl all) = omega (arith, all, same, low)
     by (inr one) = let left : length work.jobs - length c.ended ≡ 1 = one.0 in omega (arith, left, same, low)
 
-module _ (script : Script) (core : Core) (known : EndKnown script core) (drained : is_unfinished script core ≡ false) where
-  client_quiet : any_has_step (client_work script) core.clients ≡ false
-  client_quiet =
-      first_false (any_has_step (client_work script) core.clients) (any_has_step (repairer_work script) core.repairers)
-      (first_false (any_has_step (client_work script) core.clients || any_has_step (repairer_work script) core.repairers) (sweeper_has_step core) drained)
-
-  repairer_quiet : any_has_step (repairer_work script) core.repairers ≡ false
-  repairer_quiet =
-      rest_false (any_has_step (client_work script) core.clients) (any_has_step (repairer_work script) core.repairers)
-      (first_false (any_has_step (client_work script) core.clients || any_has_step (repairer_work script) core.repairers) (sweeper_has_step core) drained)
-
+module _ (script : Script) (core : Core) (known : EndKnown script core) (client_quiet : any_has_step (client_work script) core.clients ≡ false) (repairer_quiet : any_has_step (repairer_work script) core.repairers ≡ false) where
   client_done : (i number : ℕ) (part : ClientPart) → slice_get script.clients i ≡ Some part → number < kept_calls part.calls part.leave → Contains (answered_calls (shown script core)) (name.Client i number)
   client_done i number part is low =
       let work : Work = record { jobs = map job_of part.calls; leave = part.leave } in
@@ -110,12 +100,24 @@ module _ (script : Script) (core : Core) (known : EndKnown script core) (drained
   if_repairer i number None is = tt
   if_repairer i number (Some part) is = repairer_done i number part is
 
+-- where nobody has a step, each call that isn't left is answered, refused, or has its result
+pub ends_finished : (script : Script) (core : Core) → EndKnown script core → any_has_step (client_work script) core.clients ≡ false → any_has_step (repairer_work script) core.repairers ≡ false → Finished script (shown script core)
+ends_finished script core known clients repairers =
+    record {
+      clients = λ i number. if_client script core known clients repairers i number (slice_get script.clients i) refl;
+      repairers = λ i number. if_repairer script core known clients repairers i number (slice_get script.repairers i) refl;
+    }
+
 pub runs_finish : RunsFinish
 runs_finish script shortages geometry valid tokens =
     let core : Core = run_core script shortages (tokens ++ token.Drain ∷ []) in
     let known : EndKnown script core = end_known script geometry valid shortages (tokens ++ token.Drain ∷ []) in
     let drained : is_unfinished script core ≡ false = (drains_end script shortages geometry valid).drained tokens in
+    let actors : (any_has_step (client_work script) core.clients || any_has_step (repairer_work script) core.repairers) ≡ false =
+    first_false (any_has_step (client_work script) core.clients || any_has_step (repairer_work script) core.repairers) (sweeper_has_step core) drained in
+    let clients : any_has_step (client_work script) core.clients ≡ false = first_false (any_has_step (client_work script) core.clients) (any_has_step (repairer_work script) core.repairers) actors in
+    let repairers : any_has_step (repairer_work script) core.repairers ≡ false = rest_false (any_has_step (client_work script) core.clients) (any_has_step (repairer_work script) core.repairers) actors in
     record {
-      clients = λ i number. if_client script core known drained i number (slice_get script.clients i) refl;
-      repairers = λ i number. if_repairer script core known drained i number (slice_get script.repairers i) refl;
+      clients = λ i number. if_client script core known clients repairers i number (slice_get script.clients i) refl;
+      repairers = λ i number. if_repairer script core known clients repairers i number (slice_get script.repairers i) refl;
     }

@@ -22,3 +22,4 @@ pub mod OrderEnds
 pub mod OrderCalls
 pub mod OrderRuns
 pub mod Finishing
+pub mod FewWipes

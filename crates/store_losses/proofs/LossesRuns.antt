@@ -45,12 +45,13 @@ use Rattle.store_sound.proofs.SoundVersions.{change_here}
 use Rattle.store_history.proofs.ActorLines.{each_changed}
 use Rattle.store_history.proofs.AtWork.{AtWork, client_at, repairer_at, first, act, after, proper, of_kind, answered}
 use Rattle.store_history.proofs.Induction.{client_after, repairer_after, operator_after, sweeper_after, KeptBySteps, run_has}
+use Rattle.store_history.specs.HistoryLaws.{HasFewWipes}
 use Rattle.store_losses.proofs.KeptVersions.{IsGone, directory_keeps, server_keeps}
 use Rattle.store_losses.proofs.LossesActs.{Known, AllServers, Missed, SeenBy, There, TookAt, Heard, MovesOn, heard_on}
 use Rattle.store_losses.proofs.LossesHeard.{HeardBy}
 use Rattle.store_losses.proofs.LossesOwn.{Own, own_step}
 use Rattle.store_losses.proofs.LossesServer.{ServerKnown}
-use Rattle.store_losses.proofs.LossesServers.{wiped, made_away, KnownAt, known_more, one_server, call_known, wipe_known, down_known, up_known, can_rise}
+use Rattle.store_losses.proofs.LossesServers.{wiped, made_away, wiped_append, KnownAt, known_more, one_server, call_known, wipe_known, down_known, up_known, can_rise}
 use Rattle.store_losses.proofs.LossesState.{TellsPlaced, Onward, stays_on, step_onward, took_on, took_server, GoneAt, gone_on, PinsIt, Pinned}
 use Rattle.store_losses.proofs.ServerChunks.{Keeps, Rises}
 use Rattle.store_losses.proofs.VersionMoves.{row_at, StepVersions, Moved, StepChange, versions_move}
@@ -150,7 +151,7 @@ module _ (most downs : ℕ → ℕ) (server : ℕ) (step : ServerStep) (places :
   server_knows (Some s) e known = record { kept = server_keeps false server step s places.servers places.directory.versions e (rises s e) spares known.kept; tells = known.tells }
 
 -- ---- all of a run
-module _ (script : Script) (can : CanRun script) (some : 0 < chunk_count script.geometry) (all : List Token) (few : length all < 2 ^ 64) where
+module _ (script : Script) (can : CanRun script) (some : 0 < chunk_count script.geometry) (all : List Token) (few : HasFewWipes all) where
   abbrev g : Shape
   g = script.geometry
 
@@ -188,12 +189,12 @@ module _ (script : Script) (can : CanRun script) (some : 0 < chunk_count script.
   next_is : (past : List Token) (next : Token) (rest : List Token) → all ≡ (past ++ next ∷ []) ++ rest → all ≡ past ++ (next ∷ rest)
   next_is past next rest is = is ∙ append_assoc past (next ∷ []) rest
 
-  room : (past : List Token) (next : Token) (rest : List Token) → all ≡ (past ++ next ∷ []) ++ rest → length past + 1 < 2 ^ 64
-  room past next rest is =
-      let whole : length all ≡ length ((past ++ next ∷ []) ++ rest) = ap (λ (l : List Token). length l) is in
-      let one : length ((past ++ next ∷ []) ++ rest) ≡ length (past ++ next ∷ []) + length rest = length-append (past ++ next ∷ []) rest in
-      let two : length (past ++ next ∷ []) ≡ length past + 1 = length-append past (next ∷ []) in
-      omega (arith, whole, one, two, few)
+  room : (past : List Token) (next : Token) (rest : List Token) → all ≡ (past ++ next ∷ []) ++ rest → HasFewWipes (past ++ next ∷ [])
+  room past next rest is server =
+      let whole : wiped all server ≡ wiped ((past ++ next ∷ []) ++ rest) server = ap (λ (l : List Token). wiped l server) is in
+      let parts : wiped ((past ++ next ∷ []) ++ rest) server ≡ wiped (past ++ next ∷ []) server + wiped rest server = wiped_append (past ++ next ∷ []) rest server in
+      let most : wiped all server < 2 ^ 64 = few server in
+      omega (arith, whole, parts, most)
 
   -- a group of which nobody made the step
   group_on : (who_of : ℕ → Actor) (works : List Work) (callings : List Calling) (before now : Places) → ((i : ℕ) (kind : Kind) → MovesOn most downs (who_of i) kind before now) → HeardIn who_of works callings before
@@ -374,7 +375,7 @@ module _ (script : Script) (can : CanRun script) (some : 0 < chunk_count script.
 
   -- and at a server
   module _ (past : List Token) (next : Token) (core : Core) (has : Has past core) (server : ℕ) (step : ServerStep) (keeps : (n : ℕ) → Keeps n step)
-      (rises : length past + 1 < 2 ^ 64 → (s : Server) → ServerKnown (wiped past) (made_away past) server s → Rises step s.epoch)
+      (rises : HasFewWipes (past ++ next ∷ []) → (s : Server) → ServerKnown (wiped past) (made_away past) server s → Rises step s.epoch)
       (knows : (s : Server) → ServerKnown (wiped past) (made_away past) server s → ServerKnown (wiped (past ++ next ∷ [])) (made_away (past ++ next ∷ [])) server (at_server false step s).0) where
     operator_holds : Has (past ++ next ∷ []) (operator_after (Act.AtServer server step) core)
     operator_holds rest is_now = by (slice_get core.servers server) refl
@@ -480,7 +481,7 @@ module _ (script : Script) (can : CanRun script) (some : 0 < chunk_count script.
         client = client_holds;
         repairer = repairer_holds;
         sweeper = sweeper_holds;
-        wipe = λ past core kept has server. operator_holds past (token.Wipe server) core has server ServerStep.Wipe (λ n. tt) (λ room s known. can_rise past server s known room) (λ s known. wipe_known past server s known);
+        wipe = λ past core kept has server. operator_holds past (token.Wipe server) core has server ServerStep.Wipe (λ n. tt) (λ room s known. can_rise past server s known (room server)) (λ s known. wipe_known past server s known);
         down = λ past core kept has server. operator_holds past (token.Down server) core has server ServerStep.Down (λ n. tt) (λ room s known. tt) (λ s known. down_known past server s known);
         up = λ past core kept has server. operator_holds past (token.Up server) core has server ServerStep.Up (λ n. tt) (λ room s known. tt) (λ s known. up_known past server s known);
         reap_client = λ past core kept has i. reap_holds past (token.ReapClient i) core kept has (actor.Client i);

@@ -31,6 +31,9 @@ wiped tokens j = count_by (is_wipe_of j) tokens
 abbrev pub made_away : List Token → ℕ → ℕ
 made_away tokens j = count_by (is_down_of j) tokens
 
+pub wiped_append : (past rest : List Token) (j : ℕ) → wiped (past ++ rest) j ≡ wiped past j + wiped rest j
+wiped_append past rest j = count-append (is_wipe_of j) past rest
+
 abbrev pub KnownAt : List Token → List Server → Type 0
 KnownAt past servers = (j : ℕ) (s : Server) → slice_get servers j ≡ Some s → ServerKnown (wiped past) (made_away past) j s
 
@@ -119,9 +122,11 @@ module _ (past : List Token) (server : ℕ) (s : Server) (known : ServerKnown (w
       let few : s.downs ≤ made_away past server = known.downs_told in
       record { epoch = omega (arith, wipes, low); downs_told = omega (arith, downs, few); away = λ e. absurd (true≢false (sym e)) }
 
-  -- an epoch can be raised while there are fewer lines than 2^64
-  pub can_rise : length past + 1 < 2 ^ 64 → s.epoch < 2 ^ 64 - 1
+  -- an epoch can be raised while the server is emptied less often than 2^64 times
+  pub can_rise : wiped (past ++ token.Wipe server ∷ []) server < 2 ^ 64 → s.epoch < 2 ^ 64 - 1
   can_rise few =
       let low : s.epoch ≤ wiped past server = known.epoch in
-      let most : wiped past server ≤ length past = count_by-le-length (is_wipe_of server) past in
-      omega (arith, low, most, few)
+      let wipes : wiped (past ++ token.Wipe server ∷ []) server ≡ wiped past server + wiped (token.Wipe server ∷ []) server = count-append (is_wipe_of server) past (token.Wipe server ∷ []) in
+      let one : wiped (token.Wipe server ∷ []) server ≡ cond {A = ℕ} (nat_eq server server) 1 0 + 0 = count-cons (is_wipe_of server) (token.Wipe server) [] in
+      let is_one : ◌≡◌ {A = ℕ} (cond {A = ℕ} (nat_eq server server) 1 0) 1 = ap (λ b. cond {A = ℕ} b 1 0) (eq-eqb server server refl) in
+      omega (arith, low, wipes, one, is_one, few)

@@ -1,5 +1,5 @@
 -- A chunk that a server took is still there, until the sweeper takes its version or the operator empties the server.
-use Rattle.std.specs.Prelude.{◌≡◌, ℕ, ◌^◌, ◌<◌, ◌≤◌, ◌⊎◌, true, List, length, Some, ⊤}
+use Rattle.std.specs.Prelude.{◌≡◌, ℕ, ◌<◌, ◌≤◌, ◌⊎◌, true, List, Some, ⊤}
 use Rattle.std.specs.List.{slice_get}
 use Rattle.clay_grid.specs.Limits.{IsGeometry}
 use Rattle.store_map.specs.Naming.{IsValid}
@@ -13,6 +13,7 @@ use Rattle.store_core.specs.Lists.{is_among}
 use Rattle.store_core.specs.Schedule.{run_core}
 use Rattle.store_core.specs.Server.{Server}
 use Rattle.store_core.specs.Step.{Shortage}
+use Rattle.store_history.specs.HistoryLaws.{HasFewWipes}
 
 -- the sweeper hasn't taken the version
 abbrev pub IsLeft : Standing → Type 0
@@ -35,5 +36,5 @@ KeepsChunks core =
 -- so in every run of a valid script, whatever was wanting of memory
 abbrev pub RunsKeepChunks : Type 0
 RunsKeepChunks =
-    (script : Script) (shortages : List Shortage) → IsGeometry script.geometry → IsValid script → (tokens : List Token) → length tokens < 2 ^ 64 →
+    (script : Script) (shortages : List Shortage) → IsGeometry script.geometry → IsValid script → (tokens : List Token) → HasFewWipes tokens →
     KeepsChunks (run_core script shortages tokens)

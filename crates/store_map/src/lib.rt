@@ -24,6 +24,6 @@ pub use limits::{
 pub use list_of::{ByteList, ListOf};
 pub use name::{MAX_NAME, Name, NameFault, is_name, is_name_byte};
 pub use object_map::ObjectMap;
-pub use placement::{Found, Placement};
+pub use placement::{Found, LostChunk, Placement};
 pub use reply::Reply;
 pub use script::{ClientPart, RepairPart, Script};

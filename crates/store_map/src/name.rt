@@ -6,6 +6,7 @@ ghost use Rattle.std.specs.List.{list_all};
 ghost use Rattle.store_map.specs.Name.{IsName, is_name, is_name_byte};
 ghost use Rattle.store_map.specs.declared.name.NameFault.TheVariants.{Malformed, OutOfMemory};
 
+use smallvec::SmallVec;
 use std::alloc::{AllocError, Global};
 use std::hash::{Hash, Hasher};
 use std::marker::Model;
@@ -13,6 +14,9 @@ use thiserror::Error;
 
 /// The most characters that a name has.
 pub const MAX_NAME: usize = 64;
+
+// So many characters stand in the name itself. Longer names have a block of memory of their own.
+const SHORT: usize = 16;
 
 /// Why bytes were not made a name.
 #[derive(Clone, Copy, PartialEq, Eq, Debug, Error)]
@@ -26,7 +30,7 @@ pub enum NameFault {
 /// An object's name: 1 to 64 characters of `a-z`, `0-9`, `.`, `_`, `-`.
 #[derive(Debug, Drop)]
 pub struct Name {
-    bytes: Vec<u8>,
+    bytes: SmallVec<u8, SHORT>,
 }
 
 impl Model for Name {
@@ -103,7 +107,7 @@ impl Name {
         if !is_name(bytes) {
             return Err(NameFault::Malformed);
         }
-        match Vec::from_slice(alloc, bytes) {
+        match SmallVec::from_slice(alloc, bytes) {
             Ok(bytes) => Ok(Name { bytes }),
             Err(_) => Err(NameFault::OutOfMemory),
         }
@@ -120,7 +124,7 @@ impl Name {
     pub fn copy(&self) -> Result<Name, AllocError>
         ensures { IfOk result (λ name. name ≡ self.now) }
     {
-        let bytes = self.bytes.clone()?;
+        let bytes = SmallVec::from_slice(*self.bytes.allocator(), self.bytes.as_slice())?;
         Ok(Name { bytes })
     }
 }

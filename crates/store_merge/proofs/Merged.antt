@@ -98,13 +98,13 @@ module _ (script : Script) (m : MadeStep) (rest : List MadeStep) (works : List W
 
 -- ---- one step
 module _ (script : Script) (number : ℕ) (shortage : Shortage) (answer : Told) (stamp : ℕ) (more : List MadeStep) where
-  abbrev made : Actor → Act → MadeStep
+  abbrev pub made : Actor → Act → MadeStep
   made who act = made_by who number shortage answer stamp act
 
-  abbrev At : List MadeStep → Place → List MadeStep
+  abbrev pub At : List MadeStep → Place → List MadeStep
   At steps place = filter (is_at place) steps
 
-  abbrev Of : List MadeStep → Actor → List MadeStep
+  abbrev pub Of : List MadeStep → Actor → List MadeStep
   Of steps who = filter (is_by who) steps
 
   module _ (who : Actor) where
@@ -113,7 +113,7 @@ module _ (script : Script) (number : ℕ) (shortage : Shortage) (answer : Told) 
     directory_goes (Act.AtServer server step) d h = h
     directory_goes (Act.Finish outcome) d h = h
 
-    directory_ends : (act : Act) (d : Directory) → after_all directory_next (At more Place.Directory) (directory_next (made who act) d) ≡ after_all directory_next (At (made who act ∷ more) Place.Directory) d
+    pub directory_ends : (act : Act) (d : Directory) → after_all directory_next (At more Place.Directory) (directory_next (made who act) d) ≡ after_all directory_next (At (made who act ∷ more) Place.Directory) d
     directory_ends (Act.AtDirectory step) d = refl
     directory_ends (Act.AtServer server step) d = refl
     directory_ends (Act.Finish outcome) d = refl
@@ -178,7 +178,7 @@ module _ (script : Script) (number : ℕ) (shortage : Shortage) (answer : Told) 
     sweeper_ends actor.Sweeper s = refl
     sweeper_ends actor.Operator s = refl
 
-    abbrev lines_after : Actor → List Token → List Token
+    abbrev pub lines_after : Actor → List Token → List Token
     lines_after actor.Operator lines = lines_next (made actor.Operator act) lines
     lines_after who lines = lines
 
@@ -189,7 +189,7 @@ module _ (script : Script) (number : ℕ) (shortage : Shortage) (answer : Told) 
     operator_goes actor.Operator lines h = h.1
 
     -- the lists go on after the step
-    goes : (who : Actor) (lines : List Token) (core : Core) → GoOn script lines core (At (made who act ∷ more)) (Of (made who act ∷ more))
+    pub goes : (who : Actor) (lines : List Token) (core : Core) → GoOn script lines core (At (made who act ∷ more)) (Of (made who act ∷ more))
         → GoOn script (lines_after who lines) (core_after script (made who act) core) (At more) (Of more)
     goes who lines core go =
         record {
@@ -217,7 +217,7 @@ none_made script None calling = map_none calling
 none_made script (Some work) calling = map_none calling
 
 -- a list that each place and each actor may go on with is a run
-merged : (script : Script) (steps : List MadeStep) (lines : List Token) (core : Core) → GoOn script lines core (λ place. filter (is_at place) steps) (λ who. filter (is_by who) steps)
+pub merged : (script : Script) (steps : List MadeStep) (lines : List Token) (core : Core) → GoOn script lines core (λ place. filter (is_at place) steps) (λ who. filter (is_by who) steps)
     → EndAs script core (λ place. filter (is_at place) steps) (λ who. filter (is_by who) steps) (run_tokens script (map token_of steps) (record { core = core; shortages = map (λ (m : MadeStep). m.shortage) steps })).core
 merged script [] lines core go =
     record {

@@ -19,10 +19,10 @@ use Rattle.store_core.specs.ActPlace.{Place}
 use Rattle.store_merge.specs.MadeSteps.{MadeStep, is_by}
 use Rattle.store_merge.specs.AtPlaces.{AllCome, after_all}
 use Rattle.store_merge.specs.Lines.{lines_next, IsNextLine, operator_act, line_of, token_of}
-use Rattle.store_merge.specs.Histories.{IsInOrder}
+use Rattle.store_merge.specs.Histories.{Histories, StandTwice, GoOn, IsInOrder}
 use Rattle.store_merge.specs.Merging.{EndAs}
 use Rattle.store_merge.specs.InOrder.{in_order}
-use Rattle.store_merge.specs.Threaded.{is_line, lines_of, IsStepOf, ShowsThreadedRuns}
+use Rattle.store_merge.specs.Threaded.{is_line, lines_of, IsStepOf, IsThreadedRun, ShowsThreadedRuns}
 use Rattle.store_merge.proofs.Steps.{made_by}
 use Rattle.store_merge.proofs.Orders.{one_self}
 use Rattle.store_merge.proofs.Merged.{merges}
@@ -159,19 +159,26 @@ all_steps script (m ∷ steps) c r =
     by actor.Operator number shortage answer stamp act p q = line_steps script act
 
 -- ---- the law
-pub shows : ShowsThreadedRuns
-shows script h twice go done end ends =
+-- the run, and that the core is the one that it ends with
+pub shows_core : (script : Script) (h : Histories) → StandTwice h → GoOn script (lines_of script) (first_core script) h.at h.of → after_all lines_next (h.of actor.Operator) (lines_of script) ≡ [] → (end : Core)
+    → EndAs script (first_core script) h.at h.of end → (run : IsThreadedRun script (shown script end)) × (end ≡ run_core script run.shortages run.tokens)
+shows_core script h twice go done end ends =
     let steps : List MadeStep = in_order script h in
     let order : IsInOrder h steps = sorted script h twice (lines_of script) go in
     let shortages : List Shortage = map (λ (m : MadeStep). m.shortage) steps in
-    let same : end ≡ run_core script shortages (map token_of steps) = same_core script (first_core script) h.at h.of end _ ends (merges script (lines_of script) h steps twice go order) in
-    record {
-      tokens = map token_of steps;
-      shortages = shortages;
-      steps =
-          all_steps script steps (λ i le. order.of (actor.Client i) ∙ no_client script h twice (lines_of script) go i le)
-          (λ i le. order.of (actor.Repairer i) ∙ no_repairer script h twice (lines_of script) go i le);
-      lines =
-          kept_lines steps ∙ ap (map (λ (m : MadeStep). line_of m.act)) (order.of actor.Operator) ∙ all_lines (h.of actor.Operator) (lines_of script) go.operator done;
-      shows = ap (shown script) same;
-    }
+    let same : end ≡ run_core script shortages (map token_of steps) = same_core script (first_core script) h.at h.of end _ ends (merges script (lines_of script) h steps twice go order) in (
+      record {
+        tokens = map token_of steps;
+        shortages = shortages;
+        steps =
+            all_steps script steps (λ i le. order.of (actor.Client i) ∙ no_client script h twice (lines_of script) go i le)
+            (λ i le. order.of (actor.Repairer i) ∙ no_repairer script h twice (lines_of script) go i le);
+        lines =
+            kept_lines steps ∙ ap (map (λ (m : MadeStep). line_of m.act)) (order.of actor.Operator) ∙ all_lines (h.of actor.Operator) (lines_of script) go.operator done;
+        shows = ap (shown script) same;
+      },
+      same,
+    )
+
+pub shows : ShowsThreadedRuns
+shows script h twice go done end ends = (shows_core script h twice go done end ends).0

@@ -51,6 +51,7 @@ use Rattle.store_runs.specs.FormLaws.{IsOfFormOne}
 use Rattle.store_runs.specs.ToldLaws.{EndedSo}
 use Rattle.store_runs.proofs.NeverAway.{servers_stay_in_form_one}
 use Rattle.store_runs.proofs.Scripts.{can_run}
+use Rattle.store_history.proofs.FewWipes.{few_wipes}
 use Rattle.store_history.proofs.NamedCalls.{inside}
 use Rattle.store_history.proofs.OrderEnds.{EndKnown, client_has, repairer_has}
 use Rattle.store_history.proofs.OrderLists.{all_indexed}
@@ -329,7 +330,7 @@ module _ (script : Script) (geometry : IsGeometry script.geometry) (valid : IsVa
   all_flat f [] h = All-nil Q
   all_flat f (line ∷ lines) h = All-append Q (f line) (flat_map f lines) (All-head (λ l. All Q (f l)) line lines h) (all_flat f lines (All-tail (λ l. All Q (f l)) line lines h))
 
-  found_missing : FoundMissing script (shown script core)
+  pub found_missing : FoundMissing script (shown script core)
   found_missing =
       All-append Q (flat_map (λ (line : XLine). missing_of_cause line.call line.cause) (shown script core).refused) (flat_map (λ (line : RLine). missing_of_result line.call line.result) (shown script core).repairs)
       (all_flat (λ (line : XLine). missing_of_cause line.call line.cause) (shown script core).refused
@@ -346,7 +347,6 @@ module _ (script : Script) (geometry : IsGeometry script.geometry) (valid : IsVa
 pub runs_find_missing : RunsFindMissing
 runs_find_missing script shortages geometry valid =
     let tokens : List Token = script.schedule in
-    let few : length tokens < 2 ^ 64 = (let most : length tokens ≤ 1000000 = valid.limits.schedule in omega (arith, most)) in
     let chunks : 0 < chunk_count script.geometry = (let two : 2 ≤ script.geometry.data_count = geometry.limits.data_chunks in omega (arith, two)) in
     let parity : 0 < script.geometry.parity_count = (let two : 2 ≤ script.geometry.parity_count = geometry.limits.parity_chunks.0 in omega (arith, two)) in
-    found_missing script geometry valid (run_core script shortages tokens) (end_known script geometry valid shortages tokens) (all_sure script (can_run script geometry valid) chunks parity tokens few shortages)
+    found_missing script geometry valid (run_core script shortages tokens) (end_known script geometry valid shortages tokens) (all_sure script (can_run script geometry valid) chunks parity tokens (few_wipes script valid) shortages)

@@ -22,6 +22,7 @@ use Rattle.store_core.specs.Work.{Ended, Work, Calling, new_calling, client_work
 use Rattle.store_runs.proofs.Runs.{CanRun}
 use Rattle.store_runs.proofs.RunsSound.{RunKeeps}
 use Rattle.store_runs.proofs.Scripts.{replicated}
+use Rattle.store_history.specs.HistoryLaws.{HasFewWipes}
 use Rattle.store_history.proofs.ActorLines.{each_changed}
 use Rattle.store_history.proofs.AtWork.{AtWork, client_at, repairer_at, first, act, after}
 use Rattle.store_history.proofs.Induction.{KeptBySteps, run_has}
@@ -81,7 +82,7 @@ module _ (most downs : ℕ → ℕ) (script : Script) where
     pub repairers : (i : ℕ) (c : Calling) → slice_get core.repairers i ≡ Some c → (work : Work) → slice_get (repairer_work script) i ≡ Some work → CallsSure work c
 
 -- ---- runs
-module _ (script : Script) (can : CanRun script) (some : 0 < chunk_count script.geometry) (parity : 0 < script.geometry.parity_count) (all : List Token) (few : length all < 2 ^ 64) where
+module _ (script : Script) (can : CanRun script) (some : 0 < chunk_count script.geometry) (parity : 0 < script.geometry.parity_count) (all : List Token) (few : HasFewWipes all) where
   abbrev most : ℕ → ℕ
   most = wiped all
 

@@ -20,6 +20,7 @@ use Rattle.store_core.specs.Schedule.{run_core}
 use Rattle.store_core.specs.Shown.{shown, repair_line, lines_of_ended}
 use Rattle.store_core.specs.Work.{Ended, Work, Calling, repairer_work}
 use Rattle.store_runs.proofs.Scripts.{can_run, Mapped, mapped}
+use Rattle.store_history.proofs.FewWipes.{few_wipes}
 use Rattle.store_history.proofs.NamedCalls.{inside}
 use Rattle.store_history.proofs.OrderEnds.{EndKnown, repairer_has}
 use Rattle.store_history.proofs.OrderLists.{all_indexed}
@@ -67,7 +68,7 @@ module _ (script : Script) (core : Core) (known : EndKnown script core) (own : A
   named_by rebuild (Outcome.Served point) h what e = subst (λ (o : Option RepairResult). IfSome o (λ w. NamesLoss script w rebuild)) e tt
   named_by rebuild (Outcome.Contended pairs) h what e = subst (λ (o : Option RepairResult). IfSome o (λ w. NamesLoss script w rebuild)) e tt
 
-  abbrev Named : RLine → Type 0
+  abbrev pub Named : RLine → Type 0
   Named line = IfSome (rebuild_of script line.call) (NamesLoss script line.result)
 
   one_line : (i number : ℕ) (outcome : Outcome) → ((what : RepairResult) → result_of outcome ≡ Some what → IfSome (rebuild_of script (name.Repairer i number)) (NamesLoss script what))
@@ -88,7 +89,7 @@ module _ (script : Script) (core : Core) (known : EndKnown script core) (own : A
       let so : Own (rebuild_job of.rebuild) e.outcome = subst (λ (j : Job). Own j e.outcome) (sym of.is_job) ((own i c is_c work.0 work.1).ended number job.0 e job.1 is_e) in
       one_line i number e.outcome (λ what is. subst (λ o. IfSome o (NamesLoss script what)) (sym of.is_rebuild) (named_by of.rebuild e.outcome so what is))
 
-  named_losses : All Named (shown script core).repairs
+  pub named_losses : All Named (shown script core).repairs
   named_losses =
       all_indexed (λ j. lines_of_ended (λ number ended. repair_line (name.Repairer j number) (result_of ended.outcome))) Named core.repairers
       (λ i c is_c. all_indexed (λ number ended. repair_line (name.Repairer i number) (result_of ended.outcome)) Named c.ended (λ number e is_e. own_line i c is_c number e is_e))
@@ -96,7 +97,6 @@ module _ (script : Script) (core : Core) (known : EndKnown script core) (own : A
 pub runs_name_losses : RunsNameLosses
 runs_name_losses script shortages geometry valid =
     let tokens : List Token = script.schedule in
-    let few : length tokens < 2 ^ 64 = (let most : length tokens ≤ 1000000 = valid.limits.schedule in omega (arith, most)) in
     let chunks : 0 < chunk_count script.geometry = (let two : 2 ≤ script.geometry.data_count = geometry.limits.data_chunks in omega (arith, two)) in
     let parity : 0 < script.geometry.parity_count = (let two : 2 ≤ script.geometry.parity_count = geometry.limits.parity_chunks.0 in omega (arith, two)) in
-    named_losses script (run_core script shortages tokens) (end_known script geometry valid shortages tokens) (all_own script (can_run script geometry valid) chunks parity tokens few shortages)
+    named_losses script (run_core script shortages tokens) (end_known script geometry valid shortages tokens) (all_own script (can_run script geometry valid) chunks parity tokens (few_wipes script valid) shortages)

@@ -21,6 +21,7 @@ use Rattle.store_core.specs.Work.{Ended, Work, Calling, new_calling, repairer_wo
 use Rattle.store_runs.proofs.Runs.{CanRun}
 use Rattle.store_runs.proofs.RunsSound.{RunKeeps}
 use Rattle.store_runs.proofs.Scripts.{replicated}
+use Rattle.store_history.specs.HistoryLaws.{HasFewWipes}
 use Rattle.store_history.proofs.ActorLines.{each_changed}
 use Rattle.store_history.proofs.AtWork.{AtWork, repairer_at, first, act, after}
 use Rattle.store_history.proofs.Induction.{KeptBySteps, run_has}
@@ -92,7 +93,7 @@ module _ (most downs : ℕ → ℕ) (script : Script) where
   AllOwn core = (i : ℕ) (c : Calling) → slice_get core.repairers i ≡ Some c → (work : Work) → slice_get (repairer_work script) i ≡ Some work → CallsOwn work c
 
 -- ---- runs
-module _ (script : Script) (can : CanRun script) (some : 0 < chunk_count script.geometry) (parity : 0 < script.geometry.parity_count) (all : List Token) (few : length all < 2 ^ 64) where
+module _ (script : Script) (can : CanRun script) (some : 0 < chunk_count script.geometry) (parity : 0 < script.geometry.parity_count) (all : List Token) (few : HasFewWipes all) where
   abbrev most : ℕ → ℕ
   most = wiped all
 

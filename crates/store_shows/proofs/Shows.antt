@@ -11,6 +11,8 @@ use Rattle.hist_rules.specs.Calls.{rebuild_of}
 use Rattle.hist_rules.proofs.HistoryLaw.{legal_is_history}
 use Rattle.hist_rules.specs.GivenUpOrLost.{NamesOwn}
 use Rattle.store_core.specs.Shown.{shown_of}
+use Rattle.store_history.specs.HistoryLaws.{HasFewWipes}
+use Rattle.store_history.proofs.FewWipes.{few_wipes}
 use Rattle.store_history.proofs.GivenUpLines.{runs_give_up}
 use Rattle.store_history.proofs.OrderRuns.{runs_keep_call_order}
 use Rattle.store_history.proofs.Replayed.{runs_reply}
@@ -38,16 +40,16 @@ module _ (script : Script) (t : Transcript) where
   line_names None what change loss = tt
   line_names (Some rebuild) what change loss = names_own what rebuild change loss
 
-  abbrev OfChange : RLine → Type 0
+  abbrev pub OfChange : RLine → Type 0
   OfChange line = IfSome (rebuild_of script line.call) (NamesChange script t line.result)
 
-  abbrev OfLoss : RLine → Type 0
+  abbrev pub OfLoss : RLine → Type 0
   OfLoss line = IfSome (rebuild_of script line.call) (NamesLoss script line.result)
 
-  abbrev OfOwn : RLine → Type 0
+  abbrev pub OfOwn : RLine → Type 0
   OfOwn line = IfSome (rebuild_of script line.call) (NamesOwn script t line.result)
 
-  all_names : (lines : List RLine) → All OfChange lines → All OfLoss lines → All OfOwn lines
+  pub all_names : (lines : List RLine) → All OfChange lines → All OfLoss lines → All OfOwn lines
   all_names [] change loss = All-nil OfOwn
   all_names (line ∷ lines) change loss =
       All-cons OfOwn line lines (line_names (rebuild_of script line.call) line.result (All-head OfChange line lines change) (All-head OfLoss line lines loss))
@@ -55,7 +57,7 @@ module _ (script : Script) (t : Transcript) where
 
 pub runs_show_histories : RunsShowHistories
 runs_show_histories script shortages geometry valid =
-    let few : length script.schedule < 2 ^ 64 = (let most : length script.schedule ≤ 1000000 = valid.limits.schedule in omega (arith, most)) in
+    let few : HasFewWipes script.schedule = few_wipes script valid in
     record {
       order = runs_keep_call_order script shortages geometry valid script.schedule few;
       replies = runs_reply script shortages geometry valid script.schedule few;

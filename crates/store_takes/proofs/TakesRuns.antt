@@ -44,6 +44,7 @@ use Rattle.store_history.proofs.ActorLines.{each_changed}
 use Rattle.store_history.proofs.AtWork.{AtWork, client_at, repairer_at, first, act, after, proper}
 use Rattle.store_takes.proofs.Given.{Was, WipesNot, act_matches, sums_match}
 use Rattle.store_history.proofs.Induction.{IsQuiet, KeptBySteps, operator_after, run_has}
+use Rattle.store_history.specs.HistoryLaws.{HasFewWipes}
 use Rattle.store_takes.proofs.ServerEpochs.{IsNoWipe}
 
 -- ---- sums
@@ -121,12 +122,6 @@ zeros (suc n) zero = refl
 zeros (suc n) (suc j) = zeros n j
 
 -- ---- tokens
-filter_short : (test : Token → Bool) (tokens : List Token) → length (filter test tokens) ≤ length tokens
-filter_short test [] = omega arith
-filter_short test (one ∷ tokens) =
-    let rest : length (filter test tokens) ≤ length tokens = filter_short test tokens in
-    cond_both {A = List Token} (test one) (one ∷ filter test tokens) (filter test tokens) (λ l. length l ≤ suc (length tokens)) (λ _. omega (arith, rest)) (λ _. omega (arith, rest))
-
 wipes_more : (past : List Token) (next : Token) (j : ℕ) → wipes (past ++ next ∷ []) j ≡ wipes past j + length (filter (is_wipe_of j) (next ∷ []))
 wipes_more past next j = ap (λ (l : List Token). length l) (filter-append (is_wipe_of j) past (next ∷ [])) ∙ length-append (filter (is_wipe_of j) past) (filter (is_wipe_of j) (next ∷ []))
 
@@ -157,15 +152,20 @@ quiet_dry (token.ReapClient i) h = tt
 quiet_dry (token.ReapRepairer i) h = tt
 quiet_dry token.Drain h = tt
 
-shorter : (past : List Token) (next : Token) → length (past ++ next ∷ []) < 2 ^ 64 → length past < 2 ^ 64 - 1
-shorter past next few = let e : length (past ++ next ∷ []) ≡ length past + 1 = length-append past (next ∷ []) in omega (arith, few, e)
+fewer : (past : List Token) (next : Token) → HasFewWipes (past ++ next ∷ []) → HasFewWipes past
+fewer past next few j =
+    let more : wipes (past ++ next ∷ []) j ≡ wipes past j + length (filter (is_wipe_of j) (next ∷ [])) = wipes_more past next j in
+    let all : wipes (past ++ next ∷ []) j ≡ count_by (is_wipe_of j) (past ++ next ∷ []) = length-filter (is_wipe_of j) (past ++ next ∷ []) in
+    let some : wipes past j ≡ count_by (is_wipe_of j) past = length-filter (is_wipe_of j) past in
+    let low : count_by (is_wipe_of j) (past ++ next ∷ []) < 2 ^ 64 = few j in
+    omega (arith, more, all, some, low)
 
 -- ---- what is kept
 abbrev Sized : ℕ → List Calling → Type 0
 Sized n callings = (i : ℕ) (c : Calling) → slice_get callings i ≡ Some c → length c.takes ≡ n
 
 abbrev Epochs : List Token → List Server → Type 0
-Epochs past servers = length past < 2 ^ 64 → (j : ℕ) (s : Server) → slice_get servers j ≡ Some s → s.epoch ≡ wipes past j
+Epochs past servers = HasFewWipes past → (j : ℕ) (s : Server) → slice_get servers j ≡ Some s → s.epoch ≡ wipes past j
 
 record Matching (n : ℕ) (past : List Token) (core : Core) : Type 0 where
   clients : Sized n core.clients
@@ -314,14 +314,11 @@ steady_taken server step steady places j now e = by (stood server step places (s
 wiped : (past : List Token) (server : ℕ) (places : Places) → Epochs past places.servers → Epochs (past ++ token.Wipe server ∷ []) (at_server_there false server ServerStep.Wipe places (slice_get places.servers server)).0.servers
 wiped past server places before few j now e = by (stood server ServerStep.Wipe places (slice_get places.servers server) refl j now e)
   where
-    low : length past < 2 ^ 64 - 1
-    low = shorter past (token.Wipe server) few
+    low : wipes (past ++ token.Wipe server ∷ []) j < 2 ^ 64
+    low = (let all : wipes (past ++ token.Wipe server ∷ []) j ≡ count_by (is_wipe_of j) (past ++ token.Wipe server ∷ []) = length-filter (is_wipe_of j) (past ++ token.Wipe server ∷ []) in let most : count_by (is_wipe_of j) (past ++ token.Wipe server ∷ []) < 2 ^ 64 = few j in omega (arith, all, most))
 
     known : (b : Server) → slice_get places.servers j ≡ Some b → b.epoch ≡ wipes past j
-    known b found = before (omega (arith, low)) j b found
-
-    most : wipes past j ≤ length past
-    most = filter_short (is_wipe_of j) past
+    known b found = before (fewer past (token.Wipe server) few) j b found
 
     count : wipes (past ++ token.Wipe server ∷ []) j ≡ wipes past j + length (filter (is_wipe_of j) (token.Wipe server ∷ []))
     count = wipes_more past (token.Wipe server) j
@@ -341,10 +338,9 @@ wiped past server places before few j now e = by (stood server ServerStep.Wipe p
         let single : length (filter (is_wipe_of j) (token.Wipe server ∷ [])) ≡ 1 = one true (eq-eqb j server (sym same)) in
         let was : b.epoch ≡ wipes past j = known b found in
         let is_raised : now.epoch ≡ min (b.epoch + 1) (2 ^ 64 - 1) = ap (λ (x : Server). x.epoch) is in
-        let up : wipes past j ≤ length past = most in
-        let short : length past < 2 ^ 64 - 1 = low in
+        let short : wipes (past ++ token.Wipe server ∷ []) j < 2 ^ 64 = low in
         let sum : wipes (past ++ token.Wipe server ∷ []) j ≡ wipes past j + length (filter (is_wipe_of j) (token.Wipe server ∷ [])) = count in
-        omega (arith, single, was, is_raised, up, short, sum)
+        omega (arith, single, was, is_raised, short, sum)
 
     by : (Stood server ServerStep.Wipe places.servers j now) ⊎ (slice_get places.servers j ≡ Some now) → now.epoch ≡ wipes (past ++ token.Wipe server ∷ []) j
     by (inl h) = two h.before h.found h.is
@@ -386,7 +382,7 @@ module _ (script : Script) (can : CanRun script) where
 
   -- the servers as they were
   dry_core : (past : List Token) (next : Token) (core : Core) → IsDry next → Epochs past core.servers → Epochs (past ++ next ∷ []) core.servers
-  dry_core past next core is before few j s e = before (let low : length past < 2 ^ 64 - 1 = shorter past next few in omega (arith, low)) j s e ∙ sym (dry past next is j)
+  dry_core past next core is before few j s e = before (fewer past next few) j s e ∙ sym (dry past next is j)
 
   swept_servers : (past : List Token) (core : Core) → P past core → (sweeper : Sweeper)
       → ((j : ℕ) (s : Server) → slice_get (at_places false actor.Sweeper 0 (next_sweep n sweeper) (places_in core)).0.servers j ≡ Some s
@@ -574,7 +570,7 @@ pub record TakesMatch (tokens : List Token) (t : Transcript) : Type 0 where
   pub taken : All (λ line. line.taken ≡ min (column line.server t.takes) (2 ^ 64 - 1)) t.servers
   pub epochs : All (λ line. line.epoch ≡ count_by (is_wipe_of line.server) tokens) t.servers
 
-pub takes_match : (script : Script) (can : CanRun script) (shortages : List Shortage) (tokens : List Token) → length tokens < 2 ^ 64 → TakesMatch tokens (shown script (run_core script shortages tokens))
+pub takes_match : (script : Script) (can : CanRun script) (shortages : List Shortage) (tokens : List Token) → HasFewWipes tokens → TakesMatch tokens (shown script (run_core script shortages tokens))
 takes_match script can shortages tokens few =
     let core : Core = run_core script shortages tokens in
     let end : RunKeeps script core × Matching (chunk_count script.geometry) tokens core =

@@ -10,7 +10,7 @@ use Rattle.store_core.specs.Directory.{Directory}
 use Rattle.store_core.specs.AtDirectory.{at_directory}
 use Rattle.store_core.specs.Server.{Server, at_server}
 use Rattle.store_core.specs.Sweep.{Sweeper}
-use Rattle.gathering.specs.declared.need.Need.TheVariants as need
+use Rattle.call_steps.specs.declared.need.Need.TheVariants as need
 use Rattle.sweeper.specs.Sweeps.{SweeperOf, new_sweeper, need_at, need_of, heard, at_directory_by, at_server_by, stepped_at_directory, stepped_at_server}
 use Rattle.sweeper.specs.Inside.{standing}
 

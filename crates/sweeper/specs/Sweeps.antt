@@ -10,8 +10,8 @@ use Rattle.store_core.specs.Server.{Server, at_server}
 use Rattle.store_core.specs.Sweep.{Sweeper, next_sweep, after_sweep}
 use Rattle.chunk_server.specs.State.{ServerState}
 use Rattle.chunk_server.specs.Steps.{after_discard}
-use Rattle.gathering.specs.declared.need.Need.{Need}
-use Rattle.gathering.specs.declared.need.Need.TheVariants as need
+use Rattle.call_steps.specs.declared.need.Need.{Need}
+use Rattle.call_steps.specs.declared.need.Need.TheVariants as need
 
 -- how many servers a stripe has, and where the sweeper stands
 pub record SweeperOf : Type 0 where

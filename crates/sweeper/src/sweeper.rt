@@ -2,11 +2,12 @@ ghost use Rattle.std.specs.Prelude.{◌≡◌, ◌<◌, ℕ};
 ghost use Rattle.store_map.specs.declared.actor.Actor.{Actor as CoreActor};
 ghost use Rattle.store_core.specs.Sweep.{is_busy};
 ghost use Rattle.chunk_server.specs.Core.{core_of};
-ghost use Rattle.gathering.specs.Gathers.{IfServer, IsSame};
+ghost use Rattle.chunk_server.specs.State.{IsSame};
+ghost use Rattle.call_steps.specs.Steps.{IfServer};
 ghost use Rattle.sweeper.specs.Sweeps.{new_sweeper, need_of, stepped_at_directory, stepped_at_server, discarded_at};
 
+use call_steps::Need;
 use chunk_server::Server;
-use gathering::Need;
 use std::marker::Model;
 use store_map::Version;
 use stripe_dir::Directory;

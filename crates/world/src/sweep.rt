@@ -7,7 +7,7 @@ ghost use Rattle.world_runs.specs.Goes.{Leads};
 ghost use Rattle.world.specs.Stored.{world_of};
 
 use crate::world::World;
-use gathering::Need;
+use call_steps::Need;
 
 impl<'a> World<'a> {
     // The sweeper's turn.

@@ -1,12 +1,11 @@
 ghost use Rattle.std.specs.Prelude.{◌≡◌, map, Some, IfOk};
 ghost use Rattle.store_core.specs.Outcomes.{triple_of, cause_of, result_of};
-ghost use Rattle.gather_course.specs.Aims.{lost_in};
+ghost use Rattle.store_core.specs.Told.{lost_in};
 ghost use Rattle.call_steps.specs.Outcomes.{outcome_of, repair_outcome_of};
 
 use call_steps::{Change, Outcome, RepairOutcome};
-use gather_course::LostChunk;
 use std::alloc::{AllocError, Global};
-use store_map::ListOf;
+use store_map::{ListOf, LostChunk};
 use transcript_text::{Cause, RepairResult, Triple};
 
 fn triples(alloc: Global, missing: &[LostChunk]) -> Result<ListOf<Triple>, AllocError>

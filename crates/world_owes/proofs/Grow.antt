@@ -7,8 +7,8 @@ use Rattle.store_core.specs.Directory.{Point, Directory}
 use Rattle.store_core.specs.PlaceLaws.{new_point}
 use Rattle.store_core.proofs.Places.{directory_keeps_places}
 use Rattle.store_core.specs.Step.{Places}
-use Rattle.gathering.specs.declared.need.Need.{Need}
-use Rattle.gathering.specs.declared.need.Need.TheVariants as need
+use Rattle.call_steps.specs.declared.need.Need.{Need}
+use Rattle.call_steps.specs.declared.need.Need.TheVariants as need
 use Rattle.call_steps.specs.CallOf.{CallOf, act_of}
 use Rattle.call_steps.specs.Steps.{at_directory_by as called_at_directory, need_of}
 use Rattle.call_stands.specs.Ready.{ready}

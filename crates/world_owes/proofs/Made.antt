@@ -13,8 +13,8 @@ use Rattle.store_resume.specs.State.{State}
 use Rattle.store_resume.specs.StateActs.{act_at}
 use Rattle.chunk_server.specs.State.{ServerState}
 use Rattle.stripe_dir.specs.Sealed.{Sealed}
-use Rattle.gathering.specs.declared.need.Need.{Need}
-use Rattle.gathering.specs.declared.need.Need.TheVariants as need
+use Rattle.call_steps.specs.declared.need.Need.{Need}
+use Rattle.call_steps.specs.declared.need.Need.TheVariants as need
 use Rattle.call_steps.specs.CallOf.{CallOf, act_of}
 use Rattle.call_steps.specs.Steps.{need_of, at_directory_by, at_server_by}
 use Rattle.call_stands.proofs.Needs.{needs_tell_acts}

@@ -13,7 +13,7 @@ use Rattle.store_core.specs.Step.{Places, Shortage, actor_step}
 use Rattle.store_core.specs.CallStep.{step_of}
 use Rattle.store_core.specs.Run.{places_in}
 use Rattle.store_core.specs.Work.{Work, Calling, has_step}
-use Rattle.gathering.specs.declared.need.Need.TheVariants as need
+use Rattle.call_steps.specs.declared.need.Need.TheVariants as need
 use Rattle.call_steps.specs.CallOf.{CallOf, act_of}
 use Rattle.call_steps.specs.Steps.{need_of, stepped_at_directory, stepped_at_server}
 use Rattle.call_stands.specs.Ready.{ready, shortage_of}

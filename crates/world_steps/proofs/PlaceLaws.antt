@@ -15,7 +15,7 @@ use Rattle.store_core.specs.Server.{Server, at_server}
 use Rattle.store_core.specs.Step.{Places, Shortage, at_places, at_server_there}
 use Rattle.store_core.specs.Sweep.{next_sweep, after_sweep}
 use Rattle.store_core.specs.Run.{Run, places_in, operator_step, sweeper_step}
-use Rattle.gathering.specs.declared.need.Need.TheVariants as need
+use Rattle.call_steps.specs.declared.need.Need.TheVariants as need
 use Rattle.sweeper.specs.Sweeps.{act_of, need_at, at_directory_by, at_server_by, stepped_at_directory, stepped_at_server}
 use Rattle.call_stands.proofs.Needs.{is_directory, is_server, server_in}
 use Rattle.world_steps.specs.World.{WorldOf, with_directory, with_server, with_sweeper}

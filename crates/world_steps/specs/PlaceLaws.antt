@@ -13,7 +13,7 @@ use Rattle.store_core.specs.Server.{Server, at_server}
 use Rattle.store_core.specs.Step.{Shortage}
 use Rattle.store_core.specs.Run.{sweeper_step}
 use Rattle.store_core.specs.Schedule.{step_core}
-use Rattle.gathering.specs.declared.need.Need.TheVariants as need
+use Rattle.call_steps.specs.declared.need.Need.TheVariants as need
 use Rattle.sweeper.specs.Sweeps.{SweeperOf, need_of, stepped_at_directory, stepped_at_server}
 use Rattle.world_steps.specs.World.{WorldOf, with_directory, with_server, with_sweeper}
 use Rattle.world_steps.specs.Leads.{LeadsWorld}

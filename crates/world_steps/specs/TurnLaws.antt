@@ -8,7 +8,7 @@ use Rattle.store_core.specs.Directory.{Directory}
 use Rattle.store_core.specs.Server.{Server}
 use Rattle.store_core.specs.Run.{Run, client_step, repairer_step}
 use Rattle.store_core.specs.Work.{Work, client_work, repairer_work, has_step}
-use Rattle.gathering.specs.declared.need.Need.TheVariants as need
+use Rattle.call_steps.specs.declared.need.Need.TheVariants as need
 use Rattle.call_steps.specs.CallOf.{CallOf}
 use Rattle.call_steps.specs.Steps.{need_of, stepped_at_directory, stepped_at_server}
 use Rattle.call_stands.specs.Ready.{ready, shortage_of}

@@ -6,8 +6,8 @@ use Rattle.store_map.specs.declared.placement.Placement.TheVariants as placement
 use Rattle.store_map.specs.declared.placement.Found.TheVariants as found
 use Rattle.store_core.specs.Told.{Lost}
 use Rattle.store_core.specs.Placements.{skipped_from, skipped_count}
-use Rattle.gather_course.specs.declared.lost.LostChunk.{LostChunk}
-use Rattle.gather_course.specs.Aims.{lost_in}
+use Rattle.store_map.specs.declared.placement.LostChunk.{LostChunk}
+use Rattle.store_core.specs.Told.{lost_in}
 
 -- they are counted
 pub skipped_counted : (server : ℕ) (row : List Placement) → length (skipped_from server row) ≡ skipped_count row

@@ -4,7 +4,7 @@ use Rattle.std.specs.Vec.Iter.{into_iter_items}
 use Rattle.clay_grid.specs.Shape.{chunk_count}
 use Rattle.clay_encode.specs.Chunks.{contents}
 use Rattle.store_core.specs.Placements.{skipped_from}
-use Rattle.gather_course.specs.Aims.{lost_in}
+use Rattle.store_core.specs.Told.{lost_in}
 use Rattle.write_course.specs.Chunks.{StripeOf, AreChunksFrom}
 use Rattle.write_course.specs.declared.stripe.Stripe.TheInside.{Inside}
 

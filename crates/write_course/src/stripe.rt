@@ -8,16 +8,15 @@ ghost use Rattle.store_core.specs.Act.{ServerStep};
 ghost use Rattle.store_core.specs.Server.{at_server};
 ghost use Rattle.store_core.specs.Placements.{skipped_count, skipped_from};
 ghost use Rattle.chunk_server.specs.Core.{core_of};
-ghost use Rattle.gather_course.specs.Aims.{lost_in};
+ghost use Rattle.store_core.specs.Told.{lost_in};
 ghost use Rattle.write_course.specs.Chunks.{new_stripe, with_placement, IsAfterPrepare};
 
 use chunk_server::Server;
 use clay_grid::Geometry;
-use gather_course::LostChunk;
 use std::alloc::{AllocError, Global};
 use std::marker::Model;
 use std::vec::IntoIter;
-use store_map::{Found, Placement};
+use store_map::{Found, LostChunk, Placement};
 use version_seal::{SealedChunk, Stamp};
 
 /// A version whose chunks go to their servers, one after another.

@@ -7,7 +7,7 @@ ghost use Rattle.store_core.specs.Placements.{IsRow};
 ghost use Rattle.store_core.specs.Act.{Outcome};
 ghost use Rattle.store_resume.specs.State.{State};
 ghost use Rattle.store_resume.specs.States.{prepare_all_state, settle_state};
-ghost use Rattle.gather_course.specs.Aims.{lost_in};
+ghost use Rattle.store_core.specs.Told.{lost_in};
 ghost use Rattle.chunk_server.specs.Core.{core_of};
 ghost use Rattle.write_course.specs.States.{placed_on};
 ghost use Rattle.write_course.specs.Writings.{versions_of, server_of, is_preparing, is_committing, is_settling, begins_version, place_of, stamp_at_work, point_of};
@@ -18,12 +18,11 @@ use crate::stripe::Stripe;
 use chunk_server::Server;
 use clay_grid::Geometry;
 use clay_repair::Coder;
-use gather_course::LostChunk;
 use std::alloc::{AllocError, Global};
 use std::marker::Model;
 use std::mem;
 use std::thread::Threads;
-use store_map::{Placement, Point};
+use store_map::{LostChunk, Placement, Point};
 use version_seal::{Opening, Stamp};
 
 /// A put or a write from its drawn versions on. Version after version its chunks are made and go to

@@ -1,6 +1,6 @@
 use Rattle.std.proofs.Common.{◌≡◌, map, take}
 use Rattle.store_core.specs.Outcomes.{triple_of}
-use Rattle.gather_course.specs.Aims.{lost_in}
+use Rattle.store_core.specs.Told.{lost_in}
 use Rattle.world_lines.proofs.causes.triples.Given as goal
 
 abbrev pub invariant-loop-lost : goal.invariant-loop-lost

@@ -1,6 +1,6 @@
 use Rattle.std.proofs.Common.{◌≡◌, ℕ, ◌<◌, length, sym, subst, arith}
 use Rattle.clay_grid.specs.Shape.{chunk_count}
-use Rattle.gather_course.specs.declared.lost.LostChunk.{LostChunk}
+use Rattle.store_map.specs.declared.placement.LostChunk.{LostChunk}
 use Rattle.gather_course.specs.declared.position.Doing.{Doing}
 use Rattle.gather_course.specs.declared.position.Doing.TheVariants as doing
 use Rattle.gather_course.specs.Positions.{IsPlacedBy}

@@ -1,6 +1,6 @@
 use Rattle.std.proofs.Common.{◌≡◌, ◌<◌, ℕ, List, map, take, All, sym, ap, subst, ◌∙◌}
 use Rattle.clay_grid.specs.Shape.{chunk_count}
-use Rattle.gather_course.specs.declared.lost.LostChunk.{LostChunk}
+use Rattle.store_map.specs.declared.placement.LostChunk.{LostChunk}
 use Rattle.gather_course.specs.Courses.{CourseOf}
 use Rattle.gather_course.proofs.MissingOnes.{servers_in, first_below}
 use Rattle.gather_course.proofs.course.Course.missing.Goals as goal

@@ -1,5 +1,5 @@
 use Rattle.std.proofs.Common.{◌≡◌, ℕ, ◌<◌, length, ap, sym, subst, ◌∙◌}
-use Rattle.gathering.specs.declared.need.Need.TheVariants as need
+use Rattle.call_steps.specs.declared.need.Need.TheVariants as need
 use Rattle.machine_walks.specs.PlacesInside.{places_in}
 use Rattle.machine_walks.specs.Works.{call_of, IsIn}
 use Rattle.machine_walks.proofs.Beside.{own_places, own_still, own_keeps, own_actor, server_places, server_still, there, needed}

@@ -1,5 +1,5 @@
 use Rattle.std.proofs.Common.{◌≡◌, ℕ, ◌<◌, length, refl, ap, sym, subst, ◌∙◌}
-use Rattle.gathering.specs.declared.need.Need.TheVariants as need
+use Rattle.call_steps.specs.declared.need.Need.TheVariants as need
 use Rattle.machine_walks.specs.PlacesInside.{places_in}
 use Rattle.machine_walks.specs.Works.{IsIn}
 use Rattle.machine_walks.proofs.Beside.{operated_places, operated_keeps, needed, server_places}
