@@ -1,6 +1,6 @@
+use crate::lines::unfolded;
+use crate::tables::{all_print, prints};
 use clay_cli::Status;
-use run_tables::lines::unfolded;
-use run_tables::tables::{all_print, prints};
 use std::alloc::Global;
 use std::test::Fail;
 use text_tables::scripts::repeated;

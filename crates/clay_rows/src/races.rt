@@ -1,5 +1,5 @@
+use crate::tables::all_print;
 use clay_cli::Status;
-use run_tables::tables::all_print;
 use std::test::Fail;
 
 // Calls of two clients on one object.

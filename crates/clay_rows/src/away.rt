@@ -1,5 +1,5 @@
+use crate::tables::all_print;
 use clay_cli::Status;
-use run_tables::tables::all_print;
 use std::test::Fail;
 
 // Servers that are away for a time, in scripts of form 2.

@@ -1,5 +1,5 @@
+use crate::tables::{Repeated, all_print, prints_from};
 use clay_cli::Status;
-use run_tables::tables::{Repeated, all_print, prints_from};
 use std::test::Fail;
 
 // Gets after a put whose chunks are lost.

@@ -1,11 +1,11 @@
 ghost use Rattle.std.specs.Prelude.{◌≡◌, Some};
 ghost use Rattle.store_map.specs.Naming.{IsValid};
 
+use crate::counted::CountingCoder;
+use crate::lines::unfolded;
+use crate::runs::run_with;
 use clay_bytes::{MemSink, MemSource};
 use clay_cli::Status;
-use run_tables::counted::CountingCoder;
-use run_tables::lines::unfolded;
-use run_tables::runs::run_with;
 use script_text::read_script;
 use std::alloc::AllocError;
 use std::test::Fail;
