@@ -1,3 +1,4 @@
+//! Scripts past a limit, and scripts that miss their end.
 use line_grammar::FaultKind::MissingEnd;
 use script_text::{ScriptFault, read_front, read_script};
 use std::process::Abort;
