@@ -7,7 +7,7 @@ ghost use Rattle.store_resume.specs.State.{Sequel, State};
 ghost use Rattle.chunk_server.specs.Core.{core_of};
 ghost use Rattle.chunk_server.specs.State.{IsSame};
 ghost use Rattle.call_steps.specs.Steps.{IfServer};
-ghost use Rattle.call_steps.specs.Steps.{stepped_at_server, coded, need_of, HoldsItsPass, IsDueInPass};
+ghost use Rattle.call_steps.specs.Steps.{stepped_at_server, coded, need_of, HoldsItsPass, IsDueInPass, MayMakeNext};
 ghost use Rattle.call_steps.specs.Outcomes.{outcome_of};
 ghost use Rattle.gather_parts.specs.Ends.{end_state};
 ghost use Rattle.call_steps.specs.CallOf.{taken_of};
@@ -98,10 +98,12 @@ impl<'a> ReadCall<'a> {
     }
 
     /// Where the call has to go on.
+    #[tactic(auto, using(crate::proofs::Making::may))]
     pub fn need(&self) -> Need
         ensures need { result ≡ need_of self.now.call }
         ensures in_pass { IsDueInPass self.now.call }
         ensures pass { HoldsItsPass self.now.call }
+        ensures may { MayMakeNext self.now.call }
         ensures below { IfServer result (λ server. server < chunk_count self.now.call.book.geometry) }
     {
         match self.stage {

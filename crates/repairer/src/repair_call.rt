@@ -9,8 +9,8 @@ ghost use Rattle.chunk_server.specs.Core.{core_of};
 ghost use Rattle.chunk_server.specs.State.{IsSame};
 ghost use Rattle.call_steps.specs.Steps.{IfServer};
 ghost use Rattle.call_steps.specs.Outcomes.{repair_outcome_of};
-ghost use Rattle.call_steps.specs.Steps.{need_of, stepped_at_directory, stepped_at_server, coded, HoldsItsPass, IsDueInPass};
-ghost use Rattle.repairer.specs.Calls.{new_call};
+ghost use Rattle.call_steps.specs.Steps.{need_of, stepped_at_directory, stepped_at_server, coded, HoldsItsPass, IsDueInPass, MayMakeNext};
+ghost use Rattle.repairer.specs.Calls.{new_call, IsUndueOncePlaced};
 ghost use Rattle.call_steps.specs.CallOf.{taken_of};
 ghost use Rattle.repairer.specs.Inside.{takes_at};
 
@@ -94,12 +94,14 @@ impl<'a> RepairCall<'a> {
     }
 
     /// Where the call has to go on.
-    #[tactic(auto, using(crate::proofs::Holding::holds))]
+    #[tactic(auto, using(crate::proofs::Holding::holds, crate::proofs::Making::may, crate::proofs::Making::undue))]
     pub fn need(&self) -> Need
         ensures need { result ≡ need_of self.now }
         ensures below { IfServer result (λ server. server < chunk_count self.now.book.geometry) }
         ensures in_pass { IsDueInPass self.now }
         ensures pass { HoldsItsPass self.now }
+        ensures may { MayMakeNext self.now }
+        ensures placed { IsUndueOncePlaced self.now }
     {
         if self.due {
             return Need::Coder;
