@@ -1,5 +1,5 @@
 -- What a run shows is a history: its parts together.
-use Rattle.std.proofs.Common.{◌^◌, ◌<◌, ◌≤◌, List, [], ◌∷◌, length, Option, None, Some, IfSome, All, arith}
+use Rattle.std.proofs.Common.{List, [], ◌∷◌, Option, None, Some, IfSome, All}
 use Rattle.std.proofs.lemmas.List.Elements.{All-nil, All-cons, All-head, All-tail}
 use Rattle.store_map.specs.declared.call.Rebuild.{Rebuild}
 use Rattle.store_map.specs.declared.script.Script.{Script}
@@ -22,7 +22,7 @@ use Rattle.store_missing.proofs.OwnLines.{runs_name_losses}
 use Rattle.store_races.specs.RaceLaws.{NamesChange}
 use Rattle.store_races.proofs.RaceLines.{runs_lose_races, runs_name_changes}
 use Rattle.store_takes.proofs.ColumnRuns.{runs_add_up}
-use Rattle.store_shows.specs.ShowsLaws.{RunsShowHistories, RunsAreLegal}
+use Rattle.store_answers.specs.ShowsLaws.{RunsShowHistories, RunsAreLegal}
 
 module _ (script : Script) (t : Transcript) where
   -- a rebuild's result names its own change, or its own loss
