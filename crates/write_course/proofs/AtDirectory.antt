@@ -27,7 +27,7 @@ use Rattle.call_steps.specs.Steps.{at_directory_by, stepped_at_directory}
 use Rattle.call_steps.specs.TokenAfter.{token_after, MayMake}
 use Rattle.call_steps.specs.Ends.{finished_of, is_ending}
 use Rattle.call_steps.proofs.Making.{MayBy, passes}
-use Rattle.call_token.specs.Stamps.{AreDrawnFor}
+use Rattle.stripe_dir.specs.AnswerStamps.{AreDrawnFor}
 use Rattle.write_course.specs.Laws.{call_at}
 use Rattle.write_course.specs.Draws.{request_of, stamps_told, stamps_of_draw, stamps_by, stamps_drawn}
 use Rattle.write_course.specs.Holding.{IsHolding, HasToken, AreWholeAt}
