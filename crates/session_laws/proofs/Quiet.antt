@@ -29,7 +29,7 @@ cases true t f = t refl
 cases false t f = f refl
 
 -- ---- lists
-all_map : {X Y : Type 0} (P : X → Type 0) (Q : Y → Type 0) (f : X → Y) → ((x : X) → P x → Q (f x)) → (xs : List X) → All P xs → All Q (map f xs)
+pub all_map : {X Y : Type 0} (P : X → Type 0) (Q : Y → Type 0) (f : X → Y) → ((x : X) → P x → Q (f x)) → (xs : List X) → All P xs → All Q (map f xs)
 all_map P Q f step [] all = λ k d less. absurd (omega (arith, less))
 all_map P Q f step (x ∷ xs) all = All-cons Q (f x) (map f xs) (step x (all_head P x xs all)) (all_map P Q f step xs (all_tail P x xs all))
 
@@ -107,7 +107,7 @@ pins_kept v kept (pin ∷ pins) all e =
     by (inl here) rest = ap (λ n. is_among n kept) (eqb-true v pin.version here) ∙ all_head (λ (pin : Pin). IsTrue (is_among pin.version kept)) pin pins all
     by (inr later) rest = rest later
 
-abbrev pins_it : ℕ → Pass → Bool
+abbrev pub pins_it : ℕ → Pass → Bool
 pins_it v pass = is_live pass.reaped && list_any (λ pin. nat_eq v pin.version) pass.pinned
 
 passes_kept : (v : ℕ) (kept : List ℕ) (passes : List Pass) → All (IsOfSnapshot kept) passes → list_any (pins_it v) passes ≡ true → is_among v kept ≡ true
@@ -125,7 +125,7 @@ in_objects v zero (object ∷ objects) has less = among_append v object.versions
 in_objects v (suc i) (object ∷ objects) has less =
     among_append v object.versions (flat_map (λ (object : Object). object.versions) objects) ∙ or_right _ _ (in_objects v i objects has (omega (arith, less)))
 
-flat_stood : (stands : List ℕ) (numbers : List (List ℕ × List ℕ)) → flat_map (λ object. object.1) (map (stood_under stands) numbers) ≡ map (version_of stands) (all_numbers numbers)
+pub flat_stood : (stands : List ℕ) (numbers : List (List ℕ × List ℕ)) → flat_map (λ object. object.1) (map (stood_under stands) numbers) ≡ map (version_of stands) (all_numbers numbers)
 flat_stood stands [] = refl
 flat_stood stands (object ∷ numbers) =
     ap (λ l. map (version_of stands) object.1 ++ l) (flat_stood stands numbers) ∙ sym (map-append (version_of stands) object.1 (all_numbers numbers))
