@@ -40,7 +40,7 @@ use Rattle.session_laws.specs.ServedLaws.{IsServedAs}
 use Rattle.session_laws.proofs.Walks.{Reaches, here, before}
 use Rattle.session_laws.proofs.Counting.{left_first}
 use Rattle.session_laws.proofs.Parts.{Leads, state_by, parts_next}
-use Rattle.session_laws.proofs.Stays.{Same, kept_seen, kept_quiet}
+use Rattle.session_laws.proofs.Stays.{Same, kept_seen, kept_quiet, kept_pinned}
 use Rattle.session_laws.proofs.AtPlaces.{self, none_closed, opened_parts}
 use Rattle.session_laws.proofs.Agrees.{range_at, part_at, stripe_for, answer_by, out_at, outcome_by, agree, each_answers}
 
@@ -76,6 +76,7 @@ module _ (stands : List ℕ) (p : Places) (s : Session) (h : IsSeenAs p.director
     ends = record { made = 1; over = ap (λ (w : AtWork). act_of_state p.directory.shape tries (job_of call) w.call) comes ∙ ap (λ outcome. Act.Finish outcome) (sym no_bytes); leaves = ap (λ (w : AtWork). w.places) comes };
     seen = kept_seen stands p s (record p { directory = append_point who number (note_of call) (Event.Answer answer) p.directory }) same refl h;
     quiet = kept_quiet stands p s (record p { directory = append_point who number (note_of call) (Event.Answer answer) p.directory }) same refl;
+    pinned = kept_pinned stands p s (record p { directory = append_point who number (note_of call) (Event.Answer answer) p.directory }) same;
   }
     where
       comes : step p.directory.shape tries who number (job_of call) start ≡ looked (append_point who number (note_of call) (Event.Answer answer) p.directory, Told.Answer point answer)
@@ -167,6 +168,7 @@ module _ (stands : List ℕ) (p : Places) (s : Session) (h : IsSeenAs p.director
       };
       seen = kept_seen stands p s (record (way.places) { directory = closed }) alike way.now h;
       quiet = kept_quiet stands p s (record (way.places) { directory = closed }) alike way.now;
+      pinned = kept_pinned stands p s (record (way.places) { directory = closed }) alike;
     }
       where
         all_parts : parts_of p.directory.shape (note_of call) object.length (map (seen_at p.directory object) stripes_read) ≡ parts

@@ -1,5 +1,5 @@
 -- A session's input, cut into frames, and how it ends.
-use Rattle.std.specs.Prelude.{ℕ, zero, suc, Bool, false, nat_le, nat_lt, ◌&&◌, not, List, [], ◌∷◌, ◌++◌, length, take, drop, None, Some, unwrap_or, if◌then◌else◌}
+use Rattle.std.specs.Prelude.{ℕ, zero, suc, Bool, false, nat_le, nat_lt, ◌&&◌, not, List, [], ◌∷◌, ◌++◌, length, take, drop, Option, None, Some, unwrap_or, if◌then◌else◌}
 use Rattle.byteorder.specs.Endian.{big_bytes}
 use Rattle.session_rules.specs.Fields.{Reader, number_then}
 
@@ -32,18 +32,15 @@ first_frame bytes =
 abbrev pub has_wrong_length : List ℕ → Bool
 has_wrong_length bytes = unwrap_or (number_then (λ count left. Some (not (is_frame_length count))) bytes) false
 
--- a first frame before the frames that follow it
-abbrev pub frame_before : List ℕ → List (List ℕ) × List ℕ → List (List ℕ) × List ℕ
-frame_before frame cut = (frame ∷ cut.0, cut.1)
+-- a frame that stands first, if one does, before those that stand in what follows it
+abbrev pub frames_after : (List ℕ → List (List ℕ) × List ℕ) → List ℕ → Option (List ℕ × List ℕ) → List (List ℕ) × List ℕ
+frames_after cut bytes None = ([], bytes)
+frames_after cut bytes (Some first) = (first.0 ∷ (cut first.1).0, (cut first.1).1)
 
 -- the whole frames that stand first, and what follows them; there are at most as many as the fuel
 abbrev pub frames_by : ℕ → List ℕ → List (List ℕ) × List ℕ
 frames_by zero bytes = ([], bytes)
-frames_by (suc fuel) bytes =
-    elim (first_frame bytes) [
-      | None ↦ ([], bytes)
-      | Some first ↦ frame_before first.0 (frames_by fuel first.1)
-    ]
+frames_by (suc fuel) bytes = frames_after (frames_by fuel) bytes (first_frame bytes)
 
 -- the ending, by whether the input goes on past what is served, and what follows the whole frames in that
 abbrev pub ending_by : Bool → List ℕ → Ending
