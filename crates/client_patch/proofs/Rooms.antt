@@ -1,5 +1,5 @@
 -- What a call that writes keeps of its versions and its room.
-use Rattle.std.proofs.Common.{◌≡◌, ℕ, ◌<◌, Bool, List, [], ◌∷◌, sym, subst}
+use Rattle.std.proofs.Common.{◌≡◌, ℕ, ◌<◌, Bool, List, [], ◌∷◌, Some, sym, subst}
 use Rattle.clay_grid.specs.Shape.{Shape}
 use Rattle.store_map.specs.declared.call.Call.{Call}
 use Rattle.store_core.specs.Note.{Note}
