@@ -15,9 +15,9 @@ ghost use Rattle.call_steps.specs.Ends.{is_ending};
 use crate::patch::PatchCall;
 use crate::stage::{Looked, Stage, after_end, after_look};
 use call_steps::{Change, Need, Outcome};
-use stripe_dir::{Committed, Directory, Drawn, Ended};
 use gather_parts::Standing;
 use store_map::Call;
+use stripe_dir::{Committed, Directory, Drawn, Ended};
 use version_seal::Book;
 use write_course::{Doing, Writing};
 

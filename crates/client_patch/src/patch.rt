@@ -20,13 +20,13 @@ ghost use Rattle.client_patch.specs.Patches.{is_patch, first_patch};
 
 use crate::stage::Stage;
 use call_steps::{Change, Need, Outcome};
-use stripe_dir::{Seat, Ticket};
 use chunk_server::Server;
 use gather_parts::{Gathered, PartGatherings};
 use read_ledger::Takes;
 use std::alloc::Global;
 use std::marker::Model;
 use store_map::{Actor, Call, Point, Reply};
+use stripe_dir::{Seat, Ticket};
 use version_seal::Opening;
 use write_course::Writing;
 

@@ -14,7 +14,6 @@ ghost use Rattle.call_steps.specs.Ends.{point_of};
 use crate::bytes::stripe_bytes;
 use crate::stage::{Stage, content_of};
 use call_steps::{Need, Outcome};
-use stripe_dir::{Seat, Ticket};
 use chunk_server::Server;
 use clay_repair::Coder;
 use read_ledger::Takes;
@@ -22,6 +21,7 @@ use std::alloc::{AllocError, Global};
 use std::marker::Model;
 use std::thread::Threads;
 use store_map::{Actor, Call, Point};
+use stripe_dir::{Seat, Ticket};
 use version_seal::Opening;
 use write_course::Writing;
 
