@@ -11,10 +11,9 @@ use Rattle.call_steps.specs.CallOf.{CallOf, act_of}
 use Rattle.call_steps.specs.Steps.{need_of}
 use Rattle.call_stands.proofs.Needs.{needs_tell_acts}
 use Rattle.client_read.specs.Owed.{owed_by as read_by}
-use Rattle.client_put.specs.Draws.{stamps_by as put_by}
-use Rattle.client_patch.specs.Draws.{stamps_by as patch_by}
+use Rattle.write_course.specs.Draws.{stamps_by}
 use Rattle.client_call.specs.Kinds.{Machine, machine_of, IfPatches, UnlessReads}
-use Rattle.client_call.specs.Calls.{ClientCallOf, put_of, patch_of, drawn_in, drawn_by, owed_in, owed_by}
+use Rattle.client_call.specs.Calls.{ClientCallOf, drawn_in, drawn_by, owed_in, owed_by}
 
 -- a coding that is due says whether memory was wanting
 pub owed_coded : {P : Type 0} (c : CallOf) (coding : Bool) → need_of c ≡ need.Coder → (coding ≡ false → P) → (c.due && coding) ≡ false → P
@@ -29,8 +28,8 @@ module _ (short : Bool) (d : Sealed) (c : ClientCallOf) (server : ℕ) (step : S
 
   drawn_at_server : (m : Machine) → drawn_in m short d c ≡ []
   drawn_at_server Machine.Reads = refl
-  drawn_at_server Machine.Puts = ap (λ (a : Act). put_by a short d (put_of c)) act
-  drawn_at_server Machine.Patches = ap (λ (a : Act). patch_by a short d (patch_of c)) act
+  drawn_at_server Machine.Puts = ap (λ (a : Act). stamps_by a short d c.call c.written) act
+  drawn_at_server Machine.Patches = ap (λ (a : Act). stamps_by a short d c.call c.written) act
 
 module _ (short : Bool) (d : Sealed) (c : ClientCallOf) (server : ℕ) (needs : need_of c.call ≡ need.Server server) where
   pub owed_at_server : c.owed ≡ owed_by short d c

@@ -8,11 +8,9 @@ use Rattle.store_resume.specs.State.{first_state}
 use Rattle.version_seal.specs.Entry.{BookOf, StampOf}
 use Rattle.stripe_dir.specs.Sealed.{Sealed}
 use Rattle.call_steps.specs.CallOf.{CallOf, tries_by}
+use Rattle.write_course.specs.Draws.{stamps_drawn}
 use Rattle.client_read.specs.Owed.{owed_after}
-use Rattle.client_put.specs.Puts.{PutOf}
-use Rattle.client_put.specs.Draws.{stamps_drawn as drawn_by_put}
 use Rattle.client_patch.specs.Patches.{PatchOf}
-use Rattle.client_patch.specs.Draws.{stamps_drawn as drawn_by_patch}
 use Rattle.client_patch.specs.Known.{KnowsOld}
 use Rattle.client_call.specs.Kinds.{Machine, machine_of, IfPatches}
 
@@ -51,18 +49,14 @@ first_call book tries seat number written =
       kept = [];
     }
 
--- as the machine of puts and that of writes and deletes show it
-abbrev pub put_of : ClientCallOf → PutOf
-put_of c = record { call = c.call; written = c.written }
-
+-- as the machine of writes and deletes shows it
 abbrev pub patch_of : ClientCallOf → PatchOf
 patch_of c = record { call = c.call; written = c.written; size = c.size; kept = c.kept }
 
 -- the stamps that its next step draws, in which memory is wanting or not
 abbrev pub drawn_in : Machine → Bool → Sealed → ClientCallOf → List StampOf
 drawn_in Machine.Reads short d c = []
-drawn_in Machine.Puts short d c = drawn_by_put short d (put_of c)
-drawn_in Machine.Patches short d c = drawn_by_patch short d (patch_of c)
+drawn_in machine short d c = stamps_drawn short d c.call c.written
 
 abbrev pub drawn_by : Bool → Sealed → ClientCallOf → List StampOf
 drawn_by short d c = drawn_in (machine_of c.written) short d c

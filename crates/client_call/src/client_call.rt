@@ -1,4 +1,4 @@
-ghost use Rattle.std.specs.Prelude.{◌≡◌, ◌<◌, ◌≤◌, ◌++◌, ℕ, List, false, replicate};
+ghost use Rattle.std.specs.Prelude.{◌≡◌, ◌<◌, ◌≤◌, ◌++◌, false, replicate};
 ghost use Rattle.std.specs.Option.{option_map};
 ghost use Rattle.clay_grid.specs.Shape.{chunk_count};
 ghost use Rattle.store_core.specs.Act.{Act};
@@ -9,7 +9,7 @@ ghost use Rattle.chunk_server.specs.State.{IsSame};
 ghost use Rattle.call_steps.specs.Steps.{IfServer};
 ghost use Rattle.stripe_dir.specs.Sealed.{Sealed};
 ghost use Rattle.call_steps.specs.CallOf.{act_of, taken_of};
-ghost use Rattle.call_steps.specs.Steps.{need_of, stepped_at_directory, stepped_at_server, coded, HoldsItsPass, IsDueInPass};
+ghost use Rattle.call_steps.specs.Steps.{need_of, stepped_at_directory, stepped_at_server, coded, HoldsItsPass, IsDueInPass, MayMakeNext};
 ghost use Rattle.call_steps.specs.Outcomes.{outcome_of};
 ghost use Rattle.call_steps.specs.Callers.{IsOfScript};
 ghost use Rattle.client_read.specs.Ends.{IfServed};
@@ -107,6 +107,7 @@ impl<'a> ClientCall<'a> {
         ensures need { result ≡ need_of self.now.call }
         ensures in_pass { IsDueInPass self.now.call }
         ensures pass { HoldsItsPass self.now.call }
+        ensures may { MayMakeNext self.now.call }
         ensures below { IfServer result (λ server. server < chunk_count self.now.call.book.geometry) }
     {
         match &self.kind {
