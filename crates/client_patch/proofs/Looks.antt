@@ -1,5 +1,6 @@
 -- The look of a write or a delete.
-use Rattle.std.proofs.Common.{⊤, ◌≡◌, ℕ, nat_lt, Bool, true, false, cond, List, [], length, Option, None, Some, option_map, Result, refl, sym, ap, subst, ◌∙◌}
+use Rattle.std.specs.Prelude.{⊤}
+use Rattle.std.proofs.Common.{◌≡◌, ℕ, nat_lt, Bool, true, false, cond, List, [], length, Option, None, Some, option_map, Result, refl, sym, ap, subst, ◌∙◌}
 use Rattle.std.specs.declared.alloc.AllocError.{AllocError}
 use Rattle.clay_grid.specs.Shape.{Shape}
 use Rattle.store_map.specs.declared.actor.Actor.{Actor}
