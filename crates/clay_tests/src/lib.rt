@@ -1,6 +1,6 @@
 //! The commands as they run: words and an input to a status and an output, over sources and sinks in memory.
 //! The worked scripts were reckoned by hand from the rules of the store; each row is named by what it shows.
-//! All of it is tests, and what they share: so the crate is proved once.
+//! All of it is tests and what they share, so without its tests the crate is empty, and it is proved once.
 #![tactic(auto)]
 
 #[cfg(test)]
