@@ -1,4 +1,5 @@
 pub mod Ended
+pub mod Names
 pub mod Lists
 pub mod Served
 pub mod Taken

@@ -6,13 +6,14 @@ mod causes;
 mod history;
 pub mod laws;
 mod refused;
+mod role;
 mod served;
 mod stored;
 mod takes;
 mod transcript;
 mod unanswered;
 
-pub use calls::{ClientCalls, EndedCall, EndedRepair, RepairCalls};
+pub use calls::{CallerCalls, EndedCall};
 pub use history::history_lines;
 pub use refused::{refused_lines, repair_lines};
 pub use stored::{object_lines, server_lines};
