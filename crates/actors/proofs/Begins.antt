@@ -1,6 +1,7 @@
 -- How a caller's call begins.
-use Rattle.std.proofs.Common.{◌≡◌, ⊤, ℕ, zero, suc, ◌<◌, ◌≤◌, Bool, true, false, List, [], ◌∷◌, length, map, replicate, get_or, slice_get, Option, None, Some, IfSome, option_map, is_some, All, refl, sym, ap, subst, ◌∙◌, arith, lt-ltb, nat_lt, if◌then◌else◌, true≢false}
+use Rattle.std.proofs.Common.{◌≡◌, ℕ, zero, suc, ◌<◌, ◌≤◌, Bool, true, false, List, [], ◌∷◌, length, map, replicate, get_or, slice_get, Option, None, Some, IfSome, option_map, is_some, All, refl, sym, ap, subst, ◌∙◌, arith, lt-ltb, nat_lt, if◌then◌else◌, true≢false}
 use Rattle.std.proofs.lemmas.List.{length-map, length-replicate}
+use Rattle.std.proofs.lemmas.Option.{same_Some}
 use Rattle.std.specs.Prelude.{option_and_then}
 use Rattle.clay_grid.specs.Shape.{Shape, chunk_count}
 use Rattle.store_map.specs.Limits.{tries_of}
@@ -148,6 +149,12 @@ module _ (part : PartOf) (book : BookOf) (tries : ℕ) (ended : List EndedCall) 
         held = ap (λ (c : MachineOf). c.call.token) begun.first;
       }
 
+  goes_by : (place : ℕ) (seat : Seat) (now : MachineOf) → MayTake book tries place (length ended) part seat → HasBegun book tries (length ended) part seat now → GoesOn (need_of now.call)
+  goes_by place seat now may begun =
+      subst (λ (c : MachineOf). GoesOn (need_of c.call)) (sym begun.first)
+      (first_goes book tries seat place (length ended) begun.asked
+      (subst (MayBeAsked book tries place (length ended)) (same_Some may.asked begun.asked (sym may.next ∙ begun.next)) may.may))
+
   -- a caller that waited is in its next call
   pub begins_next : (place steps : ℕ) (seat : Seat) (now : MachineOf) → MayTake book tries place (length ended) part seat → HasBegun book tries (length ended) part seat now
       → BeginsCall (caller_by part book tries ended (Some seat) None steps) (caller_by part book tries ended None (Some now) 0)
@@ -160,20 +167,18 @@ module _ (part : PartOf) (book : BookOf) (tries : ℕ) (ended : List EndedCall) 
           asked = ap (asked_at part) counted ∙ begun.next ∙ ap (λ (c : MachineOf). Some c.asked) (sym begun.first);
           owed = ap (λ (c : MachineOf). c.owed) begun.first;
         };
-        goes =
-            subst (λ (c : MachineOf). GoesOn (need_of c.call)) (sym begun.first)
-            (first_goes book tries seat place (length ended) begun.asked
-            (subst (MayBeAsked book tries place (length ended)) (some_same may.asked begun.asked (sym may.next ∙ begun.next)) may.may));
+        goes = goes_by place seat now may begun;
         knows = λ d knows. subst (KnowsOldOf d) (sym begun.first) (first_knows d book tries seat (length ended) begun.asked);
-        after = refl;
+        leaves = refl;
       }
-    where
-      some_same : (x y : Asked) → Some x ≡ Some y → x ≡ y
-      some_same x y e = ap (λ (o : Option Asked). asked_or o) e
-        where
-          asked_or : Option Asked → Asked
-          asked_or (Some z) = z
-          asked_or None = x
+
+  pub begins_here : (a : CallerOf) (slot after : Option Seat) (call : Option MachineOf) (place steps : ℕ) (seat : Seat) (now : MachineOf) → a ≡ caller_by part book tries ended slot None steps → slot ≡ Some seat
+      → after ≡ None → call ≡ Some now → MayTake book tries place (length ended) part seat → HasBegun book tries (length ended) part seat now → BeginsCall a (caller_by part book tries ended after call 0)
+  begins_here a slot after call place steps seat now view taken gone put may begun =
+      subst (λ (c : CallerOf). BeginsCall c (caller_by part book tries ended after call 0)) (sym (view ∙ ap (λ (s : Option Seat). caller_by part book tries ended s None steps) taken))
+      (subst (λ (s : Option Seat). BeginsCall (caller_by part book tries ended (Some seat) None steps) (caller_by part book tries ended s call 0)) (sym gone)
+      (subst (λ (o : Option MachineOf). BeginsCall (caller_by part book tries ended (Some seat) None steps) (caller_by part book tries ended None o 0)) (sym put)
+      (begins_next place steps seat now may begun)))
 
   -- a caller in a call stays in it
   pub begun_before : (slot : Option MachineOf) (seat : Option Seat) (steps : ℕ) → is_some slot ≡ true → IfSome slot (IsInWork book part (length ended))
@@ -185,7 +190,7 @@ module _ (part : PartOf) (book : BookOf) (tries : ℕ) (ended : List EndedCall) 
         its = record { before = λ script of. refl; token = refl; asked = ap (asked_at part) counted ∙ kept.asked; owed = refl };
         goes = kept.goes;
         knows = λ d knows. knows;
-        after = refl;
+        leaves = refl;
       }
 
   -- it is in work
@@ -195,5 +200,23 @@ module _ (part : PartOf) (book : BookOf) (tries : ℕ) (ended : List EndedCall) 
         asked = begun.next ∙ ap (λ (c : MachineOf). Some c.asked) (sym begun.first);
         its = ap (λ (c : MachineOf). c.call.book) begun.first;
         servers = ap (λ (c : MachineOf). length c.call.takes) begun.first ∙ length-replicate (chunk_count book.geometry) 0;
-        goes = (begins_next place 0 seat now may begun).goes;
+        goes = goes_by place seat now may begun;
       }
+
+-- no call
+pub none_of : (o : Option MachineOf) → is_some o ≡ false → o ≡ None
+none_of None none = refl
+none_of (Some c) none = absurd (true≢false none)
+
+-- the rebuild that is read under a number is the one that is asked there
+pub read_rebuild : (calls : List Rebuild) (number : ℕ) (asked : Asked) (read : Rebuild) → option_map Asked.OfRepairer (slice_get calls number) ≡ Some asked → read ≡ get_or calls number read → asked ≡ Asked.OfRepairer read
+read_rebuild [] number asked read next is = absurd (true≢false (sym (ap is_some next)))
+read_rebuild (x ∷ calls) zero asked read next is = same_Some asked (Asked.OfRepairer x) (sym next) ∙ ap Asked.OfRepairer (sym is)
+read_rebuild (x ∷ calls) (suc number) asked read next is = read_rebuild calls number asked read next is
+
+pub is_there : (calls : List Rebuild) (number : ℕ) (asked : Asked) → option_map Asked.OfRepairer (slice_get calls number) ≡ Some asked → number < length calls
+is_there [] number asked next = absurd (true≢false (sym (ap is_some next)))
+is_there (x ∷ calls) zero asked next = omega arith
+is_there (x ∷ calls) (suc number) asked next =
+    let below : number < length calls = is_there calls number asked next in
+    omega (arith, below)

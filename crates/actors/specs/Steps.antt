@@ -36,7 +36,7 @@ pub record BeginsCall (a after : CallerOf) : Type 0 where
   pub its : IsCallOf a call
   pub goes : GoesOn (need_of call.call)
   pub knows : (d : Sealed) → Knows d a → KnowsOldOf d call
-  pub after : after ≡ in_work call a
+  pub leaves : after ≡ in_work call a
 
 -- a call after the coding before its next step, if one is due
 pub record IsCodedCall (c now : MachineOf) : Type 0 where
@@ -54,7 +54,7 @@ pub record IsReady (a after : CallerOf) : Type 0 where
   pub its : IsCallOf a call
   pub now : MachineOf
   pub coded : IsCodedCall call now
-  pub after : after ≡ in_work now a
+  pub leaves : after ≡ in_work now a
 
 -- a caller whose call has come to this value by its step: the call goes on, or it is over
 pub record Concludes (a : CallerOf) (last : MachineOf) (after : CallerOf) : Type 0 where

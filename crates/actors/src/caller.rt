@@ -21,7 +21,7 @@ ghost use Rattle.actors.specs.Steps.{BeginsCall, IsReady, MadeAtDirectory, MadeA
 ghost use Rattle.actors.specs.CallerTurns.{HasMore, MakesCallerTurn};
 ghost use Rattle.actors.specs.Inside.{AreOfServers, part_by, served_of};
 
-use crate::concluding::{conclude, put_call, take};
+use crate::after_step::{conclude, put_call, take};
 use crate::left::has_step;
 use crate::next_call::next_call;
 use crate::part::Part;
@@ -77,7 +77,7 @@ impl<'a> Caller<'a> {
         requires few { calls_of (part_by part) < 2 ^ 32 }
         requires tries { 0 < tries }
         requires below { AreOfServers opening (part_by part) }
-        ensures { IfOk result (λ caller. caller ≡ first_caller (part_by part) opening tries seat) }
+        ensures { IfOk result (λ caller. caller ≡ first_caller (part_by part.entry) opening tries seat) }
     {
         match Vec::with_capacity(alloc, part.len()) {
             Ok(ended) => Ok(Caller {

@@ -1,8 +1,8 @@
 //! The callers of a store, clients and repairers, each with its calls, and their turns.
 #![tactic(auto)]
 
+mod after_step;
 mod caller;
-mod concluding;
 pub mod laws;
 mod left;
 mod next_call;

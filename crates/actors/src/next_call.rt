@@ -1,5 +1,5 @@
 //! How a caller's next call begins.
-ghost use Rattle.std.specs.Prelude.{◌≡◌, Some};
+ghost use Rattle.std.specs.Prelude.{ℕ};
 ghost use Rattle.actors.specs.Callers.{PartOf};
 ghost use Rattle.actors.specs.Beginning.{MayTake, HasBegun};
 ghost use Rattle.actors.specs.Inside.{part_by};
@@ -54,7 +54,7 @@ pub(crate) fn next_call<'a>(
     tries: u32,
 ) -> CallMachine<'a>
     requires may { MayTake opening.now tries place number (part_by part) seat }
-    ensures { HasBegun opening.now tries number (part_by part) seat result }
+    ensures { HasBegun opening.now tries number (part_by part.entry) seat result }
 {
     match part {
         Part::Client(part) => next_of_client(alloc, seat, place, number, part, opening, tries),

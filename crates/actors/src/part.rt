@@ -15,7 +15,7 @@ pub enum Part<'a> {
 impl<'a> Part<'a> {
     /// How many calls they are.
     pub(crate) fn len(self) -> usize
-        ensures { result ≡ calls_of (part_by self) }
+        ensures { result ≡ calls_of (part_by self.entry) }
     {
         match self {
             Part::Client(part) => part.calls.len(),
@@ -25,7 +25,7 @@ impl<'a> Part<'a> {
 
     /// After how many steps the last call is abandoned, if it is.
     pub(crate) fn leave(self) -> Option<u32>
-        ensures { result ≡ (work_of (part_by self)).leave }
+        ensures { result ≡ (work_of (part_by self.entry)).leave }
     {
         match self {
             Part::Client(part) => part.leave,

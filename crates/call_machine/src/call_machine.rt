@@ -11,7 +11,7 @@ ghost use Rattle.call_steps.specs.Steps.{IfServer};
 ghost use Rattle.stripe_dir.specs.Sealed.{Sealed};
 ghost use Rattle.call_steps.specs.CallOf.{act_of, taken_of};
 ghost use Rattle.call_steps.specs.Steps.{need_of, stepped_at_directory, stepped_at_server, coded, HoldsItsPass, IsDueInPass};
-ghost use Rattle.call_steps.specs.Outcomes.{call_outcome_of};
+ghost use Rattle.world_lines.specs.Outcomes.{call_outcome_of};
 ghost use Rattle.call_steps.specs.Callers.{IsOfScript};
 ghost use Rattle.client_patch.specs.Padded.{ArePadded};
 ghost use Rattle.call_machine.specs.Kinds.{Asked, client_machine, machine_of, IfReads, IfDraws, IfPuts, IfPatches, UnlessPatches};
@@ -19,7 +19,8 @@ ghost use Rattle.call_machine.specs.Calls.{first_call, drawn_by, owed_by, KnowsO
 ghost use Rattle.call_machine.specs.Ends.{IfBytesServed};
 
 use crate::ends::{of_client, of_rebuild};
-use call_steps::{CallOutcome, Need};
+use call_steps::Need;
+use world_lines::CallOutcome;
 use chunk_server::Server;
 use clay_repair::Coder;
 use client_patch::PatchCall;
@@ -43,6 +44,7 @@ enum Kind<'a> {
 }
 
 // What is asked.
+#[derive(Clone, Copy)]
 enum Task<'a> {
     Call(&'a Call),
     Rebuild(&'a Rebuild),

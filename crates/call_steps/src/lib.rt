@@ -6,4 +6,4 @@ mod need;
 mod outcomes;
 
 pub use need::Need;
-pub use outcomes::{CallOutcome, Change, Outcome, RepairOutcome};
+pub use outcomes::{Change, Outcome, RepairOutcome};

@@ -4,9 +4,9 @@ use Rattle.std.specs.Prelude.{⊤, option_and_then}
 use Rattle.std.specs.List.{slice_get}
 use Rattle.std.proofs.Math.ListN.{set}
 use Rattle.store_core.specs.Act.{Outcome as CoreOutcome}
-use Rattle.call_steps.specs.Outcomes.{call_outcome_of}
-use Rattle.call_steps.specs.declared.outcomes.CallOutcome.{CallOutcome}
-use Rattle.call_steps.specs.declared.outcomes.CallOutcome.TheVariants as outcome
+use Rattle.world_lines.specs.Outcomes.{call_outcome_of}
+use Rattle.world_lines.specs.declared.outcome.CallOutcome.{CallOutcome}
+use Rattle.world_lines.specs.declared.outcome.CallOutcome.TheVariants as outcome
 use Rattle.world_lines.specs.declared.calls.EndedCall.{EndedCall}
 use Rattle.world_lines.specs.declared.calls.CallerCalls.{CallerCalls}
 use Rattle.world_lines.specs.Served.{bytes_in, outcome_in, served_in, ended_at}

@@ -1,7 +1,7 @@
 -- A caller's calls at the end of a run, as the store's definitions say them.
 use Rattle.std.specs.Prelude.{ℕ, ◌^◌, ◌≤◌, ◌<◌, List, [], length, map, replicate, unwrap_or, All}
 use Rattle.store_core.specs.Work.{Ended, Calling}
-use Rattle.call_steps.specs.Outcomes.{call_outcome_of}
+use Rattle.world_lines.specs.Outcomes.{call_outcome_of}
 use Rattle.world_lines.specs.declared.calls.EndedCall.{EndedCall}
 use Rattle.world_lines.specs.declared.calls.CallerCalls.{CallerCalls}
 

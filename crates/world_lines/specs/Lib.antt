@@ -1,3 +1,4 @@
+pub mod Outcomes
 pub mod Ended
 pub mod Names
 pub mod Lists

@@ -10,9 +10,9 @@ use Rattle.store_core.specs.Calls.{Calls}
 use Rattle.store_core.specs.Directory.{Event, Point}
 use Rattle.store_core.specs.History.{applied, is_answered}
 use Rattle.store_lengths.specs.MapAfter.{map_by}
-use Rattle.call_steps.specs.Outcomes.{call_outcome_of}
-use Rattle.call_steps.specs.declared.outcomes.CallOutcome.{CallOutcome}
-use Rattle.call_steps.specs.declared.outcomes.CallOutcome.TheVariants as outcome
+use Rattle.world_lines.specs.Outcomes.{call_outcome_of}
+use Rattle.world_lines.specs.declared.outcome.CallOutcome.{CallOutcome}
+use Rattle.world_lines.specs.declared.outcome.CallOutcome.TheVariants as outcome
 use Rattle.world_lines.specs.declared.calls.EndedCall.{EndedCall}
 use Rattle.world_lines.specs.declared.calls.CallerCalls.{CallerCalls}
 

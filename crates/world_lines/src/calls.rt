@@ -1,5 +1,5 @@
 //! What a caller's calls have come to at the end of a run.
-use call_steps::CallOutcome;
+use crate::outcome::CallOutcome;
 use read_ledger::Takes;
 
 /// How a call ended, and what it took. `None` stands for a call that took nothing.

@@ -1,9 +1,10 @@
 ghost use Rattle.std.specs.Prelude.{◌≡◌, map, Some, IfOk};
 ghost use Rattle.store_core.specs.Outcomes.{triple_of, cause_of, result_of};
 ghost use Rattle.store_core.specs.Told.{lost_in};
-ghost use Rattle.call_steps.specs.Outcomes.{call_outcome_of};
+ghost use Rattle.world_lines.specs.Outcomes.{call_outcome_of};
 
-use call_steps::{CallOutcome, Change};
+use crate::outcome::CallOutcome;
+use call_steps::Change;
 use std::alloc::{AllocError, Global};
 use store_map::{ListOf, LostChunk};
 use transcript_text::{Cause, RepairResult, Triple};

@@ -5,6 +5,7 @@ mod calls;
 mod causes;
 mod history;
 pub mod laws;
+mod outcome;
 mod refused;
 mod role;
 mod served;
@@ -15,6 +16,7 @@ mod unanswered;
 
 pub use calls::{CallerCalls, EndedCall};
 pub use history::history_lines;
+pub use outcome::CallOutcome;
 pub use refused::{refused_lines, repair_lines};
 pub use stored::{object_lines, server_lines};
 pub use takes::take_lines;

@@ -2,13 +2,13 @@ ghost use Rattle.std.specs.Prelude.{◌≡◌, ℕ, ◌^◌, ◌<◌, ◌++◌, 
 ghost use Rattle.transcript_text.specs.declared.call_name.CallName.TheVariants as name;
 ghost use Rattle.store_core.specs.Outcomes.{cause_of, result_of};
 ghost use Rattle.store_core.specs.Shown.{lines_of_ended, refused_line, repair_line};
-ghost use Rattle.call_steps.specs.Outcomes.{call_outcome_of};
+ghost use Rattle.world_lines.specs.Outcomes.{call_outcome_of};
 ghost use Rattle.world_lines.specs.Ended.{calling_at, counts_of, HaveNames};
 ghost use Rattle.world_lines.specs.Lists.{refused_lines, repair_lines};
 
 use crate::calls::CallerCalls;
 use crate::causes::{cause_of, result_of};
-use call_steps::CallOutcome;
+use crate::outcome::CallOutcome;
 use std::alloc::{AllocError, Global};
 use store_map::ListOf;
 use transcript_text::{CallName, RLine, XLine};

@@ -1,11 +1,11 @@
 ghost use Rattle.std.specs.Prelude.{◌≡◌, ℕ, slice_get, option_map};
 ghost use Rattle.store_core.specs.History.{is_answered};
-ghost use Rattle.call_steps.specs.Outcomes.{call_outcome_of};
+ghost use Rattle.world_lines.specs.Outcomes.{call_outcome_of};
 ghost use Rattle.world_lines.specs.Served.{bytes_in, served_in, ended_at, answered_at, outcome_at, bytes_at};
 ghost use Rattle.world_lines.specs.Taken.{KeepsCall};
 
 use crate::calls::{CallerCalls, EndedCall};
-use call_steps::CallOutcome;
+use crate::outcome::CallOutcome;
 use std::alloc::Global;
 use std::mem;
 use store_map::{Actor, ByteList, ListOf};

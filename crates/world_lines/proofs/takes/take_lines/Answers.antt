@@ -8,4 +8,4 @@ pub returns : goal.returns
 returns c = λ servers.
     let clients = lines_of_actors (λ i. take_lines (name.Client i)) (map (calling_at servers) c.args.clients.now) in
     let repairers = lines_of_actors (λ i. take_lines (name.Repairer i)) (map (calling_at servers) c.args.repairers.now) in
-    c.in_ok-push_repairers.ensures servers ∙ ap (λ l. l ++ repairers) (c.in_ok-push_clients.ensures servers ∙ ap (λ l. l ++ clients) c.new-lines.ensures)
+    c.in_ok-push_callers-2.ensures servers ∙ ap (λ l. l ++ repairers) (c.in_ok-push_callers.ensures servers ∙ ap (λ l. l ++ clients) c.new-lines.ensures)

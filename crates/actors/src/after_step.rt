@@ -45,7 +45,7 @@ pub(crate) fn put_call<'a>(place: &mut Option<CallMachine<'a>>, call: CallMachin
 /// Puts a seat where none stands.
 pub(crate) fn put_seat(place: &mut Option<Seat>, seat: Seat)
     requires { place.old ≡ None }
-    ensures { place.new ≡ Some seat.entry }
+    ensures { place.new ≡ Some seat }
 {
     match place.replace(seat) {
         None => {}
