@@ -28,7 +28,7 @@ use Rattle.stripe_dir.specs.Sealed.{Sealed, base_stamp, drawn_stamp, stamps_touc
 use Rattle.call_steps.specs.CallOf.{act_of}
 use Rattle.call_steps.specs.Steps.{need_by, need_of}
 use Rattle.call_steps.specs.TokenAfter.{token_after, IfInCall}
-use Rattle.call_token.specs.Stamps.{AreDrawnFor}
+use Rattle.stripe_dir.specs.AnswerStamps.{AreDrawnFor}
 use Rattle.gather_parts.specs.Gatherings.{owed}
 use Rattle.gather_parts.specs.States.{state_in}
 use Rattle.write_course.specs.Laws.{call_at}

@@ -1,5 +1,5 @@
 -- What a write learns by its look of the old bytes that it keeps.
-use Rattle.std.proofs.Common.{◌≡◌, ◌⊎◌, ℕ, ◌+◌, ◌-◌, ◌*◌, ◌/◌, ◌<◌, ◌≤◌, min, Bool, true, false, List, [], ◌∷◌, ◌++◌, length, get_or, map, filter, slice_get, Option, None, Some, option_map, Result, Ok, Err, IfSome, unwrap_or, All, Contains, bytes_eq, refl, sym, ap, subst, ◌∙◌, inl, inr, arith}
+use Rattle.std.proofs.Common.{⊤, ◌≡◌, ◌⊎◌, ℕ, ◌+◌, ◌-◌, ◌*◌, ◌/◌, ◌<◌, ◌≤◌, min, Bool, true, false, List, [], ◌∷◌, ◌++◌, length, get_or, map, filter, slice_get, Option, None, Some, option_map, Result, Ok, Err, IfSome, unwrap_or, All, Contains, bytes_eq, refl, sym, ap, subst, ◌∙◌, inl, inr, arith}
 use Rattle.std.specs.List.{range_with_len}
 use Rattle.std.specs.declared.alloc.AllocError.{AllocError}
 use Rattle.std.proofs.lemmas.Option.{slice_get_cases, slice_get_within}
@@ -9,7 +9,7 @@ use Rattle.store_map.specs.Limits.{stripes_met}
 use Rattle.store_map.specs.declared.actor.Actor.{Actor}
 use Rattle.store_map.specs.declared.reply.Reply.{Reply}
 use Rattle.store_core.specs.Told.{Told, Seen as CoreSeen}
-use Rattle.store_core.specs.Note.{Note, Kind, refusal}
+use Rattle.store_core.specs.Note.{Note, Kind, refusal, note_of}
 use Rattle.store_core.specs.Act.{DirectoryStep}
 use Rattle.store_core.specs.AtDirectory.{at_directory}
 use Rattle.store_core.specs.Directory.{Object, Standing, Pin, Pass, Directory}
@@ -33,8 +33,7 @@ use Rattle.gathering.specs.Made.{bytes_between}
 use Rattle.gather_parts.specs.Wanted.{wanted_of, bytes_of}
 use Rattle.client_patch.specs.Padded.{IsPadded, ItsArePadded, ArePadded}
 use Rattle.client_patch.specs.Kept.{old_in}
-use Rattle.client_patch.specs.Known.{AreOldBytes}
-use Rattle.client_patch.specs.Known.{UpToDraw}
+use Rattle.client_patch.specs.Known.{AreOldBytes, UpToDraw}
 use Rattle.client_patch.specs.Patches.{is_write}
 use Rattle.client_patch.specs.LookAfter.{size_told, looked_stripes, IsPatchLook, IsLooked}
 use Rattle.call_steps.specs.Callers.{IsWaiting}
@@ -42,14 +41,13 @@ use Rattle.client_patch.specs.declared.stage.Stage.{Stage}
 use Rattle.client_patch.specs.declared.stage.Stage.TheVariants as stage
 use Rattle.store_map.specs.declared.actor.Point.{Point}
 use Rattle.store_map.specs.declared.call.Call.{Call}
-use Rattle.store_core.specs.Note.{note_of}
 use Rattle.store_core.specs.Agreement.{Seat, ActorToken}
 use Rattle.store_core.specs.Tokens.{actor_of}
 use Rattle.store_resume.specs.State.{State}
 use Rattle.call_steps.specs.TokenAfter.{token_after, IfInCall}
-use Rattle.call_token.specs.declared.answers.LookAnswer.{LookAnswer}
-use Rattle.call_token.specs.declared.answers.LookAnswer.TheVariants as look_answer
-use Rattle.call_token.specs.Shown.{AreShown, stripes_seen}
+use Rattle.stripe_dir.specs.declared.answers.Look.{Look}
+use Rattle.stripe_dir.specs.declared.answers.Look.TheVariants as look_answer
+use Rattle.stripe_dir.specs.Shown.{AreShown, stripes_seen}
 use Rattle.client_patch.proofs.Gathered.{known_at}
 use Rattle.client_patch.proofs.OfWrites.{write_kind}
 use Rattle.client_patch.proofs.Looks.{looked}
@@ -178,14 +176,14 @@ module _ (s : Sealed) (stamps : List StampOf) (same : stamps ≡ s.stamps) (some
   abbrev Knows : ℕ → List ℕ → ActorToken → Type 0
   Knows size kept token = IfInCall token (λ held. AreOldBytes stamps book (note_of written) size kept held.pass)
 
-  knows_by : (seat : Seat) (answer : Result LookAnswer AllocError) (short : Bool) (after : Directory) (next : Stage) (size : ℕ) (kept : List ℕ)
+  knows_by : (seat : Seat) (answer : Result (Look ⊤ ⊤) AllocError) (short : Bool) (after : Directory) (next : Stage) (size : ℕ) (kept : List ℕ)
       → IsPatchLook (is_write written) (looked answer) → (after, looked answer) ≡ at_directory short seat.actor number (DirectoryStep.Look (note_of written)) s.core → AreShown s stripes_seen answer
       → IsLooked (looked answer) next → size_told (looked answer) ≡ size → (next ≡ stage.Looked → kept ≡ bytes_of (map (wanted_of book.geometry 0 size) (looked_stripes answer)))
       → Knows size kept (token_after (ActorToken.Seated seat) number (DirectoryStep.Look (note_of written)) (looked answer))
-  knows_by seat (Ok (look_answer.Answer point reply)) short after next size kept fits made shown goes long is = tt
+  knows_by seat (Ok (look_answer.Answer seat point reply)) short after next size kept fits made shown goes long is = tt
   knows_by seat (Err e) short after next size kept fits made shown goes long is = tt
-  knows_by seat (Ok (look_answer.Pinned point length stripes)) short after next size kept fits made shown goes long is = absurd fits
-  knows_by seat (Ok (look_answer.Ready base length stripes)) short after next size kept fits made shown goes long is =
+  knows_by seat (Ok (look_answer.Pinned pass point length stripes)) short after next size kept fits made shown goes long is = absurd fits
+  knows_by seat (Ok (look_answer.Ready pass base length stripes)) short after next size kept fits made shown goes long is =
       let kind : (note_of written).kind ≡ Kind.Write = write_kind written fits in
       let told : (length ≡ (object_or_new (note_of written).name s.core.objects).length)
       × (map seen_in stripes.items ≡ map (seen_at s.core (object_or_new (note_of written).name s.core.objects)) (pinned_by Kind.Write s.core.shape (note_of written) (object_or_new (note_of written).name s.core.objects).length))
@@ -195,7 +193,7 @@ module _ (s : Sealed) (stamps : List StampOf) (same : stamps ≡ s.stamps) (some
       (subst (λ kept. AreOldBytes s.stamps book (note_of written) size kept pass) (sym (is goes))
       (learnt s some sound has padded (note_of written) book code size stripes.items pass (sym long ∙ told.0) told.1 (λ i x less. (shown i x less).own) refl))
 
-  pub look_knows : (token now : ActorToken) (answer : Result LookAnswer AllocError) (short : Bool) (after : Directory) (next : Stage) (size : ℕ) (kept : List ℕ) (at : State)
+  pub look_knows : (token now : ActorToken) (answer : Result (Look ⊤ ⊤) AllocError) (short : Bool) (after : Directory) (next : Stage) (size : ℕ) (kept : List ℕ) (at : State)
       → IsWaiting number token → IsPatchLook (is_write written) (looked answer) → (after, looked answer) ≡ at_directory short (actor_of token) number (DirectoryStep.Look (note_of written)) s.core → AreShown s stripes_seen answer
       → IsLooked (looked answer) next → size_told (looked answer) ≡ size → (next ≡ stage.Looked → kept ≡ bytes_of (map (wanted_of book.geometry 0 size) (looked_stripes answer)))
       → now ≡ token_after token number (DirectoryStep.Look (note_of written)) (looked answer) → UpToDraw at (Knows size kept now)

@@ -1,5 +1,5 @@
 -- The look of a write or a delete.
-use Rattle.std.proofs.Common.{◌≡◌, ℕ, nat_lt, Bool, true, false, cond, List, [], length, Option, None, Some, option_map, Result, refl, sym, ap, subst, ◌∙◌}
+use Rattle.std.proofs.Common.{⊤, ◌≡◌, ℕ, nat_lt, Bool, true, false, cond, List, [], length, Option, None, Some, option_map, Result, refl, sym, ap, subst, ◌∙◌}
 use Rattle.std.specs.declared.alloc.AllocError.{AllocError}
 use Rattle.clay_grid.specs.Shape.{Shape}
 use Rattle.store_map.specs.declared.actor.Actor.{Actor}
@@ -23,13 +23,12 @@ use Rattle.store_resume.specs.CallAfter.{pairs_with}
 use Rattle.store_resume.specs.CallLaws.{next_call}
 use Rattle.store_resume.specs.LookAfter.{start_after}
 use Rattle.version_seal.specs.Entry.{BookOf}
-use Rattle.stripe_dir.specs.Answers.{told_or_short}
+use Rattle.stripe_dir.specs.Answers.{told_or_short, told_look}
 use Rattle.call_steps.specs.declared.need.Need.TheVariants as need
 use Rattle.call_steps.specs.CallOf.{act_of}
 use Rattle.call_steps.specs.Steps.{need_by, need_of, stepped_at_directory}
 use Rattle.call_steps.specs.TokenAfter.{token_after, IsSeated}
-use Rattle.call_token.specs.declared.answers.LookAnswer.{LookAnswer}
-use Rattle.call_token.specs.Answers.{told_by_look}
+use Rattle.stripe_dir.specs.declared.answers.Look.{Look}
 use Rattle.gather_parts.specs.States.{state_in}
 use Rattle.write_course.specs.Laws.{call_at}
 use Rattle.write_course.specs.Writings.{versions_of}
@@ -47,8 +46,8 @@ use Rattle.client_patch.proofs.Ends.{directory_step}
 use Rattle.client_patch.proofs.Gathered.{EndsSo, ungathered_ends}
 
 -- what a look tells
-abbrev pub looked : Result LookAnswer AllocError → Told
-looked answer = told_or_short told_by_look answer
+abbrev pub looked : Result (Look ⊤ ⊤) AllocError → Told
+looked answer = told_or_short told_look answer
 
 -- it is answered, or a write goes on
 pub patch_looks : (short : Bool) (who : Actor) (number : ℕ) (written : Call) (d : Directory) → is_patch written ≡ true

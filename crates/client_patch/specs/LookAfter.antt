@@ -8,8 +8,8 @@ use Rattle.gather_parts.specs.Gatherings.{GatheringsOf, owed}
 use Rattle.gather_parts.specs.Standings.{is_due}
 use Rattle.gather_parts.specs.States.{state_in}
 use Rattle.stripe_dir.specs.declared.answers.Seen.{Seen}
-use Rattle.call_token.specs.declared.answers.LookAnswer.{LookAnswer}
-use Rattle.call_token.specs.Shown.{stripes_seen}
+use Rattle.stripe_dir.specs.declared.answers.Look.{Look}
+use Rattle.stripe_dir.specs.Shown.{stripes_seen}
 use Rattle.client_patch.specs.declared.stage.Stage.{Stage}
 use Rattle.client_patch.specs.declared.stage.Stage.TheVariants as stage
 
@@ -38,7 +38,7 @@ IsLooked (Told.Ready base size stripes) next = next ≡ stage.Looked
 IsLooked answer next = next ≡ stage.Finished
 
 -- the stripes that come with a look, where memory sufficed
-abbrev pub looked_stripes : Result LookAnswer AllocError → List Seen
+abbrev pub looked_stripes : Result (Look ⊤ ⊤) AllocError → List Seen
 looked_stripes (Ok answer) = stripes_seen answer
 looked_stripes (Err e) = []
 

@@ -15,10 +15,9 @@ ghost use Rattle.call_steps.specs.Ends.{is_ending};
 use crate::patch::PatchCall;
 use crate::stage::{Looked, Stage, after_end, after_look};
 use call_steps::{Change, Need, Outcome};
-use call_token::{CommitAnswer, DrawAnswer, EndAnswer};
+use stripe_dir::{Committed, Directory, Drawn, Ended};
 use gather_parts::Standing;
 use store_map::Call;
-use stripe_dir::Directory;
 use version_seal::Book;
 use write_course::{Doing, Writing};
 
@@ -125,13 +124,13 @@ impl<'a> PatchCall<'a> {
         self.coding = false;
         self.step = answer.is_err();
         match answer {
-            Ok(DrawAnswer::Versions { stamps }) => {
+            Ok(Drawn::Versions { stamps, .. }) => {
                 let (offset, _length) = range_of(self.call);
                 let first = offset / self.opening.geometry().stripe_len();
                 self.writing = Writing::new(self.alloc, self.opening.copy(), first, stamps);
                 self.stage = Stage::Writing;
             }
-            Ok(DrawAnswer::Reaped { at }) => {
+            Ok(Drawn::Reaped { at, .. }) => {
                 self.outcome = Outcome::Reaped { at };
                 self.stage = Stage::Finished;
             }
@@ -160,15 +159,15 @@ impl<'a> PatchCall<'a> {
         self.coding = false;
         self.step = false;
         match answer {
-            CommitAnswer::Done { point } => {
+            Committed::Done { point, .. } => {
                 self.changes.clear();
                 self.writing.committed(point);
             }
-            CommitAnswer::Changed { base, newer } => {
+            Committed::Changed { base, newer, .. } => {
                 self.changes.push_reserved(Change { base, newer });
                 self.stage = Stage::Looking;
             }
-            CommitAnswer::Reaped { at } => {
+            Committed::Reaped { at, .. } => {
                 self.outcome = Outcome::Reaped { at };
                 self.stage = Stage::Finished;
             }
@@ -193,8 +192,8 @@ impl<'a> PatchCall<'a> {
         self.coding = false;
         self.step = false;
         match answer {
-            EndAnswer::Ended => self.stage = after_end(self.stage),
-            EndAnswer::Reaped { at } => {
+            Ended::Ended { .. } => self.stage = after_end(self.stage),
+            Ended::Reaped { at, .. } => {
                 self.outcome = Outcome::Reaped { at };
                 self.stage = Stage::Finished;
             }

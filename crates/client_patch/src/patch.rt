@@ -8,10 +8,9 @@ ghost use Rattle.store_core.specs.Agreement.{ActorToken};
 ghost use Rattle.store_resume.specs.State.{Sequel, State};
 ghost use Rattle.store_resume.specs.StateActs.{act_at};
 ghost use Rattle.chunk_server.specs.Core.{core_of};
-ghost use Rattle.call_steps.specs.Steps.{IfServer};
+ghost use Rattle.call_steps.specs.Steps.{IfServer, stepped_at_server, coded, need_by, need_of, HoldsItsPass, IsDueInPass};
 ghost use Rattle.stripe_dir.specs.Sealed.{Sealed};
 ghost use Rattle.call_steps.specs.CallOf.{act_of, taken_of};
-ghost use Rattle.call_steps.specs.Steps.{stepped_at_server, coded, need_by, need_of, HoldsItsPass, IsDueInPass};
 ghost use Rattle.call_steps.specs.Outcomes.{outcome_of};
 ghost use Rattle.call_steps.specs.Callers.{IsClient, IsOfScript};
 ghost use Rattle.call_steps.specs.Ends.{point_ended, point_of, finished_of, IsStanding, IsOver};
@@ -24,14 +23,13 @@ ghost use Rattle.client_patch.specs.Patches.{is_patch, first_patch};
 
 use crate::stage::Stage;
 use call_steps::{Change, Need, Outcome};
-use call_token::Token;
+use stripe_dir::{Seat, Ticket};
 use chunk_server::Server;
 use gather_parts::{Gathered, PartGatherings};
 use read_ledger::Takes;
 use std::alloc::Global;
 use std::marker::Model;
 use store_map::{Actor, Call, Point, Reply};
-use stripe_dir::Seat;
 use version_seal::Opening;
 use write_course::laws::steps_are_of_the_call;
 use write_course::{Doing, Writing};
@@ -40,7 +38,7 @@ use write_course::{Doing, Writing};
 pub struct PatchCall<'a> {
     pub(crate) alloc: Global,
     pub(crate) stage: Stage,
-    pub(crate) token: Token,
+    pub(crate) token: Ticket,
     pub(crate) actor: Actor,
     pub(crate) call: &'a Call,
     pub(crate) number: u32,
@@ -164,7 +162,7 @@ impl<'a> PatchCall<'a> {
         PatchCall {
             alloc,
             stage: Stage::Looking,
-            token: Token::new(seat),
+            token: Ticket::new(seat),
             actor,
             call,
             number,

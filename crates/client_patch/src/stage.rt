@@ -4,10 +4,9 @@ ghost use Rattle.store_core.specs.Note.{note_of};
 ghost use Rattle.store_core.specs.NextAct.{job_of};
 ghost use Rattle.store_resume.specs.States.{open_state};
 ghost use Rattle.store_resume.specs.LookAfter.{start_after};
-ghost use Rattle.stripe_dir.specs.Answers.{told_or_short};
+ghost use Rattle.stripe_dir.specs.Answers.{told_or_short, told_look};
 ghost use Rattle.write_course.specs.Writings.{WritingOf};
-ghost use Rattle.call_token.specs.Answers.{told_by_look};
-ghost use Rattle.call_token.specs.Shown.{stripes_seen};
+ghost use Rattle.stripe_dir.specs.Shown.{stripes_seen};
 ghost use Rattle.gather_parts.specs.Wanted.{wanted_of, IsPinned};
 ghost use Rattle.gather_parts.specs.Gatherings.{begun};
 ghost use Rattle.client_patch.specs.Patches.{is_write, is_patch};
@@ -15,7 +14,7 @@ ghost use Rattle.client_patch.specs.Stages.{state_by, after_end};
 ghost use Rattle.client_patch.specs.LookAfter.{looked_stripes, size_told, IsPatchLook, IsLooked};
 
 use call_steps::Outcome;
-use call_token::LookAnswer;
+use stripe_dir::Look;
 use gather_parts::PartGatherings;
 use std::alloc::AllocError;
 use store_map::Call;
@@ -50,29 +49,29 @@ pub(crate) struct Looked {
 
 // Where the call goes on after its look. The old bytes of what was pinned are to be gathered.
 pub(crate) fn after_look(
-    answer: Result<LookAnswer, AllocError>,
+    answer: Result<Look<(), ()>, AllocError>,
     call: &Call,
     gatherings: &mut PartGatherings,
 ) -> Looked
-    requires fits { IsPatchLook (is_write call.now) (told_or_short told_by_look answer) }
+    requires fits { IsPatchLook (is_write call.now) (told_or_short told_look answer) }
     requires patch { is_patch call.now ≡ true }
     requires pinned { IfOk answer (λ answer. All (IsPinned gatherings.old.book) (stripes_seen answer)) }
     ensures state { (w : WritingOf) → state_by result.stage gatherings.new w result.outcome
-        ≡ open_state gatherings.old.book.geometry (start_after gatherings.old.book.geometry (note_of call.now).kind (job_of call.now) (told_or_short told_by_look answer)) }
-    ensures looked { IsLooked (told_or_short told_by_look answer) result.stage }
+        ≡ open_state gatherings.old.book.geometry (start_after gatherings.old.book.geometry (note_of call.now).kind (job_of call.now) (told_or_short told_look answer)) }
+    ensures looked { IsLooked (told_or_short told_look answer) result.stage }
     ensures begun { result.stage ≡ Stage.Looked → gatherings.new ≡ begun gatherings.old (map (wanted_of gatherings.old.book.geometry 0 result.size) (looked_stripes answer)) }
-    ensures size { size_told (told_or_short told_by_look answer) ≡ result.size }
+    ensures size { size_told (told_or_short told_look answer) ≡ result.size }
     ensures book { gatherings.new.book ≡ gatherings.old.book }
     ensures takes { gatherings.new.takes ≡ gatherings.old.takes }
 {
     match answer {
-        Ok(LookAnswer::Answer { point, reply }) => Looked {
+        Ok(Look::Answer { point, reply, .. }) => Looked {
             stage: Stage::Finished,
             size: 0,
             outcome: Outcome::Answered { point, reply },
         },
         Ok(
-            LookAnswer::Ready {
+            Look::Ready {
                 length,
                 stripes,
                 ..
@@ -85,7 +84,7 @@ pub(crate) fn after_look(
                 outcome: Outcome::NoMemory,
             }
         }
-        Ok(LookAnswer::Pinned { .. }) => unreachable!(),
+        Ok(Look::Pinned { .. }) => unreachable!(),
         Err(_) => Looked {
             stage: Stage::Finished,
             size: 0,

@@ -30,7 +30,7 @@ use Rattle.call_steps.specs.CallOf.{tries_by, CallOf, act_of, heard}
 use Rattle.call_steps.specs.Steps.{at_directory_by, stepped_at_directory}
 use Rattle.call_steps.specs.TokenAfter.{token_after}
 use Rattle.call_steps.specs.declared.outcomes.Outcome.{Outcome}
-use Rattle.call_token.specs.Stamps.{AreDrawnFor}
+use Rattle.stripe_dir.specs.AnswerStamps.{AreDrawnFor}
 use Rattle.write_course.specs.Laws.{call_at}
 use Rattle.write_course.specs.Writings.{WritingOf, versions_of}
 use Rattle.write_course.proofs.OfTheCall.{steps_are_of_the_call}

@@ -11,8 +11,7 @@ ghost use Rattle.call_steps.specs.Ends.{is_ending};
 use crate::put::PutCall;
 use crate::stage::{Stage, after_end, after_look, content_of};
 use call_steps::{Need, Outcome};
-use call_token::{CommitAnswer, DrawAnswer, EndAnswer};
-use stripe_dir::Directory;
+use stripe_dir::{Committed, Directory, Drawn, Ended};
 use version_seal::Book;
 use write_course::{Doing, Writing};
 
@@ -105,11 +104,11 @@ impl<'a> PutCall<'a> {
         self.coding = false;
         self.step = answer.is_err();
         match answer {
-            Ok(DrawAnswer::Versions { stamps }) => {
+            Ok(Drawn::Versions { stamps, .. }) => {
                 self.writing = Writing::new(self.alloc, self.opening.copy(), 0, stamps);
                 self.stage = Stage::Writing;
             }
-            Ok(DrawAnswer::Reaped { at }) => {
+            Ok(Drawn::Reaped { at, .. }) => {
                 self.outcome = Outcome::Reaped { at };
                 self.stage = Stage::Finished;
             }
@@ -137,12 +136,12 @@ impl<'a> PutCall<'a> {
         self.coding = false;
         self.step = false;
         match answer {
-            CommitAnswer::Done { point } => self.writing.committed(point),
-            CommitAnswer::Reaped { at } => {
+            Committed::Done { point, .. } => self.writing.committed(point),
+            Committed::Reaped { at, .. } => {
                 self.outcome = Outcome::Reaped { at };
                 self.stage = Stage::Finished;
             }
-            CommitAnswer::Changed { .. } => unreachable!(),
+            Committed::Changed { .. } => unreachable!(),
         }
     }
 
@@ -160,8 +159,8 @@ impl<'a> PutCall<'a> {
         self.coding = false;
         self.step = false;
         match answer {
-            EndAnswer::Ended => self.stage = after_end(self.stage),
-            EndAnswer::Reaped { at } => {
+            Ended::Ended { .. } => self.stage = after_end(self.stage),
+            Ended::Reaped { at, .. } => {
                 self.outcome = Outcome::Reaped { at };
                 self.stage = Stage::Finished;
             }

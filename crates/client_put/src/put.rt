@@ -8,9 +8,8 @@ ghost use Rattle.store_core.specs.Agreement.{ActorToken};
 ghost use Rattle.store_resume.specs.State.{State};
 ghost use Rattle.store_resume.specs.StateActs.{act_at};
 ghost use Rattle.chunk_server.specs.Core.{core_of};
-ghost use Rattle.call_steps.specs.Steps.{IfServer};
+ghost use Rattle.call_steps.specs.Steps.{IfServer, stepped_at_server, coded, need_by, need_of, HoldsItsPass, IsDueInPass};
 ghost use Rattle.call_steps.specs.CallOf.{CallOf};
-ghost use Rattle.call_steps.specs.Steps.{stepped_at_server, coded, need_by, need_of, HoldsItsPass, IsDueInPass};
 ghost use Rattle.call_steps.specs.Outcomes.{outcome_of};
 ghost use Rattle.write_course.specs.Writings.{begins_version};
 ghost use Rattle.client_put.specs.Puts.{is_put, first_put};
@@ -20,7 +19,7 @@ ghost use Rattle.call_steps.specs.Ends.{point_of, finished_of, IsStanding, IsOve
 use crate::bytes::stripe_bytes;
 use crate::stage::{Stage, content_of};
 use call_steps::{Need, Outcome};
-use call_token::Token;
+use stripe_dir::{Seat, Ticket};
 use chunk_server::Server;
 use clay_repair::Coder;
 use read_ledger::Takes;
@@ -28,7 +27,6 @@ use std::alloc::{AllocError, Global};
 use std::marker::Model;
 use std::thread::Threads;
 use store_map::{Actor, Call, Point, Reply};
-use stripe_dir::Seat;
 use version_seal::Opening;
 use write_course::{Doing, Writing};
 
@@ -36,7 +34,7 @@ use write_course::{Doing, Writing};
 pub struct PutCall<'a> {
     pub(crate) alloc: Global,
     pub(crate) stage: Stage,
-    pub(crate) token: Token,
+    pub(crate) token: Ticket,
     pub(crate) actor: Actor,
     pub(crate) number: u32,
     pub(crate) call: &'a Call,
@@ -123,7 +121,7 @@ impl<'a> PutCall<'a> {
         PutCall {
             alloc,
             stage: Stage::Looking,
-            token: Token::new(seat),
+            token: Ticket::new(seat),
             actor,
             number,
             call,

@@ -2,15 +2,14 @@
 ghost use Rattle.std.specs.Prelude.{◌≡◌, true};
 ghost use Rattle.store_resume.specs.LookAfter.{put_after_look};
 ghost use Rattle.store_resume.specs.State.{State};
-ghost use Rattle.stripe_dir.specs.Answers.{told_or_short};
+ghost use Rattle.stripe_dir.specs.Answers.{told_or_short, told_look};
 ghost use Rattle.write_course.specs.Writings.{WritingOf};
-ghost use Rattle.call_token.specs.Answers.{told_by_look};
 ghost use Rattle.client_put.specs.Puts.{is_put};
 ghost use Rattle.client_put.specs.Stages.{state_by, after_end, IsPutLook, IsLooked};
 ghost use Rattle.client_put.specs.Bytes.{content_in};
 
 use call_steps::Outcome;
-use call_token::LookAnswer;
+use stripe_dir::Look;
 use std::alloc::AllocError;
 use store_map::{Call, Content};
 
@@ -32,17 +31,17 @@ pub(crate) enum Stage {
 }
 
 // Where a put goes on after its look, and how it has ended then.
-pub(crate) fn after_look(answer: Result<LookAnswer, AllocError>) -> (Stage, Outcome)
-    requires { IsPutLook (told_or_short told_by_look answer) }
-    ensures state { (w : WritingOf) → state_by result.0 w result.1 ≡ put_after_look (told_or_short told_by_look answer) }
-    ensures kept { IsLooked (told_or_short told_by_look answer) result.0 result.1 }
+pub(crate) fn after_look(answer: Result<Look<(), ()>, AllocError>) -> (Stage, Outcome)
+    requires { IsPutLook (told_or_short told_look answer) }
+    ensures state { (w : WritingOf) → state_by result.0 w result.1 ≡ put_after_look (told_or_short told_look answer) }
+    ensures kept { IsLooked (told_or_short told_look answer) result.0 result.1 }
 {
     match answer {
-        Ok(LookAnswer::Answer { point, reply }) => {
+        Ok(Look::Answer { point, reply, .. }) => {
             (Stage::Finished, Outcome::Answered { point, reply })
         }
-        Ok(LookAnswer::Ready { .. }) => (Stage::Drawing, Outcome::NoMemory),
-        Ok(LookAnswer::Pinned { .. }) => unreachable!(),
+        Ok(Look::Ready { .. }) => (Stage::Drawing, Outcome::NoMemory),
+        Ok(Look::Pinned { .. }) => unreachable!(),
         Err(_) => (Stage::Finished, Outcome::NoMemory),
     }
 }

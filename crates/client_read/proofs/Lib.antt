@@ -3,3 +3,4 @@ pub mod Looking
 pub mod Pinned
 pub mod Serving
 pub mod Closing
+pub mod Making

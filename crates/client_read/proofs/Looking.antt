@@ -1,5 +1,5 @@
 -- The look of a call that reads.
-use Rattle.std.proofs.Common.{◌≡◌, ◌≢◌, ℕ, Bool, true, false, List, [], map, Result, Ok, Err, IfOk, All, Option, option_map, refl, sym, ap, subst, ◌∙◌, inl, inr}
+use Rattle.std.proofs.Common.{⊤, ◌≡◌, ◌≢◌, ℕ, Bool, true, false, List, [], map, Result, Ok, Err, IfOk, All, Option, option_map, refl, sym, ap, subst, ◌∙◌, inl, inr}
 use Rattle.std.specs.declared.alloc.AllocError.{AllocError}
 use Rattle.std.proofs.lemmas.Bool.{true≢false}
 use Rattle.store_map.specs.declared.actor.Actor.{Actor}
@@ -23,17 +23,15 @@ use Rattle.store_resume.specs.LookAfter.{start_after}
 use Rattle.store_resume.specs.CallAfter.{pairs_with}
 use Rattle.store_resume.specs.CallLaws.{next_call}
 use Rattle.version_seal.specs.Entry.{BookOf, StampOf}
-use Rattle.stripe_dir.specs.Answers.{told_or_short}
+use Rattle.stripe_dir.specs.Answers.{told_or_short, seen_in, told_look}
 use Rattle.stripe_dir.specs.Sealed.{Sealed}
-use Rattle.stripe_dir.specs.Answers.{seen_in}
 use Rattle.store_map.specs.declared.actor.Point.{Point}
 use Rattle.call_steps.specs.TokenAfter.{token_after, MayMake}
 use Rattle.call_steps.specs.CallOf.{CallOf, act_of, state_told, heard}
 use Rattle.call_steps.specs.Steps.{at_directory_by, stepped_at_directory}
-use Rattle.call_token.specs.declared.answers.LookAnswer.{LookAnswer}
-use Rattle.call_token.specs.declared.answers.LookAnswer.TheVariants as look
-use Rattle.call_token.specs.Answers.{told_by_look}
-use Rattle.call_token.specs.Shown.{AreShown, stripes_seen}
+use Rattle.stripe_dir.specs.declared.answers.Look.{Look}
+use Rattle.stripe_dir.specs.declared.answers.Look.TheVariants as look
+use Rattle.stripe_dir.specs.Shown.{AreShown, stripes_seen}
 use Rattle.stripe_dir.specs.AnswerStamps.{IsSeenIn}
 use Rattle.gather_parts.specs.Gatherings.{GatheringsOf}
 use Rattle.client_read.specs.Reads.{is_read}
@@ -45,8 +43,8 @@ use Rattle.client_read.specs.declared.stage.Stage.{Stage}
 use Rattle.client_read.proofs.Standings.{looks_first}
 
 -- what a look tells
-abbrev pub looked : Result LookAnswer AllocError → Told
-looked answer = told_or_short told_by_look answer
+abbrev pub looked : Result (Look ⊤ ⊤) AllocError → Told
+looked answer = told_or_short told_look answer
 
 abbrev is_rebuild : Kind → Bool
 is_rebuild Kind.Rebuild = true
@@ -87,37 +85,37 @@ never_ready (call.Write name offset content) base length stripes is fits = true�
 never_ready (call.Delete name) base length stripes is fits = true≢false (sym is)
 
 -- the token that a call has after its look
-pub kept_looked : (answer : Result LookAnswer AllocError) (next : Stage) (read : Call) (number : ℕ) (token : ActorToken) (p : GatheringsOf) → is_read read ≡ true
+pub kept_looked : (answer : Result (Look ⊤ ⊤) AllocError) (next : Stage) (read : Call) (number : ℕ) (token : ActorToken) (p : GatheringsOf) → is_read read ≡ true
     → FitsKind (note_of read).kind (looked answer) → IsWaiting number token → IsLooked (looked answer) next
     → Keeps next number (note_of read) (token_after token number (DirectoryStep.Look (note_of read)) (looked answer)) p
 kept_looked answer next read number (ActorToken.InCall held) p is fits waits goes = absurd waits
-kept_looked (Ok (look.Answer point reply)) next read number (ActorToken.Seated seat) p is fits waits goes =
+kept_looked (Ok (look.Answer seat point reply)) next read number (ActorToken.Seated seat) p is fits waits goes =
     subst (λ (s : Stage). Keeps s number (note_of read) (token_after (ActorToken.Seated seat) number (DirectoryStep.Look (note_of read)) (Told.Answer point.0 reply)) p) (sym goes) tt
-kept_looked (Ok (look.Pinned point length stripes)) next read number (ActorToken.Seated seat) p is fits waits goes =
-    subst (λ (s : Stage). Keeps s number (note_of read) (token_after (ActorToken.Seated seat) number (DirectoryStep.Look (note_of read)) (looked (Ok (look.Pinned point length stripes)))) p) (sym goes)
+kept_looked (Ok (look.Pinned pass point length stripes)) next read number (ActorToken.Seated seat) p is fits waits goes =
+    subst (λ (s : Stage). Keeps s number (note_of read) (token_after (ActorToken.Seated seat) number (DirectoryStep.Look (note_of read)) (looked (Ok (look.Pinned pass point length stripes)))) p) (sym goes)
     (record { its = refl; its_number = refl })
-kept_looked (Ok (look.Ready base length stripes)) next read number (ActorToken.Seated seat) p is fits waits goes = absurd (never_ready read (option_map (λ (point : Point). point.0) base) length (map seen_in stripes.items) is fits)
+kept_looked (Ok (look.Ready pass base length stripes)) next read number (ActorToken.Seated seat) p is fits waits goes = absurd (never_ready read (option_map (λ (point : Point). point.0) base) length (map seen_in stripes.items) is fits)
 kept_looked (Err e) next read number (ActorToken.Seated seat) p is fits waits goes =
     subst (λ (s : Stage). Keeps s number (note_of read) (token_after (ActorToken.Seated seat) number (DirectoryStep.Look (note_of read)) Told.Short) p) (sym goes) tt
 
 -- it is the same client's
-pub client_looked : (answer : Result LookAnswer AllocError) (number : ℕ) (note : Note) (token : ActorToken) → IsWaiting number token → IsClient (actor_of token)
+pub client_looked : (answer : Result (Look ⊤ ⊤) AllocError) (number : ℕ) (note : Note) (token : ActorToken) → IsWaiting number token → IsClient (actor_of token)
     → IsClient (actor_of (token_after token number (DirectoryStep.Look note) (looked answer)))
 client_looked answer number note (ActorToken.InCall held) waits client = absurd waits
-client_looked (Ok (look.Answer point reply)) number note (ActorToken.Seated seat) waits client = client
-client_looked (Ok (look.Pinned point length stripes)) number note (ActorToken.Seated seat) waits client = client
-client_looked (Ok (look.Ready base length stripes)) number note (ActorToken.Seated seat) waits client = client
+client_looked (Ok (look.Answer seat point reply)) number note (ActorToken.Seated seat) waits client = client
+client_looked (Ok (look.Pinned pass point length stripes)) number note (ActorToken.Seated seat) waits client = client
+client_looked (Ok (look.Ready pass base length stripes)) number note (ActorToken.Seated seat) waits client = client
 client_looked (Err e) number note (ActorToken.Seated seat) waits client = client
 
-no_pairs : (answer : Result LookAnswer AllocError) → [] ≡ pairs_with [] (looked answer)
-no_pairs (Ok (look.Answer point reply)) = refl
-no_pairs (Ok (look.Pinned point length stripes)) = refl
-no_pairs (Ok (look.Ready base length stripes)) = refl
+no_pairs : (answer : Result (Look ⊤ ⊤) AllocError) → [] ≡ pairs_with [] (looked answer)
+no_pairs (Ok (look.Answer seat point reply)) = refl
+no_pairs (Ok (look.Pinned pass point length stripes)) = refl
+no_pairs (Ok (look.Ready pass base length stripes)) = refl
 no_pairs (Err e) = refl
 
 -- the call's step
 module _ (c : CallOf) (read : Call) (is : is_read read ≡ true) (job : c.job ≡ job_of read) (state : c.state ≡ record { pairs = []; at = State.Start })
-    (d after : Directory) (short : Bool) (answer : Result LookAnswer AllocError)
+    (d after : Directory) (short : Bool) (answer : Result (Look ⊤ ⊤) AllocError)
     (e : (after, looked answer) ≡ at_directory short (actor_of c.token) c.number (DirectoryStep.Look (note_of read)) d) where
   first_act : act_of c ≡ Act.AtDirectory (DirectoryStep.Look (note_of read))
   first_act = (λ i. act_of (record c { job = job i; state = state i })) ∙ looks_first read c.tries is c.book.geometry
@@ -148,6 +146,6 @@ module _ (c : CallOf) (read : Call) (is : is_read read ≡ true) (job : c.job �
       ∙ ap (λ act. owed_by act short c sealed owed) (sym first_act)
 
 -- the stamps that a look shows are the directory's own
-pub all_own : (s : Sealed) (answer : Result LookAnswer AllocError) → AreShown s stripes_seen answer → IfOk answer (λ answer. All (IsSeenIn s.stamps) (stripes_seen answer))
+pub all_own : (s : Sealed) (answer : Result (Look ⊤ ⊤) AllocError) → AreShown s stripes_seen answer → IfOk answer (λ answer. All (IsSeenIn s.stamps) (stripes_seen answer))
 all_own s (Ok answer) shown = λ k d below. (shown k d below).own
 all_own s (Err e) shown = tt

@@ -9,8 +9,7 @@ ghost use Rattle.client_read.specs.Owed.{owed_after};
 use crate::read::ReadCall;
 use crate::stage::{Looked, Stage, after_look};
 use call_steps::{Need, Outcome};
-use call_token::EndAnswer;
-use stripe_dir::Directory;
+use stripe_dir::{Directory, Ended};
 
 impl<'a> ReadCall<'a> {
     /// One step at the directory.
@@ -73,8 +72,8 @@ impl<'a> ReadCall<'a> {
         self.coding = false;
         self.step = false;
         match answer {
-            EndAnswer::Ended => self.stage = Stage::Ended,
-            EndAnswer::Reaped { at } => {
+            Ended::Ended { .. } => self.stage = Stage::Ended,
+            Ended::Reaped { at, .. } => {
                 self.outcome = Outcome::Reaped { at };
                 self.stage = Stage::Finished;
             }

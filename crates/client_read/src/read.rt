@@ -6,8 +6,7 @@ ghost use Rattle.store_core.specs.Agreement.{ActorToken};
 ghost use Rattle.store_resume.specs.State.{Sequel, State};
 ghost use Rattle.chunk_server.specs.Core.{core_of};
 ghost use Rattle.chunk_server.specs.State.{IsSame};
-ghost use Rattle.call_steps.specs.Steps.{IfServer};
-ghost use Rattle.call_steps.specs.Steps.{stepped_at_server, coded, need_of, HoldsItsPass, IsDueInPass};
+ghost use Rattle.call_steps.specs.Steps.{IfServer, stepped_at_server, coded, need_of, HoldsItsPass, IsDueInPass, MayMakeNext};
 ghost use Rattle.call_steps.specs.Outcomes.{outcome_of};
 ghost use Rattle.gather_parts.specs.Ends.{end_state};
 ghost use Rattle.call_steps.specs.CallOf.{taken_of};
@@ -18,7 +17,6 @@ ghost use Rattle.client_read.specs.Ends.{IfServed, AreBytes};
 
 use crate::stage::Stage;
 use call_steps::{Need, Outcome};
-use call_token::Token;
 use chunk_server::Server;
 use clay_repair::Coder;
 use gather_parts::{Gathered, PartGatherings};
@@ -27,13 +25,13 @@ use std::alloc::Global;
 use std::marker::Model;
 use std::thread::Threads;
 use store_map::{Call, Point};
-use stripe_dir::Seat;
+use stripe_dir::{Seat, Ticket};
 use version_seal::Opening;
 
 /// A client's get, read or stat in work. It has to be finished or abandoned.
 pub struct ReadCall<'a> {
     pub(crate) stage: Stage,
-    pub(crate) token: Token,
+    pub(crate) token: Ticket,
     pub(crate) call: &'a Call,
     pub(crate) number: u32,
     pub(crate) gatherings: PartGatherings,
@@ -86,7 +84,7 @@ impl<'a> ReadCall<'a> {
     {
         ReadCall {
             stage: Stage::Looking,
-            token: Token::new(seat),
+            token: Ticket::new(seat),
             call,
             number,
             gatherings: PartGatherings::new(alloc, opening),
@@ -98,10 +96,12 @@ impl<'a> ReadCall<'a> {
     }
 
     /// Where the call has to go on.
+    #[tactic(auto, using(crate::proofs::Making::may))]
     pub fn need(&self) -> Need
         ensures need { result ≡ need_of self.now.call }
         ensures in_pass { IsDueInPass self.now.call }
         ensures pass { HoldsItsPass self.now.call }
+        ensures may { MayMakeNext self.now.call }
         ensures below { IfServer result (λ server. server < chunk_count self.now.call.book.geometry) }
     {
         match self.stage {

@@ -8,10 +8,9 @@ ghost use Rattle.store_calls.specs.AnswersByKind.{MayPin, FitsKind};
 ghost use Rattle.store_resume.specs.States.{open_state};
 ghost use Rattle.store_resume.specs.LookAfter.{start_after};
 ghost use Rattle.version_seal.specs.Entry.{StampOf};
-ghost use Rattle.stripe_dir.specs.Answers.{told_or_short};
+ghost use Rattle.stripe_dir.specs.Answers.{told_or_short, told_look};
 ghost use Rattle.stripe_dir.specs.AnswerStamps.{IsSeenIn};
-ghost use Rattle.call_token.specs.Answers.{told_by_look};
-ghost use Rattle.call_token.specs.Shown.{stripes_seen};
+ghost use Rattle.stripe_dir.specs.Shown.{stripes_seen};
 ghost use Rattle.gather_parts.specs.Wanted.{IsPinned};
 ghost use Rattle.gather_parts.specs.Gatherings.{owed};
 ghost use Rattle.client_read.specs.Reads.{is_read};
@@ -20,10 +19,10 @@ ghost use Rattle.client_read.specs.Stages.{state_by, IsLooked};
 ghost use Rattle.client_read.specs.Owed.{owed_after_look};
 
 use call_steps::Outcome;
-use call_token::LookAnswer;
 use gather_parts::PartGatherings;
 use std::alloc::AllocError;
 use store_map::{Call, Point};
+use stripe_dir::Look;
 
 /// What the call does next, or how it has ended.
 #[derive(Clone, Copy, PartialEq, Eq, Debug)]
@@ -66,33 +65,34 @@ fn range_of(call: &Call, length: u64) -> (u64, u64)
 
 // Where the call goes on after its look. What was pinned is to be gathered.
 pub(crate) fn after_look(
-    answer: Result<LookAnswer, AllocError>,
+    answer: Result<Look<(), ()>, AllocError>,
     call: &Call,
     gatherings: &mut PartGatherings,
 ) -> Looked
     requires read { is_read call.now ≡ true }
-    requires fits { FitsKind (note_of call.now).kind (told_or_short told_by_look answer) }
+    requires fits { FitsKind (note_of call.now).kind (told_or_short told_look answer) }
     requires pinned { IfOk answer (λ answer. All (IsPinned gatherings.old.book) (stripes_seen answer)) }
     ensures state { state_by result.stage gatherings.new result.point result.outcome
-        ≡ open_state gatherings.old.book.geometry (start_after gatherings.old.book.geometry (note_of call.now).kind (job_of call.now) (told_or_short told_by_look answer)) }
+        ≡ open_state gatherings.old.book.geometry (start_after gatherings.old.book.geometry (note_of call.now).kind (job_of call.now) (told_or_short told_look answer)) }
     ensures plain { IsPlain result.outcome }
-    ensures kept { IsLooked (told_or_short told_by_look answer) result.stage }
+    ensures kept { IsLooked (told_or_short told_look answer) result.stage }
     ensures book { gatherings.new.book ≡ gatherings.old.book }
     ensures takes { gatherings.new.takes ≡ gatherings.old.takes }
     ensures owed { (stamps : List StampOf) → IfOk answer (λ answer. All (IsSeenIn stamps) (stripes_seen answer)) →
-        owed gatherings.new ≡ owed_after_look gatherings.old.book.geometry (note_of call.now) stamps (told_or_short told_by_look answer) (owed gatherings.old) }
+        owed gatherings.new ≡ owed_after_look gatherings.old.book.geometry (note_of call.now) stamps (told_or_short told_look answer) (owed gatherings.old) }
 {
     match answer {
-        Ok(LookAnswer::Answer { point, reply }) => Looked {
+        Ok(Look::Answer { point, reply, .. }) => Looked {
             stage: Stage::Finished,
             point,
             outcome: Outcome::Answered { point, reply },
         },
         Ok(
-            LookAnswer::Pinned {
+            Look::Pinned {
                 point,
                 length,
                 stripes,
+                ..
             },
         ) => {
             let (start, end) = range_of(call, length);
@@ -103,7 +103,7 @@ pub(crate) fn after_look(
                 outcome: Outcome::NoMemory,
             }
         }
-        Ok(LookAnswer::Ready { .. }) => unreachable!(),
+        Ok(Look::Ready { .. }) => unreachable!(),
         Err(_) => Looked {
             stage: Stage::Finished,
             point: Point(0),

@@ -4,6 +4,8 @@
 #[cfg(test)]
 mod answers;
 #[cfg(test)]
+mod memory;
+#[cfg(test)]
 mod strays;
 #[cfg(test)]
 mod walks;

@@ -1,5 +1,5 @@
 -- Where an actor is after its step.
-use Rattle.std.proofs.Common.{◌≡◌, ◌⊎◌, ℕ, ◌+◌, ◌<◌, ◌≤◌, Bool, true, false, List, [], length, map, Option, None, Some, IfSome, IsTrue, Vec, Global, if◌then◌else◌, refl, sym, ap, subst, ◌∙◌, arith}
+use Rattle.std.proofs.Common.{⊤, ◌≡◌, ◌⊎◌, ℕ, ◌+◌, ◌<◌, ◌≤◌, Bool, true, false, List, [], length, map, Option, None, Some, IfSome, IsTrue, Vec, Global, if◌then◌else◌, refl, sym, ap, subst, ◌∙◌, arith}
 use Rattle.std.proofs.lemmas.Bool.{false≢true, true≢false}
 use Rattle.std.proofs.lemmas.List.{length-map}
 use Rattle.clay_grid.specs.Shape.{Shape}
@@ -14,18 +14,19 @@ use Rattle.store_core.specs.Agreement.{Seat, HeldPass, ActorToken}
 use Rattle.store_core.specs.Tokens.{actor_of, after_look, begun_by, after_pass_step}
 use Rattle.version_seal.specs.Entry.{BookOf, RequestOf, StampOf, call_written, is_writing, IsRequestIn}
 use Rattle.stripe_dir.specs.Sealed.{CanSeal}
-use Rattle.stripe_dir.specs.declared.answers.Seen.{Seen}
-use Rattle.call_token.specs.declared.answers.LookAnswer.{LookAnswer}
-use Rattle.call_token.specs.declared.answers.LookAnswer.TheVariants as look
-use Rattle.call_token.specs.declared.answers.DrawAnswer.{DrawAnswer}
-use Rattle.call_token.specs.declared.answers.DrawAnswer.TheVariants as draw
-use Rattle.call_token.specs.declared.answers.CommitAnswer.{CommitAnswer}
-use Rattle.call_token.specs.declared.answers.CommitAnswer.TheVariants as commit
-use Rattle.call_token.specs.declared.answers.EndAnswer.{EndAnswer}
-use Rattle.call_token.specs.declared.answers.EndAnswer.TheVariants as end
-use Rattle.call_token.specs.declared.answers.ConfirmAnswer.{ConfirmAnswer}
-use Rattle.call_token.specs.declared.answers.ConfirmAnswer.TheVariants as confirm
-use Rattle.call_token.specs.Answers.{told_by_look, told_by_repair_look, told_by_draw, told_by_commit, told_by_end, told_by_confirm}
+use Rattle.stripe_dir.specs.declared.answers.RepairLook.{RepairLook}
+use Rattle.stripe_dir.specs.declared.answers.RepairLook.TheVariants as repair
+use Rattle.stripe_dir.specs.declared.answers.Look.{Look}
+use Rattle.stripe_dir.specs.declared.answers.Look.TheVariants as look
+use Rattle.stripe_dir.specs.declared.answers.Drawn.{Drawn}
+use Rattle.stripe_dir.specs.declared.answers.Drawn.TheVariants as draw
+use Rattle.stripe_dir.specs.declared.answers.Committed.{Committed}
+use Rattle.stripe_dir.specs.declared.answers.Committed.TheVariants as commit
+use Rattle.stripe_dir.specs.declared.answers.Ended.{Ended}
+use Rattle.stripe_dir.specs.declared.answers.Ended.TheVariants as end
+use Rattle.stripe_dir.specs.declared.answers.Confirmed.{Confirmed}
+use Rattle.stripe_dir.specs.declared.answers.Confirmed.TheVariants as confirm
+use Rattle.stripe_dir.specs.Answers.{told_look, told_repair_look, told_drawn, told_committed, told_ended, told_confirmed}
 use Rattle.dir_walks.specs.declared.stage.Stage.{Stage}
 use Rattle.dir_walks.specs.declared.stage.Stage.TheVariants as stage
 use Rattle.dir_walks.specs.Callers.{CallerOf, IsBegun, IsDrawn, IsAt, is_seated}
@@ -63,37 +64,37 @@ module _ (book : BookOf) (c : CallerOf) where
 
 -- ---- after a step on the actor's pass
 module _ (book : BookOf) (now : CallerOf) (held : HeldPass) where
-  pub at_end : (answer : EndAnswer) → held.pass.number + 1 ≤ now.unused → IsAt book now stage.Seated (after_pass_step held (told_by_end answer))
-  at_end end.Ended last = last
-  at_end (end.Reaped point) last = last
+  pub at_end : (answer : Ended ⊤) → held.pass.number + 1 ≤ now.unused → IsAt book now stage.Seated (after_pass_step held (told_ended answer))
+  at_end (end.Ended seat) last = last
+  at_end (end.Reaped seat point) last = last
 
-  pub at_commit : (answer : CommitAnswer) → now.unused ≡ unused_after_commit held.pass.number answer → IsAt book now stage.Seated (after_pass_step held (told_by_commit answer))
-  at_commit (commit.Done point) is = omega (arith, is)
-  at_commit (commit.Changed base newer) is = omega (arith, is)
-  at_commit (commit.Reaped point) is = omega (arith, is)
+  pub at_commit : (answer : Committed ⊤) → now.unused ≡ unused_after_commit held.pass.number answer → IsAt book now stage.Seated (after_pass_step held (told_committed answer))
+  at_commit (commit.Done seat point) is = omega (arith, is)
+  at_commit (commit.Changed seat base newer) is = omega (arith, is)
+  at_commit (commit.Reaped seat point) is = omega (arith, is)
 
-  pub at_confirm : (answer : ConfirmAnswer) → held.pass.number ≡ now.number → held.pass.note.kind ≡ Kind.Rebuild → held.pass.number + 1 ≤ now.unused → IsAt book now (stage_after_confirm answer) (after_pass_step held (told_by_confirm answer))
-  at_confirm confirm.Current numbered kind last = (numbered, kind)
-  at_confirm (confirm.Superseded newer) numbered kind last = last
-  at_confirm (confirm.Reaped point) numbered kind last = last
+  pub at_confirm : (answer : Confirmed ⊤ ⊤) → held.pass.number ≡ now.number → held.pass.note.kind ≡ Kind.Rebuild → held.pass.number + 1 ≤ now.unused → IsAt book now (stage_after_confirm answer) (after_pass_step held (told_confirmed answer))
+  at_confirm (confirm.Current pass) numbered kind last = (numbered, kind)
+  at_confirm (confirm.Superseded seat newer) numbered kind last = last
+  at_confirm (confirm.Reaped seat point) numbered kind last = last
 
-  pub at_draw : (answer : DrawAnswer) → held.pass.number ≡ now.number → (held.pass.note.kind ≡ Kind.Put) ⊎ (held.pass.note.kind ≡ Kind.Write) → now.drawn ≡ drawn_by answer
-      → ((stamps : Vec StampOf Global) → answer ≡ draw.Versions stamps → length stamps.items ≡ length (stripes_between book.geometry held.pass.note.offset (held.pass.note.offset + held.pass.note.length)))
-      → held.pass.number + 1 ≤ now.unused → IsAt book now (stage_after_draw answer) (after_pass_step held (told_by_draw answer))
-  at_draw (draw.Versions stamps) numbered kind counted touched last =
+  pub at_draw : (answer : Drawn ⊤ ⊤) → held.pass.number ≡ now.number → (held.pass.note.kind ≡ Kind.Put) ⊎ (held.pass.note.kind ≡ Kind.Write) → now.drawn ≡ drawn_by answer
+      → ((stamps : Vec StampOf Global) → answer ≡ draw.Versions tt stamps → length stamps.items ≡ length (stripes_between book.geometry held.pass.note.offset (held.pass.note.offset + held.pass.note.length)))
+      → held.pass.number + 1 ≤ now.unused → IsAt book now (stage_after_draw answer) (after_pass_step held (told_drawn answer))
+  at_draw (draw.Versions pass stamps) numbered kind counted touched last =
       record {
         numbered = numbered;
         writes = kind;
         touched = length-map stamps.items (λ (stamp : StampOf). stamp.version) ∙ touched stamps refl;
         counted = counted ∙ sym (length-map stamps.items (λ (stamp : StampOf). stamp.version));
       }
-  at_draw (draw.Reaped point) numbered kind counted touched last = last
+  at_draw (draw.Reaped seat point) numbered kind counted touched last = last
 
 -- ---- after a look
 module _ (book : BookOf) (now : CallerOf) (seat : Seat) where
-  pub at_repair_look : (answer : Option Seen) (note : Note) → note.kind ≡ Kind.Rebuild → seat.unused ≤ now.unused → IsAt book now (stage_after_repair_look answer) (after_look seat now.number note (told_by_repair_look answer))
-  at_repair_look None note kind last = last
-  at_repair_look (Some seen) note kind last = (refl, kind)
+  pub at_repair_look : (answer : RepairLook ⊤ ⊤) (note : Note) → note.kind ≡ Kind.Rebuild → seat.unused ≤ now.unused → IsAt book now (stage_after_repair_look answer) (after_look seat now.number note (told_repair_look answer))
+  at_repair_look (repair.NoSuch gone) note kind last = last
+  at_repair_look (repair.Pinned gone seen) note kind last = (refl, kind)
 
   module _ (its : Call) (request : RequestOf) (requested : now.request ≡ Some request) (home : request.home ≡ book.home) (actor : request.actor ≡ seat.actor) (numbered : request.number ≡ now.number) (call : request.call ≡ its) (free : book.script ≡ None) where
     writing_now : writes its ≡ true → IsTrue (is_writing (call_written book.script seat.actor now.number now.request))
@@ -115,7 +116,7 @@ module _ (book : BookOf) (now : CallerOf) (seat : Seat) where
         }
     goes_on false w seen base told = refl
 
-    pub at_look : (answer : LookAnswer) → now.number + 1 ≤ now.unused → IsAt book now (stage_after_look its answer) (after_look seat now.number (note_of its) (told_by_look answer))
-    at_look (look.Answer point reply) last = last
-    at_look (look.Pinned point count stripes) last = goes_on (writes its) refl _ _ _
-    at_look (look.Ready base count stripes) last = goes_on (writes its) refl _ _ _
+    pub at_look : (answer : Look ⊤ ⊤) → now.number + 1 ≤ now.unused → IsAt book now (stage_after_look its answer) (after_look seat now.number (note_of its) (told_look answer))
+    at_look (look.Answer gone point reply) last = last
+    at_look (look.Pinned gone point count stripes) last = goes_on (writes its) refl _ _ _
+    at_look (look.Ready gone base count stripes) last = goes_on (writes its) refl _ _ _

@@ -1,5 +1,5 @@
 -- Each step as an actor makes it.
-use Rattle.std.proofs.Common.{◌≡◌, ◌⊎◌, ℕ, ◌+◌, ◌<◌, ◌≤◌, Bool, true, false, List, [], length, map, option_map, Option, None, Some, Result, Ok, Err, IfOk, Vec, Global, refl, sym, ap, subst, ◌∙◌, arith}
+use Rattle.std.proofs.Common.{⊤, ◌≡◌, ◌⊎◌, ℕ, ◌+◌, ◌<◌, ◌≤◌, Bool, true, false, List, [], length, map, option_map, Option, None, Some, Result, Ok, Err, IfOk, Vec, Global, refl, sym, ap, subst, ◌∙◌, arith}
 use Rattle.clay_grid.specs.Shape.{Shape}
 use Rattle.store_map.specs.declared.actor.Actor.{Actor}
 use Rattle.store_map.specs.declared.actor.Point.{Point}
@@ -7,7 +7,7 @@ use Rattle.store_map.specs.declared.call.Call.{Call}
 use Rattle.store_core.specs.Told.{Told}
 use Rattle.store_core.specs.Note.{Kind, note_of}
 use Rattle.store_core.specs.Look.{stripes_between, pin_of}
-use Rattle.stripe_dir.specs.Answers.{seen_in}
+use Rattle.stripe_dir.specs.Answers.{seen_in, told_look, told_repair_look, told_drawn, told_committed, told_ended, told_confirmed}
 use Rattle.store_core.specs.Act.{DirectoryStep}
 use Rattle.store_core.specs.AtDirectory.{at_directory}
 use Rattle.store_core.specs.Agreement.{Seat, HeldPass, ActorToken, Agrees}
@@ -16,17 +16,17 @@ use Rattle.version_seal.specs.Entry.{BookOf, RequestOf, StampOf}
 use Rattle.stripe_dir.specs.Sealed.{Sealed}
 use Rattle.stripe_dir.specs.declared.answers.Seen.{Seen}
 use Rattle.call_steps.specs.TokenAfter.{token_after}
-use Rattle.call_token.specs.Shown.{repair_note}
-use Rattle.call_token.specs.Stamps.{IfDrawn}
-use Rattle.call_token.specs.declared.answers.LookAnswer.{LookAnswer}
-use Rattle.call_token.specs.declared.answers.LookAnswer.TheVariants as look
+use Rattle.stripe_dir.specs.Shown.{repair_note}
+use Rattle.stripe_dir.specs.AnswerStamps.{IfDrawn}
+use Rattle.stripe_dir.specs.declared.answers.Look.{Look}
+use Rattle.stripe_dir.specs.declared.answers.RepairLook.{RepairLook}
+use Rattle.stripe_dir.specs.declared.answers.Look.TheVariants as look
 use Rattle.dir_walks.specs.Begun.{HasBegun, IfBegun}
-use Rattle.call_token.specs.declared.answers.DrawAnswer.{DrawAnswer}
-use Rattle.call_token.specs.declared.answers.DrawAnswer.TheVariants as draw
-use Rattle.call_token.specs.declared.answers.CommitAnswer.{CommitAnswer}
-use Rattle.call_token.specs.declared.answers.EndAnswer.{EndAnswer}
-use Rattle.call_token.specs.declared.answers.ConfirmAnswer.{ConfirmAnswer}
-use Rattle.call_token.specs.Answers.{told_by_look, told_by_repair_look, told_by_draw, told_by_commit, told_by_end, told_by_confirm}
+use Rattle.stripe_dir.specs.declared.answers.Drawn.{Drawn}
+use Rattle.stripe_dir.specs.declared.answers.Drawn.TheVariants as draw
+use Rattle.stripe_dir.specs.declared.answers.Committed.{Committed}
+use Rattle.stripe_dir.specs.declared.answers.Ended.{Ended}
+use Rattle.stripe_dir.specs.declared.answers.Confirmed.{Confirmed}
 use Rattle.dir_walks.specs.declared.stage.Stage.{Stage}
 use Rattle.dir_walks.specs.declared.stage.Stage.TheVariants as stage
 use Rattle.dir_walks.specs.Callers.{CallerOf, IsBegun, IsDrawn, IsAt, IsRight, Steps, is_seated}
@@ -42,8 +42,8 @@ module _ (s after : Sealed) (c : CallerOf) (right : IsRight s c) (token : ActorT
       steps s after c now short number step told right made (own ∙ is) (subst (Agrees after.core) (sym own) agrees) book same
       (subst (IsAt s.book now now.stage) (sym (own ∙ is ∙ ap (λ t. token_after t number step told) held)) at)
 
-  pub end_steps : (step : DirectoryStep) (answer : EndAnswer) (unused : ℕ) → is_seated c.stage ≡ false → unused ≡ c.number → (after.core, told_by_end answer) ≡ at_directory false (actor_of c.token) c.number step s.core
-      → token ≡ token_after c.token c.number step (told_by_end answer)
+  pub end_steps : (step : DirectoryStep) (answer : Ended ⊤) (unused : ℕ) → is_seated c.stage ≡ false → unused ≡ c.number → (after.core, told_ended answer) ≡ at_directory false (actor_of c.token) c.number step s.core
+      → token ≡ token_after c.token c.number step (told_ended answer)
       → Steps s c after (record { who = c.who; token = token; stage = stage.Seated; number = c.number; unused = unused + 1; drawn = c.drawn; request = c.request })
   end_steps step answer unused other same made is = by (in_call s.book c c.stage c.token other right.at)
     where
@@ -52,10 +52,10 @@ module _ (s after : Sealed) (c : CallerOf) (right : IsRight s c) (token : ActorT
 
       by : ((held : HeldPass) × (c.token ≡ ActorToken.InCall held) × (held.pass.number ≡ c.number)) → Steps s c after now
       by (held, is_held, numbered) =
-          to now false c.number step (told_by_end answer) refl refl (ActorToken.InCall held) is_held made is (at_end s.book now held answer (omega (arith, numbered, same)))
+          to now false c.number step (told_ended answer) refl refl (ActorToken.InCall held) is_held made is (at_end s.book now held answer (omega (arith, numbered, same)))
 
-  pub confirm_steps : (answer : ConfirmAnswer) (its : Stage) (unused : ℕ) → c.stage ≡ stage.Rebuilding → its ≡ stage_after_confirm answer → unused ≡ c.number
-      → (after.core, told_by_confirm answer) ≡ at_directory false (actor_of c.token) c.number DirectoryStep.Confirm s.core → token ≡ token_after c.token c.number DirectoryStep.Confirm (told_by_confirm answer)
+  pub confirm_steps : (answer : Confirmed ⊤ ⊤) (its : Stage) (unused : ℕ) → c.stage ≡ stage.Rebuilding → its ≡ stage_after_confirm answer → unused ≡ c.number
+      → (after.core, told_confirmed answer) ≡ at_directory false (actor_of c.token) c.number DirectoryStep.Confirm s.core → token ≡ token_after c.token c.number DirectoryStep.Confirm (told_confirmed answer)
       → Steps s c after (record { who = c.who; token = token; stage = its; number = c.number; unused = unused + 1; drawn = c.drawn; request = c.request })
   confirm_steps answer its unused staged its_is same made is = by (rebuilding s.book c c.token (subst (λ (st : Stage). IsAt s.book c st c.token) staged right.at))
     where
@@ -64,11 +64,11 @@ module _ (s after : Sealed) (c : CallerOf) (right : IsRight s c) (token : ActorT
 
       by : ((held : HeldPass) × (c.token ≡ ActorToken.InCall held) × (held.pass.number ≡ c.number) × (held.pass.note.kind ≡ Kind.Rebuild)) → Steps s c after now
       by (held, is_held, numbered, kind) =
-          to now false c.number DirectoryStep.Confirm (told_by_confirm answer) refl refl (ActorToken.InCall held) is_held made is
-          (subst (λ (st : Stage). IsAt s.book now st (token_after (ActorToken.InCall held) c.number DirectoryStep.Confirm (told_by_confirm answer))) (sym its_is) (at_confirm s.book now held answer numbered kind (omega (arith, numbered, same))))
+          to now false c.number DirectoryStep.Confirm (told_confirmed answer) refl refl (ActorToken.InCall held) is_held made is
+          (subst (λ (st : Stage). IsAt s.book now st (token_after (ActorToken.InCall held) c.number DirectoryStep.Confirm (told_confirmed answer))) (sym its_is) (at_confirm s.book now held answer numbered kind (omega (arith, numbered, same))))
 
-  pub commit_steps : (step : DirectoryStep) (answer : CommitAnswer) (unused : ℕ) → c.stage ≡ stage.Drawn → unused ≡ unused_after_commit c.number answer
-      → (after.core, told_by_commit answer) ≡ at_directory false (actor_of c.token) c.number step s.core → token ≡ token_after c.token c.number step (told_by_commit answer)
+  pub commit_steps : (step : DirectoryStep) (answer : Committed ⊤) (unused : ℕ) → c.stage ≡ stage.Drawn → unused ≡ unused_after_commit c.number answer
+      → (after.core, told_committed answer) ≡ at_directory false (actor_of c.token) c.number step s.core → token ≡ token_after c.token c.number step (told_committed answer)
       → Steps s c after (record { who = c.who; token = token; stage = stage.Seated; number = c.number; unused = unused; drawn = c.drawn; request = c.request })
   commit_steps step answer unused staged same made is = by (drawn s.book c c.token (subst (λ (st : Stage). IsAt s.book c st c.token) staged right.at))
     where
@@ -77,12 +77,12 @@ module _ (s after : Sealed) (c : CallerOf) (right : IsRight s c) (token : ActorT
 
       by : ((held : HeldPass) × (c.token ≡ ActorToken.InCall held) × IsDrawn s.book.geometry c held) → Steps s c after now
       by (held, is_held, its) =
-          to now false c.number step (told_by_commit answer) refl refl (ActorToken.InCall held) is_held made is
+          to now false c.number step (told_committed answer) refl refl (ActorToken.InCall held) is_held made is
           (at_commit s.book now held answer (same ∙ ap (λ n. unused_after_commit n answer) (sym its.numbered)))
 
-  pub draw_steps : (answer : DrawAnswer) (its : Stage) (count unused : ℕ) → c.stage ≡ stage.Begun → s.book.geometry ≡ s.core.shape → its ≡ stage_after_draw answer → count ≡ drawn_by answer → unused ≡ c.number
+  pub draw_steps : (answer : Drawn ⊤ ⊤) (its : Stage) (count unused : ℕ) → c.stage ≡ stage.Begun → s.book.geometry ≡ s.core.shape → its ≡ stage_after_draw answer → count ≡ drawn_by answer → unused ≡ c.number
       → (request : Option RequestOf) → ((held : HeldPass) → c.token ≡ ActorToken.InCall held → IfDrawn s held request answer)
-      → (after.core, told_by_draw answer) ≡ at_directory false (actor_of c.token) c.number DirectoryStep.Draw s.core → token ≡ token_after c.token c.number DirectoryStep.Draw (told_by_draw answer)
+      → (after.core, told_drawn answer) ≡ at_directory false (actor_of c.token) c.number DirectoryStep.Draw s.core → token ≡ token_after c.token c.number DirectoryStep.Draw (told_drawn answer)
       → Steps s c after (record { who = c.who; token = token; stage = its; number = c.number; unused = unused + 1; drawn = count; request = c.request })
   draw_steps answer its count unused staged code its_is counted same request if_drawn made is = by (begun s.book c c.token (subst (λ (st : Stage). IsAt s.book c st c.token) staged right.at))
     where
@@ -91,16 +91,16 @@ module _ (s after : Sealed) (c : CallerOf) (right : IsRight s c) (token : ActorT
 
       by : ((held : HeldPass) × (c.token ≡ ActorToken.InCall held) × IsBegun s.book c held) → Steps s c after now
       by (held, is_held, has) =
-          to now false c.number DirectoryStep.Draw (told_by_draw answer) refl refl (ActorToken.InCall held) is_held made is
-          (subst (λ (st : Stage). IsAt s.book now st (token_after (ActorToken.InCall held) c.number DirectoryStep.Draw (told_by_draw answer))) (sym its_is)
+          to now false c.number DirectoryStep.Draw (told_drawn answer) refl refl (ActorToken.InCall held) is_held made is
+          (subst (λ (st : Stage). IsAt s.book now st (token_after (ActorToken.InCall held) c.number DirectoryStep.Draw (told_drawn answer))) (sym its_is)
           (at_draw s.book now held answer has.numbered has.writes counted
           (λ stamps versions.
           (subst (IfDrawn s held request) versions (if_drawn held is_held)).count ∙ ap (λ (g : Shape). length (stripes_between g held.pass.note.offset (held.pass.note.offset + held.pass.note.length))) (sym code))
           (let numbered : held.pass.number ≡ c.number = has.numbered in omega (arith, numbered, same))))
 
-  pub look_steps : (call : Call) (answer : LookAnswer) (its : Stage) (number unused : ℕ) (request : RequestOf) → c.stage ≡ stage.Seated → its ≡ stage_after_look call answer → unused ≡ number
+  pub look_steps : (call : Call) (answer : Look ⊤ ⊤) (its : Stage) (number unused : ℕ) (request : RequestOf) → c.stage ≡ stage.Seated → its ≡ stage_after_look call answer → unused ≡ number
       → request ≡ record { home = s.book.home; actor = c.who; number = number; call = call } → s.book.script ≡ None
-      → (after.core, told_by_look answer) ≡ at_directory false (actor_of c.token) number (DirectoryStep.Look (note_of call)) s.core → token ≡ token_after c.token number (DirectoryStep.Look (note_of call)) (told_by_look answer)
+      → (after.core, told_look answer) ≡ at_directory false (actor_of c.token) number (DirectoryStep.Look (note_of call)) s.core → token ≡ token_after c.token number (DirectoryStep.Look (note_of call)) (told_look answer)
       → Steps s c after (record { who = c.who; token = token; stage = its; number = number; unused = unused + 1; drawn = c.drawn; request = Some request })
   look_steps call answer its number unused request staged its_is same requested free made is = by (seated s.book c c.token (subst (λ (st : Stage). IsAt s.book c st c.token) staged right.at))
     where
@@ -109,14 +109,14 @@ module _ (s after : Sealed) (c : CallerOf) (right : IsRight s c) (token : ActorT
 
       by : ((seat : Seat) × (c.token ≡ ActorToken.Seated seat) × (seat.unused ≤ c.unused)) → Steps s c after now
       by (seat, is_seat, unused_is) =
-          to now false number (DirectoryStep.Look (note_of call)) (told_by_look answer) refl refl (ActorToken.Seated seat) is_seat made is
-          (subst (λ (st : Stage). IsAt s.book now st (token_after (ActorToken.Seated seat) number (DirectoryStep.Look (note_of call)) (told_by_look answer))) (sym its_is)
+          to now false number (DirectoryStep.Look (note_of call)) (told_look answer) refl refl (ActorToken.Seated seat) is_seat made is
+          (subst (λ (st : Stage). IsAt s.book now st (token_after (ActorToken.Seated seat) number (DirectoryStep.Look (note_of call)) (told_look answer))) (sym its_is)
           (at_look s.book now seat call request refl (ap (λ (r : RequestOf). r.home) requested) (ap (λ (r : RequestOf). r.actor) requested ∙ sym right.its ∙ ap actor_of is_seat) (ap (λ (r : RequestOf). r.number) requested)
           (ap (λ (r : RequestOf). r.call) requested) free answer (omega (arith, same))))
 
-  pub repair_look_steps : (name : List ℕ) (stripe : ℕ) (answer : Option Seen) (its : Stage) (number : ℕ) → c.stage ≡ stage.Seated → its ≡ stage_after_repair_look answer
-      → (after.core, told_by_repair_look answer) ≡ at_directory false (actor_of c.token) number (DirectoryStep.LookRepair (repair_note name stripe)) s.core
-      → token ≡ token_after c.token number (DirectoryStep.LookRepair (repair_note name stripe)) (told_by_repair_look answer)
+  pub repair_look_steps : (name : List ℕ) (stripe : ℕ) (answer : RepairLook ⊤ ⊤) (its : Stage) (number : ℕ) → c.stage ≡ stage.Seated → its ≡ stage_after_repair_look answer
+      → (after.core, told_repair_look answer) ≡ at_directory false (actor_of c.token) number (DirectoryStep.LookRepair (repair_note name stripe)) s.core
+      → token ≡ token_after c.token number (DirectoryStep.LookRepair (repair_note name stripe)) (told_repair_look answer)
       → Steps s c after (record { who = c.who; token = token; stage = its; number = number; unused = c.unused; drawn = c.drawn; request = c.request })
   repair_look_steps name stripe answer its number staged its_is made is = by (seated s.book c c.token (subst (λ (st : Stage). IsAt s.book c st c.token) staged right.at))
     where
@@ -125,6 +125,6 @@ module _ (s after : Sealed) (c : CallerOf) (right : IsRight s c) (token : ActorT
 
       by : ((seat : Seat) × (c.token ≡ ActorToken.Seated seat) × (seat.unused ≤ c.unused)) → Steps s c after now
       by (seat, is_seat, unused_is) =
-          to now false number (DirectoryStep.LookRepair (repair_note name stripe)) (told_by_repair_look answer) refl refl (ActorToken.Seated seat) is_seat made is
-          (subst (λ (st : Stage). IsAt s.book now st (token_after (ActorToken.Seated seat) number (DirectoryStep.LookRepair (repair_note name stripe)) (told_by_repair_look answer))) (sym its_is)
+          to now false number (DirectoryStep.LookRepair (repair_note name stripe)) (told_repair_look answer) refl refl (ActorToken.Seated seat) is_seat made is
+          (subst (λ (st : Stage). IsAt s.book now st (token_after (ActorToken.Seated seat) number (DirectoryStep.LookRepair (repair_note name stripe)) (told_repair_look answer))) (sym its_is)
           (at_repair_look s.book now seat answer (repair_note name stripe) refl unused_is))

@@ -1,16 +1,17 @@
 -- Where an actor is after an answer.
-use Rattle.std.specs.Prelude.{ℕ, ◌+◌, Bool, true, false, length, Option, None, Some, if◌then◌else◌}
+use Rattle.std.specs.Prelude.{ℕ, ⊤, ◌+◌, Bool, true, false, length, if◌then◌else◌}
 use Rattle.store_map.specs.declared.call.Call.{Call}
 use Rattle.store_map.specs.declared.call.Call.TheVariants as call
-use Rattle.stripe_dir.specs.declared.answers.Seen.{Seen}
-use Rattle.call_token.specs.declared.answers.LookAnswer.{LookAnswer}
-use Rattle.call_token.specs.declared.answers.LookAnswer.TheVariants as look
-use Rattle.call_token.specs.declared.answers.DrawAnswer.{DrawAnswer}
-use Rattle.call_token.specs.declared.answers.DrawAnswer.TheVariants as draw
-use Rattle.call_token.specs.declared.answers.CommitAnswer.{CommitAnswer}
-use Rattle.call_token.specs.declared.answers.CommitAnswer.TheVariants as commit
-use Rattle.call_token.specs.declared.answers.ConfirmAnswer.{ConfirmAnswer}
-use Rattle.call_token.specs.declared.answers.ConfirmAnswer.TheVariants as confirm
+use Rattle.stripe_dir.specs.declared.answers.RepairLook.{RepairLook}
+use Rattle.stripe_dir.specs.declared.answers.RepairLook.TheVariants as repair
+use Rattle.stripe_dir.specs.declared.answers.Look.{Look}
+use Rattle.stripe_dir.specs.declared.answers.Look.TheVariants as look
+use Rattle.stripe_dir.specs.declared.answers.Drawn.{Drawn}
+use Rattle.stripe_dir.specs.declared.answers.Drawn.TheVariants as draw
+use Rattle.stripe_dir.specs.declared.answers.Committed.{Committed}
+use Rattle.stripe_dir.specs.declared.answers.Committed.TheVariants as commit
+use Rattle.stripe_dir.specs.declared.answers.Confirmed.{Confirmed}
+use Rattle.stripe_dir.specs.declared.answers.Confirmed.TheVariants as confirm
 use Rattle.dir_walks.specs.declared.stage.Stage.{Stage}
 use Rattle.dir_walks.specs.declared.stage.Stage.TheVariants as stage
 
@@ -20,27 +21,27 @@ writes (call.Put name content) = true
 writes (call.Write name offset content) = true
 writes its = false
 
-abbrev pub stage_after_look : Call → LookAnswer → Stage
-stage_after_look its (look.Answer point reply) = stage.Seated
+abbrev pub stage_after_look : Call → Look ⊤ ⊤ → Stage
+stage_after_look its (look.Answer seat point reply) = stage.Seated
 stage_after_look its answer = if writes its then stage.Begun else stage.Reading
 
-abbrev pub stage_after_repair_look : Option Seen → Stage
-stage_after_repair_look None = stage.Seated
-stage_after_repair_look (Some seen) = stage.Rebuilding
+abbrev pub stage_after_repair_look : RepairLook ⊤ ⊤ → Stage
+stage_after_repair_look (repair.NoSuch seat) = stage.Seated
+stage_after_repair_look (repair.Pinned pass seen) = stage.Rebuilding
 
-abbrev pub stage_after_draw : DrawAnswer → Stage
-stage_after_draw (draw.Versions stamps) = stage.Drawn
-stage_after_draw (draw.Reaped at) = stage.Seated
+abbrev pub stage_after_draw : Drawn ⊤ ⊤ → Stage
+stage_after_draw (draw.Versions pass stamps) = stage.Drawn
+stage_after_draw (draw.Reaped seat at) = stage.Seated
 
-abbrev pub drawn_by : DrawAnswer → ℕ
-drawn_by (draw.Versions stamps) = length stamps.items
-drawn_by (draw.Reaped at) = 0
+abbrev pub drawn_by : Drawn ⊤ ⊤ → ℕ
+drawn_by (draw.Versions pass stamps) = length stamps.items
+drawn_by (draw.Reaped seat at) = 0
 
 -- a write that was overtaken may use its number once more
-abbrev pub unused_after_commit : ℕ → CommitAnswer → ℕ
-unused_after_commit number (commit.Changed base newer) = number
+abbrev pub unused_after_commit : ℕ → Committed ⊤ → ℕ
+unused_after_commit number (commit.Changed seat base newer) = number
 unused_after_commit number answer = number + 1
 
-abbrev pub stage_after_confirm : ConfirmAnswer → Stage
-stage_after_confirm confirm.Current = stage.Rebuilding
+abbrev pub stage_after_confirm : Confirmed ⊤ ⊤ → Stage
+stage_after_confirm (confirm.Current pass) = stage.Rebuilding
 stage_after_confirm answer = stage.Seated

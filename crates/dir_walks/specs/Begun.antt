@@ -6,8 +6,8 @@ use Rattle.store_core.specs.Look.{pin_of}
 use Rattle.store_core.specs.Agreement.{HeldPass, ActorToken}
 use Rattle.stripe_dir.specs.Answers.{seen_in}
 use Rattle.stripe_dir.specs.declared.answers.Seen.{Seen}
-use Rattle.call_token.specs.declared.answers.LookAnswer.{LookAnswer}
-use Rattle.call_token.specs.declared.answers.LookAnswer.TheVariants as look
+use Rattle.stripe_dir.specs.declared.answers.Look.{Look}
+use Rattle.stripe_dir.specs.declared.answers.Look.TheVariants as look
 use Rattle.dir_walks.specs.Callers.{CallerOf}
 
 -- its pass is of the call and pins these stripes, and its request is the call's
@@ -19,6 +19,6 @@ pub record HasBegun (home : List ℕ) (call : Call) (number : ℕ) (stripes : Li
   pub asked : c.request ≡ Some (record { home = home; actor = c.who; number = number; call = call })
 
 -- where a look says so
-abbrev pub IfBegun : List ℕ → Call → ℕ → LookAnswer → CallerOf → Type 0
-IfBegun home call number (look.Ready base length stripes) c = HasBegun home call number stripes.items c
+abbrev pub IfBegun : List ℕ → Call → ℕ → Look ⊤ ⊤ → CallerOf → Type 0
+IfBegun home call number (look.Ready pass base length stripes) c = HasBegun home call number stripes.items c
 IfBegun home call number answer c = ⊤

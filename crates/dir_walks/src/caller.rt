@@ -1,7 +1,7 @@
 ghost use Rattle.std.specs.Prelude.{◌≡◌, IfOk};
 ghost use Rattle.store_core.specs.Agreement.{ActorToken, HeldPass};
 ghost use Rattle.dir_walks.specs.Callers.{IsReady, Steps, is_seated};
-ghost use Rattle.call_token.specs.Stamps.{IfDrawn};
+ghost use Rattle.stripe_dir.specs.AnswerStamps.{IfDrawn};
 ghost use Rattle.dir_walks.specs.Begun.{IfBegun};
 ghost use Rattle.dir_walks.specs.Opened.{new_caller};
 
@@ -10,11 +10,10 @@ use crate::stage::{
     Stage, drawn_by, is_client, is_repairer, stage_after_confirm, stage_after_draw,
     stage_after_look, stage_after_repair_look, unused_after_commit,
 };
-use call_token::{CommitAnswer, ConfirmAnswer, DrawAnswer, EndAnswer, LookAnswer, Token};
+use stripe_dir::{Committed, Confirmed, Directory, Drawn, Ended, Look, RepairLook, Seat, Ticket};
 use std::alloc::{AllocError, Global};
 use std::marker::Model;
 use store_map::{Actor, Call, Name};
-use stripe_dir::{Directory, Seat, Seen};
 use version_seal::{Book, Request};
 
 /// A step of an actor at the directory.
@@ -42,12 +41,12 @@ pub enum Step<'a> {
 /// What it is answered.
 #[derive(Drop)]
 pub enum Answer {
-    Look(LookAnswer),
-    LookRepair(Option<Seen>),
-    Draw(DrawAnswer),
-    Commit(CommitAnswer),
-    End(EndAnswer),
-    Confirm(ConfirmAnswer),
+    Look(Look<(), ()>),
+    LookRepair(RepairLook<(), ()>),
+    Draw(Drawn<(), ()>),
+    Commit(Committed<()>),
+    End(Ended<()>),
+    Confirm(Confirmed<(), ()>),
 }
 
 /// Why no step is made.
@@ -67,7 +66,7 @@ impl From<AllocError> for Refusal {
 /// An actor with its token, and what its next steps go by. It has to be spent.
 pub struct Caller {
     who: Actor,
-    token: Token,
+    token: Ticket,
     stage: Stage,
     // of its last call
     number: u32,
@@ -96,7 +95,7 @@ impl Caller {
     {
         Caller {
             who,
-            token: Token::new(seat),
+            token: Ticket::new(seat),
             stage: Stage::Seated,
             number: 0,
             unused: 0,
@@ -138,7 +137,7 @@ impl Caller {
         book: &Book,
         number: u32,
         call: &Call,
-    ) -> Result<LookAnswer, Refusal>
+    ) -> Result<Look<(), ()>, Refusal>
         requires ready { IsReady book.now directory.old self.old }
         ensures steps { Steps directory.old self.old directory.new self.new }
         ensures begun { IfOk result (λ answer. IfBegun book.now.home call.now number answer self.new) }
@@ -164,7 +163,7 @@ impl Caller {
         number: u32,
         name: &Name,
         stripe: u32,
-    ) -> Result<Option<Seen>, Refusal>
+    ) -> Result<RepairLook<(), ()>, Refusal>
         requires ready { IsReady book.now directory.old self.old }
         ensures steps { Steps directory.old self.old directory.new self.new }
     {
@@ -182,7 +181,7 @@ impl Caller {
     }
 
     /// Draws the versions of a put or a write that has begun.
-    pub fn draw(&mut self, directory: &mut Directory, book: &Book) -> Result<DrawAnswer, Refusal>
+    pub fn draw(&mut self, directory: &mut Directory, book: &Book) -> Result<Drawn<(), ()>, Refusal>
         requires ready { IsReady book.now directory.old self.old }
         ensures steps { Steps directory.old self.old directory.new self.new }
         ensures drawn { (held : HeldPass) → self.old.token ≡ ActorToken.InCall held → IfOk result (IfDrawn directory.old held self.old.request) }
@@ -205,7 +204,7 @@ impl Caller {
         directory: &mut Directory,
         book: &Book,
         alloc: Global,
-    ) -> Result<CommitAnswer, Refusal>
+    ) -> Result<Committed<()>, Refusal>
         requires ready { IsReady book.now directory.old self.old }
         ensures steps { Steps directory.old self.old directory.new self.new }
     {
@@ -221,7 +220,7 @@ impl Caller {
         Ok(answer)
     }
 
-    fn end(&mut self, directory: &mut Directory, book: &Book) -> Result<EndAnswer, Refusal>
+    fn end(&mut self, directory: &mut Directory, book: &Book) -> Result<Ended<()>, Refusal>
         requires ready { IsReady book.now directory.old self.old }
         ensures steps { Steps directory.old self.old directory.new self.new }
     {
@@ -235,7 +234,7 @@ impl Caller {
         Ok(answer)
     }
 
-    fn confirm(&mut self, directory: &mut Directory, book: &Book) -> Result<ConfirmAnswer, Refusal>
+    fn confirm(&mut self, directory: &mut Directory, book: &Book) -> Result<Confirmed<(), ()>, Refusal>
         requires ready { IsReady book.now directory.old self.old }
         ensures steps { Steps directory.old self.old directory.new self.new }
     {
@@ -255,7 +254,7 @@ impl Caller {
         book: &Book,
         server: u32,
         epoch: u64,
-    ) -> Result<EndAnswer, Refusal>
+    ) -> Result<Ended<()>, Refusal>
         requires ready { IsReady book.now directory.old self.old }
         ensures steps { Steps directory.old self.old directory.new self.new }
     {

@@ -1,10 +1,9 @@
 //! Answers in words.
 
 use crate::caller::Answer;
-use call_token::{CommitAnswer, ConfirmAnswer, DrawAnswer, EndAnswer, LookAnswer};
+use stripe_dir::{Committed, Confirmed, Drawn, Ended, Look, RepairLook, Seen};
 use std::alloc::{AllocError, Global};
 use store_map::{Placement, Point};
-use stripe_dir::Seen;
 use version_seal::Stamp;
 
 // A server's epoch, or how often it was made away.
@@ -60,74 +59,76 @@ fn ready(alloc: Global, base: Option<Point>, length: u64) -> Result<String, Allo
     }
 }
 
-fn look(alloc: Global, answer: &LookAnswer) -> Result<String, AllocError> {
+fn look(alloc: Global, answer: &Look<(), ()>) -> Result<String, AllocError> {
     match answer {
-        LookAnswer::Answer { point, reply } => {
+        Look::Answer { point, reply, .. } => {
             let point = point.0;
             format!(in alloc; "answer {point} {reply:?}")
         }
-        LookAnswer::Pinned {
+        Look::Pinned {
             point,
             length,
             stripes,
+            ..
         } => {
             let point = point.0;
             let text = format!(in alloc; "pinned {point}, {length} bytes")?;
             with_stripes(alloc, text, stripes)
         }
-        LookAnswer::Ready {
+        Look::Ready {
             base,
             length,
             stripes,
+            ..
         } => with_stripes(alloc, ready(alloc, *base, *length)?, stripes),
     }
 }
 
-fn look_repair(alloc: Global, answer: &Option<Seen>) -> Result<String, AllocError> {
+fn look_repair(alloc: Global, answer: &RepairLook<(), ()>) -> Result<String, AllocError> {
     match answer {
-        Some(seen) => {
+        RepairLook::Pinned { seen, .. } => {
             let mut text = String::from_str(alloc, "pinned")?;
             add_stripe(alloc, &mut text, seen)?;
             Ok(text)
         }
-        None => String::from_str(alloc, "no such"),
+        RepairLook::NoSuch { .. } => String::from_str(alloc, "no such"),
     }
 }
 
-fn draw(alloc: Global, answer: &DrawAnswer) -> Result<String, AllocError> {
+fn draw(alloc: Global, answer: &Drawn<(), ()>) -> Result<String, AllocError> {
     match answer {
-        DrawAnswer::Versions { stamps } => {
+        Drawn::Versions { stamps, .. } => {
             let text = String::from_str(alloc, "versions")?;
             with_versions(alloc, text, stamps)
         }
-        DrawAnswer::Reaped { at } => at_point(alloc, "reaped", *at),
+        Drawn::Reaped { at, .. } => at_point(alloc, "reaped", *at),
     }
 }
 
-fn commit(alloc: Global, answer: &CommitAnswer) -> Result<String, AllocError> {
+fn commit(alloc: Global, answer: &Committed<()>) -> Result<String, AllocError> {
     match answer {
-        CommitAnswer::Done { point } => at_point(alloc, "done", *point),
-        CommitAnswer::Changed { base, newer } => {
+        Committed::Done { point, .. } => at_point(alloc, "done", *point),
+        Committed::Changed { base, newer, .. } => {
             let base = base.0;
             let newer = newer.0;
             format!(in alloc; "changed {base} {newer}")
         }
-        CommitAnswer::Reaped { at } => at_point(alloc, "reaped", *at),
+        Committed::Reaped { at, .. } => at_point(alloc, "reaped", *at),
     }
 }
 
-fn end(alloc: Global, answer: &EndAnswer) -> Result<String, AllocError> {
+fn end(alloc: Global, answer: &Ended<()>) -> Result<String, AllocError> {
     match answer {
-        EndAnswer::Ended => String::from_str(alloc, "ended"),
-        EndAnswer::Reaped { at } => at_point(alloc, "reaped", *at),
+        Ended::Ended { .. } => String::from_str(alloc, "ended"),
+        Ended::Reaped { at, .. } => at_point(alloc, "reaped", *at),
     }
 }
 
-fn confirm(alloc: Global, answer: &ConfirmAnswer) -> Result<String, AllocError> {
+fn confirm(alloc: Global, answer: &Confirmed<(), ()>) -> Result<String, AllocError> {
     match answer {
-        ConfirmAnswer::Current => String::from_str(alloc, "current"),
-        ConfirmAnswer::Superseded { newer } => at_point(alloc, "superseded", *newer),
-        ConfirmAnswer::Reaped { at } => at_point(alloc, "reaped", *at),
+        Confirmed::Current { .. } => String::from_str(alloc, "current"),
+        Confirmed::Superseded { newer, .. } => at_point(alloc, "superseded", *newer),
+        Confirmed::Reaped { at, .. } => at_point(alloc, "reaped", *at),
     }
 }
 

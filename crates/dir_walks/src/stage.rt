@@ -2,9 +2,8 @@ ghost use Rattle.std.specs.Prelude.{◌≡◌, ◌+◌, true, if◌then◌else�
 ghost use Rattle.dir_walks.specs.Callers.{is_client, is_repairer};
 ghost use Rattle.dir_walks.specs.After.{writes, stage_after_look, stage_after_repair_look, stage_after_draw, drawn_by, unused_after_commit, stage_after_confirm};
 
-use call_token::{CommitAnswer, ConfirmAnswer, DrawAnswer, LookAnswer};
+use stripe_dir::{Committed, Confirmed, Drawn, Look, RepairLook};
 use store_map::{Actor, Call};
-use stripe_dir::Seen;
 
 /// Where an actor is in its calls.
 #[derive(Clone, Copy, PartialEq, Eq, Debug)]
@@ -41,10 +40,10 @@ fn writes(call: &Call) -> bool
 }
 
 /// After a look of a call.
-pub fn stage_after_look(answer: &LookAnswer, call: &Call) -> Stage
+pub fn stage_after_look(answer: &Look<(), ()>, call: &Call) -> Stage
     ensures { result ≡ stage_after_look call.now answer.now }
 {
-    if matches!(answer, LookAnswer::Answer { .. }) {
+    if matches!(answer, Look::Answer { .. }) {
         return Stage::Seated;
     }
     if writes(call) {
@@ -55,51 +54,51 @@ pub fn stage_after_look(answer: &LookAnswer, call: &Call) -> Stage
 }
 
 /// After a look of a rebuild.
-pub fn stage_after_repair_look(answer: &Option<Seen>) -> Stage
+pub fn stage_after_repair_look(answer: &RepairLook<(), ()>) -> Stage
     ensures { result ≡ stage_after_repair_look answer.now }
 {
     match answer {
-        Some(_) => Stage::Rebuilding,
-        None => Stage::Seated,
+        RepairLook::Pinned { .. } => Stage::Rebuilding,
+        RepairLook::NoSuch { .. } => Stage::Seated,
     }
 }
 
 /// After a draw.
-pub fn stage_after_draw(answer: &DrawAnswer) -> Stage
+pub fn stage_after_draw(answer: &Drawn<(), ()>) -> Stage
     ensures { result ≡ stage_after_draw answer.now }
 {
     match answer {
-        DrawAnswer::Versions { .. } => Stage::Drawn,
-        DrawAnswer::Reaped { .. } => Stage::Seated,
+        Drawn::Versions { .. } => Stage::Drawn,
+        Drawn::Reaped { .. } => Stage::Seated,
     }
 }
 
 /// How many versions were drawn.
-pub fn drawn_by(answer: &DrawAnswer) -> usize
+pub fn drawn_by(answer: &Drawn<(), ()>) -> usize
     ensures { result ≡ drawn_by answer.now }
 {
     match answer {
-        DrawAnswer::Versions { stamps } => stamps.len(),
-        DrawAnswer::Reaped { .. } => 0,
+        Drawn::Versions { stamps, .. } => stamps.len(),
+        Drawn::Reaped { .. } => 0,
     }
 }
 
 /// The least unused number after a commit: a write that was overtaken may use its own once more.
-pub fn unused_after_commit(answer: &CommitAnswer, number: u32) -> u64
+pub fn unused_after_commit(answer: &Committed<()>, number: u32) -> u64
     ensures { result ≡ unused_after_commit number answer.now }
 {
     match answer {
-        CommitAnswer::Changed { .. } => u64::from(number),
+        Committed::Changed { .. } => u64::from(number),
         _ => u64::from(number) + 1,
     }
 }
 
 /// After a confirmation.
-pub fn stage_after_confirm(answer: &ConfirmAnswer) -> Stage
+pub fn stage_after_confirm(answer: &Confirmed<(), ()>) -> Stage
     ensures { result ≡ stage_after_confirm answer.now }
 {
     match answer {
-        ConfirmAnswer::Current => Stage::Rebuilding,
+        Confirmed::Current { .. } => Stage::Rebuilding,
         _ => Stage::Seated,
     }
 }

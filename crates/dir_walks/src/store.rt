@@ -1,16 +1,15 @@
 ghost use Rattle.std.specs.Prelude.{◌≡◌, ◌<◌, ◌∷◌, ◌++◌, [], length, None, IfOk};
 ghost use Rattle.store_core.specs.Agreement.{ActorToken, HeldPass};
-ghost use Rattle.call_token.specs.Stamps.{IfDrawn};
+ghost use Rattle.stripe_dir.specs.AnswerStamps.{IfDrawn};
 ghost use Rattle.dir_walks.specs.Begun.{IfBegun};
 ghost use Rattle.dir_walks.specs.Stores.{IsStore};
 
 use crate::caller::{Answer, Caller, Refusal, Step};
-use call_token::{DrawAnswer, LookAnswer};
+use stripe_dir::{Directory, Drawn, Look, Seat};
 use std::alloc::{AllocError, Global};
 use std::marker::Model;
 use std::test::Fail;
 use store_map::{Actor, Call, Point, Version};
-use stripe_dir::{Directory, Seat};
 use version_seal::Book;
 
 /// A directory with two clients and a repairer. It has to be left.
@@ -96,7 +95,7 @@ impl<'a> Store<'a> {
     }
 
     /// A look of the first client.
-    pub fn begin(&mut self, number: u32, call: &Call) -> Result<LookAnswer, Refusal>
+    pub fn begin(&mut self, number: u32, call: &Call) -> Result<Look<(), ()>, Refusal>
         ensures begun { IfOk result (λ answer. IfBegun self.old.book.home call.now number answer self.new.first) }
         ensures book { self.new.book ≡ self.old.book }
     {
@@ -105,7 +104,7 @@ impl<'a> Store<'a> {
     }
 
     /// A draw of the first client.
-    pub fn draw(&mut self) -> Result<DrawAnswer, Refusal>
+    pub fn draw(&mut self) -> Result<Drawn<(), ()>, Refusal>
         ensures drawn { (held : HeldPass) → self.old.first.token ≡ ActorToken.InCall held → IfOk result (IfDrawn self.old.sealed held self.old.first.request) }
     {
         self.first.draw(&mut self.directory, self.book)

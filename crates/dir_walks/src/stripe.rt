@@ -5,7 +5,7 @@ ghost use Rattle.dir_walks.specs.Small.{small_code, IsStripeStamp};
 ghost use Rattle.dir_walks.specs.StripePut.{IsPutBegun};
 
 use crate::store::Store;
-use call_token::{DrawAnswer, LookAnswer};
+use stripe_dir::{Drawn, Look};
 use std::alloc::Global;
 use std::test::Fail;
 use store_map::{Call, Content, Name};
@@ -22,10 +22,8 @@ fn begin(alloc: Global, store: &mut Store<'_>) -> Result<(), Fail>
         length: 8,
     };
     let call = Call::Put { name, content };
-    let LookAnswer::Ready {
-        base: _,
-        length: _,
-        stripes,
+    let Look::Ready {
+        stripes, ..
     } = store.begin(0, &call)?
     else {
         return Err(Fail::from("no put begins"));
@@ -43,7 +41,7 @@ fn draw(store: &mut Store<'_>) -> Result<Stamp, Fail>
     ensures { IfOk result (IsStripeStamp store.old.book) }
 {
     store.keeps();
-    let DrawAnswer::Versions { stamps } = store.draw()? else {
+    let Drawn::Versions { stamps, .. } = store.draw()? else {
         return Err(Fail::from("nothing is drawn"));
     };
     match stamps.first() {

@@ -6,3 +6,4 @@ pub mod Handing
 pub mod Counts
 pub mod OldParts
 pub mod Ended
+pub mod Doing

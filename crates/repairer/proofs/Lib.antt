@@ -5,3 +5,4 @@ pub mod Beginning
 pub mod Asking
 pub mod Asked
 pub mod Holding
+pub mod Making

@@ -2,7 +2,7 @@ ghost use Rattle.std.specs.Prelude.{◌≡◌};
 ghost use Rattle.store_core.specs.Agreement.{Agrees};
 ghost use Rattle.store_resume.specs.State.{State};
 ghost use Rattle.store_resume.specs.GatherAfter.{ending_after};
-ghost use Rattle.call_token.specs.Answers.{told_by_end};
+ghost use Rattle.stripe_dir.specs.Answers.{told_ended};
 ghost use Rattle.call_steps.specs.Outcomes.{repair_outcome_of};
 ghost use Rattle.call_steps.specs.Steps.{need_of, stepped_at_directory};
 ghost use Rattle.repairer.specs.Standing.{stage_of};
@@ -10,18 +10,17 @@ ghost use Rattle.repairer.specs.Standing.{stage_of};
 use crate::repair_call::RepairCall;
 use crate::stage::Stage;
 use call_steps::{Need, RepairOutcome};
-use call_token::{ConfirmAnswer, EndAnswer};
+use stripe_dir::{Confirmed, Directory, Ended, RepairLook};
 use std::mem;
-use stripe_dir::Directory;
 
 // How a call ends whose pass was to be ended with this outcome.
-fn ended_with(answer: EndAnswer, outcome: RepairOutcome) -> RepairOutcome
+fn ended_with(answer: Ended<()>, outcome: RepairOutcome) -> RepairOutcome
     ensures { State.Finished (repair_outcome_of result)
-        ≡ ending_after (repair_outcome_of outcome) (told_by_end answer) }
+        ≡ ending_after (repair_outcome_of outcome) (told_ended answer) }
 {
     match answer {
-        EndAnswer::Ended => outcome,
-        EndAnswer::Reaped { at } => RepairOutcome::Reaped { at },
+        Ended::Ended { .. } => outcome,
+        Ended::Reaped { at, .. } => RepairOutcome::Reaped { at },
     }
 }
 
@@ -47,12 +46,12 @@ impl<'a> RepairCall<'a> {
         self.coding = false;
         self.step = false;
         match look {
-            Ok(Some(seen)) => {
+            Ok(RepairLook::Pinned { seen, .. }) => {
                 self.seen = Some(seen);
                 self.due = true;
                 self.stage = Stage::Gathering;
             }
-            Ok(None) => {
+            Ok(RepairLook::NoSuch { .. }) => {
                 self.outcome = RepairOutcome::NoSuch;
                 self.stage = Stage::Finished;
             }
@@ -80,12 +79,12 @@ impl<'a> RepairCall<'a> {
         self.coding = false;
         self.step = false;
         match answer {
-            ConfirmAnswer::Current => self.stage = Stage::Installing,
-            ConfirmAnswer::Superseded { newer } => {
+            Confirmed::Current { .. } => self.stage = Stage::Installing,
+            Confirmed::Superseded { newer, .. } => {
                 self.outcome = RepairOutcome::Superseded { newer };
                 self.stage = Stage::Finished;
             }
-            ConfirmAnswer::Reaped { at } => {
+            Confirmed::Reaped { at, .. } => {
                 self.outcome = RepairOutcome::Reaped { at };
                 self.stage = Stage::Finished;
             }

@@ -7,16 +7,15 @@ ghost use Rattle.store_core.specs.Tokens.{MayLook};
 ghost use Rattle.store_resume.specs.State.{State};
 ghost use Rattle.chunk_server.specs.Core.{core_of};
 ghost use Rattle.chunk_server.specs.State.{IsSame};
-ghost use Rattle.call_steps.specs.Steps.{IfServer};
+ghost use Rattle.call_steps.specs.Steps.{IfServer, need_of, stepped_at_directory, stepped_at_server, coded, HoldsItsPass, IsDueInPass, MayMakeNext};
 ghost use Rattle.call_steps.specs.Outcomes.{repair_outcome_of};
-ghost use Rattle.call_steps.specs.Steps.{need_of, stepped_at_directory, stepped_at_server, coded, HoldsItsPass, IsDueInPass};
-ghost use Rattle.repairer.specs.Calls.{new_call};
+ghost use Rattle.repairer.specs.Calls.{new_call, IsUndueOncePlaced};
 ghost use Rattle.call_steps.specs.CallOf.{taken_of};
 ghost use Rattle.repairer.specs.Inside.{takes_at};
 
 use crate::stage::Stage;
 use call_steps::{Need, RepairOutcome};
-use call_token::Token;
+use stripe_dir::{Directory, Seat, Seen, Ticket};
 use chunk_server::Server;
 use clay_repair::Coder;
 use gathering::Gather;
@@ -24,7 +23,6 @@ use read_ledger::Takes;
 use std::marker::Model;
 use std::thread::Threads;
 use store_map::Rebuild;
-use stripe_dir::{Directory, Seat, Seen};
 use version_seal::{Opening, SealedChunk};
 
 /// A rebuild in work. It has to be spent.
@@ -34,7 +32,7 @@ use version_seal::{Opening, SealedChunk};
 /// [`RepairOutcome::NoMemory`].
 pub struct RepairCall<'a> {
     pub(crate) stage: Stage,
-    pub(crate) token: Token,
+    pub(crate) token: Ticket,
     pub(crate) rebuild: &'a Rebuild,
     pub(crate) number: u32,
     pub(crate) opening: Opening,
@@ -77,7 +75,7 @@ impl<'a> RepairCall<'a> {
     {
         RepairCall {
             stage: Stage::Start,
-            token: Token::new(seat),
+            token: Ticket::new(seat),
             rebuild: call,
             number,
             opening,
@@ -94,12 +92,14 @@ impl<'a> RepairCall<'a> {
     }
 
     /// Where the call has to go on.
-    #[tactic(auto, using(crate::proofs::Holding::holds))]
+    #[tactic(auto, using(crate::proofs::Holding::holds, crate::proofs::Making::may, crate::proofs::Making::undue))]
     pub fn need(&self) -> Need
         ensures need { result ≡ need_of self.now }
         ensures below { IfServer result (λ server. server < chunk_count self.now.book.geometry) }
         ensures in_pass { IsDueInPass self.now }
         ensures pass { HoldsItsPass self.now }
+        ensures may { MayMakeNext self.now }
+        ensures placed { IsUndueOncePlaced self.now }
     {
         if self.due {
             return Need::Coder;

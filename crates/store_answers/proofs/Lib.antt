@@ -1,3 +1,4 @@
+pub mod Shows
 mod ListsTold
 mod MoreSteps
 mod TakesTraced

@@ -2,14 +2,20 @@
 use Rattle.std.proofs.Common.{◌≡◌, ◌⊎◌, inl, inr, ℕ, List, [], ◌∷◌, Some, refl, sym, ap, subst, arith}
 use Rattle.std.proofs.lemmas.List.Elements.{All-head}
 use Rattle.std.specs.List.{slice_get}
+use Rattle.clay_grid.specs.Limits.{IsGeometry}
+use Rattle.store_map.specs.Naming.{IsValid}
+use Rattle.store_map.specs.declared.actor.Token.{Token}
 use Rattle.store_map.specs.declared.script.Script.{Script}
 use Rattle.transcript_text.specs.declared.call_name.CallName.{CallName}
 use Rattle.transcript_text.specs.declared.call_name.CallName.TheVariants as name
 use Rattle.transcript_text.specs.declared.transcript.Transcript.{Transcript}
 use Rattle.hist_rules.specs.Finished.{Finished}
+use Rattle.hist_rules.specs.IsHistory.{IsHistory}
+use Rattle.hist_rules.proofs.HistoryLaw.{legal_is_history}
 use Rattle.store_core.specs.NextAct.{Job}
 use Rattle.store_core.specs.Schedule.{run_core}
 use Rattle.store_core.specs.Shown.{shown}
+use Rattle.store_core.specs.Step.{Shortage}
 use Rattle.store_core.specs.Work.{Work, client_work, repairer_work}
 use Rattle.store_calls.specs.StepLaws.{HasTarget}
 use Rattle.store_runs.proofs.Runs.{CanRun}
@@ -23,8 +29,9 @@ use Rattle.store_in_time.specs.Trace.{Made}
 use Rattle.store_in_time.proofs.CausedLines.{runs_show_causes}
 use Rattle.store_in_time.proofs.LossLines.{runs_have_losses_in_time}
 use Rattle.store_in_time.proofs.PointLines.{runs_have_points_in_time}
-use Rattle.store_shows.proofs.Shows.{runs_show_histories, runs_are_legal}
+use Rattle.store_answers.proofs.Shows.{runs_show_histories}
 use Rattle.store_answers.specs.Answered.{IsAnswered, IsRefused, TellsEnds}
+use Rattle.store_answers.specs.Faithful.{IsFaithful}
 use Rattle.store_answers.specs.Unhindered.{SkipsChunk, AtMost}
 use Rattle.store_answers.specs.PlayedLaws.{RunsAnswer, RunsArePlayed}
 use Rattle.store_answers.proofs.Ample.{ample_runs_are_one}
@@ -70,22 +77,30 @@ runs_answer script shortages geometry valid tokens =
           (λ job is version. none_at_all script.geometry.parity_count (SkipsChunk trace (name.Repairer i number) version) (never_skips script trace (runs_step_next script shortages geometry valid tokens) i number job is (targets script (can_run script geometry valid) (name.Repairer i number) job is) version)) (ends.repairers i number over);
     }
 
+-- what a run by any tokens shows is faithful to its steps, where it is a history
+pub runs_are_faithful : (script : Script) (shortages : List Shortage) → IsGeometry script.geometry → IsValid script → (tokens : List Token) → IsHistory script (shown script (run_core script shortages tokens))
+    → IsFaithful script (run_trace script shortages tokens) (shown script (run_core script shortages tokens))
+runs_are_faithful script shortages geometry valid tokens history =
+    record {
+      history = history;
+      clients = clients_only script (run_core script shortages tokens) (end_known script geometry valid shortages tokens);
+      legal = (legal_is_history script (shown script (run_core script shortages tokens))).1 history;
+      points = runs_have_points_in_time script shortages geometry valid tokens;
+      losses = runs_have_losses_in_time script shortages geometry valid tokens;
+      causes = runs_show_causes script shortages geometry valid tokens;
+      ends = runs_tell_ends script shortages geometry valid tokens;
+      enough = enough_steps_end_calls script shortages geometry valid tokens;
+      answers = runs_answer script shortages geometry valid tokens;
+      takes = runs_take_least script shortages geometry valid tokens;
+    }
+
 pub runs_are_played : RunsArePlayed
 runs_are_played script shortages geometry valid =
     record {
       shortages = shortages;
       shows = refl;
       ample = λ all. ap (shown script) (ample_runs_are_one script shortages all script.schedule);
-      history = runs_show_histories script shortages geometry valid;
-      clients = clients_only script (run_core script shortages script.schedule) (end_known script geometry valid shortages script.schedule);
-      legal = runs_are_legal script shortages geometry valid;
-      points = runs_have_points_in_time script shortages geometry valid script.schedule;
-      losses = runs_have_losses_in_time script shortages geometry valid script.schedule;
-      causes = runs_show_causes script shortages geometry valid script.schedule;
-      ends = runs_tell_ends script shortages geometry valid script.schedule;
-      enough = enough_steps_end_calls script shortages geometry valid script.schedule;
+      faithful = runs_are_faithful script shortages geometry valid script.schedule (runs_show_histories script shortages geometry valid);
       finished = λ tokens is.
           subst (λ schedule. Finished (record script { schedule = schedule }) (shown script (run_core script shortages schedule))) (sym is) (runs_finish script shortages geometry valid tokens);
-      answers = runs_answer script shortages geometry valid script.schedule;
-      takes = runs_take_least script shortages geometry valid script.schedule;
     }

@@ -1,9 +1,11 @@
+pub mod ShowsLaws
 pub mod Over
 pub mod Unhindered
 pub mod NextSteps
 pub mod Answered
 pub mod Ample
 pub mod Takes
+pub mod Faithful
 pub mod Played
 pub mod PlayedLaws
 pub mod Worked

@@ -1,26 +1,15 @@
 -- What a run of a script shows, as a whole.
-use Rattle.std.specs.Prelude.{◌≡◌, List, [], ◌∷◌, ◌++◌, All, Contains}
+use Rattle.std.specs.Prelude.{◌≡◌, List, [], ◌∷◌, ◌++◌, All}
 use Rattle.store_map.specs.declared.actor.Token.{Token}
 use Rattle.store_map.specs.declared.actor.Token.TheVariants as token
 use Rattle.store_map.specs.declared.script.Script.{Script}
-use Rattle.transcript_text.specs.declared.call_name.CallName.{CallName}
 use Rattle.transcript_text.specs.declared.transcript.Transcript.{Transcript}
 use Rattle.store_core.specs.Shown.{shown_of}
 use Rattle.store_core.specs.Step.{Shortage}
-use Rattle.store_core.specs.Told.{Told}
-use Rattle.hist_rules.specs.declared.verdict.Verdict.TheVariants.{Legal}
 use Rattle.hist_rules.specs.Finished.{Finished}
-use Rattle.hist_rules.specs.IsHistory.{IsHistory}
-use Rattle.hist_rules.specs.LineLaws.{IsOfClients}
-use Rattle.hist_rules.specs.Verdict.{verdict_of}
-use Rattle.store_in_time.specs.LineCauses.{LinesAreCaused}
-use Rattle.store_in_time.specs.LossesInTime.{HasLossesInTime}
-use Rattle.store_in_time.specs.PointsInTime.{HasPointsInTime}
 use Rattle.store_in_time.specs.Steps.{run_trace}
 use Rattle.store_answers.specs.Ample.{IsAmple}
-use Rattle.store_answers.specs.Over.{answers_to, IsOver, MadeAllSteps}
-use Rattle.store_answers.specs.Takes.{TakesLeast}
-use Rattle.store_answers.specs.Answered.{TellsEnds, AnswersTheUnhindered}
+use Rattle.store_answers.specs.Faithful.{IsFaithful}
 
 -- a transcript that a run of the script shows
 pub record IsPlayed (script : Script) (t : Transcript) : Type 0 where
@@ -29,27 +18,7 @@ pub record IsPlayed (script : Script) (t : Transcript) : Type 0 where
   pub shows : t ≡ shown_of script shortages
   -- so where memory was wanting in no step it is the one transcript that the script has then
   pub ample : All IsAmple shortages → t ≡ shown_of script []
-  -- one history of a plain map: each answered call stands in it once, in its caller's order, with the map's reply
-  pub history : IsHistory script t
-  -- of clients' calls alone, so that a reply of the map stands beside each of its lines
-  pub clients : IsOfClients t
-  -- so the checker finds no fault in it
-  pub legal : verdict_of script t ≡ Legal
-  -- of two calls in it the one that was over before the other began has the smaller point, and the points that a refusal or a rebuild's result names as newer came while its call ran
-  pub points : HasPointsInTime (run_trace script shortages script.schedule) t
-  -- what a refusal names of servers was so when its call asked them
-  pub losses : HasLossesInTime (run_trace script shortages script.schedule) t
-  -- each refusal and each rebuild's result is caused by what the run told its call
-  pub causes : LinesAreCaused script (run_trace script shortages script.schedule) t
-  -- each call that was over, and no other, is answered, refused or has its result
-  pub ends : TellsEnds script (run_trace script shortages script.schedule) t
-  -- and a call is over that has made all the steps that such a call makes at most, where memory was wanting in none of them
-  pub enough :
-      (call : CallName) → ¬ Contains (answers_to call (run_trace script shortages script.schedule)) Told.Short →
-      MadeAllSteps script (run_trace script shortages script.schedule) call → IsOver script (run_trace script shortages script.schedule) call
-  -- and where the schedule ends with a drain, each call but a last one under a step limit
+  -- one history, legal, in time, with the causes and ends of its calls, by the steps that the schedule makes
+  pub faithful : IsFaithful script (run_trace script shortages script.schedule) t
+  -- and where the schedule ends with a drain, each call but a last one under a step limit is answered, refused or has its result
   pub finished : (tokens : List Token) → script.schedule ≡ tokens ++ token.Drain ∷ [] → Finished script t
-  -- and a call that nothing hindered is answered
-  pub answers : AnswersTheUnhindered script (run_trace script shortages script.schedule) t
-  -- what calls took is what their answers gave them: a rebuild that is rebuilt and found its chunk alone missing took exactly one part in as many as the grid has rows of each other chunk, and a get or a read that has its bytes and found none missing just the subchunks that have them
-  pub takes : TakesLeast script (run_trace script shortages script.schedule) t

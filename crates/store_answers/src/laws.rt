@@ -4,7 +4,18 @@ ghost use Rattle.store_answers.specs.Ample.{AmpleRunsAreOne};
 ghost use Rattle.store_answers.specs.FactsLaw.{FactsAreExact};
 ghost use Rattle.store_answers.specs.NextSteps.{RunsStepNext};
 ghost use Rattle.store_answers.specs.PlayedLaws.{RunsTellEnds, EnoughStepsEndCalls, RunsAnswer, RunsArePlayed};
+ghost use Rattle.store_answers.specs.ShowsLaws.{RunsShowHistories, RunsAreLegal};
 ghost use Rattle.store_answers.specs.Takes.{RunsTakeLeast};
+
+/// Of every valid script, whatever is wanting of memory, what its run shows is a history.
+pub fn runs_show_histories()
+    ensures { RunsShowHistories }
+{}
+
+/// So its verdict is that it is legal.
+pub fn runs_are_legal()
+    ensures { RunsAreLegal }
+{}
 
 /// In every run of a valid script each step of a call is the one that the call makes next after what its
 /// steps before were told.

@@ -23,3 +23,4 @@ pub mod OrderCalls
 pub mod OrderRuns
 pub mod Finishing
 pub mod FewWipes
+pub mod ServedPoints

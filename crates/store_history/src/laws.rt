@@ -2,6 +2,7 @@
 
 ghost use Rattle.store_history.specs.HistoryLaws.{RunsReply, RunsGiveUp, RunsKeepCallOrder, RunsFinish};
 ghost use Rattle.store_history.specs.HasPoints.{AnswersHavePoints};
+ghost use Rattle.store_history.specs.ServedPoints.{RunsServeAtPins};
 
 /// Each reply that a run shows is the plain map's, and so are the objects at the end.
 pub fn runs_reply()
@@ -27,4 +28,10 @@ pub fn answers_have_points()
 /// After a drain each call that isn't under a step limit was answered or refused, or has its result.
 pub fn runs_finish()
     ensures { RunsFinish }
+{}
+
+/// In every run of a valid script a call that was answered and has a pinned point was served there; so no
+/// call that ended otherwise has a pinned point that shows a line.
+pub fn runs_serve_at_pins()
+    ensures { RunsServeAtPins }
 {}

@@ -97,9 +97,9 @@ module _ (script : Script) (m : MadeStep) (rest : List MadeStep) (works : List W
       ap (option_map (after_all (calling_next script work) rest)) (slice_get-change_at i j (calling_by script m (slice_get works i)) callings (apart j i q))
 
 -- ---- one step
-module _ (script : Script) (number : ℕ) (shortage : Shortage) (answer : Told) (stamp : ℕ) (more : List MadeStep) where
+module _ (script : Script) (number : ℕ) (shortage : Shortage) (answer : Told) (moment : ℕ) (more : List MadeStep) where
   abbrev pub made : Actor → Act → MadeStep
-  made who act = made_by who number shortage answer stamp act
+  made who act = made_by who number shortage answer moment act
 
   abbrev pub At : List MadeStep → Place → List MadeStep
   At steps place = filter (is_at place) steps
@@ -231,9 +231,9 @@ merged script (m ∷ more) lines core go =
     subst
     (λ (run : Run). EndAs script core (λ place. filter (is_at place) (m ∷ more)) (λ who. filter (is_by who) (m ∷ more)) (run_tokens script (map token_of more) run).core)
     (sym (step_is script lines core (map (λ (x : MadeStep). x.shortage) more) more m go))
-    (ends script m.number m.shortage m.answer m.stamp more m.act m.actor core _
-    (merged script more (lines_after script m.number m.shortage m.answer m.stamp more m.act m.actor lines) (core_after script m core)
-    (goes script m.number m.shortage m.answer m.stamp more m.act m.actor lines core go)))
+    (ends script m.number m.shortage m.answer m.moment more m.act m.actor core _
+    (merged script more (lines_after script m.number m.shortage m.answer m.moment more m.act m.actor lines) (core_after script m core)
+    (goes script m.number m.shortage m.answer m.moment more m.act m.actor lines core go)))
 
 -- the law
 pub merges : Merges

@@ -6,7 +6,7 @@ use Rattle.store_map.specs.declared.actor.Actor.{Actor}
 use Rattle.store_map.specs.declared.actor.Actor.TheVariants as actor
 use Rattle.store_core.specs.ActPlace.{Place}
 use Rattle.store_core.specs.Lookups.{same_actor}
-use Rattle.store_merge.specs.MadeSteps.{MadeStep, is_by, is_at, StampsRise, StampsDontFall}
+use Rattle.store_merge.specs.MadeSteps.{MadeStep, is_by, is_at, MomentsRise, MomentsDontFall}
 use Rattle.store_merge.specs.Histories.{Histories, StandTwice, IsInOrder}
 
 -- ---- actors
@@ -43,12 +43,12 @@ module _ {X : Type 0} where
   uncons false x xs ys e = e
 
 -- a list in order stays so
-pub filter_falls : (p : MadeStep → Bool) (ms : List MadeStep) → StampsDontFall ms → StampsDontFall (filter p ms)
+pub filter_falls : (p : MadeStep → Bool) (ms : List MadeStep) → MomentsDontFall ms → MomentsDontFall (filter p ms)
 filter_falls p [] h = tt
 filter_falls p (m ∷ ms) h = by (filter_falls p ms h.1) (p m)
   where
-    by : StampsDontFall (filter p ms) → (b : Bool) → StampsDontFall (cond {A = List MadeStep} b (m ∷ filter p ms) (filter p ms))
-    by rest true = (All-filter p (λ (later : MadeStep). m.stamp ≤ later.stamp) ms h.0, rest)
+    by : MomentsDontFall (filter p ms) → (b : Bool) → MomentsDontFall (cond {A = List MadeStep} b (m ∷ filter p ms) (filter p ms))
+    by rest true = (All-filter p (λ (later : MadeStep). m.moment ≤ later.moment) ms h.0, rest)
     by rest false = rest
 
 -- ---- the steps of a first step's actor
@@ -59,7 +59,7 @@ first_by : (who : Actor) (b : Bool) (m : MadeStep) (ms : List MadeStep) → same
 first_by who b m ms e = ap (λ c. cond {A = List MadeStep} c (m ∷ filter (is_by who) ms) (filter (is_by who) ms)) e
 
 -- of two lists in order, the one strictly, in which each actor has the same steps, the one is the other
-pub same_order : (xs ys : List MadeStep) → StampsDontFall xs → StampsRise ys → ((who : Actor) → filter (is_by who) xs ≡ filter (is_by who) ys) → xs ≡ ys
+pub same_order : (xs ys : List MadeStep) → MomentsDontFall xs → MomentsRise ys → ((who : Actor) → filter (is_by who) xs ≡ filter (is_by who) ys) → xs ≡ ys
 same_order [] [] falls rises same = refl
 same_order [] (y ∷ ys) falls rises same = let e : [] ≡ y ∷ filter (is_by y.actor) ys = same y.actor ∙ first_own y ys in absurd (cc (e))
 same_order (x ∷ xs) [] falls rises same = let e : x ∷ filter (is_by x.actor) xs ≡ [] = sym (first_own x xs) ∙ same x.actor in absurd (cc (e))
@@ -78,12 +78,12 @@ same_order (x ∷ xs) (y ∷ ys) falls rises same = by (λ h. same_order xs ys f
     by more false e false f =
         let mine : filter (is_by x.actor) ys ≡ x ∷ filter (is_by x.actor) xs = sym (sym (first_own x xs) ∙ same x.actor ∙ first_by x.actor false y ys e) in
         let yours : filter (is_by y.actor) xs ≡ y ∷ filter (is_by y.actor) ys = sym (first_by y.actor false x xs f) ∙ same y.actor ∙ first_own y ys in
-        let above : All (λ (later : MadeStep). y.stamp < later.stamp) (x ∷ filter (is_by x.actor) xs) =
-        subst (All (λ (later : MadeStep). y.stamp < later.stamp)) mine (All-filter (is_by x.actor) (λ (later : MadeStep). y.stamp < later.stamp) ys rises.0) in
-        let below : All (λ (later : MadeStep). x.stamp ≤ later.stamp) (y ∷ filter (is_by y.actor) ys) =
-        subst (All (λ (later : MadeStep). x.stamp ≤ later.stamp)) yours (All-filter (is_by y.actor) (λ (later : MadeStep). x.stamp ≤ later.stamp) xs falls.0) in
-        let lt : y.stamp < x.stamp = All-head (λ (later : MadeStep). y.stamp < later.stamp) x (filter (is_by x.actor) xs) above in
-        let le : x.stamp ≤ y.stamp = All-head (λ (later : MadeStep). x.stamp ≤ later.stamp) y (filter (is_by y.actor) ys) below in
+        let above : All (λ (later : MadeStep). y.moment < later.moment) (x ∷ filter (is_by x.actor) xs) =
+        subst (All (λ (later : MadeStep). y.moment < later.moment)) mine (All-filter (is_by x.actor) (λ (later : MadeStep). y.moment < later.moment) ys rises.0) in
+        let below : All (λ (later : MadeStep). x.moment ≤ later.moment) (y ∷ filter (is_by y.actor) ys) =
+        subst (All (λ (later : MadeStep). x.moment ≤ later.moment)) yours (All-filter (is_by y.actor) (λ (later : MadeStep). x.moment ≤ later.moment) xs falls.0) in
+        let lt : y.moment < x.moment = All-head (λ (later : MadeStep). y.moment < later.moment) x (filter (is_by x.actor) xs) above in
+        let le : x.moment ≤ y.moment = All-head (λ (later : MadeStep). x.moment ≤ later.moment) y (filter (is_by y.actor) ys) below in
         absurd (omega (arith, lt, le))
 
 -- each place's list is the part of the ordered list that is at this place

@@ -6,11 +6,11 @@ use Rattle.std.specs.Prelude.{All}
 use Rattle.std.specs.List.{range_with_len, flat_map}
 use Rattle.store_core.specs.Act.{Act}
 use Rattle.store_core.specs.ActPlace.{Place}
-use Rattle.store_merge.specs.MadeSteps.{MadeStep, acts_at, is_at, StampsRise, StampsDontFall}
-use Rattle.store_merge.specs.InOrder.{by_stamp}
+use Rattle.store_merge.specs.MadeSteps.{MadeStep, acts_at, is_at, MomentsRise, MomentsDontFall}
+use Rattle.store_merge.specs.InOrder.{by_moment}
 use Rattle.store_merge.specs.OwnSteps.{own_steps, AreOwn, ActorsKeepLists}
 use Rattle.store_merge.proofs.Orders.{uncons}
-use Rattle.store_merge.proofs.Sorting.{all_put, by_stamp_falls, filter_by_stamp, by_stamp_same}
+use Rattle.store_merge.proofs.Sorting.{all_put, by_moment_falls, filter_by_moment, by_moment_same}
 
 -- ---- places
 abbrev place_of : Act → Place
@@ -39,7 +39,7 @@ first_at : (place : Place) (b : Bool) (m : MadeStep) (ms : List MadeStep) → is
 first_at place b m ms e = ap (λ c. cond {A = List MadeStep} c (m ∷ filter (is_at place) ms) (filter (is_at place) ms)) e
 
 -- of two lists in order, the one strictly, which have the same steps at each place, the one is the other
-same_steps : (xs ys : List MadeStep) → StampsDontFall xs → StampsRise ys → All IsPlaced xs → All IsPlaced ys → ((place : Place) → filter (is_at place) xs ≡ filter (is_at place) ys) → xs ≡ ys
+same_steps : (xs ys : List MadeStep) → MomentsDontFall xs → MomentsRise ys → All IsPlaced xs → All IsPlaced ys → ((place : Place) → filter (is_at place) xs ≡ filter (is_at place) ys) → xs ≡ ys
 same_steps [] [] falls rises p q same = refl
 same_steps [] (y ∷ ys) falls rises p q same = let e : [] ≡ y ∷ filter (is_at (place_of y.act)) ys = same (place_of y.act) ∙ first_here y ys (All-head IsPlaced y ys q) in absurd (cc (e))
 same_steps (x ∷ xs) [] falls rises p q same = let e : x ∷ filter (is_at (place_of x.act)) xs ≡ [] = sym (first_here x xs (All-head IsPlaced x xs p)) ∙ same (place_of x.act) in absurd (cc (e))
@@ -63,12 +63,12 @@ same_steps (x ∷ xs) (y ∷ ys) falls rises p q same =
     by more px py false e false f =
         let mine : filter (is_at (place_of x.act)) ys ≡ x ∷ filter (is_at (place_of x.act)) xs = sym (sym (first_here x xs px) ∙ same (place_of x.act) ∙ first_at (place_of x.act) false y ys e) in
         let yours : filter (is_at (place_of y.act)) xs ≡ y ∷ filter (is_at (place_of y.act)) ys = sym (first_at (place_of y.act) false x xs f) ∙ same (place_of y.act) ∙ first_here y ys py in
-        let above : All (λ (later : MadeStep). y.stamp < later.stamp) (x ∷ filter (is_at (place_of x.act)) xs) =
-        subst (All (λ (later : MadeStep). y.stamp < later.stamp)) mine (All-filter (is_at (place_of x.act)) (λ (later : MadeStep). y.stamp < later.stamp) ys rises.0) in
-        let under : All (λ (later : MadeStep). x.stamp ≤ later.stamp) (y ∷ filter (is_at (place_of y.act)) ys) =
-        subst (All (λ (later : MadeStep). x.stamp ≤ later.stamp)) yours (All-filter (is_at (place_of y.act)) (λ (later : MadeStep). x.stamp ≤ later.stamp) xs falls.0) in
-        let lt : y.stamp < x.stamp = All-head (λ (later : MadeStep). y.stamp < later.stamp) x (filter (is_at (place_of x.act)) xs) above in
-        let le : x.stamp ≤ y.stamp = All-head (λ (later : MadeStep). x.stamp ≤ later.stamp) y (filter (is_at (place_of y.act)) ys) under in
+        let above : All (λ (later : MadeStep). y.moment < later.moment) (x ∷ filter (is_at (place_of x.act)) xs) =
+        subst (All (λ (later : MadeStep). y.moment < later.moment)) mine (All-filter (is_at (place_of x.act)) (λ (later : MadeStep). y.moment < later.moment) ys rises.0) in
+        let under : All (λ (later : MadeStep). x.moment ≤ later.moment) (y ∷ filter (is_at (place_of y.act)) ys) =
+        subst (All (λ (later : MadeStep). x.moment ≤ later.moment)) yours (All-filter (is_at (place_of y.act)) (λ (later : MadeStep). x.moment ≤ later.moment) xs falls.0) in
+        let lt : y.moment < x.moment = All-head (λ (later : MadeStep). y.moment < later.moment) x (filter (is_at (place_of x.act)) xs) above in
+        let le : x.moment ≤ y.moment = All-head (λ (later : MadeStep). x.moment ≤ later.moment) y (filter (is_at (place_of y.act)) ys) under in
         absurd (omega (arith, lt, le))
 
 -- ---- a group of lists
@@ -108,15 +108,15 @@ all_in : (P : MadeStep → Type 0) (of : ℕ → List MadeStep) → ((i : ℕ) �
 all_in P of each start zero = All-nil P
 all_in P of each start (suc count) = All-append P (of start) (flat_map of (range_with_len (start + 1) count)) (each start) (all_in P of each (start + 1) count)
 
-all_by_stamp : (P : MadeStep → Type 0) (ms : List MadeStep) → All P ms → All P (by_stamp ms)
-all_by_stamp P [] h = h
-all_by_stamp P (m ∷ ms) h = all_put P m (by_stamp ms) (All-head P m ms h) (all_by_stamp P ms (All-tail P m ms h))
+all_by_moment : (P : MadeStep → Type 0) (ms : List MadeStep) → All P ms → All P (by_moment ms)
+all_by_moment P [] h = h
+all_by_moment P (m ∷ ms) h = all_put P m (by_moment ms) (All-head P m ms h) (all_by_moment P ms (All-tail P m ms h))
 
-rise_snoc : (steps : List MadeStep) (m : MadeStep) → StampsRise steps → All (λ (x : MadeStep). x.stamp < m.stamp) steps → StampsRise (steps ++ m ∷ [])
-rise_snoc [] m h under = (All-nil (λ (later : MadeStep). m.stamp < later.stamp), tt)
+rise_snoc : (steps : List MadeStep) (m : MadeStep) → MomentsRise steps → All (λ (x : MadeStep). x.moment < m.moment) steps → MomentsRise (steps ++ m ∷ [])
+rise_snoc [] m h under = (All-nil (λ (later : MadeStep). m.moment < later.moment), tt)
 rise_snoc (x ∷ steps) m h under = (
-  All-push (λ (later : MadeStep). x.stamp < later.stamp) steps m h.0 (All-head (λ (y : MadeStep). y.stamp < m.stamp) x steps under),
-  rise_snoc steps m h.1 (All-tail (λ (y : MadeStep). y.stamp < m.stamp) x steps under),
+  All-push (λ (later : MadeStep). x.moment < later.moment) steps m h.0 (All-head (λ (y : MadeStep). y.moment < m.moment) x steps under),
+  rise_snoc steps m h.1 (All-tail (λ (y : MadeStep). y.moment < m.moment) x steps under),
 )
 
 -- ---- the law
@@ -128,7 +128,7 @@ module _ (servers : ℕ) (at : Place → List MadeStep) (own : AreOwn servers at
 
   steps_placed : All IsPlaced (own_steps servers at)
   steps_placed =
-      all_by_stamp IsPlaced (at Place.Directory ++ flat_map (λ j. at (Place.Server j)) (range_with_len 0 servers))
+      all_by_moment IsPlaced (at Place.Directory ++ flat_map (λ j. at (Place.Server j)) (range_with_len 0 servers))
       (All-append IsPlaced (at Place.Directory) (flat_map (λ j. at (Place.Server j)) (range_with_len 0 servers)) (all_placed Place.Directory)
       (all_in IsPlaced (λ j. at (Place.Server j)) (λ j. all_placed (Place.Server j)) 0 servers))
 
@@ -169,19 +169,19 @@ module _ (servers : ℕ) (at : Place → List MadeStep) (own : AreOwn servers at
       by true q = let same : Place.Directory ≡ Place.Server j = at_only Place.Directory m.act h ∙ sym (at_only (Place.Server j) m.act q) in absurd (cc (same))
 
   parts : (place : Place) (a b : List MadeStep) → filter (is_at place) (at Place.Directory) ≡ a → filter (is_at place) (flat_map (λ j. at (Place.Server j)) (range_with_len 0 servers)) ≡ b
-      → filter (is_at place) (own_steps servers at) ≡ by_stamp (a ++ b)
+      → filter (is_at place) (own_steps servers at) ≡ by_moment (a ++ b)
   parts place a b e f =
-      filter_by_stamp (is_at place) (at Place.Directory ++ flat_map (λ j. at (Place.Server j)) (range_with_len 0 servers))
-      ∙ ap by_stamp (filter-append (is_at place) (at Place.Directory) (flat_map (λ j. at (Place.Server j)) (range_with_len 0 servers)) ∙ (λ i. e i ++ f i))
+      filter_by_moment (is_at place) (at Place.Directory ++ flat_map (λ j. at (Place.Server j)) (range_with_len 0 servers))
+      ∙ ap by_moment (filter-append (is_at place) (at Place.Directory) (flat_map (λ j. at (Place.Server j)) (range_with_len 0 servers)) ∙ (λ i. e i ++ f i))
 
   pub at_place : (place : Place) → filter (is_at place) (own_steps servers at) ≡ at place
   at_place Place.Directory =
       parts Place.Directory (at Place.Directory) [] (own.here Place.Directory)
       (none_in (is_at Place.Directory) (λ j. at (Place.Server j)) (λ j. elsewhere Place.Directory (Place.Server j) (directory_apart j)) 0 servers)
-      ∙ ap by_stamp (append-nil (at Place.Directory)) ∙ by_stamp_same (at Place.Directory) (own.order Place.Directory)
+      ∙ ap by_moment (append-nil (at Place.Directory)) ∙ by_moment_same (at Place.Directory) (own.order Place.Directory)
   at_place (Place.Server j) =
       parts (Place.Server j) [] (at (Place.Server j)) (elsewhere (Place.Server j) Place.Directory (away j)) (by (nat_lt j servers) refl)
-      ∙ by_stamp_same (at (Place.Server j)) (own.order (Place.Server j))
+      ∙ by_moment_same (at (Place.Server j)) (own.order (Place.Server j))
     where
       other : (i : ℕ) → nat_eq j i ≡ false → filter (is_at (Place.Server j)) (at (Place.Server i)) ≡ []
       other i e = elsewhere (Place.Server j) (Place.Server i) (server_apart j i e)
@@ -201,7 +201,7 @@ keep_lists servers at own =
     record {
       places = at_place servers at own;
       more = λ m after is_more own_after rises under.
-          same_steps (own_steps servers after) (own_steps servers at ++ m ∷ []) (by_stamp_falls (after Place.Directory ++ flat_map (λ j. after (Place.Server j)) (range_with_len 0 servers)))
+          same_steps (own_steps servers after) (own_steps servers at ++ m ∷ []) (by_moment_falls (after Place.Directory ++ flat_map (λ j. after (Place.Server j)) (range_with_len 0 servers)))
           (rise_snoc (own_steps servers at) m rises under) (steps_placed servers after own_after)
           (All-append IsPlaced (own_steps servers at) (m ∷ []) (steps_placed servers at own) (All-cons IsPlaced m [] (placed is_more.there m is_more.at) (All-nil IsPlaced)))
           (λ place.

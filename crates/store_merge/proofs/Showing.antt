@@ -1,4 +1,4 @@
--- The steps by stamps show a threaded run.
+-- The steps by moments show a threaded run.
 use Rattle.std.proofs.Common.{◌≡◌, ℕ, suc, ◌<◌, ◌≤◌, Bool, true, false, cond, nat_lt, List, [], ◌∷◌, length, map, filter, Some, refl, sym, ap, ◌∙◌, ltb-true, ltb-false}
 use Rattle.std.proofs.lemmas.List.Elements.{All-nil, All-cons}
 use Rattle.std.proofs.lemmas.Option.{none-some, same_Some}
@@ -91,15 +91,15 @@ all_lines (m ∷ steps) (line ∷ lines) h e =
 
 kept_lines : (steps : List MadeStep) → filter is_line (map token_of steps) ≡ map (λ (m : MadeStep). line_of m.act) (filter (is_by actor.Operator) steps)
 kept_lines [] = refl
-kept_lines (m ∷ steps) = by m.actor m.number m.shortage m.answer m.stamp m.act (kept_lines steps)
+kept_lines (m ∷ steps) = by m.actor m.number m.shortage m.answer m.moment m.act (kept_lines steps)
   where
-    by : (who : Actor) (number : ℕ) (shortage : Shortage) (answer : Told) (stamp : ℕ) (act : Act)
+    by : (who : Actor) (number : ℕ) (shortage : Shortage) (answer : Told) (moment : ℕ) (act : Act)
         → filter is_line (map token_of steps) ≡ map (λ (x : MadeStep). line_of x.act) (filter (is_by actor.Operator) steps)
-        → filter is_line (map token_of (made_by who number shortage answer stamp act ∷ steps)) ≡ map (λ (x : MadeStep). line_of x.act) (filter (is_by actor.Operator) (made_by who number shortage answer stamp act ∷ steps))
-    by (actor.Client i) number shortage answer stamp act rest = rest
-    by (actor.Repairer i) number shortage answer stamp act rest = rest
-    by actor.Sweeper number shortage answer stamp act rest = rest
-    by actor.Operator number shortage answer stamp act rest =
+        → filter is_line (map token_of (made_by who number shortage answer moment act ∷ steps)) ≡ map (λ (x : MadeStep). line_of x.act) (filter (is_by actor.Operator) (made_by who number shortage answer moment act ∷ steps))
+    by (actor.Client i) number shortage answer moment act rest = rest
+    by (actor.Repairer i) number shortage answer moment act rest = rest
+    by actor.Sweeper number shortage answer moment act rest = rest
+    by actor.Operator number shortage answer moment act rest =
         ap (λ b. cond {A = List Token} b (line_of act ∷ filter is_line (map token_of steps)) (filter is_line (map token_of steps))) (line_is act) ∙ ap (λ l. line_of act ∷ l) rest
 
 -- ---- steps of the script's actors
@@ -146,17 +146,17 @@ all_steps : (script : Script) (steps : List MadeStep) → ((i : ℕ) → length 
     → All (IsStepOf script) (map token_of steps)
 all_steps script [] c r = All-nil (IsStepOf script)
 all_steps script (m ∷ steps) c r =
-    All-cons (IsStepOf script) (token_of m) (map token_of steps) (by m.actor m.number m.shortage m.answer m.stamp m.act c r)
+    All-cons (IsStepOf script) (token_of m) (map token_of steps) (by m.actor m.number m.shortage m.answer m.moment m.act c r)
     (all_steps script steps (λ i le. tail_none (is_by (actor.Client i) m) m (filter (is_by (actor.Client i)) steps) (c i le)) (λ i le. tail_none (is_by (actor.Repairer i) m) m (filter (is_by (actor.Repairer i)) steps) (r i le)))
   where
-    by : (who : Actor) (number : ℕ) (shortage : Shortage) (answer : Told) (stamp : ℕ) (act : Act)
-        → ((i : ℕ) → length script.clients ≤ i → filter (is_by (actor.Client i)) (made_by who number shortage answer stamp act ∷ steps) ≡ [])
-        → ((i : ℕ) → length script.repairers ≤ i → filter (is_by (actor.Repairer i)) (made_by who number shortage answer stamp act ∷ steps) ≡ [])
-        → IsStepOf script (token_of (made_by who number shortage answer stamp act))
-    by (actor.Client i) number shortage answer stamp act p q = below i (length script.clients) (λ le. head_none (actor.Client i) (made_by (actor.Client i) number shortage answer stamp act) steps refl (p i le))
-    by (actor.Repairer i) number shortage answer stamp act p q = below i (length script.repairers) (λ le. head_none (actor.Repairer i) (made_by (actor.Repairer i) number shortage answer stamp act) steps refl (q i le))
-    by actor.Sweeper number shortage answer stamp act p q = tt
-    by actor.Operator number shortage answer stamp act p q = line_steps script act
+    by : (who : Actor) (number : ℕ) (shortage : Shortage) (answer : Told) (moment : ℕ) (act : Act)
+        → ((i : ℕ) → length script.clients ≤ i → filter (is_by (actor.Client i)) (made_by who number shortage answer moment act ∷ steps) ≡ [])
+        → ((i : ℕ) → length script.repairers ≤ i → filter (is_by (actor.Repairer i)) (made_by who number shortage answer moment act ∷ steps) ≡ [])
+        → IsStepOf script (token_of (made_by who number shortage answer moment act))
+    by (actor.Client i) number shortage answer moment act p q = below i (length script.clients) (λ le. head_none (actor.Client i) (made_by (actor.Client i) number shortage answer moment act) steps refl (p i le))
+    by (actor.Repairer i) number shortage answer moment act p q = below i (length script.repairers) (λ le. head_none (actor.Repairer i) (made_by (actor.Repairer i) number shortage answer moment act) steps refl (q i le))
+    by actor.Sweeper number shortage answer moment act p q = tt
+    by actor.Operator number shortage answer moment act p q = line_steps script act
 
 -- ---- the law
 -- the run, and that the core is the one that it ends with

@@ -1,4 +1,4 @@
--- Two small runs by stamps.
+-- Two small runs by moments.
 use Rattle.std.proofs.Common.{◌≡◌, ℕ, zero, suc, ◌<◌, ◌≤◌, List, [], ◌∷◌, filter, cond, false, refl, sym, ap, ◌∙◌, ne_eqb, arith}
 use Rattle.std.proofs.lemmas.List.Elements.{All-nil, All-cons}
 use Rattle.std.specs.List.{slice_get}
@@ -7,7 +7,7 @@ use Rattle.store_map.specs.declared.actor.Actor.TheVariants as actor
 use Rattle.store_core.specs.Core.{first_core}
 use Rattle.store_core.specs.Work.{client_work}
 use Rattle.store_core.specs.ActPlace.{Place}
-use Rattle.store_merge.specs.MadeSteps.{MadeStep, is_by, is_at, StampsRise}
+use Rattle.store_merge.specs.MadeSteps.{MadeStep, is_by, is_at, MomentsRise}
 use Rattle.store_merge.specs.AtPlaces.{AllCome, server_next, ServerAnswers}
 use Rattle.store_merge.specs.Histories.{ComeIfThere, ComeOfActor}
 use Rattle.store_merge.specs.StatsExample.{two_stats, first_stat, second_stat, the_wipe, stats_of, stats_at, StatsMerge}
@@ -70,19 +70,19 @@ both (Place.Server (suc (suc j))) (actor.Repairer i) = refl
 both (Place.Server (suc (suc j))) actor.Sweeper = refl
 both (Place.Server (suc (suc j))) actor.Operator = sym (ap (λ b. cond {A = List MadeStep} b (the_wipe ∷ []) []) (ne_eqb (suc (suc j)) 1 (λ e. absurd (omega (arith, e)))))
 
-rise_at : (place : Place) → StampsRise (stats_at place)
-rise_at Place.Directory = (All-cons (λ (later : MadeStep). 1 < later.stamp) second_stat [] (omega arith) (All-nil (λ (later : MadeStep). 1 < later.stamp)), (All-nil (λ (later : MadeStep). 2 < later.stamp), tt))
+rise_at : (place : Place) → MomentsRise (stats_at place)
+rise_at Place.Directory = (All-cons (λ (later : MadeStep). 1 < later.moment) second_stat [] (omega arith) (All-nil (λ (later : MadeStep). 1 < later.moment)), (All-nil (λ (later : MadeStep). 2 < later.moment), tt))
 rise_at (Place.Server zero) = tt
-rise_at (Place.Server (suc zero)) = (All-nil (λ (later : MadeStep). 1 < later.stamp), tt)
+rise_at (Place.Server (suc zero)) = (All-nil (λ (later : MadeStep). 1 < later.moment), tt)
 rise_at (Place.Server (suc (suc j))) = tt
 
-rise_of : (who : Actor) → StampsRise (stats_of who)
-rise_of (actor.Client zero) = (All-nil (λ (later : MadeStep). 1 < later.stamp), tt)
-rise_of (actor.Client (suc zero)) = (All-nil (λ (later : MadeStep). 2 < later.stamp), tt)
+rise_of : (who : Actor) → MomentsRise (stats_of who)
+rise_of (actor.Client zero) = (All-nil (λ (later : MadeStep). 1 < later.moment), tt)
+rise_of (actor.Client (suc zero)) = (All-nil (λ (later : MadeStep). 2 < later.moment), tt)
 rise_of (actor.Client (suc (suc i))) = tt
 rise_of (actor.Repairer i) = tt
 rise_of actor.Sweeper = tt
-rise_of actor.Operator = (All-nil (λ (later : MadeStep). 1 < later.stamp), tt)
+rise_of actor.Operator = (All-nil (λ (later : MadeStep). 1 < later.moment), tt)
 
 servers_go : (j : ℕ) → ComeIfThere (AllCome server_next ServerAnswers) (stats_at (Place.Server j)) (slice_get (first_core two_stats).servers j)
 servers_go zero = tt
@@ -121,10 +121,10 @@ stats_merge =
       ordered =
           record {
             order = (
-              All-cons (λ (later : MadeStep). 1 ≤ later.stamp) the_wipe (second_stat ∷ []) (omega arith) (All-cons (λ (later : MadeStep). 1 ≤ later.stamp) second_stat [] (omega arith) (All-nil (λ (later : MadeStep). 1 ≤ later.stamp))),
+              All-cons (λ (later : MadeStep). 1 ≤ later.moment) the_wipe (second_stat ∷ []) (omega arith) (All-cons (λ (later : MadeStep). 1 ≤ later.moment) second_stat [] (omega arith) (All-nil (λ (later : MadeStep). 1 ≤ later.moment))),
               (
-                All-cons (λ (later : MadeStep). 1 ≤ later.stamp) second_stat [] (omega arith) (All-nil (λ (later : MadeStep). 1 ≤ later.stamp)),
-                (All-nil (λ (later : MadeStep). 2 ≤ later.stamp), tt),
+                All-cons (λ (later : MadeStep). 1 ≤ later.moment) second_stat [] (omega arith) (All-nil (λ (later : MadeStep). 1 ≤ later.moment)),
+                (All-nil (λ (later : MadeStep). 2 ≤ later.moment), tt),
               ),
             );
             of = in_its_order;

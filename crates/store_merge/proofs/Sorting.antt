@@ -1,4 +1,4 @@
--- The steps of all actors in the order of their stamps are in order, and are each actor's steps.
+-- The steps of all actors in the order of their moments are in order, and are each actor's steps.
 use Rattle.std.proofs.Common.{◌≡◌, ℕ, zero, suc, ◌+◌, ◌≤◌, ◌<◌, Bool, true, false, cond, nat_lt, nat_eq, if◌then◌else◌, List, [], ◌∷◌, ◌++◌, length, filter, refl, sym, ap, subst, ◌∙◌, arith, eqb-true, ne_eqb, ltb-true, ltb-false, Option}
 use Rattle.std.proofs.lemmas.List.{append-nil, length-map}
 use Rattle.std.proofs.lemmas.List.Elements.{All-filter, All-head, All-tail, All-cons, All-nil, All-weaker, filter-append}
@@ -12,9 +12,9 @@ use Rattle.store_map.specs.declared.actor.Token.{Token}
 use Rattle.store_core.specs.Core.{first_core}
 use Rattle.store_core.specs.Work.{Work, Calling, client_work, repairer_work}
 use Rattle.store_core.specs.Lookups.{same_actor}
-use Rattle.store_merge.specs.MadeSteps.{MadeStep, is_by, StampsRise, StampsDontFall}
+use Rattle.store_merge.specs.MadeSteps.{MadeStep, is_by, MomentsRise, MomentsDontFall}
 use Rattle.store_merge.specs.Histories.{Histories, StandTwice, IsInOrder, GoOn, ComeOfActor}
-use Rattle.store_merge.specs.InOrder.{put_in, by_stamp, actor_by_actor, in_order}
+use Rattle.store_merge.specs.InOrder.{put_in, by_moment, actor_by_actor, in_order}
 use Rattle.store_merge.proofs.Orders.{one_is}
 
 -- ---- a step put in
@@ -28,37 +28,37 @@ not_lt a b h = by (nat_lt a b) refl
 not_less : (a b : ℕ) → nat_lt a b ≡ false → b ≤ a
 not_less a b e = omega (arith, ltb-false a b e)
 
-put_first : (m : MadeStep) (ms : List MadeStep) → All (λ (later : MadeStep). m.stamp ≤ later.stamp) ms → put_in m ms ≡ m ∷ ms
+put_first : (m : MadeStep) (ms : List MadeStep) → All (λ (later : MadeStep). m.moment ≤ later.moment) ms → put_in m ms ≡ m ∷ ms
 put_first m [] h = refl
 put_first m (o ∷ ms) h =
-    ap (λ (b : Bool). if b then o ∷ put_in m ms else m ∷ o ∷ ms) (not_lt o.stamp m.stamp (All-head (λ (later : MadeStep). m.stamp ≤ later.stamp) o ms h))
+    ap (λ (b : Bool). if b then o ∷ put_in m ms else m ∷ o ∷ ms) (not_lt o.moment m.moment (All-head (λ (later : MadeStep). m.moment ≤ later.moment) o ms h))
 
 pub all_put : (P : MadeStep → Type 0) (m : MadeStep) (ms : List MadeStep) → P m → All P ms → All P (put_in m ms)
 all_put P m [] here rest = All-cons P m [] here (All-nil P)
-all_put P m (o ∷ ms) here rest = by (nat_lt o.stamp m.stamp) (all_put P m ms here (All-tail P o ms rest))
+all_put P m (o ∷ ms) here rest = by (nat_lt o.moment m.moment) (all_put P m ms here (All-tail P o ms rest))
   where
     by : (b : Bool) → All P (put_in m ms) → All P (if b then o ∷ put_in m ms else m ∷ o ∷ ms)
     by true later = All-cons P o (put_in m ms) (All-head P o ms rest) later
     by false later = All-cons P m (o ∷ ms) here rest
 
-put_falls : (m : MadeStep) (ms : List MadeStep) → StampsDontFall ms → StampsDontFall (put_in m ms)
-put_falls m [] h = (All-nil (λ (later : MadeStep). m.stamp ≤ later.stamp), tt)
-put_falls m (o ∷ ms) h = by (nat_lt o.stamp m.stamp) refl (put_falls m ms h.1)
+put_falls : (m : MadeStep) (ms : List MadeStep) → MomentsDontFall ms → MomentsDontFall (put_in m ms)
+put_falls m [] h = (All-nil (λ (later : MadeStep). m.moment ≤ later.moment), tt)
+put_falls m (o ∷ ms) h = by (nat_lt o.moment m.moment) refl (put_falls m ms h.1)
   where
-    by : (b : Bool) → nat_lt o.stamp m.stamp ≡ b → StampsDontFall (put_in m ms) → StampsDontFall (if b then o ∷ put_in m ms else m ∷ o ∷ ms)
-    by true e later = let lt : o.stamp < m.stamp = ltb-true o.stamp m.stamp e in (all_put (λ (x : MadeStep). o.stamp ≤ x.stamp) m ms (omega (arith, lt)) h.0, later)
+    by : (b : Bool) → nat_lt o.moment m.moment ≡ b → MomentsDontFall (put_in m ms) → MomentsDontFall (if b then o ∷ put_in m ms else m ∷ o ∷ ms)
+    by true e later = let lt : o.moment < m.moment = ltb-true o.moment m.moment e in (all_put (λ (x : MadeStep). o.moment ≤ x.moment) m ms (omega (arith, lt)) h.0, later)
     by false e later =
-        let le : m.stamp ≤ o.stamp = not_less o.stamp m.stamp e in
-        (All-cons (λ (x : MadeStep). m.stamp ≤ x.stamp) o ms le (All-weaker (λ (x : MadeStep). o.stamp ≤ x.stamp) (λ (x : MadeStep). m.stamp ≤ x.stamp) (λ x k. omega (arith, le, k)) ms h.0), h)
+        let le : m.moment ≤ o.moment = not_less o.moment m.moment e in
+        (All-cons (λ (x : MadeStep). m.moment ≤ x.moment) o ms le (All-weaker (λ (x : MadeStep). o.moment ≤ x.moment) (λ (x : MadeStep). m.moment ≤ x.moment) (λ x k. omega (arith, le, k)) ms h.0), h)
 
-filter_put : (p : MadeStep → Bool) (m : MadeStep) (ms : List MadeStep) → StampsDontFall ms → filter p (put_in m ms) ≡ cond {A = List MadeStep} (p m) (put_in m (filter p ms)) (filter p ms)
+filter_put : (p : MadeStep → Bool) (m : MadeStep) (ms : List MadeStep) → MomentsDontFall ms → filter p (put_in m ms) ≡ cond {A = List MadeStep} (p m) (put_in m (filter p ms)) (filter p ms)
 filter_put p m [] h = refl
-filter_put p m (o ∷ ms) h = by (nat_lt o.stamp m.stamp) refl (filter_put p m ms h.1)
+filter_put p m (o ∷ ms) h = by (nat_lt o.moment m.moment) refl (filter_put p m ms h.1)
   where
     kept : List MadeStep
     kept = filter p ms
 
-    both : nat_lt o.stamp m.stamp ≡ true → (c d : Bool)
+    both : nat_lt o.moment m.moment ≡ true → (c d : Bool)
         → cond {A = List MadeStep} c (o ∷ cond {A = List MadeStep} d (put_in m kept) kept) (cond {A = List MadeStep} d (put_in m kept) kept)
         ≡ cond {A = List MadeStep} d (put_in m (cond {A = List MadeStep} c (o ∷ kept) kept)) (cond {A = List MadeStep} c (o ∷ kept) kept)
     both e true true = sym (ap (λ (b : Bool). if b then o ∷ put_in m kept else m ∷ o ∷ kept) e)
@@ -66,34 +66,34 @@ filter_put p m (o ∷ ms) h = by (nat_lt o.stamp m.stamp) refl (filter_put p m m
     both e false true = refl
     both e false false = refl
 
-    by : (b : Bool) → nat_lt o.stamp m.stamp ≡ b → filter p (put_in m ms) ≡ cond {A = List MadeStep} (p m) (put_in m kept) kept
+    by : (b : Bool) → nat_lt o.moment m.moment ≡ b → filter p (put_in m ms) ≡ cond {A = List MadeStep} (p m) (put_in m kept) kept
         → filter p (if b then o ∷ put_in m ms else m ∷ o ∷ ms) ≡ cond {A = List MadeStep} (p m) (put_in m (filter p (o ∷ ms))) (filter p (o ∷ ms))
     by true e rest = ap (λ (l : List MadeStep). cond {A = List MadeStep} (p o) (o ∷ l) l) rest ∙ both e (p o) (p m)
     by false e rest =
-        let le : m.stamp ≤ o.stamp = not_less o.stamp m.stamp e in
-        let above : All (λ (x : MadeStep). m.stamp ≤ x.stamp) (o ∷ ms) =
-        All-cons (λ (x : MadeStep). m.stamp ≤ x.stamp) o ms le (All-weaker (λ (x : MadeStep). o.stamp ≤ x.stamp) (λ (x : MadeStep). m.stamp ≤ x.stamp) (λ x k. omega (arith, le, k)) ms h.0) in
-        ap (λ (l : List MadeStep). cond {A = List MadeStep} (p m) l (filter p (o ∷ ms))) (sym (put_first m (filter p (o ∷ ms)) (All-filter p (λ (x : MadeStep). m.stamp ≤ x.stamp) (o ∷ ms) above)))
+        let le : m.moment ≤ o.moment = not_less o.moment m.moment e in
+        let above : All (λ (x : MadeStep). m.moment ≤ x.moment) (o ∷ ms) =
+        All-cons (λ (x : MadeStep). m.moment ≤ x.moment) o ms le (All-weaker (λ (x : MadeStep). o.moment ≤ x.moment) (λ (x : MadeStep). m.moment ≤ x.moment) (λ x k. omega (arith, le, k)) ms h.0) in
+        ap (λ (l : List MadeStep). cond {A = List MadeStep} (p m) l (filter p (o ∷ ms))) (sym (put_first m (filter p (o ∷ ms)) (All-filter p (λ (x : MadeStep). m.moment ≤ x.moment) (o ∷ ms) above)))
 
 -- ---- all steps
-pub by_stamp_falls : (ms : List MadeStep) → StampsDontFall (by_stamp ms)
-by_stamp_falls [] = tt
-by_stamp_falls (m ∷ ms) = put_falls m (by_stamp ms) (by_stamp_falls ms)
+pub by_moment_falls : (ms : List MadeStep) → MomentsDontFall (by_moment ms)
+by_moment_falls [] = tt
+by_moment_falls (m ∷ ms) = put_falls m (by_moment ms) (by_moment_falls ms)
 
-pub filter_by_stamp : (p : MadeStep → Bool) (ms : List MadeStep) → filter p (by_stamp ms) ≡ by_stamp (filter p ms)
-filter_by_stamp p [] = refl
-filter_by_stamp p (m ∷ ms) =
-    filter_put p m (by_stamp ms) (by_stamp_falls ms) ∙ ap (λ (l : List MadeStep). cond {A = List MadeStep} (p m) (put_in m l) l) (filter_by_stamp p ms) ∙ by (p m)
+pub filter_by_moment : (p : MadeStep → Bool) (ms : List MadeStep) → filter p (by_moment ms) ≡ by_moment (filter p ms)
+filter_by_moment p [] = refl
+filter_by_moment p (m ∷ ms) =
+    filter_put p m (by_moment ms) (by_moment_falls ms) ∙ ap (λ (l : List MadeStep). cond {A = List MadeStep} (p m) (put_in m l) l) (filter_by_moment p ms) ∙ by (p m)
   where
-    by : (b : Bool) → cond {A = List MadeStep} b (put_in m (by_stamp (filter p ms))) (by_stamp (filter p ms)) ≡ by_stamp (cond {A = List MadeStep} b (m ∷ filter p ms) (filter p ms))
+    by : (b : Bool) → cond {A = List MadeStep} b (put_in m (by_moment (filter p ms))) (by_moment (filter p ms)) ≡ by_moment (cond {A = List MadeStep} b (m ∷ filter p ms) (filter p ms))
     by true = refl
     by false = refl
 
-pub by_stamp_same : (ms : List MadeStep) → StampsRise ms → by_stamp ms ≡ ms
-by_stamp_same [] h = refl
-by_stamp_same (m ∷ ms) h =
-    ap (put_in m) (by_stamp_same ms h.1)
-    ∙ put_first m ms (All-weaker (λ (later : MadeStep). m.stamp < later.stamp) (λ (later : MadeStep). m.stamp ≤ later.stamp) (λ x k. omega (arith, k)) ms h.0)
+pub by_moment_same : (ms : List MadeStep) → MomentsRise ms → by_moment ms ≡ ms
+by_moment_same [] h = refl
+by_moment_same (m ∷ ms) h =
+    ap (put_in m) (by_moment_same ms h.1)
+    ∙ put_first m ms (All-weaker (λ (later : MadeStep). m.moment < later.moment) (λ (later : MadeStep). m.moment ≤ later.moment) (λ x k. omega (arith, k)) ms h.0)
 
 -- ---- the steps of one actor among all
 module _ (script : Script) (h : Histories) (twice : StandTwice h) where
@@ -230,6 +230,6 @@ module _ (script : Script) (h : Histories) (twice : StandTwice h) where
     pub sorted : IsInOrder h (in_order script h)
     sorted =
         record {
-          order = by_stamp_falls (actor_by_actor script h);
-          of = λ who. filter_by_stamp (is_by who) (actor_by_actor script h) ∙ ap by_stamp (all_of who) ∙ by_stamp_same (h.of who) (twice.rise_of who);
+          order = by_moment_falls (actor_by_actor script h);
+          of = λ who. filter_by_moment (is_by who) (actor_by_actor script h) ∙ ap by_moment (all_of who) ∙ by_moment_same (h.of who) (twice.rise_of who);
         }

@@ -70,21 +70,21 @@ change_same (suc i) f (y ∷ xs) x e = ap (λ l. y ∷ l) (change_same i f xs x 
 
 -- the step of a record
 abbrev pub made_by : Actor → ℕ → Shortage → Told → ℕ → Act → MadeStep
-made_by who number shortage answer stamp act = record { actor = who; number = number; shortage = shortage; act = act; answer = answer; stamp = stamp }
+made_by who number shortage answer moment act = record { actor = who; number = number; shortage = shortage; act = act; answer = answer; moment = moment }
 
 -- ---- places
-module _ (who : Actor) (number : ℕ) (shortage : Shortage) (answer : Told) (stamp : ℕ) where
+module _ (who : Actor) (number : ℕ) (shortage : Shortage) (answer : Told) (moment : ℕ) where
   pub places_answer : (act : Act) (rest : List MadeStep) (places : Places) → IsAtAPlace act
-      → AllCome directory_next DirectoryAnswers (filter (is_at Place.Directory) (made_by who number shortage answer stamp act ∷ rest)) places.directory
-      → ((j : ℕ) → ComeIfThere (AllCome server_next ServerAnswers) (filter (is_at (Place.Server j)) (made_by who number shortage answer stamp act ∷ rest)) (slice_get places.servers j))
-      → at_places shortage.step who number act places ≡ (places_after (made_by who number shortage answer stamp act) places, answer)
-  places_answer (Act.AtDirectory step) rest places ok d s = ap (λ t. (places_after (made_by who number shortage answer stamp (Act.AtDirectory step)) places, t)) d.0
+      → AllCome directory_next DirectoryAnswers (filter (is_at Place.Directory) (made_by who number shortage answer moment act ∷ rest)) places.directory
+      → ((j : ℕ) → ComeIfThere (AllCome server_next ServerAnswers) (filter (is_at (Place.Server j)) (made_by who number shortage answer moment act ∷ rest)) (slice_get places.servers j))
+      → at_places shortage.step who number act places ≡ (places_after (made_by who number shortage answer moment act) places, answer)
+  places_answer (Act.AtDirectory step) rest places ok d s = ap (λ t. (places_after (made_by who number shortage answer moment (Act.AtDirectory step)) places, t)) d.0
   places_answer (Act.AtServer server step) rest places ok d s =
       by (slice_get places.servers server) refl
       (subst (λ b. ComeIfThere (AllCome server_next ServerAnswers) (cond {A = List MadeStep} b (m ∷ later) later) (slice_get places.servers server)) (eq-eqb server server refl) (s server))
     where
       m : MadeStep
-      m = made_by who number shortage answer stamp (Act.AtServer server step)
+      m = made_by who number shortage answer moment (Act.AtServer server step)
 
       later : List MadeStep
       later = filter (is_at (Place.Server server)) rest
@@ -135,17 +135,17 @@ module _ (script : Script) (lines : List Token) (core : Core) (left : List Short
   abbrev Steps : MadeStep → Type 0
   Steps m = step_core script (token_of m) (run_of m) ≡ record { core = core_after script m core; shortages = left }
 
-  answered : (who : Actor) (number : ℕ) (shortage : Shortage) (answer : Told) (stamp : ℕ) (act : Act) → GoesOn (made_by who number shortage answer stamp act) → IsAtAPlace act
-      → at_places shortage.step who number act (places_in core) ≡ (places_after (made_by who number shortage answer stamp act) (places_in core), answer)
-  answered who number shortage answer stamp act go placed = places_answer who number shortage answer stamp act more (places_in core) placed go.directory go.servers
+  answered : (who : Actor) (number : ℕ) (shortage : Shortage) (answer : Told) (moment : ℕ) (act : Act) → GoesOn (made_by who number shortage answer moment act) → IsAtAPlace act
+      → at_places shortage.step who number act (places_in core) ≡ (places_after (made_by who number shortage answer moment act) (places_in core), answer)
+  answered who number shortage answer moment act go placed = places_answer who number shortage answer moment act more (places_in core) placed go.directory go.servers
 
-  client_is : (i number : ℕ) (shortage : Shortage) (answer : Told) (stamp : ℕ) (act : Act) → GoesOn (made_by (actor.Client i) number shortage answer stamp act) → Steps (made_by (actor.Client i) number shortage answer stamp act)
-  client_is i number shortage answer stamp act go =
+  client_is : (i number : ℕ) (shortage : Shortage) (answer : Told) (moment : ℕ) (act : Act) → GoesOn (made_by (actor.Client i) number shortage answer moment act) → Steps (made_by (actor.Client i) number shortage answer moment act)
+  client_is i number shortage answer moment act go =
       by (slice_get (client_work script) i) refl (slice_get core.clients i) refl
       (subst (λ b. ComeOfActor script (cond {A = List MadeStep} b (m ∷ later) later) (slice_get (client_work script) i) (slice_get core.clients i)) (eq-eqb i i refl) (go.clients i))
     where
       m : MadeStep
-      m = made_by (actor.Client i) number shortage answer stamp act
+      m = made_by (actor.Client i) number shortage answer moment act
 
       later : List MadeStep
       later = filter (is_by (actor.Client i)) more
@@ -155,7 +155,7 @@ module _ (script : Script) (lines : List Token) (core : Core) (left : List Short
       by None e calling f h = absurd (cc (h))
       by (Some work) e None f h = absurd (cc (h))
       by (Some work) e (Some calling) f h =
-          let stepped = call_steps script m calling (places_in core) (answered (actor.Client i) number shortage answer stamp act go (placed (job_if (has_step work calling) work calling) h.0)) work (has_step work calling) h.0 in
+          let stepped = call_steps script m calling (places_in core) (answered (actor.Client i) number shortage answer moment act go (placed (job_if (has_step work calling) work calling) h.0)) work (has_step work calling) h.0 in
           let callings : change_at i (λ _. calling_next script work m calling) core.clients ≡ change_at i (calling_by script m (slice_get (client_work script) i)) core.clients =
           change_same i (calling_by script m (Some work)) core.clients calling f ∙ ap (λ w. change_at i (calling_by script m w) core.clients) (sym e) in
           ap (after_client i (run_of m)) stepped ∙ (λ k. record { core = record { directory = directory_next m core.directory; servers = servers_after m act core.servers; clients = callings k; repairers = core.repairers; sweeper = core.sweeper }; shortages = left })
@@ -164,13 +164,13 @@ module _ (script : Script) (lines : List Token) (core : Core) (left : List Short
           placed None q = absurd q
           placed (Some job) q = q.2
 
-  repairer_is : (i number : ℕ) (shortage : Shortage) (answer : Told) (stamp : ℕ) (act : Act) → GoesOn (made_by (actor.Repairer i) number shortage answer stamp act) → Steps (made_by (actor.Repairer i) number shortage answer stamp act)
-  repairer_is i number shortage answer stamp act go =
+  repairer_is : (i number : ℕ) (shortage : Shortage) (answer : Told) (moment : ℕ) (act : Act) → GoesOn (made_by (actor.Repairer i) number shortage answer moment act) → Steps (made_by (actor.Repairer i) number shortage answer moment act)
+  repairer_is i number shortage answer moment act go =
       by (slice_get (repairer_work script) i) refl (slice_get core.repairers i) refl
       (subst (λ b. ComeOfActor script (cond {A = List MadeStep} b (m ∷ later) later) (slice_get (repairer_work script) i) (slice_get core.repairers i)) (eq-eqb i i refl) (go.repairers i))
     where
       m : MadeStep
-      m = made_by (actor.Repairer i) number shortage answer stamp act
+      m = made_by (actor.Repairer i) number shortage answer moment act
 
       later : List MadeStep
       later = filter (is_by (actor.Repairer i)) more
@@ -180,7 +180,7 @@ module _ (script : Script) (lines : List Token) (core : Core) (left : List Short
       by None e calling f h = absurd (cc (h))
       by (Some work) e None f h = absurd (cc (h))
       by (Some work) e (Some calling) f h =
-          let stepped = call_steps script m calling (places_in core) (answered (actor.Repairer i) number shortage answer stamp act go (placed (job_if (has_step work calling) work calling) h.0)) work (has_step work calling) h.0 in
+          let stepped = call_steps script m calling (places_in core) (answered (actor.Repairer i) number shortage answer moment act go (placed (job_if (has_step work calling) work calling) h.0)) work (has_step work calling) h.0 in
           let callings : change_at i (λ _. calling_next script work m calling) core.repairers ≡ change_at i (calling_by script m (slice_get (repairer_work script) i)) core.repairers =
           change_same i (calling_by script m (Some work)) core.repairers calling f ∙ ap (λ w. change_at i (calling_by script m w) core.repairers) (sym e) in
           ap (after_repairer i (run_of m)) stepped ∙ (λ k. record { core = record { directory = directory_next m core.directory; servers = servers_after m act core.servers; clients = core.clients; repairers = callings k; sweeper = core.sweeper }; shortages = left })
@@ -189,21 +189,21 @@ module _ (script : Script) (lines : List Token) (core : Core) (left : List Short
           placed None q = absurd q
           placed (Some job) q = q.2
 
-  sweeper_is : (number : ℕ) (shortage : Shortage) (answer : Told) (stamp : ℕ) (act : Act) → GoesOn (made_by actor.Sweeper number shortage answer stamp act) → Steps (made_by actor.Sweeper number shortage answer stamp act)
-  sweeper_is number shortage answer stamp act go =
-      let m : MadeStep = made_by actor.Sweeper number shortage answer stamp act in
+  sweeper_is : (number : ℕ) (shortage : Shortage) (answer : Told) (moment : ℕ) (act : Act) → GoesOn (made_by actor.Sweeper number shortage answer moment act) → Steps (made_by actor.Sweeper number shortage answer moment act)
+  sweeper_is number shortage answer moment act go =
+      let m : MadeStep = made_by actor.Sweeper number shortage answer moment act in
       let first : IsNextSweep script m core.sweeper = go.sweeper.0 in
       let n : ℕ = chunk_count script.geometry in
       let after : Places × Told → Run = λ both. after_step (run_of m) (with_places both.0 (record core { sweeper = after_sweep n core.sweeper both.1 })) in
       let named : after (at_places false actor.Sweeper 0 (next_sweep n core.sweeper) (places_in core)) ≡ after (at_places shortage.step actor.Sweeper number act (places_in core)) =
       λ k. after (at_places (sym first.alone.shortage k).step actor.Sweeper (sym first.alone.number k) (sym first.act k) (places_in core)) in
-      named ∙ ap after (answered actor.Sweeper number shortage answer stamp act go first.alone.placed)
+      named ∙ ap after (answered actor.Sweeper number shortage answer moment act go first.alone.placed)
 
-  operator_is : (number : ℕ) (shortage : Shortage) (answer : Told) (stamp : ℕ) (act : Act) → GoesOn (made_by actor.Operator number shortage answer stamp act) → Steps (made_by actor.Operator number shortage answer stamp act)
-  operator_is number shortage answer stamp act go = by lines go.operator
+  operator_is : (number : ℕ) (shortage : Shortage) (answer : Told) (moment : ℕ) (act : Act) → GoesOn (made_by actor.Operator number shortage answer moment act) → Steps (made_by actor.Operator number shortage answer moment act)
+  operator_is number shortage answer moment act go = by lines go.operator
     where
       m : MadeStep
-      m = made_by actor.Operator number shortage answer stamp act
+      m = made_by actor.Operator number shortage answer moment act
 
       by : (ls : List Token) → AllCome lines_next IsNextLine (m ∷ filter (is_by actor.Operator) more) ls → Steps m
       by [] h = absurd h.0
@@ -212,14 +212,14 @@ module _ (script : Script) (lines : List Token) (core : Core) (left : List Short
           let after : Places × Told → Run = λ both. after_step (run_of m) (with_places both.0 core) in
           line_acts script (run_of m) line act h.0.0
           ∙ (λ k. after (at_places (sym alone.shortage k).step actor.Operator (sym alone.number k) act (places_in core)))
-          ∙ ap after (answered actor.Operator number shortage answer stamp act go alone.placed)
+          ∙ ap after (answered actor.Operator number shortage answer moment act go alone.placed)
 
-  step_by : (who : Actor) (number : ℕ) (shortage : Shortage) (answer : Told) (stamp : ℕ) (act : Act) → GoesOn (made_by who number shortage answer stamp act) → Steps (made_by who number shortage answer stamp act)
-  step_by (actor.Client i) number shortage answer stamp act go = client_is i number shortage answer stamp act go
-  step_by (actor.Repairer i) number shortage answer stamp act go = repairer_is i number shortage answer stamp act go
-  step_by actor.Sweeper number shortage answer stamp act go = sweeper_is number shortage answer stamp act go
-  step_by actor.Operator number shortage answer stamp act go = operator_is number shortage answer stamp act go
+  step_by : (who : Actor) (number : ℕ) (shortage : Shortage) (answer : Told) (moment : ℕ) (act : Act) → GoesOn (made_by who number shortage answer moment act) → Steps (made_by who number shortage answer moment act)
+  step_by (actor.Client i) number shortage answer moment act go = client_is i number shortage answer moment act go
+  step_by (actor.Repairer i) number shortage answer moment act go = repairer_is i number shortage answer moment act go
+  step_by actor.Sweeper number shortage answer moment act go = sweeper_is number shortage answer moment act go
+  step_by actor.Operator number shortage answer moment act go = operator_is number shortage answer moment act go
 
   -- the run's step is that of the lists
   pub step_is : (m : MadeStep) → GoesOn m → Steps m
-  step_is m go = step_by m.actor m.number m.shortage m.answer m.stamp m.act go
+  step_is m go = step_by m.actor m.number m.shortage m.answer m.moment m.act go

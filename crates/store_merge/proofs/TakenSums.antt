@@ -14,16 +14,16 @@ use Rattle.store_core.specs.Core.{first_core}
 use Rattle.store_merge.specs.MadeSteps.{MadeStep, is_at}
 use Rattle.store_merge.specs.AtPlaces.{AllCome, server_next, ServerAnswers}
 use Rattle.store_merge.specs.Histories.{Histories, StandTwice, ComeIfThere, GoOn}
-use Rattle.store_merge.specs.InOrder.{put_in, by_stamp, actor_by_actor, in_order}
+use Rattle.store_merge.specs.InOrder.{put_in, by_moment, actor_by_actor, in_order}
 use Rattle.store_merge.specs.Taken.{given, taken_at, taken_by_all, ServersCountTakes}
 use Rattle.store_merge.proofs.Orders.{place_in_order}
-use Rattle.store_merge.proofs.Sorting.{filter_by_stamp, sorted}
+use Rattle.store_merge.proofs.Sorting.{filter_by_moment, sorted}
 use Rattle.store_merge.proofs.Given.{list_counted, slice_get-replicate}
 
 -- ---- sums don't see the order
 sum_put : (m : MadeStep) (ms : List MadeStep) → sum_by given (put_in m ms) ≡ given m + sum_by given ms
 sum_put m [] = sum_by-cons given m []
-sum_put m (o ∷ ms) = by (nat_lt o.stamp m.stamp) (sum_put m ms)
+sum_put m (o ∷ ms) = by (nat_lt o.moment m.moment) (sum_put m ms)
   where
     by : (b : Bool) → sum_by given (put_in m ms) ≡ given m + sum_by given ms → sum_by given (if b then o ∷ put_in m ms else m ∷ o ∷ ms) ≡ given m + sum_by given (o ∷ ms)
     by true rest =
@@ -32,12 +32,12 @@ sum_put m (o ∷ ms) = by (nat_lt o.stamp m.stamp) (sum_put m ms)
         omega (arith, first, last, rest)
     by false rest = sum_by-cons given m (o ∷ ms)
 
-sum_by_stamp : (ms : List MadeStep) → sum_by given (by_stamp ms) ≡ sum_by given ms
-sum_by_stamp [] = refl
-sum_by_stamp (m ∷ ms) =
-    let put : sum_by given (put_in m (by_stamp ms)) ≡ given m + sum_by given (by_stamp ms) = sum_put m (by_stamp ms) in
+sum_by_moment : (ms : List MadeStep) → sum_by given (by_moment ms) ≡ sum_by given ms
+sum_by_moment [] = refl
+sum_by_moment (m ∷ ms) =
+    let put : sum_by given (put_in m (by_moment ms)) ≡ given m + sum_by given (by_moment ms) = sum_put m (by_moment ms) in
     let first : sum_by given (m ∷ ms) ≡ given m + sum_by given ms = sum_by-cons given m ms in
-    let rest : sum_by given (by_stamp ms) ≡ sum_by given ms = sum_by_stamp ms in
+    let rest : sum_by given (by_moment ms) ≡ sum_by given ms = sum_by_moment ms in
     omega (arith, put, first, rest)
 
 -- ---- sums over parts
@@ -74,8 +74,8 @@ module _ (script : Script) (h : Histories) (server : ℕ) where
   module _ (twice : StandTwice h) (lines : List Token) (go : GoOn script lines (first_core script) h.at h.of) where
     pub place_sums : sum_by given (h.at (Place.Server server)) ≡ taken_by_all script h server
     place_sums =
-        ap (sum_by given) (sym (place_in_order h (in_order script h) twice (sorted script h twice lines go) (Place.Server server)) ∙ filter_by_stamp (is_at (Place.Server server)) (actor_by_actor script h))
-        ∙ sum_by_stamp (filter (is_at (Place.Server server)) (actor_by_actor script h)) ∙ all_sums
+        ap (sum_by given) (sym (place_in_order h (in_order script h) twice (sorted script h twice lines go) (Place.Server server)) ∙ filter_by_moment (is_at (Place.Server server)) (actor_by_actor script h))
+        ∙ sum_by_moment (filter (is_at (Place.Server server)) (actor_by_actor script h)) ∙ all_sums
 
     pub server_comes : server < chunk_count script.geometry → AllCome server_next ServerAnswers (h.at (Place.Server server)) new_server
     server_comes lt =

@@ -8,7 +8,7 @@ use Rattle.store_map.specs.declared.actor.Token.{Token}
 use Rattle.store_core.specs.ActPlace.{Place}
 use Rattle.store_core.specs.Work.{Work, Calling, client_work, repairer_work}
 use Rattle.store_core.specs.Core.{Core}
-use Rattle.store_merge.specs.MadeSteps.{MadeStep, is_by, is_at, StampsRise, StampsDontFall}
+use Rattle.store_merge.specs.MadeSteps.{MadeStep, is_by, is_at, MomentsRise, MomentsDontFall}
 use Rattle.store_merge.specs.AtPlaces.{AllCome, directory_next, DirectoryAnswers, server_next, ServerAnswers}
 use Rattle.store_merge.specs.ByActors.{calling_next, IsNext, sweeper_next, IsNextSweep}
 use Rattle.store_merge.specs.Lines.{lines_next, IsNextLine}
@@ -18,13 +18,13 @@ pub record Histories : Type 0 where
   pub at : Place → List MadeStep
   pub of : Actor → List MadeStep
 
--- each step stands once in its place's list and once in its actor's list, in one order, and stamps rise strictly along each list
+-- each step stands once in its place's list and once in its actor's list, in one order, and moments rise strictly along each list
 pub record StandTwice (h : Histories) : Type 0 where
   pub here : (place : Place) → filter (is_at place) (h.at place) ≡ h.at place
   pub own : (who : Actor) → filter (is_by who) (h.of who) ≡ h.of who
   pub both : (place : Place) (who : Actor) → filter (is_by who) (h.at place) ≡ filter (is_at place) (h.of who)
-  pub rise_at : (place : Place) → StampsRise (h.at place)
-  pub rise_of : (who : Actor) → StampsRise (h.of who)
+  pub rise_at : (place : Place) → MomentsRise (h.at place)
+  pub rise_of : (who : Actor) → MomentsRise (h.of who)
 
 -- the steps may come in this order from a server or an actor on; at one that isn't there none is made
 abbrev pub ComeIfThere : {S : Type 0} → (List MadeStep → S → Type 0) → List MadeStep → Option S → Type 0
@@ -45,7 +45,7 @@ pub record GoOn (script : Script) (lines : List Token) (core : Core) (at : Place
   pub sweeper : AllCome (sweeper_next script) (IsNextSweep script) (of actor.Sweeper) core.sweeper
   pub operator : AllCome lines_next IsNextLine (of actor.Operator) lines
 
--- a list of all steps in the order of their stamps
+-- a list of all steps in the order of their moments
 pub record IsInOrder (h : Histories) (steps : List MadeStep) : Type 0 where
-  pub order : StampsDontFall steps
+  pub order : MomentsDontFall steps
   pub of : (who : Actor) → filter (is_by who) steps ≡ h.of who

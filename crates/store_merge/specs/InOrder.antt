@@ -1,4 +1,4 @@
--- The steps of all actors in the order of their stamps, and by actor where two stamps are equal.
+-- The steps of all actors in the order of their moments, and by actor where two moments are equal.
 use Rattle.std.specs.Prelude.{nat_lt, List, [], ◌∷◌, ◌++◌, length, if◌then◌else◌}
 use Rattle.std.specs.List.{range_with_len, flat_map}
 use Rattle.store_map.specs.declared.script.Script.{Script}
@@ -9,15 +9,15 @@ use Rattle.store_merge.specs.MadeSteps.{MadeStep}
 use Rattle.store_merge.specs.Histories.{Histories, StandTwice, GoOn, IsInOrder}
 use Rattle.store_merge.specs.Merging.{EndAs, run_of_steps}
 
--- the list with one step more, before those with an equal or a later stamp
+-- the list with one step more, before those with an equal or a later moment
 abbrev pub put_in : MadeStep → List MadeStep → List MadeStep
 put_in m [] = m ∷ []
-put_in m (other ∷ more) = if nat_lt other.stamp m.stamp then other ∷ put_in m more else m ∷ other ∷ more
+put_in m (other ∷ more) = if nat_lt other.moment m.moment then other ∷ put_in m more else m ∷ other ∷ more
 
--- sorted by stamp; of two with one stamp the earlier of the list comes first
-abbrev pub by_stamp : List MadeStep → List MadeStep
-by_stamp [] = []
-by_stamp (m ∷ more) = put_in m (by_stamp more)
+-- sorted by moment; of two with one moment the earlier of the list comes first
+abbrev pub by_moment : List MadeStep → List MadeStep
+by_moment [] = []
+by_moment (m ∷ more) = put_in m (by_moment more)
 
 -- clients, repairers, sweeper, operator
 abbrev pub actor_by_actor : Script → Histories → List MadeStep
@@ -26,9 +26,9 @@ actor_by_actor script h =
     ++ (flat_map (λ i. h.of (actor.Repairer i)) (range_with_len 0 (length script.repairers)) ++ (h.of actor.Sweeper ++ h.of actor.Operator))
 
 abbrev pub in_order : Script → Histories → List MadeStep
-in_order script h = by_stamp (actor_by_actor script h)
+in_order script h = by_moment (actor_by_actor script h)
 
--- the steps in the order of their stamps, and by actor where two are equal, are a run of the core
+-- the steps in the order of their moments, and by actor where two are equal, are a run of the core
 abbrev pub MergesInOrder : Type 0
 MergesInOrder =
     (script : Script) (lines : List Token) (h : Histories) → StandTwice h → GoOn script lines (first_core script) h.at h.of →

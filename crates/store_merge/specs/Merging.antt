@@ -1,4 +1,4 @@
--- The law of merging: steps that were made apart, at places and by actors, are a run of the core when they are put in the order of their stamps.
+-- The law of merging: steps that were made apart, at places and by actors, are a run of the core when they are put in the order of their moments.
 use Rattle.std.specs.Prelude.{◌≡◌, ℕ, List, map, Option, None, Some, option_map}
 use Rattle.std.specs.List.{slice_get}
 use Rattle.store_map.specs.declared.script.Script.{Script}
@@ -35,7 +35,7 @@ pub record EndAs (script : Script) (core : Core) (at : Place → List MadeStep) 
 abbrev pub run_of_steps : Script → List MadeStep → Core
 run_of_steps script steps = run_core script (map (λ (m : MadeStep). m.shortage) steps) (map token_of steps)
 
--- the law: whatever list has all steps in the order of their stamps, it is a run of the core
+-- the law: whatever list has all steps in the order of their moments, it is a run of the core
 abbrev pub Merges : Type 0
 Merges =
     (script : Script) (lines : List Token) (h : Histories) (steps : List MadeStep) → StandTwice h → GoOn script lines (first_core script) h.at h.of →

@@ -1,4 +1,4 @@
--- A small run by stamps at several places: one client puts an object, while another reads it as soon as it is committed.
+-- A small run by moments at several places: one client puts an object, while another reads it as soon as it is committed.
 use Rattle.std.specs.Prelude.{ℕ, ◌+◌, List, [], ◌∷◌, None, codes}
 use Rattle.store_map.specs.declared.script.Script.{Script}
 use Rattle.store_map.specs.declared.call.Call.TheVariants as call
@@ -24,7 +24,7 @@ put_get =
 
 -- a step of a client
 abbrev pub client_step : ℕ → Act → Told → ℕ → MadeStep
-client_step client act answer stamp = record { actor = actor.Client client; number = 0; shortage = no_shortage; act = act; answer = answer; stamp = stamp }
+client_step client act answer moment = record { actor = actor.Client client; number = 0; shortage = no_shortage; act = act; answer = answer; moment = moment }
 
 -- how all servers took the version
 abbrev pub row : List Placement
@@ -46,7 +46,7 @@ commits = client_step 0 (Act.AtDirectory (DirectoryStep.Commit (row ∷ []))) (T
 abbrev pub settles : ℕ → MadeStep
 settles server = client_step 0 (Act.AtServer server (ServerStep.Settle 0)) Told.Settled (8 + server)
 
--- those of the get, each of which has the stamp of a settle at another place
+-- those of the get, each of which has the moment of a settle at another place
 abbrev pub get_looks : MadeStep
 get_looks = client_step 1 (Act.AtDirectory (DirectoryStep.Look (note_of (call.Get (codes "a"))))) (Told.Pinned 1 8 (record { stripe = 0; version = 0; placed = row } ∷ [])) 8
 

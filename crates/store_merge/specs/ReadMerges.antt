@@ -17,7 +17,7 @@ read_at Place.Directory = put_looks ∷ put_draws ∷ commits ∷ get_looks ∷ 
 read_at (Place.Server j) =
     list_at ((prepares 0 ∷ settles 0 ∷ fetches 0 ∷ []) ∷ (prepares 1 ∷ settles 1 ∷ fetches 1 ∷ []) ∷ (prepares 2 ∷ settles 2 ∷ []) ∷ (prepares 3 ∷ settles 3 ∷ []) ∷ []) j
 
--- all steps by stamp, and by client where two stamps are equal
+-- all steps by moment, and by client where two moments are equal
 abbrev pub merged_steps : List MadeStep
 merged_steps =
     put_looks ∷ put_draws ∷ prepares 0 ∷ prepares 1 ∷ prepares 2 ∷ prepares 3 ∷ commits

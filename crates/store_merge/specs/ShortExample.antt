@@ -1,4 +1,4 @@
--- A small run by stamps with want of memory: a client's put finds none for its coding, while another client asks for the object.
+-- A small run by moments with want of memory: a client's put finds none for its coding, while another client asks for the object.
 use Rattle.std.specs.Prelude.{◌≡◌, ℕ, true, false, List, [], ◌∷◌, None, codes}
 use Rattle.store_map.specs.declared.script.Script.{Script}
 use Rattle.store_map.specs.declared.call.Call.{Call}
@@ -34,7 +34,7 @@ short_put =
 
 -- a step of the put
 abbrev pub put_step : Shortage → DirectoryStep → Told → ℕ → MadeStep
-put_step shortage step answer stamp = record { actor = actor.Client 0; number = 0; shortage = shortage; act = Act.AtDirectory step; answer = answer; stamp = stamp }
+put_step shortage step answer moment = record { actor = actor.Client 0; number = 0; shortage = shortage; act = Act.AtDirectory step; answer = answer; moment = moment }
 
 abbrev pub looks : MadeStep
 looks = put_step no_shortage (DirectoryStep.Look (note_of the_put)) (Told.Ready None 0 []) 1
@@ -44,7 +44,7 @@ draws = put_step no_shortage DirectoryStep.Draw (Told.Versions (0 ∷ [])) 2
 
 -- the other client's step
 abbrev pub asks : MadeStep
-asks = record { actor = actor.Client 1; number = 0; shortage = no_shortage; act = Act.AtDirectory (DirectoryStep.Look (note_of (call.Stat (codes "a")))); answer = Told.Answer 0 reply.NoSuch; stamp = 3 }
+asks = record { actor = actor.Client 1; number = 0; shortage = no_shortage; act = Act.AtDirectory (DirectoryStep.Look (note_of (call.Stat (codes "a")))); answer = Told.Answer 0 reply.NoSuch; moment = 3 }
 
 -- the put ends its pass in place of a prepare
 abbrev pub gives_up : MadeStep
@@ -61,7 +61,7 @@ abbrev pub short_at : Place → List MadeStep
 short_at Place.Directory = looks ∷ draws ∷ asks ∷ gives_up ∷ []
 short_at (Place.Server j) = []
 
--- the lists go on from the first core, and the run by stamps ends with no pass
+-- the lists go on from the first core, and the run by moments ends with no pass
 pub record ShortMerges : Type 0 where
   pub go : GoOn short_put [] (first_core short_put) short_at short_of
   pub order : in_order short_put (record { at = short_at; of = short_of }) ≡ looks ∷ draws ∷ asks ∷ gives_up ∷ []

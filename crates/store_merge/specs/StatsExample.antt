@@ -1,4 +1,4 @@
--- A small run by stamps: two clients each ask for an object, while the operator empties a server.
+-- A small run by moments: two clients each ask for an object, while the operator empties a server.
 use Rattle.std.specs.Prelude.{◌≡◌, ℕ, List, [], ◌∷◌, None, map, unwrap_or, codes}
 use Rattle.std.specs.List.{slice_get}
 use Rattle.store_map.specs.declared.script.Script.{Script}
@@ -33,14 +33,14 @@ two_stats =
 
 -- the steps of the clients
 abbrev pub first_stat : MadeStep
-first_stat = record { actor = actor.Client 0; number = 0; shortage = no_shortage; act = Act.AtDirectory (DirectoryStep.Look (note_of (call.Stat (codes "a")))); answer = Told.Answer 0 reply.NoSuch; stamp = 1 }
+first_stat = record { actor = actor.Client 0; number = 0; shortage = no_shortage; act = Act.AtDirectory (DirectoryStep.Look (note_of (call.Stat (codes "a")))); answer = Told.Answer 0 reply.NoSuch; moment = 1 }
 
 abbrev pub second_stat : MadeStep
-second_stat = record { actor = actor.Client 1; number = 0; shortage = no_shortage; act = Act.AtDirectory (DirectoryStep.Look (note_of (call.Stat (codes "b")))); answer = Told.Answer 1 reply.NoSuch; stamp = 2 }
+second_stat = record { actor = actor.Client 1; number = 0; shortage = no_shortage; act = Act.AtDirectory (DirectoryStep.Look (note_of (call.Stat (codes "b")))); answer = Told.Answer 1 reply.NoSuch; moment = 2 }
 
--- that of the operator has the same stamp as the first, at another place
+-- that of the operator has the same moment as the first, at another place
 abbrev pub the_wipe : MadeStep
-the_wipe = record { actor = actor.Operator; number = 0; shortage = no_shortage; act = Act.AtServer 1 ServerStep.Wipe; answer = Told.Made; stamp = 1 }
+the_wipe = record { actor = actor.Operator; number = 0; shortage = no_shortage; act = Act.AtServer 1 ServerStep.Wipe; answer = Told.Made; moment = 1 }
 
 -- the list with a number, or none
 abbrev pub list_at : List (List MadeStep) → ℕ → List MadeStep

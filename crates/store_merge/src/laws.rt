@@ -9,8 +9,8 @@ ghost use Rattle.store_merge.specs.StatsExample.{StatsMerge};
 ghost use Rattle.store_merge.specs.ShortExample.{ShortMerges};
 ghost use Rattle.store_merge.specs.ReadMerges.{ReadMerges};
 
-/// Steps that were made apart are a run of the core: in any order in which stamps don't fall, and so
-/// in that of their stamps, and of their actors where two stamps are equal.
+/// Steps that were made apart are a run of the core: in any order in which moments don't fall, and so
+/// in that of their moments, and of their actors where two moments are equal.
 pub fn steps_merge()
     ensures any { Merges }
     ensures sorted { MergesInOrder }
@@ -21,7 +21,7 @@ pub fn threaded_runs_are_shown()
     ensures { ShowsThreadedRuns }
 {}
 
-/// An actor's own steps at all places, by stamp, are a list that a later step only makes longer.
+/// An actor's own steps at all places, by moment, are a list that a later step only makes longer.
 pub fn actors_keep_lists()
     ensures { ActorsKeepLists }
 {}
@@ -33,7 +33,7 @@ pub fn servers_count_takes()
     ensures calls { CallsCountTakes }
 {}
 
-/// Small runs by stamps, computed.
+/// Small runs by moments, computed.
 pub fn small_runs_merge()
     ensures stats { StatsMerge }
     ensures short { ShortMerges }

@@ -11,3 +11,6 @@ pub mod Beginnings
 pub mod Lookings
 pub mod StampSteps
 pub mod Opened
+pub mod Agreeing
+pub mod ShownRows
+pub mod TicketDraws

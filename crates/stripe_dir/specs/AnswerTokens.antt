@@ -15,34 +15,34 @@ use Rattle.stripe_dir.specs.declared.answers.Confirmed.{Confirmed}
 use Rattle.stripe_dir.specs.declared.answers.Confirmed.TheVariants as confirmed
 
 -- the token after a client's look
-abbrev pub token_look : Look → ActorToken
+abbrev pub token_look : Look Seat HeldPass → ActorToken
 token_look (look.Answer seat point reply) = ActorToken.Seated seat
 token_look (look.Pinned pass point length stripes) = ActorToken.InCall pass
 token_look (look.Ready pass base length stripes) = ActorToken.InCall pass
 
 -- after a repairer's look
-abbrev pub token_repair_look : RepairLook → ActorToken
+abbrev pub token_repair_look : RepairLook Seat HeldPass → ActorToken
 token_repair_look (repair.NoSuch seat) = ActorToken.Seated seat
 token_repair_look (repair.Pinned pass seen) = ActorToken.InCall pass
 
 -- after a draw
-abbrev pub token_drawn : Drawn → ActorToken
+abbrev pub token_drawn : Drawn Seat HeldPass → ActorToken
 token_drawn (drawn.Versions pass stamps) = ActorToken.InCall pass
 token_drawn (drawn.Reaped seat at) = ActorToken.Seated seat
 
 -- after a commit
-abbrev pub token_committed : Committed → ActorToken
+abbrev pub token_committed : Committed Seat → ActorToken
 token_committed (committed.Done seat point) = ActorToken.Seated seat
 token_committed (committed.Changed seat base newer) = ActorToken.Seated seat
 token_committed (committed.Reaped seat at) = ActorToken.Seated seat
 
 -- after the end of a pass
-abbrev pub token_ended : Ended → ActorToken
+abbrev pub token_ended : Ended Seat → ActorToken
 token_ended (ended.Ended seat) = ActorToken.Seated seat
 token_ended (ended.Reaped seat at) = ActorToken.Seated seat
 
 -- after a confirmation
-abbrev pub token_confirmed : Confirmed → ActorToken
+abbrev pub token_confirmed : Confirmed Seat HeldPass → ActorToken
 token_confirmed (confirmed.Current pass) = ActorToken.InCall pass
 token_confirmed (confirmed.Superseded seat newer) = ActorToken.Seated seat
 token_confirmed (confirmed.Reaped seat at) = ActorToken.Seated seat

@@ -21,34 +21,34 @@ abbrev pub seen_in : Seen → CoreSeen
 seen_in seen = record { stripe = seen.stripe; version = seen.stamp.version; placed = seen.placed.items }
 
 -- what a client's look tells
-abbrev pub told_look : Look → Told
+abbrev pub told_look : {S P : Type 0} → Look S P → Told
 told_look (look.Answer seat point reply) = Told.Answer point.0 reply
 told_look (look.Pinned pass point length stripes) = Told.Pinned point.0 length (map seen_in stripes.items)
 told_look (look.Ready pass base length stripes) = Told.Ready (option_map (λ point. point.0) base) length (map seen_in stripes.items)
 
 -- what a repairer's look tells
-abbrev pub told_repair_look : RepairLook → Told
+abbrev pub told_repair_look : {S P : Type 0} → RepairLook S P → Told
 told_repair_look (repair.NoSuch seat) = Told.NoSuch
 told_repair_look (repair.Pinned pass seen) = Told.PinnedStripe (seen_in seen)
 
 -- what a draw tells
-abbrev pub told_drawn : Drawn → Told
+abbrev pub told_drawn : {S P : Type 0} → Drawn S P → Told
 told_drawn (drawn.Versions pass stamps) = Told.Versions (map (λ stamp. stamp.version) stamps.items)
 told_drawn (drawn.Reaped seat at) = Told.Reaped at.0
 
 -- what a commit tells
-abbrev pub told_committed : Committed → Told
+abbrev pub told_committed : {S : Type 0} → Committed S → Told
 told_committed (committed.Done seat point) = Told.Done point.0
 told_committed (committed.Changed seat base newer) = Told.Changed base.0 newer.0
 told_committed (committed.Reaped seat at) = Told.Reaped at.0
 
 -- what the end of a pass tells
-abbrev pub told_ended : Ended → Told
+abbrev pub told_ended : {S : Type 0} → Ended S → Told
 told_ended (ended.Ended seat) = Told.Ended
 told_ended (ended.Reaped seat at) = Told.Reaped at.0
 
 -- what a confirmation tells
-abbrev pub told_confirmed : Confirmed → Told
+abbrev pub told_confirmed : {S P : Type 0} → Confirmed S P → Told
 told_confirmed (confirmed.Current pass) = Told.Current
 told_confirmed (confirmed.Superseded seat newer) = Told.Superseded newer.0
 told_confirmed (confirmed.Reaped seat at) = Told.Reaped at.0

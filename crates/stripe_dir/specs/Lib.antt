@@ -11,3 +11,5 @@ pub mod Sealed
 pub mod ItsStripes
 pub mod Stamped
 pub mod StampLaws
+pub mod Shown
+pub mod TicketView

@@ -1,3 +1,6 @@
+//! The directory's answers. Each gives the seat or the pass that its actor has then, or, where a
+//! [`Ticket`](crate::Ticket) keeps it, `()` in its place.
+
 use crate::tokens::{Pass, Seat};
 use store_map::{Placement, Point, Reply};
 use version_seal::Stamp;
@@ -11,23 +14,25 @@ pub struct Seen {
 }
 
 /// What a client's look comes to.
-pub enum Look {
+#[derive(Drop)]
+pub enum Look<S = Seat, P = Pass> {
     /// The call is over.
     Answer {
-        seat: Seat,
+        seat: S,
         point: Point,
         reply: Reply,
     },
-    /// A get or a read goes on: these stripes meet the range, rising.
+    /// A get or a read goes on: these stripes meet the range, rising. The length is the object's, in
+    /// bytes.
     Pinned {
-        pass: Pass,
+        pass: P,
         point: Point,
         length: u64,
         stripes: Vec<Seen>,
     },
     /// A put or a write goes on: these stripes are partly covered, rising.
     Ready {
-        pass: Pass,
+        pass: P,
         base: Option<Point>,
         length: u64,
         stripes: Vec<Seen>,
@@ -35,43 +40,40 @@ pub enum Look {
 }
 
 /// What a repairer's look comes to.
-pub enum RepairLook {
-    NoSuch { seat: Seat },
-    Pinned { pass: Pass, seen: Seen },
+#[derive(Drop)]
+pub enum RepairLook<S = Seat, P = Pass> {
+    NoSuch { seat: S },
+    Pinned { pass: P, seen: Seen },
 }
 
 /// What was drawn.
-pub enum Drawn {
-    Versions { pass: Pass, stamps: Vec<Stamp> },
-    Reaped { seat: Seat, at: Point },
+#[derive(Drop)]
+pub enum Drawn<S = Seat, P = Pass> {
+    /// A stamp for each stripe that the call touches, rising.
+    Versions { pass: P, stamps: Vec<Stamp> },
+    Reaped { seat: S, at: Point },
 }
 
 /// What a commit comes to.
-pub enum Committed {
-    Done {
-        seat: Seat,
-        point: Point,
-    },
-    Changed {
-        seat: Seat,
-        base: Point,
-        newer: Point,
-    },
-    Reaped {
-        seat: Seat,
-        at: Point,
-    },
+#[derive(Drop)]
+pub enum Committed<S = Seat> {
+    Done { seat: S, point: Point },
+    /// The object was changed since the look.
+    Changed { seat: S, base: Point, newer: Point },
+    Reaped { seat: S, at: Point },
 }
 
 /// How a pass that was given up ended.
-pub enum Ended {
-    Ended { seat: Seat },
-    Reaped { seat: Seat, at: Point },
+#[derive(Drop)]
+pub enum Ended<S = Seat> {
+    Ended { seat: S },
+    Reaped { seat: S, at: Point },
 }
 
 /// Whether the pinned version is current still.
-pub enum Confirmed {
-    Current { pass: Pass },
-    Superseded { seat: Seat, newer: Point },
-    Reaped { seat: Seat, at: Point },
+#[derive(Drop)]
+pub enum Confirmed<S = Seat, P = Pass> {
+    Current { pass: P },
+    Superseded { seat: S, newer: Point },
+    Reaped { seat: S, at: Point },
 }

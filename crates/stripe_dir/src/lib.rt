@@ -2,6 +2,7 @@
 #![tactic(auto)]
 
 mod answers;
+mod apart;
 mod client_looks;
 mod committing;
 mod directory;
@@ -17,8 +18,12 @@ mod sealing;
 mod steps;
 mod stripes;
 mod sweeping;
+mod ticket;
+mod ticket_looks;
+mod ticket_steps;
 mod tokens;
 
 pub use answers::{Committed, Confirmed, Drawn, Ended, Look, RepairLook, Seen};
 pub use directory::Directory;
+pub use ticket::Ticket;
 pub use tokens::{Pass, Seat};

@@ -1,5 +1,6 @@
 ghost use Rattle.std.specs.Prelude.{◌≡◌, ◌+◌, ◌≤◌, ◌<◌, ◌++◌, [], vec_len, vec_capacity, map, length, option_map, slice_get, nat_lt, IfOk};
 ghost use Rattle.std.specs.List.{range_with_len};
+ghost use Rattle.clay_grid.specs.Shape.{stripe_length};
 ghost use Rattle.dir_parts.specs.Book.{told_of};
 ghost use Rattle.dir_parts.specs.Parts.{object_of};
 ghost use Rattle.store_core.specs.Directory.{new_directory};
@@ -129,6 +130,7 @@ impl Directory {
 
     /// What every directory keeps. It does nothing when it runs.
     pub fn keeps(&self)
+        ensures bytes { 0 < stripe_length self.now.core.shape }
         ensures whole { IsWhole self.now.core }
         ensures stamps { HasStamps self.now }
     {

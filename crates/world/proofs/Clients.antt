@@ -19,8 +19,8 @@ use Rattle.world_steps.specs.World.{DoingOf, ActorOf, WorldOf, steps_of, with_cl
 use Rattle.world_steps.specs.Known.{calling_by, calling_of}
 use Rattle.world_steps.specs.Tokens.{KeepsToken}
 use Rattle.world_steps.proofs.TurnLaws.{clients_make_turns}
-use Rattle.world_runs.specs.Goes.{Leads}
-use Rattle.world_runs.proofs.Few.{has_left, worlds_make_few_steps}
+use Rattle.world_steps.specs.Goes.{Leads}
+use Rattle.world_steps.proofs.Few.{has_left, worlds_make_few_steps}
 use Rattle.actors.specs.Turns.{AreServers, places_of}
 use Rattle.actors.specs.Turned.{Leads as ActorLeads, with_places}
 use Rattle.actors.specs.LeadLaws.{AllTurnsLead}

@@ -18,7 +18,7 @@ use Rattle.actors.specs.Clients.{ClientOf}
 use Rattle.actors.specs.Repairers.{RepairOf}
 use Rattle.world_owes.specs.ServeLaws.{HasCalls}
 use Rattle.world_owes.proofs.Serving.{served_is_owed}
-use Rattle.served_points.proofs.WorldPins.{worlds_serve_at_pins}
+use Rattle.world_owes.proofs.WorldPins.{worlds_serve_at_pins}
 use Rattle.world.specs.Ending.{IsCallsOf, AreCallsOf, IsRepairsOf, AreRepairsOf}
 use Rattle.world.specs.Stored.{StoredWorld, world_of}
 use Rattle.world.specs.Kept.{IsWorld}

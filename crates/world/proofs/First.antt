@@ -24,8 +24,8 @@ use Rattle.world_steps.specs.World.{ActorOf}
 use Rattle.world_steps.specs.FirstWorld.{IsFirstWorld, IsNew, new_actor}
 use Rattle.world_steps.specs.Tokens.{TokensAgree, first_token}
 use Rattle.world_steps.proofs.Agreed.{first_tokens_agree}
-use Rattle.world_runs.specs.Goes.{IsReachedBy}
-use Rattle.world_runs.proofs.Goes.{worlds_go_on}
+use Rattle.world_steps.specs.Goes.{IsReachedBy}
+use Rattle.world_steps.proofs.Goes.{worlds_go_on}
 use Rattle.actors.specs.Turns.{AreServers}
 use Rattle.actors.specs.Clients.{ClientOf, Knows}
 use Rattle.actors.specs.Repairers.{RepairOf}

@@ -9,8 +9,8 @@ use Rattle.stripe_dir.specs.Sealed.{Sealed}
 use Rattle.sweeper.specs.Sweeps.{SweeperOf}
 use Rattle.world_steps.specs.World.{WorldOf}
 use Rattle.world_steps.specs.Tokens.{TokensAgree}
-use Rattle.world_runs.specs.Goes.{Leads}
-use Rattle.world_runs.proofs.Goes.{worlds_go_on}
+use Rattle.world_steps.specs.Goes.{Leads}
+use Rattle.world_steps.proofs.Goes.{worlds_go_on}
 use Rattle.actors.specs.Turns.{AreServers}
 use Rattle.actors.specs.Clients.{ClientOf}
 use Rattle.actors.specs.Repairers.{RepairOf}

@@ -30,7 +30,7 @@ use Rattle.world_steps.specs.WayLaws.{IsPlace}
 use Rattle.world_steps.proofs.Agreed.{worlds_stay_agreed}
 use Rattle.world_steps.proofs.PlaceLaws.{sweeper_makes_turns}
 use Rattle.world_steps.proofs.Runs.{runs_reach}
-use Rattle.world_runs.specs.Goes.{Leads}
+use Rattle.world_steps.specs.Goes.{Leads}
 use Rattle.world_owes.specs.ServeLaws.{HasMorePoints}
 use Rattle.world_owes.proofs.Grow.{histories_grow}
 use Rattle.world.specs.Stored.{StoredWorld, world_of}

@@ -11,7 +11,7 @@ use Rattle.store_answers.proofs.Plays.{runs_are_played}
 use Rattle.world_steps.specs.World.{WorldOf}
 use Rattle.world_steps.specs.Known.{core_of}
 use Rattle.world_steps.proofs.Shows.{worlds_show}
-use Rattle.world_runs.specs.Goes.{IsReachedBy, GoesBy, IsReachedAfter}
+use Rattle.world_steps.specs.Goes.{IsReachedBy, GoesBy, IsReachedAfter}
 
 module _ (script : Script) where
   -- one token more

@@ -14,7 +14,7 @@ use Rattle.world_steps.specs.World.{WorldOf}
 use Rattle.world_steps.specs.Known.{calling_of, core_of}
 use Rattle.world_steps.specs.RoundLaws.{client_turns, repairer_turns, sweep_turn}
 use Rattle.world_steps.proofs.Rounds.{rounds_are_rounds}
-use Rattle.world_runs.specs.Goes.{Leads}
+use Rattle.world_steps.specs.Goes.{Leads}
 use Rattle.actors.specs.Clients.{ClientOf, work_of}
 use Rattle.actors.specs.Repairers.{RepairOf, rebuild_work_of}
 use Rattle.world.specs.Stored.{StoredWorld, world_of}

@@ -8,7 +8,7 @@ use Rattle.store_map.specs.declared.script.Script.{Script}
 use Rattle.version_seal.specs.Entry.{BookOf}
 use Rattle.stripe_dir.specs.Sealed.{Sealed}
 use Rattle.world_steps.specs.Tokens.{TokensAgree}
-use Rattle.world_runs.specs.Goes.{IsReached}
+use Rattle.world_steps.specs.Goes.{IsReached}
 use Rattle.actors.specs.Turns.{AreServers}
 use Rattle.actors.specs.Clients.{ClientOf, Knows}
 use Rattle.actors.specs.Repairers.{RepairOf}

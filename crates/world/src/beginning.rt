@@ -5,7 +5,7 @@ ghost use Rattle.clay_grid.specs.Limits.{IsGeometry};
 ghost use Rattle.store_map.specs.Naming.{IsValid};
 ghost use Rattle.stripe_dir.specs.Seats.{client_seat, repairer_seat};
 ghost use Rattle.chunk_server.specs.State.{empty_server};
-ghost use Rattle.world_runs.specs.Goes.{IsReachedBy};
+ghost use Rattle.world_steps.specs.Goes.{IsReachedBy};
 ghost use Rattle.world.specs.First.{AreFirstClients, AreFirstRepairers, BeginWith, seats_of, first_directory, first_servers};
 ghost use Rattle.world.specs.Stored.{world_of};
 

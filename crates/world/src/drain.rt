@@ -5,7 +5,7 @@ ghost use Rattle.store_map.specs.declared.actor.Token.{Token};
 ghost use Rattle.store_core.specs.Schedule.{is_unfinished, round};
 ghost use Rattle.world_steps.specs.Known.{core_of};
 ghost use Rattle.world_steps.specs.RoundLaws.{client_turns, repairer_turns};
-ghost use Rattle.world_runs.specs.Goes.{Leads, GoesBy};
+ghost use Rattle.world_steps.specs.Goes.{Leads, GoesBy};
 ghost use Rattle.world.specs.Having.{some_client_has, some_repairer_has, AreOfCode, RepairsAreOfCode};
 ghost use Rattle.world.specs.Stored.{world_of};
 

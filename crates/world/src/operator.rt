@@ -3,7 +3,7 @@ ghost use Rattle.std.specs.Prelude.{◌≡◌, ◌<◌};
 ghost use Rattle.clay_grid.specs.Shape.{chunk_count};
 ghost use Rattle.store_map.specs.declared.actor.Token.{Token};
 ghost use Rattle.store_core.specs.Schedule.{step_core};
-ghost use Rattle.world_runs.specs.Goes.{Leads};
+ghost use Rattle.world_steps.specs.Goes.{Leads};
 ghost use Rattle.world.specs.Stored.{world_of};
 
 use crate::world::World;

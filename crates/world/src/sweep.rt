@@ -3,7 +3,7 @@ ghost use Rattle.std.specs.Prelude.{◌≡◌};
 ghost use Rattle.store_core.specs.Core.{sweeper_has_step};
 ghost use Rattle.store_core.specs.Run.{sweeper_step};
 ghost use Rattle.world_steps.specs.Known.{core_of};
-ghost use Rattle.world_runs.specs.Goes.{Leads};
+ghost use Rattle.world_steps.specs.Goes.{Leads};
 ghost use Rattle.world.specs.Stored.{world_of};
 
 use crate::world::World;

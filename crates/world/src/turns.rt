@@ -4,7 +4,7 @@ ghost use Rattle.store_map.specs.declared.script.Script.{Script};
 ghost use Rattle.store_core.specs.Run.{client_step, repairer_step};
 ghost use Rattle.store_core.specs.Work.{has_step};
 ghost use Rattle.world_steps.specs.Known.{calling_of};
-ghost use Rattle.world_runs.specs.Goes.{Leads};
+ghost use Rattle.world_steps.specs.Goes.{Leads};
 ghost use Rattle.actors.specs.Clients.{ClientOf, work_of};
 ghost use Rattle.actors.specs.Repairers.{RepairOf, rebuild_work_of};
 ghost use Rattle.world.specs.Stored.{world_of};

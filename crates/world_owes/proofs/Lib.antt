@@ -1,7 +1,5 @@
-pub mod Moves
 pub mod Looked
 pub mod Grow
-pub mod Acts
 pub mod Lists
 pub mod Opening
 pub mod Steps
@@ -10,3 +8,4 @@ pub mod Made
 pub mod Ready
 pub mod Turns
 pub mod Serving
+pub mod WorldPins

@@ -1,9 +1,5 @@
 -- Lists that stand side by side, with one more entry on each.
-use Rattle.std.proofs.Common.{◌≡◌, ◌⊎◌, ℕ, zero, suc, List, [], ◌∷◌, ◌++◌, ◌+◌, length, map, take, drop, get_or, slice_get, None, Some, is_some, unwrap_or, option_map, refl, sym, ap, inl, inr, arith, true≢false, ◌-◌}
-use Rattle.store_core.specs.Gathering.{Part}
-use Rattle.version_seal.specs.Entry.{StampOf}
-use Rattle.store_reads.specs.ReadLaws.{bytes_read}
-use Rattle.client_read.specs.Owed.{content_of, contents_of}
+use Rattle.std.proofs.Common.{◌≡◌, ◌⊎◌, ℕ, zero, suc, List, [], ◌∷◌, ◌++◌, length, slice_get, None, Some, is_some, unwrap_or, option_map, refl, sym, ap, inl, inr, arith, true≢false}
 
 pub none_some : {A : Type 0} (x : A) → None ≡ Some x → ⊥
 none_some x e = absurd (true≢false (sym (ap is_some e)))
@@ -26,16 +22,3 @@ module _ {A : Type 0} {B : Type 0} {C : Type 0} (f : A → B) (x : A) (y : C) (b
           → ((option_map f (slice_get xs n) ≡ Some b) × (slice_get ys n ≡ Some c)) ⊎ ((suc n ≡ suc (length xs)) × (f x ≡ b) × (y ≡ c))
       by (inl h) = inl h
       by (inr h) = inr (ap suc h.0, h.1, h.2)
-
--- ---- the stamps' contents
-content_at : (stamps : List StampOf) (v : ℕ) → content_of (slice_get stamps v) ≡ get_or (map (λ (stamp : StampOf). stamp.content) stamps) v []
-content_at [] v = refl
-content_at (stamp ∷ stamps) zero = refl
-content_at (stamp ∷ stamps) (suc v) = content_at stamps v
-
-pub contents_read : (stamps : List StampOf) (parts : List Part) → contents_of stamps parts ≡ bytes_read (map (λ (stamp : StampOf). stamp.content) stamps) parts
-contents_read stamps [] = refl
-contents_read stamps (part ∷ parts) = λ i. bytes_of part (content_at stamps part.seen.version i) ++ contents_read stamps parts i
-  where
-    bytes_of : Part → List ℕ → List ℕ
-    bytes_of p content = take (p.end - p.start) (drop p.start content)

@@ -1,5 +1,5 @@
 -- A look that pins stripes leaves its call with the bytes that the map replies there.
-use Rattle.std.proofs.Common.{◌≡◌, ℕ, ◌<◌, ◌+◌, Bool, List, [], ◌∷◌, ◌++◌, length, map, take, Some, MatchOption, append-nil, refl, sym, ap, subst, ◌∙◌, arith}
+use Rattle.std.proofs.Common.{◌≡◌, ℕ, ◌<◌, ◌+◌, Bool, List, [], ◌∷◌, ◌++◌, length, take, Some, MatchOption, append-nil, refl, sym, ap, subst, ◌∙◌, arith}
 use Rattle.std.proofs.lemmas.List.{take_at, length_push}
 use Rattle.clay_grid.specs.Shape.{Shape}
 use Rattle.store_map.specs.declared.actor.Actor.{Actor}
@@ -31,9 +31,10 @@ use Rattle.client_read.specs.Owed.{contents_of, owed_after_look, owed_by as read
 use Rattle.client_call.specs.Kinds.{Machine, machine_of}
 use Rattle.client_call.specs.Calls.{ClientCallOf, owed_in, owed_by}
 use Rattle.world_owes.specs.Serving.{IsReplyAt, OwesAt}
-use Rattle.world_owes.proofs.Acts.{start_looks}
-use Rattle.world_owes.proofs.Lists.{contents_read}
-use Rattle.world_owes.proofs.Steps.{IsOfMap, Opens, IsReady}
+use Rattle.call_owes.proofs.Acts.{start_looks}
+use Rattle.call_owes.proofs.Stamped.{contents_read}
+use Rattle.world_owes.specs.OfMap.{IsOfMap}
+use Rattle.world_owes.proofs.Steps.{Opens, IsReady}
 
 module _ (script : Script) (d : Sealed) (of : IsOfMap script d) (i number : ℕ) (r : CallOf) (before last : ClientCallOf) (ready : IsReady script d.core i number r before) (opens : Opens script d.core i r)
     (reads : machine_of before.written ≡ Machine.Reads) (reading : IsReading r.job.note.kind) (short : Bool) where

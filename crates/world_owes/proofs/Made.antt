@@ -1,11 +1,11 @@
 -- A step of a client's call at the directory or at a server leaves it with what its look has pinned.
-use Rattle.std.proofs.Common.{◌≡◌, ◌⊎◌, ℕ, Bool, true, false, List, Some, refl, sym, ap, subst, ◌∙◌, inl, inr, true≢false}
+use Rattle.std.proofs.Common.{◌≡◌, ◌⊎◌, ℕ, Bool, false, List, Some, refl, sym, ap, subst, ◌∙◌, inl, inr, true≢false}
 use Rattle.store_map.specs.declared.script.Script.{Script}
 use Rattle.store_core.specs.Act.{Act, DirectoryStep, ServerStep}
 use Rattle.store_core.specs.AtDirectory.{at_directory}
 use Rattle.store_core.specs.Directory.{Directory}
 use Rattle.store_core.specs.NextAct.{Job}
-use Rattle.store_core.specs.Server.{Server, at_server}
+use Rattle.store_core.specs.Server.{at_server}
 use Rattle.store_core.specs.Told.{Told, Seen}
 use Rattle.store_core.specs.Tokens.{actor_of}
 use Rattle.store_reads.specs.PinLaws.{IsReading}
@@ -23,18 +23,15 @@ use Rattle.client_call.specs.Kinds.{Machine, machine_of, IfReads}
 use Rattle.client_call.specs.Calls.{ClientCallOf, owed_in, owed_by}
 use Rattle.actors.specs.Turns.{IsMadeAt, IsMadeAtDirectory, IsMadeAtServer, places_of}
 use Rattle.actors.proofs.Owing.{owed_at_server}
-use Rattle.world_owes.specs.Pinned.{HasLooked}
+use Rattle.world_owes.specs.Looked.{HasLooked}
 use Rattle.world_owes.specs.Serving.{OwesAt, OwesItsPins}
 use Rattle.world_owes.specs.ServeLaws.{HasMorePoints}
-use Rattle.world_owes.proofs.Moves.{point_before}
-use Rattle.world_owes.proofs.Acts.{IsLater, start_or_later, looked_by, reads_are_read, asks_server, starts, acts_stay}
-use Rattle.world_owes.proofs.Steps.{IsOfMap, Opens, IsReady, owes_now, owes_later}
+use Rattle.call_owes.proofs.Moves.{point_before}
+use Rattle.call_owes.proofs.Acts.{IsLater, start_or_later, looked_by, reads_are_read, asks_server, starts, acts_stay}
+use Rattle.call_owes.proofs.Owing.{step_in}
+use Rattle.world_owes.specs.OfMap.{IsOfMap}
+use Rattle.world_owes.proofs.Steps.{Opens, IsReady, owes_now, owes_later}
 use Rattle.world_owes.proofs.Looks.{act as look_act, look_owes}
-
--- the step of an act at the directory
-abbrev step_in : Act → DirectoryStep
-step_in (Act.AtDirectory step) = step
-step_in act = DirectoryStep.NextGarbage
 
 module _ (script : Script) (d now : Sealed) (of : IsOfMap script d) (i number : ℕ) (r : CallOf) (before last : ClientCallOf) (ready : IsReady script d.core i number r before) (grown : HasMorePoints d.core.points now.core.points) (next : CallOf)
     (servers others : List ServerState) (short due : Bool) (is_last : last.call ≡ next) (written : last.written ≡ before.written) (goes : last.owed ≡ owed_by short d before) where

@@ -25,13 +25,16 @@ use Rattle.world_steps.specs.ActorAfter.{IsCallBefore}
 use Rattle.world_steps.specs.Tokens.{IsUsedBelow, token_of, AreNumbered}
 use Rattle.actors.specs.Clients.{work_of}
 use Rattle.actors.specs.Owing.{owed_now}
-use Rattle.world_owes.specs.Pinned.{pinned_at, HasLooked}
+use Rattle.call_owes.specs.Pinned.{pinned_at}
+use Rattle.world_owes.specs.Looked.{HasLooked}
 use Rattle.world_owes.specs.Serving.{IsReplyAt, OwesAt, OwesItsPins, IsInWork}
-use Rattle.world_owes.proofs.Looked.{next_looked, short_next}
-use Rattle.world_owes.proofs.Acts.{starts}
+use Rattle.call_owes.proofs.Shorts.{short_next}
+use Rattle.world_owes.proofs.Looked.{next_looked}
+use Rattle.call_owes.proofs.Acts.{starts}
 use Rattle.world_owes.proofs.Lists.{none_some, some_same}
 use Rattle.world_owes.proofs.Opening.{may_open}
-use Rattle.world_owes.proofs.Steps.{Opens, IsReady, if_some, if_reads}
+use Rattle.call_owes.proofs.Owing.{if_some}
+use Rattle.world_owes.proofs.Steps.{Opens, IsReady, if_reads}
 
 -- the call before a coding: it opens without one, or has looked
 pub record IsCalled (script : Script) (d : Directory) (i number : ℕ) (call : CallOf) (written : Call) (owed : List ℕ) : Type 0 where

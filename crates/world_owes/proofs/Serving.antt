@@ -1,9 +1,7 @@
 -- Clients serve what their looks have pinned, from a world's first step to its last.
 use Rattle.std.proofs.Common.{◌≡◌, ℕ, zero, suc, ◌<◌, List, [], ◌∷◌, map, length, slice_get, Option, None, Some, option_map, option_and_then, refl, sym, ap, subst, ◌∙◌}
-use Rattle.clay_grid.specs.Limits.{IsGeometry}
 use Rattle.clay_grid.specs.Shape.{Shape, stripe_length}
 use Rattle.store_map.specs.Limits.{size_of}
-use Rattle.store_map.specs.Naming.{IsValid}
 use Rattle.store_map.specs.declared.reply.Reply.TheVariants as reply
 use Rattle.store_map.specs.declared.script.Script.{Script}
 use Rattle.store_core.specs.Act.{Outcome}
@@ -23,20 +21,18 @@ use Rattle.world_lines.specs.declared.calls.EndedCall.{EndedCall}
 use Rattle.world_lines.specs.Ended.{ended_of}
 use Rattle.world_lines.specs.Served.{outcome_in, served_in, owed_at}
 use Rattle.world_steps.specs.StandsFor.{StandsFor}
-use Rattle.world_steps.specs.World.{WorldOf}
+use Rattle.world_steps.specs.World.{DoingOf}
 use Rattle.world_steps.proofs.Runs.{runs_reach}
-use Rattle.world_runs.specs.Goes.{IsReached}
-use Rattle.stripe_dir.specs.Sealed.{Sealed}
-use Rattle.stripe_dir.specs.Stamped.{HaveContents}
 use Rattle.actors.specs.Clients.{ClientOf}
 use Rattle.actors.specs.Inside.{served_of}
-use Rattle.world_owes.specs.Pinned.{pinned_at}
+use Rattle.call_owes.specs.Pinned.{pinned_at}
 use Rattle.world_owes.specs.Serving.{OwesAt, OwesItsPins, IsInWork, ServesItsPins}
-use Rattle.world_owes.specs.ServeLaws.{HasMorePoints, ClientsGoOnServing, TurnsKeepServing, HasCalls, ServedIsOwed}
+use Rattle.world_owes.specs.ServeLaws.{HasMorePoints, ClientsGoOnServing, HasCalls, ServedIsOwed}
+use Rattle.world_owes.specs.WorldLaws.{WorldsAreOfMap, WorldsKeepServing}
 use Rattle.world_owes.proofs.Lists.{none_some}
-use Rattle.world_owes.proofs.Steps.{IsOfMap, reply_stays, owes_stay, if_some}
-use Rattle.world_owes.proofs.Turns.{turn_serves}
-use Rattle.world_steps.specs.World.{DoingOf}
+use Rattle.call_owes.proofs.Owing.{if_some}
+use Rattle.world_owes.proofs.Steps.{reply_stays, owes_stay}
+use Rattle.world_owes.proofs.Turns.{turns_serve}
 use Rattle.client_call.specs.Calls.{ClientCallOf}
 
 -- ---- first, and as others go on
@@ -80,7 +76,7 @@ bytes_keep script =
       step = law.step;
     }
 
-is_of_map : (script : Script) (w : WorldOf) (d : Sealed) → IsGeometry script.geometry → IsValid script → IsReached script w → w.directory ≡ d.core → HaveContents (call_of script) d → IsOfMap script d
+pub is_of_map : WorldsAreOfMap
 is_of_map script w d geometry valid reached same contents =
     record {
       wide = subst (λ (x : Directory). 0 < stripe_length x.shape) is (subst (λ (g : Shape). 0 < stripe_length g) (sym held.keeps.keeps.shape) (can_run script geometry valid).some);
@@ -103,9 +99,9 @@ is_of_map script w d geometry valid reached same contents =
     is : core.directory ≡ d.core
     is = stands.directory ∙ same
 
-pub turns_keep_serving : TurnsKeepServing
+pub turns_keep_serving : WorldsKeepServing
 turns_keep_serving script w i a after d now servers others geometry valid reached same contents there keeps makes was =
-    turn_serves script i a after d now servers others (is_of_map script w d geometry valid reached same contents) there keeps makes was
+    turns_serve script i a after d now servers others (is_of_map script w d geometry valid reached same contents) there keeps makes was
 
 -- ---- the end
 outcome_there : (servers : ℕ) (ended : List EndedCall) (n : ℕ) → outcome_in (slice_get ended n) ≡ option_map (λ (e : Ended). e.outcome) (slice_get (map (ended_of servers) ended) n)

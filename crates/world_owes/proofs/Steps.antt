@@ -1,7 +1,6 @@
 -- A step of a client's call leaves it with what its look has pinned.
-use Rattle.std.proofs.Common.{◌≡◌, ◌⊎◌, ℕ, ◌<◌, ◌+◌, List, ◌++◌, length, map, Option, None, Some, IfSome, refl, sym, ap, subst, ◌∙◌, inl, inr, arith}
+use Rattle.std.proofs.Common.{◌≡◌, ◌⊎◌, ℕ, ◌<◌, ◌+◌, List, ◌++◌, length, Option, Some, IfSome, refl, sym, ap, subst, ◌∙◌, inl, inr, arith}
 use Rattle.std.proofs.lemmas.List.{take-append-le, length-append}
-use Rattle.clay_grid.specs.Shape.{stripe_length}
 use Rattle.store_map.specs.Limits.{size_of}
 use Rattle.store_map.specs.declared.actor.Actor.TheVariants as actor
 use Rattle.store_map.specs.declared.call.Call.{Call}
@@ -12,33 +11,22 @@ use Rattle.store_core.specs.Directory.{Event, Point, Directory}
 use Rattle.store_core.specs.History.{applied, call_of}
 use Rattle.store_core.specs.NextAct.{Job, job_of}
 use Rattle.store_core.specs.Note.{Kind, note_of}
-use Rattle.store_core.specs.Sound.{IsSound}
 use Rattle.store_core.specs.Told.{Told}
 use Rattle.store_core.specs.Tokens.{actor_of}
 use Rattle.store_lengths.specs.MapAfter.{map_by}
-use Rattle.store_contents.specs.Contents.{HasBytes}
 use Rattle.store_resume.specs.State.{State}
 use Rattle.store_resume.specs.CallLaws.{next_call_from}
-use Rattle.stripe_dir.specs.Sealed.{Sealed}
-use Rattle.stripe_dir.specs.Stamped.{HaveContents}
 use Rattle.call_steps.specs.CallOf.{CallOf, state_told}
 use Rattle.client_call.specs.Kinds.{Machine, machine_of, IfReads}
 use Rattle.client_call.specs.Calls.{ClientCallOf}
-use Rattle.world_owes.specs.Pinned.{pinned_at, HasLooked}
+use Rattle.call_owes.specs.Pinned.{pinned_at}
+use Rattle.call_owes.proofs.Moves.{point_before, next_pins}
+use Rattle.call_owes.proofs.Acts.{IsLater, before_later}
+use Rattle.call_owes.proofs.Owing.{if_some}
+use Rattle.world_owes.specs.Looked.{HasLooked}
 use Rattle.world_owes.specs.Serving.{IsReplyAt, OwesAt, OwesItsPins}
 use Rattle.world_owes.specs.ServeLaws.{HasMorePoints}
-use Rattle.world_owes.proofs.Moves.{point_before, next_pins}
-use Rattle.world_owes.proofs.Looked.{IsRead, next_looked, start_looked}
-use Rattle.world_owes.proofs.Acts.{IsLater, before_later, kinds_read}
-
--- a directory of the script with the bytes of the map, whose stamps have the contents
-pub record IsOfMap (script : Script) (d : Sealed) : Type 0 where
-  pub wide : 0 < stripe_length d.core.shape
-  pub shape : d.core.shape ≡ script.geometry
-  pub most : d.core.max ≡ size_of script
-  pub sound : IsSound d.core
-  pub bytes : HasBytes (call_of script) d.core
-  pub contents : HaveContents (call_of script) d
+use Rattle.world_owes.proofs.Looked.{IsRead, next_looked, start_looked, kinds_read}
 
 -- a call that is about to look, and may
 pub record Opens (script : Script) (d : Directory) (i : ℕ) (c : CallOf) : Type 0 where
@@ -78,10 +66,6 @@ owes_stay script points now i number place c last grown written owed of =
       reads = ap machine_of written ∙ of.reads;
       owed = subst (λ (bytes : List ℕ). IsReplyAt script now i number place bytes) (sym owed) (reply_stays script points now i number place c.owed grown of.owed);
     }
-
-pub if_some : {A : Type 0} (P Q : A → Type 0) (o : Option A) → ((x : A) → P x → o ≡ Some x → Q x) → IfSome o P → IfSome o Q
-if_some P Q None f h = tt
-if_some P Q (Some x) f h = f x h refl
 
 pub if_reads : (m : Machine) (P Q : Type 0) → (m ≡ Machine.Reads → P → Q) → IfReads m P → IfReads m Q
 if_reads Machine.Reads P Q f h = f refl h

@@ -6,8 +6,6 @@ use Rattle.store_map.specs.declared.script.Script.{Script}
 use Rattle.store_core.specs.Act.{Act, Outcome}
 use Rattle.store_core.specs.Directory.{Point}
 use Rattle.store_core.specs.Work.{Ended}
-use Rattle.chunk_server.specs.State.{ServerState}
-use Rattle.stripe_dir.specs.Sealed.{Sealed}
 use Rattle.call_steps.specs.CallOf.{CallOf, act_of}
 use Rattle.call_steps.specs.Steps.{need_of}
 use Rattle.call_stands.specs.Ready.{ready}
@@ -15,19 +13,17 @@ use Rattle.client_call.specs.Kinds.{Machine, machine_of, IfReads}
 use Rattle.client_call.specs.Calls.{ClientCallOf}
 use Rattle.world_steps.specs.World.{ActorOf, DoingOf, steps_of}
 use Rattle.world_steps.specs.ActorAfter.{actor_after_by}
-use Rattle.world_steps.specs.Tokens.{KeepsToken}
 use Rattle.actors.specs.Clients.{ClientOf, work_of}
 use Rattle.actors.specs.Owing.{Owes, AreServed, left_by, owed_now}
-use Rattle.actors.specs.ClientTurns.{MakesClientTurn}
 use Rattle.actors.specs.Turned.{MakesTurn}
 use Rattle.actors.specs.Turns.{places_of}
-use Rattle.world_owes.specs.Pinned.{point_served, pinned_at}
+use Rattle.call_owes.specs.Pinned.{point_served, pinned_at}
 use Rattle.world_owes.specs.Serving.{IsReplyAt, OwesAt, OwesItsPins, IsInWork, ServesItsPins}
-use Rattle.world_owes.specs.ServeLaws.{HasMorePoints}
-use Rattle.world_owes.proofs.Acts.{point_ended, ends_at}
+use Rattle.world_owes.specs.ServeLaws.{HasMorePoints, TurnsKeepServing}
+use Rattle.call_owes.proofs.Acts.{point_ended, ends_at}
 use Rattle.world_owes.proofs.Grow.{made_grows}
 use Rattle.world_owes.proofs.Lists.{none_some, some_same, both_pushed}
-use Rattle.world_owes.proofs.Steps.{IsOfMap, IsReady, reply_stays}
+use Rattle.world_owes.proofs.Steps.{IsReady, reply_stays}
 use Rattle.world_owes.proofs.Made.{made_owes}
 use Rattle.world_owes.proofs.Ready.{IsCalled, called_by, ready_now}
 
@@ -117,9 +113,8 @@ module _ (script : Script) (points now : List Point) (i : ℕ) (a after : Client
   by_act (Act.AtServer server step) e actor work s = goes_on actor work s
 
 -- ---- a whole turn
-pub turn_serves : (script : Script) (i : ℕ) (a after : ClientOf) (d now : Sealed) (servers others : List ServerState) → IsOfMap script d → slice_get script.clients i ≡ Some a.part
-    → KeepsToken d.core (actor.Client i) a.actor → MakesClientTurn script i a d servers after now others → ServesItsPins script d.core.points i a → ServesItsPins script now.core.points i after
-turn_serves script i a after d now servers others of there keeps turns was =
+pub turns_serve : TurnsKeepServing
+turns_serve script i a after d now servers others of there keeps turns was =
     by_act script d.core.points now.core.points i a after grown was m.next o.last o.is_last last_owes (act_of m.next) refl m.actor o.work o.served
   where
     m : MakesTurn script (actor.Client i) (work_of a.part) a.actor (places_of d servers) after.actor (places_of now others)

@@ -1,9 +1,7 @@
 -- That clients serve what their looks have pinned, from a world's first step to its last.
 use Rattle.std.specs.Prelude.{◌≡◌, ℕ, Bool, List, ◌++◌, map, Some}
 use Rattle.std.specs.List.{slice_get}
-use Rattle.clay_grid.specs.Limits.{IsGeometry}
 use Rattle.store_map.specs.Limits.{size_of}
-use Rattle.store_map.specs.Naming.{IsValid}
 use Rattle.store_map.specs.declared.actor.Actor.{Actor}
 use Rattle.store_map.specs.declared.actor.Actor.TheVariants as actor
 use Rattle.store_map.specs.declared.reply.Reply.TheVariants as reply
@@ -19,18 +17,17 @@ use Rattle.store_core.specs.Work.{Work}
 use Rattle.version_seal.specs.Entry.{BookOf}
 use Rattle.chunk_server.specs.State.{ServerState}
 use Rattle.stripe_dir.specs.Sealed.{Sealed}
-use Rattle.stripe_dir.specs.Stamped.{HaveContents}
 use Rattle.sweeper.specs.Sweeps.{SweeperOf, stepped_at_directory}
 use Rattle.world_lines.specs.declared.calls.ClientCalls.{ClientCalls}
 use Rattle.world_lines.specs.Ended.{ended_of}
 use Rattle.world_lines.specs.Served.{outcome_at, bytes_at, owed_at}
-use Rattle.world_steps.specs.World.{ActorOf, WorldOf}
+use Rattle.world_steps.specs.World.{ActorOf}
 use Rattle.world_steps.specs.Tokens.{KeepsToken}
-use Rattle.world_runs.specs.Goes.{IsReached}
 use Rattle.actors.specs.Clients.{ClientOf, first_client}
 use Rattle.actors.specs.ClientTurns.{MakesClientTurn}
 use Rattle.actors.specs.Inside.{served_of}
 use Rattle.actors.specs.Turned.{MakesTurn}
+use Rattle.world_owes.specs.OfMap.{IsOfMap}
 use Rattle.world_owes.specs.Serving.{ServesItsPins}
 
 -- a history that has grown
@@ -51,11 +48,10 @@ pub record ClientsGoOnServing (script : Script) : Type 0 where
   pub first : (points : List Point) (i : ℕ) (part : ClientPart) (book : BookOf) (tries : ℕ) (seat : Seat) → ServesItsPins script points i (first_client part book tries seat)
   pub stays : (points now : List Point) (i : ℕ) (a : ClientOf) → HasMorePoints points now → ServesItsPins script points i a → ServesItsPins script now i a
 
--- in a world that is reached, whose stamps have the contents, a client's turn keeps it
+-- at a directory of the script, a client's turn keeps it
 abbrev pub TurnsKeepServing : Type 0
 TurnsKeepServing =
-    (script : Script) (w : WorldOf) (i : ℕ) (a after : ClientOf) (d now : Sealed) (servers others : List ServerState) →
-    IsGeometry script.geometry → IsValid script → IsReached script w → w.directory ≡ d.core → HaveContents (call_of script) d →
+    (script : Script) (i : ℕ) (a after : ClientOf) (d now : Sealed) (servers others : List ServerState) → IsOfMap script d →
     slice_get script.clients i ≡ Some a.part → KeepsToken d.core (actor.Client i) a.actor → MakesClientTurn script i a d servers after now others →
     ServesItsPins script d.core.points i a → ServesItsPins script now.core.points i after
 

@@ -15,7 +15,8 @@ use Rattle.client_call.specs.Calls.{ClientCallOf}
 use Rattle.world_lines.specs.Served.{owed_at}
 use Rattle.world_steps.specs.World.{DoingOf}
 use Rattle.actors.specs.Clients.{ClientOf}
-use Rattle.world_owes.specs.Pinned.{pinned_at, HasLooked}
+use Rattle.call_owes.specs.Pinned.{pinned_at}
+use Rattle.world_owes.specs.Looked.{HasLooked}
 
 -- these bytes are the map's reply to the client's call with this number, at a point that stands in the history
 pub record IsReplyAt (script : Script) (points : List Point) (i number place : ℕ) (bytes : List ℕ) : Type 0 where

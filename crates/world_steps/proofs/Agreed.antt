@@ -1,8 +1,7 @@
 -- The tokens of all actors agree with the directory after each step.
-use Rattle.std.proofs.Common.{◌≡◌, ◌≢◌, ℕ, zero, suc, ◌+◌, ◌<◌, ◌≤◌, Bool, true, false, cond, List, [], ◌∷◌, length, Some, refl, sym, ap, subst, ◌∙◌, inl, inr, ◌⊎◌, arith, ne_eqb}
+use Rattle.std.proofs.Common.{◌≡◌, ◌≢◌, ℕ, zero, suc, ◌+◌, ◌≤◌, Bool, true, false, cond, List, [], ◌∷◌, Some, refl, sym, ap, subst, ◌∙◌, inl, inr, ◌⊎◌, arith, ne_eqb}
 use Rattle.std.proofs.lemmas.Bool.{cases_eq}
 use Rattle.std.proofs.lemmas.Option.{none-some, same_Some}
-use Rattle.std.proofs.lemmas.List.{length-append}
 use Rattle.std.specs.List.{slice_get}
 use Rattle.store_map.specs.Limits.{size_of}
 use Rattle.store_map.specs.declared.actor.Actor.{Actor}
@@ -10,14 +9,13 @@ use Rattle.store_map.specs.declared.actor.Actor.TheVariants as actor
 use Rattle.store_map.specs.declared.script.Script.{Script}
 use Rattle.store_core.specs.Lists.{change_at}
 use Rattle.store_core.specs.Told.{Told}
-use Rattle.store_core.specs.Note.{Note}
 use Rattle.store_core.specs.Act.{Act, DirectoryStep}
-use Rattle.store_core.specs.Agreement.{Seat, HeldPass, ActorToken, Agrees}
+use Rattle.store_core.specs.Agreement.{Agrees}
 use Rattle.store_core.specs.Directory.{Directory, new_directory}
 use Rattle.store_core.specs.AtDirectory.{at_directory}
 use Rattle.store_core.specs.Lookups.{same_actor}
 use Rattle.store_core.specs.Server.{Server}
-use Rattle.store_core.specs.Tokens.{actor_of, after_look, after_pass_step}
+use Rattle.store_core.specs.Tokens.{actor_of}
 use Rattle.store_core.specs.Work.{Ended, Work}
 use Rattle.store_core.proofs.Places.{slice_get-change_at}
 use Rattle.store_sound.proofs.OwnSteps.{agreement_goes_on}
@@ -28,42 +26,12 @@ use Rattle.call_stands.specs.Ready.{ready}
 use Rattle.call_stands.proofs.Tokens.{tokens_stay, passes_are_of_calls}
 use Rattle.call_stands.proofs.Agreement.{agreement_stays}
 use Rattle.sweeper.specs.Sweeps.{act_of as sweeper_act, at_directory_by as swept_by}
-use Rattle.world_steps.specs.World.{DoingOf, ActorOf, WorldOf}
+use Rattle.world_steps.specs.World.{ActorOf, WorldOf}
 use Rattle.world_steps.specs.FirstWorld.{new_actor}
-use Rattle.world_steps.specs.ActorAfter.{IsCallBefore, HasTurn, actor_after_by, actor_after}
-use Rattle.world_steps.specs.Tokens.{token_of, IsUsedBelow, IsNext, AreNumbered, KeepsToken, TokensAgree, first_token}
+use Rattle.world_steps.specs.ActorAfter.{HasTurn, actor_after}
+use Rattle.world_steps.specs.Tokens.{token_of, IsUsedBelow, IsNext, KeepsToken, TokensAgree, first_token}
+use Rattle.world_steps.proofs.Numbered.{token_below, before_numbered, before_token, after_numbered, after_token}
 use Rattle.world_steps.specs.TokenLaws.{FirstTokensAgree, TurnsAgree, WorldsStayAgreed}
-
--- ---- numbers
-below_more : (n : ℕ) (token : ActorToken) → IsUsedBelow n token → IsUsedBelow (n + 1) token
-below_more n (ActorToken.Seated seat) h = let low : seat.unused ≤ n = h in omega (arith, low)
-below_more n (ActorToken.InCall held) h = let low : held.pass.number < n = h in omega (arith, low)
-
-same_number : (n : ℕ) → n + 1 ≤ n + 1
-same_number n = omega arith
-
-look_below : (seat : Seat) (n : ℕ) (note : Note) (answer : Told) → seat.unused ≤ n + 1 → IsUsedBelow (n + 1) (after_look seat n note answer)
-look_below seat n note (Told.Answer point reply) h = same_number n
-look_below seat n note (Told.Pinned point length_now seen) h = omega arith
-look_below seat n note (Told.Ready base length_now seen) h = omega arith
-look_below seat n note (Told.PinnedStripe seen) h = omega arith
-look_below seat n note answer h = h
-
-pass_below : (held : HeldPass) (n : ℕ) (answer : Told) → held.pass.number < n + 1 → IsUsedBelow (n + 1) (after_pass_step held answer)
-pass_below held n (Told.Versions versions) h = h
-pass_below held n (Told.Done point) h = let low : held.pass.number < n + 1 = h in omega (arith, low)
-pass_below held n (Told.Changed base newer) h = let low : held.pass.number < n + 1 = h in omega (arith, low)
-pass_below held n Told.Ended h = let low : held.pass.number < n + 1 = h in omega (arith, low)
-pass_below held n (Told.Superseded newer) h = let low : held.pass.number < n + 1 = h in omega (arith, low)
-pass_below held n (Told.Reaped point) h = let low : held.pass.number < n + 1 = h in omega (arith, low)
-pass_below held n answer h = h
-
--- a step of the call with this number uses no later one
-token_below : (token : ActorToken) (n : ℕ) (step : DirectoryStep) (answer : Told) → IsUsedBelow (n + 1) token → IsUsedBelow (n + 1) (token_after token n step answer)
-token_below (ActorToken.Seated seat) n (DirectoryStep.Look note) answer h = look_below seat n note answer h
-token_below (ActorToken.Seated seat) n (DirectoryStep.LookRepair note) answer h = look_below seat n note answer h
-token_below (ActorToken.Seated seat) n step answer h = h
-token_below (ActorToken.InCall held) n step answer h = pass_below held n answer h
 
 -- ---- a call's steps keep its numbers
 step_numbered : (ended : List Ended) (c : CallOf) (d : Directory) (short due : Bool) (act : Act) → IsNext ended c.number c.token
@@ -84,28 +52,6 @@ server_numbered ended c s short due (Act.Finish outcome) fits = fits
 ready_numbered : (ended : List Ended) (c : CallOf) (coding due : Bool) → IsNext ended c.number c.token → IsNext ended (cond due (coded coding c) c).number (cond due (coded coding c) c).token
 ready_numbered ended c coding true fits = record { next = fits.next; used = fits.used }
 ready_numbered ended c coding false fits = fits
-
--- a call before its step
-before_numbered : (script : Script) (work : Work) (ended : List Ended) (doing : DoingOf) (c : CallOf) → AreNumbered ended doing → IsCallBefore script work.jobs ended doing c → IsNext ended c.number c.token
-before_numbered script work ended (DoingOf.Between token) c fits begins =
-    record { next = begins.first.number; used = subst (IsUsedBelow (length ended + 1)) (sym begins.held) (below_more (length ended) token fits) }
-before_numbered script work ended (DoingOf.InCall call steps) c fits same = subst (λ (now : CallOf). IsNext ended now.number now.token) (sym same) fits
-
-before_token : (script : Script) (work : Work) (ended : List Ended) (doing : DoingOf) (c : CallOf) → IsCallBefore script work.jobs ended doing c → c.token ≡ token_of doing
-before_token script work ended (DoingOf.Between token) c begins = begins.held
-before_token script work ended (DoingOf.InCall call steps) c same = ap (λ (now : CallOf). now.token) same
-
--- the actor after it
-after_numbered : (a : ActorOf) (c : CallOf) (act : Act) → IsNext a.ended c.number c.token → AreNumbered (actor_after_by act c a).ended (actor_after_by act c a).doing
-after_numbered a c (Act.Finish outcome) fits =
-    subst (λ n. IsUsedBelow n c.token) (sym (length-append a.ended (record { outcome = outcome; takes = c.takes } ∷ []))) fits.used
-after_numbered a c (Act.AtDirectory step) fits = fits
-after_numbered a c (Act.AtServer server step) fits = fits
-
-after_token : (a : ActorOf) (c : CallOf) (act : Act) → token_of (actor_after_by act c a).doing ≡ c.token
-after_token a c (Act.Finish outcome) = refl
-after_token a c (Act.AtDirectory step) = refl
-after_token a c (Act.AtServer server step) = refl
 
 after_keeps : (d : Directory) (who : Actor) (a : ActorOf) (c : CallOf) → actor_of c.token ≡ who → Agrees d c.token → IsNext a.ended c.number c.token → KeepsToken d who (actor_after c a)
 after_keeps d who a c whose agrees fits =

@@ -9,7 +9,11 @@ pub mod Ends
 pub mod Rounds
 pub mod Runs
 pub mod Shows
+pub mod Numbered
 pub mod Agreed
 pub mod Measures
 pub mod FuelFits
 pub mod UnderWay
+pub mod Goes
+pub mod Drains
+pub mod Few

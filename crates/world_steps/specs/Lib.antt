@@ -12,3 +12,6 @@ pub mod ShowLaws
 pub mod Tokens
 pub mod TokenLaws
 pub mod WayLaws
+pub mod Goes
+pub mod Drains
+pub mod Few

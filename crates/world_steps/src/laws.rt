@@ -13,6 +13,9 @@ ghost use Rattle.world_steps.specs.ShowLaws.{WorldsShow};
 ghost use Rattle.world_steps.specs.RunLaws.{RunsReach, DrainsOfValidScriptsReach};
 ghost use Rattle.world_steps.specs.RoundLaws.{EndsAreKnown, RoundsAreRounds};
 ghost use Rattle.world_steps.specs.PlaceLaws.{SweeperMakesTurns, OperatorMakesActions};
+ghost use Rattle.world_steps.specs.Goes.{WorldsGoOn};
+ghost use Rattle.world_steps.specs.Drains.{DrainsOfValidScriptsGo};
+ghost use Rattle.world_steps.specs.Few.{WorldsMakeFewSteps};
 
 /// The world before the first step stands for the first core of its script.
 pub fn first_worlds_stand()
@@ -72,4 +75,21 @@ pub fn tokens_agree()
 /// directory or at a server, once a coding that is due was made.
 pub fn calls_are_under_way()
     ensures { (script : Script) (a : ActorOf) → CallsAreUnderWay script a }
+{}
+
+/// The first world is reached by no token, a token whose step leads from one world to another is one more,
+/// and some tokens after others are all of them.
+pub fn worlds_go_on()
+    ensures { (script : Script) → WorldsGoOn script }
+{}
+
+/// A drain goes by rounds, fewer than a count of 64 bits holds as long as somebody has a step; where nobody
+/// has one it is made.
+pub fn drains_go()
+    ensures { DrainsOfValidScriptsGo }
+{}
+
+/// In a world that is reached, a count of 64 bits holds the steps of each call in work, and one more.
+pub fn worlds_make_few_steps()
+    ensures { WorldsMakeFewSteps }
 {}

@@ -1,5 +1,5 @@
 -- What a writing keeps.
-use Rattle.std.proofs.Common.{◌≡◌, ℕ, zero, ◌+◌, ◌<◌, ◌≤◌, suc, Bool, true, false, cond, ltb, List, [], ◌∷◌, ◌++◌, length, get_or, drop, Option, None, Some, refl, ap, sym, ◌∙◌, arith}
+use Rattle.std.proofs.Common.{◌≡◌, ℕ, zero, ◌+◌, ◌<◌, ◌≤◌, suc, Bool, true, false, cond, ltb, List, [], ◌∷◌, ◌++◌, length, get_or, drop, Option, None, Some, vec_capacity, refl, ap, subst, sym, ◌∙◌, arith}
 use Rattle.std.specs.List.{All}
 use Rattle.std.proofs.lemmas.List.{length_push, drop-drop}
 use Rattle.std.proofs.lemmas.List.Elements.{All-push}
@@ -11,9 +11,11 @@ use Rattle.store_resume.specs.State.{State}
 use Rattle.version_seal.specs.Entry.{BookOf, StampOf}
 use Rattle.write_course.specs.Chunks.{StripeOf, with_placement, AreChunksFrom}
 use Rattle.write_course.specs.States.{Prepared, Settled, prepares_or_commits, settles_or_is_done, state_by, placed_on}
-use Rattle.write_course.specs.Writings.{versions_of, is_preparing, is_settling}
+use Rattle.write_course.specs.Writings.{WritingOf, versions_of, is_preparing, is_settling}
 use Rattle.write_course.specs.WritingSteps.{IsDoing}
-use Rattle.write_course.specs.Inside.{IsAtWork, Keeps, due_by}
+use Rattle.write_course.specs.Inside.{IsAtWork, Keeps, due_by, prepared_in, settled_in, writing_in, IsWriting}
+use Rattle.write_course.specs.declared.writing.Writing.TheInside.{Inside}
+use Rattle.write_course.specs.Holding.{AreWholeAt, HasWholeRows}
 use Rattle.write_course.specs.declared.doing.Doing.{Doing}
 use Rattle.write_course.specs.declared.doing.Doing.TheVariants as doing
 
@@ -138,3 +140,17 @@ chunks_next g content server next chunks rest bytes from is more =
       codes = from.codes;
       here = ap (drop 1) (sym is ∙ from.here) ∙ drop-drop 1 server from.word ∙ ap (λ n. drop n from.word) (sym more);
     }
+
+-- at the commit the rows are whole, one for each version
+whole_by : (a : Inside) → IsWriting a → (d : Doing) → a.doing ≡ d
+    → AreWholeAt a.opening.geometry (length a.stamps.items) (state_by d a.opening.geometry a.first (versions_of a.stamps.items) (prepared_in a) (settled_in a))
+whole_by a kept doing.Preparing is = tt
+whole_by a kept doing.Committing is = (subst (λ d. Keeps d a.opening.geometry a.stamps.items (vec_capacity a.rows) (prepared_in a) (settled_in a)) is kept.kept, kept.whole)
+whole_by a kept doing.Committed is = tt
+whole_by a kept doing.Settling is = tt
+whole_by a kept doing.Done is = tt
+whole_by a kept doing.TooManyAway is = tt
+whole_by a kept doing.Short is = tt
+
+pub whole_rows : (a : Inside) (w : WritingOf) → IsWriting a → writing_in a ≡ w → HasWholeRows w
+whole_rows a w kept view = subst HasWholeRows view (whole_by a kept a.doing refl)

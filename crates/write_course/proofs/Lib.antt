@@ -4,3 +4,6 @@ pub mod Opened
 pub mod Kept
 pub mod Steps
 pub mod OfTheCall
+pub mod Tokens
+pub mod AtServers
+pub mod AtDirectory

@@ -5,3 +5,5 @@ pub mod Writings
 pub mod WritingSteps
 pub mod Inside
 pub mod Laws
+pub mod Holding
+pub mod Draws

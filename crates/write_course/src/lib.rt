@@ -2,6 +2,7 @@
 //! the versions are committed, and their chunks are settled.
 #![tactic(auto)]
 
+mod call;
 mod doing;
 pub mod laws;
 mod stripe;

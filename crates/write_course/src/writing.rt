@@ -34,7 +34,7 @@ pub struct Writing {
     // the stripe of the first version
     first: u32,
     stamps: Vec<Stamp>,
-    doing: Doing,
+    pub(crate) doing: Doing,
     // those of the versions whose chunks have all gone to their servers
     rows: Vec<Vec<Placement>>,
     // the version after them, once its chunks are made

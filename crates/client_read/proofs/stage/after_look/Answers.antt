@@ -5,8 +5,8 @@ use Rattle.store_core.specs.Read.{part_of}
 use Rattle.stripe_dir.specs.declared.answers.Seen.{Seen}
 use Rattle.stripe_dir.specs.Answers.{seen_in}
 use Rattle.stripe_dir.specs.AnswerStamps.{IsSeenIn}
-use Rattle.call_token.specs.declared.answers.LookAnswer.TheVariants as look
-use Rattle.call_token.specs.Shown.{stripes_seen}
+use Rattle.stripe_dir.specs.declared.answers.Look.TheVariants as look
+use Rattle.stripe_dir.specs.Shown.{stripes_seen}
 use Rattle.gather_parts.specs.Gatherings.{owed}
 use Rattle.client_read.specs.Owed.{contents_of, owed_after_look}
 use Rattle.client_read.proofs.Looking.{looked}
@@ -18,7 +18,7 @@ returns-in-Ok-Pinned-clause-owed c = λ stamps own.
     let old = c.args.gatherings.now in
     let g : Shape = old.book.geometry in
     let stripes : List Seen = c.in-Ok-Pinned.stripes.items in
-    let pinned : c.args.answer ≡ Ok (look.Pinned c.in-Ok-Pinned.point c.in-Ok-Pinned.length c.in-Ok-Pinned.stripes) = c.in-Ok-Pinned.is ∙ ap Ok c.in-Ok-Pinned.field-0-is in
+    let pinned : c.args.answer ≡ Ok (look.Pinned tt c.in-Ok-Pinned.point c.in-Ok-Pinned.length c.in-Ok-Pinned.stripes) = c.in-Ok-Pinned.is ∙ ap Ok c.in-Ok-Pinned.field-0-is in
     ap owed c.begin.ensures.begun
     ∙ pinned_bytes g c.range_of-start.result.0 c.range_of-start.result.1 stamps stripes
     (subst (λ a. IfOk a (λ answer. All (IsSeenIn stamps) (stripes_seen answer))) pinned own)

@@ -5,7 +5,7 @@ use Rattle.store_map.specs.declared.actor.Token.TheVariants as token
 use Rattle.store_map.specs.declared.script.Script.{Script}
 use Rattle.store_core.specs.Shown.{shown}
 use Rattle.world_steps.specs.Known.{core_of}
-use Rattle.world_runs.specs.Goes.{IsReachedBy, GoesBy}
+use Rattle.world_steps.specs.Goes.{IsReachedBy, GoesBy}
 use Rattle.world.specs.Stored.{world_of}
 use Rattle.world.proofs.Playing.{next_reached, is_played}
 use Rattle.world.proofs.Results.{on_ok}

@@ -1,5 +1,12 @@
-use Rattle.world_owes.proofs.Serving.{turns_keep_serving}
+use Rattle.world_owes.proofs.Serving.{is_of_map, turns_keep_serving}
+use Rattle.world_owes.proofs.Turns.{turns_serve}
 use Rattle.world_owes.proofs.laws.turns_keep_serving.Goals as goal
 
-pub returns : goal.returns
-returns c = turns_keep_serving
+pub returns-clause-turns : goal.returns-clause-turns
+returns-clause-turns c = turns_serve
+
+pub returns-clause-directories : goal.returns-clause-directories
+returns-clause-directories c = is_of_map
+
+pub returns-clause-worlds : goal.returns-clause-worlds
+returns-clause-worlds c = turns_keep_serving

@@ -6,11 +6,10 @@ use Rattle.store_core.specs.Act.{DirectoryStep}
 use Rattle.store_core.specs.AtDirectory.{at_directory}
 use Rattle.store_core.specs.Tokens.{actor_of}
 use Rattle.store_resume.specs.States.{prepare_all_state}
-use Rattle.stripe_dir.specs.Answers.{told_or_short}
+use Rattle.stripe_dir.specs.Answers.{told_or_short, told_drawn}
 use Rattle.call_steps.specs.TokenAfter.{token_after}
-use Rattle.call_token.specs.Answers.{told_by_draw}
-use Rattle.call_token.specs.Stamps.{IfDrawn, AreDrawnFor, stamps_drawn}
-use Rattle.call_token.specs.declared.answers.DrawAnswer.TheVariants as draw
+use Rattle.stripe_dir.specs.AnswerStamps.{IfDrawn, AreDrawnFor, stamps_given}
+use Rattle.stripe_dir.specs.declared.answers.Drawn.TheVariants as draw
 use Rattle.write_course.specs.Writings.{versions_of}
 use Rattle.client_patch.specs.Draws.{request_of}
 use Rattle.client_patch.specs.Patches.{PatchOf}
@@ -21,7 +20,7 @@ use Rattle.client_patch.proofs.patch.PatchCall.draw.Goals as goal
 use Rattle.client_patch.proofs.patch.PatchCall.draw.Goals.{After-copy}
 
 -- what was answered
-answered : (c : After-copy) → c.draw-answer.result ≡ Ok (draw.Versions c.in-Ok-Versions.stamps)
+answered : (c : After-copy) → c.draw-answer.result ≡ Ok (draw.Versions tt c.in-Ok-Versions.stamps)
 answered c = c.in-Ok-Versions.is ∙ ap Ok c.in-Ok-Versions.field-0-is
 
 -- the stamps are those of the draw
@@ -42,8 +41,8 @@ asked c = c.request-request.ensures ∙ (λ i. record { home = (book i).home; ac
     book = c.requires.book ∙ sym (ap (λ (p : PatchOf). p.call.book) c.self.view_is)
 
 -- what that tells
-told : (c : After-copy) → told_or_short told_by_draw c.draw-answer.result ≡ Told.Versions (versions_of c.in-Ok-Versions.stamps.items)
-told c = ap (told_or_short told_by_draw) (answered c)
+told : (c : After-copy) → told_or_short told_drawn c.draw-answer.result ≡ Told.Versions (versions_of c.in-Ok-Versions.stamps.items)
+told c = ap (told_or_short told_drawn) (answered c)
 
 -- the step
 made : (c : After-copy)
@@ -91,7 +90,7 @@ pub returns-in-Ok-Versions-clause-stamps : goal.returns-in-Ok-Versions-clause-st
 returns-in-Ok-Versions-clause-stamps c =
     let d = (goal.at.returns-in-Ok-Versions-clause-stamps c).After-copy in
     c.draw-answer.ensures.stamps
-    ∙ ap (λ result. c.args.directory.now.stamps ++ stamps_drawn result) (answered d)
+    ∙ ap (λ result. c.args.directory.now.stamps ++ stamps_given result) (answered d)
     ∙ ap (λ stamps. c.args.directory.now.stamps ++ stamps)
     (draw_stamps c.self.inside c.self.invariant c.args.self.now c.self.view_is c.requires.drawing c.requires.need c.args.directory.now c.is_err-self-inside.result c.draw-answer.new.directory.core
     (versions_of c.in-Ok-Versions.stamps.items) c.in-Ok-Versions.stamps.items c.request-request.result (made d) (asked d) (drawn d))

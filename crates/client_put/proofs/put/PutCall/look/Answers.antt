@@ -4,8 +4,7 @@ use Rattle.store_core.specs.Act.{DirectoryStep}
 use Rattle.store_core.specs.Told.{Told}
 use Rattle.store_core.specs.Directory.{Directory}
 use Rattle.store_core.specs.Tokens.{actor_of}
-use Rattle.stripe_dir.specs.Answers.{told_or_short}
-use Rattle.call_token.specs.Answers.{told_by_look}
+use Rattle.stripe_dir.specs.Answers.{told_or_short, told_look}
 use Rattle.client_put.specs.Puts.{PutOf}
 use Rattle.client_put.specs.Stages.{IsPutLook}
 use Rattle.client_put.proofs.Looks.{put_looks, look_kept, waiting_at_start}
@@ -16,7 +15,7 @@ pub invariant_of-self : goal.invariant_of-self
 invariant_of-self c =
     let a = c.self.inside in
     let kept = c.self.invariant in
-    let told = told_or_short told_by_look c.look-answer.result in
+    let told = told_or_short told_look c.look-answer.result in
     let put = subst IsPutLook (ap (λ (made : Directory × Told). made.1) (sym c.look-answer.ensures.step)) (put_looks _ (actor_of a.token) a.number a.call.now c.args.directory.now.core kept.put) in
     record {
       put = kept.put;

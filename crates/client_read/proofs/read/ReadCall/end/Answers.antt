@@ -7,7 +7,7 @@ use Rattle.store_resume.specs.StateActs.{act_at}
 use Rattle.call_steps.specs.TokenAfter.{token_after, IsSeated}
 use Rattle.call_steps.specs.CallOf.{tries_by}
 use Rattle.call_steps.specs.Steps.{need_by, need_of}
-use Rattle.call_token.specs.Answers.{told_by_end}
+use Rattle.stripe_dir.specs.Answers.{told_ended}
 use Rattle.client_read.specs.Reads.{ReadOf}
 use Rattle.call_steps.specs.Callers.{IsClient}
 use Rattle.call_steps.specs.Ends.{is_ending}
@@ -26,8 +26,8 @@ invariant_of-self c =
     (ap (λ (r : ReadOf). is_ending r.call.state.at) c.self.view_is ∙ c.requires.ending)
     in
     let holds : IsHolding a.number (note_of a.call.now) a.token = subst (λ now. Keeps now a.number (note_of a.call.now) a.token a.gatherings) is c.self.invariant.kept in
-    let token : c.end-answer.new.self ≡ token_after a.token a.number DirectoryStep.End (told_by_end c.end-answer.result) = c.end-answer.ensures.token in
-    let ended = token ∙ ap (λ answer. token_after a.token a.number DirectoryStep.End (told_by_end answer)) c.in-Ended.is in
+    let token : c.end-answer.new.self ≡ token_after a.token a.number DirectoryStep.End (told_ended c.end-answer.result) = c.end-answer.ensures.token in
+    let ended = token ∙ ap (λ answer. token_after a.token a.number DirectoryStep.End (told_ended answer)) c.in-Ended.is in
     record {
       read = c.self.invariant.read;
       client = subst (λ token. IsClient (actor_of token)) (sym ended) (end_client a.token a.number (note_of a.call.now) holds c.self.invariant.client);

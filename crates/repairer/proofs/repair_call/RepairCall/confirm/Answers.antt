@@ -1,9 +1,9 @@
-use Rattle.std.proofs.Common.{false, sym, ap, ◌∙◌}
+use Rattle.std.proofs.Common.{⊤, false, sym, ap, ◌∙◌}
 use Rattle.clay_grid.specs.Shape.{chunk_count}
 use Rattle.store_resume.specs.States.{open_state}
 use Rattle.store_resume.specs.GatherAfter.{confirming_after}
-use Rattle.call_token.specs.declared.answers.ConfirmAnswer.{ConfirmAnswer}
-use Rattle.call_token.specs.Answers.{told_by_confirm}
+use Rattle.stripe_dir.specs.declared.answers.Confirmed.{Confirmed}
+use Rattle.stripe_dir.specs.Answers.{told_confirmed}
 use Rattle.call_steps.specs.CallOf.{CallOf}
 use Rattle.call_steps.specs.Steps.{stepped_at_directory}
 use Rattle.repairer.specs.declared.stage.Stage.TheVariants as stage
@@ -18,7 +18,7 @@ returns-in-Superseded-clause-step c =
     let a = c.self.inside in
     let answer = c.confirm-answer.result in
     confirmed a.opening a.rebuild.now a.number a.token c.confirm-answer.new.self (seen_at a.seen) (takes_at (chunk_count a.opening.geometry) a.takes) a.due a.due a.coding a.step
-    _ (told_by_confirm answer) c.args.d.now.core c.confirm-answer.new.directory.core c.confirm-answer.ensures.step c.confirm-answer.ensures.token
-    (ap (λ (told : ConfirmAnswer). open_state a.opening.geometry (confirming_after (seen_at a.seen) a.rebuild.now.server (told_by_confirm told))) (sym c.in-Superseded.is))
+    _ (told_confirmed answer) c.args.d.now.core c.confirm-answer.new.directory.core c.confirm-answer.ensures.step c.confirm-answer.ensures.token
+    (ap (λ (told : Confirmed ⊤ ⊤). open_state a.opening.geometry (confirming_after (seen_at a.seen) a.rebuild.now.server (told_confirmed told))) (sym c.in-Superseded.is))
     ∙ ap (λ (call : CallOf). stepped_at_directory false a.due call c.args.d.now.core)
     (seen_by a c.args.self.now stage.Confirming c.self.view_is (is_at a c.args.self.now stage.Confirming c.self.invariant c.self.view_is c.requires.stage))

@@ -1,7 +1,7 @@
 use Rattle.std.proofs.Common.{◌≡◌, false, ap, ◌∙◌}
 use Rattle.clay_grid.specs.Shape.{chunk_count}
 use Rattle.store_resume.specs.GatherAfter.{ending_after}
-use Rattle.call_token.specs.Answers.{told_by_end}
+use Rattle.stripe_dir.specs.Answers.{told_ended}
 use Rattle.call_steps.specs.declared.outcomes.RepairOutcome.{RepairOutcome}
 use Rattle.call_steps.specs.CallOf.{CallOf}
 use Rattle.call_steps.specs.Outcomes.{repair_outcome_of}
@@ -15,7 +15,7 @@ use Rattle.repairer.proofs.repair_call.RepairCall.end.Goals as goal
 pub returns-clause-step : goal.returns-clause-step
 returns-clause-step c =
     let a = c.self.inside in
-    let told = told_by_end c.end-answer.result in
+    let told = told_ended c.end-answer.result in
     let view : call_by stage.Ending a ≡ c.args.self.now =
     seen_by a c.args.self.now stage.Ending c.self.view_is (is_at a c.args.self.now stage.Ending c.self.invariant c.self.view_is c.requires.stage)
     in

@@ -1,15 +1,15 @@
-use Rattle.std.proofs.Common.{◌≡◌, Ok, Some, Option, Result, All, refl, sym, ap, subst, ◌∙◌, ◌∷◌, [], arith}
+use Rattle.std.proofs.Common.{⊤, ◌≡◌, Ok, Result, All, refl, sym, ap, subst, ◌∙◌, ◌∷◌, [], arith}
 use Rattle.std.specs.declared.alloc.AllocError.{AllocError}
 use Rattle.clay_grid.specs.Shape.{chunk_count}
 use Rattle.store_core.specs.Note.{note_of_rebuild}
 use Rattle.store_core.specs.Act.{DirectoryStep}
 use Rattle.version_seal.specs.Entry.{BookOf}
-use Rattle.stripe_dir.specs.declared.answers.Seen.{Seen}
-use Rattle.stripe_dir.specs.Answers.{seen_in, told_or_short}
+use Rattle.stripe_dir.specs.declared.answers.RepairLook.{RepairLook}
+use Rattle.stripe_dir.specs.declared.answers.RepairLook.TheVariants as repair
+use Rattle.stripe_dir.specs.Answers.{seen_in, told_or_short, told_repair_look}
 use Rattle.call_steps.specs.CallOf.{CallOf}
 use Rattle.call_steps.specs.TokenAfter.{token_after}
-use Rattle.call_token.specs.Answers.{told_by_repair_look}
-use Rattle.call_token.specs.Shown.{IsShown, AreShown, stripe_seen}
+use Rattle.stripe_dir.specs.Shown.{IsShown, AreShown, stripe_seen}
 use Rattle.repairer.specs.declared.stage.Stage.TheVariants as stage
 use Rattle.repairer.specs.Moments.{IsNew}
 use Rattle.repairer.proofs.Stages.{is_at, keeps}
@@ -20,12 +20,12 @@ pub invariant_of-self : goal.invariant_of-self
 invariant_of-self c =
     let a = c.self.inside in
     let d = c.args.d.now in
-    let seen = c.in-Ok-Some.seen in
+    let seen = c.in-Ok-Pinned.seen in
     let new : IsNew a.token a.number a.rebuild.now a.gather a.takes a.due =
     keeps a stage.Start c.self.invariant (is_at a c.args.self.now stage.Start c.self.invariant c.self.view_is c.requires.stage)
     in
-    let is : c.look_repair-look.result ≡ Ok (Some seen) = c.in-Ok-Some.is ∙ ap Ok c.in-Ok-Some.field-0-is in
-    let all : All (IsShown d) (seen ∷ []) = subst (λ (r : Result (Option Seen) AllocError). AreShown d stripe_seen r) is c.look_repair-look.ensures.seen in
+    let is : c.look_repair-look.result ≡ Ok (repair.Pinned tt seen) = c.in-Ok-Pinned.is ∙ ap Ok c.in-Ok-Pinned.field-0-is in
+    let all : All (IsShown d) (seen ∷ []) = subst (λ (r : Result (RepairLook ⊤ ⊤) AllocError). AreShown d stripe_seen r) is c.look_repair-look.ensures.seen in
     let shown : IsShown d seen = all 0 seen (omega arith) in
     let book : d.book ≡ a.opening = c.requires.book ∙ sym (ap (λ (call : CallOf). call.book) c.self.view_is) in
     record {
@@ -33,7 +33,7 @@ invariant_of-self c =
       kept = (
         begun a.token c.look_repair-look.new.self a.number (note_of_rebuild a.rebuild.now) (seen_in seen) new.may
             (c.look_repair-look.ensures.token
-            ∙ ap (λ (r : Result (Option Seen) AllocError). token_after a.token a.number (DirectoryStep.LookRepair (note_of_rebuild a.rebuild.now)) (told_or_short told_by_repair_look r)) is),
+            ∙ ap (λ (r : Result (RepairLook ⊤ ⊤) AllocError). token_after a.token a.number (DirectoryStep.LookRepair (note_of_rebuild a.rebuild.now)) (told_or_short told_repair_look r)) is),
         record {
           seen = seen;
           is_seen = refl;

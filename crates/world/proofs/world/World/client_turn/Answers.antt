@@ -1,6 +1,6 @@
 use Rattle.std.proofs.Common.{◌≡◌, set, slice_get, Some, subst}
 use Rattle.store_core.specs.Run.{client_step}
-use Rattle.world_runs.specs.Goes.{Leads}
+use Rattle.world_steps.specs.Goes.{Leads}
 use Rattle.world.specs.Stored.{StoredWorld, world_of}
 use Rattle.world.specs.Inside.{stored_in}
 use Rattle.world.proofs.Keeping.{changed}

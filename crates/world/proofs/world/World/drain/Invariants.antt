@@ -1,5 +1,5 @@
 use Rattle.std.proofs.Common.{◌≡◌}
-use Rattle.world_runs.specs.Drains.{GoesByRounds}
+use Rattle.world_steps.specs.Drains.{GoesByRounds}
 use Rattle.world.specs.Stored.{world_of}
 use Rattle.world.proofs.world.World.drain.Given as goal
 

@@ -3,7 +3,7 @@ use Rattle.store_map.specs.declared.actor.Actor.TheVariants as actor
 use Rattle.store_map.specs.declared.actor.Token.TheVariants as token
 use Rattle.store_core.specs.Schedule.{step_core}
 use Rattle.world_steps.proofs.PlaceLaws.{operator_makes_actions}
-use Rattle.world_runs.specs.Goes.{Leads}
+use Rattle.world_steps.specs.Goes.{Leads}
 use Rattle.world.specs.Stored.{StoredWorld, world_of}
 use Rattle.world.specs.Inside.{stored_in}
 use Rattle.world.proofs.Keeping.{changed}

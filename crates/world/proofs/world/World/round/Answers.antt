@@ -4,7 +4,7 @@ use Rattle.store_core.specs.Core.{sweeper_has_step}
 use Rattle.store_core.specs.Run.{sweeper_step}
 use Rattle.world_steps.specs.Known.{core_of}
 use Rattle.world_steps.specs.RoundLaws.{repairer_turns}
-use Rattle.world_runs.specs.Goes.{Leads}
+use Rattle.world_steps.specs.Goes.{Leads}
 use Rattle.world.specs.Stored.{StoredWorld, world_of}
 use Rattle.world.proofs.Rounds.{whole_round, sweep_made, no_sweep}
 use Rattle.world.proofs.world.World.round.Goals as goal

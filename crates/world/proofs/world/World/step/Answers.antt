@@ -1,8 +1,8 @@
 use Rattle.std.proofs.Common.{[], ◌∷◌, sym, subst}
 use Rattle.store_map.specs.declared.actor.Token.{Token}
 use Rattle.store_map.specs.declared.actor.Token.TheVariants as token
-use Rattle.world_runs.specs.Goes.{GoesBy}
-use Rattle.world_runs.proofs.Goes.{worlds_go_on}
+use Rattle.world_steps.specs.Goes.{GoesBy}
+use Rattle.world_steps.proofs.Goes.{worlds_go_on}
 use Rattle.world.specs.Stored.{world_of}
 use Rattle.world.proofs.world.World.step.Goals as goal
 

@@ -2,7 +2,7 @@ use Rattle.std.proofs.Common.{◌≡◌, ℕ, ◌<◌, length, set, slice_get, S
 use Rattle.call_steps.specs.declared.need.Need.TheVariants as need
 use Rattle.store_map.specs.declared.actor.Actor.TheVariants as actor
 use Rattle.store_core.specs.Run.{sweeper_step}
-use Rattle.world_runs.specs.Goes.{Leads}
+use Rattle.world_steps.specs.Goes.{Leads}
 use Rattle.world.specs.Stored.{StoredWorld, world_of}
 use Rattle.world.specs.Inside.{stored_in}
 use Rattle.world.proofs.Keeping.{changed}

@@ -1,0 +1,159 @@
+/* Calls of the library for C with right and wrong numbers and lengths, in several threads at once: each ends as it should, writes
+ * nothing where it isn't CLAY_DONE, and gives what the same call gave alone. bench/library builds and runs it.
+ *
+ *     calls THREADS ROUNDS START      ends with 0 where all calls ended so */
+#include <clay.h>
+#include <pthread.h>
+#include <stdio.h>
+#include <stdlib.h>
+#include <string.h>
+
+enum { MOST = 64, LIMIT = 1 << 15 };
+
+static const struct { uint32_t k, m, w; } CODES[] = {{2, 2, 1}, {4, 2, 16}, {3, 2, 7}, {4, 3, 5}, {8, 4, 4}, {6, 3, 16}, {2, 8, 3}};
+
+static int rounds, failed;
+static uint64_t start;
+
+/* A buffer of just so many bytes, so that a tool that watches memory sees each byte past it. */
+static void *made(size_t len) {
+    void *bytes = malloc(len ? len : 1);
+    if (!bytes)
+        exit(2);
+    return bytes;
+}
+
+static uint64_t drawn(uint64_t *state) {
+    *state += 0x9e3779b97f4a7c15;
+    uint64_t x = (*state ^ *state >> 30) * 0xbf58476d1ce4e5b9;
+    x = (x ^ x >> 27) * 0x94d049bb133111eb;
+    return x ^ x >> 31;
+}
+
+static void hold(int is_right, const char *what, uint32_t k, uint32_t m, uint32_t w, uint32_t status) {
+    if (is_right)
+        return;
+    __atomic_store_n(&failed, 1, __ATOMIC_RELAXED);
+    fprintf(stderr, "%s of %u %u %u: status %u\n", what, k, m, w, status);
+}
+
+/* Whether all bytes are the mark that was written before a call. */
+static int is_marked(const uint8_t *bytes, size_t len) {
+    for (size_t i = 0; i < len; i++)
+        if (bytes[i] != 0xa5)
+            return 0;
+    return 1;
+}
+
+/* Numbers that are a code's, or near one's: none outside the limits may pass, and each within them does. */
+static void numbers(uint64_t *state) {
+    uint32_t k = drawn(state) % 26, m = drawn(state) % 11, w = drawn(state) % 3 ? drawn(state) % 70000 : drawn(state) % 9;
+    uint64_t layers = 1, columns = m ? (k + m + m - 1) / m : 0;
+    for (uint64_t y = 0; y < columns && layers <= 1024; y++)
+        layers *= m;
+    int is_code = k >= 2 && m >= 2 && m <= 8 && w >= 1 && w <= 65536 && layers <= 1024 && layers * w <= 1048576;
+    struct clay_numbers told;
+    memset(&told, 0xa5, sizeof told);
+    uint32_t status = clay_geometry(k, m, w, &told);
+    hold(status == (is_code ? CLAY_DONE : CLAY_BAD_GEOMETRY), "clay_geometry", k, m, w, status);
+    hold(is_code ? told.layers == layers && told.chunk_len == layers * w : is_marked((uint8_t *)&told, sizeof told), "its numbers", k, m, w, status);
+}
+
+/* A length that is right, or one beside it, or none. */
+static size_t beside(uint64_t *state, size_t len) {
+    switch (drawn(state) % 6) {
+    case 0: return len - 1;
+    case 1: return len + 1;
+    case 2: return 0;
+    default: return len;
+    }
+}
+
+/* A stripe's parity chunks; then one chunk rebuilt and up to m, or more, recovered, with lengths that may be wrong. */
+static void chunks(uint64_t *state) {
+    uint32_t at = drawn(state) % (sizeof CODES / sizeof *CODES), k = CODES[at].k, m = CODES[at].m, w = CODES[at].w;
+    struct clay_numbers g;
+    hold(clay_geometry(k, m, w, &g) == CLAY_DONE && g.stripe_len + m * g.chunk_len <= LIMIT, "clay_geometry", k, m, w, 0);
+    size_t len = g.chunk_len, all = g.chunks * len;
+    uint8_t *word = made(all), *out = made(m * len + 1);
+    for (size_t i = 0; i < g.stripe_len; i++)
+        word[i] = (uint8_t)drawn(state);
+    memset(out, 0xa5, m * len + 1);
+    size_t given = beside(state, g.stripe_len), wanted = beside(state, m * len);
+    uint8_t *source = made(given);
+    memset(source, 0, given);
+    memcpy(source, word, given < g.stripe_len ? given : g.stripe_len);
+    uint32_t status = clay_parity(k, m, w, source, given, out, wanted);
+    int is_right = given == g.stripe_len && wanted == m * len;
+    hold(status == (is_right ? CLAY_DONE : CLAY_BAD_LENGTH), "clay_parity", k, m, w, status);
+    hold(is_right || is_marked(out, m * len + 1), "what clay_parity wrote", k, m, w, status);
+    hold(clay_parity(k, m, w, word, g.stripe_len, word + g.stripe_len, m * len) == CLAY_DONE, "clay_parity", k, m, w, status);
+    hold(!is_right || memcmp(out, word + g.stripe_len, m * len) == 0, "parity chunks", k, m, w, status);
+    free(source);
+    free(out);
+
+    uint8_t present[MOST], *have = made(all);
+    memcpy(have, word, all);
+    uint32_t lost = 0;
+    for (uint32_t c = 0; c < g.chunks; c++) {
+        present[c] = drawn(state) % 4 != 0;
+        lost += !present[c];
+        if (!present[c])
+            memset(have + c * len, 0xa5, len);
+    }
+    uint8_t *before = made(all);
+    memcpy(before, have, all);
+    size_t flags = beside(state, g.chunks);
+    status = clay_recover(k, m, w, present, flags > MOST ? 0 : flags, have, all);
+    hold(status == (flags != g.chunks ? CLAY_BAD_LENGTH : lost > m ? CLAY_TOO_FEW : CLAY_DONE), "clay_recover", k, m, w, status);
+    hold(memcmp(have, status == CLAY_DONE ? word : before, all) == 0, "what clay_recover wrote", k, m, w, status);
+
+    uint32_t gone = drawn(state) % (g.chunks + 1), read = g.layers / m, *layers = made(read * sizeof *layers);
+    status = clay_repair_layers(k, m, w, gone, layers, read);
+    hold(status == (gone < g.chunks ? CLAY_DONE : CLAY_BAD_CHUNK), "clay_repair_layers", k, m, w, status);
+    uint8_t *parts = made((g.chunks - 1) * g.part_len), *part = parts, *chunk = made(len);
+    for (uint32_t c = 0; c < g.chunks && gone < g.chunks; c++)
+        for (uint32_t i = 0; c != gone && i < read; i++, part += w)
+            memcpy(part, word + c * len + (size_t)layers[i] * w, w);
+    memset(chunk, 0xa5, len);
+    size_t parts_len = gone < g.chunks ? beside(state, (g.chunks - 1) * g.part_len) : 0;
+    uint8_t *exact = made(parts_len);
+    memset(exact, 0, parts_len);
+    memcpy(exact, parts, parts_len < (g.chunks - 1) * g.part_len ? parts_len : (g.chunks - 1) * g.part_len);
+    status = clay_rebuild(k, m, w, gone, exact, parts_len, chunk, len);
+    is_right = parts_len == (g.chunks - 1) * g.part_len;
+    hold(status == (gone >= g.chunks ? CLAY_BAD_CHUNK : is_right ? CLAY_DONE : CLAY_BAD_LENGTH), "clay_rebuild", k, m, w, status);
+    hold(status == CLAY_DONE ? memcmp(chunk, word + gone * len, len) == 0 : is_marked(chunk, len), "what clay_rebuild wrote", k, m, w, status);
+    free(exact);
+    free(parts);
+    free(chunk);
+    free(layers);
+    free(before);
+    free(have);
+    free(word);
+}
+
+static void *thread(void *number) {
+    uint64_t state = start + (uint64_t)(uintptr_t)number * 0x1234567;
+    for (int round = 0; round < rounds; round++) {
+        numbers(&state);
+        chunks(&state);
+    }
+    return NULL;
+}
+
+int main(int count, char **words) {
+    pthread_t threads[MOST];
+    int many = count > 1 ? atoi(words[1]) : 8;
+    rounds = count > 2 ? atoi(words[2]) : 1000;
+    start = count > 3 ? strtoull(words[3], NULL, 10) : 1;
+    if (many < 1 || many > MOST)
+        return 2;
+    for (int i = 0; i < many; i++)
+        if (pthread_create(&threads[i], NULL, thread, (void *)(uintptr_t)i) != 0)
+            return 2;
+    for (int i = 0; i < many; i++)
+        pthread_join(threads[i], NULL);
+    printf("%d threads with %d rounds each: %s\n", many, rounds, failed ? "a call ended otherwise" : "each call ended as it should");
+    return failed;
+}

@@ -1,0 +1,5 @@
+pub mod Moves
+pub mod Acts
+pub mod Shorts
+pub mod Stamped
+pub mod Owing

@@ -1,3 +1,0 @@
-pub mod Agreeing
-pub mod Rows
-pub mod Draws

@@ -1,4 +1,0 @@
-pub mod TokenView
-pub mod Answers
-pub mod Shown
-pub mod Stamps

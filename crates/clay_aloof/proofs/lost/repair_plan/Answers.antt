@@ -1,0 +1,74 @@
+use Rattle.std.proofs.Common.{◌≡◌, ℕ, ◌/◌, ◌%◌, ◌≤◌, length, sym, subst, ap, ◌∙◌, arith}
+use Rattle.clay_grid.specs.Shape.{node_count, row_count}
+use Rattle.clay_grid.specs.Score.{IsByScore}
+use Rattle.clay_scalar.specs.Erased.{erased_below}
+use Rattle.clay_scalar.specs.Points.{AreDistinct}
+use Rattle.clay_scalar.proofs.ErasedNodes.{AreDistinct-erased}
+use Rattle.clay_aloof.specs.Shape.{rows_of, grid_of, node_of}
+use Rattle.clay_aloof.specs.Rebuilt.{kept_layers}
+use Rattle.clay_aloof.proofs.Parts.{AreKept, are_kept, partner_given, is_known}
+use Rattle.clay_aloof.proofs.Unknown.{few_unknown}
+use Rattle.clay_aloof.proofs.lost.repair_plan.Goals as goal
+
+points_are : (c : goal.After-deref-2) → c.in_ok-points.points.items ≡ erased_below c.in_ok-erased.erased.items (node_count (grid_of c.args.g))
+points_are c =
+    c.in_ok-points.ensures
+    ∙ (λ k. erased_below (c.deref.ensures.value k) (length (c.deref.ensures.value k)))
+    ∙ ap (erased_below c.in_ok-erased.erased.items) c.in_ok-erased.ensures.len
+
+counted : (c : goal.After-deref-2) → length c.in_ok-points.points.items ≤ c.args.g.parity_count
+counted c =
+    subst (λ l. length l ≤ c.args.g.parity_count) (sym (points_are c))
+    (few_unknown c.args.g c.args.lost c.args.parts.now c.in_ok-erased.erased.items c.grid-grid.ensures.geometry c.requires.chunk c.requires.fit c.in_ok-erased.ensures.value)
+
+at_most_eight : (n m : ℕ) → n ≤ m → m ≤ 8 → n ≤ 8
+at_most_eight n m h l = omega arith
+
+pub new-requires-clause-few : goal.new-requires-clause-few
+new-requires-clause-few c =
+    subst (λ l. length l ≤ 8) (sym c.deref-2.ensures.value) (at_most_eight (length c.in_ok-points.points.items) c.args.g.parity_count (counted c) c.grid-grid.ensures.geometry.limits.parity_chunks.1)
+
+pub new-requires-clause-distinct : goal.new-requires-clause-distinct
+new-requires-clause-distinct c =
+    subst AreDistinct (sym (c.deref-2.ensures.value ∙ points_are c)) (AreDistinct-erased c.in_ok-erased.erased.items (node_count (grid_of c.args.g)))
+
+pub returns : goal.returns
+returns c =
+    let g = c.args.g in
+    let lost : ℕ = c.args.lost in
+    let aloof = c.grid-grid.ensures.geometry in
+    let grid : c.grid-grid.result ≡ grid_of g = c.grid-grid.ensures.value in
+    let erased = c.in_ok-erased.erased.items in
+    let points : c.in_ok-points.points.items ≡ erased_below erased (node_count (grid_of g)) =
+    c.in_ok-points.ensures
+    ∙ (λ k. erased_below (c.deref.ensures.value k) (length (c.deref.ensures.value k)))
+    ∙ ap (erased_below erased) c.in_ok-erased.ensures.len in
+    let few : length c.in_ok-points.points.items ≤ g.parity_count =
+    subst (λ l. length l ≤ g.parity_count) (sym points) (few_unknown g lost c.args.parts.now erased aloof c.requires.chunk c.requires.fit c.in_ok-erased.ensures.value) in
+    let order : IsByScore (grid_of g) erased c.in_ok-order.order.items =
+    subst (λ s. IsByScore s erased c.in_ok-order.order.items) grid
+    (subst (λ e. IsByScore c.grid-grid.result e c.in_ok-order.order.items) c.deref-3.ensures.value c.in_ok-order.ensures) in
+    let row : c.place-x.result.0 ≡ node_of g lost % rows_of g = c.place-x.ensures.row ∙ (λ k. c.node_of_chunk-node.ensures.value k % row_count (grid k)) in
+    let column : c.place-x.result.1 ≡ node_of g lost / rows_of g = c.place-x.ensures.column ∙ (λ k. c.node_of_chunk-node.ensures.value k / row_count (grid k)) in
+    let layers : c.in_ok-layers.layers.items ≡ kept_layers (grid_of g) (node_of g lost % rows_of g) (node_of g lost / rows_of g) c.in_ok-order.order.items =
+    c.in_ok-layers.ensures ∙ (λ k. kept_layers (grid k) (row k) (column k) (c.deref-4.ensures.value k)) in
+    let kept : AreKept g lost erased c.in_ok-layers.layers.items = subst (AreKept g lost erased) (sym layers) (are_kept g lost erased c.in_ok-order.order.items order) in
+    record {
+      aloof = aloof;
+      sound = record {
+        geometry = aloof.grid;
+        few = at_most_eight (length c.in_ok-points.points.items) g.parity_count few aloof.limits.parity_chunks.1;
+        nodes = c.in_ok-erased.ensures.len;
+        points_are = points;
+        solver = c.in_ok-solver.ensures ∙ c.deref-2.ensures.value;
+        rising = kept.rising;
+        only_layers = kept.only_layers;
+        partners = λ i n other p there pair below listed.
+            let outside = is_known g lost c.args.parts.now i (sym (c.in_ok-erased.ensures.value i pair.node) ∙ there) in
+            kept.each_layer p below (partner_given g lost i n other p outside.apart pair (kept.given n listed));
+      };
+      few = few;
+      erased_are = c.in_ok-erased.ensures.value;
+      each_layer = kept.each_layer;
+      given = kept.given;
+    }

@@ -1,0 +1,10 @@
+pub mod Shape
+pub mod Limits
+pub mod Code
+pub mod Repair
+pub mod Filled
+pub mod Coded
+pub mod Solved
+pub mod Encoded
+pub mod Rebuilt
+pub mod Worked

@@ -1,0 +1,19 @@
+//! Clay codes of which a repair has fewer helpers than there are other chunks (Vajha et al., "Clay Codes: Moulding MDS Codes to Yield an
+//! MSR Code", FAST 2018, section 6): the chunks that don't help stay aloof.
+#![tactic(auto)]
+
+mod chunks;
+mod fault;
+mod geometry;
+mod laws;
+mod layers;
+mod lost;
+
+pub use chunks::encode;
+pub use fault::BadAloof;
+pub use geometry::AloofGeometry;
+pub use laws::{
+    codes_are_filled, codewords_are_unique, fault_law, full_helpers, parts_are_coded,
+    worked_codeword,
+};
+pub use lost::{aloof_layers, helpers_fit, rebuild};

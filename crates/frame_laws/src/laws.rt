@@ -1,0 +1,19 @@
+//! What the definitions of frames say, as functions that do nothing and whose contracts are the laws.
+
+ghost use Rattle.frame_laws.specs.Cuts.{InputsAreCut, CutsAreTheOnlyOnes};
+ghost use Rattle.frame_laws.specs.Sent.{RequestsAreRead};
+
+/// What a session reads is cut into frames, and what is left holds no whole frame.
+pub fn inputs_are_cut()
+    ensures { InputsAreCut }
+{}
+
+/// No other cut into frames has that property.
+pub fn cuts_are_the_only_ones()
+    ensures { CutsAreTheOnlyOnes }
+{}
+
+/// A request that is written into a frame field by field is read from it.
+pub fn requests_are_read()
+    ensures { RequestsAreRead }
+{}

@@ -1,0 +1,11 @@
+pub mod Adding
+pub mod ServerAdding
+pub mod Own
+pub mod DirectoryAdding
+pub mod Tokens
+pub mod CallSteps
+pub mod Answering
+pub mod Most
+pub mod ServerGiving
+pub mod DirectoryGiving
+pub mod Hearing

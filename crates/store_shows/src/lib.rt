@@ -1,4 +1,0 @@
-//! What a run shows is a history.
-#![tactic(auto)]
-
-pub mod laws;

@@ -1,0 +1,32 @@
+-- The same in a world that tokens of a valid script reach.
+use Rattle.std.specs.Prelude.{◌≡◌, ℕ, List, Some}
+use Rattle.std.specs.List.{slice_get}
+use Rattle.clay_grid.specs.Limits.{IsGeometry}
+use Rattle.store_map.specs.Naming.{IsValid}
+use Rattle.store_map.specs.declared.actor.Actor.TheVariants as actor
+use Rattle.store_map.specs.declared.script.Script.{Script}
+use Rattle.store_core.specs.History.{call_of}
+use Rattle.chunk_server.specs.State.{ServerState}
+use Rattle.stripe_dir.specs.Sealed.{Sealed}
+use Rattle.stripe_dir.specs.Stamped.{HaveContents}
+use Rattle.world_steps.specs.World.{WorldOf}
+use Rattle.world_steps.specs.Tokens.{KeepsToken}
+use Rattle.world_steps.specs.Goes.{IsReached}
+use Rattle.actors.specs.Clients.{ClientOf}
+use Rattle.actors.specs.ClientTurns.{MakesClientTurn}
+use Rattle.world_owes.specs.OfMap.{IsOfMap}
+use Rattle.world_owes.specs.Serving.{ServesItsPins}
+
+-- its directory is of the script, where the stamps have the contents
+abbrev pub WorldsAreOfMap : Type 0
+WorldsAreOfMap =
+    (script : Script) (w : WorldOf) (d : Sealed) → IsGeometry script.geometry → IsValid script → IsReached script w → w.directory ≡ d.core → HaveContents (call_of script) d →
+    IsOfMap script d
+
+-- so a client's turn keeps it there
+abbrev pub WorldsKeepServing : Type 0
+WorldsKeepServing =
+    (script : Script) (w : WorldOf) (i : ℕ) (a after : ClientOf) (d now : Sealed) (servers others : List ServerState) →
+    IsGeometry script.geometry → IsValid script → IsReached script w → w.directory ≡ d.core → HaveContents (call_of script) d →
+    slice_get script.clients i ≡ Some a.part → KeepsToken d.core (actor.Client i) a.actor → MakesClientTurn script i a d servers after now others →
+    ServesItsPins script d.core.points i a → ServesItsPins script now.core.points i after

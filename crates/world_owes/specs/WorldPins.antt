@@ -1,0 +1,31 @@
+-- A call that a world holds and that was answered was served at its pinned point, if it has one.
+use Rattle.std.specs.Prelude.{◌≡◌, ℕ, true, List, Some}
+use Rattle.std.specs.List.{slice_get}
+use Rattle.clay_grid.specs.Limits.{IsGeometry}
+use Rattle.store_map.specs.Naming.{IsValid}
+use Rattle.store_map.specs.declared.actor.Actor.TheVariants as actor
+use Rattle.store_map.specs.declared.script.Script.{Script}
+use Rattle.store_core.specs.Act.{Outcome as CoreOutcome}
+use Rattle.store_core.specs.Directory.{Event, Point, Directory}
+use Rattle.store_core.specs.History.{is_answered}
+use Rattle.chunk_server.specs.State.{ServerState}
+use Rattle.world_steps.specs.World.{WorldOf}
+use Rattle.world_steps.specs.Known.{core_of}
+use Rattle.world_steps.specs.Goes.{IsReached}
+use Rattle.world_lines.specs.declared.calls.ClientCalls.{ClientCalls}
+use Rattle.world_lines.specs.declared.calls.RepairCalls.{RepairCalls}
+use Rattle.world_lines.specs.Served.{outcome_at}
+use Rattle.world_lines.specs.Shown.{Holds}
+
+-- a client's answered call with a pinned point was served at that point
+abbrev pub ListsServeAtPins : List Point → List ClientCalls → Type 0
+ListsServeAtPins points clients =
+    (place i : ℕ) (point : Point) (ended : CoreOutcome) → slice_get points place ≡ Some point → point.actor ≡ actor.Client i → point.event ≡ Event.Pinned →
+    outcome_at clients i point.number ≡ Some ended → is_answered ended ≡ true → ended ≡ CoreOutcome.Served place
+
+-- so it is of the lists that hold the core of a world that tokens reach
+abbrev pub WorldsServeAtPins : Type 0
+WorldsServeAtPins =
+    (script : Script) (w : WorldOf) → IsGeometry script.geometry → IsValid script → IsReached script w →
+    (d : Directory) (servers : List ServerState) (clients : List ClientCalls) (repairers : List RepairCalls) →
+    Holds (core_of script w) d servers clients repairers → ListsServeAtPins d.points clients
