@@ -113,7 +113,7 @@ mapped_job job as_asked [] number asked same next = absurd (true≢false (sym (a
 mapped_job job as_asked (x ∷ calls) zero asked same next = ap (λ (j : Job). Some j) (sym (same x)) ∙ ap (option_map asked_job) next
 mapped_job job as_asked (x ∷ calls) (suc number) asked same next = mapped_job job as_asked calls number asked same next
 
-job_at : (part : PartOf) (number : ℕ) (asked : Asked) → asked_at part number ≡ Some asked → slice_get (work_of part).jobs number ≡ Some (asked_job asked)
+pub job_at : (part : PartOf) (number : ℕ) (asked : Asked) → asked_at part number ≡ Some asked → slice_get (work_of part).jobs number ≡ Some (asked_job asked)
 job_at (PartOf.OfClient part) number asked next = mapped_job job_of Asked.OfClient part.calls number asked (λ x. refl) next
 job_at (PartOf.OfRepairer part) number asked next = mapped_job rebuild_job Asked.OfRepairer part.calls number asked (λ x. refl) next
 

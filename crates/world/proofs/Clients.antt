@@ -24,8 +24,8 @@ use Rattle.world_steps.proofs.Few.{has_left, worlds_make_few_steps}
 use Rattle.actors.specs.Turns.{AreServers, places_of}
 use Rattle.actors.specs.Turned.{Leads as ActorLeads, with_places}
 use Rattle.actors.specs.LeadLaws.{AllTurnsLead}
-use Rattle.actors.specs.Clients.{ClientOf, work_of, IsOfScript, IsPartOf, Knows}
-use Rattle.actors.specs.ClientTurns.{MakesClientTurn, HasMore}
+use Rattle.actors.specs.Callers.{CallerOf, work_of, IsOfScript, IsPartOf, Knows}
+use Rattle.actors.specs.CallerTurns.{MakesCallerTurn, HasMore}
 use Rattle.world_owes.specs.ServeLaws.{HasMorePoints}
 use Rattle.world_owes.proofs.Grow.{histories_grow}
 use Rattle.world_owes.proofs.Serving.{clients_go_on_serving, turns_keep_serving}
@@ -36,7 +36,7 @@ use Rattle.world.proofs.Knowing.{knows_more}
 use Rattle.world.proofs.Lists.{each_set, below, read_back, map_none}
 
 -- what a turn asks of a client
-pub record MayTurn (s : StoredWorld) (i : ℕ) (c : ClientOf) : Type 0 where
+pub record MayTurn (s : StoredWorld) (i : ℕ) (c : CallerOf) : Type 0 where
   pub keeps : KeepsToken s.directory.core (actor.Client i) c.actor
   pub next : length c.actor.ended < length c.part.calls
   pub steps : steps_of c.actor.doing + 1 < 2 ^ 64
@@ -51,12 +51,12 @@ ended_of : (n : ℕ) (ended : List Ended) (doing : DoingOf) → (calling_by n en
 ended_of n ended (DoingOf.Between token) = refl
 ended_of n ended (DoingOf.InCall call steps) = refl
 
-module _ (s : StoredWorld) (is : IsWorld s) (i : ℕ) (c : ClientOf) (there : slice_get s.clients i ≡ Some c) where
+module _ (s : StoredWorld) (is : IsWorld s) (i : ℕ) (c : CallerOf) (there : slice_get s.clients i ≡ Some c) where
   pub at : IsClientAt s.script s.book s.directory i c
   at = is.clients.each i c there
 
   pub actor_there : slice_get (world_of s).clients i ≡ Some c.actor
-  actor_there = slice_get-map (λ (client : ClientOf). client.actor) s.clients i c there
+  actor_there = slice_get-map (λ (client : CallerOf). client.actor) s.clients i c there
 
   pub work_there : slice_get (client_work s.script) i ≡ Some (work_of c.part)
   work_there = slice_get-map (λ (part : ClientPart). record { jobs = map job_of part.calls; leave = part.leave }) s.script.clients i c.part at.its
@@ -90,14 +90,14 @@ module _ (s : StoredWorld) (is : IsWorld s) (i : ℕ) (c : ClientOf) (there : sl
 
 -- a client without a step
 pub idle_client : (s : StoredWorld) → IsWorld s → (i : ℕ) (b : Bool)
-    → ((script : Script) (c : ClientOf) → slice_get s.clients i ≡ Some c → c.book.geometry ≡ script.geometry → b ≡ has_step (work_of c.part) (calling_of script c.actor))
+    → ((script : Script) (c : CallerOf) → slice_get s.clients i ≡ Some c → c.book.geometry ≡ script.geometry → b ≡ has_step (work_of c.part) (calling_of script c.actor))
     → b ≡ false → Leads s.script (client_step s.script i) (world_of s) (world_of s)
 idle_client s is i b has none = by (slice_get s.clients i) refl
   where
-    missing : (clients : List ClientOf) (k : ℕ) → slice_get clients k ≡ None → slice_get (map (λ (client : ClientOf). client.actor) clients) k ≡ None
-    missing clients k e = map_none (λ (client : ClientOf). client.actor) clients k e
+    missing : (clients : List CallerOf) (k : ℕ) → slice_get clients k ≡ None → slice_get (map (λ (client : CallerOf). client.actor) clients) k ≡ None
+    missing clients k e = map_none (λ (client : CallerOf). client.actor) clients k e
 
-    by : (found : Option ClientOf) → slice_get s.clients i ≡ found → Leads s.script (client_step s.script i) (world_of s) (world_of s)
+    by : (found : Option CallerOf) → slice_get s.clients i ≡ found → Leads s.script (client_step s.script i) (world_of s) (world_of s)
     by None e =
         record {
           shortages = [];
@@ -113,12 +113,12 @@ idle_client s is i b has none = by (slice_get s.clients i) refl
         }
 
 -- one that has a step
-pub record HasTurnNow (s : StoredWorld) (i : ℕ) (c : ClientOf) : Type 0 where
+pub record HasTurnNow (s : StoredWorld) (i : ℕ) (c : CallerOf) : Type 0 where
   pub has : has_step (work_of c.part) (calling_of s.script c.actor) ≡ true
   pub turn : MayTurn s i c
 
-pub ready_client : (s : StoredWorld) → IsWorld s → (i : ℕ) (c : ClientOf) → slice_get s.clients i ≡ Some c → (b : Bool)
-    → ((script : Script) (x : ClientOf) → slice_get s.clients i ≡ Some x → x.book.geometry ≡ script.geometry → b ≡ has_step (work_of x.part) (calling_of script x.actor))
+pub ready_client : (s : StoredWorld) → IsWorld s → (i : ℕ) (c : CallerOf) → slice_get s.clients i ≡ Some c → (b : Bool)
+    → ((script : Script) (x : CallerOf) → slice_get s.clients i ≡ Some x → x.book.geometry ≡ script.geometry → b ≡ has_step (work_of x.part) (calling_of script x.actor))
     → b ≡ true → HasTurnNow s i c
 ready_client s is i c there b has holds =
     let code : c.book.geometry ≡ s.script.geometry = ap (λ (book : BookOf). book.geometry) (at s is i c there).same_book ∙ is.code in
@@ -126,15 +126,15 @@ ready_client s is i c there b has holds =
     record { has = may; turn = may_turn s is i c there may }
 
 -- ---- after a turn
-module _ (law : AllTurnsLead) (s : StoredWorld) (is : IsWorld s) (i : ℕ) (c c' : ClientOf) (there : slice_get s.clients i ≡ Some c) (d : Sealed) (servers : List ServerState)
-    (makes : MakesClientTurn s.script i c s.directory s.servers c' d servers) where
+module _ (law : AllTurnsLead) (s : StoredWorld) (is : IsWorld s) (i : ℕ) (c c' : CallerOf) (there : slice_get s.clients i ≡ Some c) (d : Sealed) (servers : List ServerState)
+    (makes : MakesCallerTurn s.script i c s.directory s.servers c' d servers) where
   abbrev after : StoredWorld
   after = changed s d servers (set s.clients i c') s.repairers s.sweeper
 
   world_is : with_client i c'.actor (with_places (places_of d servers) (world_of s)) ≡ world_of (changed s d servers (set s.clients i c') s.repairers s.sweeper)
   world_is =
       ap (λ (actors : List ActorOf). record { directory = d.core; servers = map core_of servers; clients = actors; repairers = (world_of s).repairers; sweeper = s.sweeper })
-      (sym (map-set (λ (client : ClientOf). client.actor) (λ _. c'.actor) s.clients i c c' (below s.clients i c there) (read_back s.clients i c there) refl))
+      (sym (map-set (λ (client : CallerOf). client.actor) (λ _. c'.actor) s.clients i c c' (below s.clients i c there) (read_back s.clients i c there) refl))
 
   led : ActorLeads s.script (client_step s.script i) (world_of s) (world_of (changed s d servers (set s.clients i c') s.repairers s.sweeper))
   led =
@@ -150,15 +150,15 @@ module _ (law : AllTurnsLead) (s : StoredWorld) (is : IsWorld s) (i : ℕ) (c c'
       let was : IsClientAt s.script s.book s.directory i c = at s is i c there in
       let now : IsClientAt s.script s.book d i c' =
       record {
-        its = was.its ∙ ap (λ (x : ClientOf). Some x.part) (sym same);
-        same_book = ap (λ (x : ClientOf). x.book) same ∙ was.same_book;
-        often = ap (λ (x : ClientOf). x.tries) same ∙ was.often;
+        its = was.its ∙ ap (λ (x : CallerOf). Some x.part) (sym same);
+        same_book = ap (λ (x : CallerOf). x.book) same ∙ was.same_book;
+        often = ap (λ (x : CallerOf). x.tries) same ∙ was.often;
         knows = knows;
         serves = turns_keep_serving s.script (world_of s) i c c' s.directory d s.servers servers is.geometry is.valid is.reached refl contents was.its (is.agree.clients i c.actor (actor_there s is i c there)) makes was.serves;
       } in
       let grown : HasMorePoints s.directory.core.points d.core.points =
       histories_grow.turn s.script (actor.Client i) (work_of c.part) c.actor c'.actor (places_of s.directory s.servers) (places_of d servers) makes.makes in
-      let again : (k : ℕ) (x : ClientOf) → IsClientAt s.script s.book s.directory k x → IsClientAt s.script s.book d k x =
+      let again : (k : ℕ) (x : CallerOf) → IsClientAt s.script s.book s.directory k x → IsClientAt s.script s.book d k x =
       λ k x of. record { its = of.its; same_book = of.same_book; often = of.often; knows = knows_more s.directory d more.more x more.is of.knows; serves = (clients_go_on_serving s.script).stays s.directory.core.points d.core.points k x grown of.serves } in
       kept_by s d servers (set s.clients i c') s.repairers s.sweeper (token.Client i) is book (subst (λ (b : BookOf). AreServers b servers) was.same_book held)
       (record {

@@ -16,7 +16,7 @@ use Rattle.store_history.proofs.NamedCalls.{AllCalls, calls_kept, first_calls}
 use Rattle.world_steps.specs.StandsFor.{StandsFor}
 use Rattle.world_steps.proofs.Actors.{Found, found}
 use Rattle.world_steps.proofs.Runs.{runs_reach}
-use Rattle.actors.specs.Clients.{ClientOf, work_of}
+use Rattle.actors.specs.Callers.{CallerOf, work_of}
 use Rattle.actors.specs.Repairers.{RepairOf, rebuild_work_of}
 use Rattle.world.specs.Stored.{StoredWorld, world_of}
 use Rattle.world.specs.Kept.{IsWorld}
@@ -44,11 +44,11 @@ module _ (s : StoredWorld) (is : IsWorld s) where
   stands : StandsFor s.script (world_of s) core
   stands = (runs_reach s.script).core is.reached.tokens (world_of s) is.reached.by.shortages is.reached.by.reaches
 
-  pub few_client_calls : (i : ℕ) (c : ClientOf) → slice_get s.clients i ≡ Some c → length c.actor.ended ≤ 4096
+  pub few_client_calls : (i : ℕ) (c : CallerOf) → slice_get s.clients i ≡ Some c → length c.actor.ended ≤ 4096
   few_client_calls i c there =
       let its : slice_get s.script.clients i ≡ Some c.part = (is.clients.each i c there).its in
       let is_work : slice_get (client_work s.script) i ≡ Some (work_of c.part) = mapped_at work_of s.script.clients i c.part its in
-      let is_a : slice_get (world_of s).clients i ≡ Some c.actor = mapped_at (λ (x : ClientOf). x.actor) s.clients i c there in
+      let is_a : slice_get (world_of s).clients i ≡ Some c.actor = mapped_at (λ (x : CallerOf). x.actor) s.clients i c there in
       let at : Found s.script (work_of c.part) core.clients c.actor i =
       found s.script (client_work s.script) core.clients (world_of s).clients i (work_of c.part) c.actor stands.clients is_work is_a in
       let most : length at.calling.ended ≤ length (work_of c.part).jobs = (calls.clients i at.calling at.is_calling (work_of c.part) is_work).below in

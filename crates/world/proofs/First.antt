@@ -27,7 +27,7 @@ use Rattle.world_steps.proofs.Agreed.{first_tokens_agree}
 use Rattle.world_steps.specs.Goes.{IsReachedBy}
 use Rattle.world_steps.proofs.Goes.{worlds_go_on}
 use Rattle.actors.specs.Turns.{AreServers}
-use Rattle.actors.specs.Clients.{ClientOf, Knows}
+use Rattle.actors.specs.Callers.{CallerOf, Knows}
 use Rattle.actors.specs.Repairers.{RepairOf}
 use Rattle.world_owes.specs.Serving.{ServesItsPins}
 use Rattle.world_owes.proofs.Serving.{clients_go_on_serving}
@@ -120,8 +120,8 @@ pub record HasFirstParts (s : StoredWorld) : Type 0 where
 module _ (s : StoredWorld) (has : HasFirstParts s) where
   client_new : (i : ℕ) (a : ActorOf) → slice_get (world_of s).clients i ≡ Some a → a ≡ new_actor (first_token (actor.Client i))
   client_new i a e =
-      let one : IsMapped (λ (c : ClientOf). c.actor) s.clients i a = mapped (λ (c : ClientOf). c.actor) s.clients i a e in
-      one.is ∙ ap (λ (c : ClientOf). c.actor) (has.clients.each i one.from one.there).first
+      let one : IsMapped (λ (c : CallerOf). c.actor) s.clients i a = mapped (λ (c : CallerOf). c.actor) s.clients i a e in
+      one.is ∙ ap (λ (c : CallerOf). c.actor) (has.clients.each i one.from one.there).first
 
   repairer_new : (i : ℕ) (a : ActorOf) → slice_get (world_of s).repairers i ≡ Some a → a ≡ new_actor (first_token (actor.Repairer i))
   repairer_new i a e =
@@ -135,7 +135,7 @@ module _ (s : StoredWorld) (has : HasFirstParts s) where
         servers =
             ap (map core_of) has.servers
             ∙ all_the_same core_of new_server (λ (number : ℕ). empty_server number s.book) (λ i. refl) 0 (chunk_count s.script.geometry);
-        client_count = length-map s.clients (λ (c : ClientOf). c.actor) ∙ has.clients.count;
+        client_count = length-map s.clients (λ (c : CallerOf). c.actor) ∙ has.clients.count;
         clients = all_of IsNew (world_of s).clients (λ i a e. (first_token (actor.Client i), client_new i a e));
         repairer_count = length-map s.repairers (λ (c : RepairOf). c.actor) ∙ has.repairers.count;
         repairers = all_of IsNew (world_of s).repairers (λ i a e. (first_token (actor.Repairer i), repairer_new i a e));
@@ -155,14 +155,14 @@ module _ (s : StoredWorld) (has : HasFirstParts s) where
             (ap (λ (x : ServerState). x.number) is ∙ at, ap (λ (x : ServerState). x.book) is);
       }
 
-  client_there : (i : ℕ) (c : ClientOf) → slice_get s.clients i ≡ Some c → IsClientAt s.script s.book s.directory i c
+  client_there : (i : ℕ) (c : CallerOf) → slice_get s.clients i ≡ Some c → IsClientAt s.script s.book s.directory i c
   client_there i c e =
       let of : IsFirstClient s.script s.book i c = has.clients.each i c e in
       record {
-        its = of.its ∙ ap (λ (x : ClientOf). Some x.part) (sym of.first);
-        same_book = ap (λ (x : ClientOf). x.book) of.first;
-        often = ap (λ (x : ClientOf). x.tries) of.first;
-        knows = subst (λ (x : ClientOf). Knows s.directory x) (sym of.first) tt;
+        its = of.its ∙ ap (λ (x : CallerOf). Some x.part) (sym of.first);
+        same_book = ap (λ (x : CallerOf). x.book) of.first;
+        often = ap (λ (x : CallerOf). x.tries) of.first;
+        knows = subst (λ (x : CallerOf). Knows s.directory x) (sym of.first) tt;
         serves = subst (ServesItsPins s.script s.directory.core.points i) (sym of.first) ((clients_go_on_serving s.script).first s.directory.core.points i of.part s.book (tries_of s.script) (client_seat i));
       }
 
@@ -193,7 +193,7 @@ module _ (s : StoredWorld) (has : HasFirstParts s) where
       }
 
 -- the parts, one by one
-pub parts_are : (script : Script) (book : BookOf) (directory : Sealed) (servers : List ServerState) (clients : List ClientOf) (repairers : List RepairOf) (sweeper : SweeperOf) (count : ℕ)
+pub parts_are : (script : Script) (book : BookOf) (directory : Sealed) (servers : List ServerState) (clients : List CallerOf) (repairers : List RepairOf) (sweeper : SweeperOf) (count : ℕ)
     → IsGeometry script.geometry → IsValid script → book.script ≡ Some script → book.geometry ≡ script.geometry → directory ≡ first_directory script book → servers ≡ first_servers script book
     → AreFirstClients script book clients → AreFirstRepairers script book repairers → sweeper ≡ new_sweeper count → count ≡ chunk_count script.geometry
     → HasFirstParts (record { script = script; book = book; directory = directory; servers = servers; clients = clients; repairers = repairers; sweeper = sweeper })

@@ -12,7 +12,7 @@ use Rattle.world_steps.specs.Tokens.{TokensAgree}
 use Rattle.world_steps.specs.Goes.{Leads}
 use Rattle.world_steps.proofs.Goes.{worlds_go_on}
 use Rattle.actors.specs.Turns.{AreServers}
-use Rattle.actors.specs.Clients.{ClientOf}
+use Rattle.actors.specs.Callers.{CallerOf}
 use Rattle.actors.specs.Repairers.{RepairOf}
 use Rattle.world_owes.specs.ServeLaws.{HasMorePoints}
 use Rattle.world_owes.proofs.Serving.{clients_go_on_serving}
@@ -22,11 +22,11 @@ use Rattle.world.proofs.Knowing.{knows_more}
 use Rattle.world.proofs.Lists.{each_set}
 
 -- the world with other parts
-abbrev pub changed : StoredWorld → Sealed → List ServerState → List ClientOf → List RepairOf → SweeperOf → StoredWorld
+abbrev pub changed : StoredWorld → Sealed → List ServerState → List CallerOf → List RepairOf → SweeperOf → StoredWorld
 changed s d servers clients repairers sweeper =
     record { script = s.script; book = s.book; directory = d; servers = servers; clients = clients; repairers = repairers; sweeper = sweeper }
 
-pub kept_by : (s : StoredWorld) (d : Sealed) (servers : List ServerState) (clients : List ClientOf) (repairers : List RepairOf) (sweeper : SweeperOf) (t : Token) → IsWorld s
+pub kept_by : (s : StoredWorld) (d : Sealed) (servers : List ServerState) (clients : List CallerOf) (repairers : List RepairOf) (sweeper : SweeperOf) (t : Token) → IsWorld s
     → d.book ≡ s.directory.book → AreServers s.book servers → AreClients s.script s.book d clients → AreRepairers s.script s.book repairers
     → TokensAgree (world_of (changed s d servers clients repairers sweeper))
     → Leads s.script (step_core s.script t) (world_of s) (world_of (changed s d servers clients repairers sweeper))
@@ -47,7 +47,7 @@ kept_by s d servers clients repairers sweeper t is book of_book of_clients of_re
     }
 
 -- what clients know and serve stays through steps that draw nothing
-pub clients_stay : (script : Script) (book : BookOf) (d now : Sealed) (clients : List ClientOf) → now.stamps ≡ d.stamps → HasMorePoints d.core.points now.core.points → AreClients script book d clients → AreClients script book now clients
+pub clients_stay : (script : Script) (book : BookOf) (d now : Sealed) (clients : List CallerOf) → now.stamps ≡ d.stamps → HasMorePoints d.core.points now.core.points → AreClients script book d clients → AreClients script book now clients
 clients_stay script book d now clients same more are =
     record {
       count = are.count;

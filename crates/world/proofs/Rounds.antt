@@ -15,7 +15,7 @@ use Rattle.world_steps.specs.Known.{calling_of, core_of}
 use Rattle.world_steps.specs.RoundLaws.{client_turns, repairer_turns, sweep_turn}
 use Rattle.world_steps.proofs.Rounds.{rounds_are_rounds}
 use Rattle.world_steps.specs.Goes.{Leads}
-use Rattle.actors.specs.Clients.{ClientOf, work_of}
+use Rattle.actors.specs.Callers.{CallerOf, work_of}
 use Rattle.actors.specs.Repairers.{RepairOf, rebuild_work_of}
 use Rattle.world.specs.Stored.{StoredWorld, world_of}
 use Rattle.world.specs.Kept.{IsWorld}
@@ -54,8 +54,8 @@ module _ (script : Script) (w : WorldOf) where
       }
 
 -- ---- whether somebody has a step
-any_client : (script : Script) (parts : List ClientPart) (clients : List ClientOf) → length clients ≡ length parts
-    → ((i : ℕ) (c : ClientOf) → slice_get clients i ≡ Some c → slice_get parts i ≡ Some c.part)
+any_client : (script : Script) (parts : List ClientPart) (clients : List CallerOf) → length clients ≡ length parts
+    → ((i : ℕ) (c : CallerOf) → slice_get clients i ≡ Some c → slice_get parts i ≡ Some c.part)
     → any_has_step (map (λ part. record { jobs = map job_of part.calls; leave = part.leave }) parts) (map (calling_of script) (map (λ client. client.actor) clients)) ≡ some_client_has script clients
 any_client script [] [] count each = refl
 any_client script [] (c ∷ clients) count each = absurd (omega (arith, count))

@@ -12,19 +12,19 @@ use Rattle.version_seal.specs.Entry.{BookOf}
 use Rattle.chunk_server.specs.State.{ServerState, empty_server}
 use Rattle.stripe_dir.specs.Sealed.{Sealed}
 use Rattle.stripe_dir.specs.Seats.{client_seat, repairer_seat}
-use Rattle.actors.specs.Clients.{ClientOf, first_client}
+use Rattle.actors.specs.Callers.{CallerOf, first_client}
 use Rattle.actors.specs.Repairers.{RepairOf, first_repairer}
 
 -- a client at its place of the script that has made no call
-pub record IsFirstClient (script : Script) (book : BookOf) (place : ℕ) (client : ClientOf) : Type 0 where
+pub record IsFirstClient (script : Script) (book : BookOf) (place : ℕ) (client : CallerOf) : Type 0 where
   pub part : ClientPart
   pub its : slice_get script.clients place ≡ Some part
   pub first : client ≡ first_client part book (tries_of script) (client_seat place)
 
 -- the script's clients
-pub record AreFirstClients (script : Script) (book : BookOf) (clients : List ClientOf) : Type 0 where
+pub record AreFirstClients (script : Script) (book : BookOf) (clients : List CallerOf) : Type 0 where
   pub count : length clients ≡ length script.clients
-  pub each : (i : ℕ) (client : ClientOf) → slice_get clients i ≡ Some client → IsFirstClient script book i client
+  pub each : (i : ℕ) (client : CallerOf) → slice_get clients i ≡ Some client → IsFirstClient script book i client
 
 -- a repairer at its place that has made no call
 pub record IsFirstRepairer (script : Script) (book : BookOf) (place : ℕ) (repairer : RepairOf) : Type 0 where

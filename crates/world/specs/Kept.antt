@@ -10,13 +10,13 @@ use Rattle.stripe_dir.specs.Sealed.{Sealed}
 use Rattle.world_steps.specs.Tokens.{TokensAgree}
 use Rattle.world_steps.specs.Goes.{IsReached}
 use Rattle.actors.specs.Turns.{AreServers}
-use Rattle.actors.specs.Clients.{ClientOf, Knows}
+use Rattle.actors.specs.Callers.{CallerOf, Knows}
 use Rattle.actors.specs.Repairers.{RepairOf}
 use Rattle.world_owes.specs.Serving.{ServesItsPins}
 use Rattle.world.specs.Stored.{StoredWorld, world_of}
 
 -- a client at its place of the script, which knows by the directory's stamps what it keeps, and whose calls read what the map has at the points of their looks
-pub record IsClientAt (script : Script) (book : BookOf) (d : Sealed) (place : ℕ) (client : ClientOf) : Type 0 where
+pub record IsClientAt (script : Script) (book : BookOf) (d : Sealed) (place : ℕ) (client : CallerOf) : Type 0 where
   pub its : slice_get script.clients place ≡ Some client.part
   pub same_book : client.book ≡ book
   pub often : client.tries ≡ tries_of script
@@ -24,9 +24,9 @@ pub record IsClientAt (script : Script) (book : BookOf) (d : Sealed) (place : �
   pub serves : ServesItsPins script d.core.points place client
 
 -- as many clients as the script has, each at its place
-pub record AreClients (script : Script) (book : BookOf) (d : Sealed) (clients : List ClientOf) : Type 0 where
+pub record AreClients (script : Script) (book : BookOf) (d : Sealed) (clients : List CallerOf) : Type 0 where
   pub count : length clients ≡ length script.clients
-  pub each : (i : ℕ) (client : ClientOf) → slice_get clients i ≡ Some client → IsClientAt script book d i client
+  pub each : (i : ℕ) (client : CallerOf) → slice_get clients i ≡ Some client → IsClientAt script book d i client
 
 -- a repairer at its place
 pub record IsRepairerAt (script : Script) (book : BookOf) (place : ℕ) (repairer : RepairOf) : Type 0 where

@@ -10,13 +10,13 @@ use crate::world::World;
 use actors::{ClientActor, RepairActor};
 use std::alloc::{AllocError, Global};
 use transcript_text::Transcript;
-use world_lines::{ClientCalls, RepairCalls, make_transcript};
+use world_lines::{CallerCalls, CallerCalls, make_transcript};
 
 // The clients' calls, in their order.
 fn client_calls(
     alloc: Global,
     mut clients: Vec<ClientActor>,
-) -> Result<Vec<ClientCalls>, AllocError>
+) -> Result<Vec<CallerCalls>, AllocError>
     ensures { IfOk result (λ calls. AreCallsOf clients.entry.items calls.items) }
 {
     let mut calls = match Vec::with_capacity(alloc, clients.len()) {
@@ -38,7 +38,7 @@ fn client_calls(
 fn repairer_calls(
     alloc: Global,
     mut repairers: Vec<RepairActor>,
-) -> Result<Vec<RepairCalls>, AllocError>
+) -> Result<Vec<CallerCalls>, AllocError>
     ensures { IfOk result (λ calls. AreRepairsOf repairers.entry.items calls.items) }
 {
     let mut calls = match Vec::with_capacity(alloc, repairers.len()) {

@@ -5,7 +5,7 @@ ghost use Rattle.store_core.specs.Run.{client_step, repairer_step};
 ghost use Rattle.store_core.specs.Work.{has_step};
 ghost use Rattle.world_steps.specs.Known.{calling_of};
 ghost use Rattle.world_steps.specs.Goes.{Leads};
-ghost use Rattle.actors.specs.Clients.{ClientOf, work_of};
+ghost use Rattle.actors.specs.Callers.{CallerOf, work_of};
 ghost use Rattle.actors.specs.Repairers.{RepairOf, rebuild_work_of};
 ghost use Rattle.world.specs.Stored.{world_of};
 
@@ -19,7 +19,7 @@ use std::thread::Threads;
 // Whether there is such a client and it has a step.
 fn client_has_step(clients: &Vec<ClientActor>, i: u32) -> bool
     ensures there { result ≡ true → i < length clients.now.items }
-    ensures has { (script : Script) (client : ClientOf) → slice_get clients.now.items i ≡ Some client → client.book.geometry ≡ script.geometry
+    ensures has { (script : Script) (client : CallerOf) → slice_get clients.now.items i ≡ Some client → client.book.geometry ≡ script.geometry
         → result ≡ has_step (work_of client.part) (calling_of script client.actor) }
 {
     match clients.get(i as usize) {

@@ -1,6 +1,6 @@
 use Rattle.std.proofs.Common.{◌≡◌, ℕ, ◌+◌, ◌<◌, ◌++◌, ◌∷◌, [], List, length, get_or, slice_get, Some, ap, sym, subst, ◌∙◌, arith}
 use Rattle.std.proofs.lemmas.List.{length-append}
-use Rattle.world_lines.specs.declared.calls.RepairCalls.{RepairCalls}
+use Rattle.world_lines.specs.declared.calls.CallerCalls.{CallerCalls}
 use Rattle.actors.specs.Repairers.{RepairOf}
 use Rattle.world.specs.Ending.{IsRepairsOf}
 use Rattle.world.proofs.Seating.{next_seats, first_left, each_more}
@@ -20,7 +20,7 @@ loop-made-preserved c =
       rest = next_seats c.remove-repairer.new.self.items c.loop-made.repairers.items all c.loop-made._made c.remove-repairer.ensures.items c.loop-made.invariant.rest;
       count = ap length c.push_reserved.ensures.items ∙ sum ∙ ap (λ (n : ℕ). n + 1) c.loop-made.invariant.count;
       each =
-          subst (λ (l : List RepairCalls). (i : ℕ) (x : RepairCalls) → slice_get l i ≡ Some x → IsRepairsOf all i x) (sym c.push_reserved.ensures.items)
+          subst (λ (l : List CallerCalls). (i : ℕ) (x : CallerCalls) → slice_get l i ≡ Some x → IsRepairsOf all i x) (sym c.push_reserved.ensures.items)
           (each_more (IsRepairsOf all) c.loop-made.calls.items c.into_calls.result c.loop-made.invariant.each
           (subst (λ (n : ℕ). IsRepairsOf all n c.into_calls.result) (sym c.loop-made.invariant.count) one));
       room = omega (arith, c.push_reserved.ensures.capacity, c.loop-made.invariant.room);

@@ -1,5 +1,5 @@
 use Rattle.std.proofs.Common.{◌≡◌, ◌≤◌, ℕ, length, drop, slice_get, Some, vec_capacity}
-use Rattle.world_lines.specs.declared.calls.RepairCalls.{RepairCalls}
+use Rattle.world_lines.specs.declared.calls.CallerCalls.{CallerCalls}
 use Rattle.world.specs.Ending.{IsRepairsOf}
 use Rattle.world.proofs.ending.repairer_calls.Given as goal
 
@@ -7,6 +7,6 @@ abbrev pub invariant-loop-made : goal.invariant-loop-made
 invariant-loop-made l = record {
   rest : l.repairers.items ≡ drop l._made l.fn.repairers.items;
   count : length l.calls.items ≡ l._made;
-  each : (i : ℕ) (calls : RepairCalls) → slice_get l.calls.items i ≡ Some calls → IsRepairsOf l.fn.repairers.items i calls;
+  each : (i : ℕ) (calls : CallerCalls) → slice_get l.calls.items i ≡ Some calls → IsRepairsOf l.fn.repairers.items i calls;
   room : length l.fn.repairers.items ≤ vec_capacity l.calls;
 }

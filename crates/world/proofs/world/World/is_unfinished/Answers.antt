@@ -2,7 +2,7 @@ use Rattle.std.proofs.Common.{◌≡◌, true, List, subst, ◌∙◌}
 use Rattle.store_core.specs.Core.{sweeper_has_step}
 use Rattle.store_core.specs.Schedule.{is_unfinished}
 use Rattle.world_steps.specs.Known.{core_of}
-use Rattle.actors.specs.Clients.{ClientOf}
+use Rattle.actors.specs.Callers.{CallerOf}
 use Rattle.actors.specs.Repairers.{RepairOf}
 use Rattle.world.specs.Stored.{StoredWorld, world_of}
 use Rattle.world.specs.Inside.{stored_in}
@@ -13,7 +13,7 @@ use Rattle.world.proofs.world.World.is_unfinished.Goals as goal
 pub returns-then-some_client_has_step : goal.returns-then-some_client_has_step
 returns-then-some_client_has_step c =
     let one : c.some_client_has_step.result ≡ some_client_has c.self.inside.script.now c.self.inside.clients.items =
-    subst (λ (l : List ClientOf). AreOfCode c.self.inside.script.now l → c.some_client_has_step.result ≡ some_client_has c.self.inside.script.now l) c.deref.ensures.value
+    subst (λ (l : List CallerOf). AreOfCode c.self.inside.script.now l → c.some_client_has_step.result ≡ some_client_has c.self.inside.script.now l) c.deref.ensures.value
     (c.some_client_has_step.ensures c.self.inside.script.now) (clients_of_code (stored_in c.self.inside) c.self.invariant) in
     subst (λ (s : StoredWorld). true ≡ is_unfinished s.script (core_of s.script (world_of s))) c.self.view_is
     (by_client (stored_in c.self.inside) c.self.invariant c.some_client_has_step.result one c.if-some_client_has_step.true)
@@ -21,7 +21,7 @@ returns-then-some_client_has_step c =
 pub returns-then-some_repairer_has_step : goal.returns-then-some_repairer_has_step
 returns-then-some_repairer_has_step c =
     let one : c.some_client_has_step.result ≡ some_client_has c.self.inside.script.now c.self.inside.clients.items =
-    subst (λ (l : List ClientOf). AreOfCode c.self.inside.script.now l → c.some_client_has_step.result ≡ some_client_has c.self.inside.script.now l) c.deref.ensures.value
+    subst (λ (l : List CallerOf). AreOfCode c.self.inside.script.now l → c.some_client_has_step.result ≡ some_client_has c.self.inside.script.now l) c.deref.ensures.value
     (c.some_client_has_step.ensures c.self.inside.script.now) (clients_of_code (stored_in c.self.inside) c.self.invariant) in
     let two : c.some_repairer_has_step.result ≡ some_repairer_has c.self.inside.script.now c.self.inside.repairers.items =
     subst (λ (l : List RepairOf). RepairsAreOfCode c.self.inside.script.now l → c.some_repairer_has_step.result ≡ some_repairer_has c.self.inside.script.now l) c.deref-2.ensures.value
@@ -32,7 +32,7 @@ returns-then-some_repairer_has_step c =
 pub returns : goal.returns
 returns c =
     let one : c.some_client_has_step.result ≡ some_client_has c.self.inside.script.now c.self.inside.clients.items =
-    subst (λ (l : List ClientOf). AreOfCode c.self.inside.script.now l → c.some_client_has_step.result ≡ some_client_has c.self.inside.script.now l) c.deref.ensures.value
+    subst (λ (l : List CallerOf). AreOfCode c.self.inside.script.now l → c.some_client_has_step.result ≡ some_client_has c.self.inside.script.now l) c.deref.ensures.value
     (c.some_client_has_step.ensures c.self.inside.script.now) (clients_of_code (stored_in c.self.inside) c.self.invariant) in
     let two : c.some_repairer_has_step.result ≡ some_repairer_has c.self.inside.script.now c.self.inside.repairers.items =
     subst (λ (l : List RepairOf). RepairsAreOfCode c.self.inside.script.now l → c.some_repairer_has_step.result ≡ some_repairer_has c.self.inside.script.now l) c.deref-2.ensures.value
