@@ -11,10 +11,9 @@ use Rattle.call_steps.specs.CallOf.{CallOf, act_of}
 use Rattle.call_steps.specs.Steps.{need_of}
 use Rattle.call_stands.proofs.Needs.{needs_tell_acts}
 use Rattle.client_read.specs.Owed.{owed_by as read_by}
-use Rattle.client_put.specs.Draws.{stamps_by as put_by}
-use Rattle.client_patch.specs.Draws.{stamps_by as patch_by}
+use Rattle.write_course.specs.Draws.{stamps_by}
 use Rattle.call_machine.specs.Kinds.{Asked, Machine, client_machine, machine_of, IfPatches, IfDraws}
-use Rattle.call_machine.specs.Calls.{MachineOf, put_of, patch_of, drawn_in, drawn_for, drawn_by, owed_in, owed_by}
+use Rattle.call_machine.specs.Calls.{MachineOf, drawn_in, drawn_for, drawn_by, owed_in, owed_by}
 
 -- a coding that is due says whether memory was wanting
 pub owed_coded : {P : Type 0} (c : CallOf) (coding : Bool) → need_of c ≡ need.Coder → (coding ≡ false → P) → (c.due && coding) ≡ false → P
@@ -31,8 +30,8 @@ module _ (short : Bool) (d : Sealed) (c : MachineOf) (server : ℕ) (step : Serv
   drawn_at_server : (m : Machine) (written : Call) → drawn_in m short d c written ≡ []
   drawn_at_server Machine.Reads written = refl
   drawn_at_server Machine.Rebuilds written = refl
-  drawn_at_server Machine.Puts written = ap (λ (a : Act). put_by a short d (put_of c written)) act
-  drawn_at_server Machine.Patches written = ap (λ (a : Act). patch_by a short d (patch_of c written)) act
+  drawn_at_server Machine.Puts written = ap (λ (a : Act). stamps_by a short d c.call written) act
+  drawn_at_server Machine.Patches written = ap (λ (a : Act). stamps_by a short d c.call written) act
 
   drawn_for_server : (asked : Asked) → drawn_for asked short d c ≡ []
   drawn_for_server (Asked.OfClient written) = drawn_at_server (client_machine written) written

@@ -7,11 +7,9 @@ use Rattle.store_resume.specs.State.{first_state}
 use Rattle.version_seal.specs.Entry.{BookOf, StampOf}
 use Rattle.stripe_dir.specs.Sealed.{Sealed}
 use Rattle.call_steps.specs.CallOf.{CallOf, tries_by}
+use Rattle.write_course.specs.Draws.{stamps_drawn}
 use Rattle.client_read.specs.Owed.{owed_after}
-use Rattle.client_put.specs.Puts.{PutOf}
-use Rattle.client_put.specs.Draws.{stamps_drawn as drawn_by_put}
 use Rattle.client_patch.specs.Patches.{PatchOf}
-use Rattle.client_patch.specs.Draws.{stamps_drawn as drawn_by_patch}
 use Rattle.client_patch.specs.Known.{KnowsOld}
 use Rattle.call_machine.specs.Kinds.{Asked, asked_job, Machine, client_machine, machine_of, IfPatches}
 
@@ -50,17 +48,14 @@ first_call book tries seat number asked =
       kept = [];
     }
 
--- a client's call as the machine of puts and that of writes and deletes show it
-abbrev pub put_of : MachineOf → Call → PutOf
-put_of c written = record { call = c.call; written = written }
-
+-- a client's call as the machine of writes and deletes shows it
 abbrev pub patch_of : MachineOf → Call → PatchOf
 patch_of c written = record { call = c.call; written = written; size = c.size; kept = c.kept }
 
 -- the stamps that its next step draws, in which memory is wanting or not
 abbrev pub drawn_in : Machine → Bool → Sealed → MachineOf → Call → List StampOf
-drawn_in Machine.Puts short d c written = drawn_by_put short d (put_of c written)
-drawn_in Machine.Patches short d c written = drawn_by_patch short d (patch_of c written)
+drawn_in Machine.Puts short d c written = stamps_drawn short d c.call written
+drawn_in Machine.Patches short d c written = stamps_drawn short d c.call written
 drawn_in machine short d c written = []
 
 abbrev pub drawn_for : Asked → Bool → Sealed → MachineOf → List StampOf

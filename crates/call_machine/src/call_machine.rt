@@ -10,7 +10,7 @@ ghost use Rattle.chunk_server.specs.State.{IsSame};
 ghost use Rattle.call_steps.specs.Steps.{IfServer};
 ghost use Rattle.stripe_dir.specs.Sealed.{Sealed};
 ghost use Rattle.call_steps.specs.CallOf.{act_of, taken_of};
-ghost use Rattle.call_steps.specs.Steps.{need_of, stepped_at_directory, stepped_at_server, coded, HoldsItsPass, IsDueInPass};
+ghost use Rattle.call_steps.specs.Steps.{need_of, stepped_at_directory, stepped_at_server, coded, HoldsItsPass, IsDueInPass, MayMakeNext};
 ghost use Rattle.world_lines.specs.Outcomes.{call_outcome_of};
 ghost use Rattle.call_steps.specs.Callers.{IsOfScript};
 ghost use Rattle.client_patch.specs.Padded.{ArePadded};
@@ -140,6 +140,7 @@ impl<'a> CallMachine<'a> {
         ensures need { result ≡ need_of self.now.call }
         ensures in_pass { IsDueInPass self.now.call }
         ensures pass { HoldsItsPass self.now.call }
+        ensures may { MayMakeNext self.now.call }
         ensures below { IfServer result (λ server. server < chunk_count self.now.call.book.geometry) }
     {
         match &self.kind {

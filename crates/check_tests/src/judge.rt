@@ -1,3 +1,4 @@
+//! What the checker prints of a script and a transcript.
 use hist_check::check;
 use hist_tables::verdict_line;
 use script_text::read_script;

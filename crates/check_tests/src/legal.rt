@@ -1,3 +1,4 @@
+//! Transcripts that break no rule.
 use crate::judge::{END, SCRIPT, has_lines};
 use std::test::Fail;
 

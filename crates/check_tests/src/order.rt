@@ -1,3 +1,4 @@
+//! Transcripts whose calls or replies aren't those of an order of the calls.
 use crate::judge::{END, SCRIPT, has_lines};
 use std::test::Fail;
 

@@ -1,3 +1,4 @@
+//! Transcripts with a refusal that nothing caused.
 use crate::judge::{END, SCRIPT, has_lines};
 use std::test::Fail;
 

@@ -1,3 +1,4 @@
+//! Transcripts that end with other lines than their calls leave.
 use crate::judge::{END, SCRIPT, has_lines};
 use std::test::Fail;
 

@@ -7,6 +7,7 @@ ghost use Rattle.clay_c.specs.Calls.{place_among_others, parts_of, Rebuilds};
 
 use crate::pieces::take;
 use clay_grid::Geometry;
+use clay_lanes::rebuild_into;
 use std::alloc::{AllocError, Global};
 
 /// The bytes of a part, which has the repair layers alone.
@@ -59,7 +60,6 @@ pub fn write_rebuilt(
     ensures kept { OnErr result (chunk.new ≡ chunk.old) }
 {
     let have = others(alloc, g, lost, bytes)?;
-    let rebuilt = clay_lanes::rebuild(alloc, g, lost, &have)?;
-    chunk.copy_from_slice(&rebuilt);
+    rebuild_into(alloc, g, lost, &have, chunk)?;
     Ok(())
 }

@@ -6,7 +6,7 @@ use Rattle.std.proofs.lemmas.List.{take_at, drop_at, length-take-le, get_or-take
 use Rattle.std.proofs.lemmas.List.FromFn.{length-map-range_with_len}
 use Rattle.clay_grid.specs.Shape.{Shape, chunk_count, chunk_length}
 use Rattle.clay_model.specs.Code.{Codes}
-use Rattle.clay_lanes.specs.Parity.{data_pieces}
+use Rattle.clay_parity.specs.Parity.{data_pieces}
 
 -- lists of pieces of one length are equal if they are equal when they are joined
 same_pieces : (n : ℕ) (xs ys : List (List ℕ)) → length xs ≡ length ys → ((c : ℕ) → c < length xs → length (get_or xs c []) ≡ n)

@@ -9,11 +9,11 @@ use Rattle.clay_model.specs.Sums.{sum_below}
 use Rattle.clay_scalar.specs.Erased.{present}
 use Rattle.clay_encode.proofs.Parts.{put_mid_before, put_mid_within, place_below}
 use Rattle.clay_decode.specs.Solved.{uncoupled_byte}
-use Rattle.clay_lanes.specs.Generated.{IsGeneratorOf}
-use Rattle.clay_lanes.specs.declared.column.ColumnFactors.{ColumnFactors}
-use Rattle.clay_lanes.specs.Columns.{IsColumn, AreColumns, AddsColumn, IsColumnForm, EndsColumn}
+use Rattle.clay_kernels.specs.Generated.{IsGeneratorOf}
+use Rattle.clay_kernels.specs.declared.column.ColumnFactors.{ColumnFactors}
+use Rattle.clay_kernels.specs.Columns.{IsColumn, AreColumns, AddsColumn, IsColumnForm, EndsColumn}
 use Rattle.clay_lanes.specs.Recovered.{IsUncoupled, IsPresent, HoldsColumn}
-use Rattle.clay_lanes.proofs.ColumnLaws.{known_sum, column_begun, column_more, column_skipped, column_ended}
+use Rattle.clay_kernels.proofs.ColumnLaws.{known_sum, column_begun, column_more, column_skipped, column_ended}
 use Rattle.clay_lanes.proofs.Recovery.{HoldsSums}
 
 -- ---- the values of a column

@@ -22,10 +22,10 @@ use Rattle.clay_decode.specs.Left.{Completes}
 use Rattle.clay_decode.specs.Solved.{uncoupled_byte}
 use Rattle.clay_decode.proofs.Layer.{coupled_below, lower_earlier}
 use Rattle.clay_decode.proofs.Nodes.{IsNodeOf, agreeing_chunk, chunk_byte}
-use Rattle.clay_lanes.specs.Lanes.{AddsRows}
-use Rattle.clay_lanes.specs.Generated.{factor_at, generated, IsGeneratorOf}
+use Rattle.clay_kernels.specs.Lanes.{AddsRows}
+use Rattle.clay_kernels.specs.Generated.{factor_at, generated, IsGeneratorOf}
 use Rattle.clay_lanes.specs.Recovered.{IsCoupled, IsUncoupled, HoldsRows, HoldsLayerRows, HoldsLower, HoldsByte}
-use Rattle.clay_lanes.proofs.ParityLemmas.{sum_byte}
+use Rattle.clay_parity.proofs.ParityLemmas.{sum_byte}
 
 -- ---- pieces
 

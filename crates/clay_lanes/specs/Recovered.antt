@@ -8,7 +8,7 @@ use Rattle.clay_grid.specs.Score.{score_at, IsByScore}
 use Rattle.clay_scalar.specs.Erased.{erased_below, present}
 use Rattle.clay_decode.specs.Left.{AreLong, Completes}
 use Rattle.clay_decode.specs.Solved.{is_erased, coupled_byte, uncoupled_byte}
-use Rattle.clay_lanes.specs.Generated.{IsGeneratorOf}
+use Rattle.clay_kernels.specs.Generated.{IsGeneratorOf}
 use Rattle.clay_lanes.specs.declared.plan.Plan.{Plan}
 
 -- the erased nodes, the order of the layers, and a subchunk of zeros, for chunks of which few enough are missing

@@ -5,10 +5,10 @@ ghost use Rattle.clay_grid.specs.Shape.{chunk_count, chunk_length};
 ghost use Rattle.clay_encode.specs.Chunks.{contents};
 ghost use Rattle.clay_decode.specs.Left.{AreLong, Completes};
 
-use crate::chunks::parity;
 use crate::lost::{missing_count, recover};
 use clay_decode::CheckedFault;
 use clay_grid::Geometry;
+use clay_parity::parity;
 use std::alloc::{AllocError, Global};
 
 /// The stripe that the data chunks are.

@@ -1,8 +1,8 @@
 //! The fast coder of one thread.
-use crate::chunks::encode;
 use crate::lost::recover;
 use crate::repair::rebuild;
 use clay_grid::Geometry;
+use clay_parity::encode;
 use clay_repair::Coder;
 use std::alloc::{AllocError, Global};
 use std::thread::Threads;

@@ -4,11 +4,10 @@ ghost use Rattle.clay_grid.specs.Shape.{node_count, layer_count};
 ghost use Rattle.clay_decode.specs.Left.{Completes};
 ghost use Rattle.clay_lanes.specs.Recovered.{IsLanePlan, IsCoupled, IsUncoupled, IsPresent, HoldsColumn, HoldsRows, HoldsLayerRows, HoldsLower};
 
-use crate::column::{add_column, column_room, end_column};
-use crate::coupling::{uncouple, uncouple_from};
 use crate::plan::{Plan, is_column_erased};
 use clay_decode::partner_of;
 use clay_grid::Geometry;
+use clay_kernels::{add_column, column_room, end_column, uncouple, uncouple_from};
 
 /// The bytes from `at` on of subchunk `z` of a node that is not erased, as many as `len`.
 pub fn piece<'a>(

@@ -7,12 +7,11 @@ ghost use Rattle.clay_decode.specs.Left.{parts, AreLong, Completes};
 ghost use Rattle.clay_repair.specs.Coding.{AreLeft, AreRecovered};
 ghost use Rattle.clay_lanes.specs.Recovered.{IsLanePlan, IsCoupled, HoldsLayerRows, HoldsByte, missing_of, AreMissing};
 
-use crate::chunks::BLOCK;
-use crate::coupling::{couple, uncouple};
 use crate::layers::{piece, solve_layers, solved_piece};
-use crate::plan::{Plan, make_plan, zeros};
+use crate::plan::{Plan, make_plan};
 use clay_decode::{DecodeFault, partner_of};
 use clay_grid::Geometry;
+use clay_kernels::{BLOCK, couple, uncouple, zeros};
 use std::alloc::{AllocError, Global};
 
 /// Writes the bytes from `at` on of subchunk `z` of an erased node, as many as `len`.

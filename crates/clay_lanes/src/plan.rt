@@ -1,18 +1,15 @@
 //! What a call of decoding works with.
-ghost use Rattle.std.specs.Prelude.{◌≡◌, ℕ, ◌+◌, ◌*◌, ◌<◌, ◌≤◌, length, IfOk, slice_index_or, true, false, count_by, is_none, replicate};
+ghost use Rattle.std.specs.Prelude.{◌≡◌, ℕ, ◌+◌, ◌*◌, ◌<◌, ◌≤◌, length, IfOk, slice_index_or, true, false, count_by, is_none};
 ghost use Rattle.clay_grid.specs.Shape.{Shape, chunk_count, node_count, chunk_length};
 ghost use Rattle.clay_scalar.specs.Erased.{erased_below};
 ghost use Rattle.clay_scalar.specs.Points.{AreDistinct};
 ghost use Rattle.clay_decode.specs.Left.{AreLong};
 ghost use Rattle.clay_decode.specs.Solved.{is_erased};
-ghost use Rattle.clay_lanes.specs.Generated.{IsGeneratorOf};
+ghost use Rattle.clay_kernels.specs.Generated.{IsGeneratorOf};
 ghost use Rattle.clay_lanes.specs.Recovered.{IsLanePlan};
 
-use crate::chunks::nodes;
-use crate::coupling::fifths;
-use crate::generator::Generator;
-use crate::products::Products;
 use clay_grid::Geometry;
+use clay_kernels::{Generator, Products, fifths, nodes, zeros};
 use std::alloc::{AllocError, Global};
 
 /// The erased nodes, which are those of the missing chunks, and the order of the layers.
@@ -30,13 +27,6 @@ pub struct Plan {
     pub zeros: Vec<u8>,
     /// The products of the inverse of 5.
     pub fifths: Products,
-}
-
-/// Bytes that are all 0.
-pub fn zeros(alloc: Global, count: usize) -> Result<Vec<u8>, AllocError>
-    ensures { IfOk result (λ v. v.items ≡ replicate count 0) }
-{
-    vec![in alloc; 0u8; count]
 }
 
 /// Whether the chunk of a node is missing. That of a virtual node never is.

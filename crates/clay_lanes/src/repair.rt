@@ -1,18 +1,16 @@
 //! The lost chunk, from parts of the others, a block of bytes of a layer after another.
-ghost use Rattle.std.specs.Prelude.{◌≡◌, ◌≢◌, ℕ, ◌+◌, ◌*◌, ◌/◌, ◌<◌, ◌≤◌, length, min, IfOk};
+ghost use Rattle.std.specs.Prelude.{◌≡◌, ◌≢◌, ℕ, ◌+◌, ◌*◌, ◌/◌, ◌<◌, ◌≤◌, length, min, IfOk, OnOk, OnErr};
 ghost use Rattle.clay_grid.specs.Shape.{row_count, node_count, node_of_chunk, chunk_length};
 ghost use Rattle.clay_repair.specs.Parts.{AreParts, HasParts, IsRebuilt};
 ghost use Rattle.clay_repair.specs.Rebuilt.{IsReadFor, with_digit};
 ghost use Rattle.clay_lanes.specs.Recovered.{IsCoupled, IsUncoupled, IsPresent, HoldsColumn, HoldsRows, HoldsByte};
 ghost use Rattle.clay_lanes.specs.Repaired.{IsRepairPlan, column_nodes};
 
-use crate::chunks::BLOCK;
-use crate::column::{add_column, column_room, end_column};
-use crate::coupling::{cross, uncouple};
-use crate::plan::{is_column_erased, zeros};
+use crate::plan::is_column_erased;
 use crate::repair_plan::{RepairPlan, layer_place, make_repair_plan};
 use clay_decode::partner_of;
 use clay_grid::Geometry;
+use clay_kernels::{BLOCK, add_column, column_room, cross, end_column, uncouple, zeros};
 use std::alloc::{AllocError, Global};
 
 /// The bytes from `at` on of a subchunk of a node other than the lost one, as many as `len`, in a layer that is read.
@@ -362,10 +360,33 @@ fn write_chunk(
     }
 }
 
-/// The lost chunk of the codeword whose other chunks have these parts, where one does.
+/// Writes the lost chunk of the codeword whose other chunks have these parts, where one does.
 ///
 /// `parts` has an entry for each chunk: `None` for the lost one, and for each other one its subchunks of the repair layers in rising
-/// order. Where no codeword has these parts, the answer is some bytes.
+/// order. Where no codeword has these parts, some bytes are written. What `chunk` held before doesn't matter, and it stays as it is where
+/// memory is wanting.
+pub fn rebuild_into(
+    alloc: Global,
+    g: Geometry,
+    lost: u32,
+    parts: &[Option<Vec<u8>>],
+    chunk: &mut [u8],
+) -> Result<(), AllocError>
+    requires parts { AreParts g lost parts.now }
+    requires chunk { length chunk.old ≡ chunk_length g }
+    ensures rebuilt { OnOk result (IsRebuilt g lost parts.now chunk.new) }
+    ensures kept { OnErr result (chunk.new ≡ chunk.old) }
+{
+    let plan = make_repair_plan(alloc, g, lost)?;
+    let len = BLOCK.min(g.w() as usize);
+    let mut values = zeros(alloc, len)?;
+    let mut column = zeros(alloc, 4 * len)?;
+    let mut rows = zeros(alloc, g.q() as usize * len)?;
+    write_chunk(g, parts, &plan, &mut values, &mut column, &mut rows, chunk);
+    Ok(())
+}
+
+/// The lost chunk, as `rebuild_into` writes it.
 pub fn rebuild(
     alloc: Global,
     g: Geometry,
@@ -375,20 +396,7 @@ pub fn rebuild(
     requires { AreParts g lost parts.now }
     ensures { IfOk result (λ chunk. IsRebuilt g lost parts.now chunk.items) }
 {
-    let plan = make_repair_plan(alloc, g, lost)?;
-    let len = BLOCK.min(g.w() as usize);
-    let mut values = zeros(alloc, len)?;
-    let mut column = zeros(alloc, 4 * len)?;
-    let mut rows = zeros(alloc, g.q() as usize * len)?;
-    let mut chunk = zeros(alloc, g.alpha() as usize * g.w() as usize)?;
-    write_chunk(
-        g,
-        parts,
-        &plan,
-        &mut values,
-        &mut column,
-        &mut rows,
-        &mut chunk,
-    );
+    let mut chunk = zeros(alloc, g.chunk_len() as usize)?;
+    rebuild_into(alloc, g, lost, parts, &mut chunk)?;
     Ok(chunk)
 }

@@ -5,11 +5,9 @@ ghost use Rattle.clay_grid.specs.Layers.{layer_of};
 ghost use Rattle.clay_grid.specs.Repair.{layers_with_digit};
 ghost use Rattle.clay_lanes.specs.Repaired.{IsRepairPlan, column_nodes};
 
-use crate::coupling::halves;
-use crate::generator::Generator;
-use crate::plan::{generator_of, zeros};
-use crate::products::Products;
+use crate::plan::generator_of;
 use clay_grid::Geometry;
+use clay_kernels::{Generator, Products, halves, zeros};
 use std::alloc::{AllocError, Global};
 
 /// The place of the lost node, the factors of its column, and the layers that are read.

@@ -2,10 +2,11 @@
 use Rattle.std.proofs.Common.{◌≡◌, ℕ, ◌*◌, ◌/◌, ◌%◌, ◌^◌, ◌<◌, List, [], length, get_or, subst}
 use Rattle.clay_grid.specs.Shape.{Shape, row_count, layer_count, stripe_length}
 use Rattle.clay_grid.specs.Limits.{IsGeometry}
-use Rattle.clay_lanes.specs.Blocks.{HoldsGroup, Appends, coupled_of}
-use Rattle.clay_lanes.specs.Generated.{IsLastGenerator, layer_value}
-use Rattle.clay_lanes.specs.Parity.{AreParity}
-use Rattle.clay_lanes.proofs.ParityLemmas.{parity_codes}
+use Rattle.clay_parity.specs.Blocks.{HoldsGroup, Appends, coupled_of}
+use Rattle.clay_kernels.specs.Generated.{IsLastGenerator}
+use Rattle.clay_parity.specs.Solved.{layer_value}
+use Rattle.clay_parity.specs.Parity.{AreParity}
+use Rattle.clay_parity.proofs.ParityLemmas.{parity_codes}
 use Rattle.clay_par.specs.Groups.{HoldGroups, AreRows}
 use Rattle.clay_par.specs.declared.parity.Group.{Group}
 

@@ -2,7 +2,7 @@
 use Rattle.std.specs.Prelude.{◌≡◌, ℕ, ◌+◌, ◌*◌, ◌/◌, ◌%◌, ◌<◌, ◌≤◌, min, List, [], length, get_or, All}
 use Rattle.clay_grid.specs.Shape.{Shape, row_count, layer_count}
 use Rattle.clay_grid.specs.Limits.{IsGeometry}
-use Rattle.clay_lanes.specs.Blocks.{HoldsGroup, Appends, coupled_of}
+use Rattle.clay_parity.specs.Blocks.{HoldsGroup, Appends, coupled_of}
 use Rattle.clay_par.specs.declared.parity.Group.{Group}
 
 -- a group of the code's layers, with room for its values and for a block of one node's

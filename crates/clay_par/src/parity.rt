@@ -3,14 +3,16 @@ ghost use Rattle.std.specs.Prelude.{◌≡◌, ℕ, ◌+◌, ◌*◌, ◌/◌, �
 ghost use Rattle.clay_grid.specs.Shape.{row_count, layer_count, chunk_length, stripe_length};
 ghost use Rattle.clay_model.specs.Code.{Codes};
 ghost use Rattle.clay_encode.specs.Chunks.{contents};
-ghost use Rattle.clay_lanes.specs.Blocks.{HoldsGroup};
-ghost use Rattle.clay_lanes.specs.Generated.{IsLastGenerator, layer_value};
-ghost use Rattle.clay_lanes.specs.Parity.{data_pieces, AreParity};
+ghost use Rattle.clay_parity.specs.Blocks.{HoldsGroup};
+ghost use Rattle.clay_kernels.specs.Generated.{IsLastGenerator};
+ghost use Rattle.clay_parity.specs.Solved.{layer_value};
+ghost use Rattle.clay_parity.specs.Parity.{data_pieces, AreParity};
 ghost use Rattle.clay_par.specs.Groups.{HasRoom, AreGroups, IsRow, AreRows};
 
 use crate::made::all_made;
 use clay_grid::Geometry;
-use clay_lanes::{BLOCK, Generator, add_pieces, fifths, last_column, solve_group, zeros};
+use clay_kernels::{BLOCK, Generator, fifths, zeros};
+use clay_parity::{add_pieces, last_column, solve_group};
 use rayon::current_num_threads;
 use std::alloc::{AllocError, Global};
 use std::thread;

@@ -4,7 +4,7 @@ ghost use Rattle.clay_grid.specs.Shape.{layer_count};
 ghost use Rattle.clay_par.specs.Ranges.{HasRoom, AreRanges};
 
 use clay_grid::Geometry;
-use clay_lanes::{BLOCK, zeros};
+use clay_kernels::{BLOCK, zeros};
 use std::alloc::{AllocError, Global};
 
 /// The fewest byte positions of a range.

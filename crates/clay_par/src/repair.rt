@@ -6,7 +6,8 @@ ghost use Rattle.clay_lanes.specs.Repaired.{IsRepairPlan};
 ghost use Rattle.clay_par.specs.Rebuilt.{HasRows, IsPiece, SamePiece, AreCut, IsSolved, AreSolved, HoldsPiece, KeepsBytes};
 
 use clay_grid::Geometry;
-use clay_lanes::{BLOCK, RepairPlan, make_repair_plan, solve_column, write_block, zeros};
+use clay_kernels::{BLOCK, zeros};
+use clay_lanes::{RepairPlan, make_repair_plan, solve_column, write_block};
 use rayon::current_num_threads;
 use std::alloc::{AllocError, Global};
 use std::thread;

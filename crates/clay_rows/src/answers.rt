@@ -1,3 +1,4 @@
+//! Worked scripts of answers and refusals.
 use crate::lines::unfolded;
 use crate::tables::{all_print, prints};
 use clay_cli::Status;

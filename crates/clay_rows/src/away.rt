@@ -1,3 +1,4 @@
+//! Worked scripts with servers that are away.
 use crate::tables::all_print;
 use clay_cli::Status;
 use std::test::Fail;

@@ -1,3 +1,4 @@
+//! The command `chunks`.
 use crate::runs::{Ran, run};
 use clay_cli::Status;
 use std::test::Fail;

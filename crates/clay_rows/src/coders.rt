@@ -1,8 +1,10 @@
+//! What the program and a world ask of their coder.
 ghost use Rattle.std.specs.Prelude.{◌≡◌, Some};
 ghost use Rattle.store_map.specs.Naming.{IsValid};
 
 use crate::counted::CountingCoder;
 use crate::lines::unfolded;
+use crate::play::PUT_THEN_GET;
 use crate::runs::run_with;
 use clay_bytes::{MemSink, MemSource};
 use clay_cli::Status;
@@ -25,17 +27,6 @@ get a
 schedule
 c 0*11
 wipe 0
-drain
-end
-";
-
-const PUT_THEN_GET: &[u8] = b"\
-clay 1
-code 2 2 1
-client
-put a hex:0100000000000000
-get a
-schedule
 drain
 end
 ";

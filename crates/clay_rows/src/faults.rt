@@ -1,3 +1,4 @@
+//! Reads and writes that fail, each in turn.
 use crate::play::{PUT_THEN_GET, TRANSCRIPT};
 use crate::runs::{Ran, run_failing, run_with};
 use clay_bytes::{DripSink, DripSource, MemSink, MemSource};

@@ -1,3 +1,4 @@
+//! The command `gen`.
 use crate::runs::{Ran, run, run_failing};
 use clay_cli::Status;
 use std::test::Fail;

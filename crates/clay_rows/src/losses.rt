@@ -1,3 +1,4 @@
+//! Worked scripts in which chunks are lost and made again.
 use crate::tables::{Repeated, all_print, prints_from};
 use clay_cli::Status;
 use std::test::Fail;

@@ -1,3 +1,4 @@
+//! The command `play`, and words that are no command.
 use crate::runs::{Ran, run};
 use clay_cli::Status;
 use std::test::Fail;

@@ -1,3 +1,4 @@
+//! Worked scripts of races, and of calls that are given up.
 use crate::tables::all_print;
 use clay_cli::Status;
 use std::test::Fail;

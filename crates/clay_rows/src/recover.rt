@@ -1,3 +1,4 @@
+//! The command `recover`.
 use crate::runs::{Ran, run};
 use clay_cli::Status;
 use std::test::Fail;

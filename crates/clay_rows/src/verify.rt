@@ -1,3 +1,4 @@
+//! The command `verify`.
 use crate::play::PUT_THEN_GET;
 use crate::runs::{Ran, run};
 use clay_cli::Status;

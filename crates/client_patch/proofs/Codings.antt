@@ -19,7 +19,7 @@ use Rattle.gather_parts.specs.Wanted.{parts_of}
 use Rattle.gather_parts.specs.Gatherings.{GatheringsOf, owed}
 use Rattle.gather_parts.specs.States.{state_by as gathering_state, unless_wanting, state_in}
 use Rattle.gather_parts.proofs.Handing.{open_short}
-use Rattle.write_course.specs.Laws.{StepsAreOfTheCall}
+use Rattle.write_course.proofs.OfTheCall.{steps_are_of_the_call}
 use Rattle.write_course.specs.Writings.{WritingOf, versions_of, begins_version}
 use Rattle.client_patch.specs.Patches.{PatchOf}
 use Rattle.client_patch.specs.Known.{AreOldBytes, UpToDraw, KnowsOld}
@@ -31,8 +31,8 @@ use Rattle.client_patch.specs.Holds.{HasRoom}
 use Rattle.client_patch.specs.declared.patch.PatchCall.TheInside.{Inside}
 use Rattle.client_patch.specs.declared.stage.Stage.{Stage}
 use Rattle.client_patch.specs.declared.stage.Stage.TheVariants as stage
-use Rattle.client_patch.proofs.Tokens.{short_has}
-use Rattle.client_patch.proofs.Servers.{codes}
+use Rattle.write_course.proofs.Tokens.{short_has}
+use Rattle.write_course.proofs.AtServers.{codes}
 
 -- want of memory right after the look
 fresh_short : (g : Shape) (tries : ℕ) (job : Job) (pairs : List (ℕ × ℕ)) (p : GatheringsOf) → p.book.geometry ≡ g → IsFresh p
@@ -131,11 +131,11 @@ module _ (a : Inside) (kept : IsPatch a) (old : PatchOf) (view : patch_in a ≡ 
         let at : state_by a.stage a.gatherings now a.outcome ≡ State.Ending CoreOutcome.NoMemory = (λ i. state_by (coding_is i) a.gatherings (same i) a.outcome) in
         subst (λ at. UpToDraw at known) (sym at) tt
 
-    pub wanting_coded : StepsAreOfTheCall → coding ≡ true → (patch_in (record a { writing = now; coding = coding })).call ≡ coded coding old.call
-    wanting_coded laws is =
+    pub wanting_coded : coding ≡ true → (patch_in (record a { writing = now; coding = coding })).call ≡ coded coding old.call
+    wanting_coded is =
         let c : CallOf = (patch_in a).call in
         let short : next_call a.opening.geometry (job_of a.call.now) (record { pairs = pairs_in a.changes.items; at = a.writing.state }) Told.Short ≡ record { pairs = pairs_in a.changes.items; at = State.Ending CoreOutcome.NoMemory }
-        = (laws.short a.opening.geometry a.tries (job_of a.call.now) (pairs_in a.changes.items) a.writing.state begins).after in
+        = (steps_are_of_the_call.short a.opening.geometry a.tries (job_of a.call.now) (pairs_in a.changes.items) a.writing.state begins).after in
         let states : record { pairs = pairs_in a.changes.items; at = state_by a.stage a.gatherings now a.outcome } ≡ next_call a.opening.geometry (job_of a.call.now) c.state Told.Short
         = (λ i. record { pairs = pairs_in a.changes.items; at = state_by (coding_is i) a.gatherings (same i) a.outcome }) ∙ sym short
         ∙ ap (λ s. next_call a.opening.geometry (job_of a.call.now) (record { pairs = pairs_in a.changes.items; at = state_by s a.gatherings a.writing a.outcome }) Told.Short) (sym coding_is) in

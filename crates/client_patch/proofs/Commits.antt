@@ -14,7 +14,7 @@ use Rattle.store_core.specs.PassSteps.{touched}
 use Rattle.store_core.specs.Placements.{IsRow}
 use Rattle.store_core.specs.NextAct.{job_of}
 use Rattle.store_core.specs.Agreement.{ActorToken}
-use Rattle.store_core.specs.Tokens.{actor_of}
+use Rattle.store_core.specs.Tokens.{actor_of, IsToWrite}
 use Rattle.store_resume.specs.State.{Sequel, State}
 use Rattle.store_resume.specs.States.{settle_state}
 use Rattle.store_resume.specs.StateActs.{act_of_state}
@@ -24,35 +24,25 @@ use Rattle.call_steps.specs.Steps.{stepped_at_directory}
 use Rattle.call_steps.specs.TokenAfter.{token_after, MayMake, IsSeated}
 use Rattle.gather_parts.specs.States.{state_in}
 use Rattle.write_course.specs.Laws.{call_at}
-use Rattle.write_course.specs.Writings.{WritingOf, versions_of}
+use Rattle.write_course.specs.Writings.{WritingOf, versions_of, is_committing}
 use Rattle.client_patch.specs.Patches.{PatchOf}
-use Rattle.client_patch.specs.Stages.{state_by, due_by, is_committing}
+use Rattle.client_patch.specs.Stages.{state_by, due_by}
 use Rattle.call_steps.specs.Ends.{finished_of}
 use Rattle.client_patch.specs.Inside.{pairs_in, patch_in, Keeps, IsPatch}
-use Rattle.client_patch.specs.Holds.{IsHolding, HasRoom}
+use Rattle.write_course.specs.Holding.{IsHolding}
+use Rattle.client_patch.specs.Holds.{HasRoom}
 use Rattle.client_patch.specs.declared.patch.PatchCall.TheInside.{Inside}
 use Rattle.client_patch.specs.declared.stage.Stage.{Stage}
 use Rattle.client_patch.specs.declared.stage.Stage.TheVariants as stage
 use Rattle.client_patch.proofs.OfWrites.{write_kind}
 use Rattle.client_patch.proofs.Gathered.{EndsSo, ungathered_ends, gathering_gives}
-use Rattle.client_patch.proofs.Tokens.{settle_has, settle_room, holds_to_commit, seated_by}
-use Rattle.client_patch.proofs.Ends.{directory_step}
+use Rattle.write_course.proofs.Tokens.{settle_has, holds_to_commit, seated_by}
+use Rattle.client_patch.proofs.Rooms.{settle_room}
+use Rattle.write_course.proofs.AtDirectory.{directory_step, may_commit}
 
--- a pass that may commit
-may_commit : (d : Directory) (number : ℕ) (note : Note) (drawn : List ℕ) (token : ActorToken) (placed : List (List Placement)) → IsHolding number note drawn token → note.kind ≡ Kind.Write
-    → length drawn ≡ length (touched d note) → length placed ≡ length drawn → All (IsRow d.shape) placed → MayMake d token number (DirectoryStep.Commit placed)
-may_commit d number note drawn token placed h kind count rows whole =
-    subst (λ t. MayMake d t number (DirectoryStep.Commit placed)) (sym h.is) (
-      h.its_number,
-      (
-        inr (ap (λ (note : Note). note.kind) h.its ∙ kind),
-        record {
-          drawn = ap length h.its_drawn ∙ count ∙ ap (λ note. length (touched d note)) (sym h.its);
-          rows = rows ∙ ap length (sym h.its_drawn);
-          whole = whole;
-        },
-      ),
-    )
+-- a write's pass
+pub to_write : {number : ℕ} {note : Note} {drawn : List ℕ} {token : ActorToken} (h : IsHolding number note drawn token) → note.kind ≡ Kind.Write → IsToWrite h.held
+to_write h kind = inr (ap (λ (note : Note). note.kind) h.its ∙ kind)
 
 module _ (a : Inside) (kept : IsPatch a) (old : PatchOf) (view : patch_in a ≡ old) (committing : is_committing old.call.state.at ≡ true) where
   commits_here : is_committing (state_by a.stage a.gatherings a.writing a.outcome) ≡ true
@@ -92,7 +82,7 @@ module _ (a : Inside) (kept : IsPatch a) (old : PatchOf) (view : patch_in a ≡ 
       → MayMake d a.token a.number (DirectoryStep.Commit placed)
   commit_may d placed shape count whole =
       let versions : length (versions_of a.writing.stamps) ≡ length a.writing.stamps = length-map a.writing.stamps (λ stamp. stamp.version) in
-      may_commit d a.number (note_of a.call.now) (versions_of a.writing.stamps) a.token placed commit_holding (write_kind a.call.now commit_keeps.3)
+      may_commit d a.number (note_of a.call.now) (versions_of a.writing.stamps) a.token placed commit_holding (to_write commit_holding (write_kind a.call.now commit_keeps.3))
       (versions ∙ commit_keeps.0.count ∙ ap (λ g. length (touched (record d { shape = g }) (note_of a.call.now))) (sym shape))
       (count ∙ sym versions)
       (subst (λ g. All (IsRow g) placed) (ap (λ (book : BookOf). book.geometry) commit_keeps.0.book_is ∙ sym shape) whole)
@@ -134,5 +124,5 @@ module _ (a : Inside) (kept : IsPatch a) (old : PatchOf) (view : patch_in a ≡ 
         let state : call_at pairs (state_by a.stage a.gatherings w a.outcome) ≡ next_call a.opening.geometry (job_of a.call.now) ((patch_in a).call.state) (Told.Done point)
         = (λ i. call_at (none i) (now i)) ∙ ap (λ at. next_call a.opening.geometry (job_of a.call.now) (call_at (pairs_in a.changes.items) at) (Told.Done point)) (sym at) in
         directory_step (patch_in a).call (DirectoryStep.Commit placed) false (due_by a.stage a.gatherings w) before after (Told.Done point) token (call_at pairs (state_by a.stage a.gatherings w a.outcome))
-        (ap (λ at. act_of_state a.opening.geometry a.tries (job_of a.call.now) (call_at (pairs_in a.changes.items) at)) at) made token_is state refl
+        (ap (λ at. act_of_state a.opening.geometry a.tries (job_of a.call.now) (call_at (pairs_in a.changes.items) at)) at) made token_is state
         ∙ ap (λ (p : PatchOf). stepped_at_directory false (due_by a.stage a.gatherings w) p.call before) view

@@ -1,13 +1,12 @@
 -- The draw of a write.
-use Rattle.std.proofs.Common.{◌≡◌, ℕ, zero, suc, ◌+◌, ◌-◌, ◌*◌, ◌/◌, ◌^◌, ◌<◌, ◌≤◌, Bool, List, [], length, map, Option, None, Some, IfSome, vec_capacity, refl, ap, subst, sym, ◌∙◌, arith}
-use Rattle.std.specs.List.{range_with_len, slice_get}
+use Rattle.std.proofs.Common.{◌≡◌, ℕ, zero, suc, ◌+◌, ◌-◌, ◌*◌, ◌/◌, ◌^◌, ◌<◌, ◌≤◌, Bool, List, [], length, Some, vec_capacity, refl, ap, subst, sym, ◌∙◌, arith}
+use Rattle.std.specs.List.{slice_get}
 use Rattle.std.proofs.lemmas.List.FromFn.{length-range_with_len}
 use Rattle.std.proofs.Math.Nat.{div-le_of_le-mul}
 use Rattle.clay_grid.specs.Shape.{Shape, row_count, layer_count, chunk_length, stripe_length}
 use Rattle.clay_grid.specs.Limits.{IsGeometry}
 use Rattle.store_map.specs.Limits.{stripes_met}
 use Rattle.store_map.specs.declared.call.Call.{Call}
-use Rattle.store_map.specs.declared.script.Script.{Script}
 use Rattle.store_core.specs.Told.{Told}
 use Rattle.store_core.specs.Note.{Note, note_of}
 use Rattle.store_core.specs.Act.{Act, DirectoryStep}
@@ -15,7 +14,6 @@ use Rattle.store_core.specs.Agreement.{HeldPass, ActorToken}
 use Rattle.store_core.specs.AtDirectory.{at_directory}
 use Rattle.store_core.specs.Content.{written_by, lay_over}
 use Rattle.store_core.specs.Directory.{Directory}
-use Rattle.store_core.specs.History.{call_of}
 use Rattle.store_core.specs.Look.{stripes_between}
 use Rattle.store_core.specs.NextAct.{job_of}
 use Rattle.store_core.specs.Tokens.{actor_of}
@@ -24,7 +22,7 @@ use Rattle.store_resume.specs.States.{prepare_all_state}
 use Rattle.store_resume.specs.StateActs.{act_at, act_of_state}
 use Rattle.call_steps.specs.declared.need.Need.TheVariants as need
 use Rattle.version_seal.specs.Entry.{BookOf, StampOf, RequestOf, call_written, content_over}
-use Rattle.stripe_dir.specs.Sealed.{Sealed, base_stamp, drawn_stamp, stamps_touched}
+use Rattle.stripe_dir.specs.Sealed.{Sealed, base_stamp, drawn_stamp}
 use Rattle.call_steps.specs.CallOf.{act_of}
 use Rattle.call_steps.specs.Steps.{need_by, need_of}
 use Rattle.call_steps.specs.TokenAfter.{token_after, IfInCall}
@@ -35,37 +33,22 @@ use Rattle.write_course.specs.Laws.{call_at}
 use Rattle.write_course.specs.Writings.{WritingOf, versions_of}
 use Rattle.client_patch.specs.Kept.{new_of}
 use Rattle.client_patch.specs.Known.{AreOldBytes, UpToDraw, KnowsOld}
-use Rattle.client_patch.specs.Draws.{request_of, stamps_told, stamps_of_draw, stamps_by, stamps_drawn}
+use Rattle.write_course.specs.Draws.{request_of, stamps_drawn}
+use Rattle.write_course.proofs.AtDirectory.{written_is, at_range, drawn_stamps}
 use Rattle.client_patch.specs.Patches.{PatchOf}
 use Rattle.client_patch.specs.Stages.{state_by, due_by}
 use Rattle.call_steps.specs.Ends.{finished_of}
 use Rattle.client_patch.specs.Inside.{pairs_in, patch_in, Keeps, IsPatch}
-use Rattle.client_patch.specs.Holds.{IsHolding, HasToken, IsOfCall}
+use Rattle.write_course.specs.Holding.{IsHolding, HasToken}
+use Rattle.client_patch.specs.Holds.{IsOfCall}
 use Rattle.client_patch.specs.declared.patch.PatchCall.TheInside.{Inside}
 use Rattle.client_patch.specs.declared.stage.Stage.{Stage}
 use Rattle.client_patch.specs.declared.stage.Stage.TheVariants as stage
 use Rattle.client_patch.proofs.Gathered.{EndsSo, ungathered_ends}
 use Rattle.gather_parts.proofs.Ended.{done_owed}
-use Rattle.client_patch.proofs.Tokens.{prepare_has, room_at}
+use Rattle.write_course.proofs.Tokens.{prepare_has}
+use Rattle.client_patch.proofs.Rooms.{room_at}
 use Rattle.client_patch.proofs.Ends.{no_directory, done_at}
-
--- the call of a version is the write
-pub written_is : (script : Option Script) (who : _) (number : ℕ) (written : Call) (request : RequestOf) → IfSome script (λ script. call_of script who number ≡ Some written) → request.call ≡ written
-    → call_written script who number (Some request) ≡ Some written
-written_is None who number written request h e = ap Some e
-written_is (Some script) who number written request h e = h
-
--- the stamp at a place
-at_range : (f : ℕ → StampOf) (a n k : ℕ) (y : StampOf) → slice_get (map f (range_with_len a n)) k ≡ Some y → (y ≡ f (a + k)) × (k < n)
-at_range f a zero k y e = absurd (cc)
-at_range f a (suc n) zero y e =
-    let first : f a ≡ y = cc in
-    let here : a ≡ a + 0 = omega arith in
-    (sym first ∙ ap f here, omega arith)
-at_range f a (suc n) (suc k) y e =
-    let here : a + 1 + k ≡ a + suc k = omega arith in
-    let rest : (y ≡ f (a + 1 + k)) × (k < n) = at_range f (a + 1) n k y e in
-    (rest.0 ∙ ap f here, let less : k < n = rest.1 in omega (arith, less))
 
 -- what is drawn is the call's
 drawn_of_call : (s : Sealed) (book : BookOf) (written : Call) (size : ℕ) (kept : List ℕ) (held : HeldPass) (request : RequestOf) (w : WritingOf)
@@ -174,17 +157,10 @@ module _ (a : Inside) (kept : IsPatch a) (old : PatchOf) (view : patch_in a ≡ 
   -- the stamps
   pub draw_stamps : (s : Sealed) (short : Bool) (after : Directory) (versions : List ℕ) (stamps : List StampOf) (request : RequestOf)
       → (after, Told.Versions versions) ≡ at_directory short (actor_of a.token) a.number DirectoryStep.Draw s.core
-      → request ≡ request_of (patch_in a) → AreDrawnFor s holding.held (Some request) stamps → stamps ≡ stamps_drawn short s old
+      → request ≡ request_of (patch_in a).call a.call.now → AreDrawnFor s holding.held (Some request) stamps → stamps ≡ stamps_drawn short s old.call old.written
   draw_stamps s short after versions stamps request made request_is drawn =
-      let held : HeldPass = holding.held in
-      let told : (at_directory short holding.held.pass.actor a.number DirectoryStep.Draw s.core).1 ≡ Told.Versions versions
-      = ap (λ (token : ActorToken). (at_directory short (actor_of token) a.number DirectoryStep.Draw s.core).1) (sym holding.is) ∙ ap (λ (x : Directory × Told). x.1) (sym made) in
-      drawn.drawn
-      ∙ ap (λ (r : RequestOf). stamps_touched s.book s.stamps (stripe_length s.core.shape) held.pass (Some r)) request_is
-      ∙ ap (stamps_told s held.pass (request_of (patch_in a))) (sym told)
-      ∙ ap (λ (token : ActorToken). stamps_of_draw token short s (patch_in a)) (sym holding.is)
-      ∙ ap (λ act. stamps_by act short s (patch_in a)) (sym draws)
-      ∙ ap (stamps_drawn short s) view
+      drawn_stamps s (patch_in a).call a.call.now holding.held short after versions stamps request draws holding.is made request_is drawn
+      ∙ ap (λ (p : PatchOf). stamps_drawn short s p.call p.written) view
 
   -- how many
   pub draw_count : (s : Sealed) (stamps : List StampOf) (request : RequestOf) → s.book ≡ a.opening → s.book.geometry ≡ s.core.shape → AreDrawnFor s holding.held (Some request) stamps
@@ -204,7 +180,7 @@ module _ (a : Inside) (kept : IsPatch a) (old : PatchOf) (view : patch_in a ≡ 
 
   -- what is kept
   pub draw_kept : (s : Sealed) (stamps : List StampOf) (request : RequestOf) (token : ActorToken) (w : WritingOf) (coding step : Bool)
-      → s.book ≡ a.opening → s.book.geometry ≡ s.core.shape → request ≡ request_of (patch_in a) → AreDrawnFor s holding.held (Some request) stamps → KnowsOld s old
+      → s.book ≡ a.opening → s.book.geometry ≡ s.core.shape → request ≡ request_of (patch_in a).call a.call.now → AreDrawnFor s holding.held (Some request) stamps → KnowsOld s old
       → w.stamps ≡ stamps → w.book ≡ a.opening → w.first ≡ (note_of a.call.now).offset / stripe_length a.opening.geometry
       → w.state ≡ prepare_all_state a.opening.geometry (versions_of w.stamps) w.first (versions_of w.stamps) []
       → token ≡ token_after a.token a.number DirectoryStep.Draw (Told.Versions (versions_of w.stamps))

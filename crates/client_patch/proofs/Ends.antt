@@ -1,5 +1,5 @@
 -- The end of a call's pass.
-use Rattle.std.proofs.Common.{◌≡◌, ℕ, Bool, true, false, List, [], ◌∷◌, ◌++◌, Option, None, Some, append-nil, refl, sym, ap, subst, ◌∙◌}
+use Rattle.std.proofs.Common.{◌≡◌, ℕ, Bool, true, false, List, [], ◌∷◌, Option, None, Some, refl, sym, ap, subst, ◌∙◌}
 use Rattle.clay_grid.specs.Shape.{Shape}
 use Rattle.store_core.specs.Told.{Told}
 use Rattle.store_core.specs.Note.{note_of}
@@ -11,14 +11,13 @@ use Rattle.store_core.specs.NextAct.{Job, job_of}
 use Rattle.store_core.specs.Agreement.{ActorToken}
 use Rattle.store_core.specs.Tokens.{actor_of}
 use Rattle.store_resume.specs.Stage.{Stage as GatherStage}
-use Rattle.store_resume.specs.State.{Sequel, State, CallState}
+use Rattle.store_resume.specs.State.{Sequel, State}
 use Rattle.store_resume.specs.States.{stage_state, open_parts}
 use Rattle.store_resume.specs.StateActs.{act_at}
 use Rattle.store_resume.specs.CallLaws.{next_call}
 use Rattle.gathering.specs.Gathers.{GatherOf}
 use Rattle.call_steps.specs.declared.need.Need.TheVariants as need
-use Rattle.call_steps.specs.CallOf.{CallOf, act_of, heard}
-use Rattle.call_steps.specs.Steps.{need_by, need_of, at_directory_by, stepped_at_directory}
+use Rattle.call_steps.specs.Steps.{need_by, need_of, stepped_at_directory}
 use Rattle.call_steps.specs.TokenAfter.{token_after, IsSeated}
 use Rattle.gather_parts.specs.Wanted.{Wanted, parts_of}
 use Rattle.gather_parts.specs.Gatherings.{GatheringsOf}
@@ -27,31 +26,18 @@ use Rattle.gather_parts.specs.Standings.{standing_at, standing_by, unless_short,
 use Rattle.gather_parts.specs.States.{state_by as gathering_state, unless_wanting, state_in}
 use Rattle.write_course.specs.Laws.{call_at}
 use Rattle.write_course.specs.Writings.{versions_of}
-use Rattle.stripe_dir.specs.Sealed.{Sealed}
-use Rattle.client_patch.specs.Draws.{stamps_by, stamps_drawn}
 use Rattle.client_patch.specs.Patches.{PatchOf}
 use Rattle.client_patch.specs.Stages.{state_by, due_by, after_end}
 use Rattle.call_steps.specs.Ends.{finished_of, is_ending}
 use Rattle.client_patch.specs.Inside.{pairs_in, patch_in, Keeps, IsPatch}
-use Rattle.client_patch.specs.Holds.{IsPassing, IsUngathered}
+use Rattle.write_course.specs.Holding.{IsPassing}
+use Rattle.client_patch.specs.Holds.{IsUngathered}
 use Rattle.client_patch.specs.declared.patch.PatchCall.TheInside.{Inside}
 use Rattle.client_patch.specs.declared.stage.Stage.{Stage}
 use Rattle.client_patch.specs.declared.stage.Stage.TheVariants as stage
 use Rattle.client_patch.proofs.Gathered.{EndsSo, ungathered_ends}
-use Rattle.client_patch.proofs.Tokens.{holds_to_end}
-
--- the call after a step at the directory
-pub directory_step : (c : CallOf) (step : DirectoryStep) (short due : Bool) (before after : Directory) (told : Told) (token : ActorToken) (state : CallState)
-    → act_of c ≡ Act.AtDirectory step → (after, told) ≡ at_directory short (actor_of c.token) c.number step before → token ≡ token_after c.token c.number step told
-    → state ≡ next_call c.book.geometry c.job c.state told → c.takes ≡ (heard c (Act.AtDirectory step) told short due).takes
-    → (after, record c { token = token; state = state; due = due; coding = false; step = short }) ≡ stepped_at_directory short due c before
-directory_step c step short due before after told token state act made token_is state_is takes_is =
-    let here : (after, record c { token = token; state = state; due = due; coding = false; step = short })
-    ≡ (after, record (heard c (Act.AtDirectory step) told short due) { token = token_after c.token c.number step told })
-    = λ i. (after, record c { token = token_is i; state = state_is i; takes = takes_is i; due = due; coding = false; step = short }) in
-    here
-    ∙ ap (λ (x : Directory × Told). (x.0, record (heard c (Act.AtDirectory step) x.1 short due) { token = token_after c.token c.number step x.1 })) made
-    ∙ ap (λ act. at_directory_by act short due c before) (sym act)
+use Rattle.write_course.proofs.Tokens.{holds_to_end}
+use Rattle.write_course.proofs.AtDirectory.{directory_step, ending_next, ending_act}
 
 pub no_directory : (act : Act) → need_by act true ≡ need.Directory → ⊥
 no_directory (Act.Finish outcome) e = cc
@@ -105,15 +91,6 @@ module _ (g : Shape) (tries : ℕ) (job : Job) (pairs : List (ℕ × ℕ)) (part
 pub done_at : (p : GatheringsOf) (tries : ℕ) (job : Job) (pairs : List (ℕ × ℕ)) → need_by (act_at p.book.geometry tries job pairs (state_in p Sequel.Draw)) (is_due p) ≡ need.Directory
     → state_in p Sequel.Draw ≡ State.Drawing → standing_of p ≡ standing.Done
 done_at p tries job pairs e h = done_by p.book.geometry tries job pairs (parts_of p.left) p.coding p.current p.left e h
-
--- the end told
-ending_next : (g : Shape) (job : Job) (pairs : List (ℕ × ℕ)) (at : State) → is_ending at ≡ true → call_at pairs (finished_of at) ≡ next_call g job (call_at pairs at) Told.Ended
-ending_next g job pairs (State.Ending outcome) e = refl
-ending_next g job pairs _ e = absurd (cc)
-
-ending_act : (g : Shape) (tries : ℕ) (job : Job) (pairs : List (ℕ × ℕ)) (at : State) → is_ending at ≡ true → act_at g tries job pairs at ≡ Act.AtDirectory DirectoryStep.End
-ending_act g tries job pairs (State.Ending outcome) e = refl
-ending_act g tries job pairs _ e = absurd (cc)
 
 module _ (a : Inside) (kept : IsPatch a) (old : PatchOf) (view : patch_in a ≡ old) (needs : need_of old.call ≡ need.Directory) (ending : is_ending old.call.state.at ≡ true) where
   ends_here : is_ending (state_by a.stage a.gatherings a.writing a.outcome) ≡ true
@@ -200,11 +177,5 @@ module _ (a : Inside) (kept : IsPatch a) (old : PatchOf) (view : patch_in a ≡ 
       ∙ ap (call_at (pairs_in a.changes.items)) (state_then a.stage kept.kept ends_here needs_here)
       ∙ ending_next a.opening.geometry (job_of a.call.now) (pairs_in a.changes.items) (state_by a.stage a.gatherings a.writing a.outcome) ends_here in
       directory_step (patch_in a).call DirectoryStep.End false (due_by next a.gatherings a.writing) before after Told.Ended token (call_at (pairs_in a.changes.items) (state_by next a.gatherings a.writing a.outcome))
-      (ending_act a.opening.geometry a.tries (job_of a.call.now) (pairs_in a.changes.items) (state_by a.stage a.gatherings a.writing a.outcome) ends_here) made token_is state refl
+      (ending_act a.opening.geometry a.tries (job_of a.call.now) (pairs_in a.changes.items) (state_by a.stage a.gatherings a.writing a.outcome) ends_here) made token_is state
       ∙ ap (λ (p : PatchOf). stepped_at_directory false (due_by next a.gatherings a.writing) p.call before) view
-
--- an end draws nothing
-pub end_draws : (before after : Sealed) (p : PatchOf) (short : Bool) → is_ending p.call.state.at ≡ true → after.stamps ≡ before.stamps → after.stamps ≡ before.stamps ++ stamps_drawn short before p
-end_draws before after p short ending same =
-    same ∙ sym (append-nil before.stamps)
-    ∙ ap (λ act. before.stamps ++ stamps_by act short before p) (sym (ending_act p.call.book.geometry p.call.tries p.call.job p.call.state.pairs p.call.state.at ending))

@@ -1,5 +1,6 @@
 -- What a write learns by its look of the old bytes that it keeps.
-use Rattle.std.proofs.Common.{⊤, ◌≡◌, ◌⊎◌, ℕ, ◌+◌, ◌-◌, ◌*◌, ◌/◌, ◌<◌, ◌≤◌, min, Bool, true, false, List, [], ◌∷◌, ◌++◌, length, get_or, map, filter, slice_get, Option, None, Some, option_map, Result, Ok, Err, IfSome, unwrap_or, All, Contains, bytes_eq, refl, sym, ap, subst, ◌∙◌, inl, inr, arith}
+use Rattle.std.specs.Prelude.{⊤}
+use Rattle.std.proofs.Common.{◌≡◌, ◌⊎◌, ℕ, ◌+◌, ◌-◌, ◌*◌, ◌/◌, ◌<◌, ◌≤◌, min, Bool, true, false, List, [], ◌∷◌, ◌++◌, length, get_or, map, filter, slice_get, Option, None, Some, option_map, Result, Ok, Err, IfSome, unwrap_or, All, Contains, bytes_eq, refl, sym, ap, subst, ◌∙◌, inl, inr, arith}
 use Rattle.std.specs.List.{range_with_len}
 use Rattle.std.specs.declared.alloc.AllocError.{AllocError}
 use Rattle.std.proofs.lemmas.Option.{slice_get_cases, slice_get_within}
@@ -180,10 +181,10 @@ module _ (s : Sealed) (stamps : List StampOf) (same : stamps ≡ s.stamps) (some
       → IsPatchLook (is_write written) (looked answer) → (after, looked answer) ≡ at_directory short seat.actor number (DirectoryStep.Look (note_of written)) s.core → AreShown s stripes_seen answer
       → IsLooked (looked answer) next → size_told (looked answer) ≡ size → (next ≡ stage.Looked → kept ≡ bytes_of (map (wanted_of book.geometry 0 size) (looked_stripes answer)))
       → Knows size kept (token_after (ActorToken.Seated seat) number (DirectoryStep.Look (note_of written)) (looked answer))
-  knows_by seat (Ok (look_answer.Answer seat point reply)) short after next size kept fits made shown goes long is = tt
+  knows_by seat (Ok (look_answer.Answer gone point reply)) short after next size kept fits made shown goes long is = tt
   knows_by seat (Err e) short after next size kept fits made shown goes long is = tt
-  knows_by seat (Ok (look_answer.Pinned pass point length stripes)) short after next size kept fits made shown goes long is = absurd fits
-  knows_by seat (Ok (look_answer.Ready pass base length stripes)) short after next size kept fits made shown goes long is =
+  knows_by seat (Ok (look_answer.Pinned gone point length stripes)) short after next size kept fits made shown goes long is = absurd fits
+  knows_by seat (Ok (look_answer.Ready gone base length stripes)) short after next size kept fits made shown goes long is =
       let kind : (note_of written).kind ≡ Kind.Write = write_kind written fits in
       let told : (length ≡ (object_or_new (note_of written).name s.core.objects).length)
       × (map seen_in stripes.items ≡ map (seen_at s.core (object_or_new (note_of written).name s.core.objects)) (pinned_by Kind.Write s.core.shape (note_of written) (object_or_new (note_of written).name s.core.objects).length))

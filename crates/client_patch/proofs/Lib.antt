@@ -5,7 +5,7 @@ pub mod Standings
 pub mod OfWrites
 pub mod Gathered
 pub mod Points
-pub mod Tokens
+pub mod Rooms
 pub mod Servers
 pub mod Serving
 pub mod Contents
@@ -17,3 +17,4 @@ pub mod KeptBytes
 pub mod Knowing
 pub mod Looks
 pub mod Learning
+pub mod Making

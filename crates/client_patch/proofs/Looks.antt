@@ -1,5 +1,6 @@
 -- The look of a write or a delete.
-use Rattle.std.proofs.Common.{⊤, ◌≡◌, ℕ, nat_lt, Bool, true, false, cond, List, [], length, Option, None, Some, option_map, Result, refl, sym, ap, subst, ◌∙◌}
+use Rattle.std.specs.Prelude.{⊤}
+use Rattle.std.proofs.Common.{◌≡◌, ℕ, nat_lt, Bool, true, false, cond, List, [], length, Option, None, Some, option_map, Result, refl, sym, ap, subst, ◌∙◌}
 use Rattle.std.specs.declared.alloc.AllocError.{AllocError}
 use Rattle.clay_grid.specs.Shape.{Shape}
 use Rattle.store_map.specs.declared.actor.Actor.{Actor}
@@ -38,11 +39,11 @@ use Rattle.call_steps.specs.Ends.{finished_of}
 use Rattle.call_steps.specs.Callers.{IsWaiting}
 use Rattle.client_patch.specs.LookAfter.{IsFresh, IsPatchLook, IsLooked}
 use Rattle.client_patch.specs.Inside.{pairs_in, patch_in, Keeps, IsPatch}
-use Rattle.client_patch.specs.Holds.{IsHolding, HasToken}
+use Rattle.write_course.specs.Holding.{IsHolding, HasToken}
 use Rattle.client_patch.specs.declared.patch.PatchCall.TheInside.{Inside}
 use Rattle.client_patch.specs.declared.stage.Stage.{Stage}
 use Rattle.client_patch.specs.declared.stage.Stage.TheVariants as stage
-use Rattle.client_patch.proofs.Ends.{directory_step}
+use Rattle.write_course.proofs.AtDirectory.{directory_step}
 use Rattle.client_patch.proofs.Gathered.{EndsSo, ungathered_ends}
 
 -- what a look tells
@@ -171,5 +172,5 @@ module _ (a : Inside) (kept : IsPatch a) (old : PatchOf) (view : patch_in a ≡ 
       })
       ∙ ap (λ at. next_call a.opening.geometry (job_of a.call.now) (call_at (pairs_in a.changes.items) at) told) (sym start_here) in
       (λ i. (after, record ((patch_in a).call) { token = token; state = call_at (pairs_in a.changes.items) at; takes = takes_is i; due = due; coding = false; step = short }))
-      ∙ directory_step (patch_in a).call (DirectoryStep.Look (note_of a.call.now)) short due before after told token (call_at (pairs_in a.changes.items) at) looks_here made token_is states refl
+      ∙ directory_step (patch_in a).call (DirectoryStep.Look (note_of a.call.now)) short due before after told token (call_at (pairs_in a.changes.items) at) looks_here made token_is states
       ∙ ap (λ (p : PatchOf). stepped_at_directory short due p.call before) view

@@ -12,21 +12,23 @@ use Rattle.call_steps.specs.TokenAfter.{IfInCall}
 use Rattle.call_steps.specs.Steps.{need_by, need_of, stepped_at_server}
 use Rattle.gather_parts.specs.Gatherings.{GatheringsOf, owed}
 use Rattle.gather_parts.specs.States.{state_in}
-use Rattle.write_course.specs.Laws.{StepsAreOfTheCall}
 use Rattle.write_course.specs.Writings.{WritingOf, versions_of}
 use Rattle.write_course.specs.WritingSteps.{stepped}
 use Rattle.client_patch.specs.Patches.{PatchOf}
 use Rattle.client_patch.specs.Known.{AreOldBytes, UpToDraw, KnowsOld}
 use Rattle.client_patch.specs.Stages.{state_by, due_by}
 use Rattle.client_patch.specs.Inside.{pairs_in, patch_in, Keeps, IsPatch}
-use Rattle.client_patch.specs.Holds.{HasToken, HasRoom}
+use Rattle.write_course.specs.Holding.{HasToken}
+use Rattle.client_patch.specs.Holds.{HasRoom}
 use Rattle.client_patch.specs.declared.patch.PatchCall.TheInside.{Inside}
 use Rattle.client_patch.specs.declared.stage.Stage.TheVariants as stage
 use Rattle.client_patch.proofs.Gathered.{asks_up_to_draw, known_at}
-use Rattle.client_patch.proofs.Tokens.{same_call, stepped_has, stepped_room, known_drawn}
-use Rattle.client_patch.proofs.Servers.{Asks, server_step, writes_at_server, asks}
+use Rattle.write_course.proofs.Tokens.{stepped_has}
+use Rattle.client_patch.proofs.Rooms.{same_call, stepped_room, known_drawn}
+use Rattle.write_course.proofs.AtServers.{Asks, server_step, asks}
+use Rattle.client_patch.proofs.Servers.{writes_at_server}
 
-module _ (laws : StepsAreOfTheCall) (a : Inside) (kept : IsPatch a) (old : PatchOf) (view : patch_in a ≡ old) (server : ℕ) (needs : need_of old.call ≡ need.Server server) where
+module _ (a : Inside) (kept : IsPatch a) (old : PatchOf) (view : patch_in a ≡ old) (server : ℕ) (needs : need_of old.call ≡ need.Server server) where
   needs_here : need_of (patch_in a).call ≡ need.Server server
   needs_here = ap (λ (p : PatchOf). need_of p.call) view ∙ needs
 
@@ -88,7 +90,7 @@ module _ (laws : StepsAreOfTheCall) (a : Inside) (kept : IsPatch a) (old : Patch
           let here : (after, now.state) ≡ stepped a.opening.geometry short before a.writing.state
           = step ∙ ap (λ (book : BookOf). stepped book.geometry short before a.writing.state) keeps.0.book_is in
           ap (λ s. (after, record ((patch_in a).call) { state = record { pairs = pairs_in a.changes.items; at = state_by s a.gatherings now a.outcome }; due = due_by s a.gatherings now; coding = false; step = short })) writing_is
-          ∙ server_step laws (patch_in a).call (pairs_in a.changes.items) a.writing.state server
+          ∙ server_step (patch_in a).call (pairs_in a.changes.items) a.writing.state server
           (ap (λ s. record { pairs = pairs_in a.changes.items; at = state_by s a.gatherings a.writing a.outcome }) writing_is) asked.asked short now.due before after now.state here
           ∙ ap (λ s. stepped_at_server short (due_by s a.gatherings now) (patch_in a).call before) (sym writing_is)
           ∙ ap (λ (p : PatchOf). stepped_at_server short (due_by a.stage a.gatherings now) p.call before) view

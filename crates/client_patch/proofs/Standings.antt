@@ -13,7 +13,7 @@ use Rattle.call_steps.specs.Steps.{need_by, need_of, HoldsItsPass}
 use Rattle.gather_parts.specs.States.{state_in, StandsIn}
 use Rattle.client_patch.specs.Stages.{state_by}
 use Rattle.client_patch.specs.Inside.{patch_in, IsPatch}
-use Rattle.client_patch.specs.Holds.{IsHolding}
+use Rattle.write_course.specs.Holding.{IsHolding}
 use Rattle.client_patch.specs.declared.patch.PatchCall.TheInside.{Inside}
 
 -- a call in its pass needs the coder where coding is due, and isn't over

@@ -15,7 +15,8 @@ use Rattle.client_patch.specs.Stages.{state_by, due_by}
 use Rattle.client_patch.specs.declared.stage.Stage.{Stage}
 use Rattle.client_patch.specs.declared.stage.Stage.TheVariants as stage
 use Rattle.client_patch.specs.declared.patch.PatchCall.TheInside.{Inside}
-use Rattle.client_patch.specs.Holds.{IsHolding, IsPassing, HasToken, IsGivenUp, IsOfCall, IsUngathered, HasRoom}
+use Rattle.write_course.specs.Holding.{IsHolding, IsPassing, HasToken, IsGivenUp}
+use Rattle.client_patch.specs.Holds.{IsOfCall, IsUngathered, HasRoom}
 
 -- changes as the definitions keep them
 abbrev pub pairs_in : List Change → List (ℕ × ℕ)

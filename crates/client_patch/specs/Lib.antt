@@ -2,7 +2,6 @@ pub mod Padded
 pub mod Kept
 pub mod Patches
 pub mod Known
-pub mod Draws
 pub mod Stages
 pub mod LookAfter
 pub mod Holds

@@ -29,11 +29,6 @@ due_by stage.Gathering p w = is_due p
 due_by stage.Writing p w = w.due
 due_by _ p w = false
 
--- the commit is next
-abbrev pub is_committing : State → Bool
-is_committing (State.Committing versions placed) = true
-is_committing at = false
-
 -- the pass's end was told
 abbrev pub after_end : Stage → Stage
 after_end stage.Gathering = stage.Ungathered

@@ -1,10 +1,7 @@
 //! What a write or a delete does between two steps.
 ghost use Rattle.std.specs.Prelude.{◌≡◌, ◌<◌, true, false, length, vec_capacity, OnOk, OnErr};
-ghost use Rattle.store_resume.specs.State.{Sequel, State};
 ghost use Rattle.stripe_dir.specs.Sealed.{Sealed};
 ghost use Rattle.call_steps.specs.Steps.{coded, need_of};
-ghost use Rattle.gather_parts.specs.Gatherings.{owed};
-ghost use Rattle.write_course.specs.Writings.{WritingOf};
 ghost use Rattle.client_patch.specs.Holds.{IsOfCall};
 ghost use Rattle.client_patch.specs.Known.{KnowsOld};
 ghost use Rattle.client_patch.specs.Patches.{is_write};
@@ -21,7 +18,6 @@ use std::alloc::{AllocError, Global};
 use std::thread::Threads;
 use store_map::Call;
 use write_course::Writing;
-use write_course::laws::steps_are_of_the_call;
 
 // Takes room for one change more and begins to gather. It tells where the call goes on, and whether
 // memory was wanting.
@@ -107,8 +103,7 @@ impl<'a> PatchCall<'a> {
                 self.coding = self.gatherings.coding_was_short();
             }
             _ => {
-                // That a version is at work, and what follows then, is needed below.
-                steps_are_of_the_call();
+                // That a version is at work is needed below.
                 let _due = self.writing.due();
                 let geometry = self.opening.geometry();
                 let kept = self.gatherings.bytes();

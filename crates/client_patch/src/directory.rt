@@ -5,19 +5,19 @@ ghost use Rattle.store_core.specs.Agreement.{Agrees};
 ghost use Rattle.store_resume.specs.State.{State};
 ghost use Rattle.call_steps.specs.Steps.{stepped_at_directory, need_of};
 ghost use Rattle.call_steps.specs.TokenAfter.{IsSeated};
-ghost use Rattle.client_patch.specs.Draws.{stamps_drawn};
+ghost use Rattle.write_course.specs.Draws.{stamps_drawn};
+ghost use Rattle.write_course.specs.Writings.{is_committing};
 ghost use Rattle.client_patch.specs.Known.{KnowsOld};
 ghost use Rattle.client_patch.specs.Padded.{ArePadded};
 ghost use Rattle.client_patch.specs.Patches.{is_write};
-ghost use Rattle.client_patch.specs.Stages.{is_committing};
 ghost use Rattle.call_steps.specs.Ends.{is_ending};
 
 use crate::patch::PatchCall;
 use crate::stage::{Looked, Stage, after_end, after_look};
 use call_steps::{Change, Need, Outcome};
-use stripe_dir::{Committed, Directory, Drawn, Ended};
 use gather_parts::Standing;
 use store_map::Call;
+use stripe_dir::{Committed, Directory, Drawn, Ended};
 use version_seal::Book;
 use write_course::{Doing, Writing};
 
@@ -55,7 +55,7 @@ impl<'a> PatchCall<'a> {
         ensures written { self.new.written ≡ self.old.written }
         ensures book { directory.new.book ≡ directory.old.book }
         ensures stamps { directory.new.stamps
-            ≡ directory.old.stamps ++ stamps_drawn self.new.call.step directory.old self.old }
+            ≡ directory.old.stamps ++ stamps_drawn self.new.call.step directory.old self.old.call self.old.written }
     {
         match self.stage {
             Stage::Looking => self.look(directory),
@@ -114,7 +114,7 @@ impl<'a> PatchCall<'a> {
         ensures written { self.new.written ≡ self.old.written }
         ensures book { directory.new.book ≡ directory.old.book }
         ensures stamps { directory.new.stamps
-            ≡ directory.old.stamps ++ stamps_drawn self.new.call.step directory.old self.old }
+            ≡ directory.old.stamps ++ stamps_drawn self.new.call.step directory.old self.old.call self.old.written }
     {
         directory.keeps();
         let request = book.request(self.actor, self.number, self.call);
@@ -186,7 +186,7 @@ impl<'a> PatchCall<'a> {
         ensures written { self.new.written ≡ self.old.written }
         ensures book { directory.new.book ≡ directory.old.book }
         ensures stamps { directory.new.stamps
-            ≡ directory.old.stamps ++ stamps_drawn self.new.call.step directory.old self.old }
+            ≡ directory.old.stamps ++ stamps_drawn self.new.call.step directory.old self.old.call self.old.written }
     {
         let answer = self.token.end(directory, self.number);
         self.coding = false;

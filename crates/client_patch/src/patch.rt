@@ -1,38 +1,34 @@
 //! A write or a delete as a machine of steps.
-ghost use Rattle.std.specs.Prelude.{◌≡◌, ◌<◌, ◌≤◌, ℕ, List, true, false, None, Some, IfSome, OnOk};
+ghost use Rattle.std.specs.Prelude.{◌≡◌, ◌<◌, ◌≤◌, true};
 ghost use Rattle.std.specs.Option.{option_map};
 ghost use Rattle.clay_grid.specs.Shape.{chunk_count};
 ghost use Rattle.store_core.specs.Act.{Act};
-ghost use Rattle.store_core.specs.NextAct.{Job};
 ghost use Rattle.store_core.specs.Agreement.{ActorToken};
 ghost use Rattle.store_resume.specs.State.{Sequel, State};
-ghost use Rattle.store_resume.specs.StateActs.{act_at};
 ghost use Rattle.chunk_server.specs.Core.{core_of};
-ghost use Rattle.call_steps.specs.Steps.{IfServer, stepped_at_server, coded, need_by, need_of, HoldsItsPass, IsDueInPass};
+ghost use Rattle.call_steps.specs.Steps.{IfServer, stepped_at_server, need_of, HoldsItsPass, IsDueInPass, MayMakeNext};
 ghost use Rattle.stripe_dir.specs.Sealed.{Sealed};
 ghost use Rattle.call_steps.specs.CallOf.{act_of, taken_of};
 ghost use Rattle.call_steps.specs.Outcomes.{outcome_of};
 ghost use Rattle.call_steps.specs.Callers.{IsClient, IsOfScript};
-ghost use Rattle.call_steps.specs.Ends.{point_ended, point_of, finished_of, IsStanding, IsOver};
+ghost use Rattle.call_steps.specs.Ends.{point_ended, point_of, finished_of};
 ghost use Rattle.gather_parts.specs.States.{state_in};
 ghost use Rattle.gather_parts.specs.Standings.{standing_of};
-ghost use Rattle.write_course.specs.Writings.{begins_version};
 ghost use Rattle.client_patch.specs.Holds.{IsUngathered};
 ghost use Rattle.client_patch.specs.Known.{KnowsOld};
 ghost use Rattle.client_patch.specs.Patches.{is_patch, first_patch};
 
 use crate::stage::Stage;
 use call_steps::{Change, Need, Outcome};
-use stripe_dir::{Seat, Ticket};
 use chunk_server::Server;
 use gather_parts::{Gathered, PartGatherings};
 use read_ledger::Takes;
 use std::alloc::Global;
 use std::marker::Model;
 use store_map::{Actor, Call, Point, Reply};
+use stripe_dir::{Seat, Ticket};
 use version_seal::Opening;
-use write_course::laws::steps_are_of_the_call;
-use write_course::{Doing, Writing};
+use write_course::Writing;
 
 /// A client's write or delete in work. It has to be finished or abandoned.
 pub struct PatchCall<'a> {
@@ -68,46 +64,6 @@ impl<'a> Model for PatchCall<'a> {
     ghost view = { patch_in };
 
     ghost invariant = { IsPatch };
-}
-
-// What a writing needs that stands between two steps.
-fn need_of_writing(writing: &Writing) -> Need
-    requires { IsStanding writing.now.state }
-    ensures need { (tries : ℕ) (job : Job) (pairs : List (ℕ × ℕ)) → result
-        ≡ need_by (act_at writing.now.book.geometry tries job pairs writing.now.state) writing.now.due }
-    ensures begins { writing.now.due ≡ true → begins_version writing.now.state ≡ true }
-    ensures below { IfServer result (λ server. server < chunk_count writing.now.book.geometry) }
-{
-    if writing.due() {
-        return Need::Coder;
-    }
-    match writing.asked() {
-        Some(server) => Need::Server(server),
-        None => match writing.doing() {
-            Doing::Done => Need::Finished,
-            _ => Need::Directory,
-        },
-    }
-}
-
-// How a writing has ended.
-fn outcome_of_writing(writing: Writing) -> Outcome
-    requires { IsOver writing.state }
-    ensures { finished_of writing.state ≡ State.Finished (outcome_of result) }
-{
-    if let Some(point) = writing.committed_at() {
-        return Outcome::Answered {
-            point,
-            reply: Reply::Done,
-        };
-    }
-    match writing.doing() {
-        Doing::TooManyAway => {
-            let (stripe, missing) = writing.into_away();
-            Outcome::Unavailable { stripe, missing }
-        }
-        _ => Outcome::NoMemory,
-    }
 }
 
 // The point of a call that was answered ok.
@@ -179,18 +135,22 @@ impl<'a> PatchCall<'a> {
     }
 
     /// Where the call has to go on.
+    #[tactic(auto, using(crate::proofs::Making::may))]
     pub fn need(&self) -> Need
         ensures need { result ≡ need_of self.now.call }
         ensures in_pass { IsDueInPass self.now.call }
         ensures pass { HoldsItsPass self.now.call }
+        ensures may { MayMakeNext self.now.call }
         ensures below { IfServer result (λ server. server < chunk_count self.now.call.book.geometry) }
     {
+        // That a commit has whole rows is needed below.
+        self.writing.keeps();
         match self.stage {
             Stage::Looking if self.changes.len() >= self.tries as usize => Need::Finished,
             Stage::Looking | Stage::Ending => Need::Directory,
             Stage::Looked => Need::Coder,
             Stage::Gathering => self.gatherings.need(),
-            Stage::Writing => need_of_writing(&self.writing),
+            Stage::Writing => self.writing.need(),
             Stage::Ungathered | Stage::GivenUp | Stage::Finished => Need::Finished,
         }
     }
@@ -206,7 +166,6 @@ impl<'a> PatchCall<'a> {
         ensures number { s.new.number ≡ s.old.number }
         ensures book { s.new.book ≡ s.old.book }
     {
-        steps_are_of_the_call();
         self.coding = false;
         match self.stage {
             Stage::Gathering => {
@@ -279,7 +238,7 @@ impl<'a> PatchCall<'a> {
                 (seat, outcome, takes)
             }
             Stage::Writing | Stage::GivenUp => {
-                (seat, outcome_of_writing(writing), gatherings.into_takes())
+                (seat, writing.into_outcome(), gatherings.into_takes())
             }
             _ => (seat, outcome, gatherings.into_takes()),
         }

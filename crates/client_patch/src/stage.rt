@@ -14,10 +14,10 @@ ghost use Rattle.client_patch.specs.Stages.{state_by, after_end};
 ghost use Rattle.client_patch.specs.LookAfter.{looked_stripes, size_told, IsPatchLook, IsLooked};
 
 use call_steps::Outcome;
-use stripe_dir::Look;
 use gather_parts::PartGatherings;
 use std::alloc::AllocError;
 use store_map::Call;
+use stripe_dir::Look;
 
 /// What the call does next, or how it has ended.
 #[derive(Clone, Copy, PartialEq, Eq, Debug)]

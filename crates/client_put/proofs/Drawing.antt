@@ -1,33 +1,30 @@
 -- The draw of a put.
-use Rattle.std.proofs.Common.{◌≡◌, ℕ, zero, suc, ◌+◌, ◌-◌, ◌/◌, ◌≤◌, Bool, true, false, List, [], length, map, Option, None, Some, IfSome, refl, ap, subst, sym, ◌∙◌, arith}
-use Rattle.std.specs.List.{range_with_len, slice_get}
+use Rattle.std.proofs.Common.{◌≡◌, ℕ, zero, suc, ◌+◌, ◌-◌, ◌/◌, ◌≤◌, Bool, true, false, List, [], length, None, Some, refl, ap, subst, sym, ◌∙◌, arith}
+use Rattle.std.specs.List.{slice_get}
 use Rattle.std.proofs.Math.Nat.{zero-div, div-le_self}
 use Rattle.std.proofs.lemmas.List.FromFn.{length-range_with_len}
 use Rattle.clay_grid.specs.Shape.{Shape, stripe_length}
 use Rattle.store_map.specs.Limits.{stripes_met}
 use Rattle.store_map.specs.Content.{content_length}
-use Rattle.store_map.specs.declared.actor.Actor.{Actor}
 use Rattle.store_map.specs.declared.call.Call.{Call}
 use Rattle.store_map.specs.declared.call.Call.TheVariants as call
-use Rattle.store_map.specs.declared.script.Script.{Script}
 use Rattle.store_core.specs.Told.{Told}
 use Rattle.store_core.specs.Note.{Note, note_of}
 use Rattle.store_core.specs.Act.{Act, DirectoryStep}
 use Rattle.store_core.specs.Agreement.{HeldPass, ActorToken}
 use Rattle.store_core.specs.AtDirectory.{at_directory}
 use Rattle.store_core.specs.Directory.{Directory}
-use Rattle.store_core.specs.History.{call_of}
 use Rattle.store_core.specs.Look.{stripes_between}
 use Rattle.store_core.specs.NextAct.{job_of}
 use Rattle.store_core.specs.Tokens.{actor_of}
-use Rattle.store_resume.specs.State.{State, CallState}
+use Rattle.store_resume.specs.State.{State}
 use Rattle.store_resume.specs.States.{prepare_all_state}
 use Rattle.store_resume.specs.StateActs.{act_of_state}
 use Rattle.store_resume.specs.CallLaws.{next_call}
 use Rattle.version_seal.specs.Entry.{BookOf, StampOf, RequestOf, call_written, content_over}
-use Rattle.stripe_dir.specs.Sealed.{Sealed, base_stamp, drawn_stamp, stamps_touched}
-use Rattle.call_steps.specs.CallOf.{tries_by, CallOf, act_of, heard}
-use Rattle.call_steps.specs.Steps.{at_directory_by, stepped_at_directory}
+use Rattle.stripe_dir.specs.Sealed.{Sealed, base_stamp, drawn_stamp}
+use Rattle.call_steps.specs.CallOf.{tries_by, act_of}
+use Rattle.call_steps.specs.Steps.{stepped_at_directory}
 use Rattle.call_steps.specs.TokenAfter.{token_after}
 use Rattle.call_steps.specs.declared.outcomes.Outcome.{Outcome}
 use Rattle.stripe_dir.specs.AnswerStamps.{AreDrawnFor}
@@ -35,29 +32,18 @@ use Rattle.write_course.specs.Laws.{call_at}
 use Rattle.write_course.specs.Writings.{WritingOf, versions_of}
 use Rattle.write_course.proofs.OfTheCall.{steps_are_of_the_call}
 use Rattle.client_put.specs.Bytes.{stripe_of, content_in}
-use Rattle.client_put.specs.Draws.{request_of, stamps_told, stamps_of_draw, stamps_by, stamps_drawn}
+use Rattle.write_course.specs.Draws.{request_of, stamps_drawn}
+use Rattle.write_course.proofs.AtDirectory.{directory_step, written_is, at_range, drawn_stamps}
 use Rattle.client_put.specs.Puts.{PutOf, is_put}
 use Rattle.client_put.specs.Stages.{state_by}
 use Rattle.call_steps.specs.Ends.{finished_of}
-use Rattle.client_put.specs.Holds.{IsHolding, HasToken, IsOfCall, Keeps}
+use Rattle.write_course.specs.Holding.{IsHolding, HasToken}
+use Rattle.client_put.specs.Holds.{PinsNothing, IsOfCall, Keeps}
 use Rattle.client_put.specs.Inside.{put_in, IsPut}
 use Rattle.client_put.specs.declared.stage.Stage.{Stage}
 use Rattle.client_put.specs.declared.stage.Stage.TheVariants as stage
 use Rattle.client_put.specs.declared.put.PutCall.TheInside.{Inside}
-use Rattle.client_put.proofs.Kept.{prepare_has}
-
--- the call after a step at the directory
-pub directory_step : (c : CallOf) (step : DirectoryStep) (short due : Bool) (before after : Directory) (told : Told) (token : ActorToken) (state : CallState)
-    → act_of c ≡ Act.AtDirectory step → (after, told) ≡ at_directory short (actor_of c.token) c.number step before → token ≡ token_after c.token c.number step told
-    → state ≡ next_call c.book.geometry c.job c.state told
-    → (after, record c { token = token; state = state; due = due; coding = false; step = short }) ≡ stepped_at_directory short due c before
-directory_step c step short due before after told token state act made token_is state_is =
-    let here : (after, record c { token = token; state = state; due = due; coding = false; step = short })
-    ≡ (after, record (heard c (Act.AtDirectory step) told short due) { token = token_after c.token c.number step told })
-    = λ i. (after, record c { token = token_is i; state = state_is i; due = due; coding = false; step = short }) in
-    here
-    ∙ ap (λ (x : Directory × Told). (x.0, record (heard c (Act.AtDirectory step) x.1 short due) { token = token_after c.token c.number step x.1 })) made
-    ∙ ap (λ act. at_directory_by act short due c before) (sym act)
+use Rattle.write_course.proofs.Tokens.{prepare_has}
 
 -- a put begins with its object
 pub begins_at_zero : (written : Call) → is_put written ≡ true → (note_of written).offset ≡ 0
@@ -83,23 +69,6 @@ over_zeros : (g : Shape) (stripe : ℕ) (written : Call) → is_put written ≡ 
 over_zeros g stripe (call.Put name content) e = refl
 over_zeros g stripe _ e = absurd (cc)
 
--- the call of a version is the put
-pub written_is : (script : Option Script) (who : Actor) (number : ℕ) (written : Call) (request : RequestOf) → IfSome script (λ script. call_of script who number ≡ Some written) → request.call ≡ written
-    → call_written script who number (Some request) ≡ Some written
-written_is None who number written request h e = ap Some e
-written_is (Some script) who number written request h e = h
-
--- the stamp at a place
-at_range : (f : ℕ → StampOf) (a n k : ℕ) (y : StampOf) → slice_get (map f (range_with_len a n)) k ≡ Some y → y ≡ f (a + k)
-at_range f a zero k y e = absurd (cc)
-at_range f a (suc n) zero y e =
-    let first : f a ≡ y = cc in
-    let here : a ≡ a + 0 = omega arith in
-    sym first ∙ ap f here
-at_range f a (suc n) (suc k) y e =
-    let here : a + 1 + k ≡ a + suc k = omega arith in
-    at_range f (a + 1) n k y e ∙ ap f here
-
 -- what is drawn is the call's
 pub drawn_of_call : (s : Sealed) (book : BookOf) (written : Call) (held : HeldPass) (request : RequestOf) (w : WritingOf)
     → s.book ≡ book → s.book.geometry ≡ s.core.shape → is_put written ≡ true → held.pass.note ≡ note_of written → held.pass.pinned ≡ []
@@ -116,8 +85,8 @@ drawn_of_call s book written held request w its code put note pins says drawn w_
       contents = λ place stamp here.
           let stripe : held.pass.note.offset / stripe_length s.core.shape + (0 + place) ≡ place = omega (arith, from) in
           let is : stamp ≡ drawn_stamp s.book s.stamps held.pass (held.pass.note.offset / stripe_length s.core.shape) (Some request) (0 + place)
-          = at_range (drawn_stamp s.book s.stamps held.pass (held.pass.note.offset / stripe_length s.core.shape) (Some request)) 0 (stripes_met (stripe_length s.core.shape) held.pass.note.offset held.pass.note.length) place stamp
-          (ap (λ (stamps : List StampOf). slice_get stamps place) (sym drawn.drawn) ∙ here) in
+          = (at_range (drawn_stamp s.book s.stamps held.pass (held.pass.note.offset / stripe_length s.core.shape) (Some request)) 0 (stripes_met (stripe_length s.core.shape) held.pass.note.offset held.pass.note.length) place stamp
+          (ap (λ (stamps : List StampOf). slice_get stamps place) (sym drawn.drawn) ∙ here)).0 in
           let base : base_stamp s.stamps held.pass.pinned (held.pass.note.offset / stripe_length s.core.shape + (0 + place)) ≡ None
           = ap (λ pins. base_stamp s.stamps pins (held.pass.note.offset / stripe_length s.core.shape + (0 + place))) pins in
           ap (λ (stamp : StampOf). stamp.content) is
@@ -127,7 +96,7 @@ drawn_of_call s book written held request w its code put note pins says drawn w_
 
 -- the token that draws
 pub holds_to_draw : (book : BookOf) (number : ℕ) (written : Call) (token : ActorToken) (w : WritingOf) (outcome : Outcome) (s : Stage)
-    → Keeps s book number written token w outcome → state_by s w outcome ≡ State.Drawing → IsHolding number (note_of written) [] token
+    → Keeps s book number written token w outcome → state_by s w outcome ≡ State.Drawing → IsHolding number (note_of written) [] token × PinsNothing token
 holds_to_draw book number written token w outcome stage.Drawing k e = k
 holds_to_draw book number written token w outcome stage.Writing k e = absurd (subst (HasToken number (note_of written) (versions_of w.stamps) token) e k.1)
 holds_to_draw book number written token w outcome stage.GivenUp k e =
@@ -140,8 +109,14 @@ module _ (a : Inside) (kept : IsPut a) (old : PutOf) (view : put_in a ≡ old) (
   at_draw : state_by a.stage a.writing a.outcome ≡ State.Drawing
   at_draw = ap (λ (p : PutOf). p.call.state.at) view ∙ drawing
 
+  holds : IsHolding a.number (note_of a.call.now) [] a.token × PinsNothing a.token
+  holds = holds_to_draw a.opening a.number a.call.now a.token a.writing a.outcome a.stage kept.kept at_draw
+
   pub holding : IsHolding a.number (note_of a.call.now) [] a.token
-  holding = holds_to_draw a.opening a.number a.call.now a.token a.writing a.outcome a.stage kept.kept at_draw
+  holding = holds.0
+
+  pins : holding.held.pass.pinned ≡ []
+  pins = subst PinsNothing holding.is holds.1
 
   draws : act_of ((put_in a).call) ≡ Act.AtDirectory DirectoryStep.Draw
   draws = ap (λ at. act_of_state a.opening.geometry (tries_by a.opening.script) (job_of a.call.now) (call_at [] at)) at_draw
@@ -166,17 +141,10 @@ module _ (a : Inside) (kept : IsPut a) (old : PutOf) (view : put_in a ≡ old) (
   -- the stamps
   pub draw_stamps : (s : Sealed) (short : Bool) (after : Directory) (versions : List ℕ) (stamps : List StampOf) (request : RequestOf)
       → (after, Told.Versions versions) ≡ at_directory short (actor_of a.token) a.number DirectoryStep.Draw s.core
-      → request ≡ request_of (put_in a) → AreDrawnFor s holding.held (Some request) stamps → stamps ≡ stamps_drawn short s old
+      → request ≡ request_of (put_in a).call a.call.now → AreDrawnFor s holding.held (Some request) stamps → stamps ≡ stamps_drawn short s old.call old.written
   draw_stamps s short after versions stamps request made request_is drawn =
-      let held : HeldPass = holding.held in
-      let told : (at_directory short holding.held.pass.actor a.number DirectoryStep.Draw s.core).1 ≡ Told.Versions versions
-      = ap (λ (token : ActorToken). (at_directory short (actor_of token) a.number DirectoryStep.Draw s.core).1) (sym holding.is) ∙ ap (λ (x : Directory × Told). x.1) (sym made) in
-      drawn.drawn
-      ∙ ap (λ (r : RequestOf). stamps_touched s.book s.stamps (stripe_length s.core.shape) held.pass (Some r)) request_is
-      ∙ ap (stamps_told s held.pass (request_of (put_in a))) (sym told)
-      ∙ ap (λ (token : ActorToken). stamps_of_draw token short s (put_in a)) (sym holding.is)
-      ∙ ap (λ act. stamps_by act short s (put_in a)) (sym draws)
-      ∙ ap (stamps_drawn short s) view
+      drawn_stamps s (put_in a).call a.call.now holding.held short after versions stamps request draws holding.is made request_is drawn
+      ∙ ap (λ (p : PutOf). stamps_drawn short s p.call p.written) view
 
   -- how many
   pub draw_count : (s : Sealed) (stamps : List StampOf) (request : RequestOf) → s.book ≡ a.opening → s.book.geometry ≡ s.core.shape → AreDrawnFor s holding.held (Some request) stamps
@@ -188,7 +156,7 @@ module _ (a : Inside) (kept : IsPut a) (old : PutOf) (view : put_in a ≡ old) (
 
   -- what is kept
   pub draw_kept : (s : Sealed) (stamps : List StampOf) (request : RequestOf) (token : ActorToken) (w : WritingOf)
-      → s.book ≡ a.opening → s.book.geometry ≡ s.core.shape → request ≡ request_of (put_in a) → AreDrawnFor s holding.held (Some request) stamps → w.stamps ≡ stamps → w.book ≡ a.opening → w.first ≡ 0
+      → s.book ≡ a.opening → s.book.geometry ≡ s.core.shape → request ≡ request_of (put_in a).call a.call.now → AreDrawnFor s holding.held (Some request) stamps → w.stamps ≡ stamps → w.book ≡ a.opening → w.first ≡ 0
       → w.state ≡ prepare_all_state a.opening.geometry (versions_of w.stamps) 0 (versions_of w.stamps) []
       → token ≡ token_after a.token a.number DirectoryStep.Draw (Told.Versions (versions_of w.stamps))
       → Keeps stage.Writing a.opening a.number a.call.now token w a.outcome
@@ -200,8 +168,8 @@ module _ (a : Inside) (kept : IsPut a) (old : PutOf) (view : put_in a ≡ old) (
       ∙ written_is a.opening.script a.actor a.number a.call.now request kept.script (ap (λ (r : RequestOf). r.call) request_is) in
       let after : token ≡ ActorToken.InCall (record held { pass = record (held.pass) { drawn = versions_of w.stamps } })
       = token_is ∙ ap (λ (token : ActorToken). token_after token a.number DirectoryStep.Draw (Told.Versions (versions_of w.stamps))) holding.is in (
-        drawn_of_call s a.opening a.call.now held request w its code kept.put holding.its holding.pins says (subst (AreDrawnFor s held (Some request)) (sym w_stamps) drawn) w_book first,
+        drawn_of_call s a.opening a.call.now held request w its code kept.put holding.its pins says (subst (AreDrawnFor s held (Some request)) (sym w_stamps) drawn) w_book first,
         subst (HasToken a.number (note_of a.call.now) (versions_of w.stamps) token) (sym state_is)
             (prepare_has a.number (note_of a.call.now) (versions_of w.stamps) token a.opening.geometry (versions_of w.stamps) 0 (versions_of w.stamps) []
-            (record { held = _; is = after; its = holding.its; its_number = holding.its_number; its_drawn = refl; pins = holding.pins })),
+            (record { held = _; is = after; its = holding.its; its_number = holding.its_number; its_drawn = refl })),
       )

@@ -5,3 +5,4 @@ pub mod Points
 pub mod Servers
 pub mod Serving
 pub mod Drawing
+pub mod Making

@@ -22,7 +22,8 @@ use Rattle.client_put.specs.Puts.{is_put}
 use Rattle.client_put.specs.Stages.{state_by, IsPutLook, IsLooked}
 use Rattle.call_steps.specs.Ends.{finished_of}
 use Rattle.call_steps.specs.Callers.{IsWaiting}
-use Rattle.client_put.specs.Holds.{HasToken, Keeps}
+use Rattle.write_course.specs.Holding.{HasToken}
+use Rattle.client_put.specs.Holds.{PinsNothing, Keeps}
 use Rattle.client_put.specs.declared.stage.Stage.{Stage}
 use Rattle.client_put.specs.declared.stage.Stage.TheVariants as stage
 
@@ -48,7 +49,7 @@ look_kept (Told.Answer point answer) next outcome book number written (ActorToke
     subst (λ s. Keeps s book number written now w outcome) (sym looked.0) (subst IsSeated (sym is) tt, looked.1)
 look_kept (Told.Ready base length stripes) next outcome book number written (ActorToken.Seated seat) now w put looked waiting is =
     subst (λ s. Keeps s book number written now w outcome) (sym looked)
-    (record { held = _; is = is; its = refl; its_number = refl; its_drawn = refl; pins = ap (map pin_of) put })
+    (record { held = _; is = is; its = refl; its_number = refl; its_drawn = refl }, subst PinsNothing (sym is) (ap (map pin_of) put))
 look_kept Told.Short next outcome book number written (ActorToken.Seated seat) now w put looked waiting is =
     subst (λ s. Keeps s book number written now w outcome) (sym looked.0) (subst IsSeated (sym is) tt, looked.1)
 look_kept told next outcome book number written (ActorToken.InCall held) now w put looked waiting is = absurd waiting

@@ -22,12 +22,15 @@ use Rattle.call_steps.specs.CallOf.{tries_by}
 use Rattle.client_put.specs.Bytes.{stripe_of, content_in}
 use Rattle.client_put.specs.Puts.{PutOf}
 use Rattle.client_put.specs.Stages.{state_by, due_by}
-use Rattle.client_put.specs.Holds.{HasToken, IsOfCall, Keeps}
+use Rattle.write_course.specs.Holding.{HasToken}
+use Rattle.client_put.specs.Holds.{IsOfCall, Keeps}
 use Rattle.client_put.specs.Inside.{put_in, IsPut}
 use Rattle.client_put.specs.declared.stage.Stage.TheVariants as stage
 use Rattle.client_put.specs.declared.put.PutCall.TheInside.{Inside}
-use Rattle.client_put.proofs.Kept.{same_call, stepped_has, short_has}
-use Rattle.client_put.proofs.Servers.{Asks, server_step, writes_at_server, writes_with_coder, asks_server, codes}
+use Rattle.write_course.proofs.Tokens.{stepped_has, short_has}
+use Rattle.client_put.proofs.Kept.{same_call}
+use Rattle.write_course.proofs.AtServers.{Asks, server_step, codes}
+use Rattle.client_put.proofs.Servers.{writes_at_server, writes_with_coder, asks_server}
 
 -- the bytes of the version at work
 pub content_at_work : (book : BookOf) (written : Call) (w : WritingOf) (stripe : ℕ) → IsOfCall book written w → option_map (λ place. w.first + place) (place_of w.state) ≡ Some stripe
@@ -98,7 +101,7 @@ module _ (a : Inside) (kept : IsPut a) (old : PutOf) (view : put_in a ≡ old) w
 
     pub coding_due : a.writing.due ≡ true
     coding_due =
-        codes a.opening.geometry (tries_by a.opening.script) (job_of a.call.now) a.number (note_of a.call.now) (versions_of a.writing.stamps) a.token a.writing.state a.writing.due coding_keeps.1
+        codes a.opening.geometry (tries_by a.opening.script) (job_of a.call.now) [] a.number (note_of a.call.now) (versions_of a.writing.stamps) a.token a.writing.state a.writing.due coding_keeps.1
         (ap (λ s. need_by (act_at a.opening.geometry (tries_by a.opening.script) (job_of a.call.now) [] (state_by s a.writing a.outcome)) (due_by s a.writing)) (sym coding_is) ∙ ap (λ (p : PutOf). need_of p.call) view ∙ needs)
 
     -- what is kept after the coding

@@ -3,7 +3,7 @@ ghost use Rattle.std.specs.Prelude.{◌≡◌, ◌++◌, true};
 ghost use Rattle.store_core.specs.Agreement.{Agrees};
 ghost use Rattle.store_resume.specs.State.{State};
 ghost use Rattle.call_steps.specs.Steps.{stepped_at_directory, need_of};
-ghost use Rattle.client_put.specs.Draws.{stamps_drawn};
+ghost use Rattle.write_course.specs.Draws.{stamps_drawn};
 ghost use Rattle.write_course.specs.Writings.{is_committing};
 ghost use Rattle.client_put.specs.Stages.{IsBegun};
 ghost use Rattle.call_steps.specs.Ends.{is_ending};
@@ -28,7 +28,7 @@ impl<'a> PutCall<'a> {
         ensures written { self.new.written ≡ self.old.written }
         ensures book { directory.new.book ≡ directory.old.book }
         ensures stamps { directory.new.stamps
-            ≡ directory.old.stamps ++ stamps_drawn self.new.call.step directory.old self.old }
+            ≡ directory.old.stamps ++ stamps_drawn self.new.call.step directory.old self.old.call self.old.written }
     {
         match self.stage {
             Stage::Looking => self.look(directory),
@@ -92,7 +92,7 @@ impl<'a> PutCall<'a> {
         ensures written { self.new.written ≡ self.old.written }
         ensures book { directory.new.book ≡ directory.old.book }
         ensures stamps { directory.new.stamps
-            ≡ directory.old.stamps ++ stamps_drawn self.new.call.step directory.old self.old }
+            ≡ directory.old.stamps ++ stamps_drawn self.new.call.step directory.old self.old.call self.old.written }
     {
         directory.keeps();
         // That the length fits is needed below.

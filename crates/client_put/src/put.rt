@@ -1,34 +1,29 @@
 //! A put as a machine of steps.
-ghost use Rattle.std.specs.Prelude.{◌≡◌, ◌<◌, ◌≤◌, ℕ, List, true, false, None, Some, IfSome, OnOk, OnErr, replicate};
+ghost use Rattle.std.specs.Prelude.{◌≡◌, ◌<◌, ◌≤◌, true, false, None, OnOk, OnErr, replicate};
 ghost use Rattle.std.specs.Option.{option_map};
-ghost use Rattle.clay_grid.specs.Shape.{Shape, chunk_count};
-ghost use Rattle.store_core.specs.Note.{note_of};
-ghost use Rattle.store_core.specs.NextAct.{Job};
+ghost use Rattle.clay_grid.specs.Shape.{chunk_count};
 ghost use Rattle.store_core.specs.Agreement.{ActorToken};
 ghost use Rattle.store_resume.specs.State.{State};
-ghost use Rattle.store_resume.specs.StateActs.{act_at};
 ghost use Rattle.chunk_server.specs.Core.{core_of};
-ghost use Rattle.call_steps.specs.Steps.{IfServer, stepped_at_server, coded, need_by, need_of, HoldsItsPass, IsDueInPass};
-ghost use Rattle.call_steps.specs.CallOf.{CallOf};
+ghost use Rattle.call_steps.specs.Steps.{IfServer, stepped_at_server, coded, need_of, HoldsItsPass, IsDueInPass, MayMakeNext};
 ghost use Rattle.call_steps.specs.Outcomes.{outcome_of};
-ghost use Rattle.write_course.specs.Writings.{begins_version};
 ghost use Rattle.client_put.specs.Puts.{is_put, first_put};
 ghost use Rattle.call_steps.specs.Callers.{IsClient, IsOfScript};
-ghost use Rattle.call_steps.specs.Ends.{point_of, finished_of, IsStanding, IsOver};
+ghost use Rattle.call_steps.specs.Ends.{point_of};
 
 use crate::bytes::stripe_bytes;
 use crate::stage::{Stage, content_of};
 use call_steps::{Need, Outcome};
-use stripe_dir::{Seat, Ticket};
 use chunk_server::Server;
 use clay_repair::Coder;
 use read_ledger::Takes;
 use std::alloc::{AllocError, Global};
 use std::marker::Model;
 use std::thread::Threads;
-use store_map::{Actor, Call, Point, Reply};
+use store_map::{Actor, Call, Point};
+use stripe_dir::{Seat, Ticket};
 use version_seal::Opening;
-use write_course::{Doing, Writing};
+use write_course::Writing;
 
 /// A client's put in work. It has to be finished, or to leave the directory.
 pub struct PutCall<'a> {
@@ -57,46 +52,6 @@ impl<'a> Model for PutCall<'a> {
     ghost view = { put_in };
 
     ghost invariant = { IsPut };
-}
-
-// What a writing needs that stands between two steps.
-fn need_of_writing(writing: &Writing) -> Need
-    requires { IsStanding writing.now.state }
-    ensures need { (tries : ℕ) (job : Job) (pairs : List (ℕ × ℕ)) → result
-        ≡ need_by (act_at writing.now.book.geometry tries job pairs writing.now.state) writing.now.due }
-    ensures begins { writing.now.due ≡ true → begins_version writing.now.state ≡ true }
-    ensures below { IfServer result (λ server. server < chunk_count writing.now.book.geometry) }
-{
-    if writing.due() {
-        return Need::Coder;
-    }
-    match writing.asked() {
-        Some(server) => Need::Server(server),
-        None => match writing.doing() {
-            Doing::Done => Need::Finished,
-            _ => Need::Directory,
-        },
-    }
-}
-
-// How a writing has ended.
-fn outcome_of_writing(writing: Writing) -> Outcome
-    requires { IsOver writing.state }
-    ensures { finished_of writing.state ≡ State.Finished (outcome_of result) }
-{
-    if let Some(point) = writing.committed_at() {
-        return Outcome::Answered {
-            point,
-            reply: Reply::Done,
-        };
-    }
-    match writing.doing() {
-        Doing::TooManyAway => {
-            let (stripe, missing) = writing.into_away();
-            Outcome::Unavailable { stripe, missing }
-        }
-        _ => Outcome::NoMemory,
-    }
 }
 
 impl<'a> PutCall<'a> {
@@ -134,15 +89,19 @@ impl<'a> PutCall<'a> {
     }
 
     /// Where the call has to go on.
+    #[tactic(auto, using(crate::proofs::Making::may))]
     pub fn need(&self) -> Need
         ensures need { result ≡ need_of self.now.call }
         ensures in_pass { IsDueInPass self.now.call }
         ensures pass { HoldsItsPass self.now.call }
+        ensures may { MayMakeNext self.now.call }
         ensures below { IfServer result (λ server. server < chunk_count self.now.call.book.geometry) }
     {
+        // That a commit has whole rows is needed below.
+        self.writing.keeps();
         match self.stage {
             Stage::Looking | Stage::Drawing | Stage::Ending => Need::Directory,
-            Stage::Writing => need_of_writing(&self.writing),
+            Stage::Writing => self.writing.need(),
             Stage::GivenUp | Stage::Finished => Need::Finished,
         }
     }
@@ -199,7 +158,11 @@ impl<'a> PutCall<'a> {
         ensures { option_map (λ point. point.0) result ≡ point_of self.now.call.state.at }
     {
         match self.stage {
-            Stage::Writing => self.writing.committed_at(),
+            Stage::Writing => {
+                // How it has ended is needed below.
+                let _ = self.writing.doing();
+                self.writing.committed_at()
+            }
             _ => None,
         }
     }
@@ -237,7 +200,7 @@ impl<'a> PutCall<'a> {
         let seat = token.into_seat();
         match stage {
             Stage::Finished => (seat, outcome, None),
-            _ => (seat, outcome_of_writing(writing), None),
+            _ => (seat, writing.into_outcome(), None),
         }
     }
 

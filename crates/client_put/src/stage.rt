@@ -9,9 +9,9 @@ ghost use Rattle.client_put.specs.Stages.{state_by, after_end, IsPutLook, IsLook
 ghost use Rattle.client_put.specs.Bytes.{content_in};
 
 use call_steps::Outcome;
-use stripe_dir::Look;
 use std::alloc::AllocError;
 use store_map::{Call, Content};
+use stripe_dir::Look;
 
 /// What a put does next, or how it has ended.
 #[derive(Clone, Copy, PartialEq, Eq, Debug)]

@@ -1,5 +1,6 @@
 -- The look of a call that reads.
-use Rattle.std.proofs.Common.{⊤, ◌≡◌, ◌≢◌, ℕ, Bool, true, false, List, [], map, Result, Ok, Err, IfOk, All, Option, option_map, refl, sym, ap, subst, ◌∙◌, inl, inr}
+use Rattle.std.specs.Prelude.{⊤}
+use Rattle.std.proofs.Common.{◌≡◌, ◌≢◌, ℕ, Bool, true, false, List, [], map, Result, Ok, Err, IfOk, All, Option, option_map, refl, sym, ap, subst, ◌∙◌, inl, inr}
 use Rattle.std.specs.declared.alloc.AllocError.{AllocError}
 use Rattle.std.proofs.lemmas.Bool.{true≢false}
 use Rattle.store_map.specs.declared.actor.Actor.{Actor}
@@ -89,12 +90,12 @@ pub kept_looked : (answer : Result (Look ⊤ ⊤) AllocError) (next : Stage) (re
     → FitsKind (note_of read).kind (looked answer) → IsWaiting number token → IsLooked (looked answer) next
     → Keeps next number (note_of read) (token_after token number (DirectoryStep.Look (note_of read)) (looked answer)) p
 kept_looked answer next read number (ActorToken.InCall held) p is fits waits goes = absurd waits
-kept_looked (Ok (look.Answer seat point reply)) next read number (ActorToken.Seated seat) p is fits waits goes =
+kept_looked (Ok (look.Answer gone point reply)) next read number (ActorToken.Seated seat) p is fits waits goes =
     subst (λ (s : Stage). Keeps s number (note_of read) (token_after (ActorToken.Seated seat) number (DirectoryStep.Look (note_of read)) (Told.Answer point.0 reply)) p) (sym goes) tt
-kept_looked (Ok (look.Pinned pass point length stripes)) next read number (ActorToken.Seated seat) p is fits waits goes =
-    subst (λ (s : Stage). Keeps s number (note_of read) (token_after (ActorToken.Seated seat) number (DirectoryStep.Look (note_of read)) (looked (Ok (look.Pinned pass point length stripes)))) p) (sym goes)
+kept_looked (Ok (look.Pinned gone point length stripes)) next read number (ActorToken.Seated seat) p is fits waits goes =
+    subst (λ (s : Stage). Keeps s number (note_of read) (token_after (ActorToken.Seated seat) number (DirectoryStep.Look (note_of read)) (looked (Ok (look.Pinned gone point length stripes)))) p) (sym goes)
     (record { its = refl; its_number = refl })
-kept_looked (Ok (look.Ready pass base length stripes)) next read number (ActorToken.Seated seat) p is fits waits goes = absurd (never_ready read (option_map (λ (point : Point). point.0) base) length (map seen_in stripes.items) is fits)
+kept_looked (Ok (look.Ready gone base length stripes)) next read number (ActorToken.Seated seat) p is fits waits goes = absurd (never_ready read (option_map (λ (point : Point). point.0) base) length (map seen_in stripes.items) is fits)
 kept_looked (Err e) next read number (ActorToken.Seated seat) p is fits waits goes =
     subst (λ (s : Stage). Keeps s number (note_of read) (token_after (ActorToken.Seated seat) number (DirectoryStep.Look (note_of read)) Told.Short) p) (sym goes) tt
 
@@ -102,15 +103,15 @@ kept_looked (Err e) next read number (ActorToken.Seated seat) p is fits waits go
 pub client_looked : (answer : Result (Look ⊤ ⊤) AllocError) (number : ℕ) (note : Note) (token : ActorToken) → IsWaiting number token → IsClient (actor_of token)
     → IsClient (actor_of (token_after token number (DirectoryStep.Look note) (looked answer)))
 client_looked answer number note (ActorToken.InCall held) waits client = absurd waits
-client_looked (Ok (look.Answer seat point reply)) number note (ActorToken.Seated seat) waits client = client
-client_looked (Ok (look.Pinned pass point length stripes)) number note (ActorToken.Seated seat) waits client = client
-client_looked (Ok (look.Ready pass base length stripes)) number note (ActorToken.Seated seat) waits client = client
+client_looked (Ok (look.Answer gone point reply)) number note (ActorToken.Seated seat) waits client = client
+client_looked (Ok (look.Pinned gone point length stripes)) number note (ActorToken.Seated seat) waits client = client
+client_looked (Ok (look.Ready gone base length stripes)) number note (ActorToken.Seated seat) waits client = client
 client_looked (Err e) number note (ActorToken.Seated seat) waits client = client
 
 no_pairs : (answer : Result (Look ⊤ ⊤) AllocError) → [] ≡ pairs_with [] (looked answer)
-no_pairs (Ok (look.Answer seat point reply)) = refl
-no_pairs (Ok (look.Pinned pass point length stripes)) = refl
-no_pairs (Ok (look.Ready pass base length stripes)) = refl
+no_pairs (Ok (look.Answer gone point reply)) = refl
+no_pairs (Ok (look.Pinned gone point length stripes)) = refl
+no_pairs (Ok (look.Ready gone base length stripes)) = refl
 no_pairs (Err e) = refl
 
 -- the call's step

@@ -1,3 +1,4 @@
+//! The coders, over one codeword.
 use clay_grid::Geometry;
 use clay_lanes::LaneCoder;
 use clay_par::ParCoder;

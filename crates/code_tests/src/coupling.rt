@@ -1,3 +1,4 @@
+//! The calls on a pair of bytes.
 use clay_model::{couple, cross, uncouple, uncouple_from};
 
 #[test]

@@ -1,3 +1,4 @@
+//! Codewords that are given back from what is left of them.
 ghost use Rattle.std.specs.Prelude.{◌≡◌, length, IfOk, IfSome};
 ghost use Rattle.clay_grid.specs.Shape.{chunk_count, chunk_length};
 ghost use Rattle.clay_decode.specs.Left.{AreLong};

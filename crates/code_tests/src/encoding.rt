@@ -1,3 +1,4 @@
+//! Stripes that are encoded, and bytes that are cut into stripes.
 use clay_encode::{encode, join, split, stripes_are_joined};
 use clay_grid::Geometry;
 use std::alloc::Global;

@@ -1,3 +1,4 @@
+//! The calls of the field, each for one product.
 use clay_field::{add_scaled, inv, mul, power};
 
 #[test]

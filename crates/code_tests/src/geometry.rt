@@ -1,3 +1,4 @@
+//! The numbers of shapes, and shapes that are refused.
 use clay_grid::{BadGeometry, Geometry, Vertex};
 use std::test::Fail;
 

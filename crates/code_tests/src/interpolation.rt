@@ -1,3 +1,4 @@
+//! The sums of a layer, and the values that have them.
 use clay_grid::Geometry;
 use clay_scalar::{Solver, syndromes};
 use std::test::Fail;

@@ -10,10 +10,10 @@ use crate::stage::{
     Stage, drawn_by, is_client, is_repairer, stage_after_confirm, stage_after_draw,
     stage_after_look, stage_after_repair_look, unused_after_commit,
 };
-use stripe_dir::{Committed, Confirmed, Directory, Drawn, Ended, Look, RepairLook, Seat, Ticket};
 use std::alloc::{AllocError, Global};
 use std::marker::Model;
 use store_map::{Actor, Call, Name};
+use stripe_dir::{Committed, Confirmed, Directory, Drawn, Ended, Look, RepairLook, Seat, Ticket};
 use version_seal::{Book, Request};
 
 /// A step of an actor at the directory.
@@ -234,7 +234,11 @@ impl Caller {
         Ok(answer)
     }
 
-    fn confirm(&mut self, directory: &mut Directory, book: &Book) -> Result<Confirmed<(), ()>, Refusal>
+    fn confirm(
+        &mut self,
+        directory: &mut Directory,
+        book: &Book,
+    ) -> Result<Confirmed<(), ()>, Refusal>
         requires ready { IsReady book.now directory.old self.old }
         ensures steps { Steps directory.old self.old directory.new self.new }
     {

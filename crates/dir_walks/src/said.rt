@@ -1,9 +1,9 @@
 //! Answers in words.
 
 use crate::caller::Answer;
-use stripe_dir::{Committed, Confirmed, Drawn, Ended, Look, RepairLook, Seen};
 use std::alloc::{AllocError, Global};
 use store_map::{Placement, Point};
+use stripe_dir::{Committed, Confirmed, Drawn, Ended, Look, RepairLook, Seen};
 use version_seal::Stamp;
 
 // A server's epoch, or how often it was made away.

@@ -5,11 +5,11 @@ ghost use Rattle.dir_walks.specs.Begun.{IfBegun};
 ghost use Rattle.dir_walks.specs.Stores.{IsStore};
 
 use crate::caller::{Answer, Caller, Refusal, Step};
-use stripe_dir::{Directory, Drawn, Look, Seat};
 use std::alloc::{AllocError, Global};
 use std::marker::Model;
 use std::test::Fail;
 use store_map::{Actor, Call, Point, Version};
+use stripe_dir::{Directory, Drawn, Look, Seat};
 use version_seal::Book;
 
 /// A directory with two clients and a repairer. It has to be left.

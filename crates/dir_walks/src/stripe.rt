@@ -5,10 +5,10 @@ ghost use Rattle.dir_walks.specs.Small.{small_code, IsStripeStamp};
 ghost use Rattle.dir_walks.specs.StripePut.{IsPutBegun};
 
 use crate::store::Store;
-use stripe_dir::{Drawn, Look};
 use std::alloc::Global;
 use std::test::Fail;
 use store_map::{Call, Content, Name};
+use stripe_dir::{Drawn, Look};
 use version_seal::Stamp;
 
 // It begins.
@@ -22,10 +22,7 @@ fn begin(alloc: Global, store: &mut Store<'_>) -> Result<(), Fail>
         length: 8,
     };
     let call = Call::Put { name, content };
-    let Look::Ready {
-        stripes, ..
-    } = store.begin(0, &call)?
-    else {
+    let Look::Ready { stripes, .. } = store.begin(0, &call)? else {
         return Err(Fail::from("no put begins"));
     };
     if !stripes.is_empty() {

@@ -1,3 +1,4 @@
+//! Scripts that are drawn from numbers.
 use clay_gen::generate;
 use script_text::write_script;
 use std::process::Abort;

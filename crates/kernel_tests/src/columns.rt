@@ -1,6 +1,7 @@
 use clay_field::add_scaled;
 use clay_grid::Geometry;
-use clay_lanes::{ColumnFactors, Products, add_column, end_column, last_column};
+use clay_kernels::{ColumnFactors, Products, add_column, end_column};
+use clay_parity::last_column;
 use std::alloc::Global;
 use std::process::Abort;
 use std::test::Fail;

@@ -1,5 +1,5 @@
 use clay_field::add_scaled;
-use clay_lanes::{Products, add_rows};
+use clay_kernels::{Products, add_rows};
 use std::alloc::Global;
 use std::process::Abort;
 use std::test::Fail;

@@ -1,3 +1,4 @@
+//! Turns at one lock, in one thread and in two.
 use crate::{Line, collect, hire, work_together};
 use std::test::Fail;
 

@@ -1,5 +1,5 @@
 -- Drawn contents are whole stripes.
-use Rattle.std.proofs.Common.{◌≡◌, ℕ, ◌+◌, ◌-◌, ◌*◌, ◌<◌, ◌≤◌, Bool, min, max, List, [], ◌++◌, length, take, drop, map, get_or, slice_get, Option, None, Some, IfSome, All, sym, refl, ap, subst, ◌∙◌, arith, length-drop, length-append}
+use Rattle.std.proofs.Common.{◌≡◌, ℕ, ◌+◌, ◌-◌, ◌*◌, ◌<◌, ◌≤◌, Bool, min, max, List, [], ◌++◌, length, take, drop, map, slice_get, Option, None, Some, sym, refl, subst, ◌∙◌, arith, length-drop, length-append}
 use Rattle.std.specs.Option.{option_and_then}
 use Rattle.std.specs.List.{range_with_len}
 use Rattle.std.proofs.lemmas.List.{length-take, length-replicate}
@@ -7,7 +7,7 @@ use Rattle.std.proofs.lemmas.List.FromFn.{length-map-range_with_len, get_or-map-
 use Rattle.std.proofs.lemmas.List.Elements.{All-nil, All-append}
 use Rattle.clay_grid.specs.Shape.{Shape, stripe_length}
 use Rattle.store_map.specs.Content.{overwrite}
-use Rattle.store_map.specs.Limits.{stripes_met}
+use Rattle.store_map.specs.declared.call.Call.{Call}
 use Rattle.store_core.specs.Content.{lay_over, written_by}
 use Rattle.store_core.specs.Told.{Told}
 use Rattle.store_core.specs.Act.{Act, DirectoryStep}
@@ -18,11 +18,8 @@ use Rattle.store_sound.proofs.SoundLists.{at_all}
 use Rattle.dir_parts.specs.TableSteps.{base_version}
 use Rattle.version_seal.specs.Entry.{BookOf, StampOf, RequestOf, old_bytes, call_written}
 use Rattle.stripe_dir.specs.Sealed.{Sealed, base_stamp, drawn_stamp, stamps_touched}
-use Rattle.call_steps.specs.CallOf.{act_of}
-use Rattle.client_put.specs.Puts.{PutOf}
-use Rattle.client_put.specs.Draws.{request_of as put_request, stamps_told as put_told, stamps_of_draw as put_draw, stamps_by as put_by, stamps_drawn as put_drawn}
-use Rattle.client_patch.specs.Patches.{PatchOf}
-use Rattle.client_patch.specs.Draws.{request_of as patch_request, stamps_told as patch_told, stamps_of_draw as patch_draw, stamps_by as patch_by, stamps_drawn as patch_drawn}
+use Rattle.call_steps.specs.CallOf.{CallOf, act_of}
+use Rattle.write_course.specs.Draws.{request_of, stamps_told, stamps_of_draw, stamps_by, stamps_drawn}
 use Rattle.machine_walks.specs.Whole.{AreWhole, Grows}
 
 -- ---- one content
@@ -82,41 +79,23 @@ module _ (s : Sealed) (whole : AreWhole s.book s.stamps) where
   touched : (pass : Pass) (stripe : ℕ) (request : RequestOf) → AreWhole s.book (stamps_touched s.book s.stamps stripe pass (Some request))
   touched pass stripe request = some_whole s.book s.stamps whole pass _ _ (Some request)
 
-  -- ---- those of a put
-  put_answer : (pass : Pass) (request : RequestOf) (answer : Told) → AreWhole s.book (put_told s pass request answer)
-  put_answer pass request (Told.Versions versions) = touched pass (stripe_length s.core.shape) request
-  put_answer pass request answer = none s.book
+  -- those of a put or a write
+  answer_draws : (pass : Pass) (request : RequestOf) (answer : Told) → AreWhole s.book (stamps_told s pass request answer)
+  answer_draws pass request (Told.Versions versions) = touched pass (stripe_length s.core.shape) request
+  answer_draws pass request answer = none s.book
 
-  put_token : (token : ActorToken) (short : Bool) (p : PutOf) → AreWhole s.book (put_draw token short s p)
-  put_token (ActorToken.Seated seat) short p = none s.book
-  put_token (ActorToken.InCall held) short p = put_answer held.pass (put_request p) (at_directory short held.pass.actor p.call.number DirectoryStep.Draw s.core).1
+  token_draws : (token : ActorToken) (short : Bool) (c : CallOf) (written : Call) → AreWhole s.book (stamps_of_draw token short s c written)
+  token_draws (ActorToken.Seated seat) short c written = none s.book
+  token_draws (ActorToken.InCall held) short c written = answer_draws held.pass (request_of c written) (at_directory short held.pass.actor c.number DirectoryStep.Draw s.core).1
 
-  put_step : (step : DirectoryStep) (short : Bool) (p : PutOf) → AreWhole s.book (put_by (Act.AtDirectory step) short s p)
-  put_step DirectoryStep.Draw short p = put_token p.call.token short p
-  put_step step short p = none s.book
+  step_draws : (step : DirectoryStep) (short : Bool) (c : CallOf) (written : Call) → AreWhole s.book (stamps_by (Act.AtDirectory step) short s c written)
+  step_draws DirectoryStep.Draw short c written = token_draws c.token short c written
+  step_draws step short c written = none s.book
 
-  put_act : (act : Act) (short : Bool) (p : PutOf) → AreWhole s.book (put_by act short s p)
-  put_act (Act.AtDirectory step) short p = put_step step short p
-  put_act (Act.AtServer server step) short p = none s.book
-  put_act (Act.Finish outcome) short p = none s.book
-
-  -- ---- those of a write
-  patch_answer : (pass : Pass) (request : RequestOf) (answer : Told) → AreWhole s.book (patch_told s pass request answer)
-  patch_answer pass request (Told.Versions versions) = touched pass (stripe_length s.core.shape) request
-  patch_answer pass request answer = none s.book
-
-  patch_token : (token : ActorToken) (short : Bool) (p : PatchOf) → AreWhole s.book (patch_draw token short s p)
-  patch_token (ActorToken.Seated seat) short p = none s.book
-  patch_token (ActorToken.InCall held) short p = patch_answer held.pass (patch_request p) (at_directory short held.pass.actor p.call.number DirectoryStep.Draw s.core).1
-
-  patch_step : (step : DirectoryStep) (short : Bool) (p : PatchOf) → AreWhole s.book (patch_by (Act.AtDirectory step) short s p)
-  patch_step DirectoryStep.Draw short p = patch_token p.call.token short p
-  patch_step step short p = none s.book
-
-  patch_act : (act : Act) (short : Bool) (p : PatchOf) → AreWhole s.book (patch_by act short s p)
-  patch_act (Act.AtDirectory step) short p = patch_step step short p
-  patch_act (Act.AtServer server step) short p = none s.book
-  patch_act (Act.Finish outcome) short p = none s.book
+  act_draws : (act : Act) (short : Bool) (c : CallOf) (written : Call) → AreWhole s.book (stamps_by act short s c written)
+  act_draws (Act.AtDirectory step) short c written = step_draws step short c written
+  act_draws (Act.AtServer server step) short c written = none s.book
+  act_draws (Act.Finish outcome) short c written = none s.book
 
 -- ---- the directory has more stamps
 grows : (s now : Sealed) (more : List StampOf) → now.stamps ≡ s.stamps ++ more → (AreWhole s.book s.stamps → AreWhole s.book more) → Grows s now
@@ -127,8 +106,5 @@ grows s now more is whole =
       whole = λ old. subst (AreWhole s.book) (sym is) (All-append (λ (t : StampOf). length t.content ≡ stripe_length s.book.geometry) s.stamps more old (whole old));
     }
 
-pub put_grows : (s now : Sealed) (short : Bool) (p : PutOf) → now.stamps ≡ s.stamps ++ put_drawn short s p → Grows s now
-put_grows s now short p is = grows s now (put_drawn short s p) is (λ old. put_act s old (act_of p.call) short p)
-
-pub patch_grows : (s now : Sealed) (short : Bool) (p : PatchOf) → now.stamps ≡ s.stamps ++ patch_drawn short s p → Grows s now
-patch_grows s now short p is = grows s now (patch_drawn short s p) is (λ old. patch_act s old (act_of p.call) short p)
+pub drawn_grows : (s now : Sealed) (short : Bool) (c : CallOf) (written : Call) → now.stamps ≡ s.stamps ++ stamps_drawn short s c written → Grows s now
+drawn_grows s now short c written is = grows s now (stamps_drawn short s c written) is (λ old. act_draws s old (act_of c) short c written)

@@ -10,8 +10,8 @@ ghost use Rattle.repairer.specs.Standing.{stage_of};
 use crate::repair_call::RepairCall;
 use crate::stage::Stage;
 use call_steps::{Need, RepairOutcome};
-use stripe_dir::{Confirmed, Directory, Ended, RepairLook};
 use std::mem;
+use stripe_dir::{Confirmed, Directory, Ended, RepairLook};
 
 // How a call ends whose pass was to be ended with this outcome.
 fn ended_with(answer: Ended<()>, outcome: RepairOutcome) -> RepairOutcome

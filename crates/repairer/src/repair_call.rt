@@ -15,7 +15,6 @@ ghost use Rattle.repairer.specs.Inside.{takes_at};
 
 use crate::stage::Stage;
 use call_steps::{Need, RepairOutcome};
-use stripe_dir::{Directory, Seat, Seen, Ticket};
 use chunk_server::Server;
 use clay_repair::Coder;
 use gathering::Gather;
@@ -23,6 +22,7 @@ use read_ledger::Takes;
 use std::marker::Model;
 use std::thread::Threads;
 use store_map::Rebuild;
+use stripe_dir::{Directory, Seat, Seen, Ticket};
 use version_seal::{Opening, SealedChunk};
 
 /// A rebuild in work. It has to be spent.

@@ -1,3 +1,4 @@
+//! Scripts with one damaged line.
 use line_grammar::FaultKind::{
     Geometry, Limit, MissingEnd, NoSuchActor, NoSuchServer, OutOfMemory, Syntax,
 };

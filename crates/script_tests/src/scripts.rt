@@ -1,3 +1,4 @@
+//! Scripts that are read, and written again.
 use line_grammar::read_number;
 use script_text::read_script;
 use std::alloc::Global;

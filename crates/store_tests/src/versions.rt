@@ -1,8 +1,11 @@
-ghost use Rattle.std.specs.Prelude.{IfOk, IsTrue};
+//! Tests of sealed versions.
+ghost use Rattle.std.specs.Prelude.{◌≡◌, None, Some, IfOk, IsTrue};
+ghost use Rattle.store_tests.specs.Small.{IsSmall};
 ghost use Rattle.store_map.specs.declared.actor.Actor.TheVariants.{Client};
 ghost use Rattle.store_core.specs.History.{call_of};
 ghost use Rattle.version_seal.specs.Entry.{is_writing};
 
+use crate::holds;
 use crate::sealing::{
     fetched, gathered, part, sealed_before, small_geometry, stamp, stamp_over, stripe,
 };
@@ -12,7 +15,7 @@ use std::test::Fail;
 use std::thread;
 use std::thread::Threads;
 use store_map::{Actor, Call, ClientPart, Content, ListOf, Name, Script, Version};
-use version_seal::{Book, ReserveError};
+use version_seal::{Book, ReserveError, SealedPart};
 
 // What a thread read of the version that it sealed, and whether it sealed the one that both tried.
 type Seen = (u32, u32, bool);
@@ -51,81 +54,123 @@ fn both<R: Threads + Sync>(rt: &R, alloc: Global, book: &Book) -> (Option<Seen>,
     )
 }
 
+// Both read what they sealed, and one alone sealed the version that both tried.
+fn are_apart(one: Option<Seen>, other: Option<Seen>) -> bool {
+    match (one, other) {
+        (Some(one), Some(other)) => {
+            (one.0, one.1) == (5, 3) && (other.0, other.1) == (5, 4) && one.2 != other.2
+        }
+        _ => false,
+    }
+}
+
 #[test]
 fn threads_share_a_book(rt: HostRuntime) -> Result<(), Fail> {
     let book = Book::free(rt.alloc(), small_geometry()?)?;
     // The rows are there, so no two threads make one.
     let _ = book.reserve(Version(0), 8192)?;
     let (one, other) = both(&rt, rt.alloc(), &book);
-    let (Some(one), Some(other)) = (one, other) else {
-        assert!(rt; false, "a thread sealed nothing");
-        return Ok(());
-    };
-    assert_eq!(rt; (one.0, one.1), (5, 3));
-    assert_eq!(rt; (other.0, other.1), (5, 4));
-    assert!(rt; one.2 != other.2);
-    Ok(())
+    holds(are_apart(one, other), "seals")
+}
+
+// Whether the part is server 1's, of version 0.
+fn is_second(part: &SealedPart) -> bool {
+    part.server() == 1
+        && part.stamp().version() == Version(0)
+        && part.bytes() == [5, 6, 7, 8].as_slice()
+}
+
+// Whether the chunks' data is that of the stripe.
+fn has_stripe(chunks: &[Vec<u8>], bytes: &[u8]) -> bool {
+    chunks.iter().take(2).flatten().eq(bytes.iter())
+}
+
+fn decodes(alloc: Global, book: &Book) -> Result<(), Fail>
+    requires { IsSmall book.now }
+{
+    let first = stamp(alloc, book, Version(0))?;
+    let second = fetched(alloc, book, &first, 1)?;
+    let last = fetched(alloc, book, &first, 3)?;
+    holds(is_second(&second), "fetch")?;
+    let chunks = decode(alloc, small_geometry()?, &gathered(alloc, &second, &last)?)?;
+    holds(has_stripe(&chunks, &stripe(alloc)?), "decode")
 }
 
 #[test]
 fn a_put_is_decoded_from_two_servers(rt: HostRuntime) -> Result<(), Fail> {
-    let alloc = rt.alloc();
-    let geometry = small_geometry()?;
-    let book = Book::free(alloc, geometry)?;
-    let first = stamp(alloc, &book, Version(0))?;
-    let second = fetched(alloc, &book, &first, 1)?;
-    let last = fetched(alloc, &book, &first, 3)?;
-    assert_eq!(rt;
-        (second.server(), second.stamp().version()),
-        (1, Version(0))
-    );
-    assert_eq!(rt; second.bytes(), [5, 6, 7, 8].as_slice());
-    let chunks = decode(alloc, geometry, &gathered(alloc, &second, &last)?)?;
-    let bytes = stripe(alloc)?;
-    assert_eq!(rt; chunks.iter().take(2).flatten().eq(bytes.iter()), true);
-    Ok(())
+    let book = Book::free(rt.alloc(), small_geometry()?)?;
+    decodes(rt.alloc(), &book)
+}
+
+fn seals_once(alloc: Global, book: &Book) -> Result<(), Fail>
+    requires { IsSmall book.now }
+{
+    let first = stamp(alloc, book, Version(0))?;
+    let again = sealed_before(alloc, book, &first)?;
+    let shown = format!(in alloc; "{again:?}")?;
+    holds(shown.as_str() == "Stamp(0)", "stamp")
 }
 
 #[test]
 fn a_version_is_sealed_once(rt: HostRuntime) -> Result<(), Fail> {
     let book = Book::free(rt.alloc(), small_geometry()?)?;
-    let first = stamp(rt.alloc(), &book, Version(0))?;
-    let again = sealed_before(rt.alloc(), &book, &first)?;
-    assert_eq!(rt; format!(in rt.alloc(); "{again:?}")?.as_str(), "Stamp(0)");
-    Ok(())
+    seals_once(rt.alloc(), &book)
+}
+
+fn lays_over(alloc: Global, book: &Book) -> Result<(), Fail>
+    requires { IsSmall book.now }
+{
+    let first = stamp(alloc, book, Version(0))?;
+    let next = stamp_over(alloc, book, Version(4096), &first)?;
+    let note = book.note(&next);
+    holds((note.actor, note.number) == (Actor::Client(0), 1), "call")?;
+    holds((note.stripe, note.base) == (0, Some(0)), "base")
 }
 
 #[test]
 fn a_write_is_laid_over_its_base(rt: HostRuntime) -> Result<(), Fail> {
     let book = Book::free(rt.alloc(), small_geometry()?)?;
-    let first = stamp(rt.alloc(), &book, Version(0))?;
-    let next = stamp_over(rt.alloc(), &book, Version(4096), &first)?;
-    let note = book.note(&next);
-    assert_eq!(rt; (note.actor, note.number), (Actor::Client(0), 1));
-    assert_eq!(rt; (note.stripe, note.base), (0, Some(0)));
+    lays_over(rt.alloc(), &book)
+}
+
+// Whether there is room for so many versions from this one on.
+fn has_room(book: &Book, first: u64, count: u64) -> bool {
+    book.reserve(Version(first), count).is_ok()
+}
+
+fn is_full(book: &Book, first: u64, count: u64) -> bool {
+    matches!(book.reserve(Version(first), count), Err(ReserveError::Full))
+}
+
+fn ends(book: &Book) -> Result<(), Fail> {
+    let past = 1 << 28;
+    holds(has_room(book, past - 1, 1), "last")?;
+    holds(has_room(book, 4000, 5000), "two rows")?;
+    holds(has_room(book, past, 0), "none")?;
+    for (first, count) in [(past, 1), (past - 1, 2), (u64::MAX, u64::MAX)] {
+        holds(is_full(book, first, count), "past")?;
+    }
     Ok(())
 }
 
 #[test]
 fn room_ends_with_the_book(rt: HostRuntime) -> Result<(), Fail> {
     let book = Book::free(rt.alloc(), small_geometry()?)?;
-    let past = 1 << 28;
-    assert!(rt; book.reserve(Version(past - 1), 1).is_ok());
-    assert!(rt; book.reserve(Version(4000), 5000).is_ok());
-    assert!(rt; book.reserve(Version(past), 0).is_ok());
-    for (first, count) in [(past, 1), (past - 1, 2), (u64::MAX, u64::MAX)] {
-        assert!(rt; matches!(book.reserve(Version(first), count), Err(ReserveError::Full)));
-    }
-    Ok(())
+    ends(&book)
+}
+
+fn parts(alloc: Global, book: &Book) -> Result<(), Fail>
+    requires { IsSmall book.now }
+{
+    let first = stamp(alloc, book, Version(0))?;
+    let two = part(alloc, book, &first, 1, &[3, 0])?;
+    holds(two.bytes() == [8, 5].as_slice(), "bytes")
 }
 
 #[test]
 fn a_part_has_its_layers_alone(rt: HostRuntime) -> Result<(), Fail> {
     let book = Book::free(rt.alloc(), small_geometry()?)?;
-    let first = stamp(rt.alloc(), &book, Version(0))?;
-    let two = part(rt.alloc(), &book, &first, 1, &[3, 0])?;
-    assert_eq!(rt; two.bytes(), [8, 5].as_slice());
-    Ok(())
+    parts(rt.alloc(), &book)
 }
 
 // A script of one put.
@@ -155,9 +200,12 @@ fn a_script_has_room_for_its_versions(rt: HostRuntime) -> Result<(), Fail> {
     let actor = Actor::Client(0);
     let room = book.reserve(Version(2_097_151), 1)?;
     let last = book.seal(&room, Version(2_097_151), actor, 0, 0, None, None)?;
-    assert_eq!(rt; last.version(), Version(2_097_151));
-    assert!(rt; book.reserve(Version(2_097_152), 1).is_err());
-    assert_eq!(rt; book.script().map(|script| script.clients.len()), Some(1));
-    assert_eq!(rt; book.opening().copy().geometry(), small_geometry()?);
-    Ok(())
+    holds(last.version() == Version(2_097_151), "last")?;
+    holds(!has_room(&book, 2_097_152, 1), "past")?;
+    let clients = book.script().map(|script| script.clients.len());
+    holds(clients == Some(1), "script")?;
+    holds(
+        book.opening().copy().geometry() == small_geometry()?,
+        "geometry",
+    )
 }

@@ -1,3 +1,4 @@
+//! The plain map, with its names and contents.
 ghost use Rattle.std.specs.Prelude.{◌<◌, ◌^◌, length};
 
 use std::alloc::Global;

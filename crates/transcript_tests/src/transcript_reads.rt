@@ -1,3 +1,4 @@
+//! Transcripts that are read, whole and damaged.
 use script_text::ScriptFault;
 use std::alloc::Global;
 use std::process::Abort;

@@ -1,3 +1,4 @@
+//! Transcripts that are written.
 use std::alloc::{AllocError, Global};
 use std::test::Fail;
 use store_map::{Found, ListOf, Name, Placement, Reply};

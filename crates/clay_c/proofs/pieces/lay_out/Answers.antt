@@ -1,7 +1,7 @@
 use Rattle.std.proofs.Common.{◌≡◌, ℕ, ◌<◌, [], length, get_or, sym, ap, ◌∙◌, arith}
 use Rattle.std.proofs.lemmas.List.{get_or_read}
 use Rattle.clay_encode.specs.Chunks.{contents}
-use Rattle.clay_lanes.proofs.ChunkLists.{contents_at}
+use Rattle.clay_parity.proofs.ChunkLists.{contents_at}
 use Rattle.clay_c.proofs.Placing.{laid_more}
 use Rattle.clay_c.proofs.pieces.lay_out.Goals as goal
 

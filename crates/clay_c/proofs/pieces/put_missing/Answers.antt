@@ -1,7 +1,7 @@
 use Rattle.std.proofs.Common.{◌≡◌, ℕ, ◌+◌, ◌<◌, true, false, [], length, get_or, None, is_none, is_some, sym, subst, ap, ◌∙◌, arith}
 use Rattle.std.proofs.lemmas.List.{get_or_read}
 use Rattle.clay_encode.specs.Chunks.{contents}
-use Rattle.clay_lanes.proofs.ChunkLists.{contents_at, length-contents}
+use Rattle.clay_parity.proofs.ChunkLists.{contents_at, length-contents}
 use Rattle.clay_c.proofs.Waiting.{Wait, AreWritten, AreKept, tested, next_there, wait_missing, wait_present, written_missing, written_present, kept_missing}
 use Rattle.clay_c.proofs.pieces.put_missing.Goals as goal
 use Rattle.clay_c.proofs.pieces.put_missing.Goals.{then-is_none, else-is_none}

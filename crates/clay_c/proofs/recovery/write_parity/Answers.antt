@@ -2,7 +2,7 @@ use Rattle.std.proofs.Common.{◌≡◌, ℕ, ◌+◌, List, [], ◌++◌, lengt
 use Rattle.std.proofs.lemmas.List.{get_or-append-add}
 use Rattle.std.proofs.lemmas.List.FromFn.{length-map-range_with_len}
 use Rattle.clay_encode.specs.Chunks.{contents}
-use Rattle.clay_lanes.specs.Parity.{data_pieces, AreParity}
+use Rattle.clay_parity.specs.Parity.{data_pieces, AreParity}
 use Rattle.clay_c.proofs.recovery.write_parity.Goals as goal
 
 pub lay_out-requires-clause-lengths : goal.lay_out-requires-clause-lengths

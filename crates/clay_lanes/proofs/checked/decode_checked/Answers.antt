@@ -6,7 +6,7 @@ use Rattle.clay_model.specs.Code.{IsCodeword, Codes}
 use Rattle.clay_model.proofs.Codewords.{same_of_stripe, distinct_nodes}
 use Rattle.clay_encode.specs.Chunks.{contents}
 use Rattle.clay_decode.proofs.Joined.{length-joined}
-use Rattle.clay_lanes.specs.Parity.{data_pieces}
+use Rattle.clay_parity.specs.Parity.{data_pieces}
 use Rattle.clay_lanes.proofs.CheckedLemmas.{behind_data, same_word}
 use Rattle.clay_lanes.proofs.checked.decode_checked.Goals as goal
 

@@ -1,7 +1,7 @@
 use Rattle.std.proofs.Common.{◌≡◌, ℕ, ◌+◌, ◌*◌, ◌<◌, false, List, length, get_or, subst, sym, ap, ◌∙◌, arith}
 use Rattle.clay_grid.specs.Shape.{node_count}
 use Rattle.clay_decode.specs.Left.{Completes}
-use Rattle.clay_lanes.specs.Columns.{IsColumn}
+use Rattle.clay_kernels.specs.Columns.{IsColumn}
 use Rattle.clay_lanes.proofs.ColumnRows.{HoldsForm, fit_columns, form_more, form_skipped, form_ended}
 use Rattle.clay_lanes.proofs.Recovery.{rows_of_sums}
 use Rattle.clay_lanes.proofs.layers.solve_by_columns.Goals as goal

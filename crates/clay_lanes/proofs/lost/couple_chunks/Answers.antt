@@ -6,7 +6,7 @@ use Rattle.clay_encode.specs.Chunks.{contents}
 use Rattle.clay_encode.proofs.Parts.{written_whole}
 use Rattle.clay_decode.specs.Left.{Completes}
 use Rattle.clay_lanes.specs.Recovered.{HoldsByte, missing_of}
-use Rattle.clay_lanes.proofs.ChunkLists.{contents_at}
+use Rattle.clay_parity.proofs.ChunkLists.{contents_at}
 use Rattle.clay_lanes.proofs.MissingChunks.{missing_below, missing_none, written_at, written_other}
 use Rattle.clay_lanes.proofs.lost.couple_chunks.Goals as goal
 

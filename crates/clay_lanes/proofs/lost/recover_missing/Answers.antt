@@ -2,8 +2,8 @@ use Rattle.std.proofs.Common.{◌≡◌, ◌+◌, ◌*◌, ◌<◌, [], length, 
 use Rattle.clay_encode.specs.Chunks.{contents}
 use Rattle.clay_decode.specs.Left.{Completes}
 use Rattle.clay_lanes.specs.Recovered.{HoldsByte, missing_of, AreMissing}
-use Rattle.clay_lanes.proofs.ChunkLists.{length-contents}
-use Rattle.clay_lanes.proofs.ParityLemmas.{written_chunks}
+use Rattle.clay_parity.proofs.ChunkLists.{length-contents}
+use Rattle.clay_parity.proofs.ParityLemmas.{written_chunks}
 use Rattle.clay_lanes.proofs.MissingChunks.{found_chunks}
 use Rattle.clay_lanes.proofs.lost.recover_missing.Goals as goal
 

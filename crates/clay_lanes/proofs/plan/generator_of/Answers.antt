@@ -1,6 +1,6 @@
 use Rattle.std.proofs.Common.{◌≡◌, ◌*◌, ◌<◌, length, get_or, sym, subst, ap, ◌∙◌}
 use Rattle.clay_grid.specs.Shape.{node_count}
-use Rattle.clay_lanes.proofs.GeneratorLaws.{all_generates}
+use Rattle.clay_kernels.proofs.GeneratorLaws.{all_generates}
 use Rattle.clay_lanes.proofs.plan.generator_of.Goals as goal
 
 pub returns : goal.returns

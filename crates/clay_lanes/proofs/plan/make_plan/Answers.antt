@@ -6,7 +6,7 @@ use Rattle.clay_scalar.specs.Erased.{erased_below}
 use Rattle.clay_scalar.specs.Points.{AreDistinct}
 use Rattle.clay_scalar.proofs.ErasedNodes.{AreDistinct-erased}
 use Rattle.clay_decode.proofs.Nodes.{few_points}
-use Rattle.clay_lanes.specs.Generated.{IsGeneratorOf}
+use Rattle.clay_kernels.specs.Generated.{IsGeneratorOf}
 use Rattle.clay_lanes.proofs.plan.make_plan.Goals as goal
 
 pub generator_of-requires-clause-few : goal.generator_of-requires-clause-few

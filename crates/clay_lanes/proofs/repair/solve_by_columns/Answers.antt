@@ -4,7 +4,7 @@ use Rattle.clay_repair.proofs.Column.{node_inside}
 use Rattle.clay_repair.proofs.Rows.{column_below}
 use Rattle.clay_repair.specs.Parts.{HasParts}
 use Rattle.clay_lanes.specs.Repaired.{column_nodes}
-use Rattle.clay_lanes.specs.Columns.{IsColumn}
+use Rattle.clay_kernels.specs.Columns.{IsColumn}
 use Rattle.clay_lanes.proofs.ColumnRows.{HoldsForm, fit_columns, form_more, form_skipped, form_ended}
 use Rattle.clay_lanes.proofs.RepairLemmas.{length-column_nodes, column_points_are}
 use Rattle.clay_lanes.proofs.Recovery.{rows_of_sums}

@@ -1,8 +1,8 @@
 use Rattle.std.proofs.Common.{◌≡◌, ℕ, ◌<◌, List, length, get_or, subst, ap, ◌∙◌, arith}
 use Rattle.clay_encode.specs.Chunks.{contents}
-use Rattle.clay_lanes.specs.Blocks.{HoldsGroup}
-use Rattle.clay_lanes.specs.Generated.{layer_value}
-use Rattle.clay_lanes.proofs.ChunkLists.{length-contents}
+use Rattle.clay_parity.specs.Blocks.{HoldsGroup}
+use Rattle.clay_parity.specs.Solved.{layer_value}
+use Rattle.clay_parity.proofs.ChunkLists.{length-contents}
 use Rattle.clay_par.specs.Groups.{HoldGroups, AreRows}
 use Rattle.clay_par.specs.declared.parity.Group.{Group}
 use Rattle.clay_par.proofs.Makes.{if_ok_both, written_all}

@@ -1,6 +1,6 @@
 use Rattle.std.proofs.Common.{◌≡◌, ℕ, ◌*◌, ◌/◌, ◌%◌, ◌<◌, [], length, get_or, sym, subst, ap, ◌∙◌, arith}
-use Rattle.clay_lanes.specs.Blocks.{HoldsGroup, Appends, coupled_of}
-use Rattle.clay_lanes.proofs.ChunkLists.{Appends-group}
+use Rattle.clay_parity.specs.Blocks.{HoldsGroup, Appends, coupled_of}
+use Rattle.clay_parity.proofs.ChunkLists.{Appends-group}
 use Rattle.clay_par.specs.declared.parity.Group.{Group}
 use Rattle.clay_par.proofs.parity.parity_chunk.Goals as goal
 

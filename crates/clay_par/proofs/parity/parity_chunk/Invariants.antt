@@ -1,5 +1,5 @@
 use Rattle.std.proofs.Common.{ℕ, ◌*◌, ◌/◌, ◌%◌, []}
-use Rattle.clay_lanes.specs.Blocks.{Appends, coupled_of}
+use Rattle.clay_parity.specs.Blocks.{Appends, coupled_of}
 use Rattle.clay_par.specs.Groups.{HoldGroups}
 use Rattle.clay_par.proofs.parity.parity_chunk.Given as goal
 

@@ -10,7 +10,7 @@ use Rattle.version_seal.specs.Entry.{BookOf}
 use Rattle.write_course.specs.Writings.{WritingOf, versions_of}
 use Rattle.client_patch.specs.Patches.{PatchOf}
 use Rattle.client_patch.specs.Inside.{pairs_in}
-use Rattle.client_patch.proofs.Tokens.{token_stays}
+use Rattle.write_course.proofs.Tokens.{token_stays}
 use Rattle.client_patch.proofs.Commits.{commit_may, commit_room, writing_commits, done_kept, done_step}
 use Rattle.client_patch.proofs.patch.PatchCall.commit.Goals as goal
 

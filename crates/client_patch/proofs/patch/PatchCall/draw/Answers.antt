@@ -11,10 +11,10 @@ use Rattle.call_steps.specs.TokenAfter.{token_after}
 use Rattle.stripe_dir.specs.AnswerStamps.{IfDrawn, AreDrawnFor, stamps_given}
 use Rattle.stripe_dir.specs.declared.answers.Drawn.TheVariants as draw
 use Rattle.write_course.specs.Writings.{versions_of}
-use Rattle.client_patch.specs.Draws.{request_of}
+use Rattle.write_course.specs.Draws.{request_of}
 use Rattle.client_patch.specs.Patches.{PatchOf}
 use Rattle.client_patch.specs.Inside.{patch_in}
-use Rattle.client_patch.proofs.Tokens.{token_stays}
+use Rattle.write_course.proofs.Tokens.{token_stays}
 use Rattle.client_patch.proofs.Drawing.{holding, draw_stamps, draw_kept, draw_count}
 use Rattle.client_patch.proofs.patch.PatchCall.draw.Goals as goal
 use Rattle.client_patch.proofs.patch.PatchCall.draw.Goals.{After-copy}
@@ -34,7 +34,7 @@ its : (c : After-copy) → c.args.directory.now.book ≡ c.self.inside.opening
 its c = c.requires.its ∙ sym (ap (λ (p : PatchOf). p.call.book) c.self.view_is)
 
 -- the request is the put's
-asked : (c : After-copy) → c.request-request.result ≡ request_of (patch_in c.self.inside)
+asked : (c : After-copy) → c.request-request.result ≡ request_of (patch_in c.self.inside).call c.self.inside.call.now
 asked c = c.request-request.ensures ∙ (λ i. record { home = (book i).home; actor = sym c.self.invariant.actor_is i; number = c.self.inside.number; call = c.self.inside.call.now })
   where
     book : c.args.book.now ≡ c.self.inside.opening

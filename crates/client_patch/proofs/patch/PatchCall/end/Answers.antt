@@ -3,8 +3,9 @@ use Rattle.store_core.specs.Told.{Told}
 use Rattle.store_core.specs.Act.{DirectoryStep}
 use Rattle.store_core.specs.Tokens.{actor_of}
 use Rattle.client_patch.specs.Inside.{Keeps}
-use Rattle.client_patch.proofs.Tokens.{token_stays, seated_by}
-use Rattle.client_patch.proofs.Ends.{end_holding, end_kept, end_step, end_draws}
+use Rattle.write_course.proofs.Tokens.{token_stays, seated_by}
+use Rattle.write_course.proofs.AtDirectory.{end_draws}
+use Rattle.client_patch.proofs.Ends.{end_holding, end_kept, end_step}
 use Rattle.client_patch.proofs.patch.PatchCall.end.Goals as goal
 
 pub invariant_of-self : goal.invariant_of-self
@@ -30,7 +31,7 @@ returns-in-Ended-clause-step c =
     c.end-answer.new.self c.args.directory.now.core c.end-answer.new.directory.core c.in-Ended.ensures.step c.in-Ended.ensures.token
 
 pub returns-in-Ended-clause-stamps : goal.returns-in-Ended-clause-stamps
-returns-in-Ended-clause-stamps c = end_draws c.args.directory.now c.end-answer.new.directory c.args.self.now false c.requires.ending c.end-answer.ensures.stamps
+returns-in-Ended-clause-stamps c = end_draws c.args.directory.now c.end-answer.new.directory c.args.self.now.call c.args.self.now.written false c.requires.ending c.end-answer.ensures.stamps
 
 pub returns-in-Reaped-clause-stamps : goal.returns-in-Reaped-clause-stamps
-returns-in-Reaped-clause-stamps c = end_draws c.args.directory.now c.end-answer.new.directory c.args.self.now false c.requires.ending c.end-answer.ensures.stamps
+returns-in-Reaped-clause-stamps c = end_draws c.args.directory.now c.end-answer.new.directory c.args.self.now.call c.args.self.now.written false c.requires.ending c.end-answer.ensures.stamps

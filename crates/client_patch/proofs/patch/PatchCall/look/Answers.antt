@@ -8,7 +8,7 @@ use Rattle.store_core.specs.Tokens.{actor_of}
 use Rattle.client_patch.specs.Patches.{PatchOf, is_write}
 use Rattle.client_patch.specs.Stages.{state_by, due_by}
 use Rattle.client_patch.specs.LookAfter.{looked_stripes, IsPatchLook}
-use Rattle.client_patch.proofs.Tokens.{token_stays}
+use Rattle.write_course.proofs.Tokens.{token_stays}
 use Rattle.client_patch.proofs.Looks.{looked, patch_looks, waits, look_kept, look_step}
 use Rattle.client_patch.proofs.Learning.{look_knows}
 use Rattle.client_patch.proofs.Drawing.{some_bytes}

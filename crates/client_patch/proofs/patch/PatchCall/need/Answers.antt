@@ -62,7 +62,7 @@ pub returns-in-Writing-clause-need : goal.returns-in-Writing-clause-need
 returns-in-Writing-clause-need c =
     let a = c.self.inside in
     let kept = subst (λ s. Keeps s a) c.in-Writing.is c.self.invariant.kept in
-    c.need_of_writing.ensures.need a.tries (job_of a.call.now) (pairs_in a.changes.items)
+    c.need-in-Writing.ensures.need a.tries (job_of a.call.now) (pairs_in a.changes.items)
     ∙ ap (λ (book : BookOf). need_by (act_at book.geometry a.tries (job_of a.call.now) (pairs_in a.changes.items) a.writing.state) a.writing.due) kept.0.book_is
     ∙ ap (λ s. need_by (act_at a.opening.geometry a.tries (job_of a.call.now) (pairs_in a.changes.items) (state_by s a.gatherings a.writing a.outcome)) (due_by s a.gatherings a.writing)) (sym c.in-Writing.is)
     ∙ ap (λ (p : PatchOf). need_of p.call) c.self.view_is

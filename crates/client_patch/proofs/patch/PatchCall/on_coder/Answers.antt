@@ -57,8 +57,7 @@ returns-then-self g c =
     let now = c.hear_short.ensures ∙ ap (λ (w : WritingOf). record w { state = State.Ending CoreOutcome.NoMemory; due = false }) same in
     record {
       coded =
-          wanting_coded a kept c.args.self.now c.self.view_is c.requires c.in_default.not-Looked c.in_default.not-Gathering begins c.hear_short.new.self c.is_err-self-inside.result now
-          c.steps_are_of_the_call.ensures c.if-self.true;
+          wanting_coded a kept c.args.self.now c.self.view_is c.requires c.in_default.not-Looked c.in_default.not-Gathering begins c.hear_short.new.self c.is_err-self-inside.result now c.if-self.true;
       written = ap (λ (p : PatchOf). p.written) c.self.view_is;
       knows = λ d _. wanting_knows a kept c.args.self.now c.self.view_is c.requires c.in_default.not-Looked c.in_default.not-Gathering begins c.hear_short.new.self c.is_err-self-inside.result now d;
     }

@@ -20,13 +20,13 @@ invariant_of-self-in_default c =
       book = kept.book;
       tries = kept.tries;
       kept =
-          served_kept c.steps_are_of_the_call.ensures a kept c.args.self.now c.self.view_is c.args.s.now.number c.requires.need c.in_default.not-Gathering
+          served_kept a kept c.args.self.now c.self.view_is c.args.s.now.number c.requires.need c.in_default.not-Gathering
           c.on_server-in_default.new.self c.is_err-self-inside.result _ _ step c.on_server-in_default.ensures.same false c.is_err-self-inside.result;
     }
 
 pub returns-in-Gathering-clause-knows : goal.returns-in-Gathering-clause-knows
 returns-in-Gathering-clause-knows c =
-    gathering_knows c.steps_are_of_the_call.ensures c.self.inside c.self.invariant c.args.self.now c.self.view_is c.args.s.now.number c.requires.need c.in-Gathering.is
+    gathering_knows c.self.inside c.self.invariant c.args.self.now c.self.view_is c.args.s.now.number c.requires.need c.in-Gathering.is
     c.on_server.new.self c.on_server.ensures.owed false c.step_was_short-self-inside.result
 
 pub returns-in_default : goal.returns-in_default
@@ -38,11 +38,11 @@ returns-in_default c =
     ∙ ap (λ short. stepped a.writing.book.geometry short (core_of c.args.s.now) a.writing.state) (sym c.is_err-self-inside.ensures.value) in
     record {
       step =
-          served_step c.steps_are_of_the_call.ensures a kept c.args.self.now c.self.view_is c.args.s.now.number c.requires.need c.in_default.not-Gathering
+          served_step a kept c.args.self.now c.self.view_is c.args.s.now.number c.requires.need c.in_default.not-Gathering
           c.on_server-in_default.new.self c.is_err-self-inside.result _ _ step c.on_server-in_default.ensures.same;
       written = ap (λ (p : PatchOf). p.written) c.self.view_is;
       knows = λ d _.
-          served_knows c.steps_are_of_the_call.ensures a kept c.args.self.now c.self.view_is c.args.s.now.number c.requires.need c.in_default.not-Gathering
+          served_knows a kept c.args.self.now c.self.view_is c.args.s.now.number c.requires.need c.in_default.not-Gathering
           c.on_server-in_default.new.self c.is_err-self-inside.result _ _ step c.on_server-in_default.ensures.same false c.is_err-self-inside.result d;
       number = c.on_server-in_default.ensures.number;
       book = c.on_server-in_default.ensures.book;

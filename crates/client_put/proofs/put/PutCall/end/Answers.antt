@@ -5,7 +5,8 @@ use Rattle.store_core.specs.Tokens.{actor_of}
 use Rattle.client_put.specs.Puts.{PutOf}
 use Rattle.client_put.specs.Stages.{state_by}
 use Rattle.call_steps.specs.Ends.{is_ending}
-use Rattle.client_put.proofs.Kept.{token_stays, ended_kept, holds_at_end, seated_by}
+use Rattle.write_course.proofs.Tokens.{token_stays, seated_by}
+use Rattle.client_put.proofs.Kept.{ended_kept, holds_at_end}
 use Rattle.client_put.proofs.put.PutCall.end.Goals as goal
 
 pub invariant_of-self : goal.invariant_of-self

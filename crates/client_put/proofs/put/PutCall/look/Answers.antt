@@ -8,7 +8,7 @@ use Rattle.stripe_dir.specs.Answers.{told_or_short, told_look}
 use Rattle.client_put.specs.Puts.{PutOf}
 use Rattle.client_put.specs.Stages.{IsPutLook}
 use Rattle.client_put.proofs.Looks.{put_looks, look_kept, waiting_at_start}
-use Rattle.client_put.proofs.Kept.{token_stays}
+use Rattle.write_course.proofs.Tokens.{token_stays}
 use Rattle.client_put.proofs.put.PutCall.look.Goals as goal
 
 pub invariant_of-self : goal.invariant_of-self

@@ -1,4 +1,5 @@
-use Rattle.std.proofs.Common.{⊤, false, sym, ap, ◌∙◌}
+use Rattle.std.specs.Prelude.{⊤}
+use Rattle.std.proofs.Common.{false, sym, ap, ◌∙◌}
 use Rattle.clay_grid.specs.Shape.{chunk_count}
 use Rattle.store_resume.specs.States.{open_state}
 use Rattle.store_resume.specs.GatherAfter.{confirming_after}

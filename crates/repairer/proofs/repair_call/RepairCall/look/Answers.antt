@@ -1,4 +1,5 @@
-use Rattle.std.proofs.Common.{⊤, ◌≡◌, Ok, Result, All, refl, sym, ap, subst, ◌∙◌, ◌∷◌, [], arith}
+use Rattle.std.specs.Prelude.{⊤}
+use Rattle.std.proofs.Common.{◌≡◌, Ok, Result, All, refl, sym, ap, subst, ◌∙◌, ◌∷◌, [], arith}
 use Rattle.std.specs.declared.alloc.AllocError.{AllocError}
 use Rattle.clay_grid.specs.Shape.{chunk_count}
 use Rattle.store_core.specs.Note.{note_of_rebuild}

@@ -1,0 +1,9 @@
+pub mod LaneLemmas
+pub mod NibbleLemmas
+pub mod BlockLemmas
+pub mod FourLemmas
+pub mod ScaleLemmas
+pub mod RowLemmas
+pub mod GeneratorLaws
+pub mod ColumnLemmas
+pub mod ColumnLaws

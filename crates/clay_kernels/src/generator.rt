@@ -1,0 +1,156 @@
+//! The values of unknown nodes as fixed sums of those of the known nodes.
+ghost use Rattle.std.specs.Prelude.{◌≡◌, ℕ, ◌+◌, ◌*◌, ◌<◌, ◌≤◌, ◌/◌, ◌%◌, IfOk, slice_index, slice_range, length};
+ghost use Rattle.clay_scalar.specs.Points.{AreDistinct};
+ghost use Rattle.clay_field.specs.Field.{power_of};
+ghost use Rattle.clay_kernels.specs.Lanes.{AddsRows};
+ghost use Rattle.clay_kernels.specs.Generated.{IsGenerator, factor_at};
+ghost use Rattle.clay_kernels.specs.Columns.{AreColumns};
+
+use crate::column::ColumnFactors;
+use crate::kernels::add_rows;
+use crate::products::Products;
+use clay_field::power;
+use clay_scalar::Solver;
+use std::alloc::{AllocError, Global};
+use std::marker::Model;
+
+/// For some known and some unknown nodes, the factors by which the known values make up the unknown ones.
+#[derive(Drop)]
+pub struct Generator {
+    unknown: usize,
+    factors: Vec<Products>,
+    columns: Vec<ColumnFactors>,
+}
+
+impl Model for Generator {
+    ghost use Rattle.clay_kernels.specs.Generated.{Factors};
+    ghost use Rattle.clay_kernels.specs.Columns.{AreColumns};
+
+    ghost Value = { Factors };
+
+    ghost view = { λ g. record { unknown = g.unknown; each = g.factors.items; columns = g.columns.items } };
+
+    ghost invariant = { λ g. AreColumns g.unknown g.factors.items g.columns.items };
+}
+
+/// The nodes from `first` on, as many as `count`.
+pub fn nodes(alloc: Global, first: u32, count: u32) -> Result<Vec<u8>, AllocError>
+    requires { first + count ≤ 256 }
+    ensures len { IfOk result (λ v. length v.items ≡ count) }
+    ensures value { IfOk result (λ v. (e : ℕ) → e < count → slice_index v.items e ≡ first + e) }
+{
+    let mut nodes = Vec::with_capacity(alloc, count as usize)?;
+    for e in 0..count {
+        nodes.push((first + e) as u8)?;
+    }
+    Ok(nodes)
+}
+
+/// The powers of the nodes, all of power 0 first, then those of power 1 and so on below `count`.
+fn powers(alloc: Global, nodes: &[u8], count: usize) -> Result<Vec<u8>, AllocError>
+    requires few { count ≤ 8 }
+    requires nodes { length nodes.now ≤ 256 }
+    ensures len { IfOk result (λ v. length v.items ≡ count * length nodes.now) }
+    ensures value { IfOk result (λ v. (p : ℕ) → p < count * length nodes.now →
+        slice_index v.items p ≡ power_of (slice_index nodes.now (p % length nodes.now)) (p / length nodes.now)) }
+{
+    let n = nodes.len();
+    let mut powers = Vec::with_capacity(alloc, count * n)?;
+    for p in 0..count * n {
+        powers.push(power(nodes[p % n], (p / n) as u32))?;
+    }
+    Ok(powers)
+}
+
+/// The products of the values, of which those of one known node stand side by side in place of those of one unknown one.
+fn turned(alloc: Global, values: &[u8], m: usize, n: usize) -> Result<Vec<Products>, AllocError>
+    requires few { m ≤ 8 }
+    requires nodes { n ≤ 256 }
+    requires values_len { length values.now ≡ m * n }
+    ensures len { IfOk result (λ v. length v.items ≡ m * n) }
+    ensures value { IfOk result (λ v. (p : ℕ) → p < m * n →
+        slice_index v.items p ≡ slice_index values.now (p % m * n + p / m)) }
+{
+    let mut factors = Vec::with_capacity(alloc, m * n)?;
+    for p in 0..m * n {
+        factors.push(Products::new(values[p % m * n + p / m]))?;
+    }
+    Ok(factors)
+}
+
+/// The factors of the known columns, if all factors in four unknown nodes' values are made up of them, and else none.
+fn columns_of(
+    alloc: Global,
+    unknown: usize,
+    factors: &[Products],
+) -> Result<Vec<ColumnFactors>, AllocError>
+    ensures { IfOk result (λ columns. AreColumns unknown factors.now columns.items) }
+{
+    if unknown != 4 || factors.len() % 16 != 0 {
+        return Ok(Vec::new(alloc));
+    }
+    let count = factors.len() / 16;
+    let mut columns = Vec::with_capacity(alloc, count)?;
+    for column in 0..count {
+        let Some(found) = ColumnFactors::of_column(factors, column) else {
+            return Ok(Vec::new(alloc));
+        };
+        columns.push(found)?;
+    }
+    Ok(columns)
+}
+
+impl Generator {
+    /// The factors for these nodes.
+    pub fn new(alloc: Global, unknown: &[u8], known: &[u8]) -> Result<Generator, AllocError>
+        requires few { length unknown.now ≤ 8 }
+        requires distinct { AreDistinct unknown.now }
+        requires nodes { length known.now ≤ 256 }
+        ensures { IfOk result (λ g. IsGenerator unknown.now known.now g.unknown g.each) }
+    {
+        let m = unknown.len();
+        let n = known.len();
+        let solver = Solver::new(alloc, unknown)?;
+        let sums = powers(alloc, known, m)?;
+        let mut values = vec![in alloc; 0u8; m * n]?;
+        solver.solve(n, &sums, &mut values);
+        let factors = turned(alloc, &values, m, n)?;
+        let columns = columns_of(alloc, m, &factors)?;
+        Ok(Generator {
+            unknown: m,
+            factors,
+            columns,
+        })
+    }
+
+    /// The factor of a known node's value in each unknown one's.
+    pub fn of_node(&self, node: usize) -> &[Products]
+        requires { node * self.now.unknown + self.now.unknown ≤ length self.now.each }
+        ensures { result.now ≡ slice_range self.now.each
+            (node * self.now.unknown)
+            (node * self.now.unknown + self.now.unknown) }
+    {
+        let m = self.unknown;
+        &self.factors.as_slice()[node * m..node * m + m]
+    }
+
+    /// The factors of each known column of four nodes. There are none unless the factors in four unknown nodes' values are made up of them.
+    pub fn columns(&self) -> &[ColumnFactors]
+        ensures value { result.now ≡ self.now.columns }
+        ensures columns { AreColumns self.now.unknown self.now.each self.now.columns }
+    {
+        &self.columns
+    }
+
+    /// Adds to each unknown node's row what a known node's values add.
+    pub fn add(&self, node: usize, values: &[u8], rows: &mut [u8])
+        requires node { node * self.now.unknown + self.now.unknown ≤ length self.now.each }
+        requires rows_len { length rows.old ≡ self.now.unknown * length values.now }
+        ensures { AddsRows self.now.unknown (length values.now)
+            (λ e. factor_at self.now.each self.now.unknown node e)
+            (λ b. slice_index values.now b) rows.old rows.new }
+    {
+        let factors = self.of_node(node);
+        add_rows(factors, values, rows);
+    }
+}

@@ -1,0 +1,17 @@
+//! The kernels of the fast coder: sums of products, sixteen bytes at a time, coupling by doublings, and the unknown nodes' values as fixed sums
+//! of those of the known ones.
+#![tactic(auto)]
+
+mod blocks;
+mod column;
+mod coupling;
+mod generator;
+mod kernels;
+mod products;
+
+pub use blocks::{BLOCK, column_room, zeros};
+pub use column::{ColumnFactors, add_column, end_column};
+pub use coupling::{couple, cross, double, fifths, halves, uncouple, uncouple_from};
+pub use generator::{Generator, nodes};
+pub use kernels::add_rows;
+pub use products::Products;

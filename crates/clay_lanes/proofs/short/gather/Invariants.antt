@@ -1,6 +1,0 @@
-use Rattle.std.proofs.Common.{◌+◌, ◌*◌, get_or}
-use Rattle.clay_encode.specs.Columns.{HoldsPieces}
-use Rattle.clay_lanes.proofs.short.gather.Given as goal
-
-abbrev pub invariant-loop-d : goal.invariant-loop-d
-invariant-loop-d l = HoldsPieces l.width l.d (λ d b. get_or l.rows ((d * l.count + l.x) * l.width + b) 0) l.out

@@ -1,0 +1,6 @@
+pub mod NodeLemmas
+pub mod BlockPlaces
+pub mod GroupLaws
+pub mod ShortLemmas
+pub mod ChunkLists
+pub mod ParityLemmas

@@ -1,0 +1,4 @@
+pub mod Solved
+pub mod Blocks
+pub mod Short
+pub mod Parity

@@ -1,0 +1,14 @@
+pub mod Lists
+pub mod Turns
+pub mod Listing
+pub mod Ending
+pub mod Numbering
+pub mod Falling
+pub mod CallersGoOn
+pub mod Placing
+pub mod Plain
+pub mod Room
+pub mod Others
+pub mod LastSweep
+pub mod Worked
+pub mod Calling

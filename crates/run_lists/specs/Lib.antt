@@ -1,0 +1,14 @@
+pub mod Logs
+pub mod Listed
+pub mod Measure
+pub mod Callers
+pub mod Ended
+pub mod EndLaws
+pub mod Stepped
+pub mod Plain
+pub mod Begin
+pub mod Room
+pub mod Others
+pub mod LastSweep
+pub mod Worked
+pub mod Calling

@@ -1,0 +1,4 @@
+pub mod Served
+pub mod Stepping
+pub mod SeenOwed
+pub mod Shown

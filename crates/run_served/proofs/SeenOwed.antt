@@ -1,0 +1,32 @@
+-- What clients were owed by what they have seen, they were owed by the whole history.
+use Rattle.std.proofs.Common.{◌≡◌, ℕ, List, ◌++◌, Option, None, Some, option_and_then, refl, sym, ap, subst, ◌∙◌}
+use Rattle.std.proofs.lemmas.List.{map-append}
+use Rattle.std.proofs.lemmas.Option.{none-some}
+use Rattle.std.specs.List.{slice_get}
+use Rattle.store_map.specs.declared.script.Script.{Script}
+use Rattle.store_core.specs.Act.{Outcome}
+use Rattle.world_lines.specs.declared.calls.ClientCalls.{ClientCalls}
+use Rattle.world_lines.specs.Served.{outcome_in, served_in}
+use Rattle.store_threads.specs.Owed.{WasOwed}
+use Rattle.store_threads.proofs.Owing.{owed_stay}
+use Rattle.run_steps.specs.Noted.{Noted, made_in}
+use Rattle.run_lists.specs.Logs.{Logs}
+use Rattle.run_served.specs.SeenOwed.{OwedBySeen, AllServedStayOwed}
+
+module _ (script : Script) (logs : Logs) (clients : List ClientCalls) (each : (i : ℕ) (calls : ClientCalls) → slice_get clients i ≡ Some calls → OwedBySeen script logs i calls) where
+  by : (i number place : ℕ) (bytes : List ℕ) (found : Option ClientCalls) → slice_get clients i ≡ found
+      → outcome_in (option_and_then (λ (calls : ClientCalls). slice_get calls.ended.items number) found) ≡ Some (Outcome.Served place)
+      → served_in (option_and_then (λ (calls : ClientCalls). slice_get calls.ended.items number) found) ≡ Some bytes → WasOwed script (made_in logs.directory) i number place bytes
+  by i number place bytes None e outcome served = absurd (none-some (Outcome.Served place) outcome)
+  by i number place bytes (Some calls) e outcome served =
+      let it : OwedBySeen script logs i calls = each i calls e in
+      let more : List (ℕ × Noted) = it.goes.0 in
+      let whole : made_in it.seen ++ made_in more ≡ made_in logs.directory = sym (map-append (λ (entry : ℕ × Noted). entry.1.made) it.seen more) ∙ ap made_in it.goes.1 in
+      subst (λ l. WasOwed script l i number place bytes) whole (owed_stay script (made_in it.seen) (made_in more) i number place bytes (it.owed number place bytes outcome served))
+
+pub all_served_stay_owed : AllServedStayOwed
+all_served_stay_owed script =
+    record {
+      more = λ steps more i calls owed number place bytes outcome served. owed_stay script steps more i number place bytes (owed number place bytes outcome served);
+      all = λ servers logs clients each i number place bytes outcome served. by script logs clients each i number place bytes (slice_get clients i) refl outcome served;
+    }

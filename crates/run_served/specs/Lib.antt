@@ -1,0 +1,4 @@
+pub mod ServedLaws
+pub mod StepOwes
+pub mod SeenOwed
+pub mod ShowLaws
