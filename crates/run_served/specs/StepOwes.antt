@@ -36,5 +36,5 @@ abbrev pub StepsKeepOwing : Type 0
 StepsKeepOwing =
     (script : Script) (steps : List MadeStep) (m : MadeStep) (i number : ℕ) (short due : Bool) (c after : MachineOf) (d : Sealed) →
     IsAfter script steps d → c.call.book.geometry ≡ script.geometry → IsItsStep i number short c.call d m → need_of c.call ≡ need.Directory →
-    after.call ≡ (stepped_at_directory short due c.call d.core).1 → after.written ≡ c.written → after.owed ≡ owed_by short d c →
+    after.call ≡ (stepped_at_directory short due c.call d.core).1 → after.asked ≡ c.asked → after.owed ≡ owed_by short d c →
     OwesBy (WasOwed script steps i number) c → OwesBy (WasOwed script (steps ++ m ∷ []) i number) after

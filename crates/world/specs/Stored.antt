@@ -8,7 +8,6 @@ use Rattle.stripe_dir.specs.Sealed.{Sealed}
 use Rattle.sweeper.specs.Sweeps.{SweeperOf}
 use Rattle.world_steps.specs.World.{WorldOf}
 use Rattle.actors.specs.Callers.{CallerOf}
-use Rattle.actors.specs.Repairers.{RepairOf}
 
 -- its script and the book of it, the directory with its stamps, the servers with their chunks, the actors and the sweeper
 pub record StoredWorld : Type 0 where
@@ -17,7 +16,7 @@ pub record StoredWorld : Type 0 where
   pub directory : Sealed
   pub servers : List ServerState
   pub clients : List CallerOf
-  pub repairers : List RepairOf
+  pub repairers : List CallerOf
   pub sweeper : SweeperOf
 
 -- the world, without what is stored beside it
