@@ -1,4 +1,5 @@
 use Rattle.std.proofs.Common.{◌≡◌, true, List, map, Ok, ap, sym, subst, ◌∙◌}
+use Rattle.std.specs.Prelude.{⊤}
 use Rattle.store_core.specs.Note.{note_of}
 use Rattle.store_core.specs.NextAct.{job_of}
 use Rattle.store_core.specs.Told.{Told, Seen}
@@ -19,7 +20,7 @@ returns-in-Ok-Ready-clause-state c = λ w.
     let call = c.args.call.now in
     let seens : List Seen = map seen_in c.in-Ok-Ready.stripes.items in
     let is = c.in-Ok-Ready.is ∙ ap Ok c.in-Ok-Ready.field-0-is in
-    let told : Told = told_look (look.Ready c.in-Ok-Ready.field-0-0 c.in-Ok-Ready.field-0-1 c.in-Ok-Ready.length c.in-Ok-Ready.stripes) in
+    let told : Told = told_look {S = ⊤} {P = ⊤} (look.Ready c.in-Ok-Ready.field-0-0 c.in-Ok-Ready.field-0-1 c.in-Ok-Ready.length c.in-Ok-Ready.stripes) in
     let writes : is_write call ≡ true = subst (λ a. IsPatchLook (is_write call) (told_or_short told_look a)) is c.requires.fits in
     c.begin.ensures.state Sequel.Draw
     ∙ ap (λ parts. open_state g (parts_state parts Sequel.Draw)) (old_are_parts g c.in-Ok-Ready.length seens)
