@@ -4,7 +4,7 @@ use Rattle.store_map.specs.Limits.{size_of}
 use Rattle.store_core.specs.History.{call_of}
 use Rattle.store_core.specs.Shown.{shown}
 use Rattle.chunk_server.specs.State.{ServerState}
-use Rattle.world_lines.specs.Ended.{repairer_counts, HaveNames}
+use Rattle.world_lines.specs.Ended.{counts_of, HaveNames}
 use Rattle.world_lines.specs.Served.{ServedAre}
 use Rattle.world_lines.specs.Shown.{Holds}
 use Rattle.world_lines.specs.declared.calls.CallerCalls.{CallerCalls}
@@ -21,7 +21,7 @@ make_transcript-requires-clause-clients c =
 
 pub make_transcript-requires-clause-repairers : goal.make_transcript-requires-clause-repairers
 make_transcript-requires-clause-repairers c =
-    subst (λ (l : List CallerCalls). HaveNames (repairer_counts l)) (sym c.as_slice-2.ensures.value)
+    subst (λ (l : List CallerCalls). HaveNames (counts_of l)) (sym c.as_slice-2.ensures.value)
     (repairers_have_names (stored_in c.self.inside) c.self.invariant c.in_ok-clients.clients.items c.in_ok-clients.ensures c.in_ok-repairers.repairers.items c.in_ok-repairers.ensures)
 
 pub returns : goal.returns

@@ -4,20 +4,20 @@ use Rattle.world_lines.specs.declared.calls.CallerCalls.{CallerCalls}
 use Rattle.actors.specs.Callers.{CallerOf}
 use Rattle.world.specs.Ending.{IsCallsOf}
 use Rattle.world.proofs.Seating.{next_seats, first_left, each_more}
-use Rattle.world.proofs.ending.client_calls.Goals as goal
+use Rattle.world.proofs.ending.calls_of.Goals as goal
 
 pub loop-made-preserved : goal.loop-made-preserved
 loop-made-preserved c =
-    let all : List CallerOf = c.args.clients.items in
+    let all : List CallerOf = c.args.callers.items in
     let less : c.loop-made._made < length all = omega (arith, c.loop-made-test.true) in
-    let there : slice_get all c.loop-made._made ≡ Some c.remove-client.result =
-    first_left all c.loop-made._made c.remove-client.result less
-    (c.remove-client.ensures.value ∙ ap (λ (l : List CallerOf). get_or l 0 c.remove-client.result) c.loop-made.invariant.rest) in
+    let there : slice_get all c.loop-made._made ≡ Some c.remove-caller.result =
+    first_left all c.loop-made._made c.remove-caller.result less
+    (c.remove-caller.ensures.value ∙ ap (λ (l : List CallerOf). get_or l 0 c.remove-caller.result) c.loop-made.invariant.rest) in
     let sum : length (c.loop-made.calls.items ++ c.into_calls.result ∷ []) ≡ length c.loop-made.calls.items + 1 = length-append c.loop-made.calls.items (c.into_calls.result ∷ []) in
     let one : IsCallsOf all c.loop-made._made c.into_calls.result =
-    record { client = c.remove-client.result; there = there; same = c.into_calls.ensures.calls; served = c.into_calls.ensures.served } in
+    record { caller = c.remove-caller.result; there = there; same = c.into_calls.ensures.calls; served = c.into_calls.ensures.served } in
     record {
-      rest = next_seats c.remove-client.new.self.items c.loop-made.clients.items all c.loop-made._made c.remove-client.ensures.items c.loop-made.invariant.rest;
+      rest = next_seats c.remove-caller.new.self.items c.loop-made.callers.items all c.loop-made._made c.remove-caller.ensures.items c.loop-made.invariant.rest;
       count = ap length c.push_reserved.ensures.items ∙ sum ∙ ap (λ (n : ℕ). n + 1) c.loop-made.invariant.count;
       each =
           subst (λ (l : List CallerCalls). (i : ℕ) (x : CallerCalls) → slice_get l i ≡ Some x → IsCallsOf all i x) (sym c.push_reserved.ensures.items)
