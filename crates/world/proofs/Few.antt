@@ -16,8 +16,7 @@ use Rattle.store_history.proofs.NamedCalls.{AllCalls, calls_kept, first_calls}
 use Rattle.world_steps.specs.StandsFor.{StandsFor}
 use Rattle.world_steps.proofs.Actors.{Found, found}
 use Rattle.world_steps.proofs.Runs.{runs_reach}
-use Rattle.actors.specs.Clients.{ClientOf, work_of}
-use Rattle.actors.specs.Repairers.{RepairOf, rebuild_work_of}
+use Rattle.actors.specs.Callers.{PartOf, CallerOf, StandsIn, work_of}
 use Rattle.world.specs.Stored.{StoredWorld, world_of}
 use Rattle.world.specs.Kept.{IsWorld}
 
@@ -44,28 +43,30 @@ module _ (s : StoredWorld) (is : IsWorld s) where
   stands : StandsFor s.script (world_of s) core
   stands = (runs_reach s.script).core is.reached.tokens (world_of s) is.reached.by.shortages is.reached.by.reaches
 
-  pub few_client_calls : (i : ℕ) (c : ClientOf) → slice_get s.clients i ≡ Some c → length c.actor.ended ≤ 4096
+  pub few_client_calls : (i : ℕ) (c : CallerOf) → slice_get s.clients i ≡ Some c → length c.actor.ended ≤ 4096
   few_client_calls i c there =
-      let its : slice_get s.script.clients i ≡ Some c.part = (is.clients.each i c there).its in
-      let is_work : slice_get (client_work s.script) i ≡ Some (work_of c.part) = mapped_at work_of s.script.clients i c.part its in
-      let is_a : slice_get (world_of s).clients i ≡ Some c.actor = mapped_at (λ (x : ClientOf). x.actor) s.clients i c there in
-      let at : Found s.script (work_of c.part) core.clients c.actor i =
-      found s.script (client_work s.script) core.clients (world_of s).clients i (work_of c.part) c.actor stands.clients is_work is_a in
-      let most : length at.calling.ended ≤ length (work_of c.part).jobs = (calls.clients i at.calling at.is_calling (work_of c.part) is_work).below in
+      let one = is.clients.each i c there in
+      let its : slice_get s.script.clients i ≡ Some one.part = subst (StandsIn s.script i) one.is_part one.at.its in
+      let is_work : slice_get (client_work s.script) i ≡ Some (work_of (PartOf.OfClient one.part)) = mapped_at (λ (p : ClientPart). work_of (PartOf.OfClient p)) s.script.clients i one.part its in
+      let is_a : slice_get (world_of s).clients i ≡ Some c.actor = mapped_at (λ (x : CallerOf). x.actor) s.clients i c there in
+      let at : Found s.script (work_of (PartOf.OfClient one.part)) core.clients c.actor i =
+      found s.script (client_work s.script) core.clients (world_of s).clients i (work_of (PartOf.OfClient one.part)) c.actor stands.clients is_work is_a in
+      let most : length at.calling.ended ≤ length (work_of (PartOf.OfClient one.part)).jobs = (calls.clients i at.calling at.is_calling (work_of (PartOf.OfClient one.part)) is_work).below in
       let same : length at.calling.ended ≡ length c.actor.ended = ap (λ (l : List Ended). length l) at.stands.ended in
-      let jobs : length (work_of c.part).jobs ≡ length c.part.calls = length-map c.part.calls job_of in
-      let many : length c.part.calls ≤ 4096 = at_all (λ (p : ClientPart). length p.calls ≤ 4096) s.script.clients i c.part is.valid.limits.client_calls its in
+      let jobs : length (work_of (PartOf.OfClient one.part)).jobs ≡ length one.part.calls = length-map one.part.calls job_of in
+      let many : length one.part.calls ≤ 4096 = at_all (λ (p : ClientPart). length p.calls ≤ 4096) s.script.clients i one.part is.valid.limits.client_calls its in
       omega (arith, most, same, jobs, many)
 
-  pub few_rebuilds : (i : ℕ) (c : RepairOf) → slice_get s.repairers i ≡ Some c → length c.actor.ended ≤ 4096
+  pub few_rebuilds : (i : ℕ) (c : CallerOf) → slice_get s.repairers i ≡ Some c → length c.actor.ended ≤ 4096
   few_rebuilds i c there =
-      let its : slice_get s.script.repairers i ≡ Some c.part = (is.repairers.each i c there).its in
-      let is_work : slice_get (repairer_work s.script) i ≡ Some (rebuild_work_of c.part) = mapped_at rebuild_work_of s.script.repairers i c.part its in
-      let is_a : slice_get (world_of s).repairers i ≡ Some c.actor = mapped_at (λ (x : RepairOf). x.actor) s.repairers i c there in
-      let at : Found s.script (rebuild_work_of c.part) core.repairers c.actor i =
-      found s.script (repairer_work s.script) core.repairers (world_of s).repairers i (rebuild_work_of c.part) c.actor stands.repairers is_work is_a in
-      let most : length at.calling.ended ≤ length (rebuild_work_of c.part).jobs = (calls.repairers i at.calling at.is_calling (rebuild_work_of c.part) is_work).below in
+      let one = is.repairers.each i c there in
+      let its : slice_get s.script.repairers i ≡ Some one.part = subst (StandsIn s.script i) one.is_part one.at.its in
+      let is_work : slice_get (repairer_work s.script) i ≡ Some (work_of (PartOf.OfRepairer one.part)) = mapped_at (λ (p : RepairPart). work_of (PartOf.OfRepairer p)) s.script.repairers i one.part its in
+      let is_a : slice_get (world_of s).repairers i ≡ Some c.actor = mapped_at (λ (x : CallerOf). x.actor) s.repairers i c there in
+      let at : Found s.script (work_of (PartOf.OfRepairer one.part)) core.repairers c.actor i =
+      found s.script (repairer_work s.script) core.repairers (world_of s).repairers i (work_of (PartOf.OfRepairer one.part)) c.actor stands.repairers is_work is_a in
+      let most : length at.calling.ended ≤ length (work_of (PartOf.OfRepairer one.part)).jobs = (calls.repairers i at.calling at.is_calling (work_of (PartOf.OfRepairer one.part)) is_work).below in
       let same : length at.calling.ended ≡ length c.actor.ended = ap (λ (l : List Ended). length l) at.stands.ended in
-      let jobs : length (rebuild_work_of c.part).jobs ≡ length c.part.calls = length-map c.part.calls rebuild_job in
-      let many : length c.part.calls ≤ 4096 = at_all (λ (p : RepairPart). length p.calls ≤ 4096) s.script.repairers i c.part is.valid.limits.repairer_calls its in
+      let jobs : length (work_of (PartOf.OfRepairer one.part)).jobs ≡ length one.part.calls = length-map one.part.calls rebuild_job in
+      let many : length one.part.calls ≤ 4096 = at_all (λ (p : RepairPart). length p.calls ≤ 4096) s.script.repairers i one.part is.valid.limits.repairer_calls its in
       omega (arith, most, same, jobs, many)

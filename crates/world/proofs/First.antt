@@ -27,13 +27,12 @@ use Rattle.world_steps.proofs.Agreed.{first_tokens_agree}
 use Rattle.world_steps.specs.Goes.{IsReachedBy}
 use Rattle.world_steps.proofs.Goes.{worlds_go_on}
 use Rattle.actors.specs.Turns.{AreServers}
-use Rattle.actors.specs.Clients.{ClientOf, Knows}
-use Rattle.actors.specs.Repairers.{RepairOf}
+use Rattle.actors.specs.Callers.{PartOf, CallerOf, Knows, StandsIn, first_caller}
 use Rattle.world_owes.specs.Serving.{ServesItsPins}
 use Rattle.world_owes.proofs.Serving.{clients_go_on_serving}
 use Rattle.world.specs.First.{IsFirstClient, AreFirstClients, IsFirstRepairer, AreFirstRepairers, BeginWith, seats_of, first_directory, first_servers}
 use Rattle.world.specs.Stored.{StoredWorld, world_of}
-use Rattle.world.specs.Kept.{IsClientAt, IsRepairerAt, IsWorld}
+use Rattle.world.specs.Kept.{IsCallerAt, IsClientAt, IsRepairerAt, IsWorld}
 
 -- ---- lists
 -- an entry of a mapped list is that of an entry
@@ -120,13 +119,13 @@ pub record HasFirstParts (s : StoredWorld) : Type 0 where
 module _ (s : StoredWorld) (has : HasFirstParts s) where
   client_new : (i : ℕ) (a : ActorOf) → slice_get (world_of s).clients i ≡ Some a → a ≡ new_actor (first_token (actor.Client i))
   client_new i a e =
-      let one : IsMapped (λ (c : ClientOf). c.actor) s.clients i a = mapped (λ (c : ClientOf). c.actor) s.clients i a e in
-      one.is ∙ ap (λ (c : ClientOf). c.actor) (has.clients.each i one.from one.there).first
+      let one : IsMapped (λ (c : CallerOf). c.actor) s.clients i a = mapped (λ (c : CallerOf). c.actor) s.clients i a e in
+      one.is ∙ ap (λ (c : CallerOf). c.actor) (has.clients.each i one.from one.there).first
 
   repairer_new : (i : ℕ) (a : ActorOf) → slice_get (world_of s).repairers i ≡ Some a → a ≡ new_actor (first_token (actor.Repairer i))
   repairer_new i a e =
-      let one : IsMapped (λ (c : RepairOf). c.actor) s.repairers i a = mapped (λ (c : RepairOf). c.actor) s.repairers i a e in
-      one.is ∙ ap (λ (c : RepairOf). c.actor) (has.repairers.each i one.from one.there).first
+      let one : IsMapped (λ (c : CallerOf). c.actor) s.repairers i a = mapped (λ (c : CallerOf). c.actor) s.repairers i a e in
+      one.is ∙ ap (λ (c : CallerOf). c.actor) (has.repairers.each i one.from one.there).first
 
   pub is_first : IsFirstWorld s.script (world_of s)
   is_first =
@@ -135,9 +134,9 @@ module _ (s : StoredWorld) (has : HasFirstParts s) where
         servers =
             ap (map core_of) has.servers
             ∙ all_the_same core_of new_server (λ (number : ℕ). empty_server number s.book) (λ i. refl) 0 (chunk_count s.script.geometry);
-        client_count = length-map s.clients (λ (c : ClientOf). c.actor) ∙ has.clients.count;
+        client_count = length-map s.clients (λ (c : CallerOf). c.actor) ∙ has.clients.count;
         clients = all_of IsNew (world_of s).clients (λ i a e. (first_token (actor.Client i), client_new i a e));
-        repairer_count = length-map s.repairers (λ (c : RepairOf). c.actor) ∙ has.repairers.count;
+        repairer_count = length-map s.repairers (λ (c : CallerOf). c.actor) ∙ has.repairers.count;
         repairers = all_of IsNew (world_of s).repairers (λ i a e. (first_token (actor.Repairer i), repairer_new i a e));
         sweeper = has.sweeper;
       }
@@ -155,23 +154,32 @@ module _ (s : StoredWorld) (has : HasFirstParts s) where
             (ap (λ (x : ServerState). x.number) is ∙ at, ap (λ (x : ServerState). x.book) is);
       }
 
-  client_there : (i : ℕ) (c : ClientOf) → slice_get s.clients i ≡ Some c → IsClientAt s.script s.book s.directory i c
+  first_at : (i : ℕ) (c : CallerOf) (part : PartOf) (seat : Seat) → c ≡ first_caller part s.book (tries_of s.script) seat → StandsIn s.script i part → IsCallerAt s.script s.book s.directory i c
+  first_at i c part seat first its =
+      record {
+        its = subst (StandsIn s.script i) (sym (ap (λ (x : CallerOf). x.part) first)) its;
+        same_book = ap (λ (x : CallerOf). x.book) first;
+        often = ap (λ (x : CallerOf). x.tries) first;
+        knows = subst (λ (x : CallerOf). Knows s.directory x) (sym first) tt;
+      }
+
+  client_there : (i : ℕ) (c : CallerOf) → slice_get s.clients i ≡ Some c → IsClientAt s.script s.book s.directory i c
   client_there i c e =
       let of : IsFirstClient s.script s.book i c = has.clients.each i c e in
       record {
-        its = of.its ∙ ap (λ (x : ClientOf). Some x.part) (sym of.first);
-        same_book = ap (λ (x : ClientOf). x.book) of.first;
-        often = ap (λ (x : ClientOf). x.tries) of.first;
-        knows = subst (λ (x : ClientOf). Knows s.directory x) (sym of.first) tt;
+        part = of.part;
+        is_part = ap (λ (x : CallerOf). x.part) of.first;
+        at = first_at i c (PartOf.OfClient of.part) (client_seat i) of.first of.its;
         serves = subst (ServesItsPins s.script s.directory.core.points i) (sym of.first) ((clients_go_on_serving s.script).first s.directory.core.points i of.part s.book (tries_of s.script) (client_seat i));
       }
 
-  repairer_there : (i : ℕ) (c : RepairOf) → slice_get s.repairers i ≡ Some c → IsRepairerAt s.script s.book i c
+  repairer_there : (i : ℕ) (c : CallerOf) → slice_get s.repairers i ≡ Some c → IsRepairerAt s.script s.book s.directory i c
   repairer_there i c e =
       let of : IsFirstRepairer s.script s.book i c = has.repairers.each i c e in
       record {
-        its = of.its ∙ ap (λ (x : RepairOf). Some x.part) (sym of.first);
-        same_book = ap (λ (x : RepairOf). x.book) of.first;
+        part = of.part;
+        is_part = ap (λ (x : CallerOf). x.part) of.first;
+        at = first_at i c (PartOf.OfRepairer of.part) (repairer_seat i) of.first of.its;
       }
 
   pub reached_first : IsReachedBy s.script [] (world_of s)
@@ -193,7 +201,7 @@ module _ (s : StoredWorld) (has : HasFirstParts s) where
       }
 
 -- the parts, one by one
-pub parts_are : (script : Script) (book : BookOf) (directory : Sealed) (servers : List ServerState) (clients : List ClientOf) (repairers : List RepairOf) (sweeper : SweeperOf) (count : ℕ)
+pub parts_are : (script : Script) (book : BookOf) (directory : Sealed) (servers : List ServerState) (clients : List CallerOf) (repairers : List CallerOf) (sweeper : SweeperOf) (count : ℕ)
     → IsGeometry script.geometry → IsValid script → book.script ≡ Some script → book.geometry ≡ script.geometry → directory ≡ first_directory script book → servers ≡ first_servers script book
     → AreFirstClients script book clients → AreFirstRepairers script book repairers → sweeper ≡ new_sweeper count → count ≡ chunk_count script.geometry
     → HasFirstParts (record { script = script; book = book; directory = directory; servers = servers; clients = clients; repairers = repairers; sweeper = sweeper })

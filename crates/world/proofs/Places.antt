@@ -35,7 +35,7 @@ use Rattle.world_owes.specs.ServeLaws.{HasMorePoints}
 use Rattle.world_owes.proofs.Grow.{histories_grow}
 use Rattle.world.specs.Stored.{StoredWorld, world_of}
 use Rattle.world.specs.Kept.{IsWorld}
-use Rattle.world.proofs.Keeping.{changed, kept_by, clients_stay, others_stay}
+use Rattle.world.proofs.Keeping.{changed, kept_by, clients_stay, repairers_stay, others_stay}
 use Rattle.world.proofs.Lists.{below, read_back}
 
 -- a step that wants no memory
@@ -74,7 +74,7 @@ module _ (s : StoredWorld) (is : IsWorld s) where
 
     pub directory_kept : d.book ≡ s.directory.book → d.stamps ≡ s.directory.stamps → HasMorePoints s.directory.core.points d.core.points → IsWorld (changed s d s.servers s.clients s.repairers sweeper)
     directory_kept book stamps more =
-        kept_by s d s.servers s.clients s.repairers sweeper t is book is.servers (clients_stay s.script s.book s.directory d s.clients stamps more is.clients) is.repairers
+        kept_by s d s.servers s.clients s.repairers sweeper t is book is.servers (clients_stay s.script s.book s.directory d s.clients stamps more is.clients) (repairers_stay s.script s.book s.directory d s.repairers stamps is.repairers)
         (subst TokensAgree same agree) directory_leads
 
   -- ---- a step at a server

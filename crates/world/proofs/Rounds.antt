@@ -15,11 +15,11 @@ use Rattle.world_steps.specs.Known.{calling_of, core_of}
 use Rattle.world_steps.specs.RoundLaws.{client_turns, repairer_turns, sweep_turn}
 use Rattle.world_steps.proofs.Rounds.{rounds_are_rounds}
 use Rattle.world_steps.specs.Goes.{Leads}
-use Rattle.actors.specs.Clients.{ClientOf, work_of}
+use Rattle.actors.specs.Callers.{CallerOf, work_of}
 use Rattle.actors.specs.Repairers.{RepairOf, rebuild_work_of}
 use Rattle.world.specs.Stored.{StoredWorld, world_of}
 use Rattle.world.specs.Kept.{IsWorld}
-use Rattle.world.specs.Having.{some_client_has, some_repairer_has, AreOfCode, RepairsAreOfCode}
+use Rattle.world.specs.Having.{some_caller_has, some_caller_has, AreOfCode, AreOfCode}
 
 -- ---- turns
 module _ (script : Script) (w : WorldOf) where
@@ -54,57 +54,51 @@ module _ (script : Script) (w : WorldOf) where
       }
 
 -- ---- whether somebody has a step
-any_client : (script : Script) (parts : List ClientPart) (clients : List ClientOf) → length clients ≡ length parts
-    → ((i : ℕ) (c : ClientOf) → slice_get clients i ≡ Some c → slice_get parts i ≡ Some c.part)
-    → any_has_step (map (λ part. record { jobs = map job_of part.calls; leave = part.leave }) parts) (map (calling_of script) (map (λ client. client.actor) clients)) ≡ some_client_has script clients
-any_client script [] [] count each = refl
-any_client script [] (c ∷ clients) count each = absurd (omega (arith, count))
-any_client script (p ∷ parts) [] count each = absurd (omega (arith, count))
-any_client script (p ∷ parts) (c ∷ clients) count each =
-    let same : p ≡ c.part = same_Some p c.part (each 0 c refl) in
-    λ k. has_step (work_of (same k)) (calling_of script c.actor) || any_client script parts clients (omega (arith, count)) (λ i x there. each (suc i) x there) k
-
-any_repairer : (script : Script) (parts : List RepairPart) (repairers : List RepairOf) → length repairers ≡ length parts
-    → ((i : ℕ) (c : RepairOf) → slice_get repairers i ≡ Some c → slice_get parts i ≡ Some c.part)
-    → any_has_step (map (λ part. record { jobs = map rebuild_job part.calls; leave = part.leave }) parts) (map (calling_of script) (map (λ repairer. repairer.actor) repairers)) ≡ some_repairer_has script repairers
-any_repairer script [] [] count each = refl
-any_repairer script [] (c ∷ repairers) count each = absurd (omega (arith, count))
-any_repairer script (p ∷ parts) [] count each = absurd (omega (arith, count))
-any_repairer script (p ∷ parts) (c ∷ repairers) count each =
-    let same : p ≡ c.part = same_Some p c.part (each 0 c refl) in
-    λ k. has_step (rebuild_work_of (same k)) (calling_of script c.actor) || any_repairer script parts repairers (omega (arith, count)) (λ i x there. each (suc i) x there) k
+-- callers of parts, each at its place
+any_of : {X : Type 0} (script : Script) (as_part : X → PartOf) (works : List Work) (parts : List X) (callers : List CallerOf) → works ≡ map (λ part. work_of (as_part part)) parts → length callers ≡ length parts
+    → ((i : ℕ) (c : CallerOf) → slice_get callers i ≡ Some c → (part : X) × (c.part ≡ as_part part) × (slice_get parts i ≡ Some part))
+    → any_has_step works (map (calling_of script) (map (λ caller. caller.actor) callers)) ≡ some_caller_has script callers
+any_of script as_part works parts callers is count each = ap (λ ws. any_has_step ws (map (calling_of script) (map (λ caller. caller.actor) callers))) is ∙ by parts callers count each
+  where
+    by : (parts : List _) (callers : List CallerOf) → length callers ≡ length parts
+        → ((i : ℕ) (c : CallerOf) → slice_get callers i ≡ Some c → (part : _) × (c.part ≡ as_part part) × (slice_get parts i ≡ Some part))
+        → any_has_step (map (λ part. work_of (as_part part)) parts) (map (calling_of script) (map (λ caller. caller.actor) callers)) ≡ some_caller_has script callers
+    by [] [] count each = refl
+    by [] (c ∷ callers) count each = absurd (omega (arith, count))
+    by (p ∷ parts) [] count each = absurd (omega (arith, count))
+    by (p ∷ parts) (c ∷ callers) count each = cc
 
 module _ (s : StoredWorld) (is : IsWorld s) where
   pub clients_of_code : AreOfCode s.script s.clients
-  clients_of_code i c there = ap (λ (b : BookOf). b.geometry) (is.clients.each i c there).same_book ∙ is.code
+  clients_of_code i c there = ap (λ (b : BookOf). b.geometry) (is.clients.each i c there).at.same_book ∙ is.code
 
-  pub repairers_of_code : RepairsAreOfCode s.script s.repairers
-  repairers_of_code i c there = ap (λ (b : BookOf). b.geometry) (is.repairers.each i c there).same_book ∙ is.code
+  pub repairers_of_code : AreOfCode s.script s.repairers
+  repairers_of_code i c there = ap (λ (b : BookOf). b.geometry) (is.repairers.each i c there).at.same_book ∙ is.code
 
   -- a client has one, or no client and a repairer, or neither and the sweeper tells
-  clients_known : any_has_step (client_work s.script) (map (calling_of s.script) (world_of s).clients) ≡ some_client_has s.script s.clients
+  clients_known : any_has_step (client_work s.script) (map (calling_of s.script) (world_of s).clients) ≡ some_caller_has s.script s.clients
   clients_known = any_client s.script s.script.clients s.clients is.clients.count (λ i c there. (is.clients.each i c there).its)
 
-  repairers_known : any_has_step (repairer_work s.script) (map (calling_of s.script) (world_of s).repairers) ≡ some_repairer_has s.script s.repairers
+  repairers_known : any_has_step (repairer_work s.script) (map (calling_of s.script) (world_of s).repairers) ≡ some_caller_has s.script s.repairers
   repairers_known = any_repairer s.script s.script.repairers s.repairers is.repairers.count (λ i c there. (is.repairers.each i c there).its)
 
-  pub unfinished : (some_client some_repairer : Bool) → some_client ≡ some_client_has s.script s.clients → some_repairer ≡ some_repairer_has s.script s.repairers
+  pub unfinished : (some_client some_repairer : Bool) → some_client ≡ some_caller_has s.script s.clients → some_repairer ≡ some_caller_has s.script s.repairers
       → (some_client || some_repairer || sweeper_has_step (core_of s.script (world_of s))) ≡ is_unfinished s.script (core_of s.script (world_of s))
   unfinished some_client some_repairer one two = λ k. (one ∙ sym clients_known) k || (two ∙ sym repairers_known) k || sweeper_has_step (core_of s.script (world_of s))
 
-  pub by_client : (some_client : Bool) → some_client ≡ some_client_has s.script s.clients → some_client ≡ true → true ≡ is_unfinished s.script (core_of s.script (world_of s))
+  pub by_client : (some_client : Bool) → some_client ≡ some_caller_has s.script s.clients → some_client ≡ true → true ≡ is_unfinished s.script (core_of s.script (world_of s))
   by_client some_client one holds =
-      let rest : Bool = some_repairer_has s.script s.repairers in
+      let rest : Bool = some_caller_has s.script s.repairers in
       let sweeps : Bool = sweeper_has_step (core_of s.script (world_of s)) in
       ap (λ (b : Bool). b || rest || sweeps) (sym holds) ∙ unfinished some_client rest one refl
 
-  pub by_repairer : (some_client some_repairer : Bool) → some_client ≡ some_client_has s.script s.clients → some_client ≡ false → some_repairer ≡ some_repairer_has s.script s.repairers → some_repairer ≡ true
+  pub by_repairer : (some_client some_repairer : Bool) → some_client ≡ some_caller_has s.script s.clients → some_client ≡ false → some_repairer ≡ some_caller_has s.script s.repairers → some_repairer ≡ true
       → true ≡ is_unfinished s.script (core_of s.script (world_of s))
   by_repairer some_client some_repairer one without two holds =
       let sweeps : Bool = sweeper_has_step (core_of s.script (world_of s)) in
       (λ k. sym without k || sym holds k || sweeps) ∙ unfinished some_client some_repairer one two
 
-  pub by_sweeper : (some_client some_repairer : Bool) → some_client ≡ some_client_has s.script s.clients → some_client ≡ false → some_repairer ≡ some_repairer_has s.script s.repairers → some_repairer ≡ false
+  pub by_sweeper : (some_client some_repairer : Bool) → some_client ≡ some_caller_has s.script s.clients → some_client ≡ false → some_repairer ≡ some_caller_has s.script s.repairers → some_repairer ≡ false
       → sweeper_has_step (core_of s.script (world_of s)) ≡ is_unfinished s.script (core_of s.script (world_of s))
   by_sweeper some_client some_repairer one without two none =
       let sweeps : Bool = sweeper_has_step (core_of s.script (world_of s)) in

@@ -12,30 +12,29 @@ use Rattle.version_seal.specs.Entry.{BookOf}
 use Rattle.chunk_server.specs.State.{ServerState, empty_server}
 use Rattle.stripe_dir.specs.Sealed.{Sealed}
 use Rattle.stripe_dir.specs.Seats.{client_seat, repairer_seat}
-use Rattle.actors.specs.Clients.{ClientOf, first_client}
-use Rattle.actors.specs.Repairers.{RepairOf, first_repairer}
+use Rattle.actors.specs.Callers.{PartOf, CallerOf, first_caller}
 
 -- a client at its place of the script that has made no call
-pub record IsFirstClient (script : Script) (book : BookOf) (place : ℕ) (client : ClientOf) : Type 0 where
+pub record IsFirstClient (script : Script) (book : BookOf) (place : ℕ) (client : CallerOf) : Type 0 where
   pub part : ClientPart
   pub its : slice_get script.clients place ≡ Some part
-  pub first : client ≡ first_client part book (tries_of script) (client_seat place)
+  pub first : client ≡ first_caller (PartOf.OfClient part) book (tries_of script) (client_seat place)
 
 -- the script's clients
-pub record AreFirstClients (script : Script) (book : BookOf) (clients : List ClientOf) : Type 0 where
+pub record AreFirstClients (script : Script) (book : BookOf) (clients : List CallerOf) : Type 0 where
   pub count : length clients ≡ length script.clients
-  pub each : (i : ℕ) (client : ClientOf) → slice_get clients i ≡ Some client → IsFirstClient script book i client
+  pub each : (i : ℕ) (client : CallerOf) → slice_get clients i ≡ Some client → IsFirstClient script book i client
 
 -- a repairer at its place that has made no call
-pub record IsFirstRepairer (script : Script) (book : BookOf) (place : ℕ) (repairer : RepairOf) : Type 0 where
+pub record IsFirstRepairer (script : Script) (book : BookOf) (place : ℕ) (repairer : CallerOf) : Type 0 where
   pub part : RepairPart
   pub its : slice_get script.repairers place ≡ Some part
-  pub first : repairer ≡ first_repairer part book (repairer_seat place)
+  pub first : repairer ≡ first_caller (PartOf.OfRepairer part) book (tries_of script) (repairer_seat place)
 
 -- the script's repairers
-pub record AreFirstRepairers (script : Script) (book : BookOf) (repairers : List RepairOf) : Type 0 where
+pub record AreFirstRepairers (script : Script) (book : BookOf) (repairers : List CallerOf) : Type 0 where
   pub count : length repairers ≡ length script.repairers
-  pub each : (i : ℕ) (repairer : RepairOf) → slice_get repairers i ≡ Some repairer → IsFirstRepairer script book i repairer
+  pub each : (i : ℕ) (repairer : CallerOf) → slice_get repairers i ≡ Some repairer → IsFirstRepairer script book i repairer
 
 -- these seats are the first of some
 abbrev pub BeginWith : (ℕ → Seat) → ℕ → List Seat → Type 0

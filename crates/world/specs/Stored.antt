@@ -7,8 +7,7 @@ use Rattle.chunk_server.specs.Core.{core_of}
 use Rattle.stripe_dir.specs.Sealed.{Sealed}
 use Rattle.sweeper.specs.Sweeps.{SweeperOf}
 use Rattle.world_steps.specs.World.{WorldOf}
-use Rattle.actors.specs.Clients.{ClientOf}
-use Rattle.actors.specs.Repairers.{RepairOf}
+use Rattle.actors.specs.Callers.{CallerOf}
 
 -- its script and the book of it, the directory with its stamps, the servers with their chunks, the actors and the sweeper
 pub record StoredWorld : Type 0 where
@@ -16,8 +15,8 @@ pub record StoredWorld : Type 0 where
   pub book : BookOf
   pub directory : Sealed
   pub servers : List ServerState
-  pub clients : List ClientOf
-  pub repairers : List RepairOf
+  pub clients : List CallerOf
+  pub repairers : List CallerOf
   pub sweeper : SweeperOf
 
 -- the world, without what is stored beside it

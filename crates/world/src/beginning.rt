@@ -10,7 +10,7 @@ ghost use Rattle.world.specs.First.{AreFirstClients, AreFirstRepairers, BeginWit
 ghost use Rattle.world.specs.Stored.{world_of};
 
 use crate::world::World;
-use actors::{ClientActor, RepairActor};
+use actors::{Caller, Part};
 use chunk_server::Server;
 use std::alloc::{AllocError, Global};
 use store_map::Script;
@@ -35,7 +35,7 @@ fn seat_clients<'a>(
     script: &'a Script,
     book: &Book,
     seats: &mut Vec<Seat>,
-    clients: &mut Vec<ClientActor<'a>>,
+    clients: &mut Vec<Caller<'a>>,
 ) -> Result<(), AllocError>
     requires valid { IsValid script.now }
     requires seats { BeginWith client_seat (length script.now.clients) seats.old.items }
@@ -47,7 +47,13 @@ fn seat_clients<'a>(
     clients.reserve(script.clients.len())?;
     for part in script.clients.as_slice() {
         let seat = seats.remove(0);
-        let client = ClientActor::new(alloc, seat, part, book.opening(), script.max_tries())?;
+        let client = Caller::new(
+            alloc,
+            seat,
+            Part::Client(part),
+            book.opening(),
+            script.max_tries(),
+        )?;
         clients.push_reserved(client);
     }
     Ok(())
@@ -59,7 +65,7 @@ fn seat_repairers<'a>(
     script: &'a Script,
     book: &Book,
     seats: &mut Vec<Seat>,
-    repairers: &mut Vec<RepairActor<'a>>,
+    repairers: &mut Vec<Caller<'a>>,
 ) -> Result<(), AllocError>
     requires valid { IsValid script.now }
     requires code { book.now.geometry ≡ script.now.geometry }
@@ -71,7 +77,13 @@ fn seat_repairers<'a>(
     repairers.reserve(script.repairers.len())?;
     for part in script.repairers.as_slice() {
         let seat = seats.remove(0);
-        let repairer = RepairActor::new(alloc, seat, part, book.opening())?;
+        let repairer = Caller::new(
+            alloc,
+            seat,
+            Part::Repairer(part),
+            book.opening(),
+            script.max_tries(),
+        )?;
         repairers.push_reserved(repairer);
     }
     Ok(())
@@ -87,24 +99,14 @@ fn leave_seats(mut seats: Vec<Seat>) {
     seats.destroy_empty();
 }
 
-// Clients that were made for nothing are spent.
-pub(crate) fn leave_clients(mut clients: Vec<ClientActor>) {
-    for _left in 0..clients.len() {
-        if let Some(client) = clients.pop() {
-            let _calls = client.into_calls();
+// Callers that were made for nothing are spent.
+pub(crate) fn leave_callers(mut callers: Vec<Caller>) {
+    for _left in 0..callers.len() {
+        if let Some(caller) = callers.pop() {
+            let _calls = caller.into_calls();
         }
     }
-    clients.destroy_empty();
-}
-
-// And repairers that were made for nothing.
-pub(crate) fn leave_repairers(mut repairers: Vec<RepairActor>) {
-    for _left in 0..repairers.len() {
-        if let Some(repairer) = repairers.pop() {
-            let _calls = repairer.into_calls();
-        }
-    }
-    repairers.destroy_empty();
+    callers.destroy_empty();
 }
 
 // The script's actors, each with its seat.
@@ -113,8 +115,8 @@ fn seat_all<'a>(
     script: &'a Script,
     book: &Book,
     seats: &mut Vec<Seat>,
-    clients: &mut Vec<ClientActor<'a>>,
-    repairers: &mut Vec<RepairActor<'a>>,
+    clients: &mut Vec<Caller<'a>>,
+    repairers: &mut Vec<Caller<'a>>,
 ) -> Result<(), AllocError>
     requires valid { IsValid script.now }
     requires code { book.now.geometry ≡ script.now.geometry }
@@ -134,8 +136,8 @@ fn first_world<'a>(
     book: &'a Book,
     directory: Directory,
     servers: Vec<Server>,
-    clients: Vec<ClientActor<'a>>,
-    repairers: Vec<RepairActor<'a>>,
+    clients: Vec<Caller<'a>>,
+    repairers: Vec<Caller<'a>>,
 ) -> World<'a>
     requires valid { IsValid script.now }
     requires written { book.now.script ≡ Some script.now }
@@ -199,8 +201,8 @@ impl<'a> World<'a> {
         match seated {
             Ok(()) => Ok(first_world(script, book, directory, servers, clients, repairers)),
             Err(e) => {
-                leave_clients(clients);
-                leave_repairers(repairers);
+                leave_callers(clients);
+                leave_callers(repairers);
                 Err(e)
             }
         }

@@ -6,32 +6,20 @@ ghost use Rattle.store_core.specs.Schedule.{is_unfinished, round};
 ghost use Rattle.world_steps.specs.Known.{core_of};
 ghost use Rattle.world_steps.specs.RoundLaws.{client_turns, repairer_turns};
 ghost use Rattle.world_steps.specs.Goes.{Leads, GoesBy};
-ghost use Rattle.world.specs.Having.{some_client_has, some_repairer_has, AreOfCode, RepairsAreOfCode};
+ghost use Rattle.world.specs.Having.{some_caller_has, AreOfCode};
 ghost use Rattle.world.specs.Stored.{world_of};
 
 use crate::world::World;
-use actors::{ClientActor, RepairActor};
+use actors::Caller;
 use clay_repair::Coder;
 use std::thread::Threads;
 
-// Whether a client has a step.
-fn some_client_has_step(clients: &[ClientActor]) -> bool
-    ensures { (script : Script) → AreOfCode script clients.now → result ≡ some_client_has script clients.now }
+// Whether one of the callers has a step.
+fn some_has_step(callers: &[Caller]) -> bool
+    ensures { (script : Script) → AreOfCode script callers.now → result ≡ some_caller_has script callers.now }
 {
-    for client in clients {
-        if client.has_step() {
-            return true;
-        }
-    }
-    false
-}
-
-// Whether a repairer has a step.
-fn some_repairer_has_step(repairers: &[RepairActor]) -> bool
-    ensures { (script : Script) → RepairsAreOfCode script repairers.now → result ≡ some_repairer_has script repairers.now }
-{
-    for repairer in repairers {
-        if repairer.has_step() {
+    for caller in callers {
+        if caller.has_step() {
             return true;
         }
     }
@@ -80,10 +68,10 @@ impl<'a> World<'a> {
     fn is_unfinished(&self) -> bool
         ensures { result ≡ is_unfinished self.now.script (core_of self.now.script (world_of self.now)) }
     {
-        if some_client_has_step(&self.clients) {
+        if some_has_step(&self.clients) {
             return true;
         }
-        if some_repairer_has_step(&self.repairers) {
+        if some_has_step(&self.repairers) {
             return true;
         }
         self.sweeper_has_step()

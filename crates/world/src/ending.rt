@@ -2,57 +2,32 @@
 ghost use Rattle.std.specs.Prelude.{◌≡◌, IfOk};
 ghost use Rattle.store_core.specs.Shown.{shown};
 ghost use Rattle.world_steps.specs.Known.{core_of};
-ghost use Rattle.world.specs.Ending.{AreCallsOf, AreRepairsOf};
+ghost use Rattle.world.specs.Ending.{AreCallsOf};
 ghost use Rattle.world.specs.Stored.{world_of};
 
-use crate::beginning::{leave_clients, leave_repairers};
+use crate::beginning::leave_callers;
 use crate::world::World;
-use actors::{ClientActor, RepairActor};
+use actors::Caller;
 use std::alloc::{AllocError, Global};
 use transcript_text::Transcript;
-use world_lines::{ClientCalls, RepairCalls, make_transcript};
+use world_lines::{CallerCalls, make_transcript};
 
-// The clients' calls, in their order.
-fn client_calls(
-    alloc: Global,
-    mut clients: Vec<ClientActor>,
-) -> Result<Vec<ClientCalls>, AllocError>
-    ensures { IfOk result (λ calls. AreCallsOf clients.entry.items calls.items) }
+// The callers' calls, in their order.
+fn calls_of(alloc: Global, mut callers: Vec<Caller>) -> Result<Vec<CallerCalls>, AllocError>
+    ensures { IfOk result (λ calls. AreCallsOf callers.entry.items calls.items) }
 {
-    let mut calls = match Vec::with_capacity(alloc, clients.len()) {
+    let mut calls = match Vec::with_capacity(alloc, callers.len()) {
         Ok(calls) => calls,
         Err(e) => {
-            leave_clients(clients);
+            leave_callers(callers);
             return Err(e);
         }
     };
-    for _made in 0..clients.len() {
-        let client = clients.remove(0);
-        calls.push_reserved(client.into_calls());
+    for _made in 0..callers.len() {
+        let caller = callers.remove(0);
+        calls.push_reserved(caller.into_calls());
     }
-    clients.destroy_empty();
-    Ok(calls)
-}
-
-// The repairers' calls, in their order.
-fn repairer_calls(
-    alloc: Global,
-    mut repairers: Vec<RepairActor>,
-) -> Result<Vec<RepairCalls>, AllocError>
-    ensures { IfOk result (λ calls. AreRepairsOf repairers.entry.items calls.items) }
-{
-    let mut calls = match Vec::with_capacity(alloc, repairers.len()) {
-        Ok(calls) => calls,
-        Err(e) => {
-            leave_repairers(repairers);
-            return Err(e);
-        }
-    };
-    for _made in 0..repairers.len() {
-        let repairer = repairers.remove(0);
-        calls.push_reserved(repairer.into_calls());
-    }
-    repairers.destroy_empty();
+    callers.destroy_empty();
     Ok(calls)
 }
 
@@ -71,8 +46,8 @@ impl<'a> World<'a> {
             repairers,
             sweeper: _sweeper,
         } = self;
-        let clients = client_calls(alloc, clients);
-        let repairers = repairer_calls(alloc, repairers);
+        let clients = calls_of(alloc, clients);
+        let repairers = calls_of(alloc, repairers);
         let clients = clients?;
         let repairers = repairers?;
         make_transcript(

@@ -1,41 +1,27 @@
-//! The turns of the actors.
+//! The turns of the callers.
 ghost use Rattle.std.specs.Prelude.{◌≡◌, ◌<◌, true, length, slice_get, Some};
 ghost use Rattle.store_map.specs.declared.script.Script.{Script};
 ghost use Rattle.store_core.specs.Run.{client_step, repairer_step};
-ghost use Rattle.store_core.specs.Work.{has_step};
-ghost use Rattle.world_steps.specs.Known.{calling_of};
 ghost use Rattle.world_steps.specs.Goes.{Leads};
-ghost use Rattle.actors.specs.Clients.{ClientOf, work_of};
-ghost use Rattle.actors.specs.Repairers.{RepairOf, rebuild_work_of};
+ghost use Rattle.actors.specs.Callers.{CallerOf};
+ghost use Rattle.world.specs.Having.{caller_has};
 ghost use Rattle.world.specs.Stored.{world_of};
 
 use crate::world::World;
+use actors::Caller;
 use actors::laws::turns_lead;
-use actors::{ClientActor, RepairActor};
 use clay_repair::Coder;
 use client_patch::laws::bytes_of_the_map_are_padded;
 use std::thread::Threads;
 
-// Whether there is such a client and it has a step.
-fn client_has_step(clients: &Vec<ClientActor>, i: u32) -> bool
-    ensures there { result ≡ true → i < length clients.now.items }
-    ensures has { (script : Script) (client : ClientOf) → slice_get clients.now.items i ≡ Some client → client.book.geometry ≡ script.geometry
-        → result ≡ has_step (work_of client.part) (calling_of script client.actor) }
+// Whether there is such a caller and it has a step.
+fn has_step(callers: &[Caller], i: u32) -> bool
+    ensures there { result ≡ true → i < length callers.now }
+    ensures has { (script : Script) (caller : CallerOf) → slice_get callers.now i ≡ Some caller → caller.book.geometry ≡ script.geometry
+        → result ≡ caller_has script caller }
 {
-    match clients.get(i as usize) {
-        Some(client) => client.has_step(),
-        None => false,
-    }
-}
-
-// Whether there is such a repairer and it has a step.
-fn repairer_has_step(repairers: &Vec<RepairActor>, i: u32) -> bool
-    ensures there { result ≡ true → i < length repairers.now.items }
-    ensures has { (script : Script) (repairer : RepairOf) → slice_get repairers.now.items i ≡ Some repairer → repairer.book.geometry ≡ script.geometry
-        → result ≡ has_step (rebuild_work_of repairer.part) (calling_of script repairer.actor) }
-{
-    match repairers.get(i as usize) {
-        Some(repairer) => repairer.has_step(),
+    match callers.get(i as usize) {
+        Some(caller) => caller.has_step(),
         None => false,
     }
 }
@@ -50,7 +36,7 @@ impl<'a> World<'a> {
         turns_lead();
         bytes_of_the_map_are_padded();
         self.directory.keeps();
-        if !client_has_step(&self.clients, i) {
+        if !has_step(&self.clients, i) {
             return;
         }
         self.clients[i as usize].turn(
@@ -70,9 +56,18 @@ impl<'a> World<'a> {
         ensures same_book { self.new.book ≡ self.old.book }
     {
         turns_lead();
-        if !repairer_has_step(&self.repairers, i) {
+        bytes_of_the_map_are_padded();
+        self.directory.keeps();
+        if !has_step(&self.repairers, i) {
             return;
         }
-        self.repairers[i as usize].turn(rt, coder, i, &mut self.directory, &mut self.servers);
+        self.repairers[i as usize].turn(
+            rt,
+            coder,
+            i,
+            &mut self.directory,
+            self.book,
+            &mut self.servers,
+        );
     }
 }

@@ -1,4 +1,4 @@
-use actors::{ClientActor, RepairActor};
+use actors::Caller;
 use chunk_server::Server;
 use std::marker::Model;
 use store_map::Script;
@@ -13,8 +13,8 @@ pub struct World<'a> {
     pub(crate) book: &'a Book,
     pub(crate) directory: Directory,
     pub(crate) servers: Vec<Server>,
-    pub(crate) clients: Vec<ClientActor<'a>>,
-    pub(crate) repairers: Vec<RepairActor<'a>>,
+    pub(crate) clients: Vec<Caller<'a>>,
+    pub(crate) repairers: Vec<Caller<'a>>,
     pub(crate) sweeper: Sweeper,
 }
 

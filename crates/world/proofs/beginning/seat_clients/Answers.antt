@@ -3,7 +3,7 @@ use Rattle.std.proofs.lemmas.List.{length-append}
 use Rattle.store_map.specs.declared.script.ClientPart.{ClientPart}
 use Rattle.store_core.specs.Agreement.{Seat}
 use Rattle.stripe_dir.specs.Seats.{client_seat}
-use Rattle.actors.specs.Clients.{ClientOf, first_client}
+use Rattle.actors.specs.Callers.{PartOf, CallerOf, first_caller}
 use Rattle.world.specs.First.{IsFirstClient}
 use Rattle.world.proofs.Lists.{got}
 use Rattle.world.proofs.Seating.{next_seats, seat_is, each_more}
@@ -25,13 +25,13 @@ loop-part-preserved c =
     record {
       part = c.part-item.result;
       its = its;
-      first = c.in_ok-client.ensures ∙ (λ k. first_client c.part-item.result (c.opening.ensures k) (c.max_tries.ensures k) (seat k));
+      first = c.in_ok-client.ensures ∙ (λ k. first_caller (PartOf.OfClient c.part-item.result) (c.opening.ensures k) (c.max_tries.ensures k) (seat k));
     } in
     record {
       seats = next_seats c.remove-seat.new.self.items c.loop-part.seats.items c.args.seats.now.items c.loop-part.part-index c.remove-seat.ensures.items c.loop-part.invariant.seats;
       count = ap length c.push_reserved.ensures.items ∙ sum ∙ ap (λ (n : ℕ). n + 1) c.loop-part.invariant.count;
       each =
-          subst (λ (l : List ClientOf). (i : ℕ) (x : ClientOf) → slice_get l i ≡ Some x → IsFirstClient c.args.script.now c.args.book.now i x) (sym c.push_reserved.ensures.items)
+          subst (λ (l : List CallerOf). (i : ℕ) (x : CallerOf) → slice_get l i ≡ Some x → IsFirstClient c.args.script.now c.args.book.now i x) (sym c.push_reserved.ensures.items)
           (each_more (IsFirstClient c.args.script.now c.args.book.now) c.loop-part.clients.items c.in_ok-client.client c.loop-part.invariant.each
           (subst (λ (n : ℕ). IsFirstClient c.args.script.now c.args.book.now n c.in_ok-client.client) (sym c.loop-part.invariant.count) first));
       room = omega (arith, c.push_reserved.ensures.capacity, c.loop-part.invariant.room);

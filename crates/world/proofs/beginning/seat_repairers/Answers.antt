@@ -3,7 +3,7 @@ use Rattle.std.proofs.lemmas.List.{length-append}
 use Rattle.store_map.specs.declared.script.RepairPart.{RepairPart}
 use Rattle.store_core.specs.Agreement.{Seat}
 use Rattle.stripe_dir.specs.Seats.{repairer_seat}
-use Rattle.actors.specs.Repairers.{RepairOf, first_repairer}
+use Rattle.actors.specs.Callers.{PartOf, CallerOf, first_caller}
 use Rattle.world.specs.First.{IsFirstRepairer}
 use Rattle.world.proofs.Lists.{got}
 use Rattle.world.proofs.Seating.{next_seats, seat_is, each_more}
@@ -25,13 +25,13 @@ loop-part-preserved c =
     record {
       part = c.part-item.result;
       its = its;
-      first = c.in_ok-repairer.ensures ∙ (λ k. first_repairer c.part-item.result (c.opening.ensures k) (seat k));
+      first = c.in_ok-repairer.ensures ∙ (λ k. first_caller (PartOf.OfRepairer c.part-item.result) (c.opening.ensures k) (c.max_tries.ensures k) (seat k));
     } in
     record {
       seats = next_seats c.remove-seat.new.self.items c.loop-part.seats.items c.args.seats.now.items c.loop-part.part-index c.remove-seat.ensures.items c.loop-part.invariant.seats;
       count = ap length c.push_reserved.ensures.items ∙ sum ∙ ap (λ (n : ℕ). n + 1) c.loop-part.invariant.count;
       each =
-          subst (λ (l : List RepairOf). (i : ℕ) (x : RepairOf) → slice_get l i ≡ Some x → IsFirstRepairer c.args.script.now c.args.book.now i x) (sym c.push_reserved.ensures.items)
+          subst (λ (l : List CallerOf). (i : ℕ) (x : CallerOf) → slice_get l i ≡ Some x → IsFirstRepairer c.args.script.now c.args.book.now i x) (sym c.push_reserved.ensures.items)
           (each_more (IsFirstRepairer c.args.script.now c.args.book.now) c.loop-part.repairers.items c.in_ok-repairer.repairer c.loop-part.invariant.each
           (subst (λ (n : ℕ). IsFirstRepairer c.args.script.now c.args.book.now n c.in_ok-repairer.repairer) (sym c.loop-part.invariant.count) first));
       room = omega (arith, c.push_reserved.ensures.capacity, c.loop-part.invariant.room);
