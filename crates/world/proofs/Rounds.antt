@@ -5,7 +5,6 @@ use Rattle.store_map.specs.declared.script.ClientPart.{ClientPart}
 use Rattle.store_map.specs.declared.script.RepairPart.{RepairPart}
 use Rattle.store_map.specs.declared.script.Script.{Script}
 use Rattle.store_core.specs.Core.{sweeper_has_step}
-use Rattle.store_core.specs.NextAct.{job_of, rebuild_job}
 use Rattle.store_core.specs.Run.{client_step, repairer_step, sweeper_step}
 use Rattle.store_core.specs.Schedule.{is_unfinished, round}
 use Rattle.store_core.specs.Work.{client_work, repairer_work, has_step, any_has_step}
@@ -15,11 +14,10 @@ use Rattle.world_steps.specs.Known.{calling_of, core_of}
 use Rattle.world_steps.specs.RoundLaws.{client_turns, repairer_turns, sweep_turn}
 use Rattle.world_steps.proofs.Rounds.{rounds_are_rounds}
 use Rattle.world_steps.specs.Goes.{Leads}
-use Rattle.actors.specs.Callers.{CallerOf, work_of}
-use Rattle.actors.specs.Repairers.{RepairOf, rebuild_work_of}
+use Rattle.actors.specs.Callers.{PartOf, CallerOf, StandsIn, work_of}
 use Rattle.world.specs.Stored.{StoredWorld, world_of}
-use Rattle.world.specs.Kept.{IsWorld}
-use Rattle.world.specs.Having.{some_caller_has, some_caller_has, AreOfCode, AreOfCode}
+use Rattle.world.specs.Kept.{IsWorld, IsClientAt, IsRepairerAt}
+use Rattle.world.specs.Having.{some_caller_has, AreOfCode}
 
 -- ---- turns
 module _ (script : Script) (w : WorldOf) where
@@ -54,19 +52,24 @@ module _ (script : Script) (w : WorldOf) where
       }
 
 -- ---- whether somebody has a step
--- callers of parts, each at its place
-any_of : {X : Type 0} (script : Script) (as_part : X → PartOf) (works : List Work) (parts : List X) (callers : List CallerOf) → works ≡ map (λ part. work_of (as_part part)) parts → length callers ≡ length parts
-    → ((i : ℕ) (c : CallerOf) → slice_get callers i ≡ Some c → (part : X) × (c.part ≡ as_part part) × (slice_get parts i ≡ Some part))
-    → any_has_step works (map (calling_of script) (map (λ caller. caller.actor) callers)) ≡ some_caller_has script callers
-any_of script as_part works parts callers is count each = ap (λ ws. any_has_step ws (map (calling_of script) (map (λ caller. caller.actor) callers))) is ∙ by parts callers count each
-  where
-    by : (parts : List _) (callers : List CallerOf) → length callers ≡ length parts
-        → ((i : ℕ) (c : CallerOf) → slice_get callers i ≡ Some c → (part : _) × (c.part ≡ as_part part) × (slice_get parts i ≡ Some part))
-        → any_has_step (map (λ part. work_of (as_part part)) parts) (map (calling_of script) (map (λ caller. caller.actor) callers)) ≡ some_caller_has script callers
-    by [] [] count each = refl
-    by [] (c ∷ callers) count each = absurd (omega (arith, count))
-    by (p ∷ parts) [] count each = absurd (omega (arith, count))
-    by (p ∷ parts) (c ∷ callers) count each = cc
+-- a caller whose part is the one at this place
+record IsPartAt (X : Type 0) (as_part : X → PartOf) (parts : List X) (i : ℕ) (c : CallerOf) : Type 0 where
+  part : X
+  is_part : c.part ≡ as_part part
+  its : slice_get parts i ≡ Some part
+
+module _ (X : Type 0) (as_part : X → PartOf) (script : Script) where
+  any_of : (parts : List X) (callers : List CallerOf) → length callers ≡ length parts
+      → ((i : ℕ) (c : CallerOf) → slice_get callers i ≡ Some c → IsPartAt X as_part parts i c)
+      → any_has_step (map (λ part. work_of (as_part part)) parts) (map (calling_of script) (map (λ caller. caller.actor) callers)) ≡ some_caller_has script callers
+  any_of [] [] count each = refl
+  any_of [] (c ∷ callers) count each = absurd (omega (arith, count))
+  any_of (p ∷ parts) [] count each = absurd (omega (arith, count))
+  any_of (p ∷ parts) (c ∷ callers) count each =
+      let first : IsPartAt X as_part (p ∷ parts) 0 c = each 0 c refl in
+      let same : as_part p ≡ c.part = ap as_part (same_Some p first.part first.its) ∙ sym first.is_part in
+      λ k. has_step (work_of (same k)) (calling_of script c.actor)
+          || any_of parts callers (omega (arith, count)) (λ i x there. record { part = (each (suc i) x there).part; is_part = (each (suc i) x there).is_part; its = (each (suc i) x there).its }) k
 
 module _ (s : StoredWorld) (is : IsWorld s) where
   pub clients_of_code : AreOfCode s.script s.clients
@@ -77,10 +80,16 @@ module _ (s : StoredWorld) (is : IsWorld s) where
 
   -- a client has one, or no client and a repairer, or neither and the sweeper tells
   clients_known : any_has_step (client_work s.script) (map (calling_of s.script) (world_of s).clients) ≡ some_caller_has s.script s.clients
-  clients_known = any_client s.script s.script.clients s.clients is.clients.count (λ i c there. (is.clients.each i c there).its)
+  clients_known =
+      any_of ClientPart PartOf.OfClient s.script s.script.clients s.clients is.clients.count
+        (λ i c there. let at : IsClientAt s.script s.book s.directory i c = is.clients.each i c there in
+          record { part = at.part; is_part = at.is_part; its = subst (StandsIn s.script i) at.is_part at.at.its })
 
   repairers_known : any_has_step (repairer_work s.script) (map (calling_of s.script) (world_of s).repairers) ≡ some_caller_has s.script s.repairers
-  repairers_known = any_repairer s.script s.script.repairers s.repairers is.repairers.count (λ i c there. (is.repairers.each i c there).its)
+  repairers_known =
+      any_of RepairPart PartOf.OfRepairer s.script s.script.repairers s.repairers is.repairers.count
+        (λ i c there. let at : IsRepairerAt s.script s.book s.directory i c = is.repairers.each i c there in
+          record { part = at.part; is_part = at.is_part; its = subst (StandsIn s.script i) at.is_part at.at.its })
 
   pub unfinished : (some_client some_repairer : Bool) → some_client ≡ some_caller_has s.script s.clients → some_repairer ≡ some_caller_has s.script s.repairers
       → (some_client || some_repairer || sweeper_has_step (core_of s.script (world_of s))) ≡ is_unfinished s.script (core_of s.script (world_of s))
