@@ -15,7 +15,7 @@ use std::thread::Threads;
 use store_map::Script;
 use transcript_text::Transcript;
 use version_seal::Book;
-use world::World;
+use store_world::World;
 
 // Of a stripe whose chunk 0 is lost.
 const ONE_LOSS: &[u8] = b"\
