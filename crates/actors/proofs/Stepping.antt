@@ -37,7 +37,6 @@ use Rattle.actors.specs.Inside.{caller_by, doing_by, served_of, IsInWork}
 use Rattle.actors.proofs.Owing.{owed_at_server, stamps_at_server}
 use Rattle.actors.proofs.Turning.{at_directory_same, at_server_same, served_at}
 
-
 -- ---- ready
 module _ (part : PartOf) (book : BookOf) (tries : ℕ) (ended : List EndedCall) (seat : Option Seat) (steps : ℕ) (a : CallerOf) where
   abbrev with_call : Option MachineOf → CallerOf

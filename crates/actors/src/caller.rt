@@ -185,7 +185,12 @@ impl<'a> Caller<'a> {
         ensures book { directory.new.book ≡ directory.old.book }
     {
         step_at_directory(&mut self.call, directory, book);
-        conclude(&mut self.call, &mut self.seat, &mut self.steps, &mut self.ended);
+        conclude(
+            &mut self.call,
+            &mut self.seat,
+            &mut self.steps,
+            &mut self.ended,
+        );
     }
 
     /// The step of its call at the server that is needed.
@@ -198,7 +203,12 @@ impl<'a> Caller<'a> {
         ensures same { IsSame server.old server.new }
     {
         step_at_server(&mut self.call, server);
-        conclude(&mut self.call, &mut self.seat, &mut self.steps, &mut self.ended);
+        conclude(
+            &mut self.call,
+            &mut self.seat,
+            &mut self.steps,
+            &mut self.ended,
+        );
     }
 
     /// A turn of the caller at this place of the script, whose next call begins if none is in work: the

@@ -35,11 +35,7 @@ fn code_call<R: Threads + Sync, C: Coder>(rt: &R, coder: &C, call: &mut CallMach
 }
 
 /// The coding before the next step of the call in work, if one is due.
-pub(crate) fn code<R: Threads + Sync, C: Coder>(
-    rt: &R,
-    coder: &C,
-    call: &mut Option<CallMachine>,
-)
+pub(crate) fn code<R: Threads + Sync, C: Coder>(rt: &R, coder: &C, call: &mut Option<CallMachine>)
     requires there { IsTrue (is_some call.old) }
     requires goes { IfSome call.old (λ c. GoesOn (need_of c.call)) }
     ensures { IsCoded call.old call.new }

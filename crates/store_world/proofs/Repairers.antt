@@ -40,7 +40,6 @@ module _ (s : StoredWorld) (is : IsWorld s) (i : ℕ) (c : CallerOf) (there : sl
   pub actor_there : slice_get (world_of s).repairers i ≡ Some c.actor
   actor_there = slice_get-map (λ (client : CallerOf). client.actor) s.repairers i c there
 
-
   pub work_there : slice_get (repairer_work s.script) i ≡ Some (work_of c.part)
   work_there =
       slice_get-map (λ (part : RepairPart). record { jobs = map rebuild_job part.calls; leave = part.leave }) s.script.repairers i (is.repairers.each i c there).part

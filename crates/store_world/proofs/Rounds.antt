@@ -69,7 +69,7 @@ module _ (X : Type 0) (as_part : X → PartOf) (script : Script) where
       let first : IsPartAt X as_part (p ∷ parts) 0 c = each 0 c refl in
       let same : as_part p ≡ c.part = ap as_part (same_Some p first.part first.its) ∙ sym first.is_part in
       λ k. has_step (work_of (same k)) (calling_of script c.actor)
-          || any_of parts callers (omega (arith, count)) (λ i x there. record { part = (each (suc i) x there).part; is_part = (each (suc i) x there).is_part; its = (each (suc i) x there).its }) k
+      || any_of parts callers (omega (arith, count)) (λ i x there. record { part = (each (suc i) x there).part; is_part = (each (suc i) x there).is_part; its = (each (suc i) x there).its }) k
 
 module _ (s : StoredWorld) (is : IsWorld s) where
   pub clients_of_code : AreOfCode s.script s.clients
@@ -82,14 +82,14 @@ module _ (s : StoredWorld) (is : IsWorld s) where
   clients_known : any_has_step (client_work s.script) (map (calling_of s.script) (world_of s).clients) ≡ some_caller_has s.script s.clients
   clients_known =
       any_of ClientPart PartOf.OfClient s.script s.script.clients s.clients is.clients.count
-        (λ i c there. let at : IsClientAt s.script s.book s.directory i c = is.clients.each i c there in
-          record { part = at.part; is_part = at.is_part; its = subst (StandsIn s.script i) at.is_part at.at.its })
+      (λ i c there. let at : IsClientAt s.script s.book s.directory i c = is.clients.each i c there in
+      record { part = at.part; is_part = at.is_part; its = subst (StandsIn s.script i) at.is_part at.at.its })
 
   repairers_known : any_has_step (repairer_work s.script) (map (calling_of s.script) (world_of s).repairers) ≡ some_caller_has s.script s.repairers
   repairers_known =
       any_of RepairPart PartOf.OfRepairer s.script s.script.repairers s.repairers is.repairers.count
-        (λ i c there. let at : IsRepairerAt s.script s.book s.directory i c = is.repairers.each i c there in
-          record { part = at.part; is_part = at.is_part; its = subst (StandsIn s.script i) at.is_part at.at.its })
+      (λ i c there. let at : IsRepairerAt s.script s.book s.directory i c = is.repairers.each i c there in
+      record { part = at.part; is_part = at.is_part; its = subst (StandsIn s.script i) at.is_part at.at.its })
 
   pub unfinished : (some_client some_repairer : Bool) → some_client ≡ some_caller_has s.script s.clients → some_repairer ≡ some_caller_has s.script s.repairers
       → (some_client || some_repairer || sweeper_has_step (core_of s.script (world_of s))) ≡ is_unfinished s.script (core_of s.script (world_of s))
