@@ -8,13 +8,13 @@ use Rattle.actors.proofs.caller.Caller.turn.Goals as goal
 pub returns-in-Directory-clause-turn : goal.returns-in-Directory-clause-turn
 returns-in-Directory-clause-turn g c script of may =
     turned_there script c.args.place c.args.self.now c.ready.new.self c.on_directory.new.self c.ready.ensures.ready c.requires.keeps.whose of may c.args.directory.now c.on_directory.new.directory c.args.servers.now.items
-    c.on_directory.ensures.step c.in-Directory.ensures.need
+    c.on_directory.result.value c.on_directory.ensures.step c.in-Directory.ensures.need
 
 pub returns-in-Server-clause-turn : goal.returns-in-Server-clause-turn
 returns-in-Server-clause-turn g c script of may =
     let below : c.in-Server.server < chunk_count c.args.self.now.book.geometry = subst (λ (a : CallerOf). c.in-Server.server < chunk_count a.book.geometry) c.ready.ensures.ready.leaves c.in-Server.ensures.below in
     turned_here script c.args.place c.args.self.now c.ready.new.self c.on_server.new.self c.ready.ensures.ready c.requires.keeps.whose of may c.args.directory.now c.args.servers.now.items c.in-Server.server
-    c.index_mut.result.now c.on_server.new.server c.on_server.ensures.step c.in-Server.ensures.need (subst (λ (n : ℕ). c.in-Server.server < n) (sym c.requires.servers.count) below) c.index_mut.ensures.value
+    c.index_mut.result.now c.on_server.new.server c.on_server.result.value c.on_server.ensures.step c.in-Server.ensures.need (subst (λ (n : ℕ). c.in-Server.server < n) (sym c.requires.servers.count) below) c.index_mut.ensures.value
     c.requires.keeps.agrees
 
 pub returns-in-Server-clause-servers : goal.returns-in-Server-clause-servers
