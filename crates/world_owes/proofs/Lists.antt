@@ -1,5 +1,7 @@
 -- Lists that stand side by side, with one more entry on each.
-use Rattle.std.proofs.Common.{◌≡◌, ◌⊎◌, ℕ, zero, suc, List, [], ◌∷◌, ◌++◌, length, slice_get, None, Some, is_some, unwrap_or, option_map, refl, sym, ap, inl, inr, arith, true≢false}
+use Rattle.std.proofs.Common.{◌≡◌, ◌⊎◌, ℕ, zero, suc, List, [], ◌∷◌, ◌++◌, length, slice_get, Option, None, Some, is_some, unwrap_or, option_map, refl, sym, ap, inl, inr, arith, true≢false}
+use Rattle.store_map.specs.declared.call.Call.{Call}
+use Rattle.call_machine.specs.Kinds.{Asked}
 
 pub none_some : {A : Type 0} (x : A) → None ≡ Some x → ⊥
 none_some x e = absurd (true≢false (sym (ap is_some e)))

@@ -1,5 +1,5 @@
 -- A client's call as its turn makes it ready for its step.
-use Rattle.std.proofs.Common.{◌≡◌, ◌⊎◌, ℕ, Bool, true, false, ◌&&◌, List, length, slice_get, Option, None, Some, IfSome, if◌then◌else◌, option_and_then, refl, sym, ap, subst, ◌∙◌, inl, inr, true≢false}
+use Rattle.std.proofs.Common.{◌≡◌, ◌⊎◌, ℕ, Bool, true, false, ◌&&◌, List, length, slice_get, Option, None, Some, IfSome, if◌then◌else◌, option_and_then, option_map, refl, sym, ap, subst, ◌∙◌, inl, inr, true≢false}
 use Rattle.store_map.specs.declared.actor.Actor.TheVariants as actor
 use Rattle.store_map.specs.declared.call.Call.{Call}
 use Rattle.store_map.specs.declared.script.ClientPart.{ClientPart}

@@ -8,6 +8,8 @@ use Rattle.store_core.specs.Act.{Act, Outcome}
 use Rattle.store_core.specs.Directory.{Point}
 use Rattle.store_core.specs.Tokens.{actor_of}
 use Rattle.store_core.specs.Work.{Ended}
+use Rattle.chunk_server.specs.State.{ServerState}
+use Rattle.stripe_dir.specs.Sealed.{Sealed}
 use Rattle.call_steps.specs.CallOf.{CallOf, act_of}
 use Rattle.call_steps.specs.Steps.{need_of}
 use Rattle.call_stands.specs.Ready.{ready}
@@ -15,11 +17,13 @@ use Rattle.call_machine.specs.Kinds.{Machine, machine_of, IfReads}
 use Rattle.call_machine.specs.Calls.{MachineOf}
 use Rattle.world_steps.specs.World.{ActorOf, DoingOf, steps_of}
 use Rattle.world_steps.specs.ActorAfter.{IsCallBefore, actor_after_by}
+use Rattle.world_steps.specs.Tokens.{KeepsToken}
 use Rattle.actors.specs.Callers.{PartOf, CallerOf, asked_at, who_of, work_of}
 use Rattle.actors.specs.Owing.{AreServed, left_by, owed_now}
-use Rattle.actors.specs.Turned.{MakesTurn}
+use Rattle.actors.specs.CallerTurns.{MakesCallerTurn}
 use Rattle.actors.specs.Turns.{places_of}
 use Rattle.call_owes.specs.Pinned.{point_served, pinned_at}
+use Rattle.world_owes.specs.OfMap.{IsOfMap}
 use Rattle.world_owes.specs.Serving.{IsReplyAt, OwesAt, OwesItsPins, IsInWork, ServesItsPins}
 use Rattle.world_owes.specs.ServeLaws.{HasMorePoints, TurnsKeepServing}
 use Rattle.call_owes.proofs.Acts.{point_ended, ends_at}
