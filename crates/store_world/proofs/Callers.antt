@@ -1,5 +1,5 @@
 -- What a caller's turn asks, and what it has then.
-use Rattle.std.proofs.Common.{◌≡◌, ℕ, ◌+◌, ◌^◌, ◌<◌, Bool, true, List, length, Option, Some, IfSome, refl, sym, ap, subst, ◌∙◌, arith}
+use Rattle.std.proofs.Common.{◌≡◌, ℕ, ◌+◌, ◌^◌, ◌<◌, Bool, true, List, length, slice_get, Option, Some, IfSome, refl, sym, ap, subst, ◌∙◌, arith}
 use Rattle.std.proofs.lemmas.List.{length-map}
 use Rattle.store_map.specs.declared.script.Script.{Script}
 use Rattle.store_core.specs.NextAct.{job_of, rebuild_job}
@@ -11,6 +11,7 @@ use Rattle.world_steps.specs.Tokens.{KeepsToken}
 use Rattle.world_steps.proofs.Few.{has_left}
 use Rattle.actors.specs.Turns.{AreServers}
 use Rattle.actors.specs.Callers.{PartOf, CallerOf, IsOfScript, IsPartOf, Knows, StandsIn, calls_of, who_of, work_of}
+use Rattle.store_world.specs.Having.{caller_has}
 use Rattle.store_world.specs.Stored.{StoredWorld, world_of}
 use Rattle.store_world.specs.Kept.{IsCallerAt, IsWorld}
 
@@ -30,6 +31,16 @@ pub record MayTurn (s : StoredWorld) (i : ℕ) (c : CallerOf) : Type 0 where
 pub record HasTurnNow (s : StoredWorld) (i : ℕ) (c : CallerOf) : Type 0 where
   pub has : has_step (work_of c.part) (calling_of s.script c.actor) ≡ true
   pub turn : MayTurn s i c
+
+-- what is told of a slice of callers holds of the callers
+pub there_of : (callers slice : List CallerOf) → slice ≡ callers → (i : ℕ) (b : Bool) → (b ≡ true → i < length slice) → b ≡ true → i < length callers
+there_of callers slice same i b there holds = subst (λ (xs : List CallerOf). i < length xs) same (there holds)
+
+pub has_of : (callers slice : List CallerOf) → slice ≡ callers → (i : ℕ) (b : Bool)
+    → ((script : Script) (c : CallerOf) → slice_get slice i ≡ Some c → c.book.geometry ≡ script.geometry → b ≡ caller_has script c)
+    → (script : Script) (c : CallerOf) → slice_get callers i ≡ Some c → c.book.geometry ≡ script.geometry → b ≡ caller_has script c
+has_of callers slice same i b has =
+    subst (λ (xs : List CallerOf). (script : Script) (c : CallerOf) → slice_get xs i ≡ Some c → c.book.geometry ≡ script.geometry → b ≡ caller_has script c) same has
 
 ended_of : (n : ℕ) (ended : List Ended) (doing : DoingOf) → (calling_by n ended doing).ended ≡ ended
 ended_of n ended (DoingOf.Between token) = refl

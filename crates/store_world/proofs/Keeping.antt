@@ -1,5 +1,5 @@
 -- What a world keeps through a change of its parts.
-use Rattle.std.proofs.Common.{◌≡◌, ℕ, List, [], ◌∷◌, length-set, set, slice_get, Some, append-nil, sym, ◌∙◌}
+use Rattle.std.proofs.Common.{◌≡◌, ℕ, List, [], ◌∷◌, ◌++◌, length-set, set, slice_get, Some, append-nil, sym, ◌∙◌}
 use Rattle.store_map.specs.declared.actor.Token.{Token}
 use Rattle.store_map.specs.declared.script.Script.{Script}
 use Rattle.store_core.specs.Schedule.{step_core}
