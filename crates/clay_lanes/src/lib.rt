@@ -10,7 +10,7 @@ mod repair;
 mod repair_plan;
 
 pub use checked::decode_checked;
-pub use clay_parity::{encode, parity};
+pub use clay_parity::{encode, parity, parity_into};
 pub use coder::LaneCoder;
 pub use layers::solve_layers;
 pub use lost::{couple_chunk, decode, missing};
