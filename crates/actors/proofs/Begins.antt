@@ -1,5 +1,5 @@
 -- How a caller's call begins.
-use Rattle.std.proofs.Common.{◌≡◌, ℕ, zero, suc, ◌<◌, ◌≤◌, Bool, true, false, List, [], ◌∷◌, length, map, replicate, get_or, slice_get, Option, None, Some, IfSome, option_map, is_some, All, refl, sym, ap, subst, ◌∙◌, arith, lt-ltb, nat_lt, if◌then◌else◌, true≢false}
+use Rattle.std.proofs.Common.{◌≡◌, ℕ, zero, suc, ◌<◌, ◌≤◌, Bool, true, false, List, [], ◌∷◌, length, map, replicate, get_or, slice_get, Option, None, Some, IfSome, option_map, is_some, refl, sym, ap, subst, ◌∙◌, arith, lt-ltb, nat_lt, if◌then◌else◌, true≢false}
 use Rattle.std.proofs.lemmas.List.{length-map, length-replicate}
 use Rattle.std.proofs.lemmas.Option.{same_Some}
 use Rattle.std.specs.Prelude.{option_and_then}
@@ -10,7 +10,6 @@ use Rattle.store_map.specs.declared.call.Call.{Call}
 use Rattle.store_map.specs.declared.call.Call.TheVariants as call
 use Rattle.store_map.specs.declared.call.Rebuild.{Rebuild}
 use Rattle.store_map.specs.declared.script.ClientPart.{ClientPart}
-use Rattle.store_map.specs.declared.script.RepairPart.{RepairPart}
 use Rattle.store_map.specs.declared.script.Script.{Script}
 use Rattle.store_core.specs.Act.{Act, DirectoryStep, Outcome}
 use Rattle.store_core.specs.Agreement.{Seat, ActorToken}
@@ -19,20 +18,17 @@ use Rattle.store_core.specs.NextAct.{Job, job_of, rebuild_job}
 use Rattle.store_core.specs.Note.{note_of}
 use Rattle.store_core.specs.Work.{Ended}
 use Rattle.version_seal.specs.Entry.{BookOf}
-use Rattle.dir_parts.proofs.Entries.{slice_get-map}
 use Rattle.stripe_dir.specs.Sealed.{Sealed}
 use Rattle.call_steps.specs.CallOf.{tries_by}
 use Rattle.call_steps.specs.Steps.{need_by, need_of}
 use Rattle.call_stands.specs.Stands.{IsFirst}
-use Rattle.call_machine.specs.Kinds.{Asked, asked_job, Machine, client_machine, machine_of, IfPatches, IfDraws}
+use Rattle.call_machine.specs.Kinds.{Asked, asked_job, Machine, client_machine, machine_of, IfPatches}
 use Rattle.call_machine.specs.Calls.{MachineOf, first_call, tries_in, KnowsOldOf}
 use Rattle.world_lines.specs.Ended.{ended_of}
 use Rattle.world_lines.specs.declared.calls.EndedCall.{EndedCall}
-use Rattle.world_steps.specs.World.{DoingOf}
 use Rattle.world_steps.specs.ActorAfter.{Begins}
-use Rattle.world_steps.specs.Tokens.{AreNumbered}
 use Rattle.actors.specs.Turns.{GoesOn}
-use Rattle.actors.specs.Callers.{PartOf, CallerOf, IsOfScript, IsPartOf, Knows, calls_of, work_of, who_of, asked_at}
+use Rattle.actors.specs.Callers.{PartOf, CallerOf, IsPartOf, calls_of, work_of, who_of, asked_at}
 use Rattle.actors.specs.Beginning.{MayBeAsked, MayTake, HasBegun, MayGoOn}
 use Rattle.actors.specs.Steps.{BeginsCall}
 use Rattle.actors.specs.Inside.{caller_by, IsInWork, AreOfServers}

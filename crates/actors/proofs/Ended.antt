@@ -1,5 +1,5 @@
 -- A caller's calls as they end.
-use Rattle.std.proofs.Common.{◌≡◌, ℕ, List, [], ◌∷◌, ◌++◌, length, map, replicate, Option, None, Some, IfSome, refl, sym, ap, subst, ◌∙◌}
+use Rattle.std.proofs.Common.{◌≡◌, ℕ, List, [], ◌∷◌, ◌++◌, length, map, replicate, Option, None, Some, IfSome, sym, ap, subst, ◌∙◌}
 use Rattle.std.proofs.lemmas.List.{map-append}
 use Rattle.std.specs.Prelude.{unwrap_or}
 use Rattle.clay_grid.specs.Shape.{chunk_count}
@@ -16,7 +16,7 @@ use Rattle.world_steps.specs.World.{ActorOf, DoingOf}
 use Rattle.world_steps.specs.Known.{calling_by}
 use Rattle.world_steps.specs.ActorAfter.{actor_after}
 use Rattle.actors.specs.Callers.{PartOf, CallerOf}
-use Rattle.actors.specs.Inside.{caller_by, doing_by, IsInWork}
+use Rattle.actors.specs.Inside.{caller_by, IsInWork}
 use Rattle.actors.proofs.Concluding.{ended_after, taken_back}
 
 -- a call that is over

@@ -1,39 +1,35 @@
 -- A caller whose call is ready, makes its step, and has its whole turn.
-use Rattle.std.proofs.Common.{◌≡◌, ℕ, ◌<◌, ◌≤◌, Bool, true, false, List, ◌++◌, length, map, get_or, set, Option, None, Some, IfSome, refl, sym, ap, subst, ◌∙◌, if◌then◌else◌}
+use Rattle.std.proofs.Common.{◌≡◌, ℕ, ◌<◌, Bool, true, false, List, ◌++◌, length, map, get_or, set, Option, None, Some, IfSome, refl, sym, ap, subst, ◌∙◌, if◌then◌else◌}
 use Rattle.std.proofs.lemmas.Option.{same_Some}
 use Rattle.clay_grid.specs.Shape.{chunk_count}
 use Rattle.store_map.specs.declared.script.Script.{Script}
-use Rattle.store_core.specs.Act.{Act, Outcome}
+use Rattle.store_core.specs.Act.{Act}
 use Rattle.store_core.specs.Agreement.{Seat, Agrees}
 use Rattle.store_core.specs.Directory.{Directory}
 use Rattle.store_core.specs.Server.{Server}
-use Rattle.store_core.specs.Step.{Places}
 use Rattle.store_core.specs.Tokens.{actor_of}
-use Rattle.store_core.specs.Work.{Ended, has_step}
+use Rattle.store_core.specs.Work.{has_step}
 use Rattle.version_seal.specs.Entry.{BookOf}
 use Rattle.chunk_server.specs.State.{ServerState}
 use Rattle.stripe_dir.specs.Sealed.{Sealed}
 use Rattle.call_steps.specs.declared.need.Need.{Need}
 use Rattle.call_steps.specs.declared.need.Need.TheVariants as need
 use Rattle.call_steps.specs.CallOf.{CallOf, act_of}
-use Rattle.call_steps.specs.Steps.{need_of, stepped_at_directory, stepped_at_server, at_directory_by, at_server_by, coded}
-use Rattle.call_stands.specs.Ready.{ready}
-use Rattle.call_machine.specs.Kinds.{machine_of}
+use Rattle.call_steps.specs.Steps.{need_of, at_server_by, coded}
 use Rattle.call_machine.specs.Calls.{MachineOf, KnowsOldOf, drawn_by, owed_by}
 use Rattle.world_lines.specs.Ended.{ended_of}
 use Rattle.world_lines.specs.declared.calls.EndedCall.{EndedCall}
-use Rattle.world_steps.specs.World.{ActorOf, DoingOf, steps_of}
+use Rattle.world_steps.specs.World.{DoingOf}
 use Rattle.world_steps.specs.Known.{calling_of}
-use Rattle.world_steps.specs.ActorAfter.{HasTurn, actor_after, actor_after_by}
+use Rattle.world_steps.specs.ActorAfter.{actor_after_by}
 use Rattle.world_steps.specs.Tokens.{token_of}
 use Rattle.actors.specs.Turns.{IsMadeAt, IsSameCall, GoesOn, places_of}
-use Rattle.actors.specs.Turned.{MakesTurn}
-use Rattle.actors.specs.Callers.{PartOf, CallerOf, IsOfScript, Knows, calls_of, work_of, who_of, asked_at}
-use Rattle.actors.specs.Owing.{Owes, AreServed, left_by, owed_now}
-use Rattle.actors.specs.Steps.{BeginsCall, IsCodedCall, IsCoded, IsReady, Concludes, MadeAtDirectory, MadeAtServer, IsMadeThere, IsMadeHere, MakesStep, NeedsNow, in_work}
+use Rattle.actors.specs.Callers.{PartOf, CallerOf, IsOfScript, Knows, work_of, who_of, asked_at}
+use Rattle.actors.specs.Owing.{left_by}
+use Rattle.actors.specs.Steps.{BeginsCall, IsCodedCall, IsCoded, IsReady, Concludes, MadeAtDirectory, MadeAtServer, MakesStep, in_work}
 use Rattle.actors.specs.CallerTurns.{MakesCallerTurn}
 use Rattle.actors.specs.Concluded.{IsConcluded}
-use Rattle.actors.specs.Inside.{caller_by, doing_by, served_of, IsInWork}
+use Rattle.actors.specs.Inside.{caller_by, doing_by, IsInWork}
 use Rattle.actors.proofs.Owing.{owed_at_server, stamps_at_server}
 use Rattle.actors.proofs.Turning.{at_directory_same, at_server_same, served_at}
 

@@ -1,5 +1,5 @@
 -- The fields of a caller after its call's step.
-use Rattle.std.specs.Prelude.{◌≡◌, ℕ, List, map, Option, Some, IfSome}
+use Rattle.std.specs.Prelude.{◌≡◌, ℕ, List, map, Option, IfSome}
 use Rattle.clay_grid.specs.Shape.{chunk_count}
 use Rattle.store_core.specs.Agreement.{Seat}
 use Rattle.call_steps.specs.CallOf.{act_of}

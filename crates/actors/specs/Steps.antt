@@ -1,5 +1,5 @@
 -- The parts of a caller's turn: its call is ready, makes its step, and goes on or is over.
-use Rattle.std.specs.Prelude.{◌≡◌, ℕ, false, ◌&&◌, List, ◌++◌, length, Option, Some}
+use Rattle.std.specs.Prelude.{◌≡◌, false, ◌&&◌, ◌++◌, length, Option, Some}
 use Rattle.store_map.specs.declared.script.Script.{Script}
 use Rattle.store_core.specs.Agreement.{Agrees}
 use Rattle.chunk_server.specs.State.{ServerState}

@@ -1,19 +1,16 @@
 -- A client's call as its turn makes it ready for its step.
 use Rattle.std.proofs.Common.{◌≡◌, ◌⊎◌, ℕ, Bool, true, false, ◌&&◌, List, length, slice_get, Option, None, Some, IfSome, if◌then◌else◌, option_and_then, option_map, refl, sym, ap, subst, ◌∙◌, inl, inr, true≢false}
 use Rattle.store_map.specs.declared.actor.Actor.TheVariants as actor
-use Rattle.store_map.specs.declared.call.Call.{Call}
 use Rattle.store_map.specs.declared.script.ClientPart.{ClientPart}
 use Rattle.store_map.specs.declared.script.Script.{Script}
 use Rattle.store_core.specs.ActPlace.{is_in_pass}
 use Rattle.store_core.specs.Agreement.{Agrees}
 use Rattle.store_core.specs.Directory.{Directory}
 use Rattle.store_core.specs.History.{call_of}
-use Rattle.store_core.specs.NextAct.{job_of}
 use Rattle.store_core.specs.Tokens.{actor_of}
 use Rattle.store_core.specs.Work.{Ended}
 use Rattle.store_resume.specs.State.{State}
 use Rattle.store_resume.specs.StateActs.{act_at}
-use Rattle.dir_parts.proofs.Entries.{slice_get-map}
 use Rattle.call_steps.specs.CallOf.{CallOf, act_of}
 use Rattle.call_steps.specs.Steps.{coded, HoldsItsPass, IsDueInPass}
 use Rattle.call_stands.specs.Ready.{ready}

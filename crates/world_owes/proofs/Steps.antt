@@ -3,14 +3,13 @@ use Rattle.std.proofs.Common.{◌≡◌, ◌⊎◌, ℕ, ◌<◌, ◌+◌, List,
 use Rattle.std.proofs.lemmas.List.{take-append-le, length-append}
 use Rattle.store_map.specs.Limits.{size_of}
 use Rattle.store_map.specs.declared.actor.Actor.TheVariants as actor
-use Rattle.store_map.specs.declared.call.Call.{Call}
 use Rattle.store_map.specs.declared.script.Script.{Script}
 use Rattle.store_core.specs.Act.{DirectoryStep}
 use Rattle.store_core.specs.Conditions.{MayStep}
 use Rattle.store_core.specs.Directory.{Event, Point, Directory}
 use Rattle.store_core.specs.History.{applied, call_of}
-use Rattle.store_core.specs.NextAct.{Job, job_of}
-use Rattle.store_core.specs.Note.{Kind, note_of}
+use Rattle.store_core.specs.NextAct.{Job}
+use Rattle.store_core.specs.Note.{Kind}
 use Rattle.store_core.specs.Told.{Told}
 use Rattle.store_core.specs.Tokens.{actor_of}
 use Rattle.store_lengths.specs.MapAfter.{map_by}

@@ -1,4 +1,4 @@
-use Rattle.std.proofs.Common.{◌≡◌, ℕ, ◌≤◌, length, sym, ap, subst, ◌∙◌}
+use Rattle.std.proofs.Common.{ℕ, ◌≤◌, length, sym, ap, subst, ◌∙◌}
 use Rattle.actors.specs.Callers.{CallerOf, calls_of}
 use Rattle.actors.specs.Inside.{part_by}
 use Rattle.actors.proofs.Stepping.{counts_servers, in_work_at, known_at, knows_after, same_here, stays_in_work}
