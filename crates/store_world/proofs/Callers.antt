@@ -12,7 +12,7 @@ use Rattle.world_steps.proofs.Few.{has_left}
 use Rattle.actors.specs.Turns.{AreServers}
 use Rattle.actors.specs.Callers.{PartOf, CallerOf, IsOfScript, IsPartOf, Knows, StandsIn, calls_of, who_of, work_of}
 use Rattle.store_world.specs.Having.{caller_has}
-use Rattle.store_world.specs.Stored.{StoredWorld, world_of}
+use Rattle.store_world.specs.Stored.{StoredWorld}
 use Rattle.store_world.specs.Kept.{IsCallerAt, IsWorld}
 
 -- what a turn asks of a caller

@@ -1,5 +1,5 @@
 -- A repairer's turn in the world.
-use Rattle.std.proofs.Common.{◌≡◌, ℕ, ◌++◌, Bool, true, false, List, [], length, length-set, map, set, slice_get, Option, None, Some, refl, sym, ap, subst, ◌∙◌}
+use Rattle.std.proofs.Common.{◌≡◌, ℕ, Bool, true, false, List, [], length-set, map, set, slice_get, Option, None, Some, refl, sym, ap, subst, ◌∙◌}
 use Rattle.store_map.specs.declared.actor.Actor.TheVariants as actor
 use Rattle.store_map.specs.declared.actor.Token.TheVariants as token
 use Rattle.store_map.specs.declared.script.RepairPart.{RepairPart}
@@ -28,7 +28,7 @@ use Rattle.world_owes.proofs.Grow.{histories_grow}
 use Rattle.world_owes.proofs.Serving.{clients_go_on_serving}
 use Rattle.store_world.specs.Having.{caller_has}
 use Rattle.store_world.specs.Stored.{StoredWorld, world_of}
-use Rattle.store_world.specs.Kept.{IsCallerAt, IsRepairerAt, IsClientAt, IsWorld}
+use Rattle.store_world.specs.Kept.{IsRepairerAt, IsClientAt, IsWorld}
 use Rattle.store_world.proofs.Callers.{HasTurnNow, may_turn}
 use Rattle.store_world.proofs.Keeping.{caller_stays, changed, kept_by}
 use Rattle.store_world.proofs.Lists.{each_set, below, read_back, map_none}
