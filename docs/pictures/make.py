@@ -1,5 +1,5 @@
 #!/usr/bin/env python3
-"""Draws the pictures of docs/CLAY-CODES.md from the numbers of a code: grid.svg, repair.svg and traffic.svg, beside this file.
+"""Draws the pictures of docs/CLAY-CODES.md from the numbers of a code: grid.svg and repair.svg, beside this file. `bench/traffic` draws traffic.svg.
 
 Each number in them is computed here from K and M by the definitions of docs/ARCHITECTURE.md, "The code in a paragraph".
 `make.py --check` writes nothing, and fails where a picture isn't what it would draw.
@@ -54,10 +54,6 @@ class Code:
     def repair_layers(self, chunk):
         x, y = self.node_of(chunk) % self.rows, self.node_of(chunk) // self.rows
         return [layer for layer in range(self.layers) if self.digits(layer)[y] == x]
-
-    def repair_chunks(self, chunk):
-        """How many chunks' worth a repair of the chunk reads from the others."""
-        return len(self.repair_layers(chunk)) * (self.chunks - 1) / self.layers
 
 
 # Dark ink on a light card, so that the pictures can be read on a page of either kind.
@@ -173,31 +169,11 @@ def draw_repair():
     return picture
 
 
-def draw_traffic():
-    codes = [Code(4, 2), Code(6, 3), Code(8, 4), Code(10, 4), Code(16, 4), Code(16, 8)]
-    left, top, scale, high = 216, 84, 32, 18
-    picture = Picture(800, 84 + 62 * len(codes) + 56, 'Chunks read to repair one lost chunk')
-    for place, code in enumerate(codes):
-        read = {code.repair_chunks(chunk) for chunk in range(code.chunks)}
-        assert len(read) == 1
-        clay, down = read.pop(), top + 62 * place
-        picture.text(left - 16, down + 16, f'{code.data} + {code.parity}', 16, 'end', weight='bold')
-        picture.text(left - 16, down + 35, f'{len(code.repair_layers(0))} of {code.layers} subchunks', 12, 'end', GREY)
-        for row, (chunks, fill) in enumerate([(code.data, EDGE), (clay, BLUE)]):
-            picture.box(left, down + row * (high + 3), chunks * scale, high, fill)
-            picture.text(left + chunks * scale + 8, down + row * (high + 3) + 14, f'{chunks:.4g}', 14)
-    down = top + 62 * len(codes) + 14
-    picture.box(left, down - 12, 16, 14, EDGE)
-    picture.text(left + 24, down, 'Reed-Solomon: as many whole chunks as there are data chunks')
-    picture.box(left, down + 12, 16, 14, BLUE)
-    picture.text(left + 24, down + 24, 'Clay: the repair layers of every other chunk')
-    return picture
-
-
 def main():
     is_check = sys.argv[1:] == ['--check']
-    for name, draw in [('grid.svg', draw_grid), ('repair.svg', draw_repair), ('traffic.svg', draw_traffic)]:
+    for name, draw in [('grid.svg', draw_grid), ('repair.svg', draw_repair)]:
         draw().save(name, is_check)
 
 
-main()
+if __name__ == '__main__':
+    main()

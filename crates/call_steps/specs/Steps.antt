@@ -1,7 +1,7 @@
 -- The steps of a call, its coding, and what it needs.
 use Rattle.std.specs.Prelude.{◌≡◌, ⊤, ℕ, Bool, true, false, IsTrue}
 use Rattle.store_core.specs.Told.{Told}
-use Rattle.store_core.specs.Act.{Act}
+use Rattle.store_core.specs.Act.{Act, DirectoryStep}
 use Rattle.store_core.specs.ActPlace.{is_in_pass}
 use Rattle.store_core.specs.Tokens.{actor_of}
 use Rattle.store_core.specs.Directory.{Directory}
@@ -10,7 +10,7 @@ use Rattle.store_core.specs.Server.{Server, at_server}
 use Rattle.store_resume.specs.State.{CallState}
 use Rattle.call_steps.specs.declared.need.Need.{Need}
 use Rattle.call_steps.specs.declared.need.Need.TheVariants as need
-use Rattle.call_steps.specs.TokenAfter.{token_after, IsSeated, IfInCall}
+use Rattle.call_steps.specs.TokenAfter.{token_after, MayMake, IsSeated, IfInCall}
 use Rattle.call_steps.specs.CallOf.{CallOf, act_of, state_told, heard}
 
 -- the directory and the call after its act there
@@ -68,3 +68,7 @@ IsDueInPass c = c.due ≡ true → IsTrue (is_in_pass (act_of c))
 abbrev pub IfServer : Need → (ℕ → Type 0) → Type 0
 IfServer (need.Server server) holds = holds server
 IfServer needed holds = ⊤
+
+-- where its next step is one at the directory, every directory of its book's code lets its actor make it
+abbrev pub MayMakeNext : CallOf → Type 0
+MayMakeNext c = (step : DirectoryStep) (d : Directory) → act_of c ≡ Act.AtDirectory step → d.shape ≡ c.book.geometry → MayMake d c.token c.number step

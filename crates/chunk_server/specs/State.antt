@@ -1,5 +1,5 @@
 -- A chunk server as a record, and the list of the chunks that it holds.
-use Rattle.std.specs.Prelude.{ℕ, Bool, false, not, nat_eq, nat_lt, List, [], ◌∷◌, map, filter, find, Option, if◌then◌else◌}
+use Rattle.std.specs.Prelude.{◌≡◌, ℕ, Bool, false, not, nat_eq, nat_lt, List, [], ◌∷◌, map, filter, find, Option, if◌then◌else◌}
 use Rattle.store_map.specs.declared.placement.Found.{Found}
 use Rattle.store_map.specs.declared.placement.Found.TheVariants as found
 use Rattle.store_core.specs.Lists.{is_among}

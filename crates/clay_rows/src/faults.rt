@@ -1,8 +1,8 @@
 use crate::play::{PUT_THEN_GET, TRANSCRIPT};
+use crate::runs::{Ran, run_failing, run_with};
 use clay_bytes::{DripSink, DripSource, MemSink, MemSource};
 use clay_cli::Status;
 use clay_lanes::LaneCoder;
-use run_tables::runs::{Ran, run_failing, run_with};
 use std::test::Fail;
 use std::thread::Threads;
 use text_tables::faults::same;

@@ -1,5 +1,5 @@
+use crate::runs::{Ran, run, run_failing};
 use clay_cli::Status;
-use run_tables::runs::{Ran, run, run_failing};
 use std::test::Fail;
 
 // One call of each client, from the number 10007, as another program drew them.

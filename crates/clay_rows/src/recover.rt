@@ -1,5 +1,5 @@
+use crate::runs::{Ran, run};
 use clay_cli::Status;
-use run_tables::runs::{Ran, run};
 use std::test::Fail;
 
 #[test]

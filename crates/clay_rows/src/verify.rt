@@ -1,6 +1,6 @@
 use crate::play::PUT_THEN_GET;
+use crate::runs::{Ran, run};
 use clay_cli::Status;
-use run_tables::runs::{Ran, run};
 use std::test::Fail;
 use std::thread::Threads;
 

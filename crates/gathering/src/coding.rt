@@ -7,7 +7,7 @@ ghost use Rattle.gathering.specs.Parts.{is_there};
 ghost use Rattle.gathering.specs.Made.{AreMade, Appends, AppendsChunk, Gives, IsPieceOf, bytes_between};
 
 use crate::gather::{Gather, empty_shelf};
-use crate::need::Need;
+use call_steps::Need;
 use clay_repair::Coder;
 use std::alloc::{AllocError, Global};
 use std::thread::Threads;
