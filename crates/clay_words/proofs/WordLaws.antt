@@ -284,26 +284,12 @@ one_aloof a b k m d w one two =
     let ma : a.parity_count ≡ b.parity_count = same_number b.parity_count a.parity_count m high.1 low.1 two.parity_count one.parity_count in
     (λ i. ka i + ma i)
 
--- the chunk's word spells no number below 2^32
-pub no_chunk_number : (name k m d w chunk : List ℕ) → ((n : ℕ) → n < 2 ^ 32 → chunk ≡ decimal n → ⊥) → AsksNothing (name ∷ k ∷ m ∷ d ∷ w ∷ chunk ∷ [])
-no_chunk_number name k m d w chunk none = nothing_of_six name k m d w chunk (λ a lost is code number within.
-let small = aloof_numbers a code.limits in
-let few = limits_few a code.limits in
-none lost (omega (arith, few, within)) number)
-  where
-    limits_few : (a : AloofShape) → aloof.IsWithinLimits a → all_chunks a < 2 ^ 32
-    limits_few a limits = let data_chunks = few_data a limits in let parity_chunks = limits.parity_chunks.1 in omega arith
-
--- the chunk's word spells a number that is none of the code's chunks
-pub no_such_chunk : (name k m d w chunk : List ℕ) (a : AloofShape) (lost : ℕ) → IsAloofCode a k m d w → chunk ≡ decimal lost → lost < 2 ^ 32 → all_chunks a ≤ lost
+-- the chunk's word names none of the code's chunks
+pub no_such_chunk : (name k m d w chunk : List ℕ) (a : AloofShape) → IsAloofCode a k m d w → ((lost : ℕ) → lost < all_chunks a → chunk ≡ decimal lost → ⊥)
     → AsksNothing (name ∷ k ∷ m ∷ d ∷ w ∷ chunk ∷ [])
-no_such_chunk name k m d w chunk a lost code number small beyond = nothing_of_six name k m d w chunk (λ b other is code' number' within.
-let few = few_data b code'.limits in
-let parity_chunks = code'.limits.parity_chunks.1 in
-let low : other < 2 ^ 32 = omega (arith, few, parity_chunks, within) in
-let same : other ≡ lost = same_number lost other chunk small low number number' in
-let count : all_chunks a ≡ all_chunks b = one_aloof a b k m d w code code' in
-omega (arith, same, count, beyond, within))
+no_such_chunk name k m d w chunk a code none = nothing_of_six name k m d w chunk (λ b lost is code' number within.
+let count : all_chunks b ≡ all_chunks a = one_aloof b a k m d w code' code in
+none lost (subst (λ n. lost < n) count within) number)
 
 -- ---- words ask for one command
 

@@ -1,7 +1,7 @@
 // The words that a command is asked for by.
 ghost use Rattle.std.specs.Prelude.{◌≡◌, ◌≢◌, ◌<◌, ◌≤◌, ◌^◌, ◌∷◌, [], codes, ℕ, MatchOption, decimal, IfSome, IfNone};
 ghost use Rattle.clay_grid.specs.Shape.{Shape};
-ghost use Rattle.clay_aloof.specs.Shape.{AloofShape};
+ghost use Rattle.clay_aloof.specs.Shape.{AloofShape, all_chunks};
 ghost use Rattle.clay_words.specs.Words.{Asks, AsksNothing, IsCode, IsAloofCode};
 
 use clay_aloof::AloofGeometry;
@@ -71,6 +71,16 @@ fn aloof_geometry_of(k: &str, m: &str, d: &str, w: &str) -> Option<AloofGeometry
     let helper_count = read_number(d.as_bytes())?;
     let width = read_number(w.as_bytes())?;
     aloof_geometry_of_numbers(data_count, parity_count, helper_count, width)
+}
+
+// The chunk of a code that a word names.
+fn chunk_of(g: AloofGeometry, word: &str) -> Option<u32>
+    ensures found { IfSome result (λ chunk. (word.now ≡ decimal chunk) × (chunk < all_chunks g)) }
+    ensures none { IfNone result ((chunk : ℕ) → chunk < all_chunks g → word.now ≢ decimal chunk) }
+{
+    let count = g.n();
+    let chunk = read_number(word.as_bytes())?;
+    if chunk < count { Some(chunk) } else { None }
 }
 
 // The number below 2^64 that a word spells.
@@ -162,10 +172,6 @@ pub(crate) fn repair_command(
         return None;
     }
     let geometry = aloof_geometry_of(k, m, d, w)?;
-    let lost = read_number(lost.as_bytes())?;
-    if lost < geometry.n() {
-        Some(Command::OfInput(Task::AloofRepair { geometry, lost }))
-    } else {
-        None
-    }
+    let lost = chunk_of(geometry, lost)?;
+    Some(Command::OfInput(Task::AloofRepair { geometry, lost }))
 }
