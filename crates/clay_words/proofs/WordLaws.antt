@@ -287,9 +287,10 @@ one_aloof a b k m d w one two =
 -- the chunk's word names none of the code's chunks
 pub no_such_chunk : (name k m d w chunk : List ℕ) (a : AloofShape) → IsAloofCode a k m d w → ((lost : ℕ) → lost < all_chunks a → chunk ≡ decimal lost → ⊥)
     → AsksNothing (name ∷ k ∷ m ∷ d ∷ w ∷ chunk ∷ [])
-no_such_chunk name k m d w chunk a code none = nothing_of_six name k m d w chunk (λ b lost is code' number within.
-let count : all_chunks b ≡ all_chunks a = one_aloof b a k m d w code' code in
-none lost (subst (λ n. lost < n) count within) number)
+no_such_chunk name k m d w chunk a code none =
+    nothing_of_six name k m d w chunk (λ b lost is code' number within.
+    let count : all_chunks b ≡ all_chunks a = one_aloof b a k m d w code' code in
+    none lost (subst (λ n. lost < n) count within) number)
 
 -- ---- words ask for one command
 
