@@ -4,3 +4,4 @@ mod VerifyLaws
 mod GeneratedLaws
 mod Asked
 mod OneVerdict
+mod OneAnswer
