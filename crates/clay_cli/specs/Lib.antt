@@ -1,7 +1,7 @@
 pub mod Play
 pub mod Chunks
+pub mod Entries
 pub mod Recover
-pub mod Chunksd
 pub mod Repaird
 pub mod Verify
 pub mod Top

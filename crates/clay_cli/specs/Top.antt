@@ -3,9 +3,8 @@ use Rattle.std.specs.Prelude.{◌≡◌, ◌⊎◌, ℕ, Option, Some, List, [],
 use Rattle.clay_bytes.specs.Stream.{Gains, IsPrefixWritten}
 use Rattle.clay_words.specs.Words.{AsksTask}
 use Rattle.clay_cli.specs.Play.{IsTranscriptFor, IsFaulty}
-use Rattle.clay_cli.specs.Chunks.{IsChunkLines, IsDataRefused}
+use Rattle.clay_cli.specs.Chunks.{IsChunkLines, IsDataRefused, IsAloofLines, IsAloofRefused}
 use Rattle.clay_cli.specs.Recover.{IsRecovered, IsNotRecovered}
-use Rattle.clay_cli.specs.Chunksd.{IsAloofLines, IsNoStripe}
 use Rattle.clay_cli.specs.Repaird.{IsRepaired, IsNotRepaired}
 use Rattle.clay_cli.specs.Verify.{IsLegal, IsNotLegal, IsUnreadable}
 use Rattle.clay_words.specs.declared.words.Task.{Task}
@@ -36,7 +35,7 @@ Answers (Recover g) input Done output = IsRecovered g input output
 Answers (Recover g) input DataRefused output = IsNotRecovered g input output
 Answers (Recover g) input _ output = ⊥
 Answers (AloofChunks a) input Done output = IsAloofLines a input output
-Answers (AloofChunks a) input DataRefused output = IsNoStripe a input output
+Answers (AloofChunks a) input DataRefused output = IsAloofRefused a input output
 Answers (AloofChunks a) input _ output = ⊥
 Answers (AloofRepair a lost) input Done output = IsRepaired a lost input output
 Answers (AloofRepair a lost) input DataRefused output = IsNotRepaired a lost input output

@@ -297,15 +297,6 @@ no_such_chunk name k m d w chunk a code none =
 pub asked_as : (words : List (List ℕ)) (command other : Command) → command ≡ other → Asks words command → Asks words other
 asked_as words command other is asked = let P : Command → Type 0 = λ c. Asks words c in subst P is asked
 
-pub drawn_alone : (words : List (List ℕ)) (start size : ℕ) (task : Task) → Asks words (Generate start size) → Asks words (OfInput task) → ⊥
-drawn_alone words start size Play drawn (inl asked) = apart _ _ (sym drawn.0 ∙ asked) (λ e. let h : 3 ≡ 0 = e in omega arith)
-drawn_alone words start size Play drawn (inr asked) = apart _ _ (sym drawn.0 ∙ asked) (λ e. let h : 3 ≡ 1 = e in omega arith)
-drawn_alone words start size Verify drawn asked = apart _ _ (sym drawn.0 ∙ asked) (λ e. let h : 3 ≡ 1 = e in omega arith)
-drawn_alone words start size (Chunks g) drawn asked = apart _ _ (sym drawn.0 ∙ asked.words_are) (λ e. let h : 3 ≡ 4 = e in omega arith)
-drawn_alone words start size (Recover g) drawn asked = apart _ _ (sym drawn.0 ∙ asked.words_are) (λ e. let h : 3 ≡ 4 = e in omega arith)
-drawn_alone words start size (AloofChunks a) drawn asked = apart _ _ (sym drawn.0 ∙ asked.words_are) (λ e. let h : 3 ≡ 5 = e in omega arith)
-drawn_alone words start size (AloofRepair a lost) drawn asked = apart _ _ (sym drawn.0 ∙ asked.0.words_are) (λ e. let h : 3 ≡ 6 = e in omega arith)
-
 pub drawn_once : (words : List (List ℕ)) (start size start' size' : ℕ) → Asks words (Generate start size) → Asks words (Generate start' size') → (start ≡ start') × (size ≡ size')
 drawn_once words start size start' size' one other =
     let h = sym one.0 ∙ other.0 in (
