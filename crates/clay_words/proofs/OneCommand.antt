@@ -16,16 +16,16 @@ use Rattle.clay_words.proofs.WordLaws.{aloof_numbers, code_numbers}
 own : IsNumeralModel (AllDigits 10) (digits_value 10)
 own = numerals_by_value (AllDigits 10) tells_digits
 
-value : List ℕ → ℕ
+abbrev value : List ℕ → ℕ
 value word = digits_value 10 word
 
 spelled : (word : List ℕ) (n : ℕ) → n < 2 ^ 64 → word ≡ decimal n → value word ≡ n
 spelled word n small is = ap value is ∙ digits_value-decimal own n small
 
-code_of : List ℕ → List ℕ → List ℕ → Shape
+abbrev code_of : List ℕ → List ℕ → List ℕ → Shape
 code_of k m w = shape_of (value k) (value m) (value w)
 
-aloof_code_of : List ℕ → List ℕ → List ℕ → List ℕ → AloofShape
+abbrev aloof_code_of : List ℕ → List ℕ → List ℕ → List ℕ → AloofShape
 aloof_code_of k m d w = aloof_of (value k) (value m) (value d) (value w)
 
 -- the command that words can ask for
@@ -55,6 +55,7 @@ aloof_code_is a k m d w code =
     (λ i. aloof_of (ke i) (me i) (de i) (we i))
 
 means : (words : List (List ℕ)) (command : Command) → Asks words command → meant words ≡ command
+unfolding meant
 means words (OfInput Play) (inl is) = ap meant is
 means words (OfInput Play) (inr is) = ap meant is
 means words (OfInput Verify) is = ap meant is

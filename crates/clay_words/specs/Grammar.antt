@@ -32,9 +32,9 @@ abbrev pub bare_app : App
 bare_app =
     on_top (λ shape. record shape { no_binary_name = true; disable_help_flag = true; disable_help_subcommand = true }) (new_app (codes "clay"))
 
--- the commands that need no helpers
-abbrev pub whole_app : App
-whole_app =
+-- the program with the commands of the store and of its code
+abbrev pub store_app : App
+store_app =
     with_subcommand
     (with_subcommand
     (with_subcommand
@@ -45,4 +45,4 @@ whole_app =
 
 -- the program
 abbrev pub clay_app : App
-clay_app = with_subcommand (with_subcommand whole_app (aloof_app (codes "chunksd")).top) (repair_app (codes "repaird")).top
+clay_app = with_subcommand (with_subcommand store_app (aloof_app (codes "chunksd")).top) (repair_app (codes "repaird")).top

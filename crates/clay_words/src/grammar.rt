@@ -2,7 +2,7 @@
 ghost use Rattle.std.specs.Prelude.{◌≡◌, false, IfOk};
 ghost use Rattle.clap.specs.Words.{app_of, rule_of};
 ghost use Rattle.clap.specs.declared.builder.Command.TheViews.{out-Command as fields_of};
-ghost use Rattle.clay_words.specs.Grammar.{aloof_app, bare_app, clay_app, code_app, draw_app, number_rule, repair_app, whole_app};
+ghost use Rattle.clay_words.specs.Grammar.{aloof_app, bare_app, clay_app, code_app, draw_app, number_rule, repair_app, store_app};
 
 use clap::{Arg, Command};
 use std::alloc::{AllocError, Global};
@@ -64,10 +64,9 @@ fn bare_grammar<'a>(alloc: Global) -> Command<'a>
         .disable_help_subcommand(true)
 }
 
-// The program with the commands that need no helpers.
-fn whole_grammar<'a>(alloc: Global) -> Result<Command<'a>, AllocError>
-    ensures shape { IfOk result (λ command. app_of command ≡ whole_app) }
-    ensures local { IfOk result (λ command. (fields_of command).has_globals ≡ false) }
+// The program with the commands of the store and of its code.
+fn store_grammar<'a>(alloc: Global) -> Result<Command<'a>, AllocError>
+    ensures { IfOk result (λ command. app_of command ≡ store_app) }
 {
     let with_play = bare_grammar(alloc).subcommand(Command::new(alloc, "play"))?;
     let with_verify = with_play.subcommand(Command::new(alloc, "verify"))?;
@@ -80,6 +79,6 @@ fn whole_grammar<'a>(alloc: Global) -> Result<Command<'a>, AllocError>
 pub fn clay_grammar<'a>(alloc: Global) -> Result<Command<'a>, AllocError>
     ensures { IfOk result (λ command. app_of command ≡ clay_app) }
 {
-    let with_chunks = whole_grammar(alloc)?.subcommand(aloof_grammar(alloc, "chunksd")?)?;
+    let with_chunks = store_grammar(alloc)?.subcommand(aloof_grammar(alloc, "chunksd")?)?;
     with_chunks.subcommand(repair_grammar(alloc, "repaird")?)
 }

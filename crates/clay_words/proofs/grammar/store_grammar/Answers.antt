@@ -2,10 +2,10 @@ use Rattle.std.proofs.Common.{ap, ap₂, ◌≡◌, ◌∙◌, codes}
 use Rattle.std.proofs.lemmas.Result.{IfOk-weaker}
 use Rattle.clap.specs.Words.{App, app_of, new_app, with_subcommand}
 use Rattle.clay_words.specs.Grammar.{bare_app}
-use Rattle.clay_words.proofs.grammar.whole_grammar.Goals as goal
+use Rattle.clay_words.proofs.grammar.store_grammar.Goals as goal
 
-pub returns-clause-shape : goal.returns-clause-shape
-returns-clause-shape c =
+pub returns : goal.returns
+returns c =
     let play_is : app_of c.in_ok-with_play.with_play ≡ with_subcommand bare_app (new_app (codes "play")).top =
     c.in_ok-with_play.ensures.shape c.new.ensures.local ∙ ap₂ with_subcommand c.bare_grammar.ensures.shape (ap (λ (a : App). a.top) c.new.ensures.app) in
     let verify_is : app_of c.in_ok-with_verify.with_verify ≡ with_subcommand (with_subcommand bare_app (new_app (codes "play")).top) (new_app (codes "verify")).top =
