@@ -1,12 +1,12 @@
 -- Words ask for one command at most: it is computed from them.
-use Rattle.std.proofs.Common.{◌≡◌, ℕ, ◌<◌, ◌≤◌, ◌^◌, List, [], ◌∷◌, sym, ap, ◌∙◌, arith, decimal, codes, inl, inr}
+use Rattle.std.proofs.Common.{◌≡◌, ℕ, ◌<◌, ◌^◌, List, [], ◌∷◌, sym, ap, ◌∙◌, arith, decimal, codes, inl, inr}
 use Rattle.std.specs.Prelude.{if◌then◌else◌}
 use Rattle.std.specs.Str.{bytes_eq}
 use Rattle.std.specs.Str.Parse.{AllDigits, digits_value}
 use Rattle.std.proofs.lemmas.Fmt.{digits_value-decimal}
 use Rattle.std.proofs.lemmas.Str.Parse.{IsNumeralModel, numerals_by_value, tells_digits}
 use Rattle.clay_grid.specs.Shape.{Shape, shape_of}
-use Rattle.clay_aloof.specs.Shape.{AloofShape, all_chunks, aloof_of}
+use Rattle.clay_aloof.specs.Shape.{AloofShape, aloof_of}
 use Rattle.clay_words.specs.Words.{Asks, IsCode, IsAloofCode}
 use Rattle.clay_words.specs.declared.words.Command.{Command}
 use Rattle.clay_words.specs.declared.words.Command.TheVariants.{Generate, OfInput}

@@ -4,7 +4,7 @@ use Rattle.std.specs.Prelude.{◌⊎◌, ◌==◌, true, map}
 use Rattle.line_grammar.specs.Numbers.{IsNumberWord}
 use Rattle.line_grammar.proofs.NumberLaws.{number_word_is}
 use Rattle.clay_grid.specs.Shape.{Shape}
-use Rattle.clay_aloof.specs.Shape.{AloofShape, all_chunks}
+use Rattle.clay_aloof.specs.Shape.{AloofShape}
 use Rattle.clay_words.specs.Spelled.{IsSpelled}
 use Rattle.clay_words.specs.Words.{Asks, AsksNothing, IsCode, IsAloofCode}
 use Rattle.clay_words.specs.declared.words.Command.{Command}

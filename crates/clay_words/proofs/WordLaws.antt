@@ -1,5 +1,5 @@
 -- What words ask for.
-use Rattle.std.proofs.Common.{◌≡◌, ℕ, ◌<◌, ◌≤◌, ◌^◌, zero, suc, List, [], ◌∷◌, length, get_or, drop, ◌+◌, inl, inr, sym, ap, subst, ◌∙◌, arith, decimal, Option, None, Some, IfSome, IfNone, MatchOption, ◌⊎◌, codes}
+use Rattle.std.proofs.Common.{◌≡◌, ℕ, ◌<◌, ◌≤◌, ◌^◌, zero, suc, List, [], ◌∷◌, length, get_or, drop, ◌+◌, inl, inr, sym, ap, subst, ◌∙◌, arith, decimal, Option, None, Some, IfSome, IfNone, MatchOption, codes}
 use Rattle.std.proofs.lemmas.Bool.{cases_lt}
 use Rattle.std.proofs.lemmas.Fmt.{decimal_injective}
 use Rattle.clay_grid.specs.Shape.{Shape}
