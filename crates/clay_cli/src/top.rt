@@ -60,7 +60,7 @@ fn answer<R: Threads + Sync, C: Coder, S: Source>(
     task: Task,
     source: &mut S,
 ) -> Result<Output, Status>
-    requires { HasItsChunk task }
+    requires chunk { HasItsChunk task }
     ensures status { IfOk result (λ output. IsOfInput output.status) }
     ensures answers { IfOk result (λ output. WhereTold (S.left source.old) (λ input.
         (length input ≤ 167772160) × Answers task input output.status output.bytes.items)) }

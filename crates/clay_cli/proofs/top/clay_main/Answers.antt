@@ -24,8 +24,8 @@ returns-in-Generate-clause-generated g c = λ start size asked.
     let same = drawn_once _ c.in-Generate.start c.in-Generate.size start size (asked_as _ _ _ c.in-Generate.is (at_some _ _ _ _ c.in-Ok-Some.field-0-is c.in-Ok-Some.ensures)) asked in
     (refl, writes_same _ _ _ _ _ (ap₂ (λ start size. spelling (generated start size)) same.0 same.1) c.write_generated.ensures.written)
 
-pub answer-requires : goal.answer-requires
-answer-requires g c =
+pub answer-requires-clause-chunk : goal.answer-requires-clause-chunk
+answer-requires-clause-chunk g c κs _ =
     has_its_chunk _ c.in-OfInput.task (asked_as _ _ _ c.in-OfInput.is (at_some _ _ _ _ c.in-Ok-Some.field-0-is c.in-Ok-Some.ensures))
 
 pub returns-in-Ok-clause-output : goal.returns-in-Ok-clause-output
