@@ -1,0 +1,4 @@
+pub mod Holding
+pub mod PlainSteps
+pub mod Sweeping
+pub mod Operating

@@ -1,0 +1,13 @@
+//! Threads over one store: the directory and each chunk server under a lock of its own.
+#![tactic(auto)]
+
+mod directory_box;
+mod gate;
+mod operations;
+mod server_box;
+mod stepper;
+mod sweeps;
+
+pub use directory_box::{DirectoryBox, DirectoryIdentity, DirectoryNote};
+pub use gate::{Gate, NoGate, Place};
+pub use server_box::{ServerBox, ServerIdentity, StepNote};
