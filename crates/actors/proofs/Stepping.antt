@@ -37,7 +37,6 @@ use Rattle.actors.specs.Inside.{caller_by, doing_by, served_of, IsInWork}
 use Rattle.actors.proofs.Owing.{owed_at_server, stamps_at_server}
 use Rattle.actors.proofs.Turning.{at_directory_same, at_server_same, served_at}
 
-
 -- ---- ready
 module _ (part : PartOf) (book : BookOf) (tries : ℕ) (ended : List EndedCall) (seat : Option Seat) (steps : ℕ) (a : CallerOf) where
   abbrev with_call : Option MachineOf → CallerOf
@@ -115,10 +114,10 @@ module _ (part : PartOf) (book : BookOf) (tries : ℕ) (ended last : List EndedC
       }
 
   pub makes_by : (step : MachineOf → MachineOf → Type 0) (slot : Option MachineOf) (call : MachineOf) → slot ≡ Some call → step call now
-      → MakesStep step (caller_by part book tries ended before slot steps) after_step
+      → MakesStep step now (caller_by part book tries ended before slot steps) after_step
   makes_by step slot call was stepped =
-      subst (λ (o : Option MachineOf). MakesStep step (caller_by part book tries ended before o steps) after_step) (sym was)
-      (record { call = call; was = refl; last = now; step = stepped; concludes = concludes_by call })
+      subst (λ (o : Option MachineOf). MakesStep step now (caller_by part book tries ended before o steps) after_step) (sym was)
+      (record { call = call; was = refl; step = stepped; concludes = concludes_by call })
 
   -- a call that goes on stays in work
   pub stays_in_work : (call : MachineOf) → IsInWork book part (length ended) call → IsSameCall call.call now.call → now.asked ≡ call.asked → IfSome left (IsInWork book part (length last))
@@ -214,33 +213,33 @@ module _ (script : Script) (place : ℕ) (a mid after : CallerOf) (r : IsReady a
   here = record { call = r.call; its = r.its; now = r.now; coded = r.coded; leaves = refl }
 
   -- the call that makes the step is the one that is ready
-  its_call : {step : MachineOf → MachineOf → Type 0} (m : MakesStep step mid after) → m.call ≡ r.now
-  its_call m = same_Some m.call r.now (sym m.was ∙ ap (λ (c : CallerOf). c.work) r.leaves)
+  its_call : {step : MachineOf → MachineOf → Type 0} (last : MachineOf) (m : MakesStep step last mid after) → m.call ≡ r.now
+  its_call last m = same_Some m.call r.now (sym m.was ∙ ap (λ (c : CallerOf). c.work) r.leaves)
 
   needs_it : (needs : Need) → IfSome mid.work (λ (c : MachineOf). needs ≡ need_of c.call) → needs ≡ need_of r.now.call
   needs_it needs is = subst (λ (c : CallerOf). IfSome c.work (λ (x : MachineOf). needs ≡ need_of x.call)) r.leaves is
 
-  ends_so : {step : MachineOf → MachineOf → Type 0} (m : MakesStep step mid after) → Concludes (in_work r.now a) m.last after
-  ends_so m = subst (λ (c : CallerOf). Concludes c m.last after) r.leaves m.concludes
+  ends_so : {step : MachineOf → MachineOf → Type 0} (last : MachineOf) (m : MakesStep step last mid after) → Concludes (in_work r.now a) last after
+  ends_so last m = subst (λ (c : CallerOf). Concludes c last after) r.leaves m.concludes
 
-  pub turned_there : (d changed : Sealed) (servers : List ServerState) (m : MakesStep (λ (c last : MachineOf). MadeAtDirectory c last d changed) mid after)
+  pub turned_there : (d changed : Sealed) (servers : List ServerState) (last : MachineOf) (m : MakesStep (λ (c last : MachineOf). MadeAtDirectory c last d changed) last mid after)
       → IfSome mid.work (λ (c : MachineOf). need.Directory ≡ need_of c.call) → MakesCallerTurn script place a d servers after changed servers
-  turned_there d changed servers m is =
-      let step : MadeAtDirectory r.now m.last d changed = subst (λ (c : MachineOf). MadeAtDirectory c m.last d changed) (its_call m) m.step in
-      turned_by script place a after d changed servers servers r.now m.last m.last.call.step m.last.call.due here refl
-      (subst (λ (at : Need). IsMadeAt at m.last.call.step m.last.call.due r.now.call (places_of d servers) m.last.call (places_of changed servers)) (needs_it need.Directory is)
+  turned_there d changed servers last m is =
+      let step : MadeAtDirectory r.now last d changed = subst (λ (c : MachineOf). MadeAtDirectory c last d changed) (its_call last m) m.step in
+      turned_by script place a after d changed servers servers r.now last last.call.step last.call.due here refl
+      (subst (λ (at : Need). IsMadeAt at last.call.step last.call.due r.now.call (places_of d servers) last.call (places_of changed servers)) (needs_it need.Directory is)
       (record { directory = ap (λ (p : Directory × CallOf). p.0) step.made; servers = refl; call = ap (λ (p : Directory × CallOf). p.1) step.made }))
-      step.agrees step.asked step.owed step.stamps (ends_so m) whose of may
+      step.agrees step.asked step.owed step.stamps (ends_so last m) whose of may
 
-  pub turned_here : (d : Sealed) (servers : List ServerState) (i : ℕ) (s now : ServerState) (m : MakesStep (λ (c last : MachineOf). MadeAtServer c last s now) mid after)
+  pub turned_here : (d : Sealed) (servers : List ServerState) (i : ℕ) (s now : ServerState) (last : MachineOf) (m : MakesStep (λ (c last : MachineOf). MadeAtServer c last s now) last mid after)
       → IfSome mid.work (λ (c : MachineOf). need.Server i ≡ need_of c.call) → i < length servers → s ≡ get_or servers i s → Agrees d.core (token_of a.actor.doing)
       → MakesCallerTurn script place a d servers after d (set servers i now)
-  turned_here d servers i s now m is less read agrees =
-      let step : MadeAtServer r.now m.last s now = subst (λ (c : MachineOf). MadeAtServer c m.last s now) (its_call m) m.step in
+  turned_here d servers i s now last m is less read agrees =
+      let step : MadeAtServer r.now last s now = subst (λ (c : MachineOf). MadeAtServer c last s now) (its_call last m) m.step in
       let needs : need.Server i ≡ need_of r.now.call = needs_it (need.Server i) is in
-      let token : m.last.call.token ≡ token_of a.actor.doing =
-      ap (λ (p : Server × CallOf). p.1.token) step.made ∙ server_token (act_of r.now.call) m.last.call.step m.last.call.due r.now.call _
+      let token : last.call.token ≡ token_of a.actor.doing =
+      ap (λ (p : Server × CallOf). p.1.token) step.made ∙ server_token (act_of r.now.call) last.call.step last.call.due r.now.call _
       ∙ ap (λ (c : CallOf). c.token) r.coded.is_ready ∙ ready_token r.now.call.coding r.call.call.due r.call.call ∙ sym r.its.token in
-      turned_by script place a after d d servers (set servers i now) r.now m.last m.last.call.step m.last.call.due here refl
-      (served_at r.now.call m.last.call m.last.call.step m.last.call.due d.core servers i s now needs less read step.made)
-      (subst (Agrees d.core) (sym token) agrees) step.asked (step.owed ∙ owed_at_server m.last.call.step d r.now i (sym needs)) (stamps_at_server m.last.call.step d r.now i (sym needs)) (ends_so m) whose of may
+      turned_by script place a after d d servers (set servers i now) r.now last last.call.step last.call.due here refl
+      (served_at r.now.call last.call last.call.step last.call.due d.core servers i s now needs less read step.made)
+      (subst (Agrees d.core) (sym token) agrees) step.asked (step.owed ∙ owed_at_server last.call.step d r.now i (sym needs)) (stamps_at_server last.call.step d r.now i (sym needs)) (ends_so last m) whose of may

@@ -99,27 +99,24 @@ pub record GoesToServer (before : Option MachineOf) (s : ServerState) : Type 0 w
   pub needs : need_of call.call ≡ need.Server s.number
   pub its : s.book ≡ call.call.book
 
-pub record IsMadeThere (before : Option MachineOf) (d : Sealed) (after : Option MachineOf) (now : Sealed) : Type 0 where
+pub record IsMadeThere (last : MachineOf) (before : Option MachineOf) (d : Sealed) (after : Option MachineOf) (now : Sealed) : Type 0 where
   pub call : MachineOf
   pub was : before ≡ Some call
-  pub last : MachineOf
   pub is : after ≡ Some last
   pub made : MadeAtDirectory call last d now
   pub knows : KnowsOldOf now last
 
-pub record IsMadeHere (before : Option MachineOf) (s : ServerState) (after : Option MachineOf) (now : ServerState) : Type 0 where
+pub record IsMadeHere (last : MachineOf) (before : Option MachineOf) (s : ServerState) (after : Option MachineOf) (now : ServerState) : Type 0 where
   pub call : MachineOf
   pub was : before ≡ Some call
-  pub last : MachineOf
   pub is : after ≡ Some last
   pub made : MadeAtServer call last s now
   pub knows : (d : Sealed) → KnowsOldOf d call → KnowsOldOf d last
 
--- a caller's step in its call, which this relation leads from a value to the next one
-pub record MakesStep (made : MachineOf → MachineOf → Type 0) (a after : CallerOf) : Type 0 where
+-- a caller's step in its call, which this relation leads from a value to the last one
+pub record MakesStep (made : MachineOf → MachineOf → Type 0) (last : MachineOf) (a after : CallerOf) : Type 0 where
   pub call : MachineOf
   pub was : a.work ≡ Some call
-  pub last : MachineOf
   pub step : made call last
   pub concludes : Concludes a last after
 

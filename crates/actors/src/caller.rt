@@ -8,7 +8,7 @@ ghost use Rattle.store_core.specs.Work.{has_step};
 ghost use Rattle.chunk_server.specs.State.{IsSame};
 ghost use Rattle.stripe_dir.specs.Sealed.{Sealed};
 ghost use Rattle.call_steps.specs.CallOf.{taken_of};
-ghost use Rattle.call_steps.specs.Steps.{need_of, IfServer};
+ghost use Rattle.call_steps.specs.Steps.{need_of, HoldsItsPass, IfServer, MayMakeNext};
 ghost use Rattle.client_patch.specs.Padded.{ArePadded};
 ghost use Rattle.world_lines.specs.Ended.{calling_at};
 ghost use Rattle.world_steps.specs.World.{steps_of};
@@ -32,6 +32,7 @@ use chunk_server::Server;
 use clay_repair::Coder;
 use std::alloc::{AllocError, Global};
 use std::marker::Model;
+use std::snapshot::Snapshot;
 use std::thread::Threads;
 use stripe_dir::{Directory, Seat};
 use version_seal::{Book, Opening};
@@ -161,6 +162,8 @@ impl<'a> Caller<'a> {
     pub fn need(&self) -> Need
         requires { IsTrue (is_some self.now.work) }
         ensures need { IfSome self.now.work (λ c. result ≡ need_of c.call) }
+        ensures may { IfSome self.now.work (λ c. MayMakeNext c.call) }
+        ensures pass { IfSome self.now.work (λ c. HoldsItsPass c.call) }
         ensures below { IfServer result (λ server. server < chunk_count self.now.book.geometry) }
     {
         match &self.call {
@@ -171,8 +174,12 @@ impl<'a> Caller<'a> {
 
     /// The step of its call at the directory of this book. What it draws is sealed in the book. Behind the
     /// ends of the directory's objects its stamps have zeros, and a write knows the old bytes that it
-    /// keeps.
-    pub fn on_directory(&mut self, directory: &mut Directory, book: &Book)
+    /// keeps. For contracts it gives the call as the step leaves it, which may be over.
+    pub fn on_directory(
+        &mut self,
+        directory: &mut Directory,
+        book: &Book,
+    ) -> Snapshot<CallMachine<'a>>
         requires need { NeedsNow self.old Need.Directory }
         requires steps { steps_of self.old.actor.doing + 1 < 2 ^ 64 }
         requires agrees { Agrees directory.old.core (token_of self.old.actor.doing) }
@@ -180,25 +187,38 @@ impl<'a> Caller<'a> {
         requires book { book.now ≡ self.old.book }
         requires padded { ArePadded directory.old }
         requires knows { Knows directory.old self.old }
-        ensures step { MakesStep (λ c last. MadeAtDirectory c last directory.old directory.new) self.old self.new }
+        ensures step { MakesStep (λ c last. MadeAtDirectory c last directory.old directory.new) result.value self.old self.new }
         ensures knows { Knows directory.new self.new }
         ensures book { directory.new.book ≡ directory.old.book }
     {
-        step_at_directory(&mut self.call, directory, book);
-        conclude(&mut self.call, &mut self.seat, &mut self.steps, &mut self.ended);
+        let last = step_at_directory(&mut self.call, directory, book);
+        conclude(
+            &mut self.call,
+            &mut self.seat,
+            &mut self.steps,
+            &mut self.ended,
+        );
+        last
     }
 
-    /// The step of its call at the server that is needed.
-    pub fn on_server(&mut self, server: &mut Server)
+    /// The step of its call at the server that is needed. For contracts it gives the call as the step
+    /// leaves it, which may be over.
+    pub fn on_server(&mut self, server: &mut Server) -> Snapshot<CallMachine<'a>>
         requires need { NeedsNow self.old (Need.Server server.old.number) }
         requires steps { steps_of self.old.actor.doing + 1 < 2 ^ 64 }
         requires book { server.old.book ≡ self.old.book }
-        ensures step { MakesStep (λ c last. MadeAtServer c last server.old server.new) self.old self.new }
+        ensures step { MakesStep (λ c last. MadeAtServer c last server.old server.new) result.value self.old self.new }
         ensures knows { (d : Sealed) → Knows d self.old → Knows d self.new }
         ensures same { IsSame server.old server.new }
     {
-        step_at_server(&mut self.call, server);
-        conclude(&mut self.call, &mut self.seat, &mut self.steps, &mut self.ended);
+        let last = step_at_server(&mut self.call, server);
+        conclude(
+            &mut self.call,
+            &mut self.seat,
+            &mut self.steps,
+            &mut self.ended,
+        );
+        last
     }
 
     /// A turn of the caller at this place of the script, whose next call begins if none is in work: the
@@ -232,8 +252,12 @@ impl<'a> Caller<'a> {
     {
         self.ready(rt, coder, place);
         match self.need() {
-            Need::Directory => self.on_directory(directory, book),
-            Need::Server(server) => self.on_server(&mut servers[server as usize]),
+            Need::Directory => {
+                let _last = self.on_directory(directory, book);
+            }
+            Need::Server(server) => {
+                let _last = self.on_server(&mut servers[server as usize]);
+            }
             _ => unreachable!(),
         }
     }

@@ -14,6 +14,7 @@ use call_machine::CallMachine;
 use call_steps::Need;
 use chunk_server::Server;
 use clay_repair::Coder;
+use std::snapshot::Snapshot;
 use std::thread::Threads;
 use stripe_dir::Directory;
 use version_seal::Book;
@@ -35,11 +36,7 @@ fn code_call<R: Threads + Sync, C: Coder>(rt: &R, coder: &C, call: &mut CallMach
 }
 
 /// The coding before the next step of the call in work, if one is due.
-pub(crate) fn code<R: Threads + Sync, C: Coder>(
-    rt: &R,
-    coder: &C,
-    call: &mut Option<CallMachine>,
-)
+pub(crate) fn code<R: Threads + Sync, C: Coder>(rt: &R, coder: &C, call: &mut Option<CallMachine>)
     requires there { IsTrue (is_some call.old) }
     requires goes { IfSome call.old (λ c. GoesOn (need_of c.call)) }
     ensures { IsCoded call.old call.new }
@@ -50,32 +47,41 @@ pub(crate) fn code<R: Threads + Sync, C: Coder>(
     }
 }
 
-/// The step of the call in work at the directory.
-pub(crate) fn step_at_directory(
-    call: &mut Option<CallMachine>,
+/// The step of the call in work at the directory, and the call as the step leaves it.
+pub(crate) fn step_at_directory<'a>(
+    call: &mut Option<CallMachine<'a>>,
     directory: &mut Directory,
     book: &Book,
-)
+) -> Snapshot<CallMachine<'a>>
     requires goes { GoesToDirectory call.old directory.old }
     requires book { IfSome call.old (λ c. book.now ≡ c.call.book) }
     requires padded { ArePadded directory.old }
-    ensures made { IsMadeThere call.old directory.old call.new directory.new }
+    ensures made { IsMadeThere result.value call.old directory.old call.new directory.new }
     ensures book { directory.new.book ≡ directory.old.book }
 {
     match call {
-        Some(call) => call.on_directory(directory, book),
+        Some(call) => {
+            call.on_directory(directory, book);
+            Snapshot::of(call)
+        }
         None => unreachable!(),
     }
 }
 
-/// The step of the call in work at the server that it needs.
-pub(crate) fn step_at_server(call: &mut Option<CallMachine>, server: &mut Server)
+/// The step of the call in work at the server that it needs, and the call as the step leaves it.
+pub(crate) fn step_at_server<'a>(
+    call: &mut Option<CallMachine<'a>>,
+    server: &mut Server,
+) -> Snapshot<CallMachine<'a>>
     requires goes { GoesToServer call.old server.old }
-    ensures made { IsMadeHere call.old server.old call.new server.new }
+    ensures made { IsMadeHere result.value call.old server.old call.new server.new }
     ensures same { IsSame server.old server.new }
 {
     match call {
-        Some(call) => call.on_server(server),
+        Some(call) => {
+            call.on_server(server);
+            Snapshot::of(call)
+        }
         None => unreachable!(),
     }
 }

@@ -44,7 +44,7 @@ patch_knows d a c patch next view is of_kind same knows holds =
     let its : IsOfKind (kind.Patch patch) (asked_by a.task) = subst (λ (k : Kind). IsOfKind k (asked_by a.task)) is of_kind in
     let was : KnowsOldOf d (call_by (kind.Patch patch) (asked_by a.task)) = subst (λ (k : Kind). KnowsOldOf d (call_by k (asked_by a.task))) is (subst (KnowsOldOf d) (sym view) holds) in
     let old : KnowsFor (Asked.OfClient patch.written) d (call_by (kind.Patch patch) (Asked.OfClient patch.written)) =
-        subst (λ (w : Asked). KnowsFor w d (call_by (kind.Patch patch) w)) (sym its.1) was in
+    subst (λ (w : Asked). KnowsFor w d (call_by (kind.Patch patch) w)) (sym its.1) was in
     let machine : client_machine patch.written ≡ Machine.Patches = ap machine_of its.1 ∙ its.0 in
     subst (λ (w : Asked). KnowsFor w d (call_by (kind.Patch next) w)) its.1 (knows_as d patch next machine same knows old)
 

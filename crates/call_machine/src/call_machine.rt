@@ -20,7 +20,6 @@ ghost use Rattle.call_machine.specs.Ends.{IfBytesServed};
 
 use crate::ends::{of_client, of_rebuild};
 use call_steps::Need;
-use world_lines::CallOutcome;
 use chunk_server::Server;
 use clay_repair::Coder;
 use client_patch::PatchCall;
@@ -34,6 +33,7 @@ use std::thread::Threads;
 use store_map::{Actor, Call, Rebuild};
 use stripe_dir::{Directory, Seat};
 use version_seal::{Book, Opening};
+use world_lines::CallOutcome;
 
 // The machine of its kind.
 enum Kind<'a> {

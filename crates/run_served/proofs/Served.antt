@@ -21,7 +21,7 @@ use Rattle.world_lines.specs.declared.calls.EndedCall.{EndedCall}
 use Rattle.world_lines.specs.declared.calls.CallerCalls.{CallerCalls}
 use Rattle.world_lines.specs.Ended.{ended_of, calling_at}
 use Rattle.world_lines.specs.Served.{outcome_in, outcome_at}
-use Rattle.call_steps.specs.Outcomes.{outcome_of}
+use Rattle.world_lines.specs.Outcomes.{call_outcome_of}
 use Rattle.store_history.proofs.ServedPoints.{runs_serve_at_pins}
 use Rattle.store_threads.specs.Owed.{directory_after}
 use Rattle.store_threads.specs.OwedLaws.{IsReply}
@@ -56,7 +56,7 @@ found_at servers clients i number outcome e = by_client (slice_get clients i) re
           is_calling = slice_get-map (calling_at servers) clients i ∙ ap (option_map (calling_at servers)) is_calls;
           ended = ended_of servers ended;
           is_ended = slice_get-map (ended_of servers) calls.ended.items number ∙ ap (option_map (ended_of servers)) is_found;
-          is_outcome = same_Some (outcome_of ended.outcome) outcome k;
+          is_outcome = same_Some (call_outcome_of ended.outcome) outcome k;
         }
 
     by_client : (found : Option CallerCalls) → slice_get clients i ≡ found → outcome_in (option_and_then (λ (calls : CallerCalls). slice_get calls.ended.items number) found) ≡ Some outcome

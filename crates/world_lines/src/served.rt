@@ -14,7 +14,10 @@ use store_map::{Actor, ByteList, ListOf};
 fn is_reply(outcome: &CallOutcome) -> bool
     ensures { result ≡ is_answered (call_outcome_of outcome.now) }
 {
-    matches!(outcome, CallOutcome::Answered { .. } | CallOutcome::Served { .. })
+    matches!(
+        outcome,
+        CallOutcome::Answered { .. } | CallOutcome::Served { .. }
+    )
 }
 
 // How the client's call ended.

@@ -51,8 +51,7 @@ module _ (script : Script) (d : Sealed) (of : IsOfMap script d) (i number : ℕ)
 
   its_note : IsNoteOf (call_of script) (actor.Client i) r.number note
   its_note =
-      let its : (call : Call) × (call_of script (actor.Client i) number ≡ Some call) × (before.asked ≡ Asked.OfClient call) = client_call (call_of script (actor.Client i) number) before.asked ready.its in
-      (
+      let its : (call : Call) × (call_of script (actor.Client i) number ≡ Some call) × (before.asked ≡ Asked.OfClient call) = client_call (call_of script (actor.Client i) number) before.asked ready.its in (
         its.0,
         subst (λ (n : ℕ). call_of script (actor.Client i) n ≡ Some its.0) (sym ready.count) its.1,
         ap (λ (j : Job). j.note) (sym (ready.job ∙ ap asked_job its.2)),
