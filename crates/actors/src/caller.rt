@@ -164,6 +164,7 @@ impl<'a> Caller<'a> {
         ensures need { IfSome self.now.work (λ c. result ≡ need_of c.call) }
         ensures may { IfSome self.now.work (λ c. MayMakeNext c.call) }
         ensures pass { IfSome self.now.work (λ c. HoldsItsPass c.call) }
+        ensures its { IfSome self.now.work (λ c. c.call.book ≡ self.now.book) }
         ensures below { IfServer result (λ server. server < chunk_count self.now.book.geometry) }
     {
         match &self.call {
