@@ -1,3 +1,6 @@
 pub mod Fixed
 pub mod Turns
+pub mod Seen
+pub mod Before
+pub mod Stepped
 pub mod Plain

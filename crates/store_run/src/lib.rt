@@ -2,9 +2,11 @@
 #![tactic(auto)]
 
 mod directory_box;
+mod directory_steps;
 mod gate;
 mod operations;
 mod server_box;
+mod server_steps;
 mod stepper;
 mod sweeps;
 
