@@ -6,3 +6,6 @@ pub mod Fits
 pub mod Knowing
 pub mod ServerSteps
 pub mod DirectorySteps
+pub mod Looking
+pub mod Seating
+pub mod Going

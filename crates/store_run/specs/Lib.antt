@@ -4,3 +4,4 @@ pub mod Seen
 pub mod Before
 pub mod Stepped
 pub mod Plain
+pub mod Seated

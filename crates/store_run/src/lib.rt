@@ -5,9 +5,11 @@ mod directory_box;
 mod directory_steps;
 mod gate;
 mod operations;
+mod seated;
 mod server_box;
 mod server_steps;
 mod stepper;
+mod store;
 mod sweeps;
 
 pub use directory_box::{DirectoryBox, DirectoryIdentity, DirectoryNote};
