@@ -162,6 +162,7 @@ module _ (part : PartOf) (book : BookOf) (tries : ℕ) (ended : List EndedCall) 
           token = sym (ap (λ (c : MachineOf). c.call.token) begun.first);
           asked = ap (asked_at part) counted ∙ begun.next ∙ ap (λ (c : MachineOf). Some c.asked) (sym begun.first);
           owed = ap (λ (c : MachineOf). c.owed) begun.first;
+          ample = ap (λ (c : MachineOf). c.call.coding) begun.first;
         };
         goes = goes_by place seat now may begun;
         knows = λ d knows. subst (KnowsOldOf d) (sym begun.first) (first_knows d book tries seat (length ended) begun.asked);
@@ -183,7 +184,7 @@ module _ (part : PartOf) (book : BookOf) (tries : ℕ) (ended : List EndedCall) 
   begun_before (Some c) seat steps some kept =
       record {
         call = c;
-        its = record { before = λ script of. refl; token = refl; asked = ap (asked_at part) counted ∙ kept.asked; owed = refl };
+        its = record { before = λ script of. refl; token = refl; asked = ap (asked_at part) counted ∙ kept.asked; owed = refl; ample = tt };
         goes = kept.goes;
         knows = λ d knows. knows;
         leaves = refl;

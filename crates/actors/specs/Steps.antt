@@ -1,5 +1,5 @@
 -- The parts of a caller's turn: its call is ready, makes its step, and goes on or is over.
-use Rattle.std.specs.Prelude.{◌≡◌, false, ◌&&◌, ◌++◌, length, Option, Some}
+use Rattle.std.specs.Prelude.{◌≡◌, ⊤, false, ◌&&◌, ◌++◌, length, Option, Some}
 use Rattle.store_map.specs.declared.script.Script.{Script}
 use Rattle.store_core.specs.Agreement.{Agrees}
 use Rattle.chunk_server.specs.State.{ServerState}
@@ -19,12 +19,18 @@ use Rattle.actors.specs.Turns.{HasPlace, GoesOn}
 use Rattle.actors.specs.Callers.{CallerOf, IsOfScript, Knows, work_of, asked_at}
 use Rattle.actors.specs.Owing.{AreServed, left_by, owed_now}
 
+-- in a call that begins memory was not wanting yet
+abbrev pub IsAmpleFirst : DoingOf → MachineOf → Type 0
+IsAmpleFirst (DoingOf.Between token) c = c.call.coding ≡ false
+IsAmpleFirst (DoingOf.InCall call steps) c = ⊤
+
 -- the call that a caller is in, or the next one before its first step
 pub record IsCallOf (a : CallerOf) (c : MachineOf) : Type 0 where
   pub before : (script : Script) → IsOfScript script a → IsCallBefore script (work_of a.part).jobs a.actor.ended a.actor.doing c.call
   pub token : token_of a.actor.doing ≡ c.call.token
   pub asked : asked_at a.part (length a.actor.ended) ≡ Some c.asked
   pub owed : c.owed ≡ owed_now a.work
+  pub ample : IsAmpleFirst a.actor.doing c
 
 -- the caller in this call
 abbrev pub in_work : MachineOf → CallerOf → CallerOf
