@@ -1,32 +1,11 @@
 //! The steps that are timed.
 
 use crate::calls::{delete, put, read, stat, write};
-use dir_walks::caller::{Refusal, Step};
+use anyhow::bail;
+use dir_walks::caller::Step;
 use dir_walks::store::Store;
-use std::alloc::{AllocError, Global};
+use std::alloc::Global;
 use store_map::Call;
-
-/// Why nothing is told.
-#[derive(Clone, Copy, PartialEq, Eq, Debug, Drop)]
-pub enum Trouble {
-    /// No such work.
-    Words,
-    /// A step wasn't made.
-    Step,
-    Memory,
-}
-
-impl From<AllocError> for Trouble {
-    fn from(_: AllocError) -> Trouble {
-        Trouble::Memory
-    }
-}
-
-impl From<Refusal> for Trouble {
-    fn from(_: Refusal) -> Trouble {
-        Trouble::Step
-    }
-}
 
 /// What is made many times.
 #[derive(Clone, Copy, PartialEq, Eq, Debug)]
@@ -59,23 +38,25 @@ impl Kind {
     }
 }
 
+fn step(store: &mut Store<'_>, step: Step<'_>) -> anyhow::Result<()> {
+    match store.first(step) {
+        Ok(_answer) => Ok(()),
+        Err(refusal) => bail!("a step isn't made: {refusal:?}"),
+    }
+}
+
 // Makes a call to its end. Each call has one point, so that the count of points is an unused number.
-fn make(store: &mut Store<'_>, call: &Call) -> Result<(), Trouble> {
-    let Ok(number) = u32::try_from(store.directory().points()) else {
-        return Err(Trouble::Words);
-    };
-    store.first(Step::Look { number, call })?;
+fn make(store: &mut Store<'_>, call: &Call) -> anyhow::Result<()> {
+    let number = u32::try_from(store.directory().points())?;
+    step(store, Step::Look { number, call })?;
     match call {
         Call::Put { .. } | Call::Write { .. } => {
-            store.first(Step::Draw)?;
-            store.first(Step::Commit)?;
+            step(store, Step::Draw)?;
+            step(store, Step::Commit)
         }
-        Call::Get { .. } | Call::ReadAt { .. } => {
-            store.first(Step::End)?;
-        }
-        Call::Stat { .. } | Call::Delete { .. } => {}
+        Call::Get { .. } | Call::ReadAt { .. } => step(store, Step::End),
+        Call::Stat { .. } | Call::Delete { .. } => Ok(()),
     }
-    Ok(())
 }
 
 // Sweeps all garbage: so many versions.
@@ -92,7 +73,7 @@ fn sweep(store: &mut Store<'_>) -> u64 {
 }
 
 // A call so many times, swept after each.
-fn repeat(store: &mut Store<'_>, call: &Call, steps: u32) -> Result<u64, Trouble> {
+fn repeat(store: &mut Store<'_>, call: &Call, steps: u32) -> anyhow::Result<u64> {
     let mut swept: u64 = 0;
     for _ in 0..steps {
         make(store, call)?;
@@ -102,7 +83,7 @@ fn repeat(store: &mut Store<'_>, call: &Call, steps: u32) -> Result<u64, Trouble
 }
 
 // So many writes of a stripe, each behind the object's end.
-fn append(alloc: Global, store: &mut Store<'_>, stripes: u32, steps: u32) -> Result<u64, Trouble> {
+fn append(alloc: Global, store: &mut Store<'_>, stripes: u32, steps: u32) -> anyhow::Result<u64> {
     for step in 0..steps {
         let call = write(alloc, 0, stripes.saturating_add(step))?;
         make(store, &call)?;
@@ -111,7 +92,7 @@ fn append(alloc: Global, store: &mut Store<'_>, stripes: u32, steps: u32) -> Res
 }
 
 // So many objects of a stripe.
-fn put_all(alloc: Global, store: &mut Store<'_>, objects: u32) -> Result<u64, Trouble> {
+fn put_all(alloc: Global, store: &mut Store<'_>, objects: u32) -> anyhow::Result<u64> {
     for object in 0..objects {
         let call = put(alloc, object, 1)?;
         make(store, &call)?;
@@ -120,11 +101,11 @@ fn put_all(alloc: Global, store: &mut Store<'_>, objects: u32) -> Result<u64, Tr
 }
 
 // So many times the oldest object is deleted and put again, as the newest.
-fn renew(alloc: Global, store: &mut Store<'_>, objects: u32, steps: u32) -> Result<u64, Trouble> {
+fn renew(alloc: Global, store: &mut Store<'_>, objects: u32, steps: u32) -> anyhow::Result<u64> {
     let mut swept: u64 = 0;
     for step in 0..steps {
         let Some(oldest) = step.checked_rem(objects) else {
-            return Err(Trouble::Words);
+            bail!("no objects");
         };
         let gone = delete(alloc, oldest)?;
         make(store, &gone)?;
@@ -141,7 +122,7 @@ fn write_middle(
     store: &mut Store<'_>,
     stripes: u32,
     steps: u32,
-) -> Result<u64, Trouble> {
+) -> anyhow::Result<u64> {
     let call = write(alloc, 0, stripes / 2)?;
     repeat(store, &call, steps)
 }
@@ -152,7 +133,7 @@ fn read_middle(
     store: &mut Store<'_>,
     stripes: u32,
     steps: u32,
-) -> Result<u64, Trouble> {
+) -> anyhow::Result<u64> {
     let call = read(alloc, 0, stripes / 2)?;
     repeat(store, &call, steps)
 }
@@ -163,24 +144,19 @@ fn put_whole(
     store: &mut Store<'_>,
     stripes: u32,
     steps: u32,
-) -> Result<u64, Trouble> {
+) -> anyhow::Result<u64> {
     let call = put(alloc, 0, stripes)?;
     repeat(store, &call, steps)
 }
 
 // So many questions for the length of an object.
-fn ask(alloc: Global, store: &mut Store<'_>, steps: u32) -> Result<u64, Trouble> {
+fn ask(alloc: Global, store: &mut Store<'_>, steps: u32) -> anyhow::Result<u64> {
     let call = stat(alloc, 0)?;
     repeat(store, &call, steps)
 }
 
 /// Makes a directory of this size: an object's stripes, objects or points.
-pub fn prepare(
-    alloc: Global,
-    store: &mut Store<'_>,
-    kind: Kind,
-    size: u32,
-) -> Result<u64, Trouble> {
+pub fn prepare(alloc: Global, store: &mut Store<'_>, kind: Kind, size: u32) -> anyhow::Result<u64> {
     match kind {
         Kind::Renew => put_all(alloc, store, size),
         Kind::Stat => ask(alloc, store, size),
@@ -195,7 +171,7 @@ pub fn work(
     kind: Kind,
     size: u32,
     steps: u32,
-) -> Result<u64, Trouble> {
+) -> anyhow::Result<u64> {
     match kind {
         Kind::Write => write_middle(alloc, store, size, steps),
         Kind::Read => read_middle(alloc, store, size, steps),

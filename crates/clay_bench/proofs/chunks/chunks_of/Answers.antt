@@ -2,7 +2,7 @@ use Rattle.std.proofs.Common.{◌≡◌, ℕ, All, subst, sym, ap, ◌∙◌}
 use Rattle.std.proofs.lemmas.List.Elements.{All-push}
 use Rattle.version_seal.specs.Sealed.{ChunkOf}
 use Rattle.chunk_server.specs.Valid.{IsFor}
-use Rattle.seal_bench.proofs.chunks.chunks_of.Goals as goal
+use Rattle.clay_bench.proofs.chunks.chunks_of.Goals as goal
 
 pub loop-version-preserved : goal.loop-version-preserved
 loop-version-preserved c =

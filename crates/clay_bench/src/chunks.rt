@@ -1,11 +1,12 @@
 ghost use Rattle.std.specs.Prelude.{◌≡◌, IfOk, All, None};
 ghost use Rattle.chunk_server.specs.Valid.{IsFor};
 
+use crate::calls::put;
 use crate::rack::VERSIONS;
 use clay_encode::encode;
 use clay_grid::Geometry;
 use std::alloc::Global;
-use store_map::{Actor, Call, Content, Name, Version};
+use store_map::{Actor, Version};
 use version_seal::{Book, SealedChunk};
 
 /// The first server's chunks of versions of one stripe, the last version first. Each was put with
@@ -17,10 +18,7 @@ pub fn chunks_of(alloc: Global, geometry: Geometry, book: &Book) -> anyhow::Resu
 {
     let zeros = vec![in alloc; 0u8; geometry.stripe_len() as usize]?;
     let word = encode(alloc, geometry, &zeros)?;
-    let call = Call::Put {
-        name: Name::new(alloc, "a")?,
-        content: Content::Fill { byte: 0, length: 0 },
-    };
+    let call = put(alloc, 0, 0)?;
     let actor = Actor::Client(0);
     let request = book.request(actor, 0, &call);
     let room = book.reserve(Version(0), VERSIONS)?;
