@@ -19,7 +19,7 @@ const HALF: [u32; 4] = [1, 3, 5, 7];
 const ONE: [u32; 1] = [5];
 
 /// A call of the server, made once for each version, but a wipe once for all.
-#[derive(Clone, Copy, PartialEq, Eq, Debug)]
+#[derive(Clone, Copy)]
 pub enum ServerCall {
     Prepare,
     Has,

@@ -37,17 +37,28 @@ fn name_of(call: ServerCall) -> &'static str {
     }
 }
 
-// Times each call once, with the chunks of all versions, and tells how much came of them.
-fn round(rt: &impl CpuClock, rack: &mut Rack<'_>, times: &mut [Least; 8]) -> anyhow::Result<u64> {
+// Times a call of all versions, and tells what came of it.
+fn timed(
+    rt: &impl CpuClock,
+    rack: &mut Rack<'_>,
+    call: ServerCall,
+    least: &mut Least,
+) -> io::Result<u64> {
+    let begun = rt.thread_cpu_time()?;
+    let came = rack.make(call)?;
+    least.note(rt.thread_cpu_time()?.saturating_sub(begun));
+    Ok(came)
+}
+
+// Times each call once, and tells what came of them.
+fn round(rt: &impl CpuClock, rack: &mut Rack<'_>, times: &mut [Least; 8]) -> io::Result<u64> {
     let mut came = 0u64;
     for (place, least) in times.iter_mut().enumerate() {
         let call = ROUND[place];
-        if call == ServerCall::Prepare || call == ServerCall::Install {
+        if matches!(call, ServerCall::Prepare | ServerCall::Install) {
             rack.stock()?;
         }
-        let begun = rt.thread_cpu_time()?;
-        came = came.saturating_add(rack.make(call)?);
-        least.note(rt.thread_cpu_time()?.saturating_sub(begun));
+        came = came.saturating_add(timed(rt, rack, call, least)?);
     }
     Ok(came)
 }
@@ -62,7 +73,27 @@ fn tell(rt: &impl Print, width: u32, times: &[Least; 8]) -> io::Result<()> {
     Ok(())
 }
 
-// Runs so many rounds with subchunks of this width.
+// Runs so many rounds. In each every version is held once, and 5 of its layers come.
+fn time_rounds(
+    rt: &(impl Print + CpuClock),
+    rack: &mut Rack<'_>,
+    width: u32,
+    rounds: u64,
+) -> anyhow::Result<()> {
+    let mut times = [Least::new(); 8];
+    let wanted = VERSIONS * (1 + 5 * u64::from(width));
+    for _round in 0..rounds {
+        let came = round(rt, rack, &mut times)?;
+        ensure!(
+            came == wanted,
+            "{came} came of a round's calls, not {wanted}"
+        );
+    }
+    tell(rt, width, &times)?;
+    Ok(())
+}
+
+// With subchunks of this width.
 fn time_width(
     rt: &(impl Print + CpuClock),
     alloc: Global,
@@ -72,19 +103,7 @@ fn time_width(
     let geometry = Geometry::new(4, 2, width)?;
     let book = Book::free(alloc, geometry)?;
     let chunks = chunks_of(alloc, geometry, &book)?;
-    let mut rack = Rack::new(alloc, &book, &chunks);
-    let mut times = [Least::new(); 8];
-    // each version is held once, and 5 of its layers come
-    let wanted = VERSIONS * (1 + 5 * u64::from(width));
-    for _round in 0..rounds {
-        let came = round(rt, &mut rack, &mut times)?;
-        ensure!(
-            came == wanted,
-            "{came} came of a round's calls, not {wanted}"
-        );
-    }
-    tell(rt, width, &times)?;
-    Ok(())
+    time_rounds(rt, &mut Rack::new(alloc, &book, &chunks), width, rounds)
 }
 
 /// By subchunks of 64 bytes and of 4 KiB.

@@ -8,7 +8,7 @@ use std::alloc::Global;
 use store_map::Call;
 
 /// What is made many times.
-#[derive(Clone, Copy, PartialEq, Eq, Debug)]
+#[derive(Clone, Copy)]
 pub enum Kind {
     /// A write over the middle stripe of an object.
     Write,

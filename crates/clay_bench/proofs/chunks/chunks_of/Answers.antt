@@ -7,12 +7,4 @@ use Rattle.clay_bench.proofs.chunks.chunks_of.Goals as goal
 pub loop-version-preserved : goal.loop-version-preserved
 loop-version-preserved c =
     let P : ChunkOf → Type 0 = IsFor c.args.book.now.home 0 c.args.geometry in
-    let is = c.new-in-loop-version.ensures in
-    let mine : P c.new-in-loop-version.result =
-    record {
-      same_home = ap (λ chunk. chunk.stamp.home) is ∙ ap (λ stamp. stamp.home) c.in_ok-stamp.ensures.ok;
-      same_server = ap (λ chunk. chunk.server) is;
-      same_code = ap (λ chunk. chunk.geometry) is;
-    }
-    in
-    subst (All P) (sym c.in_ok-push.ensures.items) (All-push P c.loop-version.chunks.items c.new-in-loop-version.result c.loop-version.invariant mine)
+    subst (All P) (sym c.in_ok-push.ensures.items) (All-push P c.loop-version.chunks.items c.in_ok-chunk_of.field-0 c.loop-version.invariant c.in_ok-chunk_of.ensures.ok)
