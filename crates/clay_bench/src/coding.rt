@@ -34,7 +34,28 @@ fn encode<C: Coder, R: Threads + Sync>(
     Ok(())
 }
 
-// Prints the least time of the rounds. In each a stripe is encoded so many times.
+// The least time of the rounds. In each a stripe is encoded so many times.
+fn least_time<C: Coder, R: Threads + Sync + Clock>(
+    rt: &R,
+    alloc: Global,
+    coder: &C,
+    geometry: Geometry,
+    stripe: &[u8],
+    times: u64,
+    rounds: u32,
+) -> anyhow::Result<Least>
+    requires { length stripe.now ≡ stripe_length geometry }
+{
+    let mut least = Least::new();
+    for _round in 0..rounds {
+        let begun = rt.monotonic()?;
+        encode(rt, alloc, coder, geometry, stripe, times)?;
+        least.note(rt.monotonic()?.saturating_sub(begun));
+    }
+    Ok(least)
+}
+
+// Prints it, in nanoseconds.
 fn tell<C: Coder, R: Threads + Sync + Clock + Print>(
     rt: &R,
     alloc: Global,
@@ -44,12 +65,7 @@ fn tell<C: Coder, R: Threads + Sync + Clock + Print>(
     rounds: u32,
 ) -> anyhow::Result<()> {
     let stripe = vec![in alloc; 0x5au8; geometry.stripe_len() as usize]?;
-    let mut least = Least::new();
-    for _round in 0..rounds {
-        let begun = rt.monotonic()?;
-        encode(rt, alloc, coder, geometry, &stripe, times)?;
-        least.note(rt.monotonic()?.saturating_sub(begun));
-    }
+    let least = least_time(rt, alloc, coder, geometry, &stripe, times, rounds)?;
     let nanoseconds = least.nanoseconds();
     println!(rt; "{nanoseconds}")?;
     Ok(())

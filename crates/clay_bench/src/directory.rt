@@ -49,7 +49,7 @@ pub fn make_steps(rt: &impl Print, alloc: Global, words: &[String]) -> anyhow::R
             bail!("a kind of step, a size and a number of steps are wanted");
         };
         let Some(kind) = Kind::named(kind) else {
-            bail!("{kind:?} isn't a kind of step");
+            bail!("there is no such kind of step");
         };
         tell_anew(rt, alloc, kind, size.parse()?, steps.parse()?)?;
     }

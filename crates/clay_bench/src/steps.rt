@@ -72,11 +72,16 @@ fn sweep(store: &mut Store<'_>) -> u64 {
     swept
 }
 
+// A call once, which isn't kept.
+fn make_once(store: &mut Store<'_>, call: Call) -> anyhow::Result<()> {
+    make(store, &call)
+}
+
 // A call so many times, swept after each.
-fn repeat(store: &mut Store<'_>, call: &Call, steps: u32) -> anyhow::Result<u64> {
+fn repeat(store: &mut Store<'_>, call: Call, steps: u32) -> anyhow::Result<u64> {
     let mut swept: u64 = 0;
     for _ in 0..steps {
-        make(store, call)?;
+        make(store, &call)?;
         swept = swept.saturating_add(sweep(store));
     }
     Ok(swept)
@@ -85,8 +90,7 @@ fn repeat(store: &mut Store<'_>, call: &Call, steps: u32) -> anyhow::Result<u64>
 // So many writes of a stripe, each behind the object's end.
 fn append(alloc: Global, store: &mut Store<'_>, stripes: u32, steps: u32) -> anyhow::Result<u64> {
     for step in 0..steps {
-        let call = write(alloc, 0, stripes.saturating_add(step))?;
-        make(store, &call)?;
+        make_once(store, write(alloc, 0, stripes.saturating_add(step))?)?;
     }
     Ok(sweep(store))
 }
@@ -94,8 +98,7 @@ fn append(alloc: Global, store: &mut Store<'_>, stripes: u32, steps: u32) -> any
 // So many objects of a stripe.
 fn put_all(alloc: Global, store: &mut Store<'_>, objects: u32) -> anyhow::Result<u64> {
     for object in 0..objects {
-        let call = put(alloc, object, 1)?;
-        make(store, &call)?;
+        make_once(store, put(alloc, object, 1)?)?;
     }
     Ok(0)
 }
@@ -104,63 +107,30 @@ fn put_all(alloc: Global, store: &mut Store<'_>, objects: u32) -> anyhow::Result
 fn renew(alloc: Global, store: &mut Store<'_>, objects: u32, steps: u32) -> anyhow::Result<u64> {
     let mut swept: u64 = 0;
     for step in 0..steps {
-        let Some(oldest) = step.checked_rem(objects) else {
-            bail!("no objects");
-        };
-        let gone = delete(alloc, oldest)?;
-        make(store, &gone)?;
-        let anew = put(alloc, oldest, 1)?;
-        make(store, &anew)?;
+        let oldest = step.checked_rem(objects).unwrap_or(0);
+        make_once(store, delete(alloc, oldest)?)?;
+        make_once(store, put(alloc, oldest, 1)?)?;
         swept = swept.saturating_add(sweep(store));
     }
     Ok(swept)
 }
 
-// So many writes of the middle stripe of an object.
-fn write_middle(
-    alloc: Global,
-    store: &mut Store<'_>,
-    stripes: u32,
-    steps: u32,
-) -> anyhow::Result<u64> {
-    let call = write(alloc, 0, stripes / 2)?;
-    repeat(store, &call, steps)
-}
-
-// So many reads of it.
-fn read_middle(
-    alloc: Global,
-    store: &mut Store<'_>,
-    stripes: u32,
-    steps: u32,
-) -> anyhow::Result<u64> {
-    let call = read(alloc, 0, stripes / 2)?;
-    repeat(store, &call, steps)
-}
-
-// So many puts of an object of so many stripes.
-fn put_whole(
-    alloc: Global,
-    store: &mut Store<'_>,
-    stripes: u32,
-    steps: u32,
-) -> anyhow::Result<u64> {
-    let call = put(alloc, 0, stripes)?;
-    repeat(store, &call, steps)
-}
-
-// So many questions for the length of an object.
-fn ask(alloc: Global, store: &mut Store<'_>, steps: u32) -> anyhow::Result<u64> {
-    let call = stat(alloc, 0)?;
-    repeat(store, &call, steps)
+// The call that is repeated, of an object of so many stripes.
+fn repeated(alloc: Global, kind: Kind, stripes: u32) -> anyhow::Result<Call> {
+    match kind {
+        Kind::Write => write(alloc, 0, stripes / 2),
+        Kind::Read => read(alloc, 0, stripes / 2),
+        Kind::Stat => stat(alloc, 0),
+        _ => put(alloc, 0, stripes),
+    }
 }
 
 /// Makes a directory of this size: an object's stripes, objects or points.
 pub fn prepare(alloc: Global, store: &mut Store<'_>, kind: Kind, size: u32) -> anyhow::Result<u64> {
     match kind {
         Kind::Renew => put_all(alloc, store, size),
-        Kind::Stat => ask(alloc, store, size),
-        _ => put_whole(alloc, store, size, 1),
+        Kind::Stat => repeat(store, stat(alloc, 0)?, size),
+        _ => repeat(store, put(alloc, 0, size)?, 1),
     }
 }
 
@@ -173,11 +143,8 @@ pub fn work(
     steps: u32,
 ) -> anyhow::Result<u64> {
     match kind {
-        Kind::Write => write_middle(alloc, store, size, steps),
-        Kind::Read => read_middle(alloc, store, size, steps),
-        Kind::Put => put_whole(alloc, store, size, steps),
         Kind::Append => append(alloc, store, size, steps),
         Kind::Renew => renew(alloc, store, size, steps),
-        Kind::Stat => ask(alloc, store, steps),
+        _ => repeat(store, repeated(alloc, kind, size)?, steps),
     }
 }
