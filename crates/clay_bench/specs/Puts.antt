@@ -1,5 +1,5 @@
 -- A put with no bytes.
-use Rattle.std.specs.Prelude.{◌≡◌, true, List, ℕ, Some, []}
+use Rattle.std.specs.Prelude.{◌≡◌, true, Some, []}
 use Rattle.store_map.specs.declared.actor.Actor.TheVariants as actor
 use Rattle.store_core.specs.Content.{written_by}
 use Rattle.version_seal.specs.Entry.{BookOf, RequestOf, IsRequestIn, is_writing}

@@ -1,4 +1,4 @@
-use Rattle.std.proofs.Common.{◌≡◌, ℕ, All, subst, sym, ap, ◌∙◌}
+use Rattle.std.proofs.Common.{All, subst, sym}
 use Rattle.std.proofs.lemmas.List.Elements.{All-push}
 use Rattle.version_seal.specs.Sealed.{ChunkOf}
 use Rattle.chunk_server.specs.Valid.{IsFor}

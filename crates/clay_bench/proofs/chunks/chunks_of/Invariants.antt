@@ -1,4 +1,4 @@
-use Rattle.std.proofs.Common.{◌≡◌, IfOk, All, None, ℕ, length}
+use Rattle.std.proofs.Common.{All}
 use Rattle.chunk_server.specs.Valid.{IsFor}
 use Rattle.clay_bench.proofs.chunks.chunks_of.Given as goal
 
