@@ -18,6 +18,15 @@ pub fn mixed_bytes(alloc: Global, count: u32) -> Result<Vec<u8>, AllocError> {
     Ok(bytes)
 }
 
+// Pieces of one length stand one behind another.
+fn expect_pieces(rt: &impl Abort, bytes: &[u8], len: usize, expected: &[Vec<u8>]) {
+    assert!(rt; len > 0);
+    for (c, piece) in bytes.chunks(len).enumerate() {
+        assert!(rt; c < expected.len());
+        assert_eq!(rt; piece, expected[c].as_slice());
+    }
+}
+
 // Writes the parity chunks over bytes that were there before.
 fn check_parity_into(
     rt: &impl Abort,
@@ -31,10 +40,7 @@ fn check_parity_into(
     let len = g.chunk_len() as usize;
     let mut bytes = vec![in alloc; 0xa5u8; g.m() as usize * len]?;
     parity_into(alloc, g, stripe, &mut bytes)?;
-    assert_eq!(rt; bytes.len(), others.len() * len);
-    for (x, chunk) in others.iter().enumerate() {
-        assert_eq!(rt; chunk.as_slice(), &bytes[x * len..(x + 1) * len]);
-    }
+    expect_pieces(rt, &bytes, len, others);
     Ok(())
 }
 
