@@ -9,3 +9,4 @@ pub mod DirectorySteps
 pub mod Looking
 pub mod Seating
 pub mod Going
+pub mod Having

@@ -1,6 +1,6 @@
 -- A caller with its turns at all places of a store.
-use Rattle.std.specs.Prelude.{◌≡◌, ℕ, ◌+◌, ◌<◌, ◌≤◌, true, false, List, [], ◌∷◌, length, map, Option, Some}
-use Rattle.std.specs.List.{slice_get}
+use Rattle.std.specs.Prelude.{◌≡◌, ℕ, ◌+◌, ◌<◌, ◌≤◌, Bool, true, false, All, List, [], ◌∷◌, length, map, Option, Some}
+use Rattle.std.specs.List.{list_any, slice_get}
 use Rattle.atomic_table.specs.Seated.{TableId}
 use Rattle.clay_grid.specs.Limits.{IsGeometry}
 use Rattle.clay_grid.specs.Shape.{chunk_count}
@@ -88,11 +88,22 @@ pub record IsSeated (store : Store) (seated : Seated) : Type 0 where
   pub knows : Knows (seen_there seated.directory.seen seated.caller.book) seated.caller
   pub counted : seated.steps + left_by store seated ≤ bound_of store.script.now (work_of seated.caller.part)
 
+-- whether it has a step, and one of some callers
+abbrev pub seated_has : Script → Seated → Bool
+seated_has script seated = has_step (work_of seated.caller.part) (calling_of script seated.caller.actor)
+
+abbrev pub some_has : Script → List Seated → Bool
+some_has script callers = list_any (seated_has script) callers
+
+-- callers of books of the script's code
+abbrev pub AreOfCode : Script → List Seated → Type 0
+AreOfCode script callers = All (λ (seated : Seated). seated.caller.book.geometry ≡ script.geometry) callers
+
 -- it has a step
 pub record MayStep (store : Store) (seated : Seated) : Type 0 where
   pub store_is : IsStore store
   pub seated_is : IsSeated store seated
-  pub has : has_step (work_of seated.caller.part) (calling_of store.script.now seated.caller.actor) ≡ true
+  pub has : seated_has store.script.now seated ≡ true
 
 -- after a step it has fewer left
 pub record StepsOn (store : Store) (before after : Seated) : Type 0 where

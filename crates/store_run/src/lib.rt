@@ -11,6 +11,7 @@ mod server_steps;
 mod stepper;
 mod store;
 mod sweeps;
+mod workers;
 
 pub use directory_box::{DirectoryBox, DirectoryIdentity, DirectoryNote};
 pub use gate::{Gate, NoGate, Place};

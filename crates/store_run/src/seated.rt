@@ -1,6 +1,6 @@
 //! A caller with its turns at all places of a store.
 ghost use Rattle.std.specs.Prelude.{◌≡◌, ℕ};
-ghost use Rattle.store_run.specs.Seated.{MayStep, StepsOn, last_by};
+ghost use Rattle.store_run.specs.Seated.{IsSeated, IsStore, MayStep, StepsOn, last_by};
 
 use crate::directory_box::DirectoryBox;
 use crate::directory_steps::step_at_directory;
@@ -94,5 +94,23 @@ impl<'a> Seated<'a> {
         ensures { StepsOn store.now self.old self.new }
     {
         self.turn_after(rt, coder, gate, store);
+    }
+
+    /// Its turn, where it has a step.
+    pub(crate) fn visit<R: Threads + Wait + Sync, C: Coder, G: Gate>(
+        &mut self,
+        rt: &R,
+        coder: &C,
+        gate: &G,
+        store: &Store,
+    )
+        requires store { IsStore store.now }
+        requires seated { IsSeated store.now self.old }
+        ensures { IsSeated store.now self.new }
+    {
+        if !self.caller.has_step() {
+            return;
+        }
+        self.turn(rt, coder, gate, store);
     }
 }
