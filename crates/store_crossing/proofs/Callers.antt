@@ -2,14 +2,9 @@
 use denote.Ref.{NamedLft}
 use denote.Enum.Enum.{Enum}
 use denote.Enum.Declared as enum
-use denote.Param.Send.{IsSend, IsSync, sendable, view_send, view_sync, shr_send, recorded_send, enum_send}
-use denote.Param.SendFields.{declared_send, declared_sync}
-use Rattle.std.proofs.Crossing.{crosses, send, Vec-send, Vec-sync}
-use Rattle.store_map.specs.contracts.call.Call as call
-use Rattle.store_map.specs.contracts.list_of.ListOf.TheInside as list_inside
-use Rattle.store_map.specs.contracts.list_of.ListOf as list
-use Rattle.store_map.specs.contracts.script.ClientPart as client_part
-use Rattle.store_map.specs.contracts.script.RepairPart as repair_part
+use denote.Param.Send.{IsSend, sendable, view_send, shr_send, recorded_send, enum_send}
+use denote.Param.SendFields.{declared_send}
+use Rattle.std.proofs.Crossing.{crosses, send, Vec-send}
 use Rattle.stripe_dir.specs.contracts.tokens.Seat as seat
 use Rattle.call_machine.specs.contracts.call_machine.CallMachine as machine
 use Rattle.world_lines.specs.contracts.calls.EndedCall as ended
@@ -19,16 +14,8 @@ use Rattle.actors.specs.contracts.caller.Caller.TheInside as inside
 use Rattle.actors.specs.contracts.caller.Caller as caller
 use Rattle.store_crossing.proofs.Servers.{opening_send}
 use Rattle.store_crossing.proofs.Locks.{option_send}
-use Rattle.store_crossing.proofs.Calls.{call_sync, machine_send}
-
-calls_sync : IsSync (list.the_row call.the_row)
-calls_sync = view_sync (list_inside.the_row call.the_row) _ _ _ _ (declared_sync (list_inside.the_type call.the_row) (Vec-sync call.the_row call_sync, tt))
-
-client_part_sync : IsSync client_part.the_row
-client_part_sync = declared_sync client_part.the_type (calls_sync, (search sendable depth 20, tt))
-
-repair_part_sync : IsSync repair_part.the_row
-repair_part_sync = search (sendable, crosses) depth 40
+use Rattle.store_crossing.proofs.Calls.{machine_send}
+use Rattle.store_crossing.proofs.Scripts.{client_part_sync, repair_part_sync}
 
 part_send : (ν : NamedLft) → IsSend (part.the_row ν)
 part_send ν =

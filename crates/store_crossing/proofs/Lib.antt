@@ -4,4 +4,5 @@ pub mod Directories
 pub mod Books
 pub mod Locks
 pub mod Calls
+pub mod Scripts
 pub mod Callers

@@ -7,6 +7,7 @@ use actors::Caller;
 use chunk_server::Server;
 use std::thread;
 use std::thread::Threads;
+use store_map::Script;
 use stripe_dir::Directory;
 use sweeper::Sweeper;
 use turn_lock::{Historied, Lock, Turn};
@@ -33,11 +34,23 @@ pub fn directories_cross<R: Threads + Sync>(rt: &R, directories: &mut [Directory
     thread::for_each_mut(rt, directories, threads, &|_, _directory| {});
 }
 
-/// Callers with their calls in work go to threads.
-pub fn callers_cross<R: Threads + Sync>(rt: &R, callers: &mut [Caller], threads: usize)
+/// Callers with their calls in work go to threads, which share a script.
+pub fn callers_cross<R: Threads + Sync>(
+    rt: &R,
+    script: &Script,
+    callers: &mut [Caller],
+    threads: usize,
+)
     requires some { 0 < threads }
 {
-    thread::for_each_mut(rt, callers, threads, &|_, _caller| {});
+    thread::for_each_mut(
+        rt,
+        callers,
+        threads,
+        &|_, _caller| {
+            let _shared = script;
+        },
+    );
 }
 
 /// Sweepers go to threads.
