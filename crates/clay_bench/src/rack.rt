@@ -2,7 +2,6 @@ ghost use Rattle.std.specs.Prelude.{◌≡◌, ◌<◌, All, IfOk, IfSome};
 ghost use Rattle.clay_grid.specs.Shape.{layer_count};
 ghost use Rattle.chunk_server.specs.Valid.{IsFor, MayCome};
 
-use crate::rack::{HALF, ONE, Rack, VERSIONS};
 use chunk_server::{Fetched, Presence, Server};
 use clay_grid::Geometry;
 use std::alloc::{AllocError, Global};
@@ -10,21 +9,43 @@ use std::marker::Model;
 use store_map::Version;
 use version_seal::{Book, SealedChunk};
 
-/// A server of sealed chunks.
+/// How many versions' chunks come to a server in a round.
+pub const VERSIONS: u64 = 256;
+
+// Layers that a fetch asks for: as many as the repair of one chunk takes.
+const HALF: [u32; 4] = [1, 3, 5, 7];
+
+// One of them alone.
+const ONE: [u32; 1] = [5];
+
+/// A call of the server, made once for each version, but a wipe once for all.
+#[derive(Clone, Copy)]
+pub enum ServerCall {
+    Prepare,
+    Has,
+    Settle,
+    FetchOne,
+    FetchHalf,
+    Discard,
+    Install,
+    Wipe,
+}
+
+/// A chunk server beside chunks for it.
 #[derive(Drop)]
-pub struct SealedRack<'a> {
+pub struct Rack<'a> {
     alloc: Global,
     chunks: &'a [SealedChunk],
     server: Server,
     waiting: Vec<SealedChunk>,
 }
 
-impl<'a> Model for SealedRack<'a> {
-    ghost use Rattle.seal_bench.specs.Racks.{RackOf};
+impl<'a> Model for Rack<'a> {
+    ghost use Rattle.clay_bench.specs.Racks.{RackOf};
 
     ghost Value = { RackOf };
 
-    ghost use Rattle.seal_bench.specs.Inside.{rack_in, IsRackIn};
+    ghost use Rattle.clay_bench.specs.Inside.{rack_in, IsRackIn};
 
     ghost view = { rack_in };
 
@@ -59,13 +80,13 @@ fn install_one(server: &mut Server, chunk: SealedChunk) -> Result<(), AllocError
     Ok(())
 }
 
-impl<'a> SealedRack<'a> {
+impl<'a> Rack<'a> {
     /// A server of the book for these chunks, which are its own.
-    pub fn new(alloc: Global, book: &Book, chunks: &'a [SealedChunk]) -> SealedRack<'a>
+    pub fn new(alloc: Global, book: &Book, chunks: &'a [SealedChunk]) -> Rack<'a>
         requires code { layer_count book.now.geometry ≡ 8 }
         requires own { All (IsFor book.now.home 0 book.now.geometry) chunks.now }
     {
-        SealedRack {
+        Rack {
             alloc,
             chunks,
             server: Server::new(alloc, 0, book.opening()),
@@ -91,22 +112,8 @@ impl<'a> SealedRack<'a> {
         Ok(())
     }
 
-    // Fetches these layers of each version.
-    fn fetch(&mut self, layers: &[u32]) -> Result<usize, AllocError>
-        requires { All (λ layer. layer < 8) layers.now }
-    {
-        let mut came = 0usize;
-        for version in 0..VERSIONS {
-            if let Fetched::Part(part) = self.server.fetch(Version(version), layers)? {
-                came = came.saturating_add(part.bytes().len());
-            }
-        }
-        Ok(came)
-    }
-}
-
-impl<'a> Rack for SealedRack<'a> {
-    fn stock(&mut self) -> Result<(), AllocError> {
+    /// Makes a chunk of each version, which waits to be prepared or installed.
+    pub fn stock(&mut self) -> Result<(), AllocError> {
         for chunk in self.chunks {
             let chunk = copy(self.alloc, self.server.geometry(), chunk)?;
             self.put_by(chunk)?;
@@ -114,36 +121,44 @@ impl<'a> Rack for SealedRack<'a> {
         Ok(())
     }
 
-    fn look(&self) -> usize {
-        let mut long = 0usize;
-        for chunk in &self.waiting {
-            long = long.saturating_add(chunk.bytes().len());
+    /// Makes a call for each version, and tells how many are held by a `Has`, or how many bytes came
+    /// by a fetch.
+    pub fn make(&mut self, call: ServerCall) -> Result<u64, AllocError> {
+        match call {
+            ServerCall::Prepare => self.prepare(),
+            ServerCall::Has => Ok(self.has()),
+            ServerCall::Settle => Ok(self.settle()),
+            ServerCall::FetchOne => self.fetch(&ONE),
+            ServerCall::FetchHalf => self.fetch(&HALF),
+            ServerCall::Discard => Ok(self.discard()),
+            ServerCall::Install => self.install(),
+            ServerCall::Wipe => Ok(self.wipe()),
         }
-        long
     }
 
-    fn prepare(&mut self) -> Result<(), AllocError> {
+    fn prepare(&mut self) -> Result<u64, AllocError> {
         for _version in 0..VERSIONS {
             if let Some(chunk) = self.next() {
                 prepare_one(&mut self.server, chunk)?;
             }
         }
-        Ok(())
+        Ok(0)
     }
 
-    fn install(&mut self) -> Result<(), AllocError> {
+    fn install(&mut self) -> Result<u64, AllocError> {
         for _version in 0..VERSIONS {
             if let Some(chunk) = self.next() {
                 install_one(&mut self.server, chunk)?;
             }
         }
-        Ok(())
+        Ok(0)
     }
 
-    fn settle(&mut self) {
+    fn settle(&mut self) -> u64 {
         for version in 0..VERSIONS {
             self.server.settle(Version(version));
         }
+        0
     }
 
     fn has(&self) -> u64 {
@@ -156,21 +171,27 @@ impl<'a> Rack for SealedRack<'a> {
         held
     }
 
-    fn fetch_one(&mut self) -> Result<usize, AllocError> {
-        self.fetch(&ONE)
+    fn fetch(&mut self, layers: &[u32]) -> Result<u64, AllocError>
+        requires { All (λ layer. layer < 8) layers.now }
+    {
+        let mut came = 0u64;
+        for version in 0..VERSIONS {
+            if let Fetched::Part(part) = self.server.fetch(Version(version), layers)? {
+                came = came.saturating_add(part.bytes().len() as u64);
+            }
+        }
+        Ok(came)
     }
 
-    fn fetch_half(&mut self) -> Result<usize, AllocError> {
-        self.fetch(&HALF)
-    }
-
-    fn discard(&mut self) {
+    fn discard(&mut self) -> u64 {
         for version in 0..VERSIONS {
             self.server.discard(Version(version));
         }
+        0
     }
 
-    fn wipe(&mut self) {
+    fn wipe(&mut self) -> u64 {
         self.server.wipe();
+        0
     }
 }

@@ -1,5 +1,5 @@
 -- A server of sealed chunks beside chunks for it.
-use Rattle.std.specs.Prelude.{◌≡◌, ℕ, List, All}
+use Rattle.std.specs.Prelude.{◌≡◌, List, All}
 use Rattle.clay_grid.specs.Shape.{layer_count}
 use Rattle.version_seal.specs.Sealed.{ChunkOf}
 use Rattle.chunk_server.specs.State.{ServerState}

@@ -1,6 +1,5 @@
 //! The calls that are made.
 
-use crate::work::Trouble;
 use std::alloc::Global;
 use store_map::{Call, Content, Name};
 
@@ -14,16 +13,13 @@ fn content(stripes: u32) -> Content {
 }
 
 // The name of the object with this number.
-fn name(alloc: Global, object: u32) -> Result<Name, Trouble> {
+fn name(alloc: Global, object: u32) -> anyhow::Result<Name> {
     let text = format!(in alloc; "o{object}")?;
-    match Name::new(alloc, &text) {
-        Ok(name) => Ok(name),
-        Err(_) => Err(Trouble::Words),
-    }
+    Ok(Name::new(alloc, &text)?)
 }
 
 /// A put of so many stripes.
-pub fn put(alloc: Global, object: u32, stripes: u32) -> Result<Call, Trouble> {
+pub fn put(alloc: Global, object: u32, stripes: u32) -> anyhow::Result<Call> {
     Ok(Call::Put {
         name: name(alloc, object)?,
         content: content(stripes),
@@ -31,7 +27,7 @@ pub fn put(alloc: Global, object: u32, stripes: u32) -> Result<Call, Trouble> {
 }
 
 /// A write over one stripe.
-pub fn write(alloc: Global, object: u32, stripe: u32) -> Result<Call, Trouble> {
+pub fn write(alloc: Global, object: u32, stripe: u32) -> anyhow::Result<Call> {
     Ok(Call::Write {
         name: name(alloc, object)?,
         offset: stripe.saturating_mul(STRIPE),
@@ -40,7 +36,7 @@ pub fn write(alloc: Global, object: u32, stripe: u32) -> Result<Call, Trouble> {
 }
 
 /// A read of one stripe.
-pub fn read(alloc: Global, object: u32, stripe: u32) -> Result<Call, Trouble> {
+pub fn read(alloc: Global, object: u32, stripe: u32) -> anyhow::Result<Call> {
     Ok(Call::ReadAt {
         name: name(alloc, object)?,
         offset: stripe.saturating_mul(STRIPE),
@@ -48,12 +44,12 @@ pub fn read(alloc: Global, object: u32, stripe: u32) -> Result<Call, Trouble> {
     })
 }
 
-pub fn stat(alloc: Global, object: u32) -> Result<Call, Trouble> {
+pub fn stat(alloc: Global, object: u32) -> anyhow::Result<Call> {
     let name = name(alloc, object)?;
     Ok(Call::Stat { name })
 }
 
-pub fn delete(alloc: Global, object: u32) -> Result<Call, Trouble> {
+pub fn delete(alloc: Global, object: u32) -> anyhow::Result<Call> {
     let name = name(alloc, object)?;
     Ok(Call::Delete { name })
 }

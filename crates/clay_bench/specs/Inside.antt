@@ -1,6 +1,6 @@
 -- The fields as the record.
-use Rattle.seal_bench.specs.Racks.{RackOf, IsRack}
-use Rattle.seal_bench.specs.declared.sealed_rack.SealedRack.TheInside.{Inside}
+use Rattle.clay_bench.specs.Racks.{RackOf, IsRack}
+use Rattle.clay_bench.specs.declared.rack.Rack.TheInside.{Inside}
 
 abbrev pub rack_in : Inside → RackOf
 rack_in a = record { server = a.server; chunks = a.chunks.now; waiting = a.waiting.items }
