@@ -59,6 +59,11 @@ fn make(store: &mut Store<'_>, call: &Call) -> anyhow::Result<()> {
     }
 }
 
+// A call to its end, which isn't kept.
+fn make_new(store: &mut Store<'_>, call: Call) -> anyhow::Result<()> {
+    make(store, &call)
+}
+
 // Sweeps all garbage: so many versions.
 fn sweep(store: &mut Store<'_>) -> u64 {
     let mut swept: u64 = 0;
@@ -72,25 +77,25 @@ fn sweep(store: &mut Store<'_>) -> u64 {
     swept
 }
 
-// A call once, which isn't kept.
-fn make_once(store: &mut Store<'_>, call: Call) -> anyhow::Result<()> {
-    make(store, &call)
-}
-
 // A call so many times, swept after each.
-fn repeat(store: &mut Store<'_>, call: Call, steps: u32) -> anyhow::Result<u64> {
+fn repeat(store: &mut Store<'_>, call: &Call, steps: u32) -> anyhow::Result<u64> {
     let mut swept: u64 = 0;
     for _ in 0..steps {
-        make(store, &call)?;
+        make(store, call)?;
         swept = swept.saturating_add(sweep(store));
     }
     Ok(swept)
 }
 
+// A call so many times, which isn't kept.
+fn repeat_new(store: &mut Store<'_>, call: Call, steps: u32) -> anyhow::Result<u64> {
+    repeat(store, &call, steps)
+}
+
 // So many writes of a stripe, each behind the object's end.
 fn append(alloc: Global, store: &mut Store<'_>, stripes: u32, steps: u32) -> anyhow::Result<u64> {
     for step in 0..steps {
-        make_once(store, write(alloc, 0, stripes.saturating_add(step))?)?;
+        make_new(store, write(alloc, 0, stripes.saturating_add(step))?)?;
     }
     Ok(sweep(store))
 }
@@ -98,7 +103,7 @@ fn append(alloc: Global, store: &mut Store<'_>, stripes: u32, steps: u32) -> any
 // So many objects of a stripe.
 fn put_all(alloc: Global, store: &mut Store<'_>, objects: u32) -> anyhow::Result<u64> {
     for object in 0..objects {
-        make_once(store, put(alloc, object, 1)?)?;
+        make_new(store, put(alloc, object, 1)?)?;
     }
     Ok(0)
 }
@@ -107,9 +112,11 @@ fn put_all(alloc: Global, store: &mut Store<'_>, objects: u32) -> anyhow::Result
 fn renew(alloc: Global, store: &mut Store<'_>, objects: u32, steps: u32) -> anyhow::Result<u64> {
     let mut swept: u64 = 0;
     for step in 0..steps {
-        let oldest = step.checked_rem(objects).unwrap_or(0);
-        make_once(store, delete(alloc, oldest)?)?;
-        make_once(store, put(alloc, oldest, 1)?)?;
+        let Some(oldest) = step.checked_rem(objects) else {
+            bail!("there are no objects");
+        };
+        make_new(store, delete(alloc, oldest)?)?;
+        make_new(store, put(alloc, oldest, 1)?)?;
         swept = swept.saturating_add(sweep(store));
     }
     Ok(swept)
@@ -129,8 +136,8 @@ fn repeated(alloc: Global, kind: Kind, stripes: u32) -> anyhow::Result<Call> {
 pub fn prepare(alloc: Global, store: &mut Store<'_>, kind: Kind, size: u32) -> anyhow::Result<u64> {
     match kind {
         Kind::Renew => put_all(alloc, store, size),
-        Kind::Stat => repeat(store, stat(alloc, 0)?, size),
-        _ => repeat(store, put(alloc, 0, size)?, 1),
+        Kind::Stat => repeat_new(store, stat(alloc, 0)?, size),
+        _ => repeat_new(store, put(alloc, 0, size)?, 1),
     }
 }
 
@@ -145,6 +152,6 @@ pub fn work(
     match kind {
         Kind::Append => append(alloc, store, size, steps),
         Kind::Renew => renew(alloc, store, size, steps),
-        _ => repeat(store, repeated(alloc, kind, size)?, steps),
+        _ => repeat_new(store, repeated(alloc, kind, size)?, steps),
     }
 }

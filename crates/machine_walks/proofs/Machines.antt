@@ -1,13 +1,14 @@
 -- Calls of all machines.
-use Rattle.std.proofs.Common.{◌≡◌, ℕ, Bool, true, List, ◌++◌, IsTrue}
+use Rattle.std.proofs.Common.{◌≡◌, ℕ, Bool, true, List, ◌++◌}
 use Rattle.store_map.specs.declared.call.Call.{Call}
 use Rattle.store_core.specs.Agreement.{Seat}
 use Rattle.version_seal.specs.Entry.{BookOf, StampOf}
 use Rattle.stripe_dir.specs.Sealed.{Sealed}
 use Rattle.client_patch.specs.Known.{KnowsOld}
 use Rattle.client_patch.proofs.Knowing.{more_stamps_are_known}
-use Rattle.call_machine.specs.Kinds.{Asked, Machine, client_machine, machine_of, IfPatches, IfDraws}
+use Rattle.call_machine.specs.Kinds.{Asked, Machine, client_machine, IfPatches, IfDraws}
 use Rattle.call_machine.specs.Calls.{MachineOf, first_call, patch_of, KnowsFor, KnowsOldOf, drawn_in, drawn_for, drawn_by}
+use Rattle.machine_walks.specs.Patching.{is_patching}
 use Rattle.machine_walks.specs.Whole.{AreWhole, Grows}
 use Rattle.machine_walks.proofs.Whole.{drawn_whole, grows, none}
 
@@ -28,6 +29,13 @@ patches_so Machine.Patches so holds = so holds
 patches_so Machine.Puts so holds = tt
 patches_so Machine.Reads so holds = tt
 patches_so Machine.Rebuilds so holds = tt
+
+-- what is asked of a write or a delete alone
+pub asked_by_patches : {P : Type 0} (m : Machine) (patches : Bool) → patches ≡ is_patching m → (patches ≡ true → P) → IfPatches m P
+asked_by_patches Machine.Patches patches told so = so told
+asked_by_patches Machine.Puts patches told so = tt
+asked_by_patches Machine.Reads patches told so = tt
+asked_by_patches Machine.Rebuilds patches told so = tt
 
 -- nothing is kept before the first step
 pub first_knows : (d : Sealed) (book : BookOf) (tries : ℕ) (seat : Seat) (number : ℕ) (asked : Asked) → KnowsOldOf d (first_call book tries seat number asked)

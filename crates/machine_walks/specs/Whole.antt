@@ -1,5 +1,5 @@
 -- Contents that are whole stripes.
-use Rattle.std.specs.Prelude.{◌≡◌, ⊤, ℕ, ◌*◌, ◌≤◌, List, [], ◌∷◌, ◌++◌, length, All}
+use Rattle.std.specs.Prelude.{◌≡◌, ⊤, ◌*◌, ◌≤◌, List, [], ◌∷◌, ◌++◌, length, All}
 use Rattle.clay_grid.specs.Shape.{stripe_length}
 use Rattle.store_core.specs.Directory.{Object}
 use Rattle.version_seal.specs.Entry.{BookOf, StampOf}

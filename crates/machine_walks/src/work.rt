@@ -1,6 +1,6 @@
 //! A call in work.
 
-ghost use Rattle.std.specs.Prelude.{◌≡◌, ◌<◌, true, IsTrue};
+ghost use Rattle.std.specs.Prelude.{◌≡◌, ◌<◌, true};
 ghost use Rattle.clay_grid.specs.Shape.{chunk_count};
 ghost use Rattle.chunk_server.specs.Core.{core_of};
 ghost use Rattle.call_steps.specs.Steps.{IfServer};
@@ -8,10 +8,9 @@ ghost use Rattle.store_core.specs.Agreement.{Agrees, ActorToken};
 ghost use Rattle.stripe_dir.specs.Sealed.{Sealed};
 ghost use Rattle.stripe_dir.specs.Seats.{client_seat, repairer_seat};
 ghost use Rattle.call_steps.specs.Steps.{need_of, stepped_at_directory, stepped_at_server};
-ghost use Rattle.call_machine.specs.Kinds.{machine_of, IfPatches};
+ghost use Rattle.call_machine.specs.Kinds.{client_machine, machine_of};
+ghost use Rattle.machine_walks.specs.Patching.{is_patching};
 ghost use Rattle.machine_walks.specs.Small.{small_code};
-ghost use Rattle.machine_walks.specs.Works.{call_of, Knows};
-ghost use Rattle.machine_walks.specs.Whole.{AreWhole, IsReady, Grows};
 
 use crate::padding::are_padded;
 use crate::said::said;
@@ -32,10 +31,20 @@ const TRIES: u32 = 2;
 pub(crate) struct InWork<'a> {
     pub(crate) machine: CallMachine<'a>,
     pub(crate) patches: bool,
-    pub(crate) ghost told: { IfPatches (machine_of machine.asked) (IsTrue patches) },
+    pub(crate) ghost told: { patches ≡ is_patching (machine_of machine.asked) },
+}
+
+// A write or a delete.
+fn is_patch(call: &Call) -> bool
+    ensures { result ≡ is_patching (client_machine call.now) }
+{
+    matches!(call, Call::Write { .. } | Call::Delete { .. })
 }
 
 impl<'a> InWork<'a> {
+    ghost use Rattle.machine_walks.specs.Works.{call_of, Knows};
+    ghost use Rattle.machine_walks.specs.Whole.{AreWhole, IsReady, Grows};
+
     /// The first call of a client.
     pub(crate) fn client(
         alloc: Global,
@@ -50,10 +59,9 @@ impl<'a> InWork<'a> {
         ensures book { (call_of result).book ≡ opening }
         ensures knows { (d : Sealed) → Knows d result }
     {
-        let patches = matches!(call, Call::Write { .. } | Call::Delete { .. });
         InWork {
             machine: CallMachine::client(alloc, seat, client, 0, call, opening, TRIES),
-            patches,
+            patches: is_patch(call),
         }
     }
 
