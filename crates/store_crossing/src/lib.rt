@@ -14,12 +14,7 @@ use turn_lock::{Historied, Lock, Turn};
 use version_seal::Book;
 
 /// Chunk servers go to threads, which share a book.
-pub fn servers_cross<R: Threads + Sync>(
-    rt: &R,
-    book: &Book,
-    servers: &mut [Server],
-    threads: usize,
-)
+pub fn servers_cross<R: Threads + Sync>(rt: &R, book: &Book, servers: &mut [Server], threads: usize)
     requires some { 0 < threads }
 {
     thread::for_each_mut(

@@ -1,11 +1,8 @@
-use Rattle.std.proofs.Common.{◌≡◌, ◌∷◌, ◌++◌, [], ℕ, List, Some, sym, ap, subst, ◌∙◌}
+use Rattle.std.proofs.Common.{◌≡◌, ◌∷◌, ◌++◌, [], ℕ, sym, ap, subst, ◌∙◌}
 use Rattle.store_core.specs.Agreement.{Agrees}
-use Rattle.stripe_dir.specs.Sealed.{Sealed}
 use Rattle.call_machine.specs.Calls.{MachineOf}
-use Rattle.world_steps.specs.Tokens.{token_of}
 use Rattle.actors.specs.Callers.{CallerOf}
 use Rattle.actors.specs.Steps.{MadeAtDirectory}
-use Rattle.turn_lock.specs.History.{Among}
 use Rattle.turn_lock.specs.TurnState.{TurnState}
 use Rattle.run_steps.specs.Noted.{Noted}
 use Rattle.run_steps.specs.Numbers.{Counts}
@@ -69,12 +66,12 @@ give_step-requires g c =
     let number : (entry_at_directory c.args.stepper.number c.of-stood.result.value.work c.on_directory-left.result.value c.of-before.result.value.directory c.take-held.new.turn.seen g.last).0 ≡ c.args.stepper.number =
     number_is c.args.stepper.number c.of-stood.result.value.work c.on_directory-left.result.value c.of-before.result.value.directory c.take-held.new.turn.seen g.last in (
       holding c.args.lock.now c.args.stepper.number _ (directory_identity c.take-held.result) _ c.args.turn.now c.take-held.new.turn c.requires.1.1.0 c.take-held.ensures.turn c.take-held.ensures.fixed
-      (λ i. record { opening = c.on_directory-left.ensures.book i; max = c.take-held.result.max; clients = c.take-held.result.clients; repairers = c.take-held.result.repairers }) number,
+          (λ i. record { opening = c.on_directory-left.ensures.book i; max = c.take-held.result.max; clients = c.take-held.result.clients; repairers = c.take-held.result.repairers }) number,
       subst (λ (b : DirectoryBox). StandsAtDirectory of held.max now (log ++ entry_at_directory n c.of-stood.result.value.work left b.directory log g.last ∷ []))
-      (sym c.of-before.ensures)
-      (subst (λ (x : CallerOf). StandsAtDirectory of held.max now (log ++ entry_at_directory n x.work left held.directory log g.last ∷ []))
-      (sym c.of-stood.ensures)
-      (caller_stands of n held.max c.args.turn.now.numbers c.args.turn.now.seen log held.directory before.call there g.last a left (work_is before.call a before.work) now made c.on_directory-left.ensures.book)),
+          (sym c.of-before.ensures)
+          (subst (λ (x : CallerOf). StandsAtDirectory of held.max now (log ++ entry_at_directory n x.work left held.directory log g.last ∷ []))
+          (sym c.of-stood.ensures)
+          (caller_stands of n held.max c.args.turn.now.numbers c.args.turn.now.seen log held.directory before.call there g.last a left (work_is before.call a before.work) now made c.on_directory-left.ensures.book)),
     )
 
 pub returns-clause-step : goal.returns-clause-step

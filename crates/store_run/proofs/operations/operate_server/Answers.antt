@@ -1,4 +1,4 @@
-use Rattle.std.proofs.Common.{◌≡◌, ◌∷◌, ◌++◌, [], ℕ, List, Some, refl, sym, ap, subst, ◌∙◌}
+use Rattle.std.proofs.Common.{◌∷◌, ◌++◌, [], ℕ, refl, sym, ap, subst, ◌∙◌}
 use Rattle.store_map.specs.declared.actor.Actor.TheVariants as actor
 use Rattle.store_core.specs.Act.{Act}
 use Rattle.store_core.specs.Server.{Server}
@@ -30,12 +30,12 @@ give_server-requires g c =
     let now = c.operate.new.server in
     let f = line_fits _ c.args.turn.now.fixed n c.args.line c.take-held.ensures.fixed c.requires.1.1.1 in (
       holding c.args.lock.now c.args.stepper.number _ (server_identity c.take-held.result) _ c.args.turn.now c.take-held.new.turn c.requires.1.1.0 c.take-held.ensures.turn c.take-held.ensures.fixed
-      (λ i. record { number = c.operate.ensures.same.number i; opening = c.operate.ensures.same.book i; clients = c.take-held.result.clients; repairers = c.take-held.result.repairers }) refl,
+          (λ i. record { number = c.operate.ensures.same.number i; opening = c.operate.ensures.same.book i; clients = c.take-held.result.clients; repairers = c.take-held.result.repairers }) refl,
       subst (λ (number : ℕ). StandsAtServer of number (core_of now) (log ++ plain_at_server n actor.Operator (Act.AtServer c.of-before.result.value.server.number step) (core_of c.of-before.result.value.server) log g.last ∷ []))
-      (sym c.operate.ensures.same.number)
-      (subst (λ (b : ServerBox). StandsAtServer of held.server.number (core_of now) (log ++ plain_at_server n actor.Operator (Act.AtServer b.server.number step) (core_of b.server) log g.last ∷ []))
-      (sym c.of-before.ensures)
-      (plain_stands held.server.number n g.last actor.Operator step (core_of held.server) (core_of now) (ap (λ (p : Server × Told). p.0) c.operate.ensures.core) log of c.take-held.ensures.stands f.turn)),
+          (sym c.operate.ensures.same.number)
+          (subst (λ (b : ServerBox). StandsAtServer of held.server.number (core_of now) (log ++ plain_at_server n actor.Operator (Act.AtServer b.server.number step) (core_of b.server) log g.last ∷ []))
+          (sym c.of-before.ensures)
+          (plain_stands held.server.number n g.last actor.Operator step (core_of held.server) (core_of now) (ap (λ (p : Server × Told). p.0) c.operate.ensures.core) log of c.take-held.ensures.stands f.turn)),
     )
 
 pub returns-clause-step : goal.returns-clause-step

@@ -1,4 +1,4 @@
-use Rattle.std.proofs.Common.{◌≡◌, ◌∷◌, ◌++◌, [], ℕ, List, refl, sym, ap, subst, ◌∙◌}
+use Rattle.std.proofs.Common.{◌∷◌, ◌++◌, [], refl, sym, ap, subst, ◌∙◌}
 use Rattle.store_map.specs.declared.actor.Actor.TheVariants as actor
 use Rattle.store_core.specs.Act.{Act, DirectoryStep}
 use Rattle.store_core.specs.Directory.{Directory}
@@ -26,11 +26,11 @@ give_directory-requires g c =
     let now = c.reap.new.self in
     let turn = line_turn _ c.args.turn.now.fixed n c.take-held.ensures.fixed c.requires.1.1.1 in (
       holding c.args.lock.now c.args.stepper.number _ (directory_identity c.take-held.result) _ c.args.turn.now c.take-held.new.turn c.requires.1.1.0 c.take-held.ensures.turn c.take-held.ensures.fixed
-      (λ i. record { opening = c.reap.ensures.book i; max = c.take-held.result.max; clients = c.take-held.result.clients; repairers = c.take-held.result.repairers }) refl,
+          (λ i. record { opening = c.reap.ensures.book i; max = c.take-held.result.max; clients = c.take-held.result.clients; repairers = c.take-held.result.repairers }) refl,
       subst (λ (b : DirectoryBox). StandsAtDirectory of held.max now (log ++ plain_at_directory n actor.Operator (Act.AtDirectory step) b.directory log g.last ∷ []))
-      (sym c.of-before.ensures)
-      (plain_stands_there n g.last actor.Operator (λ no. no) step tt held.directory now (ap (λ (p : Directory × Told). p.0) (c.reap.ensures.step actor.Operator 0)) log of held.max c.keeps.ensures.bytes
-      c.keeps.ensures.whole.sound c.reap.ensures.book c.reap.ensures.stamps c.take-held.ensures.stands turn),
+          (sym c.of-before.ensures)
+          (plain_stands_there n g.last actor.Operator (λ no. no) step tt held.directory now (ap (λ (p : Directory × Told). p.0) (c.reap.ensures.step actor.Operator 0)) log of held.max c.keeps.ensures.bytes
+          c.keeps.ensures.whole.sound c.reap.ensures.book c.reap.ensures.stamps c.take-held.ensures.stands turn),
     )
 
 pub returns-clause-step : goal.returns-clause-step

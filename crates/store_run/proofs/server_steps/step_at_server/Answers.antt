@@ -1,15 +1,11 @@
-use Rattle.std.proofs.Common.{◌≡◌, ◌∷◌, ◌++◌, [], ℕ, List, Some, sym, ap, subst, ◌∙◌}
-use Rattle.store_core.specs.Tokens.{actor_of}
+use Rattle.std.proofs.Common.{◌≡◌, ◌∷◌, ◌++◌, [], ℕ, sym, ap, subst, ◌∙◌}
 use Rattle.store_merge.specs.MadeSteps.{MadeStep}
 use Rattle.chunk_server.specs.Core.{core_of}
-use Rattle.call_steps.specs.declared.need.Need.TheVariants as need
-use Rattle.call_steps.specs.Steps.{need_of}
 use Rattle.call_machine.specs.Calls.{MachineOf}
 use Rattle.actors.specs.Callers.{CallerOf}
 use Rattle.actors.specs.Steps.{MadeAtServer}
-use Rattle.turn_lock.specs.History.{Among}
 use Rattle.turn_lock.specs.TurnState.{TurnState}
-use Rattle.run_steps.specs.Numbers.{Counts, IsTurnOf}
+use Rattle.run_steps.specs.Numbers.{Counts}
 use Rattle.run_steps.specs.AtServer.{StandsAtServer}
 use Rattle.store_run.specs.Stepped.{entry_at_server}
 use Rattle.store_run.specs.Fixed.{server_identity}
@@ -46,14 +42,14 @@ give_step-requires g c =
     let number : (entry_at_server c.args.stepper.number c.of-stood.result.value.work c.on_server-left.result.value (core_of c.of-before.result.value.server) c.take-held.new.turn.seen g.last).0 ≡ c.args.stepper.number =
     number_is c.args.stepper.number c.of-stood.result.value.work c.on_server-left.result.value (core_of c.of-before.result.value.server) c.take-held.new.turn.seen g.last in (
       holding c.args.lock.now c.args.stepper.number _ (server_identity c.take-held.result) _ c.args.turn.now c.take-held.new.turn c.requires.1.1.0 c.take-held.ensures.turn c.take-held.ensures.fixed
-      (λ i. record { number = c.on_server-left.ensures.same.number i; opening = c.on_server-left.ensures.same.book i; clients = c.take-held.result.clients; repairers = c.take-held.result.repairers }) number,
+          (λ i. record { number = c.on_server-left.ensures.same.number i; opening = c.on_server-left.ensures.same.book i; clients = c.take-held.result.clients; repairers = c.take-held.result.repairers }) number,
       subst (λ (number : ℕ). StandsAtServer of number (core_of s) (log ++ entry_at_server n c.of-stood.result.value.work left (core_of c.of-before.result.value.server) log g.last ∷ []))
-      (sym c.on_server-left.ensures.same.number)
-      (subst (λ (b : ServerBox). StandsAtServer of held.server.number (core_of s) (log ++ entry_at_server n c.of-stood.result.value.work left (core_of b.server) log g.last ∷ []))
-      (sym c.of-before.ensures)
-      (subst (λ (a : CallerOf). StandsAtServer of held.server.number (core_of s) (log ++ entry_at_server n a.work left (core_of held.server) log g.last ∷ []))
-      (sym c.of-stood.ensures)
-      (caller_stands n g.last c.args.caller.now before.call left (work_is before.call c.args.caller.now before.work) held.server s made h.needs log of c.take-held.ensures.stands h.turn))),
+          (sym c.on_server-left.ensures.same.number)
+          (subst (λ (b : ServerBox). StandsAtServer of held.server.number (core_of s) (log ++ entry_at_server n c.of-stood.result.value.work left (core_of b.server) log g.last ∷ []))
+          (sym c.of-before.ensures)
+          (subst (λ (a : CallerOf). StandsAtServer of held.server.number (core_of s) (log ++ entry_at_server n a.work left (core_of held.server) log g.last ∷ []))
+          (sym c.of-stood.ensures)
+          (caller_stands n g.last c.args.caller.now before.call left (work_is before.call c.args.caller.now before.work) held.server s made h.needs log of c.take-held.ensures.stands h.turn))),
     )
 
 pub returns-clause-step : goal.returns-clause-step

@@ -1,4 +1,4 @@
-use Rattle.std.proofs.Common.{◌≡◌, ◌∷◌, ◌++◌, [], ℕ, List, refl, sym, ap, subst, ◌∙◌}
+use Rattle.std.proofs.Common.{◌∷◌, ◌++◌, [], refl, sym, ap, subst, ◌∙◌}
 use Rattle.store_map.specs.declared.actor.Actor.TheVariants as actor
 use Rattle.sweeper.specs.Sweeps.{SweeperOf, act_of}
 use Rattle.turn_lock.specs.TurnState.{TurnState}
@@ -26,13 +26,13 @@ give_directory-requires g c =
     let now = c.on_directory.new.d in
     let turn = sweep_turn _ c.args.turn.now.fixed n s c.take-held.ensures.fixed c.requires.1.1.1 in (
       holding c.args.lock.now c.args.stepper.number _ (directory_identity c.take-held.result) _ c.args.turn.now c.take-held.new.turn c.requires.1.1.0 c.take-held.ensures.turn c.take-held.ensures.fixed
-      (λ i. record { opening = c.on_directory.ensures.book i; max = c.take-held.result.max; clients = c.take-held.result.clients; repairers = c.take-held.result.repairers }) refl,
+          (λ i. record { opening = c.on_directory.ensures.book i; max = c.take-held.result.max; clients = c.take-held.result.clients; repairers = c.take-held.result.repairers }) refl,
       subst (λ (b : DirectoryBox). StandsAtDirectory of held.max now (log ++ plain_at_directory n actor.Sweeper (act_of c.of-stood.result.value) b.directory log g.last ∷ []))
-      (sym c.of-before.ensures)
-      (subst (λ (x : SweeperOf). StandsAtDirectory of held.max now (log ++ plain_at_directory n actor.Sweeper (act_of x) held.directory log g.last ∷ []))
-      (sym c.of-stood.ensures)
-      (sweep_stands_there n g.last s c.on_directory.new.self c.requires.1.1.1.needs held.directory now (c.on_directory.ensures.step actor.Sweeper 0) log of held.max c.keeps.ensures.bytes c.keeps.ensures.whole.sound
-      c.on_directory.ensures.book c.on_directory.ensures.stamps c.take-held.ensures.stands turn)),
+          (sym c.of-before.ensures)
+          (subst (λ (x : SweeperOf). StandsAtDirectory of held.max now (log ++ plain_at_directory n actor.Sweeper (act_of x) held.directory log g.last ∷ []))
+          (sym c.of-stood.ensures)
+          (sweep_stands_there n g.last s c.on_directory.new.self c.requires.1.1.1.needs held.directory now (c.on_directory.ensures.step actor.Sweeper 0) log of held.max c.keeps.ensures.bytes c.keeps.ensures.whole.sound
+          c.on_directory.ensures.book c.on_directory.ensures.stamps c.take-held.ensures.stands turn)),
     )
 
 pub returns-clause-step : goal.returns-clause-step

@@ -1,4 +1,4 @@
-use Rattle.std.proofs.Common.{◌≡◌, ◌∷◌, ◌++◌, [], ℕ, List, refl, sym, ap, subst, ◌∙◌}
+use Rattle.std.proofs.Common.{◌∷◌, ◌++◌, [], ℕ, refl, sym, ap, subst, ◌∙◌}
 use Rattle.store_map.specs.declared.actor.Actor.TheVariants as actor
 use Rattle.store_merge.specs.MadeSteps.{MadeStep}
 use Rattle.chunk_server.specs.Core.{core_of}
@@ -27,14 +27,14 @@ give_server-requires g c =
     let now = c.on_server.new.s in
     let f = sweep_fits _ c.args.turn.now.fixed n s c.take-held.ensures.fixed c.requires.1.1.1 in (
       holding c.args.lock.now c.args.stepper.number _ (server_identity c.take-held.result) _ c.args.turn.now c.take-held.new.turn c.requires.1.1.0 c.take-held.ensures.turn c.take-held.ensures.fixed
-      (λ i. record { number = c.on_server.ensures.same.number i; opening = c.on_server.ensures.same.book i; clients = c.take-held.result.clients; repairers = c.take-held.result.repairers }) refl,
+          (λ i. record { number = c.on_server.ensures.same.number i; opening = c.on_server.ensures.same.book i; clients = c.take-held.result.clients; repairers = c.take-held.result.repairers }) refl,
       subst (λ (number : ℕ). StandsAtServer of number (core_of now) (log ++ plain_at_server n actor.Sweeper (act_of c.of-stood.result.value) (core_of c.of-before.result.value.server) log g.last ∷ []))
-      (sym c.on_server.ensures.same.number)
-      (subst (λ (b : ServerBox). StandsAtServer of held.server.number (core_of now) (log ++ plain_at_server n actor.Sweeper (act_of c.of-stood.result.value) (core_of b.server) log g.last ∷ []))
-      (sym c.of-before.ensures)
-      (subst (λ (x : SweeperOf). StandsAtServer of held.server.number (core_of now) (log ++ plain_at_server n actor.Sweeper (act_of x) (core_of held.server) log g.last ∷ []))
-      (sym c.of-stood.ensures)
-      (sweep_stands n g.last s c.on_server.new.self held.server.number f.needs (core_of held.server) (core_of now) c.on_server.ensures.step log of c.take-held.ensures.stands f.turn))),
+          (sym c.on_server.ensures.same.number)
+          (subst (λ (b : ServerBox). StandsAtServer of held.server.number (core_of now) (log ++ plain_at_server n actor.Sweeper (act_of c.of-stood.result.value) (core_of b.server) log g.last ∷ []))
+          (sym c.of-before.ensures)
+          (subst (λ (x : SweeperOf). StandsAtServer of held.server.number (core_of now) (log ++ plain_at_server n actor.Sweeper (act_of x) (core_of held.server) log g.last ∷ []))
+          (sym c.of-stood.ensures)
+          (sweep_stands n g.last s c.on_server.new.self held.server.number f.needs (core_of held.server) (core_of now) c.on_server.ensures.step log of c.take-held.ensures.stands f.turn))),
     )
 
 pub returns-clause-step : goal.returns-clause-step
