@@ -1,6 +1,6 @@
 -- A caller's step at the directory, as the turn that gives it back has it.
 use Rattle.std.proofs.Common.{◌≡◌, ℕ, ◌<◌, List, [], ◌∷◌, ◌++◌, Option, None, Some, refl, sym, ap, subst, ◌∙◌}
-use Rattle.clay_grid.specs.Shape.{Shape, stripe_length}
+use Rattle.clay_grid.specs.Shape.{stripe_length}
 use Rattle.store_core.specs.Agreement.{Agrees}
 use Rattle.store_core.specs.Sound.{IsSound}
 use Rattle.store_core.specs.Tokens.{actor_of}

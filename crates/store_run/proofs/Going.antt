@@ -1,14 +1,11 @@
 -- A seated caller after its step.
-use Rattle.std.proofs.Common.{◌≡◌, ℕ, zero, suc, ◌+◌, ◌<◌, ◌≤◌, false, List, [], ◌∷◌, length, map, get_or, set, length-set, slice_get, Option, None, Some, IfSome, unwrap_or, refl, sym, ap, subst, ◌∙◌, arith, eq-eqb, Bool, ◌||◌, ◌^◌}
+use Rattle.std.proofs.Common.{◌≡◌, ℕ, zero, suc, ◌+◌, ◌<◌, ◌≤◌, false, List, [], ◌∷◌, length, map, get_or, set, length-set, slice_get, Option, Some, IfSome, unwrap_or, refl, sym, ap, subst, ◌∙◌, arith, eq-eqb, Bool, ◌||◌, ◌^◌}
 use Rattle.std.proofs.lemmas.List.{length-map}
 use Rattle.std.proofs.lemmas.Option.{none-some, same_Some}
 use Rattle.atomic_table.specs.Seated.{TableId}
 use Rattle.clay_grid.specs.Shape.{Shape, chunk_count}
-use Rattle.store_map.specs.Limits.{size_of}
 use Rattle.store_map.specs.declared.script.Script.{Script}
-use Rattle.store_core.specs.Act.{Act, Outcome}
-use Rattle.store_core.specs.ActPlace.{Place}
-use Rattle.store_core.specs.Lists.{change_at}
+use Rattle.store_core.specs.Act.{Act}
 use Rattle.store_core.specs.Work.{Work}
 use Rattle.store_merge.specs.MadeSteps.{MadeStep}
 use Rattle.version_seal.specs.Entry.{BookOf}
@@ -18,7 +15,7 @@ use Rattle.call_steps.specs.declared.need.Need.TheVariants as need
 use Rattle.call_steps.specs.CallOf.{CallOf, act_of}
 use Rattle.call_steps.specs.Steps.{need_of}
 use Rattle.call_machine.specs.Calls.{MachineOf}
-use Rattle.world_steps.specs.World.{ActorOf, DoingOf, steps_of}
+use Rattle.world_steps.specs.World.{ActorOf}
 use Rattle.world_steps.specs.ActorAfter.{actor_after, actor_after_by}
 use Rattle.actors.specs.Callers.{CallerOf, Knows, work_of}
 use Rattle.actors.specs.Steps.{Concludes, IsReady, in_work}
@@ -26,13 +23,12 @@ use Rattle.turn_lock.specs.History.{Among}
 use Rattle.turn_lock.specs.TurnState.{TurnState}
 use Rattle.run_steps.specs.HasMade.{HasMadeAtServer, HasMadeAtDirectory}
 use Rattle.run_steps.specs.Noted.{Noted}
-use Rattle.run_lists.specs.Callers.{IsCalling}
 use Rattle.run_lists.specs.Logs.{Logs, log_of, own_at}
 use Rattle.run_lists.specs.Measure.{left_at, bound_of}
-use Rattle.run_lists.specs.Stepped.{CallsOn, last_own, with_log, with_notes}
+use Rattle.run_lists.specs.Stepped.{CallsOn, with_log, with_notes}
 use Rattle.run_lists.proofs.Placing.{callers_go_on_at_servers, callers_go_on_at_directory}
 use Rattle.store_run.specs.Fixed.{max_in}
-use Rattle.store_run.specs.Seated.{IsTurnAt, HasTurns, IsSeated, MayStep, StepsOn, last_by, left_by, seen_by, server_of, directory_of}
+use Rattle.store_run.specs.Seated.{IsTurnAt, HasTurns, MayStep, StepsOn, last_by, left_by, seen_by, server_of, directory_of}
 use Rattle.store_run.specs.Seen.{seen_there}
 use Rattle.store_run.specs.Stepped.{HasSteppedAtServer, HasSteppedAtDirectory}
 use Rattle.store_run.specs.Turns.{IsFree}

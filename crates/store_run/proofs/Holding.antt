@@ -1,5 +1,5 @@
 -- A turn that has taken the value, and the value still has the same fixed part.
-use Rattle.std.proofs.Common.{◌≡◌, ℕ, true, List, Some, sym, ap, subst, ◌∙◌}
+use Rattle.std.proofs.Common.{◌≡◌, ℕ, true, Some, sym, ap, subst, ◌∙◌}
 use Rattle.atomic_table.specs.Seated.{TableId}
 use Rattle.turn_lock.specs.History.{Among}
 use Rattle.turn_lock.specs.TurnState.{TurnState}

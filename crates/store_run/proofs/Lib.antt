@@ -10,3 +10,4 @@ pub mod Looking
 pub mod Seating
 pub mod Going
 pub mod Having
+pub mod Crossing

@@ -1,5 +1,5 @@
 -- Steps of the sweeper and the operator, as the turns that give the places back have them.
-use Rattle.std.proofs.Common.{◌≡◌, ℕ, ◌<◌, Bool, true, false, List, [], ◌∷◌, ◌++◌, Option, None, Some, IfSome, if◌then◌else◌, refl, sym, ap, subst, ◌∙◌, eq-eqb}
+use Rattle.std.proofs.Common.{◌≡◌, ℕ, ◌<◌, false, List, [], ◌∷◌, ◌++◌, Option, None, Some, IfSome, refl, sym, ap, subst, ◌∙◌, eq-eqb}
 use Rattle.std.proofs.lemmas.List.{append-nil}
 use mathlib.Core.List.{IsPrefix}
 use Rattle.clay_grid.specs.Shape.{stripe_length}
@@ -7,8 +7,6 @@ use Rattle.store_map.specs.declared.actor.Actor.{Actor}
 use Rattle.store_map.specs.declared.script.Script.{Script}
 use Rattle.store_core.specs.Act.{Act, DirectoryStep, ServerStep}
 use Rattle.store_core.specs.AtDirectory.{at_directory}
-use Rattle.store_core.specs.Calls.{IsOfCall}
-use Rattle.store_core.specs.Conditions.{MayStep}
 use Rattle.store_core.specs.Directory.{Directory}
 use Rattle.store_core.specs.History.{call_of}
 use Rattle.store_core.specs.Server.{Server, at_server}

@@ -1,44 +1,40 @@
 -- A seated caller with a step: its call is ready for it.
-use Rattle.std.proofs.Common.{◌≡◌, ℕ, ◌+◌, ◌<◌, ◌^◌, ◌⊎◌, inl, inr, Bool, true, false, List, [], ◌∷◌, length, map, Option, None, Some, IfSome, if◌then◌else◌, refl, sym, ap, subst, ◌∙◌}
+use Rattle.std.proofs.Common.{◌≡◌, ℕ, ◌+◌, ◌<◌, ◌^◌, inl, inr, Bool, true, false, List, length, map, Option, Some, IfSome, if◌then◌else◌, refl, sym, ap, subst, ◌∙◌}
 use Rattle.std.proofs.lemmas.List.{length-map}
 use Rattle.std.specs.List.{slice_get}
-use Rattle.clay_grid.specs.Shape.{Shape, chunk_count}
-use Rattle.store_map.specs.declared.actor.Actor.{Actor}
-use Rattle.store_map.specs.declared.call.Call.{Call}
-use Rattle.store_map.specs.declared.call.Rebuild.{Rebuild}
+use Rattle.clay_grid.specs.Shape.{chunk_count}
 use Rattle.store_map.specs.declared.script.ClientPart.{ClientPart}
 use Rattle.store_map.specs.declared.script.RepairPart.{RepairPart}
 use Rattle.store_map.specs.declared.script.Script.{Script}
 use Rattle.store_core.specs.ActPlace.{Place}
 use Rattle.store_core.specs.NextAct.{Job, job_of, rebuild_job}
 use Rattle.store_core.specs.Tokens.{actor_of}
-use Rattle.store_core.specs.Work.{Ended, Work, client_work, repairer_work}
+use Rattle.store_core.specs.Work.{Ended, Work}
 use Rattle.store_merge.specs.MadeSteps.{MadeStep}
 use Rattle.version_seal.specs.Entry.{BookOf}
 use Rattle.dir_parts.proofs.Entries.{slice_get-map}
 use Rattle.stripe_dir.specs.Sealed.{Sealed}
-use Rattle.call_steps.specs.declared.need.Need.{Need}
 use Rattle.call_steps.specs.declared.need.Need.TheVariants as need
 use Rattle.call_steps.specs.CallOf.{CallOf}
 use Rattle.call_steps.specs.Steps.{need_of, coded, HoldsItsPass, MayMakeNext}
 use Rattle.call_machine.specs.Calls.{MachineOf}
-use Rattle.world_steps.specs.World.{DoingOf, ActorOf, steps_of}
+use Rattle.world_steps.specs.World.{DoingOf, steps_of}
 use Rattle.world_steps.specs.Known.{calling_by}
 use Rattle.world_steps.specs.ActorAfter.{IsCallBefore}
 use Rattle.world_steps.specs.Tokens.{first_token, token_of}
 use Rattle.world_steps.proofs.Few.{has_left}
 use Rattle.world_steps.proofs.Turns.{Ready, ready_for}
 use Rattle.actors.specs.Beginning.{MayGoOn}
-use Rattle.actors.specs.Callers.{PartOf, CallerOf, IsOfScript, IsPartOf, Knows, StandsIn, calls_of, who_of, work_of}
+use Rattle.actors.specs.Callers.{PartOf, CallerOf, IsOfScript, Knows, StandsIn, calls_of, who_of, work_of}
 use Rattle.actors.specs.Steps.{IsAmpleFirst, IsReady, in_work}
 use Rattle.turn_lock.specs.TurnState.{TurnState}
 use Rattle.run_steps.specs.Looks.{IsLookOfScript}
-use Rattle.run_steps.specs.Noted.{IsCaller, tokens_after}
+use Rattle.run_steps.specs.Noted.{IsCaller}
 use Rattle.run_steps.specs.Numbers.{IsTurnOf}
 use Rattle.run_steps.proofs.DirectoryAdding.{token_of_actor}
 use Rattle.run_lists.specs.Callers.{HeardLast}
 use Rattle.run_lists.specs.Calling.{KnowsItself}
-use Rattle.run_lists.specs.Logs.{Logs, counts_of, own_at}
+use Rattle.run_lists.specs.Logs.{counts_of, own_at}
 use Rattle.run_lists.specs.Room.{IsWorkOf, HasRoom}
 use Rattle.run_lists.specs.Stepped.{IsReady as IsReadyFor}
 use Rattle.run_lists.proofs.Calling.{calls_know_themselves}
@@ -47,7 +43,6 @@ use Rattle.store_run.specs.Before.{IsInCall, IsBeforeServer, IsBeforeDirectory}
 use Rattle.store_run.specs.Seated.{MayStep, seen_by, server_of, directory_of}
 use Rattle.store_run.specs.Seen.{seen_there}
 use Rattle.store_run.specs.declared.server_box.ServerIdentity.{ServerIdentity}
-use Rattle.store_run.specs.declared.directory_box.DirectoryIdentity.{DirectoryIdentity}
 use Rattle.store_run.specs.declared.seated.Seated.{Seated}
 use Rattle.store_run.specs.declared.store.Store.{Store}
 use Rattle.store_run.proofs.Looking.{looks_of_script}

@@ -1,5 +1,5 @@
 -- The sweeper's step at its place.
-use Rattle.std.proofs.Common.{◌≡◌, ℕ, ◌<◌, Bool, true, false, List, [], ◌∷◌, ◌++◌, nat_lt, Option, None, Some, if◌then◌else◌, refl, sym, ap, subst, ◌∙◌}
+use Rattle.std.proofs.Common.{◌≡◌, ℕ, ◌<◌, Bool, true, false, List, [], ◌∷◌, ◌++◌, nat_lt, Option, Some, if◌then◌else◌, refl, sym, ap, subst, ◌∙◌}
 use Rattle.std.proofs.lemmas.Option.{same_Some}
 use Rattle.clay_grid.specs.Shape.{stripe_length}
 use Rattle.store_map.specs.declared.actor.Actor.TheVariants as actor
@@ -11,10 +11,9 @@ use Rattle.store_core.specs.Sound.{IsSound}
 use Rattle.store_core.specs.Sweep.{Sweeper}
 use Rattle.store_merge.specs.MadeSteps.{MadeStep}
 use Rattle.stripe_dir.specs.Sealed.{Sealed}
-use Rattle.call_steps.specs.declared.need.Need.{Need}
 use Rattle.call_steps.specs.declared.need.Need.TheVariants as need
 use Rattle.call_stands.proofs.Needs.{server_in}
-use Rattle.sweeper.specs.Sweeps.{SweeperOf, act_of, need_at, need_of, heard, at_directory_by, at_server_by, stepped_at_directory, stepped_at_server}
+use Rattle.sweeper.specs.Sweeps.{SweeperOf, act_of, need_at, need_of, at_directory_by, at_server_by, stepped_at_directory, stepped_at_server}
 use Rattle.turn_lock.specs.History.{Among, GoesOn}
 use Rattle.run_steps.specs.AtDirectory.{StandsAtDirectory}
 use Rattle.run_steps.specs.AtServer.{StandsAtServer}

@@ -5,3 +5,4 @@ pub mod Before
 pub mod Stepped
 pub mod Plain
 pub mod Seated
+pub mod Working

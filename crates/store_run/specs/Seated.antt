@@ -1,5 +1,5 @@
 -- A caller with its turns at all places of a store.
-use Rattle.std.specs.Prelude.{◌≡◌, ℕ, ◌+◌, ◌<◌, ◌≤◌, Bool, true, false, All, List, [], ◌∷◌, length, map, Option, Some}
+use Rattle.std.specs.Prelude.{◌≡◌, ℕ, ◌+◌, ◌<◌, ◌≤◌, Bool, true, false, All, List, [], ◌∷◌, length, map, Some}
 use Rattle.std.specs.List.{list_any, slice_get}
 use Rattle.atomic_table.specs.Seated.{TableId}
 use Rattle.clay_grid.specs.Limits.{IsGeometry}
@@ -7,12 +7,11 @@ use Rattle.clay_grid.specs.Shape.{chunk_count}
 use Rattle.store_map.specs.Limits.{size_of, tries_of}
 use Rattle.store_map.specs.Naming.{IsValid}
 use Rattle.store_map.specs.declared.script.Script.{Script}
-use Rattle.store_core.specs.Work.{Work, has_step}
+use Rattle.store_core.specs.Work.{has_step}
 use Rattle.store_merge.specs.MadeSteps.{MadeStep}
 use Rattle.world_steps.specs.Known.{calling_of}
 use Rattle.actors.specs.Callers.{Knows, StandsIn, who_of, work_of}
 use Rattle.turn_lock.specs.TurnState.{TurnState}
-use Rattle.run_steps.specs.Noted.{Noted}
 use Rattle.run_steps.specs.Numbers.{IsTurnOf}
 use Rattle.run_lists.specs.Callers.{IsCalling}
 use Rattle.run_lists.specs.Logs.{Logs, counts_of, own_at}

@@ -1,14 +1,21 @@
-//! The turns of several callers, until none of them has a step.
-ghost use Rattle.std.specs.Prelude.{◌≡◌, All, false};
+//! Workers: each makes the turns of its callers, until none of them has a step.
+ghost use Rattle.std.specs.Prelude.{◌≡◌, ◌<◌, All};
 ghost use Rattle.store_map.specs.declared.script.Script.{Script as StoreScript};
 ghost use Rattle.store_run.specs.Seated.{AreOfCode, IsSeated, IsStore, some_has};
+ghost use Rattle.store_run.specs.Working.{IsWorking, IsDone};
 
 use crate::gate::Gate;
 use crate::seated::Seated;
 use crate::store::Store;
 use clay_repair::Coder;
 use std::sync::Wait;
+use std::thread;
 use std::thread::Threads;
+
+/// What one worker steps.
+pub(crate) struct Worker<'a> {
+    pub(crate) callers: Vec<Seated<'a>>,
+}
 
 // Whether one of the callers has a step.
 fn some_has_step(callers: &[Seated]) -> bool
@@ -39,24 +46,46 @@ fn round<R: Threads + Wait + Sync, C: Coder, G: Gate>(
     }
 }
 
-/// The callers take turns until none of them has a step.
-pub(crate) fn work<R: Threads + Wait + Sync, C: Coder, G: Gate>(
+// The callers of a worker take turns until none of them has a step.
+fn work<R: Threads + Wait + Sync, C: Coder, G: Gate>(
     rt: &R,
     coder: &C,
     gate: &G,
     store: &Store,
-    callers: &mut Vec<Seated>,
+    worker: &mut Worker,
 )
-    requires store { IsStore store.now }
-    requires seated { All (IsSeated store.now) callers.old.items }
-    ensures seated { All (IsSeated store.now) callers.new.items }
-    ensures over { some_has store.now.script.now callers.new.items ≡ false }
+    requires { IsWorking store.now worker.old }
+    ensures { IsDone store.now worker.new }
 {
     for _ in rt.forever() {
-        if !some_has_step(callers) {
+        if !some_has_step(&worker.callers) {
             return;
         }
-        round(rt, coder, gate, store, callers);
+        round(rt, coder, gate, store, &mut worker.callers);
     }
     unreachable!()
+}
+
+/// The workers make the turns of their callers, in at most so many threads.
+pub(crate) fn work_together<R: Threads + Wait + Sync, C: Coder + Sync, G: Gate + Sync>(
+    rt: &R,
+    coder: &C,
+    gate: &G,
+    store: &Store,
+    workers: &mut [Worker],
+    threads: usize,
+)
+    requires some { 0 < threads }
+    requires working { All (IsWorking store.now) workers.old }
+    ensures { All (IsDone store.now) workers.new }
+{
+    thread::for_each_mut(
+        rt,
+        workers,
+        threads,
+        &|_, worker|
+            requires { IsWorking store.now worker.old }
+            ensures { IsDone store.entry.now worker.new }
+        { work(rt, coder, gate, store, worker) },
+    );
 }

@@ -1,11 +1,8 @@
-use Rattle.std.proofs.Common.{◌≡◌, ◌∷◌, ◌++◌, [], ℕ, List, Some, sym, ap, subst, ◌∙◌}
+use Rattle.std.proofs.Common.{◌≡◌, ◌∷◌, ◌++◌, [], ℕ, sym, ap, subst, ◌∙◌}
 use Rattle.store_core.specs.Agreement.{Agrees}
-use Rattle.stripe_dir.specs.Sealed.{Sealed}
 use Rattle.call_machine.specs.Calls.{MachineOf}
-use Rattle.world_steps.specs.Tokens.{token_of}
 use Rattle.actors.specs.Callers.{CallerOf}
 use Rattle.actors.specs.Steps.{MadeAtDirectory}
-use Rattle.turn_lock.specs.History.{Among}
 use Rattle.turn_lock.specs.TurnState.{TurnState}
 use Rattle.run_steps.specs.Noted.{Noted}
 use Rattle.run_steps.specs.Numbers.{Counts}

@@ -1,15 +1,11 @@
-use Rattle.std.proofs.Common.{◌≡◌, ◌∷◌, ◌++◌, [], ℕ, List, Some, sym, ap, subst, ◌∙◌}
-use Rattle.store_core.specs.Tokens.{actor_of}
+use Rattle.std.proofs.Common.{◌≡◌, ◌∷◌, ◌++◌, [], ℕ, sym, ap, subst, ◌∙◌}
 use Rattle.store_merge.specs.MadeSteps.{MadeStep}
 use Rattle.chunk_server.specs.Core.{core_of}
-use Rattle.call_steps.specs.declared.need.Need.TheVariants as need
-use Rattle.call_steps.specs.Steps.{need_of}
 use Rattle.call_machine.specs.Calls.{MachineOf}
 use Rattle.actors.specs.Callers.{CallerOf}
 use Rattle.actors.specs.Steps.{MadeAtServer}
-use Rattle.turn_lock.specs.History.{Among}
 use Rattle.turn_lock.specs.TurnState.{TurnState}
-use Rattle.run_steps.specs.Numbers.{Counts, IsTurnOf}
+use Rattle.run_steps.specs.Numbers.{Counts}
 use Rattle.run_steps.specs.AtServer.{StandsAtServer}
 use Rattle.store_run.specs.Stepped.{entry_at_server}
 use Rattle.store_run.specs.Fixed.{server_identity}

@@ -1,6 +1,6 @@
-use Rattle.std.proofs.Common.{◌≡◌, ◌<◌, ◌≤◌, length, sym, ◌∙◌, arith}
+use Rattle.std.proofs.Common.{◌≤◌, length, arith}
 use Rattle.store_run.specs.Seated.{seated_has}
-use Rattle.store_run.proofs.Having.{one_has, none_more, none_has}
+use Rattle.store_run.proofs.Having.{none_has}
 use Rattle.store_run.proofs.workers.some_has_step.Goals as goal
 
 pub returns : goal.returns

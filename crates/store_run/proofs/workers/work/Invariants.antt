@@ -3,4 +3,4 @@ use Rattle.store_run.specs.Seated.{IsSeated}
 use Rattle.store_run.proofs.workers.work.Given as goal
 
 abbrev pub invariant-loop : goal.invariant-loop
-invariant-loop g l = All (IsSeated l.store) l.callers.items
+invariant-loop g l = All (IsSeated l.store) l.worker.callers.items
