@@ -8,8 +8,8 @@
 //
 // - Ceph: a call of the plugin on buffers that are there. It hands present chunks on without a copy, and takes new ones for what it makes.
 // - ISA-L: a call on buffers that are there; the matrix of a decoding and its tables are made anew in each, as for new losses.
-// - "call" is a whole call of libclay_c.a. Its buffers are the caller's: it copies the chunks or parts that it reads into memory of its own,
-//   and what it makes out of that.
+// - "call" is a whole call of libclay_c.a. Its buffers are the caller's: in decoding and repair it copies the chunks or parts that it reads
+//   into memory of its own.
 // - "coding" is that call less the same copies, which are timed by themselves in the same round, since Ceph's call has none of them.
 #include <algorithm>
 #include <cstdio>
@@ -352,14 +352,13 @@ struct OurCode {
     expect(memcmp(rebuilt.data(), wanted.data(), rebuilt.size()) == 0, "a repair of ours is wrong");
   }
 
-  // what a call copies: pieces into memory of its own, and others of those out of it
-  void copy(uint32_t in, size_t in_len, uint32_t out, size_t out_len) {
+  // what a call copies: pieces into memory of its own
+  void copy(uint32_t count, size_t len) {
     vector<uint8_t *> pieces;
-    for (uint32_t i = 0; i < in; i++) {
-      pieces.push_back((uint8_t *)malloc(in_len));
-      memcpy(pieces[i], &wanted[i * in_len], in_len);
+    for (uint32_t i = 0; i < count; i++) {
+      pieces.push_back((uint8_t *)malloc(len));
+      memcpy(pieces[i], &wanted[i * len], len);
     }
-    for (uint32_t i = 0; i < out; i++) memcpy(&chunks[i * out_len], &wanted[i * out_len], out_len);
     for (uint8_t *piece : pieces) free(piece);
   }
 };
@@ -373,11 +372,11 @@ static void add_ours(vector<Operation> &operations, const Code &code) {
     operations.push_back({"copies", what, bytes, copies, {}});
   };
   size_t len = code.chunk_len(), part_len = code.numbers.part_len;
-  uint32_t k = code.k, m = code.m, others = code.numbers.chunks - 1;
-  add("encode", bytes, [=] { ours->encode(); }, [=] { ours->copy(0, 0, m, len); });
-  add("decode, a column", bytes, [=] { ours->decode(code.column); }, [=] { ours->copy(k, len, m, len); });
-  add("decode, spread", bytes, [=] { ours->decode(code.spread); }, [=] { ours->copy(k, len, m, len); });
-  add("repair of one", lost_bytes, [=] { ours->repair(); }, [=] { ours->copy(others, part_len, 1, len); });
+  uint32_t k = code.k, others = code.numbers.chunks - 1;
+  add("encode", bytes, [=] { ours->encode(); }, [=] { ours->copy(0, 0); });
+  add("decode, a column", bytes, [=] { ours->decode(code.column); }, [=] { ours->copy(k, len); });
+  add("decode, spread", bytes, [=] { ours->decode(code.spread); }, [=] { ours->copy(k, len); });
+  add("repair of one", lost_bytes, [=] { ours->repair(); }, [=] { ours->copy(others, part_len); });
 }
 
 // ---- The table

@@ -12,8 +12,8 @@ use Rattle.world_steps.specs.World.{DoingOf, ActorOf, steps_of}
 use Rattle.world_steps.specs.ActorAfter.{actor_after_by, actor_after}
 use Rattle.call_steps.specs.declared.need.Need.{Need}
 use Rattle.call_steps.specs.declared.need.Need.TheVariants as need
-use Rattle.client_call.specs.Kinds.{Machine}
-use Rattle.client_call.specs.Calls.{ClientCallOf}
+use Rattle.call_machine.specs.Kinds.{Machine}
+use Rattle.call_machine.specs.Calls.{MachineOf}
 use Rattle.actors.specs.Turns.{GoesOn}
 use Rattle.actors.specs.Owing.{AreServed, left_by}
 
@@ -72,12 +72,12 @@ stays_served (Act.Finish outcome) due m owed served goes = absurd goes
 pub none_served : (c : CallOf) (m : Machine) (owed : List ℕ) (served : List (Option (List ℕ))) → GoesOn (need_of c) → AreServed (act_of c) m owed served served
 none_served c m owed served goes = stays_served (act_of c) c.due m owed served goes
 
-stays_left : (act : Act) (due : Bool) (c : ClientCallOf) → GoesOn (need_by act due) → Some c ≡ left_by act c
+stays_left : (act : Act) (due : Bool) (c : MachineOf) → GoesOn (need_by act due) → Some c ≡ left_by act c
 stays_left (Act.AtDirectory step) due c goes = refl
 stays_left (Act.AtServer server step) due c goes = refl
 stays_left (Act.Finish outcome) due c goes = absurd goes
 
-pub is_left : (c : ClientCallOf) → GoesOn (need_of c.call) → Some c ≡ left_by (act_of c.call) c
+pub is_left : (c : MachineOf) → GoesOn (need_of c.call) → Some c ≡ left_by (act_of c.call) c
 is_left c goes = stays_left (act_of c.call) c.call.due c goes
 
 pub made_step : (c : CallOf) (a : ActorOf) (ended : List Ended) (steps : ℕ) → GoesOn (need_of c) → a.ended ≡ ended → steps_of a.doing ≡ steps

@@ -2,8 +2,7 @@ pub mod Turning
 pub mod Leading
 pub mod Concluding
 pub mod Serving
-pub mod Clients
 pub mod Owing
-pub mod Keeping
-pub mod Repairs
-pub mod Ending
+pub mod Begins
+pub mod Stepping
+pub mod Ended

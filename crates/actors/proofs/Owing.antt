@@ -1,10 +1,10 @@
 -- The bytes that a call reads and the stamps that it draws, in a turn.
-use Rattle.std.proofs.Common.{◌≡◌, ℕ, Bool, false, List, [], ◌++◌, refl, sym, ap, subst, ◌∙◌}
+use Rattle.std.proofs.Common.{◌≡◌, ℕ, Bool, false, List, [], ◌++◌, refl, sym, ap, ◌∙◌}
 use Rattle.std.proofs.lemmas.List.{append-nil}
 use Rattle.std.specs.Prelude.{◌&&◌}
 use Rattle.store_core.specs.Act.{Act, ServerStep}
 use Rattle.store_map.specs.declared.call.Call.{Call}
-use Rattle.version_seal.specs.Entry.{BookOf, StampOf}
+use Rattle.version_seal.specs.Entry.{StampOf}
 use Rattle.stripe_dir.specs.Sealed.{Sealed}
 use Rattle.call_steps.specs.declared.need.Need.TheVariants as need
 use Rattle.call_steps.specs.CallOf.{CallOf, act_of}
@@ -12,42 +12,51 @@ use Rattle.call_steps.specs.Steps.{need_of}
 use Rattle.call_stands.proofs.Needs.{needs_tell_acts}
 use Rattle.client_read.specs.Owed.{owed_by as read_by}
 use Rattle.write_course.specs.Draws.{stamps_by}
-use Rattle.client_call.specs.Kinds.{Machine, machine_of, IfPatches, UnlessReads}
-use Rattle.client_call.specs.Calls.{ClientCallOf, drawn_in, drawn_by, owed_in, owed_by}
+use Rattle.call_machine.specs.Kinds.{Asked, Machine, client_machine, machine_of, IfPatches, IfDraws}
+use Rattle.call_machine.specs.Calls.{MachineOf, drawn_in, drawn_for, drawn_by, owed_in, owed_by}
 
 -- a coding that is due says whether memory was wanting
 pub owed_coded : {P : Type 0} (c : CallOf) (coding : Bool) → need_of c ≡ need.Coder → (coding ≡ false → P) → (c.due && coding) ≡ false → P
 owed_coded c coding needs owed e = owed (ap (λ (due : Bool). due && coding) (sym (needs_tell_acts.coder c needs)) ∙ e)
 
 -- a step at a server changes neither
-module _ (short : Bool) (d : Sealed) (c : ClientCallOf) (server : ℕ) (step : ServerStep) (act : act_of c.call ≡ Act.AtServer server step) where
+module _ (short : Bool) (d : Sealed) (c : MachineOf) (server : ℕ) (step : ServerStep) (act : act_of c.call ≡ Act.AtServer server step) where
   owed_of_server : (m : Machine) → owed_in m short d c ≡ c.owed
   owed_of_server Machine.Reads = ap (λ (a : Act). read_by a short c.call d c.owed) act
   owed_of_server Machine.Puts = refl
   owed_of_server Machine.Patches = refl
+  owed_of_server Machine.Rebuilds = refl
 
-  drawn_at_server : (m : Machine) → drawn_in m short d c ≡ []
-  drawn_at_server Machine.Reads = refl
-  drawn_at_server Machine.Puts = ap (λ (a : Act). stamps_by a short d c.call c.written) act
-  drawn_at_server Machine.Patches = ap (λ (a : Act). stamps_by a short d c.call c.written) act
+  drawn_at_server : (m : Machine) (written : Call) → drawn_in m short d c written ≡ []
+  drawn_at_server Machine.Reads written = refl
+  drawn_at_server Machine.Rebuilds written = refl
+  drawn_at_server Machine.Puts written = ap (λ (a : Act). stamps_by a short d c.call written) act
+  drawn_at_server Machine.Patches written = ap (λ (a : Act). stamps_by a short d c.call written) act
 
-module _ (short : Bool) (d : Sealed) (c : ClientCallOf) (server : ℕ) (needs : need_of c.call ≡ need.Server server) where
+  drawn_for_server : (asked : Asked) → drawn_for asked short d c ≡ []
+  drawn_for_server (Asked.OfClient written) = drawn_at_server (client_machine written) written
+  drawn_for_server (Asked.OfRepairer rebuild) = refl
+
+module _ (short : Bool) (d : Sealed) (c : MachineOf) (server : ℕ) (needs : need_of c.call ≡ need.Server server) where
   pub owed_at_server : c.owed ≡ owed_by short d c
   owed_at_server =
       let found : (step : ServerStep) × (act_of c.call ≡ Act.AtServer server step) × (c.call.due ≡ false) = needs_tell_acts.server c.call server needs in
-      sym (owed_of_server short d c server found.0 found.1 (machine_of c.written))
+      sym (owed_of_server short d c server found.0 found.1 (machine_of c.asked))
 
   pub stamps_at_server : d.stamps ≡ d.stamps ++ drawn_by short d c
   stamps_at_server =
       let found : (step : ServerStep) × (act_of c.call ≡ Act.AtServer server step) × (c.call.due ≡ false) = needs_tell_acts.server c.call server needs in
-      sym (append-nil d.stamps) ∙ ap (λ (more : List StampOf). d.stamps ++ more) (sym (drawn_at_server short d c server found.0 found.1 (machine_of c.written)))
+      sym (append-nil d.stamps) ∙ ap (λ (more : List StampOf). d.stamps ++ more) (sym (drawn_for_server short d c server found.0 found.1 c.asked))
 
--- what a step asks is asked of the call after its coding too
-module _ (was now : ClientCallOf) (written : now.written ≡ was.written) where
-  pub asks_book : (book : BookOf) → now.call.book ≡ was.call.book → UnlessReads (machine_of was.written) (book ≡ was.call.book) → UnlessReads (machine_of now.written) (book ≡ now.call.book)
-  asks_book book same asked =
-      subst (λ (c : Call). UnlessReads (machine_of c) (book ≡ now.call.book)) (sym written)
-      (subst (λ (b : BookOf). UnlessReads (machine_of was.written) (book ≡ b)) (sym same) asked)
+-- what some machines ask holds of all
+pub if_patches : {P : Type 0} (m : Machine) → P → IfPatches m P
+if_patches Machine.Patches holds = holds
+if_patches Machine.Puts holds = tt
+if_patches Machine.Reads holds = tt
+if_patches Machine.Rebuilds holds = tt
 
-  pub asks_of_patches : (P : Type 0) → IfPatches (machine_of was.written) P → IfPatches (machine_of now.written) P
-  asks_of_patches P asked = subst (λ (c : Call). IfPatches (machine_of c) P) (sym written) asked
+pub if_draws : {P : Type 0} (m : Machine) → P → IfDraws m P
+if_draws Machine.Patches holds = holds
+if_draws Machine.Puts holds = holds
+if_draws Machine.Reads holds = tt
+if_draws Machine.Rebuilds holds = tt

@@ -92,12 +92,12 @@ took_length (Act.Finish outcome) answer takes = refl
 same : (c : CallOf) → IsSameCall c c
 same c = record { book = refl; number = refl; servers = refl }
 
-at_directory_same : (act : Act) (short due : Bool) (c : CallOf) (d : Directory) → IsSameCall c (at_directory_by act short due c d).1
+pub at_directory_same : (act : Act) (short due : Bool) (c : CallOf) (d : Directory) → IsSameCall c (at_directory_by act short due c d).1
 at_directory_same (Act.AtDirectory step) short due c d = record { book = refl; number = refl; servers = refl }
 at_directory_same (Act.AtServer server step) short due c d = same c
 at_directory_same (Act.Finish outcome) short due c d = same c
 
-at_server_same : (act : Act) (short due : Bool) (c : CallOf) (s : Server) → IsSameCall c (at_server_by act short due c s).1
+pub at_server_same : (act : Act) (short due : Bool) (c : CallOf) (s : Server) → IsSameCall c (at_server_by act short due c s).1
 at_server_same (Act.AtServer server step) short due c s = record { book = refl; number = refl; servers = took_length (Act.AtServer server step) _ c.takes }
 at_server_same (Act.AtDirectory step) short due c s = same c
 at_server_same (Act.Finish outcome) short due c s = same c

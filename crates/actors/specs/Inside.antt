@@ -1,76 +1,74 @@
--- The fields of a client as callers see them, and what they keep.
-use Rattle.std.specs.Prelude.{◌≡◌, ℕ, ◌<◌, ◌≤◌, ◌^◌, List, length, map, Option, None, Some, is_some, IsTrue, IfSome, vec_capacity}
-use Rattle.std.specs.List.{slice_get}
+-- The fields of a caller as the layers above see them, and what they keep.
+use Rattle.std.specs.Prelude.{◌≡◌, ⊤, ℕ, ◌<◌, ◌≤◌, ◌^◌, List, length, map, Option, None, Some, IfSome, All, vec_capacity}
 use Rattle.clay_grid.specs.Shape.{chunk_count}
 use Rattle.store_map.specs.declared.actor.Actor.TheVariants as actor
-use Rattle.store_map.specs.declared.script.ClientPart.{ClientPart}
-use Rattle.store_core.specs.Agreement.{ActorToken}
+use Rattle.store_core.specs.Agreement.{Seat, ActorToken}
 use Rattle.version_seal.specs.Entry.{BookOf}
 use Rattle.call_steps.specs.Steps.{need_of}
-use Rattle.client_call.specs.Calls.{ClientCallOf}
+use Rattle.call_machine.specs.Calls.{MachineOf}
 use Rattle.world_lines.specs.declared.calls.EndedCall.{EndedCall}
 use Rattle.world_lines.specs.Ended.{ended_of}
 use Rattle.world_lines.specs.Served.{bytes_in}
 use Rattle.world_steps.specs.World.{DoingOf}
 use Rattle.actors.specs.Turns.{GoesOn}
-use Rattle.actors.specs.Clients.{ClientOf}
-use Rattle.actors.specs.declared.client_actor.Doing.{Doing}
-use Rattle.actors.specs.declared.client_actor.Doing.TheVariants as doing
-use Rattle.actors.specs.declared.client_actor.ClientActor.TheInside.{Inside}
+use Rattle.actors.specs.Callers.{PartOf, CallerOf, calls_of, asked_at}
+use Rattle.actors.specs.declared.part.Part.{Part}
+use Rattle.actors.specs.declared.part.Part.TheVariants as part
+use Rattle.actors.specs.declared.caller.Caller.TheInside.{Inside}
 
--- what it does
-abbrev pub doing_by : Doing → DoingOf
-doing_by (doing.Between seat) = DoingOf.Between (ActorToken.Seated seat)
-doing_by (doing.InCall call steps) = DoingOf.InCall call.call steps
+-- its calls
+abbrev pub part_by : Part → PartOf
+part_by (part.Client calls) = PartOf.OfClient calls.now
+part_by (part.Repairer calls) = PartOf.OfRepairer calls.now
 
--- the call in work
-abbrev pub work_by : Doing → Option ClientCallOf
-work_by (doing.Between seat) = None
-work_by (doing.InCall call steps) = Some call
-
--- of an empty place, which stands only inside a turn, anything
-abbrev pub doing_at : Option Doing → DoingOf
-doing_at (Some now) = doing_by now
-doing_at None = DoingOf.Between (ActorToken.Seated (record { actor = actor.Sweeper; unused = 0; told = None }))
-
-abbrev pub work_at : Option Doing → Option ClientCallOf
-work_at (Some now) = work_by now
-work_at None = None
+-- what it does: it has a seat, or a call in work; without either, which doesn't come, anything
+abbrev pub doing_by : Option Seat → Option MachineOf → ℕ → DoingOf
+doing_by seat (Some call) steps = DoingOf.InCall call.call steps
+doing_by (Some seat) None steps = DoingOf.Between (ActorToken.Seated seat)
+doing_by None None steps = DoingOf.Between (ActorToken.Seated (record { actor = actor.Sweeper; unused = 0; told = None }))
 
 -- the bytes that calls were served
 abbrev pub served_of : List EndedCall → List (Option (List ℕ))
 served_of ended = map (λ call. bytes_in call.outcome) ended
 
--- what callers see of its fields
-abbrev pub client_by : ClientPart → BookOf → ℕ → List EndedCall → Option Doing → ClientOf
-client_by part book tries ended slot =
+-- what the layers above see of its fields
+abbrev pub caller_by : PartOf → BookOf → ℕ → List EndedCall → Option Seat → Option MachineOf → ℕ → CallerOf
+caller_by part book tries ended seat call steps =
     record {
       part = part;
       book = book;
       tries = tries;
-      actor = record { ended = map (ended_of (chunk_count book.geometry)) ended; doing = doing_at slot };
-      work = work_at slot;
+      actor = record { ended = map (ended_of (chunk_count book.geometry)) ended; doing = doing_by seat call steps };
+      work = call;
       served = served_of ended;
     }
 
-abbrev pub client_in : Inside → ClientOf
-client_in a = client_by a.part.now a.opening a.tries a.ended.items a.doing
+abbrev pub caller_in : Inside → CallerOf
+caller_in a = caller_by (part_by a.part) a.opening a.tries a.ended.items a.seat a.call a.steps
 
 -- a call in work is the next one of the part, of the book, isn't over, and counts what it takes from each server
-pub record IsInWork (book : BookOf) (part : ClientPart) (number : ℕ) (c : ClientCallOf) : Type 0 where
-  pub call : slice_get part.calls number ≡ Some c.written
+pub record IsInWork (book : BookOf) (part : PartOf) (number : ℕ) (c : MachineOf) : Type 0 where
+  pub asked : asked_at part number ≡ Some c.asked
   pub its : c.call.book ≡ book
   pub servers : length c.call.takes ≡ chunk_count book.geometry
   pub goes : GoesOn (need_of c.call)
 
--- by what it does
-abbrev pub KeepsDoing : BookOf → ClientPart → ℕ → Doing → Type 0
-KeepsDoing book part number now = IfSome (work_by now) (IsInWork book part number)
+-- a seat, or a call in work and no seat
+abbrev pub HasEither : Option Seat → Option MachineOf → Type 0
+HasEither (Some seat) None = ⊤
+HasEither None (Some call) = ⊤
+HasEither seat call = ⊥
 
--- what every client keeps; there is room for the ends of all its calls
-pub record IsClient (a : Inside) : Type 0 where
-  pub there : IsTrue (is_some a.doing)
-  pub kept : IfSome a.doing (KeepsDoing a.opening a.part.now (length a.ended.items))
-  pub few : length a.part.now.calls < 2 ^ 32
+-- rebuilds are of servers that are there
+abbrev pub AreOfServers : BookOf → PartOf → Type 0
+AreOfServers book (PartOf.OfClient part) = ⊤
+AreOfServers book (PartOf.OfRepairer part) = All (λ rebuild. rebuild.server < chunk_count book.geometry) part.calls
+
+-- what every caller keeps; there is room for the ends of all its calls
+pub record IsCaller (a : Inside) : Type 0 where
+  pub either : HasEither a.seat a.call
+  pub kept : IfSome a.call (IsInWork a.opening (part_by a.part) (length a.ended.items))
+  pub few : calls_of (part_by a.part) < 2 ^ 32
   pub tries : 0 < a.tries
-  pub room : length a.part.now.calls ≤ vec_capacity a.ended
+  pub below : AreOfServers a.opening (part_by a.part)
+  pub room : calls_of (part_by a.part) ≤ vec_capacity a.ended

@@ -1,10 +1,10 @@
 pub mod Turns
 pub mod Turned
 pub mod LeadLaws
-pub mod Clients
-pub mod Owing
-pub mod ClientTurns
+pub mod Callers
 pub mod Beginning
+pub mod Owing
+pub mod Steps
+pub mod CallerTurns
 pub mod Inside
-pub mod Repairers
-pub mod RepairInside
+pub mod Concluded

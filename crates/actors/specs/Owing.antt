@@ -1,31 +1,30 @@
--- What a client's turn leaves of the bytes that its call reads, and of the directory's stamps.
+-- What a caller's turn leaves of the bytes that its call reads, and of the directory's stamps.
 use Rattle.std.specs.Prelude.{◌≡◌, ℕ, Bool, false, ◌&&◌, List, [], ◌∷◌, ◌++◌, length, Option, None, Some}
-use Rattle.std.specs.List.{slice_get}
 use Rattle.store_core.specs.Act.{Act, Outcome}
 use Rattle.stripe_dir.specs.Sealed.{Sealed}
 use Rattle.call_steps.specs.CallOf.{CallOf, act_of}
 use Rattle.call_stands.specs.Ready.{ready}
-use Rattle.client_call.specs.Kinds.{Machine, machine_of, IfReads}
-use Rattle.client_call.specs.Calls.{ClientCallOf, drawn_by, owed_by}
-use Rattle.actors.specs.Clients.{ClientOf}
+use Rattle.call_machine.specs.Kinds.{Machine, machine_of, IfReads}
+use Rattle.call_machine.specs.Calls.{MachineOf, drawn_by, owed_by}
+use Rattle.actors.specs.Callers.{CallerOf, asked_at}
 
 -- a turn of a call: before its step, after its coding, it reads the same bytes, unless memory was wanting in that coding; and the step changes them and the directory's stamps
-pub record CallOwes (c : ClientCallOf) (d now : Sealed) (after : ClientCallOf) (coding short : Bool) : Type 0 where
-  pub before : ClientCallOf
+pub record CallOwes (c : MachineOf) (d now : Sealed) (after : MachineOf) (coding short : Bool) : Type 0 where
+  pub before : MachineOf
   pub is_ready : before.call ≡ ready coding c.call
-  pub is_written : before.written ≡ c.written
+  pub is_asked : before.asked ≡ c.asked
   pub owed : (c.call.due && coding) ≡ false → before.owed ≡ c.owed
-  pub written : after.written ≡ before.written
+  pub asked : after.asked ≡ before.asked
   pub goes : after.owed ≡ owed_by short d before
   pub stamps : now.stamps ≡ d.stamps ++ drawn_by short d before
 
 -- the bytes that a call in work reads
-abbrev pub owed_now : Option ClientCallOf → List ℕ
+abbrev pub owed_now : Option MachineOf → List ℕ
 owed_now None = []
 owed_now (Some c) = c.owed
 
 -- the call in work after a step that led it to this value
-abbrev pub left_by : Act → ClientCallOf → Option ClientCallOf
+abbrev pub left_by : Act → MachineOf → Option MachineOf
 left_by (Act.Finish outcome) c = None
 left_by act c = Some c
 
@@ -41,16 +40,16 @@ AreServed (Act.Finish (Outcome.Served point)) m owed served after = IsServed m o
 AreServed (Act.Finish outcome) m owed served after = after ≡ served ++ None ∷ []
 AreServed act m owed served after = after ≡ served
 
--- a client's turn: in its call, which is the next one of its part, from the first value to the second, with a coding and a step in which memory was wanting or not
-pub record Owes (a : ClientOf) (d now : Sealed) (after : ClientOf) (call next : CallOf) (coding short : Bool) : Type 0 where
-  pub before : ClientCallOf
-  pub last : ClientCallOf
+-- a caller's turn: in its call, which is the next one of its part, from the first value to the second, with a coding and a step in which memory was wanting or not
+pub record Owes (a : CallerOf) (d now : Sealed) (after : CallerOf) (call next : CallOf) (coding short : Bool) : Type 0 where
+  pub before : MachineOf
+  pub last : MachineOf
   pub is_ready : before.call ≡ ready coding call
   pub is_last : last.call ≡ next
-  pub its : slice_get a.part.calls (length a.actor.ended) ≡ Some before.written
-  pub written : last.written ≡ before.written
+  pub its : asked_at a.part (length a.actor.ended) ≡ Some before.asked
+  pub asked : last.asked ≡ before.asked
   pub owed : (call.due && coding) ≡ false → before.owed ≡ owed_now a.work
   pub goes : last.owed ≡ owed_by short d before
   pub stamps : now.stamps ≡ d.stamps ++ drawn_by short d before
-  pub served : AreServed (act_of next) (machine_of last.written) last.owed a.served after.served
+  pub served : AreServed (act_of next) (machine_of last.asked) last.owed a.served after.served
   pub work : after.work ≡ left_by (act_of next) last

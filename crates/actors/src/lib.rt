@@ -1,12 +1,13 @@
-//! The clients and repairers of a store, each with its calls, and their turns.
+//! The callers of a store, clients and repairers, each with its calls, and their turns.
 #![tactic(auto)]
 
-mod client_actor;
-mod client_turn;
+mod after_step;
+mod caller;
 pub mod laws;
 mod left;
-mod repair_actor;
-mod repair_turn;
+mod next_call;
+mod part;
+mod steps;
 
-pub use client_actor::ClientActor;
-pub use repair_actor::RepairActor;
+pub use caller::Caller;
+pub use part::Part;

@@ -1,6 +1,5 @@
--- Each step of a client's call keeps what it owes.
+-- Each step of a call keeps what it owes.
 use Rattle.std.specs.Prelude.{◌≡◌, ℕ, Bool, false, List, Contains}
-use Rattle.store_map.specs.declared.call.Call.{Call}
 use Rattle.store_core.specs.Act.{Act, DirectoryStep, Outcome}
 use Rattle.store_core.specs.Agreement.{Seat}
 use Rattle.store_core.specs.AtDirectory.{at_directory}
@@ -14,12 +13,12 @@ use Rattle.call_steps.specs.declared.need.Need.TheVariants as need
 use Rattle.call_steps.specs.CallOf.{act_of}
 use Rattle.call_steps.specs.Steps.{stepped_at_directory, stepped_at_server, coded, need_of, IsDueInPass}
 use Rattle.client_read.specs.Owed.{contents_of}
-use Rattle.client_call.specs.Calls.{ClientCallOf, first_call, owed_by}
-use Rattle.client_call.specs.Kinds.{Machine, machine_of}
+use Rattle.call_machine.specs.Calls.{MachineOf, first_call, owed_by}
+use Rattle.call_machine.specs.Kinds.{Asked, Machine, machine_of}
 use Rattle.call_owes.specs.Owes.{OwesBy}
 
 -- where the call's look is told pins, their bytes by the directory's stamps are owed at its point
-abbrev pub LookIsOwed : (ℕ → List ℕ → Type 0) → Bool → ClientCallOf → Sealed → Type 0
+abbrev pub LookIsOwed : (ℕ → List ℕ → Type 0) → Bool → MachineOf → Sealed → Type 0
 LookIsOwed IsOwed short c d =
     (place length_now : ℕ) (seen : List Seen) → act_of c.call ≡ Act.AtDirectory (DirectoryStep.Look c.call.job.note) →
     (at_directory short (actor_of c.call.token) c.call.number (DirectoryStep.Look c.call.job.note) d.core).1 ≡ Told.Pinned place length_now seen →
@@ -28,21 +27,21 @@ LookIsOwed IsOwed short c d =
 -- by whatever is meant by owed
 pub record KeepsOwing (IsOwed : ℕ → List ℕ → Type 0) : Type 0 where
   -- before its first step it owes nothing
-  pub first : (book : BookOf) (tries : ℕ) (seat : Seat) (number : ℕ) (written : Call) → OwesBy IsOwed (first_call book tries seat number written)
+  pub first : (book : BookOf) (tries : ℕ) (seat : Seat) (number : ℕ) (asked : Asked) → OwesBy IsOwed (first_call book tries seat number asked)
   -- a step at the directory, which may be its look
   pub directory :
-      (short due : Bool) (c after : ClientCallOf) (d : Sealed) → OwesBy IsOwed c → need_of c.call ≡ need.Directory → after.call ≡ (stepped_at_directory short due c.call d.core).1 →
-      after.written ≡ c.written → after.owed ≡ owed_by short d c → LookIsOwed IsOwed short c d → OwesBy IsOwed after
+      (short due : Bool) (c after : MachineOf) (d : Sealed) → OwesBy IsOwed c → need_of c.call ≡ need.Directory → after.call ≡ (stepped_at_directory short due c.call d.core).1 →
+      after.asked ≡ c.asked → after.owed ≡ owed_by short d c → LookIsOwed IsOwed short c d → OwesBy IsOwed after
   -- a step at a server
   pub server :
-      (short due : Bool) (c after : ClientCallOf) (j : ℕ) (s : Server) → OwesBy IsOwed c → need_of c.call ≡ need.Server j → after.call ≡ (stepped_at_server short due c.call s).1 →
-      after.written ≡ c.written → after.owed ≡ c.owed → OwesBy IsOwed after
+      (short due : Bool) (c after : MachineOf) (j : ℕ) (s : Server) → OwesBy IsOwed c → need_of c.call ≡ need.Server j → after.call ≡ (stepped_at_server short due c.call s).1 →
+      after.asked ≡ c.asked → after.owed ≡ c.owed → OwesBy IsOwed after
   -- a coding, in which memory was wanting or not
   pub coder :
-      (short : Bool) (c after : ClientCallOf) → OwesBy IsOwed c → need_of c.call ≡ need.Coder → IsDueInPass c.call → after.call ≡ coded short c.call → after.written ≡ c.written →
+      (short : Bool) (c after : MachineOf) → OwesBy IsOwed c → need_of c.call ≡ need.Coder → IsDueInPass c.call → after.call ≡ coded short c.call → after.asked ≡ c.asked →
       (short ≡ false → after.owed ≡ c.owed) → OwesBy IsOwed after
   -- and at its end what it is served is owed at its point
-  pub served : (c : ClientCallOf) (place : ℕ) → OwesBy IsOwed c → act_of c.call ≡ Act.Finish (Outcome.Served place) → (machine_of c.written ≡ Machine.Reads) × IsOwed place c.owed
+  pub served : (c : MachineOf) (place : ℕ) → OwesBy IsOwed c → act_of c.call ≡ Act.Finish (Outcome.Served place) → (machine_of c.asked ≡ Machine.Reads) × IsOwed place c.owed
 
 -- these are among points and bytes that are owed there
 abbrev pub AreAmong : List (ℕ × List ℕ) → ℕ → List ℕ → Type 0

@@ -58,7 +58,7 @@ erased_at_points erased (suc n) e h =
           ap (λ l. get_or erased (get_or l e 0) false) list ∙ erased_at_points erased n e (subst (λ l. e < length l) list h)
     ]
 
-sum_byte : (n : ℕ) (f : ℕ → ℕ) → ((e : ℕ) → f e < 2 ^ 8) → sum_below n f < 2 ^ 8
+pub sum_byte : (n : ℕ) (f : ℕ → ℕ) → ((e : ℕ) → f e < 2 ^ 8) → sum_below n f < 2 ^ 8
 sum_byte zero f each = lit< tt
 sum_byte (suc n) f each = xor_lt 8 (sum_below n f) (f n) (sum_byte n f each) (each n)
 

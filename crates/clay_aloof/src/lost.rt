@@ -10,12 +10,11 @@ ghost use Rattle.clay_aloof.specs.Solved.{IsPlan, IsIn, AreSolved};
 ghost use Rattle.clay_aloof.specs.Rebuilt.{is_missing_node, is_unknown, IsBetween, IsGap, IsRepairPlan, ArePut, HasBytes, IsLostPiece, HoldsLost, IsLostChunk, HasColumn, kept_layers};
 
 use crate::geometry::AloofGeometry;
-use crate::layers::{Plan, erased_points, piece, solved_piece, solved_values};
+use crate::layers::{Plan, erased_points, generator_of, piece, solved_piece, solved_values};
 use clay_decode::partner_of;
 use clay_encode::zeros;
 use clay_grid::Geometry;
-use clay_model::cross;
-use clay_scalar::Solver;
+use clay_kernels::{Products, cross, halves};
 use std::alloc::{AllocError, Global};
 
 /// The layers that a repair of a chunk reads from each helper, rising: those whose digit in the column of the chunk's node is the node's
@@ -202,14 +201,14 @@ fn repair_plan(
     let (x, y) = grid.place(node);
     let erased = solved_nodes(alloc, g, lost, parts)?;
     let points = erased_points(alloc, &erased)?;
-    let solver = Solver::new(alloc, &points)?;
+    let generator = generator_of(alloc, grid, &points)?;
     // a layer's score is one more than the number of aloof nodes that are unpaired in it
     let order = grid.layers_by_score(alloc, &erased)?;
     let layers = ordered_layers(alloc, grid, &order, x, y)?;
     Ok(Plan {
         erased,
         points,
-        solver,
+        generator,
         layers,
     })
 }
@@ -288,12 +287,14 @@ fn lost_piece(
     lost: u32,
     parts: &[Option<Vec<u8>>],
     plan: &Plan,
+    halves: &Products,
     known: &[u8],
     solved: &[u8],
     z: u32,
     out: &mut [u8],
 )
     requires parts { AreParts g lost parts.now }
+    requires halves { halves.now ≡ 0x8E }
     requires plan { IsRepairPlan g lost parts.now plan.now }
     requires known { ArePut g lost parts.now (all_chunks g) known.now }
     requires solved { AreSolved (grid_of g) plan.now known.now solved.now }
@@ -309,7 +310,8 @@ fn lost_piece(
     if partner.node == node {
         out.copy_from_slice(own);
     } else {
-        cross(own, piece(grid, known, partner.node, partner.layer), out);
+        let coupled = piece(grid, known, partner.node, partner.layer);
+        cross(halves, own, coupled, out);
     }
 }
 
@@ -332,18 +334,11 @@ fn write_lost(
 {
     let grid = g.grid();
     let w = grid.w() as usize;
+    let halves = halves();
     for z in 0..grid.alpha() {
         let at = z as usize * w;
-        lost_piece(
-            g,
-            lost,
-            parts,
-            plan,
-            known,
-            solved,
-            z,
-            &mut chunk[at..at + w],
-        );
+        let out = &mut chunk[at..at + w];
+        lost_piece(g, lost, parts, plan, &halves, known, solved, z, out);
     }
 }
 

@@ -1,4 +1,3 @@
-pub mod Placing
-pub mod Waiting
+pub mod Laying
 pub mod Taking
 pub mod Recovering

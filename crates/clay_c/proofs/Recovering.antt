@@ -1,11 +1,11 @@
--- The missing chunks between those that are there.
-use Rattle.std.proofs.Common.{◌≡◌, ◌≢◌, ℕ, ◌+◌, ◌-◌, ◌*◌, ◌<◌, true, false, List, [], map, length, get_or, drop, None, is_none, Option, Vec, Global, sym, subst, ap, ◌∙◌, inl, inr, arith}
+-- The missing chunks in their places, between those that are there.
+use Rattle.std.proofs.Common.{◌≡◌, ◌≢◌, ℕ, ◌+◌, ◌-◌, ◌*◌, ◌<◌, true, false, List, get_or, drop, None, is_none, Option, Vec, Global, sym, subst, ap, ◌∙◌, inl, inr, arith}
 use Rattle.std.proofs.lemmas.Bool.{cases_eq, eq-eqb, ne_eqb, true≢false}
 use Rattle.std.proofs.lemmas.List.{get_or-take, get_or-drop}
 use Rattle.clay_grid.specs.Shape.{Shape, chunk_count, chunk_length}
 use Rattle.clay_model.specs.Code.{AgreesWith}
 use Rattle.clay_decode.specs.Left.{parts, Completes}
-use Rattle.clay_lanes.specs.Recovered.{missing_of, AreMissing}
+use Rattle.clay_lanes.specs.Places.{AreFilled}
 use Rattle.clay_c.specs.Pieces.{piece_at}
 use Rattle.clay_c.specs.Calls.{left_of, Recovers}
 use Rattle.clay_c.proofs.Taking.{gone_left, left_at}
@@ -19,28 +19,20 @@ is_there g present old have c is h there none =
     let both : true ≡ false = sym none ∙ gone_left g present old have c is h ∙ ne_eqb (get_or present c 0) 0 there in
     true≢false both
 
--- the missing chunks are written, and the others stay
-pub record IsPut (have : List (Option (Vec ℕ Global))) (missing : List (List ℕ)) (old new : List ℕ) (len : ℕ) : Type 0 where
-  pub kept : (c b : ℕ) → c < length have → is_none (get_or have c None) ≢ true → b < len → get_or new (c * len + b) 0 ≡ get_or old (c * len + b) 0
-  pub written : (value : ℕ → List ℕ) → missing ≡ map value (missing_of have)
-      → (c b : ℕ) → c < length have → is_none (get_or have c None) ≡ true → b < len → get_or new (c * len + b) 0 ≡ get_or (value c) b 0
-
-pub recovers : (g : Shape) (present old new : List ℕ) (have : List (Option (Vec ℕ Global))) (missing : List (List ℕ)) → parts have ≡ left_of g present old → length have ≡ chunk_count g → AreMissing g have missing
-    → IsPut have missing old new (chunk_length g) → Recovers g present old new
-recovers g present old new have missing is count are put = record {
+pub recovers : (g : Shape) (present old new : List ℕ) (have : List (Option (Vec ℕ Global))) → parts have ≡ left_of g present old → AreFilled g have old new → Recovers g present old new
+recovers g present old new have is filled = record {
   value = λ word codeword agrees. record {
     at = λ c b hc hb.
         let fits : Completes g have word = record { codeword = codeword; agrees = subst (λ p. AgreesWith p word) (sym is) agrees } in
         let within : c < chunk_count g = subst (λ n. c < n) codeword.count hc in
-        let inside : c < length have = subst (λ n. c < n) (sym count) within in
         elim (cases_eq (get_or present c 0) 0) [
           | inl zero_mark ↦
-              put.written (λ k. get_or word k []) (are.value word fits) c b inside (gone_left g present old have c is within ∙ eq-eqb (get_or present c 0) 0 zero_mark) hb
+              (filled.missing c b within hb (gone_left g present old have c is within ∙ eq-eqb (get_or present c 0) 0 zero_mark)).at word fits
           | inr other ↦
-              put.kept c b inside (is_there g present old have c is within other) hb
+              filled.there c b within hb (is_there g present old have c is within other)
               ∙ sym (piece_byte (chunk_length g) c b old hb)
               ∙ ap (λ l. get_or l b 0) (sym (agrees c (piece_at (chunk_length g) old c) (left_at g present old c within other)))
         ];
   };
-  kept = λ c b hc there hb. put.kept c b (subst (λ n. c < n) (sym count) hc) (is_there g present old have c is hc there) hb;
+  kept = λ c b hc there hb. filled.there c b hc hb (is_there g present old have c is hc there);
 }

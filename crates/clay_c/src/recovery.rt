@@ -4,9 +4,10 @@ ghost use Rattle.clay_grid.specs.Shape.{chunk_count, chunk_length, stripe_length
 ghost use Rattle.clay_decode.specs.Left.{parts, AreLong};
 ghost use Rattle.clay_c.specs.Calls.{MakesParity, lost_count, left_of, Recovers};
 
-use crate::pieces::{lay_out, put_missing, take};
+use crate::pieces::take;
 use clay_decode::DecodeFault;
 use clay_grid::Geometry;
+use clay_lanes::{missing_into, parity_into};
 use std::alloc::{AllocError, Global};
 
 /// Writes the parity chunks of a stripe, one behind another.
@@ -21,8 +22,7 @@ pub fn write_parity(
     ensures written { OnOk result (MakesParity g stripe.now parity.new) }
     ensures kept { OnErr result (parity.new ≡ parity.old) }
 {
-    let chunks = clay_lanes::parity(alloc, g, stripe)?;
-    lay_out(&chunks, g.chunk_len() as usize, parity);
+    parity_into(alloc, g, stripe, parity)?;
     Ok(())
 }
 
@@ -67,11 +67,9 @@ pub fn write_missing(
     ensures kept { OnErr result (chunks.new ≡ chunks.old) }
 {
     let have = chunks_left(alloc, g, present, chunks)?;
-    let missing = match clay_lanes::missing(alloc, g, &have) {
-        Ok(missing) => missing,
-        Err(DecodeFault::OutOfMemory) => return Err(AllocError),
+    match missing_into(alloc, g, &have, chunks) {
+        Ok(()) => Ok(()),
+        Err(DecodeFault::OutOfMemory) => Err(AllocError),
         Err(DecodeFault::TooFew) => unreachable!(),
-    };
-    put_missing(&have, &missing, g.chunk_len() as usize, chunks);
-    Ok(())
+    }
 }

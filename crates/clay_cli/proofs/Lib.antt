@@ -4,3 +4,5 @@ mod VerifyLaws
 mod GeneratedLaws
 mod Asked
 mod OneVerdict
+mod SameEntries
+mod OneAnswer

@@ -1,6 +1,8 @@
 pub mod Play
 pub mod Chunks
+pub mod Entries
 pub mod Recover
+pub mod Repaird
 pub mod Verify
 pub mod Top
 pub mod ExitStatus

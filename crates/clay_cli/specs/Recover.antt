@@ -1,16 +1,14 @@
 -- What `recover` prints for its input.
-use Rattle.std.specs.Prelude.{◌≡◌, ◌≢◌, ◌⊎◌, ℕ, ◌<◌, ◌≤◌, List, length, Option, is_none, count_by, Vec, codes}
+use Rattle.std.specs.Prelude.{◌≡◌, ◌⊎◌, ℕ, ◌<◌, ◌≤◌, List, Option, is_none, count_by, Vec, codes}
 use Rattle.std.specs.declared.alloc.Global.{Global}
 use Rattle.clay_grid.specs.Shape.{Shape, chunk_count, chunk_length}
 use Rattle.clay_decode.specs.Left.{Completes}
 use Rattle.code_text.specs.Lines.{chunk_lines}
-use Rattle.code_text.specs.Entries.{lines_of, AreEntries, HasNoEntry, HasOtherLength, AreLong, parts_of}
+use Rattle.clay_cli.specs.Entries.{AreRead, AreRefused}
 
 -- the input's lines are the chunks that are left of a code's
-pub record IsLeft (g : Shape) (input : List ℕ) (left : List (Option (Vec ℕ Global))) : Type 0 where
-  pub count : length left ≡ chunk_count g
-  pub entries : AreEntries (lines_of input) (parts_of left)
-  pub lengths : AreLong (chunk_length g) left
+abbrev pub IsLeft : Shape → List ℕ → List (Option (Vec ℕ Global)) → Type 0
+IsLeft g input left = AreRead (chunk_count g) (chunk_length g) input left
 
 -- no more chunks are missing than can be, and these are the lines of all chunks of the codeword that agrees with those that are left
 pub record IsRecovered (g : Shape) (input output : List ℕ) : Type 0 where
@@ -20,16 +18,6 @@ pub record IsRecovered (g : Shape) (input output : List ℕ) : Type 0 where
   pub chunks : List (List ℕ)
   pub completes : Completes g left chunks
   pub output_is : output ≡ chunk_lines chunks
-
--- another number of lines, or of bytes in a line where every line is a dash or digits
-abbrev pub IsOtherLength : Shape → List ℕ → List ℕ → Type 0
-IsOtherLength g input output =
-    ((length (lines_of input) ≢ chunk_count g) ⊎ HasOtherLength (chunk_length g) (lines_of input)) × (output ≡ codes "data refused length\n")
-
--- as many lines as chunks, and one that is neither a dash nor digits
-abbrev pub IsNotHex : Shape → List ℕ → List ℕ → Type 0
-IsNotHex g input output =
-    ((length (lines_of input) ≡ chunk_count g) × HasNoEntry (lines_of input)) × (output ≡ codes "data refused hex\n")
 
 -- more chunks are missing than can be
 pub record IsMissing (g : Shape) (input output : List ℕ) : Type 0 where
@@ -48,4 +36,4 @@ pub record IsDisagreeing (g : Shape) (input output : List ℕ) : Type 0 where
 
 abbrev pub IsNotRecovered : Shape → List ℕ → List ℕ → Type 0
 IsNotRecovered g input output =
-    IsOtherLength g input output ⊎ IsNotHex g input output ⊎ IsMissing g input output ⊎ IsDisagreeing g input output
+    AreRefused (chunk_count g) (chunk_length g) (λ line. IsMissing g input line ⊎ IsDisagreeing g input line) input output

@@ -3,16 +3,17 @@ use Rattle.std.specs.Prelude.{◌≡◌, ◌⊎◌, ℕ, Option, Some, List, [],
 use Rattle.clay_bytes.specs.Stream.{Gains, IsPrefixWritten}
 use Rattle.clay_words.specs.Words.{AsksTask}
 use Rattle.clay_cli.specs.Play.{IsTranscriptFor, IsFaulty}
-use Rattle.clay_cli.specs.Chunks.{IsChunkLines, IsDataRefused}
+use Rattle.clay_cli.specs.Chunks.{IsChunkLines, IsDataRefused, IsAloofLines, IsAloofRefused}
 use Rattle.clay_cli.specs.Recover.{IsRecovered, IsNotRecovered}
+use Rattle.clay_cli.specs.Repaird.{IsRepaired, IsNotRepaired}
 use Rattle.clay_cli.specs.Verify.{IsLegal, IsNotLegal, IsUnreadable}
 use Rattle.clay_words.specs.declared.words.Task.{Task}
-use Rattle.clay_words.specs.declared.words.Task.TheVariants.{Play, Verify, Chunks, Recover}
+use Rattle.clay_words.specs.declared.words.Task.TheVariants.{Play, Verify, Chunks, Recover, AloofChunks, AloofRepair}
 use Rattle.clay_cli.specs.declared.status.Status.{Status}
 use Rattle.clay_cli.specs.declared.status.Status.TheVariants.{Done, ScriptRefused, InputTooLong, ReadFault, WriteFault, OutOfMemory, NotLegal, DataRefused}
 
 abbrev pub usage_line : List ℕ
-usage_line = codes "usage: clay play | run WORKERS | verify | chunks K M W | recover K M W | gen START SIZE | trial START SIZE WORKERS\n"
+usage_line = codes "usage: clay play | run WORKERS | verify | chunks K M W | recover K M W | gen START SIZE | trial START SIZE WORKERS | chunksd K M D W | repaird K M D W LOST\n"
 
 -- a fact of the bytes that a source told, if it told them
 abbrev pub WhereTold : Option (List ℕ) → (List ℕ → Type 0) → Type 0
@@ -33,6 +34,12 @@ Answers (Chunks g) input _ output = ⊥
 Answers (Recover g) input Done output = IsRecovered g input output
 Answers (Recover g) input DataRefused output = IsNotRecovered g input output
 Answers (Recover g) input _ output = ⊥
+Answers (AloofChunks a) input Done output = IsAloofLines a input output
+Answers (AloofChunks a) input DataRefused output = IsAloofRefused a input output
+Answers (AloofChunks a) input _ output = ⊥
+Answers (AloofRepair a lost) input Done output = IsRepaired a lost input output
+Answers (AloofRepair a lost) input DataRefused output = IsNotRepaired a lost input output
+Answers (AloofRepair a lost) input _ output = ⊥
 
 -- the output of an input that these words ask for, with its status
 abbrev pub Owes : List (List ℕ) → List ℕ → Status → List ℕ → Type 0

@@ -2,12 +2,14 @@
 #![tactic(auto)]
 
 mod chunks;
+mod chunksd;
 mod generate;
 pub mod laws;
 mod output;
 mod play;
 mod program;
 mod recover;
+mod repaird;
 mod status;
 mod top;
 mod verify;

@@ -54,7 +54,7 @@ fn transcript<R: Threads + Sync, C: Coder>(
     ensures status { IfOk result (λ output. output.status ≡ Status.Done) }
     ensures text { IfOk result (λ output. IsTextOf script output.bytes.items) }
 {
-    let transcript = world::play(rt, alloc, coder, script)?;
+    let transcript = store_world::play(rt, alloc, coder, script)?;
     let bytes = write_transcript(alloc, &transcript)?;
     Ok(Output {
         status: Status::Done,

@@ -3,16 +3,18 @@ ghost use Rattle.std.specs.Prelude.{◌≡◌, ◌≢◌, ◌⊎◌, ◌≤◌, 
 ghost use Rattle.clay_bytes.specs.Stream.{Rises, Gains, GivesAtMost, IsCutOff, IsPrefixWritten};
 ghost use Rattle.clay_gen.specs.Script.{generated};
 ghost use Rattle.script_text.specs.Spelling.{spelling};
-ghost use Rattle.clay_words.specs.Words.{Asks, AsksNothing, AsksForInput};
+ghost use Rattle.clay_words.specs.Words.{Asks, AsksNothing, AsksForInput, HasItsChunk};
 ghost use Rattle.clay_cli.specs.Top.{WhereTold, Answers, Owes, Writes, IsOfInput, IsSilent, usage_line};
 ghost use Rattle.clay_words.specs.declared.words.Command.TheVariants.{Generate};
 
 use crate::Status;
 use crate::chunks::chunks;
+use crate::chunksd::chunksd;
 use crate::generate::script_from;
 use crate::output::Output;
 use crate::play::play;
 use crate::recover::recover;
+use crate::repaird::repaird;
 use crate::verify::verify;
 use clay_bytes::{InFault, Sink, Source, read_all, write_all};
 use clay_repair::Coder;
@@ -23,7 +25,7 @@ use std::thread::Threads;
 const INPUT_LIMIT: u64 = 167_772_160;
 
 const USAGE_LINE: &[u8] =
-    b"usage: clay play | run WORKERS | verify | chunks K M W | recover K M W | gen START SIZE | trial START SIZE WORKERS\n";
+    b"usage: clay play | run WORKERS | verify | chunks K M W | recover K M W | gen START SIZE | trial START SIZE WORKERS | chunksd K M D W | repaird K M D W LOST\n";
 
 // The task's output for a whole input.
 fn output_of<R: Threads + Sync, C: Coder>(
@@ -33,7 +35,8 @@ fn output_of<R: Threads + Sync, C: Coder>(
     task: Task,
     input: Vec<u8>,
 ) -> Result<Output, Status>
-    requires { length input.items ≤ 167772160 }
+    requires few { length input.items ≤ 167772160 }
+    requires chunk { HasItsChunk task }
     ensures status { IfOk result (λ output. IsOfInput output.status) }
     ensures answers { IfOk result (λ output. Answers task input.items output.status output.bytes.items) }
     ensures memory { IfErr result (λ status. status ≡ Status.OutOfMemory) }
@@ -43,6 +46,8 @@ fn output_of<R: Threads + Sync, C: Coder>(
         Task::Verify => verify(alloc, input),
         Task::Chunks(g) => chunks(alloc, g, &input),
         Task::Recover(g) => recover(alloc, g, &input),
+        Task::AloofChunks(g) => chunksd(alloc, g, &input),
+        Task::AloofRepair { geometry, lost } => repaird(alloc, geometry, lost, &input),
     };
     made.map_err(|_| Status::OutOfMemory)
 }
@@ -55,6 +60,7 @@ fn answer<R: Threads + Sync, C: Coder, S: Source>(
     task: Task,
     source: &mut S,
 ) -> Result<Output, Status>
+    requires chunk { HasItsChunk task }
     ensures status { IfOk result (λ output. IsOfInput output.status) }
     ensures answers { IfOk result (λ output. WhereTold (S.left source.old) (λ input.
         (length input ≤ 167772160) × Answers task input output.status output.bytes.items)) }

@@ -5,15 +5,17 @@ mod checked;
 mod coder;
 mod layers;
 mod lost;
+mod places;
 mod plan;
 mod repair;
 mod repair_plan;
 
 pub use checked::decode_checked;
-pub use clay_parity::{encode, parity};
+pub use clay_parity::{encode, parity, parity_into};
 pub use coder::LaneCoder;
 pub use layers::solve_layers;
 pub use lost::{couple_chunk, decode, missing};
+pub use places::missing_into;
 pub use plan::{Plan, make_plan};
 pub use repair::{rebuild, rebuild_into, solve_column, write_block};
 pub use repair_plan::{RepairPlan, make_repair_plan};

@@ -4,3 +4,4 @@ pub mod GroupLaws
 pub mod ShortLemmas
 pub mod ChunkLists
 pub mod ParityLemmas
+pub mod FlatLemmas

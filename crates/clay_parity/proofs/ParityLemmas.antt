@@ -141,7 +141,7 @@ module _ (g : Shape) (geometry : IsGeometry g) (factors stripe : List ℕ) (unkn
       ]
 
   -- whole groups of layers
-  groups : layer_count g / row_count g * (g.parity_count * g.width) ≡ chunk_length g
+  pub groups : layer_count g / row_count g * (g.parity_count * g.width) ≡ chunk_length g
   groups =
       let q : ℕ = row_count g in
       let s : ℕ = column_count g - 1 in

@@ -88,6 +88,14 @@ short_layers m w number value rows holds x o hx h =
     (λ i. cond (eqb x d) (own i) (quotient (bit_xor (own i) (product 2 (holds.at d x b hd hx low i))) 5))
     ∙ (λ i. cond (eqb x (sym rest i)) (value n x b) (quotient (bit_xor (value n x b) (product 2 (value (sym over i * m + x) (sym rest i) b))) 5))
 
+-- the bytes of a row in a group, by their places in the chunk
+pub short_bytes : (m w number : ℕ) (value : ℕ → ℕ → ℕ → ℕ) (rows : List ℕ) (x o : ℕ) → 0 < w → x < m → o < m * w → HoldsShort m w number value rows
+    → short_coupled m w rows x o ≡ coupled_of m value x ((number * (m * w) + o) / w) ((number * (m * w) + o) % w)
+short_bytes m w number value rows x o some hx h holds =
+    let grouped : number * (m * w) ≡ number * m * w = omega arith in
+    short_layers m w number value rows holds x o hx h
+    ∙ (λ i. coupled_of m value x (sym (ap (λ v. (v + o) / w) grouped ∙ mul-add-div_right some (number * m) o) i) (sym (ap (λ v. (v + o) % w) grouped ∙ mul-add-mod_self_right (number * m) w o) i))
+
 -- one group more of a row
 pub Appends-short : (m w number : ℕ) (value : ℕ → ℕ → ℕ → ℕ) (rows : List ℕ) (x : ℕ) (old mid new : List ℕ) → 0 < w → x < m
     → HoldsShort m w number value rows
@@ -96,10 +104,6 @@ pub Appends-short : (m w number : ℕ) (value : ℕ → ℕ → ℕ → ℕ) (ro
     → Appends ((number + 1) * (m * w)) (λ o. coupled_of m value x (o / w) (o % w)) old new
 Appends-short m w number value rows x old mid new some hx holds a n =
     let next : number * (m * w) + m * w ≡ (number + 1) * (m * w) = omega arith in
-    let grouped : number * (m * w) ≡ number * m * w = omega arith in
     subst (λ c. Appends c (λ o. coupled_of m value x (o / w) (o % w)) old new) next
     (Appends-then (number * (m * w)) (m * w) (λ o. coupled_of m value x (o / w) (o % w)) (short_coupled m w rows x) old mid new
-    (λ o h.
-    short_layers m w number value rows holds x o hx h
-    ∙ (λ i. coupled_of m value x (sym (ap (λ v. (v + o) / w) grouped ∙ mul-add-div_right some (number * m) o) i) (sym (ap (λ v. (v + o) % w) grouped ∙ mul-add-mod_self_right (number * m) w o) i)))
-    a n)
+    (λ o h. short_bytes m w number value rows x o some hx h holds) a n)

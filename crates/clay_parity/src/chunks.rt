@@ -24,7 +24,7 @@ use clay_kernels::{
 use std::alloc::{AllocError, Global};
 
 /// The most bytes of a node in a group of layers that are coded together. A call for each of short subchunks costs more than its work.
-const SHORT: usize = 1024;
+pub const SHORT: usize = 1024;
 
 /// Adds what the bytes of a node outside the last column add, as if it had no partner.
 fn add_own(
@@ -173,7 +173,7 @@ fn solve_block(
 
 /// Writes the uncoupled values of the last column in a group of layers with short subchunks, all together, those of a node one behind
 /// another, with room for the values of a node and of a column.
-fn solve_rows(
+pub fn solve_rows(
     g: Geometry,
     generator: &Generator,
     stripe: &[u8],
@@ -270,7 +270,7 @@ fn solve_layer(
 
 /// Writes the uncoupled values of the last column in a group of layers, one after another, with room for the values of a node and of a
 /// column.
-fn solve_layers(
+pub fn solve_layers(
     g: Geometry,
     generator: &Generator,
     stripe: &[u8],
@@ -329,7 +329,7 @@ pub fn solve_group(
 }
 
 /// The bytes from `at` on of row `x` in a layer of the group, as many as `len`, which are a block.
-fn block(g: Geometry, group: &[u8], layer: u32, x: u32, at: usize, len: usize) -> &[u8]
+pub fn block(g: Geometry, group: &[u8], layer: u32, x: u32, at: usize, len: usize) -> &[u8]
     requires group_len { length group.now ≡ g.parity_count * (g.parity_count * g.width) }
     requires in_group { layer < row_count g }
     requires row { x < row_count g }

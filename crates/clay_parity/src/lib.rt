@@ -2,7 +2,9 @@
 #![tactic(auto)]
 
 mod chunks;
+mod flat;
 mod short;
 mod stripe;
 
 pub use chunks::{add_pieces, encode, last_column, parity, solve_group};
+pub use flat::parity_into;

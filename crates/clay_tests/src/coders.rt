@@ -13,9 +13,9 @@ use std::alloc::AllocError;
 use std::test::Fail;
 use std::thread::Threads;
 use store_map::Script;
+use store_world::World;
 use transcript_text::Transcript;
 use version_seal::Book;
-use world::World;
 
 // Of a stripe whose chunk 0 is lost.
 const ONE_LOSS: &[u8] = b"\

@@ -10,6 +10,8 @@ mod away;
 #[cfg(test)]
 mod chunks;
 #[cfg(test)]
+mod chunksd;
+#[cfg(test)]
 mod coders;
 #[cfg(test)]
 mod counted;
@@ -27,6 +29,8 @@ mod play;
 mod races;
 #[cfg(test)]
 mod recover;
+#[cfg(test)]
+mod repaird;
 #[cfg(test)]
 mod runs;
 #[cfg(test)]

@@ -22,7 +22,7 @@ end
 ";
 
 const USAGE: &[u8] =
-    b"usage: clay play | run WORKERS | verify | chunks K M W | recover K M W | gen START SIZE | trial START SIZE WORKERS\n";
+    b"usage: clay play | run WORKERS | verify | chunks K M W | recover K M W | gen START SIZE | trial START SIZE WORKERS | chunksd K M D W | repaird K M D W LOST\n";
 
 #[test]
 fn put_then_get(rt: HostRuntime) -> Result<(), Fail> {
@@ -37,7 +37,7 @@ fn put_then_get(rt: HostRuntime) -> Result<(), Fail> {
 
 #[test]
 fn words_of_no_command(rt: HostRuntime) -> Result<(), Fail> {
-    let lists: [&[&str]; 16] = [
+    let lists: [&[&str]; 20] = [
         &["playy"],
         &["play", "play"],
         &["Play"],
@@ -49,6 +49,10 @@ fn words_of_no_command(rt: HostRuntime) -> Result<(), Fail> {
         &["chunks", "20", "4", "1"],
         &["recover", "2", "9", "1"],
         &["recover", "2", "2", "1", "1"],
+        &["chunksd", "2", "3", "1"],
+        &["chunksd", "2", "3", "2", "1"],
+        &["repaird", "2", "3", "5", "1", "0"],
+        &["repaird", "2", "3", "3", "1", "5"],
         &["gen", "0"],
         &["gen", "0", "1", "1"],
         &["run", "1"],

@@ -7,3 +7,4 @@ pub mod Stops
 pub mod Taken
 pub mod Held
 pub mod Unspelled
+pub mod OneCommand

@@ -64,3 +64,19 @@ recover_top k m w = refl
 pub gen_top : (start size : Text) → top_passes (codes "gen" ∷ start ∷ size ∷ []) true ≡ true
 unfolding clap_on_literals
 gen_top start size = refl
+
+pub chunksd_stop : (k m d w : Text) → stop (codes "chunksd" ∷ k ∷ m ∷ d ∷ w ∷ []) ≡ Some (codes "chunksd", k ∷ m ∷ d ∷ w ∷ [])
+unfolding clap_on_literals
+chunksd_stop k m d w = refl
+
+pub repaird_stop : (k m d w lost : Text) → stop (codes "repaird" ∷ k ∷ m ∷ d ∷ w ∷ lost ∷ []) ≡ Some (codes "repaird", k ∷ m ∷ d ∷ w ∷ lost ∷ [])
+unfolding clap_on_literals
+repaird_stop k m d w lost = refl
+
+pub chunksd_top : (k m d w : Text) → top_passes (codes "chunksd" ∷ k ∷ m ∷ d ∷ w ∷ []) true ≡ true
+unfolding clap_on_literals
+chunksd_top k m d w = refl
+
+pub repaird_top : (k m d w lost : Text) → top_passes (codes "repaird" ∷ k ∷ m ∷ d ∷ w ∷ lost ∷ []) true ≡ true
+unfolding clap_on_literals
+repaird_top k m d w lost = refl

@@ -4,12 +4,13 @@ use Rattle.std.specs.Prelude.{◌⊎◌, ◌==◌, true, map}
 use Rattle.line_grammar.specs.Numbers.{IsNumberWord}
 use Rattle.line_grammar.proofs.NumberLaws.{number_word_is}
 use Rattle.clay_grid.specs.Shape.{Shape}
+use Rattle.clay_aloof.specs.Shape.{AloofShape}
 use Rattle.clay_words.specs.Spelled.{IsSpelled}
-use Rattle.clay_words.specs.Words.{Asks, AsksNothing, IsCode}
+use Rattle.clay_words.specs.Words.{Asks, AsksNothing, IsCode, IsAloofCode}
 use Rattle.clay_words.specs.declared.words.Command.{Command}
 use Rattle.clay_words.specs.declared.words.Command.TheVariants.{Generate, OfInput}
-use Rattle.clay_words.specs.declared.words.Task.TheVariants.{Play, Verify, Chunks, Recover}
-use Rattle.clay_words.proofs.WordLaws.{code_numbers}
+use Rattle.clay_words.specs.declared.words.Task.TheVariants.{Play, Verify, Chunks, Recover, AloofChunks, AloofRepair}
+use Rattle.clay_words.proofs.WordLaws.{aloof_numbers, code_numbers}
 
 number : (word : List ℕ) (n : ℕ) → n < 2 ^ 64 → word ≡ decimal n → IsNumberWord word
 number word n small is = (n, is ∙ sym (number_word_is n small))
@@ -20,6 +21,15 @@ code_is_numbers g k m w code =
       number k g.data_count (omega (arith, small.0)) code.data_count,
       number m g.parity_count (omega (arith, small.1)) code.parity_count,
       number w g.width (omega (arith, small.2)) code.width,
+    )
+
+aloof_is_numbers : (a : AloofShape) (k m d w : List ℕ) → IsAloofCode a k m d w → IsNumberWord k × IsNumberWord m × IsNumberWord d × IsNumberWord w
+aloof_is_numbers a k m d w code =
+    let small = aloof_numbers a code.limits in (
+      number k a.data_count (omega (arith, small.0)) code.data_count,
+      number m a.parity_count (omega (arith, small.1)) code.parity_count,
+      number d a.helper_count (omega (arith, small.2)) code.helper_count,
+      number w a.width (omega (arith, small.3)) code.width,
     )
 
 -- words that ask for a command are none, or have its form
@@ -33,6 +43,14 @@ asked_spelled words (OfInput (Chunks g)) asked =
 asked_spelled words (OfInput (Recover g)) asked =
     let numbers = code_is_numbers g asked.k asked.m asked.w asked.code in
     inr (subst IsSpelled (sym asked.words_are) (inr refl, numbers.0, numbers.1, numbers.2))
+asked_spelled words (OfInput (AloofChunks a)) asked =
+    let numbers = aloof_is_numbers a asked.k asked.m asked.d asked.w asked.code in
+    inr (subst IsSpelled (sym asked.words_are) (refl, numbers.0, numbers.1, numbers.2, numbers.3))
+asked_spelled words (OfInput (AloofRepair a lost)) (asked, within) =
+    let numbers = aloof_is_numbers a asked.k asked.m asked.d asked.w asked.code in
+    let small = aloof_numbers a asked.code.limits in
+    let chunk : lost < 2 ^ 64 = omega (arith, small.0, small.1, within) in
+    inr (subst IsSpelled (sym asked.words_are) (refl, numbers.0, numbers.1, numbers.2, numbers.3, number (decimal lost) lost chunk refl))
 asked_spelled words (Generate start size) asked =
     let few = asked.3 in
     inr (subst IsSpelled (sym asked.0) (refl, number (decimal start) start asked.1 refl, number (decimal size) size (omega (arith, few)) refl))

@@ -10,6 +10,10 @@ IsSpelled (name ∷ []) = (name ≡ codes "play") ⊎ (name ≡ codes "verify")
 IsSpelled (name ∷ start ∷ size ∷ []) = (name ≡ codes "gen") × IsNumberWord start × IsNumberWord size
 IsSpelled (name ∷ k ∷ m ∷ w ∷ []) =
     ((name ≡ codes "chunks") ⊎ (name ≡ codes "recover")) × IsNumberWord k × IsNumberWord m × IsNumberWord w
+IsSpelled (name ∷ k ∷ m ∷ d ∷ w ∷ []) =
+    (name ≡ codes "chunksd") × IsNumberWord k × IsNumberWord m × IsNumberWord d × IsNumberWord w
+IsSpelled (name ∷ k ∷ m ∷ d ∷ w ∷ lost ∷ []) =
+    (name ≡ codes "repaird") × IsNumberWord k × IsNumberWord m × IsNumberWord d × IsNumberWord w × IsNumberWord lost
 IsSpelled _ = ⊥
 
 -- the words are a name alone
@@ -36,10 +40,39 @@ pub record HoldsCode (words : List Text) (name : Text) (rows : List Row) : Type 
   pub k_is : first_of (codes "k") rows ≡ Some k
   pub m_is : first_of (codes "m") rows ≡ Some m
   pub w_is : first_of (codes "w") rows ≡ Some w
+  pub no_d : first_of (codes "d") rows ≡ None
+
+-- the words are a name and the numbers of a code with so many helpers
+pub record HoldsAloof (words : List Text) (name : Text) (rows : List Row) : Type 0 where
+  pub k : Text
+  pub m : Text
+  pub d : Text
+  pub w : Text
+  pub words_are : words ≡ name ∷ k ∷ m ∷ d ∷ w ∷ []
+  pub k_is : first_of (codes "k") rows ≡ Some k
+  pub m_is : first_of (codes "m") rows ≡ Some m
+  pub d_is : first_of (codes "d") rows ≡ Some d
+  pub w_is : first_of (codes "w") rows ≡ Some w
+  pub no_lost : first_of (codes "lost") rows ≡ None
+
+-- the same, and a lost chunk's number
+pub record HoldsRepair (words : List Text) (name : Text) (rows : List Row) : Type 0 where
+  pub k : Text
+  pub m : Text
+  pub d : Text
+  pub w : Text
+  pub lost : Text
+  pub words_are : words ≡ name ∷ k ∷ m ∷ d ∷ w ∷ lost ∷ []
+  pub k_is : first_of (codes "k") rows ≡ Some k
+  pub m_is : first_of (codes "m") rows ≡ Some m
+  pub d_is : first_of (codes "d") rows ≡ Some d
+  pub w_is : first_of (codes "w") rows ≡ Some w
+  pub lost_is : first_of (codes "lost") rows ≡ Some lost
 
 -- the words are those of a subcommand's name and of what is held for it
 abbrev pub AreHeld : List Text → Text → List Row → Type 0
-AreHeld words name rows = HoldsNone words name rows ⊎ HoldsDraw words name rows ⊎ HoldsCode words name rows
+AreHeld words name rows =
+    HoldsNone words name rows ⊎ HoldsDraw words name rows ⊎ HoldsCode words name rows ⊎ HoldsAloof words name rows ⊎ HoldsRepair words name rows
 
 -- clap takes the words, and holds them
 pub record IsTaken (words : List Text) : Type 0 where

@@ -2,7 +2,7 @@
 ghost use Rattle.std.specs.Prelude.{◌≡◌, false, IfOk};
 ghost use Rattle.clap.specs.Words.{app_of, rule_of};
 ghost use Rattle.clap.specs.declared.builder.Command.TheViews.{out-Command as fields_of};
-ghost use Rattle.clay_words.specs.Grammar.{bare_app, clay_app, code_app, draw_app, number_rule};
+ghost use Rattle.clay_words.specs.Grammar.{aloof_app, bare_app, clay_app, code_app, draw_app, number_rule, repair_app, store_app};
 
 use clap::{Arg, Command};
 use std::alloc::{AllocError, Global};
@@ -25,6 +25,25 @@ fn code_grammar<'a>(alloc: Global, name: &'a str) -> Result<Command<'a>, AllocEr
     with_parity_count.arg(number(alloc, "w"))
 }
 
+// A command with the numbers of a code with so many helpers.
+fn aloof_grammar<'a>(alloc: Global, name: &'a str) -> Result<Command<'a>, AllocError>
+    ensures shape { IfOk result (λ command. app_of command ≡ aloof_app name.entry.now) }
+    ensures local { IfOk result (λ command. (fields_of command).has_globals ≡ false) }
+{
+    let with_data_count = Command::new(alloc, name).arg(number(alloc, "k"))?;
+    let with_parity_count = with_data_count.arg(number(alloc, "m"))?;
+    let with_helper_count = with_parity_count.arg(number(alloc, "d"))?;
+    with_helper_count.arg(number(alloc, "w"))
+}
+
+// The same with a lost chunk's number.
+fn repair_grammar<'a>(alloc: Global, name: &'a str) -> Result<Command<'a>, AllocError>
+    ensures shape { IfOk result (λ command. app_of command ≡ repair_app name.entry.now) }
+    ensures local { IfOk result (λ command. (fields_of command).has_globals ≡ false) }
+{
+    aloof_grammar(alloc, name)?.arg(number(alloc, "lost"))
+}
+
 // A command with a number and a size.
 fn draw_grammar<'a>(alloc: Global, name: &'a str) -> Result<Command<'a>, AllocError>
     ensures shape { IfOk result (λ command. app_of command ≡ draw_app name.entry.now) }
@@ -45,13 +64,21 @@ fn bare_grammar<'a>(alloc: Global) -> Command<'a>
         .disable_help_subcommand(true)
 }
 
-/// The program with its commands.
-pub fn clay_grammar<'a>(alloc: Global) -> Result<Command<'a>, AllocError>
-    ensures { IfOk result (λ command. app_of command ≡ clay_app) }
+// The program with the commands of the store and of its code.
+fn store_grammar<'a>(alloc: Global) -> Result<Command<'a>, AllocError>
+    ensures { IfOk result (λ command. app_of command ≡ store_app) }
 {
     let with_play = bare_grammar(alloc).subcommand(Command::new(alloc, "play"))?;
     let with_verify = with_play.subcommand(Command::new(alloc, "verify"))?;
     let with_chunks = with_verify.subcommand(code_grammar(alloc, "chunks")?)?;
     let with_recover = with_chunks.subcommand(code_grammar(alloc, "recover")?)?;
     with_recover.subcommand(draw_grammar(alloc, "gen")?)
+}
+
+/// The program with its commands.
+pub fn clay_grammar<'a>(alloc: Global) -> Result<Command<'a>, AllocError>
+    ensures { IfOk result (λ command. app_of command ≡ clay_app) }
+{
+    let with_chunks = store_grammar(alloc)?.subcommand(aloof_grammar(alloc, "chunksd")?)?;
+    with_chunks.subcommand(repair_grammar(alloc, "repaird")?)
 }

@@ -2,9 +2,11 @@
 #![tactic(auto)]
 
 mod grammar;
+mod laws;
 mod parse;
 mod spelled;
 mod words;
 
+pub use laws::words_ask_for_one_command;
 pub use parse::command_of;
 pub use words::{Command, Task};

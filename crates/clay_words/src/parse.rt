@@ -1,15 +1,43 @@
 // What the words ask for, as clap takes them apart.
-ghost use Rattle.std.specs.Prelude.{◌≡◌, Some, ℕ, List, map, string_bytes, MatchOption, IfOk};
-ghost use Rattle.clap.specs.Words.{Row, found_of, rows_of, subcommand_rows_of};
-ghost use Rattle.clay_words.specs.Spelled.{AreHeld, IsSpelled};
+ghost use Rattle.std.specs.Prelude.{◌≡◌, Some, codes, ℕ, List, map, string_bytes, MatchOption, IfOk};
+ghost use Rattle.clap.specs.Words.{Row, first_of, found_of, rows_of, subcommand_rows_of};
+ghost use Rattle.clay_words.specs.Spelled.{AreHeld, HoldsCode, IsSpelled};
 ghost use Rattle.clay_words.specs.Words.{Asks, AsksNothing};
 
 use crate::grammar::clay_grammar;
 use crate::spelled::is_spelled;
-use crate::words::{Command, Task, code_command, draw_command, plain_command};
+use crate::words::{
+    Command, Task, aloof_command, code_command, draw_command, plain_command, repair_command,
+};
 use clap::ArgMatches;
 use clap::error::ErrorKind;
 use std::alloc::{AllocError, Global};
+
+// The command of a name and of the words that are held for it, of which k is one and d none.
+fn code_held(name: &str, numbers: &ArgMatches, k: &str) -> Option<Command>
+    ensures { (words : List (List ℕ)) → HoldsCode words name.now (rows_of (found_of numbers.now)) →
+        first_of (codes "k") (rows_of (found_of numbers.now)) ≡ Some k.now →
+        MatchOption result (AsksNothing words) (λ command. Asks words command) }
+{
+    let m = numbers.get_str("m")?;
+    let w = numbers.get_str("w")?;
+    code_command(name, k, m, w)
+}
+
+// The command of a name and of the words that are held for it, of which k and d are two.
+fn aloof_held(name: &str, numbers: &ArgMatches, k: &str, d: &str) -> Option<Command>
+    ensures { (words : List (List ℕ)) → AreHeld words name.now (rows_of (found_of numbers.now)) →
+        first_of (codes "k") (rows_of (found_of numbers.now)) ≡ Some k.now →
+        first_of (codes "d") (rows_of (found_of numbers.now)) ≡ Some d.now →
+        MatchOption result (AsksNothing words) (λ command. Asks words command) }
+{
+    let m = numbers.get_str("m")?;
+    let w = numbers.get_str("w")?;
+    match numbers.get_str("lost") {
+        Some(lost) => repair_command(name, k, m, d, w, lost),
+        None => aloof_command(name, k, m, d, w),
+    }
+}
 
 // The command of a name and of the words that are held for it.
 fn command_held(name: &str, numbers: &ArgMatches) -> Option<Command>
@@ -17,11 +45,10 @@ fn command_held(name: &str, numbers: &ArgMatches) -> Option<Command>
         MatchOption result (AsksNothing words) (λ command. Asks words command) }
 {
     match numbers.get_str("k") {
-        Some(k) => {
-            let m = numbers.get_str("m")?;
-            let w = numbers.get_str("w")?;
-            code_command(name, k, m, w)
-        }
+        Some(k) => match numbers.get_str("d") {
+            Some(d) => aloof_held(name, numbers, k, d),
+            None => code_held(name, numbers, k),
+        },
         None => match numbers.get_str("start") {
             Some(start) => {
                 let size = numbers.get_str("size")?;

@@ -28,6 +28,29 @@ fn is_code(name: &str, k: &str, m: &str, w: &str) -> bool
         && is_number(w.as_bytes())
 }
 
+// The name of the command that has the numbers of a code with so many helpers, and four numbers.
+fn is_aloof(name: &str, k: &str, m: &str, d: &str, w: &str) -> bool
+    ensures { IsTrue result ↔ IsSpelled (name.now ∷ k.now ∷ m.now ∷ d.now ∷ w.now ∷ []) }
+{
+    name == "chunksd"
+        && is_number(k.as_bytes())
+        && is_number(m.as_bytes())
+        && is_number(d.as_bytes())
+        && is_number(w.as_bytes())
+}
+
+// The name of the command that has such a code's numbers and a lost chunk's, and five numbers.
+fn is_repair(name: &str, k: &str, m: &str, d: &str, w: &str, lost: &str) -> bool
+    ensures { IsTrue result ↔ IsSpelled (name.now ∷ k.now ∷ m.now ∷ d.now ∷ w.now ∷ lost.now ∷ []) }
+{
+    name == "repaird"
+        && is_number(k.as_bytes())
+        && is_number(m.as_bytes())
+        && is_number(d.as_bytes())
+        && is_number(w.as_bytes())
+        && is_number(lost.as_bytes())
+}
+
 /// Whether the words are a command's name and as many numbers as it has. So none of them is an
 /// option or a call for help.
 pub(crate) fn is_spelled(words: &[String]) -> bool
@@ -37,6 +60,21 @@ pub(crate) fn is_spelled(words: &[String]) -> bool
         [name] => is_plain(name.as_str()),
         [name, start, size] => is_draw(name.as_str(), start.as_str(), size.as_str()),
         [name, k, m, w] => is_code(name.as_str(), k.as_str(), m.as_str(), w.as_str()),
+        [name, k, m, d, w] => is_aloof(
+            name.as_str(),
+            k.as_str(),
+            m.as_str(),
+            d.as_str(),
+            w.as_str(),
+        ),
+        [name, k, m, d, w, lost] => is_repair(
+            name.as_str(),
+            k.as_str(),
+            m.as_str(),
+            d.as_str(),
+            w.as_str(),
+            lost.as_str(),
+        ),
         _ => false,
     }
 }

@@ -1,8 +1,10 @@
 // The words that a command is asked for by.
 ghost use Rattle.std.specs.Prelude.{◌≡◌, ◌≢◌, ◌<◌, ◌≤◌, ◌^◌, ◌∷◌, [], codes, ℕ, MatchOption, decimal, IfSome, IfNone};
 ghost use Rattle.clay_grid.specs.Shape.{Shape};
-ghost use Rattle.clay_words.specs.Words.{Asks, AsksNothing, IsCode};
+ghost use Rattle.clay_aloof.specs.Shape.{AloofShape, all_chunks};
+ghost use Rattle.clay_words.specs.Words.{Asks, AsksNothing, IsCode, IsAloofCode};
 
+use clay_aloof::AloofGeometry;
 use clay_gen::MAX_GENERATED;
 use clay_grid::Geometry;
 use line_grammar::{is_number, read_number};
@@ -14,6 +16,10 @@ pub enum Task {
     Verify,
     Chunks(Geometry),
     Recover(Geometry),
+    /// As `Chunks`, of a code with so many helpers.
+    AloofChunks(AloofGeometry),
+    /// The lost chunk of such a code.
+    AloofRepair { geometry: AloofGeometry, lost: u32 },
 }
 
 /// What a call of the program asks for.
@@ -43,6 +49,38 @@ fn geometry_of(k: &str, m: &str, w: &str) -> Option<Geometry>
     let parity_count = read_number(m.as_bytes())?;
     let width = read_number(w.as_bytes())?;
     geometry_of_numbers(data_count, parity_count, width)
+}
+
+fn aloof_geometry_of_numbers(k: u32, m: u32, d: u32, w: u32) -> Option<AloofGeometry>
+    ensures found { IfSome result (λ a. IsAloofCode a (decimal k) (decimal m) (decimal d) (decimal w)) }
+    ensures none { IfNone result ((a : AloofShape) → IsAloofCode a (decimal k) (decimal m) (decimal d) (decimal w) → ⊥) }
+{
+    match AloofGeometry::new(k, m, d, w) {
+        Ok(geometry) => Some(geometry),
+        Err(_) => None,
+    }
+}
+
+// The geometry of four words that spell its numbers.
+fn aloof_geometry_of(k: &str, m: &str, d: &str, w: &str) -> Option<AloofGeometry>
+    ensures found { IfSome result (λ a. IsAloofCode a k.now m.now d.now w.now) }
+    ensures none { IfNone result ((a : AloofShape) → IsAloofCode a k.now m.now d.now w.now → ⊥) }
+{
+    let data_count = read_number(k.as_bytes())?;
+    let parity_count = read_number(m.as_bytes())?;
+    let helper_count = read_number(d.as_bytes())?;
+    let width = read_number(w.as_bytes())?;
+    aloof_geometry_of_numbers(data_count, parity_count, helper_count, width)
+}
+
+// The chunk of a code that a word names.
+fn chunk_of(g: AloofGeometry, word: &str) -> Option<u32>
+    ensures found { IfSome result (λ chunk. (word.now ≡ decimal chunk) × (chunk < all_chunks g)) }
+    ensures none { IfNone result ((chunk : ℕ) → chunk < all_chunks g → word.now ≢ decimal chunk) }
+{
+    let count = g.n();
+    let chunk = read_number(word.as_bytes())?;
+    if chunk < count { Some(chunk) } else { None }
 }
 
 // The number below 2^64 that a word spells.
@@ -106,4 +144,34 @@ pub(crate) fn code_command(name: &str, k: &str, m: &str, w: &str) -> Option<Comm
     } else {
         None
     }
+}
+
+// The command of a name and the numbers of a code with so many helpers.
+pub(crate) fn aloof_command(name: &str, k: &str, m: &str, d: &str, w: &str) -> Option<Command>
+    ensures { MatchOption result (AsksNothing (name.now ∷ k.now ∷ m.now ∷ d.now ∷ w.now ∷ [])) (λ command. Asks (name.now ∷ k.now ∷ m.now ∷ d.now ∷ w.now ∷ []) command) }
+{
+    if name != "chunksd" {
+        return None;
+    }
+    let geometry = aloof_geometry_of(k, m, d, w)?;
+    Some(Command::OfInput(Task::AloofChunks(geometry)))
+}
+
+// The command that has such a code's numbers and a lost chunk's.
+pub(crate) fn repair_command(
+    name: &str,
+    k: &str,
+    m: &str,
+    d: &str,
+    w: &str,
+    lost: &str,
+) -> Option<Command>
+    ensures { MatchOption result (AsksNothing (name.now ∷ k.now ∷ m.now ∷ d.now ∷ w.now ∷ lost.now ∷ [])) (λ command. Asks (name.now ∷ k.now ∷ m.now ∷ d.now ∷ w.now ∷ lost.now ∷ []) command) }
+{
+    if name != "repaird" {
+        return None;
+    }
+    let geometry = aloof_geometry_of(k, m, d, w)?;
+    let lost = chunk_of(geometry, lost)?;
+    Some(Command::OfInput(Task::AloofRepair { geometry, lost }))
 }

@@ -93,19 +93,20 @@ fn find_effect(script: &Script, unanswered: &CallSet, lines: &[HLine]) -> Option
 fn find_early(
     alloc: Global,
     transcript: &Transcript,
+    answered: &CallSet,
     calls: &[CallName],
 ) -> Result<Option<Verdict>, AllocError>
     requires few { length (answered_calls transcript.now) < 2 ^ 32 }
+    requires answered { IsSetOf answered.now (answered_calls transcript.now) }
     ensures { IfOk result (λ found. found ≡ first_fault_along (λ before call. option_or (is_only_one (find (same_actor call) before) call) (is_next_call (answered_calls transcript.now) call)) calls.now) }
 {
-    let answered = CallSet::of_answers(alloc, transcript)?;
     let mut reached = ActorTable::new(alloc);
     let mut firsts = ActorTable::new(alloc);
     for call in calls {
         if let Some(fault) = is_only_one(firsts.get(*call), *call) {
             return Ok(Some(fault));
         }
-        if let Some(fault) = is_next_call(transcript, &answered, &mut reached, *call)? {
+        if let Some(fault) = is_next_call(transcript, answered, &mut reached, *call)? {
             return Ok(Some(fault));
         }
         firsts.set(*call, u64::from(number_of(*call)))?;
@@ -113,13 +114,16 @@ fn find_early(
     Ok(None)
 }
 
-/// The first line of a call without a reply that is wrong, those of the history first.
+/// The first line of a call without a reply that is wrong, those of the history first. The set is
+/// that of the answered calls.
 pub fn find_wrong_open(
     alloc: Global,
     script: &Script,
     transcript: &Transcript,
+    answered: &CallSet,
 ) -> Result<Option<Verdict>, AllocError>
     requires few { length (answered_calls transcript.now) < 2 ^ 32 }
+    requires answered { IsSetOf answered.now (answered_calls transcript.now) }
     ensures { IfOk result (λ found. found ≡ one_open_call script.now transcript.now) }
 {
     let waiting = unanswered_calls(alloc, transcript)?;
@@ -127,5 +131,5 @@ pub fn find_wrong_open(
     if let Some(fault) = find_effect(script, &set, transcript.history.as_slice()) {
         return Ok(Some(fault));
     }
-    find_early(alloc, transcript, &waiting)
+    find_early(alloc, transcript, answered, &waiting)
 }

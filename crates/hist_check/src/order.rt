@@ -120,25 +120,26 @@ fn find_disorder<L: NamesCall>(
     Ok(None)
 }
 
-/// The first answer that stands out of order.
+/// The first answer that stands out of order. The set is that of the answered calls.
 pub fn find_wrong_answer(
     alloc: Global,
     transcript: &Transcript,
+    set: &CallSet,
 ) -> Result<Option<Verdict>, AllocError>
     requires few { length (answered_calls transcript.now) < 2 ^ 32 }
+    requires set { IsSetOf set.now (answered_calls transcript.now) }
     ensures { IfOk result (λ found. found ≡ calls_in_order transcript.now) }
 {
-    let set = CallSet::of_answers(alloc, transcript)?;
     let mut reached = ActorTable::new(alloc);
     let mut before = CallSet::new(alloc);
     let replies = transcript.history.as_slice();
-    if let Some(fault) = find_disorder(transcript, &set, &mut reached, &mut before, replies)? {
+    if let Some(fault) = find_disorder(transcript, set, &mut reached, &mut before, replies)? {
         return Ok(Some(fault));
     }
     let refusals = transcript.refused.as_slice();
-    if let Some(fault) = find_disorder(transcript, &set, &mut reached, &mut before, refusals)? {
+    if let Some(fault) = find_disorder(transcript, set, &mut reached, &mut before, refusals)? {
         return Ok(Some(fault));
     }
     let results = transcript.repairs.as_slice();
-    find_disorder(transcript, &set, &mut reached, &mut before, results)
+    find_disorder(transcript, set, &mut reached, &mut before, results)
 }

@@ -28,6 +28,7 @@ use hist_causes::{
     find_wrong_sum,
 };
 use hist_rules::Verdict;
+use hist_tables::CallSet;
 use std::alloc::{AllocError, Global};
 use store_map::{ObjectMap, Script};
 use transcript_text::Transcript;
@@ -55,10 +56,11 @@ fn find_wrong_order(
     requires few { length (answered_calls transcript.now) < 2 ^ 32 }
     ensures { IfOk result (λ found. found ≡ first_of (calls_in_order transcript.now ∷ one_open_call script.now transcript.now ∷ [])) }
 {
-    if let Some(fault) = find_wrong_answer(alloc, transcript)? {
+    let answered = CallSet::of_answers(alloc, transcript)?;
+    if let Some(fault) = find_wrong_answer(alloc, transcript, &answered)? {
         return Ok(Some(fault));
     }
-    find_wrong_open(alloc, script, transcript)
+    find_wrong_open(alloc, script, transcript, &answered)
 }
 
 /// The first refusal or result that can't be: for lost chunks, then for lost races, then for a call

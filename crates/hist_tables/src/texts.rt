@@ -5,20 +5,8 @@ ghost use Rattle.hist_rules.specs.TailText.{without_end, nothing};
 ghost use Rattle.transcript_text.specs.declared.line.TLine.{TLine};
 
 use std::alloc::{AllocError, Global};
-use std::fmt::Display;
-use std::io::Write;
 use store_map::ByteList;
-use transcript_text::CallName;
-
-/// Appends what the value displays.
-pub fn append<D: Display + Drop>(out: &mut Vec<u8>, value: D) -> Result<(), AllocError>
-    ensures { OnOk result (AppendsText out.old.items out.new.items (D.output value)) }
-{
-    match out.write_fmt(value) {
-        Ok(()) => Ok(()),
-        Err(_) => Err(AllocError),
-    }
-}
+use transcript_text::{CallName, append};
 
 /// Where no line stands.
 pub fn nothing(alloc: Global) -> Result<ByteList, AllocError>

@@ -1,15 +1,14 @@
 ghost use Rattle.std.specs.Prelude.{◌≡◌, ◌++◌, IfOk, OnOk};
 ghost use Rattle.hex.specs.Hex.{encode_lower};
-ghost use Rattle.transcript_text.specs.Words.{reply_text, shown_text};
+ghost use Rattle.transcript_text.specs.Words.{reply_text};
 ghost use Rattle.hist_rules.specs.VerdictText.{tail_word, verdict_line};
 
-use crate::texts::append;
 use hist_rules::{TailKind, Verdict};
 use std::alloc::{AllocError, Global};
 use store_map::Reply;
-use transcript_text::Shown;
+use transcript_text::{append, append_shown};
 
-/// Appends the bytes' digits, in lower case.
+// Appends the bytes' digits, in lower case.
 fn append_hex(out: &mut Vec<u8>, bytes: &[u8]) -> Result<(), AllocError>
     ensures { OnOk result (out.new.items ≡ out.old.items ++ encode_lower bytes.now) }
 {
@@ -30,15 +29,6 @@ fn append_reply(out: &mut Vec<u8>, reply: &Reply) -> Result<(), AllocError>
         Reply::NoSuch => append(out, "nosuch"),
         Reply::OutRange => append(out, "outrange"),
         Reply::TooLarge => append(out, "toolarge"),
-    }
-}
-
-fn append_shown(out: &mut Vec<u8>, shown: &Shown) -> Result<(), AllocError>
-    ensures { OnOk result (out.new.items ≡ out.old.items ++ shown_text shown.now) }
-{
-    match shown {
-        Shown::Reply(reply) => append_reply(out, reply),
-        Shown::Unfinished => append(out, "open"),
     }
 }
 

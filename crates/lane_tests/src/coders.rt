@@ -5,7 +5,7 @@ ghost use Rattle.clay_decode.specs.Left.{AreLong};
 use crate::encoding::{CODES, WIDTHS, mixed_bytes};
 use clay_decode::{CheckedFault, DecodeFault};
 use clay_grid::Geometry;
-use clay_lanes::{LaneCoder, decode, decode_checked, encode, missing};
+use clay_lanes::{LaneCoder, decode, decode_checked, encode, missing, missing_into};
 use clay_repair::{Coder, PlainCoder};
 use std::alloc::{AllocError, Global};
 use std::process::Abort;
@@ -56,6 +56,44 @@ pub fn gone_count(have: &[Option<Vec<u8>>]) -> usize
     have.iter().filter(|chunk| chunk.is_none()).count()
 }
 
+// The missing chunks stand in their places, and other bytes in those of the others.
+fn expect_places(
+    rt: &impl Abort,
+    bytes: &[u8],
+    len: usize,
+    have: &[Option<Vec<u8>>],
+    word: &[Vec<u8>],
+) {
+    assert!(rt; len > 0);
+    for (c, piece) in bytes.chunks(len).enumerate() {
+        assert!(rt; c < have.len());
+        assert!(rt; c < word.len());
+        if have[c].is_none() {
+            assert_eq!(rt; piece, word[c].as_slice());
+        } else {
+            assert!(rt; piece.iter().all(|byte| *byte == 0xa5));
+        }
+    }
+}
+
+// Writes the missing chunks to their places over bytes that were there before.
+fn check_missing_into(
+    rt: &impl Abort,
+    alloc: Global,
+    g: Geometry,
+    have: &[Option<Vec<u8>>],
+    word: &[Vec<u8>],
+) -> Result<(), Fail>
+    requires count { length have.now ≡ chunk_count g }
+    requires lengths { AreLong (chunk_length g) have.now }
+{
+    let len = g.chunk_len() as usize;
+    let mut bytes = vec![in alloc; 0xa5u8; g.n() as usize * len]?;
+    missing_into(alloc, g, have, &mut bytes)?;
+    expect_places(rt, &bytes, len, have, word);
+    Ok(())
+}
+
 // Recovers the chunks of the bits of `gone`.
 fn check_loss<R: Abort + Threads + Sync>(
     rt: &R,
@@ -74,6 +112,7 @@ fn check_loss<R: Abort + Threads + Sync>(
         );
         return Ok(());
     }
+    check_missing_into(rt, alloc, g, &have, word)?;
     expect_chunks(rt, &LaneCoder.recover(rt, alloc, g, &have)?, word);
     expect_chunks(rt, &decode(alloc, g, &have)?, word);
     expect_chunks(rt, &decode_checked(alloc, g, &have)?, word);

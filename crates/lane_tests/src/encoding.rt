@@ -1,5 +1,8 @@
+ghost use Rattle.std.specs.Prelude.{◌≡◌, length};
+ghost use Rattle.clay_grid.specs.Shape.{stripe_length};
+
 use clay_grid::Geometry;
-use clay_lanes::{encode, parity};
+use clay_lanes::{encode, parity, parity_into};
 use std::alloc::{AllocError, Global};
 use std::process::Abort;
 use std::test::Fail;
@@ -13,6 +16,32 @@ pub fn mixed_bytes(alloc: Global, count: u32) -> Result<Vec<u8>, AllocError> {
         bytes.push(byte)?;
     }
     Ok(bytes)
+}
+
+// Pieces of one length stand one behind another.
+fn expect_pieces(rt: &impl Abort, bytes: &[u8], len: usize, expected: &[Vec<u8>]) {
+    assert!(rt; len > 0);
+    for (c, piece) in bytes.chunks(len).enumerate() {
+        assert!(rt; c < expected.len());
+        assert_eq!(rt; piece, expected[c].as_slice());
+    }
+}
+
+// Writes the parity chunks over bytes that were there before.
+fn check_parity_into(
+    rt: &impl Abort,
+    alloc: Global,
+    g: Geometry,
+    stripe: &[u8],
+    others: &[Vec<u8>],
+) -> Result<(), Fail>
+    requires { length stripe.now ≡ stripe_length g }
+{
+    let len = g.chunk_len() as usize;
+    let mut bytes = vec![in alloc; 0xa5u8; g.m() as usize * len]?;
+    parity_into(alloc, g, stripe, &mut bytes)?;
+    expect_pieces(rt, &bytes, len, others);
+    Ok(())
 }
 
 fn check_stripe(rt: &impl Abort, alloc: Global, g: Geometry) -> Result<(), Fail> {
@@ -29,7 +58,7 @@ fn check_stripe(rt: &impl Abort, alloc: Global, g: Geometry) -> Result<(), Fail>
     for (x, chunk) in others.iter().enumerate() {
         assert_eq!(rt; chunk.as_slice(), plain[g.k() as usize + x].as_slice());
     }
-    Ok(())
+    check_parity_into(rt, alloc, g, &stripe, &others)
 }
 
 /// Codes with and without virtual nodes, of up to 1024 layers.

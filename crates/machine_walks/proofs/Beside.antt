@@ -1,7 +1,7 @@
 -- Places and the calls in work there, after a step of one of them.
-use Rattle.std.proofs.Common.{◌≡◌, ℕ, ◌<◌, ◌≤◌, Bool, true, false, List, [], ◌++◌, length, get_or, set, Option, None, Some, IfSome, refl, sym, ap, subst, ◌∙◌}
+use Rattle.std.proofs.Common.{◌≡◌, ℕ, ◌<◌, ◌≤◌, Bool, false, List, [], ◌++◌, length, get_or, set, Option, None, Some, IfSome, refl, sym, ap, subst, ◌∙◌}
 use Rattle.std.proofs.lemmas.List.{append-nil}
-use Rattle.clay_grid.specs.Shape.{Shape, chunk_count}
+use Rattle.clay_grid.specs.Shape.{chunk_count}
 use Rattle.store_map.specs.declared.actor.Actor.{Actor}
 use Rattle.store_map.specs.declared.actor.Actor.TheVariants as actor
 use Rattle.store_core.specs.Told.{Told}
@@ -22,16 +22,15 @@ use Rattle.call_steps.specs.CallOf.{CallOf, act_of}
 use Rattle.call_steps.specs.Steps.{stepped_at_directory, stepped_at_server, at_directory_by, at_server_by}
 use Rattle.call_stands.proofs.Tokens.{tokens_stay}
 use Rattle.call_stands.proofs.Agreement.{agreement_stays}
-use Rattle.client_patch.proofs.Knowing.{more_stamps_are_known}
 use Rattle.machine_walks.specs.Waits.{AllWait, HasBegun}
 use Rattle.machine_walks.specs.Whole.{AreWhole, Grows}
 use Rattle.machine_walks.specs.Places.{PlacesOf, ArePlaces}
 use Rattle.machine_walks.specs.Works.{call_of, Knows, IsBeside, IsIn, Keeps, KeepsAll}
-use Rattle.machine_walks.specs.declared.work.Work.{Work}
-use Rattle.machine_walks.specs.declared.work.Work.TheVariants as work
+use Rattle.machine_walks.specs.declared.work.InWork.{InWork}
 use Rattle.machine_walks.specs.declared.waiting.Waiting.{Waiting}
 use Rattle.machine_walks.proofs.Waiters.{stay, all_stay, no_operator, begun_still, client_apart, repairer_apart}
 use Rattle.machine_walks.proofs.Servers.{changed, its_own}
+use Rattle.machine_walks.proofs.Machines.{more_known}
 
 directory_book : (act : Act) (short due : Bool) (c : CallOf) (d : Directory) → (at_directory_by act short due c d).1.book ≡ c.book
 directory_book (Act.AtDirectory step) short due c d = refl
@@ -42,13 +41,6 @@ server_book : (act : Act) (short due : Bool) (c : CallOf) (s : Server) → (at_s
 server_book (Act.AtServer server step) short due c s = refl
 server_book (Act.AtDirectory step) short due c s = refl
 server_book (Act.Finish outcome) short due c s = refl
-
--- more stamps are known too
-knows_more : (s now : Sealed) (more : List StampOf) → now.stamps ≡ s.stamps ++ more → (w : Work) → Knows s w → Knows now w
-knows_more s now more is (work.Put put) knows = tt
-knows_more s now more is (work.Read read) knows = tt
-knows_more s now more is (work.Patch patch) knows = more_stamps_are_known s now more patch is knows
-knows_more s now more is (work.Rebuild call) knows = tt
 
 -- the same actor's call of the same book
 goes_by : (p after : PlacesOf) (c now : CallOf) → IsBeside p c → after.book ≡ p.book → after.waiting ≡ p.waiting → now.book ≡ c.book → actor_of now.token ≡ actor_of c.token → Agrees after.sealed.core now.token
@@ -77,7 +69,7 @@ module _ (p : PlacesOf) (after : Sealed) (its : Actor) (keeps : (token : ActorTo
   directory_keeps more is w apart in_work =
       record {
         beside = goes_by p (record { book = p.book; sealed = after; servers = p.servers; waiting = p.waiting }) (call_of w) (call_of w) in_work.beside refl refl refl refl (keeps (call_of w).token apart in_work.beside.agrees);
-        knows = knows_more p.sealed after more is w in_work.knows;
+        knows = more_known p.sealed after more is w.machine in_work.knows;
       }
 
   directory_places : ArePlaces p → AllWait after.core p.waiting → after.book ≡ p.sealed.book → AreWhole p.book after.stamps → ArePlaces (record { book = p.book; sealed = after; servers = p.servers; waiting = p.waiting })
@@ -88,7 +80,7 @@ whole_after p after is grows =
     subst (λ (b : BookOf). AreWhole b after.stamps) is.its (grows.whole (subst (λ (b : BookOf). AreWhole b p.sealed.stamps) (sym is.its) is.whole))
 
 -- ---- a call's own step
-module _ (p : PlacesOf) (w next : Work) (in_work : IsIn p w) (short due : Bool) where
+module _ (p : PlacesOf) (w next : InWork) (in_work : IsIn p w) (short due : Bool) where
   -- at the directory
   module _ (after : Sealed) (step : (after.core, call_of next) ≡ stepped_at_directory short due (call_of w) p.sealed.core) where
     others : (token : ActorToken) → same_actor (actor_of (call_of w).token) (actor_of token) ≡ false → Agrees p.sealed.core token → Agrees after.core token
@@ -133,7 +125,7 @@ module _ (p : PlacesOf) (w next : Work) (in_work : IsIn p w) (short due : Bool) 
         }
 
 -- a coding
-pub coded_still : (p : PlacesOf) (w next : Work) → IsIn p w → (call_of next).token ≡ (call_of w).token → (call_of next).book ≡ (call_of w).book → (Knows p.sealed w → Knows p.sealed next) → IsIn p next
+pub coded_still : (p : PlacesOf) (w next : InWork) → IsIn p w → (call_of next).token ≡ (call_of w).token → (call_of next).book ≡ (call_of w).book → (Knows p.sealed w → Knows p.sealed next) → IsIn p next
 coded_still p w next is token book knows =
     record {
       beside = goes_by p p (call_of w) (call_of next) is.beside refl refl book (ap actor_of token) (subst (Agrees p.sealed.core) (sym token) is.beside.agrees);
@@ -188,7 +180,7 @@ module _ (p : PlacesOf) (now : Waiting) where
   taken_keeps clients repairer w is =
       record { beside = record { its = is.beside.its; agrees = is.beside.agrees; begun = begun_still (actor_of (call_of w).token) p.waiting now clients repairer is.beside.begun }; knows = is.knows }
 
-  module _ (seat : Seat) (w : Work) (token : (call_of w).token ≡ ActorToken.Seated seat) where
+  module _ (seat : Seat) (w : InWork) (token : (call_of w).token ≡ ActorToken.Seated seat) where
     begins : (its : Actor) → seat.actor ≡ its → AgreesWithSeat p.sealed.core seat → HasBegun its now → (call_of w).book ≡ p.book → Knows p.sealed w → IsIn (record { book = p.book; sealed = p.sealed; servers = p.servers; waiting = now }) w
     begins its is agrees begun book knows =
         record {
@@ -208,12 +200,12 @@ module _ (p : PlacesOf) (now : Waiting) where
         → IsIn (record { book = p.book; sealed = p.sealed; servers = p.servers; waiting = now }) w
     repairer_begins its begun book knows = begins (actor.Repairer 0) (ap (λ (s : Seat). s.actor) its.0) its.1 begun book knows
 
-    pub client_is_apart : (n : ℕ) → seat ≡ client_seat n → n < length p.waiting.clients.items → (other : Work) → IsIn p other → same_actor (actor_of (call_of w).token) (actor_of (call_of other).token) ≡ false
+    pub client_is_apart : (n : ℕ) → seat ≡ client_seat n → n < length p.waiting.clients.items → (other : InWork) → IsIn p other → same_actor (actor_of (call_of w).token) (actor_of (call_of other).token) ≡ false
     client_is_apart n is less other there =
         ap (λ (t : ActorToken). same_actor (actor_of t) (actor_of (call_of other).token)) token ∙ ap (λ (s : Seat). same_actor s.actor (actor_of (call_of other).token)) is
         ∙ client_apart n (actor_of (call_of other).token) p.waiting less there.beside.begun
 
-    pub repairer_is_apart : seat ≡ repairer_seat 0 → (p.waiting.repairer ≡ None → ⊥) → (other : Work) → IsIn p other → same_actor (actor_of (call_of w).token) (actor_of (call_of other).token) ≡ false
+    pub repairer_is_apart : seat ≡ repairer_seat 0 → (p.waiting.repairer ≡ None → ⊥) → (other : InWork) → IsIn p other → same_actor (actor_of (call_of w).token) (actor_of (call_of other).token) ≡ false
     repairer_is_apart is had other there =
         ap (λ (t : ActorToken). same_actor (actor_of t) (actor_of (call_of other).token)) token ∙ ap (λ (s : Seat). same_actor s.actor (actor_of (call_of other).token)) is
         ∙ repairer_apart (actor_of (call_of other).token) p.waiting had there.beside.begun

@@ -1,5 +1,6 @@
 pub mod Whole
 pub mod WholeObjects
+pub mod Machines
 pub mod Waiters
 pub mod Servers
 pub mod Opened

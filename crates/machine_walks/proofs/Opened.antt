@@ -1,6 +1,6 @@
 -- Places at which no call was made.
-use Rattle.std.proofs.Common.{◌≡◌, ℕ, ◌+◌, ◌<◌, ◌≤◌, List, [], ◌∷◌, length, map, slice_get, Option, None, Some, option_map, IfSome, refl, sym, ap, subst, ◌∙◌, arith}
-use Rattle.std.proofs.lemmas.Option.{same_Some, slice_get_within, get_or_from_slice_get}
+use Rattle.std.proofs.Common.{◌≡◌, ℕ, ◌+◌, ◌<◌, List, [], ◌∷◌, length, map, slice_get, Option, None, Some, IfSome, sym, ap, subst, ◌∙◌, arith}
+use Rattle.std.proofs.lemmas.Option.{slice_get_within, get_or_from_slice_get}
 use Rattle.std.proofs.lemmas.List.FromFn.{length-map-range_with_len, get_or-map-range_with_len}
 use Rattle.std.proofs.lemmas.List.Elements.{All-nil}
 use Rattle.std.specs.List.{range_with_len}
@@ -16,7 +16,7 @@ use Rattle.stripe_dir.specs.Seats.{client_seat, repairer_seat}
 use Rattle.machine_walks.specs.Small.{small_code}
 use Rattle.machine_walks.specs.Waits.{AllWait}
 use Rattle.machine_walks.specs.Whole.{AreWhole}
-use Rattle.machine_walks.specs.Places.{PlacesOf, ArePlaces}
+use Rattle.machine_walks.specs.Places.{ArePlaces}
 use Rattle.machine_walks.specs.declared.waiting.Waiting.{Waiting}
 use Rattle.machine_walks.proofs.Servers.{empty_servers}
 

@@ -72,7 +72,7 @@ module _ (book : BookOf) (stamps : List StampOf) (whole : AreWhole book stamps) 
       let within : k < count = subst (λ n. k < n) (length-map-range_with_len (drawn_stamp book stamps pass first request) 0 count) less in
       subst (λ (s : StampOf). length s.content ≡ stripe_length book.geometry) (sym (get_or-map-range_with_len (drawn_stamp book stamps pass first request) 0 count k k x within (let same : 0 + k ≡ k = omega arith in same))) (one_whole pass first request k)
 
-none : (book : BookOf) → AreWhole book []
+pub none : (book : BookOf) → AreWhole book []
 none book = All-nil (λ (s : StampOf). length s.content ≡ stripe_length book.geometry)
 
 module _ (s : Sealed) (whole : AreWhole s.book s.stamps) where
@@ -98,7 +98,7 @@ module _ (s : Sealed) (whole : AreWhole s.book s.stamps) where
   act_draws (Act.Finish outcome) short c written = none s.book
 
 -- ---- the directory has more stamps
-grows : (s now : Sealed) (more : List StampOf) → now.stamps ≡ s.stamps ++ more → (AreWhole s.book s.stamps → AreWhole s.book more) → Grows s now
+pub grows : (s now : Sealed) (more : List StampOf) → now.stamps ≡ s.stamps ++ more → (AreWhole s.book s.stamps → AreWhole s.book more) → Grows s now
 grows s now more is whole =
     record {
       more = more;
@@ -106,5 +106,5 @@ grows s now more is whole =
       whole = λ old. subst (AreWhole s.book) (sym is) (All-append (λ (t : StampOf). length t.content ≡ stripe_length s.book.geometry) s.stamps more old (whole old));
     }
 
-pub drawn_grows : (s now : Sealed) (short : Bool) (c : CallOf) (written : Call) → now.stamps ≡ s.stamps ++ stamps_drawn short s c written → Grows s now
-drawn_grows s now short c written is = grows s now (stamps_drawn short s c written) is (λ old. act_draws s old (act_of c) short c written)
+pub drawn_whole : (s : Sealed) → AreWhole s.book s.stamps → (short : Bool) (c : CallOf) (written : Call) → AreWhole s.book (stamps_drawn short s c written)
+drawn_whole s whole short c written = act_draws s whole (act_of c) short c written

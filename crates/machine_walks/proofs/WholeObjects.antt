@@ -1,8 +1,8 @@
 -- Objects of whole stripes are padded.
-use Rattle.std.proofs.Common.{◌≡◌, ℕ, ◌+◌, ◌-◌, ◌*◌, ◌/◌, ◌<◌, ◌≤◌, List, [], ◌∷◌, ◌++◌, length, get_or, take, replicate, slice_get, Option, None, Some, IfSome, refl, sym, ap, subst, ◌∙◌, arith}
+use Rattle.std.proofs.Common.{◌≡◌, ℕ, ◌-◌, ◌*◌, ◌/◌, ◌<◌, ◌≤◌, List, [], ◌∷◌, ◌++◌, length, get_or, replicate, slice_get, Option, None, Some, IfSome, refl, sym, ap, subst, ◌∙◌, arith}
 use Rattle.std.proofs.lemmas.List.{take_all, append-nil}
 use Rattle.std.proofs.lemmas.Option.{same_Some, none-some}
-use Rattle.clay_grid.specs.Shape.{Shape, stripe_length}
+use Rattle.clay_grid.specs.Shape.{stripe_length}
 use Rattle.clay_model.specs.Code.{padded}
 use Rattle.store_core.specs.Directory.{Object}
 use Rattle.store_sound.proofs.SoundLists.{at_all}

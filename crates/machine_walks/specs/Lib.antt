@@ -1,4 +1,5 @@
 pub mod Small
+pub mod Patching
 pub mod Waits
 pub mod Whole
 pub mod Places

@@ -1,11 +1,11 @@
 -- Contents that are whole stripes.
-use Rattle.std.specs.Prelude.{◌≡◌, ⊤, ℕ, ◌*◌, ◌≤◌, List, [], ◌∷◌, ◌++◌, length, All}
+use Rattle.std.specs.Prelude.{◌≡◌, ⊤, ◌*◌, ◌≤◌, List, [], ◌∷◌, ◌++◌, length, All}
 use Rattle.clay_grid.specs.Shape.{stripe_length}
 use Rattle.store_core.specs.Directory.{Object}
 use Rattle.version_seal.specs.Entry.{BookOf, StampOf}
 use Rattle.stripe_dir.specs.Sealed.{Sealed}
-use Rattle.machine_walks.specs.declared.work.Work.{Work}
-use Rattle.machine_walks.specs.declared.work.Work.TheVariants as work
+use Rattle.call_machine.specs.Kinds.{machine_of, IfPatches}
+use Rattle.machine_walks.specs.declared.work.InWork.{InWork}
 
 -- of stamps of a book
 abbrev pub AreWhole : BookOf → List StampOf → Type 0
@@ -18,9 +18,8 @@ AreWholeObjects (object ∷ []) = 8 * length object.versions ≤ object.length
 AreWholeObjects (object ∷ other ∷ more) = ⊥
 
 -- a write or a delete may make its steps at this directory
-abbrev pub IsReady : Sealed → Work → Type 0
-IsReady s (work.Patch patch) = AreWholeObjects s.core.objects
-IsReady s w = ⊤
+abbrev pub IsReady : Sealed → InWork → Type 0
+IsReady s w = IfPatches (machine_of w.machine.asked) (AreWholeObjects s.core.objects)
 
 -- a directory whose stamps are whole has more of them then, which are whole too
 pub record Grows (s now : Sealed) : Type 0 where

@@ -5,7 +5,7 @@ ghost use Rattle.machine_walks.specs.Small.{small_code};
 ghost use Rattle.machine_walks.specs.Works.{call_of, IsIn, Keeps, KeepsAll};
 
 use crate::waiting::Waiting;
-use crate::work::Work;
+use crate::work::InWork;
 use call_steps::Need;
 use chunk_server::Server;
 use clay_repair::PlainCoder;
@@ -120,7 +120,7 @@ impl<'a> Places<'a> {
     }
 
     // A step, where the call needs a place.
-    fn step(&mut self, work: &mut Work<'_>)
+    fn step(&mut self, work: &mut InWork<'_>)
         requires { IsIn self.old work.old }
         ensures still { IsIn self.new work.new }
         ensures others { Keeps (actor_of (call_of work.old).token) self.old self.new }
@@ -139,7 +139,7 @@ impl<'a> Places<'a> {
 
     /// A turn of a call: the coding that is due, and a step. A write or a delete makes none at a directory
     /// whose objects aren't known to be padded.
-    pub(crate) fn turn<R: Threads + Sync>(&mut self, rt: &R, work: &mut Work<'_>)
+    pub(crate) fn turn<R: Threads + Sync>(&mut self, rt: &R, work: &mut InWork<'_>)
         requires { IsIn self.old work.old }
         ensures still { IsIn self.new work.new }
         ensures others { Keeps (actor_of (call_of work.old).token) self.old self.new }

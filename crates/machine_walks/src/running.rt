@@ -3,10 +3,10 @@ ghost use Rattle.std.specs.Prelude.{◌≡◌, false, IfSome};
 ghost use Rattle.store_core.specs.Tokens.{actor_of};
 ghost use Rattle.store_core.specs.Lookups.{same_actor};
 ghost use Rattle.machine_walks.specs.Works.{call_of, IsIn, Keeps, KeepsAll};
-ghost use Rattle.machine_walks.specs.declared.work.Work.{Work as WorkOf};
+ghost use Rattle.machine_walks.specs.declared.work.InWork.{InWork as WorkOf};
 
 use crate::places::Places;
-use crate::work::Work;
+use crate::work::InWork;
 use std::alloc::{AllocError, Global};
 use std::test::Fail;
 use std::thread::Threads;
@@ -17,7 +17,7 @@ const TURNS: u32 = 100;
 
 impl<'a> Places<'a> {
     /// The next client's call.
-    pub(crate) fn begin<'b>(&mut self, alloc: Global, call: &'b Call) -> Option<Work<'b>>
+    pub(crate) fn begin<'b>(&mut self, alloc: Global, call: &'b Call) -> Option<InWork<'b>>
         ensures keeps { KeepsAll self.old self.new }
         ensures its { IfSome result (λ work. IsIn self.new work) }
         ensures apart { IfSome result (λ work. (w : WorkOf) → IsIn self.old w →
@@ -26,14 +26,14 @@ impl<'a> Places<'a> {
         match self.waiting.take_client() {
             Some(seat) => {
                 let client = self.waiting.clients.len() as u32;
-                Some(Work::begin(alloc, seat, client, call, self.book.opening()))
+                Some(InWork::client(alloc, seat, client, call, self.book.opening()))
             }
             None => None,
         }
     }
 
     /// The repairer's call, of a server that is there.
-    pub(crate) fn begin_repair<'b>(&mut self, call: &'b Rebuild) -> Option<Work<'b>>
+    pub(crate) fn begin_repair<'b>(&mut self, call: &'b Rebuild) -> Option<InWork<'b>>
         ensures keeps { KeepsAll self.old self.new }
         ensures its { IfSome result (λ work. IsIn self.new work) }
         ensures apart { IfSome result (λ work. (w : WorkOf) → IsIn self.old w →
@@ -43,7 +43,7 @@ impl<'a> Places<'a> {
             return None;
         }
         match self.waiting.take_repairer() {
-            Some(seat) => Some(Work::repair(seat, call, self.book.opening())),
+            Some(seat) => Some(InWork::rebuild(seat, call, self.book.opening())),
             None => None,
         }
     }
@@ -53,7 +53,7 @@ impl<'a> Places<'a> {
         &mut self,
         rt: &R,
         alloc: Global,
-        work: Work<'_>,
+        work: InWork<'_>,
     ) -> Result<String, AllocError>
         requires { IsIn self.old work }
         ensures { Keeps (actor_of (call_of work.entry).token) self.old self.new }

@@ -1,9 +1,10 @@
 //! Ends of calls in words.
 
-use call_steps::{Change, Outcome, RepairOutcome};
+use call_steps::Change;
 use read_ledger::Takes;
 use std::alloc::{AllocError, Global};
 use store_map::{Found, LostChunk, Placement};
+use world_lines::CallOutcome;
 
 /// What was taken from each server.
 fn said_takes(alloc: Global, takes: Option<&Takes>) -> Result<String, AllocError> {
@@ -47,68 +48,51 @@ fn said_changes(alloc: Global, changes: &[Change]) -> Result<String, AllocError>
     Ok(text)
 }
 
-fn said_outcome(alloc: Global, outcome: &Outcome) -> Result<String, AllocError> {
+// How a rebuild ends alone.
+fn said_rebuild(alloc: Global, outcome: &CallOutcome) -> Result<String, AllocError> {
     match outcome {
-        Outcome::Answered { point, reply } => {
+        CallOutcome::Rebuilt => String::from_str(alloc, "rebuilt"),
+        CallOutcome::Here => String::from_str(alloc, "here"),
+        CallOutcome::Away { downs } => format!(in alloc; "away {downs}"),
+        CallOutcome::Superseded { newer } => {
+            let newer = newer.0;
+            format!(in alloc; "superseded {newer}")
+        }
+        _ => String::from_str(alloc, "no such"),
+    }
+}
+
+fn said_outcome(alloc: Global, outcome: &CallOutcome) -> Result<String, AllocError> {
+    match outcome {
+        CallOutcome::Answered { point, reply } => {
             let point = point.0;
             format!(in alloc; "answered {point} {reply:?}")
         }
-        Outcome::Served { point, bytes } => {
+        CallOutcome::Served { point, bytes } => {
             let point = point.0;
             let bytes = bytes.as_slice();
             format!(in alloc; "served {point} {bytes:?}")
         }
-        Outcome::Unavailable { stripe, missing } => {
+        CallOutcome::Contended { changes } => said_changes(alloc, changes.as_slice()),
+        CallOutcome::Unavailable { stripe, missing } => {
             said_missing(alloc, *stripe, missing.as_slice())
         }
-        Outcome::Contended { changes } => said_changes(alloc, changes.as_slice()),
-        Outcome::Reaped { at } => {
+        CallOutcome::Reaped { at } => {
             let at = at.0;
             format!(in alloc; "reaped {at}")
         }
-        Outcome::NoMemory => String::from_str(alloc, "no memory"),
+        CallOutcome::NoMemory => String::from_str(alloc, "no memory"),
+        _ => said_rebuild(alloc, outcome),
     }
 }
 
-/// How a client's call ended, and what it took.
+/// How a call ended, and what it took.
 pub(crate) fn said(
     alloc: Global,
-    outcome: &Outcome,
+    outcome: &CallOutcome,
     takes: Option<&Takes>,
 ) -> Result<String, AllocError> {
     let outcome = said_outcome(alloc, outcome)?;
-    let takes = said_takes(alloc, takes)?;
-    format!(in alloc; "{outcome}, {takes}")
-}
-
-fn said_repair_outcome(alloc: Global, outcome: &RepairOutcome) -> Result<String, AllocError> {
-    match outcome {
-        RepairOutcome::Rebuilt => String::from_str(alloc, "rebuilt"),
-        RepairOutcome::Here => String::from_str(alloc, "here"),
-        RepairOutcome::Away { downs } => format!(in alloc; "away {downs}"),
-        RepairOutcome::NoSuch => String::from_str(alloc, "no such"),
-        RepairOutcome::Superseded { newer } => {
-            let newer = newer.0;
-            format!(in alloc; "superseded {newer}")
-        }
-        RepairOutcome::Unavailable { stripe, missing } => {
-            said_missing(alloc, *stripe, missing.as_slice())
-        }
-        RepairOutcome::Reaped { at } => {
-            let at = at.0;
-            format!(in alloc; "reaped {at}")
-        }
-        RepairOutcome::NoMemory => String::from_str(alloc, "no memory"),
-    }
-}
-
-/// How a rebuild ended, and what it took.
-pub(crate) fn said_repair(
-    alloc: Global,
-    outcome: &RepairOutcome,
-    takes: Option<&Takes>,
-) -> Result<String, AllocError> {
-    let outcome = said_repair_outcome(alloc, outcome)?;
     let takes = said_takes(alloc, takes)?;
     format!(in alloc; "{outcome}, {takes}")
 }

@@ -2,7 +2,7 @@ ghost use Rattle.std.specs.Prelude.{◌≡◌, None};
 ghost use Rattle.machine_walks.specs.Small.{small_code};
 
 use crate::places::{Event, Places};
-use crate::work::Work;
+use crate::work::InWork;
 use call_steps::Need;
 use std::alloc::{AllocError, Global};
 use std::marker::Model;
@@ -17,7 +17,7 @@ use version_seal::Book;
 pub(crate) struct Store<'a> {
     alloc: Global,
     places: Places<'a>,
-    work: Option<Work<'a>>,
+    work: Option<InWork<'a>>,
 }
 
 impl<'a> Model for Store<'a> {
@@ -33,7 +33,7 @@ impl<'a> Model for Store<'a> {
 }
 
 // The call in work, in place of one that leaves.
-fn put<'a>(slot: &mut Option<Work<'a>>, work: Work<'a>)
+fn put<'a>(slot: &mut Option<InWork<'a>>, work: InWork<'a>)
     ensures { slot.new ≡ Some work.entry }
 {
     if let Some(before) = mem::replace(slot, Some(work)) {
@@ -41,7 +41,7 @@ fn put<'a>(slot: &mut Option<Work<'a>>, work: Work<'a>)
     }
 }
 
-fn take<'a>(slot: &mut Option<Work<'a>>) -> Option<Work<'a>>
+fn take<'a>(slot: &mut Option<InWork<'a>>) -> Option<InWork<'a>>
     ensures its { result ≡ slot.old }
     ensures none { slot.new ≡ None }
 {

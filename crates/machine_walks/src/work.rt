@@ -1,3 +1,5 @@
+//! A call in work.
+
 ghost use Rattle.std.specs.Prelude.{◌≡◌, ◌<◌, true};
 ghost use Rattle.clay_grid.specs.Shape.{chunk_count};
 ghost use Rattle.chunk_server.specs.Core.{core_of};
@@ -5,94 +7,90 @@ ghost use Rattle.call_steps.specs.Steps.{IfServer};
 ghost use Rattle.store_core.specs.Agreement.{Agrees, ActorToken};
 ghost use Rattle.stripe_dir.specs.Sealed.{Sealed};
 ghost use Rattle.stripe_dir.specs.Seats.{client_seat, repairer_seat};
-ghost use Rattle.call_stands.specs.Ready.{ready};
-ghost use Rattle.call_steps.specs.Steps.{need_of, stepped_at_directory, stepped_at_server, coded};
+ghost use Rattle.call_steps.specs.Steps.{need_of, stepped_at_directory, stepped_at_server};
+ghost use Rattle.call_machine.specs.Kinds.{client_machine, machine_of};
+ghost use Rattle.machine_walks.specs.Patching.{is_patching};
 ghost use Rattle.machine_walks.specs.Small.{small_code};
-ghost use Rattle.machine_walks.specs.Works.{call_of, Knows};
-ghost use Rattle.machine_walks.specs.Whole.{AreWhole, IsReady, Grows};
 
 use crate::padding::are_padded;
-use crate::said::{said, said_repair};
+use crate::said::said;
+use call_machine::CallMachine;
 use call_steps::Need;
 use chunk_server::Server;
 use clay_repair::Coder;
-use client_patch::PatchCall;
-use client_put::PutCall;
-use client_read::ReadCall;
-use repairer::RepairCall;
 use std::alloc::{AllocError, Global};
 use std::thread::Threads;
-use store_map::{Actor, Call, Rebuild};
+use store_map::{Call, Rebuild};
 use stripe_dir::{Directory, Seat};
 use version_seal::{Book, Opening};
 
-/// How often a write is tried.
-pub(crate) const TRIES: u32 = 2;
+// How often a write is tried.
+const TRIES: u32 = 2;
 
-/// A call in work. It has to be ended or left.
-pub(crate) enum Work<'a> {
-    Put(PutCall<'a>),
-    Read(ReadCall<'a>),
-    Patch(PatchCall<'a>),
-    Rebuild(RepairCall<'a>),
+/// A call in work, and whether it writes or deletes. It has to be ended or left.
+pub(crate) struct InWork<'a> {
+    pub(crate) machine: CallMachine<'a>,
+    pub(crate) patches: bool,
+    pub(crate) ghost told: { patches ≡ is_patching (machine_of machine.asked) },
 }
 
-impl<'a> Work<'a> {
+// A write or a delete.
+fn is_patch(call: &Call) -> bool
+    ensures { result ≡ is_patching (client_machine call.now) }
+{
+    matches!(call, Call::Write { .. } | Call::Delete { .. })
+}
+
+impl<'a> InWork<'a> {
+    ghost use Rattle.machine_walks.specs.Works.{call_of, Knows};
+    ghost use Rattle.machine_walks.specs.Whole.{AreWhole, IsReady, Grows};
+
     /// The first call of a client.
-    pub(crate) fn begin(
+    pub(crate) fn client(
         alloc: Global,
         seat: Seat,
         client: u32,
         call: &'a Call,
         opening: Opening,
-    ) -> Work<'a>
+    ) -> InWork<'a>
         requires seat { seat ≡ client_seat client }
         requires free { opening.script ≡ None }
         ensures call { (call_of result).token ≡ ActorToken.Seated seat }
         ensures book { (call_of result).book ≡ opening }
         ensures knows { (d : Sealed) → Knows d result }
     {
-        let actor = Actor::Client(client);
-        match call {
-            Call::Put { .. } => { Work::Put(PutCall::new(alloc, seat, actor, 0, call, opening)) }
-            Call::Write { .. } | Call::Delete { .. } => {
-                Work::Patch(PatchCall::new(alloc, seat, actor, 0, call, opening, TRIES))
-            }
-            _ => Work::Read(ReadCall::new(alloc, seat, 0, call, opening)),
+        InWork {
+            machine: CallMachine::client(alloc, seat, client, 0, call, opening, TRIES),
+            patches: is_patch(call),
         }
     }
 
     /// The first call of the repairer.
-    pub(crate) fn repair(seat: Seat, call: &'a Rebuild, opening: Opening) -> Work<'a>
+    pub(crate) fn rebuild(seat: Seat, call: &'a Rebuild, opening: Opening) -> InWork<'a>
         requires seat { seat ≡ repairer_seat 0 }
         requires server { call.now.server < chunk_count opening.geometry }
         ensures call { (call_of result).token ≡ ActorToken.Seated seat }
         ensures book { (call_of result).book ≡ opening }
         ensures knows { (d : Sealed) → Knows d result }
     {
-        Work::Rebuild(RepairCall::new(seat, 0, call, opening))
+        InWork {
+            machine: CallMachine::rebuild(seat, 0, 0, call, opening),
+            patches: false,
+        }
     }
 
     pub(crate) fn need(&self) -> Need
         ensures need { result ≡ need_of (call_of self.now) }
         ensures below { IfServer result (λ server. server < chunk_count (call_of self.now).book.geometry) }
     {
-        match self {
-            Work::Put(call) => call.need(),
-            Work::Read(call) => call.need(),
-            Work::Patch(call) => call.need(),
-            Work::Rebuild(call) => call.need(),
-        }
+        self.machine.need()
     }
 
     /// Whether it may make a step at the directory: a write or a delete may where all stripes are whole.
     pub(crate) fn is_ready(&self, alloc: Global, directory: &Directory) -> bool
         ensures { result ≡ true → IsReady directory.now self.now }
     {
-        match self {
-            Work::Patch(_) => are_padded(alloc, directory),
-            _ => true,
-        }
+        !self.patches || are_padded(alloc, directory)
     }
 
     pub(crate) fn on_directory(&mut self, directory: &mut Directory, book: &Book)
@@ -112,12 +110,7 @@ impl<'a> Work<'a> {
         ensures knows { Knows directory.new self.new }
     {
         directory.keeps();
-        match self {
-            Work::Put(call) => call.on_directory(directory, book),
-            Work::Read(call) => call.on_directory(directory),
-            Work::Patch(call) => call.on_directory(directory, book),
-            Work::Rebuild(call) => call.on_directory(directory),
-        }
+        self.machine.on_directory(directory, book);
     }
 
     pub(crate) fn on_server(&mut self, server: &mut Server)
@@ -129,25 +122,7 @@ impl<'a> Work<'a> {
         ensures number { server.new.number ≡ server.old.number }
         ensures book { server.new.book ≡ server.old.book }
     {
-        match self {
-            Work::Put(call) => call.on_server(server),
-            Work::Read(call) => call.on_server(server),
-            Work::Patch(call) => call.on_server(server),
-            Work::Rebuild(call) => call.on_server(server),
-        }
-    }
-
-    fn on_coder<R: Threads + Sync, C: Coder>(&mut self, rt: &R, coder: &C)
-        requires { need_of (call_of self.old) ≡ Need.Coder }
-        ensures coded { call_of self.new ≡ coded (call_of self.new).coding (call_of self.old) }
-        ensures knows { (d : Sealed) → Knows d self.old → Knows d self.new }
-    {
-        match self {
-            Work::Put(call) => call.on_coder(rt, coder),
-            Work::Read(call) => call.on_coder(rt, coder),
-            Work::Patch(call) => call.on_coder(rt, coder),
-            Work::Rebuild(call) => call.on_coder(rt, coder),
-        }
+        self.machine.on_server(server);
     }
 
     /// The coding before its next step, if one is due.
@@ -156,59 +131,32 @@ impl<'a> Work<'a> {
         ensures book { (call_of self.new).book ≡ (call_of self.old).book }
         ensures knows { (d : Sealed) → Knows d self.old → Knows d self.new }
     {
-        if let Need::Coder = self.need() {
-            self.on_coder(rt, coder);
-        }
-    }
-
-    /// How it ended, and what it took. It has to be over.
-    fn end(self, alloc: Global) -> Result<String, AllocError>
-        requires { need_of (call_of self) ≡ Need.Finished }
-    {
-        match self {
-            Work::Put(call) => {
-                let (seat, outcome, takes) = call.finish();
-                seat.leave();
-                said(alloc, &outcome, takes.as_ref())
-            }
-            Work::Read(call) => {
-                let (seat, outcome, takes) = call.finish();
-                seat.leave();
-                said(alloc, &outcome, takes.as_ref())
-            }
-            Work::Patch(call) => {
-                let (seat, outcome, takes) = call.finish();
-                seat.leave();
-                said(alloc, &outcome, takes.as_ref())
-            }
-            Work::Rebuild(call) => {
-                let (seat, outcome, takes) = call.finish();
-                seat.leave();
-                said_repair(alloc, &outcome, takes.as_ref())
-            }
+        if let Need::Coder = self.machine.need() {
+            self.machine.on_coder(rt, coder);
         }
     }
 
     /// Leaves the directory, wherever it stands.
     pub(crate) fn leave(self) {
-        match self {
-            Work::Put(call) => call.leave(),
-            Work::Read(call) => {
-                let _ = call.abandon();
-            }
-            Work::Patch(call) => {
-                let _ = call.abandon();
-            }
-            Work::Rebuild(call) => call.leave(),
-        }
+        let InWork {
+            machine,
+            patches: _,
+        } = self;
+        let _ = machine.abandon();
     }
 
     /// How it ended, and what it took, if it is over; it is left then or before its end.
     pub(crate) fn over(self, alloc: Global) -> Result<String, AllocError> {
-        if let Need::Finished = self.need() {
-            return self.end(alloc);
+        let InWork {
+            machine,
+            patches: _,
+        } = self;
+        if let Need::Finished = machine.need() {
+            let (seat, outcome, takes) = machine.finish();
+            seat.leave();
+            return said(alloc, &outcome, takes.as_ref());
         }
-        self.leave();
+        let _ = machine.abandon();
         String::from_str(alloc, "goes on")
     }
 }

@@ -5,7 +5,7 @@ use Rattle.std.proofs.lemmas.Option.{none-some}
 use Rattle.std.specs.List.{slice_get}
 use Rattle.store_map.specs.declared.script.Script.{Script}
 use Rattle.store_core.specs.Act.{Outcome}
-use Rattle.world_lines.specs.declared.calls.ClientCalls.{ClientCalls}
+use Rattle.world_lines.specs.declared.calls.CallerCalls.{CallerCalls}
 use Rattle.world_lines.specs.Served.{outcome_in, served_in}
 use Rattle.store_threads.specs.Owed.{WasOwed}
 use Rattle.store_threads.proofs.Owing.{owed_stay}
@@ -13,10 +13,10 @@ use Rattle.run_steps.specs.Noted.{Noted, made_in}
 use Rattle.run_lists.specs.Logs.{Logs}
 use Rattle.run_served.specs.SeenOwed.{OwedBySeen, AllServedStayOwed}
 
-module _ (script : Script) (logs : Logs) (clients : List ClientCalls) (each : (i : ℕ) (calls : ClientCalls) → slice_get clients i ≡ Some calls → OwedBySeen script logs i calls) where
-  by : (i number place : ℕ) (bytes : List ℕ) (found : Option ClientCalls) → slice_get clients i ≡ found
-      → outcome_in (option_and_then (λ (calls : ClientCalls). slice_get calls.ended.items number) found) ≡ Some (Outcome.Served place)
-      → served_in (option_and_then (λ (calls : ClientCalls). slice_get calls.ended.items number) found) ≡ Some bytes → WasOwed script (made_in logs.directory) i number place bytes
+module _ (script : Script) (logs : Logs) (clients : List CallerCalls) (each : (i : ℕ) (calls : CallerCalls) → slice_get clients i ≡ Some calls → OwedBySeen script logs i calls) where
+  by : (i number place : ℕ) (bytes : List ℕ) (found : Option CallerCalls) → slice_get clients i ≡ found
+      → outcome_in (option_and_then (λ (calls : CallerCalls). slice_get calls.ended.items number) found) ≡ Some (Outcome.Served place)
+      → served_in (option_and_then (λ (calls : CallerCalls). slice_get calls.ended.items number) found) ≡ Some bytes → WasOwed script (made_in logs.directory) i number place bytes
   by i number place bytes None e outcome served = absurd (none-some (Outcome.Served place) outcome)
   by i number place bytes (Some calls) e outcome served =
       let it : OwedBySeen script logs i calls = each i calls e in

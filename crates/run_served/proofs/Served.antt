@@ -18,10 +18,10 @@ use Rattle.store_merge.specs.Merging.{EndAs, run_of_steps}
 use Rattle.store_merge.proofs.Merged.{merges}
 use Rattle.store_merge.proofs.Sorting.{sorted}
 use Rattle.world_lines.specs.declared.calls.EndedCall.{EndedCall}
-use Rattle.world_lines.specs.declared.calls.ClientCalls.{ClientCalls}
-use Rattle.world_lines.specs.Ended.{ended_of, client_of}
+use Rattle.world_lines.specs.declared.calls.CallerCalls.{CallerCalls}
+use Rattle.world_lines.specs.Ended.{ended_of, calling_at}
 use Rattle.world_lines.specs.Served.{outcome_in, outcome_at}
-use Rattle.call_steps.specs.Outcomes.{outcome_of}
+use Rattle.world_lines.specs.Outcomes.{call_outcome_of}
 use Rattle.store_history.proofs.ServedPoints.{runs_serve_at_pins}
 use Rattle.store_threads.specs.Owed.{directory_after}
 use Rattle.store_threads.specs.OwedLaws.{IsReply}
@@ -44,23 +44,23 @@ record Found (callings : List Calling) (i number : ℕ) (outcome : Outcome) : Ty
   is_ended : slice_get calling.ended number ≡ Some ended
   is_outcome : ended.outcome ≡ outcome
 
-found_at : (servers : ℕ) (clients : List ClientCalls) (i number : ℕ) (outcome : Outcome) → outcome_at clients i number ≡ Some outcome → Found (map (client_of servers) clients) i number outcome
+found_at : (servers : ℕ) (clients : List CallerCalls) (i number : ℕ) (outcome : Outcome) → outcome_at clients i number ≡ Some outcome → Found (map (calling_at servers) clients) i number outcome
 found_at servers clients i number outcome e = by_client (slice_get clients i) refl e
   where
-    by_call : (calls : ClientCalls) → slice_get clients i ≡ Some calls → (found : Option EndedCall) → slice_get calls.ended.items number ≡ found → outcome_in found ≡ Some outcome
-        → Found (map (client_of servers) clients) i number outcome
+    by_call : (calls : CallerCalls) → slice_get clients i ≡ Some calls → (found : Option EndedCall) → slice_get calls.ended.items number ≡ found → outcome_in found ≡ Some outcome
+        → Found (map (calling_at servers) clients) i number outcome
     by_call calls is_calls None is_found k = absurd (none-some outcome k)
     by_call calls is_calls (Some ended) is_found k =
         record {
-          calling = client_of servers calls;
-          is_calling = slice_get-map (client_of servers) clients i ∙ ap (option_map (client_of servers)) is_calls;
+          calling = calling_at servers calls;
+          is_calling = slice_get-map (calling_at servers) clients i ∙ ap (option_map (calling_at servers)) is_calls;
           ended = ended_of servers ended;
           is_ended = slice_get-map (ended_of servers) calls.ended.items number ∙ ap (option_map (ended_of servers)) is_found;
-          is_outcome = same_Some (outcome_of ended.outcome) outcome k;
+          is_outcome = same_Some (call_outcome_of ended.outcome) outcome k;
         }
 
-    by_client : (found : Option ClientCalls) → slice_get clients i ≡ found → outcome_in (option_and_then (λ (calls : ClientCalls). slice_get calls.ended.items number) found) ≡ Some outcome
-        → Found (map (client_of servers) clients) i number outcome
+    by_client : (found : Option CallerCalls) → slice_get clients i ≡ found → outcome_in (option_and_then (λ (calls : CallerCalls). slice_get calls.ended.items number) found) ≡ Some outcome
+        → Found (map (calling_at servers) clients) i number outcome
     by_client None is_found k = absurd (none-some outcome k)
     by_client (Some calls) is_found k = by_call calls is_found (slice_get calls.ended.items number) refl k
 
@@ -98,7 +98,7 @@ owed_are_served script lines h geometry valid twice go end w ends stands d serve
     let same : EndAs script (first_core script) h.at h.of (run_of_steps script (in_order script h)) = merged script lines h twice go in
     record {
       pins = λ place i point outcome is_point mine pinned is_outcome answered.
-          let found : Found (map (client_of holds.width) clients) i point.number outcome = found_at holds.width clients i point.number outcome is_outcome in
+          let found : Found (map (calling_at holds.width) clients) i point.number outcome = found_at holds.width clients i point.number outcome is_outcome in
           let known : Known end.clients i found.calling.ended =
           known_at script (client_work script) end.clients w.clients i found.calling stands.clients (ap (λ (l : List Calling). slice_get l i) holds.clients_are ∙ found.is_calling) in
           let is_calling : slice_get run.clients i ≡ Some known.calling = same.clients i ∙ sym (ends.clients i) ∙ known.is_calling in

@@ -16,7 +16,7 @@ use Rattle.store_merge.specs.MadeSteps.{MadeStep}
 use Rattle.version_seal.specs.Entry.{StampOf}
 use Rattle.stripe_dir.specs.Sealed.{Sealed}
 use Rattle.call_steps.specs.CallOf.{act_of}
-use Rattle.client_call.specs.Calls.{ClientCallOf}
+use Rattle.call_machine.specs.Calls.{MachineOf}
 use Rattle.call_owes.specs.OwesLaws.{LookIsOwed}
 use Rattle.call_owes.proofs.Owing.{keeps_owing, owing_stays}
 use Rattle.call_owes.proofs.Stamped.{contents_read}
@@ -25,7 +25,7 @@ use Rattle.store_threads.proofs.Owing.{owed_stay, looks_are_owed}
 use Rattle.run_served.specs.StepOwes.{IsAfter, IsItsStep, StepsKeepOwing}
 
 -- ---- the look
-module _ (script : Script) (steps : List MadeStep) (m : MadeStep) (i number : ℕ) (short : Bool) (c : ClientCallOf) (d : Sealed) (is : IsAfter script steps d) (geometry : c.call.book.geometry ≡ script.geometry)
+module _ (script : Script) (steps : List MadeStep) (m : MadeStep) (i number : ℕ) (short : Bool) (c : MachineOf) (d : Sealed) (is : IsAfter script steps d) (geometry : c.call.book.geometry ≡ script.geometry)
     (its : IsItsStep i number short c.call d m) where
   -- its answer is the directory's
   answer_is : (note : Note) → act_of c.call ≡ Act.AtDirectory (DirectoryStep.Look note) → (answer : Told) → (at_directory short (actor_of c.call.token) c.call.number (DirectoryStep.Look note) d.core).1 ≡ answer

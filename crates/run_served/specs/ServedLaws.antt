@@ -15,8 +15,7 @@ use Rattle.store_core.specs.Shown.{shown}
 use Rattle.store_merge.specs.Histories.{Histories, StandTwice, GoOn}
 use Rattle.store_merge.specs.Merging.{EndAs}
 use Rattle.chunk_server.specs.State.{ServerState}
-use Rattle.world_lines.specs.declared.calls.ClientCalls.{ClientCalls}
-use Rattle.world_lines.specs.declared.calls.RepairCalls.{RepairCalls}
+use Rattle.world_lines.specs.declared.calls.CallerCalls.{CallerCalls}
 use Rattle.world_lines.specs.Served.{outcome_at, bytes_at, ServedAre}
 use Rattle.world_lines.specs.Shown.{Holds}
 use Rattle.world_steps.specs.World.{WorldOf}
@@ -27,7 +26,7 @@ use Rattle.store_threads.specs.Ended.{RanApart}
 use Rattle.store_threads.specs.Run.{IsRun}
 
 -- each call that was served has the bytes that it was owed by its look
-abbrev pub HaveOwed : Script → Histories → List ClientCalls → Type 0
+abbrev pub HaveOwed : Script → Histories → List CallerCalls → Type 0
 HaveOwed script h clients =
     (i number place : ℕ) (bytes : List ℕ) → outcome_at clients i number ≡ Some (Outcome.Served place) → bytes_at clients i number ≡ Some bytes →
     WasOwed script (h.at Place.Directory) i number place bytes
@@ -37,11 +36,11 @@ abbrev pub OwedAreServed : Type 0
 OwedAreServed =
     (script : Script) (lines : List Token) (h : Histories) → IsGeometry script.geometry → IsValid script → StandTwice h → GoOn script lines (first_core script) h.at h.of →
     (end : Core) (w : WorldOf) → EndAs script (first_core script) h.at h.of end → StandsFor script w end →
-    (d : Directory) (servers : List ServerState) (clients : List ClientCalls) (repairers : List RepairCalls) → Holds (core_of script w) d servers clients repairers →
+    (d : Directory) (servers : List ServerState) (clients : List CallerCalls) (repairers : List CallerCalls) → Holds (core_of script w) d servers clients repairers →
     HaveOwed script h clients → ServedAre (size_of script) (call_of script) d.points clients
 
 -- a transcript that is made of such lists is what the core shows that they hold
-abbrev pub IsMadeOf : Directory → List ServerState → List ClientCalls → List RepairCalls → Transcript → Type 0
+abbrev pub IsMadeOf : Directory → List ServerState → List CallerCalls → List CallerCalls → Transcript → Type 0
 IsMadeOf d servers clients repairers t =
     (script : Script) (core : Core) → Holds core d servers clients repairers → ServedAre (size_of script) (call_of script) d.points clients → t ≡ shown script core
 
@@ -49,5 +48,5 @@ IsMadeOf d servers clients repairers t =
 abbrev pub TranscriptsAreRuns : Type 0
 TranscriptsAreRuns =
     (script : Script) (h : Histories) (end : Core) (w : WorldOf) → IsGeometry script.geometry → IsValid script → RanApart script h end → StandsFor script w end →
-    (d : Directory) (servers : List ServerState) (clients : List ClientCalls) (repairers : List RepairCalls) → Holds (core_of script w) d servers clients repairers → HaveOwed script h clients →
+    (d : Directory) (servers : List ServerState) (clients : List CallerCalls) (repairers : List CallerCalls) → Holds (core_of script w) d servers clients repairers → HaveOwed script h clients →
     (t : Transcript) → IsMadeOf d servers clients repairers t → IsRun script t

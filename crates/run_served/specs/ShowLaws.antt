@@ -9,8 +9,7 @@ use Rattle.store_core.specs.Server.{Server}
 use Rattle.store_core.specs.Sweep.{Sweeper}
 use Rattle.chunk_server.specs.State.{ServerState}
 use Rattle.stripe_dir.specs.Sealed.{Sealed}
-use Rattle.world_lines.specs.declared.calls.ClientCalls.{ClientCalls}
-use Rattle.world_lines.specs.declared.calls.RepairCalls.{RepairCalls}
+use Rattle.world_lines.specs.declared.calls.CallerCalls.{CallerCalls}
 use Rattle.world_lines.specs.Shown.{Holds}
 use Rattle.world_steps.specs.Known.{core_of}
 use Rattle.store_threads.specs.Run.{IsRun}
@@ -24,6 +23,6 @@ abbrev pub ActorsShowRuns : Type 0
 ActorsShowRuns =
     (script : Script) (d : Sealed) (servers : List Server) (logs swept operated : Logs) (clients repairers : List CallerOf) (sweeper : Sweeper) →
     IsGeometry script.geometry → IsValid script → PlacesStand script d servers logs → AllHaveEnded script logs swept operated clients repairers sweeper →
-    (states : List ServerState) (calls : List ClientCalls) (rebuilds : List RepairCalls) →
+    (states : List ServerState) (calls : List CallerCalls) (rebuilds : List CallerCalls) →
     Holds (core_of script (world_of script d servers clients repairers sweeper)) d.core states calls rebuilds → HaveOwed script (run_lists (chunk_count script.geometry) logs) calls →
     (t : Transcript) → IsMadeOf d.core states calls rebuilds t → IsRun script t

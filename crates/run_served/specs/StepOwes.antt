@@ -11,7 +11,7 @@ use Rattle.stripe_dir.specs.Stamped.{HaveContents}
 use Rattle.call_steps.specs.declared.need.Need.TheVariants as need
 use Rattle.call_steps.specs.CallOf.{CallOf, act_of}
 use Rattle.call_steps.specs.Steps.{stepped_at_directory, need_of}
-use Rattle.client_call.specs.Calls.{ClientCallOf, owed_by}
+use Rattle.call_machine.specs.Calls.{MachineOf, owed_by}
 use Rattle.call_owes.specs.Owes.{OwesBy}
 use Rattle.store_threads.specs.Owed.{directory_after, WasOwed}
 
@@ -34,7 +34,7 @@ pub record IsItsStep (i number : ℕ) (short : Bool) (c : CallOf) (d : Sealed) (
 -- what it was owed by the steps before it is owed by the steps with it, and so is what its look pins
 abbrev pub StepsKeepOwing : Type 0
 StepsKeepOwing =
-    (script : Script) (steps : List MadeStep) (m : MadeStep) (i number : ℕ) (short due : Bool) (c after : ClientCallOf) (d : Sealed) →
+    (script : Script) (steps : List MadeStep) (m : MadeStep) (i number : ℕ) (short due : Bool) (c after : MachineOf) (d : Sealed) →
     IsAfter script steps d → c.call.book.geometry ≡ script.geometry → IsItsStep i number short c.call d m → need_of c.call ≡ need.Directory →
-    after.call ≡ (stepped_at_directory short due c.call d.core).1 → after.written ≡ c.written → after.owed ≡ owed_by short d c →
+    after.call ≡ (stepped_at_directory short due c.call d.core).1 → after.asked ≡ c.asked → after.owed ≡ owed_by short d c →
     OwesBy (WasOwed script steps i number) c → OwesBy (WasOwed script (steps ++ m ∷ []) i number) after

@@ -1,3 +1,4 @@
+//! The text of a transcript.
 ghost use Rattle.std.specs.Prelude.{◌≡◌, ◌++◌, IfOk, OnOk, List, ℕ};
 ghost use Rattle.std.specs.List.{flat_map};
 ghost use Rattle.std.specs.Fmt.{AppendsText};
@@ -32,11 +33,11 @@ pub fn write_transcript(alloc: Global, transcript: &Transcript) -> Result<Vec<u8
     Ok(out)
 }
 
-/// A line of a transcript.
+// A line of a transcript.
 trait Line {
     ghost text: { Self → List ℕ };
 
-    /// Appends the line, with its line feed.
+    // Appends the line, with its line feed.
     fn write(&self, out: &mut Vec<u8>) -> Result<(), AllocError>
         ensures { OnOk result (out.new.items ≡ out.old.items ++ text self.now) };
 }
@@ -125,7 +126,7 @@ impl Line for TLine {
 }
 
 /// Appends what the value displays.
-fn append<D: Display + Drop>(out: &mut Vec<u8>, value: D) -> Result<(), AllocError>
+pub fn append<D: Display + Drop>(out: &mut Vec<u8>, value: D) -> Result<(), AllocError>
     ensures { OnOk result (AppendsText out.old.items out.new.items (D.output value)) }
 {
     match out.write_fmt(value) {
@@ -134,7 +135,8 @@ fn append<D: Display + Drop>(out: &mut Vec<u8>, value: D) -> Result<(), AllocErr
     }
 }
 
-fn append_shown(out: &mut Vec<u8>, shown: &Shown) -> Result<(), AllocError>
+/// Appends what a line tells of its call's end: the reply, or `open`.
+pub fn append_shown(out: &mut Vec<u8>, shown: &Shown) -> Result<(), AllocError>
     ensures { OnOk result (out.new.items ≡ out.old.items ++ shown_text shown.now) }
 {
     match shown {
@@ -159,12 +161,21 @@ fn append_reply(out: &mut Vec<u8>, reply: &Reply) -> Result<(), AllocError>
     }
 }
 
-/// Appends the bytes' digits, in lower case.
+// Appends the bytes' digits, in lower case.
 fn append_hex(out: &mut Vec<u8>, bytes: &[u8]) -> Result<(), AllocError>
     ensures { OnOk result (out.new.items ≡ out.old.items ++ encode_lower bytes.now) }
 {
-    let digits = hex::encode(*out.allocator(), bytes)?;
-    out.extend_from_slice(digits.as_bytes())
+    let start = out.len();
+    let Some(half) = start.checked_add(bytes.len()) else {
+        return Err(AllocError);
+    };
+    let Some(end) = half.checked_add(bytes.len()) else {
+        return Err(AllocError);
+    };
+    out.resize(end, 0)?;
+    // The slice is just as long as the digits, so this can't fail.
+    let _ = hex::encode_to_slice(bytes, &mut out[start..]);
+    Ok(())
 }
 
 fn append_cause(out: &mut Vec<u8>, cause: &Cause) -> Result<(), AllocError>

@@ -4,11 +4,11 @@ use Rattle.std.specs.Prelude.{⊤, option_and_then}
 use Rattle.std.specs.List.{slice_get}
 use Rattle.std.proofs.Math.ListN.{set}
 use Rattle.store_core.specs.Act.{Outcome as CoreOutcome}
-use Rattle.call_steps.specs.Outcomes.{outcome_of}
-use Rattle.call_steps.specs.declared.outcomes.Outcome.{Outcome}
-use Rattle.call_steps.specs.declared.outcomes.Outcome.TheVariants as outcome
+use Rattle.world_lines.specs.Outcomes.{call_outcome_of}
+use Rattle.world_lines.specs.declared.outcome.CallOutcome.{CallOutcome}
+use Rattle.world_lines.specs.declared.outcome.CallOutcome.TheVariants as outcome
 use Rattle.world_lines.specs.declared.calls.EndedCall.{EndedCall}
-use Rattle.world_lines.specs.declared.calls.ClientCalls.{ClientCalls}
+use Rattle.world_lines.specs.declared.calls.CallerCalls.{CallerCalls}
 use Rattle.world_lines.specs.Served.{bytes_in, outcome_in, served_in, ended_at}
 use Rattle.world_lines.specs.Taken.{KeepsCall}
 
@@ -30,13 +30,13 @@ NotServed : CoreOutcome → Type 0
 NotServed (CoreOutcome.Served point) = ⊥
 NotServed other = ⊤
 
-unserved : (o : Outcome) (core : CoreOutcome) → outcome_of o ≡ core → NotServed core → bytes_in o ≡ None
+unserved : (o : CallOutcome) (core : CoreOutcome) → call_outcome_of o ≡ core → NotServed core → bytes_in o ≡ None
 unfolding NotServed
 unserved (outcome.Served point bytes) core e not = absurd (subst NotServed (sym e) not)
 unserved other core e not = refl
 
 -- bytes that are other than they were were there
-bytes_kept : (x y : Outcome) → outcome_of y ≡ outcome_of x → (bytes_in y ≡ bytes_in x) ⊎ ((bytes : List ℕ) × (bytes_in x ≡ Some bytes))
+bytes_kept : (x y : CallOutcome) → call_outcome_of y ≡ call_outcome_of x → (bytes_in y ≡ bytes_in x) ⊎ ((bytes : List ℕ) × (bytes_in x ≡ Some bytes))
 unfolding NotServed
 bytes_kept (outcome.Served point bytes) y e = inr (bytes.items, refl)
 bytes_kept other y e = inl (unserved y _ e tt)
@@ -47,7 +47,7 @@ pub same_kept : (IsIt : Type 0) (before after : Option EndedCall) → after ≡ 
 same_kept IsIt before after e = record { outcome = ap outcome_in e; bytes = inl (ap served_in e) }
 
 -- a call that ended the same way
-pub changed_kept : (IsIt : Type 0) (before after : Option EndedCall) (x y : EndedCall) → IsIt → before ≡ Some x → after ≡ Some y → outcome_of y.outcome ≡ outcome_of x.outcome
+pub changed_kept : (IsIt : Type 0) (before after : Option EndedCall) (x y : EndedCall) → IsIt → before ≡ Some x → after ≡ Some y → call_outcome_of y.outcome ≡ call_outcome_of x.outcome
     → KeepsCall IsIt before after
 changed_kept IsIt before after x y it was now e =
     record {
@@ -72,7 +72,7 @@ kept_by IsIt IsThat before after so kept =
     }
 
 -- one call of a list is changed
-pub list_kept : (xs : List EndedCall) (at : ℕ) (x y : EndedCall) → at < length xs → x ≡ get_or xs at x → outcome_of y.outcome ≡ outcome_of x.outcome
+pub list_kept : (xs : List EndedCall) (at : ℕ) (x y : EndedCall) → at < length xs → x ≡ get_or xs at x → call_outcome_of y.outcome ≡ call_outcome_of x.outcome
     → (n : ℕ) → KeepsCall (n ≡ at) (slice_get xs n) (slice_get (set xs at y) n)
 list_kept xs at x y below is e n =
     elim (set_cases xs at x y below is n) [
@@ -81,7 +81,7 @@ list_kept xs at x y below is e n =
     ]
 
 -- one client's calls are
-pub clients_kept : (xs : List ClientCalls) (at number : ℕ) (x y : ClientCalls) → at < length xs → x ≡ get_or xs at x
+pub clients_kept : (xs : List CallerCalls) (at number : ℕ) (x y : CallerCalls) → at < length xs → x ≡ get_or xs at x
     → ((n : ℕ) → KeepsCall (n ≡ number) (slice_get x.ended.items n) (slice_get y.ended.items n))
     → (i n : ℕ) → KeepsCall ((i ≡ at) × (n ≡ number)) (ended_at xs i n) (ended_at (set xs at y) i n)
 clients_kept xs at number x y below is each i n =

@@ -16,12 +16,12 @@ use Rattle.store_core.specs.Calls.{Calls}
 use Rattle.store_core.specs.Directory.{Event, Point}
 use Rattle.store_core.specs.History.{applied, is_answered, is_answer, shown_at, name_of, line_of, history_from}
 use Rattle.store_lengths.specs.MapAfter.{map_by}
-use Rattle.call_steps.specs.declared.outcomes.Outcome.{Outcome}
-use Rattle.call_steps.specs.declared.outcomes.Outcome.TheVariants as outcome
-use Rattle.call_steps.specs.Outcomes.{outcome_of}
+use Rattle.world_lines.specs.declared.outcome.CallOutcome.{CallOutcome}
+use Rattle.world_lines.specs.declared.outcome.CallOutcome.TheVariants as outcome
+use Rattle.world_lines.specs.Outcomes.{call_outcome_of}
 use Rattle.world_lines.specs.declared.calls.EndedCall.{EndedCall}
-use Rattle.world_lines.specs.declared.calls.ClientCalls.{ClientCalls}
-use Rattle.world_lines.specs.Ended.{ended_of, client_of}
+use Rattle.world_lines.specs.declared.calls.CallerCalls.{CallerCalls}
+use Rattle.world_lines.specs.Ended.{ended_of, calling_at}
 use Rattle.world_lines.specs.Lists.{answered_by}
 use Rattle.world_lines.specs.Served.{bytes_in, ended_at, outcome_in, served_in, outcome_at, bytes_at, bytes_of, is_reply, answered_at, ServedAre}
 use Rattle.world_lines.specs.Taken.{shown_by, KeepsCall}
@@ -65,7 +65,7 @@ Matches : Option CoreOutcome → Option (List ℕ) → Type 0
 Matches (Some (CoreOutcome.Served point)) served = (bytes : List ℕ) × (served ≡ Some bytes)
 Matches other served = served ≡ None
 
-outcome_matches : (o : Outcome) → Matches (Some (outcome_of o)) (bytes_in o)
+outcome_matches : (o : CallOutcome) → Matches (Some (call_outcome_of o)) (bytes_in o)
 unfolding Matches
 outcome_matches (outcome.Served point bytes) = (bytes.items, refl)
 outcome_matches other = refl
@@ -82,16 +82,16 @@ served_at (Some (CoreOutcome.Served point)) served bytes m e = (point, refl)
 served_at other served bytes m e = cc
 
 -- ---- whether a call was answered
-reply_same : (servers : ℕ) (clients : List ClientCalls) (i n : ℕ)
-    → is_answer (option_and_then (λ calling. slice_get calling.ended n) (slice_get (map (client_of servers) clients) i)) ≡ is_reply (outcome_at clients i n)
+reply_same : (servers : ℕ) (clients : List CallerCalls) (i n : ℕ)
+    → is_answer (option_and_then (λ calling. slice_get calling.ended n) (slice_get (map (calling_at servers) clients) i)) ≡ is_reply (outcome_at clients i n)
 reply_same servers clients i n =
-    ap (λ found. is_answer (option_and_then (λ calling. slice_get calling.ended n) found)) (slice_get-map (client_of servers) clients i) ∙ by_client (slice_get clients i)
+    ap (λ found. is_answer (option_and_then (λ calling. slice_get calling.ended n) found)) (slice_get-map (calling_at servers) clients i) ∙ by_client (slice_get clients i)
   where
     by_call : (found : Option EndedCall) → is_answer (option_map (ended_of servers) found) ≡ is_reply (outcome_in found)
     by_call None = refl
     by_call (Some ended) = refl
 
-    by_client : (found : Option ClientCalls) → is_answer (option_and_then (λ calling. slice_get calling.ended n) (option_map (client_of servers) found))
+    by_client : (found : Option CallerCalls) → is_answer (option_and_then (λ calling. slice_get calling.ended n) (option_map (calling_at servers) found))
         ≡ is_reply (outcome_in (option_and_then (λ calls. slice_get calls.ended.items n) found))
     by_client None = refl
     by_client (Some calls) = ap is_answer (slice_get-map (ended_of servers) calls.ended.items n) ∙ by_call (slice_get calls.ended.items n)
@@ -134,25 +134,25 @@ pinned_same (Some (CoreOutcome.Answered point given)) before now place mapped m 
 pinned_same other before now place mapped m n kept pins owed = ap (option_map (λ bytes. shown.Reply (reply.Bytes bytes))) n
 
 -- the lines up to a place; the calls ended as at first, and have the bytes that they had then but for those that were served before the place
-pub record SoFar (max : ℕ) (calls : Calls) (servers : ℕ) (points : List Point) (first now : List ClientCalls) (place : ℕ) (lines : List HLine) : Type 0 where
-  pub so_far : lines ≡ history_from max calls (answered_by (map (client_of servers) first)) 0 [] (take place points)
+pub record SoFar (max : ℕ) (calls : Calls) (servers : ℕ) (points : List Point) (first now : List CallerCalls) (place : ℕ) (lines : List HLine) : Type 0 where
+  pub so_far : lines ≡ history_from max calls (answered_by (map (calling_at servers) first)) 0 [] (take place points)
   pub outcomes : (i n : ℕ) → outcome_at now i n ≡ outcome_at first i n
   pub bytes : (i n : ℕ) → (bytes_at now i n ≡ bytes_at first i n) ⊎ ((p : ℕ) × (outcome_at first i n ≡ Some (CoreOutcome.Served p)) × (p < place))
 
 -- none
-pub none_so_far : (max : ℕ) (calls : Calls) (servers : ℕ) (points : List Point) (first : List ClientCalls) → SoFar max calls servers points first first 0 []
+pub none_so_far : (max : ℕ) (calls : Calls) (servers : ℕ) (points : List Point) (first : List CallerCalls) → SoFar max calls servers points first first 0 []
 none_so_far max calls servers points first = record { so_far = refl; outcomes = λ i n. refl; bytes = λ i n. inl refl }
 
-module _ (max : ℕ) (calls : Calls) (servers : ℕ) (points : List Point) (first : List ClientCalls) (served : ServedAre max calls points first)
-    (place : ℕ) (point : Point) (found : slice_get points place ≡ Some point) (now : List ClientCalls) (lines : List HLine)
+module _ (max : ℕ) (calls : Calls) (servers : ℕ) (points : List Point) (first : List CallerCalls) (served : ServedAre max calls points first)
+    (place : ℕ) (point : Point) (found : slice_get points place ≡ Some point) (now : List CallerCalls) (lines : List HLine)
     (so : SoFar max calls servers points first now place lines) where
   answered : Actor → ℕ → Bool
-  answered = answered_by (map (client_of servers) first)
+  answered = answered_by (map (calling_at servers) first)
 
   mapped : Reply
   mapped = (applied max (map_by calls max (take place points)) point.event (calls point.actor point.number)).1
 
-  answered_same : (who : Actor) (n : ℕ) → answered_at now who n ≡ answered_by (map (client_of servers) first) who n
+  answered_same : (who : Actor) (n : ℕ) → answered_at now who n ≡ answered_by (map (calling_at servers) first) who n
   answered_same (actor.Client i) n = ap is_reply (so.outcomes i n) ∙ sym (reply_same servers first i n)
   answered_same (actor.Repairer i) n = refl
   answered_same actor.Sweeper n = refl
@@ -160,7 +160,7 @@ module _ (max : ℕ) (calls : Calls) (servers : ℕ) (points : List Point) (firs
 
   by_actor : (who : Actor) → point.actor ≡ who → point.event ≡ Event.Pinned
       → option_map (λ bytes. shown.Reply (reply.Bytes bytes)) (bytes_of now who point.number)
-      ≡ shown_at Event.Pinned (answered_by (map (client_of servers) first) who point.number) (applied max (map_by calls max (take place points)) Event.Pinned (calls who point.number)).1
+      ≡ shown_at Event.Pinned (answered_by (map (calling_at servers) first) who point.number) (applied max (map_by calls max (take place points)) Event.Pinned (calls who point.number)).1
   by_actor (actor.Client i) is pinned =
       let n : ℕ = point.number in
       pinned_same (outcome_at first i n) (bytes_at first i n) (bytes_at now i n) place (applied max (map_by calls max (take place points)) Event.Pinned (calls (actor.Client i) n)).1
@@ -173,16 +173,16 @@ module _ (max : ℕ) (calls : Calls) (servers : ℕ) (points : List Point) (firs
 
   by_event : (event : Event) → point.event ≡ event
       → shown_by event (answered_at now point.actor point.number) (bytes_of now point.actor point.number)
-      ≡ shown_at event (answered_by (map (client_of servers) first) point.actor point.number) (applied max (map_by calls max (take place points)) event (calls point.actor point.number)).1
+      ≡ shown_at event (answered_by (map (calling_at servers) first) point.actor point.number) (applied max (map_by calls max (take place points)) event (calls point.actor point.number)).1
   by_event (Event.Answer given) is = refl
   by_event Event.Pinned is = by_actor point.actor refl is
   by_event Event.Done is =
       ap (λ b. shown_by Event.Done b (bytes_of now point.actor point.number)) (answered_same point.actor point.number)
-      ∙ done_same (answered_by (map (client_of servers) first) point.actor point.number) _ _
+      ∙ done_same (answered_by (map (calling_at servers) first) point.actor point.number) _ _
   by_event Event.Reaped is = refl
 
   -- the calls after the point's bytes were taken
-  module _ (next : List ClientCalls) (kept : (i n : ℕ) → KeepsCall ((point.actor ≡ actor.Client i) × (n ≡ point.number) × (point.event ≡ Event.Pinned)) (ended_at now i n) (ended_at next i n)) where
+  module _ (next : List CallerCalls) (kept : (i n : ℕ) → KeepsCall ((point.actor ≡ actor.Client i) × (n ≡ point.number) × (point.event ≡ Event.Pinned)) (ended_at now i n) (ended_at next i n)) where
     still : (i n : ℕ) → (bytes_at now i n ≡ bytes_at first i n) ⊎ ((p : ℕ) × (outcome_at first i n ≡ Some (CoreOutcome.Served p)) × (p < place))
         → (bytes_at now i n ≡ bytes_at first i n) ⊎ ((p : ℕ) × (outcome_at first i n ≡ Some (CoreOutcome.Served p)) × (p < place + 1))
     still i n (inl same) = inl same
@@ -205,8 +205,8 @@ module _ (max : ℕ) (calls : Calls) (servers : ℕ) (points : List Point) (firs
           so_far =
               one
               ∙ ap (λ s. lines ++ line_of place (name_of point.actor point.number) s) (by_event point.event refl)
-              ∙ ap (λ l. l ++ line_of place (name_of point.actor point.number) (shown_at point.event (answered_by (map (client_of servers) first) point.actor point.number) (applied max (map_by calls max (take place points)) point.event (calls point.actor point.number)).1)) so.so_far
-              ∙ sym (history_next max calls (answered_by (map (client_of servers) first)) points place point found);
+              ∙ ap (λ l. l ++ line_of place (name_of point.actor point.number) (shown_at point.event (answered_by (map (calling_at servers) first) point.actor point.number) (applied max (map_by calls max (take place points)) point.event (calls point.actor point.number)).1)) so.so_far
+              ∙ sym (history_next max calls (answered_by (map (calling_at servers) first)) points place point found);
           outcomes = λ i n. (kept i n).outcome ∙ so.outcomes i n;
           bytes = λ i n.
               elim (kept i n).bytes [
@@ -220,9 +220,9 @@ module _ (max : ℕ) (calls : Calls) (servers : ℕ) (points : List Point) (firs
         }
 
 -- the same by what is told of the point
-pub told_so_far : (max : ℕ) (calls : Calls) (servers : ℕ) (points : List Point) (first : List ClientCalls) → ServedAre max calls points first
+pub told_so_far : (max : ℕ) (calls : Calls) (servers : ℕ) (points : List Point) (first : List CallerCalls) → ServedAre max calls points first
     → (place : ℕ) (told : Actor × ℕ × Event) → Some told ≡ option_map (λ point. (point.actor, point.number, point.event)) (slice_get points place)
-    → (now next : List ClientCalls) → ((i n : ℕ) → KeepsCall ((told.0 ≡ actor.Client i) × (n ≡ told.1) × (told.2 ≡ Event.Pinned)) (ended_at now i n) (ended_at next i n))
+    → (now next : List CallerCalls) → ((i n : ℕ) → KeepsCall ((told.0 ≡ actor.Client i) × (n ≡ told.1) × (told.2 ≡ Event.Pinned)) (ended_at now i n) (ended_at next i n))
     → (lines lines' : List HLine) → lines' ≡ lines ++ line_of place (name_of told.0 told.1) (shown_by told.2 (answered_at now told.0 told.1) (bytes_of now told.0 told.1))
     → SoFar max calls servers points first now place lines → SoFar max calls servers points first next (place + 1) lines'
 told_so_far max calls servers points first served place told is now next kept lines lines' one so = by_point (slice_get points place) refl is
@@ -237,10 +237,10 @@ told_so_far max calls servers points first served place told is now next kept li
         next_so_far max calls servers points first served place point e now lines so next (subst Kept same kept) lines' (subst One same one)
 
 -- at the end they are those of all points
-pub all_so_far : (max : ℕ) (calls : Calls) (servers : ℕ) (points : List Point) (first now : List ClientCalls) (place : ℕ) (lines : List HLine) → length points ≤ place
-    → SoFar max calls servers points first now place lines → lines ≡ history_from max calls (answered_by (map (client_of servers) first)) 0 [] points
+pub all_so_far : (max : ℕ) (calls : Calls) (servers : ℕ) (points : List Point) (first now : List CallerCalls) (place : ℕ) (lines : List HLine) → length points ≤ place
+    → SoFar max calls servers points first now place lines → lines ≡ history_from max calls (answered_by (map (calling_at servers) first)) 0 [] points
 all_so_far max calls servers points first now place lines past so =
-    so.so_far ∙ ap (history_from max calls (answered_by (map (client_of servers) first)) 0 []) (take_all points place past)
+    so.so_far ∙ ap (history_from max calls (answered_by (map (calling_at servers) first)) 0 []) (take_all points place past)
   where
     take_all : {A : Type 0} (xs : List A) (n : ℕ) → length xs ≤ n → take n xs ≡ xs
     take_all [] zero h = refl

@@ -10,22 +10,21 @@ use Rattle.store_core.specs.History.{call_of, history_from}
 use Rattle.store_core.specs.Shown.{shown}
 use Rattle.chunk_server.specs.State.{ServerState}
 use Rattle.chunk_server.specs.Core.{core_of}
-use Rattle.world_lines.specs.declared.calls.ClientCalls.{ClientCalls}
-use Rattle.world_lines.specs.declared.calls.RepairCalls.{RepairCalls}
-use Rattle.world_lines.specs.Ended.{client_of, repairer_of}
+use Rattle.world_lines.specs.declared.calls.CallerCalls.{CallerCalls}
+use Rattle.world_lines.specs.Ended.{calling_at}
 use Rattle.world_lines.specs.Lists.{refused_lines, repair_lines, unanswered_lines, object_lines, all_take_lines, server_lines, answered_by}
 use Rattle.world_lines.specs.Served.{ServedAre}
 use Rattle.world_lines.specs.Shown.{Holds}
 
-module _ (d : Directory) (servers : List ServerState) (clients : List ClientCalls) (repairers : List RepairCalls) where
+module _ (d : Directory) (servers : List ServerState) (clients : List CallerCalls) (repairers : List CallerCalls) where
   -- each list is the one of the parts
   pub record AreLists (t : Transcript) : Type 0 where
-    pub history : (max width : ℕ) (calls : Calls) → ServedAre max calls d.points clients → t.history ≡ history_from max calls (answered_by (map (client_of width) clients)) 0 [] d.points
-    pub refused : (width : ℕ) → t.refused ≡ refused_lines (map (client_of width) clients)
-    pub repairs : (width : ℕ) → t.repairs ≡ repair_lines (map (repairer_of width) repairers)
-    pub unanswered : (width : ℕ) → t.unanswered ≡ unanswered_lines (map (client_of width) clients) (map (repairer_of width) repairers)
+    pub history : (max width : ℕ) (calls : Calls) → ServedAre max calls d.points clients → t.history ≡ history_from max calls (answered_by (map (calling_at width) clients)) 0 [] d.points
+    pub refused : (width : ℕ) → t.refused ≡ refused_lines (map (calling_at width) clients)
+    pub repairs : (width : ℕ) → t.repairs ≡ repair_lines (map (calling_at width) repairers)
+    pub unanswered : (width : ℕ) → t.unanswered ≡ unanswered_lines (map (calling_at width) clients) (map (calling_at width) repairers)
     pub objects : t.objects ≡ object_lines d.objects
-    pub takes : (width : ℕ) → t.takes ≡ all_take_lines (map (client_of width) clients) (map (repairer_of width) repairers)
+    pub takes : (width : ℕ) → t.takes ≡ all_take_lines (map (calling_at width) clients) (map (calling_at width) repairers)
     pub servers_are : t.servers ≡ server_lines (map core_of servers)
 
   pub shown_together : (t : Transcript) → AreLists t → (script : Script) (core : Core) → Holds core d servers clients repairers

@@ -8,9 +8,8 @@ use Rattle.store_core.specs.History.{call_of, history_from}
 use Rattle.store_core.specs.Shown.{shown}
 use Rattle.chunk_server.specs.State.{ServerState}
 use Rattle.chunk_server.specs.Core.{core_of}
-use Rattle.world_lines.specs.declared.calls.ClientCalls.{ClientCalls}
-use Rattle.world_lines.specs.declared.calls.RepairCalls.{RepairCalls}
-use Rattle.world_lines.specs.Ended.{client_of, repairer_of}
+use Rattle.world_lines.specs.declared.calls.CallerCalls.{CallerCalls}
+use Rattle.world_lines.specs.Ended.{calling_at}
 use Rattle.world_lines.specs.Lists.{refused_lines, repair_lines, unanswered_lines, object_lines, all_take_lines, server_lines, answered_by}
 
 -- the transcript of a core, list by list
@@ -28,9 +27,9 @@ IsShownByLists script core =
     }
 
 -- directory, servers and calls are the core's, but for what the calls in work were told
-pub record Holds (core : Core) (d : Directory) (servers : List ServerState) (clients : List ClientCalls) (repairers : List RepairCalls) : Type 0 where
+pub record Holds (core : Core) (d : Directory) (servers : List ServerState) (clients : List CallerCalls) (repairers : List CallerCalls) : Type 0 where
   pub width : ℕ
   pub directory : core.directory ≡ d
   pub servers_are : core.servers ≡ map core_of servers
-  pub clients_are : core.clients ≡ map (client_of width) clients
-  pub repairers_are : core.repairers ≡ map (repairer_of width) repairers
+  pub clients_are : core.clients ≡ map (calling_at width) clients
+  pub repairers_are : core.repairers ≡ map (calling_at width) repairers

@@ -1,9 +1,10 @@
 ghost use Rattle.std.specs.Prelude.{◌≡◌, map, Some, IfOk};
 ghost use Rattle.store_core.specs.Outcomes.{triple_of, cause_of, result_of};
 ghost use Rattle.store_core.specs.Told.{lost_in};
-ghost use Rattle.call_steps.specs.Outcomes.{outcome_of, repair_outcome_of};
+ghost use Rattle.world_lines.specs.Outcomes.{call_outcome_of};
 
-use call_steps::{Change, Outcome, RepairOutcome};
+use crate::outcome::CallOutcome;
+use call_steps::Change;
 use std::alloc::{AllocError, Global};
 use store_map::{ListOf, LostChunk};
 use transcript_text::{Cause, RepairResult, Triple};
@@ -33,39 +34,44 @@ fn pairs(alloc: Global, changes: &[Change]) -> Result<ListOf<(u64, u64)>, AllocE
 }
 
 /// Why a client's call was refused, if it was.
-pub(crate) fn cause_of(alloc: Global, outcome: &Outcome) -> Result<Option<Cause>, AllocError>
-    ensures { IfOk result (λ cause. cause ≡ cause_of (outcome_of outcome.now)) }
+pub(crate) fn cause_of(alloc: Global, outcome: &CallOutcome) -> Result<Option<Cause>, AllocError>
+    ensures { IfOk result (λ cause. cause ≡ cause_of (call_outcome_of outcome.now)) }
 {
     match outcome {
-        Outcome::Answered { .. } => Ok(None),
-        Outcome::Served { .. } => Ok(None),
-        Outcome::Unavailable { stripe, missing } => Ok(Some(Cause::Unavailable {
+        CallOutcome::Unavailable { stripe, missing } => Ok(Some(Cause::Unavailable {
             stripe: u64::from(*stripe),
             missing: triples(alloc, missing)?,
         })),
-        Outcome::Contended { changes } => Ok(Some(Cause::Contended {
+        CallOutcome::Contended { changes } => Ok(Some(Cause::Contended {
             pairs: pairs(alloc, changes)?,
         })),
-        Outcome::Reaped { at } => Ok(Some(Cause::Reaped { at: at.0 })),
-        Outcome::NoMemory => Ok(Some(Cause::NoMemory)),
+        CallOutcome::Reaped { at } => Ok(Some(Cause::Reaped { at: at.0 })),
+        CallOutcome::NoMemory => Ok(Some(Cause::NoMemory)),
+        _ => Ok(None),
     }
 }
 
-/// What a rebuild came to.
-pub(crate) fn result_of(alloc: Global, outcome: &RepairOutcome) -> Result<RepairResult, AllocError>
-    ensures { IfOk result (λ shown. Some shown ≡ result_of (repair_outcome_of outcome.now)) }
+/// What a rebuild came to, if the outcome is a rebuild's.
+pub(crate) fn result_of(
+    alloc: Global,
+    outcome: &CallOutcome,
+) -> Result<Option<RepairResult>, AllocError>
+    ensures { IfOk result (λ shown. shown ≡ result_of (call_outcome_of outcome.now)) }
 {
     match outcome {
-        RepairOutcome::Rebuilt => Ok(RepairResult::Rebuilt),
-        RepairOutcome::Here => Ok(RepairResult::Here),
-        RepairOutcome::Away { downs } => Ok(RepairResult::Away { downs: *downs }),
-        RepairOutcome::NoSuch => Ok(RepairResult::NoSuch),
-        RepairOutcome::Superseded { newer } => Ok(RepairResult::Superseded { newer: newer.0 }),
-        RepairOutcome::Unavailable { stripe, missing } => Ok(RepairResult::Unavailable {
+        CallOutcome::Rebuilt => Ok(Some(RepairResult::Rebuilt)),
+        CallOutcome::Here => Ok(Some(RepairResult::Here)),
+        CallOutcome::Away { downs } => Ok(Some(RepairResult::Away { downs: *downs })),
+        CallOutcome::NoSuch => Ok(Some(RepairResult::NoSuch)),
+        CallOutcome::Superseded { newer } => {
+            Ok(Some(RepairResult::Superseded { newer: newer.0 }))
+        }
+        CallOutcome::Unavailable { stripe, missing } => Ok(Some(RepairResult::Unavailable {
             stripe: u64::from(*stripe),
             missing: triples(alloc, missing)?,
-        }),
-        RepairOutcome::Reaped { at } => Ok(RepairResult::Reaped { at: at.0 }),
-        RepairOutcome::NoMemory => Ok(RepairResult::NoMemory),
+        })),
+        CallOutcome::Reaped { at } => Ok(Some(RepairResult::Reaped { at: at.0 })),
+        CallOutcome::NoMemory => Ok(Some(RepairResult::NoMemory)),
+        _ => Ok(None),
     }
 }

@@ -4,12 +4,12 @@ ghost use Rattle.store_core.specs.Calls.{Calls};
 ghost use Rattle.store_core.specs.Directory.{Event as CoreEvent};
 ghost use Rattle.store_core.specs.History.{name_of, line_of, history_from};
 ghost use Rattle.dir_parts.specs.Events.{event_in};
-ghost use Rattle.world_lines.specs.Ended.{client_of};
+ghost use Rattle.world_lines.specs.Ended.{calling_at};
 ghost use Rattle.world_lines.specs.Lists.{answered_by};
 ghost use Rattle.world_lines.specs.Served.{ended_at, answered_at, bytes_of, ServedAre};
 ghost use Rattle.world_lines.specs.Taken.{shown_by, KeepsCall};
 
-use crate::calls::ClientCalls;
+use crate::calls::CallerCalls;
 use crate::served::{is_answered, take_served};
 use dir_parts::{Event, PointEntry};
 use std::alloc::{AllocError, Global};
@@ -32,7 +32,7 @@ fn name_of(actor: Actor, number: u32) -> Option<CallName>
 // The bytes that the call of a pinned point was served, taken out of its outcome.
 fn take_pinned(
     alloc: Global,
-    clients: &mut [ClientCalls],
+    clients: &mut [CallerCalls],
     actor: Actor,
     number: u32,
 ) -> Option<Shown>
@@ -47,7 +47,7 @@ fn take_pinned(
 }
 
 // What a commit shows.
-fn shown_done(clients: &[ClientCalls], actor: Actor, number: u32) -> Shown
+fn shown_done(clients: &[CallerCalls], actor: Actor, number: u32) -> Shown
     ensures { Some result ≡ shown_by CoreEvent.Done (answered_at clients.now actor number) (bytes_of clients.now actor number) }
 {
     if is_answered(clients, actor, number) {
@@ -58,7 +58,7 @@ fn shown_done(clients: &[ClientCalls], actor: Actor, number: u32) -> Shown
 }
 
 // What a point shows. The bytes of a pinned point's call are taken out of its outcome.
-fn shown_at(alloc: Global, clients: &mut [ClientCalls], entry: PointEntry) -> Option<Shown>
+fn shown_at(alloc: Global, clients: &mut [CallerCalls], entry: PointEntry) -> Option<Shown>
     ensures shown { result ≡ shown_by (event_in entry.event) (answered_at clients.old entry.actor entry.number) (bytes_of clients.old entry.actor entry.number) }
     ensures others { (i n : ℕ) → KeepsCall ((entry.actor ≡ kind.Client i) × (n ≡ entry.number) × (event_in entry.event ≡ CoreEvent.Pinned)) (ended_at clients.old i n) (ended_at clients.new i n) }
 {
@@ -74,7 +74,7 @@ fn shown_at(alloc: Global, clients: &mut [ClientCalls], entry: PointEntry) -> Op
 fn push_point(
     alloc: Global,
     lines: &mut ListOf<HLine>,
-    clients: &mut [ClientCalls],
+    clients: &mut [CallerCalls],
     point: u64,
     entry: PointEntry,
 ) -> Result<(), AllocError>
@@ -97,10 +97,10 @@ fn push_point(
 pub fn history_lines(
     alloc: Global,
     directory: &Directory,
-    clients: Vec<ClientCalls>,
+    clients: Vec<CallerCalls>,
 ) -> Result<ListOf<HLine>, AllocError>
     ensures { IfOk result (λ lines. (max servers : ℕ) (calls : Calls) → ServedAre max calls directory.now.core.points clients.items
-        → lines ≡ history_from max calls (answered_by (map (client_of servers) clients.items)) 0 [] directory.now.core.points) }
+        → lines ≡ history_from max calls (answered_by (map (calling_at servers) clients.items)) 0 [] directory.now.core.points) }
 {
     let mut lines = ListOf::new(alloc);
     let mut clients = clients;

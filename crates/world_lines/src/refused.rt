@@ -2,13 +2,13 @@ ghost use Rattle.std.specs.Prelude.{◌≡◌, ℕ, ◌^◌, ◌<◌, ◌++◌, 
 ghost use Rattle.transcript_text.specs.declared.call_name.CallName.TheVariants as name;
 ghost use Rattle.store_core.specs.Outcomes.{cause_of, result_of};
 ghost use Rattle.store_core.specs.Shown.{lines_of_ended, refused_line, repair_line};
-ghost use Rattle.call_steps.specs.Outcomes.{outcome_of, repair_outcome_of};
-ghost use Rattle.world_lines.specs.Ended.{client_of, repairer_of, client_counts, repairer_counts, HaveNames};
+ghost use Rattle.world_lines.specs.Outcomes.{call_outcome_of};
+ghost use Rattle.world_lines.specs.Ended.{calling_at, counts_of, HaveNames};
 ghost use Rattle.world_lines.specs.Lists.{refused_lines, repair_lines};
 
-use crate::calls::{ClientCalls, RepairCalls};
+use crate::calls::CallerCalls;
 use crate::causes::{cause_of, result_of};
-use call_steps::{Outcome, RepairOutcome};
+use crate::outcome::CallOutcome;
 use std::alloc::{AllocError, Global};
 use store_map::ListOf;
 use transcript_text::{CallName, RLine, XLine};
@@ -18,9 +18,9 @@ fn push_refused(
     alloc: Global,
     lines: &mut ListOf<XLine>,
     call: CallName,
-    outcome: &Outcome,
+    outcome: &CallOutcome,
 ) -> Result<(), AllocError>
-    ensures { OnOk result (lines.new ≡ lines.old ++ refused_line call (cause_of (outcome_of outcome.now))) }
+    ensures { OnOk result (lines.new ≡ lines.old ++ refused_line call (cause_of (call_outcome_of outcome.now))) }
 {
     let Some(cause) = cause_of(alloc, outcome)? else {
         return Ok(());
@@ -34,11 +34,11 @@ fn push_client(
     alloc: Global,
     lines: &mut ListOf<XLine>,
     actor: u32,
-    client: &ClientCalls,
+    client: &CallerCalls,
 ) -> Result<(), AllocError>
     requires { length client.now.ended.items < 2 ^ 32 }
     ensures { OnOk result ((servers : ℕ) → lines.new ≡ lines.old
-        ++ lines_of_ended (λ number ended. refused_line (name.Client actor number) (cause_of ended.outcome)) (client_of servers client.now)) }
+        ++ lines_of_ended (λ number ended. refused_line (name.Client actor number) (cause_of ended.outcome)) (calling_at servers client.now)) }
 {
     for (number, ended) in client.ended.iter().enumerate() {
         let call = CallName::Client {
@@ -52,9 +52,9 @@ fn push_client(
 
 /// The lines of the clients' calls that were refused, in the order of the clients and of each one's
 /// calls.
-pub fn refused_lines(alloc: Global, clients: &[ClientCalls]) -> Result<ListOf<XLine>, AllocError>
-    requires { HaveNames (client_counts clients.now) }
-    ensures { IfOk result (λ lines. (servers : ℕ) → lines ≡ refused_lines (map (client_of servers) clients.now)) }
+pub fn refused_lines(alloc: Global, clients: &[CallerCalls]) -> Result<ListOf<XLine>, AllocError>
+    requires { HaveNames (counts_of clients.now) }
+    ensures { IfOk result (λ lines. (servers : ℕ) → lines ≡ refused_lines (map (calling_at servers) clients.now)) }
 {
     let mut lines = ListOf::new(alloc);
     for (i, client) in clients.iter().enumerate() {
@@ -63,16 +63,18 @@ pub fn refused_lines(alloc: Global, clients: &[ClientCalls]) -> Result<ListOf<XL
     Ok(lines)
 }
 
-// The line of a rebuild.
+// The line of a rebuild, if it has one.
 fn push_repair(
     alloc: Global,
     lines: &mut ListOf<RLine>,
     call: CallName,
-    outcome: &RepairOutcome,
+    outcome: &CallOutcome,
 ) -> Result<(), AllocError>
-    ensures { OnOk result (lines.new ≡ lines.old ++ repair_line call (result_of (repair_outcome_of outcome.now))) }
+    ensures { OnOk result (lines.new ≡ lines.old ++ repair_line call (result_of (call_outcome_of outcome.now))) }
 {
-    let result = result_of(alloc, outcome)?;
+    let Some(result) = result_of(alloc, outcome)? else {
+        return Ok(());
+    };
     lines.push(RLine { call, result })?;
     Ok(())
 }
@@ -82,11 +84,11 @@ fn push_repairer(
     alloc: Global,
     lines: &mut ListOf<RLine>,
     actor: u32,
-    repairer: &RepairCalls,
+    repairer: &CallerCalls,
 ) -> Result<(), AllocError>
     requires { length repairer.now.ended.items < 2 ^ 32 }
     ensures { OnOk result ((servers : ℕ) → lines.new ≡ lines.old
-        ++ lines_of_ended (λ number ended. repair_line (name.Repairer actor number) (result_of ended.outcome)) (repairer_of servers repairer.now)) }
+        ++ lines_of_ended (λ number ended. repair_line (name.Repairer actor number) (result_of ended.outcome)) (calling_at servers repairer.now)) }
 {
     for (number, ended) in repairer.ended.iter().enumerate() {
         let call = CallName::Repairer {
@@ -99,9 +101,9 @@ fn push_repairer(
 }
 
 /// The lines of the rebuilds that have ended, in the order of the repairers and of each one's calls.
-pub fn repair_lines(alloc: Global, repairers: &[RepairCalls]) -> Result<ListOf<RLine>, AllocError>
-    requires { HaveNames (repairer_counts repairers.now) }
-    ensures { IfOk result (λ lines. (servers : ℕ) → lines ≡ repair_lines (map (repairer_of servers) repairers.now)) }
+pub fn repair_lines(alloc: Global, repairers: &[CallerCalls]) -> Result<ListOf<RLine>, AllocError>
+    requires { HaveNames (counts_of repairers.now) }
+    ensures { IfOk result (λ lines. (servers : ℕ) → lines ≡ repair_lines (map (calling_at servers) repairers.now)) }
 {
     let mut lines = ListOf::new(alloc);
     for (i, repairer) in repairers.iter().enumerate() {

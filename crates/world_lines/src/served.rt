@@ -1,25 +1,28 @@
 ghost use Rattle.std.specs.Prelude.{◌≡◌, ℕ, slice_get, option_map};
 ghost use Rattle.store_core.specs.History.{is_answered};
-ghost use Rattle.call_steps.specs.Outcomes.{outcome_of};
+ghost use Rattle.world_lines.specs.Outcomes.{call_outcome_of};
 ghost use Rattle.world_lines.specs.Served.{bytes_in, served_in, ended_at, answered_at, outcome_at, bytes_at};
 ghost use Rattle.world_lines.specs.Taken.{KeepsCall};
 
-use crate::calls::{ClientCalls, EndedCall};
-use call_steps::Outcome;
+use crate::calls::{CallerCalls, EndedCall};
+use crate::outcome::CallOutcome;
 use std::alloc::Global;
 use std::mem;
 use store_map::{Actor, ByteList, ListOf};
 
 // Whether the outcome has a reply.
-fn is_reply(outcome: &Outcome) -> bool
-    ensures { result ≡ is_answered (outcome_of outcome.now) }
+fn is_reply(outcome: &CallOutcome) -> bool
+    ensures { result ≡ is_answered (call_outcome_of outcome.now) }
 {
-    matches!(outcome, Outcome::Answered { .. } | Outcome::Served { .. })
+    matches!(
+        outcome,
+        CallOutcome::Answered { .. } | CallOutcome::Served { .. }
+    )
 }
 
 // How the client's call ended.
-fn outcome_of(clients: &[ClientCalls], client: u32, number: u32) -> Option<&Outcome>
-    ensures { option_map (λ outcome. outcome_of outcome.now) result ≡ outcome_at clients.now client number }
+fn call_outcome_of(clients: &[CallerCalls], client: u32, number: u32) -> Option<&CallOutcome>
+    ensures { option_map (λ outcome. call_outcome_of outcome.now) result ≡ outcome_at clients.now client number }
 {
     let calls = clients.get(client as usize)?;
     let ended = calls.ended.get(number as usize)?;
@@ -27,25 +30,25 @@ fn outcome_of(clients: &[ClientCalls], client: u32, number: u32) -> Option<&Outc
 }
 
 /// Whether the call was answered.
-pub(crate) fn is_answered(clients: &[ClientCalls], actor: Actor, number: u32) -> bool
+pub(crate) fn is_answered(clients: &[CallerCalls], actor: Actor, number: u32) -> bool
     ensures { result ≡ answered_at clients.now actor number }
 {
     let Actor::Client(client) = actor else {
         return false;
     };
-    match outcome_of(clients, client, number) {
+    match call_outcome_of(clients, client, number) {
         Some(outcome) => is_reply(outcome),
         None => false,
     }
 }
 
 // The bytes of an outcome that has some.
-fn take_bytes(alloc: Global, outcome: &mut Outcome) -> Option<ByteList>
+fn take_bytes(alloc: Global, outcome: &mut CallOutcome) -> Option<ByteList>
     ensures bytes { result ≡ bytes_in outcome.old }
-    ensures same { outcome_of outcome.new ≡ outcome_of outcome.old }
+    ensures same { call_outcome_of outcome.new ≡ call_outcome_of outcome.old }
 {
     match outcome {
-        Outcome::Served { bytes, .. } => {
+        CallOutcome::Served { bytes, .. } => {
             Some(ListOf::from_vec(mem::replace(bytes, Vec::new(alloc))))
         }
         _ => None,
@@ -67,7 +70,7 @@ fn take_from(alloc: Global, ended: &mut Vec<EndedCall>, number: u32) -> Option<B
 /// Takes the bytes that the client's call was served out of its outcome.
 pub(crate) fn take_served(
     alloc: Global,
-    clients: &mut [ClientCalls],
+    clients: &mut [CallerCalls],
     client: u32,
     number: u32,
 ) -> Option<ByteList>

@@ -1,10 +1,11 @@
 ghost use Rattle.std.specs.Prelude.{◌≡◌, ℕ, ◌^◌, ◌<◌, ◌++◌, length, map, replicate, unwrap_or, IfOk, OnOk};
-ghost use Rattle.transcript_text.specs.declared.call_name.CallName.TheVariants as name;
 ghost use Rattle.store_core.specs.Shown.{lines_of_ended, lines_of_actors, take_line, take_lines};
-ghost use Rattle.world_lines.specs.Ended.{client_of, repairer_of, client_counts, repairer_counts, HaveNames};
+ghost use Rattle.world_lines.specs.Ended.{calling_at, counts_of, HaveNames};
+ghost use Rattle.world_lines.specs.Names.{name_by};
 ghost use Rattle.world_lines.specs.Lists.{all_take_lines};
 
-use crate::calls::{ClientCalls, RepairCalls};
+use crate::calls::CallerCalls;
+use crate::role::Role;
 use read_ledger::Takes;
 use std::alloc::{AllocError, Global};
 use store_map::ListOf;
@@ -30,112 +31,54 @@ fn push_takes(
     Ok(())
 }
 
-// Those of a client's calls that have ended.
-fn push_ended_calls(
+// Those of a caller's calls that have ended.
+fn push_ended(
     alloc: Global,
     lines: &mut ListOf<GLine>,
+    role: Role,
     actor: u32,
-    client: &ClientCalls,
+    caller: &CallerCalls,
 ) -> Result<(), AllocError>
-    requires { length client.now.ended.items < 2 ^ 32 }
+    requires { length caller.now.ended.items < 2 ^ 32 }
     ensures { OnOk result ((servers : ℕ) → lines.new ≡ lines.old
-        ++ lines_of_ended (λ number ended. take_line (name.Client actor number) ended.takes) (client_of servers client.now)) }
+        ++ lines_of_ended (λ number ended. take_line (name_by role actor number) ended.takes) (calling_at servers caller.now)) }
 {
-    for (number, ended) in client.ended.iter().enumerate() {
-        let call = CallName::Client {
-            actor,
-            number: number as u32,
-        };
-        push_takes(alloc, lines, call, &ended.takes)?;
+    for (number, ended) in caller.ended.iter().enumerate() {
+        push_takes(alloc, lines, role.call(actor, number as u32), &ended.takes)?;
     }
     Ok(())
 }
 
-// Those of a client, also of its call in work.
-fn push_client(
+// Those of a caller, also of its call in work.
+fn push_caller(
     alloc: Global,
     lines: &mut ListOf<GLine>,
+    role: Role,
     actor: u32,
-    client: &ClientCalls,
+    caller: &CallerCalls,
 ) -> Result<(), AllocError>
-    requires { length client.now.ended.items < 2 ^ 32 }
-    ensures { OnOk result ((servers : ℕ) → lines.new ≡ lines.old ++ take_lines (name.Client actor) (client_of servers client.now)) }
+    requires { length caller.now.ended.items < 2 ^ 32 }
+    ensures { OnOk result ((servers : ℕ) → lines.new ≡ lines.old ++ take_lines (name_by role actor) (calling_at servers caller.now)) }
 {
-    push_ended_calls(alloc, lines, actor, client)?;
-    let call = CallName::Client {
-        actor,
-        number: client.ended.len() as u32,
-    };
-    push_takes(alloc, lines, call, &client.takes)?;
+    push_ended(alloc, lines, role, actor, caller)?;
+    let call = role.call(actor, caller.ended.len() as u32);
+    push_takes(alloc, lines, call, &caller.takes)?;
     Ok(())
 }
 
-fn push_clients(
+// Those of the callers of this role.
+fn push_callers(
     alloc: Global,
     lines: &mut ListOf<GLine>,
-    clients: &[ClientCalls],
+    role: Role,
+    callers: &[CallerCalls],
 ) -> Result<(), AllocError>
-    requires { HaveNames (client_counts clients.now) }
+    requires { HaveNames (counts_of callers.now) }
     ensures { OnOk result ((servers : ℕ) → lines.new ≡ lines.old
-        ++ lines_of_actors (λ i. take_lines (name.Client i)) (map (client_of servers) clients.now)) }
+        ++ lines_of_actors (λ i. take_lines (name_by role i)) (map (calling_at servers) callers.now)) }
 {
-    for (i, client) in clients.iter().enumerate() {
-        push_client(alloc, lines, i as u32, client)?;
-    }
-    Ok(())
-}
-
-// Those of a repairer's calls that have ended.
-fn push_ended_repairs(
-    alloc: Global,
-    lines: &mut ListOf<GLine>,
-    actor: u32,
-    repairer: &RepairCalls,
-) -> Result<(), AllocError>
-    requires { length repairer.now.ended.items < 2 ^ 32 }
-    ensures { OnOk result ((servers : ℕ) → lines.new ≡ lines.old
-        ++ lines_of_ended (λ number ended. take_line (name.Repairer actor number) ended.takes) (repairer_of servers repairer.now)) }
-{
-    for (number, ended) in repairer.ended.iter().enumerate() {
-        let call = CallName::Repairer {
-            actor,
-            number: number as u32,
-        };
-        push_takes(alloc, lines, call, &ended.takes)?;
-    }
-    Ok(())
-}
-
-// Those of a repairer, also of its call in work.
-fn push_repairer(
-    alloc: Global,
-    lines: &mut ListOf<GLine>,
-    actor: u32,
-    repairer: &RepairCalls,
-) -> Result<(), AllocError>
-    requires { length repairer.now.ended.items < 2 ^ 32 }
-    ensures { OnOk result ((servers : ℕ) → lines.new ≡ lines.old ++ take_lines (name.Repairer actor) (repairer_of servers repairer.now)) }
-{
-    push_ended_repairs(alloc, lines, actor, repairer)?;
-    let call = CallName::Repairer {
-        actor,
-        number: repairer.ended.len() as u32,
-    };
-    push_takes(alloc, lines, call, &repairer.takes)?;
-    Ok(())
-}
-
-fn push_repairers(
-    alloc: Global,
-    lines: &mut ListOf<GLine>,
-    repairers: &[RepairCalls],
-) -> Result<(), AllocError>
-    requires { HaveNames (repairer_counts repairers.now) }
-    ensures { OnOk result ((servers : ℕ) → lines.new ≡ lines.old
-        ++ lines_of_actors (λ i. take_lines (name.Repairer i)) (map (repairer_of servers) repairers.now)) }
-{
-    for (i, repairer) in repairers.iter().enumerate() {
-        push_repairer(alloc, lines, i as u32, repairer)?;
+    for (i, caller) in callers.iter().enumerate() {
+        push_caller(alloc, lines, role, i as u32, caller)?;
     }
     Ok(())
 }
@@ -144,15 +87,15 @@ fn push_repairers(
 /// clients' before the repairers'.
 pub fn take_lines(
     alloc: Global,
-    clients: &[ClientCalls],
-    repairers: &[RepairCalls],
+    clients: &[CallerCalls],
+    repairers: &[CallerCalls],
 ) -> Result<ListOf<GLine>, AllocError>
-    requires clients { HaveNames (client_counts clients.now) }
-    requires repairers { HaveNames (repairer_counts repairers.now) }
-    ensures { IfOk result (λ lines. (servers : ℕ) → lines ≡ all_take_lines (map (client_of servers) clients.now) (map (repairer_of servers) repairers.now)) }
+    requires clients { HaveNames (counts_of clients.now) }
+    requires repairers { HaveNames (counts_of repairers.now) }
+    ensures { IfOk result (λ lines. (servers : ℕ) → lines ≡ all_take_lines (map (calling_at servers) clients.now) (map (calling_at servers) repairers.now)) }
 {
     let mut lines = ListOf::new(alloc);
-    push_clients(alloc, &mut lines, clients)?;
-    push_repairers(alloc, &mut lines, repairers)?;
+    push_callers(alloc, &mut lines, Role::Client, clients)?;
+    push_callers(alloc, &mut lines, Role::Repairer, repairers)?;
     Ok(lines)
 }

@@ -4,11 +4,11 @@ ghost use Rattle.store_map.specs.declared.script.Script.{Script};
 ghost use Rattle.store_core.specs.Core.{Core};
 ghost use Rattle.store_core.specs.History.{call_of};
 ghost use Rattle.store_core.specs.Shown.{shown};
-ghost use Rattle.world_lines.specs.Ended.{client_counts, repairer_counts, HaveNames};
+ghost use Rattle.world_lines.specs.Ended.{counts_of, HaveNames};
 ghost use Rattle.world_lines.specs.Served.{ServedAre};
 ghost use Rattle.world_lines.specs.Shown.{Holds};
 
-use crate::calls::{ClientCalls, RepairCalls};
+use crate::calls::CallerCalls;
 use crate::history::history_lines;
 use crate::refused::{refused_lines, repair_lines};
 use crate::stored::{object_lines, server_lines};
@@ -25,12 +25,12 @@ pub fn make_transcript(
     alloc: Global,
     directory: &Directory,
     servers: &[Server],
-    clients: Vec<ClientCalls>,
-    repairers: &[RepairCalls],
+    clients: Vec<CallerCalls>,
+    repairers: &[CallerCalls],
 ) -> Result<Transcript, AllocError>
     requires servers { length servers.now ≤ 2 ^ 32 }
-    requires clients { HaveNames (client_counts clients.items) }
-    requires repairers { HaveNames (repairer_counts repairers.now) }
+    requires clients { HaveNames (counts_of clients.items) }
+    requires repairers { HaveNames (counts_of repairers.now) }
     ensures { IfOk result (λ transcript. (script : Script) (core : Core) → Holds core directory.now.core servers.now clients.items repairers.now
         → ServedAre (size_of script) (call_of script) directory.now.core.points clients.items → transcript ≡ shown script core) }
 {

@@ -1,10 +1,11 @@
 ghost use Rattle.std.specs.Prelude.{◌≡◌, ℕ, ◌++◌, nat_lt, [], ◌∷◌, if◌then◌else◌, map, IfOk, OnOk};
-ghost use Rattle.transcript_text.specs.declared.call_name.CallName.TheVariants as name;
 ghost use Rattle.store_core.specs.Shown.{lines_of_actors, unanswered_line};
-ghost use Rattle.world_lines.specs.Ended.{client_of, repairer_of, client_counts, repairer_counts, HaveNames};
+ghost use Rattle.world_lines.specs.Ended.{calling_at, counts_of, HaveNames};
+ghost use Rattle.world_lines.specs.Names.{name_by};
 ghost use Rattle.world_lines.specs.Lists.{unanswered_lines};
 
-use crate::calls::{ClientCalls, RepairCalls};
+use crate::calls::CallerCalls;
+use crate::role::Role;
 use std::alloc::{AllocError, Global};
 use store_map::ListOf;
 use transcript_text::{CallName, OLine};
@@ -19,32 +20,19 @@ fn push_begun(lines: &mut ListOf<OLine>, call: CallName, steps: u64) -> Result<(
     Ok(())
 }
 
-fn push_clients(lines: &mut ListOf<OLine>, clients: &[ClientCalls]) -> Result<(), AllocError>
-    requires { HaveNames (client_counts clients.now) }
+// Those of the callers of this role.
+fn push_callers(
+    lines: &mut ListOf<OLine>,
+    role: Role,
+    callers: &[CallerCalls],
+) -> Result<(), AllocError>
+    requires { HaveNames (counts_of callers.now) }
     ensures { OnOk result ((servers : ℕ) → lines.new ≡ lines.old
-        ++ lines_of_actors (λ i. unanswered_line (name.Client i)) (map (client_of servers) clients.now)) }
+        ++ lines_of_actors (λ i. unanswered_line (name_by role i)) (map (calling_at servers) callers.now)) }
 {
-    for (i, client) in clients.iter().enumerate() {
-        let call = CallName::Client {
-            actor: i as u32,
-            number: client.ended.len() as u32,
-        };
-        push_begun(lines, call, client.steps)?;
-    }
-    Ok(())
-}
-
-fn push_repairers(lines: &mut ListOf<OLine>, repairers: &[RepairCalls]) -> Result<(), AllocError>
-    requires { HaveNames (repairer_counts repairers.now) }
-    ensures { OnOk result ((servers : ℕ) → lines.new ≡ lines.old
-        ++ lines_of_actors (λ i. unanswered_line (name.Repairer i)) (map (repairer_of servers) repairers.now)) }
-{
-    for (i, repairer) in repairers.iter().enumerate() {
-        let call = CallName::Repairer {
-            actor: i as u32,
-            number: repairer.ended.len() as u32,
-        };
-        push_begun(lines, call, repairer.steps)?;
+    for (i, caller) in callers.iter().enumerate() {
+        let call = role.call(i as u32, caller.ended.len() as u32);
+        push_begun(lines, call, caller.steps)?;
     }
     Ok(())
 }
@@ -53,15 +41,15 @@ fn push_repairers(lines: &mut ListOf<OLine>, repairers: &[RepairCalls]) -> Resul
 /// repairers'.
 pub fn unanswered_lines(
     alloc: Global,
-    clients: &[ClientCalls],
-    repairers: &[RepairCalls],
+    clients: &[CallerCalls],
+    repairers: &[CallerCalls],
 ) -> Result<ListOf<OLine>, AllocError>
-    requires clients { HaveNames (client_counts clients.now) }
-    requires repairers { HaveNames (repairer_counts repairers.now) }
-    ensures { IfOk result (λ lines. (servers : ℕ) → lines ≡ unanswered_lines (map (client_of servers) clients.now) (map (repairer_of servers) repairers.now)) }
+    requires clients { HaveNames (counts_of clients.now) }
+    requires repairers { HaveNames (counts_of repairers.now) }
+    ensures { IfOk result (λ lines. (servers : ℕ) → lines ≡ unanswered_lines (map (calling_at servers) clients.now) (map (calling_at servers) repairers.now)) }
 {
     let mut lines = ListOf::new(alloc);
-    push_clients(&mut lines, clients)?;
-    push_repairers(&mut lines, repairers)?;
+    push_callers(&mut lines, Role::Client, clients)?;
+    push_callers(&mut lines, Role::Repairer, repairers)?;
     Ok(lines)
 }

@@ -1,5 +1,7 @@
 -- Lists that stand side by side, with one more entry on each.
-use Rattle.std.proofs.Common.{◌≡◌, ◌⊎◌, ℕ, zero, suc, List, [], ◌∷◌, ◌++◌, length, slice_get, None, Some, is_some, unwrap_or, option_map, refl, sym, ap, inl, inr, arith, true≢false}
+use Rattle.std.proofs.Common.{◌≡◌, ◌⊎◌, ℕ, zero, suc, List, [], ◌∷◌, ◌++◌, length, slice_get, Option, None, Some, is_some, unwrap_or, option_map, refl, sym, ap, inl, inr, arith, true≢false}
+use Rattle.store_map.specs.declared.call.Call.{Call}
+use Rattle.call_machine.specs.Kinds.{Asked}
 
 pub none_some : {A : Type 0} (x : A) → None ≡ Some x → ⊥
 none_some x e = absurd (true≢false (sym (ap is_some e)))
@@ -22,3 +24,8 @@ module _ {A : Type 0} {B : Type 0} {C : Type 0} (f : A → B) (x : A) (y : C) (b
           → ((option_map f (slice_get xs n) ≡ Some b) × (slice_get ys n ≡ Some c)) ⊎ ((suc n ≡ suc (length xs)) × (f x ≡ b) × (y ≡ c))
       by (inl h) = inl h
       by (inr h) = inr (ap suc h.0, h.1, h.2)
+
+-- what is asked by a client is its call
+pub client_call : (o : Option Call) (asked : Asked) → option_map Asked.OfClient o ≡ Some asked → (call : Call) × (o ≡ Some call) × (asked ≡ Asked.OfClient call)
+client_call None asked e = absurd (none_some asked e)
+client_call (Some call) asked e = (call, refl, sym (some_same (Asked.OfClient call) asked e))

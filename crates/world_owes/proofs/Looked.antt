@@ -18,7 +18,7 @@ use Rattle.store_resume.specs.States.{sequel_state, parts_state, stage_state, op
 use Rattle.store_resume.specs.GatherAfter.{ending_after, first_after, parts_after}
 use Rattle.store_resume.specs.LookAfter.{start_after}
 use Rattle.store_resume.specs.CallLaws.{next_call_from}
-use Rattle.client_call.specs.Kinds.{machine_of, IfReads}
+use Rattle.call_machine.specs.Kinds.{Asked, asked_job, machine_of, IfReads, client_machine}
 use Rattle.world_owes.specs.Looked.{IsServing, HasLooked}
 
 -- ---- a call that reads
@@ -115,10 +115,14 @@ start_looked g Kind.Write job pairs answer h = absurd h
 start_looked g Kind.Delete job pairs answer h = absurd h
 start_looked g Kind.Rebuild job pairs answer h = absurd h
 
-pub kinds_read : (c : Call) → IfReads (machine_of c) (IsRead (note_of c).kind)
-kinds_read (call.Get name) = tt
-kinds_read (call.ReadAt name offset count) = tt
-kinds_read (call.Stat name) = tt
-kinds_read (call.Put name content) = tt
-kinds_read (call.Write name offset content) = tt
-kinds_read (call.Delete name) = tt
+client_kinds : (c : Call) → IfReads (client_machine c) (IsRead (note_of c).kind)
+client_kinds (call.Get name) = tt
+client_kinds (call.ReadAt name offset count) = tt
+client_kinds (call.Stat name) = tt
+client_kinds (call.Put name content) = tt
+client_kinds (call.Write name offset content) = tt
+client_kinds (call.Delete name) = tt
+
+pub kinds_read : (asked : Asked) → IfReads (machine_of asked) (IsRead (asked_job asked).note.kind)
+kinds_read (Asked.OfClient c) = client_kinds c
+kinds_read (Asked.OfRepairer rebuild) = tt

@@ -17,6 +17,7 @@ use Rattle.store_core.specs.Note.{Note}
 use Rattle.store_core.specs.PlaceLaws.{new_point}
 use Rattle.store_core.proofs.Places.{directory_keeps_places}
 use Rattle.store_core.specs.Read.{parts_of}
+use Rattle.store_map.specs.declared.call.Call.{Call}
 use Rattle.store_core.specs.Told.{Told, Seen}
 use Rattle.store_core.specs.Tokens.{actor_of}
 use Rattle.store_lengths.specs.MapAfter.{map_by}
@@ -28,16 +29,17 @@ use Rattle.store_resume.specs.StateActs.{act_at}
 use Rattle.stripe_dir.specs.Sealed.{Sealed}
 use Rattle.call_steps.specs.CallOf.{CallOf, act_of}
 use Rattle.client_read.specs.Owed.{contents_of, owed_after_look, owed_by as read_by}
-use Rattle.client_call.specs.Kinds.{Machine, machine_of}
-use Rattle.client_call.specs.Calls.{ClientCallOf, owed_in, owed_by}
+use Rattle.call_machine.specs.Kinds.{Asked, asked_job, Machine, machine_of}
+use Rattle.call_machine.specs.Calls.{MachineOf, owed_in, owed_by}
 use Rattle.world_owes.specs.Serving.{IsReplyAt, OwesAt}
 use Rattle.call_owes.proofs.Acts.{start_looks}
 use Rattle.call_owes.proofs.Stamped.{contents_read}
 use Rattle.world_owes.specs.OfMap.{IsOfMap}
+use Rattle.world_owes.proofs.Lists.{client_call}
 use Rattle.world_owes.proofs.Steps.{Opens, IsReady}
 
-module _ (script : Script) (d : Sealed) (of : IsOfMap script d) (i number : ℕ) (r : CallOf) (before last : ClientCallOf) (ready : IsReady script d.core i number r before) (opens : Opens script d.core i r)
-    (reads : machine_of before.written ≡ Machine.Reads) (reading : IsReading r.job.note.kind) (short : Bool) where
+module _ (script : Script) (d : Sealed) (of : IsOfMap script d) (i number : ℕ) (r : CallOf) (before last : MachineOf) (ready : IsReady script d.core i number r before) (opens : Opens script d.core i r)
+    (reads : machine_of before.asked ≡ Machine.Reads) (reading : IsReading r.job.note.kind) (short : Bool) where
   abbrev note : Note
   note = r.job.note
 
@@ -48,11 +50,12 @@ module _ (script : Script) (d : Sealed) (of : IsOfMap script d) (i number : ℕ)
   act = ap (λ (at : State). act_at r.book.geometry r.tries r.job r.state.pairs at) opens.start ∙ start_looks r.book.geometry r.tries r.job r.state.pairs r.job.note.kind reading
 
   its_note : IsNoteOf (call_of script) (actor.Client i) r.number note
-  its_note = (
-    before.written,
-    subst (λ (n : ℕ). call_of script (actor.Client i) n ≡ Some before.written) (sym ready.count) ready.its,
-    ap (λ (j : Job). j.note) (sym ready.job),
-  )
+  its_note =
+      let its : (call : Call) × (call_of script (actor.Client i) number ≡ Some call) × (before.asked ≡ Asked.OfClient call) = client_call (call_of script (actor.Client i) number) before.asked ready.its in (
+        its.0,
+        subst (λ (n : ℕ). call_of script (actor.Client i) n ≡ Some its.0) (sym ready.count) its.1,
+        ap (λ (j : Job). j.note) (sym (ready.job ∙ ap asked_job its.2)),
+      )
 
   module _ (p length_now : ℕ) (seen : List Seen) (told : (at_directory short (actor_of r.token) r.number (DirectoryStep.Look note) d.core).1 ≡ Told.Pinned p length_now seen) where
     -- the bytes of its pins
@@ -87,10 +90,10 @@ module _ (script : Script) (d : Sealed) (of : IsOfMap script d) (i number : ℕ)
         (subst (λ (who : Actor). (at_directory short who r.number (DirectoryStep.Look note) d.core).1 ≡ Told.Pinned p length_now seen) ready.whose told)
         ∙ ap reply.Bytes (sym pins_are)
 
-    pub look_owes : (points : List Point) → points ≡ after.points → last.owed ≡ owed_by short d before → last.written ≡ before.written → OwesAt script points i number last p
-    look_owes points same owed written =
+    pub look_owes : (points : List Point) → points ≡ after.points → last.owed ≡ owed_by short d before → last.asked ≡ before.asked → OwesAt script points i number last p
+    look_owes points same owed asked =
         record {
-          reads = ap machine_of written ∙ reads;
+          reads = ap machine_of asked ∙ reads;
           owed =
               subst (λ (ps : List Point). IsReplyAt script ps i number p last.owed) (sym same)
               (record {

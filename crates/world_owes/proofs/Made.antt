@@ -19,8 +19,8 @@ use Rattle.call_steps.specs.CallOf.{CallOf, act_of}
 use Rattle.call_steps.specs.Steps.{need_of, at_directory_by, at_server_by}
 use Rattle.call_stands.proofs.Needs.{needs_tell_acts}
 use Rattle.client_read.specs.Owed.{owed_by as read_by}
-use Rattle.client_call.specs.Kinds.{Machine, machine_of, IfReads}
-use Rattle.client_call.specs.Calls.{ClientCallOf, owed_in, owed_by}
+use Rattle.call_machine.specs.Kinds.{Machine, machine_of, IfReads}
+use Rattle.call_machine.specs.Calls.{MachineOf, owed_in, owed_by}
 use Rattle.actors.specs.Turns.{IsMadeAt, IsMadeAtDirectory, IsMadeAtServer, places_of}
 use Rattle.actors.proofs.Owing.{owed_at_server}
 use Rattle.world_owes.specs.Looked.{HasLooked}
@@ -33,11 +33,11 @@ use Rattle.world_owes.specs.OfMap.{IsOfMap}
 use Rattle.world_owes.proofs.Steps.{Opens, IsReady, owes_now, owes_later}
 use Rattle.world_owes.proofs.Looks.{act as look_act, look_owes}
 
-module _ (script : Script) (d now : Sealed) (of : IsOfMap script d) (i number : ℕ) (r : CallOf) (before last : ClientCallOf) (ready : IsReady script d.core i number r before) (grown : HasMorePoints d.core.points now.core.points) (next : CallOf)
-    (servers others : List ServerState) (short due : Bool) (is_last : last.call ≡ next) (written : last.written ≡ before.written) (goes : last.owed ≡ owed_by short d before) where
+module _ (script : Script) (d now : Sealed) (of : IsOfMap script d) (i number : ℕ) (r : CallOf) (before last : MachineOf) (ready : IsReady script d.core i number r before) (grown : HasMorePoints d.core.points now.core.points) (next : CallOf)
+    (servers others : List ServerState) (short due : Bool) (is_last : last.call ≡ next) (asked : last.asked ≡ before.asked) (goes : last.owed ≡ owed_by short d before) where
   -- past the look a step there changes nothing of the bytes
   stays : IsLater r.state.at → last.owed ≡ before.owed
-  stays later = goes ∙ by (machine_of before.written)
+  stays later = goes ∙ by (machine_of before.asked)
     where
       by : (m : Machine) → owed_in m short d before ≡ before.owed
       by Machine.Reads =
@@ -45,11 +45,12 @@ module _ (script : Script) (d now : Sealed) (of : IsOfMap script d) (i number : 
           ∙ acts_stay r.book.geometry r.tries r.job r.state.pairs short r d before.owed r.state.at later
       by Machine.Puts = refl
       by Machine.Patches = refl
+      by Machine.Rebuilds = refl
 
   at_directory_owes : (step : DirectoryStep) → act_of r ≡ Act.AtDirectory step → IsMadeAtDirectory short due r (places_of d servers) next (places_of now others)
       → OwesItsPins script now.core.points i number last
   at_directory_owes step is_act made =
-      owes_now script d.core now.core.points i number r before last ready grown next answer is_last written (ap (λ (c : CallOf). c.job) next_is) (ap (λ (c : CallOf). c.state) next_is)
+      owes_now script d.core now.core.points i number r before last ready grown next answer is_last asked (ap (λ (c : CallOf). c.job) next_is) (ap (λ (c : CallOf). c.state) next_is)
       (λ p e. by p e (start_or_later r.state.at))
     where
       answer : Told
@@ -61,7 +62,7 @@ module _ (script : Script) (d now : Sealed) (of : IsOfMap script d) (i number : 
       points_are : now.core.points ≡ (at_directory short (actor_of r.token) r.number step d.core).0.points
       points_are = ap (λ (x : Directory). x.points) (made.directory ∙ ap (λ (a : Act). (at_directory_by a short due r d.core).0) is_act)
 
-      opened : r.state.at ≡ State.Start → machine_of before.written ≡ Machine.Reads → Opens script d.core i r
+      opened : r.state.at ≡ State.Start → machine_of before.asked ≡ Machine.Reads → Opens script d.core i r
       opened start reads = found (subst (λ (m : Machine). IfReads m (HasLooked r.state.at ⊎ Opens script d.core i r)) reads ready.looked)
         where
           found : HasLooked r.state.at ⊎ Opens script d.core i r → Opens script d.core i r
@@ -70,25 +71,25 @@ module _ (script : Script) (d now : Sealed) (of : IsOfMap script d) (i number : 
 
       look : (p : ℕ) → r.state.at ≡ State.Start → IsReading r.job.note.kind × (length_now : ℕ) × (seen : List Seen) × (answer ≡ Told.Pinned p length_now seen) → OwesAt script now.core.points i number last p
       look p start h =
-          let reads : machine_of before.written ≡ Machine.Reads = reads_are_read before.written (subst IsReading (ap (λ (j : Job). j.note.kind) ready.job) h.0) in
+          let reads : machine_of before.asked ≡ Machine.Reads = reads_are_read before.asked (subst IsReading (ap (λ (j : Job). j.note.kind) ready.job) h.0) in
           let opens : Opens script d.core i r = opened start reads in
           let same : step ≡ DirectoryStep.Look r.job.note = ap step_in (sym is_act ∙ look_act script d of i number r before last ready opens reads h.0 short) in
           look_owes script d of i number r before last ready opens reads h.0 short p h.1 h.2
           (subst (λ (s : DirectoryStep). (at_directory short (actor_of r.token) r.number s d.core).1 ≡ Told.Pinned p h.1 h.2) same h.3) now.core.points
           (points_are ∙ ap (λ (s : DirectoryStep). (at_directory short (actor_of r.token) r.number s d.core).0.points) same)
-          goes written
+          goes asked
 
       by : (p : ℕ) → point_before r.job.note.kind r.state.at answer ≡ Some p → (r.state.at ≡ State.Start) ⊎ IsLater r.state.at → OwesAt script now.core.points i number last p
       by p e (inr later) =
-          owes_later script d.core now.core.points i number r before last ready grown next answer is_last written (ap (λ (c : CallOf). c.job) next_is) (ap (λ (c : CallOf). c.state) next_is) later (stays later) p e
+          owes_later script d.core now.core.points i number r before last ready grown next answer is_last asked (ap (λ (c : CallOf). c.job) next_is) (ap (λ (c : CallOf). c.state) next_is) later (stays later) p e
       by p e (inl start) = look p start (looked_by r.job.note.kind answer p (subst (λ (at : State). point_before r.job.note.kind at answer ≡ Some p) start e))
 
   at_server_owes : (server : ℕ) (step : ServerStep) → act_of r ≡ Act.AtServer server step → need_of before.call ≡ need.Server server
       → IsMadeAtServer server short due r (places_of d servers) next (places_of now others) → OwesItsPins script now.core.points i number last
   at_server_owes server step is_act needs made =
-      owes_now script d.core now.core.points i number r before last ready grown next answer is_last written (ap (λ (c : CallOf). c.job) next_is) (ap (λ (c : CallOf). c.state) next_is)
+      owes_now script d.core now.core.points i number r before last ready grown next answer is_last asked (ap (λ (c : CallOf). c.job) next_is) (ap (λ (c : CallOf). c.state) next_is)
       (λ p e.
-      owes_later script d.core now.core.points i number r before last ready grown next answer is_last written (ap (λ (c : CallOf). c.job) next_is) (ap (λ (c : CallOf). c.state) next_is)
+      owes_later script d.core now.core.points i number r before last ready grown next answer is_last asked (ap (λ (c : CallOf). c.job) next_is) (ap (λ (c : CallOf). c.state) next_is)
       (later (start_or_later r.state.at)) (goes ∙ sym (owed_at_server short d before server needs)) p e)
     where
       answer : Told

@@ -16,14 +16,14 @@ use Rattle.store_runs.proofs.DirectoryInvariants.{StepsKeep, Held, runs_hold}
 use Rattle.store_contents.specs.Contents.{HasBytes}
 use Rattle.store_contents.specs.ContentLaws.{StepsKeepBytes}
 use Rattle.store_contents.proofs.ContentSteps.{steps_keep_bytes}
-use Rattle.world_lines.specs.declared.calls.ClientCalls.{ClientCalls}
+use Rattle.world_lines.specs.declared.calls.CallerCalls.{CallerCalls}
 use Rattle.world_lines.specs.declared.calls.EndedCall.{EndedCall}
 use Rattle.world_lines.specs.Ended.{ended_of}
 use Rattle.world_lines.specs.Served.{outcome_in, served_in, owed_at}
 use Rattle.world_steps.specs.StandsFor.{StandsFor}
 use Rattle.world_steps.specs.World.{DoingOf}
 use Rattle.world_steps.proofs.Runs.{runs_reach}
-use Rattle.actors.specs.Clients.{ClientOf}
+use Rattle.actors.specs.Callers.{CallerOf}
 use Rattle.actors.specs.Inside.{served_of}
 use Rattle.call_owes.specs.Pinned.{pinned_at}
 use Rattle.world_owes.specs.Serving.{OwesAt, OwesItsPins, IsInWork, ServesItsPins}
@@ -33,11 +33,11 @@ use Rattle.world_owes.proofs.Lists.{none_some}
 use Rattle.call_owes.proofs.Owing.{if_some}
 use Rattle.world_owes.proofs.Steps.{reply_stays, owes_stay}
 use Rattle.world_owes.proofs.Turns.{turns_serve}
-use Rattle.client_call.specs.Calls.{ClientCallOf}
+use Rattle.call_machine.specs.Calls.{MachineOf}
 
 -- ---- first, and as others go on
 module _ (script : Script) (points now : List Point) (i : ℕ) (grown : HasMorePoints points now) where
-  work_stays : (number : ℕ) (doing : DoingOf) (work : Option ClientCallOf) → IsInWork (OwesItsPins script points i number) doing work → IsInWork (OwesItsPins script now i number) doing work
+  work_stays : (number : ℕ) (doing : DoingOf) (work : Option MachineOf) → IsInWork (OwesItsPins script points i number) doing work → IsInWork (OwesItsPins script now i number) doing work
   work_stays number (DoingOf.Between token) work none = none
   work_stays number (DoingOf.InCall call steps) work h =
       record {
@@ -52,7 +52,7 @@ module _ (script : Script) (points now : List Point) (i : ℕ) (grown : HasMoreP
         };
       }
 
-  stays : (a : ClientOf) → ServesItsPins script points i a → ServesItsPins script now i a
+  stays : (a : CallerOf) → ServesItsPins script points i a → ServesItsPins script now i a
   stays a was =
       record {
         work = work_stays (length a.actor.ended) a.actor.doing a.work was.work;
@@ -100,8 +100,8 @@ is_of_map script w d geometry valid reached same contents =
     is = stands.directory ∙ same
 
 pub turns_keep_serving : WorldsKeepServing
-turns_keep_serving script w i a after d now servers others geometry valid reached same contents there keeps makes was =
-    turns_serve script i a after d now servers others (is_of_map script w d geometry valid reached same contents) there keeps makes was
+turns_keep_serving script w i a after d now servers others geometry valid reached same contents part is there keeps makes was =
+    turns_serve script i a after d now servers others (is_of_map script w d geometry valid reached same contents) part is there keeps makes was
 
 -- ---- the end
 outcome_there : (servers : ℕ) (ended : List EndedCall) (n : ℕ) → outcome_in (slice_get ended n) ≡ option_map (λ (e : Ended). e.outcome) (slice_get (map (ended_of servers) ended) n)
@@ -114,14 +114,14 @@ bytes_there [] n bytes e = absurd (none_some bytes e)
 bytes_there (x ∷ ended) zero bytes e = ap Some e
 bytes_there (x ∷ ended) (suc n) bytes e = bytes_there ended n bytes e
 
-module _ (script : Script) (points : List Point) (servers : ℕ) (clients : List ClientOf) (calls : List ClientCalls) (serving : (i : ℕ) (a : ClientOf) → slice_get clients i ≡ Some a → ServesItsPins script points i a)
-    (its : (i : ℕ) (of : ClientCalls) → slice_get calls i ≡ Some of → (a : ClientOf) × (slice_get clients i ≡ Some a) × HasCalls servers of a) (place i number : ℕ) (bytes : List ℕ) where
-  by_calls : (found : Option ClientCalls) → slice_get calls i ≡ found → outcome_in (option_and_then (λ (c : ClientCalls). slice_get c.ended.items number) found) ≡ Some (Outcome.Served place)
-      → served_in (option_and_then (λ (c : ClientCalls). slice_get c.ended.items number) found) ≡ Some bytes
+module _ (script : Script) (points : List Point) (servers : ℕ) (clients : List CallerOf) (calls : List CallerCalls) (serving : (i : ℕ) (a : CallerOf) → slice_get clients i ≡ Some a → ServesItsPins script points i a)
+    (its : (i : ℕ) (of : CallerCalls) → slice_get calls i ≡ Some of → (a : CallerOf) × (slice_get clients i ≡ Some a) × HasCalls servers of a) (place i number : ℕ) (bytes : List ℕ) where
+  by_calls : (found : Option CallerCalls) → slice_get calls i ≡ found → outcome_in (option_and_then (λ (c : CallerCalls). slice_get c.ended.items number) found) ≡ Some (Outcome.Served place)
+      → served_in (option_and_then (λ (c : CallerCalls). slice_get c.ended.items number) found) ≡ Some bytes
       → owed_at (size_of script) (call_of script) points place i number ≡ reply.Bytes bytes
   by_calls None found e u = absurd (none_some bytes u)
   by_calls (Some of) found e u =
-      let h : (a : ClientOf) × (slice_get clients i ≡ Some a) × HasCalls servers of a = its i of found in
+      let h : (a : CallerOf) × (slice_get clients i ≡ Some a) × HasCalls servers of a = its i of found in
       ((serving i h.0 h.1).ended number place bytes
       (ap (λ (xs : List Ended). option_map (λ (y : Ended). y.outcome) (slice_get xs number)) h.2.ended ∙ sym (outcome_there servers of.ended.items number) ∙ e)
       (ap (λ (xs : List (Option (List ℕ))). slice_get xs number) h.2.served ∙ bytes_there of.ended.items number bytes u)).reply

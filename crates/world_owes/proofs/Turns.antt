@@ -2,22 +2,28 @@
 use Rattle.std.proofs.Common.{◌≡◌, ◌⊎◌, ℕ, ◌+◌, List, [], ◌∷◌, ◌++◌, length, slice_get, Option, None, Some, IfSome, option_map, refl, sym, ap, subst, ◌∙◌, inl, inr, arith}
 use Rattle.std.proofs.lemmas.List.{length_push}
 use Rattle.store_map.specs.declared.actor.Actor.TheVariants as actor
+use Rattle.store_map.specs.declared.script.ClientPart.{ClientPart}
 use Rattle.store_map.specs.declared.script.Script.{Script}
 use Rattle.store_core.specs.Act.{Act, Outcome}
 use Rattle.store_core.specs.Directory.{Point}
+use Rattle.store_core.specs.Tokens.{actor_of}
 use Rattle.store_core.specs.Work.{Ended}
+use Rattle.chunk_server.specs.State.{ServerState}
+use Rattle.stripe_dir.specs.Sealed.{Sealed}
 use Rattle.call_steps.specs.CallOf.{CallOf, act_of}
 use Rattle.call_steps.specs.Steps.{need_of}
 use Rattle.call_stands.specs.Ready.{ready}
-use Rattle.client_call.specs.Kinds.{Machine, machine_of, IfReads}
-use Rattle.client_call.specs.Calls.{ClientCallOf}
+use Rattle.call_machine.specs.Kinds.{Machine, machine_of, IfReads}
+use Rattle.call_machine.specs.Calls.{MachineOf}
 use Rattle.world_steps.specs.World.{ActorOf, DoingOf, steps_of}
-use Rattle.world_steps.specs.ActorAfter.{actor_after_by}
-use Rattle.actors.specs.Clients.{ClientOf, work_of}
-use Rattle.actors.specs.Owing.{Owes, AreServed, left_by, owed_now}
-use Rattle.actors.specs.Turned.{MakesTurn}
+use Rattle.world_steps.specs.ActorAfter.{IsCallBefore, actor_after_by}
+use Rattle.world_steps.specs.Tokens.{KeepsToken}
+use Rattle.actors.specs.Callers.{PartOf, CallerOf, asked_at, who_of, work_of}
+use Rattle.actors.specs.Owing.{AreServed, left_by, owed_now}
+use Rattle.actors.specs.CallerTurns.{MakesCallerTurn}
 use Rattle.actors.specs.Turns.{places_of}
 use Rattle.call_owes.specs.Pinned.{point_served, pinned_at}
+use Rattle.world_owes.specs.OfMap.{IsOfMap}
 use Rattle.world_owes.specs.Serving.{IsReplyAt, OwesAt, OwesItsPins, IsInWork, ServesItsPins}
 use Rattle.world_owes.specs.ServeLaws.{HasMorePoints, TurnsKeepServing}
 use Rattle.call_owes.proofs.Acts.{point_ended, ends_at}
@@ -34,7 +40,7 @@ record HasServed (script : Script) (points : List Point) (i number : ℕ) (outco
   pub owed : (place : ℕ) (bytes : List ℕ) → outcome ≡ Outcome.Served place → entry ≡ Some bytes → IsReplyAt script points i number place bytes
 
 -- ---- after the step
-module _ (script : Script) (points now : List Point) (i : ℕ) (a after : ClientOf) (grown : HasMorePoints points now) (was : ServesItsPins script points i a) (next : CallOf) (last : ClientCallOf) (is_last : last.call ≡ next)
+module _ (script : Script) (points now : List Point) (i : ℕ) (a after : CallerOf) (grown : HasMorePoints points now) (was : ServesItsPins script points i a) (next : CallOf) (last : MachineOf) (is_last : last.call ≡ next)
     (owes : OwesItsPins script now i (length a.actor.ended) last) where
   -- the point that the call ends with is that of its pins
   serves : (point : ℕ) → act_of next ≡ Act.Finish (Outcome.Served point) → OwesAt script now i (length a.actor.ended) last point
@@ -43,7 +49,7 @@ module _ (script : Script) (points now : List Point) (i : ℕ) (a after : Client
       subst (λ (act : Act). IfSome (point_ended act) (λ (p : ℕ). pinned_at next.state.at ≡ Some p)) over (ends_at next.book.geometry next.tries next.job next.state.pairs next.state.at) in
       subst (λ (o : Option ℕ). IfSome o (OwesAt script now i (length a.actor.ended) last)) (ap (λ (c : CallOf). pinned_at c.state.at) is_last ∙ pinned) owes.owes
 
-  has_served : (outcome : Outcome) → act_of next ≡ Act.Finish outcome → AreServed (Act.Finish outcome) (machine_of last.written) last.owed a.served after.served
+  has_served : (outcome : Outcome) → act_of next ≡ Act.Finish outcome → AreServed (Act.Finish outcome) (machine_of last.asked) last.owed a.served after.served
       → HasServed script now i (length a.actor.ended) outcome a.served after.served
   has_served (Outcome.Served point) over s =
       let of : OwesAt script now i (length a.actor.ended) last point = serves point over in
@@ -76,7 +82,7 @@ module _ (script : Script) (points now : List Point) (i : ℕ) (a after : Client
 
   -- it has ended
   ends : (outcome : Outcome) → act_of next ≡ Act.Finish outcome → after.actor ≡ actor_after_by (Act.Finish outcome) next a.actor → after.work ≡ None
-      → AreServed (Act.Finish outcome) (machine_of last.written) last.owed a.served after.served → ServesItsPins script now i after
+      → AreServed (Act.Finish outcome) (machine_of last.asked) last.owed a.served after.served → ServesItsPins script now i after
   ends outcome over actor work s =
       record {
         work = subst (λ (x : ActorOf). IsInWork (OwesItsPins script now i (length x.ended)) x.doing after.work) (sym actor) work;
@@ -107,32 +113,37 @@ module _ (script : Script) (points now : List Point) (i : ℕ) (a after : Client
       by number place bytes (inr k) = subst (λ (n : ℕ). IsReplyAt script now i n place bytes) (sym k.0) (h.owed place bytes k.1 k.2)
 
   pub by_act : (act : Act) → act_of next ≡ act → after.actor ≡ actor_after_by act next a.actor → after.work ≡ left_by act last
-      → AreServed act (machine_of last.written) last.owed a.served after.served → ServesItsPins script now i after
+      → AreServed act (machine_of last.asked) last.owed a.served after.served → ServesItsPins script now i after
   by_act (Act.Finish outcome) e actor work s = ends outcome e actor work s
   by_act (Act.AtDirectory step) e actor work s = goes_on actor work s
   by_act (Act.AtServer server step) e actor work s = goes_on actor work s
 
 -- ---- a whole turn
+module _ (script : Script) (i : ℕ) (a after : CallerOf) (d now : Sealed) (servers others : List ServerState) (of : IsOfMap script d) (part : ClientPart) (is : a.part ≡ PartOf.OfClient part)
+    (there : slice_get script.clients i ≡ Some part) (keeps : KeepsToken d.core (actor.Client i) a.actor) (turns : MakesCallerTurn script i a d servers after now others) (was : ServesItsPins script d.core.points i a) where
+  called : IsCalled script d.core i (length a.actor.ended) turns.makes.call turns.owes.before.asked (owed_now a.work)
+  called =
+      called_by script d.core i part a.actor.ended turns.makes.call turns.owes.before.asked a.work there
+      (subst (λ (p : PartOf). asked_at p (length a.actor.ended) ≡ Some turns.owes.before.asked) is turns.owes.its) turns.makes.has.due
+      (subst (λ (p : PartOf). actor_of turns.makes.call.token ≡ who_of p i) is turns.makes.has.whose) turns.makes.pass a.actor.doing
+      (subst (λ (p : PartOf). IsCallBefore script (work_of p).jobs a.actor.ended a.actor.doing turns.makes.call) is turns.makes.has.call) keeps.agrees keeps.numbered was.work
+
+  is_ready : IsReady script d.core i (length a.actor.ended) (ready turns.makes.turn.coding turns.makes.call) turns.owes.before
+  is_ready = ready_now script d.core i (length a.actor.ended) turns.makes.call turns.owes.before (owed_now a.work) called turns.makes.turn.coding turns.owes.owed turns.owes.is_ready
+
+  grown : HasMorePoints d.core.points now.core.points
+  grown =
+      made_grows (need_of (ready turns.makes.turn.coding turns.makes.call)) turns.makes.turn.short turns.makes.turn.due (ready turns.makes.turn.coding turns.makes.call) (places_of d servers) turns.makes.next (places_of now others)
+      turns.makes.turn.made
+
+  last_owes : OwesItsPins script now.core.points i (length a.actor.ended) turns.owes.last
+  last_owes =
+      made_owes script d now of i (length a.actor.ended) (ready turns.makes.turn.coding turns.makes.call) turns.owes.before turns.owes.last is_ready grown turns.makes.next servers others turns.makes.turn.short turns.makes.turn.due
+      turns.owes.is_last turns.owes.asked turns.owes.goes (need_of (ready turns.makes.turn.coding turns.makes.call)) refl turns.makes.turn.made
+
+  turn_serves : ServesItsPins script now.core.points i after
+  turn_serves =
+      by_act script d.core.points now.core.points i a after grown was turns.makes.next turns.owes.last turns.owes.is_last last_owes (act_of turns.makes.next) refl turns.makes.actor turns.owes.work turns.owes.served
+
 pub turns_serve : TurnsKeepServing
-turns_serve script i a after d now servers others of there keeps turns was =
-    by_act script d.core.points now.core.points i a after grown was m.next o.last o.is_last last_owes (act_of m.next) refl m.actor o.work o.served
-  where
-    m : MakesTurn script (actor.Client i) (work_of a.part) a.actor (places_of d servers) after.actor (places_of now others)
-    m = turns.makes
-
-    o : Owes a d now after m.call m.next m.turn.coding m.turn.short
-    o = turns.owes
-
-    called : IsCalled script d.core i (length a.actor.ended) m.call o.before.written (owed_now a.work)
-    called = called_by script d.core i a.part a.actor.ended m.call o.before.written a.work there o.its m.has.due m.has.whose m.pass a.actor.doing m.has.call keeps.agrees keeps.numbered was.work
-
-    is_ready : IsReady script d.core i (length a.actor.ended) (ready m.turn.coding m.call) o.before
-    is_ready = ready_now script d.core i (length a.actor.ended) m.call o.before (owed_now a.work) called m.turn.coding o.owed o.is_ready
-
-    grown : HasMorePoints d.core.points now.core.points
-    grown = made_grows (need_of (ready m.turn.coding m.call)) m.turn.short m.turn.due (ready m.turn.coding m.call) (places_of d servers) m.next (places_of now others) m.turn.made
-
-    last_owes : OwesItsPins script now.core.points i (length a.actor.ended) o.last
-    last_owes =
-        made_owes script d now of i (length a.actor.ended) (ready m.turn.coding m.call) o.before o.last is_ready grown m.next servers others m.turn.short m.turn.due o.is_last o.written o.goes
-        (need_of (ready m.turn.coding m.call)) refl m.turn.made
+turns_serve script i a after d now servers others of part is there keeps turns was = turn_serves script i a after d now servers others of part is there keeps turns was

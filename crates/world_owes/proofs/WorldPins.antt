@@ -16,8 +16,8 @@ use Rattle.world_steps.specs.Known.{calling_by, calling_of}
 use Rattle.world_steps.specs.StandsFor.{AllStand, StandsFor}
 use Rattle.world_steps.proofs.Runs.{runs_reach}
 use Rattle.world_lines.specs.declared.calls.EndedCall.{EndedCall}
-use Rattle.world_lines.specs.declared.calls.ClientCalls.{ClientCalls}
-use Rattle.world_lines.specs.Ended.{ended_of, client_of}
+use Rattle.world_lines.specs.declared.calls.CallerCalls.{CallerCalls}
+use Rattle.world_lines.specs.Ended.{ended_of, calling_at}
 use Rattle.world_lines.specs.Served.{outcome_in, outcome_at}
 use Rattle.world_owes.specs.WorldPins.{WorldsServeAtPins}
 use Rattle.store_history.proofs.ServedPoints.{runs_serve_at_pins}
@@ -43,17 +43,17 @@ module _ (script : Script) where
 outcome_of_ended : Option Ended → Option CoreOutcome
 outcome_of_ended found = option_map (λ (e : Ended). e.outcome) found
 
-list_ended : (servers : ℕ) (clients : List ClientCalls) (i number : ℕ) → outcome_of_ended (ended_in (map (client_of servers) clients) i number) ≡ outcome_at clients i number
+list_ended : (servers : ℕ) (clients : List CallerCalls) (i number : ℕ) → outcome_of_ended (ended_in (map (calling_at servers) clients) i number) ≡ outcome_at clients i number
 unfolding outcome_of_ended
 list_ended servers clients i number =
-    ap (λ found. outcome_of_ended (option_and_then (λ (c : Calling). slice_get c.ended number) found)) (slice_get-map (client_of servers) clients i) ∙ by_client (slice_get clients i)
+    ap (λ found. outcome_of_ended (option_and_then (λ (c : Calling). slice_get c.ended number) found)) (slice_get-map (calling_at servers) clients i) ∙ by_client (slice_get clients i)
   where
     by_call : (found : Option EndedCall) → outcome_of_ended (option_map (ended_of servers) found) ≡ outcome_in found
     by_call None = refl
     by_call (Some ended) = refl
 
-    by_client : (found : Option ClientCalls) → outcome_of_ended (option_and_then (λ (c : Calling). slice_get c.ended number) (option_map (client_of servers) found))
-        ≡ outcome_in (option_and_then (λ (calls : ClientCalls). slice_get calls.ended.items number) found)
+    by_client : (found : Option CallerCalls) → outcome_of_ended (option_and_then (λ (c : Calling). slice_get c.ended number) (option_map (calling_at servers) found))
+        ≡ outcome_in (option_and_then (λ (calls : CallerCalls). slice_get calls.ended.items number) found)
     by_client None = refl
     by_client (Some calls) = ap outcome_of_ended (slice_get-map (ended_of servers) calls.ended.items number) ∙ by_call (slice_get calls.ended.items number)
 
@@ -82,7 +82,7 @@ pub worlds_serve_at_pins : WorldsServeAtPins
 worlds_serve_at_pins script w geometry valid reached d servers clients repairers holds place i point outcome is_point mine pinned is_outcome answered =
     let core : Core = run_core script reached.by.shortages reached.tokens in
     let stands : StandsFor script w core = (runs_reach script).core reached.tokens w reached.by.shortages reached.by.reaches in
-    let same : ended_in core.clients i point.number ≡ ended_in (map (client_of holds.width) clients) i point.number =
+    let same : ended_in core.clients i point.number ≡ ended_in (map (calling_at holds.width) clients) i point.number =
     world_ended script (client_work script) core.clients w.clients i point.number stands.clients ∙ ap (λ (l : List Calling). ended_in l i point.number) holds.clients_are in
     let found : Found core.clients i point.number outcome =
     found_at core.clients i point.number outcome (ap outcome_of_ended same ∙ list_ended holds.width clients i point.number ∙ is_outcome) in

@@ -18,13 +18,13 @@ use Rattle.version_seal.specs.Entry.{BookOf}
 use Rattle.chunk_server.specs.State.{ServerState}
 use Rattle.stripe_dir.specs.Sealed.{Sealed}
 use Rattle.sweeper.specs.Sweeps.{SweeperOf, stepped_at_directory}
-use Rattle.world_lines.specs.declared.calls.ClientCalls.{ClientCalls}
+use Rattle.world_lines.specs.declared.calls.CallerCalls.{CallerCalls}
 use Rattle.world_lines.specs.Ended.{ended_of}
 use Rattle.world_lines.specs.Served.{outcome_at, bytes_at, owed_at}
 use Rattle.world_steps.specs.World.{ActorOf}
 use Rattle.world_steps.specs.Tokens.{KeepsToken}
-use Rattle.actors.specs.Clients.{ClientOf, first_client}
-use Rattle.actors.specs.ClientTurns.{MakesClientTurn}
+use Rattle.actors.specs.Callers.{PartOf, CallerOf, first_caller}
+use Rattle.actors.specs.CallerTurns.{MakesCallerTurn}
 use Rattle.actors.specs.Inside.{served_of}
 use Rattle.actors.specs.Turned.{MakesTurn}
 use Rattle.world_owes.specs.OfMap.{IsOfMap}
@@ -45,26 +45,26 @@ pub record HistoriesGrow : Type 0 where
 
 -- a client before its first call does, and as the history grows it goes on so
 pub record ClientsGoOnServing (script : Script) : Type 0 where
-  pub first : (points : List Point) (i : ℕ) (part : ClientPart) (book : BookOf) (tries : ℕ) (seat : Seat) → ServesItsPins script points i (first_client part book tries seat)
-  pub stays : (points now : List Point) (i : ℕ) (a : ClientOf) → HasMorePoints points now → ServesItsPins script points i a → ServesItsPins script now i a
+  pub first : (points : List Point) (i : ℕ) (part : ClientPart) (book : BookOf) (tries : ℕ) (seat : Seat) → ServesItsPins script points i (first_caller (PartOf.OfClient part) book tries seat)
+  pub stays : (points now : List Point) (i : ℕ) (a : CallerOf) → HasMorePoints points now → ServesItsPins script points i a → ServesItsPins script now i a
 
 -- at a directory of the script, a client's turn keeps it
 abbrev pub TurnsKeepServing : Type 0
 TurnsKeepServing =
-    (script : Script) (i : ℕ) (a after : ClientOf) (d now : Sealed) (servers others : List ServerState) → IsOfMap script d →
-    slice_get script.clients i ≡ Some a.part → KeepsToken d.core (actor.Client i) a.actor → MakesClientTurn script i a d servers after now others →
+    (script : Script) (i : ℕ) (a after : CallerOf) (d now : Sealed) (servers others : List ServerState) → IsOfMap script d →
+    (part : ClientPart) → a.part ≡ PartOf.OfClient part → slice_get script.clients i ≡ Some part → KeepsToken d.core (actor.Client i) a.actor → MakesCallerTurn script i a d servers after now others →
     ServesItsPins script d.core.points i a → ServesItsPins script now.core.points i after
 
 -- the calls of a client at the end of a run, where there are so many servers
-pub record HasCalls (servers : ℕ) (calls : ClientCalls) (a : ClientOf) : Type 0 where
+pub record HasCalls (servers : ℕ) (calls : CallerCalls) (a : CallerOf) : Type 0 where
   pub ended : a.actor.ended ≡ map (ended_of servers) calls.ended.items
   pub served : a.served ≡ served_of calls.ended.items
 
 -- at the end what calls were served is the map's reply at their points
 abbrev pub ServedIsOwed : Type 0
 ServedIsOwed =
-    (script : Script) (points : List Point) (servers : ℕ) (clients : List ClientOf) (calls : List ClientCalls) →
-    ((i : ℕ) (a : ClientOf) → slice_get clients i ≡ Some a → ServesItsPins script points i a) →
-    ((i : ℕ) (of : ClientCalls) → slice_get calls i ≡ Some of → (a : ClientOf) × (slice_get clients i ≡ Some a) × HasCalls servers of a) →
+    (script : Script) (points : List Point) (servers : ℕ) (clients : List CallerOf) (calls : List CallerCalls) →
+    ((i : ℕ) (a : CallerOf) → slice_get clients i ≡ Some a → ServesItsPins script points i a) →
+    ((i : ℕ) (of : CallerCalls) → slice_get calls i ≡ Some of → (a : CallerOf) × (slice_get clients i ≡ Some a) × HasCalls servers of a) →
     (place i number : ℕ) (bytes : List ℕ) → outcome_at calls i number ≡ Some (Outcome.Served place) → bytes_at calls i number ≡ Some bytes →
     owed_at (size_of script) (call_of script) points place i number ≡ reply.Bytes bytes

@@ -8,13 +8,12 @@ use Rattle.store_map.specs.declared.script.Script.{Script}
 use Rattle.store_core.specs.Act.{Outcome}
 use Rattle.store_core.specs.Directory.{Point}
 use Rattle.store_core.specs.History.{call_of}
-use Rattle.store_core.specs.NextAct.{job_of}
 use Rattle.call_steps.specs.CallOf.{CallOf}
-use Rattle.client_call.specs.Kinds.{Machine, machine_of, IfReads}
-use Rattle.client_call.specs.Calls.{ClientCallOf}
+use Rattle.call_machine.specs.Kinds.{Asked, asked_job, Machine, machine_of, IfReads}
+use Rattle.call_machine.specs.Calls.{MachineOf}
 use Rattle.world_lines.specs.Served.{owed_at}
 use Rattle.world_steps.specs.World.{DoingOf}
-use Rattle.actors.specs.Clients.{ClientOf}
+use Rattle.actors.specs.Callers.{CallerOf}
 use Rattle.call_owes.specs.Pinned.{pinned_at}
 use Rattle.world_owes.specs.Looked.{HasLooked}
 
@@ -23,32 +22,36 @@ pub record IsReplyAt (script : Script) (points : List Point) (i number place : �
   pub within : place < length points
   pub reply : owed_at (size_of script) (call_of script) points place i number ≡ reply.Bytes bytes
 
+-- what the client's call with this number asks
+abbrev pub client_asks : Script → ℕ → ℕ → Option Asked
+client_asks script i number = option_map Asked.OfClient (call_of script (actor.Client i) number)
+
 -- a call that reads what a look at this point has pinned, and the bytes are the map's reply there
-pub record OwesAt (script : Script) (points : List Point) (i number : ℕ) (c : ClientCallOf) (place : ℕ) : Type 0 where
-  pub reads : machine_of c.written ≡ Machine.Reads
+pub record OwesAt (script : Script) (points : List Point) (i number : ℕ) (c : MachineOf) (place : ℕ) : Type 0 where
+  pub reads : machine_of c.asked ≡ Machine.Reads
   pub owed : IsReplyAt script points i number place c.owed
 
 -- a call in work is the script's and has its job, one that reads has looked, and it owes what its look has pinned
-pub record OwesItsPins (script : Script) (points : List Point) (i number : ℕ) (c : ClientCallOf) : Type 0 where
-  pub its : call_of script (actor.Client i) number ≡ Some c.written
-  pub job : c.call.job ≡ job_of c.written
-  pub looked : IfReads (machine_of c.written) (HasLooked c.call.state.at)
+pub record OwesItsPins (script : Script) (points : List Point) (i number : ℕ) (c : MachineOf) : Type 0 where
+  pub its : client_asks script i number ≡ Some c.asked
+  pub job : c.call.job ≡ asked_job c.asked
+  pub looked : IfReads (machine_of c.asked) (HasLooked c.call.state.at)
   pub owes : IfSome (pinned_at c.call.state.at) (OwesAt script points i number c)
 
 -- what is in work is this call, and this holds of it
-pub record HasInWork (holds : ClientCallOf → Type 0) (call : CallOf) (work : Option ClientCallOf) : Type 0 where
-  pub c : ClientCallOf
+pub record HasInWork (holds : MachineOf → Type 0) (call : CallOf) (work : Option MachineOf) : Type 0 where
+  pub c : MachineOf
   pub is : work ≡ Some c
   pub same : c.call ≡ call
   pub held : holds c
 
 -- by what the client does
-abbrev pub IsInWork : (ClientCallOf → Type 0) → DoingOf → Option ClientCallOf → Type 0
+abbrev pub IsInWork : (MachineOf → Type 0) → DoingOf → Option MachineOf → Type 0
 IsInWork holds (DoingOf.Between token) work = work ≡ None
 IsInWork holds (DoingOf.InCall call steps) work = HasInWork holds call work
 
 -- of a client's calls: the one in work owes its pins, and each ended one that was served at a point was served the map's reply there
-pub record ServesItsPins (script : Script) (points : List Point) (i : ℕ) (a : ClientOf) : Type 0 where
+pub record ServesItsPins (script : Script) (points : List Point) (i : ℕ) (a : CallerOf) : Type 0 where
   pub work : IsInWork (OwesItsPins script points i (length a.actor.ended)) a.actor.doing a.work
   pub count : length a.served ≡ length a.actor.ended
   pub ended :

@@ -4,6 +4,7 @@ use Rattle.std.specs.List.{slice_get}
 use Rattle.clay_grid.specs.Limits.{IsGeometry}
 use Rattle.store_map.specs.Naming.{IsValid}
 use Rattle.store_map.specs.declared.actor.Actor.TheVariants as actor
+use Rattle.store_map.specs.declared.script.ClientPart.{ClientPart}
 use Rattle.store_map.specs.declared.script.Script.{Script}
 use Rattle.store_core.specs.History.{call_of}
 use Rattle.chunk_server.specs.State.{ServerState}
@@ -12,8 +13,8 @@ use Rattle.stripe_dir.specs.Stamped.{HaveContents}
 use Rattle.world_steps.specs.World.{WorldOf}
 use Rattle.world_steps.specs.Tokens.{KeepsToken}
 use Rattle.world_steps.specs.Goes.{IsReached}
-use Rattle.actors.specs.Clients.{ClientOf}
-use Rattle.actors.specs.ClientTurns.{MakesClientTurn}
+use Rattle.actors.specs.Callers.{PartOf, CallerOf}
+use Rattle.actors.specs.CallerTurns.{MakesCallerTurn}
 use Rattle.world_owes.specs.OfMap.{IsOfMap}
 use Rattle.world_owes.specs.Serving.{ServesItsPins}
 
@@ -26,7 +27,7 @@ WorldsAreOfMap =
 -- so a client's turn keeps it there
 abbrev pub WorldsKeepServing : Type 0
 WorldsKeepServing =
-    (script : Script) (w : WorldOf) (i : ℕ) (a after : ClientOf) (d now : Sealed) (servers others : List ServerState) →
+    (script : Script) (w : WorldOf) (i : ℕ) (a after : CallerOf) (d now : Sealed) (servers others : List ServerState) →
     IsGeometry script.geometry → IsValid script → IsReached script w → w.directory ≡ d.core → HaveContents (call_of script) d →
-    slice_get script.clients i ≡ Some a.part → KeepsToken d.core (actor.Client i) a.actor → MakesClientTurn script i a d servers after now others →
+    (part : ClientPart) → a.part ≡ PartOf.OfClient part → slice_get script.clients i ≡ Some part → KeepsToken d.core (actor.Client i) a.actor → MakesCallerTurn script i a d servers after now others →
     ServesItsPins script d.core.points i a → ServesItsPins script now.core.points i after

@@ -12,13 +12,13 @@ use Rattle.chunk_server.specs.State.{ServerState}
 use Rattle.world_steps.specs.World.{WorldOf}
 use Rattle.world_steps.specs.Known.{core_of}
 use Rattle.world_steps.specs.Goes.{IsReached}
-use Rattle.world_lines.specs.declared.calls.ClientCalls.{ClientCalls}
-use Rattle.world_lines.specs.declared.calls.RepairCalls.{RepairCalls}
+use Rattle.world_lines.specs.declared.calls.CallerCalls.{CallerCalls}
+use Rattle.world_lines.specs.declared.calls.CallerCalls.{CallerCalls}
 use Rattle.world_lines.specs.Served.{outcome_at}
 use Rattle.world_lines.specs.Shown.{Holds}
 
 -- a client's answered call with a pinned point was served at that point
-abbrev pub ListsServeAtPins : List Point → List ClientCalls → Type 0
+abbrev pub ListsServeAtPins : List Point → List CallerCalls → Type 0
 ListsServeAtPins points clients =
     (place i : ℕ) (point : Point) (ended : CoreOutcome) → slice_get points place ≡ Some point → point.actor ≡ actor.Client i → point.event ≡ Event.Pinned →
     outcome_at clients i point.number ≡ Some ended → is_answered ended ≡ true → ended ≡ CoreOutcome.Served place
@@ -27,5 +27,5 @@ ListsServeAtPins points clients =
 abbrev pub WorldsServeAtPins : Type 0
 WorldsServeAtPins =
     (script : Script) (w : WorldOf) → IsGeometry script.geometry → IsValid script → IsReached script w →
-    (d : Directory) (servers : List ServerState) (clients : List ClientCalls) (repairers : List RepairCalls) →
+    (d : Directory) (servers : List ServerState) (clients : List CallerCalls) (repairers : List CallerCalls) →
     Holds (core_of script w) d servers clients repairers → ListsServeAtPins d.points clients

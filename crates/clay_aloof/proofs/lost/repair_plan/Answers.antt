@@ -4,6 +4,7 @@ use Rattle.clay_grid.specs.Score.{IsByScore}
 use Rattle.clay_scalar.specs.Erased.{erased_below}
 use Rattle.clay_scalar.specs.Points.{AreDistinct}
 use Rattle.clay_scalar.proofs.ErasedNodes.{AreDistinct-erased}
+use Rattle.clay_kernels.specs.Generated.{IsGeneratorOf}
 use Rattle.clay_aloof.specs.Shape.{rows_of, grid_of, node_of}
 use Rattle.clay_aloof.specs.Rebuilt.{kept_layers}
 use Rattle.clay_aloof.proofs.Parts.{AreKept, are_kept, partner_given, is_known}
@@ -24,12 +25,12 @@ counted c =
 at_most_eight : (n m : ℕ) → n ≤ m → m ≤ 8 → n ≤ 8
 at_most_eight n m h l = omega arith
 
-pub new-requires-clause-few : goal.new-requires-clause-few
-new-requires-clause-few c =
+pub generator_of-requires-clause-few : goal.generator_of-requires-clause-few
+generator_of-requires-clause-few c =
     subst (λ l. length l ≤ 8) (sym c.deref-2.ensures.value) (at_most_eight (length c.in_ok-points.points.items) c.args.g.parity_count (counted c) c.grid-grid.ensures.geometry.limits.parity_chunks.1)
 
-pub new-requires-clause-distinct : goal.new-requires-clause-distinct
-new-requires-clause-distinct c =
+pub generator_of-requires-clause-distinct : goal.generator_of-requires-clause-distinct
+generator_of-requires-clause-distinct c =
     subst AreDistinct (sym (c.deref-2.ensures.value ∙ points_are c)) (AreDistinct-erased c.in_ok-erased.erased.items (node_count (grid_of c.args.g)))
 
 pub returns : goal.returns
@@ -37,6 +38,7 @@ returns c =
     let g = c.args.g in
     let lost : ℕ = c.args.lost in
     let aloof = c.grid-grid.ensures.geometry in
+    let made = c.in_ok-generator.generator in
     let grid : c.grid-grid.result ≡ grid_of g = c.grid-grid.ensures.value in
     let erased = c.in_ok-erased.erased.items in
     let points : c.in_ok-points.points.items ≡ erased_below erased (node_count (grid_of g)) =
@@ -60,7 +62,8 @@ returns c =
         few = at_most_eight (length c.in_ok-points.points.items) g.parity_count few aloof.limits.parity_chunks.1;
         nodes = c.in_ok-erased.ensures.len;
         points_are = points;
-        solver = c.in_ok-solver.ensures ∙ c.deref-2.ensures.value;
+        generator = subst (λ s. IsGeneratorOf s c.in_ok-points.points.items made.unknown made.each) c.grid-grid.ensures.value
+            (subst (λ p. IsGeneratorOf c.grid-grid.result p made.unknown made.each) c.deref-2.ensures.value c.in_ok-generator.ensures);
         rising = kept.rising;
         only_layers = kept.only_layers;
         partners = λ i n other p there pair below listed.

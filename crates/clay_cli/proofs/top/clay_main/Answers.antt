@@ -2,7 +2,7 @@ use Rattle.std.proofs.Common.{ap₂, refl}
 use Rattle.clay_gen.specs.Script.{generated}
 use Rattle.script_text.specs.Spelling.{spelling}
 use Rattle.clay_words.specs.declared.words.Command.TheVariants.{Generate, OfInput}
-use Rattle.clay_words.proofs.WordLaws.{asked_as, drawn_once}
+use Rattle.clay_words.proofs.WordLaws.{asked_as, drawn_once, has_its_chunk}
 use Rattle.clay_cli.proofs.Asked.{at_none, at_some}
 use Rattle.clay_cli.proofs.Statuses.{not_failed, only_too_long, written, prefix_written, writes_same}
 use Rattle.clay_cli.proofs.top.clay_main.Goals as goal
@@ -23,6 +23,10 @@ pub returns-in-Generate-clause-generated : goal.returns-in-Generate-clause-gener
 returns-in-Generate-clause-generated g c = λ start size asked.
     let same = drawn_once _ c.in-Generate.start c.in-Generate.size start size (asked_as _ _ _ c.in-Generate.is (at_some _ _ _ _ c.in-Ok-Some.field-0-is c.in-Ok-Some.ensures)) asked in
     (refl, writes_same _ _ _ _ _ (ap₂ (λ start size. spelling (generated start size)) same.0 same.1) c.write_generated.ensures.written)
+
+pub answer-requires-clause-chunk : goal.answer-requires-clause-chunk
+answer-requires-clause-chunk g c κs _ =
+    has_its_chunk _ c.in-OfInput.task (asked_as _ _ _ c.in-OfInput.is (at_some _ _ _ _ c.in-Ok-Some.field-0-is c.in-Ok-Some.ensures))
 
 pub returns-in-Ok-clause-output : goal.returns-in-Ok-clause-output
 returns-in-Ok-clause-output g c = λ has asks input told.

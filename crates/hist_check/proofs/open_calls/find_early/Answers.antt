@@ -27,7 +27,6 @@ loop-call-preserved c = record {
       after_fits (open_fault (answered_calls c.args.transcript.now)) c.args.calls.now c.loop-call.call-index _ (first_fault_along (open_fault (answered_calls c.args.transcript.now)) c.args.calls.now)
       c.loop-call.invariant.so_far c.loop-call-test.true
       (or_second _ _ _ (sym (c.in_default.ensures (find (same_actor _) (reverse (take c.loop-call.call-index c.args.calls.now))) (c.get.ensures ∙ c.loop-call.invariant.firsts _))) (sym c.in_ok-fault.ensures.found ∙ c.in_default-2.is));
-  whole = c.loop-call.invariant.whole;
   reached = c.in_ok-fault.ensures.reached;
   firsts =
       numbers_put (λ call. call) c.loop-call.firsts c.set.new.self c.args.calls.now c.loop-call.call-index c.from.result _ c.loop-call-test.true

@@ -6,7 +6,7 @@ use Rattle.hist_rules.specs.Calls.{number_of, same_actor}
 use Rattle.hist_rules.specs.Named.{answered_calls}
 use Rattle.hist_rules.specs.First.{first_fault_after, first_fault_along}
 use Rattle.hist_rules.specs.OneOpenCall.{is_only_one, is_next_call}
-use Rattle.hist_tables.specs.Tables.{value_at, IsSetOf}
+use Rattle.hist_tables.specs.Tables.{value_at}
 use Rattle.hist_check.specs.Reached.{AreReached}
 use Rattle.hist_check.proofs.open_calls.find_early.Given as goal
 
@@ -15,7 +15,6 @@ invariant-loop-call l = record {
   so_far :
       first_fault_after (λ before call. option_or (is_only_one (find (same_actor call) before) call) (is_next_call (answered_calls l.transcript) call)) (reverse (take l.call-index l.calls)) (drop l.call-index l.calls)
       ≡ first_fault_along (λ before call. option_or (is_only_one (find (same_actor call) before) call) (is_next_call (answered_calls l.transcript) call)) l.calls;
-  whole : IsSetOf l.answered (answered_calls l.transcript);
   reached : AreReached (answered_calls l.transcript) l.reached;
   firsts : (call : CallName) → value_at l.firsts call ≡ option_map number_of (find (same_actor call) (reverse (take l.call-index l.calls)));
 }

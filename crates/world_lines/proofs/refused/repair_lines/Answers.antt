@@ -2,7 +2,7 @@ use Rattle.std.proofs.Common.{[], length}
 use Rattle.transcript_text.specs.declared.call_name.CallName.TheVariants as name
 use Rattle.store_core.specs.Outcomes.{result_of}
 use Rattle.store_core.specs.Shown.{lines_of_ended, repair_line}
-use Rattle.world_lines.specs.Ended.{repairer_of}
+use Rattle.world_lines.specs.Ended.{calling_at}
 use Rattle.world_lines.proofs.Numbered.{lines_more, names_at}
 use Rattle.world_lines.proofs.refused.repair_lines.Goals as goal
 
@@ -12,6 +12,6 @@ push_repairer-requires c =
 
 pub loop-i-preserved : goal.loop-i-preserved
 loop-i-preserved c = λ servers.
-    lines_more (repairer_of servers) (λ i. lines_of_ended (λ number ended. repair_line (name.Repairer i number) (result_of ended.outcome))) [] c.loop-i.lines c.push_repairer.new.lines
+    lines_more (calling_at servers) (λ i. lines_of_ended (λ number ended. repair_line (name.Repairer i number) (result_of ended.outcome))) [] c.loop-i.lines c.push_repairer.new.lines
     c.args.repairers.now c.loop-i.i c.index-repairers-i.result c.loop-i-test.true c.index-repairers-i.is
     (c.loop-i.invariant servers) (c.in_ok-push_repairer.ensures servers)

@@ -2,10 +2,10 @@ use Rattle.std.proofs.Common.{◌≡◌, ℕ, ◌++◌, [], take}
 use Rattle.transcript_text.specs.declared.call_name.CallName.TheVariants as name
 use Rattle.store_core.specs.Outcomes.{result_of}
 use Rattle.store_core.specs.Shown.{lines_of_ended, repair_line}
-use Rattle.world_lines.specs.Ended.{repairer_of}
+use Rattle.world_lines.specs.Ended.{calling_at}
 use Rattle.world_lines.proofs.Numbered.{lines_of}
 use Rattle.world_lines.proofs.refused.repair_lines.Given as goal
 
 abbrev pub invariant-loop-i : goal.invariant-loop-i
 invariant-loop-i l =
-    (servers : ℕ) → l.lines ≡ [] ++ lines_of (repairer_of servers) (λ i. lines_of_ended (λ number ended. repair_line (name.Repairer i number) (result_of ended.outcome))) (take l.i l.repairers)
+    (servers : ℕ) → l.lines ≡ [] ++ lines_of (calling_at servers) (λ i. lines_of_ended (λ number ended. repair_line (name.Repairer i number) (result_of ended.outcome))) (take l.i l.repairers)

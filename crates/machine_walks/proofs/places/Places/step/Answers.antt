@@ -1,4 +1,4 @@
-use Rattle.std.proofs.Common.{◌≡◌, ℕ, ◌<◌, length, ap, sym, subst, ◌∙◌}
+use Rattle.std.proofs.Common.{ℕ, ap, sym, subst, ◌∙◌}
 use Rattle.call_steps.specs.declared.need.Need.TheVariants as need
 use Rattle.machine_walks.specs.PlacesInside.{places_in}
 use Rattle.machine_walks.specs.Works.{call_of, IsIn}

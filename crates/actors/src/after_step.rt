@@ -1,0 +1,107 @@
+//! What becomes of a caller after its call's step.
+ghost use Rattle.std.specs.Prelude.{◌≡◌, ◌+◌, ◌<◌, ◌^◌, true, false, length, map, vec_capacity, None, Some, is_some, IsTrue, IfSome};
+ghost use Rattle.clay_grid.specs.Shape.{chunk_count};
+ghost use Rattle.store_core.specs.Agreement.{ActorToken};
+ghost use Rattle.call_steps.specs.CallOf.{act_of};
+ghost use Rattle.call_steps.specs.Steps.{need_of};
+ghost use Rattle.call_machine.specs.Kinds.{machine_of};
+ghost use Rattle.call_machine.specs.Calls.{MachineOf};
+ghost use Rattle.world_lines.specs.Ended.{ended_of};
+ghost use Rattle.world_steps.specs.World.{DoingOf, ActorOf};
+ghost use Rattle.world_steps.specs.ActorAfter.{actor_after};
+ghost use Rattle.actors.specs.Turns.{GoesOn};
+ghost use Rattle.actors.specs.Owing.{AreServed, left_by};
+ghost use Rattle.actors.specs.Inside.{served_of};
+ghost use Rattle.actors.specs.Concluded.{IsConcluded};
+
+use call_machine::CallMachine;
+use call_steps::Need;
+use stripe_dir::Seat;
+use world_lines::EndedCall;
+
+/// Takes what stands there.
+pub(crate) fn take<T>(place: &mut Option<T>) -> T
+    requires { IsTrue (is_some place.old) }
+    ensures taken { place.old ≡ Some result }
+    ensures gone { place.new ≡ None }
+{
+    match place.take() {
+        Some(value) => value,
+        None => unreachable!(),
+    }
+}
+
+/// Puts a call where none stands.
+pub(crate) fn put_call<'a>(place: &mut Option<CallMachine<'a>>, call: CallMachine<'a>)
+    requires { place.old ≡ None }
+    ensures { place.new ≡ Some call.entry }
+{
+    match place.replace(call) {
+        None => {}
+        Some(_call) => unreachable!(),
+    }
+}
+
+/// Puts a seat where none stands.
+pub(crate) fn put_seat(place: &mut Option<Seat>, seat: Seat)
+    requires { place.old ≡ None }
+    ensures { place.new ≡ Some seat }
+{
+    match place.replace(seat) {
+        None => {}
+        Some(_seat) => unreachable!(),
+    }
+}
+
+// Whether the call is over.
+fn is_over(call: &Option<CallMachine>) -> bool
+    requires { IsTrue (is_some call.now) }
+    ensures over { result ≡ true → IfSome call.now (λ c. need_of c.call ≡ Need.Finished) }
+    ensures goes { result ≡ false → IfSome call.now (λ c. GoesOn (need_of c.call)) }
+{
+    match call {
+        Some(call) => matches!(call.need(), Need::Finished),
+        None => unreachable!(),
+    }
+}
+
+// A call that is over is kept, and its actor has its seat again.
+fn over<'a>(call: CallMachine<'a>, ended: &mut Vec<EndedCall>) -> Seat
+    requires over { need_of call.call ≡ Need.Finished }
+    requires room { length ended.old.items < vec_capacity ended.old }
+    requires servers { length call.call.takes ≡ chunk_count call.call.book.geometry }
+    ensures actor { (a : ActorOf) → a.ended ≡ map (ended_of (chunk_count call.entry.call.book.geometry)) ended.old.items
+        → record { ended = map (ended_of (chunk_count call.entry.call.book.geometry)) ended.new.items; doing = DoingOf.Between (ActorToken.Seated result) } ≡ actor_after call.entry.call a }
+    ensures served { AreServed (act_of call.entry.call) (machine_of call.entry.asked) call.entry.owed (served_of ended.old.items) (served_of ended.new.items) }
+    ensures left { None ≡ left_by (act_of call.entry.call) call.entry }
+    ensures room { vec_capacity ended.new ≡ vec_capacity ended.old }
+{
+    let (seat, outcome, takes) = call.finish();
+    ended.push_reserved(EndedCall { outcome, takes });
+    seat
+}
+
+/// After its call's step: a call that goes on has made a step more, and one that is over is kept, with
+/// its actor's seat.
+pub(crate) fn conclude<'a>(
+    call: &mut Option<CallMachine<'a>>,
+    seat: &mut Option<Seat>,
+    steps: &mut u64,
+    ended: &mut Vec<EndedCall>,
+)
+    requires there { IsTrue (is_some call.old) }
+    requires none { seat.old ≡ None }
+    requires steps { steps.old + 1 < 2 ^ 64 }
+    requires room { length ended.old.items < vec_capacity ended.old }
+    requires servers { IfSome call.old (λ c. length c.call.takes ≡ chunk_count c.call.book.geometry) }
+    ensures concluded { (c : MachineOf) → call.old ≡ Some c → IsConcluded c steps.old ended.old.items ended.new.items call.new seat.new steps.new }
+    ensures room { vec_capacity ended.new ≡ vec_capacity ended.old }
+{
+    if is_over(call) {
+        let back = over(take(call), ended);
+        put_seat(seat, back);
+        *steps = 0;
+    } else {
+        *steps += 1;
+    }
+}

@@ -1,0 +1,87 @@
+//! The coding and the step of a caller's call.
+ghost use Rattle.std.specs.Prelude.{◌≡◌, ◌&&◌, false, is_some, IsTrue, IfSome};
+ghost use Rattle.store_core.specs.Agreement.{Agrees};
+ghost use Rattle.chunk_server.specs.State.{IsSame};
+ghost use Rattle.stripe_dir.specs.Sealed.{Sealed};
+ghost use Rattle.call_steps.specs.Steps.{need_of, HoldsItsPass, IsDueInPass};
+ghost use Rattle.call_stands.specs.Ready.{ready};
+ghost use Rattle.client_patch.specs.Padded.{ArePadded};
+ghost use Rattle.call_machine.specs.Calls.{KnowsOldOf};
+ghost use Rattle.actors.specs.Turns.{HasPlace, GoesOn};
+ghost use Rattle.actors.specs.Steps.{GoesToDirectory, GoesToServer, IsCoded, IsMadeThere, IsMadeHere};
+
+use call_machine::CallMachine;
+use call_steps::Need;
+use chunk_server::Server;
+use clay_repair::Coder;
+use std::snapshot::Snapshot;
+use std::thread::Threads;
+use stripe_dir::Directory;
+use version_seal::Book;
+
+// The coding before the next step, if one is due.
+fn code_call<R: Threads + Sync, C: Coder>(rt: &R, coder: &C, call: &mut CallMachine)
+    requires { GoesOn (need_of call.old.call) }
+    ensures ready { call.new.call ≡ ready call.new.call.coding call.old.call }
+    ensures place { HasPlace (need_of call.new.call) }
+    ensures in_pass { IsDueInPass call.old.call }
+    ensures pass { HoldsItsPass call.old.call }
+    ensures asked { call.new.asked ≡ call.old.asked }
+    ensures owed { (call.old.call.due && call.new.call.coding) ≡ false → call.new.owed ≡ call.old.owed }
+    ensures knows { (d : Sealed) → KnowsOldOf d call.old → KnowsOldOf d call.new }
+{
+    if matches!(call.need(), Need::Coder) {
+        call.on_coder(rt, coder);
+    }
+}
+
+/// The coding before the next step of the call in work, if one is due.
+pub(crate) fn code<R: Threads + Sync, C: Coder>(rt: &R, coder: &C, call: &mut Option<CallMachine>)
+    requires there { IsTrue (is_some call.old) }
+    requires goes { IfSome call.old (λ c. GoesOn (need_of c.call)) }
+    ensures { IsCoded call.old call.new }
+{
+    match call {
+        Some(call) => code_call(rt, coder, call),
+        None => unreachable!(),
+    }
+}
+
+/// The step of the call in work at the directory, and the call as the step leaves it.
+pub(crate) fn step_at_directory<'a>(
+    call: &mut Option<CallMachine<'a>>,
+    directory: &mut Directory,
+    book: &Book,
+) -> Snapshot<CallMachine<'a>>
+    requires goes { GoesToDirectory call.old directory.old }
+    requires book { IfSome call.old (λ c. book.now ≡ c.call.book) }
+    requires padded { ArePadded directory.old }
+    ensures made { IsMadeThere result.value call.old directory.old call.new directory.new }
+    ensures book { directory.new.book ≡ directory.old.book }
+{
+    match call {
+        Some(call) => {
+            call.on_directory(directory, book);
+            Snapshot::of(call)
+        }
+        None => unreachable!(),
+    }
+}
+
+/// The step of the call in work at the server that it needs, and the call as the step leaves it.
+pub(crate) fn step_at_server<'a>(
+    call: &mut Option<CallMachine<'a>>,
+    server: &mut Server,
+) -> Snapshot<CallMachine<'a>>
+    requires goes { GoesToServer call.old server.old }
+    ensures made { IsMadeHere result.value call.old server.old call.new server.new }
+    ensures same { IsSame server.old server.new }
+{
+    match call {
+        Some(call) => {
+            call.on_server(server);
+            Snapshot::of(call)
+        }
+        None => unreachable!(),
+    }
+}

@@ -1,0 +1,56 @@
+-- What a call of one machine leaves of clauses that speak of all.
+use Rattle.std.proofs.Common.{◌≡◌, ℕ, replicate, None, sym, ap, subst, ◌∙◌}
+use Rattle.store_map.specs.declared.call.Call.{Call}
+use Rattle.stripe_dir.specs.Sealed.{Sealed}
+use Rattle.call_steps.specs.CallOf.{taken_of}
+use Rattle.gather_parts.proofs.Counts.{none_taken}
+use Rattle.client_put.specs.Puts.{PutOf}
+use Rattle.client_patch.specs.Patches.{PatchOf}
+use Rattle.client_patch.specs.Known.{KnowsOld}
+use Rattle.call_machine.specs.Kinds.{Asked, Machine, client_machine, machine_of, IfReads, IfPatches}
+use Rattle.call_machine.specs.Calls.{MachineOf, patch_of, KnowsFor, KnowsOldOf}
+use Rattle.call_machine.specs.Inside.{asked_by, call_by, call_in, IsOfKind}
+use Rattle.call_machine.specs.declared.call_machine.Kind.{Kind}
+use Rattle.call_machine.specs.declared.call_machine.Kind.TheVariants as kind
+use Rattle.call_machine.specs.declared.call_machine.CallMachine.TheInside.{Inside}
+
+-- a put has taken nothing
+pub took_nothing : (a : Inside) (c : MachineOf) (put : PutOf) (servers : ℕ) → call_in a ≡ c → a.kind ≡ kind.Put put → put.call.takes ≡ replicate {A = ℕ} servers 0 → None ≡ taken_of c.call.takes
+took_nothing a c put servers view is nothing =
+    sym (none_taken servers) ∙ ap taken_of (sym nothing ∙ ap (λ (k : Kind). (call_by k (asked_by a.task)).call.takes) (sym is) ∙ ap (λ (v : MachineOf). v.call.takes) view)
+
+-- what a machine that neither writes nor deletes need not know
+pub others_know : (d : Sealed) (c : MachineOf) (asked : Asked) (m : Machine) → machine_of asked ≡ m → IfPatches m ⊥ → KnowsFor asked d c
+others_know d c (Asked.OfRepairer rebuild) m is none = tt
+others_know d c (Asked.OfClient written) Machine.Reads is none = subst (λ (m : Machine). IfPatches m (KnowsOld d (patch_of c written))) (sym is) tt
+others_know d c (Asked.OfClient written) Machine.Puts is none = subst (λ (m : Machine). IfPatches m (KnowsOld d (patch_of c written))) (sym is) tt
+others_know d c (Asked.OfClient written) Machine.Rebuilds is none = subst (λ (m : Machine). IfPatches m (KnowsOld d (patch_of c written))) (sym is) tt
+others_know d c (Asked.OfClient written) Machine.Patches is none = absurd none
+
+-- of what a machine of writes is asked
+knows_as : (d : Sealed) (patch next : PatchOf) → client_machine patch.written ≡ Machine.Patches → next.written ≡ patch.written
+    → (KnowsOld d patch → KnowsOld d next)
+    → KnowsFor (Asked.OfClient patch.written) d (call_by (kind.Patch patch) (Asked.OfClient patch.written))
+    → KnowsFor (Asked.OfClient patch.written) d (call_by (kind.Patch next) (Asked.OfClient patch.written))
+knows_as d patch next its same knows was =
+    let old : KnowsOld d patch = subst (λ (m : Machine). IfPatches m (KnowsOld d patch)) its was in
+    subst (λ (m : Machine). IfPatches m (KnowsOld d (record next { written = patch.written }))) (sym its)
+    (subst (KnowsOld d) (λ i. record next { written = same i }) (knows old))
+
+-- a write knows what its machine knows
+pub patch_knows : (d : Sealed) (a : Inside) (c : MachineOf) (patch next : PatchOf) → call_in a ≡ c → a.kind ≡ kind.Patch patch → IsOfKind a.kind (asked_by a.task) → next.written ≡ patch.written
+    → (KnowsOld d patch → KnowsOld d next) → KnowsOldOf d c → KnowsOldOf d (call_by (kind.Patch next) (asked_by a.task))
+patch_knows d a c patch next view is of_kind same knows holds =
+    let its : IsOfKind (kind.Patch patch) (asked_by a.task) = subst (λ (k : Kind). IsOfKind k (asked_by a.task)) is of_kind in
+    let was : KnowsOldOf d (call_by (kind.Patch patch) (asked_by a.task)) = subst (λ (k : Kind). KnowsOldOf d (call_by k (asked_by a.task))) is (subst (KnowsOldOf d) (sym view) holds) in
+    let old : KnowsFor (Asked.OfClient patch.written) d (call_by (kind.Patch patch) (Asked.OfClient patch.written)) =
+    subst (λ (w : Asked). KnowsFor w d (call_by (kind.Patch patch) w)) (sym its.1) was in
+    let machine : client_machine patch.written ≡ Machine.Patches = ap machine_of its.1 ∙ its.0 in
+    subst (λ (w : Asked). KnowsFor w d (call_by (kind.Patch next) w)) its.1 (knows_as d patch next machine same knows old)
+
+-- what a machine of reads owes holds of all
+pub if_reads : {P : Type 0} (m : Machine) → P → IfReads m P
+if_reads Machine.Reads holds = holds
+if_reads Machine.Puts holds = tt
+if_reads Machine.Patches holds = tt
+if_reads Machine.Rebuilds holds = tt

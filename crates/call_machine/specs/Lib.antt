@@ -1,0 +1,4 @@
+pub mod Kinds
+pub mod Calls
+pub mod Inside
+pub mod Ends

@@ -1,0 +1,280 @@
+//! A call in work, of any kind: of a client, or a rebuild of a repairer.
+ghost use Rattle.std.specs.Prelude.{◌≡◌, ◌<◌, ◌≤◌, ◌++◌, ℕ, List, false, replicate};
+ghost use Rattle.std.specs.Option.{option_map};
+ghost use Rattle.clay_grid.specs.Shape.{chunk_count};
+ghost use Rattle.store_core.specs.Act.{Act};
+ghost use Rattle.store_core.specs.Agreement.{Agrees, ActorToken};
+ghost use Rattle.store_resume.specs.State.{State};
+ghost use Rattle.chunk_server.specs.Core.{core_of};
+ghost use Rattle.chunk_server.specs.State.{IsSame};
+ghost use Rattle.call_steps.specs.Steps.{IfServer};
+ghost use Rattle.stripe_dir.specs.Sealed.{Sealed};
+ghost use Rattle.call_steps.specs.CallOf.{act_of, taken_of};
+ghost use Rattle.call_steps.specs.Steps.{need_of, stepped_at_directory, stepped_at_server, coded, HoldsItsPass, IsDueInPass, MayMakeNext};
+ghost use Rattle.world_lines.specs.Outcomes.{call_outcome_of};
+ghost use Rattle.call_steps.specs.Callers.{IsOfScript};
+ghost use Rattle.client_patch.specs.Padded.{ArePadded};
+ghost use Rattle.call_machine.specs.Kinds.{Asked, client_machine, machine_of, IfReads, IfDraws, IfPuts, IfPatches, UnlessPatches};
+ghost use Rattle.call_machine.specs.Calls.{first_call, drawn_by, owed_by, KnowsOldOf};
+ghost use Rattle.call_machine.specs.Ends.{IfBytesServed};
+
+use crate::ends::{of_client, of_rebuild};
+use call_steps::Need;
+use chunk_server::Server;
+use clay_repair::Coder;
+use client_patch::PatchCall;
+use client_put::PutCall;
+use client_read::ReadCall;
+use read_ledger::Takes;
+use repairer::RepairCall;
+use std::alloc::Global;
+use std::marker::Model;
+use std::thread::Threads;
+use store_map::{Actor, Call, Rebuild};
+use stripe_dir::{Directory, Seat};
+use version_seal::{Book, Opening};
+use world_lines::CallOutcome;
+
+// The machine of its kind.
+enum Kind<'a> {
+    Read(ReadCall<'a>),
+    Put(PutCall<'a>),
+    Patch(PatchCall<'a>),
+    Rebuild(RepairCall<'a>),
+}
+
+// What is asked.
+#[derive(Clone, Copy)]
+enum Task<'a> {
+    Call(&'a Call),
+    Rebuild(&'a Rebuild),
+}
+
+/// A call in work, of a client or of a repairer. It has to be finished or abandoned.
+pub struct CallMachine<'a> {
+    kind: Kind<'a>,
+    task: Task<'a>,
+}
+
+impl<'a> Model for CallMachine<'a> {
+    ghost use Rattle.call_machine.specs.Calls.{MachineOf};
+
+    ghost Value = { MachineOf };
+
+    ghost use Rattle.call_machine.specs.Inside.{call_in, IsCallMachine};
+
+    ghost view = { call_in };
+
+    ghost invariant = { IsCallMachine };
+}
+
+impl<'a> CallMachine<'a> {
+    /// A call of the client of this number, which is in no call, under an unused number of its own. In
+    /// a book with a script what puts, writes or deletes is the script's call of that number. A write is
+    /// tried so often. It takes no memory.
+    pub fn client(
+        alloc: Global,
+        seat: Seat,
+        client: u32,
+        number: u32,
+        call: &'a Call,
+        opening: Opening,
+        tries: u32,
+    ) -> CallMachine<'a>
+        requires own { seat.actor ≡ Actor.Client client }
+        requires unused { seat.unused ≤ number }
+        requires tries { IfPatches (client_machine call.now) (0 < tries) }
+        requires script { IfDraws (client_machine call.now) (IsOfScript opening (Actor.Client client) number call.now) }
+        ensures { result ≡ first_call opening tries seat number (Asked.OfClient call.now) }
+    {
+        let actor = Actor::Client(client);
+        let task = Task::Call(call);
+        match call {
+            Call::Put { .. } => {
+                let put = PutCall::new(alloc, seat, actor, number, call, opening);
+                CallMachine {
+                    kind: Kind::Put(put),
+                    task,
+                }
+            }
+            Call::Write { .. } | Call::Delete { .. } => {
+                let patch = PatchCall::new(alloc, seat, actor, number, call, opening, tries);
+                CallMachine {
+                    kind: Kind::Patch(patch),
+                    task,
+                }
+            }
+            _ => {
+                let read = ReadCall::new(alloc, seat, number, call, opening);
+                CallMachine {
+                    kind: Kind::Read(read),
+                    task,
+                }
+            }
+        }
+    }
+
+    /// A rebuild of a repairer, which is in no call, under an unused number of its own. It takes no
+    /// memory.
+    pub fn rebuild(
+        seat: Seat,
+        repairer: u32,
+        number: u32,
+        rebuild: &'a Rebuild,
+        opening: Opening,
+    ) -> CallMachine<'a>
+        requires own { seat.actor ≡ Actor.Repairer repairer }
+        requires unused { seat.unused ≤ number }
+        requires server { rebuild.now.server < chunk_count opening.geometry }
+        ensures { (tries : ℕ) → result ≡ first_call opening tries seat number (Asked.OfRepairer rebuild.now) }
+    {
+        let call = RepairCall::new(seat, number, rebuild, opening);
+        CallMachine {
+            kind: Kind::Rebuild(call),
+            task: Task::Rebuild(rebuild),
+        }
+    }
+
+    /// Where the call has to go on.
+    pub fn need(&self) -> Need
+        ensures need { result ≡ need_of self.now.call }
+        ensures in_pass { IsDueInPass self.now.call }
+        ensures pass { HoldsItsPass self.now.call }
+        ensures may { MayMakeNext self.now.call }
+        ensures below { IfServer result (λ server. server < chunk_count self.now.call.book.geometry) }
+    {
+        match &self.kind {
+            Kind::Read(read) => read.need(),
+            Kind::Put(put) => put.need(),
+            Kind::Patch(patch) => patch.need(),
+            Kind::Rebuild(rebuild) => rebuild.need(),
+        }
+    }
+
+    /// One step at the directory of this book. What it draws is sealed in the book. A write or a delete
+    /// asks that behind the ends of the directory's objects its stamps have zeros, and that it knows the
+    /// old bytes that it keeps.
+    pub fn on_directory(&mut self, directory: &mut Directory, book: &Book)
+        requires need { need_of self.old.call ≡ Need.Directory }
+        requires agrees { Agrees directory.old.core self.old.call.token }
+        requires its { directory.old.book ≡ self.old.call.book }
+        requires book { IfDraws (machine_of self.old.asked) (book.now ≡ self.old.call.book) }
+        requires padded { IfPatches (machine_of self.old.asked) (ArePadded directory.old) }
+        requires knows { KnowsOldOf directory.old self.old }
+        ensures step { (directory.new.core, self.new.call)
+            ≡ stepped_at_directory self.new.call.step self.new.call.due self.old.call directory.old.core }
+        ensures agrees { Agrees directory.new.core self.new.call.token }
+        ensures knows { KnowsOldOf directory.new self.new }
+        ensures asked { self.new.asked ≡ self.old.asked }
+        ensures owed { self.new.owed ≡ owed_by self.new.call.step directory.old self.old }
+        ensures book { directory.new.book ≡ directory.old.book }
+        ensures stamps { directory.new.stamps
+            ≡ directory.old.stamps ++ drawn_by self.new.call.step directory.old self.old }
+    {
+        match &mut self.kind {
+            Kind::Read(read) => read.on_directory(directory),
+            Kind::Put(put) => put.on_directory(directory, book),
+            Kind::Patch(patch) => patch.on_directory(directory, book),
+            Kind::Rebuild(rebuild) => rebuild.on_directory(directory),
+        }
+    }
+
+    /// One step at the server that is needed.
+    pub fn on_server(&mut self, s: &mut Server)
+        requires need { need_of self.old.call ≡ Need.Server s.old.number }
+        requires book { s.old.book ≡ self.old.call.book }
+        ensures step { (core_of s.new, self.new.call)
+            ≡ stepped_at_server self.new.call.step self.new.call.due self.old.call (core_of s.old) }
+        ensures knows { (d : Sealed) → KnowsOldOf d self.old → KnowsOldOf d self.new }
+        ensures asked { self.new.asked ≡ self.old.asked }
+        ensures owed { self.new.owed ≡ self.old.owed }
+        ensures same { IsSame s.old s.new }
+    {
+        match &mut self.kind {
+            Kind::Read(read) => read.on_server(s),
+            Kind::Put(put) => put.on_server(s),
+            Kind::Patch(patch) => patch.on_server(s),
+            Kind::Rebuild(rebuild) => rebuild.on_server(s),
+        }
+    }
+
+    /// The coding before the next step. It makes no step. Afterwards the call tells whether memory was
+    /// wanting in it.
+    pub fn on_coder<R: Threads + Sync, C: Coder>(&mut self, rt: &R, coder: &C)
+        requires { need_of self.old.call ≡ Need.Coder }
+        ensures coded { self.new.call ≡ coded self.new.call.coding self.old.call }
+        ensures knows { (d : Sealed) → KnowsOldOf d self.old → KnowsOldOf d self.new }
+        ensures asked { self.new.asked ≡ self.old.asked }
+        ensures owed { self.new.call.coding ≡ false → self.new.owed ≡ self.old.owed }
+    {
+        match &mut self.kind {
+            Kind::Read(read) => read.on_coder(rt, coder),
+            Kind::Put(put) => put.on_coder(rt, coder),
+            Kind::Patch(patch) => patch.on_coder(rt, coder),
+            Kind::Rebuild(rebuild) => rebuild.on_coder(rt, coder),
+        }
+    }
+
+    /// What it has taken, or none where it has taken nothing.
+    pub fn takes(&self) -> Option<&Takes>
+        ensures takes { option_map (λ takes. takes.now) result ≡ taken_of self.now.call.takes }
+        ensures nothing { IfPuts (machine_of self.now.asked) (self.now.call.takes ≡ replicate (chunk_count self.now.call.book.geometry) 0) }
+    {
+        match &self.kind {
+            Kind::Read(read) => read.takes(),
+            Kind::Put(put) => put.takes(),
+            Kind::Patch(patch) => patch.takes(),
+            Kind::Rebuild(rebuild) => rebuild.takes(),
+        }
+    }
+
+    /// The seat of the actor whose call is over, how it ended, and what it has taken, or none where it
+    /// has taken nothing.
+    pub fn finish(self) -> (Seat, CallOutcome, Option<Takes>)
+        requires { need_of self.call ≡ Need.Finished }
+        ensures seat { ActorToken.Seated result.0 ≡ self.entry.call.token }
+        ensures outcome { act_of self.entry.call ≡ Act.Finish (call_outcome_of result.1) }
+        ensures state { UnlessPatches (machine_of self.entry.asked) (self.entry.call.state.at ≡ State.Finished (call_outcome_of result.1)) }
+        ensures served { IfReads (machine_of self.entry.asked) (IfBytesServed result.1 (λ bytes. bytes.items ≡ self.entry.owed)) }
+        ensures takes { result.2 ≡ taken_of self.entry.call.takes }
+    {
+        let CallMachine { kind, task: _ } = self;
+        match kind {
+            Kind::Read(read) => {
+                let (seat, outcome, takes) = read.finish();
+                (seat, of_client(outcome), takes)
+            }
+            Kind::Put(put) => {
+                let (seat, outcome, takes) = put.finish();
+                (seat, of_client(outcome), takes)
+            }
+            Kind::Patch(patch) => {
+                let (seat, outcome, takes) = patch.finish();
+                (seat, of_client(outcome), takes)
+            }
+            Kind::Rebuild(rebuild) => {
+                let (seat, outcome, takes) = rebuild.finish();
+                (seat, of_rebuild(outcome), takes)
+            }
+        }
+    }
+
+    /// Leaves the directory in the middle of the call: what it has taken, or none where it has taken
+    /// nothing.
+    pub fn abandon(self) -> Option<Takes>
+        ensures { result ≡ taken_of self.entry.call.takes }
+    {
+        let CallMachine { kind, task: _ } = self;
+        match kind {
+            Kind::Read(read) => read.abandon(),
+            Kind::Put(put) => {
+                // That it has taken nothing is needed below.
+                let _ = put.takes();
+                put.leave();
+                None
+            }
+            Kind::Patch(patch) => patch.abandon(),
+            Kind::Rebuild(rebuild) => rebuild.abandon(),
+        }
+    }
+}

@@ -1,0 +1,7 @@
+//! A call in work, of any kind: the one machine that the layers above make steps with.
+#![tactic(auto)]
+
+mod call_machine;
+mod ends;
+
+pub use call_machine::CallMachine;

@@ -1,0 +1,5 @@
+use Rattle.clay_aloof.proofs.Layer.{HoldsSums}
+use Rattle.clay_aloof.proofs.layers.solve_layer.Given as goal
+
+abbrev pub invariant-loop-node : goal.invariant-loop-node
+invariant-loop-node l = HoldsSums l.g l.plan l.known l.z l.node l.rows

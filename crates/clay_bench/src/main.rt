@@ -1,0 +1,47 @@
+//! Measures parts of the store for the scripts in `bench/`: the coders, the calls of a chunk server,
+//! and steps at the directory.
+#![tactic(auto)]
+
+mod calls;
+mod chunks;
+mod coding;
+mod directory;
+mod least;
+mod rack;
+mod seals;
+mod steps;
+
+use anyhow::bail;
+use std::alloc::Global;
+use std::env;
+use std::thread::Threads;
+use std::time::{Clock, CpuClock};
+
+const USAGE: &str = "\
+clay_bench coder WIDTH: nanoseconds in which one thread encodes a MiB at 8 + 4
+clay_bench threads K M WIDTH ROUNDS: nanoseconds in which as many threads as there are processors encode a stripe
+clay_bench seals ROUNDS: nanoseconds of each call of a chunk server
+clay_bench directory (KIND SIZE STEPS)..: makes steps in directories of a size, to be timed from outside";
+
+fn measure<R: Threads + Sync + Clock + CpuClock + Print>(
+    rt: &R,
+    alloc: Global,
+    words: &[String],
+) -> anyhow::Result<()> {
+    let Some((what, words)) = words.split_first() else {
+        println!(rt; "{USAGE}")?;
+        return Ok(());
+    };
+    match what.as_str() {
+        "coder" => coding::time_one_thread(rt, alloc, words),
+        "threads" => coding::time_threads(rt, alloc, words),
+        "seals" => seals::time_calls(rt, alloc, words),
+        "directory" => directory::make_steps(rt, alloc, words),
+        _ => bail!("there is no such measure"),
+    }
+}
+
+fn main(rt: HostRuntime) -> anyhow::Result<()> {
+    let words: Vec<String> = env::args(&rt)?.skip(1).collect(rt.alloc())?;
+    measure(&rt, rt.alloc(), &words)
+}

@@ -1,0 +1,157 @@
+//! The steps that are timed.
+
+use crate::calls::{delete, put, read, stat, write};
+use anyhow::bail;
+use dir_walks::caller::Step;
+use dir_walks::store::Store;
+use std::alloc::Global;
+use store_map::Call;
+
+/// What is made many times.
+#[derive(Clone, Copy)]
+pub enum Kind {
+    /// A write over the middle stripe of an object.
+    Write,
+    /// A read of it.
+    Read,
+    /// A write of a stripe behind the end.
+    Append,
+    /// A put of all stripes.
+    Put,
+    /// A delete of the oldest object, which is put again.
+    Renew,
+    Stat,
+}
+
+impl Kind {
+    /// By its word.
+    pub fn named(word: &str) -> Option<Kind> {
+        match word {
+            "write" => Some(Kind::Write),
+            "read" => Some(Kind::Read),
+            "append" => Some(Kind::Append),
+            "put" => Some(Kind::Put),
+            "renew" => Some(Kind::Renew),
+            "stat" => Some(Kind::Stat),
+            _ => None,
+        }
+    }
+}
+
+fn step(store: &mut Store<'_>, step: Step<'_>) -> anyhow::Result<()> {
+    match store.first(step) {
+        Ok(_answer) => Ok(()),
+        Err(refusal) => bail!("a step isn't made: {refusal:?}"),
+    }
+}
+
+// Makes a call to its end. Each call has one point, so that the count of points is an unused number.
+fn make(store: &mut Store<'_>, call: &Call) -> anyhow::Result<()> {
+    let number = u32::try_from(store.directory().points())?;
+    step(store, Step::Look { number, call })?;
+    match call {
+        Call::Put { .. } | Call::Write { .. } => {
+            step(store, Step::Draw)?;
+            step(store, Step::Commit)
+        }
+        Call::Get { .. } | Call::ReadAt { .. } => step(store, Step::End),
+        Call::Stat { .. } | Call::Delete { .. } => Ok(()),
+    }
+}
+
+// A call to its end, which isn't kept.
+fn make_new(store: &mut Store<'_>, call: Call) -> anyhow::Result<()> {
+    make(store, &call)
+}
+
+// Sweeps all garbage: so many versions.
+fn sweep(store: &mut Store<'_>) -> u64 {
+    let mut swept: u64 = 0;
+    for _ in 0..u64::MAX {
+        let Some(version) = store.next_garbage() else {
+            return swept;
+        };
+        store.swept(version);
+        swept = swept.saturating_add(1);
+    }
+    swept
+}
+
+// A call so many times, swept after each.
+fn repeat(store: &mut Store<'_>, call: &Call, steps: u32) -> anyhow::Result<u64> {
+    let mut swept: u64 = 0;
+    for _ in 0..steps {
+        make(store, call)?;
+        swept = swept.saturating_add(sweep(store));
+    }
+    Ok(swept)
+}
+
+// A call so many times, which isn't kept.
+fn repeat_new(store: &mut Store<'_>, call: Call, steps: u32) -> anyhow::Result<u64> {
+    repeat(store, &call, steps)
+}
+
+// So many writes of a stripe, each behind the object's end.
+fn append(alloc: Global, store: &mut Store<'_>, stripes: u32, steps: u32) -> anyhow::Result<u64> {
+    for step in 0..steps {
+        make_new(store, write(alloc, 0, stripes.saturating_add(step))?)?;
+    }
+    Ok(sweep(store))
+}
+
+// So many objects of a stripe.
+fn put_all(alloc: Global, store: &mut Store<'_>, objects: u32) -> anyhow::Result<u64> {
+    for object in 0..objects {
+        make_new(store, put(alloc, object, 1)?)?;
+    }
+    Ok(0)
+}
+
+// So many times the oldest object is deleted and put again, as the newest.
+fn renew(alloc: Global, store: &mut Store<'_>, objects: u32, steps: u32) -> anyhow::Result<u64> {
+    let mut swept: u64 = 0;
+    for step in 0..steps {
+        let Some(oldest) = step.checked_rem(objects) else {
+            bail!("there are no objects");
+        };
+        make_new(store, delete(alloc, oldest)?)?;
+        make_new(store, put(alloc, oldest, 1)?)?;
+        swept = swept.saturating_add(sweep(store));
+    }
+    Ok(swept)
+}
+
+// The call that is repeated, of an object of so many stripes.
+fn repeated(alloc: Global, kind: Kind, stripes: u32) -> anyhow::Result<Call> {
+    match kind {
+        Kind::Write => write(alloc, 0, stripes / 2),
+        Kind::Read => read(alloc, 0, stripes / 2),
+        Kind::Stat => stat(alloc, 0),
+        _ => put(alloc, 0, stripes),
+    }
+}
+
+/// Makes a directory of this size: an object's stripes, objects or points.
+pub fn prepare(alloc: Global, store: &mut Store<'_>, kind: Kind, size: u32) -> anyhow::Result<u64> {
+    match kind {
+        Kind::Renew => put_all(alloc, store, size),
+        Kind::Stat => repeat_new(store, stat(alloc, 0)?, size),
+        _ => repeat_new(store, put(alloc, 0, size)?, 1),
+    }
+}
+
+/// So many steps of a kind in a directory of this size: how many versions were swept.
+pub fn work(
+    alloc: Global,
+    store: &mut Store<'_>,
+    kind: Kind,
+    size: u32,
+    steps: u32,
+) -> anyhow::Result<u64> {
+    match kind {
+        Kind::Append => append(alloc, store, size, steps),
+        Kind::Renew => renew(alloc, store, size, steps),
+        _ => repeat_new(store, repeated(alloc, kind, size)?, steps),
+    }
+}

@@ -1,0 +1,88 @@
+-- Chunks that are written to their places, and what stays of the others.
+use Rattle.std.proofs.Common.{◌≡◌, ◌≢◌, ℕ, zero, suc, subst, ◌+◌, ◌*◌, ◌<◌, true, false, List, [], ◌∷◌, length, get_or, take, drop, filter, count_by, Option, Some, None, is_none, is_some, Vec, Global, inl, inr, refl, sym, ap, ◌∙◌, arith}
+use Rattle.std.proofs.lemmas.Bool.{true≢false, cases_lt, cases_eq}
+use Rattle.std.proofs.lemmas.List.{get_or-take, get_or-drop}
+use Rattle.std.proofs.lemmas.List.Sums.{length-filter}
+use borrow.Rule.Slice.PartMut.{put_mid}
+use Rattle.clay_grid.specs.Shape.{Shape, chunk_count, chunk_length}
+use Rattle.clay_encode.proofs.Parts.{piece_fits, place_below, put_mid_before, put_mid_past, put_mid_within}
+use Rattle.clay_decode.specs.Left.{Completes}
+use Rattle.clay_lanes.specs.Recovered.{HoldsByte}
+use Rattle.clay_lanes.specs.Places.{HoldsPlace, KeepsPlaces, AreFilled}
+
+pub gone_of : (o : Option (Vec ℕ Global)) → is_some o ≡ false → is_none o ≡ true
+gone_of None h = refl
+gone_of (Some v) h = absurd (true≢false h)
+
+pub places_stay : (g : Shape) (have : List (Option (Vec ℕ Global))) (xs : List ℕ) → KeepsPlaces g have xs xs
+places_stay g have xs = record { right = λ c p hc hp h. h; there = λ c p hc hp h. refl }
+
+pub places_then : (g : Shape) (have : List (Option (Vec ℕ Global))) (xs ys zs : List ℕ) → KeepsPlaces g have xs ys → KeepsPlaces g have ys zs → KeepsPlaces g have xs zs
+places_then g have xs ys zs a b = record {
+  right = λ c p hc hp h. b.right c p hc hp (a.right c p hc hp h);
+  there = λ c p hc hp h. b.there c p hc hp h ∙ a.there c p hc hp h;
+}
+
+-- the piece from a on is chunk c's place, and another chunk's byte stays
+other_place : (n len c a k : ℕ) (xs ys : List ℕ) → a ≡ c * len → k ≡ len → c < n → length xs ≡ n * len → length ys ≡ len
+    → (i p : ℕ) → i ≢ c → i < n → p < len → get_or (put_mid a k xs ys) (i * len + p) 0 ≡ get_or xs (i * len + p) 0
+other_place n len c a k xs ys start size inside all long i p differ hi hp =
+    let fits = piece_fits c n len inside in
+    elim (cases_lt i c) [
+      | inl early ↦
+          let before = place_below i c len p early hp in
+          put_mid_before a k xs ys (i * len + p) (omega (arith, start, fits, all)) (omega (arith, start, before))
+      | inr late ↦
+          let past : c < i = omega (arith, late, differ) in
+          let after = piece_fits c i len past in
+          put_mid_past a k xs ys (i * len + p) (omega (arith, start, size, fits, all)) (long ∙ sym size) (omega (arith, start, size, after))
+    ]
+
+module _ (g : Shape) (have : List (Option (Vec ℕ Global))) (c a k : ℕ) (xs ys : List ℕ) (start : a ≡ c * chunk_length g) (size : k ≡ chunk_length g)
+    (inside : c < chunk_count g) (all : length xs ≡ chunk_count g * chunk_length g) (long : length ys ≡ chunk_length g) where
+  -- a byte of the piece that was there
+  byte_of : (p : ℕ) → p < chunk_length g → HoldsPlace g have c xs p → HoldsByte (λ word. Completes g have word) c (take k (drop a xs)) p
+  byte_of p hp h = record {
+    at = λ word fits.
+        get_or-take k (drop a xs) p 0 (omega (arith, size, hp))
+        ∙ get_or-drop a xs p 0
+        ∙ ap (λ s. get_or xs (s + p) 0) start
+        ∙ h.at word fits;
+  }
+
+  pub place_written : (p : ℕ) → p < chunk_length g → HoldsByte (λ word. Completes g have word) c ys p → HoldsPlace g have c (put_mid a k xs ys) p
+  place_written p hp h =
+      let room = piece_fits c (chunk_count g) (chunk_length g) inside in
+      record {
+        at = λ word fits.
+            ap (λ s. get_or (put_mid a k xs ys) (s + p) 0) (sym start)
+            ∙ put_mid_within a k xs ys p (omega (arith, start, room, all)) (omega (arith, long, hp))
+            ∙ h.at word fits;
+      }
+
+  pub places_kept : is_none (get_or have c None) ≡ true
+      → ((p : ℕ) → HoldsByte (λ word. Completes g have word) c (take k (drop a xs)) p → HoldsByte (λ word. Completes g have word) c ys p)
+      → KeepsPlaces g have xs (put_mid a k xs ys)
+  places_kept none kept = record {
+    right = λ i p hi hp h. elim (cases_eq i c) [
+      | inl same ↦
+          subst (λ n. HoldsPlace g have n (put_mid a k xs ys) p) (sym same)
+          (place_written p hp (kept p (byte_of p hp (subst (λ n. HoldsPlace g have n xs p) same h))))
+      | inr differ ↦ record { at = λ word fits. other_place (chunk_count g) (chunk_length g) c a k xs ys start size inside all long i p differ hi hp ∙ h.at word fits }
+    ];
+    there = λ i p hi hp some.
+        other_place (chunk_count g) (chunk_length g) c a k xs ys start size inside all long i p (λ e. some (ap (λ n. is_none (get_or have n None)) e ∙ none)) hi hp;
+  }
+
+none_missing : (have : List (Option (Vec ℕ Global))) → length (filter is_none have) ≡ 0 → (c : ℕ) → c < length have → is_none (get_or have c None) ≡ true → ⊥
+none_missing [] none c h gone = omega (arith, h)
+none_missing (None ∷ have) none c h gone = omega (arith, none)
+none_missing (Some v ∷ have) none zero h gone = true≢false (sym gone)
+none_missing (Some v ∷ have) none (suc c) h gone = none_missing have none c (omega (arith, h)) gone
+
+-- where no chunk is missing nothing is to be written
+pub filled_already : (g : Shape) (have : List (Option (Vec ℕ Global))) (xs : List ℕ) → length have ≡ chunk_count g → count_by is_none have ≡ 0 → AreFilled g have xs xs
+filled_already g have xs count none = record {
+  missing = λ c p hc hp gone. absurd (none_missing have (length-filter is_none have ∙ none) c (omega (arith, hc, count)) gone);
+  there = λ c p hc hp some. refl;
+}

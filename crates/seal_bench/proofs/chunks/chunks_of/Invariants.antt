@@ -1,6 +1,0 @@
-use Rattle.std.proofs.Common.{◌≡◌, IfOk, All, None, ℕ, length}
-use Rattle.chunk_server.specs.Valid.{IsFor}
-use Rattle.seal_bench.proofs.chunks.chunks_of.Given as goal
-
-abbrev pub invariant-loop-version : goal.invariant-loop-version
-invariant-loop-version l = All (IsFor l.fn.book.home 0 l.fn.geometry) l.chunks.items

@@ -1,2 +1,0 @@
-pub mod Racks
-pub mod Inside

@@ -1,0 +1,10 @@
+use denote.Param.Send.{sendable}
+use Rattle.store_crossing.proofs.Callers.{caller_send}
+use Rattle.store_crossing.proofs.Scripts.{script_sync}
+use Rattle.store_crossing.proofs.callers_cross.Goals as goal
+
+pub for_each_mut-requires-send-T : goal.for_each_mut-requires-send-T
+for_each_mut-requires-send-T g c κs within = search (sendable, caller_send)
+
+pub for_each_mut-requires-sync-F : goal.for_each_mut-requires-sync-F
+for_each_mut-requires-sync-F g c κs within = search (sendable, script_sync) depth 20

@@ -1,0 +1,10 @@
+use denote.Param.Send.{sendable}
+use Rattle.store_crossing.proofs.Books.{book_sync}
+use Rattle.store_crossing.proofs.Servers.{server_send}
+use Rattle.store_crossing.proofs.servers_cross.Goals as goal
+
+pub for_each_mut-requires-send-T : goal.for_each_mut-requires-send-T
+for_each_mut-requires-send-T g c κs within = search (sendable, server_send)
+
+pub for_each_mut-requires-sync-F : goal.for_each_mut-requires-sync-F
+for_each_mut-requires-sync-F g c κs within = search (sendable, book_sync) depth 20

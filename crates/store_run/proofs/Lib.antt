@@ -1,0 +1,13 @@
+pub mod Holding
+pub mod PlainSteps
+pub mod Sweeping
+pub mod Operating
+pub mod Fits
+pub mod Knowing
+pub mod ServerSteps
+pub mod DirectorySteps
+pub mod Looking
+pub mod Seating
+pub mod Going
+pub mod Having
+pub mod Crossing

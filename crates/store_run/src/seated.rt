@@ -1,0 +1,116 @@
+//! A caller with its turns at all places of a store.
+ghost use Rattle.std.specs.Prelude.{◌≡◌, ℕ};
+ghost use Rattle.store_run.specs.Seated.{IsSeated, IsStore, MayStep, StepsOn, last_by};
+
+use crate::directory_box::DirectoryBox;
+use crate::directory_steps::step_at_directory;
+use crate::gate::Gate;
+use crate::server_box::ServerBox;
+use crate::server_steps::step_at_server;
+use crate::stepper::Stepper;
+use crate::store::Store;
+use actors::Caller;
+use call_steps::Need;
+use clay_repair::Coder;
+use std::sync::Wait;
+use std::thread::Threads;
+use store_map::Actor;
+use turn_lock::Turn;
+
+/// A client or a repairer with its turns at the directory and at each server.
+pub(crate) struct Seated<'a> {
+    pub(crate) caller: Caller<'a>,
+    pub(crate) actor: Actor,
+    // its place among the script's clients, or among its repairers
+    pub(crate) place: u32,
+    // the number of its turns
+    pub(crate) number: u32,
+    // how many steps it has made
+    pub(crate) steps: u64,
+    pub(crate) directory: Turn<DirectoryBox>,
+    pub(crate) servers: Vec<Turn<ServerBox>>,
+}
+
+impl<'a> Seated<'a> {
+    // Whose next step it is.
+    fn stepper(&self) -> Stepper
+        ensures { result ≡ record { actor = self.now.actor; number = self.now.number; steps = self.now.steps } }
+    {
+        Stepper {
+            actor: self.actor,
+            number: self.number,
+            steps: self.steps,
+        }
+    }
+
+    // The turn, after the moment that its caller names.
+    fn turn_after<R: Threads + Wait + Sync, C: Coder, G: Gate>(
+        &mut self,
+        rt: &R,
+        coder: &C,
+        gate: &G,
+        store: &Store,
+    )
+        ghost last: { ℕ }
+        requires last { last ≡ last_by store.now self.old }
+        requires may { MayStep store.now self.old }
+        ensures { StepsOn store.now self.old self.new }
+    {
+        self.caller.ready(rt, coder, self.place);
+        let stepper = self.stepper();
+        self.steps += 1;
+        match self.caller.need() {
+            Need::Directory => step_at_directory(
+                rt,
+                gate,
+                &store.directory,
+                &mut self.directory,
+                &mut self.caller,
+                store.book,
+                stepper,
+            ),
+            Need::Server(server) => step_at_server(
+                rt,
+                gate,
+                &store.servers[server as usize],
+                &mut self.servers[server as usize],
+                &mut self.caller,
+                stepper,
+            ),
+            Need::Coder | Need::Finished => unreachable!(),
+        }
+    }
+
+    /// A turn of the caller: the coding before its call's next step, if one is due, outside of all
+    /// locks, and the step.
+    pub(crate) fn turn<R: Threads + Wait + Sync, C: Coder, G: Gate>(
+        &mut self,
+        rt: &R,
+        coder: &C,
+        gate: &G,
+        store: &Store,
+    )
+        requires { MayStep store.now self.old }
+        ensures { StepsOn store.now self.old self.new }
+    {
+        self.turn_after(rt, coder, gate, store);
+    }
+
+    /// Its turn, where it has a step.
+    pub(crate) fn visit<R: Threads + Wait + Sync, C: Coder, G: Gate>(
+        &mut self,
+        rt: &R,
+        coder: &C,
+        gate: &G,
+        store: &Store,
+    )
+        requires store { IsStore store.now }
+        requires seated { IsSeated store.now self.old }
+        ensures { IsSeated store.now self.new }
+    {
+        if !self.caller.has_step() {
+            return;
+        }
+        self.turn(rt, coder, gate, store);
+    }
+}

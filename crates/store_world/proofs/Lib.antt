@@ -1,0 +1,16 @@
+pub mod Lists
+pub mod Knowing
+pub mod Keeping
+pub mod Callers
+pub mod Clients
+pub mod Repairers
+pub mod Places
+pub mod Rounds
+pub mod Drains
+pub mod Padding
+pub mod Seating
+pub mod First
+pub mod Results
+pub mod Few
+pub mod Ended
+pub mod Playing

@@ -1,0 +1,140 @@
+-- A repairer's turn in the world.
+use Rattle.std.proofs.Common.{◌≡◌, ℕ, Bool, true, false, List, [], length-set, map, set, slice_get, Option, None, Some, refl, sym, ap, subst, ◌∙◌}
+use Rattle.store_map.specs.declared.actor.Actor.TheVariants as actor
+use Rattle.store_map.specs.declared.actor.Token.TheVariants as token
+use Rattle.store_map.specs.declared.script.RepairPart.{RepairPart}
+use Rattle.store_map.specs.declared.script.Script.{Script}
+use Rattle.store_core.specs.NextAct.{rebuild_job}
+use Rattle.store_core.specs.Run.{repairer_step}
+use Rattle.store_core.specs.Work.{repairer_work, has_step}
+use Rattle.version_seal.specs.Entry.{BookOf}
+use Rattle.chunk_server.specs.State.{ServerState}
+use Rattle.chunk_server.specs.Core.{core_of}
+use Rattle.dir_parts.proofs.Entries.{map-set, slice_get-map}
+use Rattle.stripe_dir.specs.Sealed.{Sealed}
+use Rattle.world_steps.specs.World.{ActorOf, WorldOf, with_repairer}
+use Rattle.world_steps.specs.Known.{calling_of}
+use Rattle.world_steps.specs.Tokens.{KeepsToken}
+use Rattle.world_steps.proofs.TurnLaws.{repairers_make_turns}
+use Rattle.world_steps.specs.Goes.{Leads}
+use Rattle.world_steps.proofs.Few.{worlds_make_few_steps}
+use Rattle.actors.specs.Turns.{AreServers, places_of}
+use Rattle.actors.specs.Turned.{MakesTurn, Leads as ActorLeads, with_places}
+use Rattle.actors.specs.LeadLaws.{AllTurnsLead}
+use Rattle.actors.specs.Callers.{PartOf, CallerOf, StandsIn, Knows, who_of, work_of}
+use Rattle.actors.specs.CallerTurns.{MakesCallerTurn, HasMore}
+use Rattle.world_owes.specs.ServeLaws.{HasMorePoints}
+use Rattle.world_owes.proofs.Grow.{histories_grow}
+use Rattle.world_owes.proofs.Serving.{clients_go_on_serving}
+use Rattle.store_world.specs.Having.{caller_has}
+use Rattle.store_world.specs.Stored.{StoredWorld, world_of}
+use Rattle.store_world.specs.Kept.{IsRepairerAt, IsClientAt, IsWorld}
+use Rattle.store_world.proofs.Callers.{HasTurnNow, may_turn}
+use Rattle.store_world.proofs.Keeping.{caller_stays, changed, kept_by}
+use Rattle.store_world.proofs.Lists.{each_set, below, read_back, map_none}
+
+module _ (s : StoredWorld) (is : IsWorld s) (i : ℕ) (c : CallerOf) (there : slice_get s.repairers i ≡ Some c) where
+  pub at : IsRepairerAt s.script s.book s.directory i c
+  at = is.repairers.each i c there
+
+  pub actor_there : slice_get (world_of s).repairers i ≡ Some c.actor
+  actor_there = slice_get-map (λ (client : CallerOf). client.actor) s.repairers i c there
+
+  pub work_there : slice_get (repairer_work s.script) i ≡ Some (work_of c.part)
+  work_there =
+      slice_get-map (λ (part : RepairPart). record { jobs = map rebuild_job part.calls; leave = part.leave }) s.script.repairers i (is.repairers.each i c there).part
+      (subst (StandsIn s.script i) (is.repairers.each i c there).is_part (is.repairers.each i c there).at.its)
+      ∙ ap (λ (p : PartOf). Some (work_of p)) (sym (is.repairers.each i c there).is_part)
+
+  pub ready : has_step (work_of c.part) (calling_of s.script c.actor) ≡ true → HasTurnNow s i c
+  ready has =
+      let of : IsRepairerAt s.script s.book s.directory i c = is.repairers.each i c there in
+      let actor_is : slice_get (world_of s).repairers i ≡ Some c.actor = slice_get-map (λ (client : CallerOf). client.actor) s.repairers i c there in
+      may_turn s is i c of.at
+      (subst (λ (p : PartOf). KeepsToken s.directory.core (who_of p i) c.actor) (sym of.is_part) (is.agree.repairers i c.actor actor_is))
+      ((worlds_make_few_steps s.script (world_of s) is.geometry is.valid is.reached).repairers i (work_of c.part) c.actor work_there actor_is has) has
+
+-- a client without a step
+pub idle_repairer : (s : StoredWorld) → IsWorld s → (i : ℕ) (b : Bool)
+    → ((script : Script) (c : CallerOf) → slice_get s.repairers i ≡ Some c → c.book.geometry ≡ script.geometry → b ≡ caller_has script c)
+    → b ≡ false → Leads s.script (repairer_step s.script i) (world_of s) (world_of s)
+idle_repairer s is i b has none = by (slice_get s.repairers i) refl
+  where
+    by : (found : Option CallerOf) → slice_get s.repairers i ≡ found → Leads s.script (repairer_step s.script i) (world_of s) (world_of s)
+    by None e =
+        record {
+          shortages = [];
+          leads = (repairers_make_turns s.script i (world_of s)).absent (map_none (λ (client : CallerOf). client.actor) s.repairers i e);
+        }
+    by (Some c) e =
+        let code : c.book.geometry ≡ s.script.geometry = ap (λ (b : BookOf). b.geometry) (at s is i c e).at.same_book ∙ is.code in
+        record {
+          shortages = [];
+          leads =
+              ((repairers_make_turns s.script i (world_of s)).turns (work_of c.part) c.actor (work_there s is i c e) (actor_there s is i c e)).none
+              (sym (has s.script c e code) ∙ none);
+        }
+
+-- one that has a step
+pub ready_repairer : (s : StoredWorld) → IsWorld s → (i : ℕ) (c : CallerOf) → slice_get s.repairers i ≡ Some c → (b : Bool)
+    → ((script : Script) (x : CallerOf) → slice_get s.repairers i ≡ Some x → x.book.geometry ≡ script.geometry → b ≡ caller_has script x)
+    → b ≡ true → HasTurnNow s i c
+ready_repairer s is i c there b has holds =
+    let code : c.book.geometry ≡ s.script.geometry = ap (λ (book : BookOf). book.geometry) (at s is i c there).at.same_book ∙ is.code in
+    ready s is i c there (sym (has s.script c there code) ∙ holds)
+
+-- ---- after a turn
+module _ (law : AllTurnsLead) (s : StoredWorld) (is : IsWorld s) (i : ℕ) (c c' : CallerOf) (there : slice_get s.repairers i ≡ Some c) (d : Sealed) (servers : List ServerState)
+    (makes : MakesCallerTurn s.script i c s.directory s.servers c' d servers) where
+  world_is : with_repairer i c'.actor (with_places (places_of d servers) (world_of s)) ≡ world_of (changed s d servers s.clients (set s.repairers i c') s.sweeper)
+  world_is =
+      ap (λ (actors : List ActorOf). record { directory = d.core; servers = map core_of servers; clients = (world_of s).clients; repairers = actors; sweeper = s.sweeper })
+      (sym (map-set (λ (client : CallerOf). client.actor) (λ _. c'.actor) s.repairers i c c' (below s.repairers i c there) (read_back s.repairers i c there) refl))
+
+  made : MakesTurn s.script (actor.Repairer i) (work_of c.part) c.actor (places_of s.directory s.servers) c'.actor (places_of d servers)
+  made =
+      subst (λ (p : PartOf). MakesTurn s.script (who_of p i) (work_of c.part) c.actor (places_of s.directory s.servers) c'.actor (places_of d servers)) (is.repairers.each i c there).is_part makes.makes
+
+  led : ActorLeads s.script (repairer_step s.script i) (world_of s) (world_of (changed s d servers s.clients (set s.repairers i c') s.sweeper))
+  led =
+      subst (λ (w : WorldOf). ActorLeads s.script (repairer_step s.script i) (world_of s) w) world_is
+      ((law s.script i (world_of s) is.agree).repairer (work_of c.part) c.actor c'.actor (places_of d servers) (work_there s is i c there) (actor_there s is i c there) made)
+
+  pub repairer_leads : Leads s.script (repairer_step s.script i) (world_of s) (world_of (changed s d servers s.clients (set s.repairers i c') s.sweeper))
+  repairer_leads = record { shortages = led.shortages; leads = led.leads }
+
+  pub repairer_kept : c' ≡ record c { actor = c'.actor; work = c'.work; served = c'.served } → Knows d c' → d.book ≡ s.directory.book → HasMore s.directory.stamps d.stamps → AreServers c.book servers
+      → IsWorld (changed s d servers s.clients (set s.repairers i c') s.sweeper)
+  repairer_kept same knows book more held =
+      let was : IsRepairerAt s.script s.book s.directory i c = is.repairers.each i c there in
+      let now : IsRepairerAt s.script s.book d i c' =
+      record {
+        part = was.part;
+        is_part = ap (λ (x : CallerOf). x.part) same ∙ was.is_part;
+        at = record {
+          its = subst (StandsIn s.script i) (sym (ap (λ (x : CallerOf). x.part) same)) was.at.its;
+          same_book = ap (λ (x : CallerOf). x.book) same ∙ was.at.same_book;
+          often = ap (λ (x : CallerOf). x.tries) same ∙ was.at.often;
+          knows = knows;
+        };
+      } in
+      let grown : HasMorePoints s.directory.core.points d.core.points =
+      histories_grow.turn s.script (actor.Repairer i) (work_of c.part) c.actor c'.actor (places_of s.directory s.servers) (places_of d servers) made in
+      let again : (k : ℕ) (x : CallerOf) → IsRepairerAt s.script s.book s.directory k x → IsRepairerAt s.script s.book d k x =
+      λ k x of. record { part = of.part; is_part = of.is_part; at = caller_stays s.script s.book s.directory d k x more.more more.is of.at } in
+      kept_by s d servers s.clients (set s.repairers i c') s.sweeper (token.Repairer i) is book (subst (λ (b : BookOf). AreServers b servers) was.at.same_book held)
+      (record {
+        count = is.clients.count;
+        each = λ k x e. let of : IsClientAt s.script s.book s.directory k x = is.clients.each k x e in
+            record {
+              part = of.part;
+              is_part = of.is_part;
+              at = caller_stays s.script s.book s.directory d k x more.more more.is of.at;
+              serves = (clients_go_on_serving s.script).stays s.directory.core.points d.core.points k x grown of.serves;
+            };
+      })
+      (record {
+        count = length-set s.repairers i c' ∙ is.repairers.count;
+        each = each_set (IsRepairerAt s.script s.book s.directory) (IsRepairerAt s.script s.book d) s.repairers i c' again is.repairers.each now;
+      })
+      led.agree repairer_leads

@@ -1,0 +1,114 @@
+-- Rounds of the world, and whether somebody has a step.
+use Rattle.std.proofs.Common.{◌≡◌, ℕ, suc, ◌+◌, Bool, true, false, ◌||◌, List, [], ◌∷◌, ◌++◌, length, map, slice_get, Some, refl, sym, ap, subst, ◌∙◌, arith}
+use Rattle.std.proofs.lemmas.Option.{same_Some}
+use Rattle.store_map.specs.declared.script.ClientPart.{ClientPart}
+use Rattle.store_map.specs.declared.script.RepairPart.{RepairPart}
+use Rattle.store_map.specs.declared.script.Script.{Script}
+use Rattle.store_core.specs.Core.{sweeper_has_step}
+use Rattle.store_core.specs.Run.{client_step, repairer_step, sweeper_step}
+use Rattle.store_core.specs.Schedule.{is_unfinished, round}
+use Rattle.store_core.specs.Work.{client_work, repairer_work, has_step, any_has_step}
+use Rattle.version_seal.specs.Entry.{BookOf}
+use Rattle.world_steps.specs.World.{WorldOf}
+use Rattle.world_steps.specs.Known.{calling_of, core_of}
+use Rattle.world_steps.specs.RoundLaws.{client_turns, repairer_turns, sweep_turn}
+use Rattle.world_steps.proofs.Rounds.{rounds_are_rounds}
+use Rattle.world_steps.specs.Goes.{Leads}
+use Rattle.actors.specs.Callers.{PartOf, CallerOf, StandsIn, work_of}
+use Rattle.store_world.specs.Stored.{StoredWorld, world_of}
+use Rattle.store_world.specs.Kept.{IsWorld, IsClientAt, IsRepairerAt}
+use Rattle.store_world.specs.Having.{some_caller_has, AreOfCode}
+
+-- ---- turns
+module _ (script : Script) (w : WorldOf) where
+  pub no_clients : Leads script (client_turns script 0) w w
+  no_clients = record { shortages = []; leads = (rounds_are_rounds script w).clients.none }
+
+  pub no_repairers : Leads script (repairer_turns script 0) w w
+  no_repairers = record { shortages = []; leads = (rounds_are_rounds script w).repairers.none }
+
+  pub one_client_more : (i : ℕ) (middle after : WorldOf) → Leads script (client_turns script i) w middle → Leads script (client_step script i) middle after → Leads script (client_turns script (i + 1)) w after
+  one_client_more i middle after one two =
+      record { shortages = one.shortages ++ two.shortages; leads = (rounds_are_rounds script w).clients.next i middle after one.shortages two.shortages one.leads two.leads }
+
+  pub one_repairer_more : (i : ℕ) (middle after : WorldOf) → Leads script (repairer_turns script i) w middle → Leads script (repairer_step script i) middle after → Leads script (repairer_turns script (i + 1)) w after
+  one_repairer_more i middle after one two =
+      record { shortages = one.shortages ++ two.shortages; leads = (rounds_are_rounds script w).repairers.next i middle after one.shortages two.shortages one.leads two.leads }
+
+  pub sweep_made : (after : WorldOf) → sweeper_has_step (core_of script w) ≡ true → Leads script (sweeper_step script) w after → Leads script (sweep_turn script) w after
+  sweep_made after has one = record { shortages = one.shortages; leads = (rounds_are_rounds script w).sweeper.has has after one.shortages one.leads }
+
+  pub no_sweep : sweeper_has_step (core_of script w) ≡ false → Leads script (sweep_turn script) w w
+  no_sweep has = record { shortages = []; leads = (rounds_are_rounds script w).sweeper.none has }
+
+  pub whole_round : (clients repairers : ℕ) → clients ≡ length script.clients → repairers ≡ length script.repairers → (middle late after : WorldOf) → Leads script (client_turns script clients) w middle
+      → Leads script (repairer_turns script repairers) middle late → Leads script (sweep_turn script) late after → Leads script (round script) w after
+  whole_round clients repairers all_clients all_repairers middle late after one two three =
+      let first : Leads script (client_turns script (length script.clients)) w middle = subst (λ (n : ℕ). Leads script (client_turns script n) w middle) all_clients one in
+      let second : Leads script (repairer_turns script (length script.repairers)) middle late = subst (λ (n : ℕ). Leads script (repairer_turns script n) middle late) all_repairers two in
+      record {
+        shortages = first.shortages ++ second.shortages ++ three.shortages;
+        leads = (rounds_are_rounds script w).whole middle late after first.shortages second.shortages three.shortages first.leads second.leads three.leads;
+      }
+
+-- ---- whether somebody has a step
+-- a caller whose part is the one at this place
+record IsPartAt (X : Type 0) (as_part : X → PartOf) (parts : List X) (i : ℕ) (c : CallerOf) : Type 0 where
+  part : X
+  is_part : c.part ≡ as_part part
+  its : slice_get parts i ≡ Some part
+
+module _ (X : Type 0) (as_part : X → PartOf) (script : Script) where
+  any_of : (parts : List X) (callers : List CallerOf) → length callers ≡ length parts
+      → ((i : ℕ) (c : CallerOf) → slice_get callers i ≡ Some c → IsPartAt X as_part parts i c)
+      → any_has_step (map (λ part. work_of (as_part part)) parts) (map (calling_of script) (map (λ caller. caller.actor) callers)) ≡ some_caller_has script callers
+  any_of [] [] count each = refl
+  any_of [] (c ∷ callers) count each = absurd (omega (arith, count))
+  any_of (p ∷ parts) [] count each = absurd (omega (arith, count))
+  any_of (p ∷ parts) (c ∷ callers) count each =
+      let first : IsPartAt X as_part (p ∷ parts) 0 c = each 0 c refl in
+      let same : as_part p ≡ c.part = ap as_part (same_Some p first.part first.its) ∙ sym first.is_part in
+      λ k. has_step (work_of (same k)) (calling_of script c.actor)
+      || any_of parts callers (omega (arith, count)) (λ i x there. record { part = (each (suc i) x there).part; is_part = (each (suc i) x there).is_part; its = (each (suc i) x there).its }) k
+
+module _ (s : StoredWorld) (is : IsWorld s) where
+  pub clients_of_code : AreOfCode s.script s.clients
+  clients_of_code i c there = ap (λ (b : BookOf). b.geometry) (is.clients.each i c there).at.same_book ∙ is.code
+
+  pub repairers_of_code : AreOfCode s.script s.repairers
+  repairers_of_code i c there = ap (λ (b : BookOf). b.geometry) (is.repairers.each i c there).at.same_book ∙ is.code
+
+  -- a client has one, or no client and a repairer, or neither and the sweeper tells
+  clients_known : any_has_step (client_work s.script) (map (calling_of s.script) (world_of s).clients) ≡ some_caller_has s.script s.clients
+  clients_known =
+      any_of ClientPart PartOf.OfClient s.script s.script.clients s.clients is.clients.count
+      (λ i c there. let at : IsClientAt s.script s.book s.directory i c = is.clients.each i c there in
+      record { part = at.part; is_part = at.is_part; its = subst (StandsIn s.script i) at.is_part at.at.its })
+
+  repairers_known : any_has_step (repairer_work s.script) (map (calling_of s.script) (world_of s).repairers) ≡ some_caller_has s.script s.repairers
+  repairers_known =
+      any_of RepairPart PartOf.OfRepairer s.script s.script.repairers s.repairers is.repairers.count
+      (λ i c there. let at : IsRepairerAt s.script s.book s.directory i c = is.repairers.each i c there in
+      record { part = at.part; is_part = at.is_part; its = subst (StandsIn s.script i) at.is_part at.at.its })
+
+  pub unfinished : (some_client some_repairer : Bool) → some_client ≡ some_caller_has s.script s.clients → some_repairer ≡ some_caller_has s.script s.repairers
+      → (some_client || some_repairer || sweeper_has_step (core_of s.script (world_of s))) ≡ is_unfinished s.script (core_of s.script (world_of s))
+  unfinished some_client some_repairer one two = λ k. (one ∙ sym clients_known) k || (two ∙ sym repairers_known) k || sweeper_has_step (core_of s.script (world_of s))
+
+  pub by_client : (some_client : Bool) → some_client ≡ some_caller_has s.script s.clients → some_client ≡ true → true ≡ is_unfinished s.script (core_of s.script (world_of s))
+  by_client some_client one holds =
+      let rest : Bool = some_caller_has s.script s.repairers in
+      let sweeps : Bool = sweeper_has_step (core_of s.script (world_of s)) in
+      ap (λ (b : Bool). b || rest || sweeps) (sym holds) ∙ unfinished some_client rest one refl
+
+  pub by_repairer : (some_client some_repairer : Bool) → some_client ≡ some_caller_has s.script s.clients → some_client ≡ false → some_repairer ≡ some_caller_has s.script s.repairers → some_repairer ≡ true
+      → true ≡ is_unfinished s.script (core_of s.script (world_of s))
+  by_repairer some_client some_repairer one without two holds =
+      let sweeps : Bool = sweeper_has_step (core_of s.script (world_of s)) in
+      (λ k. sym without k || sym holds k || sweeps) ∙ unfinished some_client some_repairer one two
+
+  pub by_sweeper : (some_client some_repairer : Bool) → some_client ≡ some_caller_has s.script s.clients → some_client ≡ false → some_repairer ≡ some_caller_has s.script s.repairers → some_repairer ≡ false
+      → sweeper_has_step (core_of s.script (world_of s)) ≡ is_unfinished s.script (core_of s.script (world_of s))
+  by_sweeper some_client some_repairer one without two none =
+      let sweeps : Bool = sweeper_has_step (core_of s.script (world_of s)) in
+      (λ k. sym without k || sym none k || sweeps) ∙ unfinished some_client some_repairer one two

@@ -1,0 +1,39 @@
+use Rattle.std.proofs.Common.{◌≡◌, List, sym, subst}
+use Rattle.std.specs.Prelude.{IfOk}
+use Rattle.store_map.specs.Limits.{size_of}
+use Rattle.store_core.specs.History.{call_of}
+use Rattle.store_core.specs.Shown.{shown}
+use Rattle.chunk_server.specs.State.{ServerState}
+use Rattle.world_lines.specs.Ended.{counts_of, HaveNames}
+use Rattle.world_lines.specs.Served.{ServedAre}
+use Rattle.world_lines.specs.Shown.{Holds}
+use Rattle.world_lines.specs.declared.calls.CallerCalls.{CallerCalls}
+use Rattle.world_steps.specs.Known.{core_of}
+use Rattle.store_world.specs.Stored.{StoredWorld, world_of}
+use Rattle.store_world.specs.Inside.{stored_in}
+use Rattle.store_world.proofs.Ended.{are_held, are_served, clients_have_names, repairers_have_names}
+use Rattle.store_world.proofs.Results.{on_ok}
+use Rattle.store_world.proofs.world.World.finish.Goals as goal
+
+pub make_transcript-requires-clause-clients : goal.make_transcript-requires-clause-clients
+make_transcript-requires-clause-clients c =
+    clients_have_names (stored_in c.self.inside) c.self.invariant c.in_ok-clients.clients.items c.in_ok-clients.ensures c.in_ok-repairers.repairers.items c.in_ok-repairers.ensures
+
+pub make_transcript-requires-clause-repairers : goal.make_transcript-requires-clause-repairers
+make_transcript-requires-clause-repairers c =
+    subst (λ (l : List CallerCalls). HaveNames (counts_of l)) (sym c.as_slice-2.ensures.value)
+    (repairers_have_names (stored_in c.self.inside) c.self.invariant c.in_ok-clients.clients.items c.in_ok-clients.ensures c.in_ok-repairers.repairers.items c.in_ok-repairers.ensures)
+
+pub returns : goal.returns
+returns c =
+    let s : StoredWorld = stored_in c.self.inside in
+    let held : Holds (core_of s.script (world_of s)) s.directory.core s.servers c.in_ok-clients.clients.items c.in_ok-repairers.repairers.items =
+    are_held s c.self.invariant c.in_ok-clients.clients.items c.in_ok-clients.ensures c.in_ok-repairers.repairers.items c.in_ok-repairers.ensures in
+    let lent : Holds (core_of s.script (world_of s)) s.directory.core c.as_slice.result.now c.in_ok-clients.clients.items c.in_ok-repairers.repairers.items =
+    subst (λ (l : List ServerState). Holds (core_of s.script (world_of s)) s.directory.core l c.in_ok-clients.clients.items c.in_ok-repairers.repairers.items) (sym c.as_slice.ensures.value) held in
+    let both : Holds (core_of s.script (world_of s)) s.directory.core c.as_slice.result.now c.in_ok-clients.clients.items c.as_slice-2.result.now =
+    subst (λ (l : List CallerCalls). Holds (core_of s.script (world_of s)) s.directory.core c.as_slice.result.now c.in_ok-clients.clients.items l) (sym c.as_slice-2.ensures.value) lent in
+    let served : ServedAre (size_of s.script) (call_of s.script) s.directory.core.points c.in_ok-clients.clients.items =
+    are_served s c.self.invariant c.in_ok-clients.clients.items c.in_ok-clients.ensures c.in_ok-repairers.repairers.items c.in_ok-repairers.ensures in
+    subst (λ (v : StoredWorld). IfOk c.make_transcript.result (λ transcript. transcript ≡ shown v.script (core_of v.script (world_of v)))) c.self.view_is
+    (on_ok c.make_transcript.result (λ transcript leads. leads s.script (core_of s.script (world_of s)) both served) c.make_transcript.ensures)

@@ -1,0 +1,19 @@
+use Rattle.std.proofs.Common.{refl, subst, ◌∙◌}
+use Rattle.store_map.specs.declared.script.Script.{Script}
+use Rattle.store_core.specs.Run.{repairer_step}
+use Rattle.world_steps.specs.Goes.{Leads}
+use Rattle.store_world.specs.Stored.{world_of}
+use Rattle.store_world.proofs.Rounds.{no_repairers, one_repairer_more}
+use Rattle.store_world.proofs.world.World.repairer_turns.Goals as goal
+
+pub loop-i-init : goal.loop-i-init
+loop-i-init g c = record { same = refl; same_book = refl; leads = no_repairers c.args.self.now.script (world_of c.args.self.now) }
+
+pub loop-i-preserved : goal.loop-i-preserved
+loop-i-preserved g c = record {
+  same = c.repairer_turn.ensures.same ∙ c.loop-i.invariant.same;
+  same_book = c.repairer_turn.ensures.same_book ∙ c.loop-i.invariant.same_book;
+  leads =
+      one_repairer_more c.args.self.now.script (world_of c.args.self.now) c.loop-i.i (world_of c.loop-i.self) (world_of c.repairer_turn.new.self) c.loop-i.invariant.leads
+      (subst (λ (s : Script). Leads s (repairer_step s c.loop-i.i) (world_of c.loop-i.self) (world_of c.repairer_turn.new.self)) c.loop-i.invariant.same c.repairer_turn.ensures.leads);
+}

@@ -1,0 +1,11 @@
+-- The names of calls by whose they are.
+use Rattle.std.specs.Prelude.{ℕ}
+use Rattle.transcript_text.specs.declared.call_name.CallName.{CallName}
+use Rattle.transcript_text.specs.declared.call_name.CallName.TheVariants as name
+use Rattle.world_lines.specs.declared.role.Role.{Role}
+use Rattle.world_lines.specs.declared.role.Role.TheVariants as role
+
+-- of an actor of this number the call of this number
+abbrev pub name_by : Role → ℕ → ℕ → CallName
+name_by role.Client = name.Client
+name_by role.Repairer = name.Repairer
