@@ -1,5 +1,5 @@
 -- What `chunks`, `recover`, `chunksd` and `repaird` print for an input is one status and one output.
-use Rattle.std.proofs.Common.{◌≡◌, ◌≢◌, ℕ, ◌+◌, ◌*◌, ◌<◌, ◌≤◌, List, [], ◌∷◌, length, get_or, take, refl, sym, ap, subst, ◌∙◌, inl, inr, arith, Option, None, Some, is_none, is_some, Vec, Global, map, count_by}
+use Rattle.std.proofs.Common.{◌≡◌, ℕ, ◌*◌, ◌<◌, ◌≤◌, List, [], ◌∷◌, length, get_or, take, refl, sym, ap, subst, ◌∙◌, inl, inr, arith, Option, None, is_none, is_some, Vec, Global, map, count_by}
 use Rattle.std.specs.Prelude.{◌⊎◌}
 use Rattle.std.specs.List.{concat}
 use Rattle.std.proofs.lemmas.List.Elements.{All-from_get_or}
@@ -25,8 +25,7 @@ use Rattle.clay_cli.specs.Repaird.{AreGiven, IsRepaired, IsUnfit, IsNotRepaired}
 use Rattle.clay_cli.specs.Top.{Answers}
 use Rattle.clay_cli.specs.Laws.{HasOneAnswer}
 use Rattle.clay_cli.specs.declared.status.Status.{Status}
-use Rattle.clay_cli.specs.declared.status.Status.TheVariants.{Done, Usage, ScriptRefused, InputTooLong, ReadFault, WriteFault, OutOfMemory, NotLegal, DataRefused}
-use Rattle.clay_words.specs.declared.words.Task.{Task}
+use Rattle.clay_cli.specs.declared.status.Status.TheVariants.{Done, DataRefused}
 use Rattle.clay_words.specs.declared.words.Task.TheVariants.{Chunks, Recover, AloofChunks, AloofRepair}
 use Rattle.clay_cli.proofs.SameEntries.{IsReadable, bytes_of, missing, none_back, read_once, refused_further, refused_once, same_at, same_bytes, same_length, same_missing, same_none, same_some}
 

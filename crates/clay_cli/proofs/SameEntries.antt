@@ -1,6 +1,5 @@
 -- Lines spell one list of entries, so what an input of entries is refused for is one thing.
-use Rattle.std.proofs.Common.{◌≡◌, ◌≢◌, ℕ, zero, suc, ◌+◌, ◌<◌, ◌≤◌, Bool, true, false, cond, List, [], length, get_or, take, refl, sym, ap, subst, ◌∙◌, inl, inr, arith, Option, None, Some, is_none, is_some, IfSome, Ok, Vec, Global, count_by}
-use Rattle.std.specs.Prelude.{◌⊎◌}
+use Rattle.std.proofs.Common.{◌≡◌, ℕ, zero, suc, ◌+◌, ◌<◌, ◌≤◌, cond, List, [], length, get_or, take, refl, sym, ap, subst, ◌∙◌, inl, inr, arith, Option, None, Some, is_none, is_some, IfSome, Ok, Vec, Global, count_by}
 use Rattle.std.specs.Option.{option_map}
 use Rattle.std.proofs.lemmas.Bool.{cases_Bool}
 use Rattle.std.proofs.lemmas.List.{ext_get_or, length-map, take_all}
@@ -10,7 +9,7 @@ use Rattle.std.proofs.Math.ListN.{get_or-map}
 use Rattle.hex.specs.Hex.{decode_of}
 use Rattle.clay_grid.specs.Score.{count_below}
 use Rattle.clay_grid.proofs.Counting.{count_below_same}
-use Rattle.code_text.specs.Entries.{lines_of, IsEntry, IsNoEntry, AreEntries, HasNoEntry, HasOtherLength, AreLong, parts_of}
+use Rattle.code_text.specs.Entries.{lines_of, IsEntry, IsNoEntry, AreEntries, HasNoEntry, AreLong, parts_of}
 use Rattle.clay_cli.specs.Entries.{AreRead, HasOtherCount, HasOtherLine, AreRefused}
 
 pub same_bytes : (line one other : List ℕ) → decode_of line ≡ Ok one → decode_of line ≡ Ok other → one ≡ other

@@ -116,14 +116,19 @@ pub fn clay_main<R: Threads + Sync, C: Coder, S: Source, K: Sink>(
     source: &mut S,
     sink: &mut K,
 ) -> Status
+    // Words that ask for no command, and no others, get the usage line. Nothing is read.
     ensures usage { AsksNothing (map string_bytes words.now) →
         (source.new ≡ source.old)
         × (((result ≡ Status.Usage) × Gains (K.written sink.old) usage_line (K.written sink.new))
         ⊎ ((result ≡ Status.WriteFault) × IsPrefixWritten (K.written sink.old) usage_line (K.written sink.new))
         ⊎ ((result ≡ Status.OutOfMemory) × Gains (K.written sink.old) [] (K.written sink.new))) }
     ensures usage_only { result ≡ Status.Usage → AsksNothing (map string_bytes words.now) }
+
+    // `gen` reads nothing, and writes the script of its numbers.
     ensures generated { (start size : ℕ) → Asks (map string_bytes words.now) (Generate start size) →
         (source.new ≡ source.old) × Writes result (K.written sink.old) (spelling (generated start size)) (K.written sink.new) }
+
+    // A command that reads an input writes one output that is owed for the whole of it; a prefix where a write fails; or nothing.
     ensures output { IsOfInput result → AsksForInput (map string_bytes words.now) → WhereTold (S.left source.old) (λ input.
         (length input ≤ 167772160)
         × ((output : List ℕ) × Owes (map string_bytes words.now) input result output × Gains (K.written sink.old) output (K.written sink.new))) }
@@ -131,12 +136,18 @@ pub fn clay_main<R: Threads + Sync, C: Coder, S: Source, K: Sink>(
         (status : Status) × (output : List ℕ) × Owes (map string_bytes words.now) input status output
         × IsPrefixWritten (K.written sink.old) output (K.written sink.new)) }
     ensures silent { IsSilent result → Gains (K.written sink.old) [] (K.written sink.new) }
+
+    // No more than the limit is read, or one byte past it.
     ensures too_long { result ≡ Status.InputTooLong → IsCutOff (S.left source.old) 167772161 (S.left source.new) }
     ensures in_budget { (result ≡ Status.InputTooLong → ⊥) → GivesAtMost (S.left source.old) 167772160 (S.left source.new) }
+
+    // A read or a write is blamed only where its count of faults rose; else that count is as it was.
     ensures read_fault { result ≡ Status.ReadFault → Rises (S.faults source.old) (S.faults source.new) }
     ensures write_fault { result ≡ Status.WriteFault → Rises (K.faults sink.old) (K.faults sink.new) }
     ensures read_steady { (result ≡ Status.ReadFault → ⊥) → S.faults source.new ≡ S.faults source.old }
     ensures write_steady { (result ≡ Status.WriteFault → ⊥) → K.faults sink.new ≡ K.faults sink.old }
+
+    // Where no count rose, an input within the limit gets its output, and a longer one is refused, if memory suffices.
     ensures complete { AsksForInput (map string_bytes words.now) → WhereTold (S.left source.old) (λ input. length input ≤ 167772160 →
         (Rises (S.faults source.old) (S.faults source.new) → ⊥) → (Rises (K.faults sink.old) (K.faults sink.new) → ⊥) →
         IsOfInput result ⊎ (result ≡ Status.OutOfMemory)) }
