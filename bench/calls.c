@@ -133,11 +133,99 @@ static void chunks(uint64_t *state) {
     free(word);
 }
 
+static uint32_t column_of(const struct clay_numbers *g, uint32_t k, uint32_t c) {
+    return (c < k ? c : c + g->virtual_nodes) / g->rows;
+}
+
+/* Helpers of a rebuild: the others of the lost chunk's column, and more up to so many. */
+static void mark(uint64_t *state, const struct clay_numbers *g, uint32_t k, uint32_t lost, uint32_t left, uint8_t *helpers) {
+    for (uint32_t c = 0; c < g->chunks; c++)
+        if (c != lost && column_of(g, k, c) == column_of(g, k, lost))
+            helpers[c] = 1, left--;
+    while (left > 0) {
+        uint32_t c = drawn(state) % g->chunks;
+        if (c != lost && !helpers[c])
+            helpers[c] = 1 + drawn(state) % 255, left--;
+    }
+}
+
+/* A stripe's parity chunks of a code with fewer helpers, which are those of clay_parity where all others help; then one chunk rebuilt, by
+ * helpers and with lengths that may be wrong. */
+static void fewer(uint64_t *state) {
+    uint32_t at = drawn(state) % (sizeof CODES / sizeof *CODES), k = CODES[at].k, m = CODES[at].m, w = CODES[at].w;
+    uint32_t d = k + drawn(state) % (m + 1);
+    struct clay_numbers g, plain;
+    memset(&g, 0xa5, sizeof g);
+    uint32_t status = clay_geometry_with_helpers(k, m, d, w, &g);
+    int is_code = k < d && d < k + m;
+    hold(status == (is_code ? CLAY_DONE : CLAY_BAD_GEOMETRY), "clay_geometry_with_helpers", k, m, d, status);
+    if (!is_code) {
+        hold(is_marked((uint8_t *)&g, sizeof g), "its numbers", k, m, d, status);
+        return;
+    }
+    size_t len = g.chunk_len, all = g.chunks * len;
+    uint8_t *word = made(all), *out = made(m * len);
+    for (size_t i = 0; i < g.stripe_len; i++)
+        word[i] = (uint8_t)drawn(state);
+    size_t given = beside(state, g.stripe_len);
+    uint8_t *source = made(given);
+    memset(source, 0, given);
+    memset(out, 0xa5, m * len);
+    status = clay_parity_with_helpers(k, m, d, w, source, given, out, m * len);
+    hold(status == (given == g.stripe_len ? CLAY_DONE : CLAY_BAD_LENGTH), "clay_parity_with_helpers", k, m, d, status);
+    hold(status == CLAY_DONE || is_marked(out, m * len), "what clay_parity_with_helpers wrote", k, m, d, status);
+    free(source);
+    status = clay_parity_with_helpers(k, m, d, w, word, g.stripe_len, word + g.stripe_len, m * len);
+    hold(status == CLAY_DONE, "clay_parity_with_helpers", k, m, d, status);
+    if (d == k + m - 1) {
+        hold(clay_geometry(k, m, w, &plain) == CLAY_DONE && memcmp(&plain, &g, sizeof g) == 0, "the numbers with all others", k, m, d, 0);
+        hold(clay_parity(k, m, w, word, g.stripe_len, out, m * len) == CLAY_DONE, "clay_parity", k, m, w, 0);
+        hold(memcmp(out, word + g.stripe_len, m * len) == 0, "parity chunks with all others", k, m, d, 0);
+    }
+    free(out);
+
+    uint32_t gone = drawn(state) % (g.chunks + 1), read = g.layers / g.rows, *layers = made(read * sizeof *layers);
+    size_t room = beside(state, read);
+    status = clay_repair_layers_with_helpers(k, m, d, w, gone, layers, room > read ? 0 : room);
+    hold(status == (gone >= g.chunks ? CLAY_BAD_CHUNK : room == read ? CLAY_DONE : CLAY_BAD_LENGTH), "clay_repair_layers_with_helpers", k, m, d, status);
+    status = clay_repair_layers_with_helpers(k, m, d, w, gone, layers, read);
+    hold(status == (gone < g.chunks ? CLAY_DONE : CLAY_BAD_CHUNK), "clay_repair_layers_with_helpers", k, m, d, status);
+    uint8_t helpers[MOST] = {0}, *parts = made(d * g.part_len), *part = parts, *chunk = made(len);
+    if (gone < g.chunks)
+        mark(state, &g, k, gone, d, helpers);
+    for (uint32_t c = 0; c < g.chunks && gone < g.chunks; c++)
+        for (uint32_t i = 0; helpers[c] && i < read; i++, part += w)
+            memcpy(part, word + c * len + (size_t)layers[i] * w, w);
+    /* a helper too few or too many */
+    int is_wrong = gone < g.chunks && drawn(state) % 4 == 0;
+    uint8_t marks[MOST];
+    memcpy(marks, helpers, sizeof marks);
+    if (is_wrong) {
+        uint32_t c = drawn(state) % g.chunks;
+        marks[c] = !marks[c];
+    }
+    memset(chunk, 0xa5, len);
+    size_t marked = beside(state, g.chunks), parts_len = beside(state, d * g.part_len);
+    int is_right = marked == g.chunks && parts_len == d * g.part_len;
+    uint8_t *exact = made(parts_len);
+    memset(exact, 0, parts_len);
+    memcpy(exact, parts, parts_len < d * g.part_len ? parts_len : d * g.part_len);
+    status = clay_rebuild_with_helpers(k, m, d, w, gone, marks, marked > MOST ? 0 : marked, exact, parts_len, chunk, len);
+    hold(status == (gone >= g.chunks ? CLAY_BAD_CHUNK : !is_right ? CLAY_BAD_LENGTH : is_wrong ? CLAY_BAD_HELPERS : CLAY_DONE), "clay_rebuild_with_helpers", k, m, d, status);
+    hold(status == CLAY_DONE ? memcmp(chunk, word + gone * len, len) == 0 : is_marked(chunk, len), "what clay_rebuild_with_helpers wrote", k, m, d, status);
+    free(exact);
+    free(parts);
+    free(chunk);
+    free(layers);
+    free(word);
+}
+
 static void *thread(void *number) {
     uint64_t state = start + (uint64_t)(uintptr_t)number * 0x1234567;
     for (int round = 0; round < rounds; round++) {
         numbers(&state);
         chunks(&state);
+        fewer(&state);
     }
     return NULL;
 }

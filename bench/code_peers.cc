@@ -7,6 +7,7 @@
 // for repair.
 //
 // - Ceph: a call of the plugin on buffers that are there. It hands present chunks on without a copy, and takes new ones for what it makes.
+// - With fewer helpers encoding and repair are timed: the library has no decoding of that code.
 // - ISA-L: a call on buffers that are there; the matrix of a decoding and its tables are made anew in each, as for new losses.
 // - "call" is a whole call of libclay_c.a. Its buffers are the caller's: in decoding and repair it copies the chunks or parts that it reads
 //   into memory of its own.
@@ -49,19 +50,21 @@ static void expect(bool holds, const string &what) {
 
 // ---- Codes
 
-// A code, and the losses that are decoded: the chunks of the first column, and as many in several columns.
+// A code with d helpers of a repair, and the losses that are decoded: the chunks of the first column, and as many in several columns.
 struct Code {
-  uint32_t k, m, w;
+  uint32_t k, m, d, w;
   clay_numbers numbers;
   set<int> column, spread;
 
   size_t chunk_len() const { return numbers.chunk_len; }
   size_t stripe_len() const { return numbers.stripe_len; }
+  bool has_fewer() const { return d + 1 < k + m; }
 };
 
-static Code code_of(uint32_t k, uint32_t m, uint32_t w) {
-  Code code{k, m, w, {}, {}, {}};
-  expect(clay_geometry(k, m, w, &code.numbers) == CLAY_DONE, "no code has these numbers");
+static Code code_of(uint32_t k, uint32_t m, uint32_t d, uint32_t w) {
+  Code code{k, m, d, w, {}, {}, {}};
+  uint32_t status = code.has_fewer() ? clay_geometry_with_helpers(k, m, d, w, &code.numbers) : clay_geometry(k, m, w, &code.numbers);
+  expect(status == CLAY_DONE, "no code has these numbers");
   for (uint32_t e = 0; e < m; e++) {
     code.column.insert(e);
     uint32_t data = e * (m + 1);
@@ -174,7 +177,7 @@ struct CephCode {
 
   CephCode(const Code &code, const string &directory) {
     ceph::ErasureCodeProfile profile = {{"plugin", "clay"}, {"scalar_mds", "isa"}, {"k", std::to_string(code.k)},
-                                        {"m", std::to_string(code.m)}, {"d", std::to_string(code.numbers.chunks - 1)}};
+                                        {"m", std::to_string(code.m)}, {"d", std::to_string(code.d)}};
     std::ostringstream error;
     int status = ceph::ErasureCodePluginRegistry::singleton.factory("clay", directory, profile, &plugin, &error);
     expect(status == 0 && plugin, "Ceph's plugin clay: " + error.str());
@@ -193,7 +196,7 @@ struct CephCode {
     return left;
   }
 
-  // of each other chunk the subchunks from which chunk 0 is repaired
+  // of each helper the subchunks from which chunk 0 is repaired; the plugin says who helps
   ceph::Chunks helpers() {
     set<int> available = all;
     available.erase(0);
@@ -232,8 +235,10 @@ static void add_ceph(vector<Operation> &operations, const Code &code, const stri
                           ceph::Chunks made;
                           expect(ceph->plugin->encode(ceph->all, ceph->stripe, &made) == 0, "Ceph's encode");
                         }, {}});
-  add_ceph_decode(operations, ceph, "decode, a column", code.column, ceph->left(code.column), 0, bytes);
-  add_ceph_decode(operations, ceph, "decode, spread", code.spread, ceph->left(code.spread), 0, bytes);
+  if (!code.has_fewer()) {
+    add_ceph_decode(operations, ceph, "decode, a column", code.column, ceph->left(code.column), 0, bytes);
+    add_ceph_decode(operations, ceph, "decode, spread", code.spread, ceph->left(code.spread), 0, bytes);
+  }
   add_ceph_decode(operations, ceph, "repair of one", {0}, ceph->helpers(), ceph->chunk_len, ceph->chunk_len);
 }
 
@@ -303,33 +308,44 @@ static void add_isal(vector<Operation> &operations, const Code &code) {
   const string name = "ISA-L RS";
   for (auto &lost : {code.column, code.spread, set<int>{0}}) isal->check(lost);
   operations.push_back({name, "encode", bytes, [=] { isal->encode(); }, {}});
-  operations.push_back({name, "decode, a column", bytes, [=] { isal->decode(code.column); }, {}});
-  operations.push_back({name, "decode, spread", bytes, [=] { isal->decode(code.spread); }, {}});
+  if (!code.has_fewer()) {
+    operations.push_back({name, "decode, a column", bytes, [=] { isal->decode(code.column); }, {}});
+    operations.push_back({name, "decode, spread", bytes, [=] { isal->decode(code.spread); }, {}});
+  }
   operations.push_back({name, "repair of one", double(code.chunk_len()), [=] { isal->decode({0}); }, {}});
 }
 
 // ---- Ours
 
-// The chunks of a stripe one behind another, the parts of all but chunk 0, and room for calls.
+// The chunks of a stripe one behind another, the parts of the first chunks behind chunk 0, and room for calls.
 struct OurCode {
   Code code;
-  Bytes chunks, wanted, parts, rebuilt;
+  Bytes chunks, wanted, helpers, parts, rebuilt;
 
-  explicit OurCode(const Code &code) : code(code), chunks(random_bytes(code.numbers.chunks * code.chunk_len())), rebuilt(code.chunk_len()) {
+  explicit OurCode(const Code &code)
+      : code(code), chunks(random_bytes(code.numbers.chunks * code.chunk_len())), helpers(code.numbers.chunks, 0), rebuilt(code.chunk_len()) {
     encode();
     wanted = chunks;
-    vector<uint32_t> layers(code.numbers.layers / code.m);
-    expect(clay_repair_layers(code.k, code.m, code.w, 0, layers.data(), layers.size()) == CLAY_DONE, "clay_repair_layers");
-    for (uint32_t c = 1; c < code.numbers.chunks; c++)
+    vector<uint32_t> layers(code.numbers.part_len / code.w);
+    uint32_t status = code.has_fewer()
+                          ? clay_repair_layers_with_helpers(code.k, code.m, code.d, code.w, 0, layers.data(), layers.size())
+                          : clay_repair_layers(code.k, code.m, code.w, 0, layers.data(), layers.size());
+    expect(status == CLAY_DONE, "the layers of a repair");
+    for (uint32_t c = 1; c <= code.d; c++) {
+      helpers[c] = 1;
       for (uint32_t layer : layers) {
         const uint8_t *from = &chunks[c * code.chunk_len() + size_t(layer) * code.w];
         parts.insert(parts.end(), from, from + code.w);
       }
+    }
   }
 
   void encode() {
-    size_t data = code.stripe_len();
-    expect(clay_parity(code.k, code.m, code.w, chunks.data(), data, &chunks[data], chunks.size() - data) == CLAY_DONE, "clay_parity");
+    size_t data = code.stripe_len(), parity = chunks.size() - data;
+    uint32_t status = code.has_fewer()
+                          ? clay_parity_with_helpers(code.k, code.m, code.d, code.w, chunks.data(), data, &chunks[data], parity)
+                          : clay_parity(code.k, code.m, code.w, chunks.data(), data, &chunks[data], parity);
+    expect(status == CLAY_DONE, "an encoding of ours");
   }
 
   void decode(const set<int> &lost) {
@@ -339,11 +355,15 @@ struct OurCode {
   }
 
   void repair() {
-    expect(clay_rebuild(code.k, code.m, code.w, 0, parts.data(), parts.size(), rebuilt.data(), rebuilt.size()) == CLAY_DONE, "clay_rebuild");
+    uint32_t status = code.has_fewer()
+                          ? clay_rebuild_with_helpers(code.k, code.m, code.d, code.w, 0, helpers.data(), helpers.size(), parts.data(),
+                                                      parts.size(), rebuilt.data(), rebuilt.size())
+                          : clay_rebuild(code.k, code.m, code.w, 0, parts.data(), parts.size(), rebuilt.data(), rebuilt.size());
+    expect(status == CLAY_DONE, "a repair of ours");
   }
 
   void check() {
-    for (auto &lost : {code.column, code.spread}) {
+    for (auto &lost : code.has_fewer() ? vector<set<int>>() : vector<set<int>>{code.column, code.spread}) {
       for (int c : lost) memset(&chunks[c * code.chunk_len()], 0, code.chunk_len());
       decode(lost);
       expect(chunks == wanted, "a decoding of ours is wrong");
@@ -372,11 +392,13 @@ static void add_ours(vector<Operation> &operations, const Code &code) {
     operations.push_back({"copies", what, bytes, copies, {}});
   };
   size_t len = code.chunk_len(), part_len = code.numbers.part_len;
-  uint32_t k = code.k, others = code.numbers.chunks - 1;
+  uint32_t k = code.k, helpers = code.d;
   add("encode", bytes, [=] { ours->encode(); }, [=] { ours->copy(0, 0); });
-  add("decode, a column", bytes, [=] { ours->decode(code.column); }, [=] { ours->copy(k, len); });
-  add("decode, spread", bytes, [=] { ours->decode(code.spread); }, [=] { ours->copy(k, len); });
-  add("repair of one", lost_bytes, [=] { ours->repair(); }, [=] { ours->copy(others, part_len); });
+  if (!code.has_fewer()) {
+    add("decode, a column", bytes, [=] { ours->decode(code.column); }, [=] { ours->copy(k, len); });
+    add("decode, spread", bytes, [=] { ours->decode(code.spread); }, [=] { ours->copy(k, len); });
+  }
+  add("repair of one", lost_bytes, [=] { ours->repair(); }, [=] { ours->copy(helpers, part_len); });
 }
 
 // ---- The table
@@ -399,9 +421,10 @@ static vector<Operation> with_coding(vector<Operation> operations) {
 }
 
 static void print(const Code &code, const vector<Operation> &operations) {
-  printf("\n%u+%u, subchunks of %u bytes, a stripe of %zu KiB\n", code.k, code.m, code.w, code.stripe_len() / 1024);
+  printf("\n%u+%u, %u helpers, subchunks of %u bytes, a stripe of %zu KiB\n", code.k, code.m, code.d, code.w, code.stripe_len() / 1024);
   printf("  %-18s %-15s %8s   of Ceph's: median (min..max)\n", "", "", "GB/s");
   for (const string what : kinds) {
+    if (code.has_fewer() && what.rfind("decode", 0) == 0) continue;
     const auto &ceph = find(operations, "Ceph clay(isa)", what);
     for (const auto &operation : operations) {
       if (operation.what != what) continue;
@@ -416,7 +439,15 @@ static void print(const Code &code, const vector<Operation> &operations) {
   fflush(stdout);
 }
 
-// code_peers PLUGINS ROUNDS MILLISECONDS CODE.., where a CODE is K+M:W
+// The code that a word names: K+M:W, where all other chunks help, or K+M/D:W.
+static Code code_named(const char *word) {
+  uint32_t k, m, d, w;
+  if (sscanf(word, "%u+%u:%u", &k, &m, &w) == 3) return code_of(k, m, k + m - 1, w);
+  expect(sscanf(word, "%u+%u/%u:%u", &k, &m, &d, &w) == 4, string("no code: ") + word);
+  return code_of(k, m, d, w);
+}
+
+// code_peers PLUGINS ROUNDS MILLISECONDS CODE..
 int main(int count, char **words) {
   expect(count > 4, "too few words");
   // freed memory stays with the process, for all coders alike
@@ -425,9 +456,7 @@ int main(int count, char **words) {
   mallopt(M_TOP_PAD, 64 << 20);
   start_ceph();
   for (int i = 4; i < count; i++) {
-    uint32_t k, m, w;
-    expect(sscanf(words[i], "%u+%u:%u", &k, &m, &w) == 3, string("no code: ") + words[i]);
-    Code code = code_of(k, m, w);
+    Code code = code_named(words[i]);
     vector<Operation> operations;
     add_ceph(operations, code, words[1]);
     add_isal(operations, code);

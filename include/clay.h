@@ -16,14 +16,16 @@
 extern "C" {
 #endif
 
-/* How a call ends: at the first test that fails, in the order of these numbers but for CLAY_BAD_CHUNK, which is tested before lengths. */
+/* How a call ends: at the first test that fails, in the order of these numbers but for CLAY_BAD_CHUNK, which is tested before lengths, and
+ * CLAY_BAD_HELPERS, which is tested before memory is taken. */
 enum clay_status {
     CLAY_DONE = 0,
     CLAY_BAD_GEOMETRY = 1, /* k, m and w aren't within the limits that clay_geometry names */
     CLAY_BAD_LENGTH = 2,   /* a buffer has another length than the call asks */
     CLAY_BAD_CHUNK = 3,    /* there is no chunk of this number */
     CLAY_TOO_FEW = 4,      /* more than m chunks are missing */
-    CLAY_OUT_OF_MEMORY = 5
+    CLAY_OUT_OF_MEMORY = 5,
+    CLAY_BAD_HELPERS = 6   /* the helpers aren't d, or the lost chunk is one, or another chunk of its column is none */
 };
 
 /* The numbers of a code. */
@@ -64,6 +66,32 @@ uint32_t clay_repair_layers(uint32_t k, uint32_t m, uint32_t w, uint32_t lost, u
  * parts_len: (n - 1) * part_len. chunk_len: as clay_geometry tells.
  * CLAY_DONE, CLAY_BAD_GEOMETRY, CLAY_BAD_LENGTH, CLAY_BAD_CHUNK, CLAY_OUT_OF_MEMORY. */
 uint32_t clay_rebuild(uint32_t k, uint32_t m, uint32_t w, uint32_t lost, const uint8_t *parts, size_t parts_len, uint8_t *chunk, size_t chunk_len);
+
+/* The same code family with d helpers of a rebuild, fewer than there are other chunks: k < d < k + m. With d = k + m - 1 the codewords are
+ * those of the calls above. The grid has d - k + 1 rows. Node i of it stands in column i / rows; chunk c is node c where it is a data chunk,
+ * and else node c + virtual_nodes. */
+
+/* Writes the numbers of the code, within the limits of clay_geometry. rows: d - k + 1. part_len: chunk_len / rows bytes, what a rebuild
+ * reads of each helper.
+ * CLAY_DONE, CLAY_BAD_GEOMETRY. */
+uint32_t clay_geometry_with_helpers(uint32_t k, uint32_t m, uint32_t d, uint32_t w, struct clay_numbers *numbers);
+
+/* Writes the parity chunks of a stripe, one behind another.
+ * stripe_len: as clay_geometry_with_helpers tells. parity_len: m * chunk_len.
+ * CLAY_DONE, CLAY_BAD_GEOMETRY, CLAY_BAD_LENGTH, CLAY_OUT_OF_MEMORY. */
+uint32_t clay_parity_with_helpers(uint32_t k, uint32_t m, uint32_t d, uint32_t w, const uint8_t *stripe, size_t stripe_len, uint8_t *parity, size_t parity_len);
+
+/* Writes the numbers of the layers, rising, whose subchunks a rebuild of chunk `lost` reads of each helper.
+ * layers_len: alpha / rows elements (not bytes).
+ * CLAY_DONE, CLAY_BAD_GEOMETRY, CLAY_BAD_LENGTH, CLAY_BAD_CHUNK, CLAY_OUT_OF_MEMORY. */
+uint32_t clay_repair_layers_with_helpers(uint32_t k, uint32_t m, uint32_t d, uint32_t w, uint32_t lost, uint32_t *layers, size_t layers_len);
+
+/* Writes chunk `lost` from the parts of d helpers, which stand one behind another by rising number of their chunks. The part of a chunk is
+ * its subchunks of those layers, one behind another. Any parts are those of some codeword.
+ * helpers: a byte for each chunk, 0 where it doesn't help; helpers_len: n. Each other chunk of the lost one's column helps.
+ * parts_len: d * part_len. chunk_len: as clay_geometry_with_helpers tells.
+ * CLAY_DONE, CLAY_BAD_GEOMETRY, CLAY_BAD_LENGTH, CLAY_BAD_CHUNK, CLAY_OUT_OF_MEMORY, CLAY_BAD_HELPERS. */
+uint32_t clay_rebuild_with_helpers(uint32_t k, uint32_t m, uint32_t d, uint32_t w, uint32_t lost, const uint8_t *helpers, size_t helpers_len, const uint8_t *parts, size_t parts_len, uint8_t *chunk, size_t chunk_len);
 
 #ifdef __cplusplus
 }

@@ -1,5 +1,5 @@
 -- What a map's words do to its entries, as the words on chunks say it.
-use Rattle.std.proofs.Common.{◌≡◌, ℕ, zero, suc, ◌≤◌, ◌↔◌, length, slice_get, arith, Bool, true, false, cond, ◌||◌, not, nat_eq, nat_lt, List, [], ◌∷◌, Option, None, Some, is_some, refl, sym, ap, ◌∙◌, true≢false, unwrap_or}
+use Rattle.std.proofs.Common.{◌≡◌, ℕ, zero, suc, ◌≤◌, ◌↔◌, length, map, slice_get, arith, Bool, true, false, cond, ◌||◌, not, nat_eq, nat_lt, List, [], ◌∷◌, Option, None, Some, is_some, refl, sym, ap, ◌∙◌, true≢false, unwrap_or}
 use Rattle.std.proofs.lemmas.Bool.{eqb-true}
 use Rattle.std.specs.Option.{option_map}
 use Rattle.std.specs.Ordering.{is_eq, nat_cmp, match_ordering}
@@ -117,6 +117,12 @@ pub stamp_at-values : (es : List (Version × HeldChunk)) (index : ℕ)
 stamp_at-values [] index = refl
 stamp_at-values (e ∷ es) zero = refl
 stamp_at-values (e ∷ es) (suc index) = stamp_at-values es index
+
+-- so all of them
+pub stamps-values : (es : List (Version × HeldChunk))
+    → map (λ (held : Held). held.chunk.stamp) (chunks_in es) ≡ map (λ (held : HeldChunk). held.chunk.stamp) (values_of es)
+stamps-values [] = refl
+stamps-values (e ∷ es) = ap (λ stamps. e.1.chunk.stamp ∷ stamps) (stamps-values es)
 
 -- there is one exactly below their number
 pub no_stamp : (chunks : List Held) (index : ℕ) → (is_some (option_map (λ (held : Held). held.chunk.stamp) (slice_get chunks index)) ≡ false) ↔ (length chunks ≤ index)

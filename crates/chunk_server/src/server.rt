@@ -1,4 +1,4 @@
-ghost use Rattle.std.specs.Prelude.{◌≡◌, ◌≤◌, ◌<◌, ◌↔◌, ◌&&◌, not, false, slice_get, IsNone, IsTrue, IsFalse, length, All, IfOk, OnOk, OnErr, is_err};
+ghost use Rattle.std.specs.Prelude.{◌≡◌, ◌≤◌, ◌<◌, ◌↔◌, ◌&&◌, not, false, slice_get, IsNone, IsTrue, IsFalse, length, map, All, IfOk, OnOk, OnErr, is_err};
 ghost use Rattle.std.specs.Option.{option_map};
 ghost use Rattle.std.specs.BTreeMap.{values};
 ghost use Rattle.clay_grid.specs.Shape.{layer_count};
@@ -139,6 +139,14 @@ impl Server {
             Some(held) => Some(held.chunk.stamp()),
             None => None,
         }
+    }
+
+    /// The stamps of all chunks that it holds, in the order of their versions, in one pass over them.
+    pub fn stamps(&self, alloc: Global) -> Result<Vec<Stamp>, AllocError>
+        ensures { IfOk result (λ stamps. stamps.items
+            ≡ map (λ held. held.chunk.stamp) self.now.held) }
+    {
+        stamps_of(alloc, &self.held)
     }
 
     /// Adds the chunk as prepared and tells the epoch. A version that is held already keeps its
@@ -324,4 +332,18 @@ fn held_at(held: &BTreeMap<Version, HeldChunk>, index: usize) -> Option<&HeldChu
     ensures { option_map (λ chunk. chunk.now) result ≡ slice_get (values held.now) index }
 {
     held.values().nth(index)
+}
+
+// The stamps of all chunks in the order of versions.
+fn stamps_of(alloc: Global, held: &BTreeMap<Version, HeldChunk>) -> Result<Vec<Stamp>, AllocError>
+    ensures { IfOk result (λ stamps. stamps.items
+        ≡ map (λ chunk. chunk.chunk.stamp) (values held.now)) }
+{
+    held.values().map(|chunk| stamp_of(chunk)).collect(alloc)
+}
+
+fn stamp_of(held: &HeldChunk) -> Stamp
+    ensures { result ≡ held.now.chunk.stamp }
+{
+    held.chunk.stamp().copy()
 }

@@ -23,7 +23,7 @@ use Rattle.clay_aloof.specs.Shape.{AloofShape, all_chunks, rows_of, grid_of, nod
 use Rattle.clay_aloof.specs.Limits.{IsAloof}
 use Rattle.clay_aloof.specs.Code.{coupled_value, IsCodeword}
 use Rattle.clay_aloof.specs.Repair.{aloof_layers_of, part_bytes, AreParts}
-use Rattle.clay_aloof.specs.Rebuilt.{is_unknown, ArePut}
+use Rattle.clay_aloof.specs.Rebuilt.{is_unknown}
 use Rattle.clay_aloof.specs.Coded.{AreBytes, PartsAreCoded}
 use Rattle.clay_aloof.proofs.Filled.{place_in, place_in-at}
 use Rattle.clay_aloof.proofs.Layer.{some_rows}
@@ -279,28 +279,6 @@ module _ (a : AloofShape) (lost : ℕ) (have : List (Option (Vec ℕ Global))) (
       let hc : c < all_chunks a = subst (λ n. c < n) are.fit.count h in
       if_some (get_or have c None) (λ v. get_or (map (λ xs. subchunks_at w xs layers) word) c [] ≡ v.items) (λ v there.
       lists.get_or-map (λ xs. subchunks_at w xs layers) word c [] [] (subst (λ n. c < n) (sym word_count) hc) ∙ part_is c v hc there))
-
--- parts that were put into a chunk for each node are bytes where its numbers are
-pub parts_are_bytes : (a : AloofShape) (lost : ℕ) (have : List (Option (Vec ℕ Global))) (known : List ℕ) → IsAloof a → AreParts a lost have → ArePut a lost have (all_chunks a) known
-    → ((p : ℕ) → get_or known p 0 < 2 ^ 8) → AreBytes have
-parts_are_bytes a lost have known aloof are put bytes c v there p =
-    let wide : 0 < a.width = (let some = aloof.limits.width.0 in omega arith) in
-    elim (cases_lt c (length have)) [
-      | inl within ↦
-          let hc : c < all_chunks a = subst (λ n. c < n) are.fit.count within in
-          let size : length v.items ≡ length (aloof_layers_of a lost) * a.width =
-          long_chunk (part_bytes a) have are.lengths c v within there ∙ sym (length-part a lost aloof are.chunk) in
-          elim (cases_lt p (length v.items)) [
-            | inl inside ↦
-                let place : p < length (aloof_layers_of a lost) * a.width = subst (λ n. p < n) size inside in
-                let is : p / a.width * a.width + p % a.width ≡ p = div-add-mod' p a.width in
-                let same = put.parts c v hc there (p / a.width) (p % a.width) (div_below p a.width (length (aloof_layers_of a lost)) wide place) (mod_below p a.width wide) in
-                subst (λ n. n < 2 ^ 8) (same ∙ ap (λ k. get_or v.items k 0) is)
-                (bytes ((node_of a c * layer_count (grid_of a) + get_or (aloof_layers_of a lost) (p / a.width) 0) * a.width + p % a.width))
-            | inr past ↦ subst (λ n. n < 2 ^ 8) (sym (get_or_past v.items p 0 past)) (lit< tt)
-          ]
-      | inr past ↦ absurd (let none : None ≡ Some v = sym (get_or_past have c None past) ∙ there in cc)
-    ]
 
 pub parts_are_coded : PartsAreCoded
 parts_are_coded a lost have aloof are bytes = (

@@ -5,6 +5,7 @@ pub mod Many
 pub mod Nodes
 pub mod Parity
 pub mod Word
+pub mod Laid
 pub mod Kept
 pub mod Parts
 pub mod Unknown
@@ -17,3 +18,5 @@ pub mod Coded
 pub mod Column
 pub mod Worked
 pub mod Faults
+pub mod KnownBytes
+pub mod Tables

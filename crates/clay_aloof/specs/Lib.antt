@@ -8,3 +8,5 @@ pub mod Solved
 pub mod Encoded
 pub mod Rebuilt
 pub mod Worked
+pub mod Known
+pub mod Partners

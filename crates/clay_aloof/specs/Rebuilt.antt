@@ -1,9 +1,9 @@
 -- What a repair works with.
-use Rattle.std.specs.Prelude.{◌≡◌, ◌≢◌, ℕ, ◌+◌, ◌*◌, ◌/◌, ◌%◌, ◌<◌, ◌≤◌, ◌||◌, ◌&&◌, eqb, nat_eq, true, false, not, Bool, List, [], filter, length, get_or, Option, Some, None, is_none, Vec}
+use Rattle.std.specs.Prelude.{◌≡◌, ◌≢◌, ℕ, ◌+◌, ◌*◌, ◌/◌, ◌%◌, ◌<◌, ◌≤◌, ◌||◌, ◌&&◌, eqb, nat_eq, true, false, not, Bool, List, [], filter, length, get_or, Option, Some, None, MatchOption, is_none, Vec}
 use Rattle.std.specs.declared.alloc.Global.{Global}
 use Rattle.clay_grid.specs.Shape.{Shape, node_count, virtual_count, layer_count, chunk_length}
 use Rattle.clay_grid.specs.Layers.{layer_of}
-use Rattle.clay_aloof.specs.Shape.{AloofShape, rows_of, grid_of, node_of, is_virtual_node, chunk_at}
+use Rattle.clay_aloof.specs.Shape.{AloofShape, all_chunks, rows_of, grid_of, node_of, is_virtual_node, chunk_at}
 use Rattle.clay_aloof.specs.Limits.{IsAloof}
 use Rattle.clay_aloof.specs.Code.{coupled_value}
 use Rattle.clay_aloof.specs.Repair.{aloof_layers_of, HasParts}
@@ -39,10 +39,9 @@ pub record IsRepairPlan (a : AloofShape) (lost : ℕ) (have : List (Option (Vec 
 abbrev pub kept_layers : Shape → ℕ → ℕ → List ℕ → List ℕ
 kept_layers g x y order = filter (λ z. nat_eq (get_or (layer_of g z) y 0) x) order
 
--- the first count subchunks of a part stand in a chunk at their layers
-abbrev pub HasBytes : Shape → List ℕ → List ℕ → ℕ → List ℕ → Type 0
-HasBytes g layers part count chunk =
-    (i b : ℕ) → i < count → b < g.width → get_or chunk (get_or layers i 0 * g.width + b) 0 ≡ get_or part (i * g.width + b) 0
+-- the chunk that stands for node i, or none for a virtual node
+abbrev pub IsEntry : AloofShape → ℕ → Option ℕ → Type 0
+IsEntry a i entry = MatchOption entry (IsBetween a i) (λ c. (c < all_chunks a) × (node_of a c ≡ i))
 
 -- a chunk for each node, with the parts of the chunks below count, and zeros for a virtual node
 pub record ArePut (a : AloofShape) (lost : ℕ) (have : List (Option (Vec ℕ Global))) (count : ℕ) (known : List ℕ) : Type 0 where

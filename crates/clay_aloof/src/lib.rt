@@ -5,15 +5,17 @@
 mod chunks;
 mod fault;
 mod geometry;
+mod known;
 mod laws;
 mod layers;
 mod lost;
+mod partners;
 
-pub use chunks::encode;
+pub use chunks::{encode, parity_into};
 pub use fault::BadAloof;
 pub use geometry::AloofGeometry;
 pub use laws::{
     codes_are_filled, codewords_are_unique, fault_law, full_helpers, parts_are_coded,
     worked_codeword,
 };
-pub use lost::{aloof_layers, helpers_fit, rebuild};
+pub use lost::{aloof_layers, helpers_fit, rebuild, rebuild_into};

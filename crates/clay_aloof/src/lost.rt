@@ -1,20 +1,22 @@
 //! The lost chunk, from parts of the helpers' chunks.
-ghost use Rattle.std.specs.Prelude.{◌≡◌, ◌≢◌, ℕ, ◌+◌, ◌*◌, ◌/◌, ◌%◌, ◌^◌, ◌<◌, ◌≤◌, ◌↔◌, ◌||◌, ◌&&◌, List, length, IfOk, IfSome, IsTrue, MatchOption, slice_index, slice_index_or, slice_range, true, false, eqb, is_none, is_some, count_by, None, filter, nat_eq};
+ghost use Rattle.std.specs.Prelude.{◌≡◌, ◌≢◌, ℕ, ◌+◌, ◌*◌, ◌/◌, ◌%◌, ◌^◌, ◌<◌, ◌≤◌, ◌↔◌, ◌||◌, ◌&&◌, List, length, IfOk, OnOk, OnErr, IfSome, IsTrue, MatchOption, slice_index, slice_index_or, slice_range, true, false, eqb, is_none, is_some, count_by, None, filter, nat_eq};
 ghost use Rattle.clay_grid.specs.Shape.{Shape, row_count, column_count, node_count, layer_count, chunk_length};
 ghost use Rattle.clay_grid.specs.Layers.{layer_of};
 ghost use Rattle.clay_grid.specs.Score.{count_below};
 ghost use Rattle.clay_aloof.specs.Shape.{AloofShape, all_chunks, rows_of, grid_of, node_of, is_virtual_node, chunk_at};
 ghost use Rattle.clay_aloof.specs.Repair.{aloof_layers_of, HelpersFit, AreParts, IsRebuilt};
 ghost use Rattle.clay_aloof.specs.Coded.{AreBytes};
+ghost use Rattle.clay_aloof.specs.Known.{node_bytes, IsKnown};
 ghost use Rattle.clay_aloof.specs.Solved.{IsPlan, IsIn, AreSolved};
-ghost use Rattle.clay_aloof.specs.Rebuilt.{is_missing_node, is_unknown, IsBetween, IsGap, IsRepairPlan, ArePut, HasBytes, IsLostPiece, HoldsLost, IsLostChunk, HasColumn, kept_layers};
+ghost use Rattle.clay_aloof.specs.Rebuilt.{is_missing_node, is_unknown, IsBetween, IsEntry, IsGap, IsRepairPlan, ArePut, IsLostPiece, HoldsLost, IsLostChunk, HasColumn, kept_layers};
 
 use crate::geometry::AloofGeometry;
-use crate::layers::{Plan, erased_points, generator_of, piece, solved_piece, solved_values};
-use clay_decode::partner_of;
+use crate::known::{Known, Source, piece};
+use crate::layers::{Plan, erased_points, partner_of, places_of, solved_piece, solved_values};
+use crate::partners::Partners;
 use clay_encode::zeros;
 use clay_grid::Geometry;
-use clay_kernels::{Products, cross, halves};
+use clay_kernels::{Products, cross, generator_of, halves};
 use std::alloc::{AllocError, Global};
 
 /// The layers that a repair of a chunk reads from each helper, rising: those whose digit in the column of the chunk's node is the node's
@@ -205,79 +207,68 @@ fn repair_plan(
     // a layer's score is one more than the number of aloof nodes that are unpaired in it
     let order = grid.layers_by_score(alloc, &erased)?;
     let layers = ordered_layers(alloc, grid, &order, x, y)?;
+    let slots = places_of(alloc, grid, &layers)?;
+    let partners = Partners::new(alloc, grid)?;
     Ok(Plan {
         erased,
         points,
         generator,
         layers,
+        slots,
+        partners,
     })
 }
 
-/// Writes a part's subchunks at their layers.
-fn put_part(g: Geometry, layers: &[u32], part: &[u8], chunk: &mut [u8])
-    requires in_layers { (i : ℕ) → i < length layers.now → slice_index layers.now i < layer_count g }
-    requires apart { (i j : ℕ) → i < j → j < length layers.now → slice_index layers.now i ≢ slice_index layers.now j }
-    requires part_len { length part.now ≡ length layers.now * g.width }
-    requires chunk_len { length chunk.old ≡ chunk_length g }
-    ensures { HasBytes g layers.now part.now (length layers.now) chunk.new }
+/// For each node the chunk that stands for it.
+fn chunks_of_nodes(alloc: Global, g: AloofGeometry) -> Result<Vec<Option<u32>>, AllocError>
+    ensures len { IfOk result (λ v. length v.items ≡ node_count (grid_of g)) }
+    ensures value { IfOk result (λ v. (i : ℕ) → i < node_count (grid_of g) → IsEntry g i (slice_index_or v.items i None)) }
 {
-    let w = g.w() as usize;
-    for (i, z) in layers.iter().enumerate() {
-        let at = *z as usize * w;
-        chunk[at..at + w].copy_from_slice(&part[i * w..i * w + w]);
+    let grid = g.grid();
+    let mut chunks = Vec::new(alloc);
+    for node in 0..grid.nodes() {
+        chunks.push(chunk_of(g, node))?;
     }
+    Ok(chunks)
 }
 
-/// Writes the subchunks of a chunk's part, where it is there.
-fn put_entry(g: Geometry, layers: &[u32], entry: &Option<Vec<u8>>, chunk: &mut [u8])
-    requires in_layers { (i : ℕ) → i < length layers.now → slice_index layers.now i < layer_count g }
-    requires apart { (i j : ℕ) → i < j → j < length layers.now → slice_index layers.now i ≢ slice_index layers.now j }
-    requires part_len { IfSome entry.now (λ v. length v.items ≡ length layers.now * g.width) }
-    requires chunk_len { length chunk.old ≡ chunk_length g }
-    ensures { IfSome entry.now (λ v. HasBytes g layers.now v.items (length layers.now) chunk.new) }
-{
-    if let Some(part) = entry {
-        put_part(g, layers, part, chunk);
-    }
-}
-
-/// A chunk for each node: the helpers' parts at their layers, and zeros elsewhere.
-fn node_chunks(
+/// What the helpers' parts tell of the nodes.
+fn known_parts<'a>(
     alloc: Global,
     g: AloofGeometry,
     lost: u32,
-    parts: &[Option<Vec<u8>>],
-) -> Result<Vec<u8>, AllocError>
+    parts: &'a [Option<Vec<u8>>],
+) -> Result<Known<'a>, AllocError>
     requires { AreParts g lost parts.now }
-    ensures { IfOk result (λ v. ArePut g lost parts.now (all_chunks g) v.items) }
+    ensures known { IfOk result (IsKnown (grid_of g)) }
+    ensures put { IfOk result (λ known. ArePut g lost parts.now (all_chunks g) (node_bytes (grid_of g) known)) }
 {
     let grid = g.grid();
     let layers = aloof_layers(alloc, g, lost)?;
-    let len = grid.chunk_len() as usize;
-    let mut known = zeros(alloc, grid.nodes() as usize * len)?;
-    put_entries(g, lost, parts, &layers, &mut known);
-    Ok(known)
+    let places = places_of(alloc, grid, &layers)?;
+    let chunks = chunks_of_nodes(alloc, g)?;
+    let zeros = zeros(alloc, grid.w() as usize)?;
+    Ok(Known {
+        source: Source::Parts(parts),
+        chunks,
+        places,
+        zeros,
+    })
 }
 
-/// Writes the parts of all chunks.
-fn put_entries(
-    g: AloofGeometry,
-    lost: u32,
-    parts: &[Option<Vec<u8>>],
-    layers: &[u32],
-    known: &mut [u8],
-)
-    requires parts { AreParts g lost parts.now }
-    requires layers { layers.now ≡ aloof_layers_of g lost }
-    requires known { ArePut g lost parts.now 0 known.old }
-    ensures { ArePut g lost parts.now (all_chunks g) known.new }
+/// The numbers of a part are bytes. It does nothing when it runs.
+fn keeps_bytes(part: &[u8])
+    ensures { (i : ℕ) → slice_index part.now i < 2 ^ 8 }
+{}
+
+/// The same of all parts.
+fn are_bytes(parts: &[Option<Vec<u8>>])
+    ensures { AreBytes parts.now }
 {
-    let grid = g.grid();
-    let len = grid.chunk_len() as usize;
-    for c in 0..g.n() {
-        let node = g.node_of_chunk(c);
-        let at = node as usize * len;
-        put_entry(grid, layers, &parts[c as usize], &mut known[at..at + len]);
+    for part in parts {
+        if let Some(bytes) = part {
+            keeps_bytes(bytes);
+        }
     }
 }
 
@@ -288,7 +279,7 @@ fn lost_piece(
     parts: &[Option<Vec<u8>>],
     plan: &Plan,
     halves: &Products,
-    known: &[u8],
+    known: &Known<'_>,
     solved: &[u8],
     z: u32,
     out: &mut [u8],
@@ -296,8 +287,9 @@ fn lost_piece(
     requires parts { AreParts g lost parts.now }
     requires halves { halves.now ≡ 0x8E }
     requires plan { IsRepairPlan g lost parts.now plan.now }
-    requires known { ArePut g lost parts.now (all_chunks g) known.now }
-    requires solved { AreSolved (grid_of g) plan.now known.now solved.now }
+    requires known { IsKnown (grid_of g) known.now }
+    requires put { ArePut g lost parts.now (all_chunks g) (node_bytes (grid_of g) known.now) }
+    requires solved { AreSolved (grid_of g) plan.now (node_bytes (grid_of g) known.now) solved.now }
     requires layer { z < layer_count (grid_of g) }
     requires out_len { length out.old ≡ g.width }
     ensures { IsLostPiece g lost parts.now z out.new }
@@ -305,7 +297,7 @@ fn lost_piece(
     let grid = g.grid();
     let node = g.node_of_chunk(lost);
     // the vertex of the lost node's column that is coupled with the subchunk stands in a layer that is solved
-    let partner = partner_of(grid, node, z);
+    let partner = partner_of(grid, plan, node, z);
     let own = solved_piece(grid, plan, known, solved, partner.node, partner.layer);
     if partner.node == node {
         out.copy_from_slice(own);
@@ -321,14 +313,15 @@ fn write_lost(
     lost: u32,
     parts: &[Option<Vec<u8>>],
     plan: &Plan,
-    known: &[u8],
+    known: &Known<'_>,
     solved: &[u8],
     chunk: &mut [u8],
 )
     requires parts { AreParts g lost parts.now }
     requires plan { IsRepairPlan g lost parts.now plan.now }
-    requires known { ArePut g lost parts.now (all_chunks g) known.now }
-    requires solved { AreSolved (grid_of g) plan.now known.now solved.now }
+    requires known { IsKnown (grid_of g) known.now }
+    requires put { ArePut g lost parts.now (all_chunks g) (node_bytes (grid_of g) known.now) }
+    requires solved { AreSolved (grid_of g) plan.now (node_bytes (grid_of g) known.now) solved.now }
     requires chunk_len { length chunk.old ≡ chunk_length (grid_of g) }
     ensures { IsLostChunk g lost parts.now chunk.new }
 {
@@ -342,33 +335,32 @@ fn write_lost(
     }
 }
 
-/// The lost chunk, from the layers that are solved.
-fn lost_chunk(
+/// Writes the lost chunk of the codewords whose chunks have these parts. Any parts are those of some codeword.
+///
+/// `parts` has an entry for each chunk: for `d` helpers, among them each other chunk of the lost one's column, the subchunks of the
+/// layers of `aloof_layers(alloc, g, lost)`, one after another, and `None` for the lost chunk and the aloof ones. What `chunk` held before
+/// doesn't matter, and it stays as it is where memory is wanting.
+pub fn rebuild_into(
     alloc: Global,
     g: AloofGeometry,
     lost: u32,
     parts: &[Option<Vec<u8>>],
-    plan: &Plan,
-    known: &[u8],
-    solved: &[u8],
-) -> Result<Vec<u8>, AllocError>
+    chunk: &mut [u8],
+) -> Result<(), AllocError>
     requires parts { AreParts g lost parts.now }
-    requires plan { IsRepairPlan g lost parts.now plan.now }
-    requires known { ArePut g lost parts.now (all_chunks g) known.now }
-    requires solved { AreSolved (grid_of g) plan.now known.now solved.now }
-    ensures chunk { IfOk result (λ chunk. IsLostChunk g lost parts.now chunk.items) }
-    ensures bytes { IfOk result (λ _. AreBytes parts.now) }
+    requires chunk { length chunk.old ≡ chunk_length (grid_of g) }
+    ensures rebuilt { OnOk result (IsRebuilt g lost parts.now chunk.new) }
+    ensures kept { OnErr result (chunk.new ≡ chunk.old) }
 {
-    let mut chunk = zeros(alloc, g.chunk_len() as usize)?;
-    write_lost(g, lost, parts, plan, known, solved, &mut chunk);
-    Ok(chunk)
+    are_bytes(parts);
+    let plan = repair_plan(alloc, g, lost, parts)?;
+    let known = known_parts(alloc, g, lost, parts)?;
+    let solved = solved_values(alloc, g.grid(), &plan, &known)?;
+    write_lost(g, lost, parts, &plan, &known, &solved, chunk);
+    Ok(())
 }
 
-/// The lost chunk of the codewords whose chunks have these parts. Any parts are those of some codeword.
-///
-/// `parts` has an entry for each chunk: for `d` helpers, among them each other chunk of the lost one's column, the subchunks of the
-/// layers of `aloof_layers(alloc, g, lost)`, one after another, and `None` for the lost chunk and the aloof ones. The only error is
-/// want of memory.
+/// The lost chunk, as `rebuild_into` writes it.
 pub fn rebuild(
     alloc: Global,
     g: AloofGeometry,
@@ -378,9 +370,7 @@ pub fn rebuild(
     requires { AreParts g lost parts.now }
     ensures { IfOk result (λ chunk. IsRebuilt g lost parts.now chunk.items) }
 {
-    let grid = g.grid();
-    let plan = repair_plan(alloc, g, lost, parts)?;
-    let known = node_chunks(alloc, g, lost, parts)?;
-    let solved = solved_values(alloc, grid, &plan, &known)?;
-    lost_chunk(alloc, g, lost, parts, &plan, &known, &solved)
+    let mut chunk = zeros(alloc, g.chunk_len() as usize)?;
+    rebuild_into(alloc, g, lost, parts, &mut chunk)?;
+    Ok(chunk)
 }

@@ -1,6 +1,7 @@
-ghost use Rattle.std.specs.Prelude.{◌≡◌, IfOk, All, None, replicate};
+ghost use Rattle.std.specs.Prelude.{◌≡◌, ◌+◌, IfOk, OnOk, All, None, replicate};
 ghost use Rattle.clay_grid.specs.Shape.{stripe_length};
 ghost use Rattle.version_seal.specs.Chunk.{IsChunkOf};
+ghost use Rattle.version_seal.specs.Sealer.{sealer_at};
 ghost use Rattle.chunk_server.specs.Valid.{IsFor};
 ghost use Rattle.clay_bench.specs.Puts.{IsEmptyPut};
 
@@ -8,8 +9,8 @@ use crate::rack::VERSIONS;
 use clay_encode::encode;
 use clay_grid::Geometry;
 use std::alloc::Global;
-use store_map::{Actor, Call, Content, Name, Version};
-use version_seal::{Book, Request, SealedChunk, Stamp};
+use store_map::{Actor, Call, Content, Name};
+use version_seal::{Book, Request, SealedChunk, Sealer, Stamp};
 
 // A put with no bytes.
 fn empty_put(alloc: Global, book: &Book) -> anyhow::Result<Request>
@@ -22,15 +23,17 @@ fn empty_put(alloc: Global, book: &Book) -> anyhow::Result<Request>
     Ok(book.request(Actor::Client(0), 0, &call))
 }
 
-// Seals a version of its stripe, which has zeros alone.
-fn seal(book: &Book, request: &Request, version: Version) -> anyhow::Result<Stamp>
+// Seals the next version of its stripe, which has zeros alone.
+fn seal(book: &Book, sealer: &mut Sealer, request: &Request) -> anyhow::Result<Stamp>
     requires script { book.now.script ≡ None }
+    requires sealer { sealer.old.home ≡ book.now.home }
     requires request { IsEmptyPut book.now request.now }
+    ensures on { OnOk result (sealer.new ≡ sealer_at book.now (sealer.old.next + 1)) }
     ensures home { IfOk result (λ stamp. stamp.home ≡ book.now.home) }
     ensures zeros { IfOk result (λ stamp. stamp.content ≡ replicate (stripe_length book.now.geometry) 0) }
 {
-    let room = book.reserve(version, 1)?;
-    Ok(book.seal(&room, version, Actor::Client(0), 0, 0, Some(request), None)?)
+    let room = book.reserve(sealer.next(), 1)?;
+    Ok(book.seal(sealer, &room, Actor::Client(0), 0, 0, Some(request), None)?)
 }
 
 // The first server's chunk of a stripe of zeros.
@@ -47,29 +50,37 @@ fn chunk_of(
     alloc: Global,
     geometry: Geometry,
     book: &Book,
+    sealer: &mut Sealer,
     request: &Request,
-    version: Version,
 ) -> anyhow::Result<SealedChunk>
     requires script { book.now.script ≡ None }
     requires code { book.now.geometry ≡ geometry }
+    requires sealer { sealer.old.home ≡ book.now.home }
     requires request { IsEmptyPut book.now request.now }
-    ensures { IfOk result (IsFor book.now.home 0 geometry) }
+    ensures chunk { IfOk result (IsFor book.now.home 0 geometry) }
+    ensures on { OnOk result (sealer.new ≡ sealer_at book.now (sealer.old.next + 1)) }
 {
-    let stamp = seal(book, request, version)?;
+    let stamp = seal(book, sealer, request)?;
     Ok(SealedChunk::new(geometry, stamp, 0, zeros(alloc, geometry)?))
 }
 
 /// The first server's chunks of versions of one stripe, the last version first.
-pub fn chunks_of(alloc: Global, geometry: Geometry, book: &Book) -> anyhow::Result<Vec<SealedChunk>>
+pub fn chunks_of(
+    alloc: Global,
+    geometry: Geometry,
+    book: &Book,
+    mut sealer: Sealer,
+) -> anyhow::Result<Vec<SealedChunk>>
     requires script { book.now.script ≡ None }
     requires code { book.now.geometry ≡ geometry }
+    requires sealer { sealer.home ≡ book.now.home }
     ensures { IfOk result (λ chunks. All (IsFor book.now.home 0 geometry) chunks.items) }
 {
     let request = empty_put(alloc, book)?;
     let mut chunks = Vec::new(alloc);
-    for version in 0..VERSIONS {
-        let version = Version(VERSIONS - 1 - version);
-        chunks.push(chunk_of(alloc, geometry, book, &request, version)?)?;
+    for _version in 0..VERSIONS {
+        chunks.push(chunk_of(alloc, geometry, book, &mut sealer, &request)?)?;
     }
+    chunks.reverse();
     Ok(chunks)
 }

@@ -34,8 +34,8 @@ fn tell_anew(
     steps: u32,
 ) -> anyhow::Result<()> {
     let geometry = Geometry::new(2, 2, 1)?;
-    let book = Book::free(alloc, geometry)?;
-    let mut store = Store::open(alloc, &book, u32::MAX)?;
+    let (book, sealer) = Book::free(alloc, geometry)?;
+    let mut store = Store::open(alloc, &book, sealer, u32::MAX)?;
     let told = tell_steps(rt, alloc, &mut store, kind, size, steps);
     store.leave();
     told

@@ -101,8 +101,8 @@ fn time_width(
     rounds: u64,
 ) -> anyhow::Result<()> {
     let geometry = Geometry::new(4, 2, width)?;
-    let book = Book::free(alloc, geometry)?;
-    let chunks = chunks_of(alloc, geometry, &book)?;
+    let (book, sealer) = Book::free(alloc, geometry)?;
+    let chunks = chunks_of(alloc, geometry, &book, sealer)?;
     time_rounds(rt, &mut Rack::new(alloc, &book, &chunks), width, rounds)
 }
 

@@ -1,3 +1,4 @@
 pub mod Laying
 pub mod Taking
 pub mod Recovering
+pub mod Marking

@@ -41,7 +41,7 @@ none_cond : (b : Bool) (l : List ℕ) → is_none (cond b None (Some l)) ≡ b
 none_cond true l = refl
 none_cond false l = refl
 
-none_of : (o : Option (Vec ℕ Global)) → is_none o ≡ true → o ≡ None
+pub none_of : (o : Option (Vec ℕ Global)) → is_none o ≡ true → o ≡ None
 none_of None h = refl
 none_of (Some v) h = cc
 

@@ -1,3 +1,4 @@
 pub mod Status
 pub mod Pieces
 pub mod Calls
+pub mod Helpers

@@ -24,3 +24,7 @@ too_few = 4
 -- memory is wanting
 abbrev pub out_of_memory : ℕ
 out_of_memory = 5
+
+-- the helpers aren't as many as the code has, or aren't each other chunk of the lost one's column, or the lost chunk is one
+abbrev pub bad_helpers : ℕ
+bad_helpers = 6

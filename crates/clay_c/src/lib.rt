@@ -9,6 +9,9 @@ ghost use Rattle.clay_grid.specs.Repair.{repair_layers_of};
 ghost use Rattle.clay_c.specs.Status.{done, bad_geometry, bad_length, bad_chunk, too_few, out_of_memory};
 ghost use Rattle.clay_c.specs.Calls.{HasNumbers, LayersFit, ParityFits, MakesParity, ChunksFit, lost_count, Recovers, PartsFit, Rebuilds};
 
+mod aloof;
+mod helpers;
+mod marks;
 mod pieces;
 mod rebuilding;
 mod recovery;
@@ -18,6 +21,10 @@ use crate::rebuilding::{part_len, write_rebuilt};
 use crate::recovery::{missing_count, write_missing, write_parity};
 use crate::status::{BAD_CHUNK, BAD_GEOMETRY, BAD_LENGTH, DONE, OUT_OF_MEMORY, TOO_FEW};
 use clay_grid::Geometry;
+pub use helpers::{
+    clay_geometry_with_helpers, clay_parity_with_helpers, clay_rebuild_with_helpers,
+    clay_repair_layers_with_helpers,
+};
 use std::alloc::Global;
 
 /// The numbers of a code, as C sees them. Lengths are in bytes.

@@ -1,5 +1,5 @@
 //! Pieces of one length that stand one behind another in a caller's bytes.
-ghost use Rattle.std.specs.Prelude.{◌≡◌, ◌+◌, ◌*◌, ◌≤◌, length, IfOk, IfSome, cond, Some, None};
+ghost use Rattle.std.specs.Prelude.{◌≡◌, ◌+◌, ◌*◌, ◌≤◌, length, IfOk, IfSome, cond, false, Some, None};
 ghost use Rattle.std.specs.Option.{option_map};
 ghost use Rattle.clay_c.specs.Pieces.{piece_at};
 
@@ -13,7 +13,7 @@ pub fn take(
     place: usize,
     gone: bool,
 ) -> Result<Option<Vec<u8>>, AllocError>
-    requires { (place + 1) * len ≤ length bytes.now }
+    requires { gone ≡ false → (place + 1) * len ≤ length bytes.now }
     ensures len { IfOk result (λ o. IfSome o (λ v. length v.items ≡ len)) }
     ensures piece { IfOk result (λ o. option_map (λ v. v.items) o ≡ cond gone None (Some (piece_at len bytes.now place))) }
 {

@@ -11,3 +11,5 @@ pub const BAD_CHUNK: u32 = 3;
 pub const TOO_FEW: u32 = 4;
 
 pub const OUT_OF_MEMORY: u32 = 5;
+
+pub const BAD_HELPERS: u32 = 6;

@@ -3,13 +3,14 @@ ghost use Rattle.std.specs.Prelude.{◌≡◌, ℕ, ◌+◌, ◌*◌, ◌<◌, �
 ghost use Rattle.clay_scalar.specs.Points.{AreDistinct};
 ghost use Rattle.clay_field.specs.Field.{power_of};
 ghost use Rattle.clay_kernels.specs.Lanes.{AddsRows};
-ghost use Rattle.clay_kernels.specs.Generated.{IsGenerator, factor_at};
+ghost use Rattle.clay_kernels.specs.Generated.{IsGenerator, IsGeneratorOf, factor_at};
 ghost use Rattle.clay_kernels.specs.Columns.{AreColumns};
 
 use crate::column::ColumnFactors;
 use crate::kernels::add_rows;
 use crate::products::Products;
 use clay_field::power;
+use clay_grid::Geometry;
 use clay_scalar::Solver;
 use std::alloc::{AllocError, Global};
 use std::marker::Model;
@@ -153,4 +154,15 @@ impl Generator {
         let factors = self.of_node(node);
         add_rows(factors, values, rows);
     }
+}
+
+/// The factors of every node in the values of these nodes. Those of these nodes themselves serve for nothing.
+pub fn generator_of(alloc: Global, g: Geometry, points: &[u8]) -> Result<Generator, AllocError>
+    requires few { length points.now ≤ 8 }
+    requires distinct { AreDistinct points.now }
+    ensures { IfOk result (λ made. IsGeneratorOf g points.now made.unknown made.each) }
+{
+    let all = nodes(alloc, 0, g.nodes())?;
+    let generator = Generator::new(alloc, points, &all)?;
+    Ok(generator)
 }

@@ -12,6 +12,6 @@ mod products;
 pub use blocks::{BLOCK, column_room, zeros};
 pub use column::{ColumnFactors, add_column, end_column};
 pub use coupling::{couple, cross, double, fifths, halves, uncouple, uncouple_from};
-pub use generator::{Generator, nodes};
+pub use generator::{Generator, generator_of, nodes};
 pub use kernels::add_rows;
 pub use products::Products;

@@ -2,14 +2,12 @@
 ghost use Rattle.std.specs.Prelude.{◌≡◌, ℕ, ◌+◌, ◌*◌, ◌<◌, ◌≤◌, length, IfOk, slice_index_or, true, false, count_by, is_none};
 ghost use Rattle.clay_grid.specs.Shape.{Shape, chunk_count, node_count, chunk_length};
 ghost use Rattle.clay_scalar.specs.Erased.{erased_below};
-ghost use Rattle.clay_scalar.specs.Points.{AreDistinct};
 ghost use Rattle.clay_decode.specs.Left.{AreLong};
 ghost use Rattle.clay_decode.specs.Solved.{is_erased};
-ghost use Rattle.clay_kernels.specs.Generated.{IsGeneratorOf};
 ghost use Rattle.clay_lanes.specs.Recovered.{IsLanePlan};
 
 use clay_grid::Geometry;
-use clay_kernels::{Generator, Products, fifths, nodes, zeros};
+use clay_kernels::{Generator, Products, fifths, generator_of, zeros};
 use std::alloc::{AllocError, Global};
 
 /// The erased nodes, which are those of the missing chunks, and the order of the layers.
@@ -80,17 +78,6 @@ fn erased_points(alloc: Global, erased: &[bool]) -> Result<Vec<u8>, AllocError>
         }
     }
     Ok(points)
-}
-
-/// The factors of every node in the values of these nodes. Those of these nodes themselves serve for nothing.
-pub fn generator_of(alloc: Global, g: Geometry, points: &[u8]) -> Result<Generator, AllocError>
-    requires few { length points.now ≤ 8 }
-    requires distinct { AreDistinct points.now }
-    ensures { IfOk result (λ made. IsGeneratorOf g points.now made.unknown made.each) }
-{
-    let all = nodes(alloc, 0, g.nodes())?;
-    let generator = Generator::new(alloc, points, &all)?;
-    Ok(generator)
 }
 
 /// The plan for chunks of which no more are missing than there are parity chunks.

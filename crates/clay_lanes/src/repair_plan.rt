@@ -5,9 +5,8 @@ ghost use Rattle.clay_grid.specs.Layers.{layer_of};
 ghost use Rattle.clay_grid.specs.Repair.{layers_with_digit};
 ghost use Rattle.clay_lanes.specs.Repaired.{IsRepairPlan, column_nodes};
 
-use crate::plan::generator_of;
 use clay_grid::Geometry;
-use clay_kernels::{Generator, Products, halves, zeros};
+use clay_kernels::{Generator, Products, generator_of, halves, zeros};
 use std::alloc::{AllocError, Global};
 
 /// The place of the lost node, the factors of its column, and the layers that are read.

@@ -1,6 +1,7 @@
 //! What the program and a world ask of their coder.
 ghost use Rattle.std.specs.Prelude.{◌≡◌, Some};
 ghost use Rattle.store_map.specs.Naming.{IsValid};
+ghost use Rattle.version_seal.specs.Sealer.{sealer_at};
 
 use crate::counted::CountingCoder;
 use crate::lines::unfolded;
@@ -15,7 +16,7 @@ use std::thread::Threads;
 use store_map::Script;
 use store_world::World;
 use transcript_text::Transcript;
-use version_seal::Book;
+use version_seal::{Book, Sealer};
 
 // Of a stripe whose chunk 0 is lost.
 const ONE_LOSS: &[u8] = b"\
@@ -65,12 +66,14 @@ fn run_world<R: Threads + Sync + AllocGlobal>(
     coder: &CountingCoder,
     script: &Script,
     book: &Book,
+    sealer: Sealer,
 ) -> Result<Transcript, AllocError>
     requires valid { IsValid script.now }
     requires written { book.now.script ≡ Some script.now }
     requires code { book.now.geometry ≡ script.now.geometry }
+    requires sealer { sealer ≡ sealer_at book.now 0 }
 {
-    let mut world = World::new(rt.alloc(), script, book)?;
+    let mut world = World::new(rt.alloc(), script, book, sealer)?;
     for token in script.schedule.as_slice() {
         world.step(rt, coder, *token);
     }
@@ -87,9 +90,9 @@ fn asked_by_a_world<R: Threads + Sync + AllocGlobal>(
     let Ok(script) = read_script(alloc, &unfolded(alloc, text)?) else {
         return Err(Fail::from("refused"));
     };
-    let book = Book::new(alloc, script)?;
+    let (book, sealer) = Book::new(alloc, script)?;
     if let Some(script) = book.script() {
-        let _transcript = run_world(rt, &coder, script, &book)?;
+        let _transcript = run_world(rt, &coder, script, &book, sealer)?;
     }
     Ok(coder)
 }

@@ -116,7 +116,7 @@ module _ (a : Inside) (kept : IsPatch a) (old : PatchOf) (view : patch_in a ≡ 
         (subst (λ (w : WritingOf). Keeps stage.Writing (record a { writing = w; coding = coding })) (sym same) (
           record { book_is = coding_keeps.0.book_is; first = coding_keeps.0.first; count = coding_keeps.0.count; contents = coding_keeps.0.contents },
           short_has a.number (note_of a.call.now) (versions_of a.writing.stamps) a.token a.writing.state coding_keeps.1 begins,
-          room_before a.writing.state begins coding_keeps.2,
+          λ write. room_before a.writing.state begins (coding_keeps.2 write),
           coding_keeps.3,
         ))
       where

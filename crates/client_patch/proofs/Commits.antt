@@ -1,11 +1,11 @@
 -- The commit of a write.
-use Rattle.std.proofs.Common.{◌≡◌, ℕ, ◌<◌, true, false, List, [], length, All, vec_capacity, inr, refl, sym, ap, subst, ◌∙◌}
+use Rattle.std.proofs.Common.{◌≡◌, ℕ, ◌<◌, true, false, List, [], length, All, vec_capacity, refl, sym, ap, subst, ◌∙◌}
 use Rattle.std.proofs.lemmas.Bool.{true≢false}
 use Rattle.std.proofs.lemmas.List.{length-map}
 use Rattle.clay_grid.specs.Shape.{chunk_count}
 use Rattle.store_map.specs.declared.placement.Placement.{Placement}
 use Rattle.store_core.specs.Told.{Told}
-use Rattle.store_core.specs.Note.{Note, Kind, note_of}
+use Rattle.store_core.specs.Note.{note_of}
 use Rattle.store_core.specs.Lists.{places_of}
 use Rattle.store_core.specs.Act.{DirectoryStep}
 use Rattle.store_core.specs.AtDirectory.{at_directory}
@@ -13,8 +13,8 @@ use Rattle.store_core.specs.Directory.{Directory}
 use Rattle.store_core.specs.PassSteps.{touched}
 use Rattle.store_core.specs.Placements.{IsRow}
 use Rattle.store_core.specs.NextAct.{job_of}
-use Rattle.store_core.specs.Agreement.{ActorToken}
-use Rattle.store_core.specs.Tokens.{actor_of, IsToWrite}
+use Rattle.store_core.specs.Agreement.{ActorToken, Agrees}
+use Rattle.store_core.specs.Tokens.{actor_of}
 use Rattle.store_resume.specs.State.{Sequel, State}
 use Rattle.store_resume.specs.States.{settle_state}
 use Rattle.store_resume.specs.StateActs.{act_of_state}
@@ -25,7 +25,7 @@ use Rattle.call_steps.specs.TokenAfter.{token_after, MayMake, IsSeated}
 use Rattle.gather_parts.specs.States.{state_in}
 use Rattle.write_course.specs.Laws.{call_at}
 use Rattle.write_course.specs.Writings.{WritingOf, versions_of, is_committing}
-use Rattle.client_patch.specs.Patches.{PatchOf}
+use Rattle.client_patch.specs.Patches.{PatchOf, is_write}
 use Rattle.client_patch.specs.Stages.{state_by, due_by}
 use Rattle.call_steps.specs.Ends.{finished_of}
 use Rattle.client_patch.specs.Inside.{pairs_in, patch_in, Keeps, IsPatch}
@@ -34,15 +34,12 @@ use Rattle.client_patch.specs.Holds.{HasRoom}
 use Rattle.client_patch.specs.declared.patch.PatchCall.TheInside.{Inside}
 use Rattle.client_patch.specs.declared.stage.Stage.{Stage}
 use Rattle.client_patch.specs.declared.stage.Stage.TheVariants as stage
-use Rattle.client_patch.proofs.OfWrites.{write_kind}
+use Rattle.client_patch.proofs.OfWrites.{to_write}
 use Rattle.client_patch.proofs.Gathered.{EndsSo, ungathered_ends, gathering_gives}
+use Rattle.client_patch.proofs.Puts.{overtaken_writes}
 use Rattle.write_course.proofs.Tokens.{settle_has, holds_to_commit, seated_by}
 use Rattle.client_patch.proofs.Rooms.{settle_room}
 use Rattle.write_course.proofs.AtDirectory.{directory_step, may_commit}
-
--- a write's pass
-pub to_write : {number : ℕ} {note : Note} {drawn : List ℕ} {token : ActorToken} (h : IsHolding number note drawn token) → note.kind ≡ Kind.Write → IsToWrite h.held
-to_write h kind = inr (ap (λ (note : Note). note.kind) h.its ∙ kind)
 
 module _ (a : Inside) (kept : IsPatch a) (old : PatchOf) (view : patch_in a ≡ old) (committing : is_committing old.call.state.at ≡ true) where
   commits_here : is_committing (state_by a.stage a.gatherings a.writing a.outcome) ≡ true
@@ -82,13 +79,19 @@ module _ (a : Inside) (kept : IsPatch a) (old : PatchOf) (view : patch_in a ≡ 
       → MayMake d a.token a.number (DirectoryStep.Commit placed)
   commit_may d placed shape count whole =
       let versions : length (versions_of a.writing.stamps) ≡ length a.writing.stamps = length-map a.writing.stamps (λ stamp. stamp.version) in
-      may_commit d a.number (note_of a.call.now) (versions_of a.writing.stamps) a.token placed commit_holding (to_write commit_holding (write_kind a.call.now commit_keeps.3))
+      may_commit d a.number (note_of a.call.now) (versions_of a.writing.stamps) a.token placed commit_holding (to_write a.call.now commit_holding commit_keeps.3)
       (versions ∙ commit_keeps.0.count ∙ ap (λ g. length (touched (record d { shape = g }) (note_of a.call.now))) (sym shape))
       (count ∙ sym versions)
       (subst (λ g. All (IsRow g) placed) (ap (λ (book : BookOf). book.geometry) commit_keeps.0.book_is ∙ sym shape) whole)
 
-  pub commit_room : length a.changes.items < vec_capacity a.changes
-  commit_room = room_of a.writing.state writing_commits commit_keeps.2
+  -- a commit that finds the object changed is a write's
+  pub told_change : (d after : Directory) (placed : List (List Placement)) (base newer : ℕ) → Agrees d a.token
+      → (after, Told.Changed base newer) ≡ at_directory false (actor_of a.token) a.number (DirectoryStep.Commit placed) d → is_write a.call.now ≡ true
+  told_change d after placed base newer agrees made =
+      overtaken_writes a.call.now a.number (versions_of a.writing.stamps) a.token d after placed base newer commit_keeps.3 commit_holding agrees made
+
+  pub commit_room : is_write a.call.now ≡ true → length a.changes.items < vec_capacity a.changes
+  commit_room write = room_of a.writing.state writing_commits (commit_keeps.2 write)
     where
       room_of : (at : State) → is_committing at ≡ true → HasRoom at (length a.changes.items) (vec_capacity a.changes) → length a.changes.items < vec_capacity a.changes
       room_of (State.Committing versions placed) e h = h
@@ -106,7 +109,7 @@ module _ (a : Inside) (kept : IsPatch a) (old : PatchOf) (view : patch_in a ≡ 
         (subst (λ (w : WritingOf). Keeps stage.Writing (record a { token = token; writing = w; changes = now.changes; coding = false; step = false })) (sym w_is) (
           record { book_is = commit_keeps.0.book_is; first = commit_keeps.0.first; count = commit_keeps.0.count; contents = commit_keeps.0.contents },
           settle_has a.number (note_of a.call.now) (versions_of a.writing.stamps) token point (places_of (chunk_count a.writing.book.geometry) (versions_of a.writing.stamps)) seated,
-          settle_room point (places_of (chunk_count a.writing.book.geometry) (versions_of a.writing.stamps)) (length now.changes.items) (vec_capacity now.changes),
+          λ write. settle_room point (places_of (chunk_count a.writing.book.geometry) (versions_of a.writing.stamps)) (length now.changes.items) (vec_capacity now.changes),
           commit_keeps.3,
         )))
 

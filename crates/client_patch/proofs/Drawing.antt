@@ -1,5 +1,5 @@
--- The draw of a write.
-use Rattle.std.proofs.Common.{◌≡◌, ℕ, zero, suc, ◌+◌, ◌-◌, ◌*◌, ◌/◌, ◌^◌, ◌<◌, ◌≤◌, Bool, List, [], length, Some, vec_capacity, refl, ap, subst, sym, ◌∙◌, arith}
+-- The draw of a put or a write.
+use Rattle.std.proofs.Common.{◌≡◌, ◌⊎◌, ℕ, zero, suc, ◌+◌, ◌-◌, ◌*◌, ◌/◌, ◌^◌, ◌<◌, ◌≤◌, Bool, true, List, [], length, Some, vec_capacity, refl, ap, subst, sym, ◌∙◌, inl, inr, arith}
 use Rattle.std.specs.List.{slice_get}
 use Rattle.std.proofs.lemmas.List.FromFn.{length-range_with_len}
 use Rattle.std.proofs.Math.Nat.{div-le_of_le-mul}
@@ -35,15 +35,17 @@ use Rattle.client_patch.specs.Kept.{new_of}
 use Rattle.client_patch.specs.Known.{AreOldBytes, UpToDraw, KnowsOld}
 use Rattle.write_course.specs.Draws.{request_of, stamps_drawn}
 use Rattle.write_course.proofs.AtDirectory.{written_is, at_range, drawn_stamps}
-use Rattle.client_patch.specs.Patches.{PatchOf}
+use Rattle.client_patch.specs.Patches.{PatchOf, is_put, is_write}
 use Rattle.client_patch.specs.Stages.{state_by, due_by}
 use Rattle.call_steps.specs.Ends.{finished_of}
 use Rattle.client_patch.specs.Inside.{pairs_in, patch_in, Keeps, IsPatch}
 use Rattle.write_course.specs.Holding.{IsHolding, HasToken}
-use Rattle.client_patch.specs.Holds.{IsOfCall}
+use Rattle.client_patch.specs.Holds.{IsOfCall, PinsNothing, GathersNothing}
 use Rattle.client_patch.specs.declared.patch.PatchCall.TheInside.{Inside}
 use Rattle.client_patch.specs.declared.stage.Stage.{Stage}
 use Rattle.client_patch.specs.declared.stage.Stage.TheVariants as stage
+use Rattle.client_patch.proofs.OfWrites.{put_or_write}
+use Rattle.client_patch.proofs.Puts.{old_of_nothing}
 use Rattle.client_patch.proofs.Gathered.{EndsSo, ungathered_ends}
 use Rattle.gather_parts.proofs.Ended.{done_owed}
 use Rattle.write_course.proofs.Tokens.{prepare_has}
@@ -143,13 +145,22 @@ module _ (a : Inside) (kept : IsPatch a) (old : PatchOf) (view : patch_in a ≡ 
       ((λ i. need_by (act_at (kept.book i).geometry a.tries (job_of a.call.now) (pairs_in a.changes.items) (state_by (sym draw_is i) a.gatherings a.writing a.outcome)) (due_by (sym draw_is i) a.gatherings a.writing)) ∙ needs_here)
       (ap (λ s. state_by s a.gatherings a.writing a.outcome) (sym draw_is) ∙ at_draw))
 
-  known : (d : Sealed) → KnowsOld d old → AreOldBytes d.stamps a.opening (note_of a.call.now) a.size a.gatherings.bytes holding.held.pass
-  known d knows =
+  write_known : (d : Sealed) → KnowsOld d old → AreOldBytes d.stamps a.opening (note_of a.call.now) a.size a.gatherings.bytes holding.held.pass
+  write_known d knows =
       let here : KnowsOld d (patch_in a) = subst (KnowsOld d) (sym view) knows in
       let token : IfInCall a.token (λ held. AreOldBytes d.stamps a.opening (note_of a.call.now) a.size (owed a.gatherings) held.pass)
       = subst (λ at. UpToDraw at (IfInCall a.token (λ held. AreOldBytes d.stamps a.opening (note_of a.call.now) a.size (owed a.gatherings) held.pass))) at_draw here in
       subst (λ bytes. AreOldBytes d.stamps a.opening (note_of a.call.now) a.size bytes holding.held.pass) has_bytes
       (subst (λ t. IfInCall t (λ held. AreOldBytes d.stamps a.opening (note_of a.call.now) a.size (owed a.gatherings) held.pass)) holding.is token)
+
+  known : (d : Sealed) → (is_write a.call.now ≡ true → KnowsOld d old) → AreOldBytes d.stamps a.opening (note_of a.call.now) a.size a.gatherings.bytes holding.held.pass
+  known d knows = by (put_or_write a.call.now draw_keeps.2)
+    where
+      by : (is_put a.call.now ≡ true) ⊎ (is_write a.call.now ≡ true) → AreOldBytes d.stamps a.opening (note_of a.call.now) a.size a.gatherings.bytes holding.held.pass
+      by (inr write) = write_known d (knows write)
+      by (inl put) =
+          let nothing : PinsNothing a.token × GathersNothing a.gatherings = draw_keeps.3 put in
+          old_of_nothing d.stamps a.opening (note_of a.call.now) a.size a.gatherings.bytes holding.held.pass (subst PinsNothing holding.is nothing.0) nothing.1.no_bytes
 
   draws : act_of ((patch_in a).call) ≡ Act.AtDirectory DirectoryStep.Draw
   draws = ap (λ at. act_of_state a.opening.geometry a.tries (job_of a.call.now) (call_at (pairs_in a.changes.items) at)) at_draw
@@ -180,7 +191,7 @@ module _ (a : Inside) (kept : IsPatch a) (old : PatchOf) (view : patch_in a ≡ 
 
   -- what is kept
   pub draw_kept : (s : Sealed) (stamps : List StampOf) (request : RequestOf) (token : ActorToken) (w : WritingOf) (coding step : Bool)
-      → s.book ≡ a.opening → s.book.geometry ≡ s.core.shape → request ≡ request_of (patch_in a).call a.call.now → AreDrawnFor s holding.held (Some request) stamps → KnowsOld s old
+      → s.book ≡ a.opening → s.book.geometry ≡ s.core.shape → request ≡ request_of (patch_in a).call a.call.now → AreDrawnFor s holding.held (Some request) stamps → (is_write a.call.now ≡ true → KnowsOld s old)
       → w.stamps ≡ stamps → w.book ≡ a.opening → w.first ≡ (note_of a.call.now).offset / stripe_length a.opening.geometry
       → w.state ≡ prepare_all_state a.opening.geometry (versions_of w.stamps) w.first (versions_of w.stamps) []
       → token ≡ token_after a.token a.number DirectoryStep.Draw (Told.Versions (versions_of w.stamps))
@@ -197,6 +208,6 @@ module _ (a : Inside) (kept : IsPatch a) (old : PatchOf) (view : patch_in a ≡ 
         subst (HasToken a.number (note_of a.call.now) (versions_of w.stamps) token) (sym state_is)
             (prepare_has a.number (note_of a.call.now) (versions_of w.stamps) token a.opening.geometry (versions_of w.stamps) w.first (versions_of w.stamps) []
             (record { held = _; is = after; its = holding.its; its_number = holding.its_number; its_drawn = refl })),
-        room_at w.state (length a.changes.items) (vec_capacity a.changes) draw_keeps.1,
+        λ write. room_at w.state (length a.changes.items) (vec_capacity a.changes) (draw_keeps.1 write),
         draw_keeps.2,
       )

@@ -35,11 +35,9 @@ use Rattle.gather_parts.specs.Wanted.{wanted_of, bytes_of}
 use Rattle.client_patch.specs.Padded.{IsPadded, ItsArePadded, ArePadded}
 use Rattle.client_patch.specs.Kept.{old_in}
 use Rattle.client_patch.specs.Known.{AreOldBytes, UpToDraw}
-use Rattle.client_patch.specs.Patches.{is_write}
-use Rattle.client_patch.specs.LookAfter.{size_told, looked_stripes, IsPatchLook, IsLooked}
+use Rattle.client_patch.specs.Patches.{is_put, is_write}
+use Rattle.client_patch.specs.LookAfter.{size_told, looked_stripes, IsPatchLook, IfReady}
 use Rattle.call_steps.specs.Callers.{IsWaiting}
-use Rattle.client_patch.specs.declared.stage.Stage.{Stage}
-use Rattle.client_patch.specs.declared.stage.Stage.TheVariants as stage
 use Rattle.store_map.specs.declared.actor.Point.{Point}
 use Rattle.store_map.specs.declared.call.Call.{Call}
 use Rattle.store_core.specs.Agreement.{Seat, ActorToken}
@@ -50,9 +48,14 @@ use Rattle.stripe_dir.specs.declared.answers.Look.{Look}
 use Rattle.stripe_dir.specs.declared.answers.Look.TheVariants as look_answer
 use Rattle.stripe_dir.specs.Shown.{AreShown, stripes_seen}
 use Rattle.client_patch.proofs.Gathered.{known_at}
-use Rattle.client_patch.proofs.OfWrites.{write_kind}
+use Rattle.client_patch.proofs.OfWrites.{write_kind, put_or_write}
+use Rattle.client_patch.proofs.Puts.{old_of_nothing}
 use Rattle.client_patch.proofs.Looks.{looked}
 use Rattle.client_patch.proofs.KeptBytes.{content_of, gathered, old_is}
+
+no_seens : (stripes : List Seen) → map seen_in stripes ≡ [] → stripes ≡ []
+no_seens [] e = refl
+no_seens (seen ∷ stripes) e = absurd (cc)
 
 abbrev seens_told : Told → List CoreSeen
 seens_told (Told.Ready base size seens) = seens
@@ -172,32 +175,40 @@ module _ (s : Sealed) (some : 0 < stripe_length s.core.shape) (sound : IsSound s
       }
 
 -- by the answer
-module _ (s : Sealed) (stamps : List StampOf) (same : stamps ≡ s.stamps) (some : 0 < stripe_length s.core.shape) (sound : IsSound s.core) (has : HasStamps s) (padded : ArePadded s)
-    (book : BookOf) (code : book.geometry ≡ s.core.shape) (written : Call) (number : ℕ) where
+module _ (s : Sealed) (stamps : List StampOf) (same : stamps ≡ s.stamps) (some : 0 < stripe_length s.core.shape) (sound : IsSound s.core) (has : HasStamps s) (written : Call)
+    (padded : is_write written ≡ true → ArePadded s) (book : BookOf) (code : book.geometry ≡ s.core.shape) (number : ℕ) where
   abbrev Knows : ℕ → List ℕ → ActorToken → Type 0
   Knows size kept token = IfInCall token (λ held. AreOldBytes stamps book (note_of written) size kept held.pass)
 
-  knows_by : (seat : Seat) (answer : Result (Look ⊤ ⊤) AllocError) (short : Bool) (after : Directory) (next : Stage) (size : ℕ) (kept : List ℕ)
-      → IsPatchLook (is_write written) (looked answer) → (after, looked answer) ≡ at_directory short seat.actor number (DirectoryStep.Look (note_of written)) s.core → AreShown s stripes_seen answer
-      → IsLooked (looked answer) next → size_told (looked answer) ≡ size → (next ≡ stage.Looked → kept ≡ bytes_of (map (wanted_of book.geometry 0 size) (looked_stripes answer)))
+  knows_by : (seat : Seat) (answer : Result (Look ⊤ ⊤) AllocError) (short : Bool) (after : Directory) (size : ℕ) (kept : List ℕ)
+      → IsPatchLook written (looked answer) → (after, looked answer) ≡ at_directory short seat.actor number (DirectoryStep.Look (note_of written)) s.core → AreShown s stripes_seen answer
+      → size_told (looked answer) ≡ size → IfReady (looked answer) (kept ≡ bytes_of (map (wanted_of book.geometry 0 size) (looked_stripes answer)))
       → Knows size kept (token_after (ActorToken.Seated seat) number (DirectoryStep.Look (note_of written)) (looked answer))
-  knows_by seat (Ok (look_answer.Answer gone point reply)) short after next size kept fits made shown goes long is = tt
-  knows_by seat (Err e) short after next size kept fits made shown goes long is = tt
-  knows_by seat (Ok (look_answer.Pinned gone point length stripes)) short after next size kept fits made shown goes long is = absurd fits
-  knows_by seat (Ok (look_answer.Ready gone base length stripes)) short after next size kept fits made shown goes long is =
-      let kind : (note_of written).kind ≡ Kind.Write = write_kind written fits in
-      let told : (length ≡ (object_or_new (note_of written).name s.core.objects).length)
-      × (map seen_in stripes.items ≡ map (seen_at s.core (object_or_new (note_of written).name s.core.objects)) (pinned_by Kind.Write s.core.shape (note_of written) (object_or_new (note_of written).name s.core.objects).length))
-      = ready_told seat.actor number (note_of written) s.core kind short (option_map (λ (point : Point). point.0) base) length (map seen_in stripes.items) (ap (λ (x : Directory × Told). x.1) made) in
-      let pass : Pass = record { actor = seat.actor; number = number; note = note_of written; pinned = map pin_of (map seen_in stripes.items); drawn = []; base = option_map (λ (point : Point). point.0) base; reaped = None } in
-      subst (λ stamps. AreOldBytes stamps book (note_of written) size kept pass) (sym same)
-      (subst (λ kept. AreOldBytes s.stamps book (note_of written) size kept pass) (sym (is goes))
-      (learnt s some sound has padded (note_of written) book code size stripes.items pass (sym long ∙ told.0) told.1 (λ i x less. (shown i x less).own) refl))
+  knows_by seat (Ok (look_answer.Answer gone point reply)) short after size kept fits made shown long is = tt
+  knows_by seat (Err e) short after size kept fits made shown long is = tt
+  knows_by seat (Ok (look_answer.Pinned gone point length stripes)) short after size kept fits made shown long is = absurd fits
+  knows_by seat (Ok (look_answer.Ready gone base length stripes)) short after size kept fits made shown long is = by (put_or_write written fits.0)
+    where
+      pass : Pass
+      pass = record { actor = seat.actor; number = number; note = note_of written; pinned = map pin_of (map seen_in stripes.items); drawn = []; base = option_map (λ (point : Point). point.0) base; reaped = None }
 
-  pub look_knows : (token now : ActorToken) (answer : Result (Look ⊤ ⊤) AllocError) (short : Bool) (after : Directory) (next : Stage) (size : ℕ) (kept : List ℕ) (at : State)
-      → IsWaiting number token → IsPatchLook (is_write written) (looked answer) → (after, looked answer) ≡ at_directory short (actor_of token) number (DirectoryStep.Look (note_of written)) s.core → AreShown s stripes_seen answer
-      → IsLooked (looked answer) next → size_told (looked answer) ≡ size → (next ≡ stage.Looked → kept ≡ bytes_of (map (wanted_of book.geometry 0 size) (looked_stripes answer)))
+      by : (is_put written ≡ true) ⊎ (is_write written ≡ true) → AreOldBytes stamps book (note_of written) size kept pass
+      by (inl put) =
+          let none : stripes.items ≡ [] = no_seens stripes.items (fits.1 put) in
+          old_of_nothing stamps book (note_of written) size kept pass (ap (map pin_of) (fits.1 put)) (is ∙ ap (λ stripes. bytes_of (map (wanted_of book.geometry 0 size) stripes)) none)
+      by (inr write) =
+          let kind : (note_of written).kind ≡ Kind.Write = write_kind written write in
+          let told : (length ≡ (object_or_new (note_of written).name s.core.objects).length)
+          × (map seen_in stripes.items ≡ map (seen_at s.core (object_or_new (note_of written).name s.core.objects)) (pinned_by Kind.Write s.core.shape (note_of written) (object_or_new (note_of written).name s.core.objects).length))
+          = ready_told seat.actor number (note_of written) s.core kind short (option_map (λ (point : Point). point.0) base) length (map seen_in stripes.items) (ap (λ (x : Directory × Told). x.1) made) in
+          subst (λ stamps. AreOldBytes stamps book (note_of written) size kept pass) (sym same)
+          (subst (λ kept. AreOldBytes s.stamps book (note_of written) size kept pass) (sym is)
+          (learnt s some sound has (padded write) (note_of written) book code size stripes.items pass (sym long ∙ told.0) told.1 (λ i x less. (shown i x less).own) refl))
+
+  pub look_knows : (token now : ActorToken) (answer : Result (Look ⊤ ⊤) AllocError) (short : Bool) (after : Directory) (size : ℕ) (kept : List ℕ) (at : State)
+      → IsWaiting number token → IsPatchLook written (looked answer) → (after, looked answer) ≡ at_directory short (actor_of token) number (DirectoryStep.Look (note_of written)) s.core → AreShown s stripes_seen answer
+      → size_told (looked answer) ≡ size → IfReady (looked answer) (kept ≡ bytes_of (map (wanted_of book.geometry 0 size) (looked_stripes answer)))
       → now ≡ token_after token number (DirectoryStep.Look (note_of written)) (looked answer) → UpToDraw at (Knows size kept now)
-  look_knows (ActorToken.InCall held) now answer short after next size kept at waiting fits made shown goes long is token_is = absurd waiting
-  look_knows (ActorToken.Seated seat) now answer short after next size kept at waiting fits made shown goes long is token_is =
-      known_at (Knows size kept now) at (subst (Knows size kept) (sym token_is) (knows_by seat answer short after next size kept fits made shown goes long is))
+  look_knows (ActorToken.InCall held) now answer short after size kept at waiting fits made shown long is token_is = absurd waiting
+  look_knows (ActorToken.Seated seat) now answer short after size kept at waiting fits made shown long is token_is =
+      known_at (Knows size kept now) at (subst (Knows size kept) (sym token_is) (knows_by seat answer short after size kept fits made shown long is))

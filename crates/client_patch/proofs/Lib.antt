@@ -4,6 +4,8 @@ pub mod Ramps
 pub mod Standings
 pub mod OfWrites
 pub mod Gathered
+pub mod Beginning
+pub mod Puts
 pub mod Points
 pub mod Rooms
 pub mod Servers

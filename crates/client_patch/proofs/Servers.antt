@@ -4,7 +4,6 @@ use Rattle.clay_grid.specs.Shape.{Shape}
 use Rattle.store_core.specs.Note.{Kind}
 use Rattle.store_core.specs.Act.{Act, DirectoryStep, Outcome as CoreOutcome}
 use Rattle.store_core.specs.NextAct.{Job}
-use Rattle.store_core.specs.Server.{Server}
 use Rattle.store_resume.specs.State.{Sequel}
 use Rattle.store_resume.specs.StateActs.{start_act, act_at}
 use Rattle.call_steps.specs.declared.need.Need.TheVariants as need

@@ -1,5 +1,5 @@
 -- A call that needs a server, by its fields.
-use Rattle.std.proofs.Common.{◌≡◌, ℕ, Bool, false, List, length, vec_capacity, ap, subst, sym, ◌∙◌}
+use Rattle.std.proofs.Common.{◌≡◌, ℕ, Bool, true, false, List, length, vec_capacity, ap, subst, sym, ◌∙◌}
 use Rattle.store_core.specs.Note.{note_of}
 use Rattle.store_core.specs.NextAct.{job_of}
 use Rattle.store_core.specs.Server.{Server}
@@ -14,7 +14,7 @@ use Rattle.gather_parts.specs.Gatherings.{GatheringsOf, owed}
 use Rattle.gather_parts.specs.States.{state_in}
 use Rattle.write_course.specs.Writings.{WritingOf, versions_of}
 use Rattle.write_course.specs.WritingSteps.{stepped}
-use Rattle.client_patch.specs.Patches.{PatchOf}
+use Rattle.client_patch.specs.Patches.{PatchOf, is_write}
 use Rattle.client_patch.specs.Known.{AreOldBytes, UpToDraw, KnowsOld}
 use Rattle.client_patch.specs.Stages.{state_by, due_by}
 use Rattle.client_patch.specs.Inside.{pairs_in, patch_in, Keeps, IsPatch}
@@ -67,10 +67,10 @@ module _ (a : Inside) (kept : IsPatch a) (old : PatchOf) (view : patch_in a ≡ 
           (subst (λ (made : Server × State). HasToken a.number (note_of a.call.now) (versions_of a.writing.stamps) a.token made.1) (sym step)
           (stepped_has a.number (note_of a.call.now) (versions_of a.writing.stamps) a.token a.writing.book.geometry short before a.writing.state server keeps.1 asked.asked))
 
-      has_room : HasRoom now.state (length a.changes.items) (vec_capacity a.changes)
-      has_room =
+      has_room : is_write a.call.now ≡ true → HasRoom now.state (length a.changes.items) (vec_capacity a.changes)
+      has_room write =
           subst (λ (made : Server × State). HasRoom made.1 (length a.changes.items) (vec_capacity a.changes)) (sym step)
-          (stepped_room a.writing.book.geometry short before a.writing.state server (length a.changes.items) (vec_capacity a.changes) asked.asked keeps.2)
+          (stepped_room a.writing.book.geometry short before a.writing.state server (length a.changes.items) (vec_capacity a.changes) asked.asked (keeps.2 write))
 
       -- what is kept after the step
       pub served_kept : (coding step : Bool) → Keeps a.stage (record a { writing = now; coding = coding; step = step })

@@ -1,12 +1,15 @@
--- What a write or a delete keeps of its gatherings and its versions.
-use Rattle.std.specs.Prelude.{◌≡◌, ⊤, ℕ, ◌+◌, ◌/◌, ◌<◌, List, length, Some}
+-- What a call keeps of its gatherings and its versions.
+use Rattle.std.specs.Prelude.{◌≡◌, ⊤, ℕ, ◌+◌, ◌/◌, ◌<◌, false, List, [], length, None, Some}
 use Rattle.std.specs.List.{slice_get}
 use Rattle.clay_grid.specs.Shape.{stripe_length}
 use Rattle.store_map.specs.declared.call.Call.{Call}
 use Rattle.store_core.specs.Note.{note_of}
 use Rattle.store_core.specs.Look.{stripes_between}
+use Rattle.store_core.specs.Agreement.{ActorToken}
 use Rattle.store_resume.specs.State.{State}
 use Rattle.version_seal.specs.Entry.{BookOf, StampOf}
+use Rattle.call_steps.specs.TokenAfter.{IfInCall}
+use Rattle.gather_parts.specs.Gatherings.{GatheringsOf}
 use Rattle.gather_parts.specs.declared.standing.Standing.{Standing}
 use Rattle.gather_parts.specs.declared.standing.Standing.TheVariants as standing
 use Rattle.write_course.specs.Writings.{WritingOf}
@@ -24,6 +27,17 @@ abbrev pub IsUngathered : Standing → Type 0
 IsUngathered standing.TooMany = ⊤
 IsUngathered standing.Short = ⊤
 IsUngathered now = ⊥
+
+-- the pass of a put pins nothing
+abbrev pub PinsNothing : ActorToken → Type 0
+PinsNothing token = IfInCall token (λ held. held.pass.pinned ≡ [])
+
+-- and it has nothing to gather
+pub record GathersNothing (p : GatheringsOf) : Type 0 where
+  pub idle : p.current ≡ None
+  pub none_left : p.left ≡ []
+  pub no_bytes : p.bytes ≡ []
+  pub going : p.coding ≡ false
 
 -- before the commit there is room for one change more
 abbrev pub HasRoom : State → ℕ → ℕ → Type 0

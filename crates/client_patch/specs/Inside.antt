@@ -1,5 +1,6 @@
--- The fields of a write or a delete as callers see them, and what they keep.
-use Rattle.std.specs.Prelude.{◌≡◌, ◌⊎◌, ℕ, ◌<◌, true, List, [], length, map, vec_capacity}
+-- The fields of a call as callers see them, and what they keep.
+use Rattle.std.specs.Prelude.{◌≡◌, ◌⊎◌, ℕ, ◌<◌, true, List, [], length, map, replicate, vec_capacity}
+use Rattle.clay_grid.specs.Shape.{chunk_count}
 use Rattle.store_core.specs.Note.{note_of}
 use Rattle.store_core.specs.NextAct.{job_of}
 use Rattle.store_core.specs.Tokens.{actor_of}
@@ -8,7 +9,7 @@ use Rattle.call_steps.specs.declared.outcomes.Change.{Change}
 use Rattle.gather_parts.specs.Gatherings.{owed}
 use Rattle.gather_parts.specs.Standings.{standing_of}
 use Rattle.write_course.specs.Writings.{versions_of}
-use Rattle.client_patch.specs.Patches.{PatchOf, is_write, is_patch}
+use Rattle.client_patch.specs.Patches.{PatchOf, is_write, is_put, is_drawing, is_change}
 use Rattle.call_steps.specs.Callers.{IsClient, IsOfScript, IsWaiting}
 use Rattle.client_patch.specs.LookAfter.{IsFresh}
 use Rattle.client_patch.specs.Stages.{state_by, due_by}
@@ -16,7 +17,7 @@ use Rattle.client_patch.specs.declared.stage.Stage.{Stage}
 use Rattle.client_patch.specs.declared.stage.Stage.TheVariants as stage
 use Rattle.client_patch.specs.declared.patch.PatchCall.TheInside.{Inside}
 use Rattle.write_course.specs.Holding.{IsHolding, IsPassing, HasToken, IsGivenUp}
-use Rattle.client_patch.specs.Holds.{IsOfCall, IsUngathered, HasRoom}
+use Rattle.client_patch.specs.Holds.{IsOfCall, IsUngathered, PinsNothing, GathersNothing, HasRoom}
 
 -- changes as the definitions keep them
 abbrev pub pairs_in : List Change → List (ℕ × ℕ)
@@ -47,21 +48,24 @@ patch_in a =
 abbrev pub Keeps : Stage → Inside → Type 0
 Keeps stage.Looking a = IsWaiting a.number a.token × ((is_write a.call.now ≡ true) ⊎ (a.changes.items ≡ []))
 Keeps stage.Looked a = IsHolding a.number (note_of a.call.now) [] a.token × IsFresh a.gatherings × (is_write a.call.now ≡ true)
-Keeps stage.Gathering a = IsHolding a.number (note_of a.call.now) [] a.token × (length a.changes.items < vec_capacity a.changes) × (is_write a.call.now ≡ true)
+Keeps stage.Gathering a =
+    IsHolding a.number (note_of a.call.now) [] a.token × (is_write a.call.now ≡ true → length a.changes.items < vec_capacity a.changes) × (is_drawing a.call.now ≡ true)
+    × (is_put a.call.now ≡ true → PinsNothing a.token × GathersNothing a.gatherings)
 Keeps stage.Ungathered a = IsSeated a.token × IsUngathered (standing_of a.gatherings)
 Keeps stage.Writing a =
     IsOfCall a.opening a.call.now a.size a.gatherings.bytes a.writing × HasToken a.number (note_of a.call.now) (versions_of a.writing.stamps) a.token a.writing.state
-    × HasRoom a.writing.state (length a.changes.items) (vec_capacity a.changes) × (is_write a.call.now ≡ true)
+    × (is_write a.call.now ≡ true → HasRoom a.writing.state (length a.changes.items) (vec_capacity a.changes)) × (is_drawing a.call.now ≡ true)
 Keeps stage.GivenUp a = IsSeated a.token × IsGivenUp a.writing.state
 Keeps stage.Ending a = IsPassing a.number (note_of a.call.now) a.token
 Keeps stage.Finished a = IsSeated a.token
 
 -- what every call keeps
 pub record IsPatch (a : Inside) : Type 0 where
-  pub patch : is_patch a.call.now ≡ true
+  pub change : is_change a.call.now ≡ true
   pub client : IsClient a.actor
   pub actor_is : actor_of a.token ≡ a.actor
   pub script : IsOfScript a.opening a.actor a.number a.call.now
   pub book : a.gatherings.book ≡ a.opening
   pub tries : 0 < a.tries
+  pub untaken : is_put a.call.now ≡ true → a.gatherings.takes ≡ replicate (chunk_count a.opening.geometry) 0
   pub kept : Keeps a.stage a

@@ -1,6 +1,8 @@
--- Where a write or a delete goes on after its look, and how it begins to gather.
+-- Where a call goes on after its look, and how it begins to gather.
 use Rattle.std.specs.Prelude.{◌≡◌, ⊤, ℕ, Bool, true, false, List, [], None, Result, Ok, Err}
 use Rattle.std.specs.declared.alloc.AllocError.{AllocError}
+use Rattle.store_map.specs.declared.call.Call.{Call}
+use Rattle.store_map.specs.declared.call.Call.TheVariants as call
 use Rattle.store_core.specs.Told.{Told}
 use Rattle.store_core.specs.Act.{Outcome as CoreOutcome}
 use Rattle.store_resume.specs.State.{Sequel, State}
@@ -10,6 +12,7 @@ use Rattle.gather_parts.specs.States.{state_in}
 use Rattle.stripe_dir.specs.declared.answers.Seen.{Seen}
 use Rattle.stripe_dir.specs.declared.answers.Look.{Look}
 use Rattle.stripe_dir.specs.Shown.{stripes_seen}
+use Rattle.client_patch.specs.Patches.{is_put, is_drawing}
 use Rattle.client_patch.specs.declared.stage.Stage.{Stage}
 use Rattle.client_patch.specs.declared.stage.Stage.TheVariants as stage
 
@@ -25,17 +28,27 @@ IsBegun p now stage.Gathering true = (state_in now Sequel.Draw ≡ State.Ending 
 IsBegun p now stage.Ending true = now ≡ p
 IsBegun p now next short = ⊥
 
--- what the look of a write or a delete is answered
-abbrev pub IsPatchLook : Bool → Told → Type 0
-IsPatchLook writes (Told.Answer point answer) = ⊤
-IsPatchLook writes (Told.Ready base size stripes) = writes ≡ true
-IsPatchLook writes Told.Short = ⊤
-IsPatchLook writes answer = ⊥
+-- what the look of a call is answered; a put pins no stripe
+abbrev pub IsPatchLook : Call → Told → Type 0
+IsPatchLook written (Told.Answer point answer) = ⊤
+IsPatchLook written (Told.Ready base size stripes) = (is_drawing written ≡ true) × (is_put written ≡ true → stripes ≡ [])
+IsPatchLook written Told.Short = ⊤
+IsPatchLook written answer = ⊥
+
+-- where a call goes on that draws: a put at its draw, since it is told of no changes and gathers nothing
+abbrev pub to_draw : Call → Stage
+to_draw (call.Put name content) = stage.Gathering
+to_draw _ = stage.Looked
 
 -- where it goes on after its look
-abbrev pub IsLooked : Told → Stage → Type 0
-IsLooked (Told.Ready base size stripes) next = next ≡ stage.Looked
-IsLooked answer next = next ≡ stage.Finished
+abbrev pub IsLooked : Call → Told → Stage → Type 0
+IsLooked written (Told.Ready base size stripes) next = next ≡ to_draw written
+IsLooked written answer next = next ≡ stage.Finished
+
+-- of a call that goes on
+abbrev pub IfReady : Told → Type 0 → Type 0
+IfReady (Told.Ready base size stripes) holds = holds
+IfReady answer holds = ⊤
 
 -- the stripes that come with a look, where memory sufficed
 abbrev pub looked_stripes : Result (Look ⊤ ⊤) AllocError → List Seen

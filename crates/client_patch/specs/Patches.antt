@@ -1,7 +1,6 @@
--- A write or a delete in work, as callers see it.
+-- A write or a delete in work, or a put, as callers see it.
 use Rattle.std.specs.Prelude.{ℕ, Bool, true, false, List, [], replicate}
 use Rattle.clay_grid.specs.Shape.{chunk_count}
-use Rattle.store_map.specs.declared.actor.Actor.{Actor}
 use Rattle.store_map.specs.declared.call.Call.{Call}
 use Rattle.store_map.specs.declared.call.Call.TheVariants as call
 use Rattle.store_core.specs.Agreement.{Seat, ActorToken}
@@ -26,6 +25,24 @@ abbrev pub is_patch : Call → Bool
 is_patch (call.Write name offset content) = true
 is_patch (call.Delete name) = true
 is_patch _ = false
+
+-- a put, which is a write that keeps no old bytes
+abbrev pub is_put : Call → Bool
+is_put (call.Put name content) = true
+is_put _ = false
+
+-- a call that draws versions
+abbrev pub is_drawing : Call → Bool
+is_drawing (call.Put name content) = true
+is_drawing (call.Write name offset content) = true
+is_drawing _ = false
+
+-- any of the three
+abbrev pub is_change : Call → Bool
+is_change (call.Put name content) = true
+is_change (call.Write name offset content) = true
+is_change (call.Delete name) = true
+is_change _ = false
 
 -- a call before its first step
 abbrev pub first_patch : BookOf → ℕ → Seat → ℕ → Call → PatchOf

@@ -1,14 +1,35 @@
-//! The bytes of one stripe of a write.
-ghost use Rattle.std.specs.Prelude.{◌≡◌, ◌+◌, ◌-◌, ◌*◌, ◌/◌, ◌%◌, ◌^◌, ◌<◌, ◌≤◌, length, map, take, drop, replicate, IfOk};
+//! The bytes of one stripe of a put or a write.
+ghost use Rattle.std.specs.Prelude.{◌≡◌, ◌+◌, ◌-◌, ◌*◌, ◌/◌, ◌%◌, ◌^◌, ◌<◌, ◌≤◌, true, Some, length, map, take, drop, replicate, IfOk};
 ghost use Rattle.std.specs.List.{range_with_len};
 ghost use Rattle.clay_grid.specs.Shape.{stripe_length};
 ghost use Rattle.store_map.specs.Content.{content_bytes, content_length};
-ghost use Rattle.store_core.specs.Content.{lay_over};
+ghost use Rattle.store_core.specs.Note.{note_of};
+ghost use Rattle.store_core.specs.Content.{written_by, lay_over};
 ghost use Rattle.client_patch.specs.Kept.{kept_count, kept_from, old_in};
+ghost use Rattle.client_patch.specs.Patches.{is_drawing};
 
 use clay_grid::Geometry;
 use std::alloc::{AllocError, Global};
-use store_map::Content;
+use store_map::{Call, Content};
+
+/// Where the bytes that a call writes begin in its object, and what they are.
+pub(crate) fn bytes_of(call: &Call) -> (u32, &Content)
+    requires { is_drawing call.now ≡ true }
+    ensures offset { result.0 ≡ (note_of call.now).offset }
+    ensures length { content_length result.1.now ≡ (note_of call.now).length }
+    ensures begins { result.0 ≡ (written_by (Some call.now)).0 }
+    ensures bytes { content_bytes result.1.now ≡ (written_by (Some call.now)).1 }
+{
+    match call {
+        Call::Put { content, .. } => (0, content),
+        Call::Write {
+            offset,
+            content,
+            ..
+        } => (*offset, content),
+        _ => unreachable!(),
+    }
+}
 
 /// The bytes of an object, from `start` up to `end`, that a write writes, and the object's size at its
 /// look.

@@ -1,13 +1,13 @@
-//! What a write or a delete does between two steps.
+//! What a call does between two steps.
 ghost use Rattle.std.specs.Prelude.{◌≡◌, ◌<◌, true, false, length, vec_capacity, OnOk, OnErr};
 ghost use Rattle.stripe_dir.specs.Sealed.{Sealed};
 ghost use Rattle.call_steps.specs.Steps.{coded, need_of};
 ghost use Rattle.client_patch.specs.Holds.{IsOfCall};
 ghost use Rattle.client_patch.specs.Known.{KnowsOld};
-ghost use Rattle.client_patch.specs.Patches.{is_write};
+ghost use Rattle.client_patch.specs.Patches.{is_drawing};
 ghost use Rattle.client_patch.specs.LookAfter.{IsFresh, IsBegun};
 
-use crate::bytes::stripe_bytes;
+use crate::bytes::{bytes_of, stripe_bytes};
 use crate::patch::PatchCall;
 use crate::stage::Stage;
 use call_steps::{Change, Need, Outcome};
@@ -52,27 +52,20 @@ fn encode<R: Threads + Sync, C: Coder>(
     kept: &[u8],
     writing: &mut Writing,
 ) -> Result<(), AllocError>
-    requires write { is_write call.now ≡ true }
+    requires draws { is_drawing call.now ≡ true }
     requires code { geometry ≡ writing.old.book.geometry }
     requires its { IsOfCall writing.old.book call.now size kept.now writing.old }
     requires due { writing.old.due ≡ true }
     ensures ok { OnOk result (writing.new ≡ record writing.old { due = false }) }
     ensures err { OnErr result (writing.new ≡ writing.old) }
 {
-    let Call::Write {
-        offset,
-        content,
-        ..
-    } = call
-    else {
-        unreachable!()
-    };
     // That a version is at work is needed below.
     let _due = writing.due();
     let Some(stripe) = writing.stripe_at_work() else {
         unreachable!()
     };
-    let bytes = stripe_bytes(alloc, geometry, size, *offset, content, kept, stripe)?;
+    let (offset, content) = bytes_of(call);
+    let bytes = stripe_bytes(alloc, geometry, size, offset, content, kept, stripe)?;
     writing.encode(rt, coder, &bytes)
 }
 

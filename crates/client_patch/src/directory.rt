@@ -1,6 +1,5 @@
-//! The steps of a write or a delete at the directory.
-ghost use Rattle.std.specs.Prelude.{◌≡◌, ◌+◌, ◌-◌, ◌^◌, ◌<◌, ◌++◌, true};
-ghost use Rattle.store_core.specs.Note.{note_of};
+//! The steps of a call at the directory.
+ghost use Rattle.std.specs.Prelude.{◌≡◌, ◌++◌, true};
 ghost use Rattle.store_core.specs.Agreement.{Agrees};
 ghost use Rattle.store_resume.specs.State.{State};
 ghost use Rattle.call_steps.specs.Steps.{stepped_at_directory, need_of};
@@ -12,31 +11,14 @@ ghost use Rattle.client_patch.specs.Padded.{ArePadded};
 ghost use Rattle.client_patch.specs.Patches.{is_write};
 ghost use Rattle.call_steps.specs.Ends.{is_ending};
 
+use crate::bytes::bytes_of;
 use crate::patch::PatchCall;
 use crate::stage::{Looked, Stage, after_end, after_look};
 use call_steps::{Change, Need, Outcome};
 use gather_parts::Standing;
-use store_map::Call;
 use stripe_dir::{Committed, Directory, Drawn, Ended};
 use version_seal::Book;
 use write_course::{Doing, Writing};
-
-// Where a write begins, and how many bytes it writes.
-fn range_of(call: &Call) -> (u32, u32)
-    requires { is_write call.now ≡ true }
-    ensures offset { result.0 ≡ (note_of call.now).offset }
-    ensures length { result.1 ≡ (note_of call.now).length }
-    ensures fits { result.0 + result.1 < 2 ^ 33 - 1 }
-{
-    match call {
-        Call::Write {
-            offset,
-            content,
-            ..
-        } => (*offset, content.length()),
-        _ => unreachable!(),
-    }
-}
 
 impl<'a> PatchCall<'a> {
     /// One step at the directory of this book. What it draws is sealed in the book. Behind the ends of
@@ -48,6 +30,26 @@ impl<'a> PatchCall<'a> {
         requires book { book.now ≡ self.old.call.book }
         requires padded { ArePadded directory.old }
         requires knows { KnowsOld directory.old self.old }
+        ensures step { (directory.new.core, self.new.call)
+            ≡ stepped_at_directory self.new.call.step self.new.call.due self.old.call directory.old.core }
+        ensures agrees { Agrees directory.new.core self.new.call.token }
+        ensures knows { KnowsOld directory.new self.new }
+        ensures written { self.new.written ≡ self.old.written }
+        ensures book { directory.new.book ≡ directory.old.book }
+        ensures stamps { directory.new.stamps
+            ≡ directory.old.stamps ++ stamps_drawn self.new.call.step directory.old self.old.call self.old.written }
+    {
+        self.advance(directory, book);
+    }
+
+    /// The same, of a put too: only of a write's stamps something is asked.
+    pub fn advance(&mut self, directory: &mut Directory, book: &Book)
+        requires need { need_of self.old.call ≡ Need.Directory }
+        requires agrees { Agrees directory.old.core self.old.call.token }
+        requires its { directory.old.book ≡ self.old.call.book }
+        requires book { book.now ≡ self.old.call.book }
+        requires padded { is_write self.old.written ≡ true → ArePadded directory.old }
+        requires knows { is_write self.old.written ≡ true → KnowsOld directory.old self.old }
         ensures step { (directory.new.core, self.new.call)
             ≡ stepped_at_directory self.new.call.step self.new.call.due self.old.call directory.old.core }
         ensures agrees { Agrees directory.new.core self.new.call.token }
@@ -75,7 +77,7 @@ impl<'a> PatchCall<'a> {
         requires seated { IsSeated self.old.call.token }
         requires agrees { Agrees directory.old.core self.old.call.token }
         requires its { directory.old.book ≡ self.old.call.book }
-        requires padded { ArePadded directory.old }
+        requires padded { is_write self.old.written ≡ true → ArePadded directory.old }
         ensures step { (directory.new.core, self.new.call)
             ≡ stepped_at_directory self.new.call.step self.new.call.due self.old.call directory.old.core }
         ensures agrees { Agrees directory.new.core self.new.call.token }
@@ -106,7 +108,7 @@ impl<'a> PatchCall<'a> {
         requires agrees { Agrees directory.old.core self.old.call.token }
         requires its { directory.old.book ≡ self.old.call.book }
         requires book { book.now ≡ self.old.call.book }
-        requires knows { KnowsOld directory.old self.old }
+        requires knows { is_write self.old.written ≡ true → KnowsOld directory.old self.old }
         ensures step { (directory.new.core, self.new.call)
             ≡ stepped_at_directory self.new.call.step self.new.call.due self.old.call directory.old.core }
         ensures agrees { Agrees directory.new.core self.new.call.token }
@@ -125,7 +127,9 @@ impl<'a> PatchCall<'a> {
         self.step = answer.is_err();
         match answer {
             Ok(Drawn::Versions { stamps, .. }) => {
-                let (offset, _length) = range_of(self.call);
+                let (offset, content) = bytes_of(self.call);
+                // That the length fits is needed below.
+                let _length = content.length();
                 let first = offset / self.opening.geometry().stripe_len();
                 self.writing = Writing::new(self.alloc, self.opening.copy(), first, stamps);
                 self.stage = Stage::Writing;

@@ -1,4 +1,4 @@
-//! A client's write or delete: a write looks, gathers the old bytes that it keeps, draws versions, has
+//! A client's put, write or delete: a write looks, gathers the old bytes that it keeps, draws versions, has
 //! their chunks made and placed, commits and settles, and is tried again where its object was changed.
 #![tactic(auto)]
 

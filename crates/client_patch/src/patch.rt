@@ -1,8 +1,9 @@
-//! A write or a delete as a machine of steps.
-ghost use Rattle.std.specs.Prelude.{◌≡◌, ◌<◌, ◌≤◌, true};
+//! A put, a write or a delete as a machine of steps: a put is a write that keeps no old bytes.
+ghost use Rattle.std.specs.Prelude.{◌≡◌, ◌<◌, ◌≤◌, true, replicate};
 ghost use Rattle.std.specs.Option.{option_map};
 ghost use Rattle.clay_grid.specs.Shape.{chunk_count};
-ghost use Rattle.store_core.specs.Act.{Act};
+ghost use Rattle.store_core.specs.Note.{Kind};
+ghost use Rattle.store_core.specs.Act.{Act, Outcome as CoreOutcome};
 ghost use Rattle.store_core.specs.Agreement.{ActorToken};
 ghost use Rattle.store_resume.specs.State.{Sequel, State};
 ghost use Rattle.chunk_server.specs.Core.{core_of};
@@ -16,7 +17,7 @@ ghost use Rattle.gather_parts.specs.States.{state_in};
 ghost use Rattle.gather_parts.specs.Standings.{standing_of};
 ghost use Rattle.client_patch.specs.Holds.{IsUngathered};
 ghost use Rattle.client_patch.specs.Known.{KnowsOld};
-ghost use Rattle.client_patch.specs.Patches.{is_patch, first_patch};
+ghost use Rattle.client_patch.specs.Patches.{is_patch, is_put, is_change, first_patch};
 
 use crate::stage::Stage;
 use call_steps::{Change, Need, Outcome};
@@ -30,7 +31,7 @@ use stripe_dir::{Seat, Ticket};
 use version_seal::Opening;
 use write_course::Writing;
 
-/// A client's write or delete in work. It has to be finished or abandoned.
+/// A client's write or delete in work, or its put. It has to be finished or abandoned.
 pub struct PatchCall<'a> {
     pub(crate) alloc: Global,
     pub(crate) stage: Stage,
@@ -113,6 +114,27 @@ impl<'a> PatchCall<'a> {
         requires script { IsOfScript opening actor number call.now }
         ensures { result ≡ first_patch opening tries seat number call.now }
     {
+        PatchCall::begin(alloc, seat, actor, number, call, opening, tries)
+    }
+
+    /// The same, of a put too.
+    pub fn begin(
+        alloc: Global,
+        seat: Seat,
+        actor: Actor,
+        number: u32,
+        call: &'a Call,
+        opening: Opening,
+        tries: u32,
+    ) -> PatchCall<'a>
+        requires change { is_change call.now ≡ true }
+        requires client { IsClient actor }
+        requires own { seat.actor ≡ actor }
+        requires unused { seat.unused ≤ number }
+        requires tries { 0 < tries }
+        requires script { IsOfScript opening actor number call.now }
+        ensures { result ≡ first_patch opening tries seat number call.now }
+    {
         let gatherings = PartGatherings::new(alloc, opening.copy());
         let writing = Writing::new(alloc, opening.copy(), 0, Vec::new(alloc));
         PatchCall {
@@ -132,6 +154,18 @@ impl<'a> PatchCall<'a> {
             coding: false,
             step: false,
         }
+    }
+
+    /// What a put keeps. It does nothing when it runs.
+    #[tactic(auto, using(crate::proofs::Puts::kind_so, crate::proofs::Puts::takes_nothing, crate::proofs::Puts::ends_so))]
+    pub fn keeps(&self)
+        ensures kind { is_put self.now.written ≡ true → self.now.call.job.note.kind ≡ Kind.Put }
+        ensures nothing { is_put self.now.written ≡ true →
+            self.now.call.takes ≡ replicate (chunk_count self.now.call.book.geometry) 0 }
+        ensures ended { (outcome : CoreOutcome) → is_put self.now.written ≡ true →
+            act_of self.now.call ≡ Act.Finish outcome → self.now.call.state.at ≡ State.Finished outcome }
+    {
+        let _ = &self.alloc;
     }
 
     /// Where the call has to go on.

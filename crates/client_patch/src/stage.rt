@@ -1,4 +1,4 @@
-//! What a write or a delete does next, by its answers.
+//! What a call does next, by its answers.
 ghost use Rattle.std.specs.Prelude.{◌≡◌, true, map, All, IfOk};
 ghost use Rattle.store_core.specs.Note.{note_of};
 ghost use Rattle.store_core.specs.NextAct.{job_of};
@@ -9,9 +9,8 @@ ghost use Rattle.write_course.specs.Writings.{WritingOf};
 ghost use Rattle.stripe_dir.specs.Shown.{stripes_seen};
 ghost use Rattle.gather_parts.specs.Wanted.{wanted_of, IsPinned};
 ghost use Rattle.gather_parts.specs.Gatherings.{begun};
-ghost use Rattle.client_patch.specs.Patches.{is_write, is_patch};
 ghost use Rattle.client_patch.specs.Stages.{state_by, after_end};
-ghost use Rattle.client_patch.specs.LookAfter.{looked_stripes, size_told, IsPatchLook, IsLooked};
+ghost use Rattle.client_patch.specs.LookAfter.{looked_stripes, size_told, to_draw, IsPatchLook, IsLooked, IfReady};
 
 use call_steps::Outcome;
 use gather_parts::PartGatherings;
@@ -26,7 +25,7 @@ pub(crate) enum Stage {
     Looking,
     /// What was pinned is to be gathered, once there is room for one change more.
     Looked,
-    /// It gathers the old bytes that it keeps, and draws then.
+    /// It gathers the old bytes that it keeps, and draws then. A put keeps none, and draws at once.
     Gathering,
     /// The directory was told that the gatherings have ended without their bytes.
     Ungathered,
@@ -47,19 +46,28 @@ pub(crate) struct Looked {
     pub(crate) outcome: Outcome,
 }
 
+// Where a call goes on that draws.
+fn to_draw(call: &Call) -> Stage
+    ensures { result ≡ to_draw call.now }
+{
+    match call {
+        Call::Put { .. } => Stage::Gathering,
+        _ => Stage::Looked,
+    }
+}
+
 // Where the call goes on after its look. The old bytes of what was pinned are to be gathered.
 pub(crate) fn after_look(
     answer: Result<Look<(), ()>, AllocError>,
     call: &Call,
     gatherings: &mut PartGatherings,
 ) -> Looked
-    requires fits { IsPatchLook (is_write call.now) (told_or_short told_look answer) }
-    requires patch { is_patch call.now ≡ true }
+    requires fits { IsPatchLook call.now (told_or_short told_look answer) }
     requires pinned { IfOk answer (λ answer. All (IsPinned gatherings.old.book) (stripes_seen answer)) }
     ensures state { (w : WritingOf) → state_by result.stage gatherings.new w result.outcome
         ≡ open_state gatherings.old.book.geometry (start_after gatherings.old.book.geometry (note_of call.now).kind (job_of call.now) (told_or_short told_look answer)) }
-    ensures looked { IsLooked (told_or_short told_look answer) result.stage }
-    ensures begun { result.stage ≡ Stage.Looked → gatherings.new ≡ begun gatherings.old (map (wanted_of gatherings.old.book.geometry 0 result.size) (looked_stripes answer)) }
+    ensures looked { IsLooked call.now (told_or_short told_look answer) result.stage }
+    ensures begun { IfReady (told_or_short told_look answer) (gatherings.new ≡ begun gatherings.old (map (wanted_of gatherings.old.book.geometry 0 result.size) (looked_stripes answer))) }
     ensures size { size_told (told_or_short told_look answer) ≡ result.size }
     ensures book { gatherings.new.book ≡ gatherings.old.book }
     ensures takes { gatherings.new.takes ≡ gatherings.old.takes }
@@ -79,7 +87,7 @@ pub(crate) fn after_look(
         ) => {
             gatherings.begin(stripes, 0, length);
             Looked {
-                stage: Stage::Looked,
+                stage: to_draw(call),
                 size: length,
                 outcome: Outcome::NoMemory,
             }

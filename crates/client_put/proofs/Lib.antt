@@ -1,8 +1,1 @@
-pub mod Pieces
-pub mod Looks
-pub mod Kept
-pub mod Points
-pub mod Servers
-pub mod Serving
-pub mod Drawing
-pub mod Making
+pub mod Tries

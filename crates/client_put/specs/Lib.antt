@@ -1,5 +1,2 @@
-pub mod Bytes
 pub mod Puts
-pub mod Stages
-pub mod Holds
 pub mod Inside

@@ -1,24 +1,18 @@
 -- A put in work, as callers see it.
-use Rattle.std.specs.Prelude.{ℕ, Bool, true, false, replicate}
+use Rattle.std.specs.Prelude.{ℕ, false, replicate}
 use Rattle.clay_grid.specs.Shape.{chunk_count}
-use Rattle.store_map.specs.declared.actor.Actor.{Actor}
 use Rattle.store_map.specs.declared.call.Call.{Call}
-use Rattle.store_map.specs.declared.call.Call.TheVariants as call
 use Rattle.store_core.specs.Agreement.{Seat, ActorToken}
 use Rattle.store_core.specs.NextAct.{job_of}
 use Rattle.store_resume.specs.State.{first_state}
 use Rattle.version_seal.specs.Entry.{BookOf}
 use Rattle.call_steps.specs.CallOf.{tries_by, CallOf}
+pub use Rattle.client_patch.specs.Patches.{is_put}
 
 -- the call in work, and what it puts
 pub record PutOf : Type 0 where
   pub call : CallOf
   pub written : Call
-
--- a put
-abbrev pub is_put : Call → Bool
-is_put (call.Put name content) = true
-is_put _ = false
 
 -- a put before its first step
 abbrev pub first_put : BookOf → Seat → ℕ → Call → PutOf

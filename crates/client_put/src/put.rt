@@ -1,45 +1,32 @@
-//! A put as a machine of steps.
-ghost use Rattle.std.specs.Prelude.{◌≡◌, ◌<◌, ◌≤◌, true, false, None, OnOk, OnErr, replicate};
+//! A put as a machine of steps: that of writes, of which it keeps no old bytes and is tried once.
+ghost use Rattle.std.specs.Prelude.{◌≡◌, ◌<◌, ◌≤◌, ◌++◌, true, None, replicate};
 ghost use Rattle.std.specs.Option.{option_map};
 ghost use Rattle.clay_grid.specs.Shape.{chunk_count};
-ghost use Rattle.store_core.specs.Agreement.{ActorToken};
+ghost use Rattle.store_core.specs.Agreement.{Agrees, ActorToken};
 ghost use Rattle.store_resume.specs.State.{State};
 ghost use Rattle.chunk_server.specs.Core.{core_of};
-ghost use Rattle.call_steps.specs.Steps.{IfServer, stepped_at_server, coded, need_of, HoldsItsPass, IsDueInPass, MayMakeNext};
+ghost use Rattle.call_steps.specs.Steps.{IfServer, stepped_at_directory, stepped_at_server, coded, need_of, HoldsItsPass, IsDueInPass, MayMakeNext};
 ghost use Rattle.call_steps.specs.Outcomes.{outcome_of};
 ghost use Rattle.client_put.specs.Puts.{is_put, first_put};
+ghost use Rattle.write_course.specs.Draws.{stamps_drawn};
 ghost use Rattle.call_steps.specs.Callers.{IsClient, IsOfScript};
 ghost use Rattle.call_steps.specs.Ends.{point_of};
 
-use crate::bytes::stripe_bytes;
-use crate::stage::{Stage, content_of};
 use call_steps::{Need, Outcome};
 use chunk_server::Server;
 use clay_repair::Coder;
+use client_patch::PatchCall;
 use read_ledger::Takes;
-use std::alloc::{AllocError, Global};
+use std::alloc::Global;
 use std::marker::Model;
 use std::thread::Threads;
 use store_map::{Actor, Call, Point};
-use stripe_dir::{Seat, Ticket};
-use version_seal::Opening;
-use write_course::Writing;
+use stripe_dir::{Directory, Seat};
+use version_seal::{Book, Opening};
 
 /// A client's put in work. It has to be finished, or to leave the directory.
 pub struct PutCall<'a> {
-    pub(crate) alloc: Global,
-    pub(crate) stage: Stage,
-    pub(crate) token: Ticket,
-    pub(crate) actor: Actor,
-    pub(crate) number: u32,
-    pub(crate) call: &'a Call,
-    pub(crate) opening: Opening,
-    // of no versions until some are drawn
-    pub(crate) writing: Writing,
-    // how it has ended, where that isn't the writing's end
-    pub(crate) outcome: Outcome,
-    pub(crate) coding: bool,
-    pub(crate) step: bool,
+    patch: PatchCall<'a>,
 }
 
 impl<'a> Model for PutCall<'a> {
@@ -72,24 +59,12 @@ impl<'a> PutCall<'a> {
         requires script { IsOfScript opening actor number call.now }
         ensures { result ≡ first_put opening seat number call.now }
     {
-        let writing = Writing::new(alloc, opening.copy(), 0, Vec::new(alloc));
         PutCall {
-            alloc,
-            stage: Stage::Looking,
-            token: Ticket::new(seat),
-            actor,
-            number,
-            call,
-            opening,
-            writing,
-            outcome: Outcome::NoMemory,
-            coding: false,
-            step: false,
+            patch: PatchCall::begin(alloc, seat, actor, number, call, opening, 1),
         }
     }
 
     /// Where the call has to go on.
-    #[tactic(auto, using(crate::proofs::Making::may))]
     pub fn need(&self) -> Need
         ensures need { result ≡ need_of self.now.call }
         ensures in_pass { IsDueInPass self.now.call }
@@ -97,13 +72,26 @@ impl<'a> PutCall<'a> {
         ensures may { MayMakeNext self.now.call }
         ensures below { IfServer result (λ server. server < chunk_count self.now.call.book.geometry) }
     {
-        // That a commit has whole rows is needed below.
-        self.writing.keeps();
-        match self.stage {
-            Stage::Looking | Stage::Drawing | Stage::Ending => Need::Directory,
-            Stage::Writing => self.writing.need(),
-            Stage::GivenUp | Stage::Finished => Need::Finished,
-        }
+        self.patch.keeps();
+        self.patch.need()
+    }
+
+    /// One step at the directory of this book. What it draws is sealed in the book.
+    pub fn on_directory(&mut self, directory: &mut Directory, book: &Book)
+        requires need { need_of self.old.call ≡ Need.Directory }
+        requires agrees { Agrees directory.old.core self.old.call.token }
+        requires its { directory.old.book ≡ self.old.call.book }
+        requires book { book.now ≡ self.old.call.book }
+        ensures step { (directory.new.core, self.new.call)
+            ≡ stepped_at_directory self.new.call.step self.new.call.due self.old.call directory.old.core }
+        ensures agrees { Agrees directory.new.core self.new.call.token }
+        ensures written { self.new.written ≡ self.old.written }
+        ensures book { directory.new.book ≡ directory.old.book }
+        ensures stamps { directory.new.stamps
+            ≡ directory.old.stamps ++ stamps_drawn self.new.call.step directory.old self.old.call self.old.written }
+    {
+        self.patch.keeps();
+        self.patch.advance(directory, book);
     }
 
     /// One step at the server that is needed.
@@ -116,9 +104,8 @@ impl<'a> PutCall<'a> {
         ensures number { s.new.number ≡ s.old.number }
         ensures book { s.new.book ≡ s.old.book }
     {
-        let short = self.writing.on_server(s).is_err();
-        self.coding = false;
-        self.step = short;
+        self.patch.keeps();
+        self.patch.on_server(s);
     }
 
     /// Makes the chunks of the version at work. It makes no step. Afterwards the put tells whether
@@ -128,43 +115,15 @@ impl<'a> PutCall<'a> {
         ensures coded { self.new.call ≡ coded self.new.call.coding self.old.call }
         ensures written { self.new.written ≡ self.old.written }
     {
-        if self.encode(rt, coder).is_err() {
-            // That a version is at work is needed below.
-            let _due = self.writing.due();
-            self.writing.hear_short();
-            self.coding = true;
-            return;
-        }
-        self.coding = false;
-    }
-
-    fn encode<R: Threads + Sync, C: Coder>(&mut self, rt: &R, coder: &C) -> Result<(), AllocError>
-        requires { need_of self.old.call ≡ Need.Coder }
-        ensures ok { OnOk result (self.new ≡ record self.old { call = record (self.old.call) { due = false } }) }
-        ensures err { OnErr result (self.new ≡ self.old) }
-    {
-        // That a version is at work is needed below.
-        let _due = self.writing.due();
-        let Some(stripe) = self.writing.stripe_at_work() else {
-            unreachable!()
-        };
-        let geometry = self.opening.geometry();
-        let content = stripe_bytes(self.alloc, geometry, stripe, content_of(self.call))?;
-        self.writing.encode(rt, coder, &content)
+        self.patch.keeps();
+        self.patch.on_coder(rt, coder);
     }
 
     /// The point of the commit, once it has come.
     pub fn committed(&self) -> Option<Point>
         ensures { option_map (λ point. point.0) result ≡ point_of self.now.call.state.at }
     {
-        match self.stage {
-            Stage::Writing => {
-                // How it has ended is needed below.
-                let _ = self.writing.doing();
-                self.writing.committed_at()
-            }
-            _ => None,
-        }
+        self.patch.committed()
     }
 
     /// What it has taken: nothing.
@@ -172,7 +131,7 @@ impl<'a> PutCall<'a> {
         ensures none { result ≡ None }
         ensures nothing { self.now.call.takes ≡ replicate (chunk_count self.now.call.book.geometry) 0 }
     {
-        let _ = &self.alloc;
+        self.patch.keeps();
         None
     }
 
@@ -184,41 +143,14 @@ impl<'a> PutCall<'a> {
         ensures none { result.2 ≡ None }
         ensures nothing { self.entry.call.takes ≡ replicate (chunk_count self.entry.call.book.geometry) 0 }
     {
-        let PutCall {
-            alloc: _,
-            stage,
-            token,
-            actor: _,
-            number: _,
-            call: _,
-            opening: _opening,
-            writing,
-            outcome,
-            coding: _,
-            step: _,
-        } = self;
-        let seat = token.into_seat();
-        match stage {
-            Stage::Finished => (seat, outcome, None),
-            _ => (seat, writing.into_outcome(), None),
-        }
+        let PutCall { patch } = self;
+        patch.keeps();
+        patch.finish()
     }
 
     /// Leaves the directory in the middle of the call.
     pub fn leave(self) {
-        let PutCall {
-            alloc: _,
-            stage: _,
-            token,
-            actor: _,
-            number: _,
-            call: _,
-            opening: _opening,
-            writing: _writing,
-            outcome: _outcome,
-            coding: _,
-            step: _,
-        } = self;
-        token.leave();
+        let PutCall { patch } = self;
+        let _takes = patch.abandon();
     }
 }

@@ -10,3 +10,4 @@ pub mod Parts
 pub mod Book
 pub mod Held
 pub mod Shelf
+pub mod Known

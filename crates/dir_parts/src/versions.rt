@@ -12,6 +12,7 @@ ghost use Rattle.store_core.specs.AtDirectory.{swept_standing};
 ghost use Rattle.dir_parts.specs.Counts.{unpinned, pinned_more};
 ghost use Rattle.dir_parts.specs.Table.{is_garbage, number_in, least_first, version_in, swept};
 ghost use Rattle.dir_parts.specs.TableSteps.{base_version, drawn_version, first_free, taken_from, placed_anew_by};
+ghost use Rattle.dir_parts.specs.Known.{is_known};
 ghost use Rattle.dir_parts.specs.Places.{places};
 ghost use Rattle.dir_parts.specs.declared.versions.Standing.TheVariants as standing;
 
@@ -296,8 +297,9 @@ impl Versions {
         }
     }
 
-    /// A drawn version becomes current, with its row of placements.
-    pub fn place(&mut self, number: u64, row: Vec<Placement>)
+    /// Makes a drawn version current: a read may pin it from now on. Its chunks lie as the row of
+    /// placements tells.
+    pub fn make_current(&mut self, number: u64, row: Vec<Placement>)
         requires within { number < length self.old.listed }
         requires other { holds_standing is_superseded_standing (slice_get self.old.listed number) ≡ false }
         ensures listed { self.new.listed ≡ change_at number (λ version. record version { placed = row.items; standing = CoreStanding.Current }) self.old.listed }
@@ -329,8 +331,8 @@ impl Versions {
         }
     }
 
-    /// What was drawn becomes current, each version with its row of placements.
-    pub fn place_all(&mut self, numbers: &[u64], rows: Vec<Vec<Placement>>)
+    /// Makes what a call drew current, one version after the other, each with its row of placements.
+    pub fn make_all_current(&mut self, numbers: &[u64], rows: Vec<Vec<Placement>>)
         requires rows { vec_len rows ≡ length numbers.now }
         requires drawn { All (λ number. (number < length self.old.listed) × (holds_standing is_superseded_standing (slice_get self.old.listed number) ≡ false)) numbers.now }
         ensures listed { self.new.listed ≡ place_all (zip numbers.now (map (λ row. row.items) rows.items)) self.old.listed }
@@ -339,7 +341,7 @@ impl Versions {
         let mut rows = rows.into_iter();
         for number in numbers {
             match rows.next() {
-                Some(row) => self.place(*number, row),
+                Some(row) => self.make_current(*number, row),
                 None => unreachable!(),
             }
         }
@@ -454,5 +456,15 @@ impl Versions {
     {
         let entry = &self.entries[number as usize];
         matches!(entry.standing, Standing::Current)
+    }
+
+    /// Whether there is such a version that isn't swept.
+    pub fn is_known(&self, number: u64) -> bool
+        ensures { result ≡ is_known self.now.listed number }
+    {
+        match self.entries.get(number as usize) {
+            Some(entry) => !matches!(entry.standing, Standing::Swept),
+            None => false,
+        }
     }
 }

@@ -40,8 +40,8 @@ fn puts(alloc: Global, store: &mut Store<'_>) -> Result<usize, Fail> {
 
 #[test]
 fn puts_after_want_of_memory(rt: HostRuntime) -> Result<(), Fail> {
-    let book = Book::free(rt.alloc(), small_geometry()?)?;
-    let mut store = Store::open(rt.alloc(), &book, 64)?;
+    let (book, sealer) = Book::free(rt.alloc(), small_geometry()?)?;
+    let mut store = Store::open(rt.alloc(), &book, sealer, 64)?;
     let done = puts(rt.alloc(), &mut store);
     store.leave();
     if done? < 2 {

@@ -85,8 +85,8 @@ fn strays(alloc: Global, book: &Book, store: &mut Store<'_>) -> Result<(), Fail>
 
 #[test]
 fn chunks_of_a_swept_version(rt: HostRuntime) -> Result<(), Fail> {
-    let book = Book::free(rt.alloc(), small_geometry()?)?;
-    let mut store = Store::open(rt.alloc(), &book, 64)?;
+    let (book, sealer) = Book::free(rt.alloc(), small_geometry()?)?;
+    let mut store = Store::open(rt.alloc(), &book, sealer, 64)?;
     let walked = strays(rt.alloc(), &book, &mut store);
     store.leave();
     walked

@@ -197,8 +197,8 @@ pub fn hold(alloc: Global, store: &mut Store<'_>, count: usize, rows: &str) -> R
 
 /// In a new directory.
 pub fn hold_anew(alloc: Global, count: usize, rows: &str) -> Result<(), Fail> {
-    let book = Book::free(alloc, small_geometry()?)?;
-    let mut store = Store::open(alloc, &book, 64)?;
+    let (book, sealer) = Book::free(alloc, small_geometry()?)?;
+    let mut store = Store::open(alloc, &book, sealer, 64)?;
     let held = hold(alloc, &mut store, count, rows);
     store.leave();
     held

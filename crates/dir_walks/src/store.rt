@@ -3,6 +3,7 @@ ghost use Rattle.store_core.specs.Agreement.{ActorToken, HeldPass};
 ghost use Rattle.stripe_dir.specs.AnswerStamps.{IfDrawn};
 ghost use Rattle.dir_walks.specs.Begun.{IfBegun};
 ghost use Rattle.dir_walks.specs.Stores.{IsStore};
+ghost use Rattle.version_seal.specs.Sealer.{sealer_at};
 
 use crate::caller::{Answer, Caller, Refusal, Step};
 use std::alloc::{AllocError, Global};
@@ -10,7 +11,7 @@ use std::marker::Model;
 use std::test::Fail;
 use store_map::{Actor, Call, Point, Version};
 use stripe_dir::{Directory, Drawn, Look, Seat};
-use version_seal::Book;
+use version_seal::{Book, Sealer};
 
 /// A directory with two clients and a repairer. It has to be left.
 pub struct Store<'a> {
@@ -47,11 +48,17 @@ fn last(seats: &mut Vec<Seat>) -> Seat
 
 impl<'a> Store<'a> {
     /// A directory without objects, whose objects may have `max` bytes each.
-    pub fn open(alloc: Global, book: &'a Book, max: u32) -> Result<Store<'a>, AllocError>
+    pub fn open(
+        alloc: Global,
+        book: &'a Book,
+        sealer: Sealer,
+        max: u32,
+    ) -> Result<Store<'a>, AllocError>
         requires free { book.now.script ≡ None }
+        requires sealer { sealer ≡ sealer_at book.now 0 }
         ensures book { IfOk result (λ store. store.book ≡ book.now) }
     {
-        let (directory, seats) = Directory::new(alloc, book.opening(), max, 2, 1)?;
+        let (directory, seats) = Directory::new(alloc, book.opening(), sealer, max, 2, 1)?;
         let mut seats = seats;
         let repairer = last(&mut seats);
         let second = last(&mut seats);

@@ -1,36 +1,9 @@
 ghost use Rattle.std.specs.Prelude.{◌≡◌, ◌++◌, IfOk, OnOk};
-ghost use Rattle.hex.specs.Hex.{encode_lower};
-ghost use Rattle.transcript_text.specs.Words.{reply_text};
 ghost use Rattle.hist_rules.specs.VerdictText.{tail_word, verdict_line};
 
 use hist_rules::{TailKind, Verdict};
 use std::alloc::{AllocError, Global};
-use store_map::Reply;
-use transcript_text::{append, append_shown};
-
-// Appends the bytes' digits, in lower case.
-fn append_hex(out: &mut Vec<u8>, bytes: &[u8]) -> Result<(), AllocError>
-    ensures { OnOk result (out.new.items ≡ out.old.items ++ encode_lower bytes.now) }
-{
-    let digits = hex::encode(*out.allocator(), bytes)?;
-    out.extend_from_slice(digits.as_bytes())
-}
-
-fn append_reply(out: &mut Vec<u8>, reply: &Reply) -> Result<(), AllocError>
-    ensures { OnOk result (out.new.items ≡ out.old.items ++ reply_text reply.now) }
-{
-    match reply {
-        Reply::Done => append(out, "ok"),
-        Reply::Bytes(bytes) => {
-            append(out, "bytes hex:")?;
-            append_hex(out, bytes.as_slice())
-        }
-        Reply::Length(length) => append(out, format_args!("length {length}")),
-        Reply::NoSuch => append(out, "nosuch"),
-        Reply::OutRange => append(out, "outrange"),
-        Reply::TooLarge => append(out, "toolarge"),
-    }
-}
+use transcript_text::{append, append_reply, append_shown};
 
 fn append_tail_word(out: &mut Vec<u8>, kind: TailKind) -> Result<(), AllocError>
     ensures { OnOk result (out.new.items ≡ out.old.items ++ tail_word kind) }

@@ -6,3 +6,4 @@ pub mod ContentLaws
 pub mod ByteLaws
 pub mod CallLaws
 pub mod TextLaws
+pub mod HandedOn

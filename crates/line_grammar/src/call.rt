@@ -41,14 +41,9 @@ fn read_put(alloc: Global, words: &[u8]) -> Result<Call, FaultKind>
     if !is_name(name) {
         return Err(FaultKind::Syntax);
     }
-    let content = match read_content(alloc, data) {
-        Ok(content) => content,
-        Err(kind) => return Err(kind),
-    };
-    match read_name(alloc, name) {
-        Ok(name) => Ok(Call::Put { name, content }),
-        Err(kind) => Err(kind),
-    }
+    let content = read_content(alloc, data)?;
+    let name = read_name(alloc, name)?;
+    Ok(Call::Put { name, content })
 }
 
 /// The call that `write` and these words spell.
@@ -67,51 +62,40 @@ fn read_write(alloc: Global, words: &[u8]) -> Result<Call, FaultKind>
     if !is_number(offset) {
         return Err(FaultKind::Syntax);
     }
-    let content = match read_content(alloc, data) {
-        Ok(content) => content,
-        Err(kind) => return Err(kind),
-    };
+    let content = read_content(alloc, data)?;
     let Some(offset) = small_number(offset) else {
         return Err(FaultKind::Limit);
     };
-    match read_name(alloc, name) {
-        Ok(name) => Ok(Call::Write {
-            name,
-            offset,
-            content,
-        }),
-        Err(kind) => Err(kind),
-    }
+    let name = read_name(alloc, name)?;
+    Ok(Call::Write {
+        name,
+        offset,
+        content,
+    })
 }
 
 /// The call that `get` and this word spell.
 fn read_get(alloc: Global, word: &[u8]) -> Result<Call, FaultKind>
     ensures { ReadsCall (codes "get " ++ word.now) result }
 {
-    match read_name(alloc, word) {
-        Ok(name) => Ok(Call::Get { name }),
-        Err(kind) => Err(kind),
-    }
+    let name = read_name(alloc, word)?;
+    Ok(Call::Get { name })
 }
 
 /// The call that `stat` and this word spell.
 fn read_stat(alloc: Global, word: &[u8]) -> Result<Call, FaultKind>
     ensures { ReadsCall (codes "stat " ++ word.now) result }
 {
-    match read_name(alloc, word) {
-        Ok(name) => Ok(Call::Stat { name }),
-        Err(kind) => Err(kind),
-    }
+    let name = read_name(alloc, word)?;
+    Ok(Call::Stat { name })
 }
 
 /// The call that `delete` and this word spell.
 fn read_delete(alloc: Global, word: &[u8]) -> Result<Call, FaultKind>
     ensures { ReadsCall (codes "delete " ++ word.now) result }
 {
-    match read_name(alloc, word) {
-        Ok(name) => Ok(Call::Delete { name }),
-        Err(kind) => Err(kind),
-    }
+    let name = read_name(alloc, word)?;
+    Ok(Call::Delete { name })
 }
 
 /// The call that `read` and these words spell.
@@ -139,14 +123,12 @@ fn read_read(alloc: Global, words: &[u8]) -> Result<Call, FaultKind>
     let Some(length) = small_number(length) else {
         return Err(FaultKind::Limit);
     };
-    match read_name(alloc, name) {
-        Ok(name) => Ok(Call::ReadAt {
-            name,
-            offset,
-            length,
-        }),
-        Err(kind) => Err(kind),
-    }
+    let name = read_name(alloc, name)?;
+    Ok(Call::ReadAt {
+        name,
+        offset,
+        length,
+    })
 }
 
 /// The call that a line spells, without its line feed.

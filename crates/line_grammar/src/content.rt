@@ -69,20 +69,16 @@ fn read_hex(alloc: Global, digits: &[u8]) -> Result<Content, FaultKind>
 fn read_fill(words: &[u8]) -> Result<Content, FaultKind>
     ensures { ReadsContent (codes "fill:" ++ words.now) result }
 {
-    match read_run(words) {
-        Ok((byte, length)) => Ok(Content::Fill { byte, length }),
-        Err(kind) => Err(kind),
-    }
+    let (byte, length) = read_run(words)?;
+    Ok(Content::Fill { byte, length })
 }
 
 /// The data of bytes that count up.
 fn read_ramp(words: &[u8]) -> Result<Content, FaultKind>
     ensures { ReadsContent (codes "ramp:" ++ words.now) result }
 {
-    match read_run(words) {
-        Ok((first, length)) => Ok(Content::Ramp { first, length }),
-        Err(kind) => Err(kind),
-    }
+    let (first, length) = read_run(words)?;
+    Ok(Content::Ramp { first, length })
 }
 
 /// The data that a word spells.

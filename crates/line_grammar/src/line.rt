@@ -77,14 +77,12 @@ fn read_rebuild_words(alloc: Global, words: &[u8]) -> Result<Rebuild, FaultKind>
     let Some(server) = small_number(server) else {
         return Err(FaultKind::Limit);
     };
-    match read_name(alloc, name) {
-        Ok(name) => Ok(Rebuild {
-            name,
-            stripe,
-            server,
-        }),
-        Err(kind) => Err(kind),
-    }
+    let name = read_name(alloc, name)?;
+    Ok(Rebuild {
+        name,
+        stripe,
+        server,
+    })
 }
 
 /// The rebuild of a line, without its line feed.
@@ -101,70 +99,56 @@ pub fn read_rebuild(alloc: Global, line: &[u8]) -> Result<Rebuild, FaultKind>
 fn read_client_step(word: &[u8]) -> Result<Token, FaultKind>
     ensures { (form : ℕ) → ReadsToken form (codes "c " ++ word.now) result }
 {
-    match number_of(word) {
-        Ok(client) => Ok(Token::Client(client)),
-        Err(kind) => Err(kind),
-    }
+    let client = number_of(word)?;
+    Ok(Token::Client(client))
 }
 
 /// The step `r` of the repairer that a word numbers.
 fn read_repairer_step(word: &[u8]) -> Result<Token, FaultKind>
     ensures { (form : ℕ) → ReadsToken form (codes "r " ++ word.now) result }
 {
-    match number_of(word) {
-        Ok(repairer) => Ok(Token::Repairer(repairer)),
-        Err(kind) => Err(kind),
-    }
+    let repairer = number_of(word)?;
+    Ok(Token::Repairer(repairer))
 }
 
 /// The wipe of the server that a word numbers.
 fn read_wipe(word: &[u8]) -> Result<Token, FaultKind>
     ensures { (form : ℕ) → ReadsToken form (codes "wipe " ++ word.now) result }
 {
-    match number_of(word) {
-        Ok(server) => Ok(Token::Wipe(server)),
-        Err(kind) => Err(kind),
-    }
+    let server = number_of(word)?;
+    Ok(Token::Wipe(server))
 }
 
 /// The making away of the server that a word numbers, in a script of form 2.
 fn read_down(word: &[u8]) -> Result<Token, FaultKind>
     ensures { ReadsToken 2 (codes "down " ++ word.now) result }
 {
-    match number_of(word) {
-        Ok(server) => Ok(Token::Down(server)),
-        Err(kind) => Err(kind),
-    }
+    let server = number_of(word)?;
+    Ok(Token::Down(server))
 }
 
 /// The making present of the server that a word numbers, in a script of form 2.
 fn read_up(word: &[u8]) -> Result<Token, FaultKind>
     ensures { ReadsToken 2 (codes "up " ++ word.now) result }
 {
-    match number_of(word) {
-        Ok(server) => Ok(Token::Up(server)),
-        Err(kind) => Err(kind),
-    }
+    let server = number_of(word)?;
+    Ok(Token::Up(server))
 }
 
 /// The reap of the client that a word numbers.
 fn read_client_reap(word: &[u8]) -> Result<Token, FaultKind>
     ensures { (form : ℕ) → ReadsToken form (codes "reap c " ++ word.now) result }
 {
-    match number_of(word) {
-        Ok(client) => Ok(Token::ReapClient(client)),
-        Err(kind) => Err(kind),
-    }
+    let client = number_of(word)?;
+    Ok(Token::ReapClient(client))
 }
 
 /// The reap of the repairer that a word numbers.
 fn read_repairer_reap(word: &[u8]) -> Result<Token, FaultKind>
     ensures { (form : ℕ) → ReadsToken form (codes "reap r " ++ word.now) result }
 {
-    match number_of(word) {
-        Ok(repairer) => Ok(Token::ReapRepairer(repairer)),
-        Err(kind) => Err(kind),
-    }
+    let repairer = number_of(word)?;
+    Ok(Token::ReapRepairer(repairer))
 }
 
 /// The step of a line of the schedule, without its line feed, in a script of this form.

@@ -3,6 +3,7 @@ ghost use Rattle.chunk_server.specs.State.{empty_server};
 ghost use Rattle.store_core.specs.Tokens.{actor_of};
 ghost use Rattle.machine_walks.specs.Small.{small_code};
 ghost use Rattle.machine_walks.specs.Works.{call_of, IsIn, Keeps, KeepsAll};
+ghost use Rattle.version_seal.specs.Sealer.{sealer_at};
 
 use crate::waiting::Waiting;
 use crate::work::InWork;
@@ -14,7 +15,7 @@ use std::marker::Model;
 use std::thread::Threads;
 use store_map::{Actor, Point};
 use stripe_dir::Directory;
-use version_seal::Book;
+use version_seal::{Book, Sealer};
 
 /// What happens to a server between two steps of a call.
 #[derive(Clone, Copy, PartialEq, Eq, Debug, Drop)]
@@ -58,12 +59,17 @@ fn servers(alloc: Global, book: &Book) -> Result<Vec<Server>, AllocError>
 
 impl<'a> Places<'a> {
     /// A directory without objects, whose objects may have 24 bytes each, and empty servers.
-    pub(crate) fn open(alloc: Global, book: &'a Book) -> Result<Places<'a>, AllocError>
+    pub(crate) fn open(
+        alloc: Global,
+        book: &'a Book,
+        sealer: Sealer,
+    ) -> Result<Places<'a>, AllocError>
         requires free { book.now.script ≡ None }
+        requires sealer { sealer ≡ sealer_at book.now 0 }
         requires code { book.now.geometry ≡ small_code }
     {
         let servers = servers(alloc, book)?;
-        let (directory, seats) = Directory::new(alloc, book.opening(), 24, 8, 1)?;
+        let (directory, seats) = Directory::new(alloc, book.opening(), sealer, 24, 8, 1)?;
         Ok(Places {
             alloc,
             book,

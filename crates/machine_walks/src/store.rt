@@ -1,5 +1,6 @@
 ghost use Rattle.std.specs.Prelude.{◌≡◌, None};
 ghost use Rattle.machine_walks.specs.Small.{small_code};
+ghost use Rattle.version_seal.specs.Sealer.{sealer_at};
 
 use crate::places::{Event, Places};
 use crate::work::InWork;
@@ -10,7 +11,7 @@ use std::mem;
 use std::test::Fail;
 use std::thread::Threads;
 use store_map::{Actor, Call, Rebuild};
-use version_seal::Book;
+use version_seal::{Book, Sealer};
 
 /// A directory and four servers, with one call that may be in work there while others begin and end.
 /// It has to be left.
@@ -59,13 +60,18 @@ fn needed(alloc: Global, need: Need) -> Result<String, AllocError> {
 }
 
 impl<'a> Store<'a> {
-    pub(crate) fn open(alloc: Global, book: &'a Book) -> Result<Store<'a>, AllocError>
+    pub(crate) fn open(
+        alloc: Global,
+        book: &'a Book,
+        sealer: Sealer,
+    ) -> Result<Store<'a>, AllocError>
         requires free { book.now.script ≡ None }
+        requires sealer { sealer ≡ sealer_at book.now 0 }
         requires code { book.now.geometry ≡ small_code }
     {
         Ok(Store {
             alloc,
-            places: Places::open(alloc, book)?,
+            places: Places::open(alloc, book, sealer)?,
             work: None,
         })
     }

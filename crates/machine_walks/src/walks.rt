@@ -96,8 +96,8 @@ fn hold<'a, R: Threads + Sync>(
 /// against what stands behind its `>`. Each call is that of a client of its own.
 pub fn hold_anew<R: Threads + Sync>(rt: &R, alloc: Global, rows: &str) -> Result<(), Fail> {
     let steps = steps_of(alloc, rows)?;
-    let book = Book::free(alloc, small_geometry()?)?;
-    let mut store = Store::open(alloc, &book)?;
+    let (book, sealer) = Book::free(alloc, small_geometry()?)?;
+    let mut store = Store::open(alloc, &book, sealer)?;
     let held = hold(rt, alloc, &mut store, &steps, rows);
     store.leave();
     held

@@ -100,17 +100,13 @@ impl Reader {
         requires kind { IsOfKind line.now LineKind.Size }
         ensures { Takes self.old line.now result self.new }
     {
-        match read_numbered(SIZE, line) {
-            Ok(size) => {
-                if size < 1 || size > MAX_SIZE {
-                    return Err(FaultKind::Limit);
-                }
-                self.size = Some(size);
-                self.place = Place::Size;
-                Ok(())
-            }
-            Err(kind) => Err(kind),
+        let size = read_numbered(SIZE, line)?;
+        if size < 1 || size > MAX_SIZE {
+            return Err(FaultKind::Limit);
         }
+        self.size = Some(size);
+        self.place = Place::Size;
+        Ok(())
     }
 
     /// Goes on by the line of the number of tries.
@@ -120,17 +116,13 @@ impl Reader {
         requires kind { IsOfKind line.now LineKind.Tries }
         ensures { Takes self.old line.now result self.new }
     {
-        match read_numbered(TRIES, line) {
-            Ok(tries) => {
-                if tries < 1 || tries > MAX_TRIES {
-                    return Err(FaultKind::Limit);
-                }
-                self.tries = Some(tries);
-                self.place = Place::Tries;
-                Ok(())
-            }
-            Err(kind) => Err(kind),
+        let tries = read_numbered(TRIES, line)?;
+        if tries < 1 || tries > MAX_TRIES {
+            return Err(FaultKind::Limit);
         }
+        self.tries = Some(tries);
+        self.place = Place::Tries;
+        Ok(())
     }
 
     /// Goes on by the first line of a client's block.
@@ -188,16 +180,12 @@ impl Reader {
         requires kind { IsOfKind line.now LineKind.Leave }
         ensures { Takes self.old line.now result self.new }
     {
-        match read_numbered(LEAVE, line) {
-            Ok(steps) => match next_place(self.place, LineKind::Leave, steps) {
-                Some(place) => {
-                    self.place = place;
-                    Ok(())
-                }
-                None => Err(FaultKind::Syntax),
-            },
-            Err(kind) => Err(kind),
-        }
+        let steps = read_numbered(LEAVE, line)?;
+        let Some(place) = next_place(self.place, LineKind::Leave, steps) else {
+            return Err(FaultKind::Syntax);
+        };
+        self.place = place;
+        Ok(())
     }
 
     /// Goes on by the line before the schedule's.
@@ -268,10 +256,7 @@ impl Reader {
         requires kind { IsOfKind line.now LineKind.Step }
         ensures { Takes self.old line.now result self.new }
     {
-        let token = match read_token(self.form, line) {
-            Ok(token) => token,
-            Err(kind) => return Err(kind),
-        };
+        let token = read_token(self.form, line)?;
         if self.schedule.as_slice().len() == MAX_SCHEDULE {
             return Err(FaultKind::Limit);
         }
@@ -294,10 +279,7 @@ impl Reader {
         requires kind { IsOfKind line.now LineKind.Call }
         ensures { Takes self.old line.now result self.new }
     {
-        let call = match read_call(alloc, line) {
-            Ok(call) => call,
-            Err(kind) => return Err(kind),
-        };
+        let call = read_call(alloc, line)?;
         let stripe_len = u64::from(self.geometry.stripe_len());
         let size = self.size.unwrap_or(DEFAULT_SIZE);
         let load = self.load.with_call(stripe_len, size, &call);
@@ -305,10 +287,7 @@ impl Reader {
             return Err(FaultKind::Limit);
         }
         let leave = pending(self.place);
-        match push_call(&mut self.clients, call, leave) {
-            Ok(()) => {}
-            Err(kind) => return Err(kind),
-        }
+        push_call(&mut self.clients, call, leave)?;
         let Some(place) = next_place(self.place, LineKind::Call, 0) else {
             return Err(FaultKind::Syntax);
         };
@@ -324,17 +303,11 @@ impl Reader {
         requires kind { IsOfKind line.now LineKind.Rebuild }
         ensures { Takes self.old line.now result self.new }
     {
-        let rebuild = match read_rebuild(alloc, line) {
-            Ok(rebuild) => rebuild,
-            Err(kind) => return Err(kind),
-        };
+        let rebuild = read_rebuild(alloc, line)?;
         let server = rebuild.server;
         let leave = pending(self.place);
         // a limit goes before a server that isn't there
-        match push_rebuild(&mut self.repairers, rebuild, leave) {
-            Ok(()) => {}
-            Err(kind) => return Err(kind),
-        }
+        push_rebuild(&mut self.repairers, rebuild, leave)?;
         if server >= self.geometry.n() {
             return Err(FaultKind::NoSuchServer);
         }

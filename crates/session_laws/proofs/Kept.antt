@@ -32,7 +32,7 @@ pub all_among : (P : ℕ → Type 0) (xs : List ℕ) → ((n : ℕ) → is_among
 all_among P [] each = none_all P
 all_among P (x ∷ xs) each = All-cons P x xs (each x (or_left _ _ (eq-eqb x x refl))) (all_among P xs (λ n e. each n (or_right _ _ e)))
 
-all_hold : (P : ℕ → Type 0) (v : ℕ) (held : List ℕ) → P v → All P held → All P (hold v held)
+pub all_hold : (P : ℕ → Type 0) (v : ℕ) (held : List ℕ) → P v → All P held → All P (hold v held)
 all_hold P v [] here all = All-cons P v [] here (none_all P)
 all_hold P v (o ∷ held) here all = by (nat_lt v o) (nat_eq v o) (all_hold P v held here (all_tail P o held all))
   where
@@ -119,7 +119,7 @@ rest_placed row (x ∷ news) versions all =
     (rest_placed row news (versions ++ placed_now row x ∷ []) (all_snoc IsAtRest versions (placed_now row x) all (inl refl)))
 
 -- ---- a standing that is known
-slice_there : (v : ℕ) (xs : List Version) → v < length xs → slice_get xs v ≡ None → ⊥
+pub slice_there : (v : ℕ) (xs : List Version) → v < length xs → slice_get xs v ≡ None → ⊥
 slice_there v [] less e = omega (arith, less)
 slice_there zero (x ∷ xs) less e = none-some x (sym e)
 slice_there (suc v) (x ∷ xs) less e = slice_there v xs (omega (arith, less)) e

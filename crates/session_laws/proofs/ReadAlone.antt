@@ -1,5 +1,5 @@
 -- A get or a read that runs alone: its look, its gatherings, and the end of its pass.
-use Rattle.std.proofs.Common.{◌≡◌, ℕ, suc, ◌<◌, Bool, true, false, not, cond, List, [], length, map, find, Option, None, Some, refl, sym, ap, subst, ◌∙◌}
+use Rattle.std.proofs.Common.{◌≡◌, ◌*◌, ◌-◌, min, ℕ, suc, ◌<◌, Bool, true, false, not, cond, List, [], length, map, find, Option, None, Some, refl, sym, ap, subst, ◌∙◌}
 use Rattle.std.proofs.lemmas.Simd.{map-map}
 use Rattle.clay_grid.specs.Shape.{stripe_length}
 use Rattle.store_map.specs.PlainMap.{bytes_of}
@@ -93,6 +93,13 @@ module _ (stands : List ℕ) (p : Places) (s : Session) (h : IsSeenAs p.director
     abbrev up_to : ℕ
     up_to = read_end (note_of call) object.length
 
+    -- where the bytes that are read begin and end in a stripe
+    abbrev from_at : ℕ → ℕ
+    from_at i = from - i * stripe_length p.directory.shape
+
+    abbrev up_to_at : ℕ → ℕ
+    up_to_at i = min (up_to - i * stripe_length p.directory.shape) (stripe_length p.directory.shape)
+
     abbrev pub stripes_read : List ℕ
     stripes_read = stripes_between p.directory.shape from up_to
 
@@ -116,13 +123,13 @@ module _ (stands : List ℕ) (p : Places) (s : Session) (h : IsSeenAs p.director
     closed = close_pass mine (give_up_drawn mine begun)
 
     abbrev parts : List Part
-    parts = map (part_at stands p s h name object numbers of_name same from up_to point (Answer.Replied (reply.Bytes bytes)) (Outcome.Served point) refl) stripes_read
+    parts = map (part_at stands p s h name object numbers of_name same from_at up_to_at point (Answer.Replied (reply.Bytes bytes)) (Outcome.Served point) refl) stripes_read
 
     abbrev outcome_for : Option Part → Outcome
-    outcome_for f = outcome_by stands p s h name object numbers of_name same from up_to point (Answer.Replied (reply.Bytes bytes)) (Outcome.Served point) refl f
+    outcome_for f = outcome_by stands p s h name object numbers of_name same from_at up_to_at point (Answer.Replied (reply.Bytes bytes)) (Outcome.Served point) refl f
 
     abbrev in_stripe : Part → Stripe
-    in_stripe part = stripe_for stands p s h name object numbers of_name same from up_to point (Answer.Replied (reply.Bytes bytes)) (Outcome.Served point) refl part
+    in_stripe part = stripe_for stands p s h name object numbers of_name same from_at up_to_at point (Answer.Replied (reply.Bytes bytes)) (Outcome.Served point) refl part
 
     -- the call at its end
     abbrev over : Outcome → Places → AtWork
@@ -146,7 +153,7 @@ module _ (stands : List ℕ) (p : Places) (s : Session) (h : IsSeenAs p.director
         (here p.directory.shape tries who number (job_of call) p.servers q (over outcome) now))
 
     abbrev found_out : Part → Bool
-    found_out part = out_at stands p s h name object numbers of_name same from up_to point (Answer.Replied (reply.Bytes bytes)) (Outcome.Served point) refl part
+    found_out part = out_at stands p s h name object numbers of_name same from_at up_to_at point (Answer.Replied (reply.Bytes bytes)) (Outcome.Served point) refl part
 
     ends_by : (f : Option Part) → LeadsOn (state_by p.directory.shape tries who number (job_of call) [] (Sequel.Serve point) in_stripe s.epochs p.servers begun f) (over (outcome_for f))
     ends_by None = ends_so (Outcome.Served point)
@@ -155,15 +162,15 @@ module _ (stands : List ℕ) (p : Places) (s : Session) (h : IsSeenAs p.director
     pub pinned_alone : step p.directory.shape tries who number (job_of call) start ≡ looked look_made →
         look_made ≡ (begun, Told.Pinned point object.length (map (seen_at p.directory object) stripes_read)) →
         ((i : ℕ) → is_among i stripes_read ≡ true → i < length numbers) →
-        Served (answer_by stands p s h name object numbers of_name same from up_to point (Answer.Replied (reply.Bytes bytes)) (Outcome.Served point) refl
+        Served (answer_by stands p s h name object numbers of_name same from_at up_to_at point (Answer.Replied (reply.Bytes bytes)) (Outcome.Served point) refl
         (first_unavailable p.directory.shape s s.stripes numbers
-        (map (range_at stands p s h name object numbers of_name same from up_to point (Answer.Replied (reply.Bytes bytes)) (Outcome.Served point) refl) stripes_read)))
+        (map (range_at stands p s h name object numbers of_name same from_at up_to_at point (Answer.Replied (reply.Bytes bytes)) (Outcome.Served point) refl) stripes_read)))
     pinned_alone first_step look_is within = record {
       after = record (way.places) { directory = closed };
       ends = record {
         made = suc way.made;
         over = ap (λ (w : AtWork). act_of_state p.directory.shape tries (job_of call) w.call) comes
-            ∙ ap (λ outcome. Act.Finish outcome) (sym (agree stands p s h name object numbers of_name same from up_to point (Answer.Replied (reply.Bytes bytes)) (Outcome.Served point) refl stripes_read within));
+            ∙ ap (λ outcome. Act.Finish outcome) (sym (agree stands p s h name object numbers of_name same from_at up_to_at point (Answer.Replied (reply.Bytes bytes)) (Outcome.Served point) refl stripes_read within));
         leaves = ap (λ (w : AtWork). w.places) comes;
       };
       seen = kept_seen stands p s (record (way.places) { directory = closed }) alike way.now h;
@@ -178,7 +185,7 @@ module _ (stands : List ℕ) (p : Places) (s : Session) (h : IsSeenAs p.director
             (over (outcome_for (find found_out parts)))
         way =
             parts_next p.directory.shape tries who number (job_of call) [] (Sequel.Serve point) in_stripe s.epochs p.servers begun parts
-            (each_answers stands p s h name object numbers of_name same from up_to point (Answer.Replied (reply.Bytes bytes)) (Outcome.Served point) refl stripes_read within)
+            (each_answers stands p s h name object numbers of_name same from_at up_to_at point (Answer.Replied (reply.Bytes bytes)) (Outcome.Served point) refl stripes_read within)
             (over (outcome_for (find found_out parts))) (ends_by (find found_out parts)) (record p { directory = begun }) refl refl
 
         first_two : step p.directory.shape tries who number (job_of call) start

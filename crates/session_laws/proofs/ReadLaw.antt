@@ -1,5 +1,5 @@
 -- The law on gets and reads.
-use Rattle.std.proofs.Common.{◌≡◌, ℕ, ◌+◌, ◌<◌, min, Bool, true, false, List, [], ◌++◌, length, map, take, Option, None, Some, option_map, unwrap_or, drop, subst₂, IfSome, refl, sym, ap, subst, ◌∙◌, inl, inr, if◌then◌else◌, nat_lt, bytes_eq}
+use Rattle.std.proofs.Common.{◌≡◌, ◌*◌, ◌-◌, ℕ, ◌+◌, ◌<◌, min, Bool, true, false, List, [], ◌++◌, length, map, take, Option, None, Some, option_map, unwrap_or, drop, subst₂, IfSome, refl, sym, ap, subst, ◌∙◌, inl, inr, if◌then◌else◌, nat_lt, bytes_eq}
 use Rattle.std.proofs.lemmas.List.{length-map, append-nil}
 use Rattle.std.proofs.lemmas.List.Elements.{All-contains}
 use Rattle.std.proofs.lemmas.Bool.{true≢false}
@@ -111,7 +111,7 @@ module _ (tries : ℕ) (stands : List ℕ) (p : Places) (s : Session) (who : Act
           let within : (i : ℕ) → is_among i (stripes_between g 0 object.length) ≡ true → i < length numbers.0 =
           λ i e. subst (λ n. i < n) (sym count) (All-contains (λ i. i < stripes_met (stripe_length g) 0 object.length) (stripes_between g 0 object.length) i (pins_within g some Kind.Get (note_of (call.Get name)) object.length) (is_in i (stripes_between g 0 object.length) e)) in
           let said : Option Answer → Answer =
-          answer_by stands p s h name object numbers.0 numbers.1 (sym numbers.2) 0 object.length (length p.directory.points) (Answer.Replied (reply.Bytes bytes.0)) (Outcome.Served (length p.directory.points)) refl in
+          answer_by stands p s h name object numbers.0 numbers.1 (sym numbers.2) (λ i. 0 - i * stripe_length g) (λ i. min (object.length - i * stripe_length g) (stripe_length g)) (length p.directory.points) (Answer.Replied (reply.Bytes bytes.0)) (Outcome.Served (length p.directory.points)) refl in
           let out : ℕ → List ℕ → Option Answer = λ size ns. first_unavailable g s s.stripes ns (gathered_by g (call.Get name) size) in
           let serves : serve_call g max_bytes (call.Get name) s ≡ (s, said (out object.length numbers.0)) =
           ap (λ f. serve_by (is_refusal (get_all f)) g (call.Get name) s (s.objects, get_all f)) bytes.1
@@ -170,7 +170,7 @@ module _ (tries : ℕ) (stands : List ℕ) (p : Places) (s : Session) (who : Act
                 λ i e. subst (λ n. i < n) (sym many) (All-contains (λ i. i < stripes_met (stripe_length g) 0 object.length) (stripes_between g offset (min (offset + count) object.length)) i (pins_within g some Kind.ReadAt (note_of c) object.length) (is_in i (stripes_between g offset (min (offset + count) object.length)) e)) in
                 let given : List ℕ = take count (drop offset bytes.0) in
                 let said : Option Answer → Answer =
-                answer_by stands p s h name object numbers.0 numbers.1 (sym numbers.2) offset (min (offset + count) object.length) (length p.directory.points) (Answer.Replied (reply.Bytes given)) (Outcome.Served (length p.directory.points)) refl in
+                answer_by stands p s h name object numbers.0 numbers.1 (sym numbers.2) (λ i. offset - i * stripe_length g) (λ i. min (min (offset + count) object.length - i * stripe_length g) (stripe_length g)) (length p.directory.points) (Answer.Replied (reply.Bytes given)) (Outcome.Served (length p.directory.points)) refl in
                 let out : ℕ → List ℕ → Option Answer = λ size ns. first_unavailable g s s.stripes ns (gathered_by g c size) in
                 let serves : serve_call g max_bytes c s ≡ (s, said (out object.length numbers.0)) =
                 ap serve_from bytes.1

@@ -26,13 +26,18 @@ module _ (g : Shape) (max : ℕ) (stands : List ℕ) (p : Places) (s : Session) 
     lengths = h.lengths;
     versions = h.versions;
     count = h.count;
-    stripes = λ n e.
-        h.stripes n (by n (or_cases (is_among n (all_numbers s.numbers)) (is_among n (snapshot_numbers snapshot)) (sym (among_append n (all_numbers s.numbers) (snapshot_numbers snapshot)) ∙ e)));
+    stripes = λ n e. h.stripes n (before n e);
+    apart = λ n m e also same. h.apart n m (before n e) (before m also) same;
+    timely = h.timely;
+    names = h.names;
   }
     where
       by : (n : ℕ) → (is_among n (all_numbers s.numbers) ≡ true) ⊎ (is_among n (snapshot_numbers snapshot) ≡ true) → is_among n (live_numbers s) ≡ true
       by n (inl e) = among_append n (all_numbers s.numbers) (snapshot_numbers s.snapshot) ∙ or_left (is_among n (all_numbers s.numbers)) (is_among n (snapshot_numbers s.snapshot)) e
       by n (inr e) = live n e
+
+      before : (n : ℕ) → is_among n (live_numbers (record s { snapshot = snapshot })) ≡ true → is_among n (live_numbers s) ≡ true
+      before n e = by n (or_cases (is_among n (all_numbers s.numbers)) (is_among n (snapshot_numbers snapshot)) (sym (among_append n (all_numbers s.numbers) (snapshot_numbers snapshot)) ∙ e))
 
   abbrev kept : Snapshot
   kept = record { objects = s.objects; numbers = s.numbers; stripes = s.stripes }

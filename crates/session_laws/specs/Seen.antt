@@ -1,6 +1,8 @@
 -- When directory and servers are seen as a session's state, and what is kept between requests.
-use Rattle.std.specs.Prelude.{◌≡◌, ◌⊎◌, ℕ, false, List, [], ◌++◌, length, map, get_or, flat_map, Option, None, Some, All, IsTrue, slice_get}
+use Rattle.std.specs.Prelude.{◌≡◌, ◌⊎◌, ◌≤◌, ℕ, false, List, [], ◌++◌, length, map, get_or, flat_map, bytes_eq, Option, None, Some, All, IsTrue, slice_get}
+use Rattle.std.specs.List.{IsDistinct}
 use Rattle.clay_grid.specs.Shape.{Shape, chunk_count}
+use Rattle.store_map.specs.Laws.{names_of}
 use Rattle.store_map.specs.declared.placement.Placement.TheVariants as placement
 use Rattle.store_core.specs.Lists.{is_among}
 use Rattle.store_core.specs.Note.{Kind}
@@ -10,7 +12,7 @@ use Rattle.store_core.specs.Look.{placed_of}
 use Rattle.store_core.specs.Step.{Places}
 use Rattle.store_core.specs.Sound.{IsSound, lengths_of}
 use Rattle.store_lengths.specs.LengthLaws.{lengths_seen}
-use Rattle.session_rules.specs.State.{Stripe, Numbering, Snapshot, State}
+use Rattle.session_rules.specs.State.{Stripe, Numbering, Snapshot, State, chunk_at}
 
 -- the version that stands for a stripe's number, by a list of them
 abbrev pub version_of : List ℕ → ℕ → ℕ
@@ -42,7 +44,11 @@ pub record StandsFor (p : Places) (stripe : Stripe) (version : ℕ) : Type 0 whe
   pub placed : placed_of (slice_get p.directory.versions version) ≡ map (λ chunk. placement.At chunk.placed) stripe
   pub held : map (λ server. is_among version server.held) p.servers ≡ map (λ chunk. chunk.held) stripe
 
--- the state that callers see: no server is away, and each number has its version
+-- no chunk was placed at an epoch that its server hasn't come to
+abbrev pub IsTimely : State → Type 0
+IsTimely s = (number server : ℕ) → (chunk_at (get_or s.stripes number []) server).placed ≤ get_or s.epochs server 0
+
+-- the state that callers see: no server is away, each number has its version, which no other has, and each name stands once
 pub record IsSeenAs (g : Shape) (max : ℕ) (stands : List ℕ) (p : Places) (s : State) : Type 0 where
   pub shape : p.directory.shape ≡ g
   pub most : p.directory.max ≡ max
@@ -54,6 +60,9 @@ pub record IsSeenAs (g : Shape) (max : ℕ) (stands : List ℕ) (p : Places) (s 
   pub versions : map versions_under p.directory.objects ≡ map (stood_under stands) s.numbers
   pub count : length stands ≡ length s.stripes
   pub stripes : (number : ℕ) → IsTrue (is_among number (live_numbers s)) → StandsFor p (get_or s.stripes number []) (version_of stands number)
+  pub apart : (n m : ℕ) → IsTrue (is_among n (live_numbers s)) → IsTrue (is_among m (live_numbers s)) → version_of stands n ≡ version_of stands m → n ≡ m
+  pub timely : IsTimely s
+  pub names : IsDistinct bytes_eq (names_of s.numbers)
 
 -- a pass of a snapshot's look: it pins versions that the snapshot keeps
 pub record IsOfSnapshot (kept : List ℕ) (pass : Pass) : Type 0 where

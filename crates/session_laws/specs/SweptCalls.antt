@@ -1,4 +1,4 @@
--- Puts and deletes from quiet places to quiet places: the call, then the sweeper to its end.
+-- Puts, writes and deletes from quiet places to quiet places: the call, then the sweeper to its end.
 use Rattle.std.specs.Prelude.{◌<◌, ◌+◌, ℕ, List, ◌++◌, length}
 use Rattle.clay_grid.specs.Shape.{Shape, stripe_length}
 use Rattle.store_map.specs.Content.{content_length}
@@ -19,6 +19,7 @@ use Rattle.session_laws.specs.Outcomes.{outcome_at}
 use Rattle.session_laws.specs.Sweeps.{KeepsPinned}
 use Rattle.session_laws.specs.Puts.{drawn_by}
 use Rattle.session_laws.specs.Quiet.{AreSwept}
+use Rattle.session_laws.specs.Writes.{stands_after}
 
 -- the call ran alone to the session's answer, and the sweeper made quiet places of what it left, where these versions stand for the state's numbers
 pub record IsServedAndSwept (g : Shape) (max tries : ℕ) (who : Actor) (number : ℕ) (call : Call) (p : Places) (stands : List ℕ) (served : State × Answer) : Type 0 where
@@ -40,3 +41,11 @@ DeletesAreSwept =
     (g : Shape) (max tries : ℕ) (stands : List ℕ) (p : Places) (s : State) (who : Actor) (number : ℕ) (name : List ℕ) →
     0 < stripe_length g → IsSeenAs g max stands p s → KeepsPinned stands p s → IsQuiet stands p s → MayBegin p.directory who number → IsOfClient who (note_of (call.Delete name)) →
     IsServedAndSwept g max tries who number (call.Delete name) p stands (serve_call g max (call.Delete name) s)
+
+-- any write, with a try at least
+abbrev pub WritesAreSwept : Type 0
+WritesAreSwept =
+    (g : Shape) (max tries : ℕ) (stands : List ℕ) (p : Places) (s : State) (who : Actor) (number : ℕ) (name : List ℕ) (offset : ℕ) (content : Content) →
+    0 < stripe_length g → 0 < tries → IsSeenAs g max stands p s → KeepsPinned stands p s → IsQuiet stands p s → MayBegin p.directory who number → IsOfClient who (note_of (call.Write name offset content)) →
+    IsServedAndSwept g max tries who number (call.Write name offset content) p (stands_after stands p s (serve_call g max (call.Write name offset content) s).0)
+    (serve_call g max (call.Write name offset content) s)

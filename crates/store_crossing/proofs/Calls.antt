@@ -75,27 +75,6 @@ read_send : (ν : NamedLft) → IsSend (read.the_row ν)
 read_send ν = view_send (read_inside.the_row ν) _ _ _ _ (declared_send (read_inside.the_type ν)
     (search sendable depth 20, (ticket_send, (shr_send _ _ _ call_sync, (search sendable, (gatherings_send, (search sendable depth 20, (outcome_send, (search sendable, (search sendable, tt))))))))))
 
-put_send : (ν : NamedLft) → IsSend (put.the_row ν)
-put_send ν = view_send (put_inside.the_row ν) _ _ _ _ (declared_send (put_inside.the_type ν) (
-  send,
-  (
-    search sendable depth 20,
-    (
-      ticket_send,
-      (
-        search sendable depth 20,
-        (
-          search sendable,
-          (
-            shr_send _ _ _ call_sync,
-            (opening_send, (writing_send, (outcome_send, (search sendable, (search sendable, tt))))),
-          ),
-        ),
-      ),
-    ),
-  ),
-))
-
 patch_send : (ν : NamedLft) → IsSend (patch.the_row ν)
 patch_send ν = view_send (patch_inside.the_row ν) _ _ _ _ (declared_send (patch_inside.the_type ν) (
   send,
@@ -119,6 +98,10 @@ patch_send ν = view_send (patch_inside.the_row ν) _ _ _ _ (declared_send (patc
     ),
   ),
 ))
+
+-- a put is a write that keeps no old bytes
+put_send : (ν : NamedLft) → IsSend (put.the_row ν)
+put_send ν = view_send (put_inside.the_row ν) _ _ _ _ (declared_send (put_inside.the_type ν) (patch_send ν, tt))
 
 repair_send : (ν : NamedLft) → IsSend (repair.the_row ν)
 repair_send ν = view_send (repair_inside.the_row ν) _ _ _ _ (declared_send (repair_inside.the_type ν) (

@@ -24,6 +24,7 @@ use Rattle.store_run.specs.contracts.server_box.ServerIdentity as server_fixed
 use Rattle.store_run.specs.contracts.server_box.StepNote as step_note
 use Rattle.store_run.specs.contracts.seated.Seated as seated
 use Rattle.store_run.specs.contracts.store.Store as store
+use Rattle.store_run.specs.contracts.turns.Turns as turns
 use Rattle.store_run.specs.contracts.workers.Worker as worker
 
 server_box_send : IsSend server_box.the_row
@@ -53,9 +54,11 @@ server_locks_sync = Vec-sync (lock.the_row server_box.the_row server_fixed.the_r
 pub store_sync : (ν : NamedLft) → IsSync (store.the_row ν)
 store_sync ν = declared_sync (store.the_type ν) (shr_sync _ _ _ script_sync, (directory_lock_sync, (server_locks_sync, (shr_sync _ _ _ book_sync, tt))))
 
+turns_send : IsSend turns.the_row
+turns_send = declared_send turns.the_type (search sendable, (directory_turn_send, (server_turns_send, tt)))
+
 seated_send : (ν : NamedLft) → IsSend (seated.the_row ν)
-seated_send ν = declared_send (seated.the_type ν)
-    (caller_send ν, (search sendable depth 20, (search sendable, (search sendable, (search sendable, (directory_turn_send, (server_turns_send, tt)))))))
+seated_send ν = declared_send (seated.the_type ν) (caller_send ν, (search sendable depth 20, (search sendable, (search sendable, (turns_send, tt)))))
 
 pub worker_send : (ν : NamedLft) → IsSend (worker.the_row ν)
 worker_send ν = declared_send (worker.the_type ν) (Vec-send (seated.the_row ν) (seated_send ν), tt)

@@ -8,6 +8,9 @@ pub mod ServerSteps
 pub mod DirectorySteps
 pub mod Looking
 pub mod Seating
+pub mod Placing
+pub mod SweepingOn
+pub mod OperatingOn
 pub mod Going
 pub mod Having
 pub mod Crossing

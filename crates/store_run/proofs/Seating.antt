@@ -40,7 +40,8 @@ use Rattle.run_lists.specs.Stepped.{IsReady as IsReadyFor}
 use Rattle.run_lists.proofs.Calling.{calls_know_themselves}
 use Rattle.run_lists.proofs.Room.{actors_have_room}
 use Rattle.store_run.specs.Before.{IsInCall, IsBeforeServer, IsBeforeDirectory}
-use Rattle.store_run.specs.Seated.{MayStep, seen_by, server_of, directory_of}
+use Rattle.store_run.specs.Places.{seen_by, server_of, directory_of}
+use Rattle.store_run.specs.Seated.{MayStep}
 use Rattle.store_run.specs.Seen.{seen_there}
 use Rattle.store_run.specs.declared.server_box.ServerIdentity.{ServerIdentity}
 use Rattle.store_run.specs.declared.seated.Seated.{Seated}
@@ -90,7 +91,7 @@ module _ (store : Store) (seated : Seated) (may : MayStep store seated) where
   work = work_of seated.caller.part
 
   abbrev at : Place → List MadeStep
-  at = own_at seated.number (seen_by seated)
+  at = own_at seated.turns.number (seen_by seated.turns)
 
   pub of_script : IsOfScript store.script.now seated.caller
   of_script =
@@ -139,7 +140,7 @@ module _ (store : Store) (seated : Seated) (may : MayStep store seated) where
         }
 
     -- and knows its ticket and its number
-    pub knows_itself : KnowsItself seated.actor (own_at seated.number (seen_by seated)) seated.caller.actor r.now.call
+    pub knows_itself : KnowsItself seated.actor (own_at seated.turns.number (seen_by seated.turns)) seated.caller.actor r.now.call
     knows_itself = calls_know_themselves script seated.actor work at a.actor r.now.call may.seated_is.calling is_ready
 
     pub same_book : mid.book ≡ seated.caller.book
@@ -161,12 +162,12 @@ module _ (store : Store) (seated : Seated) (may : MayStep store seated) where
             few = subst (λ (x : CallerOf). steps_of x.actor.doing + 1 < 2 ^ 64) (sym r.leaves) (room.steps seated.actor at a.actor may.seated_is.calling);
           }
 
-      its_turn : IsTurnOf (counts_of script) seated.number (actor_of r.now.call.token)
-      its_turn = subst (IsTurnOf (counts_of script) seated.number) (sym knows_itself.whose) may.seated_is.turn
+      its_turn : IsTurnOf (counts_of script) seated.turns.number (actor_of r.now.call.token)
+      its_turn = subst (IsTurnOf (counts_of script) seated.turns.number) (sym knows_itself.whose) may.seated_is.turn
 
       -- before a step at a server
       pub before_server : (j : ℕ) (turn : TurnState ServerIdentity MadeStep) → turn.fixed ≡ Some (server_of store j) → IfSome mid.work (λ c. need.Server j ≡ need_of c.call)
-          → IsBeforeServer turn.fixed seated.number mid
+          → IsBeforeServer turn.fixed seated.turns.number mid
       before_server j turn fixed needs =
           record {
             identity = server_of store j;
@@ -190,7 +191,7 @@ module _ (store : Store) (seated : Seated) (may : MayStep store seated) where
       -- and at the directory
       pub before_directory :
           IfSome mid.work (λ c. need.Directory ≡ need_of c.call) → IfSome mid.work (λ c. MayMakeNext c.call) → IfSome mid.work (λ c. HoldsItsPass c.call) → ((d : Sealed) → Knows d seated.caller → Knows d mid)
-          → IsBeforeDirectory seated.directory.fixed seated.number seated.directory.seen mid
+          → IsBeforeDirectory seated.turns.directory.fixed seated.turns.number seated.turns.directory.seen mid
       before_directory needs may_make pass knows =
           record {
             identity = directory_of store;
@@ -208,6 +209,6 @@ module _ (store : Store) (seated : Seated) (may : MayStep store seated) where
             pass = of_ready (λ x c. HoldsItsPass c.call) pass;
             looks = looks;
             knows =
-                subst (λ (b : BookOf). Knows (seen_there seated.directory.seen b) mid) (sym same_book)
-                (knows (seen_there seated.directory.seen a.book) may.seated_is.knows);
+                subst (λ (b : BookOf). Knows (seen_there seated.turns.directory.seen b) mid) (sym same_book)
+                (knows (seen_there seated.turns.directory.seen a.book) may.seated_is.knows);
           }

@@ -4,5 +4,7 @@ pub mod Seen
 pub mod Before
 pub mod Stepped
 pub mod Plain
+pub mod Places
 pub mod Seated
+pub mod SeatedPlain
 pub mod Working

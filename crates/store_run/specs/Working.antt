@@ -1,6 +1,7 @@
 -- A worker with its callers.
 use Rattle.std.specs.Prelude.{◌≡◌, false, All}
-use Rattle.store_run.specs.Seated.{IsStore, IsSeated, some_has}
+use Rattle.store_run.specs.Places.{IsStore}
+use Rattle.store_run.specs.Seated.{IsSeated, some_has}
 use Rattle.store_run.specs.declared.store.Store.{Store}
 use Rattle.store_run.specs.declared.workers.Worker.{Worker}
 

@@ -6,11 +6,14 @@ mod directory_steps;
 mod gate;
 mod operations;
 mod seated;
+mod seated_operator;
+mod seated_sweeper;
 mod server_box;
 mod server_steps;
 mod stepper;
 mod store;
 mod sweeps;
+mod turns;
 mod workers;
 
 pub use directory_box::{DirectoryBox, DirectoryIdentity, DirectoryNote};

@@ -1,21 +1,20 @@
 //! A caller with its turns at all places of a store.
 ghost use Rattle.std.specs.Prelude.{◌≡◌, ℕ};
-ghost use Rattle.store_run.specs.Seated.{IsSeated, IsStore, MayStep, StepsOn, last_by};
+ghost use Rattle.store_run.specs.Places.{IsStore, last_by};
+ghost use Rattle.store_run.specs.Seated.{IsSeated, MayStep, StepsOn};
 
-use crate::directory_box::DirectoryBox;
 use crate::directory_steps::step_at_directory;
 use crate::gate::Gate;
-use crate::server_box::ServerBox;
 use crate::server_steps::step_at_server;
 use crate::stepper::Stepper;
 use crate::store::Store;
+use crate::turns::Turns;
 use actors::Caller;
 use call_steps::Need;
 use clay_repair::Coder;
 use std::sync::Wait;
 use std::thread::Threads;
 use store_map::Actor;
-use turn_lock::Turn;
 
 /// A client or a repairer with its turns at the directory and at each server.
 pub(crate) struct Seated<'a> {
@@ -23,22 +22,19 @@ pub(crate) struct Seated<'a> {
     pub(crate) actor: Actor,
     // its place among the script's clients, or among its repairers
     pub(crate) place: u32,
-    // the number of its turns
-    pub(crate) number: u32,
     // how many steps it has made
     pub(crate) steps: u64,
-    pub(crate) directory: Turn<DirectoryBox>,
-    pub(crate) servers: Vec<Turn<ServerBox>>,
+    pub(crate) turns: Turns,
 }
 
 impl<'a> Seated<'a> {
     // Whose next step it is.
     fn stepper(&self) -> Stepper
-        ensures { result ≡ record { actor = self.now.actor; number = self.now.number; steps = self.now.steps } }
+        ensures { result ≡ record { actor = self.now.actor; number = self.now.turns.number; steps = self.now.steps } }
     {
         Stepper {
             actor: self.actor,
-            number: self.number,
+            number: self.turns.number,
             steps: self.steps,
         }
     }
@@ -52,7 +48,7 @@ impl<'a> Seated<'a> {
         store: &Store,
     )
         ghost last: { ℕ }
-        requires last { last ≡ last_by store.now self.old }
+        requires last { last ≡ last_by store.now self.old.turns }
         requires may { MayStep store.now self.old }
         ensures { StepsOn store.now self.old self.new }
     {
@@ -64,7 +60,7 @@ impl<'a> Seated<'a> {
                 rt,
                 gate,
                 &store.directory,
-                &mut self.directory,
+                &mut self.turns.directory,
                 &mut self.caller,
                 store.book,
                 stepper,
@@ -73,7 +69,7 @@ impl<'a> Seated<'a> {
                 rt,
                 gate,
                 &store.servers[server as usize],
-                &mut self.servers[server as usize],
+                &mut self.turns.servers[server as usize],
                 &mut self.caller,
                 stepper,
             ),

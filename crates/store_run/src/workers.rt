@@ -1,7 +1,8 @@
 //! Workers: each makes the turns of its callers, until none of them has a step.
 ghost use Rattle.std.specs.Prelude.{◌≡◌, ◌<◌, All};
 ghost use Rattle.store_map.specs.declared.script.Script.{Script as StoreScript};
-ghost use Rattle.store_run.specs.Seated.{AreOfCode, IsSeated, IsStore, some_has};
+ghost use Rattle.store_run.specs.Places.{IsStore};
+ghost use Rattle.store_run.specs.Seated.{AreOfCode, IsSeated, some_has};
 ghost use Rattle.store_run.specs.Working.{IsWorking, IsDone};
 
 use crate::gate::Gate;

@@ -24,6 +24,11 @@ pub record IsStampOf (book : BookOf) (version : ℕ) (stamp : StampOf) : Type 0 
   pub stripe : stamp.stripe ≡ 0
   pub content : stamp.content ≡ stripe_bytes
 
+-- a stamp of that stripe
+pub record IsStripeOf (book : BookOf) (stamp : StampOf) : Type 0 where
+  pub home : stamp.home ≡ book.home
+  pub content : stamp.content ≡ stripe_bytes
+
 -- a chunk of a stamp's version, for a server
 pub record IsChunkFor (stamp : StampOf) (server : ℕ) (chunk : ChunkOf) : Type 0 where
   pub stamped : chunk.stamp ≡ stamp

@@ -1,19 +1,19 @@
 //! Chunks of a put of one stripe, sealed in a book without a script.
 
-ghost use Rattle.std.specs.Prelude.{◌≡◌, ◌<◌, ◌∷◌, [], Some, IfOk, IfErr, length, All};
+ghost use Rattle.std.specs.Prelude.{◌≡◌, ◌+◌, ◌<◌, ◌∷◌, [], Some, IfOk, OnOk, length, All};
 ghost use Rattle.clay_grid.specs.Shape.{chunk_count};
 ghost use Rattle.version_seal.specs.Entry.{IsBaseIn};
-ghost use Rattle.version_seal.specs.Room.{IsSealedBefore};
+ghost use Rattle.version_seal.specs.Sealer.{sealer_at};
 ghost use Rattle.clay_decode.specs.Left.{AreLong};
-ghost use Rattle.store_tests.specs.Small.{small_code, stripe_bytes, IsSmall, IsStampOf, IsChunkFor};
+ghost use Rattle.store_tests.specs.Small.{small_code, stripe_bytes, IsSmall, IsStampOf, IsStripeOf, IsChunkFor};
 
 use chunk_server::{Fetched, Server};
 use clay_encode::encode;
 use clay_grid::Geometry;
 use std::alloc::{AllocError, Global};
 use std::test::Fail;
-use store_map::{Actor, Call, Content, Name, Version};
-use version_seal::{Book, SealError, SealedChunk, SealedPart, Stamp};
+use store_map::{Actor, Call, Content, Name};
+use version_seal::{Book, SealedChunk, SealedPart, Sealer, Stamp};
 
 /// The code of all these: 2 data chunks and 2 parity chunks of 4 subchunks of a byte.
 pub fn small_geometry() -> Result<Geometry, Fail>
@@ -29,11 +29,12 @@ pub fn stripe(alloc: Global) -> Result<Vec<u8>, Fail>
     Ok(Vec::from_slice(alloc, &[1, 2, 3, 4, 5, 6, 7, 8])?)
 }
 
-// Seals the version as one that the put drew, if it isn't sealed.
-fn sealed(alloc: Global, book: &Book, version: Version) -> Result<Result<Stamp, SealError>, Fail>
-    requires { IsSmall book.now }
-    ensures new { IfOk result (λ sealed. IfOk sealed (IsStampOf book.now version.0)) }
-    ensures before { IfOk result (λ sealed. IfErr sealed (IsSealedBefore book.now version.0)) }
+/// Seals the next version as one that the put drew.
+pub fn stamp(alloc: Global, book: &Book, sealer: &mut Sealer) -> Result<Stamp, Fail>
+    requires book { IsSmall book.now }
+    requires sealer { sealer.old.home ≡ book.now.home }
+    ensures stamp { IfOk result (IsStampOf book.now sealer.old.next) }
+    ensures on { OnOk result (sealer.new ≡ sealer_at book.now (sealer.old.next + 1)) }
 {
     let name = Name::new(alloc, "a")?;
     let content = Content::Ramp {
@@ -42,31 +43,26 @@ fn sealed(alloc: Global, book: &Book, version: Version) -> Result<Result<Stamp, 
     };
     let actor = Actor::Client(0);
     let request = book.request(actor, 0, &Call::Put { name, content });
-    let room = book.reserve(version, 1)?;
-    Ok(book.seal(&room, version, actor, 0, 0, Some(&request), None))
+    let room = book.reserve(sealer.next(), 1)?;
+    Ok(book.seal(sealer, &room, actor, 0, 0, Some(&request), None)?)
 }
 
-/// Seals the version as one that the put drew.
-pub fn stamp(alloc: Global, book: &Book, version: Version) -> Result<Stamp, Fail>
-    requires { IsSmall book.now }
-    ensures { IfOk result (IsStampOf book.now version.0) }
-{
-    Ok(sealed(alloc, book, version)??)
-}
-
-/// Seals a version that was sealed before: what is told is its stamp.
-pub fn sealed_before(alloc: Global, book: &Book, first: &Stamp) -> Result<Stamp, Fail>
+/// Seals so many versions.
+pub fn stamps(
+    alloc: Global,
+    book: &Book,
+    mut sealer: Sealer,
+    count: u32,
+) -> Result<Vec<Stamp>, Fail>
     requires book { IsSmall book.now }
-    requires stamp { first.now.home ≡ book.now.home }
-    ensures { IfOk result (λ stamp. stamp ≡ first.now) }
+    requires sealer { sealer.home ≡ book.now.home }
+    ensures { IfOk result (λ stamps. All (IsStripeOf book.now) stamps.items) }
 {
-    match sealed(alloc, book, first.version())? {
-        Err(SealError::Sealed(stamp)) => {
-            book.agrees(&stamp, first);
-            Ok(stamp)
-        }
-        Ok(_) | Err(SealError::Contended) => Err(AllocError)?,
+    let mut stamps = Vec::new(alloc);
+    for _sealed in 0..count {
+        stamps.push(stamp(alloc, book, &mut sealer)?)?;
     }
+    Ok(stamps)
 }
 
 /// A server's chunk of such a version.
@@ -83,9 +79,15 @@ pub fn chunk(alloc: Global, book: &Book, stamp: &Stamp, server: u32) -> Result<S
 }
 
 /// Seals a write of the stripe's first bytes over an older version.
-pub fn stamp_over(alloc: Global, book: &Book, version: Version, base: &Stamp) -> Result<Stamp, Fail>
+pub fn stamp_over(
+    alloc: Global,
+    book: &Book,
+    sealer: &mut Sealer,
+    base: &Stamp,
+) -> Result<Stamp, Fail>
     requires book { IsSmall book.now }
-    requires base { IsBaseIn book.now version.0 0 base.now }
+    requires sealer { sealer.old.home ≡ book.now.home }
+    requires base { IsBaseIn book.now sealer.old.next 0 base.now }
     ensures { IfOk result (λ stamp. (stamp.home ≡ book.now.home) × (stamp.base ≡ Some base.now.version)) }
 {
     let name = Name::new(alloc, "a")?;
@@ -97,8 +99,8 @@ pub fn stamp_over(alloc: Global, book: &Book, version: Version, base: &Stamp) ->
         content,
     };
     let request = book.request(actor, 1, &call);
-    let room = book.reserve(version, 1)?;
-    Ok(book.seal(&room, version, actor, 1, 0, Some(&request), Some(base))?)
+    let room = book.reserve(sealer.next(), 1)?;
+    Ok(book.seal(sealer, &room, actor, 1, 0, Some(&request), Some(base))?)
 }
 
 /// The subchunks of a server's chunk at layers that there are.

@@ -8,13 +8,13 @@ use std::test::Fail;
 use store_map::{Found, Placement, Version};
 use version_seal::Book;
 
-// A new version is prepared, and placed so.
+// A version is prepared, and placed so.
 fn prepares(shelf: &mut Shelf, alloc: Global, version: u64, placed: Placement) -> Result<(), Fail> {
     let told = shelf.prepare(alloc, version)?;
     holds(told == placed, "prepare")
 }
 
-// A new version is installed, and this is told.
+// A version is installed, and this is told.
 fn installs(shelf: &mut Shelf, alloc: Global, version: u64, wanted: Installed) -> Result<(), Fail> {
     let told = shelf.install(alloc, version)?;
     holds(told == wanted, "install")
@@ -69,8 +69,8 @@ fn fetches(shelf: &mut Shelf, alloc: Global) -> Result<(), Fail> {
 
 #[test]
 fn fetches_in_the_order_asked(rt: HostRuntime) -> Result<(), Fail> {
-    let book = Book::free(rt.alloc(), small_geometry()?)?;
-    fetches(&mut Shelf::new(rt.alloc(), &book), rt.alloc())
+    let (book, sealer) = Book::free(rt.alloc(), small_geometry()?)?;
+    fetches(&mut Shelf::new(rt.alloc(), &book, sealer)?, rt.alloc())
 }
 
 fn holds_twice(shelf: &mut Shelf, alloc: Global) -> Result<(), Fail> {
@@ -91,8 +91,8 @@ fn holds_twice(shelf: &mut Shelf, alloc: Global) -> Result<(), Fail> {
 
 #[test]
 fn a_held_version_keeps_its_chunk(rt: HostRuntime) -> Result<(), Fail> {
-    let book = Book::free(rt.alloc(), small_geometry()?)?;
-    holds_twice(&mut Shelf::new(rt.alloc(), &book), rt.alloc())
+    let (book, sealer) = Book::free(rt.alloc(), small_geometry()?)?;
+    holds_twice(&mut Shelf::new(rt.alloc(), &book, sealer)?, rt.alloc())
 }
 
 fn discards(shelf: &mut Shelf, alloc: Global) -> Result<(), Fail> {
@@ -109,8 +109,8 @@ fn discards(shelf: &mut Shelf, alloc: Global) -> Result<(), Fail> {
 
 #[test]
 fn a_discard_leaves_the_others(rt: HostRuntime) -> Result<(), Fail> {
-    let book = Book::free(rt.alloc(), small_geometry()?)?;
-    discards(&mut Shelf::new(rt.alloc(), &book), rt.alloc())
+    let (book, sealer) = Book::free(rt.alloc(), small_geometry()?)?;
+    discards(&mut Shelf::new(rt.alloc(), &book, sealer)?, rt.alloc())
 }
 
 fn wipes(shelf: &mut Shelf, alloc: Global) -> Result<(), Fail> {
@@ -126,8 +126,8 @@ fn wipes(shelf: &mut Shelf, alloc: Global) -> Result<(), Fail> {
 
 #[test]
 fn a_wipe_raises_the_epoch(rt: HostRuntime) -> Result<(), Fail> {
-    let book = Book::free(rt.alloc(), small_geometry()?)?;
-    wipes(&mut Shelf::new(rt.alloc(), &book), rt.alloc())
+    let (book, sealer) = Book::free(rt.alloc(), small_geometry()?)?;
+    wipes(&mut Shelf::new(rt.alloc(), &book, sealer)?, rt.alloc())
 }
 
 fn goes_away(shelf: &mut Shelf, alloc: Global) -> Result<(), Fail> {
@@ -146,6 +146,6 @@ fn goes_away(shelf: &mut Shelf, alloc: Global) -> Result<(), Fail> {
 
 #[test]
 fn an_away_server_gives_and_takes_nothing(rt: HostRuntime) -> Result<(), Fail> {
-    let book = Book::free(rt.alloc(), small_geometry()?)?;
-    goes_away(&mut Shelf::new(rt.alloc(), &book), rt.alloc())
+    let (book, sealer) = Book::free(rt.alloc(), small_geometry()?)?;
+    goes_away(&mut Shelf::new(rt.alloc(), &book, sealer)?, rt.alloc())
 }

@@ -3,18 +3,19 @@
 ghost use Rattle.std.specs.Prelude.{◌≡◌, ◌<◌, ◌∷◌, [], All, IfOk};
 ghost use Rattle.store_tests.specs.Small.{IsSmall};
 
-use crate::sealing::{chunk, stamp};
+use crate::sealing::{chunk, stamps};
 use chunk_server::{Fetched, Installed, Server};
-use std::alloc::Global;
+use std::alloc::{AllocError, Global};
 use std::marker::Model;
 use std::test::Fail;
 use store_map::{Placement, Version};
-use version_seal::{Book, SealedChunk};
+use version_seal::{Book, SealedChunk, Sealer, Stamp};
 
-/// Server 1 of a small code.
+/// Server 1 of a small code, and versions of one stripe.
 #[derive(Drop)]
 pub struct Shelf<'a> {
     book: &'a Book,
+    stamps: Vec<Stamp>,
     server: Server,
 }
 
@@ -34,25 +35,30 @@ impl<'a> Shelf<'a> {
     ghost use Rattle.chunk_server.specs.Valid.{IsFor};
     ghost use Rattle.store_tests.specs.Small.{small_code};
 
-    pub fn new(alloc: Global, book: &'a Book) -> Shelf<'a>
-        requires { IsSmall book.now }
+    /// With ten versions of the stripe.
+    pub fn new(alloc: Global, book: &'a Book, sealer: Sealer) -> Result<Shelf<'a>, Fail>
+        requires book { IsSmall book.now }
+        requires sealer { sealer.home ≡ book.now.home }
     {
-        Shelf {
+        Ok(Shelf {
             book,
+            stamps: stamps(alloc, book, sealer, 10)?,
             server: Server::new(alloc, 1, book.opening()),
-        }
+        })
     }
 
     pub fn server(&self) -> &Server {
         &self.server
     }
 
-    // The server's chunk of a new version.
+    // The server's chunk of a version.
     fn sealed(&self, alloc: Global, version: u64) -> Result<SealedChunk, Fail>
         ensures { IfOk result (IsFor self.now.book.home 1 small_code) }
     {
-        let stamp = stamp(alloc, self.book, Version(version))?;
-        chunk(alloc, self.book, &stamp, 1)
+        match self.stamps.get(version as usize) {
+            Some(stamp) => chunk(alloc, self.book, stamp, 1),
+            None => Err(AllocError)?,
+        }
     }
 
     // Two of them.
@@ -60,9 +66,7 @@ impl<'a> Shelf<'a> {
         ensures { IfOk result (λ pair. IsFor self.now.book.home 1 small_code pair.0
             × IsFor self.now.book.home 1 small_code pair.1) }
     {
-        let stamp = stamp(alloc, self.book, Version(version))?;
-        let first = chunk(alloc, self.book, &stamp, 1)?;
-        Ok((first, chunk(alloc, self.book, &stamp, 1)?))
+        Ok((self.sealed(alloc, version)?, self.sealed(alloc, version)?))
     }
 
     fn place(&mut self, chunk: SealedChunk) -> Result<Placement, Fail>
@@ -78,19 +82,19 @@ impl<'a> Shelf<'a> {
         Ok(self.server.install(chunk)?)
     }
 
-    /// Seals and prepares a new version.
+    /// Prepares a version.
     pub fn prepare(&mut self, alloc: Global, version: u64) -> Result<Placement, Fail> {
         let chunk = self.sealed(alloc, version)?;
         self.place(chunk)
     }
 
-    /// Seals and installs a new version.
+    /// Installs a version.
     pub fn install(&mut self, alloc: Global, version: u64) -> Result<Installed, Fail> {
         let chunk = self.sealed(alloc, version)?;
         self.add(chunk)
     }
 
-    /// Seals a new version, prepares it, and installs it too.
+    /// Prepares a version, and installs it too.
     pub fn prepare_and_install(
         &mut self,
         alloc: Global,

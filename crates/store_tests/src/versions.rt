@@ -1,76 +1,72 @@
 //! Tests of sealed versions.
 ghost use Rattle.std.specs.Prelude.{◌≡◌, None, Some, IfOk, IsTrue};
-ghost use Rattle.store_tests.specs.Small.{IsSmall};
+ghost use Rattle.store_tests.specs.Small.{IsSmall, IsStampOf};
 ghost use Rattle.store_map.specs.declared.actor.Actor.TheVariants.{Client};
 ghost use Rattle.store_core.specs.History.{call_of};
 ghost use Rattle.version_seal.specs.Entry.{is_writing};
+ghost use Rattle.version_seal.specs.Sealer.{sealer_at};
 
 use crate::holds;
-use crate::sealing::{
-    fetched, gathered, part, sealed_before, small_geometry, stamp, stamp_over, stripe,
-};
+use crate::sealing::{fetched, gathered, part, small_geometry, stamp, stamp_over, stripe};
 use clay_decode::decode;
 use std::alloc::Global;
 use std::test::Fail;
 use std::thread;
 use std::thread::Threads;
 use store_map::{Actor, Call, ClientPart, Content, ListOf, Name, Script, Version};
-use version_seal::{Book, ReserveError, SealedPart};
+use version_seal::{Book, ReserveError, SealedPart, Sealer, Stamp};
 
-// What a thread read of the version that it sealed, and whether it sealed the one that both tried.
-type Seen = (u32, u32, bool);
+// What a thread reads of a version: its call's number, and its stripe.
+type Seen = (u32, u32);
 
-fn seal_and_read(alloc: Global, book: &Book, version: u64, stripe: u32) -> Option<Seen> {
-    if book.script().is_some() {
-        return None;
-    }
-    let name = Name::new(alloc, "a").ok()?;
-    let content = Content::Fill { byte: 7, length: 3 };
-    let actor = Actor::Client(0);
-    let request = book.request(actor, 5, &Call::Put { name, content });
-    let room = book.reserve(Version(version), 1).ok()?;
-    let own = book
-        .seal(
-            &room,
-            Version(version),
-            actor,
-            5,
-            stripe,
-            Some(&request),
-            None,
-        )
-        .ok()?;
-    let room = book.reserve(Version(9), 1).ok()?;
-    let won = book.seal(&room, Version(9), actor, 5, 0, Some(&request), None);
-    let note = book.note(&own);
-    Some((note.number, note.stripe, won.is_ok()))
+fn read(book: &Book, stamp: &Stamp) -> Seen
+    requires { stamp.now.home ≡ book.now.home }
+{
+    let note = book.note(stamp);
+    (note.number, note.stripe)
 }
 
-fn both<R: Threads + Sync>(rt: &R, alloc: Global, book: &Book) -> (Option<Seen>, Option<Seen>) {
+// Seals a write over a version, and reads it.
+fn seal_and_read(
+    alloc: Global,
+    book: &Book,
+    sealer: &mut Sealer,
+    base: &Stamp,
+) -> Result<Seen, Fail>
+    requires book { IsSmall book.now }
+    requires sealer { sealer.old ≡ sealer_at book.now 1 }
+    requires base { IsStampOf book.now 0 base.now }
+{
+    let next = stamp_over(alloc, book, sealer, base)?;
+    Ok(read(book, &next))
+}
+
+// One thread reads a version while the other seals the next.
+fn both<R: Threads + Sync>(
+    rt: &R,
+    alloc: Global,
+    book: &Book,
+    sealer: &mut Sealer,
+    first: &Stamp,
+) -> (Seen, Result<Seen, Fail>)
+    requires book { IsSmall book.now }
+    requires sealer { sealer.old ≡ sealer_at book.now 1 }
+    requires first { IsStampOf book.now 0 first.now }
+{
     thread::join(
         rt,
-        || seal_and_read(alloc, book, 1, 3),
-        || seal_and_read(alloc, book, 5000, 4),
+        || read(book, first),
+        || seal_and_read(alloc, book, sealer, first),
     )
-}
-
-// Both read what they sealed, and one alone sealed the version that both tried.
-fn are_apart(one: Option<Seen>, other: Option<Seen>) -> bool {
-    match (one, other) {
-        (Some(one), Some(other)) => {
-            (one.0, one.1) == (5, 3) && (other.0, other.1) == (5, 4) && one.2 != other.2
-        }
-        _ => false,
-    }
 }
 
 #[test]
 fn threads_share_a_book(rt: HostRuntime) -> Result<(), Fail> {
-    let book = Book::free(rt.alloc(), small_geometry()?)?;
-    // The rows are there, so no two threads make one.
-    let _ = book.reserve(Version(0), 8192)?;
-    let (one, other) = both(&rt, rt.alloc(), &book);
-    holds(are_apart(one, other), "seals")
+    let (book, mut sealer) = Book::free(rt.alloc(), small_geometry()?)?;
+    let first = stamp(rt.alloc(), &book, &mut sealer)?;
+    let (read, sealed) = both(&rt, rt.alloc(), &book, &mut sealer, &first);
+    holds(sealed? == (1, 0), "seal")?;
+    holds(read == (0, 0), "read")
 }
 
 // Whether the part is server 1's, of version 0.
@@ -85,10 +81,11 @@ fn has_stripe(chunks: &[Vec<u8>], bytes: &[u8]) -> bool {
     chunks.iter().take(2).flatten().eq(bytes.iter())
 }
 
-fn decodes(alloc: Global, book: &Book) -> Result<(), Fail>
-    requires { IsSmall book.now }
+fn decodes(alloc: Global, book: &Book, sealer: &mut Sealer) -> Result<(), Fail>
+    requires book { IsSmall book.now }
+    requires sealer { sealer.old ≡ sealer_at book.now 0 }
 {
-    let first = stamp(alloc, book, Version(0))?;
+    let first = stamp(alloc, book, sealer)?;
     let second = fetched(alloc, book, &first, 1)?;
     let last = fetched(alloc, book, &first, 3)?;
     holds(is_second(&second), "fetch")?;
@@ -98,30 +95,32 @@ fn decodes(alloc: Global, book: &Book) -> Result<(), Fail>
 
 #[test]
 fn a_put_is_decoded_from_two_servers(rt: HostRuntime) -> Result<(), Fail> {
-    let book = Book::free(rt.alloc(), small_geometry()?)?;
-    decodes(rt.alloc(), &book)
+    let (book, mut sealer) = Book::free(rt.alloc(), small_geometry()?)?;
+    decodes(rt.alloc(), &book, &mut sealer)
 }
 
-fn seals_once(alloc: Global, book: &Book) -> Result<(), Fail>
-    requires { IsSmall book.now }
+fn tells_its_version(alloc: Global, book: &Book, sealer: &mut Sealer) -> Result<(), Fail>
+    requires book { IsSmall book.now }
+    requires sealer { sealer.old ≡ sealer_at book.now 0 }
 {
-    let first = stamp(alloc, book, Version(0))?;
-    let again = sealed_before(alloc, book, &first)?;
-    let shown = format!(in alloc; "{again:?}")?;
-    holds(shown.as_str() == "Stamp(0)", "stamp")
+    let first = stamp(alloc, book, sealer)?;
+    let shown = format!(in alloc; "{first:?}")?;
+    holds(shown.as_str() == "Stamp(0)", "stamp")?;
+    holds(sealer.next() == Version(1), "next")
 }
 
 #[test]
-fn a_version_is_sealed_once(rt: HostRuntime) -> Result<(), Fail> {
-    let book = Book::free(rt.alloc(), small_geometry()?)?;
-    seals_once(rt.alloc(), &book)
+fn a_stamp_tells_its_version(rt: HostRuntime) -> Result<(), Fail> {
+    let (book, mut sealer) = Book::free(rt.alloc(), small_geometry()?)?;
+    tells_its_version(rt.alloc(), &book, &mut sealer)
 }
 
-fn lays_over(alloc: Global, book: &Book) -> Result<(), Fail>
-    requires { IsSmall book.now }
+fn lays_over(alloc: Global, book: &Book, sealer: &mut Sealer) -> Result<(), Fail>
+    requires book { IsSmall book.now }
+    requires sealer { sealer.old ≡ sealer_at book.now 0 }
 {
-    let first = stamp(alloc, book, Version(0))?;
-    let next = stamp_over(alloc, book, Version(4096), &first)?;
+    let first = stamp(alloc, book, sealer)?;
+    let next = stamp_over(alloc, book, sealer, &first)?;
     let note = book.note(&next);
     holds((note.actor, note.number) == (Actor::Client(0), 1), "call")?;
     holds((note.stripe, note.base) == (0, Some(0)), "base")
@@ -129,8 +128,8 @@ fn lays_over(alloc: Global, book: &Book) -> Result<(), Fail>
 
 #[test]
 fn a_write_is_laid_over_its_base(rt: HostRuntime) -> Result<(), Fail> {
-    let book = Book::free(rt.alloc(), small_geometry()?)?;
-    lays_over(rt.alloc(), &book)
+    let (book, mut sealer) = Book::free(rt.alloc(), small_geometry()?)?;
+    lays_over(rt.alloc(), &book, &mut sealer)
 }
 
 // Whether there is room for so many versions from this one on.
@@ -155,22 +154,23 @@ fn ends(book: &Book) -> Result<(), Fail> {
 
 #[test]
 fn room_ends_with_the_book(rt: HostRuntime) -> Result<(), Fail> {
-    let book = Book::free(rt.alloc(), small_geometry()?)?;
+    let (book, _sealer) = Book::free(rt.alloc(), small_geometry()?)?;
     ends(&book)
 }
 
-fn parts(alloc: Global, book: &Book) -> Result<(), Fail>
-    requires { IsSmall book.now }
+fn parts(alloc: Global, book: &Book, sealer: &mut Sealer) -> Result<(), Fail>
+    requires book { IsSmall book.now }
+    requires sealer { sealer.old ≡ sealer_at book.now 0 }
 {
-    let first = stamp(alloc, book, Version(0))?;
+    let first = stamp(alloc, book, sealer)?;
     let two = part(alloc, book, &first, 1, &[3, 0])?;
     holds(two.bytes() == [8, 5].as_slice(), "bytes")
 }
 
 #[test]
 fn a_part_has_its_layers_alone(rt: HostRuntime) -> Result<(), Fail> {
-    let book = Book::free(rt.alloc(), small_geometry()?)?;
-    parts(rt.alloc(), &book)
+    let (book, mut sealer) = Book::free(rt.alloc(), small_geometry()?)?;
+    parts(rt.alloc(), &book, &mut sealer)
 }
 
 // A script of one put.
@@ -196,11 +196,12 @@ fn one_put(alloc: Global) -> Result<Script, Fail>
 
 #[test]
 fn a_script_has_room_for_its_versions(rt: HostRuntime) -> Result<(), Fail> {
-    let book = Book::new(rt.alloc(), one_put(rt.alloc())?)?;
+    let (book, mut sealer) = Book::new(rt.alloc(), one_put(rt.alloc())?)?;
     let actor = Actor::Client(0);
-    let room = book.reserve(Version(2_097_151), 1)?;
-    let last = book.seal(&room, Version(2_097_151), actor, 0, 0, None, None)?;
-    holds(last.version() == Version(2_097_151), "last")?;
+    let room = book.reserve(sealer.next(), 1)?;
+    let first = book.seal(&mut sealer, &room, actor, 0, 0, None, None)?;
+    holds(first.version() == Version(0), "first")?;
+    holds(has_room(&book, 2_097_151, 1), "last")?;
     holds(!has_room(&book, 2_097_152, 1), "past")?;
     let clients = book.script().map(|script| script.clients.len());
     holds(clients == Some(1), "script")?;

@@ -4,6 +4,7 @@ ghost use Rattle.std.specs.List.{range_with_len};
 ghost use Rattle.clay_grid.specs.Limits.{IsGeometry};
 ghost use Rattle.store_map.specs.Naming.{IsValid};
 ghost use Rattle.stripe_dir.specs.Seats.{client_seat, repairer_seat};
+ghost use Rattle.version_seal.specs.Sealer.{sealer_at};
 ghost use Rattle.chunk_server.specs.State.{empty_server};
 ghost use Rattle.world_steps.specs.Goes.{IsReachedBy};
 ghost use Rattle.store_world.specs.First.{AreFirstClients, AreFirstRepairers, BeginWith, seats_of, first_directory, first_servers};
@@ -16,7 +17,7 @@ use std::alloc::{AllocError, Global};
 use store_map::Script;
 use stripe_dir::{Directory, Seat};
 use sweeper::Sweeper;
-use version_seal::Book;
+use version_seal::{Book, Sealer};
 
 // So many servers of the book's stripes, each empty.
 fn new_servers(alloc: Global, book: &Book, count: u32) -> Result<Vec<Server>, AllocError>
@@ -164,12 +165,18 @@ fn first_world<'a>(
 }
 
 impl<'a> World<'a> {
-    /// The world of a script before its first step, over the book of its versions, which is to be this
-    /// world's alone.
-    pub fn new(alloc: Global, script: &'a Script, book: &'a Book) -> Result<World<'a>, AllocError>
+    /// The world of a script before its first step, over the book of its versions, with the book's
+    /// sealer.
+    pub fn new(
+        alloc: Global,
+        script: &'a Script,
+        book: &'a Book,
+        sealer: Sealer,
+    ) -> Result<World<'a>, AllocError>
         requires valid { IsValid script.now }
         requires written { book.now.script ≡ Some script.now }
         requires code { book.now.geometry ≡ script.now.geometry }
+        requires sealer { sealer ≡ sealer_at book.now 0 }
         ensures geometry { IfOk result (λ _. IsGeometry script.now.geometry) }
         ensures script { IfOk result (λ world. world.script ≡ script.now) }
         ensures book { IfOk result (λ world. world.book ≡ book.now) }
@@ -183,6 +190,7 @@ impl<'a> World<'a> {
         let (directory, mut seats) = Directory::new(
             alloc,
             opening,
+            sealer,
             size,
             client_count,
             repairer_count,

@@ -1,6 +1,7 @@
 //! A whole run.
 ghost use Rattle.std.specs.Prelude.{◌≡◌, Some, IfOk};
 ghost use Rattle.store_map.specs.Naming.{IsValid};
+ghost use Rattle.version_seal.specs.Sealer.{sealer_at};
 ghost use Rattle.store_answers.specs.Played.{IsPlayed};
 
 use crate::world::World;
@@ -9,7 +10,7 @@ use std::alloc::{AllocError, Global};
 use std::thread::Threads;
 use store_map::Script;
 use transcript_text::Transcript;
-use version_seal::Book;
+use version_seal::{Book, Sealer};
 
 // The run over the book of the script's versions.
 fn run<R: Threads + Sync, C: Coder>(
@@ -18,13 +19,15 @@ fn run<R: Threads + Sync, C: Coder>(
     coder: &C,
     script: &Script,
     book: &Book,
+    sealer: Sealer,
 ) -> Result<Transcript, AllocError>
     requires valid { IsValid script.now }
     requires written { book.now.script ≡ Some script.now }
+    requires sealer { sealer ≡ sealer_at book.now 0 }
     requires code { book.now.geometry ≡ script.now.geometry }
     ensures { IfOk result (IsPlayed script.now) }
 {
-    let mut world = World::new(alloc, script, book)?;
+    let mut world = World::new(alloc, script, book, sealer)?;
     for token in script.schedule.as_slice() {
         world.step(rt, coder, *token);
     }
@@ -43,9 +46,9 @@ pub fn play<R: Threads + Sync, C: Coder>(
     requires { IsValid script }
     ensures { IfOk result (IsPlayed script) }
 {
-    let book = Book::new(alloc, script)?;
+    let (book, sealer) = Book::new(alloc, script)?;
     match book.script() {
-        Some(script) => run(rt, alloc, coder, script, &book),
+        Some(script) => run(rt, alloc, coder, script, &book, sealer),
         None => unreachable!(),
     }
 }

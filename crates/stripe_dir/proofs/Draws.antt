@@ -1,5 +1,5 @@
 -- What a draw leaves.
-use Rattle.std.proofs.Common.{◌≡◌, ℕ, ◌+◌, ◌-◌, ◌/◌, Bool, true, false, cond, ◌&&◌, List, [], ◌++◌, length, get_or, map, replicate, find, sum_by, if◌then◌else◌, Option, None, Some, Vec, Global, All, Contains, refl, sym, ap, subst, ◌∙◌, arith, length-append}
+use Rattle.std.proofs.Common.{◌≡◌, ℕ, ◌+◌, ◌-◌, ◌/◌, Bool, true, false, cond, ◌&&◌, List, [], ◌++◌, length, get_or, map, replicate, find, sum_by, if◌then◌else◌, Option, None, Some, All, Contains, refl, sym, ap, subst, ◌∙◌, arith, length-append}
 use Rattle.std.proofs.lemmas.List.{length-map, length-replicate}
 use Rattle.std.proofs.lemmas.List.FromFn.{length-range_with_len}
 use Rattle.std.specs.List.{range_with_len}
@@ -20,9 +20,10 @@ use Rattle.dir_parts.specs.Table.{Table}
 use Rattle.dir_parts.specs.TableSteps.{drawn_version}
 use Rattle.dir_parts.proofs.Actors.{same_is, find_passes}
 use Rattle.dir_parts.proofs.Growing.{get_or-zeros, sum_by-changed, all_changed}
-use Rattle.version_seal.specs.Entry.{StampOf, RequestOf}
+use Rattle.version_seal.specs.Entry.{BookOf, RequestOf}
 use Rattle.stripe_dir.specs.Sealed.{stamps_touched}
 use Rattle.stripe_dir.specs.Stamped.{AreBases, HasStamps}
+use Rattle.stripe_dir.specs.StampList.{StampList}
 use Rattle.stripe_dir.specs.Kept.{directory_in, sealed_in, IsKept}
 use Rattle.stripe_dir.proofs.Stamps.{bases_in, stamps_drawn}
 use Rattle.stripe_dir.specs.declared.directory.Directory.TheInside.{Inside}
@@ -40,11 +41,15 @@ stays P dr keeps true q h = keeps q h
 stays P dr keeps false q h = h
 
 -- what a pass pins are versions of its pins' stripes, by the stamps
-pub bases_of : (a : Inside) → IsKept a → (who : Actor) (p : Pass) → find (λ pass. same_actor who pass.actor) a.passes.listed ≡ Some p → AreBases a.stamps.items p.pinned
+pub bases_of : (a : Inside) → IsKept a → (who : Actor) (p : Pass) → find (λ pass. same_actor who pass.actor) a.passes.listed ≡ Some p → AreBases a.stamps.listed p.pinned
 bases_of a kept who p found = bases_in (sealed_in a) kept.whole kept.stamps who p found
 
+-- the stamps with those that a pass draws
+abbrev pub with_drawn : StampList → BookOf → ℕ → Pass → Option RequestOf → StampList
+with_drawn stamps book stripe p request = record { book = stamps.book; listed = stamps.listed ++ stamps_touched book stamps.listed stripe p request }
+
 -- where nothing is drawn, only room may have changed
-pub kept_undrawn : (a : Inside) → IsKept a → (table : Table) (stamps : Vec StampOf Global) → table.listed ≡ a.versions.listed → table.pins ≡ a.versions.pins → stamps.items ≡ a.stamps.items → IsKept (record a { versions = table; stamps = stamps })
+pub kept_undrawn : (a : Inside) → IsKept a → (table : Table) (stamps : StampList) → table.listed ≡ a.versions.listed → table.pins ≡ a.versions.pins → stamps ≡ a.stamps → IsKept (record a { versions = table; stamps = stamps })
 kept_undrawn a kept table stamps listed pins same =
     let rest : IsKept (record a { versions = table }) =
     kept_versions a kept table (subst (λ (vs : List Version). IsWhole (record (directory_in a) { versions = vs })) (sym listed) kept.whole) pins (ap origins listed)
@@ -53,7 +58,7 @@ kept_undrawn a kept table stamps listed pins same =
       stripes = rest.stripes;
       desk = rest.desk;
       whole = rest.whole;
-      stamps = subst (λ (l : List StampOf). HasStamps (record { core = directory_in (record a { versions = table }); book = a.opening; stamps = l })) (sym same) rest.stamps;
+      stamps = subst (λ (l : StampList). HasStamps (record { core = directory_in (record a { versions = table }); book = l.book; stamps = l.listed })) (sym same) rest.stamps;
       counted = rest.counted;
       pins = rest.pins;
       named = rest.named;
@@ -102,7 +107,7 @@ module _ (a : Inside) (kept : IsKept a) (who : Actor) (p : Pass) (found : find (
     counted_by : (f : Pass → ℕ) → ((q : Pass) → f (record q { drawn = dr }) ≡ f q) → sum_by f desk.listed ≡ sum_by f a.passes.listed
     counted_by f same = ap (sum_by f) passes ∙ sum_by-changed f (λ (other : Pass). if same_actor who other.actor then record other { drawn = dr } else other) (λ q. still f dr same (same_actor who q.actor) q) a.passes.listed
 
-    pub kept_drawn : (stamps : Vec StampOf Global) (request : Option RequestOf) → stamps.items ≡ a.stamps.items ++ stamps_touched a.opening a.stamps.items stripe p request → desk.stripe ≡ a.passes.stripe → table.pins ≡ a.versions.pins ++ replicate (stripes_met stripe p.note.offset p.note.length) 0 → ((pass : Pass) × IsWriting (directory_in a) who pass × (pass.drawn ≡ []))
+    pub kept_drawn : (stamps : StampList) (request : Option RequestOf) → stamps ≡ with_drawn a.stamps a.stamps.book stripe p request → desk.stripe ≡ a.passes.stripe → table.pins ≡ a.versions.pins ++ replicate (stripes_met stripe p.note.offset p.note.length) 0 → ((pass : Pass) × IsWriting (directory_in a) who pass × (pass.drawn ≡ []))
         → IsKept (record a { versions = table; passes = desk; stamps = stamps })
     kept_drawn stamps request added same_stripe pins may =
         record {
@@ -126,7 +131,7 @@ module _ (a : Inside) (kept : IsKept a) (who : Actor) (p : Pass) (found : find (
               (all_changed (λ (q : Pass). Contains a.history.names q.note.name) (λ (other : Pass). if same_actor who other.actor then record other { drawn = dr } else other)
               (λ q h. stays (λ (q : Pass). Contains a.history.names q.note.name) dr (λ q h. h) (same_actor who q.actor) q h) a.passes.listed kept.named);
           stamps =
-              subst (λ (l : List StampOf). HasStamps (record { core = directory_in (record a { versions = table; passes = desk }); book = a.opening; stamps = l })) (sym added)
+              subst (λ (l : StampList). HasStamps (record { core = directory_in (record a { versions = table; passes = desk }); book = l.book; stamps = l.listed })) (sym added)
               (stamps_drawn (sealed_in a) kept.stamps p (bases_of a kept who p found) (p.note.offset / stripe) (stripes_met stripe p.note.offset p.note.length) request
               (directory_in (record a { versions = table; passes = desk })) refl listed);
           points_room = omega (arith, counted_by (λ (q : Pass). one_if (is_live q.reaped)) (λ q. refl), kept.points_room);

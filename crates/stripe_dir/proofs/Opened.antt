@@ -21,9 +21,9 @@ pub record IsEmpty (a : Inside) : Type 0 where
   pub pins : a.versions.pins ≡ []
   pub passes : a.passes.listed ≡ []
   pub points : a.history.points ≡ []
-  pub stamps : a.stamps.items ≡ []
+  pub stamps : a.stamps.listed ≡ []
 
-module _ (a : Inside) (empty : IsEmpty a) (code : a.opening.geometry ≡ a.geometry) where
+module _ (a : Inside) (empty : IsEmpty a) (code : a.stamps.book.geometry ≡ a.geometry) where
   first_whole : IsWhole (directory_in a)
   first_whole =
       subst IsWhole (λ i. record { shape = a.geometry; max = a.max; objects = sym empty.objects i; versions = sym empty.versions i; passes = sym empty.passes i; points = sym empty.points i })
@@ -33,9 +33,9 @@ module _ (a : Inside) (empty : IsEmpty a) (code : a.opening.geometry ≡ a.geome
   first_stamps =
       record {
         code = code;
-        its = subst (λ (l : List StampOf). AreOf a.opening l) (sym empty.stamps) (record { numbered = refl; at_home = All-nil (λ (stamp : StampOf). stamp.home ≡ a.opening.home) });
+        its = subst (λ (l : List StampOf). AreOf a.stamps.book l) (sym empty.stamps) (record { numbered = refl; at_home = All-nil (λ (stamp : StampOf). stamp.home ≡ a.stamps.book.home) });
         told = ap (map told_by_stamp) empty.stamps ∙ sym (ap (map told_by_version) empty.versions);
-        contents = by a.opening.script;
+        contents = by a.stamps.book.script;
       }
     where
       by : (script : Option Script) → IfSome script (λ script. HaveContents (call_of script) (sealed_in a))

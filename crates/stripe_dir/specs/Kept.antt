@@ -20,7 +20,7 @@ directory_in a =
     }
 
 abbrev pub sealed_in : Inside → Sealed
-sealed_in a = record { core = directory_in a; book = a.opening; stamps = a.stamps.items }
+sealed_in a = record { core = directory_in a; book = a.stamps.book; stamps = a.stamps.listed }
 
 -- the lists are sound, the stamps are those of the versions, the counts are those of the passes, and there is room for what passes may still add
 pub record IsKept (a : Inside) : Type 0 where

@@ -13,3 +13,4 @@ pub mod Stamped
 pub mod StampLaws
 pub mod Shown
 pub mod TicketView
+pub mod StampList

@@ -117,7 +117,7 @@ impl Directory {
             ..
         } = open;
         self.versions.unpin_all(&pinned);
-        self.versions.place_all(&drawn, placed);
+        self.versions.make_all_current(&drawn, placed);
         let point = self.history.add(
             actor,
             number,

@@ -1,8 +1,8 @@
+use crate::stamp_list::Stamps;
 use clay_grid::Geometry;
 use dir_parts::{History, Objects, Passes, Versions};
 use std::alloc::Global;
 use std::marker::Model;
-use version_seal::{Opening, Stamp};
 
 /// The objects, the versions of their stripes with their stamps, the calls in work and the history.
 #[derive(Drop)]
@@ -14,8 +14,7 @@ pub struct Directory {
     pub(crate) versions: Versions,
     pub(crate) passes: Passes,
     pub(crate) history: History,
-    pub(crate) opening: Opening,
-    pub(crate) stamps: Vec<Stamp>,
+    pub(crate) stamps: Stamps,
 }
 
 impl Model for Directory {

@@ -16,7 +16,8 @@ ghost use Rattle.stripe_dir.specs.AnswerStamps.{stamps_given, AreDrawn};
 
 use crate::answers::Drawn;
 use crate::directory::Directory;
-use crate::sealing::{Drawing, draw_stamps};
+use crate::sealing::Drawing;
+use crate::stamp_list::Stamps;
 use crate::stripes::met;
 use crate::tokens::Pass;
 use dir_parts::{Kind, OpenPass, Versions};
@@ -62,7 +63,7 @@ fn room_for(alloc: Global, kind: Kind, first: u32, count: u32) -> Result<Vec<u64
 // seals; where that is wanting nothing is drawn.
 fn draw_fresh(
     versions: &mut Versions,
-    stamps: &mut Vec<Stamp>,
+    stamps: &mut Stamps,
     pass: &OpenPass,
     stripe: u32,
     book: &Book,
@@ -70,17 +71,18 @@ fn draw_fresh(
 ) -> Result<Fresh, AllocError>
     requires stripe { 0 < stripe }
     requires call { CanSeal book.now pass.now.pass (option_map (λ r. r.now) request) }
-    requires stamps { AreOf book.now stamps.old.items }
-    requires bases { AreBases stamps.old.items pass.now.pass.pinned }
+    requires book { book.now ≡ stamps.old.book }
+    requires stamps { AreOf book.now stamps.old.listed }
+    requires bases { AreBases stamps.old.listed pass.now.pass.pinned }
     ensures listed { OnOk result (versions.new.listed ≡ versions.old.listed ++ map (drawn_version pass.now.pass.actor pass.now.pass.number pass.now.pass.pinned) (range_with_len (pass.now.pass.note.offset / stripe) (stripes_met stripe pass.now.pass.note.offset pass.now.pass.note.length))) }
     ensures pins { OnOk result (versions.new.pins ≡ versions.old.pins ++ replicate (stripes_met stripe pass.now.pass.note.offset pass.now.pass.note.length) 0) }
     ensures drawn { IfOk result (λ fresh. fresh.drawn.items ≡ range_with_len (length versions.old.listed) (stripes_met stripe pass.now.pass.note.offset pass.now.pass.note.length)) }
-    ensures told { IfOk result (λ fresh. fresh.stamps.items ≡ stamps_touched book.now stamps.old.items stripe pass.now.pass (option_map (λ r. r.now) request.entry)) }
-    ensures stamps { OnOk result (stamps.new.items ≡ stamps.old.items ++ stamps_touched book.now stamps.old.items stripe pass.now.pass (option_map (λ r. r.now) request.entry)) }
+    ensures told { IfOk result (λ fresh. fresh.stamps.items ≡ stamps_touched book.now stamps.old.listed stripe pass.now.pass (option_map (λ r. r.now) request.entry)) }
+    ensures stamps { OnOk result (stamps.new ≡ record { book = stamps.old.book; listed = stamps.old.listed ++ stamps_touched book.now stamps.old.listed stripe pass.now.pass (option_map (λ r. r.now) request.entry) }) }
     ensures memory { IfOk result (λ fresh. pass.now.pass.note.kind ≡ CoreKind.Write → pass.now.pass.note.offset / stripe + stripes_met stripe pass.now.pass.note.offset pass.now.pass.note.length ≤ vec_capacity fresh.memory) }
     ensures err_listed { OnErr result (versions.new.listed ≡ versions.old.listed) }
     ensures err_pins { OnErr result (versions.new.pins ≡ versions.old.pins) }
-    ensures err_stamps { OnErr result (stamps.new.items ≡ stamps.old.items) }
+    ensures err_stamps { OnErr result (stamps.new ≡ stamps.old) }
 {
     let alloc = *pass.drawn.allocator();
     let note = &pass.note;
@@ -103,7 +105,7 @@ fn draw_fresh(
         count,
         request,
     };
-    let fresh = draw_stamps(stamps, &drawing)?;
+    let fresh = stamps.draw(&drawing)?;
     versions.draw(pass.actor, pass.number, &pass.pinned, first, count);
     Ok(Fresh {
         drawn,

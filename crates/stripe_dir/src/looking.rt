@@ -100,7 +100,7 @@ impl Directory {
         let Sight { seen, pinned } = see_object(
             alloc,
             &self.versions,
-            &self.stamps,
+            self.stamps.as_slice(),
             &self.objects,
             &note.name,
             stripes,

@@ -1,20 +1,22 @@
-ghost use Rattle.std.specs.Prelude.{◌≡◌, ◌+◌, ◌≤◌, ◌<◌, ◌++◌, [], vec_len, vec_capacity, map, length, option_map, slice_get, nat_lt, IfOk};
+ghost use Rattle.std.specs.Prelude.{◌≡◌, ◌+◌, ◌≤◌, ◌<◌, ◌++◌, [], vec_len, vec_capacity, map, length, option_map, slice_get, IfOk};
 ghost use Rattle.std.specs.List.{range_with_len};
 ghost use Rattle.clay_grid.specs.Shape.{stripe_length};
 ghost use Rattle.dir_parts.specs.Book.{told_of};
 ghost use Rattle.dir_parts.specs.Parts.{object_of};
+ghost use Rattle.version_seal.specs.Sealer.{sealer_at};
 ghost use Rattle.store_core.specs.Directory.{new_directory};
 ghost use Rattle.stripe_dir.specs.Seats.{client_seat, repairer_seat};
 ghost use Rattle.stripe_dir.specs.ItsStripes.{IsWhole};
 ghost use Rattle.stripe_dir.specs.Stamped.{HasStamps};
 
 use crate::directory::Directory;
+use crate::stamp_list::Stamps;
 use crate::tokens::Seat;
 use clay_grid::Geometry;
 use dir_parts::{Contents, History, Objects, Passes, PointEntry, Versions};
 use std::alloc::{AllocError, Global};
 use store_map::{Actor, Name, Version};
-use version_seal::{Opening, Stamp};
+use version_seal::{Opening, Sealer, Stamp};
 
 // So many clients' seats, then so many repairers'.
 fn seats(alloc: Global, clients: u32, repairers: u32) -> Result<Vec<Seat>, AllocError>
@@ -57,15 +59,17 @@ fn add_repairers(seats: &mut Vec<Seat>, count: u32)
 }
 
 impl Directory {
-    /// A directory without objects, of a book's versions, whose objects may have `max` bytes each, and the
-    /// seats of its clients, then of its repairers.
+    /// A directory without objects, of a book's versions, which it alone seals, whose objects may have
+    /// `max` bytes each, and the seats of its clients, then of its repairers.
     pub fn new(
         alloc: Global,
         opening: Opening,
+        sealer: Sealer,
         max: u32,
         clients: u32,
         repairers: u32,
     ) -> Result<(Directory, Vec<Seat>), AllocError>
+        requires sealer { sealer ≡ sealer_at opening 0 }
         ensures directory { IfOk result (λ made. made.0 ≡ record { core = new_directory opening.geometry max; book = opening; stamps = [] }) }
         ensures seats { IfOk result (λ made. made.1.items ≡ map client_seat (range_with_len 0 clients) ++ map repairer_seat (range_with_len 0 repairers)) }
     {
@@ -80,8 +84,7 @@ impl Directory {
             versions: Versions::new(alloc),
             passes: Passes::new(alloc, stripe),
             history: History::new(alloc),
-            opening,
-            stamps: Vec::new(alloc),
+            stamps: Stamps::new(alloc, opening, sealer),
         };
         Ok((directory, seats))
     }
@@ -125,7 +128,7 @@ impl Directory {
     pub fn stamp(&self, version: Version) -> Option<&Stamp>
         ensures { option_map (λ stamp. stamp.now) result ≡ slice_get self.now.stamps version.0 }
     {
-        self.stamps.get(version.0 as usize)
+        self.stamps.as_slice().get(version.0 as usize)
     }
 
     /// What every directory keeps. It does nothing when it runs.
@@ -135,12 +138,5 @@ impl Directory {
         ensures stamps { HasStamps self.now }
     {
         let _ = &self.alloc;
-    }
-
-    /// Whether the directory has drawn the version.
-    pub fn knows(&self, version: Version) -> bool
-        ensures { result ≡ nat_lt version.0 (length self.now.core.versions) }
-    {
-        version.0 < self.versions.len() as u64
     }
 }

@@ -1,13 +1,13 @@
 ghost use Rattle.std.specs.Prelude.{◌≡◌, ◌+◌, ◌<◌, ◌≤◌, ◌^◌, ◌++◌, length, map, slice_get, Some, IfOk, OnOk, OnErr, vec_len, vec_capacity, option_map};
 ghost use Rattle.std.specs.List.{range_with_len};
 ghost use Rattle.version_seal.specs.Room.{HasRoom};
+ghost use Rattle.version_seal.specs.Sealer.{sealer_at};
 ghost use Rattle.stripe_dir.specs.Sealed.{base_stamp, drawn_stamp, drawn_stamps, CanSeal};
 ghost use Rattle.stripe_dir.specs.Stamped.{AreOf, AreBases};
 
 use dir_parts::{OpenPass, Pinned, base_of};
-use std::alloc::{AllocError, Global};
-use store_map::Version;
-use version_seal::{Book, Request, Room, SealError, Stamp};
+use std::alloc::AllocError;
+use version_seal::{Book, Request, Room, SealError, Sealer, Stamp};
 
 /// A draw: the book, the pass, the stripes from a first one on, and in a book without a script the request.
 #[derive(Drop)]
@@ -39,26 +39,28 @@ pub(crate) fn copy_of(stamps: &[Stamp], version: u64) -> Stamp
 
 // Seals the version at this place of a draw.
 fn seal_one(
+    sealer: &mut Sealer,
     drawing: &Drawing,
     room: &Room,
     stamps: &[Stamp],
     place: u32,
 ) -> Result<Stamp, SealError>
-    requires fits { length stamps.now + place < 2 ^ 64 }
+    requires sealer { sealer.old ≡ sealer_at drawing.now.book.now (length stamps.now + place) }
     requires stripes { drawing.now.first + place < 2 ^ 32 }
     requires room { HasRoom drawing.now.book.now (length stamps.now + place) room.now }
     requires call { CanSeal drawing.now.book.now drawing.now.pass.now.pass (option_map (λ r. r.now) drawing.now.request) }
     requires stamps { AreOf drawing.now.book.now stamps.now }
     requires bases { AreBases stamps.now drawing.now.pass.now.pass.pinned }
-    ensures { IfOk result (λ stamp. stamp ≡ drawn_stamp drawing.now.book.now stamps.now drawing.now.pass.now.pass drawing.now.first (option_map (λ r. r.now) drawing.now.request) place) }
+    ensures stamp { IfOk result (λ stamp. stamp ≡ drawn_stamp drawing.now.book.now stamps.now drawing.now.pass.now.pass drawing.now.first (option_map (λ r. r.now) drawing.now.request) place) }
+    ensures on { OnOk result (sealer.new ≡ sealer_at drawing.now.book.now (length stamps.now + place + 1)) }
+    ensures back { OnErr result (sealer.new ≡ sealer_at drawing.now.book.now room.now.first) }
 {
     let pass = drawing.pass;
     let stripe = drawing.first + place;
-    let version = Version(stamps.len() as u64 + u64::from(place));
     let base = base_stamp(stamps, &pass.pinned, stripe);
     drawing.book.seal(
+        sealer,
         room,
-        version,
         pass.actor,
         pass.number,
         stripe,
@@ -67,24 +69,32 @@ fn seal_one(
     )
 }
 
-// Seals the versions of a draw. Takes all memory first.
-fn seal_all(alloc: Global, drawing: &Drawing, stamps: &[Stamp]) -> Result<Vec<Stamp>, AllocError>
-    requires fits { length stamps.now + drawing.now.count ≤ 2 ^ 64 }
+/// Seals the versions of a draw. Takes all memory first; where that is wanting the sealer stays.
+pub(crate) fn seal_all(
+    sealer: &mut Sealer,
+    drawing: &Drawing,
+    stamps: &[Stamp],
+) -> Result<Vec<Stamp>, AllocError>
+    requires sealer { sealer.old ≡ sealer_at drawing.now.book.now (length stamps.now) }
     requires stripes { drawing.now.first + drawing.now.count ≤ 2 ^ 32 }
     requires call { CanSeal drawing.now.book.now drawing.now.pass.now.pass (option_map (λ r. r.now) drawing.now.request) }
     requires stamps { AreOf drawing.now.book.now stamps.now }
     requires bases { AreBases stamps.now drawing.now.pass.now.pass.pinned }
-    ensures { IfOk result (λ fresh. fresh.items ≡ drawn_stamps drawing.now.book.now stamps.now drawing.now.pass.now.pass drawing.now.first drawing.now.count (option_map (λ r. r.now) drawing.now.request)) }
+    ensures fresh { IfOk result (λ fresh. fresh.items ≡ drawn_stamps drawing.now.book.now stamps.now drawing.now.pass.now.pass drawing.now.first drawing.now.count (option_map (λ r. r.now) drawing.now.request)) }
+    ensures on { OnOk result (sealer.new ≡ sealer_at drawing.now.book.now (length stamps.now + drawing.now.count)) }
+    ensures err { OnErr result (sealer.new ≡ sealer.old) }
 {
     let count = drawing.count;
+    let pass = drawing.pass;
+    let alloc = *pass.drawn.allocator();
     let mut fresh = Vec::with_capacity(alloc, count as usize)?;
-    let from = Version(stamps.len() as u64);
+    let from = sealer.next();
     let Ok(room) = drawing.book.reserve(from, u64::from(count)) else {
         return Err(AllocError);
     };
     for i in 0..count {
-        // Only where others seal in this book is a version refused here.
-        let Ok(stamp) = seal_one(drawing, &room, stamps, i) else {
+        // No version is refused, since no other seals in this book; the sealer would go back.
+        let Ok(stamp) = seal_one(sealer, drawing, &room, stamps, i) else {
             return Err(AllocError);
         };
         fresh.push_reserved(stamp);
@@ -92,32 +102,12 @@ fn seal_all(alloc: Global, drawing: &Drawing, stamps: &[Stamp]) -> Result<Vec<St
     Ok(fresh)
 }
 
-// The same stamps after the others, where there is room for them.
-fn add_copies(listed: &mut Vec<Stamp>, fresh: &[Stamp])
+/// The same stamps after the others, where there is room for them.
+pub(crate) fn add_copies(listed: &mut Vec<Stamp>, fresh: &[Stamp])
     requires { vec_len listed.old + length fresh.now ≤ vec_capacity listed.old }
     ensures { listed.new.items ≡ listed.old.items ++ fresh.now }
 {
     for stamp in fresh {
         listed.push_reserved(stamp.copy());
     }
-}
-
-/// Seals the versions of a draw and adds their stamps. Gives those. Takes all memory first; where that
-/// is wanting nothing changes here.
-pub(crate) fn draw_stamps(
-    stamps: &mut Vec<Stamp>,
-    drawing: &Drawing,
-) -> Result<Vec<Stamp>, AllocError>
-    requires stripes { drawing.now.first + drawing.now.count ≤ 2 ^ 32 }
-    requires call { CanSeal drawing.now.book.now drawing.now.pass.now.pass (option_map (λ r. r.now) drawing.now.request) }
-    requires stamps { AreOf drawing.now.book.now stamps.old.items }
-    requires bases { AreBases stamps.old.items drawing.now.pass.now.pass.pinned }
-    ensures added { OnOk result (stamps.new.items ≡ stamps.old.items ++ drawn_stamps drawing.now.book.now stamps.old.items drawing.now.pass.now.pass drawing.now.first drawing.now.count (option_map (λ r. r.now) drawing.now.request)) }
-    ensures fresh { IfOk result (λ fresh. fresh.items ≡ drawn_stamps drawing.now.book.now stamps.old.items drawing.now.pass.now.pass drawing.now.first drawing.now.count (option_map (λ r. r.now) drawing.now.request)) }
-    ensures err { OnErr result (stamps.new.items ≡ stamps.old.items) }
-{
-    stamps.reserve(drawing.count as usize)?;
-    let fresh = seal_all(*stamps.allocator(), drawing, stamps)?;
-    add_copies(stamps, &fresh);
-    Ok(fresh)
 }

@@ -16,4 +16,4 @@ pub use line::{GLine, HLine, LLine, OLine, RLine, TLine, XLine};
 pub use shown::Shown;
 pub use transcript::Transcript;
 pub use worked::worked_texts;
-pub use write::{append, append_shown, write_transcript};
+pub use write::{append, append_reply, append_shown, write_transcript};

@@ -145,7 +145,8 @@ pub fn append_shown(out: &mut Vec<u8>, shown: &Shown) -> Result<(), AllocError>
     }
 }
 
-fn append_reply(out: &mut Vec<u8>, reply: &Reply) -> Result<(), AllocError>
+/// Appends a reply's words.
+pub fn append_reply(out: &mut Vec<u8>, reply: &Reply) -> Result<(), AllocError>
     ensures { OnOk result (out.new.items ≡ out.old.items ++ reply_text reply.now) }
 {
     match reply {

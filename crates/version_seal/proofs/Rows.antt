@@ -1,6 +1,6 @@
 -- The rows that hold versions.
-use Rattle.std.proofs.Common.{◌≡◌, ℕ, suc, ◌+◌, ◌-◌, ◌*◌, ◌/◌, ◌%◌, ◌<◌, ◌≤◌, List, [], ◌∷◌, ◌++◌, length, take, drop, get_or, min, sym, ap, ◌∙◌, arith, length-take, length-drop}
-use Rattle.std.proofs.lemmas.Nat.{div-add-mod', div_below, le-div}
+use Rattle.std.proofs.Common.{◌≡◌, ℕ, suc, ◌+◌, ◌-◌, ◌*◌, ◌/◌, ◌%◌, ◌^◌, ◌<◌, ◌≤◌, List, [], ◌∷◌, ◌++◌, length, take, drop, get_or, min, sym, ap, ◌∙◌, arith, length-take, length-drop}
+use Rattle.std.proofs.lemmas.Nat.{div-add-mod', div_below, le-div, mod_below}
 use Rattle.std.proofs.lemmas.List.{get_or-take, get_or-drop, take_more}
 
 -- one row more
@@ -64,3 +64,11 @@ row-in-room names home first count version there are from below =
           ∙ get_or-drop (suc start) home (row - start) 0
           ∙ ap (λ n. get_or home n 0) same;
     }
+
+-- a version whose row is in a book of so few rows
+pub low-version : (version rows : ℕ) → suc (version / 4096) < suc rows → rows ≤ 65536 → version < 2 ^ 28
+low-version version rows there few =
+    let parts : version / 4096 * 4096 + version % 4096 ≡ version = div-add-mod' version 4096 in
+    let rest : version % 4096 < 4096 = mod_below version 4096 (omega arith) in
+    let row : version / 4096 < 65536 = omega (arith, there, few) in
+    omega (arith, parts, rest, row)

@@ -32,7 +32,8 @@ impl From<AllocError> for ReserveError {
     }
 }
 
-/// Why a version isn't sealed.
+/// Why a version isn't sealed. Neither comes where a book's one sealer alone seals; no clause says so,
+/// since a slot doesn't tell who wrote it.
 #[derive(Debug, Drop, Error)]
 pub enum SealError {
     /// It was sealed before, as its stamp shows.
@@ -78,6 +79,13 @@ impl Room {
             rows,
             home,
         }
+    }
+
+    // The first of its versions.
+    pub(crate) fn first(&self) -> u64
+        ensures { result ≡ self.now.first }
+    {
+        self.first
     }
 
     // The row of a version that has room here.

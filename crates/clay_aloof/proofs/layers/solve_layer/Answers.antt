@@ -1,26 +1,22 @@
-use Rattle.std.proofs.Common.{◌≡◌, ℕ, ◌+◌, ◌*◌, ◌<◌, true, false, length, get_or, sym, subst, ap, ◌∙◌, arith}
+use Rattle.std.proofs.Common.{◌≡◌, ℕ, ◌+◌, ◌<◌, true, false, length, get_or, sym, subst, ◌∙◌, arith}
 use Rattle.std.proofs.lemmas.List.{get_or_read}
 use Rattle.clay_grid.specs.Shape.{node_count}
-use Rattle.clay_encode.proofs.Parts.{piece_fits}
 use Rattle.clay_aloof.proofs.Layer.{HoldsSums, sums_more, sums_skipped, rows_of_sums}
+use Rattle.clay_aloof.specs.Known.{node_bytes}
 use Rattle.clay_aloof.proofs.layers.solve_layer.Goals as goal
 use Rattle.clay_aloof.proofs.layers.solve_layer.Goals.{then-not-index, else-not-index}
 
-pub add-requires-clause-node : goal.add-requires-clause-node
-add-requires-clause-node c =
-    let gen = c.requires.plan.generator in
-    let points : ℕ = length c.args.plan.now.points.items in
+pub add_node-requires-clause-there : goal.add_node-requires-clause-there
+add_node-requires-clause-there c =
     let node : ℕ = c.loop-node.node in
-    let below : node < node_count c.args.g = omega (arith, c.loop-node-test.true, c.nodes-node-end.ensures.value) in
-    let fits = piece_fits node (node_count c.args.g) points below in
-    let same : node * c.args.plan.now.generator.unknown + c.args.plan.now.generator.unknown ≡ node * points + points = ap (λ n. node * n + n) gen.count in
-    omega (arith, same, fits, gen.long)
+    let within : node < length c.args.plan.now.erased.items = omega (arith, c.loop-node-test.true, c.nodes-node-end.ensures.value, c.requires.plan.nodes) in
+    sym (get_or_read c.args.plan.now.erased.items node c.index.result.now within c.index.ensures false) ∙ c.if-not-index.true
 
 pub loop-node-preserved : goal.loop-node-preserved
 loop-node-preserved c =
     let g = c.args.g in
     let plan = c.args.plan.now in
-    let known = c.args.known.now in
+    let known = (node_bytes c.args.g c.args.known.now) in
     let z : ℕ = c.args.z in
     let erased = plan.erased.items in
     let node : ℕ = c.loop-node.node in
@@ -30,10 +26,8 @@ loop-node-preserved c =
     elim c.if-not-index.branch [
       | then-not-index w ↦
           let here : get_or erased node false ≡ false = sym read ∙ w.if-not-index.true in
-          let long : length w.uncouple_node.new.out ≡ g.width = w.uncouple_node.auto.out ∙ c.loop-node.auto.value ∙ c.requires.value_len in
           subst (HoldsSums g plan known z (node + 1)) (sym w.rows-is)
-          (sums_more g plan known z node plan.generator.unknown w.uncouple_node.new.out c.loop-node.rows w.add.new.rows
-          c.requires.plan.generator.count long here w.uncouple_node.ensures w.add.ensures c.loop-node.invariant)
+          (sums_more g plan known z node c.loop-node.rows w.add_node.new.rows here w.add_node.ensures c.loop-node.invariant)
       | else-not-index w ↦
           let gone : get_or erased node false ≡ true = sym read ∙ w.if-not-index.false in
           subst (HoldsSums g plan known z (node + 1)) (sym w.rows-is) (sums_skipped g plan known z node c.loop-node.rows gone c.loop-node.invariant)
@@ -43,6 +37,6 @@ pub returns : goal.returns
 returns c =
     let g = c.args.g in
     let plan = c.args.plan.now in
-    let known = c.args.known.now in
+    let known = (node_bytes c.args.g c.args.known.now) in
     let all : c.loop-node.node ≡ node_count g = omega (arith, c.loop-node-test.false, c.loop-node.auto.node-end, c.nodes-node-end.ensures.value) in
     rows_of_sums g plan known c.requires.plan c.args.z c.loop-node.rows (subst (λ n. HoldsSums g plan known c.args.z n c.loop-node.rows) all c.loop-node.invariant)

@@ -1,10 +1,19 @@
-use Rattle.std.proofs.Common.{All, subst, sym}
+use Rattle.std.proofs.Common.{All, ap, subst, sym}
 use Rattle.std.proofs.lemmas.List.Elements.{All-push}
+use Rattle.std.proofs.lemmas.List.Sorted.{All-permutation}
 use Rattle.version_seal.specs.Sealed.{ChunkOf}
+use Rattle.version_seal.specs.Sealer.{SealerOf}
 use Rattle.chunk_server.specs.Valid.{IsFor}
 use Rattle.clay_bench.proofs.chunks.chunks_of.Goals as goal
 
 pub loop-version-preserved : goal.loop-version-preserved
 loop-version-preserved c =
     let P : ChunkOf → Type 0 = IsFor c.args.book.now.home 0 c.args.geometry in
-    subst (All P) (sym c.in_ok-push.ensures.items) (All-push P c.loop-version.chunks.items c.in_ok-chunk_of.field-0 c.loop-version.invariant c.in_ok-chunk_of.ensures)
+    record {
+      chunks = subst (All P) (sym c.in_ok-push.ensures.items) (All-push P c.loop-version.chunks.items c.in_ok-chunk_of.field-0 c.loop-version.invariant.chunks c.in_ok-chunk_of.ensures.chunk);
+      sealer = ap (λ (s : SealerOf). s.home) c.in_ok-chunk_of.ensures.on;
+    }
+
+pub returns : goal.returns
+returns c =
+    All-permutation (IsFor c.args.book.now.home 0 c.args.geometry) c.loop-version.chunks.items c.reverse.new.self.items c.reverse.ensures.permutation c.loop-version.invariant.chunks

@@ -1,17 +1,18 @@
-use Rattle.std.proofs.Common.{◌<◌, vec_capacity, map, refl, ap, subst, sym, ◌∙◌}
+use Rattle.std.proofs.Common.{◌≡◌, ◌<◌, true, vec_capacity, map, refl, ap, subst, sym, ◌∙◌}
 use Rattle.std.proofs.lemmas.List.{length-map}
 use Rattle.clay_grid.specs.Shape.{chunk_count}
 use Rattle.store_core.specs.Lists.{places_of}
 use Rattle.store_core.specs.Told.{Told}
 use Rattle.store_core.specs.Act.{DirectoryStep}
+use Rattle.store_core.specs.Agreement.{Agrees}
 use Rattle.store_core.specs.Tokens.{actor_of}
 use Rattle.store_resume.specs.States.{settle_state}
 use Rattle.version_seal.specs.Entry.{BookOf}
 use Rattle.write_course.specs.Writings.{WritingOf, versions_of}
-use Rattle.client_patch.specs.Patches.{PatchOf}
+use Rattle.client_patch.specs.Patches.{PatchOf, is_write}
 use Rattle.client_patch.specs.Inside.{pairs_in}
 use Rattle.write_course.proofs.Tokens.{token_stays}
-use Rattle.client_patch.proofs.Commits.{commit_may, commit_room, writing_commits, done_kept, done_step}
+use Rattle.client_patch.proofs.Commits.{commit_may, told_change, commit_room, writing_commits, done_kept, done_step}
 use Rattle.client_patch.proofs.patch.PatchCall.commit.Goals as goal
 
 pub rows-rows-requires : goal.rows-rows-requires
@@ -31,19 +32,23 @@ invariant_of-self c =
     let writing = c.committed.ensures
     ∙ ap (λ (w : WritingOf). record w { state = settle_state c.in-Done.point.0 (places_of (chunk_count w.book.geometry) (versions_of w.stamps)) }) c.rows-rows.ensures.after in
     record {
-      patch = kept.patch;
+      change = kept.change;
       client = kept.client;
       actor_is = ap actor_of c.in-Done.ensures.token ∙ token_stays a.token a.number (DirectoryStep.Commit placed) (Told.Done c.in-Done.point.0) ∙ kept.actor_is;
       script = kept.script;
       book = kept.book;
       tries = kept.tries;
+      untaken = kept.untaken;
       kept = done_kept a kept c.args.self.now c.self.view_is c.requires.committing c.in-Done.point.0 placed c.rows-rows.ensures.rows c.committed.new.self writing
           c.commit-answer.new.self c.in-Done.ensures.token _ refl;
     }
 
 pub push_reserved-requires : goal.push_reserved-requires
 push_reserved-requires c =
-    subst (λ n. n < vec_capacity c.self.inside.changes) (sym c.self.inside.changes.ok.0) (commit_room c.self.inside c.self.invariant c.args.self.now c.self.view_is c.requires.committing)
+    let write : is_write c.self.inside.call.now ≡ true
+    = told_change c.self.inside c.self.invariant c.args.self.now c.self.view_is c.requires.committing c.args.directory.now.core c.commit-answer.new.directory.core
+    (map (λ row. row.items) c.rows-rows.result.items) c.in-Changed.base.0 c.in-Changed.newer.0 (subst (λ (p : PatchOf). Agrees c.args.directory.now.core p.call.token) (sym c.self.view_is) c.requires.agrees) c.in-Changed.ensures.step in
+    subst (λ n. n < vec_capacity c.self.inside.changes) (sym c.self.inside.changes.ok.0) (commit_room c.self.inside c.self.invariant c.args.self.now c.self.view_is c.requires.committing write)
 
 pub returns-in-Done-clause-step : goal.returns-in-Done-clause-step
 returns-in-Done-clause-step c =

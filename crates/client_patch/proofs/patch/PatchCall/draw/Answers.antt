@@ -1,4 +1,4 @@
-use Rattle.std.proofs.Common.{◌≡◌, ◌+◌, ◌-◌, ◌/◌, ◌^◌, ◌<◌, ◌≤◌, false, [], ◌++◌, length, Ok, Some, IfOk, ap, subst, sym, ◌∙◌}
+use Rattle.std.proofs.Common.{◌≡◌, ◌+◌, ◌-◌, ◌/◌, ◌^◌, ◌<◌, ◌≤◌, false, [], ◌++◌, length, Ok, Some, IfOk, ap, subst, sym, ◌∙◌, arith}
 use Rattle.clay_grid.specs.Shape.{stripe_length}
 use Rattle.clay_grid.specs.Limits.{IsGeometry}
 use Rattle.store_core.specs.Told.{Told}
@@ -12,7 +12,7 @@ use Rattle.stripe_dir.specs.AnswerStamps.{IfDrawn, AreDrawnFor, stamps_given}
 use Rattle.stripe_dir.specs.declared.answers.Drawn.TheVariants as draw
 use Rattle.write_course.specs.Writings.{versions_of}
 use Rattle.write_course.specs.Draws.{request_of}
-use Rattle.client_patch.specs.Patches.{PatchOf}
+use Rattle.client_patch.specs.Patches.{PatchOf, is_write}
 use Rattle.client_patch.specs.Inside.{patch_in}
 use Rattle.write_course.proofs.Tokens.{token_stays}
 use Rattle.client_patch.proofs.Drawing.{holding, draw_stamps, draw_kept, draw_count}
@@ -29,11 +29,11 @@ drawn c =
     let held = holding c.self.inside c.self.invariant c.args.self.now c.self.view_is c.requires.drawing c.requires.need in
     subst (λ result. IfOk result (IfDrawn c.args.directory.now held.held (Some c.request-request.result))) (answered c) (c.draw-answer.ensures.drawn held.held held.is)
 
--- they are of the put's book
+-- they are of the call's book
 its : (c : After-copy) → c.args.directory.now.book ≡ c.self.inside.opening
 its c = c.requires.its ∙ sym (ap (λ (p : PatchOf). p.call.book) c.self.view_is)
 
--- the request is the put's
+-- the request is the call's
 asked : (c : After-copy) → c.request-request.result ≡ request_of (patch_in c.self.inside).call c.self.inside.call.now
 asked c = c.request-request.ensures ∙ (λ i. record { home = (book i).home; actor = sym c.self.invariant.actor_is i; number = c.self.inside.number; call = c.self.inside.call.now })
   where
@@ -62,26 +62,28 @@ new-requires-clause-numbered c =
     let geometry : c.geometry.result ≡ c.self.inside.opening.geometry = c.geometry.ensures in
     let few = draw_count c.self.inside c.self.invariant c.args.self.now c.self.view_is c.requires.drawing c.requires.need c.args.directory.now c.in-Ok-Versions.stamps.items c.request-request.result (its c) c.keeps.ensures.stamps.code (drawn c)
     (subst IsGeometry geometry c.stripe_len.ensures.geometry)
-    (subst (λ n. n < 2 ^ 33 - 1) (λ i. c.range_of-offset.ensures.offset i + c.range_of-offset.ensures.length i) c.range_of-offset.ensures.fits) in
-    subst (λ n. n + length c.in-Ok-Versions.stamps.items ≤ 2 ^ 32) (sym (λ i. c.range_of-offset.ensures.offset i / (c.stripe_len.ensures.value ∙ ap stripe_length geometry) i)) few
+    (subst (λ n. n < 2 ^ 33 - 1) (λ i. c.bytes_of-offset.ensures.offset i + (c.length-length.ensures.number ∙ c.bytes_of-offset.ensures.length) i) (omega (arith, c.bytes_of-offset.type_inv, c.length-length.type_inv))) in
+    subst (λ n. n + length c.in-Ok-Versions.stamps.items ≤ 2 ^ 32) (sym (λ i. c.bytes_of-offset.ensures.offset i / (c.stripe_len.ensures.value ∙ ap stripe_length geometry) i)) few
 
 pub invariant_of-self : goal.invariant_of-self
 invariant_of-self c =
     let d = (goal.at.invariant_of-self c).After-copy in
     let a = c.self.inside in
     let kept = c.self.invariant in
-    let first = c.new.ensures.first ∙ (λ i. c.range_of-offset.ensures.offset i / (c.stripe_len.ensures.value ∙ ap stripe_length c.geometry.ensures) i) in
+    let first = c.new.ensures.first ∙ (λ i. c.bytes_of-offset.ensures.offset i / (c.stripe_len.ensures.value ∙ ap stripe_length c.geometry.ensures) i) in
     record {
-      patch = kept.patch;
+      change = kept.change;
       client = kept.client;
       actor_is = ap actor_of (token d) ∙ token_stays a.token a.number DirectoryStep.Draw (Told.Versions (versions_of c.in-Ok-Versions.stamps.items)) ∙ kept.actor_is;
       script = kept.script;
       book = kept.book;
       tries = kept.tries;
+      untaken = kept.untaken;
       kept =
           draw_kept a kept c.args.self.now c.self.view_is c.requires.drawing c.requires.need c.args.directory.now c.in-Ok-Versions.stamps.items c.request-request.result c.draw-answer.new.self c.new.result
           false c.is_err-self-inside.result
-          (its d) c.keeps.ensures.stamps.code (asked d) (drawn d) c.requires.knows c.new.ensures.stamps (c.new.ensures.book ∙ c.copy.ensures) first
+          (its d) c.keeps.ensures.stamps.code (asked d) (drawn d)
+          (λ write. c.requires.knows (ap is_write (sym (ap (λ (p : PatchOf). p.written) c.self.view_is)) ∙ write)) c.new.ensures.stamps (c.new.ensures.book ∙ c.copy.ensures) first
           (c.new.ensures.state ∙ (λ i. prepare_all_state ((c.copy.ensures i).geometry) (versions_of (sym c.new.ensures.stamps i)) (sym c.new.ensures.first i) (versions_of (sym c.new.ensures.stamps i)) []))
           (token d ∙ (λ i. token_after a.token a.number DirectoryStep.Draw (Told.Versions (versions_of (sym c.new.ensures.stamps i)))));
     }

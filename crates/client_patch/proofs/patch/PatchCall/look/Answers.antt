@@ -9,13 +9,13 @@ use Rattle.client_patch.specs.Patches.{PatchOf, is_write}
 use Rattle.client_patch.specs.Stages.{state_by, due_by}
 use Rattle.client_patch.specs.LookAfter.{looked_stripes, IsPatchLook}
 use Rattle.write_course.proofs.Tokens.{token_stays}
-use Rattle.client_patch.proofs.Looks.{looked, patch_looks, waits, look_kept, look_step}
+use Rattle.client_patch.proofs.Looks.{looked, patch_looks, nothing_wanted, if_ready, waits, look_kept, look_step}
 use Rattle.client_patch.proofs.Learning.{look_knows}
 use Rattle.client_patch.proofs.Drawing.{some_bytes}
 use Rattle.clay_grid.specs.Shape.{Shape, stripe_length}
 use Rattle.version_seal.specs.Entry.{BookOf}
 use Rattle.gather_parts.specs.Wanted.{wanted_of, bytes_of}
-use Rattle.gather_parts.specs.Gatherings.{GatheringsOf, owed}
+use Rattle.gather_parts.specs.Gatherings.{owed}
 use Rattle.client_patch.proofs.patch.PatchCall.look.Goals as goal
 
 pub invariant_of-self : goal.invariant_of-self
@@ -23,18 +23,20 @@ invariant_of-self c =
     let a = c.self.inside in
     let kept = c.self.invariant in
     let told = looked c.look-answer.result in
-    let fits = subst (IsPatchLook (is_write a.call.now)) (ap (λ (made : Directory × Told). made.1) (sym c.look-answer.ensures.step)) (patch_looks _ (actor_of a.token) a.number a.call.now c.args.directory.now.core kept.patch) in
+    let fits = subst (IsPatchLook a.call.now) (ap (λ (made : Directory × Told). made.1) (sym c.look-answer.ensures.step)) (patch_looks _ (actor_of a.token) a.number a.call.now c.args.directory.now.core kept.change) in
     let next = c.after_look-stage in
     record {
-      patch = kept.patch;
+      change = kept.change;
       client = kept.client;
       actor_is = ap actor_of c.look-answer.ensures.token ∙ token_stays a.token a.number (DirectoryStep.Look (note_of a.call.now)) told ∙ kept.actor_is;
       script = kept.script;
       book = next.ensures.book ∙ kept.book;
       tries = kept.tries;
+      untaken = λ put. next.ensures.takes ∙ kept.untaken put;
       kept =
-          look_kept told a _ fits next.ensures.looked (waits a kept c.args.self.now c.self.view_is c.requires.first c.requires.seated) c.look-answer.ensures.token refl refl
-          (λ looked. record { none = ap (λ (p : GatheringsOf). p.current) (next.ensures.begun looked); going = ap (λ (p : GatheringsOf). p.coding) (next.ensures.begun looked) });
+          look_kept told a _ (map (wanted_of a.gatherings.book.geometry 0 next.result.size) (looked_stripes c.look-answer.result)) fits next.ensures.looked
+          (waits a kept c.args.self.now c.self.view_is c.requires.first c.requires.seated) c.look-answer.ensures.token refl refl next.ensures.begun
+          (nothing_wanted a.call.now c.look-answer.result fits a.gatherings.book.geometry next.result.size);
     }
 
 pub returns-clause-step : goal.returns-clause-step
@@ -43,7 +45,7 @@ returns-clause-step c =
     let kept = c.self.invariant in
     let d = c.args.directory.now.core in
     let told = looked c.look-answer.result in
-    let fits = subst (IsPatchLook (is_write a.call.now)) (ap (λ (made : Directory × Told). made.1) (sym c.look-answer.ensures.step)) (patch_looks _ (actor_of a.token) a.number a.call.now c.args.directory.now.core kept.patch) in
+    let fits = subst (IsPatchLook a.call.now) (ap (λ (made : Directory × Told). made.1) (sym c.look-answer.ensures.step)) (patch_looks _ (actor_of a.token) a.number a.call.now c.args.directory.now.core kept.change) in
     let next = c.after_look-stage in
     let short : Bool = c.is_err-self-inside.result in
     look_step a kept c.args.self.now c.self.view_is c.requires.first c.requires.need told fits short (due_by next.result.stage next.new.gatherings a.writing) d c.look-answer.new.directory.core
@@ -57,14 +59,15 @@ returns-clause-knows c =
     let kept = c.self.invariant in
     let d = c.args.directory.now in
     let told = looked c.look-answer.result in
-    let fits = subst (IsPatchLook (is_write a.call.now)) (ap (λ (made : Directory × Told). made.1) (sym c.look-answer.ensures.step)) (patch_looks _ (actor_of a.token) a.number a.call.now d.core kept.patch) in
+    let fits = subst (IsPatchLook a.call.now) (ap (λ (made : Directory × Told). made.1) (sym c.look-answer.ensures.step)) (patch_looks _ (actor_of a.token) a.number a.call.now d.core kept.change) in
     let next = c.after_look-stage in
     let its = c.requires.its ∙ sym (ap (λ (p : PatchOf). p.call.book) c.self.view_is) in
     let code : c.self.inside.opening.geometry ≡ c.args.directory.now.core.shape = ap (λ (book : BookOf). book.geometry) (sym its) ∙ c.keeps.ensures.stamps.code in
     let bytes : 0 < stripe_length c.args.directory.now.core.shape = subst (λ (g : Shape). 0 < stripe_length g) (c.geometry.ensures ∙ code) (some_bytes c.geometry.result c.stripe_len-long.ensures.geometry) in
-    look_knows d c.look-answer.new.directory.stamps c.look-answer.ensures.stamps bytes c.keeps.ensures.whole.sound c.keeps.ensures.stamps c.requires.padded a.opening code a.call.now a.number
-    a.token c.look-answer.new.self c.look-answer.result _ c.look-answer.new.directory.core next.result.stage next.result.size (owed next.new.gatherings)
+    look_knows d c.look-answer.new.directory.stamps c.look-answer.ensures.stamps bytes c.keeps.ensures.whole.sound c.keeps.ensures.stamps a.call.now
+    (λ write. c.requires.padded (ap is_write (sym (ap (λ (p : PatchOf). p.written) c.self.view_is)) ∙ write)) a.opening code a.number
+    a.token c.look-answer.new.self c.look-answer.result _ c.look-answer.new.directory.core next.result.size (owed next.new.gatherings)
     (state_by next.result.stage next.new.gatherings a.writing next.result.outcome) (waits a kept c.args.self.now c.self.view_is c.requires.first c.requires.seated) fits c.look-answer.ensures.step c.look-answer.ensures.seen
-    next.ensures.looked next.ensures.size
-    (λ looked. ap owed (next.ensures.begun looked) ∙ ap (λ (book : BookOf). bytes_of (map (wanted_of book.geometry 0 next.result.size) (looked_stripes c.look-answer.result))) kept.book)
+    next.ensures.size
+    (if_ready told (λ begun. ap owed begun ∙ ap (λ (book : BookOf). bytes_of (map (wanted_of book.geometry 0 next.result.size) (looked_stripes c.look-answer.result))) kept.book) next.ensures.begun)
     c.look-answer.ensures.token

@@ -15,12 +15,13 @@ invariant_of-self-then-self g c =
     let begins : begins_version c.self.inside.writing.state ≡ true = c.due-due.ensures.begins (c.due-due.ensures.due ∙ due) in
     let same = on_err c.encode-encoded.result _ c.encode-encoded.ensures.err (sym c.is_err-self-inside.ensures.value ∙ c.if-self.true) in
     record {
-      patch = kept.patch;
+      change = kept.change;
       client = kept.client;
       actor_is = kept.actor_is;
       script = kept.script;
       book = kept.book;
       tries = kept.tries;
+      untaken = kept.untaken;
       kept =
           wanting_keeps a kept c.args.self.now c.self.view_is c.requires c.in_default.not-Looked c.in_default.not-Gathering begins c.hear_short.new.self c.is_err-self-inside.result
           (c.hear_short.ensures ∙ ap (λ (w : WritingOf). record w { state = State.Ending CoreOutcome.NoMemory; due = false }) same);
@@ -32,12 +33,13 @@ invariant_of-self-else-self g c =
     let kept = c.self.invariant in
     let same = on_ok c.encode-encoded.result _ c.encode-encoded.ensures.ok (sym c.is_err-self-inside.ensures.value ∙ c.if-self.false) in
     record {
-      patch = kept.patch;
+      change = kept.change;
       client = kept.client;
       actor_is = kept.actor_is;
       script = kept.script;
       book = kept.book;
       tries = kept.tries;
+      untaken = kept.untaken;
       kept = encoded_keeps a kept c.args.self.now c.self.view_is c.requires c.in_default.not-Looked c.in_default.not-Gathering c.encode-encoded.new.writing c.is_err-self-inside.result same;
     }
 

@@ -13,12 +13,13 @@ invariant_of-self-in_default c =
     c.on_server-in_default.ensures.step
     ∙ ap (λ short. stepped a.writing.book.geometry short (core_of c.args.s.now) a.writing.state) (sym c.is_err-self-inside.ensures.value) in
     record {
-      patch = kept.patch;
+      change = kept.change;
       client = kept.client;
       actor_is = kept.actor_is;
       script = kept.script;
       book = kept.book;
       tries = kept.tries;
+      untaken = kept.untaken;
       kept =
           served_kept a kept c.args.self.now c.self.view_is c.args.s.now.number c.requires.need c.in_default.not-Gathering
           c.on_server-in_default.new.self c.is_err-self-inside.result _ _ step c.on_server-in_default.ensures.same false c.is_err-self-inside.result;

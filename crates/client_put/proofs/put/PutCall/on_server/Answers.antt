@@ -1,28 +1,20 @@
-use Rattle.std.proofs.Common.{ap, sym, ◌∙◌}
+use Rattle.std.proofs.Common.{ap, ◌∙◌}
+use Rattle.store_core.specs.Server.{Server}
 use Rattle.chunk_server.specs.Core.{core_of}
-use Rattle.write_course.specs.WritingSteps.{stepped}
-use Rattle.client_put.proofs.Serving.{served_kept, served_step}
+use Rattle.call_steps.specs.CallOf.{CallOf}
+use Rattle.call_steps.specs.Steps.{need_of, stepped_at_server}
+use Rattle.client_put.specs.Puts.{PutOf}
+use Rattle.client_put.specs.Inside.{by_script}
+use Rattle.client_put.proofs.Tries.{needs_so, server_so}
 use Rattle.client_put.proofs.put.PutCall.on_server.Goals as goal
 
-pub invariant_of-self : goal.invariant_of-self
-invariant_of-self c =
-    let a = c.self.inside in
-    let kept = c.self.invariant in
-    let step =
-    c.on_server.ensures.step
-    ∙ ap (λ short. stepped a.writing.book.geometry short (core_of c.args.s.now) a.writing.state) (sym c.is_err-short.ensures.value) in
-    record {
-      put = kept.put;
-      client = kept.client;
-      actor_is = kept.actor_is;
-      script = kept.script;
-      kept = served_kept a kept c.args.self.now c.self.view_is c.args.s.now.number c.requires.need c.on_server.new.self c.is_err-short.result _ _ step c.on_server.ensures.same;
-    }
+pub on_server-requires-clause-need : goal.on_server-requires-clause-need
+on_server-requires-clause-need c =
+    needs_so c.self.inside.patch.call (c.keeps.ensures.kind c.self.invariant) ∙ ap (λ (p : PutOf). need_of p.call) c.self.view_is ∙ c.requires.need
 
 pub returns-clause-step : goal.returns-clause-step
 returns-clause-step c =
-    let a = c.self.inside in
-    let step =
-    c.on_server.ensures.step
-    ∙ ap (λ short. stepped a.writing.book.geometry short (core_of c.args.s.now) a.writing.state) (sym c.is_err-short.ensures.value) in
-    served_step a c.self.invariant c.args.self.now c.self.view_is c.args.s.now.number c.requires.need c.on_server.new.self c.is_err-short.result _ _ step
+    let now = c.on_server.new.self.call in
+    ap (λ (x : Server × CallOf). (x.0, by_script x.1)) c.on_server.ensures.step
+    ∙ server_so c.self.inside.patch.call (c.keeps.ensures.kind c.self.invariant) now.step now.due (core_of c.args.s.now)
+    ∙ ap (λ (p : PutOf). stepped_at_server now.step now.due p.call (core_of c.args.s.now)) c.self.view_is

@@ -3,9 +3,10 @@ use Rattle.std.specs.List.{slice_get}
 use Rattle.clay_grid.specs.Shape.{chunk_count}
 use Rattle.store_run.specs.Before.{IsBeforeServer, IsBeforeDirectory}
 use Rattle.store_run.specs.Fixed.{max_in}
-use Rattle.store_run.specs.Seated.{directory_of, server_of}
+use Rattle.store_run.specs.Places.{directory_of, server_of}
 use Rattle.store_run.specs.Stepped.{HasSteppedAtServer, HasSteppedAtDirectory}
-use Rattle.store_run.proofs.Going.{below_all, count_fits, directory_stepped, free_of, got, server_stepped}
+use Rattle.store_run.proofs.Going.{below_all, count_fits, directory_stepped, server_stepped}
+use Rattle.store_run.proofs.Placing.{free_of, got}
 use Rattle.store_run.proofs.Seating.{before_directory, before_server, may_go_on}
 use Rattle.store_run.proofs.seated.Seated.turn_after.Goals as goal
 
@@ -18,14 +19,14 @@ overflow_add-self g c = let few = count_fits c.args.store.now c.args.self.now c.
 pub step_at_directory-requires : goal.step_at_directory-requires
 step_at_directory-requires g c κs within =
     let may = c.requires.1.1.1.1.1 in
-    let number : c.stepper-stepper.result.number ≡ c.args.self.now.number = ap (λ (s : _). s.number) c.stepper-stepper.ensures in (
+    let number : c.stepper-stepper.result.number ≡ c.args.self.now.turns.number = ap (λ (s : _). s.number) c.stepper-stepper.ensures in (
       search,
       (
         search,
         (
-          free_of c.args.store.now.directory (directory_of c.args.store.now) c.args.self.now.number c.stepper-stepper.result.number c.args.self.now.directory may.seated_is.turns.directory number,
+          free_of c.args.store.now.directory (directory_of c.args.store.now) c.args.self.now.turns.number c.stepper-stepper.result.number c.args.self.now.turns.directory may.seated_is.turns.directory number,
           (
-            subst (λ (n : ℕ). IsBeforeDirectory c.args.self.now.directory.fixed n c.args.self.now.directory.seen c.ready.new.self) (sym number)
+            subst (λ (n : ℕ). IsBeforeDirectory c.args.self.now.turns.directory.fixed n c.args.self.now.turns.directory.seen c.ready.new.self) (sym number)
                 (before_directory c.args.store.now c.args.self.now may c.ready.new.self c.ready.ensures.ready c.need.ensures.its c.in-Directory.ensures.need c.need.ensures.may c.need.ensures.pass c.ready.ensures.knows),
             sym may.seated_is.book ∙ sym (ap (λ (x : _). x.book) c.ready.ensures.ready.leaves),
           ),
@@ -39,17 +40,17 @@ step_at_server-requires g c κs within =
     let store = c.args.store.now in
     let seated = c.args.self.now in
     let j = c.in-Server.server in
-    let number : c.stepper-stepper.result.number ≡ seated.number = ap (λ (s : _). s.number) c.stepper-stepper.ensures in
+    let number : c.stepper-stepper.result.number ≡ seated.turns.number = ap (λ (s : _). s.number) c.stepper-stepper.ensures in
     let below : j < chunk_count store.script.now.geometry = below_all store seated may c.ready.new.self c.ready.ensures.ready j c.in-Server.ensures.below in
     let lock : slice_get store.servers.items j ≡ Some c.index.result.now = got store.servers.items j c.index.result.now (subst (λ (n : ℕ). j < n) (sym may.store_is.count) below) c.index.ensures in
-    let turn : slice_get seated.servers.items j ≡ Some c.index_mut.result.now =
-    got seated.servers.items j c.index_mut.result.now (subst (λ (n : ℕ). j < n) (sym may.seated_is.turns.count) below) c.index_mut.ensures.value in
+    let turn : slice_get seated.turns.servers.items j ≡ Some c.index_mut.result.now =
+    got seated.turns.servers.items j c.index_mut.result.now (subst (λ (n : ℕ). j < n) (sym may.seated_is.turns.count) below) c.index_mut.ensures.value in
     let at = may.seated_is.turns.servers j c.index.result.now c.index_mut.result.now lock turn in (
       search,
       (
         search,
         (
-          free_of c.index.result.now (server_of store j) seated.number c.stepper-stepper.result.number c.index_mut.result.now at number,
+          free_of c.index.result.now (server_of store j) seated.turns.number c.stepper-stepper.result.number c.index_mut.result.now at number,
           subst (λ (n : ℕ). IsBeforeServer c.index_mut.result.now.fixed n c.ready.new.self) (sym number)
               (before_server store seated may c.ready.new.self c.ready.ensures.ready c.need.ensures.its j c.index_mut.result.now at.fixed c.in-Server.ensures.need),
         ),
@@ -62,9 +63,9 @@ returns-in-Directory g c =
     let seated = c.args.self.now in
     let after = c.step_at_directory.new.caller in
     let turn = c.step_at_directory.new.turn in
-    let number : c.stepper-stepper.result.number ≡ seated.number = ap (λ (s : _). s.number) c.stepper-stepper.ensures in
+    let number : c.stepper-stepper.result.number ≡ seated.turns.number = ap (λ (s : _). s.number) c.stepper-stepper.ensures in
     directory_stepped c.args.store.now seated may c.ready.new.self after c.ready.ensures.ready g.last c.requires.1.1.1.1.0 turn c.step_at_directory.ensures.turn
-    (subst (λ (n : ℕ). HasSteppedAtDirectory n g.last (max_in seated.directory.fixed) seated.directory.seen turn.seen c.ready.new.self after) number c.step_at_directory.ensures.step) c.in-Directory.ensures.need
+    (subst (λ (n : ℕ). HasSteppedAtDirectory n g.last (max_in seated.turns.directory.fixed) seated.turns.directory.seen turn.seen c.ready.new.self after) number c.step_at_directory.ensures.step) c.in-Directory.ensures.need
 
 pub returns-in-Server : goal.returns-in-Server
 returns-in-Server g c =
@@ -75,8 +76,8 @@ returns-in-Server g c =
     let after = c.step_at_server.new.caller in
     let before = c.index_mut.result.now in
     let turn = c.step_at_server.new.turn in
-    let number : c.stepper-stepper.result.number ≡ seated.number = ap (λ (s : _). s.number) c.stepper-stepper.ensures in
+    let number : c.stepper-stepper.result.number ≡ seated.turns.number = ap (λ (s : _). s.number) c.stepper-stepper.ensures in
     let below : j < chunk_count store.script.now.geometry = below_all store seated may c.ready.new.self c.ready.ensures.ready j c.in-Server.ensures.below in
-    server_stepped store seated may c.ready.new.self after c.ready.ensures.ready g.last c.requires.1.1.1.1.0 j turn before c.index.result.now _ refl refl
+    server_stepped store seated may c.ready.new.self after c.ready.ensures.ready g.last c.requires.1.1.1.1.0 j turn before _ refl refl refl
     (subst (λ (n : ℕ). j < n) (sym may.seated_is.turns.count) below) c.index_mut.ensures.value c.step_at_server.ensures.turn
     (subst (λ (n : ℕ). HasSteppedAtServer n g.last before.seen turn.seen c.ready.new.self after) number c.step_at_server.ensures.step) c.in-Server.ensures.need c.ready.ensures.knows

@@ -66,7 +66,7 @@ can_pin-requires c =
     let pinned_is : c.in_ok-seen.field-0.pinned.items ≡ map (pin_by object.versions) stripes =
     c.in_ok-seen.ensures.pinned ∙ ap (λ h. map (pin_by h) stripes) held_is
     in
-    subst (λ (ps : List Pin). All (λ pin. pin.version < length d.versions) ps) (sym (c.deref-2.ensures.value ∙ pinned_is)) (pins_have (λ v. v < length d.versions) object.versions stripes (λ k x less. (stands k x less).1))
+    subst (λ (ps : List Pin). All (λ pin. pin.version < length d.versions) ps) (sym (c.deref.ensures.value ∙ pinned_is)) (pins_have (λ v. v < length d.versions) object.versions stripes (λ k x less. (stands k x less).1))
 
 pub pin_all-requires-clause-others : goal.pin_all-requires-clause-others
 pin_all-requires-clause-others c =
@@ -86,13 +86,13 @@ pin_all-requires-clause-others c =
     let pinned_is : c.in_ok-seen.field-0.pinned.items ≡ map (pin_by object.versions) stripes =
     c.in_ok-seen.ensures.pinned ∙ ap (λ h. map (pin_by h) stripes) held_is
     in
-    subst (λ (ps : List Pin). All (λ pin. (pin.version < length d.versions) × (holds_standing is_superseded_standing (slice_get d.versions pin.version) ≡ false)) ps) (sym (c.deref-3.ensures.value ∙ pinned_is))
+    subst (λ (ps : List Pin). All (λ pin. (pin.version < length d.versions) × (holds_standing is_superseded_standing (slice_get d.versions pin.version) ≡ false)) ps) (sym (c.deref-2.ensures.value ∙ pinned_is))
     (pins_have (λ v. (v < length d.versions) × (holds_standing is_superseded_standing (slice_get d.versions v) ≡ false)) object.versions stripes (λ k x less. ((stands k x less).1, current_other d (get_or object.versions (get_or stripes k x) 0) (stands k x less))))
 
 pub pin_all-requires-clause-fits : goal.pin_all-requires-clause-fits
 pin_all-requires-clause-fits c =
     let yes : c.can_pin.result ≡ true = c.if-not-can_pin.false in
-    subst (λ (ps : List Pin). All (λ pin. get_or c.self.inside.versions.pins pin.version 0 + length ps < 2 ^ 64) ps) (c.deref-2.ensures.value ∙ sym c.deref-3.ensures.value) (c.can_pin.ensures.0 yes)
+    subst (λ (ps : List Pin). All (λ pin. get_or c.self.inside.versions.pins pin.version 0 + length ps < 2 ^ 64) ps) (c.deref.ensures.value ∙ sym c.deref-2.ensures.value) (c.can_pin.ensures.0 yes)
 
 pub invariant_of-self-2 : goal.invariant_of-self-2
 invariant_of-self-2 c =
@@ -124,7 +124,7 @@ invariant_of-self-2 c =
     in
     kept_begun a c.self.invariant c.make_room.new.objects c.make_room.new.passes c.make_room.new.history roomy c.pin_all.new.self c.begin-entry.new.self c.add_look.new.history n refl
     (subst IsWhole (sym made) (subst (λ (x : Directory). IsWhole (begun_in c.args.actor c.args.number c.args.note stripes c.args.base x)) (sym view) c.requires.whole))
-    passes c.begin-entry.ensures.stripe c.pin_all.ensures.listed (c.pin_all.ensures.pins ∙ ap (λ ps. pinned_more ps a.versions.pins) (c.deref-3.ensures.value ∙ pins))
+    passes c.begin-entry.ensures.stripe c.pin_all.ensures.listed (c.pin_all.ensures.pins ∙ ap (λ ps. pinned_more ps a.versions.pins) (c.deref-2.ensures.value ∙ pins))
     (subst (λ (ps : List Pin). All (λ pin. pin.version < length d.versions) ps) (sym (pins_are d object stripes)) (pins_have (λ v. v < length d.versions) object.versions stripes (λ k x less. (stands k x less).1)))
     c.in_ok-make_room.ensures.more_points c.add_look.ensures.left c.add_look.ensures.names (subst (λ (n : Note). Contains c.make_room.new.history.names n.name) c.note.view_is c.in_ok-make_room.ensures.named) c.in_ok-make_room.ensures.more_objects
 

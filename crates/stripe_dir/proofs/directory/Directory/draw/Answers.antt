@@ -17,11 +17,12 @@ use Rattle.dir_parts.proofs.Actors.{same_is, find_passes}
 use Rattle.version_seal.specs.Entry.{BookOf, RequestOf, StampOf}
 use Rattle.stripe_dir.specs.Sealed.{Sealed, stamps_touched, CanSeal}
 use Rattle.stripe_dir.specs.Stamped.{AreOf}
+use Rattle.stripe_dir.specs.StampList.{StampList}
 use Rattle.stripe_dir.specs.Kept.{directory_in, sealed_in}
 use Rattle.stripe_dir.specs.declared.directory.Directory.TheInside.{Inside}
 use Rattle.stripe_dir.proofs.Ending.{agreed, said_of}
 use Rattle.stripe_dir.proofs.Stamps.{stamps_count, fresh_versions}
-use Rattle.stripe_dir.proofs.Draws.{bases_of, draw_step, kept_drawn, kept_undrawn}
+use Rattle.stripe_dir.proofs.Draws.{bases_of, draw_step, kept_drawn, kept_undrawn, with_drawn}
 use Rattle.stripe_dir.proofs.directory.Directory.draw.Goals as goal
 
 pub draw_fresh-requires-clause-call : goal.draw_fresh-requires-clause-call
@@ -38,11 +39,14 @@ draw_fresh-requires-clause-call c =
     let asked : CanSeal c.args.book.now (record p { reaped = None }) request = subst (λ (q : Pass). CanSeal c.args.book.now q request) (sym is) (subst (λ (b : BookOf). CanSeal b c.args.pass.pass request) (sym c.requires.book) c.requires.call) in
     record { writes = asked.writes; asked = asked.asked }
 
+pub draw_fresh-requires-clause-book : goal.draw_fresh-requires-clause-book
+draw_fresh-requires-clause-book c = c.requires.book ∙ sym (ap (λ (s : Sealed). s.book) c.self.view_is)
+
 pub draw_fresh-requires-clause-stamps : goal.draw_fresh-requires-clause-stamps
 draw_fresh-requires-clause-stamps c =
     let a : Inside = c.self.inside in
-    let book : c.args.book.now ≡ a.opening = c.requires.book ∙ sym (ap (λ (s : Sealed). s.book) c.self.view_is) in
-    subst (λ (b : BookOf). AreOf b a.stamps.items) (sym book) c.self.invariant.stamps.its
+    let book : c.args.book.now ≡ a.stamps.book = c.requires.book ∙ sym (ap (λ (s : Sealed). s.book) c.self.view_is) in
+    subst (λ (b : BookOf). AreOf b a.stamps.listed) (sym book) c.self.invariant.stamps.its
 
 pub draw_fresh-requires-clause-bases : goal.draw_fresh-requires-clause-bases
 draw_fresh-requires-clause-bases c =
@@ -91,12 +95,12 @@ invariant_of-self-2 c =
     let live : p.reaped ≡ None = sym (said_of (λ (own : Pass). c.reap_of.result ≡ own.reaped) (pass_of who d) p found (subst (λ (d : Directory). IfSome (pass_of who d) (λ own. c.reap_of.result ≡ own.reaped)) (sym view) c.reap_of.ensures)) ∙ c.in_default.is in
     let is : record p { reaped = None } ≡ c.args.pass.pass = agreed d c.args.pass who p same found (subst (λ (d : Directory). AgreesWithPass d c.args.pass) (sym view) c.requires.agrees) in
     let stripe : c.stripe_len-stripe.result ≡ stripe_length d.shape = c.stripe_len-stripe.ensures.value in
-    let book : c.args.book.now ≡ a.opening = c.requires.book ∙ sym (ap (λ (s : Sealed). s.book) c.self.view_is) in
+    let book : c.args.book.now ≡ a.stamps.book = c.requires.book ∙ sym (ap (λ (s : Sealed). s.book) c.self.view_is) in
     let kind : (p.note.kind ≡ Kind.Put) ⊎ (p.note.kind ≡ Kind.Write) = subst (λ (q : Pass). (q.note.kind ≡ Kind.Put) ⊎ (q.note.kind ≡ Kind.Write)) (sym is) c.requires.may.0 in
     let undrawn : p.drawn ≡ [] = ap (λ (q : Pass). q.drawn) is ∙ c.requires.may.1 in
     kept_drawn a c.self.invariant who p found live c.stripe_len-stripe.result stripe c.draw-entry.new.self c.draw_fresh.new.versions c.in-Ok.fresh.drawn.items c.in-Ok.ensures.listed c.in-Ok.ensures.drawn c.draw-entry.ensures.listed
     c.draw_fresh.new.stamps request
-    (c.in-Ok.ensures.stamps ∙ ap (λ (b : BookOf). a.stamps.items ++ stamps_touched b a.stamps.items c.stripe_len-stripe.result p request) book)
+    (c.in-Ok.ensures.stamps ∙ ap (λ (b : BookOf). with_drawn a.stamps b c.stripe_len-stripe.result p request) book)
     c.draw-entry.ensures.stripe c.in-Ok.ensures.pins (p, record { is_pass = found; kind = kind }, undrawn)
 
 pub returns-clause-step : goal.returns-clause-step
@@ -111,10 +115,10 @@ returns-clause-step c =
     let found : find (λ (pass : Pass). same_actor who pass.actor) d.passes ≡ Some p = sym c.in-Some-find.ensures in
     let live : p.reaped ≡ None = sym (said_of (λ (own : Pass). c.reap_of.result ≡ own.reaped) (pass_of who d) p found (subst (λ (d : Directory). IfSome (pass_of who d) (λ own. c.reap_of.result ≡ own.reaped)) (sym view) c.reap_of.ensures)) ∙ c.in_default.is in
     let stripe : c.stripe_len-stripe.result ≡ stripe_length d.shape = c.stripe_len-stripe.ensures.value in
-    let book : c.args.book.now ≡ a.opening = c.requires.book ∙ sym (ap (λ (s : Sealed). s.book) c.self.view_is) in
+    let book : c.args.book.now ≡ a.stamps.book = c.requires.book ∙ sym (ap (λ (s : Sealed). s.book) c.self.view_is) in
     let after : Directory = directory_in (record a { versions = c.draw_fresh.new.versions; passes = c.draw-entry.new.self }) in
     let told : map (λ (stamp : StampOf). stamp.version) c.in-Ok.fresh.stamps.items ≡ c.in-Ok.fresh.drawn.items =
-    ap (map (λ (stamp : StampOf). stamp.version)) (c.in-Ok.ensures.told ∙ ap (λ (b : BookOf). stamps_touched b a.stamps.items c.stripe_len-stripe.result p request) book)
+    ap (map (λ (stamp : StampOf). stamp.version)) (c.in-Ok.ensures.told ∙ ap (λ (b : BookOf). stamps_touched b a.stamps.listed c.stripe_len-stripe.result p request) book)
     ∙ fresh_versions (sealed_in a) c.self.invariant.stamps p (bases_of a c.self.invariant who p found) (p.note.offset / c.stripe_len-stripe.result) (stripes_met c.stripe_len-stripe.result p.note.offset p.note.length) request
     ∙ ap (λ n. range_with_len n (stripes_met c.stripe_len-stripe.result p.note.offset p.note.length)) (stamps_count (sealed_in a) c.self.invariant.stamps) ∙ sym c.in-Ok.ensures.drawn
     in
@@ -134,9 +138,9 @@ returns-clause-token c =
     let found : find (λ (pass : Pass). same_actor who pass.actor) d.passes ≡ Some p = sym c.in-Some-find.ensures in
     let live : p.reaped ≡ None = sym (said_of (λ (own : Pass). c.reap_of.result ≡ own.reaped) (pass_of who d) p found (subst (λ (d : Directory). IfSome (pass_of who d) (λ own. c.reap_of.result ≡ own.reaped)) (sym view) c.reap_of.ensures)) ∙ c.in_default.is in
     let is : record p { reaped = None } ≡ c.args.pass.pass = agreed d c.args.pass who p same found (subst (λ (d : Directory). AgreesWithPass d c.args.pass) (sym view) c.requires.agrees) in
-    let book : c.args.book.now ≡ a.opening = c.requires.book ∙ sym (ap (λ (s : Sealed). s.book) c.self.view_is) in
+    let book : c.args.book.now ≡ a.stamps.book = c.requires.book ∙ sym (ap (λ (s : Sealed). s.book) c.self.view_is) in
     let told : map (λ (stamp : StampOf). stamp.version) c.in-Ok.fresh.stamps.items ≡ c.in-Ok.fresh.drawn.items =
-    ap (map (λ (stamp : StampOf). stamp.version)) (c.in-Ok.ensures.told ∙ ap (λ (b : BookOf). stamps_touched b a.stamps.items c.stripe_len-stripe.result p request) book)
+    ap (map (λ (stamp : StampOf). stamp.version)) (c.in-Ok.ensures.told ∙ ap (λ (b : BookOf). stamps_touched b a.stamps.listed c.stripe_len-stripe.result p request) book)
     ∙ fresh_versions (sealed_in a) c.self.invariant.stamps p (bases_of a c.self.invariant who p found) (p.note.offset / c.stripe_len-stripe.result) (stripes_met c.stripe_len-stripe.result p.note.offset p.note.length) request
     ∙ ap (λ n. range_with_len n (stripes_met c.stripe_len-stripe.result p.note.offset p.note.length)) (stamps_count (sealed_in a) c.self.invariant.stamps) ∙ sym c.in-Ok.ensures.drawn
     in
@@ -151,7 +155,7 @@ returns-clause-token c =
 pub returns-clause-stamps : goal.returns-clause-stamps
 returns-clause-stamps c =
     let a : Inside = c.self.inside in
-    c.in-Ok.ensures.stamps ∙ (λ i. a.stamps.items ++ sym c.in-Ok.ensures.told i) ∙ ap (λ (s : Sealed). s.stamps ++ c.in-Ok.fresh.stamps.items) c.self.view_is
+    ap (λ (l : StampList). l.listed) c.in-Ok.ensures.stamps ∙ (λ i. a.stamps.listed ++ sym c.in-Ok.ensures.told i) ∙ ap (λ (s : Sealed). s.stamps ++ c.in-Ok.fresh.stamps.items) c.self.view_is
 
 pub returns-clause-drawn : goal.returns-clause-drawn
 returns-clause-drawn c =
@@ -165,8 +169,8 @@ returns-clause-drawn c =
     let found : find (λ (pass : Pass). same_actor who pass.actor) d.passes ≡ Some p = sym c.in-Some-find.ensures in
     let is : record p { reaped = None } ≡ c.args.pass.pass = agreed d c.args.pass who p same found (subst (λ (d : Directory). AgreesWithPass d c.args.pass) (sym view) c.requires.agrees) in
     let stripe : c.stripe_len-stripe.result ≡ stripe_length d.shape = c.stripe_len-stripe.ensures.value in
-    let book : c.args.book.now ≡ a.opening = c.requires.book ∙ sym (ap (λ (s : Sealed). s.book) c.self.view_is) in
+    let book : c.args.book.now ≡ a.stamps.book = c.requires.book ∙ sym (ap (λ (s : Sealed). s.book) c.self.view_is) in
     c.in-Ok.ensures.told
-    ∙ (λ i. stamps_touched (book i) a.stamps.items (stripe i) p request)
-    ∙ ap (λ (q : Pass). stamps_touched a.opening a.stamps.items (stripe_length a.geometry) q request) is
+    ∙ (λ i. stamps_touched (book i) a.stamps.listed (stripe i) p request)
+    ∙ ap (λ (q : Pass). stamps_touched a.stamps.book a.stamps.listed (stripe_length a.geometry) q request) is
     ∙ ap (λ (s : Sealed). stamps_touched s.book s.stamps (stripe_length s.core.shape) c.args.pass.pass request) c.self.view_is

@@ -47,8 +47,8 @@ unpin_all-requires c =
     let pinned : c.deref.result.now ≡ p.pinned = c.deref.ensures.value ∙ ap (λ (o : Open). o.pass.pinned) c.open.view_is in
     subst (λ (pins : List Pin). All (λ pin. pin.version < length d.versions) pins) (sym pinned) (it_has d who p c.take-open.new.self.listed gone.found gone.left gone.perm (HasVersions d) c.self.invariant.whole.sound.versions).pinned
 
-pub place_all-requires-clause-rows : goal.place_all-requires-clause-rows
-place_all-requires-clause-rows c =
+pub make_all_current-requires-clause-rows : goal.make_all_current-requires-clause-rows
+make_all_current-requires-clause-rows c =
     let a : Inside = c.self.inside in
     let d : Directory = directory_in a in
     let p : Pass = c.take-open.result.pass in
@@ -62,8 +62,8 @@ place_all-requires-clause-rows c =
     let drawn_now : c.deref-2.result.now ≡ p.drawn = c.deref-2.ensures.value ∙ ap (λ (o : Open). o.pass.drawn) c.open.view_is in
     omega (arith, asked.rows, ap length drawn_now, length-map c.args.placed.items (λ (row : Vec Placement Global). row.items), c.args.placed.ok.0)
 
-pub place_all-requires-clause-drawn : goal.place_all-requires-clause-drawn
-place_all-requires-clause-drawn c =
+pub make_all_current-requires-clause-drawn : goal.make_all_current-requires-clause-drawn
+make_all_current-requires-clause-drawn c =
     let a : Inside = c.self.inside in
     let d : Directory = directory_in a in
     let p : Pass = c.take-open.result.pass in
@@ -134,13 +134,13 @@ supersede_all-requires c =
     let noted : c.open.inside.note ≡ p.note = ap (λ (o : Open). o.pass.note) c.open.view_is in
     let drawn : c.open.inside.drawn.items ≡ p.drawn = ap (λ (o : Open). o.pass.drawn) c.open.view_is in
     let stripe : c.stripe_len-stripe.result ≡ stripe_length d.shape = c.stripe_len-stripe.ensures.value in
-    let placed : c.place_all.new.self.listed ≡ place_all (zip p.drawn rows) d.versions = c.place_all.ensures.listed ∙ (λ i. place_all (zip (drawn_now i) rows) (c.unpin_all.ensures.listed i)) in
+    let placed : c.make_all_current.new.self.listed ≡ place_all (zip p.drawn rows) d.versions = c.make_all_current.ensures.listed ∙ (λ i. place_all (zip (drawn_now i) rows) (c.unpin_all.ensures.listed i)) in
     let replaced : c.deref-3.result.now ≡ dropped p.note.kind (stripe_length d.shape) p.note p.drawn (object_or_new p.note.name d.objects).versions =
     c.deref-3.ensures.value ∙ c.install-replaced.ensures.replaced ∙ (λ i. dropped (noted i).kind (stripe i) (noted i) (drawn i) (object_or_new (noted i).name d.objects).versions)
     in
-    let size : length c.place_all.new.self.listed ≡ length d.versions = ap length placed ∙ length-place_all (zip p.drawn rows) d.versions in
-    subst (λ (ns : List ℕ). All (λ number. number < length c.place_all.new.self.listed) ns) (sym replaced)
-    (dropped_has (λ number. number < length c.place_all.new.self.listed) p.note.kind (stripe_length d.shape) p.note p.drawn (object_or_new p.note.name d.objects).versions
+    let size : length c.make_all_current.new.self.listed ≡ length d.versions = ap length placed ∙ length-place_all (zip p.drawn rows) d.versions in
+    subst (λ (ns : List ℕ). All (λ number. number < length c.make_all_current.new.self.listed) ns) (sym replaced)
+    (dropped_has (λ number. number < length c.make_all_current.new.self.listed) p.note.kind (stripe_length d.shape) p.note p.drawn (object_or_new p.note.name d.objects).versions
     (λ k x less. (let current = old_current d c.self.invariant.whole.sound p.note.name k x less in omega (arith, size, current.1))))
 
 pub invariant_of-self : goal.invariant_of-self
@@ -162,7 +162,7 @@ invariant_of-self c =
     let noted : c.open.inside.note ≡ p.note = ap (λ (o : Open). o.pass.note) c.open.view_is in
     let drawn : c.open.inside.drawn.items ≡ p.drawn = ap (λ (o : Open). o.pass.drawn) c.open.view_is in
     let stripe : c.stripe_len-stripe.result ≡ stripe_length d.shape = c.stripe_len-stripe.ensures.value in
-    let placed : c.place_all.new.self.listed ≡ place_all (zip p.drawn rows) d.versions = c.place_all.ensures.listed ∙ (λ i. place_all (zip (drawn_now i) rows) (c.unpin_all.ensures.listed i)) in
+    let placed : c.make_all_current.new.self.listed ≡ place_all (zip p.drawn rows) d.versions = c.make_all_current.ensures.listed ∙ (λ i. place_all (zip (drawn_now i) rows) (c.unpin_all.ensures.listed i)) in
     let replaced : c.deref-3.result.now ≡ dropped p.note.kind (stripe_length d.shape) p.note p.drawn (object_or_new p.note.name d.objects).versions =
     c.deref-3.ensures.value ∙ c.install-replaced.ensures.replaced ∙ (λ i. dropped (noted i).kind (stripe i) (noted i) (drawn i) (object_or_new (noted i).name d.objects).versions)
     in
@@ -182,7 +182,7 @@ invariant_of-self c =
     in
     let pinned : c.deref.result.now ≡ p.pinned = c.deref.ensures.value ∙ ap (λ (o : Open). o.pass.pinned) c.open.view_is in
     let counts : c.supersede_all.new.self.pins ≡ unpinned p.pinned a.versions.pins =
-    c.supersede_all.ensures.pins ∙ c.place_all.ensures.pins ∙ c.unpin_all.ensures.pins ∙ ap (λ pins. unpinned pins a.versions.pins) pinned
+    c.supersede_all.ensures.pins ∙ c.make_all_current.ensures.pins ∙ c.unpin_all.ensures.pins ∙ ap (λ pins. unpinned pins a.versions.pins) pinned
     in
     let one : one_if (may_append p.note.kind) ≡ 1 = ap one_if (may_one p.note.kind kind) in
     kept_ended a c.self.invariant who p c.take-open.new.self gone live c.install-replaced.new.objects c.supersede_all.new.self c.add-point.new.self
@@ -208,7 +208,7 @@ returns-clause-step c =
     let noted : c.open.inside.note ≡ p.note = ap (λ (o : Open). o.pass.note) c.open.view_is in
     let drawn : c.open.inside.drawn.items ≡ p.drawn = ap (λ (o : Open). o.pass.drawn) c.open.view_is in
     let stripe : c.stripe_len-stripe.result ≡ stripe_length d.shape = c.stripe_len-stripe.ensures.value in
-    let placed : c.place_all.new.self.listed ≡ place_all (zip p.drawn rows) d.versions = c.place_all.ensures.listed ∙ (λ i. place_all (zip (drawn_now i) rows) (c.unpin_all.ensures.listed i)) in
+    let placed : c.make_all_current.new.self.listed ≡ place_all (zip p.drawn rows) d.versions = c.make_all_current.ensures.listed ∙ (λ i. place_all (zip (drawn_now i) rows) (c.unpin_all.ensures.listed i)) in
     let replaced : c.deref-3.result.now ≡ dropped p.note.kind (stripe_length d.shape) p.note p.drawn (object_or_new p.note.name d.objects).versions =
     c.deref-3.ensures.value ∙ c.install-replaced.ensures.replaced ∙ (λ i. dropped (noted i).kind (stripe i) (noted i) (drawn i) (object_or_new (noted i).name d.objects).versions)
     in

@@ -2,6 +2,7 @@ use Rattle.std.proofs.Common.{◌<◌, ap, sym, ◌∙◌, arith, mul-pos}
 use Rattle.clay_grid.specs.Shape.{Shape, layer_count, chunk_length, stripe_length}
 use Rattle.clay_grid.specs.Limits.{IsGeometry}
 use Rattle.dir_parts.specs.OpenPass.{Desk}
+use Rattle.stripe_dir.specs.StampList.{StampList}
 use Rattle.stripe_dir.proofs.Opened.{first_kept}
 use Rattle.stripe_dir.proofs.directory.Directory.new.Goals as goal
 
@@ -20,6 +21,6 @@ invariant_of-directory c =
       pins = c.new-2.ensures.pins;
       passes = ap (λ (desk : Desk). desk.listed) c.new-3.ensures;
       points = c.new-4.ensures.points;
-      stamps = c.new-5.ensures.items;
+      stamps = ap (λ (l : StampList). l.listed) c.new-5.ensures;
     })
-    (sym c.geometry-geometry.ensures) (some_bytes c.geometry-geometry.result c.stripe_len-stripe.ensures.geometry) (ap (λ (desk : Desk). desk.stripe) c.new-3.ensures ∙ c.stripe_len-stripe.ensures.value)
+    (ap (λ (l : StampList). l.book.geometry) c.new-5.ensures ∙ sym c.geometry-geometry.ensures) (some_bytes c.geometry-geometry.result c.stripe_len-stripe.ensures.geometry) (ap (λ (desk : Desk). desk.stripe) c.new-3.ensures ∙ c.stripe_len-stripe.ensures.value)

@@ -11,7 +11,7 @@ returns-clause-ok c =
     also c.enter.result _ _
     (λ i. record {
       home = c.args.self.now.home;
-      version = c.args.version.0;
+      version = c.next-version.ensures i;
       actor = c.args.actor;
       number = c.args.number;
       stripe = c.args.stripe;

@@ -1,0 +1,44 @@
+-- What is known of the nodes, as the bytes of a chunk for each.
+use Rattle.std.specs.Prelude.{◌≡◌, ℕ, ◌+◌, ◌*◌, ◌/◌, ◌%◌, ◌<◌, ◌≤◌, List, map, length, get_or, replicate, Option, Some, None, IfSome, Vec}
+use Rattle.std.specs.List.{range_with_len}
+use Rattle.std.specs.declared.alloc.Global.{Global}
+use Rattle.clay_grid.specs.Shape.{Shape, node_count, layer_count, chunk_length}
+use Rattle.clay_aloof.specs.declared.known.Known.{Known}
+use Rattle.clay_aloof.specs.declared.known.Source.{Source}
+use Rattle.clay_aloof.specs.declared.known.Source.TheVariants.{Stripe, Parts}
+
+-- byte b of the subchunk at a place of a chunk's bytes
+abbrev pub part_byte : ℕ → Option (Vec ℕ Global) → ℕ → ℕ → ℕ
+part_byte width None place b = 0
+part_byte width (Some v) place b = get_or v.items (place * width + b) 0
+
+abbrev pub source_byte : Shape → Source → ℕ → ℕ → ℕ → ℕ
+source_byte g (Stripe stripe) c place b = get_or stripe.now (c * chunk_length g + (place * g.width + b)) 0
+source_byte g (Parts parts) c place b = part_byte g.width (get_or parts.now c None) place b
+
+abbrev pub entry_byte : Shape → Known → Option ℕ → ℕ → ℕ → ℕ
+entry_byte g known None n b = 0
+entry_byte g known (Some c) n b = source_byte g known.source c (get_or known.places.items n 0) b
+
+-- byte b of subchunk n of node i
+abbrev pub node_byte : Shape → Known → ℕ → ℕ → ℕ → ℕ
+node_byte g known i n b = entry_byte g known (get_or known.chunks.items i None) n b
+
+-- the byte at a place of the nodes' chunks
+abbrev pub byte_at : Shape → Known → ℕ → ℕ
+byte_at g known p = node_byte g known (p / chunk_length g) (p % chunk_length g / g.width) (p % chunk_length g % g.width)
+
+-- the nodes' chunks, one behind another
+abbrev pub node_bytes : Shape → Known → List ℕ
+node_bytes g known = map (byte_at g known) (range_with_len 0 (node_count g * chunk_length g))
+
+-- the subchunk at a place of chunk c is there, where the chunk is
+abbrev pub HasRoom : Shape → Source → ℕ → ℕ → Type 0
+HasRoom g (Stripe stripe) c place = c * chunk_length g + (place * g.width + g.width) ≤ length stripe.now
+HasRoom g (Parts parts) c place = (c < length parts.now) × IfSome (get_or parts.now c None) (λ v. place * g.width + g.width ≤ length v.items)
+
+pub record IsKnown (g : Shape) (known : Known) : Type 0 where
+  pub nodes : length known.chunks.items ≡ node_count g
+  pub layers : length known.places.items ≡ layer_count g
+  pub empty : known.zeros.items ≡ replicate g.width 0
+  pub room : (i n c : ℕ) → i < node_count g → n < layer_count g → get_or known.chunks.items i None ≡ Some c → HasRoom g known.source c (get_or known.places.items n 0)

@@ -1,0 +1,29 @@
+use Rattle.std.proofs.Common.{◌≡◌, ℕ, ◌+◌, ◌∷◌, List, length, drop, map, zip, slice_get, get_or, ap, sym, ◌∙◌, arith}
+use Rattle.std.specs.Vec.Iter.{into_iter_items}
+use Rattle.store_core.specs.Commit.{place_all}
+use Rattle.store_core.specs.Lookups.{holds_standing, is_superseded_standing}
+use Rattle.dir_parts.proofs.TableSteps.{length-change_at, still_other}
+use Rattle.dir_parts.proofs.Entries.{drop-next}
+use Rattle.dir_parts.proofs.versions.Versions.make_all_current.Goals as goal
+
+pub make_current-requires-clause-within : goal.make_current-requires-clause-within
+make_current-requires-clause-within c = omega (arith, (c.requires.drawn c.loop-number.number-index 0 c.loop-number-test.true).0, c.loop-number.invariant.size)
+
+pub make_current-requires-clause-other : goal.make_current-requires-clause-other
+make_current-requires-clause-other c = c.loop-number.invariant.other (get_or c.args.numbers.now c.loop-number.number-index 0) (c.requires.drawn c.loop-number.number-index 0 c.loop-number-test.true).1
+
+pub loop-number-preserved : goal.loop-number-preserved
+loop-number-preserved c =
+    let i : ℕ = c.loop-number.number-index in
+    let numbers : List ℕ = c.args.numbers.now in
+    let next : drop i numbers ≡ get_or numbers i 0 ∷ drop (i + 1) numbers = drop-next numbers i 0 c.loop-number-test.true in
+    record {
+      ahead =
+          ap (λ vs. place_all (zip (drop (i + 1) numbers) (map (λ row. row.items) (into_iter_items c.next.new.self))) vs) c.make_current.ensures.listed
+          ∙ sym (λ j. place_all (zip (next j) (map (λ row. row.items) (c.in-Some.ensures.items j))) c.loop-number.self.listed)
+          ∙ c.loop-number.invariant.ahead;
+      pins = c.make_current.ensures.pins ∙ c.loop-number.invariant.pins;
+      rows = omega (arith, ap length c.in-Some.ensures.items, c.loop-number.invariant.rows);
+      size = ap length c.make_current.ensures.listed ∙ length-change_at (get_or numbers i 0) _ c.loop-number.self.listed ∙ c.loop-number.invariant.size;
+      other = λ n h. ap (λ vs. holds_standing is_superseded_standing (slice_get vs n)) c.make_current.ensures.listed ∙ still_other (get_or numbers i 0) n c.in-Some.row.items c.loop-number.self.listed (c.loop-number.invariant.other n h);
+    }

@@ -1,0 +1,67 @@
+ghost use Rattle.std.specs.Prelude.{◌≡◌, ◌+◌, ◌≤◌, ◌^◌, ◌++◌, [], option_map, IfOk, OnOk, OnErr};
+ghost use Rattle.version_seal.specs.Sealer.{sealer_at};
+ghost use Rattle.stripe_dir.specs.Sealed.{drawn_stamps, CanSeal};
+ghost use Rattle.stripe_dir.specs.Stamped.{AreOf, AreBases};
+
+use crate::sealing::{Drawing, add_copies, seal_all};
+use std::alloc::{AllocError, Global};
+use std::marker::Model;
+use version_seal::{Opening, Sealer, Stamp};
+
+/// The stamps of a directory's versions, and the sealer of their book. The sealer stands behind the
+/// last of them, so no number is sealed and not drawn.
+#[derive(Drop)]
+pub(crate) struct Stamps {
+    opening: Opening,
+    listed: Vec<Stamp>,
+    sealer: Sealer,
+}
+
+impl Model for Stamps {
+    ghost use Rattle.stripe_dir.specs.StampList.{StampList};
+
+    ghost Value = { StampList };
+
+    ghost use Rattle.stripe_dir.specs.StampList.{stamps_in, IsBehind};
+
+    ghost view = { stamps_in };
+
+    ghost invariant = { IsBehind };
+}
+
+impl Stamps {
+    pub(crate) fn new(alloc: Global, opening: Opening, sealer: Sealer) -> Stamps
+        requires { sealer ≡ sealer_at opening 0 }
+        ensures { result ≡ record { book = opening; listed = [] } }
+    {
+        Stamps {
+            opening,
+            listed: Vec::new(alloc),
+            sealer,
+        }
+    }
+
+    pub(crate) fn as_slice(&self) -> &[Stamp]
+        ensures { result.now ≡ self.now.listed }
+    {
+        &self.listed
+    }
+
+    /// Seals the versions of a draw and adds their stamps. Gives those. Takes all memory before it
+    /// seals; where that is wanting nothing changes.
+    pub(crate) fn draw(&mut self, drawing: &Drawing) -> Result<Vec<Stamp>, AllocError>
+        requires book { drawing.now.book.now ≡ self.old.book }
+        requires stripes { drawing.now.first + drawing.now.count ≤ 2 ^ 32 }
+        requires call { CanSeal drawing.now.book.now drawing.now.pass.now.pass (option_map (λ r. r.now) drawing.now.request) }
+        requires stamps { AreOf drawing.now.book.now self.old.listed }
+        requires bases { AreBases self.old.listed drawing.now.pass.now.pass.pinned }
+        ensures added { OnOk result (self.new ≡ record { book = self.old.book; listed = self.old.listed ++ drawn_stamps drawing.now.book.now self.old.listed drawing.now.pass.now.pass drawing.now.first drawing.now.count (option_map (λ r. r.now) drawing.now.request) }) }
+        ensures fresh { IfOk result (λ fresh. fresh.items ≡ drawn_stamps drawing.now.book.now self.old.listed drawing.now.pass.now.pass drawing.now.first drawing.now.count (option_map (λ r. r.now) drawing.now.request)) }
+        ensures err { OnErr result (self.new ≡ self.old) }
+    {
+        self.listed.reserve(drawing.count as usize)?;
+        let fresh = seal_all(&mut self.sealer, drawing, &self.listed)?;
+        add_copies(&mut self.listed, &fresh);
+        Ok(fresh)
+    }
+}
