@@ -32,7 +32,8 @@ use Rattle.actors.specs.Callers.{PartOf, CallerOf, IsPartOf, calls_of, work_of, 
 use Rattle.actors.specs.Beginning.{MayBeAsked, MayTake, HasBegun, MayGoOn}
 use Rattle.actors.specs.Steps.{BeginsCall}
 use Rattle.actors.specs.Inside.{caller_by, IsInWork, AreOfServers}
-use Rattle.actors.proofs.Owing.{if_patches, if_draws}
+use Rattle.call_machine.proofs.Machines.{if_patches, if_draws}
+use Rattle.call_machine.proofs.Knowing.{first_calls_know}
 
 -- ---- what may begin
 -- the call of a number
@@ -90,11 +91,6 @@ client_goes book tries seat number (call.Write name offset content) some =
 first_goes : (book : BookOf) (tries : ℕ) (seat : Seat) (place number : ℕ) (asked : Asked) → MayBeAsked book tries place number asked → GoesOn (need_of (first_call book tries seat number asked).call)
 first_goes book tries seat place number (Asked.OfClient c) may = client_goes book tries seat number c may.0
 first_goes book tries seat place number (Asked.OfRepairer rebuild) may = tt
-
--- nothing is kept before it
-first_knows : (d : Sealed) (book : BookOf) (tries : ℕ) (seat : Seat) (number : ℕ) (asked : Asked) → KnowsOldOf d (first_call book tries seat number asked)
-first_knows d book tries seat number (Asked.OfClient c) = if_patches (client_machine c) tt
-first_knows d book tries seat number (Asked.OfRepairer rebuild) = tt
 
 tries_same : (m : Machine) (script : Script) (tries : ℕ) (book : BookOf) → book.script ≡ Some script → tries ≡ tries_of script → tries_in m tries book ≡ tries_of script
 tries_same Machine.Patches script tries book is own = own
@@ -165,7 +161,7 @@ module _ (part : PartOf) (book : BookOf) (tries : ℕ) (ended : List EndedCall) 
           ample = ap (λ (c : MachineOf). c.call.coding) begun.first;
         };
         goes = goes_by place seat now may begun;
-        knows = λ d knows. subst (KnowsOldOf d) (sym begun.first) (first_knows d book tries seat (length ended) begun.asked);
+        knows = λ d knows. subst (KnowsOldOf d) (sym begun.first) (first_calls_know d book tries seat (length ended) begun.asked);
         leaves = refl;
       }
 

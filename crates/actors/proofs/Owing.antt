@@ -12,7 +12,7 @@ use Rattle.call_steps.specs.Steps.{need_of}
 use Rattle.call_stands.proofs.Needs.{needs_tell_acts}
 use Rattle.client_read.specs.Owed.{owed_by as read_by}
 use Rattle.write_course.specs.Draws.{stamps_by}
-use Rattle.call_machine.specs.Kinds.{Asked, Machine, client_machine, machine_of, IfPatches, IfDraws}
+use Rattle.call_machine.specs.Kinds.{Asked, Machine, client_machine, machine_of}
 use Rattle.call_machine.specs.Calls.{MachineOf, drawn_in, drawn_for, drawn_by, owed_in, owed_by}
 
 -- a coding that is due says whether memory was wanting
@@ -47,16 +47,3 @@ module _ (short : Bool) (d : Sealed) (c : MachineOf) (server : ℕ) (needs : nee
   stamps_at_server =
       let found : (step : ServerStep) × (act_of c.call ≡ Act.AtServer server step) × (c.call.due ≡ false) = needs_tell_acts.server c.call server needs in
       sym (append-nil d.stamps) ∙ ap (λ (more : List StampOf). d.stamps ++ more) (sym (drawn_for_server short d c server found.0 found.1 c.asked))
-
--- what some machines ask holds of all
-pub if_patches : {P : Type 0} (m : Machine) → P → IfPatches m P
-if_patches Machine.Patches holds = holds
-if_patches Machine.Puts holds = tt
-if_patches Machine.Reads holds = tt
-if_patches Machine.Rebuilds holds = tt
-
-pub if_draws : {P : Type 0} (m : Machine) → P → IfDraws m P
-if_draws Machine.Patches holds = holds
-if_draws Machine.Puts holds = holds
-if_draws Machine.Reads holds = tt
-if_draws Machine.Rebuilds holds = tt

@@ -16,7 +16,10 @@ use Rattle.call_steps.specs.declared.need.Need.{Need}
 use Rattle.call_steps.specs.declared.need.Need.TheVariants as need
 use Rattle.call_steps.specs.CallOf.{CallOf, act_of}
 use Rattle.call_steps.specs.Steps.{need_of, at_server_by, coded}
+use Rattle.client_patch.specs.Padded.{ArePadded}
+use Rattle.call_machine.specs.Kinds.{machine_of, IfPatches}
 use Rattle.call_machine.specs.Calls.{MachineOf, KnowsOldOf, drawn_by, owed_by}
+use Rattle.call_machine.proofs.Machines.{if_patches}
 use Rattle.world_lines.specs.Ended.{ended_of}
 use Rattle.world_lines.specs.declared.calls.EndedCall.{EndedCall}
 use Rattle.world_steps.specs.World.{DoingOf}
@@ -24,7 +27,7 @@ use Rattle.world_steps.specs.Known.{calling_of}
 use Rattle.world_steps.specs.ActorAfter.{actor_after_by}
 use Rattle.world_steps.specs.Tokens.{token_of}
 use Rattle.actors.specs.Turns.{IsMadeAt, IsSameCall, GoesOn, places_of}
-use Rattle.actors.specs.Callers.{PartOf, CallerOf, IsOfScript, Knows, work_of, who_of, asked_at}
+use Rattle.actors.specs.Callers.{PartOf, CallerOf, IsOfScript, Knows, IsPaddedFor, work_of, who_of, asked_at}
 use Rattle.actors.specs.Owing.{left_by}
 use Rattle.actors.specs.Steps.{BeginsCall, IsCodedCall, IsCoded, IsReady, Concludes, MadeAtDirectory, MadeAtServer, MakesStep, in_work}
 use Rattle.actors.specs.CallerTurns.{MakesCallerTurn}
@@ -65,6 +68,14 @@ module _ (part : PartOf) (book : BookOf) (tries : ℕ) (ended : List EndedCall) 
 -- what a caller knows, its call does
 pub known_at : (d : Sealed) (slot : Option MachineOf) (call : MachineOf) (a : CallerOf) → slot ≡ a.work → slot ≡ Some call → Knows d a → KnowsOldOf d call
 known_at d slot call a same was knows = subst (λ (o : Option MachineOf). IfSome o (KnowsOldOf d)) (sym same ∙ was) knows
+
+-- a directory that is padded is so for each call
+pub padded_for : (a : CallerOf) (d : Sealed) → ArePadded d → IsPaddedFor a d
+padded_for a d padded = by a.work
+  where
+    by : (work : Option MachineOf) → IfSome work (λ c. IfPatches (machine_of c.asked) (ArePadded d))
+    by None = tt
+    by (Some c) = if_patches (machine_of c.asked) padded
 
 -- a call that goes on counts what it takes from each server
 pub counts_servers : (book : BookOf) (part : PartOf) (number : ℕ) (before after : Option MachineOf) (call last : MachineOf) → IfSome before (IsInWork book part number) → before ≡ Some call → after ≡ Some last

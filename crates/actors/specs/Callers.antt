@@ -12,7 +12,8 @@ use Rattle.store_core.specs.Agreement.{Seat, ActorToken}
 use Rattle.store_core.specs.Work.{Work}
 use Rattle.version_seal.specs.Entry.{BookOf}
 use Rattle.stripe_dir.specs.Sealed.{Sealed}
-use Rattle.call_machine.specs.Kinds.{Asked}
+use Rattle.client_patch.specs.Padded.{ArePadded}
+use Rattle.call_machine.specs.Kinds.{Asked, machine_of, IfPatches}
 use Rattle.call_machine.specs.Calls.{MachineOf, KnowsOldOf}
 use Rattle.world_steps.specs.World.{ActorOf}
 use Rattle.world_steps.specs.FirstWorld.{new_actor}
@@ -74,3 +75,7 @@ IsPartOf book place part = IfSome book.script (λ script. StandsIn script place 
 -- a write in work knows the old bytes that it keeps, by a directory's stamps
 abbrev pub Knows : Sealed → CallerOf → Type 0
 Knows d a = IfSome a.work (KnowsOldOf d)
+
+-- where the call in work is a write or a delete, behind the ends of a directory's objects its stamps have zeros
+abbrev pub IsPaddedFor : CallerOf → Sealed → Type 0
+IsPaddedFor a d = IfSome a.work (λ c. IfPatches (machine_of c.asked) (ArePadded d))

@@ -10,7 +10,8 @@ use Rattle.call_steps.specs.declared.need.Need.TheVariants as need
 use Rattle.call_steps.specs.CallOf.{act_of}
 use Rattle.call_steps.specs.Steps.{need_of, stepped_at_directory, stepped_at_server, HoldsItsPass, IsDueInPass}
 use Rattle.call_stands.specs.Ready.{ready}
-use Rattle.call_machine.specs.Kinds.{machine_of}
+use Rattle.client_patch.specs.Padded.{ArePadded}
+use Rattle.call_machine.specs.Kinds.{machine_of, IfPatches}
 use Rattle.call_machine.specs.Calls.{MachineOf, drawn_by, owed_by, KnowsOldOf}
 use Rattle.world_steps.specs.World.{DoingOf, steps_of}
 use Rattle.world_steps.specs.ActorAfter.{IsCallBefore, actor_after}
@@ -97,6 +98,7 @@ pub record GoesToDirectory (before : Option MachineOf) (d : Sealed) : Type 0 whe
   pub needs : need_of call.call ≡ need.Directory
   pub agrees : Agrees d.core call.call.token
   pub its : d.book ≡ call.call.book
+  pub padded : IfPatches (machine_of call.asked) (ArePadded d)
   pub knows : KnowsOldOf d call
 
 pub record GoesToServer (before : Option MachineOf) (s : ServerState) : Type 0 where

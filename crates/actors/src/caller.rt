@@ -15,7 +15,7 @@ ghost use Rattle.world_steps.specs.World.{steps_of};
 ghost use Rattle.world_steps.specs.Known.{calling_by, calling_of};
 ghost use Rattle.world_steps.specs.Tokens.{KeepsToken, token_of};
 ghost use Rattle.actors.specs.Turns.{AreServers};
-ghost use Rattle.actors.specs.Callers.{Knows, IsOfScript, IsPartOf, calls_of, first_caller, who_of, work_of};
+ghost use Rattle.actors.specs.Callers.{Knows, IsOfScript, IsPaddedFor, IsPartOf, calls_of, first_caller, who_of, work_of};
 ghost use Rattle.actors.specs.Beginning.{MayGoOn};
 ghost use Rattle.actors.specs.Steps.{BeginsCall, IsReady, MadeAtDirectory, MadeAtServer, MakesStep, NeedsNow};
 ghost use Rattle.actors.specs.CallerTurns.{HasMore, MakesCallerTurn};
@@ -173,9 +173,10 @@ impl<'a> Caller<'a> {
         }
     }
 
-    /// The step of its call at the directory of this book. What it draws is sealed in the book. Behind the
-    /// ends of the directory's objects its stamps have zeros, and a write knows the old bytes that it
-    /// keeps. For contracts it gives the call as the step leaves it, which may be over.
+    /// The step of its call at the directory of this book. What it draws is sealed in the book. A write or
+    /// a delete asks that behind the ends of the directory's objects its stamps have zeros, and that it
+    /// knows the old bytes that it keeps. For contracts it gives the call as the step leaves it, which may
+    /// be over.
     pub fn on_directory(
         &mut self,
         directory: &mut Directory,
@@ -186,7 +187,7 @@ impl<'a> Caller<'a> {
         requires agrees { Agrees directory.old.core (token_of self.old.actor.doing) }
         requires its { directory.old.book ≡ self.old.book }
         requires book { book.now ≡ self.old.book }
-        requires padded { ArePadded directory.old }
+        requires padded { IsPaddedFor self.old directory.old }
         requires knows { Knows directory.old self.old }
         ensures step { MakesStep (λ c last. MadeAtDirectory c last directory.old directory.new) result.value self.old self.new }
         ensures knows { Knows directory.new self.new }

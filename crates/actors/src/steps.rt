@@ -5,7 +5,6 @@ ghost use Rattle.chunk_server.specs.State.{IsSame};
 ghost use Rattle.stripe_dir.specs.Sealed.{Sealed};
 ghost use Rattle.call_steps.specs.Steps.{need_of, HoldsItsPass, IsDueInPass};
 ghost use Rattle.call_stands.specs.Ready.{ready};
-ghost use Rattle.client_patch.specs.Padded.{ArePadded};
 ghost use Rattle.call_machine.specs.Calls.{KnowsOldOf};
 ghost use Rattle.actors.specs.Turns.{HasPlace, GoesOn};
 ghost use Rattle.actors.specs.Steps.{GoesToDirectory, GoesToServer, IsCoded, IsMadeThere, IsMadeHere};
@@ -55,7 +54,6 @@ pub(crate) fn step_at_directory<'a>(
 ) -> Snapshot<CallMachine<'a>>
     requires goes { GoesToDirectory call.old directory.old }
     requires book { IfSome call.old (λ c. book.now ≡ c.call.book) }
-    requires padded { ArePadded directory.old }
     ensures made { IsMadeThere result.value call.old directory.old call.new directory.new }
     ensures book { directory.new.book ≡ directory.old.book }
 {

@@ -7,7 +7,7 @@ use Rattle.gather_parts.proofs.Counts.{none_taken}
 use Rattle.client_put.specs.Puts.{PutOf}
 use Rattle.client_patch.specs.Patches.{PatchOf}
 use Rattle.client_patch.specs.Known.{KnowsOld}
-use Rattle.call_machine.specs.Kinds.{Asked, Machine, client_machine, machine_of, IfReads, IfPatches}
+use Rattle.call_machine.specs.Kinds.{Asked, Machine, client_machine, machine_of, IfReads, IfPatches, IfDraws}
 use Rattle.call_machine.specs.Calls.{MachineOf, patch_of, KnowsFor, KnowsOldOf}
 use Rattle.call_machine.specs.Inside.{asked_by, call_by, call_in, IsOfKind}
 use Rattle.call_machine.specs.declared.call_machine.Kind.{Kind}
@@ -54,3 +54,23 @@ if_reads Machine.Reads holds = holds
 if_reads Machine.Puts holds = tt
 if_reads Machine.Patches holds = tt
 if_reads Machine.Rebuilds holds = tt
+
+-- so does what machines of writes and deletes are asked, or those that draw
+pub if_patches : {P : Type 0} (m : Machine) → P → IfPatches m P
+if_patches Machine.Patches holds = holds
+if_patches Machine.Puts holds = tt
+if_patches Machine.Reads holds = tt
+if_patches Machine.Rebuilds holds = tt
+
+pub if_draws : {P : Type 0} (m : Machine) → P → IfDraws m P
+if_draws Machine.Patches holds = holds
+if_draws Machine.Puts holds = holds
+if_draws Machine.Reads holds = tt
+if_draws Machine.Rebuilds holds = tt
+
+-- and what follows from it is asked of them too
+pub patches_then : (m : Machine) (P Q : Type 0) → (P → Q) → IfPatches m P → IfPatches m Q
+patches_then Machine.Patches P Q so h = so h
+patches_then Machine.Puts P Q so h = tt
+patches_then Machine.Reads P Q so h = tt
+patches_then Machine.Rebuilds P Q so h = tt

@@ -1,5 +1,5 @@
 -- A call in work of any kind, as callers see it.
-use Rattle.std.specs.Prelude.{⊤, ℕ, Bool, false, List, [], replicate}
+use Rattle.std.specs.Prelude.{◌≡◌, ⊤, ℕ, Bool, false, List, [], ◌++◌, replicate}
 use Rattle.clay_grid.specs.Shape.{chunk_count}
 use Rattle.store_map.specs.declared.call.Call.{Call}
 use Rattle.store_core.specs.Agreement.{Seat, ActorToken}
@@ -80,3 +80,11 @@ KnowsFor (Asked.OfRepairer rebuild) d c = ⊤
 
 abbrev pub KnowsOldOf : Sealed → MachineOf → Type 0
 KnowsOldOf d c = KnowsFor c.asked d c
+
+-- more stamps change nothing of it
+abbrev pub MoreStampsAreKnown : Type 0
+MoreStampsAreKnown = (d now : Sealed) (more : List StampOf) (c : MachineOf) → now.stamps ≡ d.stamps ++ more → KnowsOldOf d c → KnowsOldOf now c
+
+-- before its first step a call keeps none
+abbrev pub FirstCallsKnow : Type 0
+FirstCallsKnow = (d : Sealed) (book : BookOf) (tries : ℕ) (seat : Seat) (number : ℕ) (asked : Asked) → KnowsOldOf d (first_call book tries seat number asked)

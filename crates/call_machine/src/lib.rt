@@ -3,5 +3,6 @@
 
 mod call_machine;
 mod ends;
+pub mod laws;
 
 pub use call_machine::CallMachine;

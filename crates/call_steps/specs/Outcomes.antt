@@ -12,7 +12,7 @@ abbrev pub outcome_of : Outcome → CoreOutcome
 outcome_of (outcome.Answered point reply) = CoreOutcome.Answered point.0 reply
 outcome_of (outcome.Served point bytes) = CoreOutcome.Served point.0
 outcome_of (outcome.Unavailable stripe missing) = CoreOutcome.Unavailable stripe (map lost_in missing.items)
-outcome_of (outcome.Contended changes) = CoreOutcome.Contended (map (λ change. (change.base.0, change.newer.0)) changes.items)
+outcome_of (outcome.Contended changes) = CoreOutcome.Contended (map (λ change. (change.looked_at.0, change.newer.0)) changes.items)
 outcome_of (outcome.Reaped at) = CoreOutcome.Reaped at.0
 outcome_of outcome.NoMemory = CoreOutcome.NoMemory
 

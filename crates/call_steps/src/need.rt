@@ -1,3 +1,5 @@
+//! Where a call in work goes on: at the directory, at a server, with a coder, or nowhere.
+
 /// Where a call has to go on.
 #[derive(Clone, Copy, PartialEq, Eq, Debug)]
 pub enum Need {

@@ -1,10 +1,11 @@
+//! How a client's call ends, and how a rebuild does.
 use store_map::{LostChunk, Point, Reply};
 
-/// A change of a write's object since the write looked: the point on which the write was based, and
+/// A change of a write's object since the write looked: the point that the write looked at, and
 /// the point of the change.
 #[derive(Clone, Copy, PartialEq, Eq, Debug)]
 pub struct Change {
-    pub base: Point,
+    pub looked_at: Point,
     pub newer: Point,
 }
 

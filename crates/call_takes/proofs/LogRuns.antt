@@ -1,5 +1,5 @@
 -- In every run each call has answers by which it took what it took.
-use Rattle.std.proofs.Common.{◌≡◌, ◌⊎◌, ℕ, zero, suc, ◌+◌, Bool, true, false, List, [], ◌∷◌, ◌++◌, length, fold, replicate, Option, None, Some, IsTrue, inl, inr, refl, sym, ap, subst, ◌∙◌, true≢false}
+use Rattle.std.proofs.Common.{◌≡◌, ◌⊎◌, ℕ, zero, suc, ◌+◌, Bool, true, false, List, [], ◌∷◌, ◌++◌, length, fold, replicate, Option, None, Some, inl, inr, refl, sym, ap, subst, ◌∙◌}
 use Rattle.std.proofs.lemmas.Bool.{cond_both}
 use Rattle.std.proofs.lemmas.Option.{none-some, same_Some}
 use Rattle.std.proofs.lemmas.List.Sums.{fold-append}
@@ -10,7 +10,7 @@ use Rattle.store_map.specs.declared.actor.Actor.{Actor}
 use Rattle.store_map.specs.declared.actor.Actor.TheVariants as actor
 use Rattle.store_map.specs.declared.actor.Token.{Token}
 use Rattle.store_map.specs.declared.script.Script.{Script}
-use Rattle.store_core.specs.Act.{Act, DirectoryStep, ServerStep}
+use Rattle.store_core.specs.Act.{Act, ServerStep}
 use Rattle.store_core.specs.ActPlace.{is_in_pass}
 use Rattle.store_core.specs.Core.{Core, first_core}
 use Rattle.store_core.specs.NextAct.{Job, next_act}
@@ -21,20 +21,14 @@ use Rattle.store_core.specs.Step.{Shortage, Places, at_places, at_server_there, 
 use Rattle.store_core.specs.Tell.{tell}
 use Rattle.store_core.specs.Told.{Told}
 use Rattle.store_core.specs.Work.{Ended, Work, Calling, new_calling, client_work, repairer_work}
-use Rattle.store_calls.specs.ToldInSteps.{HasStep, IsToldNext, AreToldSince}
+use Rattle.store_calls.specs.ToldInSteps.{IsToldNext, AreToldSince}
+use Rattle.store_runs.proofs.ActKinds.{act_kind, in_pass_steps}
 use Rattle.store_runs.proofs.Runs.{CanRun}
 use Rattle.store_runs.proofs.RunsSound.{RunKeeps}
 use Rattle.store_runs.proofs.Scripts.{can_run, replicated}
 use Rattle.store_calls.proofs.InSteps.{told_next}
-use Rattle.store_calls.specs.AnswerLaws.{is_on_pass}
-use Rattle.store_calls.proofs.PlaceKinds.{places_answer_by_kind}
-use Rattle.store_sound.proofs.Passes.{held}
-use Rattle.store_core.specs.Lookups.{pass_of}
-use Rattle.store_runs.proofs.MaySteps.{HasPass, one_held}
-use Rattle.store_runs.proofs.Phases.{phase_of, directory_phase, has_pass}
 use Rattle.store_calls.specs.AnswersByKind.{FitsKind}
-use Rattle.store_runs.proofs.ActAnswers.{note_if}
-use Rattle.store_runs.proofs.Proper.{IsProper, ProperStep, HasTry}
+use Rattle.store_runs.proofs.Proper.{HasTry}
 use Rattle.store_history.proofs.ActorLines.{each_changed}
 use Rattle.store_history.proofs.AtWork.{AtWork, client_at, repairer_at, first, act, after, stands, proper, answered}
 use Rattle.store_history.proofs.Induction.{KeptBySteps, run_has}
@@ -117,41 +111,6 @@ exact_act short who number (Act.Finish outcome) places = tt
 record CallsLogged (script : Script) (work : Work) (calling : Calling) : Type 0 where
   in_work : (job : Job) → slice_get work.jobs (length calling.ended) ≡ Some job → Logged script job calling.told calling.takes
   ended : HaveLogs script work calling
-
--- ---- the answer to an act is of the call's kind
-module _ (g : Shape) (job : Job) (room : Type 0) (short : Bool) (who : Actor) (number : ℕ) (places : Places) where
-  on_pass_kind : (step : DirectoryStep) → IsTrue (is_on_pass step) → held who places.directory ≡ Some job.note → FitsKind job.note.kind (at_places short who number (Act.AtDirectory step) places).1
-  on_pass_kind step on has =
-      let own : HasPass who job.note places.directory = one_held who job.note places.directory (pass_of who places.directory) refl has in
-      subst (λ note. FitsKind note.kind (at_places short who number (Act.AtDirectory step) places).1) own.noted
-      (places_answer_by_kind.on_pass short who number step places.directory own.pass own.found on)
-
-  step_kind : (step : DirectoryStep) → ProperStep job room step → held who places.directory ≡ note_if (has_pass (directory_phase step)) job.note
-      → FitsKind job.note.kind (at_places short who number (Act.AtDirectory step) places).1
-  step_kind (DirectoryStep.Look note) fitting has =
-      subst (λ n. FitsKind n.kind (at_places short who number (Act.AtDirectory (DirectoryStep.Look note)) places).1) fitting.0 (places_answer_by_kind.look short who number note places.directory)
-  step_kind (DirectoryStep.LookRepair note) fitting has = places_answer_by_kind.look_repair short who number note places.directory job.note.kind
-  step_kind DirectoryStep.Draw fitting has = on_pass_kind DirectoryStep.Draw refl has
-  step_kind (DirectoryStep.Commit placed) fitting has = on_pass_kind (DirectoryStep.Commit placed) refl has
-  step_kind DirectoryStep.End fitting has = on_pass_kind DirectoryStep.End refl has
-  step_kind DirectoryStep.Confirm fitting has = on_pass_kind DirectoryStep.Confirm refl has
-  step_kind (DirectoryStep.Repaired server epoch) fitting has = on_pass_kind (DirectoryStep.Repaired server epoch) refl has
-  step_kind step fitting has = absurd fitting
-
-  server_kind : (server : ℕ) (step : ServerStep) (found : Option Server) → FitsKind job.note.kind (at_server_there short server step places found).1
-  server_kind server step None = tt
-  server_kind server step (Some s) = places_answer_by_kind.server short step s job.note.kind
-
-  act_kind : (act : Act) → IsProper g job room act → held who places.directory ≡ note_if (has_pass (phase_of act)) job.note → FitsKind job.note.kind (at_places short who number act places).1
-  act_kind (Act.AtDirectory step) fitting has = step_kind step fitting has
-  act_kind (Act.AtServer server step) fitting has = server_kind server step (slice_get places.servers server)
-  act_kind (Act.Finish outcome) fitting has = tt
-
--- an act in a pass is no outcome
-in_pass_steps : (a : Act) → is_in_pass a ≡ true → HasStep a
-in_pass_steps (Act.AtDirectory step) e = tt
-in_pass_steps (Act.AtServer server step) e = tt
-in_pass_steps (Act.Finish outcome) e = absurd (true≢false (sym e))
 
 -- what stands in a list with one more
 pushed : {X : Type 0} (xs : List X) (x : X) (k : ℕ) (y : X) → slice_get (xs ++ x ∷ []) k ≡ Some y → (slice_get xs k ≡ Some y) ⊎ ((k ≡ length xs) × (x ≡ y))

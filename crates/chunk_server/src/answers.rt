@@ -1,3 +1,4 @@
+//! A server's answers: whether it holds a chunk, what a fetch gives, what an install comes to.
 use store_map::Found;
 use version_seal::SealedPart;
 

@@ -1,3 +1,4 @@
+//! A server with the sealed chunks that it holds, and each of its calls.
 ghost use Rattle.std.specs.Prelude.{◌≡◌, ◌≤◌, ◌<◌, ◌↔◌, ◌&&◌, not, false, slice_get, IsNone, IsTrue, IsFalse, length, map, All, IfOk, OnOk, OnErr, is_err};
 ghost use Rattle.std.specs.Option.{option_map};
 ghost use Rattle.std.specs.BTreeMap.{values};

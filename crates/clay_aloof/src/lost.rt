@@ -37,7 +37,7 @@ pub fn aloof_layers(alloc: Global, g: AloofGeometry, lost: u32) -> Result<Vec<u3
     Ok(layers)
 }
 
-/// How many parts are there.
+// How many parts are there.
 fn helper_count(parts: &[Option<Vec<u8>>]) -> usize
     requires { length parts.now < 2 ^ 32 }
     ensures { result ≡ count_below (length parts.now) (λ c. is_some (slice_index_or parts.now c None)) }
@@ -69,7 +69,7 @@ pub fn helpers_fit(g: AloofGeometry, lost: u32, parts: &[Option<Vec<u8>>]) -> bo
     column_is_there(g, lost, parts)
 }
 
-/// Whether another chunk of the lost one's column isn't there.
+// Whether another chunk of the lost one's column isn't there.
 fn is_gap(g: AloofGeometry, lost: u32, parts: &[Option<Vec<u8>>], c: u32) -> bool
     requires lost { lost < all_chunks g }
     requires count { length parts.now ≡ all_chunks g }
@@ -89,7 +89,7 @@ fn is_gap(g: AloofGeometry, lost: u32, parts: &[Option<Vec<u8>>], c: u32) -> boo
     parts[c as usize].is_none()
 }
 
-/// Whether each other chunk of the lost one's column is there.
+// Whether each other chunk of the lost one's column is there.
 fn column_is_there(g: AloofGeometry, lost: u32, parts: &[Option<Vec<u8>>]) -> bool
     requires lost { lost < all_chunks g }
     requires count { length parts.now ≡ all_chunks g }
@@ -103,7 +103,7 @@ fn column_is_there(g: AloofGeometry, lost: u32, parts: &[Option<Vec<u8>>]) -> bo
     true
 }
 
-/// The chunk of a node, or `None` for a virtual node.
+// The chunk of a node, or `None` for a virtual node.
 fn chunk_of(g: AloofGeometry, node: u32) -> Option<u32>
     requires { node < node_count (grid_of g) }
     ensures { MatchOption result (IsBetween g node) (λ c. (c < all_chunks g) × (node_of g c ≡ node)) }
@@ -118,7 +118,7 @@ fn chunk_of(g: AloofGeometry, node: u32) -> Option<u32>
     }
 }
 
-/// Whether the chunk of a node isn't there. That of a virtual node always is.
+// Whether the chunk of a node isn't there. That of a virtual node always is.
 fn is_missing(g: AloofGeometry, parts: &[Option<Vec<u8>>], node: u32) -> bool
     requires count { length parts.now ≡ all_chunks g }
     requires node { node < node_count (grid_of g) }
@@ -130,7 +130,7 @@ fn is_missing(g: AloofGeometry, parts: &[Option<Vec<u8>>], node: u32) -> bool
     }
 }
 
-/// Whether a node is solved: it stands in the lost node's column, or its chunk isn't there.
+// Whether a node is solved: it stands in the lost node's column, or its chunk isn't there.
 fn is_solved(g: AloofGeometry, lost: u32, parts: &[Option<Vec<u8>>], node: u32) -> bool
     requires lost { lost < all_chunks g }
     requires count { length parts.now ≡ all_chunks g }
@@ -145,7 +145,7 @@ fn is_solved(g: AloofGeometry, lost: u32, parts: &[Option<Vec<u8>>], node: u32) 
     node / q == column || missing
 }
 
-/// For each node, whether it is solved.
+// For each node, whether it is solved.
 fn solved_nodes(
     alloc: Global,
     g: AloofGeometry,
@@ -166,7 +166,7 @@ fn solved_nodes(
     Ok(nodes)
 }
 
-/// Of layers by rising score those of which digit `y` is `x`, in their order.
+// Of layers by rising score those of which digit `y` is `x`, in their order.
 fn ordered_layers(
     alloc: Global,
     g: Geometry,
@@ -187,7 +187,7 @@ fn ordered_layers(
     Ok(layers)
 }
 
-/// The plan of a repair: the nodes of the lost node's column and the aloof nodes are solved, in the layers that the helpers give.
+// The plan of a repair: the nodes of the lost node's column and the aloof nodes are solved, in the layers that the helpers give.
 fn repair_plan(
     alloc: Global,
     g: AloofGeometry,
@@ -219,7 +219,7 @@ fn repair_plan(
     })
 }
 
-/// For each node the chunk that stands for it.
+// For each node the chunk that stands for it.
 fn chunks_of_nodes(alloc: Global, g: AloofGeometry) -> Result<Vec<Option<u32>>, AllocError>
     ensures len { IfOk result (λ v. length v.items ≡ node_count (grid_of g)) }
     ensures value { IfOk result (λ v. (i : ℕ) → i < node_count (grid_of g) → IsEntry g i (slice_index_or v.items i None)) }
@@ -232,7 +232,7 @@ fn chunks_of_nodes(alloc: Global, g: AloofGeometry) -> Result<Vec<Option<u32>>, 
     Ok(chunks)
 }
 
-/// What the helpers' parts tell of the nodes.
+// What the helpers' parts tell of the nodes.
 fn known_parts<'a>(
     alloc: Global,
     g: AloofGeometry,
@@ -256,12 +256,12 @@ fn known_parts<'a>(
     })
 }
 
-/// The numbers of a part are bytes. It does nothing when it runs.
+// The numbers of a part are bytes. It does nothing when it runs.
 fn keeps_bytes(part: &[u8])
     ensures { (i : ℕ) → slice_index part.now i < 2 ^ 8 }
 {}
 
-/// The same of all parts.
+// The same of all parts.
 fn are_bytes(parts: &[Option<Vec<u8>>])
     ensures { AreBytes parts.now }
 {
@@ -272,7 +272,7 @@ fn are_bytes(parts: &[Option<Vec<u8>>])
     }
 }
 
-/// Writes the lost chunk's subchunk `z`.
+// Writes the lost chunk's subchunk `z`.
 fn lost_piece(
     g: AloofGeometry,
     lost: u32,
@@ -307,7 +307,7 @@ fn lost_piece(
     }
 }
 
-/// Writes the lost chunk.
+// Writes the lost chunk.
 fn write_lost(
     g: AloofGeometry,
     lost: u32,

@@ -49,7 +49,7 @@ impl Model for Partners {
     ghost invariant = { λ p. HasTables p.grid p.places.items p.columns.items };
 }
 
-/// Where a node stands.
+// Where a node stands.
 fn place_of(g: Geometry, node: u32) -> Place
     requires { node < node_count g }
     ensures { IsPlace g node result }
@@ -62,7 +62,7 @@ fn place_of(g: Geometry, node: u32) -> Place
     }
 }
 
-/// The places of all nodes.
+// The places of all nodes.
 fn places_of_nodes(alloc: Global, g: Geometry) -> Result<Vec<Place>, AllocError>
     ensures places { IfOk result (λ v. HoldsPlaces g (node_count g) v.items) }
     ensures geometry { IsGeometry g }
@@ -74,7 +74,7 @@ fn places_of_nodes(alloc: Global, g: Geometry) -> Result<Vec<Place>, AllocError>
     Ok(places)
 }
 
-/// The digit of a column of each layer.
+// The digit of a column of each layer.
 fn digits_of(alloc: Global, g: Geometry, column: u32) -> Result<Vec<Digit>, AllocError>
     requires { column < column_count g }
     ensures { IfOk result (λ v. HoldsDigits g column (layer_count g) v.items) }
@@ -90,7 +90,7 @@ fn digits_of(alloc: Global, g: Geometry, column: u32) -> Result<Vec<Digit>, Allo
     Ok(digits)
 }
 
-/// For each column its digit of each layer.
+// For each column its digit of each layer.
 fn all_digits(alloc: Global, g: Geometry) -> Result<Vec<Vec<Digit>>, AllocError>
     ensures { IfOk result (λ v. HoldsColumns g (column_count g) v.items) }
 {

@@ -4,11 +4,11 @@ use std::alloc::Global;
 use store_map::{Call, Content, Name};
 
 /// The bytes of a stripe.
-const STRIPE: u32 = 8;
+const STRIPE_LEN: u32 = 8;
 
 // So many stripes of bytes.
 fn content(stripes: u32) -> Content {
-    let length = stripes.saturating_mul(STRIPE);
+    let length = stripes.saturating_mul(STRIPE_LEN);
     Content::Fill { byte: 5, length }
 }
 
@@ -30,7 +30,7 @@ pub fn put(alloc: Global, object: u32, stripes: u32) -> anyhow::Result<Call> {
 pub fn write(alloc: Global, object: u32, stripe: u32) -> anyhow::Result<Call> {
     Ok(Call::Write {
         name: name(alloc, object)?,
-        offset: stripe.saturating_mul(STRIPE),
+        offset: stripe.saturating_mul(STRIPE_LEN),
         content: content(1),
     })
 }
@@ -39,8 +39,8 @@ pub fn write(alloc: Global, object: u32, stripe: u32) -> anyhow::Result<Call> {
 pub fn read(alloc: Global, object: u32, stripe: u32) -> anyhow::Result<Call> {
     Ok(Call::ReadAt {
         name: name(alloc, object)?,
-        offset: stripe.saturating_mul(STRIPE),
-        length: STRIPE,
+        offset: stripe.saturating_mul(STRIPE_LEN),
+        length: STRIPE_LEN,
     })
 }
 

@@ -1,3 +1,5 @@
+//! Sealed chunks of the first server, of versions of one stripe of zeros.
+
 ghost use Rattle.std.specs.Prelude.{◌≡◌, ◌+◌, IfOk, OnOk, All, None, replicate};
 ghost use Rattle.clay_grid.specs.Shape.{stripe_length};
 ghost use Rattle.version_seal.specs.Chunk.{IsChunkOf};

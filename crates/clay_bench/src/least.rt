@@ -1,3 +1,5 @@
+//! The shortest of the times that were measured.
+
 use std::time::Duration;
 
 /// The least of some times.

@@ -1,3 +1,5 @@
+//! A chunk server beside a stock of chunks, and its calls as they are timed: each for all versions.
+
 ghost use Rattle.std.specs.Prelude.{◌≡◌, ◌<◌, All, IfOk, IfSome};
 ghost use Rattle.clay_grid.specs.Shape.{layer_count};
 ghost use Rattle.chunk_server.specs.Valid.{IsFor, MayCome};

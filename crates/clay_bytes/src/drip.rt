@@ -1,4 +1,4 @@
-// A source and a sink in memory that give and take one byte a call. They take no memory.
+//! A source and a sink in memory that give and take at most one byte a call. They take no memory.
 ghost use Rattle.std.specs.Prelude.{◌≡◌, ◌≤◌, ◌<◌, ◌↔◌, [], ◌++◌, Some, length, take, vec_len, vec_capacity, IfOk, OnOk, OnErr, IsErr, Contains, is_err, if◌then◌else◌};
 ghost use Rattle.clay_bytes.specs.Memory.{SourceState, SinkState, told, next_count, kept_after};
 ghost use Rattle.clay_bytes.specs.Stream.{Gains};

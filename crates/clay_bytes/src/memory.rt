@@ -1,4 +1,4 @@
-// Sources and sinks in memory. They take none.
+//! Sources and sinks in memory: sure ones, and such as fail at listed calls. They take no memory.
 ghost use Rattle.std.specs.Prelude.{◌≡◌, ◌≤◌, ◌<◌, ◌+◌, ◌↔◌, [], ◌++◌, Some, List, ℕ, length, take, drop, vec_len, vec_capacity, IfOk, OnOk, OnErr, IsErr, IsTrue, Contains, is_err, if◌then◌else◌};
 ghost use Rattle.clay_bytes.specs.Memory.{SourceState, Kept, SinkState, told, next_count, kept_after};
 ghost use Rattle.clay_bytes.specs.Stream.{Gains};

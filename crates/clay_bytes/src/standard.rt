@@ -1,4 +1,5 @@
-// The trusted edge: what the system gives and takes is known only as far as std's readers and writers say.
+//! Readers and writers of std as sources and sinks. This is the trusted edge: what the system gives
+//! and takes is known only as far as they say.
 ghost use Rattle.std.specs.Prelude.{◌≡◌, ◌≤◌, ◌<◌, None, length, take, IfOk, OnOk, OnErr};
 ghost use Rattle.std.specs.Io.KnownBytes.{WriteAppends};
 ghost use Rattle.clay_bytes.specs.Memory.{next_count};

@@ -1,4 +1,4 @@
-// What a source and a sink are, and the two loops over them.
+//! What a source and a sink are, and the two loops over them.
 ghost use Rattle.std.specs.Prelude.{◌≡◌, ◌≤◌, ◌<◌, ◌+◌, [], Option, List, ℕ, length, take, IfOk, IsErrOf, OnOk, OnErr, vec_len};
 ghost use Rattle.clay_bytes.specs.Stream.{Rises, Gives, GivesAtMost, IsSpent, Gains, Same, IsWhole, IsCutOff, IsPrefixWritten};
 ghost use Rattle.clay_bytes.specs.declared.stream.InFault.TheVariants.{OutOfMemory};

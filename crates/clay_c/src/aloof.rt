@@ -27,7 +27,7 @@ pub fn write_parity(
     Ok(())
 }
 
-/// Copies of the parts of the chunks with a mark.
+// Copies of the parts of the chunks with a mark.
 fn parts_taken(
     alloc: Global,
     g: AloofGeometry,

@@ -13,7 +13,7 @@ use crate::status::{BAD_CHUNK, BAD_GEOMETRY, BAD_HELPERS, BAD_LENGTH, DONE, OUT_
 use clay_aloof::{AloofGeometry, aloof_layers};
 use std::alloc::Global;
 
-/// The geometry with these numbers, where there is one.
+// The geometry with these numbers, where there is one.
 fn geometry(k: u32, m: u32, d: u32, w: u32) -> Option<AloofGeometry>
     ensures { MatchOption result (IsAloof (aloof_of k m d w) → ⊥) (λ g. (g ≡ aloof_of k m d w) × IsAloof (aloof_of k m d w)) }
 {

@@ -48,7 +48,7 @@ pub struct ClayNumbers {
     pub part_len: u32,
 }
 
-/// The geometry with these numbers, where there is one.
+// The geometry with these numbers, where there is one.
 fn geometry(k: u32, m: u32, w: u32) -> Option<Geometry>
     ensures { MatchOption result (IsGeometry (shape_of k m w) → ⊥) (λ g. (g ≡ shape_of k m w) × IsGeometry (shape_of k m w)) }
 {

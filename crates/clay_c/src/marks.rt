@@ -6,7 +6,7 @@ ghost use Rattle.clay_c.specs.Helpers.{is_marked, MarksFit, IsUnmarked, HasMarks
 
 use clay_aloof::AloofGeometry;
 
-/// How many chunks have a mark.
+// How many chunks have a mark.
 fn marked_count(marks: &[u8]) -> usize
     requires { length marks.now < 2 ^ 32 }
     ensures { result ≡ count_below (length marks.now) (is_marked marks.now) }
@@ -19,7 +19,7 @@ fn marked_count(marks: &[u8]) -> usize
     count
 }
 
-/// Whether another chunk of the lost one's column has no mark.
+// Whether another chunk of the lost one's column has no mark.
 fn is_unmarked(g: AloofGeometry, lost: u32, marks: &[u8], c: u32) -> bool
     requires lost { lost < all_chunks g }
     requires count { length marks.now ≡ all_chunks g }
@@ -38,7 +38,7 @@ fn is_unmarked(g: AloofGeometry, lost: u32, marks: &[u8], c: u32) -> bool
     marks[c as usize] == 0
 }
 
-/// Whether each other chunk of the lost one's column has a mark.
+// Whether each other chunk of the lost one's column has a mark.
 fn column_is_marked(g: AloofGeometry, lost: u32, marks: &[u8]) -> bool
     requires lost { lost < all_chunks g }
     requires count { length marks.now ≡ all_chunks g }

@@ -17,7 +17,7 @@ pub fn part_len(g: Geometry) -> u32
     g.stride(0) * g.w()
 }
 
-/// The place of a chunk among all but the lost one.
+// The place of a chunk among all but the lost one.
 fn place_among_others(lost: u32, c: u32) -> usize
     ensures { result ≡ place_among_others lost c }
 {
@@ -25,7 +25,7 @@ fn place_among_others(lost: u32, c: u32) -> usize
     place as usize
 }
 
-/// Copies of the parts of all but the lost chunk.
+// Copies of the parts of all but the lost chunk.
 fn others(
     alloc: Global,
     g: Geometry,

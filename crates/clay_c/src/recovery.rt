@@ -33,7 +33,7 @@ pub fn missing_count(present: &[u8]) -> usize
     present.iter().filter(|mark| **mark == 0).count()
 }
 
-/// Copies of the chunks that are there.
+// Copies of the chunks that are there.
 fn chunks_left(
     alloc: Global,
     g: Geometry,

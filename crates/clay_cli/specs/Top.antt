@@ -9,6 +9,7 @@ use Rattle.clay_cli.specs.Repaird.{IsRepaired, IsNotRepaired}
 use Rattle.clay_cli.specs.Verify.{IsLegal, IsNotLegal, IsUnreadable}
 use Rattle.clay_words.specs.declared.words.Task.{Task}
 use Rattle.clay_words.specs.declared.words.Task.TheVariants.{Play, Verify, Chunks, Recover, AloofChunks, AloofRepair}
+use Rattle.clay_cli.specs.declared.output.Output.{Output}
 use Rattle.clay_cli.specs.declared.status.Status.{Status}
 use Rattle.clay_cli.specs.declared.status.Status.TheVariants.{Done, ScriptRefused, InputTooLong, ReadFault, WriteFault, OutOfMemory, NotLegal, DataRefused}
 
@@ -40,6 +41,10 @@ Answers (AloofChunks a) input _ output = ⊥
 Answers (AloofRepair a lost) input Done output = IsRepaired a lost input output
 Answers (AloofRepair a lost) input DataRefused output = IsNotRepaired a lost input output
 Answers (AloofRepair a lost) input _ output = ⊥
+
+-- such an output, made whole
+abbrev pub IsAnswer : Task → List ℕ → Output → Type 0
+IsAnswer task input output = Answers task input output.status output.bytes.items
 
 -- the output of an input that these words ask for, with its status
 abbrev pub Owes : List (List ℕ) → List ℕ → Status → List ℕ → Type 0

@@ -1,6 +1,6 @@
-// The command `chunks`.
+//! The command `chunks`.
 ghost use Rattle.std.specs.Prelude.{IfOk};
-ghost use Rattle.clay_cli.specs.Top.{Answers, IsOfInput};
+ghost use Rattle.clay_cli.specs.Top.{IsAnswer, IsOfInput};
 ghost use Rattle.clay_words.specs.declared.words.Task.TheVariants.{Chunks};
 
 use crate::Status;
@@ -13,7 +13,7 @@ use std::alloc::{AllocError, Global};
 /// The chunks of the stripe that the input spells.
 pub fn chunks(alloc: Global, g: Geometry, input: &[u8]) -> Result<Output, AllocError>
     ensures status { IfOk result (λ output. IsOfInput output.status) }
-    ensures answers { IfOk result (λ output. Answers (Chunks g) input.now output.status output.bytes.items) }
+    ensures answers { IfOk result (λ output. IsAnswer (Chunks g) input.now output) }
 {
     match read_stripe(alloc, input, g.stripe_len() as usize) {
         Ok(stripe) => {

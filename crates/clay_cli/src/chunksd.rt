@@ -1,6 +1,6 @@
-// The command `chunksd`.
+//! The command `chunksd`.
 ghost use Rattle.std.specs.Prelude.{IfOk};
-ghost use Rattle.clay_cli.specs.Top.{Answers, IsOfInput};
+ghost use Rattle.clay_cli.specs.Top.{IsAnswer, IsOfInput};
 ghost use Rattle.clay_words.specs.declared.words.Task.TheVariants.{AloofChunks};
 
 use crate::Status;
@@ -12,7 +12,7 @@ use std::alloc::{AllocError, Global};
 /// The chunks of the stripe that the input spells, of a code whose repairs have fewer helpers.
 pub fn chunksd(alloc: Global, g: AloofGeometry, input: &[u8]) -> Result<Output, AllocError>
     ensures status { IfOk result (λ output. IsOfInput output.status) }
-    ensures answers { IfOk result (λ output. Answers (AloofChunks g) input.now output.status output.bytes.items) }
+    ensures answers { IfOk result (λ output. IsAnswer (AloofChunks g) input.now output) }
 {
     match read_stripe(alloc, input, g.stripe_len() as usize) {
         Ok(stripe) => {

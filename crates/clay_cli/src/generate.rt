@@ -1,4 +1,4 @@
-// The command `gen`.
+//! The command `gen`.
 ghost use Rattle.std.specs.Prelude.{◌≡◌, ◌≤◌, IfOk};
 ghost use Rattle.clay_gen.specs.Script.{generated};
 ghost use Rattle.script_text.specs.Spelling.{spelling};

@@ -1,3 +1,4 @@
+//! An output that is made whole before it is written, with its status.
 ghost use Rattle.std.specs.Prelude.{◌≡◌, IfOk};
 
 use crate::Status;

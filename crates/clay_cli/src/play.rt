@@ -1,8 +1,8 @@
-// The command `play`.
+//! The command `play`, and the line that refuses an input by its first faulty line.
 ghost use Rattle.std.specs.Prelude.{◌≡◌, ◌≢◌, IfOk};
 ghost use Rattle.store_map.specs.Naming.{IsValid};
 ghost use Rattle.clay_cli.specs.Play.{IsTextOf, kind_text, refusal_line};
-ghost use Rattle.clay_cli.specs.Top.{Answers, IsOfInput};
+ghost use Rattle.clay_cli.specs.Top.{IsAnswer, IsOfInput};
 ghost use Rattle.clay_words.specs.declared.words.Task.TheVariants.{Play};
 
 use crate::Status;
@@ -70,7 +70,7 @@ pub fn play<R: Threads + Sync, C: Coder>(
     input: &[u8],
 ) -> Result<Output, AllocError>
     ensures status { IfOk result (λ output. IsOfInput output.status) }
-    ensures answers { IfOk result (λ output. Answers Play input.now output.status output.bytes.items) }
+    ensures answers { IfOk result (λ output. IsAnswer Play input.now output) }
 {
     match read_script(alloc, input) {
         Ok(script) => transcript(rt, alloc, coder, script),

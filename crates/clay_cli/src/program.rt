@@ -1,4 +1,4 @@
-// The program: the top call over the process's words, its standard input and its standard output.
+//! The program: the top call over the process's words, its standard input and its standard output.
 use crate::Status;
 use crate::top::clay_main;
 use clay_bytes::{StdSink, StdSource};

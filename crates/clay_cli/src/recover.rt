@@ -1,6 +1,6 @@
-// The command `recover`.
+//! The command `recover`.
 ghost use Rattle.std.specs.Prelude.{IfOk};
-ghost use Rattle.clay_cli.specs.Top.{Answers, IsOfInput};
+ghost use Rattle.clay_cli.specs.Top.{IsAnswer, IsOfInput};
 ghost use Rattle.clay_words.specs.declared.words.Task.TheVariants.{Recover};
 
 use crate::Status;
@@ -14,7 +14,7 @@ use std::alloc::{AllocError, Global};
 /// All chunks of the codeword that agrees with those that the input's lines spell.
 pub fn recover(alloc: Global, g: Geometry, input: &[u8]) -> Result<Output, AllocError>
     ensures status { IfOk result (λ output. IsOfInput output.status) }
-    ensures answers { IfOk result (λ output. Answers (Recover g) input.now output.status output.bytes.items) }
+    ensures answers { IfOk result (λ output. IsAnswer (Recover g) input.now output) }
 {
     let left = match read_chunks(alloc, input, g.n() as usize, g.chunk_len() as usize) {
         Ok(left) => left,

@@ -1,7 +1,7 @@
-// The command `repaird`.
+//! The command `repaird`.
 ghost use Rattle.std.specs.Prelude.{◌<◌, IfOk};
 ghost use Rattle.clay_aloof.specs.Shape.{all_chunks};
-ghost use Rattle.clay_cli.specs.Top.{Answers, IsOfInput};
+ghost use Rattle.clay_cli.specs.Top.{IsAnswer, IsOfInput};
 ghost use Rattle.clay_words.specs.declared.words.Task.TheVariants.{AloofRepair};
 
 use crate::Status;
@@ -20,7 +20,7 @@ pub fn repaird(
 ) -> Result<Output, AllocError>
     requires { lost < all_chunks g }
     ensures status { IfOk result (λ output. IsOfInput output.status) }
-    ensures answers { IfOk result (λ output. Answers (AloofRepair g lost) input.now output.status output.bytes.items) }
+    ensures answers { IfOk result (λ output. IsAnswer (AloofRepair g lost) input.now output) }
 {
     let parts = match read_chunks(alloc, input, g.n() as usize, g.part_len() as usize) {
         Ok(parts) => parts,

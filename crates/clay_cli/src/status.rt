@@ -1,3 +1,4 @@
+//! How a call of the program ends, and its exit status.
 ghost use Rattle.std.specs.Prelude.{◌≡◌};
 ghost use Rattle.clay_cli.specs.ExitStatus.{status_number};
 

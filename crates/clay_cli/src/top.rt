@@ -1,10 +1,10 @@
-// The top call: from words, a source and a sink to a status.
+//! The top call: from words, a source and a sink to a status.
 ghost use Rattle.std.specs.Prelude.{◌≡◌, ◌≢◌, ◌⊎◌, ◌≤◌, ◌<◌, ℕ, List, [], IfOk, IfErr, IsErrOf, map, string_bytes, length};
 ghost use Rattle.clay_bytes.specs.Stream.{Rises, Gains, GivesAtMost, IsCutOff, IsPrefixWritten};
 ghost use Rattle.clay_gen.specs.Script.{generated};
 ghost use Rattle.script_text.specs.Spelling.{spelling};
 ghost use Rattle.clay_words.specs.Words.{Asks, AsksNothing, AsksForInput, HasItsChunk};
-ghost use Rattle.clay_cli.specs.Top.{WhereTold, Answers, Owes, Writes, IsOfInput, IsSilent, usage_line};
+ghost use Rattle.clay_cli.specs.Top.{WhereTold, IsAnswer, Owes, Writes, IsOfInput, IsSilent, usage_line};
 ghost use Rattle.clay_words.specs.declared.words.Command.TheVariants.{Generate};
 
 use crate::Status;
@@ -38,7 +38,7 @@ fn output_of<R: Threads + Sync, C: Coder>(
     requires few { length input.items ≤ 167772160 }
     requires chunk { HasItsChunk task }
     ensures status { IfOk result (λ output. IsOfInput output.status) }
-    ensures answers { IfOk result (λ output. Answers task input.items output.status output.bytes.items) }
+    ensures answers { IfOk result (λ output. IsAnswer task input.items output) }
     ensures memory { IfErr result (λ status. status ≡ Status.OutOfMemory) }
 {
     let made = match task {
@@ -63,7 +63,7 @@ fn answer<R: Threads + Sync, C: Coder, S: Source>(
     requires chunk { HasItsChunk task }
     ensures status { IfOk result (λ output. IsOfInput output.status) }
     ensures answers { IfOk result (λ output. WhereTold (S.left source.old) (λ input.
-        (length input ≤ 167772160) × Answers task input output.status output.bytes.items)) }
+        (length input ≤ 167772160) × IsAnswer task input output)) }
     ensures silent { IfErr result IsSilent }
     ensures too_long { IfErr result (λ status. status ≡ Status.InputTooLong → IsCutOff (S.left source.old) 167772161 (S.left source.new)) }
     ensures in_budget { (IsErrOf result Status.InputTooLong → ⊥) → GivesAtMost (S.left source.old) 167772160 (S.left source.new) }

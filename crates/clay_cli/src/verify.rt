@@ -1,8 +1,8 @@
-// The command `verify`.
+//! The command `verify`.
 ghost use Rattle.std.specs.Prelude.{◌≡◌, ◌≢◌, ◌⊎◌, ◌≤◌, ◌<◌, ◌+◌, ◌^◌, length, take, drop, IfOk};
 ghost use Rattle.hist_rules.specs.Verdict.{verdict_of};
 ghost use Rattle.hist_rules.specs.VerdictText.{verdict_line};
-ghost use Rattle.clay_cli.specs.Top.{Answers, IsOfInput};
+ghost use Rattle.clay_cli.specs.Top.{IsAnswer, IsOfInput};
 ghost use Rattle.clay_cli.specs.Verify.{line_count};
 ghost use Rattle.clay_words.specs.declared.words.Task.TheVariants.{Verify};
 
@@ -76,7 +76,7 @@ fn judge(alloc: Global, script: &Script, transcript: &Transcript) -> Result<Outp
 pub fn verify(alloc: Global, input: Vec<u8>) -> Result<Output, AllocError>
     requires { length input.items ≤ 167772160 }
     ensures status { IfOk result (λ output. IsOfInput output.status) }
-    ensures answers { IfOk result (λ output. Answers Verify input.items output.status output.bytes.items) }
+    ensures answers { IfOk result (λ output. IsAnswer Verify input.items output) }
 {
     let (script, length) = match read_front(alloc, &input) {
         Ok(front) => front,

@@ -12,7 +12,7 @@ use clay_encode::encode;
 use clay_grid::Geometry;
 use std::alloc::{AllocError, Global};
 
-/// The bytes of the data chunks, which come first.
+// The bytes of the data chunks, which come first.
 fn joined(alloc: Global, g: Geometry, chunks: &[Vec<u8>]) -> Result<Vec<u8>, AllocError>
     requires { g.data_count ≤ length chunks.now }
     ensures { IfOk result (λ v. v.items ≡ concat (take g.data_count (contents chunks.now))) }
@@ -24,7 +24,7 @@ fn joined(alloc: Global, g: Geometry, chunks: &[Vec<u8>]) -> Result<Vec<u8>, All
     Ok(stripe)
 }
 
-/// Whether a chunk is the one that is there, if one is.
+// Whether a chunk is the one that is there, if one is.
 fn is_kept(part: &Option<Vec<u8>>, chunk: &[u8]) -> bool
     ensures { IsTrue result ↔ IfSome part.now (λ v. chunk.now ≡ v.items) }
 {
@@ -34,7 +34,7 @@ fn is_kept(part: &Option<Vec<u8>>, chunk: &[u8]) -> bool
     }
 }
 
-/// Whether chunks agree with those that are there.
+// Whether chunks agree with those that are there.
 fn agree(have: &[Option<Vec<u8>>], chunks: &[Vec<u8>]) -> bool
     requires { length have.now ≡ length chunks.now }
     ensures { IsTrue result ↔ AgreesWith (parts have.now) (contents chunks.now) }

@@ -14,7 +14,7 @@ use clay_grid::Geometry;
 use clay_model::{couple, uncouple};
 use std::alloc::{AllocError, Global};
 
-/// Writes subchunk `z` of an erased node.
+// Writes subchunk `z` of an erased node.
 fn couple_piece(
     g: Geometry,
     have: &[Option<Vec<u8>>],
@@ -48,7 +48,7 @@ fn couple_piece(
     }
 }
 
-/// Writes the chunk of an erased node.
+// Writes the chunk of an erased node.
 fn couple_chunk(
     g: Geometry,
     have: &[Option<Vec<u8>>],
@@ -71,7 +71,7 @@ fn couple_chunk(
     }
 }
 
-/// A chunk that is missing.
+// A chunk that is missing.
 fn missing_chunk(
     alloc: Global,
     g: Geometry,
@@ -93,7 +93,7 @@ fn missing_chunk(
     Ok(chunk)
 }
 
-/// A chunk, which is copied where it is there.
+// A chunk, which is copied where it is there.
 fn chunk(
     alloc: Global,
     g: Geometry,

@@ -1,3 +1,4 @@
+//! Why decoding fails: too few chunks are left, they are of no codeword, or memory was wanting.
 use std::alloc::AllocError;
 use thiserror::Error;
 

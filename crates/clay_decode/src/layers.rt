@@ -61,7 +61,7 @@ pub fn piece<'a>(
     }
 }
 
-/// The place of an erased node among them.
+// The place of an erased node among them.
 fn place_of(points: &[u8], node: u32) -> usize
     requires { Contains points.now node }
     ensures within { result < length points.now }
@@ -98,7 +98,7 @@ pub fn solved_piece<'a>(
     &solved[at..at + w]
 }
 
-/// Writes the uncoupled value of a node that is not erased in layer `z`, where the layers of lower score are solved.
+// Writes the uncoupled value of a node that is not erased in layer `z`, where the layers of lower score are solved.
 fn uncouple_node(
     g: Geometry,
     have: &[Option<Vec<u8>>],
@@ -133,7 +133,7 @@ fn uncouple_node(
     }
 }
 
-/// Writes the uncoupled values of the nodes that are not erased in layer `z`, where the layers of lower score are solved.
+// Writes the uncoupled values of the nodes that are not erased in layer `z`, where the layers of lower score are solved.
 fn uncouple_layer(
     g: Geometry,
     have: &[Option<Vec<u8>>],
@@ -158,7 +158,7 @@ fn uncouple_layer(
     }
 }
 
-/// Writes the uncoupled values of the erased nodes in each layer, with room for one layer and for its sums.
+// Writes the uncoupled values of the erased nodes in each layer, with room for one layer and for its sums.
 fn solve_layers(
     g: Geometry,
     have: &[Option<Vec<u8>>],

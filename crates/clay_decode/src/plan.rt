@@ -24,7 +24,7 @@ pub struct Plan {
     pub zeros: Vec<u8>,
 }
 
-/// Whether the chunk of a node is missing. That of a virtual node never is.
+// Whether the chunk of a node is missing. That of a virtual node never is.
 fn is_missing(g: Geometry, have: &[Option<Vec<u8>>], node: u32) -> bool
     requires count { length have.now ≡ chunk_count g }
     requires node { node < node_count g }
@@ -36,7 +36,7 @@ fn is_missing(g: Geometry, have: &[Option<Vec<u8>>], node: u32) -> bool
     }
 }
 
-/// For each node, whether its chunk is missing.
+// For each node, whether its chunk is missing.
 fn erased_nodes(
     alloc: Global,
     g: Geometry,
@@ -54,7 +54,7 @@ fn erased_nodes(
     Ok(erased)
 }
 
-/// The numbers of the erased nodes, rising.
+// The numbers of the erased nodes, rising.
 fn erased_points(alloc: Global, erased: &[bool]) -> Result<Vec<u8>, AllocError>
     requires { length erased.now ≤ 256 }
     ensures { IfOk result (λ v. v.items ≡ erased_below erased.now (length erased.now)) }

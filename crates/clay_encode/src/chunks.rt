@@ -12,7 +12,7 @@ use clay_grid::Geometry;
 use clay_model::couple;
 use std::alloc::{AllocError, Global};
 
-/// The uncoupled bytes of row `x` of the last column in layer `z`.
+// The uncoupled bytes of row `x` of the last column in layer `z`.
 fn last_piece(g: Geometry, column: &[u8], x: u32, z: u32) -> &[u8]
     requires column_len { length column.now ≡ layer_count g * (row_count g * g.width) }
     requires row { x < row_count g }
@@ -27,7 +27,7 @@ fn last_piece(g: Geometry, column: &[u8], x: u32, z: u32) -> &[u8]
     &column[at..at + w]
 }
 
-/// Writes subchunk `z` of the parity chunk of row `x`.
+// Writes subchunk `z` of the parity chunk of row `x`.
 fn couple_piece(g: Geometry, column: &[u8], x: u32, z: u32, out: &mut [u8])
     requires column_len { length column.now ≡ layer_count g * (row_count g * g.width) }
     requires row { x < row_count g }
@@ -44,7 +44,7 @@ fn couple_piece(g: Geometry, column: &[u8], x: u32, z: u32, out: &mut [u8])
     }
 }
 
-/// Writes the parity chunk of row `x`.
+// Writes the parity chunk of row `x`.
 fn couple_chunk(g: Geometry, column: &[u8], x: u32, chunk: &mut [u8])
     requires column_len { length column.now ≡ layer_count g * (row_count g * g.width) }
     requires row { x < row_count g }
@@ -58,7 +58,7 @@ fn couple_chunk(g: Geometry, column: &[u8], x: u32, chunk: &mut [u8])
     }
 }
 
-/// The parity chunk of row `x`.
+// The parity chunk of row `x`.
 fn parity_chunk(alloc: Global, g: Geometry, column: &[u8], x: u32) -> Result<Vec<u8>, AllocError>
     requires column_len { length column.now ≡ layer_count g * (row_count g * g.width) }
     requires row { x < row_count g }
@@ -70,7 +70,7 @@ fn parity_chunk(alloc: Global, g: Geometry, column: &[u8], x: u32) -> Result<Vec
     Ok(chunk)
 }
 
-/// The chunks that are pieces of the stripe.
+// The chunks that are pieces of the stripe.
 fn data_chunks(alloc: Global, g: Geometry, stripe: &[u8]) -> Result<Vec<Vec<u8>>, AllocError>
     requires whole { length stripe.now ≡ stripe_length g }
     ensures geometry { IsGeometry g }
@@ -86,7 +86,7 @@ fn data_chunks(alloc: Global, g: Geometry, stripe: &[u8]) -> Result<Vec<Vec<u8>>
     Ok(chunks)
 }
 
-/// Adds the parity chunks, by rising row.
+// Adds the parity chunks, by rising row.
 fn add_parity_chunks(
     alloc: Global,
     g: Geometry,

@@ -17,7 +17,7 @@ pub fn zeros(alloc: Global, count: usize) -> Result<Vec<u8>, AllocError>
     vec![in alloc; 0u8; count]
 }
 
-/// The node in row 0 of the last column.
+// The node in row 0 of the last column.
 fn first_parity_node(g: Geometry) -> u32
     ensures value { result ≡ first_parity g }
     ensures geometry { IsGeometry g }
@@ -25,7 +25,7 @@ fn first_parity_node(g: Geometry) -> u32
     g.nodes() - g.q()
 }
 
-/// Subchunk `z` of a node outside the last column. `zeros` has `w` bytes.
+// Subchunk `z` of a node outside the last column. `zeros` has `w` bytes.
 fn piece<'a>(g: Geometry, stripe: &'a [u8], zeros: &'a [u8], node: u32, z: u32) -> &'a [u8]
     requires whole { length stripe.now ≡ stripe_length g }
     requires empty { zeros.now ≡ replicate g.width 0 }
@@ -44,7 +44,7 @@ fn piece<'a>(g: Geometry, stripe: &'a [u8], zeros: &'a [u8], node: u32, z: u32) 
     }
 }
 
-/// Writes the uncoupled value of a node outside the last column in layer `z`.
+// Writes the uncoupled value of a node outside the last column in layer `z`.
 fn uncouple_node(g: Geometry, stripe: &[u8], zeros: &[u8], node: u32, z: u32, out: &mut [u8])
     requires whole { length stripe.now ≡ stripe_length g }
     requires empty { zeros.now ≡ replicate g.width 0 }
@@ -65,7 +65,7 @@ fn uncouple_node(g: Geometry, stripe: &[u8], zeros: &[u8], node: u32, z: u32, ou
     }
 }
 
-/// Writes the uncoupled values of all nodes outside the last column in layer `z`.
+// Writes the uncoupled values of all nodes outside the last column in layer `z`.
 fn uncouple_layer(g: Geometry, stripe: &[u8], zeros: &[u8], z: u32, layer: &mut [u8])
     requires whole { length stripe.now ≡ stripe_length g }
     requires empty { zeros.now ≡ replicate g.width 0 }
@@ -80,7 +80,7 @@ fn uncouple_layer(g: Geometry, stripe: &[u8], zeros: &[u8], z: u32, layer: &mut 
     }
 }
 
-/// The points of the last column.
+// The points of the last column.
 fn last_points(alloc: Global, g: Geometry) -> Result<Vec<u8>, AllocError>
     ensures len { IfOk result (λ v. length v.items ≡ g.parity_count) }
     ensures value { IfOk result (λ v. (e : ℕ) → e < g.parity_count → slice_index v.items e ≡ first_parity g + e) }
@@ -93,7 +93,7 @@ fn last_points(alloc: Global, g: Geometry) -> Result<Vec<u8>, AllocError>
     Ok(points)
 }
 
-/// For each node, whether it stands in the last column.
+// For each node, whether it stands in the last column.
 fn last_nodes(alloc: Global, g: Geometry) -> Result<Vec<bool>, AllocError>
     ensures len { IfOk result (λ v. length v.items ≡ node_count g) }
     ensures value { IfOk result (λ v. (i : ℕ) → i < node_count g → slice_index_or v.items i false ≡ not (nat_lt i (first_parity g))) }
@@ -113,7 +113,7 @@ struct LastColumn {
     erased: Vec<bool>,
 }
 
-/// What the last column is solved with, for all layers.
+// What the last column is solved with, for all layers.
 fn last_column(alloc: Global, g: Geometry) -> Result<LastColumn, AllocError>
     ensures { IfOk result (λ last. IsLastColumn g last.solver last.erased.items) }
 {
@@ -123,7 +123,7 @@ fn last_column(alloc: Global, g: Geometry) -> Result<LastColumn, AllocError>
     Ok(LastColumn { solver, erased })
 }
 
-/// Writes the uncoupled values of the last column in each layer, with room for one layer and for its sums.
+// Writes the uncoupled values of the last column in each layer, with room for one layer and for its sums.
 fn solve_layers(
     g: Geometry,
     stripe: &[u8],

@@ -8,7 +8,7 @@ ghost use Rattle.clay_encode.specs.Chunks.{contents};
 use clay_grid::Geometry;
 use std::alloc::{AllocError, Global};
 
-/// The bytes, filled up with zeros to `len` of them.
+// The bytes, filled up with zeros to `len` of them.
 fn fill_up(alloc: Global, bytes: &[u8], len: usize) -> Result<Vec<u8>, AllocError>
     requires { length bytes.now ≤ len }
     ensures { IfOk result (λ v. v.items ≡ padded len bytes.now) }

@@ -1,3 +1,6 @@
+//! What holds of sums, products and powers in the field. The functions do nothing: their contracts
+//! are the laws.
+
 ghost use Rattle.std.specs.Prelude.{◌≡◌, ◌≢◌, ℕ, ◌^◌, ◌<◌, ◌⊎◌, bit_xor};
 ghost use Rattle.clay_field.specs.Field.{product, power_of, inverse_of, quotient};
 

@@ -26,7 +26,7 @@ const INVERSES: [u8; 256] = [
     201, 66, 212, 232, 117, 127, 255, 126, 253,
 ];
 
-/// Twice a byte.
+// Twice a byte.
 fn double(a: u8) -> u8
     ensures { result ≡ product a 2 }
 {

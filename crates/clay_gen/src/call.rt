@@ -1,3 +1,4 @@
+//! Calls of clients and of a repairer, drawn from a sequence of numbers.
 ghost use Rattle.std.specs.Prelude.{◌≡◌, ◌<◌, ◌+◌, ◌∷◌, [], OnOk, IfOk, IfSome};
 ghost use Rattle.clay_gen.specs.Sequence.{state_after};
 ghost use Rattle.clay_gen.specs.Calls.{letter_name, data_from, call_by, picks_by, call_from, behind_call, rebuild_from, behind_rebuild};
@@ -6,7 +7,7 @@ use crate::sequence::Sequence;
 use std::alloc::{AllocError, Global};
 use store_map::{Call, Content, Name, NameFault, Rebuild};
 
-/// The name of one letter: `a` for 0, up to `f` for 5.
+// The name of one letter: `a` for 0, up to `f` for 5.
 fn letter_name(alloc: Global, letter: u32) -> Result<Name, AllocError>
     requires { letter < 6 }
     ensures { IfOk result (λ name. name ≡ letter_name letter) }
@@ -18,7 +19,7 @@ fn letter_name(alloc: Global, letter: u32) -> Result<Name, AllocError>
     }
 }
 
-/// Data of fewer bytes than the limit.
+// Data of fewer bytes than the limit.
 fn draw_data(sequence: &mut Sequence, limit: u32) -> Content
     requires { 0 < limit }
     ensures data { result ≡ data_from sequence.old limit }
@@ -29,7 +30,7 @@ fn draw_data(sequence: &mut Sequence, limit: u32) -> Content
     Content::Ramp { first, length }
 }
 
-/// The call of a kind, with what it has behind its name.
+// The call of a kind, with what it has behind its name.
 fn draw_by(sequence: &mut Sequence, kind: u32, name: Name) -> Call
     ensures call { result ≡ call_by kind name sequence.old }
     ensures state { sequence.new ≡ state_after (picks_by kind) sequence.old }

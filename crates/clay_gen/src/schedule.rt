@@ -1,3 +1,4 @@
+//! The schedule of a drawn script: steps from a sequence of numbers, and a drain behind them.
 ghost use Rattle.std.specs.Prelude.{◌≡◌, ◌*◌, ◌<◌, ◌≤◌, ◌++◌, ◌∷◌, [], OnOk, IfOk};
 ghost use Rattle.clay_gen.specs.Sequence.{drawn, state_after};
 ghost use Rattle.clay_gen.specs.Steps.{step_by, picks_of, step_from, behind_step};
@@ -6,7 +7,7 @@ use crate::sequence::Sequence;
 use std::alloc::{AllocError, Global};
 use store_map::{ListOf, Token};
 
-/// The step of a kind: mostly a client's.
+// The step of a kind: mostly a client's.
 fn draw_by(sequence: &mut Sequence, kind: u32) -> Token
     ensures step { result ≡ step_by kind sequence.old }
     ensures state { sequence.new ≡ state_after (picks_of kind) sequence.old }

@@ -1,3 +1,4 @@
+//! A whole script drawn from a number: four clients, a repairer and a schedule.
 ghost use Rattle.std.specs.Prelude.{◌≡◌, ◌/◌, ◌*◌, ◌<◌, ◌≤◌, ◌∷◌, [], None, OnOk, IfOk};
 ghost use Rattle.store_map.specs.Naming.{IsValid};
 ghost use Rattle.clay_grid.specs.Shape.{shape_of};

@@ -1,3 +1,4 @@
+//! The sequence of numbers from which a script is drawn.
 ghost use Rattle.std.specs.Prelude.{◌≡◌, ◌<◌};
 ghost use Rattle.clay_gen.specs.Sequence.{advance, pick};
 

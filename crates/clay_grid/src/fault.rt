@@ -1,3 +1,4 @@
+//! Why the numbers of a code are refused.
 ghost use Rattle.std.specs.Prelude.{◌≡◌};
 ghost use Rattle.clay_grid.specs.Limits.{fault_number};
 

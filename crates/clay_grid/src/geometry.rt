@@ -1,3 +1,5 @@
+//! The geometry of a code: its numbers within the limits, and what follows from them of nodes,
+//! layers, partners, scores and repairs.
 ghost use Rattle.std.specs.Prelude.{◌≡◌, ◌+◌, ◌-◌, ◌*◌, ◌/◌, ◌%◌, ◌^◌, ◌<◌, ◌≤◌, ℕ, ◌++◌, IfOk, IfErr, OnOk, MatchOption, map, vec_len, slice_index, slice_set, length};
 ghost use Rattle.clay_grid.specs.Shape.{shape_of, chunk_count, row_count, column_count, node_count, virtual_count, layer_count, chunk_length, stripe_length, node_of_chunk, IsVirtual};
 ghost use Rattle.clay_grid.specs.Layers.{layer_of, index_of, vertex_at, partner_of};
@@ -312,7 +314,7 @@ impl Geometry {
         Ok(layers)
     }
 
-    /// The score of each layer.
+    // The score of each layer.
     fn scores(&self, alloc: Global, erased: &[bool]) -> Result<Vec<u32>, AllocError>
         requires { length erased.now ≡ node_count self.now }
         ensures { IfOk result (λ v. v.items ≡ map (score_at self.now erased.now) (all_layers self.now)) }
@@ -325,7 +327,7 @@ impl Geometry {
     }
 }
 
-/// Appends the places at which a score stands.
+// Appends the places at which a score stands.
 fn push_places(places: &mut Vec<u32>, scores: &[u32], score: u32) -> Result<(), AllocError>
     requires { length scores.now < 2 ^ 32 }
     ensures { OnOk result (places.new.items ≡ places.old.items ++ places_of scores.now score) }

@@ -1,3 +1,6 @@
+//! What holds of layers, partners, repairs, scores and limits. The functions do nothing: their
+//! contracts are the laws.
+
 ghost use Rattle.std.specs.Prelude.{◌≡◌, ℕ, ◌+◌, ◌*◌, ◌^◌, ◌<◌, ◌≤◌, ◌⊎◌, List, Bool, length};
 ghost use Rattle.clay_grid.specs.Shape.{Shape, chunk_count, row_count, column_count, node_count, layer_count, node_of_chunk};
 ghost use Rattle.clay_grid.specs.Layers.{digits_of, index_of, IsLayer, PlacedVertex, partner_of};

@@ -23,8 +23,8 @@ pub struct ColumnFactors {
     pub kappa: Products,
 }
 
-/// Whether the four factors of a node have these sums: 1 is that of all, `odd` of the second and fourth, `high` of the third and fourth, and
-/// `last` is the fourth.
+// Whether the four factors of a node have these sums: 1 is that of all, `odd` of the second and fourth, `high` of the third and fourth, and
+// `last` is the fourth.
 fn add_up(factors: &[Products], node: usize, odd: u8, high: u8, last: u8) -> bool
     requires { node * 4 + 4 ≤ length factors.now }
     ensures { result ≡ true → AddUp factors.now node odd high last }
@@ -39,7 +39,7 @@ fn add_up(factors: &[Products], node: usize, odd: u8, high: u8, last: u8) -> boo
         && fourth == last
 }
 
-/// Whether the factors of the nodes from `node` on are those of a column with these.
+// Whether the factors of the nodes from `node` on are those of a column with these.
 fn are_column(factors: &[Products], column: usize, sigma: u8, tau: u8, rho: u8, kappa: u8) -> bool
     requires { column * 16 + 16 ≤ length factors.now }
     ensures { result ≡ true → AreColumn factors.now column sigma tau rho kappa }
@@ -81,7 +81,7 @@ impl ColumnFactors {
     }
 }
 
-/// Adds to four rows in column form what a column with the values `u0` to `u3` adds.
+// Adds to four rows in column form what a column with the values `u0` to `u3` adds.
 fn add_values(
     u0: &[u8],
     u1: &[u8],
@@ -170,7 +170,7 @@ pub fn add_column(len: usize, f: &ColumnFactors, values: &[u8], rows: &mut [u8])
     add_values(u0, u1, u2, u3, f, d0, d1, d2, d3);
 }
 
-/// Takes four rows out of their column form.
+// Takes four rows out of their column form.
 fn end_rows(d0: &mut [u8], d1: &mut [u8], d2: &mut [u8], d3: &[u8])
     requires k0 { length d0.old ≡ length d3.now }
     requires k1 { length d1.old ≡ length d3.now }

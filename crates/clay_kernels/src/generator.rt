@@ -47,7 +47,7 @@ pub fn nodes(alloc: Global, first: u32, count: u32) -> Result<Vec<u8>, AllocErro
     Ok(nodes)
 }
 
-/// The powers of the nodes, all of power 0 first, then those of power 1 and so on below `count`.
+// The powers of the nodes, all of power 0 first, then those of power 1 and so on below `count`.
 fn powers(alloc: Global, nodes: &[u8], count: usize) -> Result<Vec<u8>, AllocError>
     requires few { count ≤ 8 }
     requires nodes { length nodes.now ≤ 256 }
@@ -63,7 +63,7 @@ fn powers(alloc: Global, nodes: &[u8], count: usize) -> Result<Vec<u8>, AllocErr
     Ok(powers)
 }
 
-/// The products of the values, of which those of one known node stand side by side in place of those of one unknown one.
+// The products of the values, of which those of one known node stand side by side in place of those of one unknown one.
 fn turned(alloc: Global, values: &[u8], m: usize, n: usize) -> Result<Vec<Products>, AllocError>
     requires few { m ≤ 8 }
     requires nodes { n ≤ 256 }
@@ -79,7 +79,7 @@ fn turned(alloc: Global, values: &[u8], m: usize, n: usize) -> Result<Vec<Produc
     Ok(factors)
 }
 
-/// The factors of the known columns, if all factors in four unknown nodes' values are made up of them, and else none.
+// The factors of the known columns, if all factors in four unknown nodes' values are made up of them, and else none.
 fn columns_of(
     alloc: Global,
     unknown: usize,

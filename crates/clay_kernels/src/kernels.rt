@@ -6,7 +6,7 @@ ghost use Rattle.clay_kernels.specs.Lanes.{AddsRows};
 use crate::products::Products;
 use std::simd::prelude::*;
 
-/// Adds to each byte of four slices its factor times the byte of `src` at the same place.
+// Adds to each byte of four slices its factor times the byte of `src` at the same place.
 fn add_four(
     src: &[u8],
     p0: &Products,
@@ -61,7 +61,7 @@ fn add_four(
     }
 }
 
-/// Adds to each byte of two slices its factor times the byte of `src` at the same place.
+// Adds to each byte of two slices its factor times the byte of `src` at the same place.
 fn add_two(src: &[u8], p0: &Products, p1: &Products, d0: &mut [u8], d1: &mut [u8])
     requires k0 { length d0.old ≡ length src.now }
     requires k1 { length d1.old ≡ length src.now }
@@ -90,7 +90,7 @@ fn add_two(src: &[u8], p0: &Products, p1: &Products, d0: &mut [u8], d1: &mut [u8
     }
 }
 
-/// Adds to each byte of `dst` the factor times the byte of `src` at the same place.
+// Adds to each byte of `dst` the factor times the byte of `src` at the same place.
 fn add_one(src: &[u8], p: &Products, dst: &mut [u8])
     requires { length dst.old ≡ length src.now }
     ensures { EachIndex dst.new (λ k.
@@ -110,7 +110,7 @@ fn add_one(src: &[u8], p: &Products, dst: &mut [u8])
     }
 }
 
-/// Adds to four rows, one after another, each its factor times the bytes of `src`.
+// Adds to four rows, one after another, each its factor times the bytes of `src`.
 fn add_four_rows(products: &[Products], src: &[u8], rows: &mut [u8])
     requires four { length products.now ≡ 4 }
     requires rows_len { length rows.old ≡ 4 * length src.now }
@@ -133,7 +133,7 @@ fn add_four_rows(products: &[Products], src: &[u8], rows: &mut [u8])
     );
 }
 
-/// Adds to two rows, one after another, each its factor times the bytes of `src`.
+// Adds to two rows, one after another, each its factor times the bytes of `src`.
 fn add_two_rows(products: &[Products], src: &[u8], rows: &mut [u8])
     requires two { length products.now ≡ 2 }
     requires rows_len { length rows.old ≡ 2 * length src.now }

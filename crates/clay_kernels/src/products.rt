@@ -26,7 +26,7 @@ impl Model for Products {
     ghost invariant = { λ p. AreProducts p.factor p.low p.high };
 }
 
-/// The product of `c` and each number below 16.
+// The product of `c` and each number below 16.
 fn nibble_products(c: u8) -> [u8; 16]
     ensures { (i : ℕ) → i < 16 → slice_index result i ≡ product c i }
 {
@@ -37,7 +37,7 @@ fn nibble_products(c: u8) -> [u8; 16]
     products
 }
 
-/// The products of `c` and 16 times each number below 16.
+// The products of `c` and 16 times each number below 16.
 fn high_products(c: u8) -> [u8; 16]
     ensures { (i : ℕ) → i < 16 → slice_index result i ≡ product c (16 * i) }
 {

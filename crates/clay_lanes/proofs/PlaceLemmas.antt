@@ -1,10 +1,11 @@
 -- Chunks that are written to their places, and what stays of the others.
-use Rattle.std.proofs.Common.{◌≡◌, ◌≢◌, ℕ, zero, suc, subst, ◌+◌, ◌*◌, ◌<◌, true, false, List, [], ◌∷◌, length, get_or, take, drop, filter, count_by, Option, Some, None, is_none, is_some, Vec, Global, inl, inr, refl, sym, ap, ◌∙◌, arith}
+use Rattle.std.proofs.Common.{◌≡◌, ◌≢◌, ℕ, zero, suc, subst, ◌+◌, ◌*◌, ◌/◌, ◌%◌, ◌<◌, true, false, List, [], ◌∷◌, length, get_or, take, drop, filter, count_by, Option, Some, None, is_none, is_some, Vec, Global, inl, inr, refl, sym, ap, ◌∙◌, arith}
 use Rattle.std.proofs.lemmas.Bool.{true≢false, cases_lt, cases_eq}
+use Rattle.std.proofs.lemmas.Nat.{mod_below, div_below, div-add-mod'}
 use Rattle.std.proofs.lemmas.List.{get_or-take, get_or-drop}
 use Rattle.std.proofs.lemmas.List.Sums.{length-filter}
 use borrow.Rule.Slice.PartMut.{put_mid}
-use Rattle.clay_grid.specs.Shape.{Shape, chunk_count, chunk_length}
+use Rattle.clay_grid.specs.Shape.{Shape, chunk_count, layer_count, chunk_length}
 use Rattle.clay_encode.proofs.Parts.{piece_fits, place_below, put_mid_before, put_mid_past, put_mid_within}
 use Rattle.clay_decode.specs.Left.{Completes}
 use Rattle.clay_lanes.specs.Recovered.{HoldsByte}
@@ -85,4 +86,15 @@ pub filled_already : (g : Shape) (have : List (Option (Vec ℕ Global))) (xs : L
 filled_already g have xs count none = record {
   missing = λ c p hc hp gone. absurd (none_missing have (length-filter is_none have ∙ none) c (omega (arith, hc, count)) gone);
   there = λ c p hc hp some. refl;
+}
+
+-- all positions of each subchunk are written
+pub filled_whole : (g : Shape) (have : List (Option (Vec ℕ Global))) (xs ys : List ℕ) → 0 < g.width
+    → ((c z b : ℕ) → c < chunk_count g → is_none (get_or have c None) ≡ true → z < layer_count g → b < g.width → HoldsPlace g have c ys (z * g.width + b))
+    → KeepsPlaces g have xs ys → AreFilled g have xs ys
+filled_whole g have xs ys wide written kept = record {
+  missing = λ c p hc hp gone.
+      subst (HoldsPlace g have c ys) (div-add-mod' p g.width)
+      (written c (p / g.width) (p % g.width) hc gone (div_below p g.width (layer_count g) wide hp) (mod_below p g.width wide));
+  there = kept.there;
 }

@@ -11,7 +11,7 @@ use clay_grid::Geometry;
 use clay_parity::parity;
 use std::alloc::{AllocError, Global};
 
-/// The stripe that the data chunks are.
+// The stripe that the data chunks are.
 fn stripe_of(alloc: Global, g: Geometry, chunks: &[Vec<u8>]) -> Result<Vec<u8>, AllocError>
     requires { g.data_count ≤ length chunks.now }
     ensures { IfOk result (λ stripe. stripe.items ≡ concat (take g.data_count (contents chunks.now))) }
@@ -23,14 +23,14 @@ fn stripe_of(alloc: Global, g: Geometry, chunks: &[Vec<u8>]) -> Result<Vec<u8>, 
     Ok(stripe)
 }
 
-/// Whether two chunks have the same bytes.
+// Whether two chunks have the same bytes.
 fn same_bytes(chunk: &[u8], other: &[u8]) -> bool
     ensures { IsTrue result ↔ (chunk.now ≡ other.now) }
 {
     chunk == other
 }
 
-/// Whether the chunks from `first` on are these others.
+// Whether the chunks from `first` on are these others.
 fn have_behind(chunks: &[Vec<u8>], first: usize, others: &[Vec<u8>]) -> bool
     requires { first + length others.now ≤ length chunks.now }
     ensures { IsTrue result ↔ ((i : ℕ) → i < length others.now →

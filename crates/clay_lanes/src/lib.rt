@@ -1,12 +1,14 @@
 //! Fast coding of one thread: the unknown nodes' values by a fixed matrix of the scalar code, and products sixteen bytes at a time.
 #![tactic(auto)]
 
+mod block;
 mod checked;
 mod coder;
 mod layers;
 mod lost;
 mod places;
 mod plan;
+mod read_block;
 mod repair;
 mod repair_plan;
 

@@ -5,56 +5,149 @@ ghost use Rattle.clay_model.specs.Code.{AgreesWith};
 ghost use Rattle.clay_encode.specs.Chunks.{contents};
 ghost use Rattle.clay_decode.specs.Left.{parts, AreLong, Completes};
 ghost use Rattle.clay_repair.specs.Coding.{AreLeft, AreRecovered};
-ghost use Rattle.clay_lanes.specs.Recovered.{IsLanePlan, IsCoupled, HoldsLayerRows, HoldsByte, missing_of, AreMissing};
+ghost use Rattle.clay_lanes.specs.Recovered.{IsLanePlan, HoldsLayerRows, HoldsByte, missing_of, AreMissing};
+ghost use Rattle.clay_lanes.specs.Blocks.{IsBlock, rows_length, solved_length, IsCoupledIn, HoldsLayersIn, HoldsByteIn};
 
-use crate::layers::{piece, solve_layers, solved_piece};
+use crate::block::Block;
 use crate::plan::{Plan, make_plan};
 use clay_decode::{DecodeFault, partner_of};
 use clay_grid::Geometry;
 use clay_kernels::{BLOCK, couple, uncouple, zeros};
 use std::alloc::{AllocError, Global};
 
-/// Writes the bytes from `at` on of subchunk `z` of an erased node, as many as `len`.
-fn couple_piece(
-    g: Geometry,
-    have: &[Option<Vec<u8>>],
-    plan: &Plan,
-    solved: &[u8],
-    node: u32,
-    z: u32,
-    at: usize,
-    len: usize,
-    out: &mut [u8],
-)
-    requires plan { IsLanePlan g have.now plan.now }
-    requires solved_len { length solved.now ≡ layer_count g * (length plan.now.points.items * len) }
-    requires holds { (n : ℕ) → n < layer_count g →
-        HoldsLayerRows g (λ word. Completes g have.now word) at len plan.now.points.items n solved.now }
-    requires node { node < node_count g }
-    requires erased { slice_index_or plan.now.erased.items node false ≡ true }
-    requires layer { z < layer_count g }
-    requires out_len { length out.old ≡ len }
-    requires within { at + len ≤ g.width }
-    ensures { IsCoupled g (λ word. Completes g have.now word) at len node z out.new }
-{
-    let own = solved_piece(g, have, plan, solved, node, z, at, len);
-    let partner = partner_of(g, node, z);
-    if partner.node == node {
-        out.copy_from_slice(own);
-    } else if plan.erased[partner.node as usize] {
-        couple(
-            &plan.fifths,
-            own,
-            solved_piece(g, have, plan, solved, partner.node, partner.layer, at, len),
-            out,
-        );
-    } else {
-        // the uncoupled value is the coupled one plus twice the partner's, so the coupled one is the uncoupled one plus the same
-        uncouple(
-            own,
-            piece(g, have, plan, partner.node, partner.layer, at, len),
-            out,
-        );
+impl<'a> Block<'a> {
+    // Writes the block's bytes of subchunk `z` of an erased node.
+    fn couple_piece(&self, solved: &[u8], node: u32, z: u32, out: &mut [u8])
+        requires block { IsBlock self.now }
+        requires solved_len { length solved.now ≡ solved_length self.now }
+        requires holds { HoldsLayersIn self.now solved.now }
+        requires node { node < node_count self.now.g }
+        requires erased { slice_index_or self.now.plan.now.erased.items node false ≡ true }
+        requires layer { z < layer_count self.now.g }
+        requires out_len { length out.old ≡ self.now.len }
+        ensures { IsCoupledIn self.now node z out.new }
+    {
+        let own = self.solved_piece(solved, node, z);
+        let partner = partner_of(self.g, node, z);
+        if partner.node == node {
+            out.copy_from_slice(own);
+        } else if self.plan.erased[partner.node as usize] {
+            let theirs = self.solved_piece(solved, partner.node, partner.layer);
+            couple(&self.plan.fifths, own, theirs, out);
+        } else {
+            // the uncoupled value is the coupled one plus twice the partner's, so the coupled one is the uncoupled one plus the same
+            uncouple(own, self.piece(partner.node, partner.layer), out);
+        }
+    }
+
+    /// Writes the block's bytes of each subchunk of a missing chunk.
+    pub(crate) fn couple_chunk(&self, solved: &[u8], c: u32, chunk: &mut [u8])
+        requires block { IsBlock self.now }
+        requires solved_len { length solved.now ≡ solved_length self.now }
+        requires holds { HoldsLayersIn self.now solved.now }
+        requires chunk { c < chunk_count self.now.g }
+        requires missing { slice_index_or self.now.have.now c None ≡ None }
+        requires chunk_len { length chunk.old ≡ chunk_length self.now.g }
+        ensures written { (z b : ℕ) → z < layer_count self.now.g → b < self.now.len →
+            HoldsByteIn self.now c chunk.new (z * self.now.g.width + (self.now.at + b)) }
+        ensures kept { (p : ℕ) → HoldsByteIn self.now c chunk.old p → HoldsByteIn self.now c chunk.new p }
+    {
+        let node = self.g.node_of_chunk(c);
+        let w = self.g.w() as usize;
+        for z in 0..self.g.alpha() {
+            let start = z as usize * w + self.at;
+            let out = &mut chunk[start..start + self.len];
+            self.couple_piece(solved, node, z, out);
+        }
+    }
+
+    // Writes the block's bytes of each subchunk of the missing chunks.
+    fn couple_chunks(&self, solved: &[u8], lost: &[u32], chunks: &mut [Vec<u8>])
+        requires block { IsBlock self.now }
+        requires solved_len { length solved.now ≡ solved_length self.now }
+        requires holds { HoldsLayersIn self.now solved.now }
+        requires lost { lost.now ≡ missing_of self.now.have.now }
+        requires chunk_count { length chunks.old ≡ length lost.now }
+        requires chunk_len { (i : ℕ) → i < length chunks.old → length (slice_index_or (contents chunks.old) i []) ≡ chunk_length self.now.g }
+        ensures chunk_len { (i : ℕ) → i < length chunks.old → length (slice_index_or (contents chunks.new) i []) ≡ chunk_length self.now.g }
+        ensures written { (i z b : ℕ) → i < length lost.now → z < layer_count self.now.g → b < self.now.len →
+            HoldsByteIn self.now (slice_index lost.now i) (slice_index_or (contents chunks.new) i []) (z * self.now.g.width + (self.now.at + b)) }
+        ensures kept { (i p : ℕ) → HoldsByteIn self.now (slice_index lost.now i) (slice_index_or (contents chunks.old) i []) p
+            → HoldsByteIn self.now (slice_index lost.now i) (slice_index_or (contents chunks.new) i []) p }
+    {
+        for (i, c) in lost.iter().enumerate() {
+            self.couple_chunk(solved, *c, &mut chunks[i]);
+        }
+    }
+
+    // Writes the block's bytes of each subchunk of the missing chunks, with room for one node's values, for the erased nodes' in one layer,
+    // and for those in all layers.
+    fn recover(
+        &self,
+        lost: &[u32],
+        values: &mut [u8],
+        rows: &mut [u8],
+        solved: &mut [u8],
+        chunks: &mut [Vec<u8>],
+    )
+        requires block { IsBlock self.now }
+        requires values_len { length values.old ≡ self.now.len }
+        requires rows_len { length rows.old ≡ rows_length self.now }
+        requires solved_len { length solved.old ≡ solved_length self.now }
+        requires lost { lost.now ≡ missing_of self.now.have.now }
+        requires chunk_count { length chunks.old ≡ length lost.now }
+        requires chunk_len { (i : ℕ) → i < length chunks.old → length (slice_index_or (contents chunks.old) i []) ≡ chunk_length self.now.g }
+        ensures chunk_len { (i : ℕ) → i < length chunks.old → length (slice_index_or (contents chunks.new) i []) ≡ chunk_length self.now.g }
+        ensures written { (i z b : ℕ) → i < length lost.now → z < layer_count self.now.g → b < self.now.len →
+            HoldsByteIn self.now (slice_index lost.now i) (slice_index_or (contents chunks.new) i []) (z * self.now.g.width + (self.now.at + b)) }
+        ensures kept { (i p : ℕ) → HoldsByteIn self.now (slice_index lost.now i) (slice_index_or (contents chunks.old) i []) p
+            → HoldsByteIn self.now (slice_index lost.now i) (slice_index_or (contents chunks.new) i []) p }
+    {
+        self.solve(values, rows, solved);
+        self.couple_chunks(solved, lost, chunks);
+    }
+
+    // The same, by parts of at most 4096 positions one after another, with room for one of these.
+    fn recover_parts(
+        &self,
+        lost: &[u32],
+        values: &mut [u8],
+        rows: &mut [u8],
+        solved: &mut [u8],
+        chunks: &mut [Vec<u8>],
+    )
+        requires block { IsBlock self.now }
+        requires values_len { length values.old ≡ min self.now.len 4096 }
+        requires rows_len { length rows.old ≡ length self.now.plan.now.points.items * min self.now.len 4096 }
+        requires solved_len { length solved.old ≡ layer_count self.now.g * (length self.now.plan.now.points.items * min self.now.len 4096) }
+        requires lost { lost.now ≡ missing_of self.now.have.now }
+        requires chunk_count { length chunks.old ≡ length lost.now }
+        requires chunk_len { (i : ℕ) → i < length chunks.old → length (slice_index_or (contents chunks.old) i []) ≡ chunk_length self.now.g }
+        ensures chunk_len { (i : ℕ) → i < length chunks.old → length (slice_index_or (contents chunks.new) i []) ≡ chunk_length self.now.g }
+        ensures written { (i z b : ℕ) → i < length lost.now → z < layer_count self.now.g → b < self.now.len →
+            HoldsByteIn self.now (slice_index lost.now i) (slice_index_or (contents chunks.new) i []) (z * self.now.g.width + (self.now.at + b)) }
+    {
+        let layers = self.g.alpha() as usize;
+        let mut from = 0;
+        while from < self.len {
+            let len = BLOCK.min(self.len - from);
+            let part = self.plan.points.len() * len;
+            let block = Block {
+                g: self.g,
+                have: self.have,
+                plan: self.plan,
+                at: self.at + from,
+                len,
+            };
+            block.recover(
+                lost,
+                &mut values[..len],
+                &mut rows[..part],
+                &mut solved[..layers * part],
+                chunks,
+            );
+            from += len;
+        }
     }
 }
 
@@ -82,132 +175,17 @@ pub fn couple_chunk(
     ensures kept { (p : ℕ) → HoldsByte (λ word. Completes g have.now word) c chunk.old p
         → HoldsByte (λ word. Completes g have.now word) c chunk.new p }
 {
-    let node = g.node_of_chunk(c);
-    let w = g.w() as usize;
-    for z in 0..g.alpha() {
-        let start = z as usize * w + at;
-        couple_piece(
-            g,
-            have,
-            plan,
-            solved,
-            node,
-            z,
-            at,
-            len,
-            &mut chunk[start..start + len],
-        );
-    }
+    let block = Block {
+        g,
+        have,
+        plan,
+        at,
+        len,
+    };
+    block.couple_chunk(solved, c, chunk);
 }
 
-/// Writes the bytes from `at` on of each subchunk of the missing chunks, as many as `len`.
-fn couple_chunks(
-    g: Geometry,
-    have: &[Option<Vec<u8>>],
-    plan: &Plan,
-    solved: &[u8],
-    lost: &[u32],
-    at: usize,
-    len: usize,
-    chunks: &mut [Vec<u8>],
-)
-    requires plan { IsLanePlan g have.now plan.now }
-    requires solved_len { length solved.now ≡ layer_count g * (length plan.now.points.items * len) }
-    requires holds { (n : ℕ) → n < layer_count g →
-        HoldsLayerRows g (λ word. Completes g have.now word) at len plan.now.points.items n solved.now }
-    requires lost { lost.now ≡ missing_of have.now }
-    requires within { at + len ≤ g.width }
-    requires chunk_count { length chunks.old ≡ length lost.now }
-    requires chunk_len { (i : ℕ) → i < length chunks.old → length (slice_index_or (contents chunks.old) i []) ≡ chunk_length g }
-    ensures chunk_len { (i : ℕ) → i < length chunks.old → length (slice_index_or (contents chunks.new) i []) ≡ chunk_length g }
-    ensures written { (i z b : ℕ) → i < length lost.now → z < layer_count g → b < len →
-        HoldsByte (λ word. Completes g have.now word) (slice_index lost.now i) (slice_index_or (contents chunks.new) i []) (z * g.width + (at + b)) }
-    ensures kept { (i p : ℕ) →
-        HoldsByte (λ word. Completes g have.now word) (slice_index lost.now i) (slice_index_or (contents chunks.old) i []) p
-        → HoldsByte (λ word. Completes g have.now word) (slice_index lost.now i) (slice_index_or (contents chunks.new) i []) p }
-{
-    for (i, c) in lost.iter().enumerate() {
-        couple_chunk(g, have, plan, solved, *c, at, len, &mut chunks[i]);
-    }
-}
-
-/// Writes the bytes from `at` on of each subchunk of the missing chunks, as many as `len`, with room for them.
-fn recover_block(
-    g: Geometry,
-    have: &[Option<Vec<u8>>],
-    plan: &Plan,
-    lost: &[u32],
-    at: usize,
-    len: usize,
-    values: &mut [u8],
-    rows: &mut [u8],
-    solved: &mut [u8],
-    chunks: &mut [Vec<u8>],
-)
-    requires plan { IsLanePlan g have.now plan.now }
-    requires values_len { length values.old ≡ len }
-    requires within { at + len ≤ g.width }
-    requires rows_len { length rows.old ≡ length plan.now.points.items * len }
-    requires solved_len { length solved.old ≡ layer_count g * (length plan.now.points.items * len) }
-    requires lost { lost.now ≡ missing_of have.now }
-    requires chunk_count { length chunks.old ≡ length lost.now }
-    requires chunk_len { (i : ℕ) → i < length chunks.old → length (slice_index_or (contents chunks.old) i []) ≡ chunk_length g }
-    ensures chunk_len { (i : ℕ) → i < length chunks.old → length (slice_index_or (contents chunks.new) i []) ≡ chunk_length g }
-    ensures written { (i z b : ℕ) → i < length lost.now → z < layer_count g → b < len →
-        HoldsByte (λ word. Completes g have.now word) (slice_index lost.now i) (slice_index_or (contents chunks.new) i []) (z * g.width + (at + b)) }
-    ensures kept { (i p : ℕ) →
-        HoldsByte (λ word. Completes g have.now word) (slice_index lost.now i) (slice_index_or (contents chunks.old) i []) p
-        → HoldsByte (λ word. Completes g have.now word) (slice_index lost.now i) (slice_index_or (contents chunks.new) i []) p }
-{
-    solve_layers(g, have, plan, at, values, rows, solved);
-    couple_chunks(g, have, plan, solved, lost, at, len, chunks);
-}
-
-/// Writes the missing chunks, with room for a block: of one node's values, of the erased nodes' in one layer, and in all layers.
-fn recover_blocks(
-    g: Geometry,
-    have: &[Option<Vec<u8>>],
-    plan: &Plan,
-    lost: &[u32],
-    values: &mut [u8],
-    rows: &mut [u8],
-    solved: &mut [u8],
-    chunks: &mut [Vec<u8>],
-)
-    requires plan { IsLanePlan g have.now plan.now }
-    requires values_len { length values.old ≡ min g.width 4096 }
-    requires rows_len { length rows.old ≡ length plan.now.points.items * min g.width 4096 }
-    requires solved_len { length solved.old ≡ layer_count g * (length plan.now.points.items * min g.width 4096) }
-    requires lost { lost.now ≡ missing_of have.now }
-    requires chunk_count { length chunks.old ≡ length lost.now }
-    requires chunk_len { (i : ℕ) → i < length chunks.old → length (slice_index_or (contents chunks.old) i []) ≡ chunk_length g }
-    ensures chunk_len { (i : ℕ) → i < length chunks.old → length (slice_index_or (contents chunks.new) i []) ≡ chunk_length g }
-    ensures written { (i z b : ℕ) → i < length lost.now → z < layer_count g → b < g.width →
-        HoldsByte (λ word. Completes g have.now word) (slice_index lost.now i) (slice_index_or (contents chunks.new) i []) (z * g.width + b) }
-{
-    let w = g.w() as usize;
-    let layers = g.alpha() as usize;
-    let mut at = 0;
-    while at < w {
-        let len = BLOCK.min(w - at);
-        let part = plan.points.len() * len;
-        recover_block(
-            g,
-            have,
-            plan,
-            lost,
-            at,
-            len,
-            &mut values[..len],
-            &mut rows[..part],
-            &mut solved[..layers * part],
-            chunks,
-        );
-        at += len;
-    }
-}
-
-/// The numbers of the missing chunks, rising.
+// The numbers of the missing chunks, rising.
 fn missing_numbers(alloc: Global, have: &[Option<Vec<u8>>]) -> Result<Vec<u32>, AllocError>
     requires { length have.now ≤ 256 }
     ensures { IfOk result (λ v. v.items ≡ missing_of have.now) }
@@ -221,7 +199,7 @@ fn missing_numbers(alloc: Global, have: &[Option<Vec<u8>>]) -> Result<Vec<u32>, 
     Ok(numbers)
 }
 
-/// As many chunks of `len` zeros.
+// As many chunks of `len` zeros.
 fn zero_chunks(alloc: Global, count: usize, len: usize) -> Result<Vec<Vec<u8>>, AllocError>
     ensures count { IfOk result (λ v. length v.items ≡ count) }
     ensures lengths { IfOk result (λ v. (i : ℕ) → i < count → length (slice_index_or (contents v.items) i []) ≡ len) }
@@ -233,7 +211,7 @@ fn zero_chunks(alloc: Global, count: usize, len: usize) -> Result<Vec<Vec<u8>>, 
     Ok(chunks)
 }
 
-/// The missing chunks, which are no more than there are parity chunks.
+// The missing chunks, which are no more than there are parity chunks.
 fn recover_missing(
     alloc: Global,
     g: Geometry,
@@ -249,22 +227,20 @@ fn recover_missing(
         return Ok(Vec::new(alloc));
     }
     let plan = make_plan(alloc, g, have)?;
-    let len = BLOCK.min(g.w() as usize);
+    let block = Block {
+        g,
+        have,
+        plan: &plan,
+        at: 0,
+        len: g.w() as usize,
+    };
+    let len = BLOCK.min(block.len);
     let part = plan.points.len() * len;
     let mut values = zeros(alloc, len)?;
     let mut rows = zeros(alloc, part)?;
     let mut solved = zeros(alloc, g.alpha() as usize * part)?;
     let mut chunks = zero_chunks(alloc, lost.len(), g.chunk_len() as usize)?;
-    recover_blocks(
-        g,
-        have,
-        &plan,
-        &lost,
-        &mut values,
-        &mut rows,
-        &mut solved,
-        &mut chunks,
-    );
+    block.recover_parts(&lost, &mut values, &mut rows, &mut solved, &mut chunks);
     Ok(chunks)
 }
 
@@ -295,7 +271,7 @@ pub fn missing(
     Ok(recover_missing(alloc, g, have)?)
 }
 
-/// All chunks, from the missing ones by rising number: a copy of each that is there goes between them.
+// All chunks, from the missing ones by rising number: a copy of each that is there goes between them.
 fn with_present(
     alloc: Global,
     g: Geometry,

@@ -27,7 +27,7 @@ pub struct Plan {
     pub fifths: Products,
 }
 
-/// Whether the chunk of a node is missing. That of a virtual node never is.
+// Whether the chunk of a node is missing. That of a virtual node never is.
 fn is_missing(g: Geometry, have: &[Option<Vec<u8>>], node: u32) -> bool
     requires count { length have.now ≡ chunk_count g }
     requires node { node < node_count g }
@@ -39,7 +39,7 @@ fn is_missing(g: Geometry, have: &[Option<Vec<u8>>], node: u32) -> bool
     }
 }
 
-/// For each node, whether its chunk is missing.
+// For each node, whether its chunk is missing.
 fn erased_nodes(
     alloc: Global,
     g: Geometry,
@@ -66,7 +66,7 @@ pub fn is_column_erased(erased: &[bool], column: usize) -> bool
     erased[node] && erased[node + 1] && erased[node + 2] && erased[node + 3]
 }
 
-/// The numbers of the erased nodes, rising.
+// The numbers of the erased nodes, rising.
 fn erased_points(alloc: Global, erased: &[bool]) -> Result<Vec<u8>, AllocError>
     requires { length erased.now ≤ 256 }
     ensures { IfOk result (λ v. v.items ≡ erased_below erased.now (length erased.now)) }

@@ -1,3 +1,4 @@
+//! Coupling and uncoupling of subchunks, byte by byte.
 ghost use Rattle.std.specs.Prelude.{◌≡◌, EachIndex, slice_index, length, bit_xor};
 ghost use Rattle.clay_field.specs.Field.{product, quotient};
 
@@ -9,28 +10,28 @@ const HALF: u8 = 0x8E;
 /// The inverse of 5.
 const FIFTH: u8 = 0xA7;
 
-/// Twice a byte.
+// Twice a byte.
 fn twice(a: u8) -> u8
     ensures { result ≡ product 2 a }
 {
     mul(a, 2)
 }
 
-/// Half of a byte.
+// Half of a byte.
 fn half(a: u8) -> u8
     ensures { result ≡ quotient a 2 }
 {
     if a & 1 == 0 { a >> 1 } else { (a >> 1) ^ HALF }
 }
 
-/// A fifth of a byte.
+// A fifth of a byte.
 fn fifth(a: u8) -> u8
     ensures { result ≡ quotient a 5 }
 {
     mul(a, FIFTH)
 }
 
-/// Five times a byte.
+// Five times a byte.
 fn five_times(a: u8) -> u8
     ensures { result ≡ product 5 a }
 {

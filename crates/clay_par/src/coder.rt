@@ -11,7 +11,7 @@ use std::thread::Threads;
 /// The bytes of a stripe that are worth more than one thread.
 const SHARED: u32 = 1 << 20;
 
-/// Whether a call is coded in the thread of its caller alone, since starting others would take longer.
+// Whether a call is coded in the thread of its caller alone, since starting others would take longer.
 fn is_small(g: Geometry) -> bool {
     g.stripe_len() < SHARED
 }

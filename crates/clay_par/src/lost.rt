@@ -18,7 +18,7 @@ use std::alloc::{AllocError, Global};
 use std::thread;
 use std::thread::Threads;
 
-/// Writes the erased nodes' uncoupled values in a range. Where no chunk is missing there are none.
+// Writes the erased nodes' uncoupled values in a range. Where no chunk is missing there are none.
 fn solve(g: Geometry, have: &[Option<Vec<u8>>], plan: &Plan, range: &mut Range)
     requires plan { IsLanePlan g have.now plan.now }
     requires room { HasRoom g (length plan.now.points.items) (layer_count g) range.old }
@@ -39,7 +39,7 @@ fn solve(g: Geometry, have: &[Option<Vec<u8>>], plan: &Plan, range: &mut Range)
     );
 }
 
-/// Writes the erased nodes' uncoupled values in all ranges.
+// Writes the erased nodes' uncoupled values in all ranges.
 fn solve_all<R: Threads + Sync>(
     rt: &R,
     g: Geometry,
@@ -56,7 +56,7 @@ fn solve_all<R: Threads + Sync>(
     thread::for_each_mut(rt, ranges, threads, &|_, range| solve(g, have, plan, range));
 }
 
-/// Writes the bytes of a missing chunk that lie in a range.
+// Writes the bytes of a missing chunk that lie in a range.
 fn write_range(
     g: Geometry,
     have: &[Option<Vec<u8>>],
@@ -87,7 +87,7 @@ fn write_range(
     );
 }
 
-/// Writes a missing chunk from the values in the ranges.
+// Writes a missing chunk from the values in the ranges.
 fn write_chunk(
     g: Geometry,
     have: &[Option<Vec<u8>>],
@@ -109,7 +109,7 @@ fn write_chunk(
     }
 }
 
-/// A missing chunk, from the values in the ranges.
+// A missing chunk, from the values in the ranges.
 fn missing_chunk(
     alloc: Global,
     g: Geometry,
@@ -129,7 +129,7 @@ fn missing_chunk(
     Ok(chunk)
 }
 
-/// A chunk, which is copied where it is there.
+// A chunk, which is copied where it is there.
 fn chunk(
     alloc: Global,
     g: Geometry,
@@ -149,7 +149,7 @@ fn chunk(
     }
 }
 
-/// Each chunk, or that memory ran out.
+// Each chunk, or that memory ran out.
 fn each_chunk<R: Threads + Sync>(
     rt: &R,
     alloc: Global,
@@ -172,7 +172,7 @@ fn each_chunk<R: Threads + Sync>(
     )
 }
 
-/// All chunks, from the values in the ranges.
+// All chunks, from the values in the ranges.
 fn chunks<R: Threads + Sync>(
     rt: &R,
     alloc: Global,

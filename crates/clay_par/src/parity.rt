@@ -26,7 +26,7 @@ pub struct Group {
     pub solved: Vec<u8>,
 }
 
-/// A group of layers, with room for its values.
+// A group of layers, with room for its values.
 fn make_group(alloc: Global, g: Geometry, number: u32) -> Result<Group, AllocError>
     requires { number * row_count g + row_count g ≤ layer_count g }
     ensures room { IfOk result (HasRoom g) }
@@ -43,7 +43,7 @@ fn make_group(alloc: Global, g: Geometry, number: u32) -> Result<Group, AllocErr
     })
 }
 
-/// The groups of all layers, rising.
+// The groups of all layers, rising.
 fn make_groups(alloc: Global, g: Geometry) -> Result<Vec<Group>, AllocError>
     ensures { IfOk result (λ groups. AreGroups g groups.items) }
 {
@@ -55,7 +55,7 @@ fn make_groups(alloc: Global, g: Geometry) -> Result<Vec<Group>, AllocError>
     Ok(groups)
 }
 
-/// Writes the last column's uncoupled values in the layers of a group.
+// Writes the last column's uncoupled values in the layers of a group.
 fn solve(g: Geometry, generator: &Generator, stripe: &[u8], group: &mut Group)
     requires whole { length stripe.now ≡ stripe_length g }
     requires generator { IsLastGenerator g generator.now.unknown generator.now.each }
@@ -75,7 +75,7 @@ fn solve(g: Geometry, generator: &Generator, stripe: &[u8], group: &mut Group)
     );
 }
 
-/// Writes the last column's uncoupled values in the layers of all groups.
+// Writes the last column's uncoupled values in the layers of all groups.
 fn solve_all<R: Threads + Sync>(
     rt: &R,
     g: Geometry,
@@ -100,7 +100,7 @@ fn solve_all<R: Threads + Sync>(
     );
 }
 
-/// The parity chunk of a row, from the values of all groups.
+// The parity chunk of a row, from the values of all groups.
 fn parity_chunk(
     alloc: Global,
     g: Geometry,
@@ -127,7 +127,7 @@ fn parity_chunk(
     Ok(chunk)
 }
 
-/// For each row its parity chunk, or that memory ran out.
+// For each row its parity chunk, or that memory ran out.
 fn each_row<R: Threads + Sync>(
     rt: &R,
     alloc: Global,
@@ -147,7 +147,7 @@ fn each_row<R: Threads + Sync>(
     )
 }
 
-/// The parity chunks, by rising row, from the values of all groups.
+// The parity chunks, by rising row, from the values of all groups.
 fn parity_chunks<R: Threads + Sync>(
     rt: &R,
     alloc: Global,
@@ -178,7 +178,7 @@ pub fn parity<R: Threads + Sync>(
     parity_chunks(rt, alloc, g, &groups)
 }
 
-/// A data chunk, which is a piece of the stripe.
+// A data chunk, which is a piece of the stripe.
 fn data_chunk(
     alloc: Global,
     g: Geometry,
@@ -193,7 +193,7 @@ fn data_chunk(
     Vec::from_slice(alloc, &stripe[chunk * len..(chunk + 1) * len])
 }
 
-/// Each data chunk, or that memory ran out.
+// Each data chunk, or that memory ran out.
 fn each_piece<R: Threads + Sync>(
     rt: &R,
     alloc: Global,
@@ -213,7 +213,7 @@ fn each_piece<R: Threads + Sync>(
     )
 }
 
-/// The chunks that are pieces of the stripe.
+// The chunks that are pieces of the stripe.
 fn data_chunks<R: Threads + Sync>(
     rt: &R,
     alloc: Global,

@@ -19,14 +19,14 @@ pub struct Range {
     pub solved: Vec<u8>,
 }
 
-/// How many positions each range has, but for the last one.
+// How many positions each range has, but for the last one.
 fn range_len(g: Geometry) -> usize
     ensures { 0 < result }
 {
     (g.w() as usize / 4).clamp(FEWEST, BLOCK)
 }
 
-/// The range of `len` positions from `at` on, with room for the values of so many nodes and layers.
+// The range of `len` positions from `at` on, with room for the values of so many nodes and layers.
 fn make_range(
     alloc: Global,
     g: Geometry,

@@ -26,7 +26,7 @@ pub struct Piece {
     pub rows: Vec<u8>,
 }
 
-/// The piece of `len` positions from `at` on of a layer.
+// The piece of `len` positions from `at` on of a layer.
 fn make_piece(
     alloc: Global,
     g: Geometry,
@@ -50,7 +50,7 @@ fn make_piece(
     })
 }
 
-/// Adds the pieces of the `k`-th layer that is read.
+// Adds the pieces of the `k`-th layer that is read.
 fn cut_layer(
     alloc: Global,
     g: Geometry,
@@ -74,7 +74,7 @@ fn cut_layer(
     Ok(())
 }
 
-/// The pieces of all layers that are read.
+// The pieces of all layers that are read.
 fn make_pieces(alloc: Global, g: Geometry, plan: &RepairPlan) -> Result<Vec<Piece>, AllocError>
     requires { IsRepairPlan g plan.now }
     ensures { IfOk result (λ pieces. AreCut g plan.now (length plan.now.layers.items) pieces.items) }
@@ -86,7 +86,7 @@ fn make_pieces(alloc: Global, g: Geometry, plan: &RepairPlan) -> Result<Vec<Piec
     Ok(pieces)
 }
 
-/// Writes the uncoupled values of the lost node's column in a piece.
+// Writes the uncoupled values of the lost node's column in a piece.
 fn solve(g: Geometry, parts: &[Option<Vec<u8>>], plan: &RepairPlan, piece: &mut Piece)
     requires plan { IsRepairPlan g plan.now }
     requires parts { AreParts g plan.now.lost parts.now }
@@ -105,7 +105,7 @@ fn solve(g: Geometry, parts: &[Option<Vec<u8>>], plan: &RepairPlan, piece: &mut 
     );
 }
 
-/// Writes the uncoupled values of the lost node's column in all pieces.
+// Writes the uncoupled values of the lost node's column in all pieces.
 fn solve_all<R: Threads + Sync>(
     rt: &R,
     g: Geometry,
@@ -128,7 +128,7 @@ fn solve_all<R: Threads + Sync>(
     );
 }
 
-/// The pieces of all layers that are read, with the uncoupled values of the lost node's column.
+// The pieces of all layers that are read, with the uncoupled values of the lost node's column.
 fn solved_pieces<R: Threads + Sync>(
     rt: &R,
     alloc: Global,
@@ -145,8 +145,8 @@ fn solved_pieces<R: Threads + Sync>(
     Ok(pieces)
 }
 
-/// Writes the lost chunk's bytes at a piece's positions, in the layers that differ from the piece's at most in the digit of the lost node's
-/// column.
+// Writes the lost chunk's bytes at a piece's positions, in the layers that differ from the piece's at most in the digit of the lost node's
+// column.
 fn write_piece(
     g: Geometry,
     parts: &[Option<Vec<u8>>],
@@ -173,7 +173,7 @@ fn write_piece(
     );
 }
 
-/// Writes the lost chunk from the values in the pieces.
+// Writes the lost chunk from the values in the pieces.
 fn write_chunk(
     g: Geometry,
     parts: &[Option<Vec<u8>>],
@@ -192,7 +192,7 @@ fn write_chunk(
     }
 }
 
-/// The lost chunk from the values in the pieces.
+// The lost chunk from the values in the pieces.
 fn lost_chunk(
     alloc: Global,
     g: Geometry,

@@ -26,7 +26,7 @@ use std::alloc::{AllocError, Global};
 /// The most bytes of a node in a group of layers that are coded together. A call for each of short subchunks costs more than its work.
 pub const SHORT: usize = 1024;
 
-/// Adds what the bytes of a node outside the last column add, as if it had no partner.
+// Adds what the bytes of a node outside the last column add, as if it had no partner.
 fn add_own(
     g: Geometry,
     factors: &[Products],
@@ -50,7 +50,7 @@ fn add_own(
     }
 }
 
-/// Adds what a node outside the last column adds to the values of the last column, in the bytes from `at` on of layer `z`.
+// Adds what a node outside the last column adds to the values of the last column, in the bytes from `at` on of layer `z`.
 fn add_node(
     g: Geometry,
     generator: &Generator,
@@ -88,7 +88,7 @@ fn add_node(
     }
 }
 
-/// Writes the uncoupled values of the last column in the bytes from `at` on of layer `z`, a node after another.
+// Writes the uncoupled values of the last column in the bytes from `at` on of layer `z`, a node after another.
 fn solve_by_nodes(
     g: Geometry,
     generator: &Generator,
@@ -113,7 +113,7 @@ fn solve_by_nodes(
     }
 }
 
-/// The same where the generator has the factors of columns, with room for the values of one.
+// The same where the generator has the factors of columns, with room for the values of one.
 fn solve_by_columns(
     g: Geometry,
     generator: &Generator,
@@ -143,7 +143,7 @@ fn solve_by_columns(
     end_column(len, rows);
 }
 
-/// Writes the uncoupled values of the last column in the bytes from `at` on of layer `z`, with room for the values of a node and of a column.
+// Writes the uncoupled values of the last column in the bytes from `at` on of layer `z`, with room for the values of a node and of a column.
 fn solve_block(
     g: Geometry,
     generator: &Generator,
@@ -202,7 +202,7 @@ pub fn solve_rows(
     );
 }
 
-/// The same with the layers one behind another, with room for the values of a column and the rows.
+// The same with the layers one behind another, with room for the values of a column and the rows.
 fn solve_short(
     g: Geometry,
     generator: &Generator,
@@ -230,7 +230,7 @@ fn solve_short(
     transpose(q, w, rows, group);
 }
 
-/// Writes the uncoupled values of the last column in layer `z`, by blocks with a row for each node.
+// Writes the uncoupled values of the last column in layer `z`, by blocks with a row for each node.
 fn solve_layer(
     g: Geometry,
     generator: &Generator,
@@ -346,7 +346,7 @@ pub fn block(g: Geometry, group: &[u8], layer: u32, x: u32, at: usize, len: usiz
     &group[start..start + len]
 }
 
-/// Adds to the parity chunk of row `x` its subchunk of a layer of the group.
+// Adds to the parity chunk of row `x` its subchunk of a layer of the group.
 fn add_piece(
     g: Geometry,
     fifths: &Products,
@@ -393,7 +393,7 @@ pub fn last_column(alloc: Global, g: Geometry) -> Result<Generator, AllocError>
     Ok(generator)
 }
 
-/// As many empty chunks, each with room for its bytes.
+// As many empty chunks, each with room for its bytes.
 fn empty_chunks(alloc: Global, count: usize, len: usize) -> Result<Vec<Vec<u8>>, AllocError>
     ensures count { IfOk result (λ v. length v.items ≡ count) }
     ensures empty { IfOk result (λ v. (x : ℕ) → slice_index_or (contents v.items) x [] ≡ []) }
@@ -427,7 +427,7 @@ pub fn add_pieces(
     Ok(())
 }
 
-/// Adds to each parity chunk its subchunks of a group of layers.
+// Adds to each parity chunk its subchunks of a group of layers.
 fn add_group(
     g: Geometry,
     fifths: &Products,
@@ -449,7 +449,7 @@ fn add_group(
     Ok(())
 }
 
-/// Adds to each parity chunk its bytes, with room for the uncoupled values of a group of layers and for those of a node and of a column.
+// Adds to each parity chunk its bytes, with room for the uncoupled values of a group of layers and for those of a node and of a column.
 fn add_long_groups(
     g: Geometry,
     generator: &Generator,
@@ -478,7 +478,7 @@ fn add_long_groups(
     Ok(())
 }
 
-/// Adds to the parity chunk of row `x` its subchunks of a short group, with room for its partners' and its own.
+// Adds to the parity chunk of row `x` its subchunks of a short group, with room for its partners' and its own.
 fn add_short_row(
     g: Geometry,
     fifths: &Products,
@@ -503,7 +503,7 @@ fn add_short_row(
     Ok(())
 }
 
-/// Adds to each parity chunk its subchunks of a short group.
+// Adds to each parity chunk its subchunks of a short group.
 fn add_short_group(
     g: Geometry,
     fifths: &Products,
@@ -535,7 +535,7 @@ fn add_short_group(
     Ok(())
 }
 
-/// The same as `add_long_groups` where subchunks are short, all layers of a group together.
+// The same as `add_long_groups` where subchunks are short, all layers of a group together.
 fn add_short_groups(
     g: Geometry,
     generator: &Generator,
@@ -567,8 +567,8 @@ fn add_short_groups(
     Ok(())
 }
 
-/// Adds to each parity chunk its bytes, with room for the values of a node, for those of a column or of six nodes in a short group, and for
-/// the uncoupled values of a group.
+// Adds to each parity chunk its bytes, with room for the values of a node, for those of a column or of six nodes in a short group, and for
+// the uncoupled values of a group.
 fn add_groups(
     g: Geometry,
     generator: &Generator,
@@ -628,7 +628,7 @@ pub fn parity(alloc: Global, g: Geometry, stripe: &[u8]) -> Result<Vec<Vec<u8>>,
     Ok(chunks)
 }
 
-/// The chunks that are pieces of the stripe, with room for the parity chunks.
+// The chunks that are pieces of the stripe, with room for the parity chunks.
 fn data_chunks(alloc: Global, g: Geometry, stripe: &[u8]) -> Result<Vec<Vec<u8>>, AllocError>
     requires { length stripe.now ≡ stripe_length g }
     ensures { IfOk result (λ v. contents v.items ≡ data_pieces g stripe.now) }

@@ -14,7 +14,7 @@ use clay_grid::Geometry;
 use clay_kernels::{BLOCK, Generator, Products, couple, fifths, zeros};
 use std::alloc::{AllocError, Global};
 
-/// Writes the coupled bytes from `at` on of row `x` in a layer of the group, which are a block.
+// Writes the coupled bytes from `at` on of row `x` in a layer of the group, which are a block.
 fn write_block(
     g: Geometry,
     fifths: &Products,
@@ -43,7 +43,7 @@ fn write_block(
     }
 }
 
-/// Writes the coupled bytes of row `x` in a layer of the group, a subchunk.
+// Writes the coupled bytes of row `x` in a layer of the group, a subchunk.
 fn write_piece(g: Geometry, fifths: &Products, group: &[u8], x: u32, digit: u32, out: &mut [u8])
     requires fifths { fifths.now ≡ 0xA7 }
     requires group_len { length group.now ≡ g.parity_count * (g.parity_count * g.width) }
@@ -61,7 +61,7 @@ fn write_piece(g: Geometry, fifths: &Products, group: &[u8], x: u32, digit: u32,
     }
 }
 
-/// Writes the coupled bytes of row `x` in all layers of the group, one subchunk after another.
+// Writes the coupled bytes of row `x` in all layers of the group, one subchunk after another.
 fn write_pieces(g: Geometry, fifths: &Products, group: &[u8], x: u32, out: &mut [u8])
     requires fifths { fifths.now ≡ 0xA7 }
     requires group_len { length group.now ≡ g.parity_count * (g.parity_count * g.width) }
@@ -76,7 +76,7 @@ fn write_pieces(g: Geometry, fifths: &Products, group: &[u8], x: u32, out: &mut 
     }
 }
 
-/// Writes to each parity chunk its subchunks of a group of layers.
+// Writes to each parity chunk its subchunks of a group of layers.
 fn write_long_group(g: Geometry, fifths: &Products, number: u32, group: &[u8], out: &mut [u8])
     requires fifths { fifths.now ≡ 0xA7 }
     requires in_layers { number * row_count g + row_count g ≤ layer_count g }
@@ -93,7 +93,7 @@ fn write_long_group(g: Geometry, fifths: &Products, number: u32, group: &[u8], o
     }
 }
 
-/// The same of a group with short subchunks, with room for the partners of a row.
+// The same of a group with short subchunks, with room for the partners of a row.
 fn write_short_group(
     g: Geometry,
     fifths: &Products,
@@ -120,7 +120,7 @@ fn write_short_group(
     }
 }
 
-/// Writes the parity chunks, with room for the uncoupled values of a node, of a column and of a group of layers.
+// Writes the parity chunks, with room for the uncoupled values of a node, of a column and of a group of layers.
 fn write_long_groups(
     g: Geometry,
     generator: &Generator,
@@ -145,7 +145,7 @@ fn write_long_groups(
     }
 }
 
-/// The same where subchunks are short, all layers of a group together: `values` serves for a row's partners too.
+// The same where subchunks are short, all layers of a group together: `values` serves for a row's partners too.
 fn write_short_groups(
     g: Geometry,
     generator: &Generator,
@@ -170,8 +170,8 @@ fn write_short_groups(
     }
 }
 
-/// Writes the parity chunks, with room for the values of a node, for those of a column or of five nodes in a short group, and for the
-/// uncoupled values of a group.
+// Writes the parity chunks, with room for the values of a node, for those of a column or of five nodes in a short group, and for the
+// uncoupled values of a group.
 fn write_groups(
     g: Geometry,
     generator: &Generator,

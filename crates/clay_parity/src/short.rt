@@ -5,7 +5,7 @@ ghost use Rattle.clay_parity.specs.Short.{short_coupled};
 
 use clay_kernels::{Products, couple};
 
-/// Writes the pieces of `width` bytes at place `x` of each row, one behind another.
+// Writes the pieces of `width` bytes at place `x` of each row, one behind another.
 fn gather(count: usize, width: usize, rows: &[u8], x: usize, out: &mut [u8])
     requires few { count ≤ 8 }
     requires narrow { width ≤ 65536 }

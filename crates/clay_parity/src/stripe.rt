@@ -50,7 +50,7 @@ pub fn uncouple_node(
     }
 }
 
-/// Writes the bytes of a node outside the last column, which are 0 at a virtual one.
+// Writes the bytes of a node outside the last column, which are 0 at a virtual one.
 fn write_own(g: Geometry, stripe: &[u8], node: u32, z: u32, at: usize, out: &mut [u8])
     requires whole { length stripe.now ≡ stripe_length g }
     requires layer { z < layer_count g }
@@ -64,8 +64,8 @@ fn write_own(g: Geometry, stripe: &[u8], node: u32, z: u32, at: usize, out: &mut
     }
 }
 
-/// Writes the uncoupled value of the node in row `x` of a column of four other than the last, of which this is the partner, in the bytes from
-/// `at` on of layer `z`.
+// Writes the uncoupled value of the node in row `x` of a column of four other than the last, of which this is the partner, in the bytes from
+// `at` on of layer `z`.
 fn write_value(
     g: Geometry,
     stripe: &[u8],

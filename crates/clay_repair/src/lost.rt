@@ -12,7 +12,7 @@ use clay_model::{cross, uncouple};
 use clay_scalar::syndromes;
 use std::alloc::{AllocError, Global};
 
-/// A subchunk of a node other than the lost one, in a layer that is read.
+// A subchunk of a node other than the lost one, in a layer that is read.
 fn piece<'a>(
     g: Geometry,
     parts: &'a [Option<Vec<u8>>],
@@ -39,7 +39,7 @@ fn piece<'a>(
     }
 }
 
-/// Writes the uncoupled value of a node outside the lost node's column, whose partner stands in a layer that is read too.
+// Writes the uncoupled value of a node outside the lost node's column, whose partner stands in a layer that is read too.
 fn uncouple_node(
     g: Geometry,
     parts: &[Option<Vec<u8>>],
@@ -65,7 +65,7 @@ fn uncouple_node(
     }
 }
 
-/// Writes the uncoupled values of the nodes outside the lost node's column.
+// Writes the uncoupled values of the nodes outside the lost node's column.
 fn uncouple_layer(g: Geometry, parts: &[Option<Vec<u8>>], plan: &Plan, z: u32, layer: &mut [u8])
     requires plan { IsPlan g plan.now }
     requires parts { AreParts g plan.now.lost parts.now }
@@ -82,7 +82,7 @@ fn uncouple_layer(g: Geometry, parts: &[Option<Vec<u8>>], plan: &Plan, z: u32, l
     }
 }
 
-/// Writes the uncoupled values of the lost node's column, with room for a layer and for its sums.
+// Writes the uncoupled values of the lost node's column, with room for a layer and for its sums.
 fn solve_column(
     g: Geometry,
     parts: &[Option<Vec<u8>>],
@@ -105,8 +105,8 @@ fn solve_column(
     plan.solver.solve(g.w() as usize, sums, column);
 }
 
-/// Writes the lost chunk's subchunk in the layer that has the digit `x` of its column and differs from layer `z` nowhere else, from the
-/// uncoupled value of row `x` of that column in layer `z`.
+// Writes the lost chunk's subchunk in the layer that has the digit `x` of its column and differs from layer `z` nowhere else, from the
+// uncoupled value of row `x` of that column in layer `z`.
 fn write_subchunk(
     g: Geometry,
     parts: &[Option<Vec<u8>>],
@@ -133,7 +133,7 @@ fn write_subchunk(
     }
 }
 
-/// Writes the lost chunk's subchunks in the layers that differ from layer `z` at most in the digit of its column.
+// Writes the lost chunk's subchunks in the layers that differ from layer `z` at most in the digit of its column.
 fn write_row(
     g: Geometry,
     parts: &[Option<Vec<u8>>],
@@ -167,7 +167,7 @@ fn write_row(
     }
 }
 
-/// Writes the lost chunk, with room for a layer, for its sums and for a column.
+// Writes the lost chunk, with room for a layer, for its sums and for a column.
 fn write_chunk(
     g: Geometry,
     parts: &[Option<Vec<u8>>],

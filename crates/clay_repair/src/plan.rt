@@ -41,7 +41,7 @@ pub fn place_of(g: Geometry, y: u32, z: u32) -> u32
     z / stride / g.q() * stride + z % stride
 }
 
-/// For each node, whether it stands in a column.
+// For each node, whether it stands in a column.
 fn column_nodes(alloc: Global, g: Geometry, column: u32) -> Result<Vec<bool>, AllocError>
     ensures len { IfOk result (λ v. length v.items ≡ node_count g) }
     ensures value { IfOk result (λ v. (i : ℕ) → i < node_count g →
@@ -54,7 +54,7 @@ fn column_nodes(alloc: Global, g: Geometry, column: u32) -> Result<Vec<bool>, Al
     Ok(nodes)
 }
 
-/// The numbers of the nodes of a column, rising.
+// The numbers of the nodes of a column, rising.
 fn column_points(alloc: Global, g: Geometry, column: u32) -> Result<Vec<u8>, AllocError>
     requires { column < column_count g }
     ensures { IfOk result (λ v. v.items ≡ range_with_len (column * row_count g) (row_count g)) }

@@ -1,3 +1,4 @@
+//! The coefficients of Lagrange polynomials over points of the field.
 ghost use Rattle.std.specs.Prelude.{◌≡◌, ℕ, ◌+◌, ◌*◌, ◌<◌, ◌≤◌, ◌∷◌, EachIndex, slice_index, length, bit_xor};
 ghost use Rattle.clay_field.specs.Field.{product};
 ghost use Rattle.clay_scalar.specs.Points.{AreDistinct};
@@ -5,8 +6,8 @@ ghost use Rattle.clay_scalar.specs.Lagrange.{IsLagrange, AreLagrange};
 
 use clay_field::{inv, mul};
 
-/// Multiplies a polynomial, given by its coefficients, by `scale * (x + root)`, and drops the degree
-/// that has no place.
+// Multiplies a polynomial, given by its coefficients, by `scale * (x + root)`, and drops the degree
+// that has no place.
 fn multiply(polynomial: &mut [u8], root: u8, scale: u8)
     ensures { EachIndex polynomial.new (λ j.
         let own = slice_index polynomial.old j in
@@ -21,8 +22,8 @@ fn multiply(polynomial: &mut [u8], root: u8, scale: u8)
     }
 }
 
-/// Writes the coefficients of the polynomial that is 1 at the point of index `own` and 0 at the
-/// other points.
+// Writes the coefficients of the polynomial that is 1 at the point of index `own` and 0 at the
+// other points.
 fn write_polynomial(points: &[u8], own: usize, polynomial: &mut [u8])
     requires within { own < length points.now }
     requires distinct { AreDistinct points.now }

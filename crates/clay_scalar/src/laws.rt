@@ -1,3 +1,6 @@
+//! What holds of values at points and of their weighted sums. The functions do nothing: their
+//! contracts are the laws.
+
 ghost use Rattle.std.specs.Prelude.{ℕ, Bool, List};
 ghost use Rattle.clay_scalar.specs.Points.{AreDistinct, SumsTellValues};
 ghost use Rattle.clay_scalar.specs.Erased.{erased_below, ErasedValuesAreSolved};

@@ -1,3 +1,4 @@
+//! The weighted sums of a layer's values at the nodes that aren't erased.
 ghost use Rattle.std.specs.Prelude.{◌≡◌, ℕ, ◌+◌, ◌*◌, ◌<◌, ◌≤◌, slice_index, length, bit_xor};
 ghost use Rattle.clay_field.specs.Field.{product, power_of};
 ghost use Rattle.clay_grid.specs.Shape.{Shape, node_count};
@@ -30,8 +31,8 @@ pub fn syndromes(g: Geometry, values: &[u8], erased: &[bool], count: u32, out: &
     }
 }
 
-/// Adds the values at a point to the sums of `count` powers: to part `j` of `sums` the power `j` of
-/// the point times the values.
+// Adds the values at a point to the sums of `count` powers: to part `j` of `sums` the power `j` of
+// the point times the values.
 fn add_values(point: u8, values: &[u8], count: u32, sums: &mut [u8])
     requires { length sums.old ≡ count * length values.now }
     ensures { (j b : ℕ) → j < count → b < length values.now

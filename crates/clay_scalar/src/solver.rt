@@ -1,3 +1,4 @@
+//! The values at some points from their weighted sums, by interpolation.
 ghost use Rattle.std.specs.Prelude.{◌≡◌, ℕ, ◌+◌, ◌*◌, ◌<◌, ◌≤◌, IfOk, EachIndex, slice_index, length};
 ghost use Rattle.clay_field.specs.Field.{product};
 ghost use Rattle.clay_model.specs.Sums.{sum_below};
@@ -62,7 +63,7 @@ impl Solver {
     }
 }
 
-/// Writes the sum of the parts, each times its factor, where a part has as many bytes as `out`.
+// Writes the sum of the parts, each times its factor, where a part has as many bytes as `out`.
 fn combine(factors: &[u8], parts: &[u8], out: &mut [u8])
     requires { length parts.now ≡ length factors.now * length out.old }
     ensures { EachIndex out.new (λ b. slice_index out.new b

@@ -1,4 +1,4 @@
-// What the words ask for, as clap takes them apart.
+//! What the words ask for, as clap takes them apart.
 ghost use Rattle.std.specs.Prelude.{◌≡◌, Some, codes, ℕ, List, map, string_bytes, MatchOption, IfOk};
 ghost use Rattle.clap.specs.Words.{Row, first_of, found_of, rows_of, subcommand_rows_of};
 ghost use Rattle.clay_words.specs.Spelled.{AreHeld, HoldsCode, IsSpelled};

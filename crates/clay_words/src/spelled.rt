@@ -1,4 +1,4 @@
-// The form of a command's words.
+//! The form of a command's words: its name, and as many numbers as it has.
 ghost use Rattle.std.specs.Prelude.{◌≡◌, ◌↔◌, ◌∷◌, [], map, string_bytes, IsTrue};
 ghost use Rattle.clay_words.specs.Spelled.{IsSpelled};
 

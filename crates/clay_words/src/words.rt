@@ -1,4 +1,4 @@
-// The words that a command is asked for by.
+//! The commands and their tasks, each from a name and the words of its numbers.
 ghost use Rattle.std.specs.Prelude.{◌≡◌, ◌≢◌, ◌<◌, ◌≤◌, ◌^◌, ◌∷◌, [], codes, ℕ, MatchOption, decimal, IfSome, IfNone};
 ghost use Rattle.clay_grid.specs.Shape.{Shape};
 ghost use Rattle.clay_aloof.specs.Shape.{AloofShape, all_chunks};

@@ -17,7 +17,8 @@ use Rattle.call_steps.specs.declared.outcomes.Outcome.TheVariants as outcome
 use Rattle.call_steps.specs.declared.outcomes.Change.{Change}
 use Rattle.gather_parts.specs.Wanted.{parts_of}
 use Rattle.gather_parts.specs.Gatherings.{GatheringsOf, owed}
-use Rattle.gather_parts.specs.States.{state_by as gathering_state, unless_wanting, state_in}
+use Rattle.gather_parts.specs.Standings.{is_due}
+use Rattle.gather_parts.specs.States.{state_by as gathering_state, state_in}
 use Rattle.gather_parts.proofs.Handing.{open_short}
 use Rattle.write_course.proofs.OfTheCall.{steps_are_of_the_call}
 use Rattle.write_course.specs.Writings.{WritingOf, versions_of, begins_version}
@@ -39,7 +40,7 @@ fresh_short : (g : Shape) (tries : ℕ) (job : Job) (pairs : List (ℕ × ℕ)) 
     → next_call g job (record { pairs = pairs; at = state_in p Sequel.Draw }) Told.Short ≡ record { pairs = pairs; at = State.Ending CoreOutcome.NoMemory }
 fresh_short g tries job pairs p code fresh =
     ap (λ at. next_call g job (record { pairs = pairs; at = at }) Told.Short)
-    (λ i. unless_wanting (fresh.going i) (gathering_state (code i) (parts_of p.left) Sequel.Draw (fresh.none i)))
+    (λ i. gathering_state (code i) (parts_of p.left) Sequel.Draw (fresh i))
     ∙ open_short g tries job pairs Sequel.Draw (parts_of p.left)
 
 module _ (a : Inside) (kept : IsPatch a) (is : a.stage ≡ stage.Looked) where
@@ -57,16 +58,14 @@ module _ (a : Inside) (kept : IsPatch a) (is : a.stage ≡ stage.Looked) where
       ap (λ s. next_call a.opening.geometry (job_of a.call.now) s Told.Short) (sym at_look)
       ∙ fresh_short a.opening.geometry a.tries (job_of a.call.now) (pairs_in a.changes.items) a.gatherings (ap (λ book. book.geometry) kept.book) fresh
 
-  pub looked_coded : (changes : List Change) (now : GatheringsOf) (next : Stage) (short : Bool) → changes ≡ a.changes.items → IsBegun a.gatherings now next short
-      → record c { state = record { pairs = pairs_in changes; at = state_by next now a.writing outcome.NoMemory }; takes = now.takes; due = due_by next now a.writing; coding = short } ≡ coded short c
-  looked_coded changes now stage.Gathering false same begun =
-      λ i. record c { state = ((λ j. record { pairs = pairs_in (same j); at = begun.0 j }) ∙ at_look) i; takes = begun.3 i; due = begun.1 i; coding = false }
-  looked_coded changes now stage.Gathering true same begun =
-      λ i. record c { state = ((λ j. record { pairs = pairs_in (same j); at = begun.0 j }) ∙ sym wanting) i; takes = begun.2 i; due = begun.1 i; coding = true }
-  looked_coded changes now stage.Ending true same begun =
-      λ i. record c { state = ((λ j. record { pairs = pairs_in (same j); at = State.Ending CoreOutcome.NoMemory }) ∙ sym wanting) i; takes = ap (λ (p : GatheringsOf). p.takes) begun i; due = false; coding = true }
-  looked_coded changes now stage.Ending false same begun = absurd begun
-  looked_coded changes now _ short same begun = absurd begun
+  -- it gathers after its coding, or ends its pass
+  module _ (changes : List Change) (now : GatheringsOf) (same : changes ≡ a.changes.items) (takes : now.takes ≡ a.gatherings.takes) where
+    pub begun_coded : IsBegun a.gatherings now
+        → record c { state = record { pairs = pairs_in changes; at = state_in now Sequel.Draw }; takes = now.takes; due = is_due now; coding = false } ≡ coded false c
+    begun_coded begun = λ i. record c { state = ((λ j. record { pairs = pairs_in (same j); at = begun.state j }) ∙ at_look) i; takes = takes i; due = begun.due i; coding = false }
+
+    pub short_coded : record c { state = record { pairs = pairs_in changes; at = State.Ending CoreOutcome.NoMemory }; takes = now.takes; due = false; coding = true } ≡ coded true c
+    short_coded = λ i. record c { state = ((λ j. record { pairs = pairs_in (same j); at = State.Ending CoreOutcome.NoMemory }) ∙ sym wanting) i; takes = takes i; due = false; coding = true }
 
 no_end : (act : Act) → need_by act false ≡ need.Coder → ⊥
 no_end (Act.Finish outcome) e = cc
@@ -98,7 +97,7 @@ module _ (a : Inside) (kept : IsPatch a) (old : PatchOf) (view : patch_in a ≡ 
 
   pub coding_due : a.writing.due ≡ true
   coding_due =
-      codes a.opening.geometry a.tries (job_of a.call.now) (pairs_in a.changes.items) a.number (note_of a.call.now) (versions_of a.writing.stamps) a.token a.writing.state a.writing.due coding_keeps.1
+      codes a.opening.geometry a.tries (job_of a.call.now) (pairs_in a.changes.items) a.number (note_of a.call.now) (versions_of a.writing.stamps) a.ticket a.writing.state a.writing.due coding_keeps.1
       (ap (λ s. need_by (act_at a.opening.geometry a.tries (job_of a.call.now) (pairs_in a.changes.items) (state_by s a.gatherings a.writing a.outcome)) (due_by s a.gatherings a.writing)) (sym coding_is) ∙ needs_here)
 
   -- its chunks are made
@@ -115,7 +114,7 @@ module _ (a : Inside) (kept : IsPatch a) (old : PatchOf) (view : patch_in a ≡ 
         subst (λ s. Keeps s (record a { writing = now; coding = coding })) (sym coding_is)
         (subst (λ (w : WritingOf). Keeps stage.Writing (record a { writing = w; coding = coding })) (sym same) (
           record { book_is = coding_keeps.0.book_is; first = coding_keeps.0.first; count = coding_keeps.0.count; contents = coding_keeps.0.contents },
-          short_has a.number (note_of a.call.now) (versions_of a.writing.stamps) a.token a.writing.state coding_keeps.1 begins,
+          short_has a.number (note_of a.call.now) (versions_of a.writing.stamps) a.ticket a.writing.state coding_keeps.1 begins,
           λ write. room_before a.writing.state begins (coding_keeps.2 write),
           coding_keeps.3,
         ))
@@ -127,7 +126,7 @@ module _ (a : Inside) (kept : IsPatch a) (old : PatchOf) (view : patch_in a ≡ 
 
     pub wanting_knows : (d : Sealed) → KnowsOld d (patch_in (record a { writing = now; coding = coding }))
     wanting_knows d =
-        let known : Type 0 = IfInCall a.token (λ held. AreOldBytes d.stamps a.opening (note_of a.call.now) a.size (owed a.gatherings) held.pass) in
+        let known : Type 0 = IfInCall a.ticket (λ held. AreOldBytes d.stamps a.opening (note_of a.call.now) a.size (owed a.gatherings) held.pass) in
         let at : state_by a.stage a.gatherings now a.outcome ≡ State.Ending CoreOutcome.NoMemory = (λ i. state_by (coding_is i) a.gatherings (same i) a.outcome) in
         subst (λ at. UpToDraw at known) (sym at) tt
 

@@ -72,23 +72,23 @@ module _ (a : Inside) (kept : IsPatch a) (old : PatchOf) (view : patch_in a ≡ 
   pub writing_commits : is_committing a.writing.state ≡ true
   writing_commits = ap (λ s. is_committing (state_by s a.gatherings a.writing a.outcome)) (sym commit_is) ∙ commits_here
 
-  pub commit_holding : IsHolding a.number (note_of a.call.now) (versions_of a.writing.stamps) a.token
-  commit_holding = holds_to_commit a.number (note_of a.call.now) (versions_of a.writing.stamps) a.token a.writing.state commit_keeps.1 writing_commits
+  pub commit_holding : IsHolding a.number (note_of a.call.now) (versions_of a.writing.stamps) a.ticket
+  commit_holding = holds_to_commit a.number (note_of a.call.now) (versions_of a.writing.stamps) a.ticket a.writing.state commit_keeps.1 writing_commits
 
   pub commit_may : (d : Directory) (placed : List (List Placement)) → d.shape ≡ a.opening.geometry → length placed ≡ length a.writing.stamps → All (IsRow a.writing.book.geometry) placed
-      → MayMake d a.token a.number (DirectoryStep.Commit placed)
+      → MayMake d a.ticket a.number (DirectoryStep.Commit placed)
   commit_may d placed shape count whole =
       let versions : length (versions_of a.writing.stamps) ≡ length a.writing.stamps = length-map a.writing.stamps (λ stamp. stamp.version) in
-      may_commit d a.number (note_of a.call.now) (versions_of a.writing.stamps) a.token placed commit_holding (to_write a.call.now commit_holding commit_keeps.3)
+      may_commit d a.number (note_of a.call.now) (versions_of a.writing.stamps) a.ticket placed commit_holding (to_write a.call.now commit_holding commit_keeps.3)
       (versions ∙ commit_keeps.0.count ∙ ap (λ g. length (touched (record d { shape = g }) (note_of a.call.now))) (sym shape))
       (count ∙ sym versions)
       (subst (λ g. All (IsRow g) placed) (ap (λ (book : BookOf). book.geometry) commit_keeps.0.book_is ∙ sym shape) whole)
 
   -- a commit that finds the object changed is a write's
-  pub told_change : (d after : Directory) (placed : List (List Placement)) (base newer : ℕ) → Agrees d a.token
-      → (after, Told.Changed base newer) ≡ at_directory false (actor_of a.token) a.number (DirectoryStep.Commit placed) d → is_write a.call.now ≡ true
+  pub told_change : (d after : Directory) (placed : List (List Placement)) (base newer : ℕ) → Agrees d a.ticket
+      → (after, Told.Changed base newer) ≡ at_directory false (actor_of a.ticket) a.number (DirectoryStep.Commit placed) d → is_write a.call.now ≡ true
   told_change d after placed base newer agrees made =
-      overtaken_writes a.call.now a.number (versions_of a.writing.stamps) a.token d after placed base newer commit_keeps.3 commit_holding agrees made
+      overtaken_writes a.call.now a.number (versions_of a.writing.stamps) a.ticket d after placed base newer commit_keeps.3 commit_holding agrees made
 
   pub commit_room : is_write a.call.now ≡ true → length a.changes.items < vec_capacity a.changes
   commit_room write = room_of a.writing.state writing_commits (commit_keeps.2 write)
@@ -99,14 +99,14 @@ module _ (a : Inside) (kept : IsPatch a) (old : PatchOf) (view : patch_in a ≡ 
 
   module _ (point : ℕ) (placed : List (List Placement)) (committed : a.writing.state ≡ State.Committing (versions_of a.writing.stamps) placed) (w : WritingOf)
       (w_is : w ≡ record (a.writing) { state = settle_state point (places_of (chunk_count a.writing.book.geometry) (versions_of a.writing.stamps)) })
-      (token : ActorToken) (token_is : token ≡ token_after a.token a.number (DirectoryStep.Commit placed) (Told.Done point)) where
+      (token : ActorToken) (token_is : token ≡ token_after a.ticket a.number (DirectoryStep.Commit placed) (Told.Done point)) where
     seated : IsSeated token
-    seated = seated_by a.token token a.number (DirectoryStep.Commit placed) commit_holding.held (Told.Done point) commit_holding.is token_is tt
+    seated = seated_by a.ticket token a.number (DirectoryStep.Commit placed) commit_holding.held (Told.Done point) commit_holding.is token_is tt
 
-    pub done_kept : (now : Inside) → now ≡ record a { token = token; writing = w; changes = now.changes; coding = false; step = false } → Keeps a.stage now
+    pub done_kept : (now : Inside) → now ≡ record a { ticket = token; writing = w; changes = now.changes; coding = false; step = false } → Keeps a.stage now
     done_kept now same =
         subst (λ s. Keeps s now) (sym commit_is) (subst (Keeps stage.Writing) (sym same)
-        (subst (λ (w : WritingOf). Keeps stage.Writing (record a { token = token; writing = w; changes = now.changes; coding = false; step = false })) (sym w_is) (
+        (subst (λ (w : WritingOf). Keeps stage.Writing (record a { ticket = token; writing = w; changes = now.changes; coding = false; step = false })) (sym w_is) (
           record { book_is = commit_keeps.0.book_is; first = commit_keeps.0.first; count = commit_keeps.0.count; contents = commit_keeps.0.contents },
           settle_has a.number (note_of a.call.now) (versions_of a.writing.stamps) token point (places_of (chunk_count a.writing.book.geometry) (versions_of a.writing.stamps)) seated,
           λ write. settle_room point (places_of (chunk_count a.writing.book.geometry) (versions_of a.writing.stamps)) (length now.changes.items) (vec_capacity now.changes),
@@ -114,7 +114,7 @@ module _ (a : Inside) (kept : IsPatch a) (old : PatchOf) (view : patch_in a ≡ 
         )))
 
     pub done_step : (before after : Directory) (pairs : List (ℕ × ℕ)) → pairs ≡ []
-        → (after, Told.Done point) ≡ at_directory false (actor_of a.token) a.number (DirectoryStep.Commit placed) before
+        → (after, Told.Done point) ≡ at_directory false (actor_of a.ticket) a.number (DirectoryStep.Commit placed) before
         → (after, record ((patch_in a).call) { token = token; state = call_at pairs (state_by a.stage a.gatherings w a.outcome); due = due_by a.stage a.gatherings w; coding = false; step = false })
         ≡ stepped_at_directory false (due_by a.stage a.gatherings w) old.call before
     done_step before after pairs none made =

@@ -121,7 +121,7 @@ module _ (a : Inside) (kept : IsPatch a) (old : PatchOf) (view : patch_in a ≡ 
       let ends : EndsSo (state_in a.gatherings Sequel.Draw) = ungathered_ends a.gatherings k.1 in
       let is : finished_of (state_in a.gatherings Sequel.Draw) ≡ State.Finished (ends.outcome) = ap finished_of ends.is in
       absurd (cc)
-  draws_by stage.Writing k e n = absurd (subst (HasToken a.number (note_of a.call.now) (versions_of a.writing.stamps) a.token) e k.1)
+  draws_by stage.Writing k e n = absurd (subst (HasToken a.number (note_of a.call.now) (versions_of a.writing.stamps) a.ticket) e k.1)
   draws_by stage.GivenUp k e n =
       let is : finished_of a.writing.state ≡ State.Finished (k.1.ending) = ap finished_of k.1.is in
       absurd (cc)
@@ -134,7 +134,7 @@ module _ (a : Inside) (kept : IsPatch a) (old : PatchOf) (view : patch_in a ≡ 
   draw_keeps : Keeps stage.Gathering a
   draw_keeps = subst (λ s. Keeps s a) draw_is kept.kept
 
-  pub holding : IsHolding a.number (note_of a.call.now) [] a.token
+  pub holding : IsHolding a.number (note_of a.call.now) [] a.ticket
   holding = draw_keeps.0
 
   -- all old bytes have come
@@ -148,8 +148,8 @@ module _ (a : Inside) (kept : IsPatch a) (old : PatchOf) (view : patch_in a ≡ 
   write_known : (d : Sealed) → KnowsOld d old → AreOldBytes d.stamps a.opening (note_of a.call.now) a.size a.gatherings.bytes holding.held.pass
   write_known d knows =
       let here : KnowsOld d (patch_in a) = subst (KnowsOld d) (sym view) knows in
-      let token : IfInCall a.token (λ held. AreOldBytes d.stamps a.opening (note_of a.call.now) a.size (owed a.gatherings) held.pass)
-      = subst (λ at. UpToDraw at (IfInCall a.token (λ held. AreOldBytes d.stamps a.opening (note_of a.call.now) a.size (owed a.gatherings) held.pass))) at_draw here in
+      let token : IfInCall a.ticket (λ held. AreOldBytes d.stamps a.opening (note_of a.call.now) a.size (owed a.gatherings) held.pass)
+      = subst (λ at. UpToDraw at (IfInCall a.ticket (λ held. AreOldBytes d.stamps a.opening (note_of a.call.now) a.size (owed a.gatherings) held.pass))) at_draw here in
       subst (λ bytes. AreOldBytes d.stamps a.opening (note_of a.call.now) a.size bytes holding.held.pass) has_bytes
       (subst (λ t. IfInCall t (λ held. AreOldBytes d.stamps a.opening (note_of a.call.now) a.size (owed a.gatherings) held.pass)) holding.is token)
 
@@ -159,7 +159,7 @@ module _ (a : Inside) (kept : IsPatch a) (old : PatchOf) (view : patch_in a ≡ 
       by : (is_put a.call.now ≡ true) ⊎ (is_write a.call.now ≡ true) → AreOldBytes d.stamps a.opening (note_of a.call.now) a.size a.gatherings.bytes holding.held.pass
       by (inr write) = write_known d (knows write)
       by (inl put) =
-          let nothing : PinsNothing a.token × GathersNothing a.gatherings = draw_keeps.3 put in
+          let nothing : PinsNothing a.ticket × GathersNothing a.gatherings = draw_keeps.3 put in
           old_of_nothing d.stamps a.opening (note_of a.call.now) a.size a.gatherings.bytes holding.held.pass (subst PinsNothing holding.is nothing.0) nothing.1.no_bytes
 
   draws : act_of ((patch_in a).call) ≡ Act.AtDirectory DirectoryStep.Draw
@@ -167,7 +167,7 @@ module _ (a : Inside) (kept : IsPatch a) (old : PatchOf) (view : patch_in a ≡ 
 
   -- the stamps
   pub draw_stamps : (s : Sealed) (short : Bool) (after : Directory) (versions : List ℕ) (stamps : List StampOf) (request : RequestOf)
-      → (after, Told.Versions versions) ≡ at_directory short (actor_of a.token) a.number DirectoryStep.Draw s.core
+      → (after, Told.Versions versions) ≡ at_directory short (actor_of a.ticket) a.number DirectoryStep.Draw s.core
       → request ≡ request_of (patch_in a).call a.call.now → AreDrawnFor s holding.held (Some request) stamps → stamps ≡ stamps_drawn short s old.call old.written
   draw_stamps s short after versions stamps request made request_is drawn =
       drawn_stamps s (patch_in a).call a.call.now holding.held short after versions stamps request draws holding.is made request_is drawn
@@ -194,8 +194,8 @@ module _ (a : Inside) (kept : IsPatch a) (old : PatchOf) (view : patch_in a ≡ 
       → s.book ≡ a.opening → s.book.geometry ≡ s.core.shape → request ≡ request_of (patch_in a).call a.call.now → AreDrawnFor s holding.held (Some request) stamps → (is_write a.call.now ≡ true → KnowsOld s old)
       → w.stamps ≡ stamps → w.book ≡ a.opening → w.first ≡ (note_of a.call.now).offset / stripe_length a.opening.geometry
       → w.state ≡ prepare_all_state a.opening.geometry (versions_of w.stamps) w.first (versions_of w.stamps) []
-      → token ≡ token_after a.token a.number DirectoryStep.Draw (Told.Versions (versions_of w.stamps))
-      → Keeps stage.Writing (record a { stage = stage.Writing; token = token; writing = w; coding = coding; step = step })
+      → token ≡ token_after a.ticket a.number DirectoryStep.Draw (Told.Versions (versions_of w.stamps))
+      → Keeps stage.Writing (record a { stage = stage.Writing; ticket = token; writing = w; coding = coding; step = step })
   draw_kept s stamps request token w coding step its code request_is drawn knows w_stamps w_book first state_is token_is =
       let held : HeldPass = holding.held in
       let who : holding.held.pass.actor ≡ a.actor = ap actor_of (sym holding.is) ∙ kept.actor_is in

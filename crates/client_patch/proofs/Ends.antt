@@ -22,8 +22,8 @@ use Rattle.call_steps.specs.TokenAfter.{token_after, IsSeated}
 use Rattle.gather_parts.specs.Wanted.{Wanted, parts_of}
 use Rattle.gather_parts.specs.Gatherings.{GatheringsOf}
 use Rattle.gather_parts.specs.declared.standing.Standing.TheVariants as standing
-use Rattle.gather_parts.specs.Standings.{standing_at, standing_by, unless_short, standing_of, is_due_at, is_due}
-use Rattle.gather_parts.specs.States.{state_by as gathering_state, unless_wanting, state_in}
+use Rattle.gather_parts.specs.Standings.{standing_at, standing_by, standing_of, is_due_at, is_due}
+use Rattle.gather_parts.specs.States.{state_by as gathering_state, state_in}
 use Rattle.write_course.specs.Laws.{call_at}
 use Rattle.write_course.specs.Writings.{versions_of}
 use Rattle.client_patch.specs.Patches.{PatchOf}
@@ -46,15 +46,14 @@ no_directory (Act.AtServer server step) e = cc
 
 -- gatherings of which the end is next have ended without their bytes
 module _ (g : Shape) (tries : ℕ) (job : Job) (pairs : List (ℕ × ℕ)) (parts : List Part) where
-  ungathered_by : (coding : Bool) (current : Option GatherOf) (left : List Wanted)
-      → need_by (act_at g tries job pairs (unless_wanting coding (gathering_state g parts Sequel.Draw current))) (is_due_at (unless_short coding (standing_by g current left))) ≡ need.Directory
-      → (left ≡ [] → parts ≡ []) → is_ending (unless_wanting coding (gathering_state g parts Sequel.Draw current)) ≡ true → IsUngathered (unless_short coding (standing_by g current left))
-  ungathered_by true current left e same h = tt
-  ungathered_by false None (wanted ∷ left) e same h = absurd (no_directory (act_at g tries job pairs (open_parts g parts Sequel.Draw)) e)
-  ungathered_by false None [] e same h =
+  ungathered_by : (current : Option GatherOf) (left : List Wanted)
+      → need_by (act_at g tries job pairs (gathering_state g parts Sequel.Draw current)) (is_due_at (standing_by g current left)) ≡ need.Directory
+      → (left ≡ [] → parts ≡ []) → is_ending (gathering_state g parts Sequel.Draw current) ≡ true → IsUngathered (standing_by g current left)
+  ungathered_by None (wanted ∷ left) e same h = absurd (no_directory (act_at g tries job pairs (open_parts g parts Sequel.Draw)) e)
+  ungathered_by None [] e same h =
       let none : is_ending (open_parts g parts Sequel.Draw) ≡ false = ap (λ parts. is_ending (open_parts g parts Sequel.Draw)) (same refl) in
       absurd (cc)
-  ungathered_by false (Some w) left e same h = by w.course.stage e h
+  ungathered_by (Some w) left e same h = by w.course.stage e h
     where
       by : (stage : GatherStage) → need_by (act_at g tries job pairs (stage_state (open_parts g parts Sequel.Draw) w.course.aim parts Sequel.Draw stage)) (is_due_at (standing_at g w.course.aim stage)) ≡ need.Directory
           → is_ending (stage_state (open_parts g parts Sequel.Draw) w.course.aim parts Sequel.Draw stage) ≡ true → IsUngathered (standing_at g w.course.aim stage)
@@ -67,17 +66,16 @@ module _ (g : Shape) (tries : ℕ) (job : Job) (pairs : List (ℕ × ℕ)) (part
 
 pub ungathered_at : (p : GatheringsOf) (tries : ℕ) (job : Job) (pairs : List (ℕ × ℕ)) → need_by (act_at p.book.geometry tries job pairs (state_in p Sequel.Draw)) (is_due p) ≡ need.Directory
     → is_ending (state_in p Sequel.Draw) ≡ true → IsUngathered (standing_of p)
-ungathered_at p tries job pairs e h = ungathered_by p.book.geometry tries job pairs (parts_of p.left) p.coding p.current p.left e (ap parts_of) h
+ungathered_at p tries job pairs e h = ungathered_by p.book.geometry tries job pairs (parts_of p.left) p.current p.left e (ap parts_of) h
 
 -- gatherings of which the draw is next are done
 module _ (g : Shape) (tries : ℕ) (job : Job) (pairs : List (ℕ × ℕ)) (parts : List Part) where
-  done_by : (coding : Bool) (current : Option GatherOf) (left : List Wanted)
-      → need_by (act_at g tries job pairs (unless_wanting coding (gathering_state g parts Sequel.Draw current))) (is_due_at (unless_short coding (standing_by g current left))) ≡ need.Directory
-      → unless_wanting coding (gathering_state g parts Sequel.Draw current) ≡ State.Drawing → unless_short coding (standing_by g current left) ≡ standing.Done
-  done_by true current left e h = absurd (cc)
-  done_by false None (wanted ∷ left) e h = absurd (no_directory (act_at g tries job pairs (open_parts g parts Sequel.Draw)) e)
-  done_by false None [] e h = refl
-  done_by false (Some w) left e h = by w.course.stage e h
+  done_by : (current : Option GatherOf) (left : List Wanted)
+      → need_by (act_at g tries job pairs (gathering_state g parts Sequel.Draw current)) (is_due_at (standing_by g current left)) ≡ need.Directory
+      → gathering_state g parts Sequel.Draw current ≡ State.Drawing → standing_by g current left ≡ standing.Done
+  done_by None (wanted ∷ left) e h = absurd (no_directory (act_at g tries job pairs (open_parts g parts Sequel.Draw)) e)
+  done_by None [] e h = refl
+  done_by (Some w) left e h = by w.course.stage e h
     where
       by : (stage : GatherStage) → need_by (act_at g tries job pairs (stage_state (open_parts g parts Sequel.Draw) w.course.aim parts Sequel.Draw stage)) (is_due_at (standing_at g w.course.aim stage)) ≡ need.Directory
           → stage_state (open_parts g parts Sequel.Draw) w.course.aim parts Sequel.Draw stage ≡ State.Drawing → standing_at g w.course.aim stage ≡ standing.Done
@@ -90,7 +88,7 @@ module _ (g : Shape) (tries : ℕ) (job : Job) (pairs : List (ℕ × ℕ)) (part
 
 pub done_at : (p : GatheringsOf) (tries : ℕ) (job : Job) (pairs : List (ℕ × ℕ)) → need_by (act_at p.book.geometry tries job pairs (state_in p Sequel.Draw)) (is_due p) ≡ need.Directory
     → state_in p Sequel.Draw ≡ State.Drawing → standing_of p ≡ standing.Done
-done_at p tries job pairs e h = done_by p.book.geometry tries job pairs (parts_of p.left) p.coding p.current p.left e h
+done_at p tries job pairs e h = done_by p.book.geometry tries job pairs (parts_of p.left) p.current p.left e h
 
 module _ (a : Inside) (kept : IsPatch a) (old : PatchOf) (view : patch_in a ≡ old) (needs : need_of old.call ≡ need.Directory) (ending : is_ending old.call.state.at ≡ true) where
   ends_here : is_ending (state_by a.stage a.gatherings a.writing a.outcome) ≡ true
@@ -111,23 +109,23 @@ module _ (a : Inside) (kept : IsPatch a) (old : PatchOf) (view : patch_in a ≡ 
       cc
 
   -- the token that ends
-  holding_by : (s : Stage) → Keeps s a → is_ending (state_by s a.gatherings a.writing a.outcome) ≡ true → IsPassing a.number (note_of a.call.now) a.token
+  holding_by : (s : Stage) → Keeps s a → is_ending (state_by s a.gatherings a.writing a.outcome) ≡ true → IsPassing a.number (note_of a.call.now) a.ticket
   holding_by stage.Looking k h = absurd (cc)
   holding_by stage.Looked k h = record { drawn = []; holding = k.0 }
   holding_by stage.Gathering k h = record { drawn = []; holding = k.0 }
   holding_by stage.Ungathered k h = absurd (not_ungathered k h)
-  holding_by stage.Writing k h = record { drawn = _; holding = (holds_to_end a.number (note_of a.call.now) (versions_of a.writing.stamps) a.token a.writing.state k.1 h).0 }
+  holding_by stage.Writing k h = record { drawn = _; holding = (holds_to_end a.number (note_of a.call.now) (versions_of a.writing.stamps) a.ticket a.writing.state k.1 h).0 }
   holding_by stage.GivenUp k h = absurd (not_given_up k h)
   holding_by stage.Ending k h = k
   holding_by stage.Finished k h = absurd (cc)
 
-  pub end_holding : IsPassing a.number (note_of a.call.now) a.token
+  pub end_holding : IsPassing a.number (note_of a.call.now) a.ticket
   end_holding = holding_by a.stage kept.kept ends_here
 
   -- what is kept then
   kept_by : (s : Stage) → Keeps s a → is_ending (state_by s a.gatherings a.writing a.outcome) ≡ true
       → need_by (act_at a.opening.geometry a.tries (job_of a.call.now) (pairs_in a.changes.items) (state_by s a.gatherings a.writing a.outcome)) (due_by s a.gatherings a.writing) ≡ need.Directory
-      → (next : Stage) (token : ActorToken) (coding step : Bool) → IsSeated token → Keeps (after_end s) (record a { stage = next; token = token; coding = coding; step = step })
+      → (next : Stage) (token : ActorToken) (coding step : Bool) → IsSeated token → Keeps (after_end s) (record a { stage = next; ticket = token; coding = coding; step = step })
   kept_by stage.Looking k h n next token coding step seated = absurd (cc)
   kept_by stage.Looked k h n next token coding step seated = absurd (no_directory (act_at a.opening.geometry a.tries (job_of a.call.now) (pairs_in a.changes.items) (state_in a.gatherings Sequel.Draw)) n)
   kept_by stage.Gathering k h n next token coding step seated = (
@@ -136,12 +134,12 @@ module _ (a : Inside) (kept : IsPatch a) (old : PatchOf) (view : patch_in a ≡ 
         (subst (λ book. need_by (act_at book.geometry a.tries (job_of a.call.now) (pairs_in a.changes.items) (state_in a.gatherings Sequel.Draw)) (is_due a.gatherings) ≡ need.Directory) (sym kept.book) n) h,
   )
   kept_by stage.Ungathered k h n next token coding step seated = absurd (not_ungathered k h)
-  kept_by stage.Writing k h n next token coding step seated = (seated, (holds_to_end a.number (note_of a.call.now) (versions_of a.writing.stamps) a.token a.writing.state k.1 h).1)
+  kept_by stage.Writing k h n next token coding step seated = (seated, (holds_to_end a.number (note_of a.call.now) (versions_of a.writing.stamps) a.ticket a.writing.state k.1 h).1)
   kept_by stage.GivenUp k h n next token coding step seated = absurd (not_given_up k h)
   kept_by stage.Ending k h n next token coding step seated = seated
   kept_by stage.Finished k h n next token coding step seated = absurd (cc)
 
-  pub end_kept : (next : Stage) (token : ActorToken) (coding step : Bool) → IsSeated token → Keeps (after_end a.stage) (record a { stage = next; token = token; coding = coding; step = step })
+  pub end_kept : (next : Stage) (token : ActorToken) (coding step : Bool) → IsSeated token → Keeps (after_end a.stage) (record a { stage = next; ticket = token; coding = coding; step = step })
   end_kept = kept_by a.stage kept.kept ends_here needs_here
 
   -- where it stands then
@@ -168,7 +166,7 @@ module _ (a : Inside) (kept : IsPatch a) (old : PatchOf) (view : patch_in a ≡ 
   due_then stage.Finished = refl
 
   pub end_step : (next : Stage) → next ≡ after_end a.stage → (token : ActorToken) (before after : Directory)
-      → (after, Told.Ended) ≡ at_directory false (actor_of a.token) a.number DirectoryStep.End before → token ≡ token_after a.token a.number DirectoryStep.End Told.Ended
+      → (after, Told.Ended) ≡ at_directory false (actor_of a.ticket) a.number DirectoryStep.End before → token ≡ token_after a.ticket a.number DirectoryStep.End Told.Ended
       → (after, record ((patch_in a).call) { token = token; state = call_at (pairs_in a.changes.items) (state_by next a.gatherings a.writing a.outcome); due = due_by next a.gatherings a.writing; coding = false; step = false })
       ≡ stepped_at_directory false (due_by next a.gatherings a.writing) old.call before
   end_step next is token before after made token_is =

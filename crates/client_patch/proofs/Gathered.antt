@@ -14,8 +14,8 @@ use Rattle.call_steps.specs.declared.need.Need.TheVariants as need
 use Rattle.call_steps.specs.Steps.{need_by}
 use Rattle.gather_parts.specs.Wanted.{Wanted, parts_of}
 use Rattle.gather_parts.specs.Gatherings.{GatheringsOf}
-use Rattle.gather_parts.specs.Standings.{standing_at, standing_by, unless_short, standing_of, is_due_at, is_due}
-use Rattle.gather_parts.specs.States.{state_by, unless_wanting, state_in}
+use Rattle.gather_parts.specs.Standings.{standing_at, standing_by, standing_of, is_due_at, is_due}
+use Rattle.gather_parts.specs.States.{state_by, state_in}
 use Rattle.call_steps.specs.Ends.{point_ended, point_of}
 use Rattle.client_patch.specs.Known.{UpToDraw}
 use Rattle.client_patch.specs.Holds.{IsUngathered}
@@ -27,14 +27,12 @@ pub record EndsSo (at : State) : Type 0 where
   pub pointless : point_ended outcome ≡ None
 
 module _ (g : Shape) (parts : List Part) where
-  ends_by : (coding : Bool) (current : Option GatherOf) (left : List Wanted) → IsUngathered (unless_short coding (standing_by g current left))
-      → EndsSo (unless_wanting coding (state_by g parts Sequel.Draw current))
-  ends_by true current left h = record { outcome = CoreOutcome.NoMemory; is = refl; pointless = refl }
-  ends_by false None [] h = absurd h
-  ends_by false None (wanted ∷ left) h = absurd h
-  ends_by false (Some w) left h = by w.course.stage h
+  ends_by : (current : Option GatherOf) (left : List Wanted) → IsUngathered (standing_by g current left) → EndsSo (state_by g parts Sequel.Draw current)
+  ends_by None [] h = absurd h
+  ends_by None (wanted ∷ left) h = absurd h
+  ends_by (Some w) left h = by w.course.stage h
     where
-      by : (stage : Stage) → IsUngathered (unless_short false (standing_at g w.course.aim stage))
+      by : (stage : Stage) → IsUngathered (standing_at g w.course.aim stage)
           → EndsSo (stage_state (open_parts g parts Sequel.Draw) w.course.aim parts Sequel.Draw stage)
       by (Stage.Asks asking) h = absurd h
       by Stage.HasBytes h = absurd h
@@ -44,7 +42,7 @@ module _ (g : Shape) (parts : List Part) where
       by Stage.Short h = record { outcome = _; is = refl; pointless = refl }
 
 pub ungathered_ends : (p : GatheringsOf) → IsUngathered (standing_of p) → EndsSo (state_in p Sequel.Draw)
-ungathered_ends p h = ends_by p.book.geometry (parts_of p.left) p.coding p.current p.left h
+ungathered_ends p h = ends_by p.book.geometry (parts_of p.left) p.current p.left h
 
 -- while it gathers there is no point
 module _ (g : Shape) where
@@ -60,13 +58,12 @@ module _ (g : Shape) where
   open_pointless [] = refl
   open_pointless (part ∷ parts) = stage_pointless (open_parts g parts Sequel.Draw) (Aim.Range part) parts (first_stage g (Aim.Range part)) (open_pointless parts)
 
-  pointless_by : (parts : List Part) (coding : Bool) (current : Option GatherOf) → None ≡ point_of (unless_wanting coding (state_by g parts Sequel.Draw current))
-  pointless_by parts true current = refl
-  pointless_by parts false None = open_pointless parts
-  pointless_by parts false (Some w) = stage_pointless (open_parts g parts Sequel.Draw) w.course.aim parts w.course.stage (open_pointless parts)
+  pointless_by : (parts : List Part) (current : Option GatherOf) → None ≡ point_of (state_by g parts Sequel.Draw current)
+  pointless_by parts None = open_pointless parts
+  pointless_by parts (Some w) = stage_pointless (open_parts g parts Sequel.Draw) w.course.aim parts w.course.stage (open_pointless parts)
 
 pub gathering_pointless : (p : GatheringsOf) → None ≡ point_of (state_in p Sequel.Draw)
-gathering_pointless p = pointless_by p.book.geometry (parts_of p.left) p.coding p.current
+gathering_pointless p = pointless_by p.book.geometry (parts_of p.left) p.current
 
 -- a server is asked up to the draw
 no_server : (act : Act) (server : ℕ) → need_by act true ≡ need.Server server → ⊥
@@ -75,12 +72,11 @@ no_server (Act.AtDirectory step) server e = cc
 no_server (Act.AtServer other step) server e = cc
 
 module _ (g : Shape) (tries : ℕ) (job : Job) (pairs : List (ℕ × ℕ)) (H : Type 0) where
-  asks_by : (parts : List Part) (coding : Bool) (current : Option GatherOf) (left : List Wanted) (server : ℕ)
-      → need_by (act_at g tries job pairs (unless_wanting coding (state_by g parts Sequel.Draw current))) (is_due_at (unless_short coding (standing_by g current left))) ≡ need.Server server
-      → UpToDraw (unless_wanting coding (state_by g parts Sequel.Draw current)) H → H
-  asks_by parts true current left server e h = absurd (cc)
-  asks_by parts false None (wanted ∷ left) server e h = absurd (no_server (act_at g tries job pairs (open_parts g parts Sequel.Draw)) server e)
-  asks_by parts false None [] server e h = open_by parts e h
+  asks_by : (parts : List Part) (current : Option GatherOf) (left : List Wanted) (server : ℕ)
+      → need_by (act_at g tries job pairs (state_by g parts Sequel.Draw current)) (is_due_at (standing_by g current left)) ≡ need.Server server
+      → UpToDraw (state_by g parts Sequel.Draw current) H → H
+  asks_by parts None (wanted ∷ left) server e h = absurd (no_server (act_at g tries job pairs (open_parts g parts Sequel.Draw)) server e)
+  asks_by parts None [] server e h = open_by parts e h
     where
       stage_by : (part : Part) (parts : List Part) (stage : Stage) → need_by (act_at g tries job pairs (stage_state (open_parts g parts Sequel.Draw) (Aim.Range part) parts Sequel.Draw stage)) false ≡ need.Server server
           → UpToDraw (stage_state (open_parts g parts Sequel.Draw) (Aim.Range part) parts Sequel.Draw stage) H → (need_by (act_at g tries job pairs (open_parts g parts Sequel.Draw)) false ≡ need.Server server → UpToDraw (open_parts g parts Sequel.Draw) H → H) → H
@@ -94,7 +90,7 @@ module _ (g : Shape) (tries : ℕ) (job : Job) (pairs : List (ℕ × ℕ)) (H : 
       open_by : (parts : List Part) → need_by (act_at g tries job pairs (open_parts g parts Sequel.Draw)) false ≡ need.Server server → UpToDraw (open_parts g parts Sequel.Draw) H → H
       open_by [] e h = h
       open_by (part ∷ parts) e h = stage_by part parts (first_stage g (Aim.Range part)) e h (open_by parts)
-  asks_by parts false (Some w) left server e h = by w.course.stage e h
+  asks_by parts (Some w) left server e h = by w.course.stage e h
     where
       by : (stage : Stage) → need_by (act_at g tries job pairs (stage_state (open_parts g parts Sequel.Draw) w.course.aim parts Sequel.Draw stage)) (is_due_at (standing_at g w.course.aim stage)) ≡ need.Server server
           → UpToDraw (stage_state (open_parts g parts Sequel.Draw) w.course.aim parts Sequel.Draw stage) H → H
@@ -107,7 +103,7 @@ module _ (g : Shape) (tries : ℕ) (job : Job) (pairs : List (ℕ × ℕ)) (H : 
 
 pub asks_up_to_draw : (H : Type 0) (p : GatheringsOf) (tries : ℕ) (job : Job) (pairs : List (ℕ × ℕ)) (server : ℕ)
     → need_by (act_at p.book.geometry tries job pairs (state_in p Sequel.Draw)) (is_due p) ≡ need.Server server → UpToDraw (state_in p Sequel.Draw) H → H
-asks_up_to_draw H p tries job pairs server e h = asks_by p.book.geometry tries job pairs H (parts_of p.left) p.coding p.current p.left server e h
+asks_up_to_draw H p tries job pairs server e h = asks_by p.book.geometry tries job pairs H (parts_of p.left) p.current p.left server e h
 
 -- what is known holds at any state
 pub known_at : (H : Type 0) (at : State) → H → UpToDraw at H
@@ -141,11 +137,10 @@ module _ {A : Type 0} (f : State → A) (v : A) (asked : (aim : Aim) (asking : A
   open_gives [] = drawing
   open_gives (part ∷ parts) = stage_gives (open_parts g parts Sequel.Draw) (Aim.Range part) parts (first_stage g (Aim.Range part)) (open_gives parts)
 
-  pub gives_by : (parts : List Part) (coding : Bool) (current : Option GatherOf) → f (unless_wanting coding (state_by g parts Sequel.Draw current)) ≡ v
-  gives_by parts true current = ending CoreOutcome.NoMemory
-  gives_by parts false None = open_gives parts
-  gives_by parts false (Some w) = stage_gives (open_parts g parts Sequel.Draw) w.course.aim parts w.course.stage (open_gives parts)
+  pub gives_by : (parts : List Part) (current : Option GatherOf) → f (state_by g parts Sequel.Draw current) ≡ v
+  gives_by parts None = open_gives parts
+  gives_by parts (Some w) = stage_gives (open_parts g parts Sequel.Draw) w.course.aim parts w.course.stage (open_gives parts)
 
 pub gathering_gives : {A : Type 0} (f : State → A) (v : A) → ((aim : Aim) (asking : Asking) (parts : List Part) (after : Sequel) → f (State.Gather aim asking parts after) ≡ v)
     → f State.Drawing ≡ v → ((outcome : CoreOutcome) → f (State.Ending outcome) ≡ v) → (p : GatheringsOf) → f (state_in p Sequel.Draw) ≡ v
-gathering_gives f v asked drawing ending p = gives_by f v asked drawing ending p.book.geometry (parts_of p.left) p.coding p.current
+gathering_gives f v asked drawing ending p = gives_by f v asked drawing ending p.book.geometry (parts_of p.left) p.current

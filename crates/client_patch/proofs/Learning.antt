@@ -23,7 +23,7 @@ use Rattle.store_sound.proofs.SoundLists.{at_all, found_at}
 use Rattle.store_sound.proofs.SoundStripes.{pins_within}
 use Rattle.version_seal.specs.Entry.{BookOf, StampOf, old_bytes}
 use Rattle.dir_parts.specs.Parts.{object_or_new}
-use Rattle.stripe_dir.specs.declared.answers.Seen.{Seen}
+use Rattle.call_steps.specs.declared.seen.Seen.{Seen}
 use Rattle.stripe_dir.specs.Answers.{seen_in}
 use Rattle.stripe_dir.specs.AnswerStamps.{IsSeenIn}
 use Rattle.stripe_dir.specs.Sealed.{Sealed, base_stamp}

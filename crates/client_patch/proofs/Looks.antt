@@ -26,7 +26,7 @@ use Rattle.store_resume.specs.CallLaws.{next_call}
 use Rattle.store_resume.specs.LookAfter.{start_after}
 use Rattle.version_seal.specs.Entry.{BookOf}
 use Rattle.stripe_dir.specs.Answers.{seen_in, told_or_short, told_look}
-use Rattle.stripe_dir.specs.declared.answers.Seen.{Seen as AnswerSeen}
+use Rattle.call_steps.specs.declared.seen.Seen.{Seen as AnswerSeen}
 use Rattle.call_steps.specs.declared.need.Need.TheVariants as need
 use Rattle.call_steps.specs.CallOf.{act_of}
 use Rattle.call_steps.specs.Steps.{need_by, need_of, stepped_at_directory}
@@ -99,13 +99,13 @@ module _ (a : Inside) (kept : IsPatch a) (old : PatchOf) (view : patch_in a ≡ 
   at_start : state_by a.stage a.gatherings a.writing a.outcome ≡ State.Start
   at_start = ap (λ (p : PatchOf). p.call.state.at) view ∙ first
 
-  seated_here : IsSeated a.token
+  seated_here : IsSeated a.ticket
   seated_here = subst (λ (p : PatchOf). IsSeated p.call.token) (sym view) seated
 
-  no_pass : (drawn : List ℕ) → IsHolding a.number (note_of a.call.now) drawn a.token → ⊥
+  no_pass : (drawn : List ℕ) → IsHolding a.number (note_of a.call.now) drawn a.ticket → ⊥
   no_pass drawn h = subst IsSeated h.is seated_here
 
-  waits_by : (s : Stage) → Keeps s a → state_by s a.gatherings a.writing a.outcome ≡ State.Start → IsWaiting a.number a.token
+  waits_by : (s : Stage) → Keeps s a → state_by s a.gatherings a.writing a.outcome ≡ State.Start → IsWaiting a.number a.ticket
   waits_by stage.Looking k e = k.0
   waits_by stage.Looked k e = absurd (no_pass [] k.0)
   waits_by stage.Gathering k e = absurd (no_pass [] k.0)
@@ -113,19 +113,19 @@ module _ (a : Inside) (kept : IsPatch a) (old : PatchOf) (view : patch_in a ≡ 
       let ends : EndsSo (state_in a.gatherings Sequel.Draw) = ungathered_ends a.gatherings k.1 in
       let is : finished_of (state_in a.gatherings Sequel.Draw) ≡ State.Finished (ends.outcome) = ap finished_of ends.is in
       absurd (cc)
-  waits_by stage.Writing k e = absurd (subst (HasToken a.number (note_of a.call.now) (versions_of a.writing.stamps) a.token) e k.1)
+  waits_by stage.Writing k e = absurd (subst (HasToken a.number (note_of a.call.now) (versions_of a.writing.stamps) a.ticket) e k.1)
   waits_by stage.GivenUp k e =
       let is : finished_of a.writing.state ≡ State.Finished (k.1.ending) = ap finished_of k.1.is in
       absurd (cc)
   waits_by stage.Ending k e = absurd (cc)
   waits_by stage.Finished k e = absurd (cc)
 
-  pub waits : IsWaiting a.number a.token
+  pub waits : IsWaiting a.number a.ticket
   waits = waits_by a.stage kept.kept at_start
 
 -- a put draws next, a write gathers
 goes_on : (written : Call) (now : Inside) (stripes : List Seen) (left : List Wanted) → IsPatchLook written (Told.Ready None 0 stripes) → now.call.now ≡ written → (is_put written ≡ true → left ≡ [])
-    → (h : IsHolding now.number (note_of now.call.now) [] now.token) → h.held.pass.pinned ≡ map pin_of stripes → IsFresh now.gatherings → now.gatherings.left ≡ left → now.gatherings.bytes ≡ []
+    → (h : IsHolding now.number (note_of now.call.now) [] now.ticket) → h.held.pass.pinned ≡ map pin_of stripes → IsFresh now.gatherings → now.gatherings.left ≡ left → now.gatherings.bytes ≡ []
     → Keeps (to_draw written) now
 goes_on (call.Write name offset content) now stripes left fits is none h pins fresh rest bytes = (h, fresh, ap is_write is)
 goes_on (call.Put name content) now stripes left fits is none h pins fresh rest bytes = (
@@ -134,33 +134,33 @@ goes_on (call.Put name content) now stripes left fits is none h pins fresh rest 
   ap is_drawing is,
   λ put. (
     subst PinsNothing (sym h.is) (pins ∙ ap (map pin_of) (fits.1 refl)),
-    record { idle = fresh.none; none_left = rest ∙ none refl; no_bytes = bytes; going = fresh.going },
+    record { idle = fresh; none_left = rest ∙ none refl; no_bytes = bytes },
   ),
 )
 goes_on _ now stripes left fits is none h pins fresh rest bytes = absurd (cc)
 
 -- by the answer
-pub look_kept : (told : Told) (a now : Inside) (left : List Wanted) → IsPatchLook a.call.now told → IsLooked a.call.now told now.stage → IsWaiting a.number a.token
-    → now.token ≡ token_after a.token a.number (DirectoryStep.Look (note_of a.call.now)) told → now.number ≡ a.number → now.call.now ≡ a.call.now → IfReady told (now.gatherings ≡ begun a.gatherings left)
+pub look_kept : (told : Told) (a now : Inside) (left : List Wanted) → IsPatchLook a.call.now told → IsLooked a.call.now told now.stage → IsWaiting a.number a.ticket
+    → now.ticket ≡ token_after a.ticket a.number (DirectoryStep.Look (note_of a.call.now)) told → now.number ≡ a.number → now.call.now ≡ a.call.now → IfReady told (now.gatherings ≡ begun a.gatherings left)
     → (is_put a.call.now ≡ true → left ≡ []) → Keeps now.stage now
-look_kept (Told.Answer point answer) a now left fits goes waiting token number written begins none = by a.token waiting token
+look_kept (Told.Answer point answer) a now left fits goes waiting token number written begins none = by a.ticket waiting token
   where
-    by : (t : ActorToken) → IsWaiting a.number t → now.token ≡ token_after t a.number (DirectoryStep.Look (note_of a.call.now)) (Told.Answer point answer) → Keeps now.stage now
+    by : (t : ActorToken) → IsWaiting a.number t → now.ticket ≡ token_after t a.number (DirectoryStep.Look (note_of a.call.now)) (Told.Answer point answer) → Keeps now.stage now
     by (ActorToken.Seated seat) w e = subst (λ s. Keeps s now) (sym goes) (subst IsSeated (sym e) tt)
     by (ActorToken.InCall held) w e = absurd w
-look_kept Told.Short a now left fits goes waiting token number written begins none = by a.token waiting token
+look_kept Told.Short a now left fits goes waiting token number written begins none = by a.ticket waiting token
   where
-    by : (t : ActorToken) → IsWaiting a.number t → now.token ≡ token_after t a.number (DirectoryStep.Look (note_of a.call.now)) Told.Short → Keeps now.stage now
+    by : (t : ActorToken) → IsWaiting a.number t → now.ticket ≡ token_after t a.number (DirectoryStep.Look (note_of a.call.now)) Told.Short → Keeps now.stage now
     by (ActorToken.Seated seat) w e = subst (λ s. Keeps s now) (sym goes) (subst IsSeated (sym e) tt)
     by (ActorToken.InCall held) w e = absurd w
-look_kept (Told.Ready base size stripes) a now left fits goes waiting token number written begins none = by a.token waiting token
+look_kept (Told.Ready base size stripes) a now left fits goes waiting token number written begins none = by a.ticket waiting token
   where
-    by : (t : ActorToken) → IsWaiting a.number t → now.token ≡ token_after t a.number (DirectoryStep.Look (note_of a.call.now)) (Told.Ready base size stripes) → Keeps now.stage now
+    by : (t : ActorToken) → IsWaiting a.number t → now.ticket ≡ token_after t a.number (DirectoryStep.Look (note_of a.call.now)) (Told.Ready base size stripes) → Keeps now.stage now
     by (ActorToken.Seated seat) w e =
         subst (λ s. Keeps s now) (sym goes)
         (goes_on a.call.now now stripes left fits written none
         (record { held = _; is = e; its = ap note_of (sym written); its_number = sym number; its_drawn = refl })
-        refl (record { none = ap (λ (p : GatheringsOf). p.current) begins; going = ap (λ (p : GatheringsOf). p.coding) begins })
+        refl (ap (λ (p : GatheringsOf). p.current) begins)
         (ap (λ (p : GatheringsOf). p.left) begins) (ap (λ (p : GatheringsOf). p.bytes) begins))
     by (ActorToken.InCall held) w e = absurd w
 look_kept _ a now left fits goes waiting token number written begins none = absurd fits
@@ -202,8 +202,8 @@ module _ (a : Inside) (kept : IsPatch a) (old : PatchOf) (view : patch_in a ≡ 
       (ap (λ at. need_by (act_at a.opening.geometry a.tries (job_of a.call.now) (pairs_in a.changes.items) at) (due_by a.stage a.gatherings a.writing)) (sym start_here)
       ∙ ap (λ (p : PatchOf). need_of p.call) view ∙ needs))
 
-  pub look_step : (told : Told) → IsPatchLook a.call.now told → (short due : Bool) (before after : Directory) → (after, told) ≡ at_directory short (actor_of a.token) a.number (DirectoryStep.Look (note_of a.call.now)) before
-      → (token : ActorToken) → token ≡ token_after a.token a.number (DirectoryStep.Look (note_of a.call.now)) told
+  pub look_step : (told : Told) → IsPatchLook a.call.now told → (short due : Bool) (before after : Directory) → (after, told) ≡ at_directory short (actor_of a.ticket) a.number (DirectoryStep.Look (note_of a.call.now)) before
+      → (token : ActorToken) → token ≡ token_after a.ticket a.number (DirectoryStep.Look (note_of a.call.now)) told
       → (at : State) → at ≡ open_state a.gatherings.book.geometry (start_after a.gatherings.book.geometry (note_of a.call.now).kind (job_of a.call.now) told)
       → (takes : List ℕ) → takes ≡ a.gatherings.takes
       → (after, record ((patch_in a).call) { token = token; state = call_at (pairs_in a.changes.items) at; takes = takes; due = due; coding = false; step = short }) ≡ stepped_at_directory short due old.call before

@@ -66,19 +66,19 @@ module _ (a : Inside) (is : IsPatch a) (whole : HasWholeRows a.writing) where
   at_stage now =
       record ((patch_in a).call) { state = record { pairs = pairs_in a.changes.items; at = state_by now a.gatherings a.writing a.outcome }; due = due_by now a.gatherings a.writing }
 
-  looks : IsWaiting a.number a.token → (written : Call) → a.call.now ≡ written → is_change written ≡ true → MayBy (at_stage stage.Looking) (act_at a.opening.geometry a.tries (job_of written) (pairs_in a.changes.items) (state_by stage.Looking a.gatherings a.writing a.outcome))
+  looks : IsWaiting a.number a.ticket → (written : Call) → a.call.now ≡ written → is_change written ≡ true → MayBy (at_stage stage.Looking) (act_at a.opening.geometry a.tries (job_of written) (pairs_in a.changes.items) (state_by stage.Looking a.gatherings a.writing a.outcome))
   looks waits (call.Write name offset content) e patch = by (nat_lt (length (pairs_in a.changes.items)) a.tries)
     where
       by : (b : Bool) → MayBy (at_stage stage.Looking) (cond b (Act.AtDirectory (DirectoryStep.Look (note_of (call.Write name offset content)))) (Act.Finish (Outcome.Contended (pairs_in a.changes.items))))
-      by true = λ d shape. may_look d a.token a.number (call.Write name offset content) refl (subst IsClient (sym is.actor_is) is.client) waits
+      by true = λ d shape. may_look d a.ticket a.number (call.Write name offset content) refl (subst IsClient (sym is.actor_is) is.client) waits
       by false = tt
-  looks waits (call.Put name content) e patch = λ d shape. may_look d a.token a.number (call.Put name content) refl (subst IsClient (sym is.actor_is) is.client) waits
-  looks waits (call.Delete name) e patch = λ d shape. may_look d a.token a.number (call.Delete name) refl (subst IsClient (sym is.actor_is) is.client) waits
+  looks waits (call.Put name content) e patch = λ d shape. may_look d a.ticket a.number (call.Put name content) refl (subst IsClient (sym is.actor_is) is.client) waits
+  looks waits (call.Delete name) e patch = λ d shape. may_look d a.ticket a.number (call.Delete name) refl (subst IsClient (sym is.actor_is) is.client) waits
   looks waits (call.Get name) e patch = absurd (true≢false (sym patch))
   looks waits (call.ReadAt name offset count) e patch = absurd (true≢false (sym patch))
   looks waits (call.Stat name) e patch = absurd (true≢false (sym patch))
 
-  gathers : (now : Stage) → (at_stage now).state.at ≡ state_in a.gatherings Sequel.Draw → IsHolding a.number (note_of a.call.now) [] a.token → is_drawing a.call.now ≡ true → MayBy (at_stage now) (act_of (at_stage now))
+  gathers : (now : Stage) → (at_stage now).state.at ≡ state_in a.gatherings Sequel.Draw → IsHolding a.number (note_of a.call.now) [] a.ticket → is_drawing a.call.now ≡ true → MayBy (at_stage now) (act_of (at_stage now))
   gathers now e h draws =
       subst (λ at. MayBy (at_stage now) (act_at a.opening.geometry a.tries (job_of a.call.now) (pairs_in a.changes.items) at)) (sym e)
       (subst (λ (book : BookOf). MayBy (at_stage now) (act_at book.geometry a.tries (job_of a.call.now) (pairs_in a.changes.items) (state_in a.gatherings Sequel.Draw))) is.book

@@ -24,7 +24,7 @@ use Rattle.call_steps.specs.CallOf.{act_of}
 use Rattle.call_steps.specs.Ends.{finished_of}
 use Rattle.gather_parts.specs.Wanted.{parts_of}
 use Rattle.gather_parts.specs.Gatherings.{GatheringsOf}
-use Rattle.gather_parts.specs.States.{state_by as gathering_state, unless_wanting, state_in}
+use Rattle.gather_parts.specs.States.{state_by as gathering_state, state_in}
 use Rattle.write_course.specs.Writings.{versions_of}
 use Rattle.write_course.specs.Holding.{IsHolding, HasToken}
 use Rattle.client_patch.specs.Kept.{old_of, kept_count, kept_from}
@@ -70,7 +70,7 @@ old_of_nothing stamps book note size kept pass pins none =
 
 -- ---- nothing is gathered
 pub nothing_stands : (p : GatheringsOf) → GathersNothing p → state_in p Sequel.Draw ≡ State.Drawing
-nothing_stands p nothing = λ i. unless_wanting (nothing.going i) (gathering_state p.book.geometry (parts_of (nothing.none_left i)) Sequel.Draw (nothing.idle i))
+nothing_stands p nothing = λ i. gathering_state p.book.geometry (parts_of (nothing.none_left i)) Sequel.Draw (nothing.idle i)
 
 -- ---- what a put keeps
 pub kind_so : (a : Inside) (p : PatchOf) → IsPatch a → patch_in a ≡ p → is_put p.written ≡ true → p.call.job.note.kind ≡ Kind.Put
@@ -111,7 +111,7 @@ module _ (a : Inside) (put : is_put a.call.now ≡ true) where
   ends_by stage.Ungathered k end f =
       let ends : EndsSo (state_in a.gatherings Sequel.Draw) = ungathered_ends a.gatherings k.1 in
       subst EndsAt (sym (ap finished_of ends.is)) (finished_ends ends.outcome) end f
-  ends_by stage.Writing k end f = has_ends a.number (note_of a.call.now) (versions_of a.writing.stamps) a.token a.writing.state k.1 end f
+  ends_by stage.Writing k end f = has_ends a.number (note_of a.call.now) (versions_of a.writing.stamps) a.ticket a.writing.state k.1 end f
   ends_by stage.GivenUp k end f = subst EndsAt (sym (ap finished_of k.1.is)) (finished_ends k.1.ending) end f
   ends_by stage.Ending k end f = absurd (cc)
   ends_by stage.Finished k end f = finished_ends _ end f

@@ -37,7 +37,7 @@ module _ (a : Inside) (kept : IsPatch a) (old : PatchOf) (view : patch_in a ≡ 
       → KnowsOld d (patch_in (record a { gatherings = p; coding = coding; step = step }))
   gathering_knows is p same coding step d knows =
       let before : KnowsOld d (patch_in a) = subst (KnowsOld d) (sym view) knows in
-      let known : List ℕ → Type 0 = λ bytes. IfInCall a.token (λ held. AreOldBytes d.stamps a.opening (note_of a.call.now) a.size bytes held.pass) in
+      let known : List ℕ → Type 0 = λ bytes. IfInCall a.ticket (λ held. AreOldBytes d.stamps a.opening (note_of a.call.now) a.size bytes held.pass) in
       let asked : need_by (act_at a.gatherings.book.geometry a.tries (job_of a.call.now) (pairs_in a.changes.items) (state_in a.gatherings Sequel.Draw)) (due_by stage.Gathering a.gatherings a.writing) ≡ need.Server server
       = (λ i. need_by (act_at (kept.book i).geometry a.tries (job_of a.call.now) (pairs_in a.changes.items) (state_by (sym is i) a.gatherings a.writing a.outcome)) (due_by (sym is i) a.gatherings a.writing)) ∙ needs_here in
       let held : known (owed a.gatherings)
@@ -54,18 +54,18 @@ module _ (a : Inside) (kept : IsPatch a) (old : PatchOf) (view : patch_in a ≡ 
 
     asked : Asks a.writing.state a.writing.due server
     asked =
-        asks a.opening.geometry a.tries (job_of a.call.now) (pairs_in a.changes.items) a.number (note_of a.call.now) (versions_of a.writing.stamps) a.token a.writing.state a.writing.due server (keeps.1)
+        asks a.opening.geometry a.tries (job_of a.call.now) (pairs_in a.changes.items) a.number (note_of a.call.now) (versions_of a.writing.stamps) a.ticket a.writing.state a.writing.due server (keeps.1)
         (ap (λ s. need_by (act_at a.opening.geometry a.tries (job_of a.call.now) (pairs_in a.changes.items) (state_by s a.gatherings a.writing a.outcome)) (due_by s a.gatherings a.writing)) (sym writing_is) ∙ needs_here)
 
     module _ (now : WritingOf) (short : Bool) (before after : Server) (step : (after, now.state) ≡ stepped a.writing.book.geometry short before a.writing.state) (same : now ≡ record a.writing { state = now.state; due = now.due }) where
       stamps : a.writing.stamps ≡ now.stamps
       stamps = sym (ap (λ (w : WritingOf). w.stamps) same)
 
-      has_token : HasToken a.number (note_of a.call.now) (versions_of now.stamps) a.token now.state
+      has_token : HasToken a.number (note_of a.call.now) (versions_of now.stamps) a.ticket now.state
       has_token =
-          subst (λ (stamps : List StampOf). HasToken a.number (note_of a.call.now) (versions_of stamps) a.token now.state) stamps
-          (subst (λ (made : Server × State). HasToken a.number (note_of a.call.now) (versions_of a.writing.stamps) a.token made.1) (sym step)
-          (stepped_has a.number (note_of a.call.now) (versions_of a.writing.stamps) a.token a.writing.book.geometry short before a.writing.state server keeps.1 asked.asked))
+          subst (λ (stamps : List StampOf). HasToken a.number (note_of a.call.now) (versions_of stamps) a.ticket now.state) stamps
+          (subst (λ (made : Server × State). HasToken a.number (note_of a.call.now) (versions_of a.writing.stamps) a.ticket made.1) (sym step)
+          (stepped_has a.number (note_of a.call.now) (versions_of a.writing.stamps) a.ticket a.writing.book.geometry short before a.writing.state server keeps.1 asked.asked))
 
       has_room : is_write a.call.now ≡ true → HasRoom now.state (length a.changes.items) (vec_capacity a.changes)
       has_room write =
@@ -81,8 +81,8 @@ module _ (a : Inside) (kept : IsPatch a) (old : PatchOf) (view : patch_in a ≡ 
       -- what is known
       pub served_knows : (coding step : Bool) (d : Sealed) → KnowsOld d (patch_in (record a { writing = now; coding = coding; step = step }))
       served_knows coding step d =
-          subst (λ s. UpToDraw (state_by s a.gatherings now a.outcome) (IfInCall a.token (λ held. AreOldBytes d.stamps a.opening (note_of a.call.now) a.size (owed a.gatherings) held.pass))) (sym writing_is)
-          (known_drawn a.number (note_of a.call.now) (versions_of now.stamps) a.token _ now.state has_token)
+          subst (λ s. UpToDraw (state_by s a.gatherings now a.outcome) (IfInCall a.ticket (λ held. AreOldBytes d.stamps a.opening (note_of a.call.now) a.size (owed a.gatherings) held.pass))) (sym writing_is)
+          (known_drawn a.number (note_of a.call.now) (versions_of now.stamps) a.ticket _ now.state has_token)
 
       -- the step
       pub served_step : (after, (patch_in (record a { writing = now; coding = false; step = short })).call) ≡ stepped_at_server short (due_by a.stage a.gatherings now) old.call before

@@ -1,5 +1,5 @@
 -- What a call keeps of its gatherings and its versions.
-use Rattle.std.specs.Prelude.{◌≡◌, ⊤, ℕ, ◌+◌, ◌/◌, ◌<◌, false, List, [], length, None, Some}
+use Rattle.std.specs.Prelude.{◌≡◌, ⊤, ℕ, ◌+◌, ◌/◌, ◌<◌, List, [], length, None, Some}
 use Rattle.std.specs.List.{slice_get}
 use Rattle.clay_grid.specs.Shape.{stripe_length}
 use Rattle.store_map.specs.declared.call.Call.{Call}
@@ -37,7 +37,6 @@ pub record GathersNothing (p : GatheringsOf) : Type 0 where
   pub idle : p.current ≡ None
   pub none_left : p.left ≡ []
   pub no_bytes : p.bytes ≡ []
-  pub going : p.coding ≡ false
 
 -- before the commit there is room for one change more
 abbrev pub HasRoom : State → ℕ → ℕ → Type 0

@@ -21,7 +21,7 @@ use Rattle.client_patch.specs.Holds.{IsOfCall, IsUngathered, PinsNothing, Gather
 
 -- changes as the definitions keep them
 abbrev pub pairs_in : List Change → List (ℕ × ℕ)
-pairs_in changes = map (λ change. (change.base.0, change.newer.0)) changes
+pairs_in changes = map (λ change. (change.looked_at.0, change.newer.0)) changes
 
 -- what callers see
 abbrev pub patch_in : Inside → PatchOf
@@ -32,7 +32,7 @@ patch_in a =
         tries = a.tries;
         job = job_of a.call.now;
         number = a.number;
-        token = a.token;
+        token = a.ticket;
         state = record { pairs = pairs_in a.changes.items; at = state_by a.stage a.gatherings a.writing a.outcome };
         takes = a.gatherings.takes;
         due = due_by a.stage a.gatherings a.writing;
@@ -46,24 +46,24 @@ patch_in a =
 
 -- by its stage
 abbrev pub Keeps : Stage → Inside → Type 0
-Keeps stage.Looking a = IsWaiting a.number a.token × ((is_write a.call.now ≡ true) ⊎ (a.changes.items ≡ []))
-Keeps stage.Looked a = IsHolding a.number (note_of a.call.now) [] a.token × IsFresh a.gatherings × (is_write a.call.now ≡ true)
+Keeps stage.Looking a = IsWaiting a.number a.ticket × ((is_write a.call.now ≡ true) ⊎ (a.changes.items ≡ []))
+Keeps stage.Looked a = IsHolding a.number (note_of a.call.now) [] a.ticket × IsFresh a.gatherings × (is_write a.call.now ≡ true)
 Keeps stage.Gathering a =
-    IsHolding a.number (note_of a.call.now) [] a.token × (is_write a.call.now ≡ true → length a.changes.items < vec_capacity a.changes) × (is_drawing a.call.now ≡ true)
-    × (is_put a.call.now ≡ true → PinsNothing a.token × GathersNothing a.gatherings)
-Keeps stage.Ungathered a = IsSeated a.token × IsUngathered (standing_of a.gatherings)
+    IsHolding a.number (note_of a.call.now) [] a.ticket × (is_write a.call.now ≡ true → length a.changes.items < vec_capacity a.changes) × (is_drawing a.call.now ≡ true)
+    × (is_put a.call.now ≡ true → PinsNothing a.ticket × GathersNothing a.gatherings)
+Keeps stage.Ungathered a = IsSeated a.ticket × IsUngathered (standing_of a.gatherings)
 Keeps stage.Writing a =
-    IsOfCall a.opening a.call.now a.size a.gatherings.bytes a.writing × HasToken a.number (note_of a.call.now) (versions_of a.writing.stamps) a.token a.writing.state
+    IsOfCall a.opening a.call.now a.size a.gatherings.bytes a.writing × HasToken a.number (note_of a.call.now) (versions_of a.writing.stamps) a.ticket a.writing.state
     × (is_write a.call.now ≡ true → HasRoom a.writing.state (length a.changes.items) (vec_capacity a.changes)) × (is_drawing a.call.now ≡ true)
-Keeps stage.GivenUp a = IsSeated a.token × IsGivenUp a.writing.state
-Keeps stage.Ending a = IsPassing a.number (note_of a.call.now) a.token
-Keeps stage.Finished a = IsSeated a.token
+Keeps stage.GivenUp a = IsSeated a.ticket × IsGivenUp a.writing.state
+Keeps stage.Ending a = IsPassing a.number (note_of a.call.now) a.ticket
+Keeps stage.Finished a = IsSeated a.ticket
 
 -- what every call keeps
 pub record IsPatch (a : Inside) : Type 0 where
   pub change : is_change a.call.now ≡ true
   pub client : IsClient a.actor
-  pub actor_is : actor_of a.token ≡ a.actor
+  pub actor_is : actor_of a.ticket ≡ a.actor
   pub script : IsOfScript a.opening a.actor a.number a.call.now
   pub book : a.gatherings.book ≡ a.opening
   pub tries : 0 < a.tries

@@ -1,15 +1,14 @@
 -- Where a call goes on after its look, and how it begins to gather.
-use Rattle.std.specs.Prelude.{◌≡◌, ⊤, ℕ, Bool, true, false, List, [], None, Result, Ok, Err}
+use Rattle.std.specs.Prelude.{◌≡◌, ⊤, ℕ, true, false, List, [], None, Result, Ok, Err}
 use Rattle.std.specs.declared.alloc.AllocError.{AllocError}
 use Rattle.store_map.specs.declared.call.Call.{Call}
 use Rattle.store_map.specs.declared.call.Call.TheVariants as call
 use Rattle.store_core.specs.Told.{Told}
-use Rattle.store_core.specs.Act.{Outcome as CoreOutcome}
-use Rattle.store_resume.specs.State.{Sequel, State}
+use Rattle.store_resume.specs.State.{Sequel}
 use Rattle.gather_parts.specs.Gatherings.{GatheringsOf, owed}
 use Rattle.gather_parts.specs.Standings.{is_due}
 use Rattle.gather_parts.specs.States.{state_in}
-use Rattle.stripe_dir.specs.declared.answers.Seen.{Seen}
+use Rattle.call_steps.specs.declared.seen.Seen.{Seen}
 use Rattle.stripe_dir.specs.declared.answers.Look.{Look}
 use Rattle.stripe_dir.specs.Shown.{stripes_seen}
 use Rattle.client_patch.specs.Patches.{is_put, is_drawing}
@@ -17,16 +16,14 @@ use Rattle.client_patch.specs.declared.stage.Stage.{Stage}
 use Rattle.client_patch.specs.declared.stage.Stage.TheVariants as stage
 
 -- gatherings of which nothing was asked yet
-pub record IsFresh (p : GatheringsOf) : Type 0 where
-  pub none : p.current ≡ None
-  pub going : p.coding ≡ false
+abbrev pub IsFresh : GatheringsOf → Type 0
+IsFresh p = p.current ≡ None
 
--- gatherings that have begun after a coding, in which memory was wanting or not, or that the call has given up before
-abbrev pub IsBegun : GatheringsOf → GatheringsOf → Stage → Bool → Type 0
-IsBegun p now stage.Gathering false = (state_in now Sequel.Draw ≡ state_in p Sequel.Draw) × (is_due now ≡ false) × (owed now ≡ owed p) × (now.takes ≡ p.takes) × (now.book ≡ p.book)
-IsBegun p now stage.Gathering true = (state_in now Sequel.Draw ≡ State.Ending CoreOutcome.NoMemory) × (is_due now ≡ false) × (now.takes ≡ p.takes) × (now.book ≡ p.book)
-IsBegun p now stage.Ending true = now ≡ p
-IsBegun p now next short = ⊥
+-- gatherings that have begun, after their first coding where one was due
+pub record IsBegun (p now : GatheringsOf) : Type 0 where
+  pub state : state_in now Sequel.Draw ≡ state_in p Sequel.Draw
+  pub due : is_due now ≡ false
+  pub owed : owed now ≡ owed p
 
 -- what the look of a call is answered; a put pins no stripe
 abbrev pub IsPatchLook : Call → Told → Type 0

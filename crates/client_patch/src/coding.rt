@@ -19,26 +19,25 @@ use std::thread::Threads;
 use store_map::Call;
 use write_course::Writing;
 
-// Takes room for one change more and begins to gather. It tells where the call goes on, and whether
-// memory was wanting.
+// Takes room for one change more and begins to gather.
 fn begin_gathering<R: Threads + Sync, C: Coder>(
     rt: &R,
     coder: &C,
     changes: &mut Vec<Change>,
     gatherings: &mut PartGatherings,
-) -> (Stage, bool)
+) -> Result<(), AllocError>
     requires { IsFresh gatherings.old }
-    ensures begun { IsBegun gatherings.old gatherings.new result.0 result.1 }
+    ensures begun { OnOk result (IsBegun gatherings.old gatherings.new) }
+    ensures book { gatherings.new.book ≡ gatherings.old.book }
+    ensures takes { gatherings.new.takes ≡ gatherings.old.takes }
     ensures changes { changes.new.items ≡ changes.old.items }
-    ensures room { result.0 ≡ Stage.Gathering → length changes.new.items < vec_capacity changes.new }
+    ensures room { OnOk result (length changes.new.items < vec_capacity changes.new) }
 {
-    if changes.reserve(1).is_err() {
-        return (Stage::Ending, true);
-    }
+    changes.reserve(1)?;
     if matches!(gatherings.standing(), Standing::Due) {
-        gatherings.on_coder(rt, coder);
+        return gatherings.on_coder(rt, coder);
     }
-    (Stage::Gathering, gatherings.coding_was_short())
+    Ok(())
 }
 
 // Makes the chunks of the version at work.
@@ -81,20 +80,26 @@ impl<'a> PatchCall<'a> {
     {
         match self.stage {
             Stage::Looked => {
-                let (stage, short) = begin_gathering(
-                    rt,
-                    coder,
-                    &mut self.changes,
-                    &mut self.gatherings,
-                );
-                self.stage = stage;
-                self.outcome = Outcome::NoMemory;
-                self.coding = short;
+                match begin_gathering(rt, coder, &mut self.changes, &mut self.gatherings) {
+                    Ok(()) => {
+                        self.coding = false;
+                        self.stage = Stage::Gathering;
+                    }
+                    Err(_) => {
+                        self.coding = true;
+                        self.outcome = Outcome::NoMemory;
+                        self.stage = Stage::Ending;
+                    }
+                }
             }
-            Stage::Gathering => {
-                self.gatherings.on_coder(rt, coder);
-                self.coding = self.gatherings.coding_was_short();
-            }
+            Stage::Gathering => match self.gatherings.on_coder(rt, coder) {
+                Ok(()) => self.coding = false,
+                Err(_) => {
+                    self.coding = true;
+                    self.outcome = Outcome::NoMemory;
+                    self.stage = Stage::Ending;
+                }
+            },
             _ => {
                 // That a version is at work is needed below.
                 let _due = self.writing.due();

@@ -89,7 +89,7 @@ impl<'a> PatchCall<'a> {
         directory.keeps();
         // That a stripe has bytes is needed below.
         let _long = self.opening.geometry().stripe_len();
-        let answer = self.token.look(directory, self.number, self.call);
+        let answer = self.ticket.look(directory, self.number, self.call);
         self.coding = false;
         self.step = answer.is_err();
         let Looked {
@@ -121,7 +121,7 @@ impl<'a> PatchCall<'a> {
         directory.keeps();
         let request = book.request(self.actor, self.number, self.call);
         let answer = self
-            .token
+            .ticket
             .draw(directory, self.number, book, Some(&request));
         self.coding = false;
         self.step = answer.is_err();
@@ -159,7 +159,7 @@ impl<'a> PatchCall<'a> {
     {
         directory.keeps();
         let rows = self.writing.rows();
-        let answer = self.token.commit(directory, self.number, rows);
+        let answer = self.ticket.commit(directory, self.number, rows);
         self.coding = false;
         self.step = false;
         match answer {
@@ -167,8 +167,12 @@ impl<'a> PatchCall<'a> {
                 self.changes.clear();
                 self.writing.committed(point);
             }
-            Committed::Changed { base, newer, .. } => {
-                self.changes.push_reserved(Change { base, newer });
+            Committed::Changed {
+                looked_at,
+                newer,
+                ..
+            } => {
+                self.changes.push_reserved(Change { looked_at, newer });
                 self.stage = Stage::Looking;
             }
             Committed::Reaped { at, .. } => {
@@ -192,7 +196,7 @@ impl<'a> PatchCall<'a> {
         ensures stamps { directory.new.stamps
             ≡ directory.old.stamps ++ stamps_drawn self.new.call.step directory.old self.old.call self.old.written }
     {
-        let answer = self.token.end(directory, self.number);
+        let answer = self.ticket.end(directory, self.number);
         self.coding = false;
         self.step = false;
         match answer {

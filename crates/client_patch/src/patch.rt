@@ -35,7 +35,7 @@ use write_course::Writing;
 pub struct PatchCall<'a> {
     pub(crate) alloc: Global,
     pub(crate) stage: Stage,
-    pub(crate) token: Ticket,
+    pub(crate) ticket: Ticket,
     pub(crate) actor: Actor,
     pub(crate) call: &'a Call,
     pub(crate) number: u32,
@@ -140,7 +140,7 @@ impl<'a> PatchCall<'a> {
         PatchCall {
             alloc,
             stage: Stage::Looking,
-            token: Ticket::new(seat),
+            ticket: Ticket::new(seat),
             actor,
             call,
             number,
@@ -202,10 +202,7 @@ impl<'a> PatchCall<'a> {
     {
         self.coding = false;
         match self.stage {
-            Stage::Gathering => {
-                self.gatherings.on_server(s);
-                self.step = self.gatherings.step_was_short();
-            }
+            Stage::Gathering => self.step = self.gatherings.on_server(s).is_err(),
             _ => self.step = self.writing.on_server(s).is_err(),
         }
     }
@@ -246,7 +243,7 @@ impl<'a> PatchCall<'a> {
         let PatchCall {
             alloc: _,
             stage,
-            token,
+            ticket,
             actor: _,
             call: _,
             number: _,
@@ -260,7 +257,7 @@ impl<'a> PatchCall<'a> {
             coding: _,
             step: _,
         } = self;
-        let seat = token.into_seat();
+        let seat = ticket.into_seat();
         match stage {
             Stage::Looking => (
                 seat,
@@ -286,7 +283,7 @@ impl<'a> PatchCall<'a> {
         let PatchCall {
             alloc: _,
             stage: _,
-            token,
+            ticket,
             actor: _,
             call: _,
             number: _,
@@ -300,7 +297,7 @@ impl<'a> PatchCall<'a> {
             coding: _,
             step: _,
         } = self;
-        token.leave();
+        ticket.leave();
         gatherings.into_takes()
     }
 }

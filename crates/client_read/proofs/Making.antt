@@ -29,13 +29,14 @@ module _ (a : Inside) (is : IsRead a) where
   abbrev at_stage : Stage → CallOf
   at_stage now = record ((read_in a).call) { state = record { pairs = []; at = state_by now a.gatherings a.point a.outcome }; due = due_by now a.gatherings }
 
-  by_stage : (now : Stage) → Keeps now a.number (note_of a.call.now) a.token a.gatherings → MayBy (at_stage now) (act_of (at_stage now))
+  by_stage : (now : Stage) → Keeps now a.number (note_of a.call.now) a.ticket a.gatherings → MayBy (at_stage now) (act_of (at_stage now))
   by_stage stage.Looking kept =
       subst (MayBy (at_stage stage.Looking)) (sym (looks_first a.call.now (tries_by a.gatherings.book.script) is.read a.gatherings.book.geometry))
-      (λ d shape. may_look d a.token a.number a.call.now is.read is.client kept)
+      (λ d shape. may_look d a.ticket a.number a.call.now is.read is.client kept)
   by_stage stage.Gathering kept =
-      gathering_does (MayBy (at_stage stage.Gathering)) (λ server step. tt) (ends (at_stage stage.Gathering) a.token (note_of a.call.now) refl kept)
-      a.gatherings (tries_by a.gatherings.book.script) (job_of a.call.now) [] (Sequel.Serve a.point.0) (ends (at_stage stage.Gathering) a.token (note_of a.call.now) refl kept)
+      gathering_does (MayBy (at_stage stage.Gathering)) (λ server step. tt) (ends (at_stage stage.Gathering) a.ticket (note_of a.call.now) refl kept)
+      a.gatherings (tries_by a.gatherings.book.script) (job_of a.call.now) [] (Sequel.Serve a.point.0) (ends (at_stage stage.Gathering) a.ticket (note_of a.call.now) refl kept)
+  by_stage stage.Ending kept = ends (at_stage stage.Ending) a.ticket (note_of a.call.now) refl kept
   by_stage stage.Ended kept =
       subst (λ at. MayBy (at_stage stage.Ended) (act_at a.gatherings.book.geometry (tries_by a.gatherings.book.script) (job_of a.call.now) [] at)) (sym (closed_finished a.gatherings a.point.0 kept.1).1) tt
   by_stage stage.Finished kept = tt

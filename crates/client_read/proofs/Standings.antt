@@ -26,7 +26,7 @@ use Rattle.gather_parts.specs.States.{state_in, StandsIn}
 use Rattle.gather_parts.proofs.Handing.{state_needs, state_in_pass}
 use Rattle.gather_parts.proofs.Ended.{over_closes}
 use Rattle.client_read.specs.Reads.{is_read}
-use Rattle.client_read.specs.Stages.{state_by, due_by}
+use Rattle.client_read.specs.Stages.{state_by, due_by, after_end}
 use Rattle.call_steps.specs.Ends.{finished_of, is_ending}
 use Rattle.call_steps.specs.Callers.{IsWaiting}
 use Rattle.client_read.specs.Inside.{IsHolding, Keeps, read_in, IsRead}
@@ -67,7 +67,7 @@ not_over (Act.AtServer server step) inside e = true≢false (sym (ap is_finished
 
 -- while it gathers it is in its pass
 pub gathering_in_pass : (p : GatheringsOf) (job : Job) (point : ℕ) → is_in_pass (act_at p.book.geometry (tries_by p.book.script) job [] (state_in p (Sequel.Serve point))) ≡ true
-gathering_in_pass p job point = state_in_pass p (Sequel.Serve point) p.coding p.current p.left (tries_by p.book.script) job []
+gathering_in_pass p job point = state_in_pass p (Sequel.Serve point) p.current p.left (tries_by p.book.script) job []
 
 pub gathering_holds : (c : CallOf) (number : ℕ) (note : Note) (token : ActorToken) → c.token ≡ token → c.job.note ≡ note → c.number ≡ number → IsTrue (is_in_pass (act_of c))
     → IsHolding number note token → HoldsItsPass c
@@ -104,6 +104,7 @@ before_look stage.Gathering p point outcome read number token is kept e =
     absurd (true≢false (sym (gathering_in_pass p (job_of read) point.0)
     ∙ ap (λ at. is_in_pass (act_at p.book.geometry (tries_by p.book.script) (job_of read) [] at)) e
     ∙ ap is_in_pass (looks_first read (tries_by p.book.script) is p.book.geometry)))
+before_look stage.Ending p point outcome read number token is kept e = absurd (true≢false (sym (ap is_start e)))
 before_look stage.Ended p point outcome read number token is kept e = absurd (true≢false (sym (ap is_start e) ∙ ap is_start (closed_finished p point.0 kept.1).1))
 before_look stage.Finished p point outcome read number token is kept e = absurd (true≢false (sym (ap is_start e)))
 
@@ -111,9 +112,9 @@ before_look stage.Finished p point outcome read number token is kept e = absurd 
 pub gathering_stands : (a : Inside) → a.stage ≡ stage.Gathering → StandsIn (read_in a).call a.gatherings (Sequel.Serve a.point.0)
 gathering_stands a is = record { book = refl; state = ap (λ now. state_by now a.gatherings a.point a.outcome) is; takes = refl }
 
-pub waits_first : (a : Inside) → IsRead a → state_by a.stage a.gatherings a.point a.outcome ≡ State.Start → IsWaiting a.number a.token
+pub waits_first : (a : Inside) → IsRead a → state_by a.stage a.gatherings a.point a.outcome ≡ State.Start → IsWaiting a.number a.ticket
 waits_first a i first =
-    subst (λ now. Keeps now a.number (note_of a.call.now) a.token a.gatherings) (before_look a.stage a.gatherings a.point a.outcome a.call.now a.number a.token i.read i.kept first) i.kept
+    subst (λ now. Keeps now a.number (note_of a.call.now) a.ticket a.gatherings) (before_look a.stage a.gatherings a.point a.outcome a.call.now a.number a.ticket i.read i.kept first) i.kept
 
 -- a call that is over
 never_finished : (now : Standing) → need_at now ≡ need.Finished → ⊥
@@ -133,25 +134,46 @@ module _ (read : Call) (number : ℕ) (token : ActorToken) (p : GatheringsOf) (p
   needs_gathering test first last stage.Looking kept e =
       absurd (true≢false (sym e ∙ ap test (ap (λ act. need_by act false) (looks_first read (tries_by p.book.script) is p.book.geometry)) ∙ first))
   needs_gathering test first last stage.Gathering kept e = refl
+  needs_gathering test first last stage.Ending kept e = absurd (true≢false (sym e ∙ first))
   needs_gathering test first last stage.Ended kept e =
       absurd (true≢false (sym e ∙ ap (λ at. test (need_by (act_at p.book.geometry (tries_by p.book.script) (job_of read) [] at) false)) (closed_finished p point.0 kept.1).1 ∙ last))
   needs_gathering test first last stage.Finished kept e = absurd (true≢false (sym e ∙ last))
 
-  -- so is the end of its pass
-  pub ends_gathering : (now : Stage) → Keeps now number (note_of read) token p → is_ending (state_by now p point outcome) ≡ true → now ≡ stage.Gathering
-  ends_gathering stage.Looking kept e = absurd (true≢false (sym e))
-  ends_gathering stage.Gathering kept e = refl
-  ends_gathering stage.Ended kept e = absurd (true≢false (sym e ∙ ap is_ending (closed_finished p point.0 kept.1).1))
-  ends_gathering stage.Finished kept e = absurd (true≢false (sym e))
+  -- where its pass ends next it stands before that end
+  pub ends_holding : (now : Stage) → Keeps now number (note_of read) token p → is_ending (state_by now p point outcome) ≡ true → IsHolding number (note_of read) token
+  ends_holding stage.Looking kept e = absurd (true≢false (sym e))
+  ends_holding stage.Gathering kept e = kept
+  ends_holding stage.Ending kept e = kept
+  ends_holding stage.Ended kept e = absurd (true≢false (sym e ∙ ap is_ending (closed_finished p point.0 kept.1).1))
+  ends_holding stage.Finished kept e = absurd (true≢false (sym e))
+
+  -- and behind it then
+  pub ended_keeps : (next : ActorToken) (now : Stage) → Keeps now number (note_of read) token p → is_ending (state_by now p point outcome) ≡ true
+      → need_at_stage now ≡ need.Directory → IsSeated next → Keeps (after_end now) number (note_of read) next p
+  ended_keeps next stage.Looking kept e needs seated = absurd (true≢false (sym e))
+  ended_keeps next stage.Gathering kept e needs seated = (seated, gathering_over p (job_of read) point.0 needs)
+  ended_keeps next stage.Ending kept e needs seated = seated
+  ended_keeps next stage.Ended kept e needs seated = absurd (true≢false (sym e ∙ ap is_ending (closed_finished p point.0 kept.1).1))
+  ended_keeps next stage.Finished kept e needs seated = absurd (true≢false (sym e))
+
+  pub ended_state : (now : Stage) → Keeps now number (note_of read) token p → is_ending (state_by now p point outcome) ≡ true
+      → state_by (after_end now) p point outcome ≡ finished_of (state_by now p point outcome)
+  ended_state stage.Looking kept e = absurd (true≢false (sym e))
+  ended_state stage.Gathering kept e = refl
+  ended_state stage.Ending kept e = refl
+  ended_state stage.Ended kept e = absurd (true≢false (sym e ∙ ap is_ending (closed_finished p point.0 kept.1).1))
+  ended_state stage.Finished kept e = absurd (true≢false (sym e))
 
   pub over_seated : (now : Stage) → Keeps now number (note_of read) token p → need_at_stage now ≡ need.Finished → IsSeated token
   over_seated stage.Looking kept e = absurd (true≢false (sym (ap is_finished_need (sym (ap (λ act. need_by act false) (looks_first read (tries_by p.book.script) is p.book.geometry)) ∙ e))))
   over_seated stage.Gathering kept e = absurd (never_finished (standing_of p) (sym (state_needs p (tries_by p.book.script) (job_of read) [] (Sequel.Serve point.0)) ∙ e))
+  over_seated stage.Ending kept e = absurd (true≢false (sym (ap is_finished_need e)))
   over_seated stage.Ended kept e = kept.0
   over_seated stage.Finished kept e = kept
 
   pub over_ended : (now : Stage) → Keeps now number (note_of read) token p → need_at_stage now ≡ need.Finished → (now ≡ stage.Finished → ⊥) → now ≡ stage.Ended
   over_ended stage.Looking kept e other = absurd (true≢false (sym (ap is_finished_need (sym (ap (λ act. need_by act false) (looks_first read (tries_by p.book.script) is p.book.geometry)) ∙ e))))
   over_ended stage.Gathering kept e other = absurd (never_finished (standing_of p) (sym (state_needs p (tries_by p.book.script) (job_of read) [] (Sequel.Serve point.0)) ∙ e))
+  over_ended stage.Ending kept e other = absurd (true≢false (sym (ap is_finished_need e)))
   over_ended stage.Ended kept e other = refl
   over_ended stage.Finished kept e other = absurd (other refl)

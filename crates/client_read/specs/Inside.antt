@@ -25,7 +25,7 @@ read_in a =
         tries = tries_by a.gatherings.book.script;
         job = job_of a.call.now;
         number = a.number;
-        token = a.token;
+        token = a.ticket;
         state = record { pairs = []; at = state_by a.stage a.gatherings a.point a.outcome };
         takes = a.gatherings.takes;
         due = due_by a.stage a.gatherings;
@@ -49,12 +49,13 @@ IsHolding number note (ActorToken.InCall held) = IsOfCall number note held
 abbrev pub Keeps : Stage → ℕ → Note → ActorToken → GatheringsOf → Type 0
 Keeps stage.Looking number note token p = IsWaiting number token
 Keeps stage.Gathering number note token p = IsHolding number note token
+Keeps stage.Ending number note token p = IsHolding number note token
 Keeps stage.Ended number note token p = IsSeated token × IsOver (standing_of p)
 Keeps stage.Finished number note token p = IsSeated token
 
 -- what every call keeps; bytes are served from its gatherings alone
 pub record IsRead (a : Inside) : Type 0 where
   pub read : is_read a.call.now ≡ true
-  pub client : IsClient (actor_of a.token)
+  pub client : IsClient (actor_of a.ticket)
   pub plain : IsPlain a.outcome
-  pub kept : Keeps a.stage a.number (note_of a.call.now) a.token a.gatherings
+  pub kept : Keeps a.stage a.number (note_of a.call.now) a.ticket a.gatherings

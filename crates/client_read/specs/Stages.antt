@@ -16,6 +16,7 @@ use Rattle.client_read.specs.declared.stage.Stage.TheVariants as stage
 abbrev pub state_by : Stage → GatheringsOf → Point → Outcome → State
 state_by stage.Looking p point outcome = State.Start
 state_by stage.Gathering p point outcome = state_in p (Sequel.Serve point.0)
+state_by stage.Ending p point outcome = State.Ending (outcome_of outcome)
 state_by stage.Ended p point outcome = finished_of (state_in p (Sequel.Serve point.0))
 state_by stage.Finished p point outcome = State.Finished (outcome_of outcome)
 
@@ -23,6 +24,11 @@ state_by stage.Finished p point outcome = State.Finished (outcome_of outcome)
 abbrev pub due_by : Stage → GatheringsOf → Bool
 due_by stage.Gathering p = is_due p
 due_by _ p = false
+
+-- the pass's end was told
+abbrev pub after_end : Stage → Stage
+after_end stage.Gathering = stage.Ended
+after_end _ = stage.Finished
 
 -- where it goes on after its look
 abbrev pub IsLooked : Told → Stage → Type 0

@@ -7,7 +7,7 @@ ghost use Rattle.call_steps.specs.Ends.{is_ending};
 ghost use Rattle.client_read.specs.Owed.{owed_after};
 
 use crate::read::ReadCall;
-use crate::stage::{Looked, Stage, after_look};
+use crate::stage::{Looked, Stage, after_end, after_look};
 use call_steps::{Need, Outcome};
 use stripe_dir::{Directory, Ended};
 
@@ -42,7 +42,7 @@ impl<'a> ReadCall<'a> {
         ensures stamps { directory.new.stamps ≡ directory.old.stamps }
     {
         directory.keeps();
-        let answer = self.token.look(directory, self.number, self.call);
+        let answer = self.ticket.look(directory, self.number, self.call);
         self.coding = false;
         self.step = answer.is_err();
         let looked = after_look(answer, self.call, &mut self.gatherings);
@@ -68,11 +68,11 @@ impl<'a> ReadCall<'a> {
         ensures book { directory.new.book ≡ directory.old.book }
         ensures stamps { directory.new.stamps ≡ directory.old.stamps }
     {
-        let answer = self.token.end(directory, self.number);
+        let answer = self.ticket.end(directory, self.number);
         self.coding = false;
         self.step = false;
         match answer {
-            Ended::Ended { .. } => self.stage = Stage::Ended,
+            Ended::Ended { .. } => self.stage = after_end(self.stage),
             Ended::Reaped { at, .. } => {
                 self.outcome = Outcome::Reaped { at };
                 self.stage = Stage::Finished;

@@ -31,7 +31,7 @@ use version_seal::Opening;
 /// A client's get, read or stat in work. It has to be finished or abandoned.
 pub struct ReadCall<'a> {
     pub(crate) stage: Stage,
-    pub(crate) token: Ticket,
+    pub(crate) ticket: Ticket,
     pub(crate) call: &'a Call,
     pub(crate) number: u32,
     pub(crate) gatherings: PartGatherings,
@@ -84,7 +84,7 @@ impl<'a> ReadCall<'a> {
     {
         ReadCall {
             stage: Stage::Looking,
-            token: Ticket::new(seat),
+            ticket: Ticket::new(seat),
             call,
             number,
             gatherings: PartGatherings::new(alloc, opening),
@@ -105,7 +105,7 @@ impl<'a> ReadCall<'a> {
         ensures below { IfServer result (λ server. server < chunk_count self.now.call.book.geometry) }
     {
         match self.stage {
-            Stage::Looking => Need::Directory,
+            Stage::Looking | Stage::Ending => Need::Directory,
             Stage::Gathering => self.gatherings.need(),
             Stage::Ended | Stage::Finished => Need::Finished,
         }
@@ -120,9 +120,8 @@ impl<'a> ReadCall<'a> {
         ensures owed { self.new.owed ≡ self.old.owed }
         ensures same { IsSame s.old s.new }
     {
-        self.gatherings.on_server(s);
         self.coding = false;
-        self.step = self.gatherings.step_was_short();
+        self.step = self.gatherings.on_server(s).is_err();
     }
 
     /// Makes the bytes of the stripe that has come, and takes the memory for the next one. It makes no
@@ -132,8 +131,14 @@ impl<'a> ReadCall<'a> {
         ensures coded { self.new.call ≡ coded self.new.call.coding self.old.call }
         ensures owed { self.new.call.coding ≡ false → self.new.owed ≡ self.old.owed }
     {
-        self.gatherings.on_coder(rt, coder);
-        self.coding = self.gatherings.coding_was_short();
+        match self.gatherings.on_coder(rt, coder) {
+            Ok(()) => self.coding = false,
+            Err(_) => {
+                self.coding = true;
+                self.outcome = Outcome::NoMemory;
+                self.stage = Stage::Ending;
+            }
+        }
     }
 
     /// What it has taken, or none where it has taken nothing.
@@ -154,7 +159,7 @@ impl<'a> ReadCall<'a> {
     {
         let ReadCall {
             stage,
-            token,
+            ticket,
             call: _,
             number: _,
             gatherings,
@@ -163,7 +168,7 @@ impl<'a> ReadCall<'a> {
             coding: _,
             step: _,
         } = self;
-        let seat = token.into_seat();
+        let seat = ticket.into_seat();
         match stage {
             Stage::Finished => (seat, outcome, gatherings.into_takes()),
             _ => {
@@ -180,7 +185,7 @@ impl<'a> ReadCall<'a> {
     {
         let ReadCall {
             stage: _,
-            token,
+            ticket,
             call: _,
             number: _,
             gatherings,
@@ -189,7 +194,7 @@ impl<'a> ReadCall<'a> {
             coding: _,
             step: _,
         } = self;
-        token.leave();
+        ticket.leave();
         gatherings.into_takes()
     }
 }

@@ -15,7 +15,7 @@ ghost use Rattle.gather_parts.specs.Wanted.{IsPinned};
 ghost use Rattle.gather_parts.specs.Gatherings.{owed};
 ghost use Rattle.client_read.specs.Reads.{is_read};
 ghost use Rattle.client_read.specs.Ends.{IsPlain};
-ghost use Rattle.client_read.specs.Stages.{state_by, IsLooked};
+ghost use Rattle.client_read.specs.Stages.{state_by, after_end, IsLooked};
 ghost use Rattle.client_read.specs.Owed.{owed_after_look};
 
 use call_steps::Outcome;
@@ -31,6 +31,8 @@ pub(crate) enum Stage {
     Looking,
     /// It gathers the bytes of what was pinned, and ends its pass then.
     Gathering,
+    /// Memory was wanting in a coding, and the directory is told next that the pass ends.
+    Ending,
     /// Its pass has ended, and it is over with what its gatherings came to.
     Ended,
     /// It is over, with an outcome of its own.
@@ -109,5 +111,15 @@ pub(crate) fn after_look(
             point: Point(0),
             outcome: Outcome::NoMemory,
         },
+    }
+}
+
+// Where the call goes on that has told the directory of the end of its pass.
+pub(crate) fn after_end(stage: Stage) -> Stage
+    ensures { result ≡ after_end stage }
+{
+    match stage {
+        Stage::Gathering => Stage::Ended,
+        _ => Stage::Finished,
     }
 }

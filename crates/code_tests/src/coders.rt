@@ -20,7 +20,7 @@ fn expect_word(rt: &impl Abort, chunks: &[Vec<u8>]) {
     }
 }
 
-/// Codes a stripe, and recovers a chunk of either kind.
+// Codes a stripe, and recovers a chunk of either kind.
 fn check_word<R: Threads + Sync + Abort, C: Coder>(
     rt: &R,
     alloc: Global,
@@ -37,7 +37,7 @@ fn check_word<R: Threads + Sync + Abort, C: Coder>(
     Ok(())
 }
 
-/// Rebuilds a data chunk.
+// Rebuilds a data chunk.
 fn check_data_chunk<R: Threads + Sync + Abort, C: Coder>(
     rt: &R,
     alloc: Global,
@@ -54,7 +54,7 @@ fn check_data_chunk<R: Threads + Sync + Abort, C: Coder>(
     Ok(())
 }
 
-/// Rebuilds a parity chunk, beside a virtual node.
+// Rebuilds a parity chunk, beside a virtual node.
 fn check_parity_chunk<R: Threads + Sync + Abort, C: Coder>(
     rt: &R,
     alloc: Global,
@@ -73,7 +73,7 @@ fn check_parity_chunk<R: Threads + Sync + Abort, C: Coder>(
     Ok(())
 }
 
-/// Each call of a coder that is known by its bound alone.
+// Each call of a coder that is known by its bound alone.
 fn check_coder<R: Threads + Sync + Abort, C: Coder>(
     rt: &R,
     alloc: Global,

@@ -52,7 +52,7 @@ fn part_of(alloc: Global, chunk: &[u8], missing: bool) -> Result<Option<Vec<u8>>
     Ok(Some(Vec::from_slice(alloc, chunk)?))
 }
 
-/// What is left of chunks where those of the bits of `missing` are missing.
+// What is left of chunks where those of the bits of `missing` are missing.
 fn left_of(
     rt: &impl Abort,
     alloc: Global,
@@ -80,7 +80,7 @@ fn expect_chunks(rt: &impl Abort, chunks: &[Vec<u8>], expected: &[Vec<u8>]) {
     }
 }
 
-/// Decodes what is left after each choice of losses.
+// Decodes what is left after each choice of losses.
 fn check_losses(rt: &impl Abort, alloc: Global, g: Geometry, word: &[Vec<u8>]) -> Result<(), Fail> {
     assert!(rt; g.n() < 8);
     for missing in 0..1u32 << g.n() {

@@ -5,7 +5,7 @@ use std::alloc::Global;
 use std::process::Abort;
 use std::test::Fail;
 
-/// Encodes a stripe and compares the chunks, joined, with the stripe and the parity.
+// Encodes a stripe and compares the chunks, joined, with the stripe and the parity.
 fn check_parity(
     rt: &impl Abort,
     alloc: Global,

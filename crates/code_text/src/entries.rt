@@ -1,4 +1,4 @@
-// Some of the chunks as lines: of a missing one a dash, of the others hexadecimal digits.
+//! Some of the chunks, read from lines: dashes for missing ones, hexadecimal digits for the others.
 ghost use Rattle.std.specs.Prelude.{◌≡◌, ◌≢◌, ◌⊎◌, ◌≤◌, IfOk, IsErrOf, IsTrue, ◌↔◌, ◌∷◌, ◌<◌, drop, slice_range, map, length};
 ghost use Rattle.std.specs.Option.{option_map};
 ghost use Rattle.code_text.specs.Entries.{lines_of, pieces_of, IsEntry, IsNoEntry, AreEntries, HasNoEntry, AreLong, HasOtherLength, parts_of};

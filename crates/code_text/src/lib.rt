@@ -49,7 +49,7 @@ pub fn read_stripe(alloc: Global, text: &[u8], len: usize) -> Result<Vec<u8>, St
     }
 }
 
-/// Adds a line of lower-case digits to a text.
+// Adds a line of lower-case digits to a text.
 fn push_line(lines: &mut Vec<u8>, chunk: &[u8]) -> Result<(), AllocError>
     ensures { IfOk result (λ _. lines.new.items ≡ lines.old.items ++ (encode_lower chunk.now ++ 10 ∷ [])) }
 {

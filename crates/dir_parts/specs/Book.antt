@@ -1,5 +1,6 @@
 -- The history by its entries and its names.
-use Rattle.std.specs.Prelude.{◌≡◌, ℕ, ◌-◌, ◌<◌, List, [], length, map, get_or, All, bytes_eq, vec_len, vec_capacity}
+use Rattle.std.specs.Prelude.{◌≡◌, ℕ, ◌-◌, ◌<◌, List, [], length, map, get_or, Option, option_map, All, bytes_eq, vec_len, vec_capacity}
+use Rattle.std.specs.List.{slice_get}
 use Rattle.indexmap.specs.IndexMap.{keys, IsUnique}
 use Rattle.store_map.specs.declared.actor.Actor.{Actor}
 use Rattle.store_core.specs.Directory.{Point, Event as CoreEvent}
@@ -24,6 +25,10 @@ point_in names entry =
 -- what is told of a point
 abbrev pub told_of : PointEntry → Actor × ℕ × CoreEvent
 told_of entry = (entry.actor, entry.number, event_in entry.event)
+
+-- the same of the point with a number, if there is one
+abbrev pub told_at : List Point → ℕ → Option (Actor × ℕ × CoreEvent)
+told_at points number = option_map (λ entry. (entry.actor, entry.number, entry.event)) (slice_get points number)
 
 abbrev pub book_in : Inside → Book
 book_in a =

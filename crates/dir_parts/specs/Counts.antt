@@ -1,5 +1,5 @@
 -- What the open passes hold: how often a version is pinned, and what room they need.
-use Rattle.std.specs.Prelude.{ℕ, ◌+◌, ◌-◌, ◌&&◌, Bool, true, false, nat_eq, List, sum_by, fold, if◌then◌else◌}
+use Rattle.std.specs.Prelude.{ℕ, ◌+◌, ◌-◌, ◌^◌, ◌<◌, ◌&&◌, Bool, true, false, nat_eq, List, length, get_or, sum_by, fold, All, if◌then◌else◌}
 use Rattle.store_core.specs.Note.{Kind}
 use Rattle.store_core.specs.Directory.{Pin, Pass}
 use Rattle.store_core.specs.Lists.{change_at}
@@ -37,6 +37,10 @@ objects_due passes = sum_by (λ pass. one_if (may_append pass.note.kind && is_li
 -- the counts, each less by the pins that name its version
 abbrev pub unpinned : List Pin → List ℕ → List ℕ
 unpinned pins counts = fold (λ counts pin. change_at pin.version (λ count. count - 1) counts) counts pins
+
+-- each of these pins' versions can be pinned once more for each of the pins
+abbrev pub CanTakeAll : List ℕ → List Pin → Type 0
+CanTakeAll counts pins = All (λ pin. get_or counts pin.version 0 + length pins < 2 ^ 64) pins
 
 -- the counts, each more by the pins that name its version
 abbrev pub pinned_more : List Pin → List ℕ → List ℕ

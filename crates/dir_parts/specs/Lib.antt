@@ -2,6 +2,7 @@ pub mod Places
 pub mod Counts
 pub mod Passes
 pub mod OpenPass
+pub mod Whose
 pub mod Desk
 pub mod Table
 pub mod TableSteps

@@ -1,7 +1,10 @@
 -- The directory's objects and its history, each with its room.
-use Rattle.std.specs.Prelude.{ℕ, ◌+◌, max, List, [], ◌++◌, length, take, drop, unwrap_or}
-use Rattle.store_core.specs.Directory.{Object, Point}
+use Rattle.std.specs.Prelude.{ℕ, ◌+◌, ◌<◌, ◌≤◌, max, List, [], ◌++◌, length, take, drop, unwrap_or, Contains}
+use Rattle.store_map.specs.declared.actor.Actor.{Actor}
+use Rattle.store_core.specs.Note.{Note}
+use Rattle.store_core.specs.Directory.{Object, Point, Event}
 use Rattle.store_core.specs.Lookups.{find_object}
+use Rattle.store_core.specs.Commit.{put_object}
 
 -- the objects in order of creation, and how many more fit without memory
 pub record Shelf : Type 0 where
@@ -13,6 +16,14 @@ pub record Book : Type 0 where
   pub points : List Point
   pub names : List (List ℕ)
   pub room : ℕ
+
+-- a point of an actor's call with this number
+abbrev pub point_by : Actor → ℕ → Note → Event → Point
+point_by who number note event = record { actor = who; number = number; note = note; event = event }
+
+-- each name is there still
+abbrev pub KeepsNames : List (List ℕ) → List (List ℕ) → Type 0
+KeepsNames old new = (other : List ℕ) → Contains old other → Contains new other
 
 -- an object but for its name, and how many objects had been created before it
 pub record Held : Type 0 where
@@ -26,6 +37,22 @@ object_of name held = record { name = name; length = held.length; versions = hel
 -- the object with a name, or one without bytes
 abbrev pub object_or_new : List ℕ → List Object → Object
 object_or_new name objects = unwrap_or (find_object name objects) (record { name = name; length = 0; versions = [] })
+
+-- the versions of the object with a name, none where there is no object
+abbrev pub versions_under : List ℕ → List Object → List ℕ
+versions_under name objects = (object_or_new name objects).versions
+
+-- the objects, one put under its name
+abbrev pub put_under : List ℕ → ℕ → List ℕ → List Object → List Object
+put_under name length versions objects = put_object (record { name = name; length = length; versions = versions }) objects
+
+-- there is room for versions that stand from a first place on, if there are any
+abbrev pub FitsFrom : ℕ → List ℕ → ℕ → Type 0
+FitsFrom first drawn room = 0 < length drawn → first + length drawn ≤ room
+
+-- the versions that drawn ones replace from the first place on
+abbrev pub overwritten : ℕ → List ℕ → List ℕ → List ℕ
+overwritten first drawn versions = take (length drawn) (drop first versions)
 
 -- the versions, with drawn ones in their places from the first one on
 abbrev pub written_over : ℕ → List ℕ → List ℕ → List ℕ

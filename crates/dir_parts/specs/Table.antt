@@ -32,11 +32,18 @@ abbrev pub version_in : Entry → Version
 version_in entry =
     record { actor = entry.actor; number = entry.number; stripe = entry.stripe; base = entry.base; placed = entry.placed.items; standing = standing_in entry.standing }
 
+-- versions by their entries, and how often each is pinned
+abbrev pub versions_in : List Entry → List Version
+versions_in entries = map version_in entries
+
+abbrev pub pins_in : List Entry → List ℕ
+pins_in entries = map (λ entry. entry.pins) entries
+
 abbrev pub table_in : Inside → Table
 table_in a =
     record {
-      listed = map version_in a.entries.items;
-      pins = map (λ entry. entry.pins) a.entries.items;
+      listed = versions_in a.entries.items;
+      pins = pins_in a.entries.items;
       room = min (vec_capacity a.entries - vec_len a.entries) (heap_capacity a.garbage - vec_len a.entries);
     }
 
@@ -57,6 +64,9 @@ swept other = other
 abbrev pub is_garbage : Entry → Bool
 is_garbage entry = is_superseded entry.standing && nat_eq entry.pins 0
 
+abbrev pub garbage_in : List Entry → List ℕ
+garbage_in entries = places is_garbage 0 entries
+
 -- a number in the heap
 abbrev pub number_in : Reverse ℕ → ℕ
 number_in kept = kept.0
@@ -69,4 +79,4 @@ least_first x y = nat_cmp y.0 x.0
 pub record IsTable (a : Inside) : Type 0 where
   pub room : vec_len a.entries ≤ heap_capacity a.garbage
   pub heap : IsHeap least_first (heap_items a.garbage)
-  pub garbage : IsPermutation (map number_in (heap_items a.garbage)) (places is_garbage 0 a.entries.items)
+  pub garbage : IsPermutation (map number_in (heap_items a.garbage)) (garbage_in a.entries.items)

@@ -1,11 +1,12 @@
-ghost use Rattle.std.specs.Prelude.{◌≡◌, ◌+◌, ◌<◌, ◌∷◌, [], ◌++◌, length, vec_len, vec_capacity, ◌≤◌, true, false, ℕ, List, get_or, None, Some, bytes_eq, OnOk, OnErr, Contains, slice_get, option_map};
+//! The history: points, and each name that a point may have with the last change of its object.
+ghost use Rattle.std.specs.Prelude.{◌≡◌, ◌+◌, ◌<◌, ◌∷◌, [], ◌++◌, length, ◌≤◌, true, false, get_or, None, Some, bytes_eq, OnOk, OnErr, Contains, option_map};
 ghost use Rattle.indexmap.specs.IndexMap.{keys, get, IsUnique, set_value_at};
 ghost use Rattle.store_core.specs.Lookups.{last_change, is_change};
-ghost use Rattle.dir_parts.specs.Passes.{kind_in};
 ghost use Rattle.dir_parts.specs.Events.{reply_in, event_in};
-ghost use Rattle.dir_parts.specs.Book.{told_of};
+ghost use Rattle.dir_parts.specs.Book.{told_of, told_at, point_in};
+ghost use Rattle.dir_parts.specs.Parts.{point_by, KeepsNames};
 
-use crate::passes::Kind;
+use crate::passes::{CallNote, Kind};
 use indexmap::IndexMap;
 use std::alloc::{AllocError, Global};
 use std::marker::Model;
@@ -134,7 +135,7 @@ impl History {
         ensures points { self.new.points ≡ self.old.points }
         ensures room { self.new.room ≡ self.old.room }
         ensures named { OnOk result (Contains self.new.names name.now) }
-        ensures others { (other : List ℕ) → Contains self.old.names other → Contains self.new.names other }
+        ensures others { KeepsNames self.old.names self.new.names }
     {
         if self.names.contains_key(name) {
             return Ok(());
@@ -185,7 +186,7 @@ impl History {
 
     /// The point with this number.
     pub fn get(&self, point: usize) -> Option<PointEntry>
-        ensures { option_map told_of result ≡ option_map (λ entry. (entry.actor, entry.number, entry.event)) (slice_get self.now.points point) }
+        ensures { option_map told_of result ≡ told_at self.now.points point }
     {
         let entry = self.entries.get(point)?;
         Some(PointEntry {
@@ -196,90 +197,56 @@ impl History {
     }
 
     // One point more, of a name that is kept.
-    fn push(
-        &mut self,
-        actor: Actor,
-        number: u32,
-        event: Event,
-        kind: Kind,
-        name: usize,
-        offset: u32,
-        count: u32,
-    )
+    fn push(&mut self, entry: Entry)
         requires room { 0 < self.old.room }
-        requires named { name < length self.old.names }
-        requires still { is_change (event_in event) ≡ false }
-        ensures points { self.new.points ≡ self.old.points ++ record { actor = actor; number = number; note = record { kind = kind_in kind; name = get_or self.old.names name []; offset = offset; length = count }; event = event_in event } ∷ [] }
+        requires named { entry.name < length self.old.names }
+        requires still { is_change (event_in entry.event) ≡ false }
+        ensures points { self.new.points ≡ self.old.points ++ point_in self.old.names entry ∷ [] }
         ensures names { self.new.names ≡ self.old.names }
         ensures room { self.new.room + 1 ≡ self.old.room }
     {
-        self.entries.push_reserved(Entry {
-            actor,
-            number,
-            event,
-            kind,
-            name,
-            offset,
-            length: count,
-        });
+        self.entries.push_reserved(entry);
     }
 
     // The same of an event that changes the object.
-    fn push_change(
-        &mut self,
-        actor: Actor,
-        number: u32,
-        event: Event,
-        kind: Kind,
-        name: usize,
-        offset: u32,
-        count: u32,
-    )
+    fn push_change(&mut self, entry: Entry)
         requires room { 0 < self.old.room }
-        requires named { name < length self.old.names }
-        requires changes { is_change (event_in event) ≡ true }
-        ensures points { self.new.points ≡ self.old.points ++ record { actor = actor; number = number; note = record { kind = kind_in kind; name = get_or self.old.names name []; offset = offset; length = count }; event = event_in event } ∷ [] }
+        requires named { entry.name < length self.old.names }
+        requires changes { is_change (event_in entry.event) ≡ true }
+        ensures points { self.new.points ≡ self.old.points ++ point_in self.old.names entry ∷ [] }
         ensures names { self.new.names ≡ self.old.names }
         ensures room { self.new.room + 1 ≡ self.old.room }
     {
         let point = self.entries.len() as u64;
-        self.entries.push_reserved(Entry {
-            actor,
-            number,
-            event,
-            kind,
-            name,
-            offset,
-            length: count,
-        });
+        let name = entry.name;
+        self.entries.push_reserved(entry);
         set_last(&mut self.names, name, point);
     }
 
-    /// One point more. Gives its number.
-    pub fn add(
-        &mut self,
-        actor: Actor,
-        number: u32,
-        event: Event,
-        kind: Kind,
-        name: &Name,
-        offset: u32,
-        count: u32,
-    ) -> u64
+    /// One point more, of an actor's call. Gives its number.
+    pub fn add(&mut self, actor: Actor, number: u32, note: &CallNote, event: Event) -> u64
         requires room { 0 < self.old.room }
-        requires named { Contains self.old.names name.now }
+        requires named { Contains self.old.names note.now.name }
         ensures point { result ≡ length self.old.points }
-        ensures points { self.new.points ≡ self.old.points ++ record { actor = actor; number = number; note = record { kind = kind_in kind; name = name.now; offset = offset; length = count }; event = event_in event } ∷ [] }
+        ensures points { self.new.points ≡ self.old.points ++ point_by actor number note.now (event_in event) ∷ [] }
         ensures names { self.new.names ≡ self.old.names }
         ensures room { self.new.room + 1 ≡ self.old.room }
     {
         let point = self.entries.len() as u64;
-        let at = place_of(&self.names, name);
+        let entry = Entry {
+            actor,
+            number,
+            event,
+            kind: note.kind,
+            name: place_of(&self.names, &note.name),
+            offset: note.offset,
+            length: note.length,
+        };
         if is_change(event) {
-            self.push_change(actor, number, event, kind, at, offset, count);
+            self.push_change(entry);
             return point;
         }
-        self.push(actor, number, event, kind, at, offset, count);
+        self.push(entry);
         point
     }
 }

@@ -1,9 +1,10 @@
+//! Objects by their names, each with its length and the current version of each stripe.
 ghost use Rattle.std.specs.Prelude.{◌≡◌, ◌+◌, ◌-◌, ◌<◌, ◌≤◌, ◌++◌, [], length, map, take, drop, set, get_or, bytes_eq, None, OnOk, IfOk, IfSome, option_map, slice_get, vec_len, vec_capacity};
 ghost use Rattle.indexmap.specs.IndexMap.{spare, index_map_len, keys, values, insert_entry, set_value_at, IsUnique};
 ghost use Rattle.store_core.specs.Lookups.{find_object};
 ghost use Rattle.store_core.specs.Look.{remove_object};
 ghost use Rattle.store_core.specs.Commit.{put_object};
-ghost use Rattle.dir_parts.specs.Parts.{object_of, object_or_new, written_over, written_by, written_object};
+ghost use Rattle.dir_parts.specs.Parts.{object_of, object_or_new, versions_under, put_under, FitsFrom, overwritten, written_over, written_by, written_object};
 
 use indexmap::IndexMap;
 use std::alloc::{AllocError, Global};
@@ -124,9 +125,9 @@ fn make_room(old: &mut Vec<u64>, needed: usize, memory: Vec<u64>)
 
 // The drawn versions stand in their places, from the first one on. Gives those that stood there.
 fn splice(old: &mut Vec<u64>, first: u32, drawn: Vec<u64>, memory: Vec<u64>) -> Vec<u64>
-    requires { 0 < length drawn.items → first + length drawn.items ≤ vec_capacity memory }
+    requires { FitsFrom first drawn.items (vec_capacity memory) }
     ensures items { old.new.items ≡ written_over first drawn.items old.old.items }
-    ensures replaced { result.items ≡ take (length drawn.items) (drop first old.old.items) }
+    ensures replaced { result.items ≡ overwritten first drawn.items old.old.items }
 {
     let mut drawn = drawn;
     let count = drawn.len();
@@ -179,9 +180,9 @@ fn write_at(
     memory: Vec<u64>,
 ) -> Vec<u64>
     requires within { at < length (keys listed.old) }
-    requires room { 0 < length drawn.items → first + length drawn.items ≤ vec_capacity memory }
+    requires room { FitsFrom first drawn.items (vec_capacity memory) }
     ensures entries { IfSome (slice_get (values listed.old) at) (λ held. listed.new.entries ≡ set_value_at listed.old.entries at (written_by end first drawn.items held)) }
-    ensures replaced { IfSome (slice_get (values listed.old) at) (λ held. result.items ≡ take (length drawn.items) (drop first held.versions)) }
+    ensures replaced { IfSome (slice_get (values listed.old) at) (λ held. result.items ≡ overwritten first drawn.items held.versions) }
     ensures room { spare listed.old ≤ spare listed.new }
     ensures unique { IsUnique bytes_eq listed.old → IsUnique bytes_eq listed.new }
 {
@@ -248,7 +249,7 @@ impl Objects {
     fn add(&mut self, name: Name, length: u64, versions: Vec<u64>)
         requires room { 0 < self.old.room }
         requires new { find_object name self.old.objects ≡ None }
-        ensures objects { self.new.objects ≡ put_object (record { name = name; length = length; versions = versions.items }) self.old.objects }
+        ensures objects { self.new.objects ≡ put_under name length versions.items self.old.objects }
         ensures room { self.old.room ≤ self.new.room + 1 }
     {
         let contents = Contents {
@@ -264,9 +265,9 @@ impl Objects {
     /// that it replaces.
     pub fn put(&mut self, name: Name, length: u64, versions: Vec<u64>) -> Vec<u64>
         requires { 0 < self.old.room }
-        ensures objects { self.new.objects ≡ put_object (record { name = name; length = length; versions = versions.items }) self.old.objects }
+        ensures objects { self.new.objects ≡ put_under name length versions.items self.old.objects }
         ensures room { self.old.room ≤ self.new.room + 1 }
-        ensures replaced { result.items ≡ (object_or_new name self.old.objects).versions }
+        ensures replaced { result.items ≡ versions_under name self.old.objects }
     {
         let alloc = *self.listed.allocator();
         if let Some(at) = self.listed.get_index_of(&name) {
@@ -288,10 +289,10 @@ impl Objects {
         memory: Vec<u64>,
     ) -> Vec<u64>
         requires room { 0 < self.old.room }
-        requires memory { 0 < length drawn.items → first + length drawn.items ≤ vec_capacity memory }
+        requires memory { FitsFrom first drawn.items (vec_capacity memory) }
         ensures objects { self.new.objects ≡ put_object (written_object end first drawn.items (object_or_new name self.old.objects)) self.old.objects }
         ensures room { self.old.room ≤ self.new.room + 1 }
-        ensures replaced { result.items ≡ take (length drawn.items) (drop first (object_or_new name self.old.objects).versions) }
+        ensures replaced { result.items ≡ overwritten first drawn.items (versions_under name self.old.objects) }
     {
         let alloc = *self.listed.allocator();
         if let Some(at) = self.listed.get_index_of(&name) {

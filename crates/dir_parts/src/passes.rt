@@ -1,8 +1,9 @@
-ghost use Rattle.std.specs.Prelude.{◌≡◌, ◌+◌, ◌<◌, ◌≤◌, ◌∷◌, [], length, slice_get, ℕ, All, Some, IsTrue, is_some, vec_len, vec_capacity, map, IfSome, OnOk, option_map, if◌then◌else◌, find, filter, not, AllPairs, IsFalse};
+//! The calls in work, each with what it pinned and drew.
+ghost use Rattle.std.specs.Prelude.{◌≡◌, ◌+◌, ◌<◌, ◌∷◌, [], length, slice_get, ℕ, All, Some, IsTrue, is_some, vec_capacity, IfSome, OnOk, option_map, find};
 ghost use Rattle.std.specs.List.Sorted.{IsPermutation};
-ghost use Rattle.store_core.specs.Directory.{Pass as CorePass};
 ghost use Rattle.store_core.specs.Lookups.{same_actor};
 ghost use Rattle.dir_parts.specs.OpenPass.{Open, HasRoom, given, reaped_at};
+ghost use Rattle.dir_parts.specs.Whose.{own_pass, without_own, change_own, AreApart, own_call, without_own_call, change_own_call, AreCallsApart};
 
 use std::alloc::{AllocError, Global};
 use std::marker::Model;
@@ -65,7 +66,7 @@ pub struct OpenPass {
     pub note: CallNote,
     pub pinned: Vec<Pinned>,
     pub drawn: Vec<u64>,
-    pub base: Option<u64>,
+    pub looked_at: Option<u64>,
     pub reaped: Option<u64>,
     pub spare: Vec<u64>,
 }
@@ -83,7 +84,7 @@ impl Model for OpenPass {
 /// The calls in work, the newest first.
 #[derive(Drop)]
 pub struct Passes {
-    stripe: u32,
+    stripe_len: u32,
     open: Vec<OpenPass>,
 }
 
@@ -114,7 +115,7 @@ fn is_same(a: Actor, b: Actor) -> bool
 
 // Where the actor's pass stands, past the end where it has none.
 fn place_of(calls: &[OpenPass], actor: Actor) -> usize
-    ensures { find (λ o. same_actor actor o.pass.actor) calls.now ≡ slice_get calls.now result }
+    ensures { own_call actor calls.now ≡ slice_get calls.now result }
 {
     let mut at = 0;
     while at < calls.len() {
@@ -129,19 +130,19 @@ fn place_of(calls: &[OpenPass], actor: Actor) -> usize
 
 // Where the actor's pass stands, where it has one.
 fn own_place(calls: &[OpenPass], actor: Actor) -> usize
-    requires { IsTrue (is_some (find (λ o. same_actor actor o.pass.actor) calls.now)) }
+    requires { IsTrue (is_some (own_call actor calls.now)) }
     ensures within { result < length calls.now }
-    ensures found { find (λ o. same_actor actor o.pass.actor) calls.now ≡ slice_get calls.now result }
+    ensures found { own_call actor calls.now ≡ slice_get calls.now result }
 {
     place_of(calls, actor)
 }
 
 // Takes the actor's pass out of those that are open.
 fn take_pass(calls: &mut Vec<OpenPass>, actor: Actor) -> OpenPass
-    requires there { IsTrue (is_some (find (λ o. same_actor actor o.pass.actor) calls.old.items)) }
-    requires apart { AllPairs (λ p q. IsFalse (same_actor p.pass.actor q.pass.actor)) calls.old.items }
-    ensures found { find (λ o. same_actor actor o.pass.actor) calls.old.items ≡ Some result }
-    ensures left { calls.new.items ≡ filter (λ o. not (same_actor actor o.pass.actor)) calls.old.items }
+    requires there { IsTrue (is_some (own_call actor calls.old.items)) }
+    requires apart { AreCallsApart calls.old.items }
+    ensures found { own_call actor calls.old.items ≡ Some result }
+    ensures left { calls.new.items ≡ without_own_call actor calls.old.items }
     ensures others { IsPermutation calls.old.items (result ∷ calls.new.items) }
 {
     let at = own_place(calls, actor);
@@ -155,11 +156,11 @@ fn set_drawn(
     drawn: Vec<u64>,
     spare: Vec<u64>,
 ) -> Snapshot<OpenPass>
-    requires there { IsTrue (is_some (find (λ o. same_actor actor o.pass.actor) calls.old.items)) }
-    requires apart { AllPairs (λ p q. IsFalse (same_actor p.pass.actor q.pass.actor)) calls.old.items }
-    ensures after { calls.new.items ≡ map (λ o. if same_actor actor o.pass.actor then given drawn.items (vec_capacity spare) o else o) calls.old.items }
-    ensures entry { IfSome (find (λ o. same_actor actor o.pass.actor) calls.old.items) (λ o. result.value ≡ given drawn.items (vec_capacity spare) o) }
-    ensures rooms { (stripe : ℕ) → All (HasRoom stripe) calls.old.items → IfSome (find (λ o. same_actor actor o.pass.actor) calls.old.items) (λ o. HasRoom stripe (given drawn.items (vec_capacity spare) o)) → All (HasRoom stripe) calls.new.items }
+    requires there { IsTrue (is_some (own_call actor calls.old.items)) }
+    requires apart { AreCallsApart calls.old.items }
+    ensures after { calls.new.items ≡ change_own_call actor (given drawn.items (vec_capacity spare)) calls.old.items }
+    ensures entry { IfSome (own_call actor calls.old.items) (λ o. result.value ≡ given drawn.items (vec_capacity spare) o) }
+    ensures rooms { (stripe_len : ℕ) → All (HasRoom stripe_len) calls.old.items → IfSome (own_call actor calls.old.items) (λ o. HasRoom stripe_len (given drawn.items (vec_capacity spare) o)) → All (HasRoom stripe_len) calls.new.items }
 {
     let at = own_place(calls, actor);
     let one = &mut calls[at];
@@ -170,9 +171,9 @@ fn set_drawn(
 
 // The actor's pass was given up at this point.
 fn set_reaped(calls: &mut Vec<OpenPass>, actor: Actor, point: u64)
-    requires there { IsTrue (is_some (find (λ o. same_actor actor o.pass.actor) calls.old.items)) }
-    requires apart { AllPairs (λ p q. IsFalse (same_actor p.pass.actor q.pass.actor)) calls.old.items }
-    ensures { calls.new.items ≡ map (λ o. if same_actor actor o.pass.actor then reaped_at point o else o) calls.old.items }
+    requires there { IsTrue (is_some (own_call actor calls.old.items)) }
+    requires apart { AreCallsApart calls.old.items }
+    ensures { calls.new.items ≡ change_own_call actor (reaped_at point) calls.old.items }
 {
     let at = own_place(calls, actor);
     let one = &mut calls[at];
@@ -181,11 +182,11 @@ fn set_reaped(calls: &mut Vec<OpenPass>, actor: Actor, point: u64)
 
 impl Passes {
     /// No calls, at an object store whose stripes have so many bytes.
-    pub fn new(alloc: Global, stripe: u32) -> Passes
-        ensures { result ≡ record { stripe = stripe; listed = []; space = 0 } }
+    pub fn new(alloc: Global, stripe_len: u32) -> Passes
+        ensures { result ≡ record { stripe_len = stripe_len; listed = []; space = 0 } }
     {
         Passes {
-            stripe,
+            stripe_len,
             open: Vec::new(alloc),
         }
     }
@@ -200,7 +201,7 @@ impl Passes {
     /// Takes the room for one call more.
     pub fn reserve(&mut self) -> Result<(), AllocError>
         ensures listed { self.new.listed ≡ self.old.listed }
-        ensures stripe { self.new.stripe ≡ self.old.stripe }
+        ensures stripe { self.new.stripe_len ≡ self.old.stripe_len }
         ensures ok { OnOk result (0 < self.new.space) }
     {
         self.open.reserve(1)?;
@@ -209,7 +210,7 @@ impl Passes {
 
     /// The actor's pass, if it has one.
     pub fn find(&self, actor: Actor) -> Option<&OpenPass>
-        ensures { option_map (λ o. o.now.pass) result ≡ find (λ pass. same_actor actor pass.actor) self.now.listed }
+        ensures { option_map (λ o. o.now.pass) result ≡ own_pass actor self.now.listed }
     {
         let at = place_of(&self.open, actor);
         if at < self.open.len() {
@@ -223,7 +224,7 @@ impl Passes {
         requires space { 0 < self.old.space }
         requires undrawn { pass.pass.drawn ≡ [] }
         ensures listed { self.new.listed ≡ pass.pass ∷ self.old.listed }
-        ensures stripe { self.new.stripe ≡ self.old.stripe }
+        ensures stripe { self.new.stripe_len ≡ self.old.stripe_len }
         ensures entry { result.value ≡ pass }
     {
         let entry = Snapshot::of(&pass);
@@ -235,35 +236,35 @@ impl Passes {
 
     /// Ends the actor's call.
     pub fn take(&mut self, actor: Actor) -> OpenPass
-        requires there { IsTrue (is_some (find (λ pass. same_actor actor pass.actor) self.old.listed)) }
-        requires apart { AllPairs (λ p q. IsFalse (same_actor p.actor q.actor)) self.old.listed }
-        ensures found { find (λ pass. same_actor actor pass.actor) self.old.listed ≡ Some result.pass }
-        ensures left { self.new.listed ≡ filter (λ pass. not (same_actor actor pass.actor)) self.old.listed }
+        requires there { IsTrue (is_some (own_pass actor self.old.listed)) }
+        requires apart { AreApart self.old.listed }
+        ensures found { own_pass actor self.old.listed ≡ Some result.pass }
+        ensures left { self.new.listed ≡ without_own actor self.old.listed }
         ensures others { IsPermutation self.old.listed (result.pass ∷ self.new.listed) }
-        ensures room { HasRoom self.old.stripe result }
-        ensures stripe { self.new.stripe ≡ self.old.stripe }
+        ensures room { HasRoom self.old.stripe_len result }
+        ensures stripe { self.new.stripe_len ≡ self.old.stripe_len }
     {
         take_pass(&mut self.open, actor)
     }
 
     /// The actor's call has drawn versions, and has room for its object's.
     pub fn draw(&mut self, actor: Actor, drawn: Vec<u64>, spare: Vec<u64>) -> Snapshot<OpenPass>
-        requires there { IsTrue (is_some (find (λ pass. same_actor actor pass.actor) self.old.listed)) }
-        requires apart { AllPairs (λ p q. IsFalse (same_actor p.actor q.actor)) self.old.listed }
-        requires room { IfSome (find (λ pass. same_actor actor pass.actor) self.old.listed) (λ pass. HasRoom self.old.stripe (record { pass = record pass { drawn = drawn.items }; room = vec_capacity spare })) }
-        ensures listed { self.new.listed ≡ map (λ (pass : CorePass). if same_actor actor pass.actor then record pass { drawn = drawn.items } else pass) self.old.listed }
-        ensures entry { IfSome (find (λ pass. same_actor actor pass.actor) self.old.listed) (λ pass. result.value.pass ≡ record pass { drawn = drawn.items }) }
-        ensures stripe { self.new.stripe ≡ self.old.stripe }
+        requires there { IsTrue (is_some (own_pass actor self.old.listed)) }
+        requires apart { AreApart self.old.listed }
+        requires room { IfSome (own_pass actor self.old.listed) (λ pass. HasRoom self.old.stripe_len (record { pass = record pass { drawn = drawn.items }; room = vec_capacity spare })) }
+        ensures listed { self.new.listed ≡ change_own actor (λ pass. record pass { drawn = drawn.items }) self.old.listed }
+        ensures entry { IfSome (own_pass actor self.old.listed) (λ pass. result.value.pass ≡ record pass { drawn = drawn.items }) }
+        ensures stripe { self.new.stripe_len ≡ self.old.stripe_len }
     {
         set_drawn(&mut self.open, actor, drawn, spare)
     }
 
     /// The actor's call was given up at this point.
     pub fn reap(&mut self, actor: Actor, point: u64)
-        requires there { IsTrue (is_some (find (λ pass. same_actor actor pass.actor) self.old.listed)) }
-        requires apart { AllPairs (λ p q. IsFalse (same_actor p.actor q.actor)) self.old.listed }
-        ensures listed { self.new.listed ≡ map (λ (pass : CorePass). if same_actor actor pass.actor then record pass { reaped = Some point } else pass) self.old.listed }
-        ensures stripe { self.new.stripe ≡ self.old.stripe }
+        requires there { IsTrue (is_some (own_pass actor self.old.listed)) }
+        requires apart { AreApart self.old.listed }
+        ensures listed { self.new.listed ≡ change_own actor (λ pass. record pass { reaped = Some point }) self.old.listed }
+        ensures stripe { self.new.stripe_len ≡ self.old.stripe_len }
     {
         set_reaped(&mut self.open, actor, point);
     }

@@ -1,19 +1,18 @@
-ghost use Rattle.std.specs.Prelude.{◌≡◌, ◌+◌, ◌-◌, ◌<◌, ◌≤◌, ◌↔◌, ◌∷◌, [], length, map, zip, slice_get, false, true, All, vec_len, vec_capacity, ◌^◌, ◌++◌, replicate, OnOk, OnErr, IfOk, is_some, get_or, find, option_map, nat_eq, IsTrue};
+//! Versions by their numbers: where each stands, its placements and pins, and which are garbage.
+ghost use Rattle.std.specs.Prelude.{◌≡◌, ◌+◌, ◌-◌, ◌<◌, ◌≤◌, ◌↔◌, ◌∷◌, [], length, map, zip, slice_get, false, true, All, vec_len, vec_capacity, ◌^◌, ◌++◌, replicate, OnOk, IfOk, is_some, get_or, IsTrue};
 ghost use Rattle.std.specs.List.Sorted.{IsPermutation};
 ghost use Rattle.std.specs.BinaryHeap.{heap_items, heap_len, heap_capacity, IsHeap};
-ghost use Rattle.std.specs.List.{range_with_len};
 ghost use Rattle.store_core.specs.Lists.{change_at};
 ghost use Rattle.store_core.specs.Look.{set_standing, placed_of};
-ghost use Rattle.store_core.specs.Lookups.{holds_standing, is_superseded_standing, is_current_standing};
+ghost use Rattle.store_core.specs.Lookups.{holds_standing, is_current_standing};
 ghost use Rattle.store_core.specs.Directory.{Standing as CoreStanding};
 ghost use Rattle.store_core.specs.Commit.{place_all};
 ghost use Rattle.store_core.specs.Placements.{placed_anew};
 ghost use Rattle.store_core.specs.AtDirectory.{swept_standing};
-ghost use Rattle.dir_parts.specs.Counts.{unpinned, pinned_more};
-ghost use Rattle.dir_parts.specs.Table.{is_garbage, number_in, least_first, version_in, swept};
-ghost use Rattle.dir_parts.specs.TableSteps.{base_version, drawn_version, first_free, taken_from, placed_anew_by};
+ghost use Rattle.dir_parts.specs.Counts.{unpinned, pinned_more, CanTakeAll};
+ghost use Rattle.dir_parts.specs.Table.{is_garbage, garbage_in, number_in, least_first, versions_in, pins_in, swept};
+ghost use Rattle.dir_parts.specs.TableSteps.{base_version, drawn_versions, IsUnreplaced, IsThereUnreplaced, first_free, taken_from, placed_anew_at, placed_anew_by};
 ghost use Rattle.dir_parts.specs.Known.{is_known};
-ghost use Rattle.dir_parts.specs.Places.{places};
 ghost use Rattle.dir_parts.specs.declared.versions.Standing.TheVariants as standing;
 
 use crate::passes::Pinned;
@@ -98,7 +97,7 @@ fn unpin(entries: &mut Vec<Entry>, at: usize)
 // One pin more.
 fn pin(entries: &mut Vec<Entry>, at: usize)
     requires within { at < vec_len entries.old }
-    requires fits { get_or (map (λ entry. entry.pins) entries.old.items) at 0 + 1 < 2 ^ 64 }
+    requires fits { get_or (pins_in entries.old.items) at 0 + 1 < 2 ^ 64 }
     ensures after { entries.new.items ≡ change_at at (λ entry. record entry { pins = entry.pins + 1 }) entries.old.items }
     ensures len { vec_len entries.new ≡ vec_len entries.old }
 {
@@ -149,9 +148,9 @@ fn raise(row: &mut Vec<Placement>, server: usize, epoch: u64)
 // A version's chunk was placed anew at a server.
 fn place_anew(entries: &mut Vec<Entry>, at: usize, server: u32, epoch: u64)
     requires { at < vec_len entries.old }
-    ensures versions { map version_in entries.new.items ≡ change_at at (λ version. record version { placed = change_at server (placed_anew epoch) version.placed }) (map version_in entries.old.items) }
-    ensures pins { map (λ entry. entry.pins) entries.new.items ≡ map (λ entry. entry.pins) entries.old.items }
-    ensures garbage { places is_garbage 0 entries.new.items ≡ places is_garbage 0 entries.old.items }
+    ensures versions { versions_in entries.new.items ≡ placed_anew_at server epoch at (versions_in entries.old.items) }
+    ensures pins { pins_in entries.new.items ≡ pins_in entries.old.items }
+    ensures garbage { garbage_in entries.new.items ≡ garbage_in entries.old.items }
     ensures len { vec_len entries.new ≡ vec_len entries.old }
 {
     let entry = &mut entries[at];
@@ -204,9 +203,9 @@ fn push_drawn(
 )
     requires room { vec_len entries.old + count ≤ vec_capacity entries.old }
     requires fits { first + count ≤ 2 ^ 32 }
-    ensures versions { map version_in entries.new.items ≡ map version_in entries.old.items ++ map (drawn_version actor number pins.now) (range_with_len first count) }
-    ensures pins { map (λ entry. entry.pins) entries.new.items ≡ map (λ entry. entry.pins) entries.old.items ++ replicate count 0 }
-    ensures garbage { places is_garbage 0 entries.new.items ≡ places is_garbage 0 entries.old.items }
+    ensures versions { versions_in entries.new.items ≡ versions_in entries.old.items ++ drawn_versions actor number pins.now first count }
+    ensures pins { pins_in entries.new.items ≡ pins_in entries.old.items ++ replicate count 0 }
+    ensures garbage { garbage_in entries.new.items ≡ garbage_in entries.old.items }
     ensures len { vec_len entries.new ≡ vec_len entries.old + count }
 {
     let alloc = *entries.allocator();
@@ -237,7 +236,7 @@ impl Versions {
     pub fn draw(&mut self, actor: Actor, number: u32, pins: &[Pinned], first: u32, count: u32)
         requires room { count ≤ self.old.room }
         requires fits { first + count ≤ 2 ^ 32 }
-        ensures listed { self.new.listed ≡ self.old.listed ++ map (drawn_version actor number pins.now) (range_with_len first count) }
+        ensures listed { self.new.listed ≡ self.old.listed ++ drawn_versions actor number pins.now first count }
         ensures pins { self.new.pins ≡ self.old.pins ++ replicate count 0 }
     {
         push_drawn(&mut self.entries, actor, number, pins, first, count);
@@ -301,7 +300,7 @@ impl Versions {
     /// placements tells.
     pub fn make_current(&mut self, number: u64, row: Vec<Placement>)
         requires within { number < length self.old.listed }
-        requires other { holds_standing is_superseded_standing (slice_get self.old.listed number) ≡ false }
+        requires other { IsUnreplaced self.old.listed number }
         ensures listed { self.new.listed ≡ change_at number (λ version. record version { placed = row.items; standing = CoreStanding.Current }) self.old.listed }
         ensures pins { self.new.pins ≡ self.old.pins }
     {
@@ -334,7 +333,7 @@ impl Versions {
     /// Makes what a call drew current, one version after the other, each with its row of placements.
     pub fn make_all_current(&mut self, numbers: &[u64], rows: Vec<Vec<Placement>>)
         requires rows { vec_len rows ≡ length numbers.now }
-        requires drawn { All (λ number. (number < length self.old.listed) × (holds_standing is_superseded_standing (slice_get self.old.listed number) ≡ false)) numbers.now }
+        requires drawn { All (λ number. IsThereUnreplaced self.old.listed number) numbers.now }
         ensures listed { self.new.listed ≡ place_all (zip numbers.now (map (λ row. row.items) rows.items)) self.old.listed }
         ensures pins { self.new.pins ≡ self.old.pins }
     {
@@ -383,7 +382,7 @@ impl Versions {
     /// The chunk of a version was placed anew at a server, at this epoch.
     pub fn place_anew(&mut self, number: u64, server: u32, epoch: u64)
         requires { number < length self.old.listed }
-        ensures listed { self.new.listed ≡ change_at number (λ version. record version { placed = change_at server (placed_anew epoch) version.placed }) self.old.listed }
+        ensures listed { self.new.listed ≡ placed_anew_at server epoch number self.old.listed }
         ensures pins { self.new.pins ≡ self.old.pins }
     {
         place_anew(&mut self.entries, number as usize, server, epoch);
@@ -404,7 +403,7 @@ impl Versions {
     /// Whether the counts of these versions can take one pin more for each of the pins.
     pub fn can_pin(&self, pins: &[Pinned]) -> bool
         requires { All (λ pin. pin.version < length self.now.listed) pins.now }
-        ensures { IsTrue result ↔ All (λ pin. get_or self.now.pins pin.version 0 + length pins.now < 2 ^ 64) pins.now }
+        ensures { IsTrue result ↔ CanTakeAll self.now.pins pins.now }
     {
         let most = u64::MAX - pins.len() as u64;
         for pin in pins {
@@ -419,7 +418,7 @@ impl Versions {
     /// A pass pins the version.
     pub fn pin(&mut self, number: u64)
         requires within { number < length self.old.listed }
-        requires other { holds_standing is_superseded_standing (slice_get self.old.listed number) ≡ false }
+        requires other { IsUnreplaced self.old.listed number }
         requires fits { get_or self.old.pins number 0 + 1 < 2 ^ 64 }
         ensures listed { self.new.listed ≡ self.old.listed }
         ensures pins { self.new.pins ≡ change_at number (λ count. count + 1) self.old.pins }
@@ -429,8 +428,8 @@ impl Versions {
 
     /// A pass pins these versions.
     pub fn pin_all(&mut self, pins: &[Pinned])
-        requires others { All (λ pin. (pin.version < length self.old.listed) × (holds_standing is_superseded_standing (slice_get self.old.listed pin.version) ≡ false)) pins.now }
-        requires fits { All (λ pin. get_or self.old.pins pin.version 0 + length pins.now < 2 ^ 64) pins.now }
+        requires others { All (λ pin. IsThereUnreplaced self.old.listed pin.version) pins.now }
+        requires fits { CanTakeAll self.old.pins pins.now }
         ensures listed { self.new.listed ≡ self.old.listed }
         ensures pins { self.new.pins ≡ pinned_more pins.now self.old.pins }
     {

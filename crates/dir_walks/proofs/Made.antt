@@ -15,7 +15,7 @@ use Rattle.store_core.specs.Agreement.{Seat, HeldPass, ActorToken, Agrees}
 use Rattle.store_core.specs.Tokens.{actor_of}
 use Rattle.version_seal.specs.Entry.{BookOf, RequestOf, StampOf}
 use Rattle.stripe_dir.specs.Sealed.{Sealed}
-use Rattle.stripe_dir.specs.declared.answers.Seen.{Seen}
+use Rattle.call_steps.specs.declared.seen.Seen.{Seen}
 use Rattle.call_steps.specs.TokenAfter.{token_after}
 use Rattle.stripe_dir.specs.Shown.{repair_note}
 use Rattle.stripe_dir.specs.AnswerStamps.{IfDrawn}

@@ -39,7 +39,7 @@ drawn_by (draw.Reaped seat at) = 0
 
 -- a write that was overtaken may use its number once more
 abbrev pub unused_after_commit : ℕ → Committed ⊤ → ℕ
-unused_after_commit number (commit.Changed seat base newer) = number
+unused_after_commit number (commit.Changed seat looked_at newer) = number
 unused_after_commit number answer = number + 1
 
 abbrev pub stage_after_confirm : Confirmed ⊤ ⊤ → Stage

@@ -5,7 +5,7 @@ use Rattle.store_core.specs.Note.{note_of}
 use Rattle.store_core.specs.Look.{pin_of}
 use Rattle.store_core.specs.Agreement.{HeldPass, ActorToken}
 use Rattle.stripe_dir.specs.Answers.{seen_in}
-use Rattle.stripe_dir.specs.declared.answers.Seen.{Seen}
+use Rattle.call_steps.specs.declared.seen.Seen.{Seen}
 use Rattle.stripe_dir.specs.declared.answers.Look.{Look}
 use Rattle.stripe_dir.specs.declared.answers.Look.TheVariants as look
 use Rattle.dir_walks.specs.Callers.{CallerOf}
@@ -20,5 +20,5 @@ pub record HasBegun (home : List ℕ) (call : Call) (number : ℕ) (stripes : Li
 
 -- where a look says so
 abbrev pub IfBegun : List ℕ → Call → ℕ → Look ⊤ ⊤ → CallerOf → Type 0
-IfBegun home call number (look.Ready pass base length stripes) c = HasBegun home call number stripes.items c
+IfBegun home call number (look.Ready pass looked_at length stripes) c = HasBegun home call number stripes.items c
 IfBegun home call number answer c = ⊤

@@ -4,4 +4,4 @@ use Rattle.dir_walks.specs.declared.caller.Caller.TheInside.{Inside}
 
 abbrev pub caller_in : Inside → CallerOf
 caller_in a =
-    record { who = a.who; token = a.token; stage = a.stage; number = a.number; unused = a.unused; drawn = a.drawn; request = a.request }
+    record { who = a.who; token = a.ticket; stage = a.stage; number = a.number; unused = a.unused; drawn = a.drawn; request = a.request }

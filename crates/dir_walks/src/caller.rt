@@ -1,3 +1,5 @@
+//! An actor with its ticket, and its steps at the directory, each where the actor may make it.
+
 ghost use Rattle.std.specs.Prelude.{◌≡◌, IfOk};
 ghost use Rattle.store_core.specs.Agreement.{ActorToken, HeldPass};
 ghost use Rattle.dir_walks.specs.Callers.{IsReady, Steps, is_seated};
@@ -63,10 +65,10 @@ impl From<AllocError> for Refusal {
     }
 }
 
-/// An actor with its token, and what its next steps go by. It has to be spent.
+/// An actor with its ticket, and what its next steps go by. It has to be spent.
 pub struct Caller {
     who: Actor,
-    token: Ticket,
+    ticket: Ticket,
     stage: Stage,
     // of its last call
     number: u32,
@@ -95,7 +97,7 @@ impl Caller {
     {
         Caller {
             who,
-            token: Ticket::new(seat),
+            ticket: Ticket::new(seat),
             stage: Stage::Seated,
             number: 0,
             unused: 0,
@@ -114,14 +116,14 @@ impl Caller {
     pub fn leave(self) {
         let Caller {
             who: _,
-            token,
+            ticket,
             stage: _,
             number: _,
             unused: _,
             drawn: _,
             request: _,
         } = self;
-        token.leave();
+        ticket.leave();
     }
 
     fn is_seated(&self) -> bool
@@ -148,7 +150,7 @@ impl Caller {
         if u64::from(number) < self.unused || !is_client(self.who) {
             return Err(Refusal::NotNow);
         }
-        let answer = self.token.look(directory, number, call)?;
+        let answer = self.ticket.look(directory, number, call)?;
         self.stage = stage_after_look(&answer, call);
         self.number = number;
         self.unused = u64::from(number) + 1;
@@ -174,7 +176,7 @@ impl Caller {
         if u64::from(number) < self.unused || !is_repairer(self.who) {
             return Err(Refusal::NotNow);
         }
-        let answer = self.token.look_repair(directory, number, name, stripe)?;
+        let answer = self.ticket.look_repair(directory, number, name, stripe)?;
         self.stage = stage_after_repair_look(&answer);
         self.number = number;
         Ok(answer)
@@ -191,7 +193,7 @@ impl Caller {
         };
         directory.keeps();
         let answer = self
-            .token
+            .ticket
             .draw(directory, self.number, book, self.request.as_ref())?;
         self.stage = stage_after_draw(&answer);
         self.drawn = drawn_by(&answer);
@@ -214,7 +216,7 @@ impl Caller {
         };
         directory.keeps();
         let placed = rows(alloc, directory.geometry(), self.drawn)?;
-        let answer = self.token.commit(directory, self.number, placed);
+        let answer = self.ticket.commit(directory, self.number, placed);
         self.stage = Stage::Seated;
         self.unused = unused_after_commit(&answer, self.number);
         Ok(answer)
@@ -228,7 +230,7 @@ impl Caller {
         if self.is_seated() {
             return Err(Refusal::NotNow);
         }
-        let answer = self.token.end(directory, self.number);
+        let answer = self.ticket.end(directory, self.number);
         self.stage = Stage::Seated;
         self.unused = u64::from(self.number) + 1;
         Ok(answer)
@@ -246,7 +248,7 @@ impl Caller {
         let Stage::Rebuilding = self.stage else {
             return Err(Refusal::NotNow);
         };
-        let answer = self.token.confirm(directory, self.number);
+        let answer = self.ticket.confirm(directory, self.number);
         self.stage = stage_after_confirm(&answer);
         self.unused = u64::from(self.number) + 1;
         Ok(answer)
@@ -269,7 +271,7 @@ impl Caller {
         if server >= directory.geometry().n() {
             return Err(Refusal::NotNow);
         }
-        let answer = self.token.repaired(directory, self.number, server, epoch);
+        let answer = self.ticket.repaired(directory, self.number, server, epoch);
         self.stage = Stage::Seated;
         self.unused = u64::from(self.number) + 1;
         Ok(answer)

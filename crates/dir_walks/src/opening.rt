@@ -1,3 +1,5 @@
+//! The small code of all walks.
+
 ghost use Rattle.std.specs.Prelude.{◌≡◌, IfOk};
 ghost use Rattle.dir_walks.specs.Small.{small_code};
 

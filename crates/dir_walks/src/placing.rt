@@ -1,3 +1,5 @@
+//! Rows of placements in which each server took its chunk.
+
 ghost use Rattle.std.specs.Prelude.{◌≡◌, IfOk, length, map, All};
 ghost use Rattle.store_core.specs.Placements.{IsRow};
 

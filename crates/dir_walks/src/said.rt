@@ -49,11 +49,11 @@ fn at_point(alloc: Global, word: &str, point: Point) -> Result<String, AllocErro
     format!(in alloc; "{word} {point}")
 }
 
-fn ready(alloc: Global, base: Option<Point>, length: u64) -> Result<String, AllocError> {
-    match base {
-        Some(base) => {
-            let base = base.0;
-            format!(in alloc; "ready over {base}, {length} bytes")
+fn ready(alloc: Global, looked_at: Option<Point>, length: u64) -> Result<String, AllocError> {
+    match looked_at {
+        Some(point) => {
+            let point = point.0;
+            format!(in alloc; "ready over {point}, {length} bytes")
         }
         None => format!(in alloc; "ready, {length} bytes"),
     }
@@ -76,11 +76,11 @@ fn look(alloc: Global, answer: &Look<(), ()>) -> Result<String, AllocError> {
             with_stripes(alloc, text, stripes)
         }
         Look::Ready {
-            base,
+            looked_at,
             length,
             stripes,
             ..
-        } => with_stripes(alloc, ready(alloc, *base, *length)?, stripes),
+        } => with_stripes(alloc, ready(alloc, *looked_at, *length)?, stripes),
     }
 }
 
@@ -108,10 +108,14 @@ fn draw(alloc: Global, answer: &Drawn<(), ()>) -> Result<String, AllocError> {
 fn commit(alloc: Global, answer: &Committed<()>) -> Result<String, AllocError> {
     match answer {
         Committed::Done { point, .. } => at_point(alloc, "done", *point),
-        Committed::Changed { base, newer, .. } => {
-            let base = base.0;
+        Committed::Changed {
+            looked_at,
+            newer,
+            ..
+        } => {
+            let looked_at = looked_at.0;
             let newer = newer.0;
-            format!(in alloc; "changed {base} {newer}")
+            format!(in alloc; "changed {looked_at} {newer}")
         }
         Committed::Reaped { at, .. } => at_point(alloc, "reaped", *at),
     }

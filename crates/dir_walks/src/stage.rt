@@ -1,3 +1,5 @@
+//! Where an actor is in its calls, by what the directory answered.
+
 ghost use Rattle.std.specs.Prelude.{◌≡◌, ◌+◌, true, if◌then◌else◌};
 ghost use Rattle.dir_walks.specs.Callers.{is_client, is_repairer};
 ghost use Rattle.dir_walks.specs.After.{writes, stage_after_look, stage_after_repair_look, stage_after_draw, drawn_by, unused_after_commit, stage_after_confirm};

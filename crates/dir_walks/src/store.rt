@@ -1,3 +1,5 @@
+//! A directory with two clients and a repairer, and what they, operator and sweeper do there.
+
 ghost use Rattle.std.specs.Prelude.{◌≡◌, ◌<◌, ◌∷◌, ◌++◌, [], length, None, IfOk};
 ghost use Rattle.store_core.specs.Agreement.{ActorToken, HeldPass};
 ghost use Rattle.stripe_dir.specs.AnswerStamps.{IfDrawn};

@@ -1,3 +1,5 @@
+//! The words of a step by their places, also as numbers.
+
 use std::test::Fail;
 
 /// The word at this place.

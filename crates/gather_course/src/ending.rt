@@ -1,3 +1,5 @@
+//! Why a gathering has ended without its bytes.
+
 /// How a gathering has ended without its bytes.
 #[derive(Clone, Copy, PartialEq, Eq, Debug)]
 pub enum Ending {

@@ -21,9 +21,9 @@ length_taking (Told.Given layers) None takes = refl
 length_taking answer server takes = refl
 
 module _ (book : BookOf) (w : GatherOf) (short : Bool) (s : Server) (takes : List ℕ) where
-  heard_at_work : (answer : Told) → IsAtWork book w → IsAtWork book (heard w answer short)
+  heard_at_work : (answer : Told) → IsAtWork book w → IsAtWork book (heard w answer)
   heard_at_work answer h =
-      record { code = h.code; home = h.home; uncoded = refl; part = still_of_part w.course.geometry w.course.aim w.course.stage answer h.part }
+      record { code = h.code; home = h.home; part = still_of_part w.course.geometry w.course.aim w.course.stage answer h.part }
 
   at_work_by : (stage : Stage) → IsAtWork book w → IsAtWork book (stepped_at w short s takes stage).1
   at_work_by (Stage.Asks asking) h = heard_at_work (at_server short (step_asked w.course.geometry w.course.aim asking) s).1 h
@@ -37,21 +37,21 @@ module _ (book : BookOf) (w : GatherOf) (short : Bool) (s : Server) (takes : Lis
   bytes_by (Stage.Asks asking) = refl
   bytes_by stage = refl
 
-module _ (book : BookOf) (w later : GatherOf) (s after : Server) (takes more : List ℕ) (e : (after, later, more) ≡ gather_stepped w later.step s takes) where
+module _ (book : BookOf) (w later : GatherOf) (short : Bool) (s after : Server) (takes more : List ℕ) (e : (after, later, more) ≡ gather_stepped w short s takes) where
   pub still_at_work : IsAtWork book w → IsAtWork book later
-  still_at_work h = subst (λ (r : Server × GatherOf × List ℕ). IsAtWork book r.1) (sym e) (at_work_by book w later.step s takes w.course.stage h)
+  still_at_work h = subst (λ (r : Server × GatherOf × List ℕ). IsAtWork book r.1) (sym e) (at_work_by book w short s takes w.course.stage h)
 
   pub still_counted : length more ≡ length takes
-  still_counted = ap (λ (r : Server × GatherOf × List ℕ). length r.2) e ∙ length_by book w later.step s takes w.course.stage
+  still_counted = ap (λ (r : Server × GatherOf × List ℕ). length r.2) e ∙ length_by book w short s takes w.course.stage
 
 -- the fields after a step are those of the gatherings after it
-pub stepped_is : (a : Inside) (w later : GatherOf) (s after : Server) (takes more : List ℕ) → a.current ≡ Some w → a.takes ≡ Some takes
-    → (after, later, more) ≡ gather_stepped w later.step s takes
-    → (after, gatherings_in (record a { current = Some later; takes = Some more })) ≡ stepped (gatherings_in a) later.step s
-stepped_is a w later s after takes more current counts e =
+pub stepped_is : (a : Inside) (w later : GatherOf) (short : Bool) (s after : Server) (takes more : List ℕ) → a.current ≡ Some w → a.takes ≡ Some takes
+    → (after, later, more) ≡ gather_stepped w short s takes
+    → (after, gatherings_in (record a { current = Some later; takes = Some more })) ≡ stepped (gatherings_in a) short s
+stepped_is a w later short s after takes more current counts e =
     ap (λ (r : Server × GatherOf × List ℕ). (r.0, record (gatherings_in a) { current = Some r.1; takes = r.2 })) e
-    ∙ ap (λ l. next (gather_stepped w later.step s l)) (sym (ap (takes_in a.opening.geometry) counts))
-    ∙ ap (λ o. stepped_by o (gatherings_in a) later.step s) (sym current)
+    ∙ ap (λ l. next (gather_stepped w short s l)) (sym (ap (takes_in a.opening.geometry) counts))
+    ∙ ap (λ o. stepped_by o (gatherings_in a) short s) (sym current)
   where
     next : Server × GatherOf × List ℕ → Server × GatheringsOf
     next r = (r.0, record (gatherings_in a) { current = Some r.1; takes = r.2 })

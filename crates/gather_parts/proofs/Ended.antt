@@ -13,8 +13,8 @@ use Rattle.gather_parts.specs.declared.standing.Standing.{Standing}
 use Rattle.gather_parts.specs.declared.standing.Standing.TheVariants as standing
 use Rattle.gather_parts.specs.Wanted.{Wanted, parts_of, bytes_of}
 use Rattle.gather_parts.specs.Gatherings.{GatheringsOf, bytes_at_work, owed}
-use Rattle.gather_parts.specs.Standings.{standing_at, standing_by, unless_short, standing_of, IsOver}
-use Rattle.gather_parts.specs.States.{state_by, unless_wanting, state_in}
+use Rattle.gather_parts.specs.Standings.{standing_at, standing_by, standing_of, IsOver}
+use Rattle.gather_parts.specs.States.{state_by, state_in}
 
 abbrev is_done : Standing → Bool
 is_done standing.Done = true
@@ -44,23 +44,17 @@ module _ (g : Shape) (after : Sequel) where
   done_by None [] e = refl
   done_by None (wanted ∷ left) e = not_done standing.Due refl e
 
-  done_unless : (coding : Bool) (current : Option GatherOf) (left : List Wanted) → unless_short coding (standing_by g current left) ≡ standing.Done
-      → unless_wanting coding (state_by g (parts_of left) after current) ≡ sequel_state after
-  done_unless true current left e = not_done standing.Short refl e
-  done_unless false current left e = done_by current left e
-
 pub done_state : (p : GatheringsOf) (after : Sequel) → standing_of p ≡ standing.Done → state_in p after ≡ sequel_state after
-done_state p after e = done_unless p.book.geometry after p.coding p.current p.left e
+done_state p after e = done_by p.book.geometry after p.current p.left e
 
-nothing_left : (g : Shape) (coding : Bool) (current : Option GatherOf) (left : List Wanted) → unless_short coding (standing_by g current left) ≡ standing.Done
+nothing_left : (g : Shape) (current : Option GatherOf) (left : List Wanted) → standing_by g current left ≡ standing.Done
     → bytes_at_work current ++ bytes_of left ≡ []
-nothing_left g true current left e = not_done standing.Short refl e
-nothing_left g false (Some w) left e = not_done (standing_at g w.course.aim w.course.stage) (never_done g w.course.aim w.course.stage) e
-nothing_left g false None [] e = refl
-nothing_left g false None (wanted ∷ left) e = not_done standing.Due refl e
+nothing_left g (Some w) left e = not_done (standing_at g w.course.aim w.course.stage) (never_done g w.course.aim w.course.stage) e
+nothing_left g None [] e = refl
+nothing_left g None (wanted ∷ left) e = not_done standing.Due refl e
 
 pub done_owed : (p : GatheringsOf) → standing_of p ≡ standing.Done → owed p ≡ p.bytes
-done_owed p e = ap (λ (l : List ℕ). p.bytes ++ l) (nothing_left p.book.geometry p.coding p.current p.left e) ∙ append-nil p.bytes
+done_owed p e = ap (λ (l : List ℕ). p.bytes ++ l) (nothing_left p.book.geometry p.current p.left e) ∙ append-nil p.bytes
 
 abbrev Ends : (Sequel → State) → Type 0
 Ends at = (stripe : ℕ) × (missing : List Lost) × ((after : Sequel) → at after ≡ State.Ending (Outcome.Unavailable stripe missing))
@@ -74,15 +68,14 @@ lost_stage g aim parts Stage.AtTarget e = not_many standing.Short refl e
 lost_stage g aim parts (Stage.TargetAway downs) e = not_many standing.Short refl e
 lost_stage g aim parts Stage.Short e = not_many standing.Short refl e
 
-lost_unless : (g : Shape) (coding : Bool) (current : Option GatherOf) (left : List Wanted) → unless_short coding (standing_by g current left) ≡ standing.TooMany
-    → Ends (λ after. unless_wanting coding (state_by g (parts_of left) after current))
-lost_unless g true current left e = not_many standing.Short refl e
-lost_unless g false (Some w) left e = lost_stage g w.course.aim (parts_of left) w.course.stage e
-lost_unless g false None [] e = not_many standing.Done refl e
-lost_unless g false None (wanted ∷ left) e = not_many standing.Due refl e
+lost_by : (g : Shape) (current : Option GatherOf) (left : List Wanted) → standing_by g current left ≡ standing.TooMany
+    → Ends (λ after. state_by g (parts_of left) after current)
+lost_by g (Some w) left e = lost_stage g w.course.aim (parts_of left) w.course.stage e
+lost_by g None [] e = not_many standing.Done refl e
+lost_by g None (wanted ∷ left) e = not_many standing.Due refl e
 
 pub lost_state : (p : GatheringsOf) → standing_of p ≡ standing.TooMany → Ends (state_in p)
-lost_state p e = lost_unless p.book.geometry p.coding p.current p.left e
+lost_state p e = lost_by p.book.geometry p.current p.left e
 
 -- gatherings that are over end the pass of a read
 module _ (g : Shape) (point : ℕ) where
@@ -98,12 +91,11 @@ module _ (g : Shape) (point : ℕ) where
   over_stage parts aim (Stage.TargetAway downs) over = (Outcome.Away downs, refl)
   over_stage parts aim Stage.Short over = (Outcome.NoMemory, refl)
 
-  over_unless : (coding : Bool) (current : Option GatherOf) (left : List Wanted) → IsOver (unless_short coding (standing_by g current left))
-      → Closes (unless_wanting coding (state_by g (parts_of left) (Sequel.Serve point) current))
-  over_unless true current left over = (Outcome.NoMemory, refl)
-  over_unless false (Some w) left over = over_stage (parts_of left) w.course.aim w.course.stage over
-  over_unless false None [] over = (Outcome.Served point, refl)
-  over_unless false None (wanted ∷ left) over = absurd over
+  over_by : (current : Option GatherOf) (left : List Wanted) → IsOver (standing_by g current left)
+      → Closes (state_by g (parts_of left) (Sequel.Serve point) current)
+  over_by (Some w) left over = over_stage (parts_of left) w.course.aim w.course.stage over
+  over_by None [] over = (Outcome.Served point, refl)
+  over_by None (wanted ∷ left) over = absurd over
 
 pub over_closes : (p : GatheringsOf) (point : ℕ) → IsOver (standing_of p) → (outcome : Outcome) × (state_in p (Sequel.Serve point) ≡ State.Ending outcome)
-over_closes p point over = over_unless p.book.geometry point p.coding p.current p.left over
+over_closes p point over = over_by p.book.geometry point p.current p.left over

@@ -23,8 +23,8 @@ use Rattle.gather_parts.specs.declared.standing.Standing.{Standing}
 use Rattle.gather_parts.specs.declared.standing.Standing.TheVariants as standing
 use Rattle.gather_parts.specs.Wanted.{Wanted, parts_of, bytes_of}
 use Rattle.gather_parts.specs.Gatherings.{GatheringsOf, bytes_at_work, owed}
-use Rattle.gather_parts.specs.Standings.{standing_at, standing_by, unless_short, standing_of, is_due_at, is_due, need_at}
-use Rattle.gather_parts.specs.States.{state_by, unless_wanting, state_in, StandsIn, moved}
+use Rattle.gather_parts.specs.Standings.{standing_at, standing_by, standing_of, is_due_at, is_due, need_at}
+use Rattle.gather_parts.specs.States.{state_by, state_in, StandsIn, after_coding}
 use Rattle.gather_parts.proofs.Moving.{standing_call, stands_as}
 use Rattle.gather_parts.proofs.Nexts.{next_state, next_bytes}
 
@@ -45,13 +45,8 @@ module _ (g : Shape) (parts : List Part) (after : Sequel) where
   due_by (Some w) left e = due_stage w.course.aim w.course.stage e
   due_by None left e = refl
 
-  due_unless : (coding : Bool) (current : Option GatherOf) (left : List Wanted) → unless_short coding (standing_by g current left) ≡ standing.Due
-      → unless_wanting coding (state_by g parts after current) ≡ open_parts g parts after
-  due_unless true current left e = not_due standing.Short refl e
-  due_unless false current left e = due_by current left e
-
 pub due_open : (p : GatheringsOf) (after : Sequel) → standing_of p ≡ standing.Due → state_in p after ≡ open_parts p.book.geometry (parts_of p.left) after
-due_open p after e = due_unless p.book.geometry (parts_of p.left) after p.coding p.current p.left e
+due_open p after e = due_by p.book.geometry (parts_of p.left) after p.current p.left e
 
 -- the call has a step to make then, and goes on to its end where memory is wanting
 module _ (g : Shape) (tries : ℕ) (job : Job) (pairs : List (ℕ × ℕ)) (after : Sequel) where
@@ -157,46 +152,32 @@ module _ (g : Shape) (tries : ℕ) (job : Job) (pairs : List (ℕ × ℕ)) (afte
   sequel_needs Sequel.Draw = refl
   sequel_needs (Sequel.Confirm seen target) = refl
 
-  standing_needs : (coding : Bool) (current : Option GatherOf) (left : List Wanted)
-      → need_by (act_at g tries job pairs (unless_wanting coding (state_by g (parts_of left) after current))) (is_due_at (unless_short coding (standing_by g current left)))
-      ≡ need_at (unless_short coding (standing_by g current left))
-  standing_needs true current left = refl
-  standing_needs false (Some w) left = stage_needs left w.course.aim w.course.stage
-  standing_needs false None [] = sequel_needs after
-  standing_needs false None (wanted ∷ left) = open_goes g tries job pairs after (parts_of (wanted ∷ left))
+  standing_needs : (current : Option GatherOf) (left : List Wanted)
+      → need_by (act_at g tries job pairs (state_by g (parts_of left) after current)) (is_due_at (standing_by g current left)) ≡ need_at (standing_by g current left)
+  standing_needs (Some w) left = stage_needs left w.course.aim w.course.stage
+  standing_needs None [] = sequel_needs after
+  standing_needs None (wanted ∷ left) = open_goes g tries job pairs after (parts_of (wanted ∷ left))
 
 pub state_needs : (p : GatheringsOf) (tries : ℕ) (job : Job) (pairs : List (ℕ × ℕ)) (after : Sequel)
     → need_by (act_at p.book.geometry tries job pairs (state_in p after)) (is_due p) ≡ need_at (standing_of p)
-state_needs p tries job pairs after = standing_needs p.book.geometry tries job pairs after p.coding p.current p.left
+state_needs p tries job pairs after = standing_needs p.book.geometry tries job pairs after p.current p.left
 
 -- it is in its pass then
-pub state_in_pass : (p : GatheringsOf) (after : Sequel) (coding : Bool) (current : Option GatherOf) (left : List Wanted) (tries : ℕ) (job : Job) (pairs : List (ℕ × ℕ))
-    → is_in_pass (act_at p.book.geometry tries job pairs (unless_wanting coding (state_by p.book.geometry (parts_of left) after current))) ≡ true
-state_in_pass p after true current left tries job pairs = refl
-state_in_pass p after false (Some w) left tries job pairs =
+pub state_in_pass : (p : GatheringsOf) (after : Sequel) (current : Option GatherOf) (left : List Wanted) (tries : ℕ) (job : Job) (pairs : List (ℕ × ℕ))
+    → is_in_pass (act_at p.book.geometry tries job pairs (state_by p.book.geometry (parts_of left) after current)) ≡ true
+state_in_pass p after (Some w) left tries job pairs =
     stage_in_pass p.book.geometry tries job pairs after (open_parts p.book.geometry (parts_of left) after) w.course.aim (parts_of left) w.course.stage
     (open_in_pass p.book.geometry tries job pairs after (parts_of left))
-state_in_pass p after false None left tries job pairs = open_in_pass p.book.geometry tries job pairs after (parts_of left)
+state_in_pass p after None left tries job pairs = open_in_pass p.book.geometry tries job pairs after (parts_of left)
 
 pub stands_in_pass : (c : CallOf) (p : GatheringsOf) (after : Sequel) → StandsIn c p after → IsTrue (is_in_pass (act_of c))
 stands_in_pass c p after stands =
     subst (λ (x : CallOf). IsTrue (is_in_pass (act_of x))) (sym (stands_as c p after stands))
-    (state_in_pass p after p.coding p.current p.left c.tries c.job c.state.pairs)
+    (state_in_pass p after p.current p.left c.tries c.job c.state.pairs)
 
 -- a coding that wanted no memory leaves the state and the bytes that are owed
-due_coding : (coding : Bool) (now : Standing) → unless_short coding now ≡ standing.Due → coding ≡ false
-due_coding true now e = not_due standing.Short refl e
-due_coding false now e = refl
-
-pub going_on : (p : GatheringsOf) → standing_of p ≡ standing.Due → p.coding ≡ false
-going_on p e = due_coding p.coding (standing_by p.book.geometry p.current p.left) e
-
 pub handed_state : (p : GatheringsOf) (after : Sequel) → standing_of p ≡ standing.Due → state_in (handed_on p) after ≡ state_in p after
-handed_state p after e =
-    let g : Shape = p.book.geometry in
-    ap (λ b. unless_wanting b (state_by g (parts_of (next_of g p.left).1) after (next_of g p.left).0)) (going_on p e)
-    ∙ next_state g p.left after
-    ∙ sym (due_open p after e)
+handed_state p after e = next_state p.book.geometry p.left after ∙ sym (due_open p after e)
 
 pub handed_owed : (p : GatheringsOf) → owed (handed_on p) ≡ owed p
 handed_owed p =
@@ -204,24 +185,19 @@ handed_owed p =
     ∙ ap (λ (l : List ℕ). p.bytes ++ (bytes_at_work p.current ++ l)) (next_bytes p.book.geometry p.left)
 
 -- the coding of gatherings is that of a call that stands in them
-abbrev Codes : CallOf → GatheringsOf → Sequel → Bool → Type 0
-Codes c p after short = moved c (coded short p) after (is_due (coded short p)) short c.step ≡ call_coded short c
-
-codes_at : (c : CallOf) (p : GatheringsOf) (after : Sequel) (short : Bool) → standing_of p ≡ standing.Due → is_due (coded short p) ≡ false → Codes (standing_call c p after) p after short
+codes_at : (c : CallOf) (p : GatheringsOf) (after : Sequel) (short : Bool) → standing_of p ≡ standing.Due → is_due (coded short p) ≡ false
+    → after_coding short (standing_call c p after) (coded short p) after ≡ call_coded short (standing_call c p after)
 codes_at c p after true e settled =
     let ends : next_call p.book.geometry c.job (record { pairs = c.state.pairs; at = state_in p after }) Told.Short ≡ record { pairs = c.state.pairs; at = State.Ending Outcome.NoMemory } =
     ap (λ at. next_call p.book.geometry c.job (record { pairs = c.state.pairs; at = at }) Told.Short) (due_open p after e)
     ∙ open_short p.book.geometry c.tries c.job c.state.pairs after (parts_of p.left)
     in
-    λ i. record (standing_call c p after) { state = sym ends i; due = settled i; coding = true }
+    λ i. record (standing_call c p after) { state = sym ends i; due = false; coding = true }
 codes_at c p after false e settled =
     λ i. record (standing_call c p after) { state = record { pairs = c.state.pairs; at = handed_state p after e i }; due = settled i; coding = false }
 
-coding_codes : (c : CallOf) (p : GatheringsOf) (after : Sequel) (short : Bool) → standing_of p ≡ standing.Due → is_due (coded short p) ≡ false → StandsIn c p after → Codes c p after short
-coding_codes c p after short e settled stands =
-    subst (λ (x : CallOf). moved x (coded short p) after (is_due (coded short p)) short x.step ≡ call_coded short x) (sym (stands_as c p after stands)) (codes_at c p after short e settled)
-
-pub moved_coded : (c : CallOf) (p later : GatheringsOf) (after : Sequel) → later ≡ coded later.coding p → is_due later ≡ false → standing_of p ≡ standing.Due → StandsIn c p after
-    → moved c later after (is_due later) later.coding c.step ≡ call_coded later.coding c
-moved_coded c p later after e settled due stands =
-    ap (λ x. moved c x after (is_due x) later.coding c.step) e ∙ coding_codes c p after later.coding due (sym (ap is_due e) ∙ settled) stands
+pub call_after_coding : (c : CallOf) (p later : GatheringsOf) (after : Sequel) (short : Bool) → later ≡ coded short p → is_due later ≡ false → standing_of p ≡ standing.Due → StandsIn c p after
+    → after_coding short c later after ≡ call_coded short c
+call_after_coding c p later after short e settled due stands =
+    ap (λ x. after_coding short c x after) e
+    ∙ subst (λ (x : CallOf). after_coding short x (coded short p) after ≡ call_coded short x) (sym (stands_as c p after stands)) (codes_at c p after short due (sym (ap is_due e) ∙ settled))

@@ -7,7 +7,7 @@ use Rattle.store_core.specs.Note.{Kind}
 use Rattle.store_core.specs.NextAct.{Job}
 use Rattle.store_core.specs.Gathering.{Part}
 use Rattle.store_core.specs.Read.{part_of}
-use Rattle.stripe_dir.specs.declared.answers.Seen.{Seen}
+use Rattle.call_steps.specs.declared.seen.Seen.{Seen}
 use Rattle.stripe_dir.specs.Answers.{seen_in}
 use Rattle.store_core.specs.Server.{Server, at_server}
 use Rattle.store_resume.specs.Stage.{Aim, Asking, Stage}
@@ -24,7 +24,7 @@ use Rattle.gather_parts.specs.declared.standing.Standing.TheVariants as standing
 use Rattle.gather_parts.specs.Wanted.{Wanted, wanted_of, parts_of}
 use Rattle.gather_parts.specs.Gatherings.{GatheringsOf}
 use Rattle.gather_parts.specs.Steps.{stepped}
-use Rattle.gather_parts.specs.Standings.{standing_at, standing_by, unless_short, standing_of}
+use Rattle.gather_parts.specs.Standings.{standing_at, standing_by, standing_of}
 use Rattle.gather_parts.specs.States.{state_in, StandsIn, moved}
 
 -- a question is asked
@@ -69,12 +69,12 @@ stands_as c p after h = λ i. record c { book = h.book i; state = record { pairs
 -- the step of the one is that of the other
 abbrev Moves : CallOf → Sequel → Bool → Bool → Server → GatheringsOf → Type 0
 Moves c after due short s p =
-    ((stepped p short s).0, moved (standing_call c p after) (stepped p short s).1 after due false short) ≡ stepped_at_server short due (standing_call c p after) s
+    ((stepped p short s).0, moved (standing_call c p after) (stepped p short s).1 after due short) ≡ stepped_at_server short due (standing_call c p after) s
 
 module _ (c : CallOf) (after : Sequel) (due short : Bool) (s : Server) (p : GatheringsOf) where
   asked_moves : (w : GatherOf) (asking : Asking)
       → Moves c after due short s
-      (record p { current = Some (record w { course = record (w.course) { geometry = p.book.geometry; stage = Stage.Asks asking } }); coding = false })
+      (record p { current = Some (record w { course = record (w.course) { geometry = p.book.geometry; stage = Stage.Asks asking } }) })
   asked_moves w asking =
       let g : Shape = p.book.geometry in
       let told : Server × Told = at_server short (step_asked g w.course.aim asking) s in
@@ -92,7 +92,7 @@ module _ (c : CallOf) (after : Sequel) (due short : Bool) (s : Server) (p : Gath
       )
 
   stage_moves : (w : GatherOf) (stage : Stage) (server : ℕ) → standing_at p.book.geometry w.course.aim stage ≡ standing.Asks server
-      → Moves c after due short s (record p { current = Some (record w { course = record (w.course) { geometry = p.book.geometry; stage = stage } }); coding = false })
+      → Moves c after due short s (record p { current = Some (record w { course = record (w.course) { geometry = p.book.geometry; stage = stage } }) })
   stage_moves w (Stage.Asks asking) server e = asked_moves w asking
   stage_moves w Stage.HasBytes server e = no_question standing.Due server refl e
   stage_moves w (Stage.TooMany missing) server e = no_question standing.TooMany server refl e
@@ -101,24 +101,19 @@ module _ (c : CallOf) (after : Sequel) (due short : Bool) (s : Server) (p : Gath
   stage_moves w Stage.Short server e = no_question standing.Short server refl e
 
   current_moves : (current : Option GatherOf) (server : ℕ) → IfSome current (λ w. w.course.geometry ≡ p.book.geometry)
-      → standing_by p.book.geometry current p.left ≡ standing.Asks server → Moves c after due short s (record p { current = current; coding = false })
+      → standing_by p.book.geometry current p.left ≡ standing.Asks server → Moves c after due short s (record p { current = current })
   current_moves (Some w) server code e =
-      subst (λ g. Moves c after due short s (record p { current = Some (record w { course = record (w.course) { geometry = g } }); coding = false })) (sym code)
+      subst (λ g. Moves c after due short s (record p { current = Some (record w { course = record (w.course) { geometry = g } }) })) (sym code)
       (stage_moves w w.course.stage server e)
   current_moves None server code e = none_left p.left e
     where
-      none_left : (left : List Wanted) → standing_by p.book.geometry None left ≡ standing.Asks server → Moves c after due short s (record p { current = None; coding = false })
+      none_left : (left : List Wanted) → standing_by p.book.geometry None left ≡ standing.Asks server → Moves c after due short s (record p { current = None })
       none_left [] e = no_question standing.Done server refl e
       none_left (wanted ∷ left) e = no_question standing.Due server refl e
 
-  coding_moves : (coding : Bool) (server : ℕ) → IfSome p.current (λ w. w.course.geometry ≡ p.book.geometry)
-      → unless_short coding (standing_by p.book.geometry p.current p.left) ≡ standing.Asks server → Moves c after due short s (record p { coding = coding })
-  coding_moves true server code e = no_question standing.Short server refl e
-  coding_moves false server code e = current_moves p.current server code e
-
   -- a call that stands in gatherings which ask makes their step
   pub step_moves : (server : ℕ) → IfSome p.current (λ w. w.course.geometry ≡ p.book.geometry) → standing_of p ≡ standing.Asks server → StandsIn c p after
-      → ((stepped p short s).0, moved c (stepped p short s).1 after due false short) ≡ stepped_at_server short due c s
+      → ((stepped p short s).0, moved c (stepped p short s).1 after due short) ≡ stepped_at_server short due c s
   step_moves server code asks stands =
-      subst (λ (x : CallOf). ((stepped p short s).0, moved x (stepped p short s).1 after due false short) ≡ stepped_at_server short due x s) (sym (stands_as c p after stands))
-      (coding_moves p.coding server code asks)
+      subst (λ (x : CallOf). ((stepped p short s).0, moved x (stepped p short s).1 after due short) ≡ stepped_at_server short due x s) (sym (stands_as c p after stands))
+      (current_moves p.current server code asks)

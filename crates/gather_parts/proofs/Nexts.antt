@@ -58,7 +58,7 @@ begins_next g wanted left bounds w e is =
 pub begun_at_work : (book : BookOf) (stamp : StampOf) (g : Shape) (part : Part) (w : GatherOf) → g ≡ book.geometry → stamp.home ≡ book.home
     → w ≡ new_gather stamp g (Aim.Range part) → IsAtWork book w
 begun_at_work book stamp g part w code home e =
-    subst (IsAtWork book) (sym e) (record { code = code; home = home; uncoded = refl; part = first_of_part g part })
+    subst (IsAtWork book) (sym e) (record { code = code; home = home; part = first_of_part g part })
 
 -- a test that holds of none
 filtered_none : {A : Type 0} (test : A → Bool) (xs : List A) → ((x : A) → test x ≡ false) → filter test xs ≡ []

@@ -1,5 +1,5 @@
 -- The gatherings of a call's parts as callers see them: plain data.
-use Rattle.std.specs.Prelude.{ℕ, Bool, false, List, [], ◌++◌, replicate, Option, None, Some}
+use Rattle.std.specs.Prelude.{ℕ, List, [], ◌++◌, replicate, Option, None, Some}
 use Rattle.clay_grid.specs.Shape.{chunk_count}
 use Rattle.store_resume.specs.Stage.{Aim}
 use Rattle.version_seal.specs.Entry.{BookOf}
@@ -7,28 +7,21 @@ use Rattle.gathering.specs.Made.{bytes_between}
 use Rattle.gathering.specs.Gathers.{GatherOf}
 use Rattle.gather_parts.specs.Wanted.{Wanted, bytes_of}
 
--- the book of the versions, the gathering that is at work, the parts after it, the bytes of those before it, what the call took from each server,
--- and whether memory was wanting in the last coding
+-- the book of the versions, the gathering that is at work, the parts after it, the bytes of those before it, and what the call took from each server
 pub record GatheringsOf : Type 0 where
   pub book : BookOf
   pub current : Option GatherOf
   pub left : List Wanted
   pub bytes : List ℕ
   pub takes : List ℕ
-  pub coding : Bool
 
 -- of a call that has gathered nothing yet
 abbrev pub new_gatherings : BookOf → GatheringsOf
-new_gatherings book = record { book = book; current = None; left = []; bytes = []; takes = replicate (chunk_count book.geometry) 0; coding = false }
+new_gatherings book = record { book = book; current = None; left = []; bytes = []; takes = replicate (chunk_count book.geometry) 0 }
 
 -- of these parts, none of which was asked for; what was taken before stays counted
 abbrev pub begun : GatheringsOf → List Wanted → GatheringsOf
-begun p left = record p { current = None; left = left; bytes = []; coding = false }
-
--- whether memory was wanting in the last step of the gathering at work
-abbrev pub step_of : Option GatherOf → Bool
-step_of None = false
-step_of (Some w) = w.step
+begun p left = record p { current = None; left = left; bytes = [] }
 
 -- the bytes that the gathering at work gathers
 abbrev pub range_bytes : Aim → List ℕ → List ℕ

@@ -23,7 +23,6 @@ gatherings_in a =
       left = map (wanted_of a.opening.geometry a.start a.end) (into_iter_items a.left);
       bytes = a.bytes.items;
       takes = takes_in a.opening.geometry a.takes;
-      coding = a.coding;
     }
 
 -- a stage of a part's gathering, which asks no target
@@ -37,11 +36,10 @@ abbrev pub IsOfPart : Aim → Stage → Type 0
 IsOfPart (Aim.Range part) stage = IsPartStage stage
 IsOfPart (Aim.Chunk seen target) stage = ⊥
 
--- the gathering at work is of a part of the book, and wasn't coded
+-- the gathering at work is of a part of the book
 pub record IsAtWork (book : BookOf) (w : GatherOf) : Type 0 where
   pub code : w.course.geometry ≡ book.geometry
   pub home : w.stamp.home ≡ book.home
-  pub uncoded : w.coded ≡ false
   pub part : IsOfPart w.course.aim w.course.stage
 
 -- what they keep: all stripes are of the book, and a server is asked only once there are counts

@@ -24,13 +24,9 @@ standing_by g (Some w) left = standing_at g w.course.aim w.course.stage
 standing_by g None [] = standing.Done
 standing_by g None (wanted ∷ left) = standing.Due
 
-abbrev pub unless_short : Bool → Standing → Standing
-unless_short true now = standing.Short
-unless_short false now = now
-
 -- of gatherings
 abbrev pub standing_of : GatheringsOf → Standing
-standing_of p = unless_short p.coding (standing_by p.book.geometry p.current p.left)
+standing_of p = standing_by p.book.geometry p.current p.left
 
 abbrev pub is_due_at : Standing → Bool
 is_due_at standing.Due = true

@@ -32,7 +32,7 @@ handed_on p =
 
 -- nothing is gathered any more
 abbrev pub given_up : GatheringsOf → GatheringsOf
-given_up p = record p { current = None; left = []; bytes = []; coding = true }
+given_up p = record p { current = None; left = []; bytes = [] }
 
 -- after a coding, in which memory was wanting or not
 abbrev pub coded : Bool → GatheringsOf → GatheringsOf

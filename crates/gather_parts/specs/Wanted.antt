@@ -4,7 +4,7 @@ use Rattle.clay_grid.specs.Shape.{Shape, chunk_count}
 use Rattle.store_core.specs.Gathering.{Part}
 use Rattle.store_core.specs.Read.{part_of}
 use Rattle.version_seal.specs.Entry.{StampOf, BookOf}
-use Rattle.stripe_dir.specs.declared.answers.Seen.{Seen}
+use Rattle.call_steps.specs.declared.seen.Seen.{Seen}
 use Rattle.stripe_dir.specs.Answers.{seen_in}
 use Rattle.gathering.specs.Made.{bytes_between}
 

@@ -1,5 +1,5 @@
 //! What a call's gatherings do between two steps.
-ghost use Rattle.std.specs.Prelude.{◌≡◌, ◌++◌, true, false, replicate, None, Some, is_some, IfSome, OnOk};
+ghost use Rattle.std.specs.Prelude.{◌≡◌, ◌++◌, true, false, replicate, None, Some, is_some, is_err, IfSome, OnOk};
 ghost use Rattle.clay_grid.specs.Shape.{chunk_count};
 ghost use Rattle.store_resume.specs.State.{Sequel};
 ghost use Rattle.call_steps.specs.CallOf.{CallOf};
@@ -7,7 +7,7 @@ ghost use Rattle.call_steps.specs.Steps.{coded as call_coded};
 ghost use Rattle.gather_parts.specs.Gatherings.{bytes_at_work, owed};
 ghost use Rattle.gather_parts.specs.Steps.{coded, handed_on, given_up, next_of};
 ghost use Rattle.gather_parts.specs.Standings.{standing_of, is_due};
-ghost use Rattle.gather_parts.specs.States.{state_in, StandsIn, moved};
+ghost use Rattle.gather_parts.specs.States.{state_in, StandsIn, after_coding};
 
 use crate::gatherings::PartGatherings;
 use crate::parts::next_gather;
@@ -33,20 +33,29 @@ fn make_counts(takes: &mut Option<Takes>, alloc: Global, servers: u32) -> Result
 
 impl PartGatherings {
     /// Hands over the bytes of the stripe whose parts have all come, those that are missing made anew,
-    /// and begins the next stripe. It makes no step. Afterwards the gatherings tell whether memory was
-    /// wanting in it; then they have let go of all bytes, and are over.
-    pub fn on_coder<R: Threads + Sync, C: Coder>(&mut self, rt: &R, coder: &C)
+    /// and begins the next stripe. It makes no step. Where memory is wanting the gatherings let go of
+    /// all bytes, and the call has to end its pass.
+    pub fn on_coder<R: Threads + Sync, C: Coder>(
+        &mut self,
+        rt: &R,
+        coder: &C,
+    ) -> Result<(), AllocError>
         requires { standing_of self.old ≡ Standing.Due }
-        ensures coded { self.new ≡ coded self.new.coding self.old }
+        ensures coded { self.new ≡ coded (is_err result) self.old }
         ensures settled { is_due self.new ≡ false }
         ensures book { self.new.book ≡ self.old.book }
-        ensures state { self.new.coding ≡ false → (after : Sequel) → state_in self.new after ≡ state_in self.old after }
-        ensures owed { self.new.coding ≡ false → owed self.new ≡ owed self.old }
+        ensures takes { self.new.takes ≡ self.old.takes }
+        ensures state { OnOk result ((after : Sequel) → state_in self.new after ≡ state_in self.old after) }
+        ensures owed { OnOk result (owed self.new ≡ owed self.old) }
         ensures call { (c : CallOf) (after : Sequel) → StandsIn c self.old after →
-            moved c self.new after (is_due self.new) self.new.coding c.step ≡ call_coded self.new.coding c }
+            after_coding (is_err result) c self.new after ≡ call_coded (is_err result) c }
     {
-        if self.go_on(rt, coder).is_err() {
-            self.give_up();
+        match self.go_on(rt, coder) {
+            Ok(()) => Ok(()),
+            Err(error) => {
+                self.give_up();
+                Err(error)
+            }
         }
     }
 
@@ -72,20 +81,15 @@ impl PartGatherings {
         ensures book { self.new.book ≡ self.old.book }
         ensures takes { self.new.takes ≡ self.old.takes }
     {
-        let Some(mut gather) = self.current.take() else {
+        let Some(gather) = self.current.take() else {
             return Ok(());
         };
-        gather.on_coder(rt, coder, &mut self.bytes);
-        if gather.coding_was_short() {
-            return Err(AllocError);
-        }
-        Ok(())
+        gather.on_coder(rt, coder, &mut self.bytes)
     }
 
     // The next stripe with wanted bytes is at work.
     fn begin_next(&mut self) -> Result<(), AllocError>
-        requires none { self.old.current ≡ None }
-        requires going { self.old.coding ≡ false }
+        requires { self.old.current ≡ None }
         ensures next { OnOk result (self.new ≡ record self.old { current = (next_of self.old.book.geometry self.old.left).0; left = (next_of self.old.book.geometry self.old.left).1 }) }
         ensures settled { OnOk result (is_due self.new ≡ false) }
         ensures book { self.new.book ≡ self.old.book }
@@ -105,6 +109,5 @@ impl PartGatherings {
         self.current = None;
         self.left = Vec::new(alloc).into_iter();
         self.bytes = Vec::new(alloc);
-        self.coding = true;
     }
 }

@@ -1,5 +1,5 @@
 //! The gatherings of a call, and their steps at servers.
-ghost use Rattle.std.specs.Prelude.{◌≡◌, ◌<◌, ℕ, Bool, false, IsTrue, All, map};
+ghost use Rattle.std.specs.Prelude.{◌≡◌, ◌<◌, ℕ, Bool, IsTrue, All, is_err, map};
 ghost use Rattle.clay_grid.specs.Shape.{chunk_count};
 ghost use Rattle.store_core.specs.Act.{Outcome};
 ghost use Rattle.store_core.specs.ActPlace.{is_in_pass};
@@ -11,7 +11,7 @@ ghost use Rattle.chunk_server.specs.Core.{core_of};
 ghost use Rattle.chunk_server.specs.State.{IsSame};
 ghost use Rattle.call_steps.specs.Steps.{IfServer};
 ghost use Rattle.gather_parts.specs.Wanted.{wanted_of, IsPinned};
-ghost use Rattle.gather_parts.specs.Gatherings.{new_gatherings, begun, step_of, owed};
+ghost use Rattle.gather_parts.specs.Gatherings.{new_gatherings, begun, owed};
 ghost use Rattle.gather_parts.specs.Steps.{stepped};
 ghost use Rattle.gather_parts.specs.Standings.{standing_at, standing_of, is_due, need_at, IfAsks};
 ghost use Rattle.call_steps.specs.CallOf.{CallOf, act_of};
@@ -24,7 +24,7 @@ use chunk_server::Server;
 use gather_course::Course;
 use gathering::Gather;
 use read_ledger::Takes;
-use std::alloc::Global;
+use std::alloc::{AllocError, Global};
 use std::marker::Model;
 use std::vec::IntoIter;
 use stripe_dir::Seen;
@@ -43,7 +43,6 @@ pub struct PartGatherings {
     pub(crate) end: u64,
     // those of the stripes before it
     pub(crate) bytes: Vec<u8>,
-    pub(crate) coding: bool,
 }
 
 impl Model for PartGatherings {
@@ -84,7 +83,6 @@ impl PartGatherings {
             start: 0,
             end: 0,
             bytes: Vec::new(alloc),
-            coding: false,
         }
     }
 
@@ -101,7 +99,6 @@ impl PartGatherings {
         self.start = start;
         self.end = end;
         self.bytes.clear();
-        self.coding = false;
     }
 
     /// Where they stand.
@@ -110,9 +107,6 @@ impl PartGatherings {
         ensures below { IfAsks result (λ server. server < chunk_count self.now.book.geometry) }
         ensures short { result ≡ Standing.Short → (after : Sequel) → state_in self.now after ≡ State.Ending Outcome.NoMemory }
     {
-        if self.coding {
-            return Standing::Short;
-        }
         match &self.current {
             Some(gather) => standing_by(gather.course()),
             None if 0 < self.left.len() => Standing::Due,
@@ -135,23 +129,6 @@ impl PartGatherings {
         }
     }
 
-    /// Whether memory was wanting in the last coding.
-    pub fn coding_was_short(&self) -> bool
-        ensures { result ≡ self.now.coding }
-    {
-        self.coding
-    }
-
-    /// Whether memory was wanting in the last step.
-    pub fn step_was_short(&self) -> bool
-        ensures { result ≡ step_of self.now.current }
-    {
-        match &self.current {
-            Some(gather) => gather.step_was_short(),
-            None => false,
-        }
-    }
-
     /// The bytes of the stripes that were gathered, one after another.
     pub fn bytes(&self) -> &[u8]
         ensures { result.now ≡ self.now.bytes }
@@ -159,17 +136,16 @@ impl PartGatherings {
         &self.bytes
     }
 
-    /// One step at the server that is asked. Afterwards the gatherings tell whether memory was wanting
-    /// in it.
-    pub fn on_server(&mut self, s: &mut Server)
+    /// One step at the server that is asked. Where memory is wanting the gatherings end.
+    pub fn on_server(&mut self, s: &mut Server) -> Result<(), AllocError>
         requires asked { standing_of self.old ≡ Standing.Asks s.old.number }
         requires book { s.old.book ≡ self.old.book }
-        ensures step { (core_of s.new, self.new) ≡ stepped self.old (step_of self.new.current) (core_of s.old) }
+        ensures step { (core_of s.new, self.new) ≡ stepped self.old (is_err result) (core_of s.old) }
         ensures same { IsSame s.old s.new }
         ensures book { self.new.book ≡ self.old.book }
         ensures owed { owed self.new ≡ owed self.old }
         ensures call { (c : CallOf) (after : Sequel) (due : Bool) → StandsIn c self.old after →
-            (core_of s.new, moved c self.new after due false (step_of self.new.current)) ≡ stepped_at_server (step_of self.new.current) due c (core_of s.old) }
+            (core_of s.new, moved c self.new after due (is_err result)) ≡ stepped_at_server (is_err result) due c (core_of s.old) }
     {
         let Some(gather) = &mut self.current else {
             unreachable!()
@@ -177,6 +153,6 @@ impl PartGatherings {
         let Some(takes) = &mut self.takes else {
             unreachable!()
         };
-        gather.on_server(s, takes);
+        gather.on_server(s, takes)
     }
 }

@@ -8,7 +8,7 @@ ghost use Rattle.gather_parts.specs.Standings.{is_due_at, standing_by};
 ghost use Rattle.gather_parts.specs.Inside.{IsAtWork};
 
 use clay_grid::Geometry;
-use gathering::{Gather, Pinned};
+use gathering::Gather;
 use std::alloc::{AllocError, Global};
 use std::vec::IntoIter;
 use stripe_dir::Seen;
@@ -48,17 +48,7 @@ pub(crate) fn next_gather(
     let geometry = opening.geometry();
     while let Some(seen) = left.next() {
         if let Some((from, to)) = bounds_in(geometry, seen.stripe, start, end) {
-            let Seen {
-                stripe,
-                stamp,
-                placed,
-            } = seen;
-            let pinned = Pinned {
-                stripe,
-                stamp,
-                placed,
-            };
-            return Ok(Some(Gather::range(alloc, geometry, pinned, from, to)?));
+            return Ok(Some(Gather::range(alloc, geometry, seen, from, to)?));
         }
     }
     Ok(None)

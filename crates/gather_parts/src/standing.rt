@@ -1,3 +1,5 @@
+//! What a call's gatherings do next, or what they have come to.
+
 /// Where the gatherings of a call stand.
 #[derive(Clone, Copy, PartialEq, Eq, Debug)]
 pub enum Standing {

@@ -16,11 +16,11 @@ use Rattle.gathering.specs.Gathers.{GatherOf, heard, taking, stepped_at, stepped
 use Rattle.gathering.proofs.Among.{kept_in, in_range}
 
 -- the gathering after an answer, beside what has answered it and what was taken
-abbrev pub answered : GatherOf → Bool → List ℕ → Server × Told → Server × GatherOf × List ℕ
-answered w short takes after = (after.0, heard w after.1 short, taking after.1 (server_of w.course) takes)
+abbrev pub answered : GatherOf → List ℕ → Server × Told → Server × GatherOf × List ℕ
+answered w takes after = (after.0, heard w after.1, taking after.1 (server_of w.course) takes)
 
 look_by : (w : GatherOf) (short : Bool) (s : Server) (takes : List ℕ) (stage : Stage) → is_look stage ≡ true
-    → answered w short takes (at_server short (ServerStep.Has (seen_of w.course.aim).version) s) ≡ stepped_at w short s takes stage
+    → answered w takes (at_server short (ServerStep.Has (seen_of w.course.aim).version) s) ≡ stepped_at w short s takes stage
 look_by w short s takes (Stage.Asks (Asking.Look server more missing)) h = refl
 look_by w short s takes (Stage.Asks (Asking.Target server)) h = refl
 look_by w short s takes (Stage.Asks (Asking.Fetch server more missing)) h = absurd (true≢false (sym h))
@@ -30,14 +30,14 @@ look_by w short s takes stage h = absurd (true≢false (sym h))
 
 -- a step that asks whether the server has its chunk
 pub look_stepped : (w : GatherOf) (short : Bool) (s : Server) (takes : List ℕ) (version : ℕ) (after : Server × Told) → is_look w.course.stage ≡ true
-    → version ≡ (seen_of w.course.aim).version → after ≡ at_server short (ServerStep.Has version) s → answered w short takes after ≡ stepped w short s takes
+    → version ≡ (seen_of w.course.aim).version → after ≡ at_server short (ServerStep.Has version) s → answered w takes after ≡ stepped w short s takes
 look_stepped w short s takes version after look v e =
-    ap (answered w short takes) e
-    ∙ ap (λ n. answered w short takes (at_server short (ServerStep.Has n) s)) v
+    ap (answered w takes) e
+    ∙ ap (λ n. answered w takes (at_server short (ServerStep.Has n) s)) v
     ∙ look_by w short s takes w.course.stage look
 
 fetch_by : (w : GatherOf) (short : Bool) (s : Server) (takes : List ℕ) (stage : Stage) → IsAskingStage stage → is_look stage ≡ false
-    → answered w short takes (at_server short (ServerStep.Fetch (seen_of w.course.aim).version (layers_at w.course.geometry w.course.aim stage)) s) ≡ stepped_at w short s takes stage
+    → answered w takes (at_server short (ServerStep.Fetch (seen_of w.course.aim).version (layers_at w.course.geometry w.course.aim stage)) s) ≡ stepped_at w short s takes stage
 fetch_by w short s takes (Stage.Asks (Asking.Look server more missing)) asks h = absurd (true≢false h)
 fetch_by w short s takes (Stage.Asks (Asking.Target server)) asks h = absurd (true≢false h)
 fetch_by w short s takes (Stage.Asks (Asking.Fetch server more missing)) asks h = refl
@@ -48,15 +48,15 @@ fetch_by w short s takes stage asks h = absurd asks
 -- a step that asks for layers of it
 pub fetch_stepped : (w : GatherOf) (short : Bool) (s : Server) (takes : List ℕ) (version : ℕ) (layers : List ℕ) (after : Server × Told) → IsAskingStage w.course.stage
     → is_look w.course.stage ≡ false → version ≡ (seen_of w.course.aim).version → layers ≡ layers_asked w.course
-    → after ≡ at_server short (ServerStep.Fetch version layers) s → answered w short takes after ≡ stepped w short s takes
+    → after ≡ at_server short (ServerStep.Fetch version layers) s → answered w takes after ≡ stepped w short s takes
 fetch_stepped w short s takes version layers after asks look v l e =
-    ap (answered w short takes) e
-    ∙ (λ i. answered w short takes (at_server short (ServerStep.Fetch (v i) (l i)) s))
+    ap (answered w takes) e
+    ∙ (λ i. answered w takes (at_server short (ServerStep.Fetch (v i) (l i)) s))
     ∙ fetch_by w short s takes w.course.stage asks look
 
 -- where the server isn't asked for want of memory, nothing changes
 pub short_stepped : (w : GatherOf) (s : Server) (takes : List ℕ) → IsAskingStage w.course.stage → is_look w.course.stage ≡ false
-    → answered w true takes (s, Told.Short) ≡ stepped w true s takes
+    → answered w takes (s, Told.Short) ≡ stepped w true s takes
 short_stepped w s takes asks look = fetch_by w true s takes w.course.stage asks look
 
 -- a server that is asked

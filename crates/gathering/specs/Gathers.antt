@@ -1,5 +1,5 @@
 -- A gathering as callers see it: plain data.
-use Rattle.std.specs.Prelude.{◌≡◌, ⊤, ℕ, Bool, true, false, List, Option, None, Some}
+use Rattle.std.specs.Prelude.{◌≡◌, ℕ, Bool, true, false, List, Option, None, Some}
 use Rattle.clay_grid.specs.Shape.{Shape}
 use Rattle.store_core.specs.Lists.{change_at}
 use Rattle.store_core.specs.Told.{Told}
@@ -13,21 +13,18 @@ use Rattle.gather_course.specs.Courses.{CourseOf, new_course, server_of, layers_
 use Rattle.call_steps.specs.declared.need.Need.{Need}
 use Rattle.call_steps.specs.declared.need.Need.TheVariants as need
 
--- the stamp of the pinned version, its course, whether it was coded since its last step, and whether memory was wanting in its last coding and in its last step
+-- the stamp of the pinned version, and its course
 pub record GatherOf : Type 0 where
   pub stamp : StampOf
   pub course : CourseOf
-  pub coded : Bool
-  pub coding : Bool
-  pub step : Bool
 
 -- a gathering before its first step
 abbrev pub new_gather : StampOf → Shape → Aim → GatherOf
-new_gather stamp g aim = record { stamp = stamp; course = new_course g aim; coded = false; coding = false; step = false }
+new_gather stamp g aim = record { stamp = stamp; course = new_course g aim }
 
--- the gathering after an answer, in a step that wanted memory or not
-abbrev pub heard : GatherOf → Told → Bool → GatherOf
-heard w answer short = record w { course = after_answer w.course answer; coded = false; coding = false; step = short }
+-- the gathering after an answer
+abbrev pub heard : GatherOf → Told → GatherOf
+heard w answer = record w { course = after_answer w.course answer }
 
 -- what its call has taken after it
 abbrev pub taking : Told → Option ℕ → List ℕ → List ℕ
@@ -38,7 +35,7 @@ taking answer server takes = takes
 abbrev pub stepped_at : GatherOf → Bool → Server → List ℕ → Stage → Server × GatherOf × List ℕ
 stepped_at w short s takes (Stage.Asks asking) =
     let after : Server × Told = at_server short (step_asked w.course.geometry w.course.aim asking) s in
-    (after.0, heard w after.1 short, taking after.1 (server_of w.course) takes)
+    (after.0, heard w after.1, taking after.1 (server_of w.course) takes)
 stepped_at w short s takes stage = (s, w, takes)
 
 -- the server, the gathering and what its call has taken after it, where memory was wanting or not
@@ -46,14 +43,14 @@ abbrev pub stepped : GatherOf → Bool → Server → List ℕ → Server × Gat
 stepped w short s takes = stepped_at w short s takes w.course.stage
 
 -- what it needs: a server, or the coder once all parts have come
-abbrev pub need_by : Option ℕ → Bool → Bool → Need
-need_by (Some server) bytes coded = need.Server server
-need_by None true false = need.Coder
-need_by None bytes coded = need.Finished
+abbrev pub need_by : Option ℕ → Bool → Need
+need_by (Some server) bytes = need.Server server
+need_by None true = need.Coder
+need_by None false = need.Finished
 
 -- by its stage
 abbrev pub need_of : GatherOf → Need
-need_of w = need_by (server_of w.course) (has_bytes w.course.stage) w.coded
+need_of w = need_by (server_of w.course) (has_bytes w.course.stage)
 
 -- a part that was asked for: of the version, its book and code, of the server that was asked and the layers it was asked for
 pub record IsOwnPart (w : GatherOf) (part : PartOf) : Type 0 where

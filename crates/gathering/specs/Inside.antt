@@ -12,7 +12,7 @@ use Rattle.gathering.specs.declared.gather.Gather.TheInside.{Inside}
 
 -- what callers see
 abbrev pub gather_in : Inside → GatherOf
-gather_in a = record { stamp = a.stamp; course = a.course; coded = a.coded; coding = a.coding; step = a.step }
+gather_in a = record { stamp = a.stamp; course = a.course }
 
 -- what every gathering keeps: what has come is of its version's content
 pub record IsGather (stamp : StampOf) (c : CourseOf) (parts helpers : Shelf) : Type 0 where
@@ -24,4 +24,4 @@ pub record IsGather (stamp : StampOf) (c : CourseOf) (parts helpers : Shelf) : T
 
 -- of its fields
 abbrev pub IsGatherIn : Inside → Type 0
-IsGatherIn a = IsGather a.stamp a.course a.parts.items a.helpers.items
+IsGatherIn a = IsGather a.stamp a.course a.wanted.items a.helpers.items

@@ -16,17 +16,17 @@ impl Gather {
     ghost use Rattle.gathering.specs.Gathers.{need_of};
 
     /// Makes the missing chunks anew, where there are some, and hands over the bytes: those of a part
-    /// come behind the bytes that were there, a chunk in their place. It makes no step. Afterwards
-    /// the gathering tells whether memory was wanting in it.
-    pub fn on_coder<R: Threads + Sync, C: Coder>(&mut self, rt: &R, coder: &C, bytes: &mut Vec<u8>)
-        requires { need_of self.old ≡ Need.Coder }
-        ensures coded { self.new ≡ record self.old { coded = true; coding = self.new.coding } }
-        ensures bytes { self.new.coding ≡ false →
-            Gives self.old.course.geometry self.old.stamp.content self.old.course.aim bytes.old.items bytes.new.items }
+    /// come behind the bytes that were there, a chunk in their place. It makes no step.
+    pub fn on_coder<R: Threads + Sync, C: Coder>(
+        self,
+        rt: &R,
+        coder: &C,
+        bytes: &mut Vec<u8>,
+    ) -> Result<(), AllocError>
+        requires { need_of self ≡ Need.Coder }
+        ensures { OnOk result (Gives self.course.geometry self.stamp.content self.course.aim bytes.old.items bytes.new.items) }
     {
-        let short = self.give(rt, coder, bytes).is_err();
-        self.coded = true;
-        self.coding = short;
+        self.give(rt, coder, bytes)
     }
 
     fn give<R: Threads + Sync, C: Coder>(
@@ -158,7 +158,7 @@ impl Gather {
         if let Some(whole) = &made[chunk as usize] {
             return append(bytes, whole, from, to);
         }
-        match &self.parts[chunk as usize] {
+        match &self.wanted[chunk as usize] {
             Some(part) => append(bytes, part, from % width, from % width + (to - from)),
             None => unreachable!(),
         }

@@ -1,5 +1,5 @@
 //! A gathering's steps at sealed servers.
-ghost use Rattle.std.specs.Prelude.{◌≡◌, ◌<◌, ◌≤◌, ℕ, true, false, List, None, Some, IfOk, length, map, replicate};
+ghost use Rattle.std.specs.Prelude.{◌≡◌, ◌<◌, ◌≤◌, ℕ, true, false, List, None, Some, IfOk, IsOk, is_err, length, map, replicate};
 ghost use Rattle.clay_grid.specs.Shape.{chunk_count, stripe_length};
 ghost use Rattle.store_core.specs.Told.{Told};
 ghost use Rattle.store_resume.specs.Stage.{Aim};
@@ -11,23 +11,15 @@ ghost use Rattle.gathering.specs.Gathers.{new_gather, heard, taking, stepped, Is
 ghost use Rattle.chunk_server.specs.State.{IsSame};
 ghost use Rattle.gathering.specs.Parts.{IsPart, AreNone};
 
-use call_steps::Need;
+use call_steps::{Need, Seen};
 use chunk_server::{Fetched, Presence, Server};
 use clay_grid::Geometry;
 use gather_course::Course;
 use read_ledger::Takes;
 use std::alloc::{AllocError, Global};
 use std::marker::Model;
-use store_map::{Found, LostChunk, Placement};
+use store_map::{Found, LostChunk};
 use version_seal::{SealedPart, Stamp};
-
-/// A pinned stripe: its version that was current, and how each server took that version's chunk.
-#[derive(Drop)]
-pub struct Pinned {
-    pub stripe: u32,
-    pub stamp: Stamp,
-    pub placed: Vec<Placement>,
-}
 
 /// A gathering of one pinned stripe, with what has come of its version's chunks.
 #[derive(Drop)]
@@ -35,12 +27,9 @@ pub struct Gather {
     stamp: Stamp,
     pub(crate) course: Course,
     // by server: the layers with wanted bytes
-    pub(crate) parts: Vec<Option<Vec<u8>>>,
+    pub(crate) wanted: Vec<Option<Vec<u8>>>,
     // by server: what missing chunks are made of, the repair layers of one, or whole chunks
     pub(crate) helpers: Vec<Option<Vec<u8>>>,
-    pub(crate) coded: bool,
-    pub(crate) coding: bool,
-    step: bool,
 }
 
 impl Model for Gather {
@@ -94,7 +83,7 @@ impl Gather {
     pub fn range(
         alloc: Global,
         geometry: Geometry,
-        pinned: Pinned,
+        pinned: Seen,
         start: u32,
         end: u32,
     ) -> Result<Gather, AllocError>
@@ -105,7 +94,7 @@ impl Gather {
             (record { seen = record { stripe = pinned.stripe; version = pinned.stamp.version; placed = pinned.placed.items }; start = start; end = end }))) }
         ensures asks { IfOk result (λ gather. IsAskingStage gather.course.stage) }
     {
-        let Pinned {
+        let Seen {
             stripe,
             stamp,
             placed,
@@ -113,16 +102,13 @@ impl Gather {
         let servers = geometry.n();
         let version = stamp.version();
         let course = Course::range(alloc, geometry, stripe, version, placed, start, end)?;
-        let parts = empty_shelf(alloc, servers)?;
+        let wanted = empty_shelf(alloc, servers)?;
         let helpers = empty_shelf(alloc, servers)?;
         Ok(Gather {
             stamp,
             course,
-            parts,
+            wanted,
             helpers,
-            coded: false,
-            coding: false,
-            step: false,
         })
     }
 
@@ -130,7 +116,7 @@ impl Gather {
     pub fn chunk(
         alloc: Global,
         geometry: Geometry,
-        pinned: Pinned,
+        pinned: Seen,
         target: u32,
     ) -> Result<Gather, AllocError>
         requires placed { length pinned.placed.items ≡ chunk_count geometry }
@@ -138,7 +124,7 @@ impl Gather {
         ensures { IfOk result (λ gather. gather ≡ new_gather pinned.stamp geometry (Aim.Chunk
             (record { stripe = pinned.stripe; version = pinned.stamp.version; placed = pinned.placed.items }) target)) }
     {
-        let Pinned {
+        let Seen {
             stripe,
             stamp,
             placed,
@@ -146,30 +132,39 @@ impl Gather {
         let servers = geometry.n();
         let version = stamp.version();
         let course = Course::chunk(alloc, geometry, stripe, version, placed, target)?;
-        let parts = empty_shelf(alloc, servers)?;
+        let wanted = empty_shelf(alloc, servers)?;
         let helpers = empty_shelf(alloc, servers)?;
         Ok(Gather {
             stamp,
             course,
-            parts,
+            wanted,
             helpers,
-            coded: false,
-            coding: false,
-            step: false,
         })
     }
 
     /// Where the gathering has to go on: at a server, with the coder once all parts have come, or
-    /// nowhere once it was coded or has ended without its bytes.
+    /// nowhere once it has ended without its bytes.
     pub fn need(&self) -> Need
         ensures need { result ≡ need_of self.now }
         ensures below { IfServer result (λ server. server < chunk_count self.now.course.geometry) }
     {
         match self.course.asked() {
             Some(server) => Need::Server(server),
-            None if self.course.has_bytes() && !self.coded => Need::Coder,
+            None if self.course.has_bytes() => Need::Coder,
             None => Need::Finished,
         }
+    }
+
+    /// The stamp of the pinned version.
+    pub fn stamp(&self) -> &Stamp
+        ensures { result.now ≡ self.now.stamp }
+    {
+        &self.stamp
+    }
+
+    /// The allocator of its memory.
+    pub fn allocator(&self) -> Global {
+        *self.helpers.allocator()
     }
 
     /// Which server it asks, and what becomes of it.
@@ -177,20 +172,6 @@ impl Gather {
         ensures { result.now ≡ self.now.course }
     {
         &self.course
-    }
-
-    /// Whether memory was wanting in its last step.
-    pub fn step_was_short(&self) -> bool
-        ensures { result ≡ self.now.step }
-    {
-        self.step
-    }
-
-    /// Whether memory was wanting in its coding since that step.
-    pub fn coding_was_short(&self) -> bool
-        ensures { result ≡ self.now.coding }
-    {
-        self.coding
     }
 
     /// The servers that were found missing, with what the look and they themselves told of them, in
@@ -202,32 +183,30 @@ impl Gather {
         course.into_missing()
     }
 
-    /// One step at the server that is asked. Afterwards the gathering tells whether memory was
-    /// wanting in it.
-    pub fn on_server(&mut self, s: &mut Server, takes: &mut Takes)
+    /// One step at the server that is asked. Where memory is wanting the gathering ends.
+    pub fn on_server(&mut self, s: &mut Server, takes: &mut Takes) -> Result<(), AllocError>
         requires asked { server_of self.old.course ≡ Some s.old.number }
         requires home { s.old.book.home ≡ self.old.stamp.home }
         requires code { s.old.book.geometry ≡ self.old.course.geometry }
         requires counts { length takes.old ≡ chunk_count self.old.course.geometry }
         ensures step { (core_of s.new, self.new, takes.new)
-            ≡ stepped self.old self.new.step (core_of s.old) takes.old }
+            ≡ stepped self.old (is_err result) (core_of s.old) takes.old }
         ensures same { IsSame s.old s.new }
-        ensures look { is_look self.old.course.stage ≡ true → self.new.step ≡ false }
+        ensures look { is_look self.old.course.stage ≡ true → IsOk result }
     {
         if self.course.asks_whether() {
             self.look(s);
-        } else {
-            self.fetch(s, takes);
+            return Ok(());
         }
+        self.fetch(s, takes)
     }
 
     fn look(&mut self, s: &mut Server)
         requires asking { IsAskingStage self.old.course.stage }
         requires look { is_look self.old.course.stage ≡ true }
         ensures step { (takes : List ℕ) → (core_of s.new, self.new, takes)
-            ≡ stepped self.old self.new.step (core_of s.old) takes }
+            ≡ stepped self.old false (core_of s.old) takes }
         ensures same { IsSame s.old s.new }
-        ensures room { self.new.step ≡ false }
     {
         match s.has(self.course.version()) {
             Presence::Here => self.hear_here(),
@@ -235,58 +214,53 @@ impl Gather {
         }
     }
 
-    fn fetch(&mut self, s: &mut Server, takes: &mut Takes)
+    fn fetch(&mut self, s: &mut Server, takes: &mut Takes) -> Result<(), AllocError>
         requires asked { server_of self.old.course ≡ Some s.old.number }
         requires part { is_look self.old.course.stage ≡ false }
         requires home { s.old.book.home ≡ self.old.stamp.home }
         requires code { s.old.book.geometry ≡ self.old.course.geometry }
         requires counts { length takes.old ≡ chunk_count self.old.course.geometry }
         ensures step { (core_of s.new, self.new, takes.new)
-            ≡ stepped self.old self.new.step (core_of s.old) takes.old }
+            ≡ stepped self.old (is_err result) (core_of s.old) takes.old }
         ensures same { IsSame s.old s.new }
     {
         let alloc = *self.helpers.allocator();
         let Ok(layers) = self.course.layers(alloc) else {
             self.hear_short();
-            return;
+            return Err(AllocError);
         };
         match s.fetch(self.course.version(), &layers) {
             Ok(Fetched::Part(part)) => self.hear_part(layers.len(), part, takes),
             Ok(Fetched::Missing { found }) => self.hear_missing(found),
-            Err(_) => self.hear_short(),
+            Err(error) => {
+                self.hear_short();
+                return Err(error);
+            }
         }
+        Ok(())
     }
 
     fn hear_short(&mut self)
         requires { IsAskingStage self.old.course.stage }
-        ensures { self.new ≡ heard self.old Told.Short true }
+        ensures { self.new ≡ heard self.old Told.Short }
     {
         self.course.told_short();
-        self.coded = false;
-        self.coding = false;
-        self.step = true;
     }
 
     fn hear_here(&mut self)
         requires { IsAskingStage self.old.course.stage }
-        ensures { self.new ≡ heard self.old Told.Here false }
+        ensures { self.new ≡ heard self.old Told.Here }
     {
         self.course.told_here();
-        self.coded = false;
-        self.coding = false;
-        self.step = false;
     }
 
     fn hear_missing(&mut self, found: Found)
         requires { IsAskingStage self.old.course.stage }
-        ensures { self.new ≡ heard self.old (Told.Missing found) false }
+        ensures { self.new ≡ heard self.old (Told.Missing found) }
     {
         let missing = self.course.gone().len();
         let_go_of_one(&mut self.helpers, missing);
         self.course.told_missing(found);
-        self.coded = false;
-        self.coding = false;
-        self.step = false;
     }
 
     fn hear_part(&mut self, layers: usize, part: SealedPart, takes: &mut Takes)
@@ -294,7 +268,7 @@ impl Gather {
         requires part { is_look self.old.course.stage ≡ false }
         requires layers { layers ≡ length part.layers }
         requires counts { length takes.old ≡ chunk_count self.old.course.geometry }
-        ensures gather { self.new ≡ heard self.old (Told.Given layers) false }
+        ensures gather { self.new ≡ heard self.old (Told.Given layers) }
         ensures takes { takes.new ≡ taking (Told.Given layers) (server_of self.old.course) takes.old }
     {
         part.stamp().agrees(&self.stamp);
@@ -313,13 +287,10 @@ impl Gather {
         requires asked { server_of self.old.course ≡ Some server }
         requires below { server < chunk_count self.old.course.geometry }
         requires fetch { is_fetch self.old.course.stage ≡ true }
-        ensures { (layers : ℕ) → self.new ≡ heard self.old (Told.Given layers) false }
+        ensures { (layers : ℕ) → self.new ≡ heard self.old (Told.Given layers) }
     {
-        self.parts[server as usize] = Some(bytes);
+        self.wanted[server as usize] = Some(bytes);
         self.course.told_given();
-        self.coded = false;
-        self.coding = false;
-        self.step = false;
     }
 
     fn hear_helper(&mut self, server: u32, bytes: Vec<u8>)
@@ -328,12 +299,9 @@ impl Gather {
         requires below { server < chunk_count self.old.course.geometry }
         requires part { is_look self.old.course.stage ≡ false }
         requires fetch { is_fetch self.old.course.stage ≡ false }
-        ensures { (layers : ℕ) → self.new ≡ heard self.old (Told.Given layers) false }
+        ensures { (layers : ℕ) → self.new ≡ heard self.old (Told.Given layers) }
     {
         self.helpers[server as usize] = Some(bytes);
         self.course.told_given();
-        self.coded = false;
-        self.coding = false;
-        self.step = false;
     }
 }

@@ -6,4 +6,4 @@ mod coding;
 mod gather;
 pub mod laws;
 
-pub use gather::{Gather, Pinned};
+pub use gather::Gather;

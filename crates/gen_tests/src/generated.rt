@@ -220,7 +220,7 @@ drain
 end
 ";
 
-/// Holds the script of a number against its text.
+// Holds the script of a number against its text.
 fn generates(
     rt: &(impl Abort + AllocGlobal),
     start: u64,

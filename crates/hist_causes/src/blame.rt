@@ -1,3 +1,4 @@
+//! The fault of a cause that fails a test, and the test of the downs that a server told.
 ghost use Rattle.std.specs.Prelude.{◌≡◌};
 ghost use Rattle.store_map.specs.declared.script.Script.{Script};
 ghost use Rattle.hist_rules.specs.First.{unless};

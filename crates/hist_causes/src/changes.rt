@@ -1,3 +1,4 @@
+//! Whether an object was changed at a point, by the lines of the history.
 ghost use Rattle.std.specs.Prelude.{◌≡◌, None};
 ghost use Rattle.hist_rules.specs.PointsRise.{points_rise};
 ghost use Rattle.hist_rules.specs.Named.{is_effect, changes_name, is_change_line, is_change_point};

@@ -1,3 +1,4 @@
+//! Whether a call can have been unavailable, by the servers that it names.
 ghost use Rattle.std.specs.Prelude.{◌≡◌, List, [], ◌∷◌, IfOk};
 ghost use Rattle.store_map.specs.declared.script.Script.{Script};
 ghost use Rattle.transcript_text.specs.declared.cause.Triple.{Triple};
@@ -62,7 +63,7 @@ fn names_server(server: u64, triples: &[Triple]) -> bool
     triples.iter().any(|triple| server == triple.server)
 }
 
-/// How many different servers the triples name. A code has few.
+// How many different servers the triples name. A code has few.
 fn distinct_servers(triples: &[Triple]) -> u64
     ensures { result ≡ distinct_servers triples.now }
 {
@@ -75,7 +76,7 @@ fn distinct_servers(triples: &[Triple]) -> u64
     count
 }
 
-/// Whether a server that took no chunk was away.
+// Whether a server that took no chunk was away.
 fn skip_fits(losses: &Losses, call: CallName, server: u64, placed: Placement) -> Option<Verdict>
     ensures { (script : Script) → AreLosses script losses.now → result ≡ skip_fits script call server placed }
 {
@@ -85,7 +86,7 @@ fn skip_fits(losses: &Losses, call: CallName, server: u64, placed: Placement) ->
     }
 }
 
-/// Whether a server that gave no answer was away.
+// Whether a server that gave no answer was away.
 fn away_fits(losses: &Losses, call: CallName, server: u64, found: Found) -> Option<Verdict>
     ensures { (script : Script) → AreLosses script losses.now → result ≡ away_fits script call server found }
 {
@@ -95,7 +96,7 @@ fn away_fits(losses: &Losses, call: CallName, server: u64, found: Found) -> Opti
     }
 }
 
-/// Whether a chunk that was placed was lost later.
+// Whether a chunk that was placed was lost later.
 fn lost_later(call: CallName, placed: Placement, found: Found) -> Option<Verdict>
     ensures { result ≡ lost_later call placed found }
 {
@@ -107,7 +108,7 @@ fn lost_later(call: CallName, placed: Placement, found: Found) -> Option<Verdict
     }
 }
 
-/// Whether the server was emptied so often.
+// Whether the server was emptied so often.
 fn epoch_fits(losses: &Losses, call: CallName, server: u64, found: Found) -> Option<Verdict>
     ensures { (script : Script) → AreLosses script losses.now → result ≡ epoch_fits script call server found }
 {
@@ -120,7 +121,7 @@ fn epoch_fits(losses: &Losses, call: CallName, server: u64, found: Found) -> Opt
     }
 }
 
-/// Whether a server can have told what it is said to have told.
+// Whether a server can have told what it is said to have told.
 fn answers_fit(losses: &Losses, call: CallName, triple: Triple) -> Option<Verdict>
     ensures { (script : Script) → AreLosses script losses.now → result ≡ first_of
         (skip_fits script call triple.server triple.placed ∷ away_fits script call triple.server triple.found
@@ -138,7 +139,7 @@ fn answers_fit(losses: &Losses, call: CallName, triple: Triple) -> Option<Verdic
     epoch_fits(losses, call, triple.server, triple.found)
 }
 
-/// Whether one server of a refusal was away or had lost its chunk.
+// Whether one server of a refusal was away or had lost its chunk.
 fn chunk_missing(
     script: &Script,
     losses: &Losses,
@@ -165,8 +166,8 @@ fn chunk_missing(
     answers_fit(losses, call, triple)
 }
 
-/// The fault of the first server that wasn't missing. There are no more servers than the code can
-/// spare, and one.
+// The fault of the first server that wasn't missing. There are no more servers than the code can
+// spare, and one.
 fn find_present_chunk(
     script: &Script,
     losses: &Losses,

@@ -1,3 +1,4 @@
+//! The rule on calls that were given up: no more of an actor than the schedule asks for.
 ghost use Rattle.std.specs.Prelude.{◌≡◌, ◌++◌, map, filter, IfOk, OnOk};
 ghost use Rattle.hist_rules.specs.First.{first_fault_along};
 ghost use Rattle.hist_rules.specs.GivenUp.{is_reaped_cause, is_reaped_result, reaped_calls, is_reaped, given_up};
@@ -43,7 +44,7 @@ fn push_reaped_repairers(calls: &mut Vec<CallName>, lines: &[RLine]) -> Result<(
     Ok(())
 }
 
-/// The calls that were given up, in the order of lines.
+// The calls that were given up, in the order of lines.
 fn reaped_calls(alloc: Global, transcript: &Transcript) -> Result<Vec<CallName>, AllocError>
     ensures { IfOk result (λ calls. calls.items ≡ reaped_calls transcript.now) }
 {
@@ -53,7 +54,7 @@ fn reaped_calls(alloc: Global, transcript: &Transcript) -> Result<Vec<CallName>,
     Ok(calls)
 }
 
-/// The fault of the first of these calls that makes more of its actor than the schedule asks for.
+// The fault of the first of these calls that makes more of its actor than the schedule asks for.
 fn find_unasked_reap(
     alloc: Global,
     script: &Script,

@@ -1,3 +1,4 @@
+//! The rule on calls that were unavailable, of clients and of repairers.
 ghost use Rattle.std.specs.Prelude.{◌≡◌, IfOk};
 ghost use Rattle.hist_rules.specs.First.{first_fault};
 ghost use Rattle.hist_rules.specs.LostChunks.{lost_chunks};
@@ -10,7 +11,7 @@ use std::alloc::{AllocError, Global};
 use store_map::Script;
 use transcript_text::{Cause, RLine, RepairResult, Transcript, XLine};
 
-/// Whether a client's call can have been unavailable, where its line says so.
+// Whether a client's call can have been unavailable, where its line says so.
 fn refusal_for_loss(script: &Script, losses: &Losses, line: &XLine) -> Option<Verdict>
     requires losses { AreLosses script.now losses.now }
     ensures { result ≡ refusal_for_loss script.now line.now }
@@ -23,7 +24,7 @@ fn refusal_for_loss(script: &Script, losses: &Losses, line: &XLine) -> Option<Ve
     }
 }
 
-/// Whether a rebuild can have been unavailable, where its line says so.
+// Whether a rebuild can have been unavailable, where its line says so.
 fn result_for_loss(script: &Script, losses: &Losses, line: &RLine) -> Option<Verdict>
     requires losses { AreLosses script.now losses.now }
     ensures { result ≡ result_for_loss script.now line.now }

@@ -1,3 +1,4 @@
+//! The rule on the objects at the end: they are the map's, in order of creation.
 ghost use Rattle.std.specs.Prelude.{◌≡◌, [], ◌∷◌, map, length, IfOk};
 ghost use Rattle.transcript_text.specs.Lines.{l_line};
 ghost use Rattle.transcript_text.specs.declared.line.LLine.{LLine};
@@ -12,7 +13,7 @@ use std::alloc::{AllocError, Global};
 use store_map::{Name, ObjectMap};
 use transcript_text::LLine;
 
-/// Whether the line is the object's.
+// Whether the line is the object's.
 fn object_fits(
     alloc: Global,
     name: &Name,
@@ -32,7 +33,7 @@ fn object_fits(
     }))
 }
 
-/// The fault of a line where the map has no more objects.
+// The fault of a line where the map has no more objects.
 fn superfluous_line(alloc: Global, line: &LLine) -> Result<Verdict, AllocError>
     ensures { IfOk result (λ fault. fault ≡ BadTail Names nothing (without_end (l_line line.now))) }
 {
@@ -43,7 +44,7 @@ fn superfluous_line(alloc: Global, line: &LLine) -> Result<Verdict, AllocError>
     })
 }
 
-/// The fault of an object that has no line.
+// The fault of an object that has no line.
 fn unlisted_object(alloc: Global, name: &Name, bytes: &[u8]) -> Result<Verdict, AllocError>
     ensures { IfOk result (λ fault. fault ≡ BadTail Names (without_end (l_line (record { name = name.now; length = length bytes.now }))) nothing) }
 {

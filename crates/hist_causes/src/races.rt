@@ -1,3 +1,4 @@
+//! The rule on contended calls: each is a write that lost all its tries to changes of its object.
 ghost use Rattle.std.specs.Prelude.{◌≡◌, ℕ, List, None, option_and_then, slice_get};
 ghost use Rattle.std.specs.Option.{option_copied};
 ghost use Rattle.hist_rules.specs.Calls.{call_of};
@@ -12,7 +13,7 @@ use hist_tables::call_of;
 use store_map::{Call, Name, Script};
 use transcript_text::{CallName, Cause, Transcript, XLine};
 
-/// The name of the object that the call writes, where it is a write.
+// The name of the object that the call writes, where it is a write.
 fn name_written(script: &Script, call: CallName) -> Option<&Name>
     ensures { option_copied result ≡ option_and_then written_name (call_of script.now call) }
 {
@@ -22,7 +23,7 @@ fn name_written(script: &Script, call: CallName) -> Option<&Name>
     }
 }
 
-/// Whether a race begins no earlier than the one before was lost.
+// Whether a race begins no earlier than the one before was lost.
 fn begins_later(call: CallName, before: Option<(u64, u64)>, base: u64) -> Option<Verdict>
     ensures { result ≡ begins_later call before base }
 {
@@ -30,7 +31,7 @@ fn begins_later(call: CallName, before: Option<(u64, u64)>, base: u64) -> Option
     blame_unless(lost <= base, call, lost, base)
 }
 
-/// Whether the write can have lost this race, after the one before.
+// Whether the write can have lost this race, after the one before.
 fn race_lost(
     script: &Script,
     transcript: &Transcript,
@@ -55,7 +56,7 @@ fn race_lost(
     blame_unless(are_changes, call, 1, 0)
 }
 
-/// The fault of the first race that the write can't have lost.
+// The fault of the first race that the write can't have lost.
 fn find_false_pair(
     script: &Script,
     transcript: &Transcript,
@@ -76,7 +77,7 @@ fn find_false_pair(
     None
 }
 
-/// Whether the call is a write, and can have lost so many races.
+// Whether the call is a write, and can have lost so many races.
 fn races_lost(
     script: &Script,
     transcript: &Transcript,
@@ -101,7 +102,7 @@ fn races_lost(
     find_false_pair(script, transcript, call, name, pairs)
 }
 
-/// Whether a client's call can have lost its races, where its line says so.
+// Whether a client's call can have lost its races, where its line says so.
 fn cause_of_races(script: &Script, transcript: &Transcript, line: &XLine) -> Option<Verdict>
     requires rising { points_rise transcript.now ≡ None }
     ensures { result ≡ cause_of_races script.now transcript.now line.now.call line.now.cause }

@@ -1,3 +1,4 @@
+//! The rule on what rebuilds' results name: a change of the object, the stripe, the server's downs.
 ghost use Rattle.std.specs.Prelude.{◌≡◌, None, IfOk, option_and_then};
 ghost use Rattle.hist_rules.specs.Calls.{rebuild_of};
 ghost use Rattle.hist_rules.specs.PointsRise.{points_rise};
@@ -12,7 +13,7 @@ use std::alloc::{AllocError, Global};
 use store_map::{Rebuild, Script};
 use transcript_text::{RLine, RepairResult, Transcript};
 
-/// Whether a rebuild's result names its own object, stripe and server.
+// Whether a rebuild's result names its own object, stripe and server.
 fn result_named(
     script: &Script,
     transcript: &Transcript,
@@ -41,7 +42,7 @@ fn result_named(
     }
 }
 
-/// The same of a line, where the script has its rebuild.
+// The same of a line, where the script has its rebuild.
 fn line_named(
     script: &Script,
     transcript: &Transcript,
@@ -56,7 +57,8 @@ fn line_named(
     result_named(script, transcript, counted, line, rebuild)
 }
 
-/// The fault of the first rebuild's result that names another object, stripe or server.
+/// The fault of the first rebuild's result that names a change of another object, another stripe, or
+/// a count of `down`s that its server never had.
 pub fn find_false_result(
     alloc: Global,
     script: &Script,

@@ -1,3 +1,5 @@
+//! The rule on the servers' lines at the end: each gave what all calls took of it, and was emptied
+//! as often as the schedule says.
 ghost use Rattle.std.specs.Prelude.{◌≡◌, ◌+◌, ◌<◌, ◌≤◌, ◌^◌, get_or, sum_by, IfOk};
 ghost use Rattle.transcript_text.specs.declared.line.GLine.{GLine};
 ghost use Rattle.hist_rules.specs.TakesAddUp.{server_adds_up, takes_add_up};
@@ -9,7 +11,7 @@ use std::alloc::{AllocError, Global};
 use store_map::Script;
 use transcript_text::{GLine, TLine, Transcript};
 
-/// What the call took of a server.
+// What the call took of a server.
 fn taken_by(line: &GLine, server: u32) -> u64
     ensures { result ≡ get_or line.now.takes server 0 }
 {
@@ -25,7 +27,7 @@ fn add(sum: u128, taken: u64) -> u128
     sum + u128::from(taken)
 }
 
-/// What all calls took of a server. The sum may pass 64 bits.
+// What all calls took of a server. The sum may pass 64 bits.
 fn taken_of(lines: &[GLine], server: u32) -> u128
     ensures { result ≡ sum_by (λ (line : GLine). get_or line.takes server 0) lines.now }
 {
@@ -36,7 +38,7 @@ fn taken_of(lines: &[GLine], server: u32) -> u128
     sum
 }
 
-/// Whether a server gave what all calls took of it, and was emptied so often.
+// Whether a server gave what all calls took of it, and was emptied so often.
 fn server_adds_up(
     alloc: Global,
     script: &Script,

@@ -1,3 +1,4 @@
+//! The rule that each line's call is one of the script's.
 ghost use Rattle.std.specs.Prelude.{◌≡◌};
 ghost use Rattle.hist_rules.specs.First.{first_fault};
 ghost use Rattle.hist_rules.specs.CallsExist.{call_exists, calls_exist};
@@ -23,7 +24,7 @@ fn call_exists(script: &Script, call: CallName) -> Option<Verdict>
     }
 }
 
-/// The first of the lines whose call the script doesn't have.
+// The first of the lines whose call the script doesn't have.
 fn find_unknown_call<L: NamesCall>(script: &Script, lines: &[L]) -> Option<Verdict>
     ensures { result ≡ first_fault (λ line. call_exists script.now (L.call line)) lines.now }
 {

@@ -1,3 +1,4 @@
+//! The least number of an actor's calls that isn't answered.
 ghost use Rattle.std.specs.Prelude.{◌≡◌, ◌<◌, ◌^◌, length};
 ghost use Rattle.hist_rules.specs.CallsInOrder.{least_missing};
 ghost use Rattle.hist_rules.specs.Named.{answered_calls};

@@ -1,3 +1,5 @@
+//! The rule on calls without a reply: at most one of each actor, the first that isn't answered, and
+//! each `open` one has its line there.
 ghost use Rattle.std.specs.Prelude.{◌≡◌, ◌<◌, ◌^◌, List, Option, length, map, find, IfOk, OnOk};
 ghost use Rattle.std.specs.Option.{option_or, option_map};
 ghost use Rattle.hist_rules.specs.Calls.{number_of, same_actor};
@@ -17,7 +19,7 @@ use std::alloc::{AllocError, Global};
 use store_map::Script;
 use transcript_text::{CallName, HLine, Shown, Transcript};
 
-/// Whether a line without a reply has its call among those without a reply.
+// Whether a line without a reply has its call among those without a reply.
 fn is_unanswered(script: &Script, unanswered: &CallSet, line: &HLine) -> Option<Verdict>
     ensures { (t : Transcript) → IsSetOf unanswered.now (map (λ other. other.call) t.unanswered)
         → result ≡ is_unanswered script.now t line.now.call line.now.reply }
@@ -38,7 +40,7 @@ fn is_unanswered(script: &Script, unanswered: &CallSet, line: &HLine) -> Option<
     }
 }
 
-/// Whether the call is the first of its actor that isn't answered.
+// Whether the call is the first of its actor that isn't answered.
 fn is_next_call(
     transcript: &Transcript,
     answered: &CallSet,
@@ -62,7 +64,7 @@ fn is_next_call(
     }))
 }
 
-/// Whether the actor has no such line before.
+// Whether the actor has no such line before.
 fn is_only_one(first: Option<u64>, call: CallName) -> Option<Verdict>
     ensures { (before : Option CallName) → first ≡ option_map number_of before → result ≡ is_only_one before call }
 {
@@ -76,7 +78,7 @@ fn is_only_one(first: Option<u64>, call: CallName) -> Option<Verdict>
     }
 }
 
-/// The first line of the history without a reply whose call has no line of its own.
+// The first line of the history without a reply whose call has no line of its own.
 fn find_effect(script: &Script, unanswered: &CallSet, lines: &[HLine]) -> Option<Verdict>
     ensures { (t : Transcript) → IsSetOf unanswered.now (map (λ other. other.call) t.unanswered)
         → result ≡ first_fault (λ line. is_unanswered script.now t line.call line.reply) lines.now }
@@ -89,7 +91,7 @@ fn find_effect(script: &Script, unanswered: &CallSet, lines: &[HLine]) -> Option
     None
 }
 
-/// The first call without a reply that isn't its actor's next one.
+// The first call without a reply that isn't its actor's next one.
 fn find_early(
     alloc: Global,
     transcript: &Transcript,

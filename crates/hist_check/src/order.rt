@@ -1,3 +1,5 @@
+//! The rule on the order of answers: each actor's answered calls are its first ones, each answered
+//! once.
 ghost use Rattle.std.specs.Prelude.{◌≡◌, ◌<◌, ◌≤◌, ◌^◌, ◌↔◌, ℕ, List, true, length, map, filter, IsTrue, IfOk, OnOk};
 ghost use Rattle.hist_rules.specs.Calls.{with_number, number_of, is_named};
 ghost use Rattle.hist_rules.specs.CallsInOrder.{follows, follows_answered, is_first_answer, calls_in_order};
@@ -13,7 +15,7 @@ use hist_tables::{ActorTable, CallSet, NamesCall, number_of, with_number};
 use std::alloc::{AllocError, Global};
 use transcript_text::{CallName, Transcript};
 
-/// Whether the set has the calls of the call's actor from a number up to another.
+// Whether the set has the calls of the call's actor from a number up to another.
 fn has_between(set: &CallSet, call: CallName, from: u64, to: u32) -> bool
     ensures { IsTrue result ↔ ((number : ℕ) → from ≤ number → number < to → has set.now (with_number call number) ≡ true) }
 {
@@ -50,7 +52,7 @@ pub fn follows(
     Ok(true)
 }
 
-/// Whether the call stands behind its actor's earlier answers.
+// Whether the call stands behind its actor's earlier answers.
 fn follows_answered(
     transcript: &Transcript,
     set: &CallSet,
@@ -73,7 +75,7 @@ fn follows_answered(
     }))
 }
 
-/// Whether no earlier line answers the call.
+// Whether no earlier line answers the call.
 fn is_first_answer(before: &CallSet, call: CallName) -> Option<Verdict>
     ensures { (calls : List CallName) → IsSetOf before.now calls → result ≡ is_first_answer calls call }
 {
@@ -88,8 +90,8 @@ fn is_first_answer(before: &CallSet, call: CallName) -> Option<Verdict>
     })
 }
 
-/// The first of the lines with an answer that stands out of order. The set is that of all answered
-/// calls; the other one has those before, and gets those of the lines.
+// The first of the lines with an answer that stands out of order. The set is that of all answered
+// calls; the other one has those before, and gets those of the lines.
 fn find_disorder<L: NamesCall>(
     transcript: &Transcript,
     set: &CallSet,

@@ -1,3 +1,4 @@
+//! The rule on replies: they are the plain map's, where the calls are made in the history's order.
 ghost use Rattle.std.specs.Prelude.{◌≡◌, None, IfOk};
 ghost use Rattle.std.specs.List.{zip, filter_map};
 ghost use Rattle.store_map.specs.History.{replies_from, apply_all};
@@ -12,7 +13,7 @@ use std::alloc::AllocError;
 use store_map::{ObjectMap, Reply, Script};
 use transcript_text::HLine;
 
-/// Whether the line shows the map's reply.
+// Whether the line shows the map's reply.
 fn reply_matches(script: &Script, line: &HLine, reply: Reply) -> Result<Option<Verdict>, AllocError>
     ensures { IfOk result (λ found. found ≡ reply_matches script.now (line.now, reply)) }
 {

@@ -1,3 +1,4 @@
+//! Replies beside what lines show: whether they agree, and copies of what is shown.
 ghost use Rattle.std.specs.Prelude.{◌≡◌, IfOk};
 ghost use Rattle.std.specs.Option.{option_copied};
 ghost use Rattle.hist_rules.specs.RepliesMatch.{same_reply, is_put_or_write, shows_reply};
@@ -7,7 +8,7 @@ use std::alloc::AllocError;
 use store_map::{Call, Reply};
 use transcript_text::Shown;
 
-/// Whether two replies are the same.
+// Whether two replies are the same.
 fn same_reply(one: &Reply, other: &Reply) -> bool
     ensures { result ≡ same_reply one.now other.now }
 {

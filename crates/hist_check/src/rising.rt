@@ -1,3 +1,4 @@
+//! The rule that points rise in the history, and so do each client's call numbers.
 ghost use Rattle.std.specs.Prelude.{◌≡◌, List, IfOk, find};
 ghost use Rattle.std.specs.Option.{option_map};
 ghost use Rattle.std.specs.List.{slice_get};
@@ -11,8 +12,8 @@ use hist_tables::{ActorTable, number_of};
 use std::alloc::{AllocError, Global};
 use transcript_text::HLine;
 
-/// Whether a line's point is above the point before, and its number above its client's number
-/// before.
+// Whether a line's point is above the point before, and its number above its client's number
+// before.
 fn line_rises(point: Option<u64>, number: Option<u64>, line: &HLine) -> Option<Verdict>
     ensures { (before : List HLine) → point ≡ option_map (λ other. other.point) (slice_get before 0)
         → number ≡ option_map (λ other. number_of other.call) (find (λ other. same_actor line.now.call other.call) before)

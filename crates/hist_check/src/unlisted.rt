@@ -1,3 +1,4 @@
+//! The rule that each call which took subchunks has a line that says what became of it.
 ghost use Rattle.std.specs.Prelude.{◌≡◌, IfOk};
 ghost use Rattle.hist_rules.specs.First.{first_fault};
 ghost use Rattle.hist_rules.specs.Named.{listed_calls};
@@ -10,7 +11,7 @@ use hist_tables::{CallSet, call_line, nothing};
 use std::alloc::{AllocError, Global};
 use transcript_text::{CallName, GLine, Transcript};
 
-/// Whether a line says what became of a call that took subchunks.
+// Whether a line says what became of a call that took subchunks.
 fn has_call(alloc: Global, listed: &CallSet, call: CallName) -> Result<Option<Verdict>, AllocError>
     ensures { (t : Transcript) → IsSetOf listed.now (listed_calls t) → IfOk result (λ found. found ≡ has_call t call) }
 {
@@ -24,7 +25,7 @@ fn has_call(alloc: Global, listed: &CallSet, call: CallName) -> Result<Option<Ve
     }))
 }
 
-/// The first of the lines whose call isn't among those listed.
+// The first of the lines whose call isn't among those listed.
 fn find_missing(
     alloc: Global,
     listed: &CallSet,

@@ -1,3 +1,4 @@
+//! The verdict: the rules in their order, up to the first that is broken.
 ghost use Rattle.std.specs.Prelude.{◌≡◌, ◌+◌, ◌<◌, ◌^◌, [], ◌∷◌, length, IfOk, None};
 ghost use Rattle.store_map.specs.History.{map_after};
 ghost use Rattle.store_map.specs.Limits.{size_of};
@@ -33,7 +34,7 @@ use std::alloc::{AllocError, Global};
 use store_map::{ObjectMap, Script};
 use transcript_text::Transcript;
 
-/// The first call that isn't the script's, or else the first line that is too low.
+// The first call that isn't the script's, or else the first line that is too low.
 fn find_wrong_line(
     alloc: Global,
     script: &Script,
@@ -47,7 +48,7 @@ fn find_wrong_line(
     find_fall(alloc, transcript.history.as_slice())
 }
 
-/// The first answer that is out of order, or else the first call without a reply that is.
+// The first answer that is out of order, or else the first call without a reply that is.
 fn find_wrong_order(
     alloc: Global,
     script: &Script,
@@ -63,8 +64,8 @@ fn find_wrong_order(
     find_wrong_open(alloc, script, transcript, &answered)
 }
 
-/// The first refusal or result that can't be: for lost chunks, then for lost races, then for a call
-/// that was given up, then the results of rebuilds.
+// The first refusal or result that can't be: for lost chunks, then for lost races, then for a call
+// that was given up, then the results of rebuilds.
 fn find_false_cause(
     alloc: Global,
     script: &Script,
@@ -86,7 +87,7 @@ fn find_false_cause(
     find_false_result(alloc, script, transcript)
 }
 
-/// The first wrong line at the end, where the map is what the history leads to.
+// The first wrong line at the end, where the map is what the history leads to.
 fn find_wrong_end(
     alloc: Global,
     script: &Script,
@@ -105,7 +106,7 @@ fn find_wrong_end(
     find_wrong_sum(alloc, script, transcript)
 }
 
-/// The fault of the first rule that is broken.
+// The fault of the first rule that is broken.
 fn find_fault(
     alloc: Global,
     script: &Script,

@@ -1,3 +1,4 @@
+//! A table with a number for each actor.
 ghost use Rattle.std.specs.Prelude.{◌≡◌, OnOk, None, Some, if◌then◌else◌};
 ghost use Rattle.hist_rules.specs.Calls.{same_actor};
 ghost use Rattle.hist_tables.specs.Tables.{value_at};

@@ -1,3 +1,4 @@
+//! Sets of calls, among them those that a transcript lists and those that were answered.
 ghost use Rattle.std.specs.Prelude.{◌≡◌, ◌||◌, false, OnOk, IfOk, map, filter};
 ghost use Rattle.hist_rules.specs.Calls.{same_call, is_named};
 ghost use Rattle.hist_rules.specs.Named.{answered_calls, listed_calls};
@@ -46,7 +47,7 @@ impl CallSet {
         Ok(())
     }
 
-    /// The lines' calls are there too.
+    // The lines' calls are there too.
     fn insert_calls<L: NamesCall>(&mut self, lines: &[L]) -> Result<(), AllocError>
         ensures { OnOk result ((other : CallName) → has self.new other ≡ (has self.old other || is_named other (map L.call lines.now))) }
     {
@@ -56,7 +57,7 @@ impl CallSet {
         Ok(())
     }
 
-    /// The calls of those lines that answer one are there too.
+    // The calls of those lines that answer one are there too.
     fn insert_answers<L: NamesCall>(&mut self, lines: &[L]) -> Result<(), AllocError>
         ensures { OnOk result ((other : CallName) → has self.new other ≡ (has self.old other || is_named other (map L.call (filter L.is_answer lines.now)))) }
     {

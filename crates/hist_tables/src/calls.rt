@@ -1,3 +1,4 @@
+//! A script's calls by the names that lines give them.
 ghost use Rattle.std.specs.Prelude.{◌≡◌};
 ghost use Rattle.std.specs.Option.{option_copied};
 ghost use Rattle.hist_rules.specs.Calls.{number_of, with_number, same_actor, calls_of, call_of, rebuild_of};

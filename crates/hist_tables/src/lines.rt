@@ -1,3 +1,4 @@
+//! The calls that a transcript's lines name, those without a reply, and how many are answered.
 ghost use Rattle.std.specs.Prelude.{◌≡◌, ◌++◌, ◌<◌, ◌^◌, Bool, true, false, length, map, filter, IfOk, OnOk};
 ghost use Rattle.transcript_text.specs.declared.call_name.CallName.{CallName};
 ghost use Rattle.hist_rules.specs.Named.{answered_calls, is_reply};
@@ -90,7 +91,7 @@ impl NamesCall for GLine {
     }
 }
 
-/// Appends the lines' calls.
+// Appends the lines' calls.
 fn push_calls<L: NamesCall>(calls: &mut Vec<CallName>, lines: &[L]) -> Result<(), AllocError>
     ensures { OnOk result (calls.new.items ≡ calls.old.items ++ map L.call lines.now) }
 {
@@ -115,7 +116,7 @@ pub fn unanswered_calls(alloc: Global, transcript: &Transcript) -> Result<Vec<Ca
     Ok(calls)
 }
 
-/// How many lines have a reply.
+// How many lines have a reply.
 fn count_replied(lines: &[HLine]) -> usize
     ensures { result ≡ length (filter (λ line. is_reply line.reply) lines.now) }
 {

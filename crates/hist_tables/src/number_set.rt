@@ -1,3 +1,4 @@
+//! A set of numbers for each actor, in rows of 64.
 ghost use Rattle.std.specs.Prelude.{◌≡◌, ◌&&◌, ◌<◌, ℕ, nat_eq, cond, true, false, OnOk, get_or};
 ghost use Rattle.hist_tables.specs.Numbers.{holds, row_has, row_of};
 

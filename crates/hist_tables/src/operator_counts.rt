@@ -1,3 +1,4 @@
+//! How often a schedule's operator does something to each server or actor.
 ghost use Rattle.std.specs.Prelude.{◌≡◌, ℕ, IfOk, false};
 ghost use Rattle.std.specs.Option.{option_map_or};
 ghost use Rattle.std.specs.Prelude.{nat_eq};
@@ -17,7 +18,7 @@ pub enum OperatorAction {
     ReapRepairer,
 }
 
-/// The server or the actor to whom a line of the schedule does the action.
+// The server or the actor to whom a line of the schedule does the action.
 fn subject(action: OperatorAction, token: Token) -> Option<u64>
     ensures { (place : ℕ) → is_done_to action place token ≡ option_map_or (nat_eq place) result false }
 {

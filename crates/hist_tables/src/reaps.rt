@@ -1,3 +1,4 @@
+//! How often a schedule gives up the passes of each actor.
 ghost use Rattle.std.specs.Prelude.{◌≡◌, IfOk};
 ghost use Rattle.hist_rules.specs.Counts.{reaps};
 ghost use Rattle.hist_tables.specs.OperatorCounts.{reaps_in};

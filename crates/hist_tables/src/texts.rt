@@ -1,3 +1,4 @@
+//! Lines as a verdict quotes them, without their line feeds.
 ghost use Rattle.std.specs.Prelude.{◌≡◌, IfOk, OnOk};
 ghost use Rattle.std.specs.Fmt.{AppendsText};
 ghost use Rattle.transcript_text.specs.Lines.{l_line, o_line, t_line};

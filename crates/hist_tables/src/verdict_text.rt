@@ -1,3 +1,4 @@
+//! The line in which a verdict is printed.
 ghost use Rattle.std.specs.Prelude.{◌≡◌, ◌++◌, IfOk, OnOk};
 ghost use Rattle.hist_rules.specs.VerdictText.{tail_word, verdict_line};
 
@@ -15,7 +16,7 @@ fn append_tail_word(out: &mut Vec<u8>, kind: TailKind) -> Result<(), AllocError>
     }
 }
 
-/// Appends the verdict's line.
+// Appends the verdict's line.
 fn append_verdict(out: &mut Vec<u8>, verdict: &Verdict) -> Result<(), AllocError>
     ensures { OnOk result (out.new.items ≡ out.old.items ++ verdict_line verdict.now) }
 {

@@ -1,3 +1,4 @@
+//! Columns added in column form, beside sums by `add_scaled`, and which codes have such columns.
 use clay_field::add_scaled;
 use clay_grid::Geometry;
 use clay_kernels::{ColumnFactors, Products, add_column, end_column};

@@ -1,3 +1,4 @@
+//! Products added to rows, beside `add_scaled`.
 use clay_field::add_scaled;
 use clay_kernels::{Products, add_rows};
 use std::alloc::Global;

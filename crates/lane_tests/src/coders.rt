@@ -1,3 +1,4 @@
+//! Codewords recovered by the fast coder from what is left of them, and chunks that are of none.
 ghost use Rattle.std.specs.Prelude.{◌≡◌, length, IfOk, IfSome, count_by, is_none};
 ghost use Rattle.clay_grid.specs.Shape.{chunk_count, chunk_length};
 ghost use Rattle.clay_decode.specs.Left.{AreLong};
@@ -127,7 +128,8 @@ fn check_loss<R: Abort + Threads + Sync>(
     Ok(())
 }
 
-// Loses no chunk, each chunk alone, the first and the last, as many as there are parity chunks, some of each kind, and one too many.
+// Loses no chunk, the last data chunk, the first parity chunk, as many as there are parity chunks (the
+// first data chunks, the first parity chunks, some of each), and one too many.
 fn check_losses<R: Abort + Threads + Sync>(rt: &R, alloc: Global, g: Geometry) -> Result<(), Fail> {
     let stripe = mixed_bytes(alloc, g.stripe_len())?;
     assert_eq!(rt; stripe.len(), g.stripe_len() as usize);

@@ -1,3 +1,4 @@
+//! Stripes encoded by the fast coder and by the plain one; codes and widths for all these tests.
 ghost use Rattle.std.specs.Prelude.{◌≡◌, length};
 ghost use Rattle.clay_grid.specs.Shape.{stripe_length};
 

@@ -1,3 +1,4 @@
+//! Chunks rebuilt by the fast coder from parts of the others.
 ghost use Rattle.std.specs.Prelude.{◌≡◌, ◌<◌, length, IfOk, IfSome, is_none};
 ghost use Rattle.clay_grid.specs.Shape.{chunk_count};
 ghost use Rattle.clay_repair.specs.Parts.{AreParts};

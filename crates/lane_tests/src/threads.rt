@@ -1,3 +1,4 @@
+//! The coder of several threads beside the other two, also for stripes that threads share.
 ghost use Rattle.std.specs.Prelude.{◌≡◌, ◌<◌, length};
 ghost use Rattle.clay_grid.specs.Shape.{chunk_count, stripe_length};
 

@@ -1,3 +1,4 @@
+//! A client's call, read from its line.
 ghost use Rattle.std.specs.Prelude.{◌≡◌, ◌++◌, codes};
 ghost use Rattle.line_grammar.specs.Reads.{ReadsCall, ReadsName};
 
@@ -31,7 +32,7 @@ pub fn read_name(alloc: Global, word: &[u8]) -> Result<Name, FaultKind>
     }
 }
 
-/// The call that `put` and these words spell.
+// The call that `put` and these words spell.
 fn read_put(alloc: Global, words: &[u8]) -> Result<Call, FaultKind>
     ensures { ReadsCall (codes "put " ++ words.now) result }
 {
@@ -46,7 +47,7 @@ fn read_put(alloc: Global, words: &[u8]) -> Result<Call, FaultKind>
     Ok(Call::Put { name, content })
 }
 
-/// The call that `write` and these words spell.
+// The call that `write` and these words spell.
 fn read_write(alloc: Global, words: &[u8]) -> Result<Call, FaultKind>
     ensures { ReadsCall (codes "write " ++ words.now) result }
 {
@@ -74,7 +75,7 @@ fn read_write(alloc: Global, words: &[u8]) -> Result<Call, FaultKind>
     })
 }
 
-/// The call that `get` and this word spell.
+// The call that `get` and this word spell.
 fn read_get(alloc: Global, word: &[u8]) -> Result<Call, FaultKind>
     ensures { ReadsCall (codes "get " ++ word.now) result }
 {
@@ -82,7 +83,7 @@ fn read_get(alloc: Global, word: &[u8]) -> Result<Call, FaultKind>
     Ok(Call::Get { name })
 }
 
-/// The call that `stat` and this word spell.
+// The call that `stat` and this word spell.
 fn read_stat(alloc: Global, word: &[u8]) -> Result<Call, FaultKind>
     ensures { ReadsCall (codes "stat " ++ word.now) result }
 {
@@ -90,7 +91,7 @@ fn read_stat(alloc: Global, word: &[u8]) -> Result<Call, FaultKind>
     Ok(Call::Stat { name })
 }
 
-/// The call that `delete` and this word spell.
+// The call that `delete` and this word spell.
 fn read_delete(alloc: Global, word: &[u8]) -> Result<Call, FaultKind>
     ensures { ReadsCall (codes "delete " ++ word.now) result }
 {
@@ -98,7 +99,7 @@ fn read_delete(alloc: Global, word: &[u8]) -> Result<Call, FaultKind>
     Ok(Call::Delete { name })
 }
 
-/// The call that `read` and these words spell.
+// The call that `read` and these words spell.
 fn read_read(alloc: Global, words: &[u8]) -> Result<Call, FaultKind>
     ensures { ReadsCall (codes "read " ++ words.now) result }
 {

@@ -1,3 +1,4 @@
+//! The data of a put or a write, read from its word.
 ghost use Rattle.std.specs.Prelude.{◌≡◌, ◌≢◌, ◌<◌, ◌∷◌, ◌++◌, [], ℕ, codes, MatchOption};
 ghost use Rattle.hex.specs.Hex.{encode_lower};
 ghost use Rattle.line_grammar.specs.Reads.{ReadsContent, ReadsRun};
@@ -15,7 +16,7 @@ const FILL: &[u8] = b"fill:";
 
 const RAMP: &[u8] = b"ramp:";
 
-/// The byte that two lower-case hexadecimal digits spell.
+// The byte that two lower-case hexadecimal digits spell.
 fn read_byte(word: &[u8]) -> Option<u8>
     ensures { MatchOption result ((b : ℕ) → b < 256 → word.now ≢ encode_lower (b ∷ []))
         (λ b. (b < 256) × (word.now ≡ encode_lower (b ∷ []))) }
@@ -30,7 +31,7 @@ fn read_byte(word: &[u8]) -> Option<u8>
     }
 }
 
-/// A byte and a length, parted by a colon.
+// A byte and a length, parted by a colon.
 fn read_run(words: &[u8]) -> Result<(u8, u32), FaultKind>
     ensures { ReadsRun words.now result }
 {
@@ -49,7 +50,7 @@ fn read_run(words: &[u8]) -> Result<(u8, u32), FaultKind>
     }
 }
 
-/// The bytes that a word of data writes out.
+// The bytes that a word of data writes out.
 fn read_hex(alloc: Global, digits: &[u8]) -> Result<Content, FaultKind>
     ensures { ReadsContent (codes "hex:" ++ digits.now) result }
 {
@@ -65,7 +66,7 @@ fn read_hex(alloc: Global, digits: &[u8]) -> Result<Content, FaultKind>
     }
 }
 
-/// The data of one byte, many times.
+// The data of one byte, many times.
 fn read_fill(words: &[u8]) -> Result<Content, FaultKind>
     ensures { ReadsContent (codes "fill:" ++ words.now) result }
 {
@@ -73,7 +74,7 @@ fn read_fill(words: &[u8]) -> Result<Content, FaultKind>
     Ok(Content::Fill { byte, length })
 }
 
-/// The data of bytes that count up.
+// The data of bytes that count up.
 fn read_ramp(words: &[u8]) -> Result<Content, FaultKind>
     ensures { ReadsContent (codes "ramp:" ++ words.now) result }
 {

@@ -1,3 +1,4 @@
+//! Lower-case hexadecimal digits, and the bytes that they spell.
 ghost use Rattle.std.specs.Prelude.{◌≡◌, ◌%◌, ◌↔◌, IsTrue, IfOk, length};
 ghost use Rattle.std.specs.List.{AllPass};
 ghost use Rattle.hex.specs.Hex.{encode_lower, IsBytes};
@@ -5,7 +6,7 @@ ghost use Rattle.line_grammar.specs.Digits.{is_lower_digit};
 
 use std::alloc::{AllocError, Global};
 
-/// Whether a byte is a hexadecimal digit, and no letter in upper case.
+// Whether a byte is a hexadecimal digit, and no letter in upper case.
 fn is_lower_digit(byte: u8) -> bool
     ensures { result ≡ is_lower_digit byte }
 {

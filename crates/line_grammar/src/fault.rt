@@ -1,3 +1,4 @@
+//! The kinds of faults for which scripts and transcripts are refused.
 use thiserror::Error;
 
 /// Why bytes spell no script. On one line the causes are tried in the order Syntax, Limit,
@@ -20,7 +21,7 @@ pub enum FaultKind {
     /// The schedule names a client or a repairer that has no block.
     #[error("no such actor")]
     NoSuchActor = 4,
-    /// A rebuild or a `wipe` names a server that the code doesn't have.
+    /// A rebuild, a `wipe`, a `down` or an `up` names a server that the code doesn't have.
     #[error("no such server")]
     NoSuchServer = 5,
     /// The bytes end before the line `end` and its line feed.

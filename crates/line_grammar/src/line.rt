@@ -1,3 +1,4 @@
+//! Lines that are no client's call: the code, rebuilds, steps of a schedule, numbers behind a word.
 ghost use Rattle.std.specs.Prelude.{◌≡◌, ◌++◌, ℕ, codes};
 ghost use Rattle.line_grammar.specs.Numbers.{number_word};
 ghost use Rattle.line_grammar.specs.Reads.{ReadsNumber};
@@ -29,7 +30,7 @@ const REAP_CLIENT: &[u8] = b"reap c ";
 
 const REAP_REPAIRER: &[u8] = b"reap r ";
 
-/// The number that a word is.
+// The number that a word is.
 fn number_of(word: &[u8]) -> Result<u32, FaultKind>
     ensures { ReadsNumber word.now result }
 {
@@ -52,7 +53,7 @@ pub fn read_numbered(first: &[u8], line: &[u8]) -> Result<u32, FaultKind>
     }
 }
 
-/// The rebuild that `rebuild` and these words spell.
+// The rebuild that `rebuild` and these words spell.
 fn read_rebuild_words(alloc: Global, words: &[u8]) -> Result<Rebuild, FaultKind>
     ensures { ReadsRebuild (codes "rebuild " ++ words.now) result }
 {
@@ -95,7 +96,7 @@ pub fn read_rebuild(alloc: Global, line: &[u8]) -> Result<Rebuild, FaultKind>
     }
 }
 
-/// The step `c` of the client that a word numbers.
+// The step `c` of the client that a word numbers.
 fn read_client_step(word: &[u8]) -> Result<Token, FaultKind>
     ensures { (form : ℕ) → ReadsToken form (codes "c " ++ word.now) result }
 {
@@ -103,7 +104,7 @@ fn read_client_step(word: &[u8]) -> Result<Token, FaultKind>
     Ok(Token::Client(client))
 }
 
-/// The step `r` of the repairer that a word numbers.
+// The step `r` of the repairer that a word numbers.
 fn read_repairer_step(word: &[u8]) -> Result<Token, FaultKind>
     ensures { (form : ℕ) → ReadsToken form (codes "r " ++ word.now) result }
 {
@@ -111,7 +112,7 @@ fn read_repairer_step(word: &[u8]) -> Result<Token, FaultKind>
     Ok(Token::Repairer(repairer))
 }
 
-/// The wipe of the server that a word numbers.
+// The wipe of the server that a word numbers.
 fn read_wipe(word: &[u8]) -> Result<Token, FaultKind>
     ensures { (form : ℕ) → ReadsToken form (codes "wipe " ++ word.now) result }
 {
@@ -119,7 +120,7 @@ fn read_wipe(word: &[u8]) -> Result<Token, FaultKind>
     Ok(Token::Wipe(server))
 }
 
-/// The making away of the server that a word numbers, in a script of form 2.
+// The making away of the server that a word numbers, in a script of form 2.
 fn read_down(word: &[u8]) -> Result<Token, FaultKind>
     ensures { ReadsToken 2 (codes "down " ++ word.now) result }
 {
@@ -127,7 +128,7 @@ fn read_down(word: &[u8]) -> Result<Token, FaultKind>
     Ok(Token::Down(server))
 }
 
-/// The making present of the server that a word numbers, in a script of form 2.
+// The making present of the server that a word numbers, in a script of form 2.
 fn read_up(word: &[u8]) -> Result<Token, FaultKind>
     ensures { ReadsToken 2 (codes "up " ++ word.now) result }
 {
@@ -135,7 +136,7 @@ fn read_up(word: &[u8]) -> Result<Token, FaultKind>
     Ok(Token::Up(server))
 }
 
-/// The reap of the client that a word numbers.
+// The reap of the client that a word numbers.
 fn read_client_reap(word: &[u8]) -> Result<Token, FaultKind>
     ensures { (form : ℕ) → ReadsToken form (codes "reap c " ++ word.now) result }
 {
@@ -143,7 +144,7 @@ fn read_client_reap(word: &[u8]) -> Result<Token, FaultKind>
     Ok(Token::ReapClient(client))
 }
 
-/// The reap of the repairer that a word numbers.
+// The reap of the repairer that a word numbers.
 fn read_repairer_reap(word: &[u8]) -> Result<Token, FaultKind>
     ensures { (form : ℕ) → ReadsToken form (codes "reap r " ++ word.now) result }
 {
@@ -194,7 +195,7 @@ pub fn read_token(form: u32, line: &[u8]) -> Result<Token, FaultKind>
     }
 }
 
-/// The geometry that `code` and these words spell.
+// The geometry that `code` and these words spell.
 fn read_code_words(words: &[u8]) -> Result<Geometry, FaultKind>
     ensures { ReadsCode (codes "code " ++ words.now) result }
 {

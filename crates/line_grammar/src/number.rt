@@ -1,3 +1,4 @@
+//! Decimal numbers without a leading zero, read from their words.
 ghost use Rattle.std.specs.Prelude.{◌≡◌, ◌≢◌, ◌≤◌, ◌^◌, ◌↔◌, ℕ, IsTrue, IfSome, IfNone, MatchOption};
 ghost use Rattle.std.specs.Char.{is_ascii_digit};
 ghost use Rattle.std.specs.Fmt.{decimal};
@@ -5,7 +6,7 @@ ghost use Rattle.std.specs.List.{AllPass};
 ghost use Rattle.line_grammar.specs.Numbers.{number_word, IsNumberWord};
 ghost use Rattle.line_grammar.specs.Values.{IsNumber};
 
-/// Whether all bytes of a word are decimal digits.
+// Whether all bytes of a word are decimal digits.
 fn are_digits(word: &[u8]) -> bool
     ensures { IsTrue result ↔ AllPass is_ascii_digit word.now }
 {

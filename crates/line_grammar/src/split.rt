@@ -1,3 +1,4 @@
+//! A text cut in two at a byte, and whether a line is a given text.
 ghost use Rattle.std.specs.Prelude.{◌≡◌, ◌∷◌, ◌++◌, ◌↔◌, IfSome, IfNone, IsTrue};
 ghost use Rattle.line_grammar.specs.Lines.{Lacks};
 

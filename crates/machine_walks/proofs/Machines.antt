@@ -4,10 +4,9 @@ use Rattle.store_map.specs.declared.call.Call.{Call}
 use Rattle.store_core.specs.Agreement.{Seat}
 use Rattle.version_seal.specs.Entry.{BookOf, StampOf}
 use Rattle.stripe_dir.specs.Sealed.{Sealed}
-use Rattle.client_patch.specs.Known.{KnowsOld}
-use Rattle.client_patch.proofs.Knowing.{more_stamps_are_known}
 use Rattle.call_machine.specs.Kinds.{Asked, Machine, client_machine, IfPatches, IfDraws}
-use Rattle.call_machine.specs.Calls.{MachineOf, first_call, patch_of, KnowsFor, KnowsOldOf, drawn_in, drawn_for, drawn_by}
+use Rattle.call_machine.specs.Calls.{MachineOf, first_call, KnowsOldOf, drawn_in, drawn_for, drawn_by}
+use Rattle.call_machine.proofs.Knowing.{more_stamps_are_known, first_calls_know}
 use Rattle.machine_walks.specs.Patching.{is_patching}
 use Rattle.machine_walks.specs.Whole.{AreWhole, Grows}
 use Rattle.machine_walks.proofs.Whole.{drawn_whole, grows, none}
@@ -24,12 +23,6 @@ if_draws Machine.Puts holds = holds
 if_draws Machine.Reads holds = tt
 if_draws Machine.Rebuilds holds = tt
 
-pub patches_so : {P Q : Type 0} (m : Machine) → (P → Q) → IfPatches m P → IfPatches m Q
-patches_so Machine.Patches so holds = so holds
-patches_so Machine.Puts so holds = tt
-patches_so Machine.Reads so holds = tt
-patches_so Machine.Rebuilds so holds = tt
-
 -- what is asked of a write or a delete alone
 pub asked_by_patches : {P : Type 0} (m : Machine) (patches : Bool) → patches ≡ is_patching m → (patches ≡ true → P) → IfPatches m P
 asked_by_patches Machine.Patches patches told so = so told
@@ -39,19 +32,11 @@ asked_by_patches Machine.Rebuilds patches told so = tt
 
 -- nothing is kept before the first step
 pub first_knows : (d : Sealed) (book : BookOf) (tries : ℕ) (seat : Seat) (number : ℕ) (asked : Asked) → KnowsOldOf d (first_call book tries seat number asked)
-first_knows d book tries seat number (Asked.OfClient c) = if_patches (client_machine c) tt
-first_knows d book tries seat number (Asked.OfRepairer rebuild) = tt
+first_knows = first_calls_know
 
 -- more stamps are known too
-known_by : (s now : Sealed) (more : List StampOf) (m : Machine) (c : MachineOf) (written : Call) → now.stamps ≡ s.stamps ++ more → IfPatches m (KnowsOld s (patch_of c written)) → IfPatches m (KnowsOld now (patch_of c written))
-known_by s now more m c written is = patches_so m (more_stamps_are_known s now more (patch_of c written) is)
-
-known_for : (s now : Sealed) (more : List StampOf) (asked : Asked) (c : MachineOf) → now.stamps ≡ s.stamps ++ more → KnowsFor asked s c → KnowsFor asked now c
-known_for s now more (Asked.OfClient written) c is knows = known_by s now more (client_machine written) c written is knows
-known_for s now more (Asked.OfRepairer rebuild) c is knows = tt
-
 pub more_known : (s now : Sealed) (more : List StampOf) → now.stamps ≡ s.stamps ++ more → (c : MachineOf) → KnowsOldOf s c → KnowsOldOf now c
-more_known s now more is c knows = known_for s now more c.asked c is knows
+more_known s now more is c knows = more_stamps_are_known s now more c is knows
 
 -- what a step draws is whole
 module _ (s : Sealed) (short : Bool) (c : MachineOf) (whole : AreWhole s.book s.stamps) where

@@ -1,3 +1,5 @@
+//! Whether a directory has one object at most, with whole stripes alone.
+
 ghost use Rattle.std.specs.Prelude.{◌≡◌, true};
 ghost use Rattle.machine_walks.specs.Whole.{AreWholeObjects};
 

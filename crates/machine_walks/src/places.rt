@@ -1,3 +1,5 @@
+//! A directory and four servers: turns of calls there, and what happens between them.
+
 ghost use Rattle.std.specs.Prelude.{◌≡◌, ◌∷◌, [], None, IfOk};
 ghost use Rattle.chunk_server.specs.State.{empty_server};
 ghost use Rattle.store_core.specs.Tokens.{actor_of};

@@ -6,7 +6,7 @@ use std::alloc::{AllocError, Global};
 use store_map::{Found, LostChunk, Placement};
 use world_lines::CallOutcome;
 
-/// What was taken from each server.
+// What was taken from each server.
 fn said_takes(alloc: Global, takes: Option<&Takes>) -> Result<String, AllocError> {
     match takes {
         Some(takes) => {
@@ -37,13 +37,13 @@ fn said_missing(alloc: Global, stripe: u32, missing: &[LostChunk]) -> Result<Str
     Ok(text)
 }
 
-// The point on which each try was based, and that of the change.
+// The point that each try looked at, and that of the change.
 fn said_changes(alloc: Global, changes: &[Change]) -> Result<String, AllocError> {
     let mut text = String::from_str(alloc, "contended:")?;
     for change in changes {
-        let base = change.base.0;
+        let looked_at = change.looked_at.0;
         let newer = change.newer.0;
-        text.push_str(&format!(in alloc; " {base}/{newer}")?)?;
+        text.push_str(&format!(in alloc; " {looked_at}/{newer}")?)?;
     }
     Ok(text)
 }

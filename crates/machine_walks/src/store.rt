@@ -1,3 +1,5 @@
+//! A directory and four servers with a call in work, and what comes of each act there, in words.
+
 ghost use Rattle.std.specs.Prelude.{◌≡◌, None};
 ghost use Rattle.machine_walks.specs.Small.{small_code};
 ghost use Rattle.version_seal.specs.Sealer.{sealer_at};

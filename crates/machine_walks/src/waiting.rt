@@ -1,3 +1,5 @@
+//! The seats of the clients and the repairer that have made no call.
+
 ghost use Rattle.std.specs.Prelude.{◌≡◌, ◌<◌, ◌≤◌, ◌++◌, ◌∷◌, [], length, map, None, IfSome};
 ghost use Rattle.std.specs.List.{range_with_len};
 ghost use Rattle.store_core.specs.Directory.{Directory as CoreDirectory};

@@ -1,3 +1,4 @@
+//! The takes of one call: a count of subchunks for each server.
 ghost use Rattle.std.specs.Prelude.{◌≡◌, ◌<◌, nat_lt, length, replicate, slice_get, Some, IfOk};
 ghost use Rattle.std.specs.List.{list_any};
 ghost use Rattle.store_core.specs.Lists.{change_at};

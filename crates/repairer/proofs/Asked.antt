@@ -24,10 +24,10 @@ use Rattle.repairer.proofs.Asking.{gathering, asked, of_gather}
 pub record IsAsked (a : Inside) (w : GatherOf) (takes : List ℕ) : Type 0 where
   pub at : a.stage ≡ stage.Gathering
   pub due : a.due ≡ false
-  pub of_call : IsOfCall a.token a.number (note_of_rebuild a.rebuild.now)
-  pub asking : IsAsking a.opening a.rebuild.now.server a.seen (Some w) (Some takes)
+  pub of_call : IsOfCall a.ticket a.number (note_of_rebuild a.rebuild.now)
+  pub asking : IsAsking a.opening a.rebuild.now.server a.looked.value (Some w) (Some takes)
   pub code : w.course.geometry ≡ a.opening.geometry
-  pub aim : w.course.aim ≡ Aim.Chunk (seen_at a.seen) a.rebuild.now.server
+  pub aim : w.course.aim ≡ Aim.Chunk (seen_at a.looked.value) a.rebuild.now.server
   pub asks : IsAskingStage w.course.stage
 
 pub is_asked : (a : Inside) (c : CallOf) (w : GatherOf) (takes : List ℕ) (server : ℕ) → IsRepair a → call_in a ≡ c → stage_of c.state.at ≡ stage.Gathering
@@ -36,12 +36,12 @@ is_asked a c w takes server is view e needs gather_is takes_is =
     let at : a.stage ≡ stage.Gathering = is_at a c stage.Gathering is view e in
     let due : a.due ≡ false = ap (λ (call : CallOf). call.due) view ∙ not_due (act_of c) c.due server needs in
     let kept = keeps a stage.Gathering is at in
-    let was : IsAsking a.opening a.rebuild.now.server a.seen a.gather a.takes = subst (λ b. GathersAt b a) due kept.1 in
-    let asking : IsAsking a.opening a.rebuild.now.server a.seen (Some w) (Some takes) =
-    subst (λ (counts : Option (List ℕ)). IsAsking a.opening a.rebuild.now.server a.seen (Some w) counts) (sym takes_is)
-    (subst (λ (gather : Option GatherOf). IsAsking a.opening a.rebuild.now.server a.seen gather a.takes) (sym gather_is) was)
+    let was : IsAsking a.opening a.rebuild.now.server a.looked.value a.gather a.takes = subst (λ b. GathersAt b a) due kept.1 in
+    let asking : IsAsking a.opening a.rebuild.now.server a.looked.value (Some w) (Some takes) =
+    subst (λ (counts : Option (List ℕ)). IsAsking a.opening a.rebuild.now.server a.looked.value (Some w) counts) (sym takes_is)
+    (subst (λ (gather : Option GatherOf). IsAsking a.opening a.rebuild.now.server a.looked.value gather a.takes) (sym gather_is) was)
     in
-    let same : asking.gather ≡ w = of_gather a.opening a.rebuild.now.server a.seen w (Some takes) asking in
+    let same : asking.gather ≡ w = of_gather a.opening a.rebuild.now.server a.looked.value w (Some takes) asking in
     let its : IsGatherOf a.opening asking.seen a.rebuild.now.server w = subst (λ (v : GatherOf). IsGatherOf a.opening asking.seen a.rebuild.now.server v) same asking.its in
     record {
       at = at;
@@ -56,12 +56,12 @@ is_asked a c w takes server is view e needs gather_is takes_is =
 -- its step is that of its gathering
 pub steps : (a : Inside) (c : CallOf) (w next : GatherOf) (takes counts : List ℕ) (short due : Bool) (s after : Server)
     → IsAsked a w takes → call_in a ≡ c → Some w ≡ a.gather → Some takes ≡ a.takes → (after, next, counts) ≡ stepped w short s takes
-    → (after, gathering a.opening a.rebuild.now a.number a.token (seen_at a.seen) next.course.stage counts due false short) ≡ stepped_at_server short due c s
+    → (after, gathering a.opening a.rebuild.now a.number a.ticket (seen_at a.looked.value) next.course.stage counts due false short) ≡ stepped_at_server short due c s
 steps a c w next takes counts short due s after is view gather_is takes_is made =
-    asked a.opening a.rebuild.now a.number a.token (seen_at a.seen) w next takes counts short due a.coding a.step s after is.code is.aim is.asks made
+    asked a.opening a.rebuild.now a.number a.ticket (seen_at a.looked.value) w next takes counts short due a.coding a.step s after is.code is.aim is.asks made
     ∙ ap (λ (call : CallOf). stepped_at_server short due call s)
     ((λ i.
-    call_at a.opening a.rebuild.now a.number a.token
-    (gathered_state (seen_at a.seen) a.rebuild.now.server (course_at a.opening.geometry (seen_at a.seen) a.rebuild.now.server (gather_is i)).stage)
+    call_at a.opening a.rebuild.now a.number a.ticket
+    (gathered_state (seen_at a.looked.value) a.rebuild.now.server (course_at a.opening.geometry (seen_at a.looked.value) a.rebuild.now.server (gather_is i)).stage)
     (takes_at (chunk_count a.opening.geometry) (takes_is i)) (sym is.due i) a.coding a.step)
     ∙ seen_by a c stage.Gathering view is.at)

@@ -12,7 +12,7 @@ use Rattle.store_resume.specs.Stage.{Aim, Asking, Stage as CoreStage}
 use Rattle.store_resume.specs.StageAfter.{stage_after, server_asked, step_asked}
 use Rattle.store_resume.specs.States.{open_state}
 use Rattle.version_seal.specs.Entry.{BookOf, StampOf}
-use Rattle.stripe_dir.specs.declared.answers.Seen.{Seen}
+use Rattle.call_steps.specs.declared.seen.Seen.{Seen}
 use Rattle.gather_course.specs.Aims.{ending_at}
 use Rattle.gather_course.specs.Courses.{IsAskingStage, has_bytes, server_at, server_of}
 use Rattle.gathering.specs.Gathers.{GatherOf, taking, stepped_at, stepped, need_by}
@@ -43,20 +43,17 @@ module _ (book : BookOf) (rebuild : Rebuild) (number : ℕ) (token : ActorToken)
   gathering at takes due coding step = call_at book rebuild number token (gathered_state seen rebuild.server at) takes due coding step
 
   -- a gathering that asks
-  abbrev asks : StampOf → List ℕ → Bool → Bool → Bool → Asking → GatherOf
-  asks stamp gone coded coding step asking =
+  abbrev asks : StampOf → List ℕ → Asking → GatherOf
+  asks stamp gone asking =
       record {
         stamp = stamp;
         course = record { geometry = book.geometry; aim = Aim.Chunk seen rebuild.server; stage = CoreStage.Asks asking; gone = gone };
-        coded = coded;
-        coding = coding;
-        step = step;
       }
 
-  answered : (stamp : StampOf) (gone : List ℕ) (coded before last : Bool) (asking : Asking) (takes counts : List ℕ) (next : GatherOf) (short due coding step : Bool) (s after : Server)
-      → (after, next, counts) ≡ stepped (asks stamp gone coded before last asking) short s takes
+  answered : (stamp : StampOf) (gone : List ℕ) (asking : Asking) (takes counts : List ℕ) (next : GatherOf) (short due coding step : Bool) (s after : Server)
+      → (after, next, counts) ≡ stepped (asks stamp gone asking) short s takes
       → (after, gathering next.course.stage counts due false short) ≡ stepped_at_server short due (gathering (CoreStage.Asks asking) takes false coding step) s
-  answered stamp gone coded before last asking takes counts next short due coding step s after e =
+  answered stamp gone asking takes counts next short due coding step s after e =
       ap (λ (all : Server × GatherOf × List ℕ). (all.0, gathering all.1.course.stage all.2 due false short)) e
       ∙ (let at : Aim = Aim.Chunk seen rebuild.server in
       let made : Server × Told = at_server short (step_asked book.geometry at asking) s in
@@ -77,10 +74,10 @@ module _ (book : BookOf) (rebuild : Rebuild) (number : ℕ) (token : ActorToken)
       by : (at : CoreStage) → w.course.stage ≡ at → IsAskingStage at
           → (after, gathering next.course.stage counts due false short) ≡ stepped_at_server short due (gathering w.course.stage takes false coding step) s
       by (CoreStage.Asks asking) is asks_now =
-          let same : w ≡ asks w.stamp w.course.gone w.coded w.coding w.step asking =
+          let same : w ≡ asks w.stamp w.course.gone asking =
           λ i. record w { course = record (w.course) { geometry = code i; aim = aim i; stage = is i } }
           in
-          answered w.stamp w.course.gone w.coded w.coding w.step asking takes counts next short due coding step s after
+          answered w.stamp w.course.gone asking takes counts next short due coding step s after
           (e ∙ ap (λ (v : GatherOf). stepped v short s takes) same)
           ∙ ap (λ (at : CoreStage). stepped_at_server short due (gathering at takes false coding step) s) (sym is)
       by at is asks_now = absurd asks_now
@@ -95,7 +92,6 @@ pub record Follows (w next : GatherOf) (takes counts : List ℕ) : Type 0 where
   pub stamp : next.stamp ≡ w.stamp
   pub code : next.course.geometry ≡ w.course.geometry
   pub aim : next.course.aim ≡ w.course.aim
-  pub fresh : next.coded ≡ false
   pub servers : length counts ≡ length takes
 
 pub follows : (w next : GatherOf) (takes counts : List ℕ) (short : Bool) (s after : Server) → IsAskingStage w.course.stage
@@ -109,7 +105,6 @@ follows w next takes counts short s after asks e = by w.course.stage refl asks
           stamp = ap (λ (all : Server × GatherOf × List ℕ). all.1.stamp) made;
           code = ap (λ (all : Server × GatherOf × List ℕ). all.1.course.geometry) made;
           aim = ap (λ (all : Server × GatherOf × List ℕ). all.1.course.aim) made;
-          fresh = ap (λ (all : Server × GatherOf × List ℕ). all.1.coded) made;
           servers =
               ap (λ (all : Server × GatherOf × List ℕ). length all.2) made
               ∙ taking_length (at_server short (step_asked w.course.geometry w.course.aim asking) s).1 (server_of w.course) takes;
@@ -134,15 +129,15 @@ pub of_takes : (book : BookOf) (target : ℕ) (looked : Option Seen) (made : Opt
 of_takes book target looked made takes is = ap (λ (o : Option (List ℕ)). unwrap_or o takes) (sym is.is_takes)
 
 -- what it keeps then
-pub keeps_on : (a : Inside) (w : GatherOf) (takes : List ℕ) (s : Stage) → IsOfCall a.token a.number (note_of_rebuild a.rebuild.now)
-    → (is : IsAsking a.opening a.rebuild.now.server a.seen (Some w) (Some takes)) (next : GatherOf) (counts : List ℕ) → Follows w next takes counts
+pub keeps_on : (a : Inside) (w : GatherOf) (takes : List ℕ) (s : Stage) → IsOfCall a.ticket a.number (note_of_rebuild a.rebuild.now)
+    → (is : IsAsking a.opening a.rebuild.now.server a.looked.value (Some w) (Some takes)) (next : GatherOf) (counts : List ℕ) → Follows w next takes counts
     → ending_at next.course.stage ≡ None → s ≡ (if has_bytes next.course.stage then stage.Confirming else stage.Gathering)
     → a.gather ≡ Some next → a.takes ≡ Some counts → a.due ≡ has_bytes next.course.stage → Keeps s a
 keeps_on a w takes s of_call is next counts goes none e gather_is takes_is due_is = by next.course.stage refl none e
   where
     its : IsGatherOf a.opening is.seen a.rebuild.now.server next
     its =
-        let now : IsGatherOf a.opening is.seen a.rebuild.now.server w = subst (λ (v : GatherOf). IsGatherOf a.opening is.seen a.rebuild.now.server v) (of_gather a.opening a.rebuild.now.server a.seen w (Some takes) is) is.its in
+        let now : IsGatherOf a.opening is.seen a.rebuild.now.server w = subst (λ (v : GatherOf). IsGatherOf a.opening is.seen a.rebuild.now.server v) (of_gather a.opening a.rebuild.now.server a.looked.value w (Some takes) is) is.its in
         record { code = goes.code ∙ now.code; aim = goes.aim ∙ now.aim; stamp = goes.stamp ∙ now.stamp }
 
     by : (at : CoreStage) → next.course.stage ≡ at → ending_at at ≡ None → s ≡ (if has_bytes at then stage.Confirming else stage.Gathering) → Keeps s a
@@ -160,7 +155,7 @@ keeps_on a w takes s of_call is next counts goes none e gather_is takes_is due_i
                 pinned = is.pinned;
                 its = its;
                 asks = subst IsAskingStage (sym at) tt;
-                servers = goes.servers ∙ ap (λ (l : List ℕ). length l) (sym (of_takes a.opening a.rebuild.now.server a.seen (Some w) takes is)) ∙ is.servers;
+                servers = goes.servers ∙ ap (λ (l : List ℕ). length l) (sym (of_takes a.opening a.rebuild.now.server a.looked.value (Some w) takes is)) ∙ is.servers;
               },
         )
     by CoreStage.HasBytes at none e =
@@ -174,7 +169,7 @@ keeps_on a w takes s of_call is next counts goes none e gather_is takes_is due_i
                 is_gather = gather_is;
                 pinned = is.pinned;
                 its = its;
-                ready = λ i. need_by (server_at next.course.geometry next.course.aim (at i)) (has_bytes (at i)) (goes.fresh i);
+                ready = λ i. need_by (server_at next.course.geometry next.course.aim (at i)) (has_bytes (at i));
               },
         )
     by (CoreStage.TooMany missing) at none e = cc

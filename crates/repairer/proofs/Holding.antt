@@ -68,7 +68,7 @@ starts (ActorToken.Seated seat) number note may = tt
 starts (ActorToken.InCall held) number note may = absurd may
 
 by_stage : (a : Inside) (at : Stage) → Keeps at a → HoldsItsPass (call_by at a)
-by_stage a stage.Start kept = seated (call_by stage.Start a) (starts a.token a.number (note_of_rebuild a.rebuild.now) kept.may)
+by_stage a stage.Start kept = seated (call_by stage.Start a) (starts a.ticket a.number (note_of_rebuild a.rebuild.now) kept.may)
 by_stage a stage.Gathering kept = in_pass (call_by stage.Gathering a) kept.0 (subst IsIn (sym (shown a stage.Gathering kept)) tt)
 by_stage a stage.Confirming kept = in_pass (call_by stage.Confirming a) kept.0 tt
 by_stage a stage.Installing kept = in_pass (call_by stage.Installing a) kept.0 tt

@@ -48,7 +48,7 @@ gathers c (State.Gather aim asking parts after) is e = subst (λ at. MayBy c (ac
 gathers c at is e = absurd (cc)
 
 by_stage : (a : Inside) → a.rebuild.now.server < chunk_count a.opening.geometry → (at : Stage) → Keeps at a → MayBy (call_by at a) (act_of (call_by at a))
-by_stage a below stage.Start kept = λ d shape. starts d a.token a.number (note_of_rebuild a.rebuild.now) kept.may
+by_stage a below stage.Start kept = λ d shape. starts d a.ticket a.number (note_of_rebuild a.rebuild.now) kept.may
 by_stage a below stage.Gathering kept = gathers (call_by stage.Gathering a) ((call_by stage.Gathering a).state.at) refl (shown a stage.Gathering kept)
 by_stage a below stage.Confirming kept = (on_pass (call_by stage.Confirming a) a.rebuild.now.server refl below kept.0).0
 by_stage a below stage.Installing kept = tt

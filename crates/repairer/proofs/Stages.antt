@@ -22,10 +22,10 @@ asking seen target at asks = absurd asks
 
 gathering : (a : Inside) (due : Bool) → GathersAt due a → stage_of (state_at stage.Gathering a) ≡ stage.Gathering
 gathering a true kept =
-    ap (λ (gather : Option GatherOf). stage_of (gathered_state (seen_at a.seen) a.rebuild.now.server (course_at a.opening.geometry (seen_at a.seen) a.rebuild.now.server gather).stage)) kept.none
+    ap (λ (gather : Option GatherOf). stage_of (gathered_state (seen_at a.looked.value) a.rebuild.now.server (course_at a.opening.geometry (seen_at a.looked.value) a.rebuild.now.server gather).stage)) kept.none
 gathering a false kept =
-    ap (λ (gather : Option GatherOf). stage_of (gathered_state (seen_at a.seen) a.rebuild.now.server (course_at a.opening.geometry (seen_at a.seen) a.rebuild.now.server gather).stage)) kept.is_gather
-    ∙ asking (seen_at a.seen) a.rebuild.now.server kept.gather.course.stage kept.asks
+    ap (λ (gather : Option GatherOf). stage_of (gathered_state (seen_at a.looked.value) a.rebuild.now.server (course_at a.opening.geometry (seen_at a.looked.value) a.rebuild.now.server gather).stage)) kept.is_gather
+    ∙ asking (seen_at a.looked.value) a.rebuild.now.server kept.gather.course.stage kept.asks
 
 -- callers see the stage
 pub shown : (a : Inside) (at : Stage) → Keeps at a → stage_of (state_at at a) ≡ at

@@ -17,11 +17,11 @@ takes_at servers (Some takes) = takes
 -- where it would stand at a stage
 abbrev pub state_at : Stage → Inside → State
 state_at at a =
-    state_by at (seen_at a.seen) a.rebuild.now.server (course_at a.opening.geometry (seen_at a.seen) a.rebuild.now.server a.gather).stage a.epoch (repair_outcome_of a.outcome)
+    state_by at (seen_at a.looked.value) a.rebuild.now.server (course_at a.opening.geometry (seen_at a.looked.value) a.rebuild.now.server a.gather).stage a.epoch (repair_outcome_of a.outcome)
 
 -- what callers would see at a stage
 abbrev pub call_by : Stage → Inside → CallOf
-call_by at a = call_at a.opening a.rebuild.now a.number a.token (state_at at a) (takes_at (chunk_count a.opening.geometry) a.takes) a.due a.coding a.step
+call_by at a = call_at a.opening a.rebuild.now a.number a.ticket (state_at at a) (takes_at (chunk_count a.opening.geometry) a.takes) a.due a.coding a.step
 
 -- what they see
 abbrev pub call_in : Inside → CallOf

@@ -6,7 +6,7 @@ use Rattle.store_core.specs.Note.{note_of_rebuild}
 use Rattle.store_core.specs.Agreement.{ActorToken}
 use Rattle.version_seal.specs.Entry.{BookOf}
 use Rattle.version_seal.specs.Sealed.{ChunkOf}
-use Rattle.stripe_dir.specs.declared.answers.Seen.{Seen}
+use Rattle.call_steps.specs.declared.seen.Seen.{Seen}
 use Rattle.gather_course.specs.Courses.{IsAskingStage}
 use Rattle.call_steps.specs.declared.need.Need.TheVariants as need
 use Rattle.gathering.specs.Gathers.{GatherOf, need_of}
@@ -20,9 +20,10 @@ pub record IsNew (token : ActorToken) (number : ℕ) (call : Rebuild) (gather : 
   pub ready : due ≡ false
 
 -- the stripe was seen, and the gathering isn't made yet
-pub record IsSeen (book : BookOf) (looked : Option Seen) (gather : Option GatherOf) (counts : Option (List ℕ)) : Type 0 where
+pub record IsSeen (book : BookOf) (looked held : Option Seen) (gather : Option GatherOf) (counts : Option (List ℕ)) : Type 0 where
   pub seen : Seen
   pub is_seen : looked ≡ Some seen
+  pub is_held : held ≡ Some seen
   pub pinned : IsPinned book seen
   pub none : gather ≡ None
   pub nothing : counts ≡ None

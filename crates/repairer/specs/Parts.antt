@@ -8,7 +8,7 @@ use Rattle.store_core.specs.Tokens.{MayLook}
 use Rattle.store_resume.specs.Stage.{Aim}
 use Rattle.version_seal.specs.Entry.{BookOf}
 use Rattle.version_seal.specs.Sealed.{ChunkOf}
-use Rattle.stripe_dir.specs.declared.answers.Seen.{Seen}
+use Rattle.call_steps.specs.declared.seen.Seen.{Seen}
 use Rattle.stripe_dir.specs.Answers.{seen_in}
 use Rattle.gathering.specs.Gathers.{GatherOf}
 
@@ -32,6 +32,12 @@ pub record IsGatherOf (book : BookOf) (seen : Seen) (target : ℕ) (gather : Gat
   pub code : gather.course.geometry ≡ book.geometry
   pub aim : gather.course.aim ≡ Aim.Chunk (seen_in seen) target
   pub stamp : gather.stamp ≡ seen.stamp
+
+-- the chunk that is made of it
+pub record IsChunkMade (book : BookOf) (gather : GatherOf) (target : ℕ) (chunk : ChunkOf) : Type 0 where
+  pub stamp : chunk.stamp ≡ gather.stamp
+  pub server : chunk.server ≡ target
+  pub code : chunk.geometry ≡ book.geometry
 
 -- its chunk
 pub record IsChunkFor (book : BookOf) (seen : Seen) (target : ℕ) (chunk : ChunkOf) : Type 0 where

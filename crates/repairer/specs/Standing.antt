@@ -6,7 +6,7 @@ use Rattle.store_core.specs.Act.{Outcome as CoreOutcome}
 use Rattle.store_resume.specs.Stage.{Aim, Stage as CoreStage}
 use Rattle.store_resume.specs.State.{Sequel, State}
 use Rattle.store_resume.specs.States.{stage_state}
-use Rattle.stripe_dir.specs.declared.answers.Seen.{Seen}
+use Rattle.call_steps.specs.declared.seen.Seen.{Seen}
 use Rattle.stripe_dir.specs.Answers.{seen_in}
 use Rattle.gather_course.specs.Courses.{CourseOf, new_course}
 use Rattle.gathering.specs.Gathers.{GatherOf}

@@ -1,3 +1,4 @@
+//! A rebuild's steps at the directory.
 ghost use Rattle.std.specs.Prelude.{◌≡◌};
 ghost use Rattle.store_core.specs.Agreement.{Agrees};
 ghost use Rattle.store_resume.specs.State.{State};
@@ -11,6 +12,7 @@ use crate::repair_call::RepairCall;
 use crate::stage::Stage;
 use call_steps::{Need, RepairOutcome};
 use std::mem;
+use std::snapshot::Snapshot;
 use stripe_dir::{Confirmed, Directory, Ended, RepairLook};
 
 // How a call ends whose pass was to be ended with this outcome.
@@ -41,13 +43,14 @@ impl<'a> RepairCall<'a> {
         d.keeps();
         let rebuild = self.rebuild;
         let look = self
-            .token
+            .ticket
             .look_repair(d, self.number, &rebuild.name, rebuild.stripe);
         self.coding = false;
         self.step = false;
         match look {
             Ok(RepairLook::Pinned { seen, .. }) => {
                 self.seen = Some(seen);
+                self.looked = Snapshot::of(&self.seen);
                 self.due = true;
                 self.stage = Stage::Gathering;
             }
@@ -75,7 +78,7 @@ impl<'a> RepairCall<'a> {
         ensures book { d.new.book ≡ d.old.book }
         ensures stamps { d.new.stamps ≡ d.old.stamps }
     {
-        let answer = self.token.confirm(d, self.number);
+        let answer = self.ticket.confirm(d, self.number);
         self.coding = false;
         self.step = false;
         match answer {
@@ -105,7 +108,7 @@ impl<'a> RepairCall<'a> {
         // That the directory is of the book's code is needed below.
         d.keeps();
         let server = self.rebuild.server;
-        let answer = self.token.repaired(d, self.number, server, self.epoch);
+        let answer = self.ticket.repaired(d, self.number, server, self.epoch);
         self.coding = false;
         self.step = false;
         self.outcome = ended_with(answer, RepairOutcome::Rebuilt);
@@ -122,7 +125,7 @@ impl<'a> RepairCall<'a> {
         ensures book { d.new.book ≡ d.old.book }
         ensures stamps { d.new.stamps ≡ d.old.stamps }
     {
-        let answer = self.token.end(d, self.number);
+        let answer = self.ticket.end(d, self.number);
         self.coding = false;
         self.step = false;
         let outcome = mem::replace(&mut self.outcome, RepairOutcome::NoMemory);

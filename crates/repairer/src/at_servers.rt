@@ -1,3 +1,4 @@
+//! A rebuild's steps at servers: the questions of its gathering, and the install of its chunk.
 ghost use Rattle.std.specs.Prelude.{◌≡◌, List, Some, if◌then◌else◌};
 ghost use Rattle.store_core.specs.Gathering.{Part};
 ghost use Rattle.store_resume.specs.State.{Sequel, State};
@@ -58,10 +59,9 @@ impl<'a> RepairCall<'a> {
         let (Some(mut gather), Some(mut takes)) = (self.gather.take(), self.takes.take()) else {
             unreachable!()
         };
-        gather.on_server(s, &mut takes);
+        self.step = gather.on_server(s, &mut takes).is_err();
         self.takes = Some(takes);
         self.coding = false;
-        self.step = gather.step_was_short();
         let ready = gather.course().has_bytes();
         self.due = ready;
         match gather.course().ending() {

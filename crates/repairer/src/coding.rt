@@ -1,18 +1,19 @@
-ghost use Rattle.std.specs.Prelude.{◌≡◌, ◌<◌, true, false, length, replicate, IfOk, IfSome};
+//! What a rebuild does between two steps: it makes its gathering, and later its chunk.
+ghost use Rattle.std.specs.Prelude.{◌≡◌, ◌<◌, Some, length, replicate, IfOk};
 ghost use Rattle.clay_grid.specs.Shape.{chunk_count};
 ghost use Rattle.store_resume.specs.Stage.{Aim};
 ghost use Rattle.stripe_dir.specs.Answers.{seen_in};
 ghost use Rattle.gathering.specs.Gathers.{new_gather, need_of as need_of_gather};
 ghost use Rattle.call_steps.specs.Steps.{need_of, coded};
-ghost use Rattle.version_seal.specs.Entry.{BookOf};
-ghost use Rattle.repairer.specs.Parts.{IsPinned, IsGatherOf, IsChunkFor};
+ghost use Rattle.gather_course.specs.Aims.{target_of};
+ghost use Rattle.repairer.specs.Parts.{IsPinned, IsChunkMade};
 ghost use Rattle.repairer.specs.Standing.{stage_of};
 
 use crate::repair_call::RepairCall;
 use crate::stage::Stage;
 use call_steps::{Need, RepairOutcome};
 use clay_repair::Coder;
-use gathering::{Gather, Pinned};
+use gathering::Gather;
 use read_ledger::Takes;
 use std::alloc::AllocError;
 use std::thread::Threads;
@@ -20,44 +21,37 @@ use stripe_dir::Seen;
 use version_seal::{Opening, SealedChunk};
 
 // The gathering of the server's chunk, and the takes of its call.
-fn gathering_of(opening: &Opening, seen: &Seen, server: u32) -> Result<(Gather, Takes), AllocError>
-    requires pinned { IsPinned opening.now seen.now }
+fn gathering_of(opening: &Opening, seen: Seen, server: u32) -> Result<(Gather, Takes), AllocError>
+    requires pinned { IsPinned opening.now seen }
     requires below { server < chunk_count opening.now.geometry }
-    ensures gather { IfOk result (λ made. made.0 ≡ new_gather seen.now.stamp opening.now.geometry (Aim.Chunk (seen_in seen.now) server)) }
+    ensures gather { IfOk result (λ made. made.0 ≡ new_gather seen.stamp opening.now.geometry (Aim.Chunk (seen_in seen) server)) }
     ensures takes { IfOk result (λ made. made.1 ≡ replicate (chunk_count opening.now.geometry) 0) }
 {
     let alloc = *seen.placed.allocator();
     let geometry = opening.geometry();
-    let pinned = Pinned {
-        stripe: seen.stripe,
-        stamp: seen.stamp.copy(),
-        placed: Vec::from_slice(alloc, &seen.placed)?,
-    };
-    let gather = Gather::chunk(alloc, geometry, pinned, server)?;
+    let gather = Gather::chunk(alloc, geometry, seen, server)?;
     let takes = Takes::new(alloc, geometry.n())?;
     Ok((gather, takes))
 }
 
 // The server's chunk, of a gathering that has all its parts.
+#[tactic(auto, using(crate::proofs::Beginning::gives_chunk))]
 fn chunk_of<R: Threads + Sync, C: Coder>(
     rt: &R,
     coder: &C,
-    mut gather: Gather,
+    gather: Gather,
     opening: &Opening,
-    seen: &Seen,
     server: u32,
 ) -> Result<SealedChunk, AllocError>
-    requires its { IsGatherOf opening.now seen.now server gather }
+    requires code { gather.course.geometry ≡ opening.now.geometry }
+    requires target { target_of gather.course.aim ≡ Some server }
     requires ready { need_of_gather gather ≡ Need.Coder }
     requires below { server < chunk_count opening.now.geometry }
-    ensures { IfOk result (IsChunkFor opening.now seen.now server) }
+    ensures { IfOk result (IsChunkMade opening.now gather server) }
 {
-    let mut bytes = Vec::new(*seen.placed.allocator());
-    gather.on_coder(rt, coder, &mut bytes);
-    if gather.coding_was_short() {
-        return Err(AllocError);
-    }
-    let stamp = seen.stamp.copy();
+    let mut bytes = Vec::new(gather.allocator());
+    let stamp = gather.stamp().copy();
+    gather.on_coder(rt, coder, &mut bytes)?;
     Ok(SealedChunk::new(opening.geometry(), stamp, server, bytes))
 }
 
@@ -68,7 +62,7 @@ impl<'a> RepairCall<'a> {
         requires need { need_of self.old ≡ Need.Coder }
         ensures { self.new ≡ coded self.new.coding self.old }
     {
-        let Some(seen) = &self.seen else {
+        let Some(seen) = self.seen.take() else {
             unreachable!()
         };
         let made = gathering_of(&self.opening, seen, self.rebuild.server);
@@ -93,10 +87,10 @@ impl<'a> RepairCall<'a> {
         requires need { need_of self.old ≡ Need.Coder }
         ensures { self.new ≡ coded self.new.coding self.old }
     {
-        let (Some(gather), Some(seen)) = (self.gather.take(), &self.seen) else {
+        let Some(gather) = self.gather.take() else {
             unreachable!()
         };
-        let made = chunk_of(rt, coder, gather, &self.opening, seen, self.rebuild.server);
+        let made = chunk_of(rt, coder, gather, &self.opening, self.rebuild.server);
         self.due = false;
         match made {
             Ok(chunk) => {

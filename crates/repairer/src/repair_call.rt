@@ -1,3 +1,4 @@
+//! A rebuild as a machine of steps.
 ghost use Rattle.std.specs.Prelude.{◌≡◌, ◌<◌, ℕ, option_map};
 ghost use Rattle.clay_grid.specs.Shape.{chunk_count};
 ghost use Rattle.store_core.specs.Act.{DirectoryStep};
@@ -20,6 +21,7 @@ use clay_repair::Coder;
 use gathering::Gather;
 use read_ledger::Takes;
 use std::marker::Model;
+use std::snapshot::Snapshot;
 use std::thread::Threads;
 use store_map::Rebuild;
 use stripe_dir::{Directory, Seat, Seen, Ticket};
@@ -32,12 +34,14 @@ use version_seal::{Opening, SealedChunk};
 /// [`RepairOutcome::NoMemory`].
 pub struct RepairCall<'a> {
     pub(crate) stage: Stage,
-    pub(crate) token: Ticket,
+    pub(crate) ticket: Ticket,
     pub(crate) rebuild: &'a Rebuild,
     pub(crate) number: u32,
     pub(crate) opening: Opening,
-    // the pinned stripe, from the look on
+    // the pinned stripe, from the look until its gathering is made
     pub(crate) seen: Option<Seen>,
+    // what the look gave, from then on. It is for contracts alone, and has no bytes
+    pub(crate) looked: Snapshot<Option<Seen>>,
     pub(crate) gather: Option<Gather>,
     pub(crate) chunk: Option<SealedChunk>,
     pub(crate) takes: Option<Takes>,
@@ -75,11 +79,12 @@ impl<'a> RepairCall<'a> {
     {
         RepairCall {
             stage: Stage::Start,
-            token: Ticket::new(seat),
+            ticket: Ticket::new(seat),
             rebuild: call,
             number,
             opening,
             seen: None,
+            looked: Snapshot::of(&None),
             gather: None,
             chunk: None,
             takes: None,
@@ -135,11 +140,12 @@ impl<'a> RepairCall<'a> {
     {
         let RepairCall {
             stage: _,
-            token,
+            ticket,
             rebuild: _,
             number: _,
             opening: _,
             seen: _,
+            looked: _,
             gather: _,
             chunk: _,
             takes,
@@ -149,7 +155,7 @@ impl<'a> RepairCall<'a> {
             coding: _,
             step: _,
         } = self;
-        (token.into_seat(), outcome, some_taken(takes))
+        (ticket.into_seat(), outcome, some_taken(takes))
     }
 
     /// Gives the call up where it stands, and tells what it took from each server, or none where it took
@@ -159,11 +165,12 @@ impl<'a> RepairCall<'a> {
     {
         let RepairCall {
             stage: _,
-            token,
+            ticket,
             rebuild: _,
             number: _,
             opening: _,
             seen: _,
+            looked: _,
             gather: _,
             chunk: _,
             takes,
@@ -173,7 +180,7 @@ impl<'a> RepairCall<'a> {
             coding: _,
             step: _,
         } = self;
-        token.leave();
+        ticket.leave();
         some_taken(takes)
     }
 

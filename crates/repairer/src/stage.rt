@@ -1,3 +1,5 @@
+//! The stages of a rebuild, from its look to its end.
+
 /// Where a rebuild stands.
 #[derive(Clone, Copy, PartialEq, Eq, Debug)]
 pub(crate) enum Stage {

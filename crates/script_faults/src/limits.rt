@@ -169,7 +169,7 @@ fn too_many_bytes(rt: HostRuntime) -> Result<(), Fail> {
     )
 }
 
-/// Holds the text, which misses its end, against that fault in its last line.
+// Holds the text, which misses its end, against that fault in its last line.
 fn misses_its_end(rt: &(impl Abort + AllocGlobal), text: &[u8], line: u32) -> Result<(), Fail> {
     let wanted = ScriptFault {
         line,

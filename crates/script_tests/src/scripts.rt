@@ -8,7 +8,7 @@ use store_map::{Call, Content, Name, Rebuild, Script, Token};
 use text_tables::faults::same;
 use text_tables::scripts::{begins_with, repeated, script_of, written};
 
-/// A script of larger data, with 201 lines in its schedule.
+// A script of larger data, with 201 lines in its schedule.
 fn realistic(alloc: Global) -> Result<Vec<u8>, Fail> {
     let mut text = repeated(
         alloc,
@@ -57,7 +57,7 @@ fn writes_larger_data(rt: HostRuntime) -> Result<(), Fail> {
     writes_back(&rt, &text)
 }
 
-/// The script of larger data.
+// The script of larger data.
 fn realistic_script(alloc: Global) -> Result<Script, Fail> {
     let text = realistic(alloc)?;
     script_of(read_script(alloc, &text))
@@ -166,12 +166,12 @@ fn reads_calls(rt: HostRuntime) -> Result<(), Fail> {
     Ok(())
 }
 
-/// How many calls a client has.
+// How many calls a client has.
 fn calls_of(script: &Script, client: usize) -> Option<usize> {
     Some(script.clients.as_slice().get(client)?.calls.len())
 }
 
-/// How many clients there are, how many calls each of the first three has, and how many repairers.
+// How many clients there are, how many calls each of the first three has, and how many repairers.
 fn counts(script: &Script) -> [Option<usize>; 5] {
     [
         Some(script.clients.len()),
@@ -211,7 +211,7 @@ fn step_at(script: &Script, place: usize) -> Option<Token> {
     script.schedule.as_slice().get(place).copied()
 }
 
-/// The steps before and behind each change of the realistic schedule.
+// The steps before and behind each change of the realistic schedule.
 fn steps_of(script: &Script) -> [Option<Token>; 6] {
     [
         step_at(script, 98),
@@ -242,7 +242,7 @@ fn reads_the_schedule(rt: HostRuntime) -> Result<(), Fail> {
 const LIMITED: &[u8] =
     b"clay 1\ncode 2 2 1\nclient\nput a hex:00fe\nleave 7\ndelete a\nrepairer\nleave 0\nrebuild a 4 1\nschedule\nr 0\ns\nreap c 0\nreap r 0\nend\n";
 
-/// The step limits of the first client and of the first repairer.
+// The step limits of the first client and of the first repairer.
 fn limits_of(script: &Script) -> Option<[Option<u32>; 2]> {
     let client = script.clients.as_slice().first()?;
     let repairer = script.repairers.as_slice().first()?;

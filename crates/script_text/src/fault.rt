@@ -1,3 +1,4 @@
+//! The first fault of a text: its line and its kind.
 ghost use Rattle.std.specs.Prelude.{◌≡◌};
 ghost use Rattle.script_text.specs.FirstFault.{fault_at};
 

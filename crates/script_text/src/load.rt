@@ -1,3 +1,4 @@
+//! What all calls of a script ask for together, and whether they may.
 ghost use Rattle.std.specs.Prelude.{◌≡◌, ◌+◌, ◌*◌, ◌<◌, ◌≤◌, ◌^◌, ◌↔◌, IsTrue};
 ghost use Rattle.store_map.specs.Limits.{stripes_met, stripes_touched, bytes_asked};
 
@@ -10,7 +11,7 @@ pub struct Load {
     pub read_bytes: u64,
 }
 
-/// The stripes of so many bytes that meet the bytes from an offset on.
+// The stripes of so many bytes that meet the bytes from an offset on.
 fn count_stripes(stripe_len: u64, offset: u32, length: u32) -> u64
     requires { 0 < stripe_len }
     ensures value { result ≡ stripes_met stripe_len offset length }
@@ -24,7 +25,7 @@ fn count_stripes(stripe_len: u64, offset: u32, length: u32) -> u64
     last / stripe_len - first / stripe_len + 1
 }
 
-/// The stripes that a call writes.
+// The stripes that a call writes.
 fn stripes_of(stripe_len: u64, call: &Call) -> u64
     requires { 0 < stripe_len }
     ensures value { result ≡ stripes_touched stripe_len call.now }
@@ -41,7 +42,7 @@ fn stripes_of(stripe_len: u64, call: &Call) -> u64
     }
 }
 
-/// The bytes that a call asks for, where an object has at most `size` bytes.
+// The bytes that a call asks for, where an object has at most `size` bytes.
 fn bytes_of(size: u32, call: &Call) -> u64
     ensures value { result ≡ bytes_asked size call.now }
     ensures bound { result < 2 ^ 32 }

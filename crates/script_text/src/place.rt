@@ -1,3 +1,4 @@
+//! Which line may stand behind which in a script, by its first word.
 ghost use Rattle.std.specs.Prelude.{◌≡◌};
 ghost use Rattle.script_text.specs.Place.{is_call_word, is_step_word, frame_named, kind_named, next_place, next_block, next_repairer};
 
@@ -37,7 +38,7 @@ pub enum Place {
     End,
 }
 
-/// Whether a call of a client begins with this word.
+// Whether a call of a client begins with this word.
 fn is_call_word(word: &[u8]) -> bool
     ensures { result ≡ is_call_word word.now }
 {
@@ -49,7 +50,7 @@ fn is_call_word(word: &[u8]) -> bool
         || word == b"delete".as_slice()
 }
 
-/// Whether a line of the schedule begins with this word.
+// Whether a line of the schedule begins with this word.
 fn is_step_word(word: &[u8]) -> bool
     ensures { result ≡ is_step_word word.now }
 {
@@ -63,7 +64,7 @@ fn is_step_word(word: &[u8]) -> bool
         || word == b"drain".as_slice()
 }
 
-/// The kind of the lines that begin with this word and stand outside a block or begin one.
+// The kind of the lines that begin with this word and stand outside a block or begin one.
 fn frame_named(word: &[u8]) -> Option<LineKind>
     ensures { result ≡ frame_named word.now }
 {
@@ -149,7 +150,7 @@ pub fn next_place(place: Place, kind: LineKind, steps: u32) -> Option<Place>
     }
 }
 
-/// The place behind a line that may stand where a repairer may begin.
+// The place behind a line that may stand where a repairer may begin.
 fn next_repairer(kind: LineKind) -> Option<Place>
     ensures { result ≡ next_repairer kind }
 {
@@ -160,7 +161,7 @@ fn next_repairer(kind: LineKind) -> Option<Place>
     }
 }
 
-/// The place behind a line that may stand where a client may begin.
+// The place behind a line that may stand where a client may begin.
 fn next_block(kind: LineKind) -> Option<Place>
     ensures { result ≡ next_block kind }
 {

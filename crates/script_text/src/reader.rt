@@ -1,3 +1,4 @@
+//! A script that is read line by line, behind its code line.
 ghost use Rattle.std.specs.Prelude.{◌≡◌, ◌<◌, ◌↔◌, IsSome, IsTrue, IfSome, vec_len};
 ghost use Rattle.clay_grid.specs.Shape.{chunk_count};
 ghost use Rattle.script_text.specs.Place.{next_place};
@@ -93,7 +94,7 @@ impl Reader {
         }
     }
 
-    /// Goes on by the line of the greatest length of an object.
+    // Goes on by the line of the greatest length of an object.
     fn take_size(&mut self, line: &[u8]) -> Result<(), FaultKind>
         requires sound { IsSound self.old }
         requires place { IsSome (next_place self.old.place LineKind.Size 0) }
@@ -109,7 +110,7 @@ impl Reader {
         Ok(())
     }
 
-    /// Goes on by the line of the number of tries.
+    // Goes on by the line of the number of tries.
     fn take_tries(&mut self, line: &[u8]) -> Result<(), FaultKind>
         requires sound { IsSound self.old }
         requires place { IsSome (next_place self.old.place LineKind.Tries 0) }
@@ -125,7 +126,7 @@ impl Reader {
         Ok(())
     }
 
-    /// Goes on by the first line of a client's block.
+    // Goes on by the first line of a client's block.
     fn take_client(&mut self, alloc: Global, line: &[u8]) -> Result<(), FaultKind>
         requires sound { IsSound self.old }
         requires place { IsSome (next_place self.old.place LineKind.Client 0) }
@@ -149,7 +150,7 @@ impl Reader {
         Ok(())
     }
 
-    /// Goes on by the first line of a repairer's block.
+    // Goes on by the first line of a repairer's block.
     fn take_repairer(&mut self, alloc: Global, line: &[u8]) -> Result<(), FaultKind>
         requires sound { IsSound self.old }
         requires place { IsSome (next_place self.old.place LineKind.Repairer 0) }
@@ -173,7 +174,7 @@ impl Reader {
         Ok(())
     }
 
-    /// Goes on by the step limit of the call that stands next.
+    // Goes on by the step limit of the call that stands next.
     fn take_leave(&mut self, line: &[u8]) -> Result<(), FaultKind>
         requires sound { IsSound self.old }
         requires place { IsSome (next_place self.old.place LineKind.Leave 0) }
@@ -188,7 +189,7 @@ impl Reader {
         Ok(())
     }
 
-    /// Goes on by the line before the schedule's.
+    // Goes on by the line before the schedule's.
     fn take_schedule(&mut self, line: &[u8]) -> Result<(), FaultKind>
         requires sound { IsSound self.old }
         requires place { IsSome (next_place self.old.place LineKind.Schedule 0) }
@@ -202,7 +203,7 @@ impl Reader {
         Ok(())
     }
 
-    /// Goes on by the last line.
+    // Goes on by the last line.
     fn take_end(&mut self, line: &[u8]) -> Result<(), FaultKind>
         requires sound { IsSound self.old }
         requires place { IsSome (next_place self.old.place LineKind.End 0) }
@@ -216,7 +217,7 @@ impl Reader {
         Ok(())
     }
 
-    /// Whether the script so far has the actor that a step names.
+    // Whether the script so far has the actor that a step names.
     fn has_actor(&self, token: Token) -> bool
         ensures { IsTrue result ↔ NamesActorOf (script_of self.now) token }
     {
@@ -231,7 +232,7 @@ impl Reader {
         }
     }
 
-    /// Whether the code has the server that a step names.
+    // Whether the code has the server that a step names.
     fn has_server(&self, token: Token) -> bool
         ensures { IsTrue result ↔
             IfSome (server_of_step token) (λ server. server < chunk_count self.now.geometry) }
@@ -249,7 +250,7 @@ impl Reader {
         }
     }
 
-    /// Goes on by a line of the schedule.
+    // Goes on by a line of the schedule.
     fn take_step(&mut self, line: &[u8]) -> Result<(), FaultKind>
         requires sound { IsSound self.old }
         requires place { IsSome (next_place self.old.place LineKind.Step 0) }
@@ -272,7 +273,7 @@ impl Reader {
         Ok(())
     }
 
-    /// Goes on by a client's call.
+    // Goes on by a client's call.
     fn take_call(&mut self, alloc: Global, line: &[u8]) -> Result<(), FaultKind>
         requires sound { IsSound self.old }
         requires place { IsSome (next_place self.old.place LineKind.Call 0) }
@@ -296,7 +297,7 @@ impl Reader {
         Ok(())
     }
 
-    /// Goes on by a repairer's call.
+    // Goes on by a repairer's call.
     fn take_rebuild(&mut self, alloc: Global, line: &[u8]) -> Result<(), FaultKind>
         requires sound { IsSound self.old }
         requires place { IsSome (next_place self.old.place LineKind.Rebuild 0) }
@@ -345,7 +346,7 @@ impl Reader {
     }
 }
 
-/// A line up to its first space.
+// A line up to its first space.
 fn first_word(line: &[u8]) -> &[u8]
     ensures { IsFirstWord line.now result.now }
 {
@@ -355,7 +356,7 @@ fn first_word(line: &[u8]) -> &[u8]
     }
 }
 
-/// The step limit of the call that stands next.
+// The step limit of the call that stands next.
 fn pending(place: Place) -> Option<u32>
     ensures { result ≡ pending place }
 {
@@ -365,7 +366,7 @@ fn pending(place: Place) -> Option<u32>
     }
 }
 
-/// Adds a call to the last of the blocks, with its step limit.
+// Adds a call to the last of the blocks, with its step limit.
 fn push_call(clients: &mut Vec<ClientPart>, call: Call, leave: Option<u32>) -> Result<(), FaultKind>
     requires { 0 < vec_len clients.old }
     ensures { PushesCall clients.old.items call leave result clients.new.items }
@@ -386,7 +387,7 @@ fn push_call(clients: &mut Vec<ClientPart>, call: Call, leave: Option<u32>) -> R
     Ok(())
 }
 
-/// Adds a rebuild to the last of the blocks, with its step limit.
+// Adds a rebuild to the last of the blocks, with its step limit.
 fn push_rebuild(
     repairers: &mut Vec<RepairPart>,
     rebuild: Rebuild,

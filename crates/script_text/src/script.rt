@@ -1,3 +1,4 @@
+//! Reading a script that is a whole text, or the front of one.
 ghost use Rattle.std.specs.Prelude.{◌≡◌, ◌≢◌, ◌<◌, ◌≤◌, ◌^◌, ℕ, [], ◌∷◌, ◌++◌, drop, length, IfOk, IfErr, IfSome, None};
 ghost use Rattle.std.specs.List.{flat_map};
 ghost use Rattle.clay_grid.specs.Limits.{IsGeometry};
@@ -18,7 +19,7 @@ use store_map::Script;
 
 /// What the first two lines say, and the text behind them.
 #[derive(Clone, Copy)]
-struct Opening<'a> {
+struct FirstLines<'a> {
     form: u32,
     geometry: Geometry,
     rest: &'a [u8],
@@ -32,7 +33,7 @@ struct ScriptRead {
     length: usize,
 }
 
-/// The form of a script with this first line.
+// The form of a script with this first line.
 fn form_of(line: &[u8]) -> Option<u32>
     ensures some { IfSome result (λ form. IsForm form × (line.now ≡ spaced (line_words (ClayLine form)))) }
     ensures none { result ≡ None → (form : ℕ) → IsForm form → line.now ≢ spaced (line_words (ClayLine form)) }
@@ -46,8 +47,8 @@ fn form_of(line: &[u8]) -> Option<u32>
     None
 }
 
-/// Reads the first two lines.
-fn read_opening(bytes: &[u8]) -> Result<Opening<'_>, ScriptFault>
+// Reads the first two lines.
+fn read_first_lines(bytes: &[u8]) -> Result<FirstLines<'_>, ScriptFault>
     ensures form { IfOk result (λ opening. IsForm opening.form) }
     ensures geometry { IfOk result (λ opening. IsGeometry opening.geometry) }
     ensures spelled { IfOk result (λ opening.
@@ -64,7 +65,7 @@ fn read_opening(bytes: &[u8]) -> Result<Opening<'_>, ScriptFault>
         return Err(ScriptFault::at(2, FaultKind::MissingEnd));
     };
     match read_code(second) {
-        Ok(geometry) => Ok(Opening {
+        Ok(geometry) => Ok(FirstLines {
             form,
             geometry,
             rest,
@@ -73,7 +74,7 @@ fn read_opening(bytes: &[u8]) -> Result<Opening<'_>, ScriptFault>
     }
 }
 
-/// The script that the text up to the first line `end` spells, read line by line.
+// The script that the text up to the first line `end` spells, read line by line.
 fn read_to_end(alloc: Global, bytes: &[u8]) -> Result<ScriptRead, ScriptFault>
     ensures values { IfOk result (λ read. IsScript read.script) }
     ensures valid { IfOk result (λ read. IsValid read.script) }
@@ -84,7 +85,7 @@ fn read_to_end(alloc: Global, bytes: &[u8]) -> Result<ScriptRead, ScriptFault>
         bytes.now ≡ spelling read.script ++ drop read.length bytes.now) }
     ensures fault { IfErr result (OrMemory (IsFrontFault bytes.now)) }
 {
-    let opening = match read_opening(bytes) {
+    let opening = match read_first_lines(bytes) {
         Ok(opening) => opening,
         Err(fault) => return Err(fault),
     };

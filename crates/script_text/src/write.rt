@@ -1,3 +1,4 @@
+//! Writing a script as the one text that spells it.
 ghost use Rattle.std.specs.Prelude.{◌≡◌, ◌++◌, ◌∷◌, [], codes, map, IfOk, OnOk, Option};
 ghost use Rattle.std.specs.List.{flat_map};
 ghost use Rattle.line_grammar.specs.Line.{CallLine, RebuildLine, StepLine, LeaveLine, SizeLine, TriesLine, CodeLine, line_text};
@@ -12,7 +13,7 @@ use itoa::Buffer;
 use std::alloc::{AllocError, Global};
 use store_map::{Call, ClientPart, Content, Rebuild, RepairPart, Script, Token};
 
-/// Appends a number's decimal digits.
+// Appends a number's decimal digits.
 fn push_number(text: &mut Vec<u8>, number: u32) -> Result<(), AllocError>
     ensures { OnOk result (text.new.items ≡ text.old.items ++ number_word number) }
 {
@@ -20,7 +21,7 @@ fn push_number(text: &mut Vec<u8>, number: u32) -> Result<(), AllocError>
     text.extend_from_slice(buffer.format(number).as_bytes())
 }
 
-/// Appends the bytes in lower-case hexadecimal digits.
+// Appends the bytes in lower-case hexadecimal digits.
 fn push_digits(alloc: Global, text: &mut Vec<u8>, bytes: &[u8]) -> Result<(), AllocError>
     ensures { OnOk result (text.new.items ≡ text.old.items ++ encode_lower bytes.now) }
 {
@@ -28,7 +29,7 @@ fn push_digits(alloc: Global, text: &mut Vec<u8>, bytes: &[u8]) -> Result<(), Al
     text.extend_from_slice(digits.as_bytes())
 }
 
-/// Appends a word and a number behind a space, and ends the line.
+// Appends a word and a number behind a space, and ends the line.
 fn push_numbered(text: &mut Vec<u8>, word: &[u8], number: u32) -> Result<(), AllocError>
     ensures { OnOk result
         (text.new.items ≡ text.old.items ++ (spaced (word.now ∷ number_word number ∷ []) ++ 10 ∷ [])) }
@@ -40,7 +41,7 @@ fn push_numbered(text: &mut Vec<u8>, word: &[u8], number: u32) -> Result<(), All
     Ok(())
 }
 
-/// Appends the word of a call's data.
+// Appends the word of a call's data.
 fn push_content(alloc: Global, text: &mut Vec<u8>, content: &Content) -> Result<(), AllocError>
     ensures { OnOk result (text.new.items ≡ text.old.items ++ content_word content.now) }
 {
@@ -64,7 +65,7 @@ fn push_content(alloc: Global, text: &mut Vec<u8>, content: &Content) -> Result<
     }
 }
 
-/// Appends the words of a call, without a line feed.
+// Appends the words of a call, without a line feed.
 fn push_call_words(alloc: Global, text: &mut Vec<u8>, call: &Call) -> Result<(), AllocError>
     ensures { OnOk result (text.new.items ≡ text.old.items ++ spaced (call_words call.now)) }
 {
@@ -114,7 +115,7 @@ fn push_call_words(alloc: Global, text: &mut Vec<u8>, call: &Call) -> Result<(),
     }
 }
 
-/// Appends the line of a call.
+// Appends the line of a call.
 fn push_call(alloc: Global, text: &mut Vec<u8>, call: &Call) -> Result<(), AllocError>
     ensures { OnOk result (text.new.items ≡ text.old.items ++ line_text (CallLine call.now)) }
 {
@@ -123,7 +124,7 @@ fn push_call(alloc: Global, text: &mut Vec<u8>, call: &Call) -> Result<(), Alloc
     Ok(())
 }
 
-/// Appends the line of a rebuild.
+// Appends the line of a rebuild.
 fn push_rebuild(text: &mut Vec<u8>, rebuild: &Rebuild) -> Result<(), AllocError>
     ensures { OnOk result (text.new.items ≡ text.old.items ++ line_text (RebuildLine rebuild.now)) }
 {
@@ -137,7 +138,7 @@ fn push_rebuild(text: &mut Vec<u8>, rebuild: &Rebuild) -> Result<(), AllocError>
     Ok(())
 }
 
-/// Appends a line of the schedule.
+// Appends a line of the schedule.
 fn push_token(text: &mut Vec<u8>, token: Token) -> Result<(), AllocError>
     ensures { OnOk result (text.new.items ≡ text.old.items ++ line_text (StepLine token)) }
 {
@@ -154,7 +155,7 @@ fn push_token(text: &mut Vec<u8>, token: Token) -> Result<(), AllocError>
     }
 }
 
-/// Appends the code line.
+// Appends the code line.
 fn push_code(text: &mut Vec<u8>, geometry: Geometry) -> Result<(), AllocError>
     ensures { OnOk result (text.new.items ≡ text.old.items ++ line_text (CodeLine geometry)) }
 {
@@ -168,7 +169,7 @@ fn push_code(text: &mut Vec<u8>, geometry: Geometry) -> Result<(), AllocError>
     Ok(())
 }
 
-/// Appends the line of the greatest length of an object, if there is one.
+// Appends the line of the greatest length of an object, if there is one.
 fn push_size(text: &mut Vec<u8>, size: Option<u32>) -> Result<(), AllocError>
     ensures { OnOk result
         (text.new.items ≡ text.old.items ++ flat_map line_text (optional_line SizeLine size)) }
@@ -179,7 +180,7 @@ fn push_size(text: &mut Vec<u8>, size: Option<u32>) -> Result<(), AllocError>
     }
 }
 
-/// Appends the line of the number of tries, if there is one.
+// Appends the line of the number of tries, if there is one.
 fn push_tries(text: &mut Vec<u8>, tries: Option<u32>) -> Result<(), AllocError>
     ensures { OnOk result
         (text.new.items ≡ text.old.items ++ flat_map line_text (optional_line TriesLine tries)) }
@@ -190,7 +191,7 @@ fn push_tries(text: &mut Vec<u8>, tries: Option<u32>) -> Result<(), AllocError>
     }
 }
 
-/// Appends the line of a step limit, if there is one.
+// Appends the line of a step limit, if there is one.
 fn push_leave(text: &mut Vec<u8>, steps: Option<u32>) -> Result<(), AllocError>
     ensures { OnOk result
         (text.new.items ≡ text.old.items ++ flat_map line_text (optional_line LeaveLine steps)) }
@@ -201,7 +202,7 @@ fn push_leave(text: &mut Vec<u8>, steps: Option<u32>) -> Result<(), AllocError>
     }
 }
 
-/// Appends the lines of calls.
+// Appends the lines of calls.
 fn push_calls(alloc: Global, text: &mut Vec<u8>, calls: &[Call]) -> Result<(), AllocError>
     ensures { OnOk result
         (text.new.items ≡ text.old.items ++ flat_map line_text (map CallLine calls.now)) }
@@ -212,7 +213,7 @@ fn push_calls(alloc: Global, text: &mut Vec<u8>, calls: &[Call]) -> Result<(), A
     Ok(())
 }
 
-/// Appends the lines of rebuilds.
+// Appends the lines of rebuilds.
 fn push_rebuilds(text: &mut Vec<u8>, rebuilds: &[Rebuild]) -> Result<(), AllocError>
     ensures { OnOk result
         (text.new.items ≡ text.old.items ++ flat_map line_text (map RebuildLine rebuilds.now)) }
@@ -223,7 +224,7 @@ fn push_rebuilds(text: &mut Vec<u8>, rebuilds: &[Rebuild]) -> Result<(), AllocEr
     Ok(())
 }
 
-/// Appends the lines of the schedule.
+// Appends the lines of the schedule.
 fn push_schedule(text: &mut Vec<u8>, tokens: &[Token]) -> Result<(), AllocError>
     ensures { OnOk result
         (text.new.items ≡ text.old.items ++ flat_map line_text (map StepLine tokens.now)) }
@@ -234,7 +235,7 @@ fn push_schedule(text: &mut Vec<u8>, tokens: &[Token]) -> Result<(), AllocError>
     Ok(())
 }
 
-/// Appends a client's block.
+// Appends a client's block.
 fn push_client(alloc: Global, text: &mut Vec<u8>, part: &ClientPart) -> Result<(), AllocError>
     ensures { OnOk result
         (text.new.items ≡ text.old.items ++ flat_map line_text (client_lines part.now)) }
@@ -250,7 +251,7 @@ fn push_client(alloc: Global, text: &mut Vec<u8>, part: &ClientPart) -> Result<(
     }
 }
 
-/// Appends a repairer's block.
+// Appends a repairer's block.
 fn push_repairer(text: &mut Vec<u8>, part: &RepairPart) -> Result<(), AllocError>
     ensures { OnOk result
         (text.new.items ≡ text.old.items ++ flat_map line_text (repairer_lines part.now)) }
@@ -266,7 +267,7 @@ fn push_repairer(text: &mut Vec<u8>, part: &RepairPart) -> Result<(), AllocError
     }
 }
 
-/// Appends the blocks of clients.
+// Appends the blocks of clients.
 fn push_clients(alloc: Global, text: &mut Vec<u8>, parts: &[ClientPart]) -> Result<(), AllocError>
     ensures { OnOk result
         (text.new.items ≡ text.old.items ++ flat_map line_text (flat_map client_lines parts.now)) }
@@ -277,7 +278,7 @@ fn push_clients(alloc: Global, text: &mut Vec<u8>, parts: &[ClientPart]) -> Resu
     Ok(())
 }
 
-/// Appends the blocks of repairers.
+// Appends the blocks of repairers.
 fn push_repairers(text: &mut Vec<u8>, parts: &[RepairPart]) -> Result<(), AllocError>
     ensures { OnOk result
         (text.new.items ≡ text.old.items ++ flat_map line_text (flat_map repairer_lines parts.now)) }

@@ -1,8 +1,6 @@
 -- How servers are asked for one pinned version, whatever is gathered of it: those that lack their chunks end the gathering once they are too many.
-use Rattle.std.proofs.Common.{◌≡◌, ℕ, zero, suc, ◌+◌, ◌<◌, ◌≤◌, nat_lt, Bool, true, false, not, List, [], ◌∷◌, ◌++◌, length, map, get_or, take, filter, refl, sym, ap, subst, ◌∙◌, arith, if◌then◌else◌, append_assoc, length-append}
-use Rattle.std.proofs.Math.Seq.{take-append_seam}
-use Rattle.std.proofs.lemmas.List.{length-map, map-append, append-nil}
-use Rattle.std.proofs.lemmas.Bool.{le-ltb, lt-ltb, ltb-true, ltb-false, or_left, or_right, eq-eqb, and_parts}
+use Rattle.std.proofs.Common.{◌≡◌, ℕ, zero, suc, ◌+◌, ◌<◌, ◌≤◌, true, false, not, List, [], ◌∷◌, ◌++◌, length, map, get_or, take, filter, refl, sym, ap, subst, ◌∙◌, arith}
+use Rattle.std.proofs.lemmas.Bool.{or_left, or_right, eq-eqb, and_parts}
 use Rattle.clay_grid.specs.Shape.{Shape, chunk_count}
 use Rattle.clay_grid.specs.Repair.{all_layers, repair_layers_of}
 use Rattle.store_map.specs.declared.actor.Actor.{Actor}
@@ -21,11 +19,8 @@ use Rattle.session_rules.specs.State.{Stripe}
 use Rattle.session_rules.specs.Gathered.{holds, lacking}
 use Rattle.session_laws.specs.Alone.{AtWork}
 use Rattle.session_laws.proofs.Walks.{Now, Reaches, IsThere, at_stage, given, looked}
-use Rattle.session_laws.proofs.Counting.{everyone, kept_first, left_first, among_kept, row_bounds}
-
-cases : {P : Type 0} (b : Bool) → (b ≡ true → P) → (b ≡ false → P) → P
-cases true t f = t refl
-cases false t f = f refl
+use Rattle.session_laws.proofs.Orders.{settle as settle_by, settle_few as few_by, settle_many as many_by, walk as walk_by}
+use Rattle.session_laws.proofs.Counting.{everyone, among_kept, row_bounds}
 
 module _ (g : Shape) (tries : ℕ) (who : Actor) (number : ℕ) (job : Job) (pairs : List (ℕ × ℕ)) (aim : Aim) (parts : List Part) (after : Sequel)
     (stripe : Stripe) (epochs : List ℕ) (first : List Server) (d : Directory)
@@ -44,13 +39,13 @@ module _ (g : Shape) (tries : ℕ) (who : Actor) (number : ℕ) (job : Job) (pai
 
   -- servers that lack their chunks, which end the gathering if they are too many
   abbrev pub settle : List ℕ → Stage → Stage
-  settle gone next = if nat_lt g.parity_count (length gone) then Stage.TooMany (map lost_of (take (g.parity_count + 1) gone)) else next
+  settle gone next = settle_by g stripe lost_of gone next
 
   pub settle_few : (gone : List ℕ) (next : Stage) → length gone ≤ g.parity_count → settle gone next ≡ next
-  settle_few gone next few = ap (λ b. if b then Stage.TooMany (map lost_of (take (g.parity_count + 1) gone)) else next) (le-ltb g.parity_count (length gone) few)
+  settle_few gone next few = few_by g stripe lost_of gone next few
 
   pub settle_many : (gone : List ℕ) (next : Stage) → g.parity_count < length gone → settle gone next ≡ Stage.TooMany (map lost_of (take (g.parity_count + 1) gone))
-  settle_many gone next many = ap (λ b. if b then Stage.TooMany (map lost_of (take (g.parity_count + 1) gone)) else next) (lt-ltb g.parity_count (length gone) many)
+  settle_many gone next many = many_by g stripe lost_of gone next many
 
   -- servers one after another that are asked alike
   module _ (stage_of : List ℕ → List Lost → Stage) (last : List Lost → Stage)
@@ -58,72 +53,13 @@ module _ (g : Shape) (tries : ℕ) (who : Actor) (number : ℕ) (job : Job) (pai
       (has : (j : ℕ) (more : List ℕ) (missing : List Lost) → j < chunk_count g → holds stripe j ≡ true → (to : Places → AtWork) → Next (stage_of more missing) to → Next (stage_of (j ∷ more) missing) to)
       (lacks : (j : ℕ) (more : List ℕ) (missing : List Lost) → j < chunk_count g → holds stripe j ≡ false → (to : Places → AtWork) →
       Next (unless_many g (missing ++ lost_of j ∷ []) (stage_of more (missing ++ lost_of j ∷ []))) to → Next (stage_of (j ∷ more) missing) to) where
-    target : List ℕ → Stage
-    target l = settle l (last (map lost_of l))
-
     pub walk : (more : List ℕ) → ((j : ℕ) → is_among j more ≡ true → j < chunk_count g) → (gone : List ℕ) → length gone ≤ g.parity_count → (to : Places → AtWork) →
         Next (settle (gone ++ lacking stripe more) (last (map lost_of (gone ++ lacking stripe more)))) to → Next (stage_of more (map lost_of gone)) to
-    walk [] all gone few to next =
-        subst (λ st. Next st to)
-        (ap (λ l. settle l (last (map lost_of l))) (append-nil gone) ∙ settle_few gone (last (map lost_of gone)) few ∙ sym (empty (map lost_of gone))) next
-    walk (j ∷ more) all gone few to next = by (walk more (λ i e. all i (or_right _ _ e)))
-      where
-        less : j < chunk_count g
-        less = all j (or_left _ _ (eq-eqb j j refl))
-
-        by : ((gone : List ℕ) → length gone ≤ g.parity_count → (to : Places → AtWork) →
-            Next (settle (gone ++ lacking stripe more) (last (map lost_of (gone ++ lacking stripe more)))) to → Next (stage_of more (map lost_of gone)) to) →
-            Next (stage_of (j ∷ more) (map lost_of gone)) to
-        by rest = cases (holds stripe j) kept gone_too
-          where
-            kept : holds stripe j ≡ true → Next (stage_of (j ∷ more) (map lost_of gone)) to
-            kept e =
-                has j more (map lost_of gone) less e to
-                (rest gone few to (subst (λ l. Next (settle (gone ++ l) (last (map lost_of (gone ++ l)))) to) (left_first (λ s. not (holds stripe s)) j more (ap not e)) next))
-
-            gone_too : holds stripe j ≡ false → Next (stage_of (j ∷ more) (map lost_of gone)) to
-            gone_too e =
-                lacks j more (map lost_of gone) less e to
-                (subst (λ l. Next (unless_many g l (stage_of more l)) to) (map-append lost_of gone (j ∷ []))
-                (cases (nat_lt g.parity_count (length (map lost_of (gone ++ j ∷ [])))) over under))
-              where
-                now : List ℕ
-                now = gone ++ j ∷ []
-
-                count : length (gone ++ j ∷ []) ≡ length gone + 1
-                count = length-append gone (j ∷ [])
-
-                joined : gone ++ lacking stripe (j ∷ more) ≡ (gone ++ j ∷ []) ++ lacking stripe more
-                joined = ap (λ l. gone ++ l) (kept_first (λ s. not (holds stripe s)) j more (ap not e)) ∙ sym (append_assoc gone (j ∷ []) (lacking stripe more))
-
-                next_now : Next (settle ((gone ++ j ∷ []) ++ lacking stripe more) (last (map lost_of ((gone ++ j ∷ []) ++ lacking stripe more)))) to
-                next_now = subst (λ l. Next (settle l (last (map lost_of l))) to) joined next
-
-                over : nat_lt g.parity_count (length (map lost_of (gone ++ j ∷ []))) ≡ true →
-                    Next (unless_many g (map lost_of (gone ++ j ∷ [])) (stage_of more (map lost_of (gone ++ j ∷ [])))) to
-                over t =
-                    let many : g.parity_count < length (map lost_of (gone ++ j ∷ [])) = ltb-true g.parity_count (length (map lost_of (gone ++ j ∷ []))) t in
-                    let same : length (map lost_of (gone ++ j ∷ [])) ≡ length (gone ++ j ∷ []) = length-map (gone ++ j ∷ []) lost_of in
-                    let exact : g.parity_count + 1 ≡ length (gone ++ j ∷ []) = omega (arith, many, same, count, few) in
-                    let sum : length ((gone ++ j ∷ []) ++ lacking stripe more) ≡ length (gone ++ j ∷ []) + length (lacking stripe more) = length-append (gone ++ j ∷ []) (lacking stripe more) in
-                    let past : g.parity_count < length ((gone ++ j ∷ []) ++ lacking stripe more) = omega (arith, exact, sum) in
-                    subst (λ st. Next st to)
-                    (settle_many ((gone ++ j ∷ []) ++ lacking stripe more) (last (map lost_of ((gone ++ j ∷ []) ++ lacking stripe more))) past
-                    ∙ ap (λ n. Stage.TooMany (map lost_of (take n ((gone ++ j ∷ []) ++ lacking stripe more)))) exact
-                    ∙ ap (λ l. Stage.TooMany (map lost_of l)) (take-append_seam (gone ++ j ∷ []) (lacking stripe more))
-                    ∙ sym (ap (λ b. if b then Stage.TooMany (map lost_of (gone ++ j ∷ [])) else stage_of more (map lost_of (gone ++ j ∷ []))) t))
-                    next_now
-
-                under : nat_lt g.parity_count (length (map lost_of (gone ++ j ∷ []))) ≡ false →
-                    Next (unless_many g (map lost_of (gone ++ j ∷ [])) (stage_of more (map lost_of (gone ++ j ∷ [])))) to
-                under f =
-                    let enough : length (map lost_of (gone ++ j ∷ [])) ≤ g.parity_count = ltb-false g.parity_count (length (map lost_of (gone ++ j ∷ []))) f in
-                    let same : length (map lost_of (gone ++ j ∷ [])) ≡ length (gone ++ j ∷ []) = length-map (gone ++ j ∷ []) lost_of in
-                    subst (λ st. Next st to) (sym (ap (λ b. if b then Stage.TooMany (map lost_of (gone ++ j ∷ [])) else stage_of more (map lost_of (gone ++ j ∷ []))) f))
-                    (rest (gone ++ j ∷ []) (omega (arith, enough, same)) to next_now)
+    walk more all gone few to next =
+        walk_by g stripe lost_of (λ stage. Next stage to) stage_of last empty (λ j more missing less e. has j more missing less e to) (λ j more missing less e. lacks j more missing less e to) more all gone few next
 
   -- ---- what is made of the servers that hold their chunks
-  abbrev Holders : List ℕ → Type 0
+  abbrev pub Holders : List ℕ → Type 0
   Holders servers = (j : ℕ) → is_among j servers ≡ true → (j < chunk_count g) × (holds stripe j ≡ true)
 
   repair_next : (servers : List ℕ) → Holders servers → (lost : Lost) (to : Places → AtWork) → Next Stage.HasBytes to → Next (repair_stage g servers lost) to
@@ -149,14 +85,14 @@ module _ (g : Shape) (tries : ℕ) (who : Actor) (number : ℕ) (job : Job) (pai
       by : Next (whole_stage g more wanted missing) to → Next (whole_stage g (j ∷ more) (suc wanted) missing) to
       by rest = λ q now same. given g tries who number job pairs aim parts after stripe epochs first d (Asking.Whole j more wanted missing) (all_layers g) q now same (there j mine.0) refl mine.1 to rest
 
-  servers_back : (gone : List ℕ) → map (λ (lost : Lost). lost.server) (map lost_of gone) ≡ gone
+  pub servers_back : (gone : List ℕ) → map (λ (lost : Lost). lost.server) (map lost_of gone) ≡ gone
   servers_back [] = refl
   servers_back (j ∷ gone) = ap (λ l. j ∷ l) (servers_back gone)
 
   abbrev pub but : List ℕ → List ℕ
   but gone = filter (λ n. not (is_among n gone)) (everyone g)
 
-  holders : Holders (filter (holds stripe) (everyone g))
+  pub holders : Holders (filter (holds stripe) (everyone g))
   holders j e =
       let parts : (is_among j (everyone g) ≡ true) × (holds stripe j ≡ true) = and_parts (is_among j (everyone g)) (holds stripe j) (sym (among_kept (holds stripe) j (everyone g)) ∙ e) in
       let less : j < 0 + chunk_count g = (row_bounds j 0 (chunk_count g) parts.0).1 in

@@ -77,14 +77,14 @@ module _ (g : Shape) (max tries : ℕ) (stands : List ℕ) (seat : ℕ) (some : 
   who = actor.Repairer seat
 
   -- a lost chunk that can be made anew
-  record Ready (s : Session) (chunk : LostChunk) : Type 0 where
-    within : chunk.stripe < length (numbers_of chunk.name s.numbers)
-    server : chunk.server < chunk_count g
-    lacks : holds (get_or s.stripes (number_of g s chunk) []) chunk.server ≡ false
-    fixable : is_beyond_repair g (get_or s.stripes (number_of g s chunk) []) ≡ false
+  pub record Ready (s : Session) (chunk : LostChunk) : Type 0 where
+    pub within : chunk.stripe < length (numbers_of chunk.name s.numbers)
+    pub server : chunk.server < chunk_count g
+    pub lacks : holds (get_or s.stripes (number_of g s chunk) []) chunk.server ≡ false
+    pub fixable : is_beyond_repair g (get_or s.stripes (number_of g s chunk) []) ≡ false
 
   -- two chunks of different stripes or of different servers
-  abbrev AreTwo : Session → LostChunk → LostChunk → Type 0
+  abbrev pub AreTwo : Session → LostChunk → LostChunk → Type 0
   AreTwo s c e = number_of g s c ≡ number_of g s e → c.server ≡ e.server → ⊥
 
   -- the state in which one was made anew, and its stripe then
@@ -95,7 +95,7 @@ module _ (g : Shape) (max tries : ℕ) (stands : List ℕ) (seat : ℕ) (some : 
   stripe_with s c stripe = change_at c.server (λ chunk. record { placed = get_or s.epochs c.server 0; held = true }) stripe
 
   -- ---- the others are as lost as before
-  still_ready : (s : Session) (c e : LostChunk) → Ready s e × AreTwo s c e → Ready (place_anew (number_of g s c) c.server s) e
+  pub still_ready : (s : Session) (c e : LostChunk) → Ready s e × AreTwo s c e → Ready (place_anew (number_of g s c) c.server s) e
   still_ready s c e h = cases (nat_eq (number_of g s e) (number_of g s c)) here elsewhere
     where
       here : nat_eq (number_of g s e) (number_of g s c) ≡ true → Ready (place_anew (number_of g s c) c.server s) e
@@ -135,7 +135,7 @@ module _ (g : Shape) (max tries : ℕ) (stands : List ℕ) (seat : ℕ) (some : 
     next : MayBegin after.directory who (number + length chunks)
 
   -- the session makes such a chunk anew
-  rebuilds : (s : Session) (c : LostChunk) → Ready s c → rebuild g c.stripe c.server s (numbers_of c.name s.numbers) ≡ (place_anew (number_of g s c) c.server s, Answer.Rebuilt)
+  pub rebuilds : (s : Session) (c : LostChunk) → Ready s c → rebuild g c.stripe c.server s (numbers_of c.name s.numbers) ≡ (place_anew (number_of g s c) c.server s, Answer.Rebuilt)
   rebuilds s c ready =
       let n : ℕ = number_of g s c in
       let chunks : Stripe = get_or s.stripes (number_of g s c) [] in
@@ -244,12 +244,12 @@ module _ (g : Shape) (max tries : ℕ) (stands : List ℕ) (seat : ℕ) (some : 
         turned true e = absurd (true≢false (sym e))
         turned false e = refl
 
-    all_ready : AllByRecursion (Ready s) (to_heal g s)
+    pub all_ready : AllByRecursion (Ready s) (to_heal g s)
     all_ready =
         every_weaker (λ c. IsLost g s h.names c × (can c ≡ true)) (Ready s) ready_of (to_heal g s)
         (every_both (IsLost g s h.names) (λ c. can c ≡ true) (to_heal g s) (every_filter (IsLost g s h.names) can (lost_chunks g s) (lost_all g s h.names)) (every_kept can (lost_chunks g s)))
 
-    all_two : Pairs (AreTwo s) (to_heal g s)
+    pub all_two : Pairs (AreTwo s) (to_heal g s)
     all_two = pairs_filter (AreTwo s) can (lost_chunks g s) (pairs_with (IsLost g s h.names) (AreApart g s h.names) (AreTwo s) two_by_number (lost_chunks g s) (lost_all g s h.names) (lost_apart g s h.names))
 
     -- the seat's next number is seen by no place

@@ -24,7 +24,7 @@ use Rattle.session_laws.proofs.Quiet.{all_map, pins_it}
 none_all : {X : Type 0} (P : X → Type 0) → All P []
 none_all P = λ k d less. absurd (omega (arith, less))
 
-all_snoc : {X : Type 0} (P : X → Type 0) (xs : List X) (x : X) → All P xs → P x → All P (xs ++ x ∷ [])
+pub all_snoc : {X : Type 0} (P : X → Type 0) (xs : List X) (x : X) → All P xs → P x → All P (xs ++ x ∷ [])
 all_snoc P [] x all here = All-cons P x [] here (none_all P)
 all_snoc P (y ∷ xs) x all here = All-cons P y (xs ++ x ∷ []) (all_head P y xs all) (all_snoc P xs x (all_tail P y xs all) here)
 
@@ -76,7 +76,7 @@ kept_changed f right zero (suc v) (x ∷ xs) k = k
 kept_changed f right (suc n) zero (x ∷ xs) k = k
 kept_changed f right (suc n) (suc v) (x ∷ xs) k = kept_changed f right n v xs k
 
-kept_there : (f : Version → Version) → ((x : Version) → is_kept_standing (f x).standing ≡ true) → (n : ℕ) (versions : List Version) → n < length versions → KeptAt (change_at n f versions) n
+pub kept_there : (f : Version → Version) → ((x : Version) → is_kept_standing (f x).standing ≡ true) → (n : ℕ) (versions : List Version) → n < length versions → KeptAt (change_at n f versions) n
 kept_there f right n [] less = absurd (omega (arith, less))
 kept_there f right zero (x ∷ xs) less = right x
 kept_there f right (suc n) (x ∷ xs) less = kept_there f right n xs (omega (arith, less))

@@ -149,7 +149,7 @@ module _ (tries : ℕ) (stands : List ℕ) (p : Places) (s : Session) (who : Act
     abbrev closed : Directory
     closed = close_pass mine (give_up_drawn mine begun)
 
-    look_made : look_repair who number note d ≡ (begun, Told.PinnedStripe seen)
+    pub look_made : look_repair who number note d ≡ (begun, Told.PinnedStripe seen)
     look_made =
         ap (look_repair_by who number note d) found
         ∙ ap (λ b. let r : Directory × Told = if b then (begun, Told.PinnedStripe seen) else (d, Told.NoSuch) in r) (lt-ltb call.stripe (length object.versions) (omega (arith, within, many)))
@@ -172,7 +172,7 @@ module _ (tries : ℕ) (stands : List ℕ) (p : Places) (s : Session) (who : Act
     abbrev after : Sequel
     after = Sequel.Confirm seen call.server
 
-    there_all : (j : ℕ) → j < chunk_count g → IsThere g tries who number job [] aim [] after stripe s.epochs p.servers begun p.servers j
+    pub there_all : (j : ℕ) → j < chunk_count g → IsThere g tries who number job [] aim [] after stripe s.epochs p.servers begun p.servers j
     there_all j j_less =
         let a : Answers s.epochs p.servers stripe (get_or object.versions call.stripe 0) j = answers_at stands p s h call.name object numbers of_name same call.stripe within j j_less in
         record { server = a.server; found = a.found; present = a.present; held = a.held; epoch = a.epoch }

@@ -58,12 +58,12 @@ abbrev is_delete : Kind → Bool
 is_delete Kind.Delete = true
 is_delete _ = false
 
-same_points : (found : Option ℕ) → same_point found found ≡ true
+pub same_points : (found : Option ℕ) → same_point found found ≡ true
 same_points None = refl
 same_points (Some n) = eq-eqb n n refl
 
 -- what is found in a list whose elements were changed, where the test passes them as before
-find_changed : {X : Type 0} (test : X → Bool) (f : X → X) → ((x : X) → test (f x) ≡ test x) → (xs : List X) → find test (map f xs) ≡ option_map f (find test xs)
+pub find_changed : {X : Type 0} (test : X → Bool) (f : X → X) → ((x : X) → test (f x) ≡ test x) → (xs : List X) → find test (map f xs) ≡ option_map f (find test xs)
 find_changed test f same [] = refl
 find_changed {X = X} test f same (x ∷ xs) =
     ap (λ b. cond b (Some (f x)) (find test (map f xs))) (same x) ∙ by (test x) (find_changed test f same xs)
@@ -78,13 +78,13 @@ row_from count a zero low = tt
 row_from count a (suc n) low = (low, row_from count (a + 1) n (omega (arith, low)))
 
 -- a reply of the map, or a chunk that was made anew
-abbrev IsReplied : Outcome → Type 0
+abbrev pub IsReplied : Outcome → Type 0
 IsReplied (Outcome.Answered point reply) = ⊤
 IsReplied Outcome.Rebuilt = ⊤
 IsReplied _ = ⊥
 
 -- a step at a server leaves the directory
-same_directory : (short : Bool) (server : ℕ) (step : ServerStep) (p : Places) (found : Option Server) → (at_server_there short server step p found).0.directory ≡ p.directory
+pub same_directory : (short : Bool) (server : ℕ) (step : ServerStep) (p : Places) (found : Option Server) → (at_server_there short server step p found).0.directory ≡ p.directory
 same_directory short server step p None = refl
 same_directory short server step p (Some one) = refl
 

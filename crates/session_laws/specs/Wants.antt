@@ -17,7 +17,9 @@ use Rattle.store_resume.specs.StateActs.{act_of_state}
 use Rattle.store_resume.specs.CallLaws.{next_call}
 use Rattle.session_rules.specs.State.{State}
 use Rattle.session_laws.specs.Alone.{AtWork}
-use Rattle.session_laws.specs.Seen.{IsSeenAs}
+use Rattle.session_laws.specs.Seen.{IsSeenAs, IsQuiet}
+use Rattle.session_laws.specs.Sweeps.{KeepsPinned}
+use Rattle.session_laws.specs.Quiet.{AreSwept}
 
 -- a rebuild that has placed its chunk codes nothing more
 abbrev pub may_code : CallAt → Bool
@@ -60,3 +62,18 @@ pub record WantsAreUnseen : Type 0 where
       0 < stripe_length g → IsSeenAs g max stands p s → MayBegin p.directory who number → IsOfRepairer who (note_of_rebuild call) →
       act_of_state g tries (rebuild_job call) (wanting_steps g tries who number (rebuild_job call) shortages (record { call = first_state; places = p })).call ≡ Act.Finish Outcome.NoMemory →
       IsSeenAs g max stands (wanting_steps g tries who number (rebuild_job call) shortages (record { call = first_state; places = p })).places s
+
+-- after a call that ended so the sweeper makes quiet places of quiet ones, seen as the same state
+pub record WantsAreSwept : Type 0 where
+  -- of a client
+  pub calls :
+      (g : Shape) (max tries : ℕ) (stands : List ℕ) (p : Places) (s : State) (who : Actor) (number : ℕ) (call : Call) (shortages : List Shortage) →
+      0 < stripe_length g → IsSeenAs g max stands p s → KeepsPinned stands p s → IsQuiet stands p s → MayBegin p.directory who number → IsOfClient who (note_of call) →
+      act_of_state g tries (job_of call) (wanting_steps g tries who number (job_of call) shortages (record { call = first_state; places = p })).call ≡ Act.Finish Outcome.NoMemory →
+      AreSwept g max stands (wanting_steps g tries who number (job_of call) shortages (record { call = first_state; places = p })).places s
+  -- of a repairer
+  pub rebuilds :
+      (g : Shape) (max tries : ℕ) (stands : List ℕ) (p : Places) (s : State) (who : Actor) (number : ℕ) (call : RebuildCall) (shortages : List Shortage) →
+      0 < stripe_length g → IsSeenAs g max stands p s → KeepsPinned stands p s → IsQuiet stands p s → MayBegin p.directory who number → IsOfRepairer who (note_of_rebuild call) →
+      act_of_state g tries (rebuild_job call) (wanting_steps g tries who number (rebuild_job call) shortages (record { call = first_state; places = p })).call ≡ Act.Finish Outcome.NoMemory →
+      AreSwept g max stands (wanting_steps g tries who number (rebuild_job call) shortages (record { call = first_state; places = p })).places s

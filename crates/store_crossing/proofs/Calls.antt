@@ -12,7 +12,7 @@ use Rattle.store_map.specs.contracts.call.Rebuild as rebuild
 use Rattle.version_seal.specs.contracts.chunk.SealedChunk as chunk
 use Rattle.gathering.specs.contracts.gather.Gather as gather
 use Rattle.call_steps.specs.contracts.outcomes.Outcome as outcome
-use Rattle.stripe_dir.specs.contracts.answers.Seen as seen
+use Rattle.call_steps.specs.contracts.seen.Seen as seen
 use Rattle.stripe_dir.specs.contracts.ticket.Ticket as ticket
 use Rattle.gather_parts.specs.contracts.gatherings.PartGatherings as gatherings
 use Rattle.write_course.specs.contracts.writing.Writing as writing
@@ -117,8 +117,11 @@ repair_send ν = view_send (repair_inside.the_row ν) _ _ _ _ (declared_send (re
           (
             option_send seen.the_row seen_send,
             (
-              option_send gather.the_row gather_send,
-              (option_send chunk.the_row chunk_send, (search (sendable, crosses) depth 40, (search sendable, (search (sendable, crosses) depth 40, (search sendable, (search sendable, (search sendable, tt))))))),
+              search sendable depth 20,
+              (
+                option_send gather.the_row gather_send,
+                (option_send chunk.the_row chunk_send, (search (sendable, crosses) depth 40, (search sendable, (search (sendable, crosses) depth 40, (search sendable, (search sendable, (search sendable, tt))))))),
+              ),
             ),
           ),
         ),

@@ -1,5 +1,5 @@
 -- What a run told a call, in the order of its steps, is what is kept of it, and what ends it.
-use Rattle.std.proofs.Common.{◌≡◌, ◌⊎◌, inl, inr, ℕ, zero, suc, ◌+◌, ◌<◌, Bool, true, false, ◌&&◌, nat_eq, List, [], ◌∷◌, ◌++◌, length, fold, Option, None, Some, IsTrue, refl, sym, ap, subst, ◌∙◌, arith, length-append, true≢false}
+use Rattle.std.proofs.Common.{◌≡◌, ◌⊎◌, inl, inr, ℕ, zero, suc, ◌+◌, ◌<◌, Bool, true, false, ◌&&◌, nat_eq, List, [], ◌∷◌, ◌++◌, length, fold, Some, refl, sym, ap, subst, ◌∙◌, arith, length-append}
 use Rattle.std.proofs.lemmas.Bool.{eq-eqb, ne_eqb}
 use Rattle.std.proofs.lemmas.List.{append_assoc, append-nil}
 use Rattle.std.proofs.lemmas.List.Sums.{fold-append}
@@ -9,25 +9,18 @@ use Rattle.clay_grid.specs.Shape.{Shape, chunk_count}
 use Rattle.store_map.specs.Limits.{size_of, tries_of}
 use Rattle.store_map.specs.declared.actor.Actor.{Actor}
 use Rattle.store_map.specs.declared.script.Script.{Script}
-use Rattle.store_core.specs.Act.{Act, DirectoryStep, ServerStep}
+use Rattle.store_core.specs.Act.{Act}
 use Rattle.store_core.specs.ActPlace.{is_in_pass}
-use Rattle.store_core.specs.Lookups.{same_actor, pass_of}
+use Rattle.store_core.specs.Lookups.{same_actor}
 use Rattle.store_core.specs.NextAct.{Job, next_act}
-use Rattle.store_core.specs.Server.{Server}
-use Rattle.store_core.specs.Step.{Shortage, Places, at_places, at_server_there, told_first, take_from, ended_by, actor_step}
+use Rattle.store_core.specs.Step.{Shortage, Places, told_first, take_from, ended_by, actor_step}
 use Rattle.store_core.specs.Tell.{tell}
 use Rattle.store_core.specs.Told.{Told}
 use Rattle.store_core.specs.Work.{Ended, Calling}
-use Rattle.store_calls.specs.AnswerLaws.{is_on_pass}
-use Rattle.store_calls.specs.AnswersByKind.{FitsKind}
-use Rattle.store_calls.specs.ToldInSteps.{HasStep, IsToldNext, AreToldSince, AreTold, act_after}
+use Rattle.store_calls.specs.ToldInSteps.{IsToldNext, AreToldSince, AreTold, act_after}
 use Rattle.store_calls.proofs.InSteps.{told_next}
-use Rattle.store_calls.proofs.PlaceKinds.{places_answer_by_kind}
-use Rattle.store_runs.proofs.ActAnswers.{note_if}
-use Rattle.store_runs.proofs.MaySteps.{HasPass, one_held}
-use Rattle.store_runs.proofs.Phases.{phase_of, directory_phase, has_pass}
-use Rattle.store_runs.proofs.Proper.{IsProper, ProperStep, HasTry}
-use Rattle.store_sound.proofs.Passes.{held}
+use Rattle.store_runs.proofs.ActKinds.{act_kind, in_pass_steps}
+use Rattle.store_runs.proofs.Proper.{HasTry}
 use Rattle.store_history.proofs.AnsweredPoints.{pushed}
 use Rattle.store_history.proofs.AtWork.{AtWork, first, act, after, stands, proper, answered}
 use Rattle.store_in_time.specs.LineCauses.{told_by, told_if, told_to}
@@ -71,41 +64,6 @@ module _ (g : Shape) (most tries : ℕ) (job : Job) where
         are_told = since_more [] answers answer so.are_told (subst (λ t. IsToldNext g most tries job t answer) (sym so.kept) next);
         kept = fold-append (tell g job) [] answers (answer ∷ []) ∙ ap (λ t. tell g job t answer) so.kept;
       }
-
--- ---- the answer to an act is of the call's kind
-module _ (g : Shape) (job : Job) (room : Type 0) (short : Bool) (who : Actor) (number : ℕ) (places : Places) where
-  on_pass_kind : (step : DirectoryStep) → IsTrue (is_on_pass step) → held who places.directory ≡ Some job.note → FitsKind job.note.kind (at_places short who number (Act.AtDirectory step) places).1
-  on_pass_kind step on has =
-      let own : HasPass who job.note places.directory = one_held who job.note places.directory (pass_of who places.directory) refl has in
-      subst (λ note. FitsKind note.kind (at_places short who number (Act.AtDirectory step) places).1) own.noted
-      (places_answer_by_kind.on_pass short who number step places.directory own.pass own.found on)
-
-  step_kind : (step : DirectoryStep) → ProperStep job room step → held who places.directory ≡ note_if (has_pass (directory_phase step)) job.note
-      → FitsKind job.note.kind (at_places short who number (Act.AtDirectory step) places).1
-  step_kind (DirectoryStep.Look note) proper has =
-      subst (λ n. FitsKind n.kind (at_places short who number (Act.AtDirectory (DirectoryStep.Look note)) places).1) proper.0 (places_answer_by_kind.look short who number note places.directory)
-  step_kind (DirectoryStep.LookRepair note) proper has = places_answer_by_kind.look_repair short who number note places.directory job.note.kind
-  step_kind DirectoryStep.Draw proper has = on_pass_kind DirectoryStep.Draw refl has
-  step_kind (DirectoryStep.Commit placed) proper has = on_pass_kind (DirectoryStep.Commit placed) refl has
-  step_kind DirectoryStep.End proper has = on_pass_kind DirectoryStep.End refl has
-  step_kind DirectoryStep.Confirm proper has = on_pass_kind DirectoryStep.Confirm refl has
-  step_kind (DirectoryStep.Repaired server epoch) proper has = on_pass_kind (DirectoryStep.Repaired server epoch) refl has
-  step_kind step proper has = absurd proper
-
-  server_kind : (server : ℕ) (step : ServerStep) (found : Option Server) → FitsKind job.note.kind (at_server_there short server step places found).1
-  server_kind server step None = tt
-  server_kind server step (Some s) = places_answer_by_kind.server short step s job.note.kind
-
-  act_kind : (act : Act) → IsProper g job room act → held who places.directory ≡ note_if (has_pass (phase_of act)) job.note → FitsKind job.note.kind (at_places short who number act places).1
-  act_kind (Act.AtDirectory step) proper has = step_kind step proper has
-  act_kind (Act.AtServer server step) proper has = server_kind server step (slice_get places.servers server)
-  act_kind (Act.Finish outcome) proper has = tt
-
--- an act in a pass is no outcome
-in_pass_steps : (act : Act) → is_in_pass act ≡ true → HasStep act
-in_pass_steps (Act.AtDirectory step) e = tt
-in_pass_steps (Act.AtServer server step) e = tt
-in_pass_steps (Act.Finish outcome) e = absurd (true≢false (sym e))
 
 -- ---- what is kept of an actor
 pub record CauseThen (g : Shape) (most tries : ℕ) (trace : List Made) (who : Actor) (jobs : List Job) (c : Calling) : Type 0 where

@@ -1,3 +1,5 @@
+//! Actors, the tokens of a schedule, points and versions.
+
 /// Who makes a step of a run. Clients and repairers are numbered from 0 in the script's order.
 #[derive(Clone, Copy, PartialEq, Eq, Debug)]
 pub enum Actor {

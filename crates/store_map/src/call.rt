@@ -1,3 +1,4 @@
+//! Calls of clients and of repairers.
 ghost use Rattle.std.specs.Prelude.{◌≡◌, IfOk};
 
 use crate::content::Content;

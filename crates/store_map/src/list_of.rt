@@ -1,3 +1,4 @@
+//! Lists that contracts see as their items; of bytes, they are copied in part and written over.
 ghost use Rattle.std.specs.Prelude.{◌≡◌, ◌∷◌, [], ◌++◌, length, OnOk, OnErr, IsTrue, ◌↔◌};
 ghost use Rattle.std.specs.Cmp.Lexicographic.{pointwise, lists_per, lists_equiv};
 

@@ -1,3 +1,4 @@
+//! The plain map from names to bytes, with its reply to each call.
 ghost use Rattle.std.specs.Prelude.{◌≡◌, ◌<◌, ◌≤◌, ◌↔◌, [], length, slice_get, IfOk, OnErr, IsNone, IfSome, Some};
 ghost use Rattle.std.specs.Option.{option_copied};
 ghost use Rattle.store_map.specs.PlainMap.{bytes_of, apply, put_sized, write_at, get_all, read_at, length_of, delete_found};

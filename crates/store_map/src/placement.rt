@@ -1,3 +1,5 @@
+//! How a server took a version's chunk, why it gives none, and both of a lost chunk.
+
 /// Where a version's chunk stands at a server: what the server answered when it was to keep the chunk.
 #[derive(Clone, Copy, PartialEq, Eq, Debug)]
 pub enum Placement {

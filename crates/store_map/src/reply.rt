@@ -1,3 +1,4 @@
+//! The plain map's replies.
 use crate::list_of::ByteList;
 
 /// What a call is answered.

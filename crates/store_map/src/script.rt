@@ -1,3 +1,4 @@
+//! A script as values: its form, code and limits, each actor's calls, and the schedule.
 ghost use Rattle.std.specs.Prelude.{◌≡◌};
 
 use crate::actor::Token;

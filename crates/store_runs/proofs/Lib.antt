@@ -7,6 +7,7 @@ pub mod Proper
 pub mod LiveVersions
 pub mod ShortObjects
 pub mod ActAnswers
+pub mod ActKinds
 pub mod DrawsAhead
 pub mod PlaceMoves
 pub mod ActorSteps

@@ -1,5 +1,5 @@
 -- What a run tells a call is what the call can be told, step by step.
-use Rattle.std.proofs.Common.{◌≡◌, ◌⊎◌, ℕ, zero, suc, ◌+◌, ◌<◌, Bool, true, false, List, [], ◌∷◌, ◌++◌, length, drop, fold, replicate, Option, None, Some, IsTrue, refl, sym, ap, subst, ◌∙◌, inl, inr, true≢false}
+use Rattle.std.proofs.Common.{◌≡◌, ◌⊎◌, ℕ, zero, suc, ◌+◌, ◌<◌, Bool, true, false, List, [], ◌∷◌, ◌++◌, length, drop, fold, replicate, Option, None, Some, refl, sym, ap, subst, ◌∙◌, inl, inr}
 use Rattle.std.proofs.lemmas.Bool.{cases_eq}
 use Rattle.std.proofs.lemmas.Option.{none-some, same_Some}
 use Rattle.std.proofs.lemmas.List.Sums.{fold-append}
@@ -13,34 +13,28 @@ use Rattle.store_map.specs.declared.actor.Token.TheVariants as token
 use Rattle.store_map.specs.declared.script.Script.{Script}
 use Rattle.store_core.specs.Lists.{change_at}
 use Rattle.store_core.specs.Told.{Told}
-use Rattle.store_core.specs.Act.{Act, DirectoryStep, ServerStep}
+use Rattle.store_core.specs.Act.{Act}
 use Rattle.store_core.specs.ActPlace.{is_in_pass}
 use Rattle.store_core.specs.CallStep.{job_step, step_if, step_of}
-use Rattle.store_core.specs.Lookups.{pass_of}
 use Rattle.store_core.specs.NextAct.{Job, next_act}
 use Rattle.store_core.specs.Run.{Run, first_shortage, places_in, after_client, after_repairer, client_step, repairer_step, sweeper_step, operator_step}
 use Rattle.store_core.specs.Schedule.{run_core}
-use Rattle.store_core.specs.Server.{Server}
-use Rattle.store_core.specs.Step.{Shortage, Places, at_places, at_server_there, told_first, take_from, ended_by, actor_step}
+use Rattle.store_core.specs.Step.{Shortage, Places, at_places, told_first, take_from, ended_by, actor_step}
 use Rattle.store_core.specs.Tell.{tell}
 use Rattle.store_core.specs.Work.{Ended, Work, Calling, new_calling, client_work, repairer_work, has_step}
-use Rattle.store_calls.specs.AnswerLaws.{is_on_pass}
 use Rattle.store_calls.specs.AnswersByKind.{FitsKind}
 use Rattle.store_calls.specs.StepLaws.{HasTarget}
-use Rattle.store_calls.specs.ToldInSteps.{HasStep, IsToldNext, AreToldSince}
+use Rattle.store_calls.specs.ToldInSteps.{IsToldNext, AreToldSince}
 use Rattle.store_calls.proofs.InSteps.{told_next}
-use Rattle.store_calls.proofs.PlaceKinds.{places_answer_by_kind}
 use Rattle.store_core.proofs.Places.{slice_get-change_at}
-use Rattle.store_sound.proofs.Passes.{held}
 use Rattle.store_runs.specs.ToldLaws.{WasToldSo, EndedSo, CallsWereTold, GroupWasTold, AllWereTold, CallsAreTold}
-use Rattle.store_runs.proofs.ActAnswers.{note_if, FitPlaces, Answered, act_answered}
+use Rattle.store_runs.proofs.ActKinds.{act_kind, in_pass_steps}
+use Rattle.store_runs.proofs.ActAnswers.{FitPlaces, Answered, act_answered}
 use Rattle.store_runs.proofs.ActorSteps.{Stands, InWork, CallKept, ToldFirst, first_told}
 use Rattle.store_runs.proofs.Drains.{start}
 use Rattle.store_runs.proofs.Groups.{GroupKept, IsGroup, drop_here, slice_changed}
 use Rattle.store_runs.proofs.Invariants.{IsAllowed, tokens_hold}
-use Rattle.store_runs.proofs.MaySteps.{HasPass, one_held}
-use Rattle.store_runs.proofs.Phases.{phase_of, directory_phase, has_pass}
-use Rattle.store_runs.proofs.Proper.{IsProper, ProperStep, HasTry, acts_proper}
+use Rattle.store_runs.proofs.Proper.{IsProper, HasTry, acts_proper}
 use Rattle.store_runs.proofs.Runs.{CanRun, fit_places}
 use Rattle.store_runs.proofs.RunsSound.{RunKeeps, first_kept}
 use Rattle.store_runs.proofs.Scripts.{can_run, replicated}
@@ -62,41 +56,6 @@ told_more script job told answer so next =
           (subst (λ t. IsToldNext script.geometry (size_of script) (tries_of script) job t answer) (sym so.kept) next);
       kept = fold-append (tell script.geometry job) [] so.answers (answer ∷ []) ∙ ap (λ t. tell script.geometry job t answer) so.kept;
     }
-
--- ---- the answer to an act is of the call's kind
-module _ (g : Shape) (job : Job) (room : Type 0) (short : Bool) (who : Actor) (number : ℕ) (places : Places) where
-  on_pass_kind : (step : DirectoryStep) → IsTrue (is_on_pass step) → held who places.directory ≡ Some job.note → FitsKind job.note.kind (at_places short who number (Act.AtDirectory step) places).1
-  on_pass_kind step on has =
-      let own : HasPass who job.note places.directory = one_held who job.note places.directory (pass_of who places.directory) refl has in
-      subst (λ note. FitsKind note.kind (at_places short who number (Act.AtDirectory step) places).1) own.noted
-      (places_answer_by_kind.on_pass short who number step places.directory own.pass own.found on)
-
-  step_kind : (step : DirectoryStep) → ProperStep job room step → held who places.directory ≡ note_if (has_pass (directory_phase step)) job.note
-      → FitsKind job.note.kind (at_places short who number (Act.AtDirectory step) places).1
-  step_kind (DirectoryStep.Look note) proper has =
-      subst (λ n. FitsKind n.kind (at_places short who number (Act.AtDirectory (DirectoryStep.Look note)) places).1) proper.0 (places_answer_by_kind.look short who number note places.directory)
-  step_kind (DirectoryStep.LookRepair note) proper has = places_answer_by_kind.look_repair short who number note places.directory job.note.kind
-  step_kind DirectoryStep.Draw proper has = on_pass_kind DirectoryStep.Draw refl has
-  step_kind (DirectoryStep.Commit placed) proper has = on_pass_kind (DirectoryStep.Commit placed) refl has
-  step_kind DirectoryStep.End proper has = on_pass_kind DirectoryStep.End refl has
-  step_kind DirectoryStep.Confirm proper has = on_pass_kind DirectoryStep.Confirm refl has
-  step_kind (DirectoryStep.Repaired server epoch) proper has = on_pass_kind (DirectoryStep.Repaired server epoch) refl has
-  step_kind step proper has = absurd proper
-
-  server_kind : (server : ℕ) (step : ServerStep) (found : Option Server) → FitsKind job.note.kind (at_server_there short server step places found).1
-  server_kind server step None = tt
-  server_kind server step (Some s) = places_answer_by_kind.server short step s job.note.kind
-
-  act_kind : (act : Act) → IsProper g job room act → held who places.directory ≡ note_if (has_pass (phase_of act)) job.note → FitsKind job.note.kind (at_places short who number act places).1
-  act_kind (Act.AtDirectory step) proper has = step_kind step proper has
-  act_kind (Act.AtServer server step) proper has = server_kind server step (slice_get places.servers server)
-  act_kind (Act.Finish outcome) proper has = tt
-
--- an act in a pass is no outcome
-in_pass_steps : (act : Act) → is_in_pass act ≡ true → HasStep act
-in_pass_steps (Act.AtDirectory step) e = tt
-in_pass_steps (Act.AtServer server step) e = tt
-in_pass_steps (Act.Finish outcome) e = absurd (true≢false (sym e))
 
 -- what stands in a list with one more
 pushed : {X : Type 0} (xs : List X) (x : X) (k : ℕ) (y : X) → slice_get (xs ++ x ∷ []) k ≡ Some y → (slice_get xs k ≡ Some y) ⊎ ((k ≡ length xs) × (x ≡ y))

@@ -1,5 +1,5 @@
 -- The chunks that a scrub lists as lost.
-use Rattle.std.specs.Prelude.{ℕ, List, map}
+use Rattle.std.specs.Prelude.{◌≡◌, ℕ, false, List, map, All}
 use Rattle.store_core.specs.Directory.{Directory}
 use Rattle.store_core.specs.Step.{Places}
 use Rattle.session_rules.specs.Answer.{LostChunk as Lost}
@@ -11,6 +11,10 @@ use Rattle.store_scrub.specs.declared.report.LostChunk.{LostChunk}
 -- a lost chunk in the words of the definitions
 abbrev pub lost_in : LostChunk → Lost
 lost_in chunk = record { name = chunk.name; stripe = chunk.stripe; server = chunk.server }
+
+-- no server is away
+abbrev pub ArePresent : List ServerState → Type 0
+ArePresent servers = All (λ server. server.away ≡ false) servers
 
 -- a directory and its servers as the definitions see them
 abbrev pub places_with : Directory → List ServerState → Places

@@ -1,10 +1,10 @@
-ghost use Rattle.std.specs.Prelude.{◌≡◌, ◌<◌, ◌^◌, ◌++◌, false, not, length, map, filter, All, IfOk, OnOk};
+ghost use Rattle.std.specs.Prelude.{◌≡◌, ◌<◌, ◌^◌, ◌++◌, false, not, length, map, filter, IfOk, OnOk};
 ghost use Rattle.clay_grid.specs.Shape.{chunk_count};
 ghost use Rattle.store_core.specs.Lists.{is_among};
 ghost use Rattle.store_core.specs.Directory.{Directory as CoreDirectory};
 ghost use Rattle.session_laws.specs.Scrubs.{lost_of, lost_at};
 ghost use Rattle.chunk_server.specs.Core.{core_of};
-ghost use Rattle.store_scrub.specs.Lost.{lost_in, lost_from, places_with};
+ghost use Rattle.store_scrub.specs.Lost.{lost_in, lost_from, places_with, ArePresent};
 ghost use Rattle.store_scrub.specs.Strays.{is_stray, stray_at, strays_in};
 
 use crate::report::{LostChunk, Report, Stray};
@@ -34,7 +34,7 @@ fn add_lost(
     servers: &[Server],
 ) -> Result<(), AllocError>
     requires few { length servers.now < 2 ^ 32 }
-    requires present { All (λ server. server.away ≡ false) servers.now }
+    requires present { ArePresent servers.now }
     ensures { (d : CoreDirectory) → OnOk result (map lost_in lost.new.items
         ≡ map lost_in lost.old.items ++ lost_from (places_with d servers.now) name.now (stripe, version.0)) }
 {
@@ -58,7 +58,7 @@ fn add_lost_of(
     servers: &[Server],
 ) -> Result<(), AllocError>
     requires few { length servers.now < 2 ^ 32 }
-    requires present { All (λ server. server.away ≡ false) servers.now }
+    requires present { ArePresent servers.now }
     ensures { (d : CoreDirectory) → OnOk result (map lost_in lost.new.items
         ≡ map lost_in lost.old.items ++ lost_of (places_with d servers.now) (name.now, versions.now)) }
 {
@@ -78,7 +78,7 @@ fn lost_chunks(
     servers: &[Server],
 ) -> Result<Vec<LostChunk>, AllocError>
     requires few { length servers.now < 2 ^ 32 }
-    requires present { All (λ server. server.away ≡ false) servers.now }
+    requires present { ArePresent servers.now }
     ensures { IfOk result (λ lost. map lost_in lost.items
         ≡ lost_at (places_with directory.now.core servers.now)) }
 {
@@ -134,7 +134,7 @@ fn strays_of(
 /// of them is away. It changes nothing.
 pub fn scrub(alloc: Global, directory: &Directory, servers: &[Server]) -> Result<Report, AllocError>
     requires count { length servers.now ≡ chunk_count directory.now.core.shape }
-    requires present { All (λ server. server.away ≡ false) servers.now }
+    requires present { ArePresent servers.now }
     ensures lost { IfOk result (λ report. map lost_in report.lost.items
         ≡ lost_at (places_with directory.now.core servers.now)) }
     ensures strays { IfOk result (λ report. report.strays.items

@@ -1,11 +1,11 @@
-ghost use Rattle.std.specs.Prelude.{◌≡◌, [], false, All};
+ghost use Rattle.std.specs.Prelude.{◌≡◌, [], All};
 ghost use Rattle.store_core.specs.Lists.{change_at};
 ghost use Rattle.store_core.specs.Directory.{Directory as CoreDirectory};
 ghost use Rattle.store_core.specs.Sound.{IsSound};
 ghost use Rattle.session_laws.specs.Scrubs.{lost_at};
 ghost use Rattle.chunk_server.specs.Valid.{IsValid};
 ghost use Rattle.chunk_server.specs.Steps.{after_discard};
-ghost use Rattle.store_scrub.specs.Lost.{places_with};
+ghost use Rattle.store_scrub.specs.Lost.{places_with, ArePresent};
 ghost use Rattle.store_scrub.specs.Strays.{strays_in, without};
 
 use crate::report::{Report, Stray};
@@ -37,7 +37,7 @@ fn drop_stray(servers: &mut [Server], stray: &Stray)
 /// chunks are lost.
 pub fn drop_strays(servers: &mut [Server], report: &Report)
     ensures dropped { servers.new ≡ without report.now.strays.items servers.old }
-    ensures present { All (λ server. server.away ≡ false) servers.old → All (λ server. server.away ≡ false) servers.new }
+    ensures present { ArePresent servers.old → ArePresent servers.new }
     ensures none { (d : CoreDirectory) → report.now.strays.items ≡ strays_in d.versions servers.old
         → strays_in d.versions servers.new ≡ [] }
     ensures lost { (d : CoreDirectory) → IsSound d → report.now.strays.items ≡ strays_in d.versions servers.old

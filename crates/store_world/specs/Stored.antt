@@ -6,7 +6,9 @@ use Rattle.chunk_server.specs.State.{ServerState}
 use Rattle.chunk_server.specs.Core.{core_of}
 use Rattle.stripe_dir.specs.Sealed.{Sealed}
 use Rattle.sweeper.specs.Sweeps.{SweeperOf}
+use Rattle.store_core.specs.Run.{Run}
 use Rattle.world_steps.specs.World.{WorldOf}
+use Rattle.world_steps.specs.Goes.{Leads}
 use Rattle.actors.specs.Callers.{CallerOf}
 
 -- its script and the book of it, the directory with its stamps, the servers with their chunks, the actors and the sweeper
@@ -29,3 +31,7 @@ world_of s =
       repairers = map (λ repairer. repairer.actor) s.repairers;
       sweeper = s.sweeper;
     }
+
+-- a part of a run of its script leads from the one to the other
+abbrev pub LeadsBy : (Run → Run) → StoredWorld → StoredWorld → Type 0
+LeadsBy part before after = Leads before.script part (world_of before) (world_of after)

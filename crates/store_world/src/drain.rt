@@ -5,9 +5,9 @@ ghost use Rattle.store_map.specs.declared.actor.Token.{Token};
 ghost use Rattle.store_core.specs.Schedule.{is_unfinished, round};
 ghost use Rattle.world_steps.specs.Known.{core_of};
 ghost use Rattle.world_steps.specs.RoundLaws.{client_turns, repairer_turns};
-ghost use Rattle.world_steps.specs.Goes.{Leads, GoesBy};
+ghost use Rattle.world_steps.specs.Goes.{GoesBy};
 ghost use Rattle.store_world.specs.Having.{some_caller_has, AreOfCode};
-ghost use Rattle.store_world.specs.Stored.{world_of};
+ghost use Rattle.store_world.specs.Stored.{LeadsBy, world_of};
 
 use crate::world::World;
 use actors::Caller;
@@ -29,7 +29,7 @@ fn some_has_step(callers: &[Caller]) -> bool
 impl<'a> World<'a> {
     // The turns of the first so many clients.
     fn client_turns<R: Threads + Sync, C: Coder>(&mut self, rt: &R, coder: &C, count: u32)
-        ensures leads { Leads self.old.script (client_turns self.old.script count) (world_of self.old) (world_of self.new) }
+        ensures leads { LeadsBy (client_turns self.old.script count) self.old self.new }
         ensures same { self.new.script ≡ self.old.script }
         ensures same_book { self.new.book ≡ self.old.book }
     {
@@ -40,7 +40,7 @@ impl<'a> World<'a> {
 
     // The turns of the first so many repairers.
     fn repairer_turns<R: Threads + Sync, C: Coder>(&mut self, rt: &R, coder: &C, count: u32)
-        ensures leads { Leads self.old.script (repairer_turns self.old.script count) (world_of self.old) (world_of self.new) }
+        ensures leads { LeadsBy (repairer_turns self.old.script count) self.old self.new }
         ensures same { self.new.script ≡ self.old.script }
         ensures same_book { self.new.book ≡ self.old.book }
     {
@@ -51,7 +51,7 @@ impl<'a> World<'a> {
 
     // A turn of each client, of each repairer, and of the sweeper where it has one.
     fn round<R: Threads + Sync, C: Coder>(&mut self, rt: &R, coder: &C)
-        ensures leads { Leads self.old.script (round self.old.script) (world_of self.old) (world_of self.new) }
+        ensures leads { LeadsBy (round self.old.script) self.old self.new }
         ensures same { self.new.script ≡ self.old.script }
         ensures same_book { self.new.book ≡ self.old.book }
     {

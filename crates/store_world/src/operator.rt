@@ -3,8 +3,7 @@ ghost use Rattle.std.specs.Prelude.{◌≡◌, ◌<◌};
 ghost use Rattle.clay_grid.specs.Shape.{chunk_count};
 ghost use Rattle.store_map.specs.declared.actor.Token.{Token};
 ghost use Rattle.store_core.specs.Schedule.{step_core};
-ghost use Rattle.world_steps.specs.Goes.{Leads};
-ghost use Rattle.store_world.specs.Stored.{world_of};
+ghost use Rattle.store_world.specs.Stored.{LeadsBy};
 
 use crate::world::World;
 use store_map::Actor;
@@ -13,7 +12,7 @@ impl<'a> World<'a> {
     // The server is emptied.
     pub(crate) fn wipe(&mut self, server: u32)
         requires { server < chunk_count self.old.script.geometry }
-        ensures leads { Leads self.old.script (step_core self.old.script (Token.Wipe server)) (world_of self.old) (world_of self.new) }
+        ensures leads { LeadsBy (step_core self.old.script (Token.Wipe server)) self.old self.new }
         ensures same { self.new.script ≡ self.old.script }
         ensures same_book { self.new.book ≡ self.old.book }
     {
@@ -23,7 +22,7 @@ impl<'a> World<'a> {
     // The server is made away.
     pub(crate) fn down(&mut self, server: u32)
         requires { server < chunk_count self.old.script.geometry }
-        ensures leads { Leads self.old.script (step_core self.old.script (Token.Down server)) (world_of self.old) (world_of self.new) }
+        ensures leads { LeadsBy (step_core self.old.script (Token.Down server)) self.old self.new }
         ensures same { self.new.script ≡ self.old.script }
         ensures same_book { self.new.book ≡ self.old.book }
     {
@@ -33,7 +32,7 @@ impl<'a> World<'a> {
     // The server is made present.
     pub(crate) fn up(&mut self, server: u32)
         requires { server < chunk_count self.old.script.geometry }
-        ensures leads { Leads self.old.script (step_core self.old.script (Token.Up server)) (world_of self.old) (world_of self.new) }
+        ensures leads { LeadsBy (step_core self.old.script (Token.Up server)) self.old self.new }
         ensures same { self.new.script ≡ self.old.script }
         ensures same_book { self.new.book ≡ self.old.book }
     {
@@ -42,7 +41,7 @@ impl<'a> World<'a> {
 
     // The client's pass is given up.
     pub(crate) fn reap_client(&mut self, i: u32)
-        ensures leads { Leads self.old.script (step_core self.old.script (Token.ReapClient i)) (world_of self.old) (world_of self.new) }
+        ensures leads { LeadsBy (step_core self.old.script (Token.ReapClient i)) self.old self.new }
         ensures same { self.new.script ≡ self.old.script }
         ensures same_book { self.new.book ≡ self.old.book }
     {
@@ -51,7 +50,7 @@ impl<'a> World<'a> {
 
     // The repairer's pass is given up.
     pub(crate) fn reap_repairer(&mut self, i: u32)
-        ensures leads { Leads self.old.script (step_core self.old.script (Token.ReapRepairer i)) (world_of self.old) (world_of self.new) }
+        ensures leads { LeadsBy (step_core self.old.script (Token.ReapRepairer i)) self.old self.new }
         ensures same { self.new.script ≡ self.old.script }
         ensures same_book { self.new.book ≡ self.old.book }
     {

@@ -3,8 +3,7 @@ ghost use Rattle.std.specs.Prelude.{◌≡◌};
 ghost use Rattle.store_core.specs.Core.{sweeper_has_step};
 ghost use Rattle.store_core.specs.Run.{sweeper_step};
 ghost use Rattle.world_steps.specs.Known.{core_of};
-ghost use Rattle.world_steps.specs.Goes.{Leads};
-ghost use Rattle.store_world.specs.Stored.{world_of};
+ghost use Rattle.store_world.specs.Stored.{LeadsBy, world_of};
 
 use crate::world::World;
 use call_steps::Need;
@@ -12,7 +11,7 @@ use call_steps::Need;
 impl<'a> World<'a> {
     // The sweeper's turn.
     pub(crate) fn sweeper_turn(&mut self)
-        ensures leads { Leads self.old.script (sweeper_step self.old.script) (world_of self.old) (world_of self.new) }
+        ensures leads { LeadsBy (sweeper_step self.old.script) self.old self.new }
         ensures same { self.new.script ≡ self.old.script }
         ensures same_book { self.new.book ≡ self.old.book }
     {

@@ -2,10 +2,9 @@
 ghost use Rattle.std.specs.Prelude.{◌≡◌, ◌<◌, true, length, slice_get, Some};
 ghost use Rattle.store_map.specs.declared.script.Script.{Script};
 ghost use Rattle.store_core.specs.Run.{client_step, repairer_step};
-ghost use Rattle.world_steps.specs.Goes.{Leads};
 ghost use Rattle.actors.specs.Callers.{CallerOf};
 ghost use Rattle.store_world.specs.Having.{caller_has};
-ghost use Rattle.store_world.specs.Stored.{world_of};
+ghost use Rattle.store_world.specs.Stored.{LeadsBy};
 
 use crate::world::World;
 use actors::Caller;
@@ -29,7 +28,7 @@ fn has_step(callers: &[Caller], i: u32) -> bool
 impl<'a> World<'a> {
     // The turn of client i, or nothing where there is none or it has no step.
     pub(crate) fn client_turn<R: Threads + Sync, C: Coder>(&mut self, rt: &R, coder: &C, i: u32)
-        ensures leads { Leads self.old.script (client_step self.old.script i) (world_of self.old) (world_of self.new) }
+        ensures leads { LeadsBy (client_step self.old.script i) self.old self.new }
         ensures same { self.new.script ≡ self.old.script }
         ensures same_book { self.new.book ≡ self.old.book }
     {
@@ -51,7 +50,7 @@ impl<'a> World<'a> {
 
     // The turn of repairer i, or nothing where there is none or it has no step.
     pub(crate) fn repairer_turn<R: Threads + Sync, C: Coder>(&mut self, rt: &R, coder: &C, i: u32)
-        ensures leads { Leads self.old.script (repairer_step self.old.script i) (world_of self.old) (world_of self.new) }
+        ensures leads { LeadsBy (repairer_step self.old.script i) self.old self.new }
         ensures same { self.new.script ≡ self.old.script }
         ensures same_book { self.new.book ≡ self.old.book }
     {

@@ -1,3 +1,4 @@
+//! What a world holds: the directory, the servers, the callers and the sweeper of a script.
 use actors::Caller;
 use chunk_server::Server;
 use std::marker::Model;

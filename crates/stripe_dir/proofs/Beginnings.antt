@@ -109,7 +109,7 @@ pub record Roomy (a : Inside) (shelf : Shelf) (now : Desk) (book : Book) : Type 
   pub objects : shelf.objects ≡ a.objects.objects
   pub objects_room : a.objects.room ≤ shelf.room
   pub passes : now.listed ≡ a.passes.listed
-  pub stripe : now.stripe ≡ a.passes.stripe
+  pub stripe : now.stripe_len ≡ a.passes.stripe_len
 
 module _ (a : Inside) (kept : IsKept a) (objects : Shelf) (desk : Desk) (history : Book) (roomy : Roomy a objects desk history) where
   pub same_directory : directory_in (record a { objects = objects; passes = desk; history = history }) ≡ directory_in a
@@ -151,7 +151,7 @@ module _ (a : Inside) (kept : IsKept a) (objects : Shelf) (desk : Desk) (history
       }
 
   -- and one pass more
-  pub kept_begun : (table : Table) (now : Desk) (book : Book) (n : Pass) → n.reaped ≡ None → IsWhole (directory_in (record a { objects = objects; versions = table; passes = now; history = book })) → now.listed ≡ n ∷ a.passes.listed → now.stripe ≡ desk.stripe
+  pub kept_begun : (table : Table) (now : Desk) (book : Book) (n : Pass) → n.reaped ≡ None → IsWhole (directory_in (record a { objects = objects; versions = table; passes = now; history = book })) → now.listed ≡ n ∷ a.passes.listed → now.stripe_len ≡ desk.stripe_len
       → table.listed ≡ a.versions.listed → table.pins ≡ pinned_more n.pinned a.versions.pins → All (λ pin. pin.version < length a.versions.listed) n.pinned
       → length a.passes.listed + 2 ≤ history.room → history.room ≤ book.room + 1 → book.names ≡ history.names → Contains history.names n.note.name → length a.passes.listed + 1 ≤ objects.room
       → IsKept (record a { objects = objects; versions = table; passes = now; history = book })

@@ -107,7 +107,7 @@ module _ (a : Inside) (kept : IsKept a) (who : Actor) (p : Pass) (found : find (
     counted_by : (f : Pass → ℕ) → ((q : Pass) → f (record q { drawn = dr }) ≡ f q) → sum_by f desk.listed ≡ sum_by f a.passes.listed
     counted_by f same = ap (sum_by f) passes ∙ sum_by-changed f (λ (other : Pass). if same_actor who other.actor then record other { drawn = dr } else other) (λ q. still f dr same (same_actor who q.actor) q) a.passes.listed
 
-    pub kept_drawn : (stamps : StampList) (request : Option RequestOf) → stamps ≡ with_drawn a.stamps a.stamps.book stripe p request → desk.stripe ≡ a.passes.stripe → table.pins ≡ a.versions.pins ++ replicate (stripes_met stripe p.note.offset p.note.length) 0 → ((pass : Pass) × IsWriting (directory_in a) who pass × (pass.drawn ≡ []))
+    pub kept_drawn : (stamps : StampList) (request : Option RequestOf) → stamps ≡ with_drawn a.stamps a.stamps.book stripe p request → desk.stripe_len ≡ a.passes.stripe_len → table.pins ≡ a.versions.pins ++ replicate (stripes_met stripe p.note.offset p.note.length) 0 → ((pass : Pass) × IsWriting (directory_in a) who pass × (pass.drawn ≡ []))
         → IsKept (record a { versions = table; passes = desk; stamps = stamps })
     kept_drawn stamps request added same_stripe pins may =
         record {

@@ -1,5 +1,5 @@
 -- What is left where a pass is taken out.
-use Rattle.std.proofs.Common.{◌≡◌, ◌≢◌, ◌⊎◌, ℕ, zero, suc, ◌+◌, ◌-◌, ◌≤◌, Bool, true, false, cond, ◌&&◌, not, nat_eq, List, [], ◌∷◌, length, get_or, filter, find, sum_by, Option, None, Some, is_some, IsTrue, IfSome, All, Contains, refl, sym, ap, subst, ◌∙◌, inl, inr, arith}
+use Rattle.std.proofs.Common.{◌≡◌, ◌≢◌, ◌⊎◌, ℕ, zero, suc, ◌+◌, ◌-◌, ◌<◌, ◌≤◌, Bool, true, false, cond, ◌&&◌, not, nat_eq, List, [], ◌∷◌, length, get_or, filter, find, sum_by, Option, None, Some, is_some, IsTrue, IfSome, All, Contains, refl, sym, ap, subst, ◌∙◌, inl, inr, arith}
 use Rattle.std.proofs.lemmas.Bool.{cases_eq, eq-eqb, ne_eqb}
 use Rattle.std.proofs.lemmas.Option.{none-some, same_Some}
 use Rattle.std.proofs.lemmas.List.Elements.{All-tail}
@@ -15,6 +15,8 @@ use Rattle.store_core.specs.Lookups.{same_actor, pass_of, is_live}
 use Rattle.store_core.specs.Look.{set_standing}
 use Rattle.store_core.specs.PassSteps.{close_pass, end_pass, repaired}
 use Rattle.store_core.specs.AtDirectory.{unless_reaped, on_pass, at_directory}
+use Rattle.store_core.specs.Conditions.{MayStep}
+use Rattle.store_core.specs.SoundPasses.{HasVersions}
 use Rattle.store_core.specs.Agreement.{HeldPass, AgreesWithPass}
 use Rattle.dir_parts.specs.Counts.{one_if, times, pins_of, pins_by, points_due, objects_due, may_append, unpinned}
 use Rattle.dir_parts.proofs.Actors.{same_is, find_passes}
@@ -24,6 +26,7 @@ use Rattle.dir_parts.specs.Table.{Table}
 use Rattle.dir_parts.specs.TableSteps.{placed_anew_by}
 use Rattle.dir_parts.specs.Parts.{Shelf, Book}
 use Rattle.stripe_dir.specs.ItsStripes.{IsWhole}
+use Rattle.stripe_dir.specs.Seats.{seat_left}
 use Rattle.store_contents.proofs.Grows.{origins}
 use Rattle.stripe_dir.specs.Kept.{directory_in, sealed_in, IsKept}
 use Rattle.stripe_dir.proofs.Stamps.{same_count, stamps_stay}
@@ -153,7 +156,7 @@ pub record Gone (a : Inside) (who : Actor) (p : Pass) (desk : Desk) : Type 0 whe
   pub found : find (λ pass. same_actor who pass.actor) a.passes.listed ≡ Some p
   pub left : desk.listed ≡ filter (λ pass. not (same_actor who pass.actor)) a.passes.listed
   pub perm : IsPermutation a.passes.listed (p ∷ desk.listed)
-  pub stripe : desk.stripe ≡ a.passes.stripe
+  pub stripe : desk.stripe_len ≡ a.passes.stripe_len
 
 module _ (a : Inside) (kept : IsKept a) (who : Actor) (p : Pass) (desk : Desk) (gone : Gone a who p desk) where
   -- where it was reaped
@@ -197,3 +200,42 @@ module _ (a : Inside) (kept : IsKept a) (who : Actor) (p : Pass) (desk : Desk) (
       with_true : (b : Bool) → one_if (b && true) ≡ one_if b
       with_true true = refl
       with_true false = refl
+
+  -- where only versions change with it
+  pub kept_closed : p.reaped ≡ None → (step : DirectoryStep) (told : Told) (table : Table) → MayStep (directory_in a) who 0 step
+      → (directory_in (record a { versions = table; passes = desk }), told) ≡ at_directory false who 0 step (directory_in a)
+      → table.pins ≡ unpinned p.pinned a.versions.pins → origins table.listed ≡ origins a.versions.listed → IsKept (record a { versions = table; passes = desk })
+  kept_closed live step told table may made pins same =
+      kept_ended live a.objects table a.history (subst IsWhole (sym (ap (λ (r : Directory × Told). r.0) made)) (keeps_whole who 0 step (directory_in a) kept.stripes kept.whole may)) pins same refl (omega arith) (omega arith)
+
+-- what is known of a pass that its actor's step has taken out
+pub record Taken (a : Inside) (d : Directory) (held : HeldPass) (who : Actor) (p : Pass) (desk : Desk) : Type 0 where
+  pub gone : Gone a who p desk
+  pub view : directory_in a ≡ d
+  pub same : who ≡ held.pass.actor
+  pub is : record p { reaped = None } ≡ held.pass
+  pub pinned : All (λ pin. pin.version < length a.versions.listed) p.pinned
+  pub drawn : All (λ version. version < length a.versions.listed) p.drawn
+
+pub taken : (a : Inside) → IsKept a → (d : Directory) → directory_in a ≡ d → (held : HeldPass) → AgreesWithPass d held → (who : Actor) → who ≡ held.pass.actor
+    → (p : Pass) (desk : Desk) → find (λ pass. same_actor who pass.actor) a.passes.listed ≡ Some p → desk.listed ≡ filter (λ pass. not (same_actor who pass.actor)) a.passes.listed
+    → IsPermutation a.passes.listed (p ∷ desk.listed) → desk.stripe_len ≡ a.passes.stripe_len → Taken a d held who p desk
+taken a kept d view held agrees who same p desk found left perm stripe =
+    record {
+      gone = record { found = found; left = left; perm = perm; stripe = stripe };
+      view = view;
+      same = same;
+      is = agreed (directory_in a) held who p same found (subst (λ (d : Directory). AgreesWithPass d held) (sym view) agrees);
+      pinned = (it_has (directory_in a) who p desk.listed found left perm (HasVersions (directory_in a)) kept.whole.sound.versions).pinned;
+      drawn = (it_has (directory_in a) who p desk.listed found left perm (HasVersions (directory_in a)) kept.whole.sound.versions).drawn;
+    }
+
+module _ (a : Inside) (d : Directory) (held : HeldPass) (who : Actor) (p : Pass) (desk : Desk) (t : Taken a d held who p desk) where
+  -- what is said of the actor's pass there is said of it
+  pub taken_said : (P : Pass → Type 0) → IfSome (pass_of held.pass.actor d) P → P p
+  taken_said P said = said_of P (pass_of who (directory_in a)) p t.gone.found (subst (λ (o : Option Pass). IfSome o P) (λ i. pass_of (sym t.same i) (sym t.view i)) said)
+
+  -- the seat that its actor has then
+  pub taken_seat : (number : ℕ) (told : Option ℕ) → number ≡ p.number → record { actor = who; unused = number + 1; told = told } ≡ seat_left held told
+  taken_seat number told is =
+      (λ i. record { actor = t.same i; unused = (is ∙ ap (λ (q : Pass). q.number) t.is) i + 1; told = told })

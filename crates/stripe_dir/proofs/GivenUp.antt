@@ -105,7 +105,7 @@ module _ (a : Inside) (kept : IsKept a) (who : Actor) (p : Pass) (found : find (
         ))
         )
 
-    pub kept_given_up : desk.stripe ≡ a.passes.stripe → table.pins ≡ unpinned p.pinned a.versions.pins → book.names ≡ a.history.names → book.room + 1 ≡ a.history.room
+    pub kept_given_up : desk.stripe_len ≡ a.passes.stripe_len → table.pins ≡ unpinned p.pinned a.versions.pins → book.names ≡ a.history.names → book.room + 1 ≡ a.history.room
         → IsKept (record a { versions = table; passes = desk; history = book })
     kept_given_up stripe pins names room =
         record {

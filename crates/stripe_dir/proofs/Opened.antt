@@ -42,7 +42,7 @@ module _ (a : Inside) (empty : IsEmpty a) (code : a.stamps.book.geometry ≡ a.g
       by None = tt
       by (Some script) = ap (map (λ (stamp : StampOf). stamp.content)) empty.stamps ∙ sym (ap (contents_by a.geometry (call_of script)) empty.versions)
 
-  pub first_kept : 0 < stripe_length a.geometry → a.passes.stripe ≡ stripe_length a.geometry → IsKept a
+  pub first_kept : 0 < stripe_length a.geometry → a.passes.stripe_len ≡ stripe_length a.geometry → IsKept a
   first_kept some stripe =
       let no_points : points_due a.passes.listed ≡ 0 = ap points_due empty.passes in
       let no_objects : objects_due a.passes.listed ≡ 0 = ap objects_due empty.passes in

@@ -25,7 +25,7 @@ use Rattle.stripe_dir.specs.Answers.{seen_in, told_look, told_repair_look, told_
 use Rattle.stripe_dir.specs.AnswerStamps.{IsSeenIn, AreSeenIn, IsSeenByRepair}
 use Rattle.stripe_dir.specs.Sealed.{Sealed}
 use Rattle.stripe_dir.specs.Stamped.{HasStamps}
-use Rattle.stripe_dir.specs.declared.answers.Seen.{Seen}
+use Rattle.call_steps.specs.declared.seen.Seen.{Seen}
 use Rattle.stripe_dir.proofs.Commits.{old_current}
 use Rattle.stripe_dir.proofs.Lookings.{pins_stand, repair_begins, repair_none}
 use Rattle.stripe_dir.specs.declared.answers.Look.{Look}

@@ -7,7 +7,7 @@ use Rattle.store_core.specs.Directory.{Pass}
 use Rattle.store_core.specs.Agreement.{HeldPass}
 use Rattle.version_seal.specs.Entry.{StampOf, RequestOf}
 use Rattle.stripe_dir.specs.Sealed.{Sealed, stamps_touched}
-use Rattle.stripe_dir.specs.declared.answers.Seen.{Seen}
+use Rattle.call_steps.specs.declared.seen.Seen.{Seen}
 use Rattle.stripe_dir.specs.declared.answers.Look.{Look}
 use Rattle.stripe_dir.specs.declared.answers.Look.TheVariants as look
 use Rattle.stripe_dir.specs.declared.answers.RepairLook.{RepairLook}
@@ -23,7 +23,7 @@ IsSeenIn stamps seen = slice_get stamps seen.stamp.version ≡ Some seen.stamp
 abbrev pub AreSeenIn : {S P : Type 0} → List StampOf → Look S P → Type 0
 AreSeenIn stamps (look.Answer seat point reply) = ⊤
 AreSeenIn stamps (look.Pinned pass point length seen) = All (IsSeenIn stamps) seen.items
-AreSeenIn stamps (look.Ready pass base length seen) = All (IsSeenIn stamps) seen.items
+AreSeenIn stamps (look.Ready pass looked_at length seen) = All (IsSeenIn stamps) seen.items
 
 -- and that of a repairer's
 abbrev pub IsSeenByRepair : {S P : Type 0} → List StampOf → RepairLook S P → Type 0

@@ -18,7 +18,7 @@ use Rattle.stripe_dir.specs.declared.answers.Confirmed.TheVariants as confirmed
 abbrev pub token_look : Look Seat HeldPass → ActorToken
 token_look (look.Answer seat point reply) = ActorToken.Seated seat
 token_look (look.Pinned pass point length stripes) = ActorToken.InCall pass
-token_look (look.Ready pass base length stripes) = ActorToken.InCall pass
+token_look (look.Ready pass looked_at length stripes) = ActorToken.InCall pass
 
 -- after a repairer's look
 abbrev pub token_repair_look : RepairLook Seat HeldPass → ActorToken
@@ -33,7 +33,7 @@ token_drawn (drawn.Reaped seat at) = ActorToken.Seated seat
 -- after a commit
 abbrev pub token_committed : Committed Seat → ActorToken
 token_committed (committed.Done seat point) = ActorToken.Seated seat
-token_committed (committed.Changed seat base newer) = ActorToken.Seated seat
+token_committed (committed.Changed seat looked_at newer) = ActorToken.Seated seat
 token_committed (committed.Reaped seat at) = ActorToken.Seated seat
 
 -- after the end of a pass

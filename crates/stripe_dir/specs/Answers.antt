@@ -2,7 +2,7 @@
 use Rattle.std.specs.Prelude.{Result, Ok, Err, map, option_map}
 use Rattle.store_core.specs.Told.{Told}
 use Rattle.store_core.specs.Told.{Seen as CoreSeen}
-use Rattle.stripe_dir.specs.declared.answers.Seen.{Seen}
+use Rattle.call_steps.specs.declared.seen.Seen.{Seen}
 use Rattle.stripe_dir.specs.declared.answers.Look.{Look}
 use Rattle.stripe_dir.specs.declared.answers.Look.TheVariants as look
 use Rattle.stripe_dir.specs.declared.answers.RepairLook.{RepairLook}
@@ -24,7 +24,7 @@ seen_in seen = record { stripe = seen.stripe; version = seen.stamp.version; plac
 abbrev pub told_look : {S P : Type 0} → Look S P → Told
 told_look (look.Answer seat point reply) = Told.Answer point.0 reply
 told_look (look.Pinned pass point length stripes) = Told.Pinned point.0 length (map seen_in stripes.items)
-told_look (look.Ready pass base length stripes) = Told.Ready (option_map (λ point. point.0) base) length (map seen_in stripes.items)
+told_look (look.Ready pass looked_at length stripes) = Told.Ready (option_map (λ point. point.0) looked_at) length (map seen_in stripes.items)
 
 -- what a repairer's look tells
 abbrev pub told_repair_look : {S P : Type 0} → RepairLook S P → Told
@@ -39,7 +39,7 @@ told_drawn (drawn.Reaped seat at) = Told.Reaped at.0
 -- what a commit tells
 abbrev pub told_committed : {S : Type 0} → Committed S → Told
 told_committed (committed.Done seat point) = Told.Done point.0
-told_committed (committed.Changed seat base newer) = Told.Changed base.0 newer.0
+told_committed (committed.Changed seat looked_at newer) = Told.Changed looked_at.0 newer.0
 told_committed (committed.Reaped seat at) = Told.Reaped at.0
 
 -- what the end of a pass tells
@@ -57,3 +57,13 @@ told_confirmed (confirmed.Reaped seat at) = Told.Reaped at.0
 abbrev pub told_or_short : {A E : Type 0} → (A → Told) → Result A E → Told
 told_or_short told (Ok answer) = told answer
 told_or_short told (Err token) = Told.Short
+
+-- of a look, a rebuild's look and a draw
+abbrev pub told_by_look : {S P E : Type 0} → Result (Look S P) E → Told
+told_by_look look = told_or_short told_look look
+
+abbrev pub told_by_repair_look : {S P E : Type 0} → Result (RepairLook S P) E → Told
+told_by_repair_look look = told_or_short told_repair_look look
+
+abbrev pub told_by_draw : {S P E : Type 0} → Result (Drawn S P) E → Told
+told_by_draw drawn = told_or_short told_drawn drawn

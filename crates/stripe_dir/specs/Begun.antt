@@ -5,6 +5,7 @@ use Rattle.store_map.specs.declared.reply.Reply.TheVariants as reply
 use Rattle.store_core.specs.Told.{Told, Seen}
 use Rattle.store_core.specs.Note.{Note, Kind}
 use Rattle.store_core.specs.Directory.{Pass, Event, Point, Directory}
+use Rattle.store_core.specs.Looks.{accept}
 use Rattle.store_core.specs.Look.{pin_of, seen_at, begin_pass, append_point, without_object}
 use Rattle.dir_parts.specs.Parts.{object_or_new}
 
@@ -31,6 +32,10 @@ begun_pass who number note seen base =
 abbrev pub begun_in : Actor → ℕ → Note → List ℕ → Option ℕ → Directory → Directory
 begun_in who number note stripes base d =
     begin_pass who number note (seen_in_object d note stripes) base (record d { points = d.points ++ looked who number note })
+
+-- what a look that the map doesn't refuse leaves and tells
+abbrev pub accepted : Actor → ℕ → Note → Directory → Directory × Told
+accepted who number note d = accept who number note d note.kind (object_or_new note.name d.objects)
 
 -- nothing where memory is wanting
 abbrev pub or_short : Bool → Directory → Directory × Told → Directory × Told

@@ -25,7 +25,7 @@ sealed_in a = record { core = directory_in a; book = a.stamps.book; stamps = a.s
 -- the lists are sound, the stamps are those of the versions, the counts are those of the passes, and there is room for what passes may still add
 pub record IsKept (a : Inside) : Type 0 where
   pub stripes : 0 < stripe_length a.geometry
-  pub desk : a.passes.stripe ≡ stripe_length a.geometry
+  pub desk : a.passes.stripe_len ≡ stripe_length a.geometry
   pub whole : IsWhole (directory_in a)
   pub stamps : HasStamps (sealed_in a)
   pub counted : length a.versions.pins ≡ length a.versions.listed

@@ -14,3 +14,6 @@ pub mod StampLaws
 pub mod Shown
 pub mod TicketView
 pub mod StampList
+pub mod Steps
+pub mod TicketSteps
+pub mod DrawnStamps

@@ -1,16 +1,20 @@
 -- A directory with a stamp for each of its versions.
-use Rattle.std.specs.Prelude.{ℕ, ◌+◌, ◌/◌, List, length, map, Option, option_and_then, IfSome, IsTrue}
+use Rattle.std.specs.Prelude.{ℕ, ◌+◌, List, [], length, map, Option, option_and_then, IfSome, IsTrue}
 use Rattle.std.specs.List.{range_with_len, slice_get}
-use Rattle.store_map.specs.Limits.{stripes_met}
-use Rattle.store_core.specs.Directory.{Pin, Pass, Directory}
+use Rattle.store_core.specs.Directory.{Pin, Pass, Directory, new_directory}
 use Rattle.version_seal.specs.Entry.{BookOf, StampOf, RequestOf, stamp_over, call_written, is_writing, IsRequestIn}
 use Rattle.dir_parts.specs.TableSteps.{base_version}
+use Rattle.stripe_dir.specs.Stripes.{first_touched, count_touched}
 
 -- the lists of the definitions, the book of its versions, and their stamps, each at its version's number
 pub record Sealed : Type 0 where
   pub core : Directory
   pub book : BookOf
   pub stamps : List StampOf
+
+-- a directory without objects, of a book's versions
+abbrev pub new_sealed : BookOf → ℕ → Sealed
+new_sealed book max = record { core = new_directory book.geometry max; book = book; stamps = [] }
 
 -- the stamp of the version that pins name for a stripe, if they name one
 abbrev pub base_stamp : List StampOf → List Pin → ℕ → Option StampOf
@@ -27,8 +31,8 @@ drawn_stamps book stamps pass first count request = map (drawn_stamp book stamps
 
 -- those of the stripes that its call touches, by the length of a stripe
 abbrev pub stamps_touched : BookOf → List StampOf → ℕ → Pass → Option RequestOf → List StampOf
-stamps_touched book stamps stripe pass request =
-    drawn_stamps book stamps pass (pass.note.offset / stripe) (stripes_met stripe pass.note.offset pass.note.length) request
+stamps_touched book stamps stripe_len pass request =
+    drawn_stamps book stamps pass (first_touched stripe_len pass.note) (count_touched stripe_len pass.note) request
 
 -- the pass's call is a put or a write of the book's script, or in a book without one that of the request
 pub record CanSeal (book : BookOf) (pass : Pass) (request : Option RequestOf) : Type 0 where

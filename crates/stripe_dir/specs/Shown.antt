@@ -4,7 +4,7 @@ use Rattle.store_core.specs.Note.{Note, Kind}
 use Rattle.store_core.specs.Placements.{IsRow}
 use Rattle.stripe_dir.specs.Sealed.{Sealed}
 use Rattle.stripe_dir.specs.AnswerStamps.{IsSeenIn}
-use Rattle.stripe_dir.specs.declared.answers.Seen.{Seen}
+use Rattle.call_steps.specs.declared.seen.Seen.{Seen}
 use Rattle.stripe_dir.specs.declared.answers.Look.{Look}
 use Rattle.stripe_dir.specs.declared.answers.Look.TheVariants as look
 use Rattle.stripe_dir.specs.declared.answers.RepairLook.{RepairLook}
@@ -18,7 +18,7 @@ repair_note name stripe = record { kind = Kind.Rebuild; name = name; offset = st
 abbrev pub stripes_seen : {S P : Type 0} → Look S P → List Seen
 stripes_seen (look.Answer seat point reply) = []
 stripes_seen (look.Pinned pass point length stripes) = stripes.items
-stripes_seen (look.Ready pass base length stripes) = stripes.items
+stripes_seen (look.Ready pass looked_at length stripes) = stripes.items
 
 -- the stripe that a repairer's look gives
 abbrev pub stripe_seen : {S P : Type 0} → RepairLook S P → List Seen

@@ -1,22 +1,22 @@
 -- That stamps keep the contents of their versions, and hold the bytes of the plain map, by whatever calls were made.
-use Rattle.std.specs.Prelude.{◌≡◌, ◌≢◌, ℕ, ◌<◌, Bool, true, false, [], ◌++◌, map, Option, Some, None}
+use Rattle.std.specs.Prelude.{◌≡◌, ◌≢◌, ℕ, ◌<◌, Bool, true, false, ◌++◌, map, Option, Some, None}
 use Rattle.clay_grid.specs.Shape.{stripe_length}
 use Rattle.store_map.specs.declared.actor.Actor.{Actor}
 use Rattle.store_core.specs.Act.{DirectoryStep}
 use Rattle.store_core.specs.AtDirectory.{at_directory}
 use Rattle.store_core.specs.Calls.{Calls}
-use Rattle.store_core.specs.Directory.{Pass, new_directory}
+use Rattle.store_core.specs.Directory.{Pass}
 use Rattle.store_core.specs.Lookups.{pass_of}
 use Rattle.store_lengths.specs.MapAfter.{map_by}
 use Rattle.store_contents.specs.Contents.{stripes_in, stored_in, HasBytes}
 use Rattle.version_seal.specs.Entry.{BookOf, RequestOf, call_written}
 use Rattle.stripe_dir.specs.ItsStripes.{IsWhole}
-use Rattle.stripe_dir.specs.Sealed.{Sealed, stamps_touched}
+use Rattle.stripe_dir.specs.Sealed.{Sealed, new_sealed, stamps_touched}
 use Rattle.stripe_dir.specs.Stamped.{HaveContents, HasStamps}
 
 -- a directory without versions has no contents; steps that aren't a draw keep stamps and contents, so does a draw that wants memory or whose pass was reaped; one that draws keeps them where its call is sealed
 pub record StampsKeepContents (calls : Calls) : Type 0 where
-  pub first : (book : BookOf) (max : ℕ) → HaveContents calls (record { core = new_directory book.geometry max; book = book; stamps = [] })
+  pub first : (book : BookOf) (max : ℕ) → HaveContents calls (new_sealed book max)
   pub still :
       (s : Sealed) (short : Bool) (who : Actor) (number : ℕ) (step : DirectoryStep) → step ≢ DirectoryStep.Draw →
       HaveContents calls s → HaveContents calls (record s { core = (at_directory short who number step s.core).0 })

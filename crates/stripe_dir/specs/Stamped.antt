@@ -10,9 +10,13 @@ use Rattle.version_seal.specs.Entry.{BookOf, StampOf}
 use Rattle.stripe_dir.specs.Sealed.{Sealed}
 use Rattle.stripe_dir.specs.ItsStripes.{IsOfStripe}
 
+-- each at its version's number
+abbrev pub AreNumbered : List StampOf → Type 0
+AreNumbered stamps = map (λ stamp. stamp.version) stamps ≡ range_with_len 0 (length stamps)
+
 -- stamps of a book, each at its version's number
 pub record AreOf (book : BookOf) (stamps : List StampOf) : Type 0 where
-  pub numbered : map (λ stamp. stamp.version) stamps ≡ range_with_len 0 (length stamps)
+  pub numbered : AreNumbered stamps
   pub at_home : All (λ stamp. stamp.home ≡ book.home) stamps
 
 -- pins name versions of their stripes, by the stamps

@@ -2,16 +2,9 @@
 //! [`Ticket`](crate::Ticket) keeps it, `()` in its place.
 
 use crate::tokens::{Pass, Seat};
-use store_map::{Placement, Point, Reply};
+use call_steps::Seen;
+use store_map::{Point, Reply};
 use version_seal::Stamp;
-
-/// A pinned stripe, with the stamp of its version that is current now and how each server took that version's chunk.
-#[derive(Drop)]
-pub struct Seen {
-    pub stripe: u32,
-    pub stamp: Stamp,
-    pub placed: Vec<Placement>,
-}
 
 /// What a client's look comes to.
 #[derive(Drop)]
@@ -33,7 +26,7 @@ pub enum Look<S = Seat, P = Pass> {
     /// A put or a write goes on: these stripes are partly covered, rising.
     Ready {
         pass: P,
-        base: Option<Point>,
+        looked_at: Option<Point>,
         length: u64,
         stripes: Vec<Seen>,
     },
@@ -57,10 +50,20 @@ pub enum Drawn<S = Seat, P = Pass> {
 /// What a commit comes to.
 #[derive(Drop)]
 pub enum Committed<S = Seat> {
-    Done { seat: S, point: Point },
+    Done {
+        seat: S,
+        point: Point,
+    },
     /// The object was changed since the look.
-    Changed { seat: S, base: Point, newer: Point },
-    Reaped { seat: S, at: Point },
+    Changed {
+        seat: S,
+        looked_at: Point,
+        newer: Point,
+    },
+    Reaped {
+        seat: S,
+        at: Point,
+    },
 }
 
 /// How a pass that was given up ended.

@@ -2,7 +2,7 @@
 ghost use Rattle.std.specs.Prelude.{◌≡◌, List, Option, IfOk, is_err};
 ghost use Rattle.store_core.specs.Directory.{Pass as CorePass};
 ghost use Rattle.version_seal.specs.Entry.{StampOf, RequestOf};
-ghost use Rattle.stripe_dir.specs.Answers.{told_look, told_repair_look, told_drawn, told_committed, told_ended, told_confirmed, told_or_short};
+ghost use Rattle.stripe_dir.specs.Answers.{told_by_look, told_by_repair_look, told_by_draw, told_committed, told_ended, told_confirmed};
 ghost use Rattle.stripe_dir.specs.AnswerTokens.{token_look, token_repair_look, token_drawn, token_committed, token_ended, token_confirmed, token_or_seat, token_or_pass};
 ghost use Rattle.stripe_dir.specs.AnswerStamps.{AreSeenIn, IsSeenByRepair, stamps_given, AreDrawn};
 ghost use Rattle.stripe_dir.specs.Sealed.{Sealed};
@@ -16,7 +16,7 @@ use std::alloc::AllocError;
 /// Of a client's look.
 pub(crate) fn split_look(look: Result<Look, Seat>) -> (Held, Result<Look<(), ()>, AllocError>)
     ensures token { token_of result.0 ≡ token_or_seat token_look look }
-    ensures told { told_or_short told_look result.1 ≡ told_or_short told_look look }
+    ensures told { told_by_look result.1 ≡ told_by_look look }
     ensures short { is_err result.1 ≡ is_err look }
     ensures seen { (stamps : List StampOf) → IfOk look (AreSeenIn stamps) → IfOk result.1 (AreSeenIn stamps) }
 {
@@ -48,7 +48,7 @@ pub(crate) fn split_look(look: Result<Look, Seat>) -> (Held, Result<Look<(), ()>
         Ok(
             Look::Ready {
                 pass,
-                base,
+                looked_at,
                 length,
                 stripes,
             },
@@ -56,7 +56,7 @@ pub(crate) fn split_look(look: Result<Look, Seat>) -> (Held, Result<Look<(), ()>
             Held::Pass(pass),
             Ok(Look::Ready {
                 pass: (),
-                base,
+                looked_at,
                 length,
                 stripes,
             }),
@@ -70,7 +70,7 @@ pub(crate) fn split_repair_look(
     look: Result<RepairLook, Seat>,
 ) -> (Held, Result<RepairLook<(), ()>, AllocError>)
     ensures token { token_of result.0 ≡ token_or_seat token_repair_look look }
-    ensures told { told_or_short told_repair_look result.1 ≡ told_or_short told_repair_look look }
+    ensures told { told_by_repair_look result.1 ≡ told_by_repair_look look }
     ensures short { is_err result.1 ≡ is_err look }
     ensures seen { (stamps : List StampOf) → IfOk look (IsSeenByRepair stamps) → IfOk result.1 (IsSeenByRepair stamps) }
 {
@@ -87,7 +87,7 @@ pub(crate) fn split_repair_look(
 /// Of a draw.
 pub(crate) fn split_drawn(drawn: Result<Drawn, Pass>) -> (Held, Result<Drawn<(), ()>, AllocError>)
     ensures token { token_of result.0 ≡ token_or_pass token_drawn drawn }
-    ensures told { told_or_short told_drawn result.1 ≡ told_or_short told_drawn drawn }
+    ensures told { told_by_draw result.1 ≡ told_by_draw drawn }
     ensures short { is_err result.1 ≡ is_err drawn }
     ensures stamps { stamps_given result.1 ≡ stamps_given drawn }
     ensures drawn { (s : Sealed) (pass : CorePass) (request : Option RequestOf) → AreDrawn s pass request drawn → AreDrawn s pass request result.1 }
@@ -109,11 +109,15 @@ pub(crate) fn split_committed(committed: Committed) -> (Held, Committed<()>)
 {
     match committed {
         Committed::Done { seat, point } => (Held::Seat(seat), Committed::Done { seat: (), point }),
-        Committed::Changed { seat, base, newer } => (
+        Committed::Changed {
+            seat,
+            looked_at,
+            newer,
+        } => (
             Held::Seat(seat),
             Committed::Changed {
                 seat: (),
-                base,
+                looked_at,
                 newer,
             },
         ),

@@ -1,18 +1,16 @@
-ghost use Rattle.std.specs.Prelude.{◌≡◌, ◌<◌, true, None, Some, option_map, IfOk, is_err, if◌then◌else◌};
+//! The look of a client's call: it ends the call at once, or begins its pass.
+ghost use Rattle.std.specs.Prelude.{◌≡◌, ◌<◌, true, None, Some, option_map, IfOk};
 ghost use Rattle.store_core.specs.Note.{note_of};
 ghost use Rattle.store_core.specs.Act.{DirectoryStep};
 ghost use Rattle.store_core.specs.Lookups.{find_object, last_change};
-ghost use Rattle.store_core.specs.Looks.{accept};
 ghost use Rattle.store_core.specs.Agreement.{AgreesWithSeat};
-ghost use Rattle.store_core.specs.Tokens.{MayLook, after_look};
-ghost use Rattle.store_core.specs.AtDirectory.{at_directory};
+ghost use Rattle.store_core.specs.Tokens.{MayLook};
 ghost use Rattle.stripe_dir.specs.ItsStripes.{IsWhole};
 ghost use Rattle.dir_parts.specs.Parts.{object_or_new};
 ghost use Rattle.dir_parts.specs.Passes.{kind_in};
-ghost use Rattle.stripe_dir.specs.Answers.{told_look, told_or_short};
-ghost use Rattle.stripe_dir.specs.AnswerTokens.{token_look, token_or_seat};
+ghost use Rattle.stripe_dir.specs.Steps.{IsLook, LooksTo, LookLeaves};
 ghost use Rattle.stripe_dir.specs.AnswerStamps.{AreSeenIn};
-ghost use Rattle.stripe_dir.specs.Begun.{base_by, begins_pass, has_point, or_short};
+ghost use Rattle.stripe_dir.specs.Begun.{accepted, base_by, begins_pass, has_point};
 
 use crate::answers::Look;
 use crate::directory::Directory;
@@ -34,8 +32,8 @@ fn length_of(objects: &Objects, name: &Name) -> Option<u64>
     }
 }
 
-// The base of a write: the last change of its object. Other calls have none.
-fn base_of(history: &History, note: &CallNote) -> Option<u64>
+// The point that a write looks at: the last change of its object. Other calls have none.
+fn point_looked_at(history: &History, note: &CallNote) -> Option<u64>
     ensures { result ≡ base_by note.now.kind (last_change note.now.name history.now.points) }
 {
     match note.kind {
@@ -72,22 +70,28 @@ impl Directory {
     ) -> Result<Look, Seat>
         requires goes_on { begins_pass note.kind ≡ true }
         requires length { length ≡ (object_or_new note.name self.old.core.objects).length }
-        requires whole { IsWhole (accept seat.actor number note self.old.core note.kind (object_or_new note.name self.old.core.objects)).0 }
-        ensures step { (self.new.core, told_or_short told_look result) ≡ or_short (is_err result) self.old.core (accept seat.actor number note self.old.core note.kind (object_or_new note.name self.old.core.objects)) }
-        ensures token { token_or_seat token_look result ≡ after_look seat number note (told_or_short told_look result) }
+        requires whole { IsWhole (accepted seat.actor number note self.old.core).0 }
+        ensures step { LooksTo (accepted seat.actor number note self.old.core) self.old self.new result }
+        ensures token { LookLeaves seat number note result }
         ensures book { self.new.book ≡ self.old.book }
         ensures stamps { self.new.stamps ≡ self.old.stamps }
         ensures seen { IfOk result (AreSeenIn self.old.stamps) }
     {
         let kind = note.kind;
-        let base = base_of(&self.history, &note);
+        let looked_at = point_looked_at(&self.history, &note);
         let point = self.history.len() as u64;
-        let stripe = self.geometry.stripe_len();
-        let Ok(stripes) = pinned_stripes(self.alloc, kind, stripe, note.offset, note.length, length)
-        else {
+        let stripe_len = self.geometry.stripe_len();
+        let Ok(stripes) = pinned_stripes(
+            self.alloc,
+            kind,
+            stripe_len,
+            note.offset,
+            note.length,
+            length,
+        ) else {
             return Err(seat);
         };
-        let Ok(begun) = self.begin(seat.actor, number, note, &stripes, base) else {
+        let Ok(begun) = self.begin(seat.actor, number, note, &stripes, looked_at) else {
             return Err(seat);
         };
         let Begun { entry, seen } = begun;
@@ -110,7 +114,7 @@ impl Directory {
         }
         Ok(Look::Ready {
             pass: Pass { actor, told, entry },
-            base: point_of(base),
+            looked_at: point_of(looked_at),
             length,
             stripes: seen,
         })
@@ -120,8 +124,8 @@ impl Directory {
     fn look_by(&mut self, seat: Seat, number: u32, note: CallNote) -> Result<Look, Seat>
         requires agrees { AgreesWithSeat self.old.core seat }
         requires may { MayLook seat number (DirectoryStep.Look note) }
-        ensures step { (self.new.core, told_or_short told_look result) ≡ at_directory (is_err result) seat.actor number (DirectoryStep.Look note) self.old.core }
-        ensures token { token_or_seat token_look result ≡ after_look seat number note (told_or_short told_look result) }
+        ensures step { IsLook seat number note self.old self.new result }
+        ensures token { LookLeaves seat number note result }
         ensures book { self.new.book ≡ self.old.book }
         ensures stamps { self.new.stamps ≡ self.old.stamps }
         ensures seen { IfOk result (AreSeenIn self.old.stamps) }
@@ -144,8 +148,8 @@ impl Directory {
     pub fn look(&mut self, seat: Seat, number: u32, call: &Call) -> Result<Look, Seat>
         requires agrees { AgreesWithSeat self.old.core seat }
         requires may { MayLook seat number (DirectoryStep.Look (note_of call.now)) }
-        ensures step { (self.new.core, told_or_short told_look result) ≡ at_directory (is_err result) seat.actor number (DirectoryStep.Look (note_of call.now)) self.old.core }
-        ensures token { token_or_seat token_look result ≡ after_look seat number (note_of call.now) (told_or_short told_look result) }
+        ensures step { IsLook seat number (note_of call.now) self.old self.new result }
+        ensures token { LookLeaves seat number (note_of call.now) result }
         ensures book { self.new.book ≡ self.old.book }
         ensures stamps { self.new.stamps ≡ self.old.stamps }
         ensures seen { IfOk result (AreSeenIn self.old.stamps) }

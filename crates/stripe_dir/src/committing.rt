@@ -1,17 +1,16 @@
-ghost use Rattle.std.specs.Prelude.{◌≡◌, ◌+◌, ◌<◌, ◌≤◌, ◌/◌, length, map, false, None, Some, IfSome, IsTrue, is_some, vec_capacity};
-ghost use Rattle.store_core.specs.Told.{Told};
+//! A commit: the drawn versions become the object's, unless the pass was reaped or overtaken.
+ghost use Rattle.std.specs.Prelude.{◌≡◌, ◌+◌, ◌<◌, ◌≤◌, ◌/◌, length, false, None, Some, IfSome, IsTrue, is_some, vec_capacity};
 ghost use Rattle.store_core.specs.Note.{Kind as CoreKind};
-ghost use Rattle.store_core.specs.Act.{DirectoryStep};
 ghost use Rattle.store_core.specs.Commit.{put_object, is_overtaken, same_point};
 ghost use Rattle.store_core.specs.Lookups.{pass_of, last_change};
 ghost use Rattle.store_core.specs.Agreement.{AgreesWithPass};
 ghost use Rattle.store_core.specs.Tokens.{MayGoOn, after_pass_step};
-ghost use Rattle.store_core.specs.AtDirectory.{at_directory};
-ghost use Rattle.dir_parts.specs.Parts.{object_or_new};
+ghost use Rattle.dir_parts.specs.Parts.{object_or_new, versions_under, FitsFrom};
 ghost use Rattle.dir_parts.specs.Passes.{kind_in};
 ghost use Rattle.stripe_dir.specs.Answers.{told_committed};
 ghost use Rattle.stripe_dir.specs.AnswerTokens.{token_committed};
-ghost use Rattle.stripe_dir.specs.Installed.{installed, dropped, changed_by};
+ghost use Rattle.stripe_dir.specs.Installed.{installed, dropped, changed_in, IsLiveIn};
+ghost use Rattle.stripe_dir.specs.Steps.{IsCommit, commit_step};
 
 use crate::answers::Committed;
 use crate::directory::Directory;
@@ -32,11 +31,11 @@ fn is_same(a: Option<u64>, b: Option<u64>) -> bool
 }
 
 // Whether the call is a write whose object was changed since its look.
-fn is_overtaken(kind: Kind, base: Option<u64>, last: Option<u64>) -> bool
-    ensures { result ≡ is_overtaken (kind_in kind) base last }
+fn is_overtaken(kind: Kind, looked_at: Option<u64>, last: Option<u64>) -> bool
+    ensures { result ≡ is_overtaken (kind_in kind) looked_at last }
 {
     match kind {
-        Kind::Write => !is_same(base, last),
+        Kind::Write => !is_same(looked_at, last),
         _ => false,
     }
 }
@@ -45,16 +44,16 @@ fn is_overtaken(kind: Kind, base: Option<u64>, last: Option<u64>) -> bool
 // touches after a write. Gives the versions that are replaced.
 fn install(
     objects: &mut Objects,
-    stripe: u32,
+    stripe_len: u32,
     note: CallNote,
     drawn: Vec<u64>,
     memory: Vec<u64>,
 ) -> Vec<u64>
-    requires stripe { 0 < stripe }
+    requires stripe { 0 < stripe_len }
     requires room { 0 < objects.old.room }
-    requires memory { note.kind ≡ CoreKind.Write → 0 < length drawn.items → note.offset / stripe + length drawn.items ≤ vec_capacity memory }
-    ensures objects { objects.new.objects ≡ put_object (installed note.kind stripe note drawn.items (object_or_new note.name objects.old.objects)) objects.old.objects }
-    ensures replaced { result.items ≡ dropped note.kind stripe note drawn.items (object_or_new note.name objects.old.objects).versions }
+    requires memory { note.kind ≡ CoreKind.Write → FitsFrom (note.offset / stripe_len) drawn.items (vec_capacity memory) }
+    ensures objects { objects.new.objects ≡ put_object (installed note.kind stripe_len note drawn.items (object_or_new note.name objects.old.objects)) objects.old.objects }
+    ensures replaced { result.items ≡ dropped note.kind stripe_len note drawn.items (versions_under note.name objects.old.objects) }
     ensures left { objects.old.room ≤ objects.new.room + 1 }
 {
     let CallNote {
@@ -66,24 +65,25 @@ fn install(
     match kind {
         Kind::Write => {
             let end = u64::from(offset) + u64::from(length);
-            objects.write(name, end, offset / stripe, drawn, memory)
+            objects.write(name, end, offset / stripe_len, drawn, memory)
         }
         _ => objects.put(name, u64::from(length), drawn),
     }
 }
 
 impl Directory {
-    // Where the actor's pass is a write whose object was changed since its look: its base, and the change.
+    // Where the actor's pass is a write whose object was changed since its look: the point that it
+    // looked at, and the change.
     fn overtaken(&self, actor: Actor) -> Option<(u64, u64)>
         requires { IsTrue (is_some (pass_of actor self.now.core)) }
-        ensures { IfSome (pass_of actor self.now.core) (λ pass. result ≡ changed_by pass (last_change pass.note.name self.now.core.points)) }
+        ensures { IfSome (pass_of actor self.now.core) (λ pass. result ≡ changed_in self.now.core pass) }
     {
         match self.passes.find(actor) {
             Some(open) => {
                 let note = &open.note;
                 let last = self.history.last_change(&note.name);
-                if is_overtaken(note.kind, open.base, last) {
-                    return Some((or_first(open.base), or_first(last)));
+                if is_overtaken(note.kind, open.looked_at, last) {
+                    return Some((or_first(open.looked_at), or_first(last)));
                 }
                 None
             }
@@ -94,10 +94,10 @@ impl Directory {
     // Commits what a pass has drawn that wasn't reaped, and whose object wasn't changed.
     fn finish(&mut self, pass: Pass, placed: Vec<Vec<Placement>>) -> Committed
         requires agrees { AgreesWithPass self.old.core pass }
-        requires may { MayGoOn self.old.core pass (DirectoryStep.Commit (map (λ row. row.items) placed.items)) }
-        requires live { IfSome (pass_of pass.pass.actor self.old.core) (λ own. own.reaped ≡ None) }
-        requires still { IfSome (pass_of pass.pass.actor self.old.core) (λ own. changed_by own (last_change own.note.name self.old.core.points) ≡ None) }
-        ensures step { (self.new.core, told_committed result) ≡ at_directory false pass.pass.actor pass.pass.number (DirectoryStep.Commit (map (λ row. row.items) placed.items)) self.old.core }
+        requires may { MayGoOn self.old.core pass (commit_step placed.items) }
+        requires live { IsLiveIn self.old.core pass.pass.actor }
+        requires still { IfSome (pass_of pass.pass.actor self.old.core) (λ own. changed_in self.old.core own ≡ None) }
+        ensures step { IsCommit pass placed.items self.old self.new result }
         ensures token { token_committed result ≡ after_pass_step pass (told_committed result) }
         ensures book { self.new.book ≡ self.old.book }
         ensures stamps { self.new.stamps ≡ self.old.stamps }
@@ -118,17 +118,9 @@ impl Directory {
         } = open;
         self.versions.unpin_all(&pinned);
         self.versions.make_all_current(&drawn, placed);
-        let point = self.history.add(
-            actor,
-            number,
-            Event::Done,
-            note.kind,
-            &note.name,
-            note.offset,
-            note.length,
-        );
-        let stripe = self.geometry.stripe_len();
-        let replaced = install(&mut self.objects, stripe, note, drawn, spare);
+        let point = self.history.add(actor, number, &note, Event::Done);
+        let stripe_len = self.geometry.stripe_len();
+        let replaced = install(&mut self.objects, stripe_len, note, drawn, spare);
         self.versions.supersede_all(&replaced);
         Committed::Done {
             seat: seat_of(actor, number, Some(point)),
@@ -139,8 +131,8 @@ impl Directory {
     /// Commits what the pass has drawn, with a row of placements for each version.
     pub fn commit(&mut self, pass: Pass, placed: Vec<Vec<Placement>>) -> Committed
         requires agrees { AgreesWithPass self.old.core pass }
-        requires may { MayGoOn self.old.core pass (DirectoryStep.Commit (map (λ row. row.items) placed.items)) }
-        ensures step { (self.new.core, told_committed result) ≡ at_directory false pass.pass.actor pass.pass.number (DirectoryStep.Commit (map (λ row. row.items) placed.items)) self.old.core }
+        requires may { MayGoOn self.old.core pass (commit_step placed.items) }
+        ensures step { IsCommit pass placed.items self.old self.new result }
         ensures token { token_committed result ≡ after_pass_step pass (told_committed result) }
         ensures book { self.new.book ≡ self.old.book }
         ensures stamps { self.new.stamps ≡ self.old.stamps }
@@ -152,7 +144,7 @@ impl Directory {
                 at: Point(point),
             };
         }
-        if let Some((base, newer)) = self.overtaken(pass.actor) {
+        if let Some((looked_at, newer)) = self.overtaken(pass.actor) {
             let Seat {
                 actor,
                 unused,
@@ -164,7 +156,7 @@ impl Directory {
                     unused: unused - 1,
                     told: Some(newer),
                 },
-                base: Point(base),
+                looked_at: Point(looked_at),
                 newer: Point(newer),
             };
         }

@@ -1,3 +1,4 @@
+//! What the directory keeps.
 use crate::stamp_list::Stamps;
 use clay_grid::Geometry;
 use dir_parts::{History, Objects, Passes, Versions};

@@ -1,16 +1,17 @@
-ghost use Rattle.std.specs.Prelude.{◌≡◌, ◌+◌, ◌<◌, ◌≤◌, ◌/◌, ◌^◌, ◌++◌, length, map, replicate, option_map, false, None, IfOk, OnOk, OnErr, IfSome, is_err, vec_capacity};
+//! A draw: a new version, with its stamp, of each stripe that a put or a write touches.
+ghost use Rattle.std.specs.Prelude.{◌≡◌, ◌+◌, ◌<◌, ◌≤◌, ◌/◌, ◌^◌, ◌++◌, length, replicate, IfOk, OnOk, OnErr, vec_capacity};
 ghost use Rattle.std.specs.List.{range_with_len};
-ghost use Rattle.store_map.specs.Limits.{stripes_met};
 ghost use Rattle.store_core.specs.Note.{Kind as CoreKind};
 ghost use Rattle.store_core.specs.Act.{DirectoryStep};
 ghost use Rattle.store_core.specs.Agreement.{AgreesWithPass};
 ghost use Rattle.store_core.specs.Tokens.{MayGoOn, after_pass_step};
-ghost use Rattle.store_core.specs.AtDirectory.{at_directory};
 ghost use Rattle.dir_parts.specs.Passes.{kind_in};
-ghost use Rattle.dir_parts.specs.TableSteps.{drawn_version};
 ghost use Rattle.stripe_dir.specs.Sealed.{stamps_touched, CanSeal};
 ghost use Rattle.stripe_dir.specs.Stamped.{AreOf, AreBases};
-ghost use Rattle.stripe_dir.specs.Answers.{told_drawn, told_or_short};
+ghost use Rattle.stripe_dir.specs.Answers.{told_by_draw};
+ghost use Rattle.stripe_dir.specs.DrawnStamps.{asked, with_more};
+ghost use Rattle.stripe_dir.specs.Stripes.{first_touched, count_touched, versions_touched};
+ghost use Rattle.stripe_dir.specs.Steps.{IsDraw};
 ghost use Rattle.stripe_dir.specs.AnswerTokens.{token_drawn, token_or_pass};
 ghost use Rattle.stripe_dir.specs.AnswerStamps.{stamps_given, AreDrawn};
 
@@ -65,29 +66,29 @@ fn draw_fresh(
     versions: &mut Versions,
     stamps: &mut Stamps,
     pass: &OpenPass,
-    stripe: u32,
+    stripe_len: u32,
     book: &Book,
     request: Option<&Request>,
 ) -> Result<Fresh, AllocError>
-    requires stripe { 0 < stripe }
-    requires call { CanSeal book.now pass.now.pass (option_map (λ r. r.now) request) }
+    requires stripe { 0 < stripe_len }
+    requires call { CanSeal book.now pass.now.pass (asked request) }
     requires book { book.now ≡ stamps.old.book }
     requires stamps { AreOf book.now stamps.old.listed }
     requires bases { AreBases stamps.old.listed pass.now.pass.pinned }
-    ensures listed { OnOk result (versions.new.listed ≡ versions.old.listed ++ map (drawn_version pass.now.pass.actor pass.now.pass.number pass.now.pass.pinned) (range_with_len (pass.now.pass.note.offset / stripe) (stripes_met stripe pass.now.pass.note.offset pass.now.pass.note.length))) }
-    ensures pins { OnOk result (versions.new.pins ≡ versions.old.pins ++ replicate (stripes_met stripe pass.now.pass.note.offset pass.now.pass.note.length) 0) }
-    ensures drawn { IfOk result (λ fresh. fresh.drawn.items ≡ range_with_len (length versions.old.listed) (stripes_met stripe pass.now.pass.note.offset pass.now.pass.note.length)) }
-    ensures told { IfOk result (λ fresh. fresh.stamps.items ≡ stamps_touched book.now stamps.old.listed stripe pass.now.pass (option_map (λ r. r.now) request.entry)) }
-    ensures stamps { OnOk result (stamps.new ≡ record { book = stamps.old.book; listed = stamps.old.listed ++ stamps_touched book.now stamps.old.listed stripe pass.now.pass (option_map (λ r. r.now) request.entry) }) }
-    ensures memory { IfOk result (λ fresh. pass.now.pass.note.kind ≡ CoreKind.Write → pass.now.pass.note.offset / stripe + stripes_met stripe pass.now.pass.note.offset pass.now.pass.note.length ≤ vec_capacity fresh.memory) }
+    ensures listed { OnOk result (versions.new.listed ≡ versions.old.listed ++ versions_touched stripe_len pass.now.pass) }
+    ensures pins { OnOk result (versions.new.pins ≡ versions.old.pins ++ replicate (count_touched stripe_len pass.now.pass.note) 0) }
+    ensures drawn { IfOk result (λ fresh. fresh.drawn.items ≡ range_with_len (length versions.old.listed) (count_touched stripe_len pass.now.pass.note)) }
+    ensures told { IfOk result (λ fresh. fresh.stamps.items ≡ stamps_touched book.now stamps.old.listed stripe_len pass.now.pass (asked request.entry)) }
+    ensures stamps { OnOk result (stamps.new ≡ with_more stamps.old (stamps_touched book.now stamps.old.listed stripe_len pass.now.pass (asked request.entry))) }
+    ensures memory { IfOk result (λ fresh. pass.now.pass.note.kind ≡ CoreKind.Write → first_touched stripe_len pass.now.pass.note + count_touched stripe_len pass.now.pass.note ≤ vec_capacity fresh.memory) }
     ensures err_listed { OnErr result (versions.new.listed ≡ versions.old.listed) }
     ensures err_pins { OnErr result (versions.new.pins ≡ versions.old.pins) }
     ensures err_stamps { OnErr result (stamps.new ≡ stamps.old) }
 {
     let alloc = *pass.drawn.allocator();
     let note = &pass.note;
-    let first = note.offset / stripe;
-    let count = met(stripe, u64::from(note.offset), u64::from(note.length))?;
+    let first = note.offset / stripe_len;
+    let count = met(stripe_len, u64::from(note.offset), u64::from(note.length))?;
     if first > u32::MAX - count {
         return Err(AllocError);
     }
@@ -116,9 +117,9 @@ fn draw_fresh(
 
 impl Directory {
     /// A new version for each stripe that the put or the write touches, rising. Takes all memory that
-    /// the later steps on the pass need, and seals the versions then. In a book without a script it
-    /// wants the call's request. A number that was sealed in this book by another than the directory is
-    /// answered as want of memory.
+    /// the later steps on the pass need, and seals the versions then; where it is wanting none is
+    /// sealed. In a book without a script it wants the call's request. No number can be taken already,
+    /// since only the book's one sealer seals in it, which the directory keeps.
     pub fn draw(
         &mut self,
         pass: Pass,
@@ -128,12 +129,12 @@ impl Directory {
         requires agrees { AgreesWithPass self.old.core pass }
         requires may { MayGoOn self.old.core pass DirectoryStep.Draw }
         requires book { book.now ≡ self.old.book }
-        requires call { CanSeal self.old.book pass.pass (option_map (λ r. r.now) request) }
-        ensures step { (self.new.core, told_or_short told_drawn result) ≡ at_directory (is_err result) pass.pass.actor pass.pass.number DirectoryStep.Draw self.old.core }
-        ensures token { token_or_pass token_drawn result ≡ after_pass_step pass (told_or_short told_drawn result) }
+        requires call { CanSeal self.old.book pass.pass (asked request) }
+        ensures step { IsDraw pass self.old self.new result }
+        ensures token { token_or_pass token_drawn result ≡ after_pass_step pass (told_by_draw result) }
         ensures book { self.new.book ≡ self.old.book }
         ensures stamps { self.new.stamps ≡ self.old.stamps ++ stamps_given result }
-        ensures drawn { AreDrawn self.old pass.pass (option_map (λ r. r.now) request.entry) result }
+        ensures drawn { AreDrawn self.old pass.pass (asked request.entry) result }
     {
         if let Some(point) = self.reap_of(pass.actor) {
             let seat = self.end_reaped(pass, point);
@@ -142,7 +143,7 @@ impl Directory {
                 at: Point(point),
             });
         }
-        let stripe = self.geometry.stripe_len();
+        let stripe_len = self.geometry.stripe_len();
         let Some(open) = self.passes.find(pass.actor) else {
             unreachable!()
         };
@@ -150,7 +151,7 @@ impl Directory {
             &mut self.versions,
             &mut self.stamps,
             open,
-            stripe,
+            stripe_len,
             book,
             request,
         ) else {

@@ -25,7 +25,8 @@ mod ticket_looks;
 mod ticket_steps;
 mod tokens;
 
-pub use answers::{Committed, Confirmed, Drawn, Ended, Look, RepairLook, Seen};
+pub use answers::{Committed, Confirmed, Drawn, Ended, Look, RepairLook};
+pub use call_steps::Seen;
 pub use directory::Directory;
 pub use ticket::Ticket;
 pub use tokens::{Pass, Seat};

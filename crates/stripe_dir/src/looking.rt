@@ -1,26 +1,27 @@
+//! What looks do at the directory: they begin a pass, answer a call, or delete an object.
 ghost use Rattle.std.specs.Prelude.{◌≡◌, ◌+◌, ◌<◌, ◌≤◌, length, map, get_or, All, IfOk, OnOk, OnErr, is_err};
 ghost use Rattle.store_core.specs.Directory.{Standing, Event as CoreEvent};
 ghost use Rattle.store_core.specs.Look.{append_point, remove_object, set_standing};
 ghost use Rattle.store_map.specs.declared.reply.Reply.TheVariants as CoreReply;
 ghost use Rattle.store_core.specs.Told.{Told};
 ghost use Rattle.store_core.specs.Looks.{answer};
-ghost use Rattle.store_core.specs.Tokens.{after_look};
 ghost use Rattle.store_core.specs.SoundPasses.{Stands};
 ghost use Rattle.dir_parts.specs.Events.{reply_in};
-ghost use Rattle.dir_parts.specs.Parts.{object_or_new};
-ghost use Rattle.stripe_dir.specs.Answers.{seen_in, told_look, told_or_short};
-ghost use Rattle.stripe_dir.specs.AnswerTokens.{token_look, token_or_seat};
+ghost use Rattle.dir_parts.specs.Parts.{versions_under};
+ghost use Rattle.stripe_dir.specs.Answers.{seen_in};
+ghost use Rattle.stripe_dir.specs.Stamped.{AreNumbered};
+ghost use Rattle.stripe_dir.specs.Steps.{LooksTo, LookLeaves};
 ghost use Rattle.stripe_dir.specs.AnswerStamps.{AreSeenIn, IsSeenIn};
-ghost use Rattle.std.specs.List.{range_with_len};
 ghost use Rattle.stripe_dir.specs.ItsStripes.{IsWhole};
-ghost use Rattle.stripe_dir.specs.Stripes.{seen_by, pin_by};
-ghost use Rattle.stripe_dir.specs.Begun.{begun_in, begun_pass, deleted, seen_in_object, or_short};
+ghost use Rattle.stripe_dir.specs.Stripes.{pin_by, AreThere, AreTold};
+ghost use Rattle.stripe_dir.specs.Begun.{begun_in, begun_pass, deleted, seen_in_object};
 
-use crate::answers::{Look, Seen};
+use crate::answers::Look;
 use crate::directory::Directory;
 use crate::room::{add_look, make_room};
 use crate::stripes::{Sight, see};
 use crate::tokens::Seat;
+use call_steps::Seen;
 use dir_parts::{Answer, CallNote, Event, Objects, OpenPass, Versions};
 use std::alloc::{AllocError, Global};
 use std::snapshot::Snapshot;
@@ -44,10 +45,10 @@ fn see_object(
     stripes: &[u32],
 ) -> Result<Sight, AllocError>
     requires stamped { length stamps.now ≡ length versions.now.listed }
-    requires numbered { map (λ stamp. stamp.version) stamps.now ≡ range_with_len 0 (length stamps.now) }
-    requires there { All (λ stripe. get_or (object_or_new name.now objects.now.objects).versions stripe 0 < length versions.now.listed) stripes.now }
-    ensures seen { IfOk result (λ sight. map seen_in sight.seen.items ≡ map (seen_by versions.now.listed (object_or_new name.now objects.now.objects).versions) stripes.now) }
-    ensures pinned { IfOk result (λ sight. sight.pinned.items ≡ map (pin_by (object_or_new name.now objects.now.objects).versions) stripes.now) }
+    requires numbered { AreNumbered stamps.now }
+    requires there { AreThere versions.now.listed (versions_under name.now objects.now.objects) stripes.now }
+    ensures seen { IfOk result (λ sight. AreTold versions.now.listed (versions_under name.now objects.now.objects) stripes.now sight.seen.items) }
+    ensures pinned { IfOk result (λ sight. sight.pinned.items ≡ map (pin_by (versions_under name.now objects.now.objects)) stripes.now) }
     ensures stamps { IfOk result (λ sight. All (IsSeenIn stamps.now) sight.seen.items) }
 {
     match objects.find(name) {
@@ -58,10 +59,10 @@ fn see_object(
 
 // The object with this name goes, and its versions are superseded.
 fn remove_object(objects: &mut Objects, versions: &mut Versions, name: &Name)
-    requires { All (λ number. number < length versions.old.listed) (object_or_new name.now objects.old.objects).versions }
+    requires { All (λ number. number < length versions.old.listed) (versions_under name.now objects.old.objects) }
     ensures objects { objects.new.objects ≡ remove_object name.now objects.old.objects }
     ensures room { objects.old.room ≤ objects.new.room }
-    ensures listed { versions.new.listed ≡ set_standing Standing.Superseded (object_or_new name.now objects.old.objects).versions versions.old.listed }
+    ensures listed { versions.new.listed ≡ set_standing Standing.Superseded (versions_under name.now objects.old.objects) versions.old.listed }
     ensures pins { versions.new.pins ≡ versions.old.pins }
 {
     match objects.remove(name) {
@@ -78,12 +79,12 @@ impl Directory {
         number: u32,
         note: CallNote,
         stripes: &[u32],
-        base: Option<u64>,
+        looked_at: Option<u64>,
     ) -> Result<Begun, AllocError>
-        requires stands { All (λ stripe. Stands self.old.core Standing.Current (get_or (object_or_new note.name self.old.core.objects).versions stripe 0)) stripes.now }
-        requires whole { IsWhole (begun_in actor number note stripes.now base self.old.core) }
-        ensures after { OnOk result (self.new.core ≡ begun_in actor number note stripes.now base self.old.core) }
-        ensures entry { IfOk result (λ begun. begun.entry.value.pass ≡ begun_pass actor number note (seen_in_object self.old.core note stripes.now) base) }
+        requires stands { All (λ stripe. Stands self.old.core Standing.Current (get_or (versions_under note.name self.old.core.objects) stripe 0)) stripes.now }
+        requires whole { IsWhole (begun_in actor number note stripes.now looked_at self.old.core) }
+        ensures after { OnOk result (self.new.core ≡ begun_in actor number note stripes.now looked_at self.old.core) }
+        ensures entry { IfOk result (λ begun. begun.entry.value.pass ≡ begun_pass actor number note (seen_in_object self.old.core note stripes.now) looked_at) }
         ensures seen { IfOk result (λ begun. map seen_in begun.seen.items ≡ seen_in_object self.old.core note stripes.now) }
         ensures told { IfOk result (λ begun. All (IsSeenIn self.old.stamps) begun.seen.items) }
         ensures err { OnErr result (self.new.core ≡ self.old.core) }
@@ -116,7 +117,7 @@ impl Directory {
             note,
             pinned,
             drawn: Vec::new(alloc),
-            base,
+            looked_at,
             reaped: None,
             spare: Vec::new(alloc),
         });
@@ -132,8 +133,8 @@ impl Directory {
         reply: Answer,
     ) -> Result<Look, Seat>
         requires whole { IsWhole (append_point seat.actor number note (CoreEvent.Answer (reply_in reply)) self.old.core) }
-        ensures step { (self.new.core, told_or_short told_look result) ≡ or_short (is_err result) self.old.core (answer seat.actor number note self.old.core (reply_in reply) self.old.core) }
-        ensures token { token_or_seat token_look result ≡ after_look seat number note (told_or_short told_look result) }
+        ensures step { LooksTo (answer seat.actor number note self.old.core (reply_in reply) self.old.core) self.old self.new result }
+        ensures token { LookLeaves seat number note result }
         ensures book { self.new.book ≡ self.old.book }
         ensures stamps { self.new.stamps ≡ self.old.stamps }
         ensures seen { IfOk result (AreSeenIn self.old.stamps) }
@@ -148,15 +149,9 @@ impl Directory {
         {
             return Err(seat);
         }
-        let point = self.history.add(
-            seat.actor,
-            number,
-            Event::Answer(reply),
-            note.kind,
-            &note.name,
-            note.offset,
-            note.length,
-        );
+        let point = self
+            .history
+            .add(seat.actor, number, &note, Event::Answer(reply));
         let Seat {
             actor,
             unused: _,
@@ -176,8 +171,8 @@ impl Directory {
     // Ends a delete at its look: its object goes. Where memory is wanting nothing changes.
     pub(crate) fn delete(&mut self, seat: Seat, number: u32, note: CallNote) -> Result<Look, Seat>
         requires whole { IsWhole (deleted seat.actor number note self.old.core) }
-        ensures step { (self.new.core, told_or_short told_look result) ≡ or_short (is_err result) self.old.core (deleted seat.actor number note self.old.core, Told.Answer (length self.old.core.points) CoreReply.Done) }
-        ensures token { token_or_seat token_look result ≡ after_look seat number note (told_or_short told_look result) }
+        ensures step { LooksTo (deleted seat.actor number note self.old.core, Told.Answer (length self.old.core.points) CoreReply.Done) self.old self.new result }
+        ensures token { LookLeaves seat number note result }
         ensures book { self.new.book ≡ self.old.book }
         ensures stamps { self.new.stamps ≡ self.old.stamps }
         ensures seen { IfOk result (AreSeenIn self.old.stamps) }
@@ -193,15 +188,9 @@ impl Directory {
             return Err(seat);
         }
         remove_object(&mut self.objects, &mut self.versions, &note.name);
-        let point = self.history.add(
-            seat.actor,
-            number,
-            Event::Answer(Answer::Done),
-            note.kind,
-            &note.name,
-            note.offset,
-            note.length,
-        );
+        let point = self
+            .history
+            .add(seat.actor, number, &note, Event::Answer(Answer::Done));
         let Seat {
             actor,
             unused: _,

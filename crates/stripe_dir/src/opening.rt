@@ -1,11 +1,12 @@
-ghost use Rattle.std.specs.Prelude.{◌≡◌, ◌+◌, ◌≤◌, ◌<◌, ◌++◌, [], vec_len, vec_capacity, map, length, option_map, slice_get, IfOk};
+//! A new directory with its actors' seats, and what it tells of its objects, points and stamps.
+ghost use Rattle.std.specs.Prelude.{◌≡◌, ◌+◌, ◌≤◌, ◌<◌, ◌++◌, vec_len, vec_capacity, map, length, option_map, slice_get, IfOk};
 ghost use Rattle.std.specs.List.{range_with_len};
 ghost use Rattle.clay_grid.specs.Shape.{stripe_length};
-ghost use Rattle.dir_parts.specs.Book.{told_of};
+ghost use Rattle.dir_parts.specs.Book.{told_of, told_at};
 ghost use Rattle.dir_parts.specs.Parts.{object_of};
 ghost use Rattle.version_seal.specs.Sealer.{sealer_at};
-ghost use Rattle.store_core.specs.Directory.{new_directory};
-ghost use Rattle.stripe_dir.specs.Seats.{client_seat, repairer_seat};
+ghost use Rattle.stripe_dir.specs.Sealed.{new_sealed};
+ghost use Rattle.stripe_dir.specs.Seats.{client_seat, repairer_seat, first_seats};
 ghost use Rattle.stripe_dir.specs.ItsStripes.{IsWhole};
 ghost use Rattle.stripe_dir.specs.Stamped.{HasStamps};
 
@@ -20,7 +21,7 @@ use version_seal::{Opening, Sealer, Stamp};
 
 // So many clients' seats, then so many repairers'.
 fn seats(alloc: Global, clients: u32, repairers: u32) -> Result<Vec<Seat>, AllocError>
-    ensures { IfOk result (λ seats. seats.items ≡ map client_seat (range_with_len 0 clients) ++ map repairer_seat (range_with_len 0 repairers)) }
+    ensures { IfOk result (λ seats. seats.items ≡ first_seats clients repairers) }
 {
     let mut seats = Vec::with_capacity(alloc, clients as usize + repairers as usize)?;
     add_clients(&mut seats, clients);
@@ -70,19 +71,19 @@ impl Directory {
         repairers: u32,
     ) -> Result<(Directory, Vec<Seat>), AllocError>
         requires sealer { sealer ≡ sealer_at opening 0 }
-        ensures directory { IfOk result (λ made. made.0 ≡ record { core = new_directory opening.geometry max; book = opening; stamps = [] }) }
-        ensures seats { IfOk result (λ made. made.1.items ≡ map client_seat (range_with_len 0 clients) ++ map repairer_seat (range_with_len 0 repairers)) }
+        ensures directory { IfOk result (λ made. made.0 ≡ new_sealed opening max) }
+        ensures seats { IfOk result (λ made. made.1.items ≡ first_seats clients repairers) }
     {
         let seats = seats(alloc, clients, repairers)?;
         let geometry = opening.geometry();
-        let stripe = geometry.stripe_len();
+        let stripe_len = geometry.stripe_len();
         let directory = Directory {
             alloc,
             geometry,
             max,
             objects: Objects::new(alloc),
             versions: Versions::new(alloc),
-            passes: Passes::new(alloc, stripe),
+            passes: Passes::new(alloc, stripe_len),
             history: History::new(alloc),
             stamps: Stamps::new(alloc, opening, sealer),
         };
@@ -119,7 +120,7 @@ impl Directory {
 
     /// The point of the history with this number.
     pub fn point_at(&self, point: usize) -> Option<PointEntry>
-        ensures { option_map told_of result ≡ option_map (λ entry. (entry.actor, entry.number, entry.event)) (slice_get self.now.core.points point) }
+        ensures { option_map told_of result ≡ told_at self.now.core.points point }
     {
         self.history.get(point)
     }

@@ -1,11 +1,12 @@
-ghost use Rattle.std.specs.Prelude.{◌≡◌, ◌+◌, ◌<◌, ◌∷◌, [], ◌++◌, ℕ, length, false, All, Contains, option_map};
-ghost use Rattle.store_map.specs.declared.actor.Actor.{Actor as CoreActor};
+//! A reap: the operator gives up an actor's pass.
+ghost use Rattle.std.specs.Prelude.{◌≡◌, ◌+◌, ◌<◌, ◌∷◌, [], ◌++◌, length, All, Contains, option_map};
 ghost use Rattle.store_core.specs.Told.{Told};
 ghost use Rattle.store_core.specs.Act.{DirectoryStep};
 ghost use Rattle.store_core.specs.Directory.{Standing, Event as CoreEvent};
 ghost use Rattle.store_core.specs.Look.{set_standing};
-ghost use Rattle.store_core.specs.AtDirectory.{at_directory};
 ghost use Rattle.dir_parts.specs.Counts.{unpinned};
+ghost use Rattle.dir_parts.specs.Parts.{point_by};
+ghost use Rattle.stripe_dir.specs.Steps.{IsStepOfAny};
 
 use crate::directory::Directory;
 use dir_parts::{Event, History, OpenPass, Versions};
@@ -20,29 +21,20 @@ fn give_up(versions: &mut Versions, history: &mut History, pass: &OpenPass) -> u
     ensures listed { versions.new.listed ≡ set_standing Standing.Superseded pass.now.pass.drawn versions.old.listed }
     ensures pins { versions.new.pins ≡ unpinned pass.now.pass.pinned versions.old.pins }
     ensures point { result ≡ length history.old.points }
-    ensures points { history.new.points ≡ history.old.points ++ record { actor = pass.now.pass.actor; number = pass.now.pass.number; note = pass.now.pass.note; event = CoreEvent.Reaped } ∷ [] }
+    ensures points { history.new.points ≡ history.old.points ++ point_by pass.now.pass.actor pass.now.pass.number pass.now.pass.note CoreEvent.Reaped ∷ [] }
     ensures names { history.new.names ≡ history.old.names }
     ensures left { history.new.room + 1 ≡ history.old.room }
 {
     versions.unpin_all(&pass.pinned);
     versions.supersede_all(&pass.drawn);
-    let note = &pass.note;
-    history.add(
-        pass.actor,
-        pass.number,
-        Event::Reaped,
-        note.kind,
-        &note.name,
-        note.offset,
-        note.length,
-    )
+    history.add(pass.actor, pass.number, &pass.note, Event::Reaped)
 }
 
 impl Directory {
     /// Gives up the actor's pass, where it has one that isn't reaped. The pass stays until its actor's
     /// next step at the directory.
     pub fn reap(&mut self, actor: Actor) -> Option<Point>
-        ensures step { (who : CoreActor) → (number : ℕ) → (self.new.core, Told.GivenUp (option_map (λ point. point.0) result)) ≡ at_directory false who number (DirectoryStep.Reap actor) self.old.core }
+        ensures step { IsStepOfAny (DirectoryStep.Reap actor) self.old self.new (Told.GivenUp (option_map (λ point. point.0) result)) }
         ensures book { self.new.book ≡ self.old.book }
         ensures stamps { self.new.stamps ≡ self.old.stamps }
     {

@@ -1,5 +1,6 @@
+//! What is kept of a client's call, and the reply where the map refuses it.
 ghost use Rattle.std.specs.Prelude.{◌≡◌, ◌+◌, IfOk, Some, option_map};
-ghost use Rattle.store_core.specs.Note.{Kind as CoreKind, note_of, refusal_of_size, refusal_of_offset, refusal_by};
+ghost use Rattle.store_core.specs.Note.{Kind as CoreKind, note_of, refusal_of_size, refusal_by};
 ghost use Rattle.dir_parts.specs.Events.{reply_in};
 ghost use Rattle.dir_parts.specs.Passes.{kind_in};
 

@@ -1,13 +1,12 @@
-ghost use Rattle.std.specs.Prelude.{◌≡◌, ◌∷◌, [], IfOk, is_err};
-ghost use Rattle.store_core.specs.Note.{Kind as CoreKind};
+//! The look of a rebuild: it pins the stripe, if that is there.
+ghost use Rattle.std.specs.Prelude.{◌≡◌, IfOk};
 ghost use Rattle.store_core.specs.Act.{DirectoryStep};
 ghost use Rattle.store_core.specs.Agreement.{AgreesWithSeat};
-ghost use Rattle.store_core.specs.Tokens.{MayLook, after_look};
-ghost use Rattle.store_core.specs.AtDirectory.{at_directory};
-ghost use Rattle.dir_parts.specs.Parts.{object_or_new};
+ghost use Rattle.store_core.specs.Tokens.{MayLook};
+ghost use Rattle.dir_parts.specs.Parts.{versions_under};
 ghost use Rattle.std.specs.Prelude.{length};
-ghost use Rattle.stripe_dir.specs.Answers.{told_repair_look, told_or_short};
-ghost use Rattle.stripe_dir.specs.AnswerTokens.{token_repair_look, token_or_seat};
+ghost use Rattle.stripe_dir.specs.Shown.{repair_note};
+ghost use Rattle.stripe_dir.specs.Steps.{IsRepairLook, RepairLookLeaves};
 ghost use Rattle.stripe_dir.specs.AnswerStamps.{IsSeenByRepair};
 
 use crate::answers::RepairLook;
@@ -19,7 +18,7 @@ use store_map::Name;
 
 // How many stripes the object with this name has, none where there is no object.
 fn stripes_of(objects: &Objects, name: &Name) -> usize
-    ensures { result ≡ length (object_or_new name.now objects.now.objects).versions }
+    ensures { result ≡ length (versions_under name.now objects.now.objects) }
 {
     match objects.find(name) {
         Some(contents) => contents.versions.len(),
@@ -38,9 +37,9 @@ impl Directory {
         stripe: u32,
     ) -> Result<RepairLook, Seat>
         requires agrees { AgreesWithSeat self.old.core seat }
-        requires may { MayLook seat number (DirectoryStep.LookRepair (record { kind = CoreKind.Rebuild; name = name.now; offset = stripe; length = 0 })) }
-        ensures step { (self.new.core, told_or_short told_repair_look result) ≡ at_directory (is_err result) seat.actor number (DirectoryStep.LookRepair (record { kind = CoreKind.Rebuild; name = name.now; offset = stripe; length = 0 })) self.old.core }
-        ensures token { token_or_seat token_repair_look result ≡ after_look seat number (record { kind = CoreKind.Rebuild; name = name.now; offset = stripe; length = 0 }) (told_or_short told_repair_look result) }
+        requires may { MayLook seat number (DirectoryStep.LookRepair (repair_note name.now stripe)) }
+        ensures step { IsRepairLook seat number (repair_note name.now stripe) self.old self.new result }
+        ensures token { RepairLookLeaves seat number (repair_note name.now stripe) result }
         ensures book { self.new.book ≡ self.old.book }
         ensures stamps { self.new.stamps ≡ self.old.stamps }
         ensures seen { IfOk result (IsSeenByRepair self.old.stamps) }

@@ -1,4 +1,6 @@
-ghost use Rattle.std.specs.Prelude.{◌≡◌, ◌+◌, ◌<◌, ◌≤◌, ◌++◌, ℕ, List, length, Contains, OnOk};
+//! The room that a look takes for its pass, and the point that it appends.
+ghost use Rattle.std.specs.Prelude.{◌≡◌, ◌+◌, ◌<◌, ◌≤◌, ◌++◌, length, Contains, OnOk};
+ghost use Rattle.dir_parts.specs.Parts.{KeepsNames};
 ghost use Rattle.stripe_dir.specs.Begun.{looked};
 
 use dir_parts::{CallNote, Event, History, Kind, Objects, Passes};
@@ -13,12 +15,12 @@ pub(crate) fn make_room(
     name: &Name,
 ) -> Result<(), AllocError>
     ensures points { history.new.points ≡ history.old.points }
-    ensures others { (other : List ℕ) → Contains history.old.names other → Contains history.new.names other }
+    ensures others { KeepsNames history.old.names history.new.names }
     ensures points_room { history.old.room ≤ history.new.room }
     ensures objects { objects.new.objects ≡ objects.old.objects }
     ensures objects_room { objects.old.room ≤ objects.new.room }
     ensures passes { passes.new.listed ≡ passes.old.listed }
-    ensures stripe { passes.new.stripe ≡ passes.old.stripe }
+    ensures stripe { passes.new.stripe_len ≡ passes.old.stripe_len }
     ensures named { OnOk result (Contains history.new.names name.now) }
     ensures more_points { OnOk result (length passes.old.listed + 2 ≤ history.new.room) }
     ensures more_objects { OnOk result (length passes.old.listed + 1 ≤ objects.new.room) }
@@ -43,15 +45,7 @@ pub(crate) fn add_look(history: &mut History, actor: Actor, number: u32, note: &
 {
     match note.kind {
         Kind::Get | Kind::ReadAt => {
-            history.add(
-                actor,
-                number,
-                Event::Pinned,
-                note.kind,
-                &note.name,
-                note.offset,
-                note.length,
-            );
+            history.add(actor, number, note, Event::Pinned);
         }
         _ => {}
     }

@@ -1,9 +1,10 @@
-ghost use Rattle.std.specs.Prelude.{◌≡◌, ◌+◌, ◌<◌, ◌≤◌, ◌^◌, ◌++◌, length, map, slice_get, Some, IfOk, OnOk, OnErr, vec_len, vec_capacity, option_map};
-ghost use Rattle.std.specs.List.{range_with_len};
+//! The stamps of a draw: each version is sealed over the one that its pass pinned, if it did.
+ghost use Rattle.std.specs.Prelude.{◌≡◌, ◌+◌, ◌<◌, ◌≤◌, ◌^◌, ◌++◌, length, slice_get, Some, IfOk, OnOk, OnErr, vec_len, vec_capacity, option_map};
 ghost use Rattle.version_seal.specs.Room.{HasRoom};
 ghost use Rattle.version_seal.specs.Sealer.{sealer_at};
-ghost use Rattle.stripe_dir.specs.Sealed.{base_stamp, drawn_stamp, drawn_stamps, CanSeal};
-ghost use Rattle.stripe_dir.specs.Stamped.{AreOf, AreBases};
+ghost use Rattle.stripe_dir.specs.Sealed.{base_stamp};
+ghost use Rattle.stripe_dir.specs.DrawnStamps.{stamp_at, stamps_of, CanSealAll};
+ghost use Rattle.stripe_dir.specs.Stamped.{AreNumbered, AreOf, AreBases};
 
 use dir_parts::{OpenPass, Pinned, base_of};
 use std::alloc::AllocError;
@@ -30,7 +31,7 @@ fn base_stamp<'a>(stamps: &'a [Stamp], pins: &[Pinned], stripe: u32) -> Option<&
 /// The same stamp as a version has.
 pub(crate) fn copy_of(stamps: &[Stamp], version: u64) -> Stamp
     requires there { version < length stamps.now }
-    requires numbered { map (λ stamp. stamp.version) stamps.now ≡ range_with_len 0 (length stamps.now) }
+    requires numbered { AreNumbered stamps.now }
     ensures stamp { slice_get stamps.now version ≡ Some result }
     ensures version { result.version ≡ version }
 {
@@ -48,10 +49,10 @@ fn seal_one(
     requires sealer { sealer.old ≡ sealer_at drawing.now.book.now (length stamps.now + place) }
     requires stripes { drawing.now.first + place < 2 ^ 32 }
     requires room { HasRoom drawing.now.book.now (length stamps.now + place) room.now }
-    requires call { CanSeal drawing.now.book.now drawing.now.pass.now.pass (option_map (λ r. r.now) drawing.now.request) }
+    requires call { CanSealAll drawing.now }
     requires stamps { AreOf drawing.now.book.now stamps.now }
     requires bases { AreBases stamps.now drawing.now.pass.now.pass.pinned }
-    ensures stamp { IfOk result (λ stamp. stamp ≡ drawn_stamp drawing.now.book.now stamps.now drawing.now.pass.now.pass drawing.now.first (option_map (λ r. r.now) drawing.now.request) place) }
+    ensures stamp { IfOk result (λ stamp. stamp ≡ stamp_at drawing.now stamps.now place) }
     ensures on { OnOk result (sealer.new ≡ sealer_at drawing.now.book.now (length stamps.now + place + 1)) }
     ensures back { OnErr result (sealer.new ≡ sealer_at drawing.now.book.now room.now.first) }
 {
@@ -77,10 +78,10 @@ pub(crate) fn seal_all(
 ) -> Result<Vec<Stamp>, AllocError>
     requires sealer { sealer.old ≡ sealer_at drawing.now.book.now (length stamps.now) }
     requires stripes { drawing.now.first + drawing.now.count ≤ 2 ^ 32 }
-    requires call { CanSeal drawing.now.book.now drawing.now.pass.now.pass (option_map (λ r. r.now) drawing.now.request) }
+    requires call { CanSealAll drawing.now }
     requires stamps { AreOf drawing.now.book.now stamps.now }
     requires bases { AreBases stamps.now drawing.now.pass.now.pass.pinned }
-    ensures fresh { IfOk result (λ fresh. fresh.items ≡ drawn_stamps drawing.now.book.now stamps.now drawing.now.pass.now.pass drawing.now.first drawing.now.count (option_map (λ r. r.now) drawing.now.request)) }
+    ensures fresh { IfOk result (λ fresh. fresh.items ≡ stamps_of drawing.now stamps.now) }
     ensures on { OnOk result (sealer.new ≡ sealer_at drawing.now.book.now (length stamps.now + drawing.now.count)) }
     ensures err { OnErr result (sealer.new ≡ sealer.old) }
 {

@@ -1,6 +1,6 @@
-ghost use Rattle.std.specs.Prelude.{◌≡◌, ◌+◌, ◌≤◌, ◌^◌, ◌++◌, [], option_map, IfOk, OnOk, OnErr};
+ghost use Rattle.std.specs.Prelude.{◌≡◌, ◌+◌, ◌≤◌, ◌^◌, [], IfOk, OnOk, OnErr};
 ghost use Rattle.version_seal.specs.Sealer.{sealer_at};
-ghost use Rattle.stripe_dir.specs.Sealed.{drawn_stamps, CanSeal};
+ghost use Rattle.stripe_dir.specs.DrawnStamps.{stamps_of, with_more, CanSealAll};
 ghost use Rattle.stripe_dir.specs.Stamped.{AreOf, AreBases};
 
 use crate::sealing::{Drawing, add_copies, seal_all};
@@ -52,11 +52,11 @@ impl Stamps {
     pub(crate) fn draw(&mut self, drawing: &Drawing) -> Result<Vec<Stamp>, AllocError>
         requires book { drawing.now.book.now ≡ self.old.book }
         requires stripes { drawing.now.first + drawing.now.count ≤ 2 ^ 32 }
-        requires call { CanSeal drawing.now.book.now drawing.now.pass.now.pass (option_map (λ r. r.now) drawing.now.request) }
+        requires call { CanSealAll drawing.now }
         requires stamps { AreOf drawing.now.book.now self.old.listed }
         requires bases { AreBases self.old.listed drawing.now.pass.now.pass.pinned }
-        ensures added { OnOk result (self.new ≡ record { book = self.old.book; listed = self.old.listed ++ drawn_stamps drawing.now.book.now self.old.listed drawing.now.pass.now.pass drawing.now.first drawing.now.count (option_map (λ r. r.now) drawing.now.request) }) }
-        ensures fresh { IfOk result (λ fresh. fresh.items ≡ drawn_stamps drawing.now.book.now self.old.listed drawing.now.pass.now.pass drawing.now.first drawing.now.count (option_map (λ r. r.now) drawing.now.request)) }
+        ensures added { OnOk result (self.new ≡ with_more self.old (stamps_of drawing.now self.old.listed)) }
+        ensures fresh { IfOk result (λ fresh. fresh.items ≡ stamps_of drawing.now self.old.listed) }
         ensures err { OnErr result (self.new ≡ self.old) }
     {
         self.listed.reserve(drawing.count as usize)?;

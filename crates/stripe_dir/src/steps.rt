@@ -1,3 +1,4 @@
+//! Steps on a pass: to end it, to confirm its version, to tell that its chunk was placed anew.
 ghost use Rattle.std.specs.Prelude.{◌≡◌, ◌+◌, ◌<◌, length, slice_get, All, false, None, Some, IfSome, IsTrue, is_some, unwrap_or};
 ghost use Rattle.std.specs.List.{list_all};
 ghost use Rattle.store_core.specs.Told.{Told};
@@ -6,7 +7,10 @@ ghost use Rattle.store_core.specs.Directory.{Pass as CorePass, Directory as Core
 ghost use Rattle.store_core.specs.Lookups.{pass_of, last_change, is_current, holds_standing, is_current_standing};
 ghost use Rattle.store_core.specs.Agreement.{AgreesWithPass};
 ghost use Rattle.store_core.specs.Tokens.{MayGoOn, after_pass_step};
-ghost use Rattle.store_core.specs.AtDirectory.{at_directory, on_pass};
+ghost use Rattle.store_core.specs.AtDirectory.{on_pass};
+ghost use Rattle.stripe_dir.specs.Installed.{IsLiveIn, IsReapedIn};
+ghost use Rattle.stripe_dir.specs.Seats.{seat_left};
+ghost use Rattle.stripe_dir.specs.Steps.{IsStepOn, IsEnd, IsConfirm};
 ghost use Rattle.stripe_dir.specs.Answers.{told_ended, told_confirmed};
 ghost use Rattle.stripe_dir.specs.AnswerTokens.{token_ended, token_confirmed};
 
@@ -76,9 +80,9 @@ impl Directory {
     // Ends a pass that was reaped, in place of any step on it.
     pub(crate) fn end_reaped(&mut self, pass: Pass, point: u64) -> Seat
         requires agrees { AgreesWithPass self.old.core pass }
-        requires reaped { IfSome (pass_of pass.pass.actor self.old.core) (λ own. own.reaped ≡ Some point) }
+        requires reaped { IsReapedIn self.old.core pass.pass.actor point }
         ensures step { (step : CorePass → CoreDirectory → CoreDirectory × Told) → (self.new.core, Told.Reaped point) ≡ on_pass step (pass_of pass.pass.actor self.old.core) self.old.core }
-        ensures seat { result ≡ record { actor = pass.pass.actor; unused = pass.pass.number + 1; told = Some point } }
+        ensures seat { result ≡ seat_left pass (Some point) }
         ensures book { self.new.book ≡ self.old.book }
         ensures stamps { self.new.stamps ≡ self.old.stamps }
     {
@@ -94,9 +98,9 @@ impl Directory {
     // Gives up a pass that wasn't reaped, with its pins and what it drew.
     pub(crate) fn end_live(&mut self, pass: Pass) -> Seat
         requires agrees { AgreesWithPass self.old.core pass }
-        requires live { IfSome (pass_of pass.pass.actor self.old.core) (λ own. own.reaped ≡ None) }
-        ensures step { (self.new.core, Told.Ended) ≡ at_directory false pass.pass.actor pass.pass.number DirectoryStep.End self.old.core }
-        ensures seat { result ≡ record { actor = pass.pass.actor; unused = pass.pass.number + 1; told = pass.told } }
+        requires live { IsLiveIn self.old.core pass.pass.actor }
+        ensures step { IsStepOn pass DirectoryStep.End self.old self.new false Told.Ended }
+        ensures seat { result ≡ seat_left pass pass.told }
         ensures book { self.new.book ≡ self.old.book }
         ensures stamps { self.new.stamps ≡ self.old.stamps }
     {
@@ -114,7 +118,7 @@ impl Directory {
     /// Gives up the pass, with its pins and what it drew.
     pub fn end(&mut self, pass: Pass) -> Ended
         requires agrees { AgreesWithPass self.old.core pass }
-        ensures step { (self.new.core, told_ended result) ≡ at_directory false pass.pass.actor pass.pass.number DirectoryStep.End self.old.core }
+        ensures step { IsEnd pass DirectoryStep.End self.old self.new result }
         ensures token { token_ended result ≡ after_pass_step pass (told_ended result) }
         ensures book { self.new.book ≡ self.old.book }
         ensures stamps { self.new.stamps ≡ self.old.stamps }
@@ -135,7 +139,7 @@ impl Directory {
     pub fn confirm(&mut self, pass: Pass) -> Confirmed
         requires agrees { AgreesWithPass self.old.core pass }
         requires may { MayGoOn self.old.core pass DirectoryStep.Confirm }
-        ensures step { (self.new.core, told_confirmed result) ≡ at_directory false pass.pass.actor pass.pass.number DirectoryStep.Confirm self.old.core }
+        ensures step { IsConfirm pass self.old self.new result }
         ensures token { token_confirmed result ≡ after_pass_step pass (told_confirmed result) }
         ensures book { self.new.book ≡ self.old.book }
         ensures stamps { self.new.stamps ≡ self.old.stamps }
@@ -168,7 +172,7 @@ impl Directory {
     pub fn repaired(&mut self, pass: Pass, server: u32, epoch: u64) -> Ended
         requires agrees { AgreesWithPass self.old.core pass }
         requires may { MayGoOn self.old.core pass (DirectoryStep.Repaired server epoch) }
-        ensures step { (self.new.core, told_ended result) ≡ at_directory false pass.pass.actor pass.pass.number (DirectoryStep.Repaired server epoch) self.old.core }
+        ensures step { IsEnd pass (DirectoryStep.Repaired server epoch) self.old self.new result }
         ensures token { token_ended result ≡ after_pass_step pass (told_ended result) }
         ensures book { self.new.book ≡ self.old.book }
         ensures stamps { self.new.stamps ≡ self.old.stamps }

@@ -1,23 +1,24 @@
+//! Which stripes a call pins, and what its look sees of them.
 ghost use Rattle.std.specs.Prelude.{◌≡◌, ◌+◌, ◌-◌, ◌<◌, ◌≤◌, ◌/◌, ◌^◌, map, filter, length, get_or, All, IfOk};
 ghost use Rattle.std.specs.List.{range_with_len};
 ghost use Rattle.store_map.specs.Limits.{stripes_met};
-ghost use Rattle.store_core.specs.Note.{Kind as CoreKind};
 ghost use Rattle.dir_parts.specs.Passes.{kind_in};
 ghost use Rattle.stripe_dir.specs.Answers.{seen_in};
 ghost use Rattle.stripe_dir.specs.AnswerStamps.{IsSeenIn};
-ghost use Rattle.stripe_dir.specs.Stripes.{keeps, seen_by, pin_by, read_to, pinned_of};
+ghost use Rattle.stripe_dir.specs.Stamped.{AreNumbered};
+ghost use Rattle.stripe_dir.specs.Stripes.{keeps, seen_by, pin_by, pinned_of, AreThere, AreTold};
 
-use crate::answers::Seen;
 use crate::sealing::copy_of;
+use call_steps::Seen;
 use dir_parts::{Kind, Pinned, Versions};
 use std::alloc::{AllocError, Global};
 use version_seal::Stamp;
 
 /// How many stripes meet so many bytes from a first one on. Numbers that don't fit count as want of
 /// memory here and below: no object is so long.
-pub(crate) fn met(stripe: u32, start: u64, count: u64) -> Result<u32, AllocError>
-    requires { 0 < stripe }
-    ensures { IfOk result (λ n. n ≡ stripes_met stripe start count) }
+pub(crate) fn met(stripe_len: u32, start: u64, count: u64) -> Result<u32, AllocError>
+    requires { 0 < stripe_len }
+    ensures { IfOk result (λ n. n ≡ stripes_met stripe_len start count) }
 {
     if count == 0 {
         return Ok(0);
@@ -25,8 +26,8 @@ pub(crate) fn met(stripe: u32, start: u64, count: u64) -> Result<u32, AllocError
     let Some(last) = start.checked_add(count - 1) else {
         return Err(AllocError);
     };
-    let stripe = u64::from(stripe);
-    let more = (last / stripe).saturating_sub(start / stripe);
+    let stripe_len = u64::from(stripe_len);
+    let more = (last / stripe_len).saturating_sub(start / stripe_len);
     if more >= u64::from(u32::MAX) {
         return Err(AllocError);
     }
@@ -46,12 +47,12 @@ fn stripe_numbers(alloc: Global, first: u32, count: u32) -> Result<Vec<u32>, All
 }
 
 // The stripes that meet the bytes from `start` up to `end`, rising.
-fn between(alloc: Global, stripe: u32, start: u64, end: u64) -> Result<Vec<u32>, AllocError>
-    requires { 0 < stripe }
-    ensures { IfOk result (λ stripes. stripes.items ≡ range_with_len (start / stripe) (stripes_met stripe start (end - start))) }
+fn between(alloc: Global, stripe_len: u32, start: u64, end: u64) -> Result<Vec<u32>, AllocError>
+    requires { 0 < stripe_len }
+    ensures { IfOk result (λ stripes. stripes.items ≡ range_with_len (start / stripe_len) (stripes_met stripe_len start (end - start))) }
 {
-    let count = met(stripe, start, end.saturating_sub(start))?;
-    let first = start / u64::from(stripe);
+    let count = met(stripe_len, start, end.saturating_sub(start))?;
+    let first = start / u64::from(stripe_len);
     if first > u64::from(u32::MAX - count) {
         return Err(AllocError);
     }
@@ -59,11 +60,11 @@ fn between(alloc: Global, stripe: u32, start: u64, end: u64) -> Result<Vec<u32>,
 }
 
 // Whether a stripe holds an old byte outside the bytes from `start` up to `end`.
-fn keeps(stripe: u32, length: u64, start: u64, end: u64, number: u32) -> bool
-    ensures { result ≡ keeps stripe length start end number }
+fn keeps(stripe_len: u32, length: u64, start: u64, end: u64, number: u32) -> bool
+    ensures { result ≡ keeps stripe_len length start end number }
 {
-    let begins = u64::from(number) * u64::from(stripe);
-    let ends = begins + u64::from(stripe);
+    let begins = u64::from(number) * u64::from(stripe_len);
+    let ends = begins + u64::from(stripe_len);
     begins < start.min(length) || end < ends.min(length)
 }
 
@@ -71,16 +72,16 @@ fn keeps(stripe: u32, length: u64, start: u64, end: u64, number: u32) -> bool
 fn partly_covered(
     alloc: Global,
     stripes: &[u32],
-    stripe: u32,
+    stripe_len: u32,
     length: u64,
     start: u64,
     end: u64,
 ) -> Result<Vec<u32>, AllocError>
-    ensures { IfOk result (λ kept. kept.items ≡ filter (keeps stripe length start end) stripes.now) }
+    ensures { IfOk result (λ kept. kept.items ≡ filter (keeps stripe_len length start end) stripes.now) }
 {
     let mut kept = Vec::with_capacity(alloc, stripes.len())?;
     for number in stripes {
-        if keeps(stripe, length, start, end, *number) {
+        if keeps(stripe_len, length, start, end, *number) {
             kept.push(*number)?;
         }
     }
@@ -91,22 +92,22 @@ fn partly_covered(
 pub(crate) fn pinned_stripes(
     alloc: Global,
     kind: Kind,
-    stripe: u32,
+    stripe_len: u32,
     offset: u32,
     count: u32,
     length: u64,
 ) -> Result<Vec<u32>, AllocError>
-    requires { 0 < stripe }
-    ensures { IfOk result (λ stripes. stripes.items ≡ pinned_of (kind_in kind) stripe offset count length) }
+    requires { 0 < stripe_len }
+    ensures { IfOk result (λ stripes. stripes.items ≡ pinned_of (kind_in kind) stripe_len offset count length) }
 {
     let start = u64::from(offset);
     let end = start + u64::from(count);
     match kind {
-        Kind::Get => between(alloc, stripe, start, length),
-        Kind::ReadAt => between(alloc, stripe, start, end.min(length)),
+        Kind::Get => between(alloc, stripe_len, start, length),
+        Kind::ReadAt => between(alloc, stripe_len, start, end.min(length)),
         Kind::Write => {
-            let touched = between(alloc, stripe, start, end)?;
-            partly_covered(alloc, &touched, stripe, length, start, end)
+            let touched = between(alloc, stripe_len, start, end)?;
+            partly_covered(alloc, &touched, stripe_len, length, start, end)
         }
         _ => Ok(Vec::new(alloc)),
     }
@@ -129,7 +130,7 @@ fn see_one(
 ) -> Result<Seen, AllocError>
     requires there { get_or held.now stripe 0 < length versions.now.listed }
     requires stamped { length stamps.now ≡ length versions.now.listed }
-    requires numbered { map (λ stamp. stamp.version) stamps.now ≡ range_with_len 0 (length stamps.now) }
+    requires numbered { AreNumbered stamps.now }
     ensures seen { IfOk result (λ seen. seen_in seen ≡ seen_by versions.now.listed held.now stripe) }
     ensures stamp { IfOk result (IsSeenIn stamps.now) }
 {
@@ -154,9 +155,9 @@ pub(crate) fn see(
     stripes: &[u32],
 ) -> Result<Sight, AllocError>
     requires stamped { length stamps.now ≡ length versions.now.listed }
-    requires numbered { map (λ stamp. stamp.version) stamps.now ≡ range_with_len 0 (length stamps.now) }
-    requires there { All (λ stripe. get_or held.now stripe 0 < length versions.now.listed) stripes.now }
-    ensures seen { IfOk result (λ sight. map seen_in sight.seen.items ≡ map (seen_by versions.now.listed held.now) stripes.now) }
+    requires numbered { AreNumbered stamps.now }
+    requires there { AreThere versions.now.listed held.now stripes.now }
+    ensures seen { IfOk result (λ sight. AreTold versions.now.listed held.now stripes.now sight.seen.items) }
     ensures pinned { IfOk result (λ sight. sight.pinned.items ≡ map (pin_by held.now) stripes.now) }
     ensures stamps { IfOk result (λ sight. All (IsSeenIn stamps.now) sight.seen.items) }
 {

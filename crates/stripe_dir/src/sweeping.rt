@@ -1,8 +1,8 @@
-ghost use Rattle.std.specs.Prelude.{◌≡◌, ℕ, false, is_some, option_map};
-ghost use Rattle.store_map.specs.declared.actor.Actor.{Actor as CoreActor};
+//! The sweeper's steps: garbage is taken, and told to be swept.
+ghost use Rattle.std.specs.Prelude.{◌≡◌, is_some, option_map};
 ghost use Rattle.store_core.specs.Told.{Told};
 ghost use Rattle.store_core.specs.Act.{DirectoryStep};
-ghost use Rattle.store_core.specs.AtDirectory.{at_directory};
+ghost use Rattle.stripe_dir.specs.Steps.{IsStepOfAny};
 ghost use Rattle.store_core.specs.Lookups.{first_garbage};
 
 use crate::directory::Directory;
@@ -11,7 +11,7 @@ use store_map::Version;
 impl Directory {
     /// Takes the least version that is superseded and that no pass pins which isn't reaped.
     pub fn next_garbage(&mut self) -> Option<Version>
-        ensures step { (who : CoreActor) → (number : ℕ) → (self.new.core, Told.Taken (option_map (λ version. version.0) result)) ≡ at_directory false who number DirectoryStep.NextGarbage self.old.core }
+        ensures step { IsStepOfAny DirectoryStep.NextGarbage self.old self.new (Told.Taken (option_map (λ version. version.0) result)) }
         ensures book { self.new.book ≡ self.old.book }
         ensures stamps { self.new.stamps ≡ self.old.stamps }
     {
@@ -30,7 +30,7 @@ impl Directory {
 
     /// A version that was taken is swept; nothing where it isn't taken.
     pub fn swept(&mut self, version: Version)
-        ensures step { (who : CoreActor) → (number : ℕ) → (self.new.core, Told.Made) ≡ at_directory false who number (DirectoryStep.Swept version.0) self.old.core }
+        ensures step { IsStepOfAny (DirectoryStep.Swept version.0) self.old self.new Told.Made }
         ensures book { self.new.book ≡ self.old.book }
         ensures stamps { self.new.stamps ≡ self.old.stamps }
     {

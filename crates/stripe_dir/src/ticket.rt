@@ -1,3 +1,4 @@
+//! An actor's ticket in one place, while the steps of its calls change it.
 ghost use Rattle.std.specs.Prelude.{◌≡◌, None, Some, is_some, IsTrue};
 ghost use Rattle.store_core.specs.Agreement.{ActorToken};
 ghost use Rattle.call_steps.specs.TokenAfter.{IsSeated};
@@ -6,7 +7,7 @@ ghost use Rattle.stripe_dir.specs.TicketView.{token_at, IsInCall};
 use crate::tokens::{Pass, Seat};
 use std::marker::Model;
 
-// One of the two tokens of the directory.
+// A seat or a pass of the directory.
 pub(crate) enum Held {
     Seat(Seat),
     Pass(Pass),
@@ -93,7 +94,7 @@ pub(crate) fn take_pass(place: &mut Option<Held>) -> Pass
     }
 }
 
-// Puts the next token into its place.
+// Puts the next seat or pass into its place.
 pub(crate) fn put(place: &mut Option<Held>, held: Held)
     requires { place.old ≡ None }
     ensures { place.new ≡ Some held }

@@ -1,12 +1,10 @@
-ghost use Rattle.std.specs.Prelude.{◌≡◌, is_err};
-ghost use Rattle.store_core.specs.Note.{note_of};
-ghost use Rattle.store_core.specs.Act.{DirectoryStep};
+//! Looks by a ticket, of a client's call and of a rebuild.
+ghost use Rattle.std.specs.Prelude.{◌≡◌};
 ghost use Rattle.store_core.specs.Agreement.{Agrees};
-ghost use Rattle.store_core.specs.Tokens.{actor_of};
-ghost use Rattle.store_core.specs.AtDirectory.{at_directory};
 ghost use Rattle.call_steps.specs.TokenAfter.{token_after, MayMake};
-ghost use Rattle.stripe_dir.specs.Answers.{told_look, told_repair_look, told_or_short};
-ghost use Rattle.stripe_dir.specs.Shown.{repair_note, stripes_seen, stripe_seen, AreShown};
+ghost use Rattle.stripe_dir.specs.Answers.{told_by_look, told_by_repair_look};
+ghost use Rattle.stripe_dir.specs.TicketSteps.{look_step, repair_step, LooksBy, LooksRepairBy};
+ghost use Rattle.stripe_dir.specs.Shown.{stripes_seen, stripe_seen, AreShown};
 
 use crate::answers::{Look, RepairLook};
 use crate::apart::{split_look, split_repair_look};
@@ -24,9 +22,9 @@ impl Ticket {
         call: &Call,
     ) -> Result<Look<(), ()>, AllocError>
         requires agrees { Agrees directory.old.core self.old }
-        requires may { MayMake directory.old.core self.old number (DirectoryStep.Look (note_of call.now)) }
-        ensures step { (directory.new.core, told_or_short told_look result) ≡ at_directory (is_err result) (actor_of self.old) number (DirectoryStep.Look (note_of call.now)) directory.old.core }
-        ensures token { self.new ≡ token_after self.old number (DirectoryStep.Look (note_of call.now)) (told_or_short told_look result) }
+        requires may { MayMake directory.old.core self.old number (look_step call.now) }
+        ensures step { LooksBy self.old number call.now directory.old directory.new result }
+        ensures token { self.new ≡ token_after self.old number (look_step call.now) (told_by_look result) }
         ensures agrees { Agrees directory.new.core self.new }
         ensures book { directory.new.book ≡ directory.old.book }
         ensures stamps { directory.new.stamps ≡ directory.old.stamps }
@@ -49,9 +47,9 @@ impl Ticket {
         stripe: u32,
     ) -> Result<RepairLook<(), ()>, AllocError>
         requires agrees { Agrees directory.old.core self.old }
-        requires may { MayMake directory.old.core self.old number (DirectoryStep.LookRepair (repair_note name.now stripe)) }
-        ensures step { (directory.new.core, told_or_short told_repair_look result) ≡ at_directory (is_err result) (actor_of self.old) number (DirectoryStep.LookRepair (repair_note name.now stripe)) directory.old.core }
-        ensures token { self.new ≡ token_after self.old number (DirectoryStep.LookRepair (repair_note name.now stripe)) (told_or_short told_repair_look result) }
+        requires may { MayMake directory.old.core self.old number (repair_step name.now stripe) }
+        ensures step { LooksRepairBy self.old number (repair_step name.now stripe) directory.old directory.new result }
+        ensures token { self.new ≡ token_after self.old number (repair_step name.now stripe) (told_by_repair_look result) }
         ensures agrees { Agrees directory.new.core self.new }
         ensures book { directory.new.book ≡ directory.old.book }
         ensures stamps { directory.new.stamps ≡ directory.old.stamps }

@@ -1,11 +1,13 @@
-ghost use Rattle.std.specs.Prelude.{◌≡◌, ◌++◌, map, false, IfOk, is_err, option_map};
+//! Steps by a ticket on the pass that it holds.
+ghost use Rattle.std.specs.Prelude.{◌≡◌, ◌++◌};
 ghost use Rattle.store_core.specs.Act.{DirectoryStep};
-ghost use Rattle.store_core.specs.Agreement.{Agrees, HeldPass, ActorToken};
-ghost use Rattle.store_core.specs.Tokens.{actor_of};
-ghost use Rattle.store_core.specs.AtDirectory.{at_directory};
+ghost use Rattle.store_core.specs.Agreement.{Agrees};
 ghost use Rattle.call_steps.specs.TokenAfter.{token_after, MayMake};
-ghost use Rattle.stripe_dir.specs.Answers.{told_drawn, told_committed, told_ended, told_confirmed, told_or_short};
-ghost use Rattle.stripe_dir.specs.AnswerStamps.{stamps_given, IfDrawn};
+ghost use Rattle.stripe_dir.specs.Answers.{told_by_draw, told_committed, told_ended, told_confirmed};
+ghost use Rattle.stripe_dir.specs.DrawnStamps.{asked};
+ghost use Rattle.stripe_dir.specs.Steps.{commit_step};
+ghost use Rattle.stripe_dir.specs.TicketSteps.{DrawsBy, DrewBy, CommitsBy, ConfirmsBy, EndsBy};
+ghost use Rattle.stripe_dir.specs.AnswerStamps.{stamps_given};
 ghost use Rattle.stripe_dir.specs.TicketView.{CanSealFor};
 
 use crate::answers::{Committed, Confirmed, Drawn, Ended};
@@ -29,13 +31,13 @@ impl Ticket {
         requires agrees { Agrees directory.old.core self.old }
         requires may { MayMake directory.old.core self.old number DirectoryStep.Draw }
         requires book { book.now ≡ directory.old.book }
-        requires call { CanSealFor directory.old.book self.old (option_map (λ r. r.now) request) }
-        ensures step { (directory.new.core, told_or_short told_drawn result) ≡ at_directory (is_err result) (actor_of self.old) number DirectoryStep.Draw directory.old.core }
-        ensures token { self.new ≡ token_after self.old number DirectoryStep.Draw (told_or_short told_drawn result) }
+        requires call { CanSealFor directory.old.book self.old (asked request) }
+        ensures step { DrawsBy self.old number directory.old directory.new result }
+        ensures token { self.new ≡ token_after self.old number DirectoryStep.Draw (told_by_draw result) }
         ensures agrees { Agrees directory.new.core self.new }
         ensures book { directory.new.book ≡ directory.old.book }
         ensures stamps { directory.new.stamps ≡ directory.old.stamps ++ stamps_given result }
-        ensures drawn { (held : HeldPass) → self.old ≡ ActorToken.InCall held → IfOk result (IfDrawn directory.old held (option_map (λ r. r.now) request.entry)) }
+        ensures drawn { DrewBy directory.old self.old (asked request.entry) result }
     {
         let _ = number;
         directory.keeps();
@@ -53,9 +55,9 @@ impl Ticket {
         placed: Vec<Vec<Placement>>,
     ) -> Committed<()>
         requires agrees { Agrees directory.old.core self.old }
-        requires may { MayMake directory.old.core self.old number (DirectoryStep.Commit (map (λ row. row.items) placed.items)) }
-        ensures step { (directory.new.core, told_committed result) ≡ at_directory false (actor_of self.old) number (DirectoryStep.Commit (map (λ row. row.items) placed.items)) directory.old.core }
-        ensures token { self.new ≡ token_after self.old number (DirectoryStep.Commit (map (λ row. row.items) placed.items)) (told_committed result) }
+        requires may { MayMake directory.old.core self.old number (commit_step placed.items) }
+        ensures step { CommitsBy self.old number (commit_step placed.items) directory.old directory.new result }
+        ensures token { self.new ≡ token_after self.old number (commit_step placed.items) (told_committed result) }
         ensures agrees { Agrees directory.new.core self.new }
         ensures book { directory.new.book ≡ directory.old.book }
         ensures stamps { directory.new.stamps ≡ directory.old.stamps }
@@ -72,7 +74,7 @@ impl Ticket {
     pub fn end(&mut self, directory: &mut Directory, number: u32) -> Ended<()>
         requires agrees { Agrees directory.old.core self.old }
         requires may { MayMake directory.old.core self.old number DirectoryStep.End }
-        ensures step { (directory.new.core, told_ended result) ≡ at_directory false (actor_of self.old) number DirectoryStep.End directory.old.core }
+        ensures step { EndsBy self.old number DirectoryStep.End directory.old directory.new result }
         ensures token { self.new ≡ token_after self.old number DirectoryStep.End (told_ended result) }
         ensures agrees { Agrees directory.new.core self.new }
         ensures book { directory.new.book ≡ directory.old.book }
@@ -90,7 +92,7 @@ impl Ticket {
     pub fn confirm(&mut self, directory: &mut Directory, number: u32) -> Confirmed<(), ()>
         requires agrees { Agrees directory.old.core self.old }
         requires may { MayMake directory.old.core self.old number DirectoryStep.Confirm }
-        ensures step { (directory.new.core, told_confirmed result) ≡ at_directory false (actor_of self.old) number DirectoryStep.Confirm directory.old.core }
+        ensures step { ConfirmsBy self.old number directory.old directory.new result }
         ensures token { self.new ≡ token_after self.old number DirectoryStep.Confirm (told_confirmed result) }
         ensures agrees { Agrees directory.new.core self.new }
         ensures book { directory.new.book ≡ directory.old.book }
@@ -114,7 +116,7 @@ impl Ticket {
     ) -> Ended<()>
         requires agrees { Agrees directory.old.core self.old }
         requires may { MayMake directory.old.core self.old number (DirectoryStep.Repaired server epoch) }
-        ensures step { (directory.new.core, told_ended result) ≡ at_directory false (actor_of self.old) number (DirectoryStep.Repaired server epoch) directory.old.core }
+        ensures step { EndsBy self.old number (DirectoryStep.Repaired server epoch) directory.old directory.new result }
         ensures token { self.new ≡ token_after self.old number (DirectoryStep.Repaired server epoch) (told_ended result) }
         ensures agrees { Agrees directory.new.core self.new }
         ensures book { directory.new.book ≡ directory.old.book }

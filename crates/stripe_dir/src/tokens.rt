@@ -1,9 +1,10 @@
+//! Seats and passes: what an actor holds of its own, between calls and in them.
 use dir_parts::OpenPass;
 use std::marker::Model;
 use std::snapshot::Snapshot;
 use store_map::Actor;
 
-/// The token of an actor that is in no call. It has to be spent.
+/// The seat of an actor that is in no call. It has to be spent.
 pub struct Seat {
     pub(crate) actor: Actor,
     pub(crate) unused: u64,
@@ -20,7 +21,7 @@ impl Model for Seat {
     ghost view = { seat_in };
 }
 
-/// The token of an actor whose call has begun. It has to be spent.
+/// The pass of an actor whose call has begun. It has to be spent.
 pub struct Pass {
     pub(crate) actor: Actor,
     pub(crate) told: Option<u64>,

@@ -1,3 +1,4 @@
+//! The sweeper as a machine of steps.
 ghost use Rattle.std.specs.Prelude.{◌≡◌, ◌<◌, ℕ};
 ghost use Rattle.store_map.specs.declared.actor.Actor.{Actor as CoreActor};
 ghost use Rattle.store_core.specs.Sweep.{is_busy};

@@ -41,7 +41,7 @@ pub fn written(alloc: Global, text: &[u8]) -> Result<Vec<u8>, Fail> {
     Ok(write_script(alloc, &script)?)
 }
 
-/// The text of the script with which the text begins, of this length.
+// The text of the script with which the text begins, of this length.
 fn written_front(alloc: Global, text: &[u8], wanted: usize) -> Result<Vec<u8>, Fail> {
     let (script, length) = read_front(alloc, text).ok().ok_or("refused")?;
     if length != wanted {

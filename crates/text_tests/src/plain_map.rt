@@ -148,7 +148,7 @@ fn a_deleted_object_is_gone(rt: HostRuntime) -> Result<(), Fail> {
     Ok(())
 }
 
-/// The bytes 3, 4 and 5.
+// The bytes 3, 4 and 5.
 fn three_bytes(alloc: Global) -> Result<ByteList, Fail> {
     let mut list = ByteList::new(alloc);
     list.push(3)?;

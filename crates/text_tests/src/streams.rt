@@ -1,4 +1,4 @@
-// What no clause says: calls with ample memory, and std's readers and writers.
+//! What no clause says of sources and sinks: calls with ample memory, std's readers and writers.
 use clay_bytes::{
     Failed, InFault, MemSink, MemSource, Sink, Source, StdSink, StdSource, SureSink, SureSource,
     WriteFault, read_all, write_all,

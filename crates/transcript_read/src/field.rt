@@ -1,3 +1,4 @@
+//! Fields of lines, whose values have one spelling each, and how a text is cut at them.
 ghost use Rattle.std.specs.Prelude.{◌≡◌, ◌≢◌, ◌∷◌, ◌++◌, ℕ, List, IfOk, IfErr, IfSome, IfNone};
 ghost use Rattle.line_grammar.specs.Lines.{Lacks};
 ghost use Rattle.transcript_read.specs.Reads.{Reads, Refuses};

@@ -1,3 +1,4 @@
+//! A transcript's lines, read kind by kind.
 ghost use Rattle.std.specs.Prelude.{◌≡◌, ◌++◌, ◌↔◌, ℕ, IsTrue, codes};
 ghost use Rattle.std.specs.List.{list_any};
 ghost use Rattle.transcript_read.specs.Reads.{Reads};
@@ -44,8 +45,8 @@ fn is_any_above_zero(takes: &[u64]) -> bool
     takes.iter().any(|taken| *taken > 0)
 }
 
-/// Each of the functions below reads a line of one kind, from the text behind its first word and
-/// the space after it.
+// Each of the functions below reads a line of one kind, from the text behind its first word and
+// the space after it.
 fn read_history(alloc: Global, text: &[u8]) -> Result<HLine, Unread>
     ensures { Reads IsHistoryLine history_body text.now result }
 {

@@ -1,3 +1,4 @@
+//! Numbers of 64 and of 32 bits as fields of lines.
 ghost use Rattle.std.specs.Prelude.{◌≡◌, ◌≢◌, ◌<◌, ◌^◌, ℕ, decimal, MatchOption};
 ghost use Rattle.transcript_read.specs.Values.{IsLong, IsShort};
 ghost use Rattle.transcript_read.specs.Reads.{Reads};
@@ -6,7 +7,7 @@ use crate::field::{Field, Unread};
 use line_grammar::{is_number, read_number};
 use std::alloc::Global;
 
-/// The number below 2^64 that a word spells.
+// The number below 2^64 that a word spells.
 fn read_long(word: &[u8]) -> Option<u64>
     ensures { MatchOption result ((n : ℕ) → IsLong n → word.now ≢ decimal n)
         (λ n. IsLong n × (word.now ≡ decimal n)) }

@@ -1,3 +1,4 @@
+//! Causes of refusals and results of rebuilds as fields of lines.
 ghost use Rattle.std.specs.Prelude.{◌++◌, codes};
 ghost use Rattle.transcript_text.specs.Words.{cause_text, result_text};
 ghost use Rattle.transcript_read.specs.Reasons.{IsCause, IsResult, IsLost, IsPairs, lost_text, pairs_text};
@@ -10,7 +11,7 @@ use std::alloc::Global;
 use store_map::ListOf;
 use transcript_text::{Cause, RepairResult, Triple};
 
-/// The stripe and the servers that `unavailable stripe` and this text spell.
+// The stripe and the servers that `unavailable stripe` and this text spell.
 fn read_lost(alloc: Global, text: &[u8]) -> Result<(u64, ListOf<Triple>), Unread>
     ensures { Reads IsLost lost_text text.now result }
 {
@@ -25,7 +26,7 @@ fn read_lost(alloc: Global, text: &[u8]) -> Result<(u64, ListOf<Triple>), Unread
     Ok((stripe, missing))
 }
 
-/// The pairs that `contended` and this text spell.
+// The pairs that `contended` and this text spell.
 fn read_pairs(alloc: Global, text: &[u8]) -> Result<ListOf<(u64, u64)>, Unread>
     ensures { Reads IsPairs pairs_text text.now result }
 {

@@ -1,3 +1,4 @@
+//! Names and replies as fields of lines.
 ghost use Rattle.std.specs.Prelude.{◌++◌, codes};
 ghost use Rattle.hex.specs.Hex.{encode_lower, IsBytes};
 ghost use Rattle.store_map.specs.Name.{IsName};
@@ -11,7 +12,7 @@ use std::alloc::Global;
 use store_map::{ByteList, ListOf, Name, NameFault, Reply};
 use transcript_text::Shown;
 
-/// The bytes that pairs of hexadecimal digits spell.
+// The bytes that pairs of hexadecimal digits spell.
 fn read_bytes(alloc: Global, digits: &[u8]) -> Result<ByteList, Unread>
     ensures { Reads IsBytes encode_lower digits.now result }
 {

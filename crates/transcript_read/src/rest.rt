@@ -1,3 +1,4 @@
+//! A text that is let go while it is read.
 ghost use Rattle.std.specs.Prelude.{◌≡◌, ◌≤◌, length, drop};
 
 use std::marker::Model;

@@ -1,3 +1,4 @@
+//! Reading a transcript that is a whole text, or what is left of one.
 ghost use Rattle.std.specs.Prelude.{◌≡◌, ◌<◌, ◌^◌, length, IfOk, IfErr};
 ghost use Rattle.script_text.specs.FirstFault.{OrMemory};
 ghost use Rattle.transcript_text.specs.Text.{text_of};

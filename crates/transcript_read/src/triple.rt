@@ -1,3 +1,4 @@
+//! Servers that lacked their chunk, races, and names of calls as fields of lines.
 ghost use Rattle.std.specs.Prelude.{◌++◌, codes, decimal};
 ghost use Rattle.transcript_text.specs.Triples.{placement_text, found_text, triple_text};
 ghost use Rattle.transcript_text.specs.Words.{call_text};

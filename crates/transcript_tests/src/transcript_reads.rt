@@ -50,7 +50,7 @@ fn read(alloc: Global, text: &[u8], servers: u32) -> Result<Result<Transcript, S
     Ok(read_transcript(alloc, text, servers))
 }
 
-/// Holds the text of each row of a table, with this behind it, against the fault of that row.
+// Holds the text of each row of a table, with this behind it, against the fault of that row.
 fn has_faults(
     rt: &(impl Abort + AllocGlobal),
     behind: &[u8],

@@ -1,3 +1,4 @@
+//! The names of calls in lines.
 ghost use Rattle.std.specs.Prelude.{Some};
 ghost use Rattle.transcript_text.specs.Words.{call_text};
 

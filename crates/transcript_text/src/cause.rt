@@ -1,3 +1,4 @@
+//! Causes of refusals, results of rebuilds, and the servers without their chunk that both list.
 ghost use Rattle.std.specs.Prelude.{Some};
 ghost use Rattle.transcript_text.specs.Triples.{placement_text, found_text, triple_text};
 

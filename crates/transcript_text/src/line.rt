@@ -1,3 +1,4 @@
+//! The lines of a transcript, each kind with its values.
 use crate::call_name::CallName;
 use crate::cause::{Cause, RepairResult};
 use crate::shown::Shown;

@@ -1,3 +1,4 @@
+//! What the history shows of a call: its reply, or that it is open.
 use store_map::Reply;
 
 /// What a line of the history shows of a call.

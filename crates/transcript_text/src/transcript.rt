@@ -1,3 +1,4 @@
+//! A transcript as values: a list of lines for each kind.
 use crate::line::{GLine, HLine, LLine, OLine, RLine, TLine, XLine};
 use store_map::ListOf;
 

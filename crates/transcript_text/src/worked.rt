@@ -1,3 +1,4 @@
+//! Worked transcripts: their texts, computed by the definitions alone.
 ghost use Rattle.std.specs.Prelude.{◌≡◌};
 ghost use Rattle.transcript_text.specs.Text.{text_of};
 ghost use Rattle.transcript_text.specs.Worked.{put_then_get, put_then_get_text, refusals, refusals_text};

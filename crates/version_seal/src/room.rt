@@ -1,3 +1,4 @@
+//! Room in a book for versions, and why there is none, or a version isn't sealed.
 ghost use Rattle.std.specs.Prelude.{◌≡◌, ◌<◌, ◌≤◌, ◌+◌, ◌-◌, ◌/◌, suc, length, map, get_or, take, drop};
 
 use crate::book::{ROW, Row, Stamp};

@@ -10,7 +10,7 @@ abbrev pub call_outcome_of : CallOutcome → CoreOutcome
 call_outcome_of (ended.Answered point reply) = CoreOutcome.Answered point.0 reply
 call_outcome_of (ended.Served point bytes) = CoreOutcome.Served point.0
 call_outcome_of (ended.Unavailable stripe missing) = CoreOutcome.Unavailable stripe (map lost_in missing.items)
-call_outcome_of (ended.Contended changes) = CoreOutcome.Contended (map (λ change. (change.base.0, change.newer.0)) changes.items)
+call_outcome_of (ended.Contended changes) = CoreOutcome.Contended (map (λ change. (change.looked_at.0, change.newer.0)) changes.items)
 call_outcome_of ended.Rebuilt = CoreOutcome.Rebuilt
 call_outcome_of ended.Here = CoreOutcome.Here
 call_outcome_of (ended.Away downs) = CoreOutcome.Away downs

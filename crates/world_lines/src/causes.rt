@@ -1,3 +1,4 @@
+//! Why a client's call was refused, and what a rebuild came to, from how the call ended.
 ghost use Rattle.std.specs.Prelude.{◌≡◌, map, Some, IfOk};
 ghost use Rattle.store_core.specs.Outcomes.{triple_of, cause_of, result_of};
 ghost use Rattle.store_core.specs.Told.{lost_in};
@@ -24,11 +25,11 @@ fn triples(alloc: Global, missing: &[LostChunk]) -> Result<ListOf<Triple>, Alloc
 }
 
 fn pairs(alloc: Global, changes: &[Change]) -> Result<ListOf<(u64, u64)>, AllocError>
-    ensures { IfOk result (λ pairs. pairs ≡ map (λ change. (change.base.0, change.newer.0)) changes.now) }
+    ensures { IfOk result (λ pairs. pairs ≡ map (λ change. (change.looked_at.0, change.newer.0)) changes.now) }
 {
     let mut pairs = ListOf::new(alloc);
     for change in changes {
-        pairs.push((change.base.0, change.newer.0))?;
+        pairs.push((change.looked_at.0, change.newer.0))?;
     }
     Ok(pairs)
 }

@@ -1,3 +1,4 @@
+//! The `H` lines: the directory's points, with what each shows of its call.
 ghost use Rattle.std.specs.Prelude.{◌≡◌, ℕ, [], ◌++◌, map, Some, IfOk, OnOk};
 ghost use Rattle.store_map.specs.declared.actor.Actor.TheVariants as kind;
 ghost use Rattle.store_core.specs.Calls.{Calls};

@@ -1,3 +1,4 @@
+//! The `X` lines of calls that were refused, and the `R` lines of rebuilds.
 ghost use Rattle.std.specs.Prelude.{◌≡◌, ℕ, ◌^◌, ◌<◌, ◌++◌, length, map, IfOk, OnOk};
 ghost use Rattle.transcript_text.specs.declared.call_name.CallName.TheVariants as name;
 ghost use Rattle.store_core.specs.Outcomes.{cause_of, result_of};

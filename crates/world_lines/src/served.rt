@@ -1,3 +1,4 @@
+//! Whether a client's call was answered, and the bytes that it was served.
 ghost use Rattle.std.specs.Prelude.{◌≡◌, ℕ, slice_get, option_map};
 ghost use Rattle.store_core.specs.History.{is_answered};
 ghost use Rattle.world_lines.specs.Outcomes.{call_outcome_of};

@@ -1,3 +1,4 @@
+//! The `L` lines of the objects, and the `T` lines of the servers.
 ghost use Rattle.std.specs.Prelude.{◌≡◌, ◌^◌, ◌≤◌, length, map, IfOk};
 ghost use Rattle.chunk_server.specs.Core.{core_of};
 ghost use Rattle.world_lines.specs.Lists.{object_lines, server_lines};

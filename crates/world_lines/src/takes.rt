@@ -1,3 +1,4 @@
+//! The `G` lines: what each call took.
 ghost use Rattle.std.specs.Prelude.{◌≡◌, ℕ, ◌^◌, ◌<◌, ◌++◌, length, map, replicate, unwrap_or, IfOk, OnOk};
 ghost use Rattle.store_core.specs.Shown.{lines_of_ended, lines_of_actors, take_line, take_lines};
 ghost use Rattle.world_lines.specs.Ended.{calling_at, counts_of, HaveNames};

@@ -1,3 +1,4 @@
+//! The transcript of a run that is over, from all its lists.
 ghost use Rattle.std.specs.Prelude.{◌≡◌, ◌^◌, ◌≤◌, length, IfOk};
 ghost use Rattle.store_map.specs.Limits.{size_of};
 ghost use Rattle.store_map.specs.declared.script.Script.{Script};

@@ -1,3 +1,4 @@
+//! The `O` lines: calls that have made a step and have no outcome.
 ghost use Rattle.std.specs.Prelude.{◌≡◌, ℕ, ◌++◌, nat_lt, [], ◌∷◌, if◌then◌else◌, map, IfOk, OnOk};
 ghost use Rattle.store_core.specs.Shown.{lines_of_actors, unanswered_line};
 ghost use Rattle.world_lines.specs.Ended.{calling_at, counts_of, HaveNames};

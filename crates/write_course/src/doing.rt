@@ -1,3 +1,4 @@
+//! The stages of a writing: its chunks prepared, its versions committed, its chunks settled.
 ghost use Rattle.std.specs.Prelude.{◌≡◌};
 ghost use Rattle.write_course.specs.States.{prepares_or_commits, settles_or_is_done};
 

@@ -13,14 +13,16 @@ returns c =
     let have = c.args.have.now in
     let geometry = c.w.ensures.geometry in
     let before = c.in_ok-chunks.chunks in
-    let new = c.recover_blocks.new.chunks in
+    let new = c.recover_parts.new.chunks in
     let lost : c.deref.result.now ≡ missing_of have = c.deref.ensures.value ∙ c.in_ok-lost.ensures in
-    let size : length new ≡ length before.items = c.recover_blocks.auto.chunks ∙ ap length c.deref_mut-4.ensures.value in
+    let size : length new ≡ length before.items = c.recover_parts.auto.chunks ∙ ap length c.deref_mut-4.ensures.value in
     let many : length before.items ≡ length (missing_of have) = omega (arith, c.in_ok-chunks.ensures.count, c.len-2.ensures, c.in_ok-lost.lost.ok.0, ap length c.in_ok-lost.ensures) in
     let count : length (contents new) ≡ length (missing_of have) = length-contents new ∙ size ∙ many in
     subst (λ l. AreMissing g have (contents l)) (sym (written_chunks before.len before.items new (omega arith) size))
     (found_chunks g have (contents new) (let wide = geometry.limits.width.0 in omega arith) c.requires.count count
-    (λ i h. c.recover_blocks.ensures.chunk_len i (omega (arith, h, count, many, ap length c.deref_mut-4.ensures.value)))
+    (λ i h. c.recover_parts.ensures.chunk_len i (omega (arith, h, count, many, ap length c.deref_mut-4.ensures.value)))
     (λ i z b hi hz hb.
     subst (λ l. HoldsByte (λ word. Completes g have word) (get_or l i 0) (get_or (contents new) i []) (z * g.width + b)) lost
-    (c.recover_blocks.ensures.written i z b (subst (λ l. i < length l) (sym lost) hi) hz hb)))
+    (let flat : 0 + b ≡ b = omega arith in
+    subst (λ v. HoldsByte (λ word. Completes g have word) (get_or c.deref.result.now i 0) (get_or (contents new) i []) (z * g.width + v)) flat
+    (c.recover_parts.ensures.written i z b (subst (λ l. i < length l) (sym lost) hi) hz (omega (arith, hb, c.w.ensures.value))))))

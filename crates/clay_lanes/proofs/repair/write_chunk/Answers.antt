@@ -9,13 +9,18 @@ use Rattle.clay_lanes.specs.Recovered.{HoldsByte}
 use Rattle.clay_lanes.proofs.RepairLemmas.{rebuilt_chunk}
 use Rattle.clay_lanes.proofs.repair.write_chunk.Goals as goal
 
-pub write_layer-requires-clause-read : goal.write_layer-requires-clause-read
-write_layer-requires-clause-read c =
+pub write_parts-requires-clause-block : goal.write_parts-requires-clause-block
+write_parts-requires-clause-block c =
     let g = c.args.g in
     let plan = c.args.plan.now in
     let layers : c.deref-z-items.result.now ≡ repair_layers_of g plan.lost = c.deref-z-items.ensures.value ∙ c.requires.plan.layers in
-    subst (λ l. IsReadFor g plan.lost (get_or l c.loop-z.z-index 0)) (sym layers)
-    (is_read g plan.lost c.loop-z.z-index (omega (arith, c.loop-z-test.true, ap length layers)))
+    record {
+      planned = c.requires.plan;
+      parts = c.requires.parts;
+      read = subst (λ l. IsReadFor g plan.lost (get_or l c.loop-z.z-index 0)) (sym layers)
+          (is_read g plan.lost c.loop-z.z-index (omega (arith, c.loop-z-test.true, ap length layers)));
+      within = omega (arith, c.w.ensures.value);
+    }
 
 pub loop-z-preserved : goal.loop-z-preserved
 loop-z-preserved c = λ k x b hk hx hb.
@@ -26,10 +31,13 @@ loop-z-preserved c = λ k x b hk hx hb.
     let layer_is : get_or c.deref-z-items.result.now at 0 ≡ get_or plan.layers.items at 0 = ap (λ l. get_or l at 0) c.deref-z-items.ensures.value in
     elim (cases_eq k at) [
       | inl same ↦
-          subst (λ n. HoldsByte fits plan.lost c.write_layer.new.chunk (with_digit g plan.lost n x * g.width + b))
-          (layer_is ∙ ap (λ i. get_or plan.layers.items i 0) (sym same)) (c.write_layer.ensures.written x b hx hb)
+          let flat : 0 + b ≡ b = omega arith in
+          subst (λ n. HoldsByte fits plan.lost c.write_parts.new.chunk (with_digit g plan.lost n x * g.width + b))
+          (layer_is ∙ ap (λ i. get_or plan.layers.items i 0) (sym same))
+          (subst (λ v. HoldsByte fits plan.lost c.write_parts.new.chunk (with_digit g plan.lost (get_or c.deref-z-items.result.now at 0) x * g.width + v)) flat
+          (c.write_parts.ensures.written x b hx (omega (arith, hb, c.w.ensures.value))))
       | inr other ↦
-          c.write_layer.ensures.kept (with_digit g plan.lost (get_or plan.layers.items k 0) x * g.width + b) (c.loop-z.invariant k x b (omega (arith, hk, other)) hx hb)
+          c.write_parts.ensures.kept (with_digit g plan.lost (get_or plan.layers.items k 0) x * g.width + b) (c.loop-z.invariant k x b (omega (arith, hk, other)) hx hb)
     ]
 
 pub returns : goal.returns

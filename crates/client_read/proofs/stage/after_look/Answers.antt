@@ -2,7 +2,7 @@ use Rattle.std.proofs.Common.{◌≡◌, ℕ, List, map, Ok, IfOk, All, sym, ap,
 use Rattle.clay_grid.specs.Shape.{Shape}
 use Rattle.store_core.specs.Note.{note_of}
 use Rattle.store_core.specs.Read.{part_of}
-use Rattle.stripe_dir.specs.declared.answers.Seen.{Seen}
+use Rattle.call_steps.specs.declared.seen.Seen.{Seen}
 use Rattle.stripe_dir.specs.Answers.{seen_in}
 use Rattle.stripe_dir.specs.AnswerStamps.{IsSeenIn}
 use Rattle.stripe_dir.specs.declared.answers.Look.TheVariants as look

@@ -2,7 +2,7 @@ use Rattle.std.proofs.Common.{◌≡◌, List, map, Option, Some, sym, ap, subst
 use Rattle.gathering.specs.Gathers.{GatherOf}
 use Rattle.std.specs.Vec.Iter.{into_iter_items}
 use Rattle.clay_grid.specs.Shape.{Shape}
-use Rattle.stripe_dir.specs.declared.answers.Seen.{Seen}
+use Rattle.call_steps.specs.declared.seen.Seen.{Seen}
 use Rattle.gather_parts.specs.Wanted.{Wanted, wanted_of, IsPinned}
 use Rattle.gather_parts.specs.Steps.{next_of}
 use Rattle.gather_parts.proofs.Nexts.{after_first, of_first, passed_over, begins_next, begun_at_work}

@@ -16,10 +16,10 @@ returns-in_default c =
       objects =
           c.put.ensures.objects
           ∙ (λ i. put_object (record { name = sym (old_name c.args.objects.now.objects c.note.inside.name) i; length = c.from-in_default.ensures i; versions = c.args.drawn.items }) c.args.objects.now.objects)
-          ∙ ap (λ (o : Object). put_object o c.args.objects.now.objects) (sym (installed_other c.note.inside.kind c.in_default.not-Write c.args.stripe n c.args.drawn.items old))
-          ∙ ap (λ (n : Note). put_object (installed n.kind c.args.stripe n c.args.drawn.items (object_or_new n.name c.args.objects.now.objects)) c.args.objects.now.objects) c.note.view_is;
+          ∙ ap (λ (o : Object). put_object o c.args.objects.now.objects) (sym (installed_other c.note.inside.kind c.in_default.not-Write c.args.stripe_len n c.args.drawn.items old))
+          ∙ ap (λ (n : Note). put_object (installed n.kind c.args.stripe_len n c.args.drawn.items (object_or_new n.name c.args.objects.now.objects)) c.args.objects.now.objects) c.note.view_is;
       replaced =
-          c.put.ensures.replaced ∙ sym (dropped_other c.note.inside.kind c.in_default.not-Write c.args.stripe n c.args.drawn.items old.versions)
-          ∙ ap (λ (n : Note). dropped n.kind c.args.stripe n c.args.drawn.items (object_or_new n.name c.args.objects.now.objects).versions) c.note.view_is;
+          c.put.ensures.replaced ∙ sym (dropped_other c.note.inside.kind c.in_default.not-Write c.args.stripe_len n c.args.drawn.items old.versions)
+          ∙ ap (λ (n : Note). dropped n.kind c.args.stripe_len n c.args.drawn.items (object_or_new n.name c.args.objects.now.objects).versions) c.note.view_is;
       left = c.put.ensures.room;
     }

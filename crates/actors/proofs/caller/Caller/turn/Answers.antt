@@ -2,8 +2,11 @@ use Rattle.std.proofs.Common.{◌≡◌, ℕ, ◌<◌, slice_get, Some, sym, sub
 use Rattle.clay_grid.specs.Shape.{chunk_count}
 use Rattle.actors.specs.Callers.{CallerOf}
 use Rattle.actors.proofs.Turning.{others, got}
-use Rattle.actors.proofs.Stepping.{turned_there, turned_here}
+use Rattle.actors.proofs.Stepping.{turned_there, turned_here, padded_for}
 use Rattle.actors.proofs.caller.Caller.turn.Goals as goal
+
+pub on_directory-last-requires-clause-padded : goal.on_directory-last-requires-clause-padded
+on_directory-last-requires-clause-padded g c = padded_for c.ready.new.self c.args.directory.now c.requires.padded
 
 pub returns-in-Directory-clause-turn : goal.returns-in-Directory-clause-turn
 returns-in-Directory-clause-turn g c script of may =

@@ -34,7 +34,7 @@ invariant_of-self c =
     record {
       change = kept.change;
       client = kept.client;
-      actor_is = ap actor_of c.in-Done.ensures.token ∙ token_stays a.token a.number (DirectoryStep.Commit placed) (Told.Done c.in-Done.point.0) ∙ kept.actor_is;
+      actor_is = ap actor_of c.in-Done.ensures.token ∙ token_stays a.ticket a.number (DirectoryStep.Commit placed) (Told.Done c.in-Done.point.0) ∙ kept.actor_is;
       script = kept.script;
       book = kept.book;
       tries = kept.tries;
@@ -47,7 +47,7 @@ pub push_reserved-requires : goal.push_reserved-requires
 push_reserved-requires c =
     let write : is_write c.self.inside.call.now ≡ true
     = told_change c.self.inside c.self.invariant c.args.self.now c.self.view_is c.requires.committing c.args.directory.now.core c.commit-answer.new.directory.core
-    (map (λ row. row.items) c.rows-rows.result.items) c.in-Changed.base.0 c.in-Changed.newer.0 (subst (λ (p : PatchOf). Agrees c.args.directory.now.core p.call.token) (sym c.self.view_is) c.requires.agrees) c.in-Changed.ensures.step in
+    (map (λ row. row.items) c.rows-rows.result.items) c.in-Changed.looked_at.0 c.in-Changed.newer.0 (subst (λ (p : PatchOf). Agrees c.args.directory.now.core p.call.token) (sym c.self.view_is) c.requires.agrees) c.in-Changed.ensures.step in
     subst (λ n. n < vec_capacity c.self.inside.changes) (sym c.self.inside.changes.ok.0) (commit_room c.self.inside c.self.invariant c.args.self.now c.self.view_is c.requires.committing write)
 
 pub returns-in-Done-clause-step : goal.returns-in-Done-clause-step

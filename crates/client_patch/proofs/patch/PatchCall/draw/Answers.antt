@@ -47,15 +47,15 @@ told c = ap (told_or_short told_drawn) (answered c)
 -- the step
 made : (c : After-copy)
     → (c.draw-answer.new.directory.core, Told.Versions (versions_of c.in-Ok-Versions.stamps.items))
-    ≡ at_directory c.is_err-self-inside.result (actor_of c.self.inside.token) c.self.inside.number DirectoryStep.Draw c.args.directory.now.core
+    ≡ at_directory c.is_err-self-inside.result (actor_of c.self.inside.ticket) c.self.inside.number DirectoryStep.Draw c.args.directory.now.core
 made c =
     (λ i. (c.draw-answer.new.directory.core, sym (told c) i))
     ∙ c.draw-answer.ensures.step
-    ∙ ap (λ short. at_directory short (actor_of c.self.inside.token) c.self.inside.number DirectoryStep.Draw c.args.directory.now.core) (sym c.is_err-self-inside.ensures.value)
+    ∙ ap (λ short. at_directory short (actor_of c.self.inside.ticket) c.self.inside.number DirectoryStep.Draw c.args.directory.now.core) (sym c.is_err-self-inside.ensures.value)
 
 -- the token then
-token : (c : After-copy) → c.draw-answer.new.self ≡ token_after c.self.inside.token c.self.inside.number DirectoryStep.Draw (Told.Versions (versions_of c.in-Ok-Versions.stamps.items))
-token c = c.draw-answer.ensures.token ∙ ap (token_after c.self.inside.token c.self.inside.number DirectoryStep.Draw) (told c)
+token : (c : After-copy) → c.draw-answer.new.self ≡ token_after c.self.inside.ticket c.self.inside.number DirectoryStep.Draw (Told.Versions (versions_of c.in-Ok-Versions.stamps.items))
+token c = c.draw-answer.ensures.token ∙ ap (token_after c.self.inside.ticket c.self.inside.number DirectoryStep.Draw) (told c)
 
 pub new-requires-clause-numbered : goal.new-requires-clause-numbered
 new-requires-clause-numbered c =
@@ -74,7 +74,7 @@ invariant_of-self c =
     record {
       change = kept.change;
       client = kept.client;
-      actor_is = ap actor_of (token d) ∙ token_stays a.token a.number DirectoryStep.Draw (Told.Versions (versions_of c.in-Ok-Versions.stamps.items)) ∙ kept.actor_is;
+      actor_is = ap actor_of (token d) ∙ token_stays a.ticket a.number DirectoryStep.Draw (Told.Versions (versions_of c.in-Ok-Versions.stamps.items)) ∙ kept.actor_is;
       script = kept.script;
       book = kept.book;
       tries = kept.tries;
@@ -85,7 +85,7 @@ invariant_of-self c =
           (its d) c.keeps.ensures.stamps.code (asked d) (drawn d)
           (λ write. c.requires.knows (ap is_write (sym (ap (λ (p : PatchOf). p.written) c.self.view_is)) ∙ write)) c.new.ensures.stamps (c.new.ensures.book ∙ c.copy.ensures) first
           (c.new.ensures.state ∙ (λ i. prepare_all_state ((c.copy.ensures i).geometry) (versions_of (sym c.new.ensures.stamps i)) (sym c.new.ensures.first i) (versions_of (sym c.new.ensures.stamps i)) []))
-          (token d ∙ (λ i. token_after a.token a.number DirectoryStep.Draw (Told.Versions (versions_of (sym c.new.ensures.stamps i)))));
+          (token d ∙ (λ i. token_after a.ticket a.number DirectoryStep.Draw (Told.Versions (versions_of (sym c.new.ensures.stamps i)))));
     }
 
 pub returns-in-Ok-Versions-clause-stamps : goal.returns-in-Ok-Versions-clause-stamps

@@ -13,16 +13,16 @@ invariant_of-self c =
     let a = c.self.inside in
     let kept = c.self.invariant in
     let held = (end_holding a kept c.args.self.now c.self.view_is c.requires.need c.requires.ending).holding in
-    let seated = seated_by a.token c.end-answer.new.self a.number DirectoryStep.End held.held Told.Ended held.is c.in-Ended.ensures.token tt in
+    let seated = seated_by a.ticket c.end-answer.new.self a.number DirectoryStep.End held.held Told.Ended held.is c.in-Ended.ensures.token tt in
     record {
       change = kept.change;
       client = kept.client;
-      actor_is = ap actor_of c.in-Ended.ensures.token ∙ token_stays a.token a.number DirectoryStep.End Told.Ended ∙ kept.actor_is;
+      actor_is = ap actor_of c.in-Ended.ensures.token ∙ token_stays a.ticket a.number DirectoryStep.End Told.Ended ∙ kept.actor_is;
       script = kept.script;
       book = kept.book;
       tries = kept.tries;
       untaken = kept.untaken;
-      kept = subst (λ s. Keeps s (record a { stage = c.after_end-self-inside.result; token = c.end-answer.new.self; coding = false; step = false })) (sym c.after_end-self-inside.ensures)
+      kept = subst (λ s. Keeps s (record a { stage = c.after_end-self-inside.result; ticket = c.end-answer.new.self; coding = false; step = false })) (sym c.after_end-self-inside.ensures)
           (end_kept a kept c.args.self.now c.self.view_is c.requires.need c.requires.ending c.after_end-self-inside.result c.end-answer.new.self false false seated);
     }
 

@@ -23,12 +23,12 @@ invariant_of-self c =
     let a = c.self.inside in
     let kept = c.self.invariant in
     let told = looked c.look-answer.result in
-    let fits = subst (IsPatchLook a.call.now) (ap (λ (made : Directory × Told). made.1) (sym c.look-answer.ensures.step)) (patch_looks _ (actor_of a.token) a.number a.call.now c.args.directory.now.core kept.change) in
+    let fits = subst (IsPatchLook a.call.now) (ap (λ (made : Directory × Told). made.1) (sym c.look-answer.ensures.step)) (patch_looks _ (actor_of a.ticket) a.number a.call.now c.args.directory.now.core kept.change) in
     let next = c.after_look-stage in
     record {
       change = kept.change;
       client = kept.client;
-      actor_is = ap actor_of c.look-answer.ensures.token ∙ token_stays a.token a.number (DirectoryStep.Look (note_of a.call.now)) told ∙ kept.actor_is;
+      actor_is = ap actor_of c.look-answer.ensures.token ∙ token_stays a.ticket a.number (DirectoryStep.Look (note_of a.call.now)) told ∙ kept.actor_is;
       script = kept.script;
       book = next.ensures.book ∙ kept.book;
       tries = kept.tries;
@@ -45,11 +45,11 @@ returns-clause-step c =
     let kept = c.self.invariant in
     let d = c.args.directory.now.core in
     let told = looked c.look-answer.result in
-    let fits = subst (IsPatchLook a.call.now) (ap (λ (made : Directory × Told). made.1) (sym c.look-answer.ensures.step)) (patch_looks _ (actor_of a.token) a.number a.call.now c.args.directory.now.core kept.change) in
+    let fits = subst (IsPatchLook a.call.now) (ap (λ (made : Directory × Told). made.1) (sym c.look-answer.ensures.step)) (patch_looks _ (actor_of a.ticket) a.number a.call.now c.args.directory.now.core kept.change) in
     let next = c.after_look-stage in
     let short : Bool = c.is_err-self-inside.result in
     look_step a kept c.args.self.now c.self.view_is c.requires.first c.requires.need told fits short (due_by next.result.stage next.new.gatherings a.writing) d c.look-answer.new.directory.core
-    (c.look-answer.ensures.step ∙ ap (λ s. at_directory s (actor_of a.token) a.number (DirectoryStep.Look (note_of a.call.now)) d) (sym c.is_err-self-inside.ensures.value))
+    (c.look-answer.ensures.step ∙ ap (λ s. at_directory s (actor_of a.ticket) a.number (DirectoryStep.Look (note_of a.call.now)) d) (sym c.is_err-self-inside.ensures.value))
     c.look-answer.new.self c.look-answer.ensures.token (state_by next.result.stage next.new.gatherings a.writing next.result.outcome) (next.ensures.state a.writing)
     next.new.gatherings.takes next.ensures.takes
 
@@ -59,14 +59,14 @@ returns-clause-knows c =
     let kept = c.self.invariant in
     let d = c.args.directory.now in
     let told = looked c.look-answer.result in
-    let fits = subst (IsPatchLook a.call.now) (ap (λ (made : Directory × Told). made.1) (sym c.look-answer.ensures.step)) (patch_looks _ (actor_of a.token) a.number a.call.now d.core kept.change) in
+    let fits = subst (IsPatchLook a.call.now) (ap (λ (made : Directory × Told). made.1) (sym c.look-answer.ensures.step)) (patch_looks _ (actor_of a.ticket) a.number a.call.now d.core kept.change) in
     let next = c.after_look-stage in
     let its = c.requires.its ∙ sym (ap (λ (p : PatchOf). p.call.book) c.self.view_is) in
     let code : c.self.inside.opening.geometry ≡ c.args.directory.now.core.shape = ap (λ (book : BookOf). book.geometry) (sym its) ∙ c.keeps.ensures.stamps.code in
     let bytes : 0 < stripe_length c.args.directory.now.core.shape = subst (λ (g : Shape). 0 < stripe_length g) (c.geometry.ensures ∙ code) (some_bytes c.geometry.result c.stripe_len-long.ensures.geometry) in
     look_knows d c.look-answer.new.directory.stamps c.look-answer.ensures.stamps bytes c.keeps.ensures.whole.sound c.keeps.ensures.stamps a.call.now
     (λ write. c.requires.padded (ap is_write (sym (ap (λ (p : PatchOf). p.written) c.self.view_is)) ∙ write)) a.opening code a.number
-    a.token c.look-answer.new.self c.look-answer.result _ c.look-answer.new.directory.core next.result.size (owed next.new.gatherings)
+    a.ticket c.look-answer.new.self c.look-answer.result _ c.look-answer.new.directory.core next.result.size (owed next.new.gatherings)
     (state_by next.result.stage next.new.gatherings a.writing next.result.outcome) (waits a kept c.args.self.now c.self.view_is c.requires.first c.requires.seated) fits c.look-answer.ensures.step c.look-answer.ensures.seen
     next.ensures.size
     (if_ready told (λ begun. ap owed begun ∙ ap (λ (book : BookOf). bytes_of (map (wanted_of book.geometry 0 next.result.size) (looked_stripes c.look-answer.result))) kept.book) next.ensures.begun)

@@ -34,7 +34,7 @@ returns-in-Looked-clause-pass c =
     let a = c.self.inside in
     let stands = gathers a c.self.invariant (ap (λ s. state_by s a.gatherings a.writing a.outcome) c.in-Looked.is) in
     subst (λ (p : PatchOf). HoldsItsPass p.call) c.self.view_is
-    (holds (patch_in a).call a.number (note_of a.call.now) [] a.token refl refl refl (stands_in_pass (patch_in a).call a.gatherings Sequel.Draw stands)
+    (holds (patch_in a).call a.number (note_of a.call.now) [] a.ticket refl refl refl (stands_in_pass (patch_in a).call a.gatherings Sequel.Draw stands)
     (subst (λ s. Keeps s a) c.in-Looked.is c.self.invariant.kept).0)
 
 pub returns-in-Gathering-clause-need : goal.returns-in-Gathering-clause-need
@@ -55,7 +55,7 @@ returns-in-Gathering-clause-pass c =
     let a = c.self.inside in
     let stands = gathers a c.self.invariant (ap (λ s. state_by s a.gatherings a.writing a.outcome) c.in-Gathering.is) in
     subst (λ (p : PatchOf). HoldsItsPass p.call) c.self.view_is
-    (holds (patch_in a).call a.number (note_of a.call.now) [] a.token refl refl refl (stands_in_pass (patch_in a).call a.gatherings Sequel.Draw stands)
+    (holds (patch_in a).call a.number (note_of a.call.now) [] a.ticket refl refl refl (stands_in_pass (patch_in a).call a.gatherings Sequel.Draw stands)
     (subst (λ s. Keeps s a) c.in-Gathering.is c.self.invariant.kept).0)
 
 pub returns-in-Writing-clause-need : goal.returns-in-Writing-clause-need

@@ -1,10 +1,13 @@
-use Rattle.std.proofs.Common.{◌≡◌, true, false, ap, sym, ◌∙◌}
+use Rattle.std.proofs.Common.{◌≡◌, true, false, is_err, refl, ap, subst, sym, ◌∙◌}
 use Rattle.store_core.specs.Act.{Outcome as CoreOutcome}
-use Rattle.store_resume.specs.State.{State}
+use Rattle.store_resume.specs.State.{Sequel, State}
 use Rattle.write_course.specs.Writings.{WritingOf, begins_version}
 use Rattle.call_steps.specs.Steps.{coded}
+use Rattle.gather_parts.specs.States.{StandsIn, after_coding}
 use Rattle.client_patch.specs.Patches.{PatchOf}
-use Rattle.client_patch.proofs.Codings.{looked_coded, coding_due, encoded_keeps, wanting_keeps, wanting_knows, wanting_coded, on_err, on_ok}
+use Rattle.client_patch.specs.Stages.{state_by}
+use Rattle.client_patch.specs.Inside.{patch_in}
+use Rattle.client_patch.proofs.Codings.{short_coded, coding_due, encoded_keeps, wanting_keeps, wanting_knows, wanting_coded, on_err, on_ok}
 use Rattle.client_patch.proofs.patch.PatchCall.on_coder.Goals as goal
 
 pub invariant_of-self-then-self : goal.invariant_of-self-then-self
@@ -43,11 +46,23 @@ invariant_of-self-else-self g c =
       kept = encoded_keeps a kept c.args.self.now c.self.view_is c.requires c.in_default.not-Looked c.in_default.not-Gathering c.encode-encoded.new.writing c.is_err-self-inside.result same;
     }
 
-pub returns-in-Looked-clause-coded : goal.returns-in-Looked-clause-coded
-returns-in-Looked-clause-coded g c =
-    looked_coded c.self.inside c.self.invariant c.in-Looked.is c.begin_gathering-stage.new.changes.items c.begin_gathering-stage.new.gatherings c.begin_gathering-stage.result.0 c.begin_gathering-stage.result.1
-    c.begin_gathering-stage.ensures.changes c.begin_gathering-stage.ensures.begun
-    ∙ ap (λ (p : PatchOf). coded c.begin_gathering-stage.result.1 p.call) c.self.view_is
+pub returns-in-Err-clause-coded : goal.returns-in-Err-clause-coded
+returns-in-Err-clause-coded g c =
+    short_coded c.self.inside c.self.invariant c.in-Looked.is c.begin_gathering.new.changes.items c.begin_gathering.new.gatherings
+    c.begin_gathering.ensures.changes c.begin_gathering.ensures.takes
+    ∙ ap (λ (p : PatchOf). coded true p.call) c.self.view_is
+
+pub returns-in-Err-on_coder-clause-coded : goal.returns-in-Err-on_coder-clause-coded
+returns-in-Err-on_coder-clause-coded g c =
+    let a = c.self.inside in
+    let stands : StandsIn (patch_in a).call a.gatherings Sequel.Draw = record {
+      book = sym c.self.invariant.book;
+      state = ap (λ s. state_by s a.gatherings a.writing a.outcome) c.in-Gathering.is;
+      takes = refl;
+    } in
+    subst (λ short. after_coding short (patch_in a).call c.on_coder.new.self Sequel.Draw ≡ coded short (patch_in a).call) (ap is_err c.in-Err-on_coder.is)
+    (c.on_coder.ensures.call (patch_in a).call Sequel.Draw stands)
+    ∙ ap (λ (p : PatchOf). coded true p.call) c.self.view_is
 
 pub returns-then-self : goal.returns-then-self
 returns-then-self g c =

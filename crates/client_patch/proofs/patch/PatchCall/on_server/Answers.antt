@@ -11,7 +11,7 @@ invariant_of-self-in_default c =
     let kept = c.self.invariant in
     let step =
     c.on_server-in_default.ensures.step
-    ∙ ap (λ short. stepped a.writing.book.geometry short (core_of c.args.s.now) a.writing.state) (sym c.is_err-self-inside.ensures.value) in
+    ∙ ap (λ short. stepped a.writing.book.geometry short (core_of c.args.s.now) a.writing.state) (sym c.is_err-self-inside-in_default.ensures.value) in
     record {
       change = kept.change;
       client = kept.client;
@@ -22,13 +22,13 @@ invariant_of-self-in_default c =
       untaken = kept.untaken;
       kept =
           served_kept a kept c.args.self.now c.self.view_is c.args.s.now.number c.requires.need c.in_default.not-Gathering
-          c.on_server-in_default.new.self c.is_err-self-inside.result _ _ step c.on_server-in_default.ensures.same false c.is_err-self-inside.result;
+          c.on_server-in_default.new.self c.is_err-self-inside-in_default.result _ _ step c.on_server-in_default.ensures.same false c.is_err-self-inside-in_default.result;
     }
 
 pub returns-in-Gathering-clause-knows : goal.returns-in-Gathering-clause-knows
 returns-in-Gathering-clause-knows c =
     gathering_knows c.self.inside c.self.invariant c.args.self.now c.self.view_is c.args.s.now.number c.requires.need c.in-Gathering.is
-    c.on_server.new.self c.on_server.ensures.owed false c.step_was_short-self-inside.result
+    c.on_server.new.self c.on_server.ensures.owed false c.is_err-self-inside.result
 
 pub returns-in_default : goal.returns-in_default
 returns-in_default c =
@@ -36,15 +36,15 @@ returns-in_default c =
     let kept = c.self.invariant in
     let step =
     c.on_server-in_default.ensures.step
-    ∙ ap (λ short. stepped a.writing.book.geometry short (core_of c.args.s.now) a.writing.state) (sym c.is_err-self-inside.ensures.value) in
+    ∙ ap (λ short. stepped a.writing.book.geometry short (core_of c.args.s.now) a.writing.state) (sym c.is_err-self-inside-in_default.ensures.value) in
     record {
       step =
           served_step a kept c.args.self.now c.self.view_is c.args.s.now.number c.requires.need c.in_default.not-Gathering
-          c.on_server-in_default.new.self c.is_err-self-inside.result _ _ step c.on_server-in_default.ensures.same;
+          c.on_server-in_default.new.self c.is_err-self-inside-in_default.result _ _ step c.on_server-in_default.ensures.same;
       written = ap (λ (p : PatchOf). p.written) c.self.view_is;
       knows = λ d _.
           served_knows a kept c.args.self.now c.self.view_is c.args.s.now.number c.requires.need c.in_default.not-Gathering
-          c.on_server-in_default.new.self c.is_err-self-inside.result _ _ step c.on_server-in_default.ensures.same false c.is_err-self-inside.result d;
+          c.on_server-in_default.new.self c.is_err-self-inside-in_default.result _ _ step c.on_server-in_default.ensures.same false c.is_err-self-inside-in_default.result d;
       number = c.on_server-in_default.ensures.number;
       book = c.on_server-in_default.ensures.book;
     }

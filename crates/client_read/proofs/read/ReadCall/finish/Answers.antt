@@ -18,13 +18,13 @@ pub into_seat-seat-requires : goal.into_seat-seat-requires
 into_seat-seat-requires c =
     let a = c.self.inside in
     let over : need_of (read_in a).call ≡ need.Finished = ap (λ (r : ReadOf). need_of r.call) c.self.view_is ∙ c.requires in
-    over_seated a.call.now a.number a.token a.gatherings a.point a.outcome c.self.invariant.read a.stage c.self.invariant.kept over
+    over_seated a.call.now a.number a.ticket a.gatherings a.point a.outcome c.self.invariant.read a.stage c.self.invariant.kept over
 
 pub returns-in_default : goal.returns-in_default
 returns-in_default c =
     let a = c.self.inside in
     let over : need_of (read_in a).call ≡ need.Finished = ap (λ (r : ReadOf). need_of r.call) c.self.view_is ∙ c.requires in
-    let ended : a.stage ≡ stage.Ended = over_ended a.call.now a.number a.token a.gatherings a.point a.outcome c.self.invariant.read a.stage c.self.invariant.kept over c.in_default.not-Finished in
+    let ended : a.stage ≡ stage.Ended = over_ended a.call.now a.number a.ticket a.gatherings a.point a.outcome c.self.invariant.read a.stage c.self.invariant.kept over c.in_default.not-Finished in
     record {
       seat = c.into_seat-seat.ensures ∙ ap (λ (r : ReadOf). r.call.token) c.self.view_is;
       outcome = sym (ap (λ (r : ReadOf). r.call.state.at) c.self.view_is)

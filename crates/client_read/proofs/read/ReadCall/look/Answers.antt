@@ -19,27 +19,27 @@ use Rattle.client_read.proofs.read.ReadCall.look.Goals as goal
 pub look-answer-requires-clause-may : goal.look-answer-requires-clause-may
 look-answer-requires-clause-may c =
     let a = c.self.inside in
-    may_look c.args.directory.now.core a.token a.number a.call.now c.self.invariant.read c.self.invariant.client
+    may_look c.args.directory.now.core a.ticket a.number a.call.now c.self.invariant.read c.self.invariant.client
     (waits_first a c.self.invariant (ap (λ (r : ReadOf). r.call.state.at) c.self.view_is ∙ c.requires.first))
 
 pub after_look-looked-requires-clause-fits : goal.after_look-looked-requires-clause-fits
 after_look-looked-requires-clause-fits c =
     let a = c.self.inside in
-    look_fits _ (actor_of a.token) a.number (note_of a.call.now) c.args.directory.now.core c.look-answer.new.directory.core _ c.look-answer.ensures.step
+    look_fits _ (actor_of a.ticket) a.number (note_of a.call.now) c.args.directory.now.core c.look-answer.new.directory.core _ c.look-answer.ensures.step
 
 pub invariant_of-self : goal.invariant_of-self
 invariant_of-self c =
     let a = c.self.inside in
     let waits = waits_first a c.self.invariant (ap (λ (r : ReadOf). r.call.state.at) c.self.view_is ∙ c.requires.first) in
     let next = c.after_look-looked in
-    let fits = look_fits _ (actor_of a.token) a.number (note_of a.call.now) c.args.directory.now.core c.look-answer.new.directory.core _ c.look-answer.ensures.step in
+    let fits = look_fits _ (actor_of a.ticket) a.number (note_of a.call.now) c.args.directory.now.core c.look-answer.new.directory.core _ c.look-answer.ensures.step in
     record {
       read = c.self.invariant.read;
       client = subst (λ token. IsClient (actor_of token)) (sym c.look-answer.ensures.token)
-          (client_looked c.look-answer.result a.number (note_of a.call.now) a.token waits c.self.invariant.client);
+          (client_looked c.look-answer.result a.number (note_of a.call.now) a.ticket waits c.self.invariant.client);
       plain = next.ensures.plain;
       kept = subst (λ token. Keeps next.result.stage a.number (note_of a.call.now) token next.new.gatherings) (sym c.look-answer.ensures.token)
-          (kept_looked c.look-answer.result next.result.stage a.call.now a.number a.token next.new.gatherings c.self.invariant.read fits waits next.ensures.kept);
+          (kept_looked c.look-answer.result next.result.stage a.call.now a.number a.ticket next.new.gatherings c.self.invariant.read fits waits next.ensures.kept);
     }
 
 pub returns-clause-step : goal.returns-clause-step
@@ -51,7 +51,7 @@ returns-clause-step c =
     let due : Bool = due_by next.result.stage next.new.gatherings in
     look_step (read_in a).call a.call.now c.self.invariant.read refl (ap (λ at. record { pairs = []; at = at }) (ap (λ (r : ReadOf). r.call.state.at) c.self.view_is ∙ c.requires.first))
     d c.look-answer.new.directory.core short c.look-answer.result
-    (c.look-answer.ensures.step ∙ ap (λ s. at_directory s (actor_of a.token) a.number (DirectoryStep.Look (note_of a.call.now)) d) (sym c.is_err-self-inside.ensures.value))
+    (c.look-answer.ensures.step ∙ ap (λ s. at_directory s (actor_of a.ticket) a.number (DirectoryStep.Look (note_of a.call.now)) d) (sym c.is_err-self-inside.ensures.value))
     due c.look-answer.new.self (state_by next.result.stage next.new.gatherings next.result.point next.result.outcome) next.new.gatherings.book (tries_by next.new.gatherings.book.script) next.new.gatherings.takes
     c.look-answer.ensures.token next.ensures.state next.ensures.book (ap (λ (book : BookOf). tries_by book.script) next.ensures.book) next.ensures.takes
     ∙ ap (λ (r : ReadOf). stepped_at_directory short due r.call d) c.self.view_is
@@ -65,6 +65,6 @@ returns-clause-owed c =
     next.ensures.owed d.stamps (all_own d c.look-answer.result c.look-answer.ensures.seen)
     ∙ look_owed (read_in a).call a.call.now c.self.invariant.read refl (ap (λ at. record { pairs = []; at = at }) (ap (λ (r : ReadOf). r.call.state.at) c.self.view_is ∙ c.requires.first))
     d.core c.look-answer.new.directory.core short c.look-answer.result
-    (c.look-answer.ensures.step ∙ ap (λ s. at_directory s (actor_of a.token) a.number (DirectoryStep.Look (note_of a.call.now)) d.core) (sym c.is_err-self-inside.ensures.value))
+    (c.look-answer.ensures.step ∙ ap (λ s. at_directory s (actor_of a.ticket) a.number (DirectoryStep.Look (note_of a.call.now)) d.core) (sym c.is_err-self-inside.ensures.value))
     (owed a.gatherings) d refl
     ∙ ap (λ (r : ReadOf). owed_after short r.call d r.owed) c.self.view_is

@@ -27,6 +27,6 @@ pub returns-in-Gathering-clause-pass : goal.returns-in-Gathering-clause-pass
 returns-in-Gathering-clause-pass c =
     let a = c.self.inside in
     subst (λ (r : ReadOf). HoldsItsPass r.call) c.self.view_is
-    (gathering_holds (read_in a).call a.number (note_of a.call.now) a.token refl refl refl
+    (gathering_holds (read_in a).call a.number (note_of a.call.now) a.ticket refl refl refl
     (c.need.ensures.in_pass (read_in a).call (Sequel.Serve a.point.0) (gathering_stands a c.in-Gathering.is))
-    (subst (λ now. Keeps now a.number (note_of a.call.now) a.token a.gatherings) c.in-Gathering.is c.self.invariant.kept))
+    (subst (λ now. Keeps now a.number (note_of a.call.now) a.ticket a.gatherings) c.in-Gathering.is c.self.invariant.kept))

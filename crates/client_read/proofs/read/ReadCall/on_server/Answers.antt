@@ -17,11 +17,11 @@ returns-clause-step c =
     let a = c.self.inside in
     let s = core_of c.args.s.now in
     let later : GatheringsOf = c.on_server.new.self in
-    let short : Bool = c.step_was_short-self-inside.result in
+    let short : Bool = c.is_err-self-inside.result in
     let call : CallOf = (read_in a).call in
     let due : Bool = due_by a.stage later in
     let is : a.stage ≡ stage.Gathering =
-    needs_gathering a.call.now a.number a.token a.gatherings a.point a.outcome c.self.invariant.read is_server_need refl refl a.stage c.self.invariant.kept
+    needs_gathering a.call.now a.number a.ticket a.gatherings a.point a.outcome c.self.invariant.read is_server_need refl refl a.stage c.self.invariant.kept
     (ap is_server_need (ap (λ (r : ReadOf). need_of r.call) c.self.view_is ∙ c.requires.need))
     in
     (λ i. (
@@ -36,6 +36,6 @@ returns-clause-step c =
         step = short;
       },
     ))
-    ∙ subst (λ x. (core_of c.on_server.new.s, moved call later (Sequel.Serve a.point.0) due false x) ≡ stepped_at_server x due call s) (sym c.step_was_short-self-inside.ensures)
+    ∙ subst (λ x. (core_of c.on_server.new.s, moved call later (Sequel.Serve a.point.0) due x) ≡ stepped_at_server x due call s) (sym c.is_err-self-inside.ensures.value)
     (c.on_server.ensures.call call (Sequel.Serve a.point.0) due (gathering_stands a is))
     ∙ ap (λ (r : ReadOf). stepped_at_server short due r.call s) c.self.view_is

@@ -1,11 +1,9 @@
-use Rattle.std.proofs.Common.{◌≡◌, ℕ, ◌<◌, ◌∷◌, [], get_or, ◌++◌, List, length, map, All, Option, sym, ap, subst, ◌∙◌}
+use Rattle.std.proofs.Common.{◌≡◌, ℕ, ◌<◌, ◌∷◌, [], ◌++◌, List, length, map, All, Option, sym, ap, subst, ◌∙◌}
 use Rattle.std.proofs.lemmas.List.{map-append}
 use Rattle.std.proofs.lemmas.List.Elements.{All-push}
 use Rattle.indexmap.specs.IndexMap.{keys}
 use Rattle.store_core.specs.Directory.{Point}
 use Rattle.store_core.specs.Lookups.{last_change}
-use Rattle.dir_parts.specs.Events.{event_in}
-use Rattle.dir_parts.specs.Passes.{kind_in}
 use Rattle.dir_parts.specs.Book.{point_in}
 use Rattle.dir_parts.specs.declared.history.Entry.{Entry}
 use Rattle.dir_parts.proofs.BookSteps.{last_still}
@@ -14,16 +12,16 @@ use Rattle.dir_parts.proofs.history.History.push.Goals as goal
 pub returns-clause-points : goal.returns-clause-points
 returns-clause-points c =
     let names : List (List ℕ) = keys c.self.inside.names in
-    let entry : Entry = record { actor = c.args.actor; number = c.args.number; event = c.args.event; kind = c.args.kind; name = c.args.name; offset = c.args.offset; length = c.args.count } in
+    let entry : Entry = c.args.entry in
     ap (map (point_in names)) c.push_reserved.ensures.items ∙ map-append (point_in names) c.self.inside.entries.items (entry ∷ [])
-    ∙ ap (λ b. b.points ++ record { actor = c.args.actor; number = c.args.number; note = record { kind = kind_in c.args.kind; name = get_or b.names c.args.name []; offset = c.args.offset; length = c.args.count }; event = event_in c.args.event } ∷ []) c.self.view_is
+    ∙ ap (λ b. b.points ++ point_in b.names c.args.entry ∷ []) c.self.view_is
 
 pub invariant_of-self : goal.invariant_of-self
 invariant_of-self c =
     let names : List (List ℕ) = keys c.self.inside.names in
-    let within : c.args.name < length names = subst (λ b. c.args.name < length b.names) (sym c.self.view_is) c.requires.named in
+    let within : c.args.entry.name < length names = subst (λ b. c.args.entry.name < length b.names) (sym c.self.view_is) c.requires.named in
     let old : List Point = map (point_in names) c.self.inside.entries.items in
-    let entry : Entry = record { actor = c.args.actor; number = c.args.number; event = c.args.event; kind = c.args.kind; name = c.args.name; offset = c.args.offset; length = c.args.count } in
+    let entry : Entry = c.args.entry in
     let points : map (point_in names) c.push_reserved.new.self.items ≡ old ++ point_in names entry ∷ [] =
     ap (map (point_in names)) c.push_reserved.ensures.items ∙ map-append (point_in names) c.self.inside.entries.items (entry ∷ [])
     in

@@ -1,13 +1,11 @@
-use Rattle.std.proofs.Common.{◌≡◌, ℕ, ◌<◌, ◌∷◌, [], get_or, ◌++◌, List, length, map, Some, All, Option, refl, sym, ap, subst, ◌∙◌}
+use Rattle.std.proofs.Common.{◌≡◌, ℕ, ◌<◌, ◌∷◌, [], ◌++◌, List, length, map, Some, All, Option, refl, sym, ap, subst, ◌∙◌}
 use Rattle.std.proofs.lemmas.List.{map-append, length-map}
 use Rattle.std.proofs.lemmas.List.Elements.{All-push}
 use Rattle.std.specs.Map.{keys_of}
 use Rattle.indexmap.specs.IndexMap.{keys, set_value_at}
 use Rattle.indexmap.proofs.CallerLemmas.{keys-with_value_at}
 use Rattle.store_core.specs.Directory.{Point}
-use Rattle.dir_parts.specs.Events.{event_in}
 use Rattle.store_core.specs.Lookups.{last_change}
-use Rattle.dir_parts.specs.Passes.{kind_in}
 use Rattle.dir_parts.specs.Book.{point_in}
 use Rattle.dir_parts.specs.declared.history.Entry.{Entry}
 use Rattle.dir_parts.proofs.BookSteps.{last_kept}
@@ -15,30 +13,30 @@ use Rattle.dir_parts.proofs.history.History.push_change.Goals as goal
 
 pub returns-clause-names : goal.returns-clause-names
 returns-clause-names c =
-    ap keys_of c.set_last.ensures.entries ∙ keys-with_value_at c.self.inside.names c.args.name (Some c.len-point.result)
+    ap keys_of c.set_last.ensures.entries ∙ keys-with_value_at c.self.inside.names c.args.entry.name (Some c.len-point.result)
     ∙ ap (λ b. b.names) c.self.view_is
 
 pub returns-clause-points : goal.returns-clause-points
 returns-clause-points c =
     let names : List (List ℕ) = keys c.self.inside.names in
-    let same : keys c.set_last.new.names ≡ names = ap keys_of c.set_last.ensures.entries ∙ keys-with_value_at c.self.inside.names c.args.name (Some c.len-point.result) in
-    let entry : Entry = record { actor = c.args.actor; number = c.args.number; event = c.args.event; kind = c.args.kind; name = c.args.name; offset = c.args.offset; length = c.args.count } in
+    let same : keys c.set_last.new.names ≡ names = ap keys_of c.set_last.ensures.entries ∙ keys-with_value_at c.self.inside.names c.args.entry.name (Some c.len-point.result) in
+    let entry : Entry = c.args.entry in
     (λ i. map (point_in (same i)) (c.push_reserved.ensures.items i)) ∙ map-append (point_in names) c.self.inside.entries.items (entry ∷ [])
-    ∙ ap (λ b. b.points ++ record { actor = c.args.actor; number = c.args.number; note = record { kind = kind_in c.args.kind; name = get_or b.names c.args.name []; offset = c.args.offset; length = c.args.count }; event = event_in c.args.event } ∷ []) c.self.view_is
+    ∙ ap (λ b. b.points ++ point_in b.names c.args.entry ∷ []) c.self.view_is
 
 pub invariant_of-self : goal.invariant_of-self
 invariant_of-self c =
     let names : List (List ℕ) = keys c.self.inside.names in
-    let within : c.args.name < length names = subst (λ b. c.args.name < length b.names) (sym c.self.view_is) c.requires.named in
-    let same : keys c.set_last.new.names ≡ names = ap keys_of c.set_last.ensures.entries ∙ keys-with_value_at c.self.inside.names c.args.name (Some c.len-point.result) in
+    let within : c.args.entry.name < length names = subst (λ b. c.args.entry.name < length b.names) (sym c.self.view_is) c.requires.named in
+    let same : keys c.set_last.new.names ≡ names = ap keys_of c.set_last.ensures.entries ∙ keys-with_value_at c.self.inside.names c.args.entry.name (Some c.len-point.result) in
     let old : List Point = map (point_in names) c.self.inside.entries.items in
-    let entry : Entry = record { actor = c.args.actor; number = c.args.number; event = c.args.event; kind = c.args.kind; name = c.args.name; offset = c.args.offset; length = c.args.count } in
+    let entry : Entry = c.args.entry in
     let points : map (point_in (keys c.set_last.new.names)) c.push_reserved.new.self.items ≡ old ++ point_in names entry ∷ [] =
     (λ i. map (point_in (same i)) (c.push_reserved.ensures.items i)) ∙ map-append (point_in names) c.self.inside.entries.items (entry ∷ [])
     in
     let count : c.len-point.result ≡ length old = c.len-point.ensures ∙ c.self.inside.entries.ok.0 ∙ sym (length-map c.self.inside.entries.items (point_in names)) in
-    let kept : All (λ known. known.1 ≡ last_change known.0 (old ++ point_in names entry ∷ [])) (set_value_at c.self.inside.names.entries c.args.name (Some (length old))) =
-    last_kept old (point_in names entry) c.requires.changes c.self.inside.names.entries c.args.name within refl c.self.invariant.unique c.self.invariant.last
+    let kept : All (λ known. known.1 ≡ last_change known.0 (old ++ point_in names entry ∷ [])) (set_value_at c.self.inside.names.entries c.args.entry.name (Some (length old))) =
+    last_kept old (point_in names entry) c.requires.changes c.self.inside.names.entries c.args.entry.name within refl c.self.invariant.unique c.self.invariant.last
     in
     let named : All (λ (e : Entry). e.name < length names) (c.self.inside.entries.items ++ entry ∷ []) =
     All-push (λ (e : Entry). e.name < length names) c.self.inside.entries.items entry c.self.invariant.named within
@@ -48,5 +46,5 @@ invariant_of-self c =
       named = subst (λ (l : List (List ℕ) × List Entry). All (λ (e : Entry). e.name < length l.0) l.1) (λ i. (sym same i, sym c.push_reserved.ensures.items i)) named;
       last =
           subst (λ (l : List Point × List (List ℕ × Option ℕ)). All (λ known. known.1 ≡ last_change known.0 l.0) l.1)
-          (λ i. (sym points i, (ap (λ n. set_value_at c.self.inside.names.entries c.args.name (Some n)) (sym count) ∙ sym c.set_last.ensures.entries) i)) kept;
+          (λ i. (sym points i, (ap (λ n. set_value_at c.self.inside.names.entries c.args.entry.name (Some n)) (sym count) ∙ sym c.set_last.ensures.entries) i)) kept;
     }

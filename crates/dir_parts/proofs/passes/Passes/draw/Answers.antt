@@ -15,11 +15,11 @@ set_drawn-requires-clause-apart c = apart_open c.self.inside.open.items (subst (
 
 pub invariant_of-self : goal.invariant_of-self
 invariant_of-self c =
-    c.set_drawn.ensures.rooms c.self.inside.stripe c.self.invariant
-    (of_open (λ (p : Pass). HasRoom c.self.inside.stripe (record { pass = record p { drawn = c.args.drawn.items }; room = vec_capacity c.args.spare }))
+    c.set_drawn.ensures.rooms c.self.inside.stripe_len c.self.invariant
+    (of_open (λ (p : Pass). HasRoom c.self.inside.stripe_len (record { pass = record p { drawn = c.args.drawn.items }; room = vec_capacity c.args.spare }))
     (find (λ (o : Open). same_actor c.args.actor o.pass.actor) c.self.inside.open.items)
-    (subst (λ (o : Option Pass). IfSome o (λ p. HasRoom c.self.inside.stripe (record { pass = record p { drawn = c.args.drawn.items }; room = vec_capacity c.args.spare }))) (find-open (λ (p : Pass). same_actor c.args.actor p.actor) c.self.inside.open.items)
-    (subst (λ (k : Desk). IfSome (find (λ (p : Pass). same_actor c.args.actor p.actor) k.listed) (λ p. HasRoom k.stripe (record { pass = record p { drawn = c.args.drawn.items }; room = vec_capacity c.args.spare }))) (sym c.self.view_is) c.requires.room)))
+    (subst (λ (o : Option Pass). IfSome o (λ p. HasRoom c.self.inside.stripe_len (record { pass = record p { drawn = c.args.drawn.items }; room = vec_capacity c.args.spare }))) (find-open (λ (p : Pass). same_actor c.args.actor p.actor) c.self.inside.open.items)
+    (subst (λ (k : Desk). IfSome (find (λ (p : Pass). same_actor c.args.actor p.actor) k.listed) (λ p. HasRoom k.stripe_len (record { pass = record p { drawn = c.args.drawn.items }; room = vec_capacity c.args.spare }))) (sym c.self.view_is) c.requires.room)))
 
 pub returns-clause-listed : goal.returns-clause-listed
 returns-clause-listed c =

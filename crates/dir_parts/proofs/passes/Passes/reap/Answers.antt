@@ -15,8 +15,8 @@ set_reaped-requires-clause-apart c = apart_open c.self.inside.open.items (subst 
 
 pub invariant_of-self : goal.invariant_of-self
 invariant_of-self c =
-    subst (λ (l : List Open). All (HasRoom c.self.inside.stripe) l) (sym c.set_reaped.ensures)
-    (rooms_reaped c.self.inside.stripe (λ (o : Open). same_actor c.args.actor o.pass.actor) c.args.point c.self.inside.open.items c.self.invariant)
+    subst (λ (l : List Open). All (HasRoom c.self.inside.stripe_len) l) (sym c.set_reaped.ensures)
+    (rooms_reaped c.self.inside.stripe_len (λ (o : Open). same_actor c.args.actor o.pass.actor) c.args.point c.self.inside.open.items c.self.invariant)
 
 pub returns-clause-listed : goal.returns-clause-listed
 returns-clause-listed c =

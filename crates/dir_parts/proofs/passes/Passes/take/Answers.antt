@@ -18,7 +18,7 @@ take_pass-requires-clause-apart c = apart_open c.self.inside.open.items (subst (
 
 pub invariant_of-self : goal.invariant_of-self
 invariant_of-self c =
-    All-tail (HasRoom c.self.inside.stripe) c.take_pass.result _ (All-permutation (HasRoom c.self.inside.stripe) c.self.inside.open.items _ c.take_pass.ensures.others c.self.invariant)
+    All-tail (HasRoom c.self.inside.stripe_len) c.take_pass.result _ (All-permutation (HasRoom c.self.inside.stripe_len) c.self.inside.open.items _ c.take_pass.ensures.others c.self.invariant)
 
 pub returns-clause-found : goal.returns-clause-found
 returns-clause-found c =
@@ -37,5 +37,5 @@ returns-clause-others c =
 
 pub returns-clause-room : goal.returns-clause-room
 returns-clause-room c =
-    subst (λ (k : Desk). HasRoom k.stripe c.take_pass.result) c.self.view_is
-    (All-head (HasRoom c.self.inside.stripe) c.take_pass.result c.take_pass.new.calls.items (All-permutation (HasRoom c.self.inside.stripe) c.self.inside.open.items _ c.take_pass.ensures.others c.self.invariant))
+    subst (λ (k : Desk). HasRoom k.stripe_len c.take_pass.result) c.self.view_is
+    (All-head (HasRoom c.self.inside.stripe_len) c.take_pass.result c.take_pass.new.calls.items (All-permutation (HasRoom c.self.inside.stripe_len) c.self.inside.open.items _ c.take_pass.ensures.others c.self.invariant))

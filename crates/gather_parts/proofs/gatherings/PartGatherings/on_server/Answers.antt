@@ -1,4 +1,4 @@
-use Rattle.std.proofs.Common.{◌≡◌, false, length, IfSome, refl, sym, ap, subst, ◌∙◌}
+use Rattle.std.proofs.Common.{◌≡◌, is_err, length, IfSome, refl, sym, ap, subst, ◌∙◌}
 use Rattle.store_core.specs.Server.{Server}
 use Rattle.gathering.specs.Gathers.{GatherOf}
 use Rattle.clay_grid.specs.Shape.{chunk_count}
@@ -19,9 +19,9 @@ invariant_of-self c =
     let after = c.on_server.new in
     record {
       left = c.self.invariant.left;
-      counts = still_counted a.opening w after.self (core_of c.args.s.now) (core_of after.s) takes after.takes c.on_server.ensures.step
+      counts = still_counted a.opening w after.self (is_err c.on_server.result) (core_of c.args.s.now) (core_of after.s) takes after.takes c.on_server.ensures.step
           ∙ subst (λ o. IfSome o (λ counts. length counts ≡ chunk_count a.opening.geometry)) c.in-Some-takes.is c.self.invariant.counts;
-      current = still_at_work a.opening w after.self (core_of c.args.s.now) (core_of after.s) takes after.takes c.on_server.ensures.step
+      current = still_at_work a.opening w after.self (is_err c.on_server.result) (core_of c.args.s.now) (core_of after.s) takes after.takes c.on_server.ensures.step
           (subst (λ o. IfSome o (IsAtWork a.opening)) c.in-Some.is c.self.invariant.current);
       counted = λ _. refl;
     }
@@ -29,18 +29,18 @@ invariant_of-self c =
 pub returns-clause-step : goal.returns-clause-step
 returns-clause-step c =
     let after = c.on_server.new in
-    stepped_is c.self.inside c.in-Some.gather after.self (core_of c.args.s.now) (core_of after.s) c.in-Some-takes.takes after.takes c.in-Some.is c.in-Some-takes.is c.on_server.ensures.step
-    ∙ ap (λ (p : GatheringsOf). stepped p after.self.step (core_of c.args.s.now)) c.self.view_is
+    stepped_is c.self.inside c.in-Some.gather after.self (is_err c.on_server.result) (core_of c.args.s.now) (core_of after.s) c.in-Some-takes.takes after.takes c.in-Some.is c.in-Some-takes.is c.on_server.ensures.step
+    ∙ ap (λ (p : GatheringsOf). stepped p (is_err c.on_server.result) (core_of c.args.s.now)) c.self.view_is
 
 pub returns-clause-owed : goal.returns-clause-owed
 returns-clause-owed c =
-    ap (λ (r : Server × GatheringsOf). owed r.1) (returns-clause-step c) ∙ still_owed c.args.self.now c.on_server.new.self.step (core_of c.args.s.now)
+    ap (λ (r : Server × GatheringsOf). owed r.1) (returns-clause-step c) ∙ still_owed c.args.self.now (is_err c.on_server.result) (core_of c.args.s.now)
 
 pub returns-clause-call : goal.returns-clause-call
 returns-clause-call c = λ call after due stands.
-    let short = c.on_server.new.self.step in
+    let short = is_err c.on_server.result in
     let a = c.self.inside in
-    ap (λ (r : Server × GatheringsOf). (r.0, moved call r.1 after due false short)) (returns-clause-step c)
+    ap (λ (r : Server × GatheringsOf). (r.0, moved call r.1 after due short)) (returns-clause-step c)
     ∙ step_moves call after due short (core_of c.args.s.now) c.args.self.now c.args.s.now.number
     (subst (λ (p : GatheringsOf). IfSome p.current (λ w. w.course.geometry ≡ p.book.geometry)) c.self.view_is
     (subst (λ o. IfSome o (λ (w : GatherOf). w.course.geometry ≡ a.opening.geometry)) (sym c.in-Some.is)
@@ -49,4 +49,4 @@ returns-clause-call c = λ call after due stands.
 
 pub returns-clause-book : goal.returns-clause-book
 returns-clause-book c =
-    ap (λ (r : Server × GatheringsOf). r.1.book) (returns-clause-step c) ∙ same_book c.args.self.now c.on_server.new.self.step (core_of c.args.s.now)
+    ap (λ (r : Server × GatheringsOf). r.1.book) (returns-clause-step c) ∙ same_book c.args.self.now (is_err c.on_server.result) (core_of c.args.s.now)

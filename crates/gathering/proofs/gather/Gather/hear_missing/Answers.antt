@@ -13,9 +13,9 @@ invariant_of-self c =
     let later : Shelf = c.let_go_of_one.new.helpers in
     let long : length later ≡ a.helpers.len = omega (arith, c.let_go_of_one.auto.helpers, ap length c.deref_mut.ensures.value, a.helpers.ok.0) in
     let gone = c.gone-missing.ensures in
-    subst (λ (shelf : Shelf). IsGather a.stamp c.told_missing.new.self a.parts.items shelf)
+    subst (λ (shelf : Shelf). IsGather a.stamp c.told_missing.new.self a.wanted.items shelf)
     (sym (take_at later (drop (length later) a.helpers.items) a.helpers.len long))
-    (after_missing a.stamp a.course c.told_missing.new.self a.parts.items a.helpers.items c.self.invariant c.args.found later
+    (after_missing a.stamp a.course c.told_missing.new.self a.wanted.items a.helpers.items c.self.invariant c.args.found later
     (subst (λ (w : GatherOf). IsAskingStage w.course.stage) (sym c.self.view_is) c.requires) c.told_missing.ensures
     (omega (arith, long, a.helpers.ok.0))
     (λ few. c.let_go_of_one.ensures.few (subst (λ l. length l < 2) (sym gone) few))

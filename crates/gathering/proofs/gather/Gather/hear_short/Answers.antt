@@ -7,5 +7,5 @@ use Rattle.gathering.proofs.gather.Gather.hear_short.Goals as goal
 pub invariant_of-self : goal.invariant_of-self
 invariant_of-self c =
     let a = c.self.inside in
-    after_short a.stamp a.course c.told_short.new.self a.parts.items a.helpers.items c.self.invariant
+    after_short a.stamp a.course c.told_short.new.self a.wanted.items a.helpers.items c.self.invariant
     (subst (λ (w : GatherOf). IsAskingStage w.course.stage) (sym c.self.view_is) c.requires) c.told_short.ensures

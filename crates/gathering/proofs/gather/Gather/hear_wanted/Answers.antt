@@ -10,7 +10,7 @@ pub invariant_of-self : goal.invariant_of-self
 invariant_of-self c =
     let a = c.self.inside in
     let was = sym c.self.view_is in
-    after_wanted a.stamp a.course c.told_given.new.self a.parts.items a.helpers.items c.self.invariant c.args.server 0 c.args.bytes
+    after_wanted a.stamp a.course c.told_given.new.self a.wanted.items a.helpers.items c.self.invariant c.args.server 0 c.args.bytes
     (subst (λ (w : GatherOf). is_fetch w.course.stage ≡ true) was c.requires.fetch)
     (subst (λ (w : GatherOf). server_of w.course ≡ Some c.args.server) was c.requires.asked)
     (subst (λ (w : GatherOf). c.args.server < chunk_count w.course.geometry) was c.requires.below)

@@ -19,10 +19,10 @@ invariant_of-result c =
       end = c.args.end;
     }
     in
-    subst (λ (w : CourseOf). IsGather c.args.pinned.stamp w c.in_ok-parts.parts.items c.in_ok-helpers.helpers.items) (sym c.in_ok-course.ensures)
-    (range_begins c.args.pinned.stamp c.args.geometry part c.in_ok-parts.parts.items c.in_ok-helpers.helpers.items (sym c.version-version.ensures)
+    subst (λ (w : CourseOf). IsGather c.args.pinned.stamp w c.in_ok-wanted.wanted.items c.in_ok-helpers.helpers.items) (sym c.in_ok-course.ensures)
+    (range_begins c.args.pinned.stamp c.args.geometry part c.in_ok-wanted.wanted.items c.in_ok-helpers.helpers.items (sym c.version-version.ensures)
     (c.requires.some, c.requires.within)
-    (count_made c.n-servers.result c.in_ok-parts.parts.items c.in_ok-parts.ensures ∙ c.n-servers.ensures.value)
-    (none_made c.n-servers.result c.in_ok-parts.parts.items c.in_ok-parts.ensures)
+    (count_made c.n-servers.result c.in_ok-wanted.wanted.items c.in_ok-wanted.ensures ∙ c.n-servers.ensures.value)
+    (none_made c.n-servers.result c.in_ok-wanted.wanted.items c.in_ok-wanted.ensures)
     (count_made c.n-servers.result c.in_ok-helpers.helpers.items c.in_ok-helpers.ensures ∙ c.n-servers.ensures.value)
     (none_made c.n-servers.result c.in_ok-helpers.helpers.items c.in_ok-helpers.ensures))

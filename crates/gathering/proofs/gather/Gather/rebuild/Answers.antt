@@ -15,7 +15,7 @@ rebuild-requires-clause-parts g c =
     let was = sym c.self.view_is in
     subst (λ (l : Shelf). AreParts c.geometry-geometry.result c.args.lost l) (sym c.deref.ensures.value)
     (subst (λ (s : Shape). AreParts s c.args.lost a.helpers.items) (sym c.geometry-geometry.ensures)
-    (parts_of_one a.stamp a.course a.parts.items a.helpers.items c.self.invariant
+    (parts_of_one a.stamp a.course a.wanted.items a.helpers.items c.self.invariant
     (subst (λ (w : GatherOf). has_bytes w.course.stage ≡ true) was c.requires.parts)
     (subst IsGeometry c.geometry-geometry.ensures c.n-servers.ensures.geometry)
     c.args.lost
@@ -27,7 +27,7 @@ returns g c =
     let a = c.self.inside in
     let was = sym c.self.view_is in
     subst (λ (w : GatherOf). AreMade w.course.geometry w.stamp.content w.course.gone (set c.in_ok-made.made.items c.args.lost (Some c.in_ok-chunk.chunk))) c.self.view_is
-    (made_of_one a.stamp a.course a.parts.items a.helpers.items c.self.invariant
+    (made_of_one a.stamp a.course a.wanted.items a.helpers.items c.self.invariant
     (subst (λ (w : GatherOf). has_bytes w.course.stage ≡ true) was c.requires.parts)
     (subst IsGeometry c.geometry-geometry.ensures c.n-servers.ensures.geometry)
     c.args.lost

@@ -16,7 +16,7 @@ recover-requires-clause-left g c =
     let was = sym c.self.view_is in
     subst (λ (l : Shelf). AreLeft c.geometry-geometry.result l) (sym c.deref.ensures.value)
     (subst (λ (s : Shape). AreLeft s a.helpers.items) (sym c.geometry-geometry.ensures)
-    (left_of_many a.stamp a.course a.parts.items a.helpers.items c.self.invariant
+    (left_of_many a.stamp a.course a.wanted.items a.helpers.items c.self.invariant
     (subst (λ (w : GatherOf). has_bytes w.course.stage ≡ true) was c.requires.parts)
     (subst IsGeometry c.geometry-geometry.ensures c.n-servers.ensures.geometry)
     (subst (λ (w : GatherOf). 2 ≤ length w.course.gone) was c.requires.many)))
@@ -27,7 +27,7 @@ returns g c =
     let was = sym c.self.view_is in
     if_ok c.shelved.result c.shelved.ensures
     (λ made is. subst (λ (w : GatherOf). AreMade w.course.geometry w.stamp.content w.course.gone made.items) c.self.view_is
-    (made_of_many a.stamp a.course a.parts.items a.helpers.items c.self.invariant
+    (made_of_many a.stamp a.course a.wanted.items a.helpers.items c.self.invariant
     (subst (λ (w : GatherOf). has_bytes w.course.stage ≡ true) was c.requires.parts)
     (subst IsGeometry c.geometry-geometry.ensures c.n-servers.ensures.geometry)
     (subst (λ (w : GatherOf). 2 ≤ length w.course.gone) was c.requires.many)

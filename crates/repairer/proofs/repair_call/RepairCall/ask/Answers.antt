@@ -1,4 +1,4 @@
-use Rattle.std.proofs.Common.{◌≡◌, false, [], None, Some, if◌then◌else◌, refl, sym, ap, ◌∙◌}
+use Rattle.std.proofs.Common.{◌≡◌, false, is_err, [], None, Some, if◌then◌else◌, refl, sym, ap, ◌∙◌}
 use Rattle.store_resume.specs.Stage.{Aim}
 use Rattle.store_resume.specs.State.{Sequel, State}
 use Rattle.store_resume.specs.States.{stage_state}
@@ -30,9 +30,9 @@ invariant_of-self-in-None c =
       below = c.self.invariant.below;
       kept =
           keeps_on
-          (record a { stage = c.stage_after-self-inside.result; gather = Some next; takes = Some c.on_server.new.takes; due = ready; coding = false; step = c.step_was_short-self-inside.result })
+          (record a { stage = c.stage_after-self-inside.result; gather = Some next; takes = Some c.on_server.new.takes; due = ready; coding = false; step = c.is_err-self-inside.result })
           w takes c.stage_after-self-inside.result is.of_call is.asking next c.on_server.new.takes
-          (follows w next takes c.on_server.new.takes next.step (core_of c.args.s.now) (core_of c.on_server.new.s) is.asks c.on_server.ensures.step)
+          (follows w next takes c.on_server.new.takes (is_err c.on_server.result) (core_of c.args.s.now) (core_of c.on_server.new.s) is.asks c.on_server.ensures.step)
           none (c.stage_after-self-inside.ensures ∙ ap (λ b. if b then stage.Confirming else stage.Gathering) has) refl refl has;
     }
 
@@ -43,7 +43,7 @@ returns-in-None-clause-step c =
     let takes = c.in-Some-Some.takes in
     let next = c.on_server.new.self in
     let ready = c.has_bytes-ready.result in
-    let short = c.step_was_short-self-inside.result in
+    let short = c.is_err-self-inside.result in
     let is : IsAsked a w takes =
     is_asked a c.args.self.now w takes c.args.s.now.number c.self.invariant c.self.view_is c.requires.stage c.requires.need c.in-Some-Some.ensures.value c.in-Some-Some.ensures'.value
     in
@@ -51,14 +51,14 @@ returns-in-None-clause-step c =
     let has : ready ≡ has_bytes next.course.stage = c.has_bytes-ready.ensures ∙ ap (λ (course : CourseOf). has_bytes course.stage) c.course.ensures in
     (λ i. (
       core_of c.on_server.new.s,
-      call_at a.opening a.rebuild.now a.number a.token
-          (goes_on (seen_at a.seen) a.rebuild.now.server a.epoch (repair_outcome_of a.outcome) next.course.stage c.stage_after-self-inside.result none
+      call_at a.opening a.rebuild.now a.number a.ticket
+          (goes_on (seen_at a.looked.value) a.rebuild.now.server a.epoch (repair_outcome_of a.outcome) next.course.stage c.stage_after-self-inside.result none
           (c.stage_after-self-inside.ensures ∙ ap (λ b. if b then stage.Confirming else stage.Gathering) has) i)
           c.on_server.new.takes ready false short,
     ))
     ∙ steps a c.args.self.now w next takes c.on_server.new.takes short ready (core_of c.args.s.now) (core_of c.on_server.new.s) is c.self.view_is
     c.in-Some-Some.ensures.value c.in-Some-Some.ensures'.value
-    (c.on_server.ensures.step ∙ ap (λ b. stepped w b (core_of c.args.s.now) takes) (sym c.step_was_short-self-inside.ensures))
+    (c.on_server.ensures.step ∙ ap (λ b. stepped w b (core_of c.args.s.now) takes) (sym c.is_err-self-inside.ensures.value))
 
 pub returns-in-Some-clause-step : goal.returns-in-Some-clause-step
 returns-in-Some-clause-step c =
@@ -66,22 +66,22 @@ returns-in-Some-clause-step c =
     let w = c.in-Some-Some.gather in
     let takes = c.in-Some-Some.takes in
     let next = c.on_server.new.self in
-    let short = c.step_was_short-self-inside.result in
-    let seen = seen_at a.seen in
+    let short = c.is_err-self-inside.result in
+    let seen = seen_at a.looked.value in
     let is : IsAsked a w takes =
     is_asked a c.args.self.now w takes c.args.s.now.number c.self.invariant c.self.view_is c.requires.stage c.requires.need c.in-Some-Some.ensures.value c.in-Some-Some.ensures'.value
     in
     let aim : next.course.aim ≡ Aim.Chunk seen a.rebuild.now.server =
-    (follows w next takes c.on_server.new.takes next.step (core_of c.args.s.now) (core_of c.on_server.new.s) is.asks c.on_server.ensures.step).aim ∙ is.aim
+    (follows w next takes c.on_server.new.takes (is_err c.on_server.result) (core_of c.args.s.now) (core_of c.on_server.new.s) is.asks c.on_server.ensures.step).aim ∙ is.aim
     in
     let confirm : Sequel = Sequel.Confirm seen a.rebuild.now.server in
     (λ i. (
       core_of c.on_server.new.s,
-      call_at a.opening a.rebuild.now a.number a.token
+      call_at a.opening a.rebuild.now a.number a.ticket
           ((sym (c.outcome_of.ensures (State.Confirming seen a.rebuild.now.server) [] confirm)
           ∙ ap (λ (wanted : Aim). stage_state (State.Confirming seen a.rebuild.now.server) wanted [] confirm next.course.stage) aim) i)
           c.on_server.new.takes c.has_bytes-ready.result false short,
     ))
     ∙ steps a c.args.self.now w next takes c.on_server.new.takes short c.has_bytes-ready.result (core_of c.args.s.now) (core_of c.on_server.new.s) is c.self.view_is
     c.in-Some-Some.ensures.value c.in-Some-Some.ensures'.value
-    (c.on_server.ensures.step ∙ ap (λ b. stepped w b (core_of c.args.s.now) takes) (sym c.step_was_short-self-inside.ensures))
+    (c.on_server.ensures.step ∙ ap (λ b. stepped w b (core_of c.args.s.now) takes) (sym c.is_err-self-inside.ensures.value))

@@ -1,6 +1,6 @@
 use Rattle.std.proofs.Common.{◌≡◌, true, false, Option, Some, unwrap_or, sym, ap, subst, ◌∙◌}
 use Rattle.store_resume.specs.Stage.{Aim}
-use Rattle.stripe_dir.specs.declared.answers.Seen.{Seen}
+use Rattle.call_steps.specs.declared.seen.Seen.{Seen}
 use Rattle.stripe_dir.specs.Answers.{seen_in}
 use Rattle.gathering.specs.Gathers.{new_gather}
 use Rattle.call_steps.specs.CallOf.{CallOf, act_of}
@@ -21,14 +21,14 @@ invariant_of-self c =
     let at = is_at a c.args.self.now stage.Gathering c.self.invariant c.self.view_is c.requires.stage in
     let kept = keeps a stage.Gathering c.self.invariant at in
     let due : a.due ≡ true = ap (λ (call : CallOf). call.due) c.self.view_is ∙ is_due (act_of c.args.self.now) c.args.self.now.due c.requires.need in
-    let is : IsSeen a.opening a.seen a.gather a.takes = subst (λ b. GathersAt b a) due kept.1 in
-    let same : c.in-Some.seen ≡ is.seen = ap (λ (o : Option Seen). unwrap_or o is.seen) (sym c.in-Some.is ∙ is.is_seen) in
+    let is : IsSeen a.opening a.looked.value a.seen a.gather a.takes = subst (λ b. GathersAt b a) due kept.1 in
+    let same : c.in-Some.seen ≡ is.seen = ap (λ (o : Option Seen). unwrap_or o is.seen) (c.in-Some.ensures.value ∙ is.is_held) in
     record {
       below = c.self.invariant.below;
       kept =
-          subst (λ (s : Stage). Keeps s (record a { gather = Some c.in-Ok.gather; takes = Some c.in-Ok.takes; due = false; coding = false })) (sym at) (
+          subst (λ (s : Stage). Keeps s (record a { seen = c.take.new.self; gather = Some c.in-Ok.gather; takes = Some c.in-Ok.takes; due = false; coding = false })) (sym at) (
             kept.0,
-            asks a.opening a.rebuild.now.server a.seen a.gather a.takes c.in-Ok.gather c.in-Ok.takes is
+            asks a.opening a.rebuild.now.server a.looked.value a.seen a.gather a.takes c.in-Ok.gather c.in-Ok.takes is
                 (c.in-Ok.ensures.gather ∙ ap (λ (seen : Seen). new_gather seen.stamp a.opening.geometry (Aim.Chunk (seen_in seen) a.rebuild.now.server)) same)
                 c.in-Ok.ensures.takes,
           );
@@ -40,14 +40,14 @@ returns-in-Ok c =
     let at = is_at a c.args.self.now stage.Gathering c.self.invariant c.self.view_is c.requires.stage in
     let kept = keeps a stage.Gathering c.self.invariant at in
     let due : a.due ≡ true = ap (λ (call : CallOf). call.due) c.self.view_is ∙ is_due (act_of c.args.self.now) c.args.self.now.due c.requires.need in
-    let is : IsSeen a.opening a.seen a.gather a.takes = subst (λ b. GathersAt b a) due kept.1 in
-    let same : c.in-Some.seen ≡ is.seen = ap (λ (o : Option Seen). unwrap_or o is.seen) (sym c.in-Some.is ∙ is.is_seen) in
-    let next = record a { gather = Some c.in-Ok.gather; takes = Some c.in-Ok.takes; due = false; coding = false } in
+    let is : IsSeen a.opening a.looked.value a.seen a.gather a.takes = subst (λ b. GathersAt b a) due kept.1 in
+    let same : c.in-Some.seen ≡ is.seen = ap (λ (o : Option Seen). unwrap_or o is.seen) (c.in-Some.ensures.value ∙ is.is_held) in
+    let next = record a { seen = c.take.new.self; gather = Some c.in-Ok.gather; takes = Some c.in-Ok.takes; due = false; coding = false } in
     let stands_still : state_at a.stage next ≡ state_at a.stage a =
     subst (λ (s : Stage). state_at s next ≡ state_at s a) (sym at)
-    (stands a.opening a.rebuild.now.server a.seen a.gather a.takes c.in-Ok.gather is
+    (stands a.opening a.rebuild.now.server a.looked.value a.seen a.gather a.takes c.in-Ok.gather is
     (c.in-Ok.ensures.gather ∙ ap (λ (seen : Seen). new_gather seen.stamp a.opening.geometry (Aim.Chunk (seen_in seen) a.rebuild.now.server)) same))
     in
     (λ i.
-    call_at a.opening a.rebuild.now a.number a.token (stands_still i) (took a.opening a.seen a.gather a.takes c.in-Ok.takes is c.in-Ok.ensures.takes i) false false a.step)
+    call_at a.opening a.rebuild.now a.number a.ticket (stands_still i) (took a.opening a.looked.value a.seen a.gather a.takes c.in-Ok.takes is c.in-Ok.ensures.takes i) false false a.step)
     ∙ ap (coded false) c.self.view_is

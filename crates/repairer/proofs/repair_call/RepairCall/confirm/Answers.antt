@@ -18,8 +18,8 @@ pub returns-in-Superseded-clause-step : goal.returns-in-Superseded-clause-step
 returns-in-Superseded-clause-step c =
     let a = c.self.inside in
     let answer = c.confirm-answer.result in
-    confirmed a.opening a.rebuild.now a.number a.token c.confirm-answer.new.self (seen_at a.seen) (takes_at (chunk_count a.opening.geometry) a.takes) a.due a.due a.coding a.step
+    confirmed a.opening a.rebuild.now a.number a.ticket c.confirm-answer.new.self (seen_at a.looked.value) (takes_at (chunk_count a.opening.geometry) a.takes) a.due a.due a.coding a.step
     _ (told_confirmed answer) c.args.d.now.core c.confirm-answer.new.directory.core c.confirm-answer.ensures.step c.confirm-answer.ensures.token
-    (ap (λ (told : Confirmed ⊤ ⊤). open_state a.opening.geometry (confirming_after (seen_at a.seen) a.rebuild.now.server (told_confirmed told))) (sym c.in-Superseded.is))
+    (ap (λ (told : Confirmed ⊤ ⊤). open_state a.opening.geometry (confirming_after (seen_at a.looked.value) a.rebuild.now.server (told_confirmed told))) (sym c.in-Superseded.is))
     ∙ ap (λ (call : CallOf). stepped_at_directory false a.due call c.args.d.now.core)
     (seen_by a c.args.self.now stage.Confirming c.self.view_is (is_at a c.args.self.now stage.Confirming c.self.invariant c.self.view_is c.requires.stage))

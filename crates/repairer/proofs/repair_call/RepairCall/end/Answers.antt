@@ -19,7 +19,7 @@ returns-clause-step c =
     let view : call_by stage.Ending a ≡ c.args.self.now =
     seen_by a c.args.self.now stage.Ending c.self.view_is (is_at a c.args.self.now stage.Ending c.self.invariant c.self.view_is c.requires.stage)
     in
-    ended a.opening a.rebuild.now a.number a.token c.end-answer.new.self (takes_at (chunk_count a.opening.geometry) a.takes) a.due a.coding a.step
+    ended a.opening a.rebuild.now a.number a.ticket c.end-answer.new.self (takes_at (chunk_count a.opening.geometry) a.takes) a.due a.coding a.step
     (repair_outcome_of a.outcome) (repair_outcome_of c.ended_with.result) told c.args.d.now.core c.end-answer.new.directory.core
     c.end-answer.ensures.step c.end-answer.ensures.token
     (c.ended_with.ensures ∙ ap (λ (outcome : RepairOutcome). ending_after (repair_outcome_of outcome) told) c.replace-outcome.ensures.value)

@@ -22,7 +22,7 @@ invariant_of-self c =
     let a = c.self.inside in
     let d = c.args.d.now in
     let seen = c.in-Ok-Pinned.seen in
-    let new : IsNew a.token a.number a.rebuild.now a.gather a.takes a.due =
+    let new : IsNew a.ticket a.number a.rebuild.now a.gather a.takes a.due =
     keeps a stage.Start c.self.invariant (is_at a c.args.self.now stage.Start c.self.invariant c.self.view_is c.requires.stage)
     in
     let is : c.look_repair-look.result ≡ Ok (repair.Pinned tt seen) = c.in-Ok-Pinned.is ∙ ap Ok c.in-Ok-Pinned.field-0-is in
@@ -32,12 +32,13 @@ invariant_of-self c =
     record {
       below = c.self.invariant.below;
       kept = (
-        begun a.token c.look_repair-look.new.self a.number (note_of_rebuild a.rebuild.now) (seen_in seen) new.may
+        begun a.ticket c.look_repair-look.new.self a.number (note_of_rebuild a.rebuild.now) (seen_in seen) new.may
             (c.look_repair-look.ensures.token
-            ∙ ap (λ (r : Result (RepairLook ⊤ ⊤) AllocError). token_after a.token a.number (DirectoryStep.LookRepair (note_of_rebuild a.rebuild.now)) (told_or_short told_repair_look r)) is),
+            ∙ ap (λ (r : Result (RepairLook ⊤ ⊤) AllocError). token_after a.ticket a.number (DirectoryStep.LookRepair (note_of_rebuild a.rebuild.now)) (told_or_short told_repair_look r)) is),
         record {
           seen = seen;
-          is_seen = refl;
+          is_seen = c.of.ensures;
+          is_held = refl;
           pinned = record {
             home = shown.home ∙ ap (λ (b : BookOf). b.home) book;
             whole = shown.row.whole ∙ ap chunk_count (sym c.keeps.ensures.stamps.code ∙ ap (λ (b : BookOf). b.geometry) book);

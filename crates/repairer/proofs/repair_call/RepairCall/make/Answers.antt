@@ -1,35 +1,50 @@
-use Rattle.std.proofs.Common.{◌≡◌, true, false, Option, Some, unwrap_or, refl, sym, ap, subst, ◌∙◌}
-use Rattle.stripe_dir.specs.declared.answers.Seen.{Seen}
-use Rattle.call_steps.specs.CallOf.{CallOf, act_of}
+use Rattle.std.proofs.Common.{◌≡◌, false, Some, refl, sym, ap, subst, ◌∙◌}
+use Rattle.call_steps.specs.declared.need.Need.TheVariants as need
+use Rattle.gather_course.specs.Aims.{target_of}
+use Rattle.gathering.specs.Gathers.{GatherOf, need_of}
 use Rattle.repairer.specs.declared.stage.Stage.{Stage}
 use Rattle.repairer.specs.declared.stage.Stage.TheVariants as stage
-use Rattle.repairer.specs.Parts.{IsPinned}
 use Rattle.repairer.specs.Moments.{IsGathered}
-use Rattle.repairer.specs.Kept.{ConfirmsAt, Keeps}
-use Rattle.repairer.proofs.Stages.{is_at, keeps, is_due}
+use Rattle.repairer.specs.Kept.{Keeps}
+use Rattle.repairer.proofs.Stages.{is_at, keeps}
+use Rattle.repairer.proofs.Beginning.{is_gathered, gather_is}
 use Rattle.repairer.proofs.repair_call.RepairCall.make.Goals as goal
+
+pub chunk_of-made-requires-clause-code : goal.chunk_of-made-requires-clause-code
+chunk_of-made-requires-clause-code g c κs within =
+    let a = c.self.inside in
+    let is = is_gathered a c.args.self.now c.self.invariant c.self.view_is c.requires.stage c.requires.need in
+    ap (λ (w : GatherOf). w.course.geometry) (sym (gather_is a.opening a.rebuild.now.server a.looked.value a.gather c.in-Some.gather is c.in-Some.ensures.value)) ∙ is.its.code
+
+pub chunk_of-made-requires-clause-target : goal.chunk_of-made-requires-clause-target
+chunk_of-made-requires-clause-target g c κs within =
+    let a = c.self.inside in
+    let is = is_gathered a c.args.self.now c.self.invariant c.self.view_is c.requires.stage c.requires.need in
+    ap (λ (w : GatherOf). target_of w.course.aim) (sym (gather_is a.opening a.rebuild.now.server a.looked.value a.gather c.in-Some.gather is c.in-Some.ensures.value))
+    ∙ ap target_of is.its.aim
 
 pub invariant_of-self : goal.invariant_of-self
 invariant_of-self g c =
     let a = c.self.inside in
     let at = is_at a c.args.self.now stage.Confirming c.self.invariant c.self.view_is c.requires.stage in
-    let kept = keeps a stage.Confirming c.self.invariant at in
-    let due : a.due ≡ true = ap (λ (call : CallOf). call.due) c.self.view_is ∙ is_due (act_of c.args.self.now) c.args.self.now.due c.requires.need in
-    let is : IsGathered a.opening a.rebuild.now.server a.seen a.gather = subst (λ b. ConfirmsAt b a) due kept.1 in
-    let seen = c.in-Some-Some.seen in
-    let same : is.seen ≡ seen = ap (λ (o : Option Seen). unwrap_or o seen) (sym is.is_seen ∙ c.in-Some-Some.is-1) in
+    let is : IsGathered a.opening a.rebuild.now.server a.looked.value a.gather = is_gathered a c.args.self.now c.self.invariant c.self.view_is c.requires.stage c.requires.need in
+    let same = gather_is a.opening a.rebuild.now.server a.looked.value a.gather c.in-Some.gather is c.in-Some.ensures.value in
     record {
       below = c.self.invariant.below;
       kept =
           subst (λ (s : Stage). Keeps s (record a { gather = c.take.new.self; chunk = Some c.in-Ok.chunk; due = false; coding = false })) (sym at) (
-            kept.0,
+            (keeps a stage.Confirming c.self.invariant at).0,
             record {
-              seen = seen;
+              seen = is.seen;
               chunk = c.in-Ok.chunk;
-              is_seen = c.in-Some-Some.is-1;
+              is_seen = is.is_seen;
               is_chunk = refl;
-              pinned = subst (λ (s : Seen). IsPinned a.opening s) same is.pinned;
-              its = c.in-Ok.ensures;
+              pinned = is.pinned;
+              its = record {
+                stamp = c.in-Ok.ensures.stamp ∙ ap (λ (w : GatherOf). w.stamp) (sym same) ∙ is.its.stamp;
+                server = c.in-Ok.ensures.server;
+                code = c.in-Ok.ensures.code;
+              };
             },
           );
     }

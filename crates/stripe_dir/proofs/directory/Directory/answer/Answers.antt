@@ -36,7 +36,7 @@ invariant_of-self-2 c =
     (λ i. record d {
       objects = m.objects i;
       passes = m.passes i;
-      points = (c.add-point.ensures.points ∙ (λ j. m.points j ++ record { actor = actor j; number = c.args.number; note = c.note.view_is j; event = Event.Answer (reply_in c.args.reply) } ∷ [])) i;
+      points = (c.add-point.ensures.points ∙ (λ j. m.points j ++ record { actor = actor j; number = c.args.number; note = c.args.note; event = Event.Answer (reply_in c.args.reply) } ∷ [])) i;
     })
     in
     kept_pointed a c.self.invariant c.make_room.new.objects c.make_room.new.passes c.make_room.new.history roomy c.make_room.new.objects a.versions c.add-point.new.self

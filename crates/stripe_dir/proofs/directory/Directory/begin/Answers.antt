@@ -112,18 +112,18 @@ invariant_of-self-2 c =
     let pinned_is : c.in_ok-seen.field-0.pinned.items ≡ map (pin_by object.versions) stripes =
     c.in_ok-seen.ensures.pinned ∙ ap (λ h. map (pin_by h) stripes) held_is
     in
-    let n : Pass = begun_pass c.args.actor c.args.number c.args.note (seen_in_object d c.args.note stripes) c.args.base in
+    let n : Pass = begun_pass c.args.actor c.args.number c.args.note (seen_in_object d c.args.note stripes) c.args.looked_at in
     let pins : c.in_ok-seen.field-0.pinned.items ≡ n.pinned = pinned_is ∙ sym (pins_are d object stripes) in
     let passes : c.begin-entry.new.self.listed ≡ n ∷ d.passes =
     c.begin-entry.ensures.listed
-    ∙ (λ i. record { actor = c.args.actor; number = c.args.number; note = c.args.note; pinned = pins i; drawn = c.new.ensures.items i; base = c.args.base; reaped = None } ∷ m.passes i)
+    ∙ (λ i. record { actor = c.args.actor; number = c.args.number; note = c.args.note; pinned = pins i; drawn = c.new.ensures.items i; base = c.args.looked_at; reaped = None } ∷ m.passes i)
     in
     let points : c.add_look.new.history.points ≡ d.points ++ looked c.args.actor c.args.number c.args.note = c.add_look.ensures.points ∙ (λ i. m.points i ++ looked c.args.actor c.args.number c.args.note) in
-    let made : directory_in (record a { objects = c.make_room.new.objects; versions = c.pin_all.new.self; passes = c.begin-entry.new.self; history = c.add_look.new.history }) ≡ begun_in c.args.actor c.args.number c.args.note stripes c.args.base d =
+    let made : directory_in (record a { objects = c.make_room.new.objects; versions = c.pin_all.new.self; passes = c.begin-entry.new.self; history = c.add_look.new.history }) ≡ begun_in c.args.actor c.args.number c.args.note stripes c.args.looked_at d =
     (λ i. record d { objects = m.objects i; versions = c.pin_all.ensures.listed i; passes = passes i; points = points i })
     in
     kept_begun a c.self.invariant c.make_room.new.objects c.make_room.new.passes c.make_room.new.history roomy c.pin_all.new.self c.begin-entry.new.self c.add_look.new.history n refl
-    (subst IsWhole (sym made) (subst (λ (x : Directory). IsWhole (begun_in c.args.actor c.args.number c.args.note stripes c.args.base x)) (sym view) c.requires.whole))
+    (subst IsWhole (sym made) (subst (λ (x : Directory). IsWhole (begun_in c.args.actor c.args.number c.args.note stripes c.args.looked_at x)) (sym view) c.requires.whole))
     passes c.begin-entry.ensures.stripe c.pin_all.ensures.listed (c.pin_all.ensures.pins ∙ ap (λ ps. pinned_more ps a.versions.pins) (c.deref-2.ensures.value ∙ pins))
     (subst (λ (ps : List Pin). All (λ pin. pin.version < length d.versions) ps) (sym (pins_are d object stripes)) (pins_have (λ v. v < length d.versions) object.versions stripes (λ k x less. (stands k x less).1)))
     c.in_ok-make_room.ensures.more_points c.add_look.ensures.left c.add_look.ensures.names (subst (λ (n : Note). Contains c.make_room.new.history.names n.name) c.note.view_is c.in_ok-make_room.ensures.named) c.in_ok-make_room.ensures.more_objects
@@ -146,17 +146,17 @@ returns-clause-after c =
     let pinned_is : c.in_ok-seen.field-0.pinned.items ≡ map (pin_by object.versions) stripes =
     c.in_ok-seen.ensures.pinned ∙ ap (λ h. map (pin_by h) stripes) held_is
     in
-    let n : Pass = begun_pass c.args.actor c.args.number c.args.note (seen_in_object d c.args.note stripes) c.args.base in
+    let n : Pass = begun_pass c.args.actor c.args.number c.args.note (seen_in_object d c.args.note stripes) c.args.looked_at in
     let pins : c.in_ok-seen.field-0.pinned.items ≡ n.pinned = pinned_is ∙ sym (pins_are d object stripes) in
     let passes : c.begin-entry.new.self.listed ≡ n ∷ d.passes =
     c.begin-entry.ensures.listed
-    ∙ (λ i. record { actor = c.args.actor; number = c.args.number; note = c.args.note; pinned = pins i; drawn = c.new.ensures.items i; base = c.args.base; reaped = None } ∷ m.passes i)
+    ∙ (λ i. record { actor = c.args.actor; number = c.args.number; note = c.args.note; pinned = pins i; drawn = c.new.ensures.items i; base = c.args.looked_at; reaped = None } ∷ m.passes i)
     in
     let points : c.add_look.new.history.points ≡ d.points ++ looked c.args.actor c.args.number c.args.note = c.add_look.ensures.points ∙ (λ i. m.points i ++ looked c.args.actor c.args.number c.args.note) in
-    let made : directory_in (record a { objects = c.make_room.new.objects; versions = c.pin_all.new.self; passes = c.begin-entry.new.self; history = c.add_look.new.history }) ≡ begun_in c.args.actor c.args.number c.args.note stripes c.args.base d =
+    let made : directory_in (record a { objects = c.make_room.new.objects; versions = c.pin_all.new.self; passes = c.begin-entry.new.self; history = c.add_look.new.history }) ≡ begun_in c.args.actor c.args.number c.args.note stripes c.args.looked_at d =
     (λ i. record d { objects = m.objects i; versions = c.pin_all.ensures.listed i; passes = passes i; points = points i })
     in
-    made ∙ ap (begun_in c.args.actor c.args.number c.args.note stripes c.args.base) view
+    made ∙ ap (begun_in c.args.actor c.args.number c.args.note stripes c.args.looked_at) view
 
 pub returns-clause-entry : goal.returns-clause-entry
 returns-clause-entry c =
@@ -176,11 +176,11 @@ returns-clause-entry c =
     let pinned_is : c.in_ok-seen.field-0.pinned.items ≡ map (pin_by object.versions) stripes =
     c.in_ok-seen.ensures.pinned ∙ ap (λ h. map (pin_by h) stripes) held_is
     in
-    let n : Pass = begun_pass c.args.actor c.args.number c.args.note (seen_in_object d c.args.note stripes) c.args.base in
+    let n : Pass = begun_pass c.args.actor c.args.number c.args.note (seen_in_object d c.args.note stripes) c.args.looked_at in
     let pins : c.in_ok-seen.field-0.pinned.items ≡ n.pinned = pinned_is ∙ sym (pins_are d object stripes) in
     ap (λ (o : Open). o.pass) c.begin-entry.ensures.entry
-    ∙ (λ i. record { actor = c.args.actor; number = c.args.number; note = c.args.note; pinned = pins i; drawn = c.new.ensures.items i; base = c.args.base; reaped = None })
-    ∙ ap (λ (x : Directory). begun_pass c.args.actor c.args.number c.args.note (seen_in_object x c.args.note stripes) c.args.base) view
+    ∙ (λ i. record { actor = c.args.actor; number = c.args.number; note = c.args.note; pinned = pins i; drawn = c.new.ensures.items i; base = c.args.looked_at; reaped = None })
+    ∙ ap (λ (x : Directory). begun_pass c.args.actor c.args.number c.args.note (seen_in_object x c.args.note stripes) c.args.looked_at) view
 
 pub returns-clause-seen : goal.returns-clause-seen
 returns-clause-seen c =

@@ -54,7 +54,7 @@ invariant_of-self-2 c =
     let listed : c.remove_object.new.versions.listed ≡ set_standing Standing.Superseded object.versions d.versions = c.remove_object.ensures.listed ∙ (λ i. set_standing Standing.Superseded (held i).versions d.versions) in
     let objects : c.remove_object.new.objects.objects ≡ remove_object object.name d.objects = c.remove_object.ensures.objects ∙ (λ i. remove_object ((name ∙ sym (old_name d.objects c.args.note.name)) i) (m.objects i)) in
     let points : c.add-point.new.self.points ≡ d.points ++ record { actor = c.args.seat.actor; number = c.args.number; note = c.args.note; event = Event.Answer reply.Done } ∷ [] =
-    c.add-point.ensures.points ∙ (λ j. m.points j ++ record { actor = actor j; number = c.args.number; note = c.note.view_is j; event = Event.Answer reply.Done } ∷ [])
+    c.add-point.ensures.points ∙ (λ j. m.points j ++ record { actor = actor j; number = c.args.number; note = c.args.note; event = Event.Answer reply.Done } ∷ [])
     in
     let made : directory_in (record a { objects = c.remove_object.new.objects; versions = c.remove_object.new.versions; passes = c.make_room.new.passes; history = c.add-point.new.self }) ≡ deleted c.args.seat.actor c.args.number c.args.note d =
     (λ i. record d { objects = objects i; versions = listed i; passes = m.passes i; points = points i })
@@ -81,7 +81,7 @@ returns-clause-step c =
     let listed : c.remove_object.new.versions.listed ≡ set_standing Standing.Superseded object.versions d.versions = c.remove_object.ensures.listed ∙ (λ i. set_standing Standing.Superseded (held i).versions d.versions) in
     let objects : c.remove_object.new.objects.objects ≡ remove_object object.name d.objects = c.remove_object.ensures.objects ∙ (λ i. remove_object ((name ∙ sym (old_name d.objects c.args.note.name)) i) (m.objects i)) in
     let points : c.add-point.new.self.points ≡ d.points ++ record { actor = c.args.seat.actor; number = c.args.number; note = c.args.note; event = Event.Answer reply.Done } ∷ [] =
-    c.add-point.ensures.points ∙ (λ j. m.points j ++ record { actor = actor j; number = c.args.number; note = c.note.view_is j; event = Event.Answer reply.Done } ∷ [])
+    c.add-point.ensures.points ∙ (λ j. m.points j ++ record { actor = actor j; number = c.args.number; note = c.args.note; event = Event.Answer reply.Done } ∷ [])
     in
     let made : directory_in (record a { objects = c.remove_object.new.objects; versions = c.remove_object.new.versions; passes = c.make_room.new.passes; history = c.add-point.new.self }) ≡ deleted c.args.seat.actor c.args.number c.args.note d =
     (λ i. record d { objects = objects i; versions = listed i; passes = m.passes i; points = points i })

@@ -68,15 +68,15 @@ draw-entry-requires-clause-room c =
     let view : d ≡ c.args.self.now.core = ap (λ (s : Sealed). s.core) c.self.view_is in
     let same : who ≡ c.args.pass.pass.actor = ap (λ (h : HeldPass). h.pass.actor) c.pass.view_is in
     let found : find (λ (pass : Pass). same_actor who pass.actor) d.passes ≡ Some p = sym c.in-Some-find.ensures in
-    let stripe : c.stripe_len-stripe.result ≡ stripe_length d.shape = c.stripe_len-stripe.ensures.value in
+    let stripe : c.stripe_len-stripe_len.result ≡ stripe_length d.shape = c.stripe_len-stripe_len.ensures.value in
     let drawn : List ℕ = c.in-Ok.fresh.drawn.items in
     let cap : ℕ = vec_capacity c.in-Ok.fresh.memory in
-    let size : length drawn ≡ stripes_met c.stripe_len-stripe.result p.note.offset p.note.length = ap length c.in-Ok.ensures.drawn ∙ length-range_with_len (length d.versions) (stripes_met c.stripe_len-stripe.result p.note.offset p.note.length) in
-    let alike : c.stripe_len-stripe.result ≡ a.passes.stripe = stripe ∙ sym c.self.invariant.desk in
-    subst (λ (o : Option Pass). IfSome o (λ pass. HasRoom a.passes.stripe (record { pass = record pass { drawn = drawn }; room = cap }))) (sym found)
+    let size : length drawn ≡ stripes_met c.stripe_len-stripe_len.result p.note.offset p.note.length = ap length c.in-Ok.ensures.drawn ∙ length-range_with_len (length d.versions) (stripes_met c.stripe_len-stripe_len.result p.note.offset p.note.length) in
+    let alike : c.stripe_len-stripe_len.result ≡ a.passes.stripe_len = stripe ∙ sym c.self.invariant.desk in
+    subst (λ (o : Option Pass). IfSome o (λ pass. HasRoom a.passes.stripe_len (record { pass = record pass { drawn = drawn }; room = cap }))) (sym found)
     (λ write some.
-    let fits : p.note.offset / c.stripe_len-stripe.result + stripes_met c.stripe_len-stripe.result p.note.offset p.note.length ≤ cap = c.in-Ok.ensures.memory write in
-    subst (λ (s : ℕ). p.note.offset / s + length drawn ≤ cap) alike (subst (λ (n : ℕ). p.note.offset / c.stripe_len-stripe.result + n ≤ cap) (sym size) fits))
+    let fits : p.note.offset / c.stripe_len-stripe_len.result + stripes_met c.stripe_len-stripe_len.result p.note.offset p.note.length ≤ cap = c.in-Ok.ensures.memory write in
+    subst (λ (s : ℕ). p.note.offset / s + length drawn ≤ cap) alike (subst (λ (n : ℕ). p.note.offset / c.stripe_len-stripe_len.result + n ≤ cap) (sym size) fits))
 
 pub invariant_of-self : goal.invariant_of-self
 invariant_of-self c =
@@ -94,13 +94,13 @@ invariant_of-self-2 c =
     let found : find (λ (pass : Pass). same_actor who pass.actor) d.passes ≡ Some p = sym c.in-Some-find.ensures in
     let live : p.reaped ≡ None = sym (said_of (λ (own : Pass). c.reap_of.result ≡ own.reaped) (pass_of who d) p found (subst (λ (d : Directory). IfSome (pass_of who d) (λ own. c.reap_of.result ≡ own.reaped)) (sym view) c.reap_of.ensures)) ∙ c.in_default.is in
     let is : record p { reaped = None } ≡ c.args.pass.pass = agreed d c.args.pass who p same found (subst (λ (d : Directory). AgreesWithPass d c.args.pass) (sym view) c.requires.agrees) in
-    let stripe : c.stripe_len-stripe.result ≡ stripe_length d.shape = c.stripe_len-stripe.ensures.value in
+    let stripe : c.stripe_len-stripe_len.result ≡ stripe_length d.shape = c.stripe_len-stripe_len.ensures.value in
     let book : c.args.book.now ≡ a.stamps.book = c.requires.book ∙ sym (ap (λ (s : Sealed). s.book) c.self.view_is) in
     let kind : (p.note.kind ≡ Kind.Put) ⊎ (p.note.kind ≡ Kind.Write) = subst (λ (q : Pass). (q.note.kind ≡ Kind.Put) ⊎ (q.note.kind ≡ Kind.Write)) (sym is) c.requires.may.0 in
     let undrawn : p.drawn ≡ [] = ap (λ (q : Pass). q.drawn) is ∙ c.requires.may.1 in
-    kept_drawn a c.self.invariant who p found live c.stripe_len-stripe.result stripe c.draw-entry.new.self c.draw_fresh.new.versions c.in-Ok.fresh.drawn.items c.in-Ok.ensures.listed c.in-Ok.ensures.drawn c.draw-entry.ensures.listed
+    kept_drawn a c.self.invariant who p found live c.stripe_len-stripe_len.result stripe c.draw-entry.new.self c.draw_fresh.new.versions c.in-Ok.fresh.drawn.items c.in-Ok.ensures.listed c.in-Ok.ensures.drawn c.draw-entry.ensures.listed
     c.draw_fresh.new.stamps request
-    (c.in-Ok.ensures.stamps ∙ ap (λ (b : BookOf). with_drawn a.stamps b c.stripe_len-stripe.result p request) book)
+    (c.in-Ok.ensures.stamps ∙ ap (λ (b : BookOf). with_drawn a.stamps b c.stripe_len-stripe_len.result p request) book)
     c.draw-entry.ensures.stripe c.in-Ok.ensures.pins (p, record { is_pass = found; kind = kind }, undrawn)
 
 pub returns-clause-step : goal.returns-clause-step
@@ -114,16 +114,16 @@ returns-clause-step c =
     let same : who ≡ c.args.pass.pass.actor = ap (λ (h : HeldPass). h.pass.actor) c.pass.view_is in
     let found : find (λ (pass : Pass). same_actor who pass.actor) d.passes ≡ Some p = sym c.in-Some-find.ensures in
     let live : p.reaped ≡ None = sym (said_of (λ (own : Pass). c.reap_of.result ≡ own.reaped) (pass_of who d) p found (subst (λ (d : Directory). IfSome (pass_of who d) (λ own. c.reap_of.result ≡ own.reaped)) (sym view) c.reap_of.ensures)) ∙ c.in_default.is in
-    let stripe : c.stripe_len-stripe.result ≡ stripe_length d.shape = c.stripe_len-stripe.ensures.value in
+    let stripe : c.stripe_len-stripe_len.result ≡ stripe_length d.shape = c.stripe_len-stripe_len.ensures.value in
     let book : c.args.book.now ≡ a.stamps.book = c.requires.book ∙ sym (ap (λ (s : Sealed). s.book) c.self.view_is) in
     let after : Directory = directory_in (record a { versions = c.draw_fresh.new.versions; passes = c.draw-entry.new.self }) in
     let told : map (λ (stamp : StampOf). stamp.version) c.in-Ok.fresh.stamps.items ≡ c.in-Ok.fresh.drawn.items =
-    ap (map (λ (stamp : StampOf). stamp.version)) (c.in-Ok.ensures.told ∙ ap (λ (b : BookOf). stamps_touched b a.stamps.listed c.stripe_len-stripe.result p request) book)
-    ∙ fresh_versions (sealed_in a) c.self.invariant.stamps p (bases_of a c.self.invariant who p found) (p.note.offset / c.stripe_len-stripe.result) (stripes_met c.stripe_len-stripe.result p.note.offset p.note.length) request
-    ∙ ap (λ n. range_with_len n (stripes_met c.stripe_len-stripe.result p.note.offset p.note.length)) (stamps_count (sealed_in a) c.self.invariant.stamps) ∙ sym c.in-Ok.ensures.drawn
+    ap (map (λ (stamp : StampOf). stamp.version)) (c.in-Ok.ensures.told ∙ ap (λ (b : BookOf). stamps_touched b a.stamps.listed c.stripe_len-stripe_len.result p request) book)
+    ∙ fresh_versions (sealed_in a) c.self.invariant.stamps p (bases_of a c.self.invariant who p found) (p.note.offset / c.stripe_len-stripe_len.result) (stripes_met c.stripe_len-stripe_len.result p.note.offset p.note.length) request
+    ∙ ap (λ n. range_with_len n (stripes_met c.stripe_len-stripe_len.result p.note.offset p.note.length)) (stamps_count (sealed_in a) c.self.invariant.stamps) ∙ sym c.in-Ok.ensures.drawn
     in
     ap (λ (ns : List ℕ). (after, Told.Versions ns)) told
-    ∙ draw_step a c.self.invariant who p found live c.stripe_len-stripe.result stripe c.draw-entry.new.self c.draw_fresh.new.versions c.in-Ok.fresh.drawn.items c.in-Ok.ensures.listed c.in-Ok.ensures.drawn c.draw-entry.ensures.listed c.args.pass.pass.number
+    ∙ draw_step a c.self.invariant who p found live c.stripe_len-stripe_len.result stripe c.draw-entry.new.self c.draw_fresh.new.versions c.in-Ok.fresh.drawn.items c.in-Ok.ensures.listed c.in-Ok.ensures.drawn c.draw-entry.ensures.listed c.args.pass.pass.number
     ∙ (λ i. at_directory false (same i) c.args.pass.pass.number DirectoryStep.Draw (view i))
 
 pub returns-clause-token : goal.returns-clause-token
@@ -140,9 +140,9 @@ returns-clause-token c =
     let is : record p { reaped = None } ≡ c.args.pass.pass = agreed d c.args.pass who p same found (subst (λ (d : Directory). AgreesWithPass d c.args.pass) (sym view) c.requires.agrees) in
     let book : c.args.book.now ≡ a.stamps.book = c.requires.book ∙ sym (ap (λ (s : Sealed). s.book) c.self.view_is) in
     let told : map (λ (stamp : StampOf). stamp.version) c.in-Ok.fresh.stamps.items ≡ c.in-Ok.fresh.drawn.items =
-    ap (map (λ (stamp : StampOf). stamp.version)) (c.in-Ok.ensures.told ∙ ap (λ (b : BookOf). stamps_touched b a.stamps.listed c.stripe_len-stripe.result p request) book)
-    ∙ fresh_versions (sealed_in a) c.self.invariant.stamps p (bases_of a c.self.invariant who p found) (p.note.offset / c.stripe_len-stripe.result) (stripes_met c.stripe_len-stripe.result p.note.offset p.note.length) request
-    ∙ ap (λ n. range_with_len n (stripes_met c.stripe_len-stripe.result p.note.offset p.note.length)) (stamps_count (sealed_in a) c.self.invariant.stamps) ∙ sym c.in-Ok.ensures.drawn
+    ap (map (λ (stamp : StampOf). stamp.version)) (c.in-Ok.ensures.told ∙ ap (λ (b : BookOf). stamps_touched b a.stamps.listed c.stripe_len-stripe_len.result p request) book)
+    ∙ fresh_versions (sealed_in a) c.self.invariant.stamps p (bases_of a c.self.invariant who p found) (p.note.offset / c.stripe_len-stripe_len.result) (stripes_met c.stripe_len-stripe_len.result p.note.offset p.note.length) request
+    ∙ ap (λ n. range_with_len n (stripes_met c.stripe_len-stripe_len.result p.note.offset p.note.length)) (stamps_count (sealed_in a) c.self.invariant.stamps) ∙ sym c.in-Ok.ensures.drawn
     in
     let drawn : List ℕ = c.in-Ok.fresh.drawn.items in
     let entry : c.draw-entry.result.value.pass ≡ record p { drawn = drawn } = said_of (λ (q : Pass). c.draw-entry.result.value.pass ≡ record q { drawn = drawn }) (pass_of who d) p found c.draw-entry.ensures.entry in
@@ -168,7 +168,7 @@ returns-clause-drawn c =
     let same : who ≡ c.args.pass.pass.actor = ap (λ (h : HeldPass). h.pass.actor) c.pass.view_is in
     let found : find (λ (pass : Pass). same_actor who pass.actor) d.passes ≡ Some p = sym c.in-Some-find.ensures in
     let is : record p { reaped = None } ≡ c.args.pass.pass = agreed d c.args.pass who p same found (subst (λ (d : Directory). AgreesWithPass d c.args.pass) (sym view) c.requires.agrees) in
-    let stripe : c.stripe_len-stripe.result ≡ stripe_length d.shape = c.stripe_len-stripe.ensures.value in
+    let stripe : c.stripe_len-stripe_len.result ≡ stripe_length d.shape = c.stripe_len-stripe_len.ensures.value in
     let book : c.args.book.now ≡ a.stamps.book = c.requires.book ∙ sym (ap (λ (s : Sealed). s.book) c.self.view_is) in
     c.in-Ok.ensures.told
     ∙ (λ i. stamps_touched (book i) a.stamps.listed (stripe i) p request)

@@ -23,4 +23,4 @@ invariant_of-directory c =
       points = c.new-4.ensures.points;
       stamps = ap (λ (l : StampList). l.listed) c.new-5.ensures;
     })
-    (ap (λ (l : StampList). l.book.geometry) c.new-5.ensures ∙ sym c.geometry-geometry.ensures) (some_bytes c.geometry-geometry.result c.stripe_len-stripe.ensures.geometry) (ap (λ (desk : Desk). desk.stripe) c.new-3.ensures ∙ c.stripe_len-stripe.ensures.value)
+    (ap (λ (l : StampList). l.book.geometry) c.new-5.ensures ∙ sym c.geometry-geometry.ensures) (some_bytes c.geometry-geometry.result c.stripe_len-stripe_len.ensures.geometry) (ap (λ (desk : Desk). desk.stripe_len) c.new-3.ensures ∙ c.stripe_len-stripe_len.ensures.value)

@@ -1,0 +1,8 @@
+use Rattle.std.proofs.Common.{length}
+use Rattle.clay_decode.specs.Left.{Completes}
+use Rattle.clay_lanes.proofs.Recovery.{HoldsSums}
+use Rattle.clay_lanes.proofs.block.Block.solve_by_nodes.Given as goal
+
+abbrev pub invariant-loop-node : goal.invariant-loop-node
+invariant-loop-node l =
+    HoldsSums l.self.g (λ word. Completes l.self.g l.self.have.now word) l.self.at (l.self.len) l.self.plan.now.erased.items l.self.plan.now.points.items l.self.plan.now.generator.each l.z l.node l.rows

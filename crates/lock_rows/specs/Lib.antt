@@ -1,0 +1,4 @@
+pub mod Numbered
+pub mod Out
+pub mod Piles
+pub mod Rows

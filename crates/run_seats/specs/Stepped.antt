@@ -1,0 +1,43 @@
+-- A caller after a step at a place, and the entry of that step.
+use Rattle.std.specs.Prelude.{◌≡◌, ℕ, List, Option, None, Some}
+use Rattle.store_core.specs.Server.{Server}
+use Rattle.store_merge.specs.MadeSteps.{MadeStep}
+use Rattle.stripe_dir.specs.Sealed.{Sealed}
+use Rattle.call_machine.specs.Calls.{MachineOf, drawn_by}
+use Rattle.actors.specs.Callers.{CallerOf, Knows}
+use Rattle.actors.specs.Steps.{Concludes}
+use Rattle.run_steps.specs.CallEntries.{server_entry, directory_entry}
+use Rattle.run_steps.specs.HasMade.{HasMadeAtServer, HasMadeAtDirectory}
+use Rattle.run_steps.specs.Noted.{Noted}
+use Rattle.run_steps.specs.SomeStep.{some_step, some_note}
+use Rattle.run_seats.specs.Seen.{seen_there}
+
+-- the entry of the step of a call in work, which left it so
+abbrev pub entry_at_server : ℕ → Option MachineOf → MachineOf → Server → List (ℕ × MadeStep) → ℕ → ℕ × MadeStep
+entry_at_server number None left s log last = (number, some_step)
+entry_at_server number (Some c) left s log last = server_entry number c.call left.call s log last
+
+abbrev pub entry_at_directory : ℕ → Option MachineOf → MachineOf → Sealed → List (ℕ × Noted) → ℕ → ℕ × Noted
+entry_at_directory number None left d log last = (number, some_note)
+entry_at_directory number (Some c) left d log last = directory_entry number c.call left.call d (drawn_by left.call.step d c) log last
+
+-- of the caller's call there is an entry more, and the call goes on or is over; what it keeps it knows as before
+pub record HasSteppedAtServer (number last : ℕ) (seen now : List (ℕ × MadeStep)) (a after : CallerOf) : Type 0 where
+  pub call : MachineOf
+  pub was : a.work ≡ Some call
+  pub left : MachineOf
+  pub made : HasMadeAtServer number last seen now call.call left.call
+  pub asked : left.asked ≡ call.asked
+  pub owed : left.owed ≡ call.owed
+  pub concludes : Concludes a left after
+  pub knows : (d : Sealed) → Knows d a → Knows d after
+
+-- so it is at the directory, where an object has at most so many bytes; what it keeps it knows by the history that it has seen then
+pub record HasSteppedAtDirectory (number last max : ℕ) (seen now : List (ℕ × Noted)) (a after : CallerOf) : Type 0 where
+  pub call : MachineOf
+  pub was : a.work ≡ Some call
+  pub left : MachineOf
+  pub made : HasMadeAtDirectory number last max seen now call.call left.call
+  pub asked : left.asked ≡ call.asked
+  pub concludes : Concludes a left after
+  pub knows : Knows (seen_there now a.book) after

@@ -1,0 +1,28 @@
+//! Threads over one store: the directory and each chunk server under a lock of its own, and actors with
+//! their turns at these.
+#![tactic(auto)]
+
+mod directory_box;
+mod directory_steps;
+mod gate;
+mod operations;
+mod seated;
+mod seated_operator;
+mod seated_sweeper;
+mod server_box;
+mod server_steps;
+mod stepper;
+mod store;
+mod sweeps;
+mod turns;
+mod workers;
+
+pub use directory_box::{DirectoryBox, DirectoryIdentity, DirectoryNote};
+pub use gate::{Gate, NoGate, Place};
+pub use seated::Seated;
+pub use seated_operator::SeatedOperator;
+pub use seated_sweeper::SeatedSweeper;
+pub use server_box::{ServerBox, ServerIdentity, StepNote};
+pub use store::Store;
+pub use turns::Turns;
+pub use workers::{Worker, work_together};

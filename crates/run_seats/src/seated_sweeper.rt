@@ -1,0 +1,66 @@
+//! The sweeper with its turns at all places of a store.
+ghost use Rattle.std.specs.Prelude.{◌≡◌, ℕ};
+ghost use Rattle.run_seats.specs.Places.{last_by};
+ghost use Rattle.run_seats.specs.SeatedPlain.{IsSweeper, MaySweep};
+
+use crate::gate::Gate;
+use crate::stepper::Stepper;
+use crate::store::Store;
+use crate::sweeps::{sweep_directory, sweep_server};
+use crate::turns::Turns;
+use call_steps::Need;
+use std::sync::Wait;
+use store_map::Actor;
+use sweeper::Sweeper;
+
+/// The sweeper with its turns at the directory and at each server.
+pub struct SeatedSweeper {
+    pub sweeper: Sweeper,
+    // how many steps it has made, or the greatest count that there is
+    pub steps: u64,
+    pub turns: Turns,
+}
+
+impl SeatedSweeper {
+    // The turn, after the moment that its caller names.
+    fn turn_after<R: Wait, G: Gate>(&mut self, rt: &R, gate: &G, store: &Store)
+        ghost last: { ℕ }
+        requires last { last ≡ last_by store.now self.old.turns }
+        requires may { MaySweep store.now self.old }
+        ensures { IsSweeper store.now self.new }
+    {
+        let stepper = Stepper {
+            actor: Actor::Sweeper,
+            number: self.turns.number,
+            steps: self.steps,
+        };
+        self.steps = self.steps.saturating_add(1);
+        match self.sweeper.need() {
+            Need::Directory => sweep_directory(
+                rt,
+                gate,
+                &store.directory,
+                &mut self.turns.directory,
+                &mut self.sweeper,
+                stepper,
+            ),
+            Need::Server(server) => sweep_server(
+                rt,
+                gate,
+                &store.servers[server as usize],
+                &mut self.turns.servers[server as usize],
+                &mut self.sweeper,
+                stepper,
+            ),
+            Need::Coder | Need::Finished => unreachable!(),
+        }
+    }
+
+    /// Its step, at the place that it needs.
+    pub(crate) fn turn<R: Wait, G: Gate>(&mut self, rt: &R, gate: &G, store: &Store)
+        requires { MaySweep store.now self.old }
+        ensures { IsSweeper store.now self.new }
+    {
+        self.turn_after(rt, gate, store);
+    }
+}

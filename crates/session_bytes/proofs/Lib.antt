@@ -1,0 +1,6 @@
+pub mod Maps
+pub mod Whole
+pub mod Sweeps
+pub mod CallMaps
+pub mod CallLeft
+pub mod HealMaps

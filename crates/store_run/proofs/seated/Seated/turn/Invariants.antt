@@ -1,5 +1,0 @@
-use Rattle.store_run.specs.Places.{last_by}
-use Rattle.store_run.proofs.seated.Seated.turn.Given as goal
-
-abbrev pub ghost-turn_after : goal.ghost-turn_after
-ghost-turn_after g a = last_by a.store.now a.self.now.turns

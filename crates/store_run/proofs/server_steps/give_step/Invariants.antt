@@ -1,5 +1,0 @@
-use Rattle.std.proofs.Common.{Some}
-use Rattle.store_run.proofs.server_steps.give_step.Given as goal
-
-abbrev pub ghost-give_by : goal.ghost-give_by
-ghost-give_by g a = Some g.entry
