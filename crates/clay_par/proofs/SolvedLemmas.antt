@@ -1,13 +1,16 @@
 -- Ranges that hold what was solved in them, and a chunk that is written from them.
-use Rattle.std.proofs.Common.{◌≡◌, ℕ, ◌+◌, ◌*◌, ◌/◌, ◌%◌, ◌<◌, List, [], length, get_or, Option, Vec, Global, sym, subst, ap, ◌∙◌, arith}
-use Rattle.std.proofs.lemmas.Nat.{mod_below, div_below, div-add-mod'}
-use Rattle.std.proofs.lemmas.List.{ext_get_or}
+use Rattle.std.proofs.Common.{◌≡◌, ℕ, ◌+◌, ◌*◌, ◌/◌, ◌%◌, ◌<◌, ◌≤◌, List, [], length, get_or, drop, Option, None, is_none, Vec, Global, sym, subst, ap, ◌∙◌, arith}
+use Rattle.std.proofs.lemmas.Nat.{mul-le, mod_below, div_below, div-add-mod'}
+use Rattle.std.specs.Fork.{slice_chunk}
+use Rattle.std.proofs.lemmas.List.{ext_get_or, get_or-take, get_or-drop}
 use Rattle.clay_grid.specs.Shape.{Shape, chunk_count, layer_count, chunk_length}
+use Rattle.clay_grid.specs.Limits.{IsGeometry}
 use Rattle.clay_decode.specs.Left.{Completes}
 use Rattle.clay_lanes.specs.Recovered.{HoldsLayerRows, HoldsByte}
+use Rattle.clay_lanes.specs.Places.{AreFilled}
 use Rattle.clay_lanes.specs.declared.plan.Plan.{Plan}
 use Rattle.clay_par.specs.Ranges.{HasRoom}
-use Rattle.clay_par.specs.Solved.{HoldsLayers, IsChunk}
+use Rattle.clay_par.specs.Solved.{HoldsLayers, IsChunk, IsFilled}
 use Rattle.clay_par.specs.declared.ranges.Range.{Range}
 
 -- a range after the values of its positions were written into it
@@ -40,3 +43,35 @@ whole_chunk g have c chunk wide within long holds = record {
       subst (HoldsByte (λ word. Completes g have word) c chunk) (div-add-mod' p g.width) (holds (p / g.width) (p % g.width) (div_below p g.width (layer_count g) wide place) (mod_below p g.width wide)) in
       byte.at word fits);
 }
+
+-- a chunk has some bytes
+pub some_bytes : (g : Shape) → IsGeometry g → 0 < chunk_length g
+some_bytes g geometry =
+    let wide = geometry.limits.width.0 in
+    let layers = geometry.some_layers in
+    let rows = geometry.limits.parity_chunks.0 in
+    let some : 1 * 1 ≤ layer_count g * g.width = mul-le 1 1 (layer_count g) g.width (omega (arith, layers, rows)) (omega (arith, wide)) in
+    omega (arith, some)
+
+-- a chunk of which each byte was written
+pub filled_chunk : (g : Shape) (have : List (Option (Vec ℕ Global))) (c : ℕ) (old new : List ℕ) → 0 < g.width → get_or have c None ≡ None
+    → ((z b : ℕ) → z < layer_count g → b < g.width → HoldsByte (λ word. Completes g have word) c new (z * g.width + b)) → IsFilled g have c old new
+filled_chunk g have c old new wide gone holds = record {
+  missing = λ none p hp.
+      subst (HoldsByte (λ word. Completes g have word) c new) (div-add-mod' p g.width)
+      (holds (p / g.width) (p % g.width) (div_below p g.width (layer_count g) wide hp) (mod_below p g.width wide));
+  there = λ some. absurd (some (ap is_none gone));
+}
+
+-- all chunks, of which each was written where it is missing
+pub all_filled : (g : Shape) (have : List (Option (Vec ℕ Global))) (old new : List ℕ)
+    → ((c : ℕ) → c < chunk_count g → IsFilled g have c (slice_chunk old (chunk_length g) c) (slice_chunk new (chunk_length g) c))
+    → AreFilled g have old new
+all_filled g have old new each =
+    let len : ℕ = chunk_length g in
+    let byte : (bytes : List ℕ) (c p : ℕ) → p < len → get_or (slice_chunk bytes len c) p 0 ≡ get_or bytes (c * len + p) 0 =
+    λ bytes c p hp. get_or-take len (drop (c * len) bytes) p 0 hp ∙ get_or-drop (c * len) bytes p 0 in
+    record {
+      missing = λ c p hc hp gone. record { at = λ word fits. sym (byte new c p hp) ∙ ((each c hc).missing gone p hp).at word fits };
+      there = λ c p hc hp some. sym (byte new c p hp) ∙ ap (λ l. get_or l p 0) ((each c hc).there some) ∙ byte old c p hp;
+    }

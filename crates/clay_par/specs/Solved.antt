@@ -1,9 +1,9 @@
 -- Ranges that hold the erased nodes' uncoupled values.
-use Rattle.std.specs.Prelude.{◌≡◌, ℕ, ◌<◌, List, [], length, get_or, All, Option, Vec}
+use Rattle.std.specs.Prelude.{◌≡◌, ◌≢◌, ℕ, ◌<◌, true, List, [], length, get_or, All, Option, None, is_none, Vec}
 use Rattle.std.specs.declared.alloc.Global.{Global}
 use Rattle.clay_grid.specs.Shape.{Shape, layer_count, chunk_length}
 use Rattle.clay_decode.specs.Left.{Completes}
-use Rattle.clay_lanes.specs.Recovered.{HoldsLayerRows}
+use Rattle.clay_lanes.specs.Recovered.{HoldsLayerRows, HoldsByte}
 use Rattle.clay_lanes.specs.declared.plan.Plan.{Plan}
 use Rattle.clay_par.specs.declared.ranges.Range.{Range}
 use Rattle.clay_par.specs.Ranges.{HasRoom, IsCovered}
@@ -23,3 +23,8 @@ pub record AreSolved (g : Shape) (have : List (Option (Vec ℕ Global))) (plan :
 pub record IsChunk (g : Shape) (have : List (Option (Vec ℕ Global))) (c : ℕ) (chunk : List ℕ) : Type 0 where
   pub long : length chunk ≡ chunk_length g
   pub value : (word : List (List ℕ)) → Completes g have word → chunk ≡ get_or word c []
+
+-- chunk c is written where it is missing, and else it stays
+pub record IsFilled (g : Shape) (have : List (Option (Vec ℕ Global))) (c : ℕ) (old new : List ℕ) : Type 0 where
+  pub missing : is_none (get_or have c None) ≡ true → (p : ℕ) → p < chunk_length g → HoldsByte (λ word. Completes g have word) c new p
+  pub there : is_none (get_or have c None) ≢ true → new ≡ old

@@ -1,7 +1,14 @@
 //! The coder of several threads.
-use crate::lost::recover;
+ghost use Rattle.std.specs.Prelude.{◌≡◌, ◌*◌, ◌<◌, ◌↔◌, length, OnOk, OnErr, IsErrOf, count_by, is_none};
+ghost use Rattle.clay_grid.specs.Shape.{chunk_count, chunk_length};
+ghost use Rattle.clay_decode.specs.Left.{AreLong};
+ghost use Rattle.clay_repair.specs.Parts.{AreParts, IsRebuilt};
+ghost use Rattle.clay_lanes.specs.Places.{AreFilled};
+
+use crate::lost::{missing_into, recover};
 use crate::parity::encode;
-use crate::repair::rebuild;
+use crate::repair::{rebuild, rebuild_into};
+use clay_decode::DecodeFault;
 use clay_grid::Geometry;
 use clay_lanes::LaneCoder;
 use clay_repair::Coder;
@@ -62,6 +69,61 @@ impl Coder for ParCoder {
             LaneCoder.rebuild(rt, alloc, g, lost, parts)
         } else {
             rebuild(rt, alloc, g, lost, parts)
+        }
+    }
+}
+
+impl ParCoder {
+    /// Writes the missing chunks of the codeword that agrees with the chunks that are there, where one does, to their places among all
+    /// chunks, which stand one behind another.
+    ///
+    /// `have` has an entry for each chunk, `None` for a missing one. Where no codeword agrees, some bytes are written. What stood in the
+    /// places of the missing ones doesn't matter; all other bytes stay, and after an error all.
+    pub fn missing_into<R: Threads + Sync>(
+        &self,
+        rt: &R,
+        alloc: Global,
+        g: Geometry,
+        have: &[Option<Vec<u8>>],
+        chunks: &mut [u8],
+    ) -> Result<(), DecodeFault>
+        requires count { length have.now ≡ chunk_count g }
+        requires lengths { AreLong (chunk_length g) have.now }
+        requires chunks_len { length chunks.old ≡ chunk_count g * chunk_length g }
+        ensures too_few { IsErrOf result DecodeFault.TooFew ↔ (g.parity_count < count_by is_none have.now) }
+        ensures filled { OnOk result (AreFilled g have.now chunks.old chunks.new) }
+        ensures kept { OnErr result (chunks.new ≡ chunks.old) }
+    {
+        if is_small(g) {
+            clay_lanes::missing_into(alloc, g, have, chunks)
+        } else {
+            missing_into(rt, alloc, g, have, chunks)
+        }
+    }
+
+    /// Writes the lost chunk of the codeword whose other chunks have these parts, where one does.
+    ///
+    /// `parts` has an entry for each chunk: `None` for the lost one, and for each other one its subchunks of the repair layers in rising
+    /// order. Where no codeword has these parts, some bytes are written. What `chunk` held before doesn't matter, and it stays as it is
+    /// where memory is wanting.
+    pub fn rebuild_into<R: Threads + Sync>(
+        &self,
+        rt: &R,
+        alloc: Global,
+        g: Geometry,
+        lost: u32,
+        parts: &[Option<Vec<u8>>],
+        chunk: &mut [u8],
+    ) -> Result<(), AllocError>
+        requires parts { AreParts g lost parts.now }
+        requires chunk { length chunk.old ≡ chunk_length g }
+        ensures rebuilt { OnOk result (IsRebuilt g lost parts.now chunk.new) }
+        ensures kept { OnErr result (chunk.new ≡ chunk.old) }
+    {
+        if is_small(g) {
+            clay_lanes::rebuild_into(alloc, g, lost, parts, chunk)
+        } else {
+            rebuild_into(rt, alloc, g, lost, parts, chunk)
         }
     }
 }

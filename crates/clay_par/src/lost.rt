@@ -1,15 +1,17 @@
 //! The chunks from what is left of them, by ranges of byte positions and then by chunks.
-ghost use Rattle.std.specs.Prelude.{◌≡◌, ℕ, ◌+◌, ◌*◌, ◌<◌, length, slice_index_or, None, IfOk, All};
+ghost use Rattle.std.specs.Prelude.{◌≡◌, ℕ, ◌+◌, ◌*◌, ◌/◌, ◌<◌, ◌↔◌, length, slice_index_or, None, IfOk, OnOk, OnErr, IsErrOf, All, count_by, is_none};
 ghost use Rattle.clay_grid.specs.Shape.{chunk_count, layer_count, chunk_length};
 ghost use Rattle.clay_encode.specs.Chunks.{contents};
-ghost use Rattle.clay_decode.specs.Left.{Completes};
+ghost use Rattle.clay_decode.specs.Left.{AreLong, Completes};
 ghost use Rattle.clay_repair.specs.Coding.{AreLeft, AreRecovered};
 ghost use Rattle.clay_lanes.specs.Recovered.{IsLanePlan, HoldsByte};
+ghost use Rattle.clay_lanes.specs.Places.{AreFilled};
 ghost use Rattle.clay_par.specs.Ranges.{HasRoom, SamePlace};
-ghost use Rattle.clay_par.specs.Solved.{HoldsLayers, AreSolved, IsChunk};
+ghost use Rattle.clay_par.specs.Solved.{HoldsLayers, AreSolved, IsChunk, IsFilled};
 
 use crate::made::all_made;
 use crate::ranges::{Range, make_ranges};
+use clay_decode::DecodeFault;
 use clay_grid::Geometry;
 use clay_kernels::zeros;
 use clay_lanes::{Plan, couple_chunk, make_plan, solve_layers};
@@ -189,6 +191,22 @@ fn chunks<R: Threads + Sync>(
     all_made(alloc, made)
 }
 
+// The ranges of all positions, with the erased nodes' uncoupled values.
+fn solved_ranges<R: Threads + Sync>(
+    rt: &R,
+    alloc: Global,
+    g: Geometry,
+    have: &[Option<Vec<u8>>],
+    plan: &Plan,
+) -> Result<Vec<Range>, AllocError>
+    requires { IsLanePlan g have.now plan.now }
+    ensures { IfOk result (λ ranges. AreSolved g have.now plan.now ranges.items) }
+{
+    let mut ranges = make_ranges(alloc, g, plan.points.len(), g.alpha() as usize)?;
+    solve_all(rt, g, have, plan, &mut ranges);
+    Ok(ranges)
+}
+
 /// The chunks of the codeword that agrees with the chunks that are there, of which no more are missing than there are parity chunks.
 pub fn recover<R: Threads + Sync>(
     rt: &R,
@@ -200,7 +218,125 @@ pub fn recover<R: Threads + Sync>(
     ensures { IfOk result (λ chunks. AreRecovered g have.now (contents chunks.items)) }
 {
     let plan = make_plan(alloc, g, have)?;
-    let mut ranges = make_ranges(alloc, g, plan.points.len(), g.alpha() as usize)?;
-    solve_all(rt, g, have, &plan, &mut ranges);
+    let ranges = solved_ranges(rt, alloc, g, have, &plan)?;
     chunks(rt, alloc, g, have, &plan, &ranges)
+}
+
+// Writes a chunk, if it is missing.
+fn fill_chunk(
+    g: Geometry,
+    have: &[Option<Vec<u8>>],
+    plan: &Plan,
+    ranges: &[Range],
+    c: usize,
+    chunk: &mut [u8],
+)
+    requires plan { IsLanePlan g have.now plan.now }
+    requires ranges { AreSolved g have.now plan.now ranges.now }
+    requires chunk { c < chunk_count g }
+    requires chunk_len { length chunk.old ≡ chunk_length g }
+    ensures { IsFilled g have.now c chunk.old chunk.new }
+{
+    match &have[c] {
+        Some(_) => {}
+        None => write_chunk(g, have, plan, ranges, c as u32, chunk),
+    }
+}
+
+// Writes the chunk that begins at `start` among all chunks, if it is missing.
+fn fill_at(
+    g: Geometry,
+    have: &[Option<Vec<u8>>],
+    plan: &Plan,
+    ranges: &[Range],
+    start: usize,
+    chunk: &mut [u8],
+)
+    requires plan { IsLanePlan g have.now plan.now }
+    requires ranges { AreSolved g have.now plan.now ranges.now }
+    requires start { start < chunk_count g * chunk_length g }
+    requires chunk_len { length chunk.old ≡ chunk_length g }
+    ensures { IsFilled g have.now (start / chunk_length g) chunk.old chunk.new }
+{
+    let c = start / g.chunk_len() as usize;
+    fill_chunk(g, have, plan, ranges, c, chunk);
+}
+
+// Writes the missing chunks to their places among all chunks, from the values in the ranges.
+fn fill_all<R: Threads + Sync>(
+    rt: &R,
+    g: Geometry,
+    have: &[Option<Vec<u8>>],
+    plan: &Plan,
+    ranges: &[Range],
+    chunks: &mut [u8],
+)
+    requires plan { IsLanePlan g have.now plan.now }
+    requires ranges { AreSolved g have.now plan.now ranges.now }
+    requires chunks_len { length chunks.old ≡ chunk_count g * chunk_length g }
+    ensures { AreFilled g have.now chunks.old chunks.new }
+{
+    let len = g.chunk_len() as usize;
+    thread::for_each_chunk_mut(
+        rt,
+        chunks,
+        len,
+        &|start: usize, chunk: &mut [u8]|
+            requires { IsLanePlan g have.now plan.now × AreSolved g have.now plan.now ranges.now × (start < chunk_count g * chunk_length g) × (length chunk.old ≡ chunk_length g) }
+            ensures { IsFilled g have.entry.now (start / chunk_length g) chunk.old chunk.new }
+        { fill_at(g, have, plan, ranges, start, chunk) },
+    );
+}
+
+// Writes the missing chunks, which are no more than there are parity chunks, to their places among all chunks.
+fn fill_missing<R: Threads + Sync>(
+    rt: &R,
+    alloc: Global,
+    g: Geometry,
+    have: &[Option<Vec<u8>>],
+    chunks: &mut [u8],
+) -> Result<(), AllocError>
+    requires left { AreLeft g have.now }
+    requires chunks_len { length chunks.old ≡ chunk_count g * chunk_length g }
+    ensures filled { OnOk result (AreFilled g have.now chunks.old chunks.new) }
+    ensures kept { OnErr result (chunks.new ≡ chunks.old) }
+{
+    let plan = make_plan(alloc, g, have)?;
+    let ranges = solved_ranges(rt, alloc, g, have, &plan)?;
+    fill_all(rt, g, have, &plan, &ranges, chunks);
+    Ok(())
+}
+
+// The number of chunks that are missing.
+fn missing_count(have: &[Option<Vec<u8>>]) -> usize
+    ensures { result ≡ count_by is_none have.now }
+{
+    have.iter().filter(|chunk| chunk.is_none()).count()
+}
+
+/// Writes the missing chunks of the codeword that agrees with the chunks that are there, where one does, to their places among all chunks,
+/// which stand one behind another.
+pub fn missing_into<R: Threads + Sync>(
+    rt: &R,
+    alloc: Global,
+    g: Geometry,
+    have: &[Option<Vec<u8>>],
+    chunks: &mut [u8],
+) -> Result<(), DecodeFault>
+    requires count { length have.now ≡ chunk_count g }
+    requires lengths { AreLong (chunk_length g) have.now }
+    requires chunks_len { length chunks.old ≡ chunk_count g * chunk_length g }
+    ensures too_few { IsErrOf result DecodeFault.TooFew ↔ (g.parity_count < count_by is_none have.now) }
+    ensures filled { OnOk result (AreFilled g have.now chunks.old chunks.new) }
+    ensures kept { OnErr result (chunks.new ≡ chunks.old) }
+{
+    let count = missing_count(have);
+    if count > g.m() as usize {
+        return Err(DecodeFault::TooFew);
+    }
+    if count == 0 {
+        return Ok(());
+    }
+    fill_missing(rt, alloc, g, have, chunks)?;
+    Ok(())
 }

@@ -1,5 +1,5 @@
 //! The lost chunk from parts of the others, by pieces of the layers that are read, each of which is solved by itself.
-ghost use Rattle.std.specs.Prelude.{◌≡◌, ℕ, ◌+◌, ◌<◌, ◌≤◌, length, slice_index_or, IfOk, All};
+ghost use Rattle.std.specs.Prelude.{◌≡◌, ℕ, ◌+◌, ◌<◌, ◌≤◌, length, slice_index_or, IfOk, OnOk, OnErr, All};
 ghost use Rattle.clay_grid.specs.Shape.{row_count, chunk_length};
 ghost use Rattle.clay_repair.specs.Parts.{AreParts, IsRebuilt};
 ghost use Rattle.clay_lanes.specs.Repaired.{IsRepairPlan};
@@ -192,28 +192,30 @@ fn write_chunk(
     }
 }
 
-// The lost chunk from the values in the pieces.
-fn lost_chunk(
-    alloc: Global,
-    g: Geometry,
-    parts: &[Option<Vec<u8>>],
-    plan: &RepairPlan,
-    pieces: &[Piece],
-) -> Result<Vec<u8>, AllocError>
-    requires plan { IsRepairPlan g plan.now }
-    requires parts { AreParts g plan.now.lost parts.now }
-    requires pieces { AreSolved g parts.now plan.now pieces.now }
-    ensures { IfOk result (λ chunk. IsRebuilt g plan.now.lost parts.now chunk.items) }
-{
-    let mut chunk = zeros(alloc, g.chunk_len() as usize)?;
-    write_chunk(g, parts, plan, pieces, &mut chunk);
-    Ok(chunk)
-}
-
-/// The lost chunk of the codeword whose other chunks have these parts, where one does.
+/// Writes the lost chunk of the codeword whose other chunks have these parts, where one does.
 ///
 /// `parts` has an entry for each chunk: `None` for the lost one, and for each other one its subchunks of the repair layers in rising
-/// order. Where no codeword has these parts, the answer is some bytes.
+/// order. Where no codeword has these parts, some bytes are written.
+pub fn rebuild_into<R: Threads + Sync>(
+    rt: &R,
+    alloc: Global,
+    g: Geometry,
+    lost: u32,
+    parts: &[Option<Vec<u8>>],
+    chunk: &mut [u8],
+) -> Result<(), AllocError>
+    requires parts { AreParts g lost parts.now }
+    requires chunk { length chunk.old ≡ chunk_length g }
+    ensures rebuilt { OnOk result (IsRebuilt g lost parts.now chunk.new) }
+    ensures kept { OnErr result (chunk.new ≡ chunk.old) }
+{
+    let plan = make_repair_plan(alloc, g, lost)?;
+    let pieces = solved_pieces(rt, alloc, g, parts, &plan)?;
+    write_chunk(g, parts, &plan, &pieces, chunk);
+    Ok(())
+}
+
+/// The lost chunk, as `rebuild_into` writes it.
 pub fn rebuild<R: Threads + Sync>(
     rt: &R,
     alloc: Global,
@@ -224,7 +226,7 @@ pub fn rebuild<R: Threads + Sync>(
     requires { AreParts g lost parts.now }
     ensures { IfOk result (λ chunk. IsRebuilt g lost parts.now chunk.items) }
 {
-    let plan = make_repair_plan(alloc, g, lost)?;
-    let pieces = solved_pieces(rt, alloc, g, parts, &plan)?;
-    lost_chunk(alloc, g, parts, &plan, &pieces)
+    let mut chunk = zeros(alloc, g.chunk_len() as usize)?;
+    rebuild_into(rt, alloc, g, lost, parts, &mut chunk)?;
+    Ok(chunk)
 }

@@ -2,18 +2,21 @@
 use Rattle.std.proofs.Common.{◌≡◌, ℕ, ◌<◌, List, [], ◌∷◌, ◌++◌, Option, None, Some, refl, sym, ap, subst, ◌∙◌}
 use Rattle.clay_grid.specs.Shape.{stripe_length}
 use Rattle.store_core.specs.Agreement.{Agrees}
+use Rattle.store_core.specs.Directory.{Directory}
 use Rattle.store_core.specs.Sound.{IsSound}
 use Rattle.store_core.specs.Tokens.{actor_of}
 use Rattle.version_seal.specs.Entry.{BookOf, StampOf}
 use Rattle.stripe_dir.specs.Sealed.{Sealed}
 use Rattle.stripe_dir.specs.Stamped.{HasStamps}
 use Rattle.call_steps.specs.declared.need.Need.TheVariants as need
+use Rattle.call_steps.specs.CallOf.{CallOf}
 use Rattle.call_steps.specs.Steps.{need_of, HoldsItsPass, MayMakeNext}
 use Rattle.call_machine.specs.Calls.{MachineOf, drawn_by}
 use Rattle.world_steps.specs.Tokens.{first_token, token_of}
 use Rattle.actors.specs.Callers.{CallerOf, Knows}
 use Rattle.actors.specs.Steps.{MadeAtDirectory, MakesStep}
 use Rattle.turn_lock.specs.History.{Among, GoesOn, entries_of}
+use Rattle.run_steps.specs.Entries.{next_moment}
 use Rattle.run_steps.specs.Looks.{IsLookOfScript}
 use Rattle.run_steps.specs.Noted.{Noted, IsCaller, made_in, tokens_after}
 use Rattle.run_steps.specs.Numbers.{Counts, IsTurnOf}
@@ -81,6 +84,19 @@ module _ (of : Counts) (number max : ℕ) (numbers : List ℕ) (seen log : List 
               given_made call.call left.call d now there.needs made.made log number last (drawn_by left.call.step d call) max there.wide there.sound shape_there (keeps_most of max d log there.stands) there.may agrees_there
               there.pass numbers seen seen_now there.among there.goes is_call;
           asked = made.asked;
+          there = record {
+            of = of;
+            directory = d;
+            log = log;
+            goes = there.goes.0;
+            stands = there.stands;
+            stamps = there.stamps;
+            its = there.its;
+            stepped = ap (λ (p : Directory × CallOf). p.1) made.made;
+            owed = made.owed;
+            moment = next_moment (made_in log) last;
+            after = is_call;
+          };
           concludes = step.concludes;
           knows =
               subst (λ (l : List (ℕ × Noted)). Knows (seen_there l a.book) after) (sym is_call)

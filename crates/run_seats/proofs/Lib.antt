@@ -8,9 +8,11 @@ pub mod ServerSteps
 pub mod DirectorySteps
 pub mod Looking
 pub mod Seating
+pub mod Owing
 pub mod Placing
 pub mod SweepingOn
 pub mod OperatingOn
 pub mod Going
+pub mod Acting
 pub mod Having
 pub mod Crossing

@@ -106,6 +106,7 @@ module _ (store : Store) (seated : SeatedOperator) (may : MayOperate store seate
                 (subst (λ (k : ℕ). IsOperating script (own_at seated.turns.number (seen_by now.turns)) (drop k now.lines.items)) (sym one_more)
                 (subst (λ (xs : List Token). IsOperating script (own_at seated.turns.number (seen_by now.turns)) (drop (seated.made + 1) xs)) (sym lines) operates));
           };
+          same = number;
           one_more = one_more;
         }
 

@@ -151,7 +151,7 @@ module _ (store : Store) (seated : Seated) (may : MayStep store seated) where
     of_ready P h = subst (λ (x : CallerOf). IfSome x.work (P x)) r.leaves h
 
     module _ (its : IfSome mid.work (λ c. c.call.book ≡ mid.book)) where
-      call_book : r.now.call.book ≡ a.book
+      pub call_book : r.now.call.book ≡ seated.caller.book
       call_book = of_ready (λ x c. c.call.book ≡ x.book) its
 
       pub in_call : IsInCall r.now mid

@@ -1,5 +1,5 @@
 -- A caller's step at a server, as the turn that gives it back has it.
-use Rattle.std.proofs.Common.{◌≡◌, ℕ, List, [], ◌∷◌, ◌++◌, Option, None, Some, refl, sym, subst}
+use Rattle.std.proofs.Common.{◌≡◌, ℕ, List, [], ◌∷◌, ◌++◌, Option, None, Some, refl, sym, ap, subst}
 use Rattle.store_core.specs.Server.{Server}
 use Rattle.store_core.specs.Tokens.{actor_of}
 use Rattle.store_merge.specs.MadeSteps.{MadeStep}
@@ -7,6 +7,7 @@ use Rattle.chunk_server.specs.Core.{core_of}
 use Rattle.chunk_server.specs.State.{ServerState}
 use Rattle.stripe_dir.specs.Sealed.{Sealed}
 use Rattle.call_steps.specs.declared.need.Need.TheVariants as need
+use Rattle.call_steps.specs.CallOf.{CallOf}
 use Rattle.call_steps.specs.Steps.{need_of}
 use Rattle.call_machine.specs.Calls.{MachineOf}
 use Rattle.actors.specs.Callers.{CallerOf, Knows}
@@ -43,6 +44,8 @@ module _ (number last : ℕ) (a : CallerOf) (call left : MachineOf) (was : a.wor
         made = given_made s.number call.call left.call (core_of s) (core_of now) needs made.made log number last numbers seen seen_now among goes is_call;
         asked = made.asked;
         owed = made.owed;
+        place = core_of s;
+        stepped = ap (λ (p : Server × CallOf). p.1) made.made;
         concludes = step.concludes;
         knows = knows;
       }

@@ -20,7 +20,7 @@ use Rattle.run_lists.specs.Stepped.{with_log, with_notes}
 use Rattle.run_lists.proofs.Plain.{sweeping_goes_on}
 use Rattle.run_seats.specs.Places.{HasTurns, directory_of, last_by, seen_by, server_of}
 use Rattle.run_seats.specs.Plain.{HasSweptAtServer, HasSweptAtDirectory, IsSweepAtServer, IsSweepAtDirectory}
-use Rattle.run_seats.specs.SeatedPlain.{IsSweeper}
+use Rattle.run_seats.specs.SeatedPlain.{IsSweeper, SweepsOn}
 use Rattle.run_seats.specs.declared.server_box.ServerIdentity.{ServerIdentity}
 use Rattle.run_seats.specs.declared.directory_box.DirectoryIdentity.{DirectoryIdentity}
 use Rattle.run_seats.specs.declared.seated_sweeper.SeatedSweeper.{SeatedSweeper}
@@ -58,18 +58,21 @@ module _ (store : Store) (seated : SeatedSweeper) (is : IsSweeper store seated) 
   -- ---- with other turns
   module _ (now : SeatedSweeper) (turns : HasTurns store now.turns) (number : now.turns.number ≡ seated.turns.number) (count : now.sweeper.servers ≡ seated.sweeper.servers)
       (sweeping : IsSweeping script (own_at seated.turns.number (seen_by now.turns)) now.sweeper.at) where
-    sweeps_on : IsSweeper store now
+    sweeps_on : SweepsOn store seated now
     sweeps_on =
         record {
-          turns = turns;
-          turn = subst (λ (n : ℕ). IsTurnOf (counts_of script) n actor.Sweeper) (sym number) is.turn;
-          servers = count ∙ is.servers;
-          sweeping = subst (λ (n : ℕ). IsSweeping script (own_at n (seen_by now.turns)) now.sweeper.at) (sym number) sweeping;
+          seated_is = record {
+            turns = turns;
+            turn = subst (λ (n : ℕ). IsTurnOf (counts_of script) n actor.Sweeper) (sym number) is.turn;
+            servers = count ∙ is.servers;
+            sweeping = subst (λ (n : ℕ). IsSweeping script (own_at n (seen_by now.turns)) now.sweeper.at) (sym number) sweeping;
+          };
+          same = number;
         }
 
   -- ---- after a step at the directory
   pub swept_on_directory : (turn : TurnState DirectoryIdentity Noted) (after : SweeperOf) (steps : ℕ) → turn ≡ record seated.turns.directory { seen = turn.seen }
-      → HasSweptAtDirectory seated.turns.number last seated.turns.directory.seen turn.seen seated.sweeper after → IsSweeper store (record { sweeper = after; steps = steps; turns = record seated.turns { directory = turn } })
+      → HasSweptAtDirectory seated.turns.number last seated.turns.directory.seen turn.seen seated.sweeper after → SweepsOn store seated (record { sweeper = after; steps = steps; turns = record seated.turns { directory = turn } })
   swept_on_directory turn after steps same swept =
       sweeps_on (record { sweeper = after; steps = steps; turns = record seated.turns { directory = turn } }) (turns_there store seated.turns turn is.turns same) refl (ap (λ (x : SweeperOf). x.servers) swept_now.hears)
       (subst (λ (x : SweeperOf). IsSweeping script (own_at seated.turns.number (with_notes turn.seen (seen_by seated.turns))) x.at) (sym swept_now.hears)
@@ -97,7 +100,7 @@ module _ (store : Store) (seated : SeatedSweeper) (is : IsSweeper store seated) 
         ((sweeping_goes_on script seated.turns.number (seen_by seated.turns) seated.sweeper.at is.sweeping).at_server j swept_now.step turn.seen (count_seen store seated.turns is.turns)
         (subst (λ (n : ℕ). j < n) is.turns.count less) (next_is (Act.AtServer j swept_now.step) swept_now.acts) swept_now.added))
 
-    pub swept_on_server : IsSweeper store now
+    pub swept_on_server : SweepsOn store seated now
     swept_on_server =
         sweeps_on now (turns_here seated.turns now.turns j turn before kept items less read store is.turns same) (ap (λ (x : Turns). x.number) kept) (ap (λ (x : SweeperOf). x.servers) swept_now.hears)
         (subst (λ (logs : Logs). IsSweeping script (own_at seated.turns.number logs) now.sweeper.at) (sym (seen_here seated.turns now.turns j turn before kept items less read)) sweeping_here)

@@ -4,7 +4,9 @@ pub mod Seen
 pub mod Before
 pub mod Stepped
 pub mod Plain
+pub mod Owing
 pub mod Places
 pub mod Seated
 pub mod SeatedPlain
+pub mod SeatedActors
 pub mod Working

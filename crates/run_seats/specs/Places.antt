@@ -6,7 +6,9 @@ use Rattle.clay_grid.specs.Limits.{IsGeometry}
 use Rattle.clay_grid.specs.Shape.{chunk_count}
 use Rattle.store_map.specs.Limits.{size_of}
 use Rattle.store_map.specs.Naming.{IsValid}
+use Rattle.store_map.specs.declared.script.Script.{Script}
 use Rattle.store_merge.specs.MadeSteps.{MadeStep}
+use Rattle.version_seal.specs.Entry.{BookOf}
 use Rattle.turn_lock.specs.TurnState.{TurnState}
 use Rattle.lock_turns.specs.Dealt.{IsTurnAt}
 use Rattle.run_lists.specs.Logs.{Logs}
@@ -16,18 +18,18 @@ use Rattle.run_seats.specs.declared.server_box.ServerIdentity.{ServerIdentity}
 use Rattle.run_seats.specs.declared.store.Store.{Store}
 use Rattle.run_seats.specs.declared.turns.Turns.{Turns}
 
--- what never changes about its directory, and about a server of it
+-- what never changes about the directory of a script's store, and about a server of it
+abbrev pub directory_for : Script → BookOf → DirectoryIdentity
+directory_for script book = record { opening = book; max = size_of script; clients = length script.clients; repairers = length script.repairers }
+
+abbrev pub server_for : Script → BookOf → ℕ → ServerIdentity
+server_for script book j = record { number = j; opening = book; clients = length script.clients; repairers = length script.repairers }
+
 abbrev pub directory_of : Store → DirectoryIdentity
-directory_of store =
-    record {
-      opening = store.book.now;
-      max = size_of store.script.now;
-      clients = length store.script.now.clients;
-      repairers = length store.script.now.repairers;
-    }
+directory_of store = directory_for store.script.now store.book.now
 
 abbrev pub server_of : Store → ℕ → ServerIdentity
-server_of store j = record { number = j; opening = store.book.now; clients = length store.script.now.clients; repairers = length store.script.now.repairers }
+server_of store j = server_for store.script.now store.book.now j
 
 -- a store of a valid script, whose book has that script, with as many servers as a stripe has chunks
 pub record IsStore (store : Store) : Type 0 where

@@ -1,15 +1,17 @@
 -- A caller with its turns at all places of a store.
-use Rattle.std.specs.Prelude.{◌≡◌, ℕ, ◌+◌, ◌<◌, ◌≤◌, Bool, true, All, List}
-use Rattle.std.specs.List.{list_any}
+use Rattle.std.specs.Prelude.{◌≡◌, ℕ, ◌+◌, ◌<◌, ◌≤◌, Bool, true}
 use Rattle.store_map.specs.Limits.{tries_of}
+use Rattle.store_map.specs.declared.actor.Actor.TheVariants as actor
 use Rattle.store_map.specs.declared.script.Script.{Script}
 use Rattle.store_core.specs.Work.{has_step}
 use Rattle.world_steps.specs.Known.{calling_of}
 use Rattle.actors.specs.Callers.{Knows, StandsIn, who_of, work_of}
+use Rattle.run_steps.specs.Noted.{made_in}
 use Rattle.run_steps.specs.Numbers.{IsTurnOf}
 use Rattle.run_lists.specs.Callers.{IsCalling}
 use Rattle.run_lists.specs.Logs.{counts_of, own_at}
 use Rattle.run_lists.specs.Measure.{left_at, bound_of}
+use Rattle.run_seats.specs.Owing.{OwesBySteps}
 use Rattle.run_seats.specs.Places.{IsStore, HasTurns, seen_by}
 use Rattle.run_seats.specs.Seen.{seen_there}
 use Rattle.run_seats.specs.declared.seated.Seated.{Seated}
@@ -19,7 +21,7 @@ use Rattle.run_seats.specs.declared.store.Store.{Store}
 abbrev pub left_by : Store → Seated → ℕ
 left_by store seated = left_at store.script.now (work_of seated.caller.part) (own_at seated.turns.number (seen_by seated.turns))
 
--- it has its calls of the script and its turns, and its own entries at all places are the steps that lead to where it stands
+-- it has its calls of the script and its turns, and its own entries at all places are the steps that lead to where it stands; a client's calls are owed what they read by what its turn has seen
 pub record IsSeated (store : Store) (seated : Seated) : Type 0 where
   pub turns : HasTurns store seated.turns
   pub part : StandsIn store.script.now seated.place seated.caller.part
@@ -29,18 +31,12 @@ pub record IsSeated (store : Store) (seated : Seated) : Type 0 where
   pub turn : IsTurnOf (counts_of store.script.now) seated.turns.number seated.actor
   pub calling : IsCalling store.script.now seated.actor (work_of seated.caller.part) (own_at seated.turns.number (seen_by seated.turns)) seated.caller.actor
   pub knows : Knows (seen_there seated.turns.directory.seen seated.caller.book) seated.caller
+  pub owes : (i : ℕ) → seated.actor ≡ actor.Client i → OwesBySteps store.script.now (made_in seated.turns.directory.seen) i seated.caller
   pub counted : seated.steps + left_by store seated ≤ bound_of store.script.now (work_of seated.caller.part)
 
--- whether it has a step, and one of some callers
+-- whether it has a step
 abbrev pub seated_has : Script → Seated → Bool
 seated_has script seated = has_step (work_of seated.caller.part) (calling_of script seated.caller.actor)
-
-abbrev pub some_has : Script → List Seated → Bool
-some_has script callers = list_any (seated_has script) callers
-
--- callers of books of the script's code
-abbrev pub AreOfCode : Script → List Seated → Type 0
-AreOfCode script callers = All (λ (seated : Seated). seated.caller.book.geometry ≡ script.geometry) callers
 
 -- it has a step
 pub record MayStep (store : Store) (seated : Seated) : Type 0 where
@@ -51,4 +47,5 @@ pub record MayStep (store : Store) (seated : Seated) : Type 0 where
 -- after a step it has fewer left
 pub record StepsOn (store : Store) (before after : Seated) : Type 0 where
   pub seated_is : IsSeated store after
+  pub same : after.turns.number ≡ before.turns.number
   pub falls : left_by store after < left_by store before

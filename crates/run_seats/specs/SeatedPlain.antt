@@ -29,6 +29,11 @@ pub record MaySweep (store : Store) (seated : SeatedSweeper) : Type 0 where
   pub store_is : IsStore store
   pub seated_is : IsSweeper store seated
 
+-- after its step it is there as before
+pub record SweepsOn (store : Store) (before after : SeatedSweeper) : Type 0 where
+  pub seated_is : IsSweeper store after
+  pub same : after.turns.number ≡ before.turns.number
+
 -- the operator with the lines of the script, whose own entries at all places are the steps of those that it has made
 pub record IsOperator (store : Store) (seated : SeatedOperator) : Type 0 where
   pub turns : HasTurns store seated.turns
@@ -49,6 +54,7 @@ pub record MayOperate (store : Store) (seated : SeatedOperator) : Type 0 where
 -- it has made one line more
 pub record OperatesOn (store : Store) (before after : SeatedOperator) : Type 0 where
   pub seated_is : IsOperator store after
+  pub same : after.turns.number ≡ before.turns.number
   pub one_more : after.made ≡ before.made + 1
 
 -- where a line is made

@@ -1,14 +1,21 @@
 -- A caller after a step at a place, and the entry of that step.
-use Rattle.std.specs.Prelude.{◌≡◌, ℕ, List, Option, None, Some}
+use Rattle.std.specs.Prelude.{◌≡◌, ℕ, List, [], ◌∷◌, ◌++◌, Option, None, Some}
+use mathlib.Core.List.{IsPrefix}
 use Rattle.store_core.specs.Server.{Server}
+use Rattle.store_core.specs.Tokens.{actor_of}
 use Rattle.store_merge.specs.MadeSteps.{MadeStep}
 use Rattle.stripe_dir.specs.Sealed.{Sealed}
-use Rattle.call_machine.specs.Calls.{MachineOf, drawn_by}
+use Rattle.stripe_dir.specs.Stamped.{HasStamps}
+use Rattle.call_steps.specs.CallOf.{act_of}
+use Rattle.call_steps.specs.Steps.{stepped_at_directory, stepped_at_server}
+use Rattle.call_machine.specs.Calls.{MachineOf, drawn_by, owed_by}
 use Rattle.actors.specs.Callers.{CallerOf, Knows}
 use Rattle.actors.specs.Steps.{Concludes}
-use Rattle.run_steps.specs.CallEntries.{server_entry, directory_entry}
+use Rattle.run_steps.specs.AtDirectory.{StandsAtDirectory}
+use Rattle.run_steps.specs.CallEntries.{directory_entry, directory_tells, made_by, server_entry}
 use Rattle.run_steps.specs.HasMade.{HasMadeAtServer, HasMadeAtDirectory}
 use Rattle.run_steps.specs.Noted.{Noted}
+use Rattle.run_steps.specs.Numbers.{Counts}
 use Rattle.run_steps.specs.SomeStep.{some_step, some_note}
 use Rattle.run_seats.specs.Seen.{seen_there}
 
@@ -29,8 +36,34 @@ pub record HasSteppedAtServer (number last : ℕ) (seen now : List (ℕ × MadeS
   pub made : HasMadeAtServer number last seen now call.call left.call
   pub asked : left.asked ≡ call.asked
   pub owed : left.owed ≡ call.owed
+  pub place : Server
+  pub stepped : left.call ≡ (stepped_at_server left.call.step left.call.due call.call place).1
   pub concludes : Concludes a left after
   pub knows : (d : Sealed) → Knows d a → Knows d after
+
+-- the directory that was taken for the call's step, with its whole history then, and what the step added to that
+pub record WasThere (number max : ℕ) (seen now : List (ℕ × Noted)) (call left : MachineOf) : Type 0 where
+  pub of : Counts
+  pub directory : Sealed
+  pub log : List (ℕ × Noted)
+  pub goes : IsPrefix seen log
+  pub stands : StandsAtDirectory of max directory log
+  pub stamps : HasStamps directory
+  pub its : call.call.book ≡ directory.book
+  pub stepped : left.call ≡ (stepped_at_directory left.call.step left.call.due call.call directory.core).1
+  pub owed : left.owed ≡ owed_by left.call.step directory call
+  pub moment : ℕ
+  pub after :
+      now
+      ≡ log
+      ++ (
+        number,
+        record {
+          made = made_by call.call left.call.step (directory_tells left.call.step (actor_of call.call.token) call.call.number (act_of call.call) directory.core) moment;
+          drawn = drawn_by left.call.step directory call;
+        },
+      )
+      ∷ []
 
 -- so it is at the directory, where an object has at most so many bytes; what it keeps it knows by the history that it has seen then
 pub record HasSteppedAtDirectory (number last max : ℕ) (seen now : List (ℕ × Noted)) (a after : CallerOf) : Type 0 where
@@ -39,5 +72,6 @@ pub record HasSteppedAtDirectory (number last max : ℕ) (seen now : List (ℕ �
   pub left : MachineOf
   pub made : HasMadeAtDirectory number last max seen now call.call left.call
   pub asked : left.asked ≡ call.asked
+  pub there : WasThere number max seen now call left
   pub concludes : Concludes a left after
   pub knows : Knows (seen_there now a.book) after

@@ -79,7 +79,7 @@ impl<'a> Seated<'a> {
 
     /// A turn of the caller: the coding before its call's next step, if one is due, outside of all
     /// locks, and the step.
-    pub(crate) fn turn<R: Threads + Wait + Sync, C: Coder, G: Gate>(
+    pub fn turn<R: Threads + Wait + Sync, C: Coder, G: Gate>(
         &mut self,
         rt: &R,
         coder: &C,
@@ -93,7 +93,7 @@ impl<'a> Seated<'a> {
     }
 
     /// Its turn, where it has a step.
-    pub(crate) fn visit<R: Threads + Wait + Sync, C: Coder, G: Gate>(
+    pub fn visit<R: Threads + Wait + Sync, C: Coder, G: Gate>(
         &mut self,
         rt: &R,
         coder: &C,
@@ -102,7 +102,8 @@ impl<'a> Seated<'a> {
     )
         requires store { IsStore store.now }
         requires seated { IsSeated store.now self.old }
-        ensures { IsSeated store.now self.new }
+        ensures seated { IsSeated store.now self.new }
+        ensures number { self.new.turns.number ≡ self.old.turns.number }
     {
         if !self.caller.has_step() {
             return;

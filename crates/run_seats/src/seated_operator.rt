@@ -1,8 +1,8 @@
 //! The operator with its turns at all places of a store.
 ghost use Rattle.std.specs.Prelude.{◌≡◌, ℕ, true};
 ghost use Rattle.store_merge.specs.Threaded.{is_line};
-ghost use Rattle.run_seats.specs.Places.{last_by};
-ghost use Rattle.run_seats.specs.SeatedPlain.{IsTarget, MayOperate, OperatesOn, line_left};
+ghost use Rattle.run_seats.specs.Places.{IsStore, last_by};
+ghost use Rattle.run_seats.specs.SeatedPlain.{IsOperator, IsTarget, MayOperate, OperatesOn, line_left};
 
 use crate::gate::Gate;
 use crate::operations::{operate_server, reap};
@@ -44,7 +44,7 @@ fn target_of(line: Token) -> Target
 
 impl SeatedOperator {
     /// Whether it has a line left.
-    pub(crate) fn has_line(&self) -> bool
+    pub fn has_line(&self) -> bool
         ensures { result ≡ line_left self.now }
     {
         self.made < self.lines.len()
@@ -85,10 +85,23 @@ impl SeatedOperator {
     }
 
     /// The step of its next line.
-    pub(crate) fn turn<R: Wait, G: Gate>(&mut self, rt: &R, gate: &G, store: &Store)
+    pub fn turn<R: Wait, G: Gate>(&mut self, rt: &R, gate: &G, store: &Store)
         requires { MayOperate store.now self.old }
         ensures { OperatesOn store.now self.old self.new }
     {
         self.turn_after(rt, gate, store);
+    }
+
+    /// Its step, where it has a line left.
+    pub fn visit<R: Wait, G: Gate>(&mut self, rt: &R, gate: &G, store: &Store)
+        requires store { IsStore store.now }
+        requires seated { IsOperator store.now self.old }
+        ensures seated { IsOperator store.now self.new }
+        ensures number { self.new.turns.number ≡ self.old.turns.number }
+    {
+        if !self.has_line() {
+            return;
+        }
+        self.turn(rt, gate, store);
     }
 }

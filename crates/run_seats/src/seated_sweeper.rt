@@ -1,7 +1,7 @@
 //! The sweeper with its turns at all places of a store.
 ghost use Rattle.std.specs.Prelude.{◌≡◌, ℕ};
 ghost use Rattle.run_seats.specs.Places.{last_by};
-ghost use Rattle.run_seats.specs.SeatedPlain.{IsSweeper, MaySweep};
+ghost use Rattle.run_seats.specs.SeatedPlain.{MaySweep, SweepsOn};
 
 use crate::gate::Gate;
 use crate::stepper::Stepper;
@@ -27,7 +27,7 @@ impl SeatedSweeper {
         ghost last: { ℕ }
         requires last { last ≡ last_by store.now self.old.turns }
         requires may { MaySweep store.now self.old }
-        ensures { IsSweeper store.now self.new }
+        ensures { SweepsOn store.now self.old self.new }
     {
         let stepper = Stepper {
             actor: Actor::Sweeper,
@@ -57,9 +57,9 @@ impl SeatedSweeper {
     }
 
     /// Its step, at the place that it needs.
-    pub(crate) fn turn<R: Wait, G: Gate>(&mut self, rt: &R, gate: &G, store: &Store)
+    pub fn turn<R: Wait, G: Gate>(&mut self, rt: &R, gate: &G, store: &Store)
         requires { MaySweep store.now self.old }
-        ensures { IsSweeper store.now self.new }
+        ensures { SweepsOn store.now self.old self.new }
     {
         self.turn_after(rt, gate, store);
     }

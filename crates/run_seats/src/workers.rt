@@ -1,12 +1,12 @@
-//! Workers: each makes the turns of its callers, until none of them has a step.
-ghost use Rattle.std.specs.Prelude.{◌≡◌, ◌<◌, All};
+//! Workers: each makes the steps of its actors, until none of them has one.
+ghost use Rattle.std.specs.Prelude.{◌≡◌, ◌<◌, All, map};
 ghost use Rattle.store_map.specs.declared.script.Script.{Script as StoreScript};
 ghost use Rattle.run_seats.specs.Places.{IsStore};
-ghost use Rattle.run_seats.specs.Seated.{AreOfCode, IsSeated, some_has};
-ghost use Rattle.run_seats.specs.Working.{IsWorking, IsDone};
+ghost use Rattle.run_seats.specs.SeatedActors.{AreOfCode, IsSeatedActor, number_of, some_has};
+ghost use Rattle.run_seats.specs.Working.{AreDone, IsDone, IsWorking};
 
 use crate::gate::Gate;
-use crate::seated::Seated;
+use crate::seated_actor::SeatedActor;
 use crate::store::Store;
 use clay_repair::Coder;
 use std::sync::Wait;
@@ -15,39 +15,40 @@ use std::thread::Threads;
 
 /// What one worker steps.
 pub struct Worker<'a> {
-    pub callers: Vec<Seated<'a>>,
+    pub actors: Vec<SeatedActor<'a>>,
 }
 
-// Whether one of the callers has a step.
-fn some_has_step(callers: &[Seated]) -> bool
-    ensures { (script : StoreScript) → AreOfCode script callers.now → result ≡ some_has script callers.now }
+// Whether one of the actors has a step, apart from the sweeper.
+fn some_has_step(actors: &[SeatedActor]) -> bool
+    ensures { (script : StoreScript) → AreOfCode script actors.now → result ≡ some_has script actors.now }
 {
-    for seated in callers {
-        if seated.caller.has_step() {
+    for actor in actors {
+        if actor.has_step() {
             return true;
         }
     }
     false
 }
 
-// A turn of each caller that has a step.
+// A step of each actor that has one.
 fn round<R: Threads + Wait + Sync, C: Coder, G: Gate>(
     rt: &R,
     coder: &C,
     gate: &G,
     store: &Store,
-    callers: &mut Vec<Seated>,
+    actors: &mut Vec<SeatedActor>,
 )
     requires store { IsStore store.now }
-    requires seated { All (IsSeated store.now) callers.old.items }
-    ensures { All (IsSeated store.now) callers.new.items }
+    requires seated { All (IsSeatedActor store.now) actors.old.items }
+    ensures seated { All (IsSeatedActor store.now) actors.new.items }
+    ensures numbers { map number_of actors.new.items ≡ map number_of actors.old.items }
 {
-    for place in 0..callers.len() {
-        callers[place].visit(rt, coder, gate, store);
+    for place in 0..actors.len() {
+        actors[place].visit(rt, coder, gate, store);
     }
 }
 
-// The callers of a worker take turns until none of them has a step.
+// The actors of a worker take turns until none of them has a step.
 fn work<R: Threads + Wait + Sync, C: Coder, G: Gate>(
     rt: &R,
     coder: &C,
@@ -56,18 +57,18 @@ fn work<R: Threads + Wait + Sync, C: Coder, G: Gate>(
     worker: &mut Worker,
 )
     requires { IsWorking store.now worker.old }
-    ensures { IsDone store.now worker.new }
+    ensures { IsDone store.now worker.old worker.new }
 {
     for _ in rt.forever() {
-        if !some_has_step(&worker.callers) {
+        if !some_has_step(&worker.actors) {
             return;
         }
-        round(rt, coder, gate, store, &mut worker.callers);
+        round(rt, coder, gate, store, &mut worker.actors);
     }
     unreachable!()
 }
 
-/// The workers make the turns of their callers, in at most so many threads.
+/// The workers make the steps of their actors, in at most so many threads.
 pub fn work_together<R: Threads + Wait + Sync, C: Coder + Sync, G: Gate + Sync>(
     rt: &R,
     coder: &C,
@@ -78,7 +79,7 @@ pub fn work_together<R: Threads + Wait + Sync, C: Coder + Sync, G: Gate + Sync>(
 )
     requires some { 0 < threads }
     requires working { All (IsWorking store.now) workers.old }
-    ensures { All (IsDone store.now) workers.new }
+    ensures { AreDone store.now workers.old workers.new }
 {
     thread::for_each_mut(
         rt,
@@ -86,7 +87,7 @@ pub fn work_together<R: Threads + Wait + Sync, C: Coder + Sync, G: Gate + Sync>(
         threads,
         &|_, worker|
             requires { IsWorking store.now worker.old }
-            ensures { IsDone store.entry.now worker.new }
+            ensures { IsDone store.entry.now worker.old worker.new }
         { work(rt, coder, gate, store, worker) },
     );
 }

@@ -1,6 +1,6 @@
-use Rattle.std.specs.Prelude.{All, ◌≡◌, length}
-use Rattle.run_seats.specs.Seated.{IsSeated}
+use Rattle.std.specs.Prelude.{All, ◌≡◌, length, map}
+use Rattle.run_seats.specs.SeatedActors.{IsSeatedActor, number_of}
 use Rattle.run_seats.proofs.workers.round.Given as goal
 
 abbrev pub invariant-loop-place : goal.invariant-loop-place
-invariant-loop-place g l = All (IsSeated l.store) l.callers.items × (length l.callers.items ≡ length l.initial.callers.items)
+invariant-loop-place g l = All (IsSeatedActor l.store) l.actors.items × (length l.actors.items ≡ length l.initial.actors.items) × (map number_of l.actors.items ≡ map number_of l.initial.actors.items)

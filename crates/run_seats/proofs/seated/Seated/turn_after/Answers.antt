@@ -65,7 +65,7 @@ returns-in-Directory g c =
     let turn = c.step_at_directory.new.turn in
     let number : c.stepper-stepper.result.number ≡ seated.turns.number = ap (λ (s : _). s.number) c.stepper-stepper.ensures in
     directory_stepped c.args.store.now seated may c.ready.new.self after c.ready.ensures.ready g.last c.requires.1.1.1.1.0 turn c.step_at_directory.ensures.turn
-    (subst (λ (n : ℕ). HasSteppedAtDirectory n g.last (max_in seated.turns.directory.fixed) seated.turns.directory.seen turn.seen c.ready.new.self after) number c.step_at_directory.ensures.step) c.in-Directory.ensures.need
+    (subst (λ (n : ℕ). HasSteppedAtDirectory n g.last (max_in seated.turns.directory.fixed) seated.turns.directory.seen turn.seen c.ready.new.self after) number c.step_at_directory.ensures.step) c.in-Directory.ensures.need c.need.ensures.its
 
 pub returns-in-Server : goal.returns-in-Server
 returns-in-Server g c =
