@@ -18,7 +18,6 @@ use Rattle.store_core.specs.NextAct.{Job, job_of, rebuild_job}
 use Rattle.store_core.specs.Note.{note_of}
 use Rattle.store_core.specs.Work.{Ended}
 use Rattle.version_seal.specs.Entry.{BookOf}
-use Rattle.stripe_dir.specs.Sealed.{Sealed}
 use Rattle.call_steps.specs.CallOf.{tries_by}
 use Rattle.call_steps.specs.Steps.{need_by, need_of}
 use Rattle.call_stands.specs.Stands.{IsFirst}

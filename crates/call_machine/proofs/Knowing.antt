@@ -1,6 +1,5 @@
 -- What a call knows of the old bytes that it keeps, whatever is asked.
 use Rattle.std.proofs.Common.{◌≡◌, List, ◌++◌}
-use Rattle.store_map.specs.declared.call.Call.{Call}
 use Rattle.version_seal.specs.Entry.{StampOf}
 use Rattle.stripe_dir.specs.Sealed.{Sealed}
 use Rattle.client_patch.specs.Known.{KnowsOld}

@@ -1,5 +1,5 @@
 -- What a source and a sink in memory are.
-use Rattle.std.specs.Prelude.{ℕ, ◌+◌, ◌-◌, ◌^◌, min, Option, None, Some, List, ◌++◌, length, take, ◌==◌, if◌then◌else◌}
+use Rattle.std.specs.Prelude.{ℕ, ◌+◌, ◌-◌, ◌^◌, min, Bool, Option, None, Some, List, [], ◌++◌, length, take, ◌==◌, if◌then◌else◌}
 
 -- the bytes that are left, the numbers of the calls that fail, and how many calls were made and failed
 pub record SourceState : Type 0 where
@@ -24,6 +24,17 @@ pub record SinkState : Type 0 where
 -- one more, up to the end of the type
 abbrev pub next_count : ℕ → ℕ
 next_count n = min (n + 1) (2 ^ 64 - 1)
+
+-- one more where a call failed
+abbrev pub count_if : Bool → ℕ → ℕ
+count_if failed n = if failed then next_count n else n
+
+-- a source and a sink before their first call
+abbrev pub new_source : List ℕ → List ℕ → SourceState
+new_source bytes failing = record { left = bytes; failing = failing; calls = 0; faults = 0 }
+
+abbrev pub new_sink : ℕ → List ℕ → SinkState
+new_sink room failing = record { kept = record { room = room; bytes = []; taken = 0 }; failing = failing; calls = 0; faults = 0 }
 
 -- what is kept after these bytes too
 abbrev pub kept_after : Kept → List ℕ → Kept

@@ -1,6 +1,6 @@
 //! A source and a sink in memory that give and take at most one byte a call. They take no memory.
 ghost use Rattle.std.specs.Prelude.{◌≡◌, ◌≤◌, ◌<◌, ◌↔◌, [], ◌++◌, Some, length, take, vec_len, vec_capacity, IfOk, OnOk, OnErr, IsErr, Contains, is_err, if◌then◌else◌};
-ghost use Rattle.clay_bytes.specs.Memory.{SourceState, SinkState, told, next_count, kept_after};
+ghost use Rattle.clay_bytes.specs.Memory.{SourceState, SinkState, new_source, new_sink, told, next_count, count_if, kept_after};
 ghost use Rattle.clay_bytes.specs.Stream.{Gains};
 
 use crate::{Failed, MemSink, MemSource, Sink, Source};
@@ -20,7 +20,7 @@ impl Model for DripSource {
 
 impl DripSource {
     pub fn new(bytes: Vec<u8>, failing: Vec<u64>) -> Self
-        ensures { result ≡ record { left = bytes.items; failing = failing.items; calls = 0; faults = 0 } }
+        ensures { result ≡ new_source bytes.items failing.items }
     {
         DripSource {
             source: MemSource::new(bytes, failing),
@@ -42,7 +42,7 @@ impl Source for DripSource {
         ensures failing { IsErr result ↔ Contains self.old.failing self.old.calls }
         ensures same { self.new.failing ≡ self.old.failing }
         ensures calls { self.new.calls ≡ next_count self.old.calls }
-        ensures faults { self.new.faults ≡ (if is_err result then next_count self.old.faults else self.old.faults) }
+        ensures faults { self.new.faults ≡ count_if (is_err result) self.old.faults }
         ensures count { self.old.faults ≤ self.new.faults }
     {
         let wanted = buf.len().min(1);
@@ -65,7 +65,7 @@ impl Model for DripSink {
 impl DripSink {
     pub fn new(room: Vec<u8>, failing: Vec<u64>) -> Self
         requires { vec_len room ≡ 0 }
-        ensures { result ≡ record { kept = record { room = vec_capacity room; bytes = []; taken = 0 }; failing = failing.items; calls = 0; faults = 0 } }
+        ensures { result ≡ new_sink (vec_capacity room) failing.items }
     {
         DripSink {
             sink: MemSink::new(room, failing),
@@ -102,7 +102,7 @@ impl Sink for DripSink {
           kept = if is_err result then self.old.kept else kept_after self.old.kept (take 1 piece.now);
           failing = self.old.failing;
           calls = next_count self.old.calls;
-          faults = if is_err result then next_count self.old.faults else self.old.faults;
+          faults = count_if (is_err result) self.old.faults;
         } }
     {
         self.sink.write(first_byte(piece))

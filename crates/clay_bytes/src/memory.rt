@@ -1,6 +1,6 @@
 //! Sources and sinks in memory: sure ones, and such as fail at listed calls. They take no memory.
 ghost use Rattle.std.specs.Prelude.{◌≡◌, ◌≤◌, ◌<◌, ◌+◌, ◌↔◌, [], ◌++◌, Some, List, ℕ, length, take, drop, vec_len, vec_capacity, IfOk, OnOk, OnErr, IsErr, IsTrue, Contains, is_err, if◌then◌else◌};
-ghost use Rattle.clay_bytes.specs.Memory.{SourceState, Kept, SinkState, told, next_count, kept_after};
+ghost use Rattle.clay_bytes.specs.Memory.{SourceState, Kept, SinkState, new_source, new_sink, told, next_count, count_if, kept_after};
 ghost use Rattle.clay_bytes.specs.Stream.{Gains};
 
 use crate::{Failed, Sink, Source};
@@ -32,7 +32,7 @@ impl FailingCalls {
         ensures listed { IsTrue result ↔ Contains self.old.failing.items self.old.calls }
         ensures same { self.new.failing ≡ self.old.failing }
         ensures calls { self.new.calls ≡ next_count self.old.calls }
-        ensures faults { self.new.faults ≡ (if result then next_count self.old.faults else self.old.faults) }
+        ensures faults { self.new.faults ≡ count_if result self.old.faults }
         ensures count { self.old.faults ≤ self.new.faults }
     {
         let fails = self.failing.contains(&self.calls);
@@ -107,7 +107,7 @@ impl Model for MemSource {
 
 impl MemSource {
     pub fn new(bytes: Vec<u8>, failing: Vec<u64>) -> Self
-        ensures { result ≡ record { left = bytes.items; failing = failing.items; calls = 0; faults = 0 } }
+        ensures { result ≡ new_source bytes.items failing.items }
     {
         MemSource {
             source: SureSource::new(bytes),
@@ -129,7 +129,7 @@ impl Source for MemSource {
         ensures failing { IsErr result ↔ Contains self.old.failing self.old.calls }
         ensures same { self.new.failing ≡ self.old.failing }
         ensures calls { self.new.calls ≡ next_count self.old.calls }
-        ensures faults { self.new.faults ≡ (if is_err result then next_count self.old.faults else self.old.faults) }
+        ensures faults { self.new.faults ≡ count_if (is_err result) self.old.faults }
         ensures count { self.old.faults ≤ self.new.faults }
     {
         if self.calls.next_fails() {
@@ -218,7 +218,7 @@ impl Model for MemSink {
 impl MemSink {
     pub fn new(room: Vec<u8>, failing: Vec<u64>) -> Self
         requires { vec_len room ≡ 0 }
-        ensures { result ≡ record { kept = record { room = vec_capacity room; bytes = []; taken = 0 }; failing = failing.items; calls = 0; faults = 0 } }
+        ensures { result ≡ new_sink (vec_capacity room) failing.items }
     {
         MemSink {
             sink: SureSink::new(room),
@@ -256,7 +256,7 @@ impl Sink for MemSink {
           kept = if is_err result then self.old.kept else kept_after self.old.kept piece.now;
           failing = self.old.failing;
           calls = next_count self.old.calls;
-          faults = if is_err result then next_count self.old.faults else self.old.faults;
+          faults = count_if (is_err result) self.old.faults;
         } }
     {
         if self.calls.next_fails() {

@@ -6,3 +6,4 @@ mod Asked
 mod OneVerdict
 mod SameEntries
 mod OneAnswer
+mod Tried

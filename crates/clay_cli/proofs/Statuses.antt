@@ -1,7 +1,7 @@
 -- Which statuses an output that was made of the input can end with.
 use Rattle.std.proofs.Common.{◌≡◌, ◌⊎◌, inl, inr, ◌∙◌, sym, subst, ℕ, ◌≤◌, List, length, Option, None, Some}
 use Rattle.clay_bytes.specs.Stream.{IsCutOff, Gains, IsPrefixWritten}
-use Rattle.clay_cli.specs.Top.{Owes, Writes, IsOfInput, IsSilent}
+use Rattle.clay_cli.specs.Top.{Owes, IsOfInput, IsSilent}
 use Rattle.clay_cli.specs.declared.status.Status.{Status}
 use Rattle.clay_cli.specs.declared.status.Status.TheVariants.{Done, ScriptRefused, InputTooLong, ReadFault, WriteFault, OutOfMemory, NotLegal, DataRefused}
 
@@ -34,6 +34,3 @@ written words input wanted result output bytes old new is same gains owes =
 
 pub prefix_written : (output bytes : List ℕ) (old new : Option (List ℕ)) → bytes ≡ output → IsPrefixWritten old bytes new → IsPrefixWritten old output new
 prefix_written output bytes old new same written = let P : List ℕ → Type 0 = λ made. IsPrefixWritten old made new in subst P same written
-
-pub writes_same : (status : Status) (old new : Option (List ℕ)) (output other : List ℕ) → output ≡ other → Writes status old output new → Writes status old other new
-writes_same status old new output other same written = let P : List ℕ → Type 0 = λ made. Writes status old made new in subst P same written

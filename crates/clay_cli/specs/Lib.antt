@@ -1,4 +1,5 @@
 pub mod Play
+pub mod Trial
 pub mod Chunks
 pub mod Entries
 pub mod Recover

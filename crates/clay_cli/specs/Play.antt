@@ -1,4 +1,4 @@
--- What `play` prints for its input.
+-- What `play` and `run` print for their input.
 use Rattle.std.specs.Prelude.{◌≡◌, ℕ, List, ◌++◌, codes, decimal}
 use Rattle.store_map.specs.declared.script.Script.{Script}
 use Rattle.script_text.specs.FirstFault.{Spelled, IsFault}
@@ -6,19 +6,18 @@ use Rattle.line_grammar.specs.declared.fault.FaultKind.{FaultKind}
 use Rattle.line_grammar.specs.declared.fault.FaultKind.TheVariants as fault
 use Rattle.transcript_text.specs.Text.{text_of}
 use Rattle.transcript_text.specs.declared.transcript.Transcript.{Transcript}
-use Rattle.store_answers.specs.Played.{IsPlayed}
 
--- the text is that of a transcript that a run of the script shows
-pub record IsTextOf (script : Script) (text : List ℕ) : Type 0 where
+-- the text is that of a transcript that some run of the script shows
+pub record IsTextOf (IsShown : Script → Transcript → Type 0) (script : Script) (text : List ℕ) : Type 0 where
   pub transcript : Transcript
-  pub played : IsPlayed script transcript
+  pub shown : IsShown script transcript
   pub written : text ≡ text_of transcript
 
 -- the input spells a script, and the text is that of a run's transcript
-pub record IsTranscriptFor (input text : List ℕ) : Type 0 where
+pub record IsTranscriptFor (IsShown : Script → Transcript → Type 0) (input text : List ℕ) : Type 0 where
   pub script : Script
   pub spelled : Spelled input script
-  pub text_of_it : IsTextOf script text
+  pub text_of_it : IsTextOf IsShown script text
 
 -- what is wrong, in words
 abbrev pub kind_text : FaultKind → List ℕ

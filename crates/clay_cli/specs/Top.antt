@@ -2,13 +2,17 @@
 use Rattle.std.specs.Prelude.{◌≡◌, ◌⊎◌, ℕ, Option, Some, List, [], codes}
 use Rattle.clay_bytes.specs.Stream.{Gains, IsPrefixWritten}
 use Rattle.clay_words.specs.Words.{AsksTask}
+use Rattle.clay_gen.specs.Script.{generated}
+use Rattle.store_answers.specs.Played.{IsPlayed}
+use Rattle.store_run.specs.Swept.{IsRunToEnd}
+use Rattle.transcript_text.specs.declared.transcript.Transcript.{Transcript}
 use Rattle.clay_cli.specs.Play.{IsTranscriptFor, IsFaulty}
 use Rattle.clay_cli.specs.Chunks.{IsChunkLines, IsDataRefused, IsAloofLines, IsAloofRefused}
 use Rattle.clay_cli.specs.Recover.{IsRecovered, IsNotRecovered}
 use Rattle.clay_cli.specs.Repaird.{IsRepaired, IsNotRepaired}
 use Rattle.clay_cli.specs.Verify.{IsLegal, IsNotLegal, IsUnreadable}
 use Rattle.clay_words.specs.declared.words.Task.{Task}
-use Rattle.clay_words.specs.declared.words.Task.TheVariants.{Play, Verify, Chunks, Recover, AloofChunks, AloofRepair}
+use Rattle.clay_words.specs.declared.words.Task.TheVariants.{Play, Run, Verify, Chunks, Recover, AloofChunks, AloofRepair}
 use Rattle.clay_cli.specs.declared.output.Output.{Output}
 use Rattle.clay_cli.specs.declared.status.Status.{Status}
 use Rattle.clay_cli.specs.declared.status.Status.TheVariants.{Done, ScriptRefused, InputTooLong, ReadFault, WriteFault, OutOfMemory, NotLegal, DataRefused}
@@ -22,9 +26,12 @@ WhereTold told P = (bytes : List ℕ) → told ≡ Some bytes → P bytes
 
 -- the output of a task for an input, with its status; the other statuses have none
 abbrev pub Answers : Task → List ℕ → Status → List ℕ → Type 0
-Answers Play input Done output = IsTranscriptFor input output
+Answers Play input Done output = IsTranscriptFor IsPlayed input output
 Answers Play input ScriptRefused output = IsFaulty input output
 Answers Play input _ output = ⊥
+Answers (Run workers) input Done output = IsTranscriptFor IsRunToEnd input output
+Answers (Run workers) input ScriptRefused output = IsFaulty input output
+Answers (Run workers) input _ output = ⊥
 Answers Verify input Done output = IsLegal input output
 Answers Verify input NotLegal output = IsNotLegal input output
 Answers Verify input ScriptRefused output = IsUnreadable input output
@@ -56,6 +63,10 @@ Writes status old output new =
     ((status ≡ Done) × Gains old output new)
     ⊎ ((status ≡ WriteFault) × IsPrefixWritten old output new)
     ⊎ ((status ≡ OutOfMemory) × Gains old [] new)
+
+-- where memory sufficed, the script that a number gives has the transcript of a run by threads
+abbrev pub HasRun : Status → ℕ → ℕ → Type 0
+HasRun status start size = (status ≡ OutOfMemory → ⊥) → (transcript : Transcript) × IsRunToEnd (generated start size) transcript
 
 -- the statuses of an output that was made of the input
 abbrev pub IsOfInput : Status → Type 0

@@ -1,6 +1,7 @@
 //! The program's commands, from their words and input to their output.
 #![tactic(auto)]
 
+mod by_threads;
 mod chunks;
 mod chunksd;
 mod generate;
@@ -16,4 +17,5 @@ mod verify;
 
 pub use program::run;
 pub use status::Status;
+pub use store_run::{Gate, NoGate, Place};
 pub use top::clay_main;

@@ -1,6 +1,7 @@
 //! The command `play`, and the line that refuses an input by its first faulty line.
 ghost use Rattle.std.specs.Prelude.{◌≡◌, ◌≢◌, IfOk};
 ghost use Rattle.store_map.specs.Naming.{IsValid};
+ghost use Rattle.store_answers.specs.Played.{IsPlayed};
 ghost use Rattle.clay_cli.specs.Play.{IsTextOf, kind_text, refusal_line};
 ghost use Rattle.clay_cli.specs.Top.{IsAnswer, IsOfInput};
 ghost use Rattle.clay_words.specs.declared.words.Task.TheVariants.{Play};
@@ -52,7 +53,7 @@ fn transcript<R: Threads + Sync, C: Coder>(
 ) -> Result<Output, AllocError>
     requires { IsValid script }
     ensures status { IfOk result (λ output. output.status ≡ Status.Done) }
-    ensures text { IfOk result (λ output. IsTextOf script output.bytes.items) }
+    ensures text { IfOk result (λ output. IsTextOf IsPlayed script output.bytes.items) }
 {
     let transcript = store_world::play(rt, alloc, coder, script)?;
     let bytes = write_transcript(alloc, &transcript)?;

@@ -3,10 +3,13 @@ use crate::Status;
 use crate::top::clay_main;
 use clay_bytes::{StdSink, StdSource};
 use clay_lanes::LaneCoder;
+use clay_par::ParCoder;
 use std::env::{self, Env};
 use std::io::{self, ErrorKind, Input, Print};
 use std::process::ExitCode;
+use std::sync::Wait;
 use std::thread::Threads;
+use store_run::NoGate;
 
 // The words after the program's name. Where one of them isn't UTF-8 they are an empty word, which is no command's.
 fn words_of<R: Env + AllocGlobal>(rt: &R) -> io::Result<Vec<String>> {
@@ -25,14 +28,43 @@ fn words_of<R: Env + AllocGlobal>(rt: &R) -> io::Result<Vec<String>> {
     Ok(words)
 }
 
-/// Runs the command that the process's words ask for, and ends with the number of its status. No
-/// clause speaks of the process's own words, input and output: stored runs try it.
-pub fn run<R: Env + AllocGlobal + Input + Print + Threads + Sync>(rt: &R) -> ExitCode {
+// Whether the first word asks for threads.
+fn asks_for_threads(words: &[String]) -> bool {
+    match words {
+        [name, ..] => name.as_str() == "run" || name.as_str() == "trial",
+        [] => false,
+    }
+}
+
+/// Runs the command that the process's words ask for, and ends with the number of its status. Stripes are coded in several threads
+/// where the command runs threads itself. No clause speaks of the process's own words, input and output: stored runs try it.
+pub fn run<R: Env + AllocGlobal + Input + Print + Threads + Wait + Sync>(rt: &R) -> ExitCode {
     let Ok(words) = words_of(rt) else {
         return ExitCode::from(Status::OutOfMemory.number());
     };
     let mut source = StdSource::new(rt.reader());
     let mut sink = StdSink::new(io::writer(rt));
-    let status = clay_main(rt, rt.alloc(), &LaneCoder, &words, &mut source, &mut sink);
+    let alloc = rt.alloc();
+    let status = if asks_for_threads(&words) {
+        clay_main(
+            rt,
+            alloc,
+            &words,
+            &mut source,
+            &mut sink,
+            &NoGate,
+            &ParCoder,
+        )
+    } else {
+        clay_main(
+            rt,
+            alloc,
+            &words,
+            &mut source,
+            &mut sink,
+            &NoGate,
+            &LaneCoder,
+        )
+    };
     ExitCode::from(status.number())
 }

@@ -1,13 +1,15 @@
 //! The top call: from words, a source and a sink to a status.
-ghost use Rattle.std.specs.Prelude.{◌≡◌, ◌≢◌, ◌⊎◌, ◌≤◌, ◌<◌, ℕ, List, [], IfOk, IfErr, IsErrOf, map, string_bytes, length};
+ghost use Rattle.std.specs.Prelude.{◌≡◌, ◌≢◌, ◌⊎◌, ◌≤◌, ◌<◌, ℕ, List, [], IfOk, IfErr, IsErrOf, IsOk, map, string_bytes, length};
 ghost use Rattle.clay_bytes.specs.Stream.{Rises, Gains, GivesAtMost, IsCutOff, IsPrefixWritten};
 ghost use Rattle.clay_gen.specs.Script.{generated};
 ghost use Rattle.script_text.specs.Spelling.{spelling};
-ghost use Rattle.clay_words.specs.Words.{Asks, AsksNothing, AsksForInput, HasItsChunk};
-ghost use Rattle.clay_cli.specs.Top.{WhereTold, IsAnswer, Owes, Writes, IsOfInput, IsSilent, usage_line};
-ghost use Rattle.clay_words.specs.declared.words.Command.TheVariants.{Generate};
+ghost use Rattle.clay_words.specs.Words.{Asks, AsksNothing, AsksForInput, IsWithinBounds};
+ghost use Rattle.clay_cli.specs.Top.{WhereTold, IsAnswer, HasRun, Owes, Writes, IsOfInput, IsSilent, usage_line};
+ghost use Rattle.clay_cli.specs.Trial.{trial_lines};
+ghost use Rattle.clay_words.specs.declared.words.Command.TheVariants.{Generate, Trial};
 
 use crate::Status;
+use crate::by_threads::{run_by_threads, trial};
 use crate::chunks::chunks;
 use crate::chunksd::chunksd;
 use crate::generate::script_from;
@@ -19,8 +21,10 @@ use crate::verify::verify;
 use clay_bytes::{InFault, Sink, Source, read_all, write_all};
 use clay_repair::Coder;
 use clay_words::{Command, Task, command_of};
-use std::alloc::Global;
+use std::alloc::{AllocError, Global};
+use std::sync::Wait;
 use std::thread::Threads;
+use store_run::Gate;
 
 const INPUT_LIMIT: u64 = 167_772_160;
 
@@ -28,21 +32,23 @@ const USAGE_LINE: &[u8] =
     b"usage: clay play | run WORKERS | verify | chunks K M W | recover K M W | gen START SIZE | trial START SIZE WORKERS | chunksd K M D W | repaird K M D W LOST\n";
 
 // The task's output for a whole input.
-fn output_of<R: Threads + Sync, C: Coder>(
+fn output_of<R: Threads + Wait + Sync, G: Gate + Sync, C: Coder + Sync>(
     rt: &R,
     alloc: Global,
-    coder: &C,
     task: Task,
     input: Vec<u8>,
+    gate: &G,
+    coder: &C,
 ) -> Result<Output, Status>
     requires few { length input.items ≤ 167772160 }
-    requires chunk { HasItsChunk task }
+    requires bounds { IsWithinBounds task }
     ensures status { IfOk result (λ output. IsOfInput output.status) }
     ensures answers { IfOk result (λ output. IsAnswer task input.items output) }
     ensures memory { IfErr result (λ status. status ≡ Status.OutOfMemory) }
 {
     let made = match task {
         Task::Play => play(rt, alloc, coder, &input),
+        Task::Run { workers } => run_by_threads(rt, alloc, &input, workers, coder, gate),
         Task::Verify => verify(alloc, input),
         Task::Chunks(g) => chunks(alloc, g, &input),
         Task::Recover(g) => recover(alloc, g, &input),
@@ -53,14 +59,15 @@ fn output_of<R: Threads + Sync, C: Coder>(
 }
 
 // Reads the whole input and makes the task's output.
-fn answer<R: Threads + Sync, C: Coder, S: Source>(
+fn answer<R: Threads + Wait + Sync, S: Source, G: Gate + Sync, C: Coder + Sync>(
     rt: &R,
     alloc: Global,
-    coder: &C,
     task: Task,
     source: &mut S,
+    gate: &G,
+    coder: &C,
 ) -> Result<Output, Status>
-    requires chunk { HasItsChunk task }
+    requires bounds { IsWithinBounds task }
     ensures status { IfOk result (λ output. IsOfInput output.status) }
     ensures answers { IfOk result (λ output. WhereTold (S.left source.old) (λ input.
         (length input ≤ 167772160) × IsAnswer task input output)) }
@@ -71,7 +78,7 @@ fn answer<R: Threads + Sync, C: Coder, S: Source>(
     ensures read_fault { IfErr result (λ status. status ≡ Status.ReadFault → Rises (S.faults source.old) (S.faults source.new)) }
 {
     match read_all(alloc, source, INPUT_LIMIT) {
-        Ok(input) => output_of(rt, alloc, coder, task, input),
+        Ok(input) => output_of(rt, alloc, task, input, gate, coder),
         Err(InFault::ReadFault) => Err(Status::ReadFault),
         Err(InFault::InputTooLong) => Err(Status::InputTooLong),
         Err(InFault::OutOfMemory) => Err(Status::OutOfMemory),
@@ -91,14 +98,15 @@ fn write_out<K: Sink>(sink: &mut K, bytes: &[u8], wanted: Status) -> Status
     }
 }
 
-// Writes the script that a number gives.
-fn write_generated<K: Sink>(alloc: Global, sink: &mut K, start: u64, size: u32) -> Status
-    requires { size ≤ 4096 }
-    ensures written { Writes result (K.written sink.old) (spelling (generated start size)) (K.written sink.new) }
+// Writes a text that was made without an input, if memory sufficed for it.
+fn write_made<K: Sink>(sink: &mut K, made: Result<Vec<u8>, AllocError>) -> Status
+    ensures written { (text : List ℕ) → IfOk made (λ bytes. bytes.items ≡ text) → Writes result (K.written sink.old) text (K.written sink.new) }
+    ensures made { (result ≡ Status.OutOfMemory → ⊥) → IsOk made }
+    ensures which { (result ≡ Status.Done) ⊎ (result ≡ Status.WriteFault) ⊎ ((result ≡ Status.OutOfMemory) × Gains (K.written sink.old) [] (K.written sink.new)) }
     ensures write_fault { result ≡ Status.WriteFault → Rises (K.faults sink.old) (K.faults sink.new) }
     ensures steady { (result ≡ Status.WriteFault → ⊥) → K.faults sink.new ≡ K.faults sink.old }
 {
-    match script_from(alloc, start, size) {
+    match made {
         Ok(text) => write_out(sink, &text, Status::Done),
         Err(_) => Status::OutOfMemory,
     }
@@ -107,14 +115,15 @@ fn write_generated<K: Sink>(alloc: Global, sink: &mut K, start: u64, size: u32) 
 /// Reads the words of one command and its input, writes its output, and says how that ended.
 ///
 /// The words are those after the program's name. Nothing is read where they ask for no command or for a generated script. An output
-/// is made whole before its first byte is written.
-pub fn clay_main<R: Threads + Sync, C: Coder, S: Source, K: Sink>(
+/// is made whole before its first byte is written. The gate is told of each step of a run by threads.
+pub fn clay_main<R: Threads + Wait + Sync, S: Source, K: Sink, G: Gate + Sync, C: Coder + Sync>(
     rt: &R,
     alloc: Global,
-    coder: &C,
     words: &[String],
     source: &mut S,
     sink: &mut K,
+    gate: &G,
+    coder: &C,
 ) -> Status
     // Words that ask for no command, and no others, get the usage line. Nothing is read.
     ensures usage { AsksNothing (map string_bytes words.now) →
@@ -127,6 +136,11 @@ pub fn clay_main<R: Threads + Sync, C: Coder, S: Source, K: Sink>(
     // `gen` reads nothing, and writes the script of its numbers.
     ensures generated { (start size : ℕ) → Asks (map string_bytes words.now) (Generate start size) →
         (source.new ≡ source.old) × Writes result (K.written sink.old) (spelling (generated start size)) (K.written sink.new) }
+
+    // `trial` reads nothing, and writes its lines only where the script of its numbers has the transcript of a run by threads: a
+    // finished history of it.
+    ensures tried { (start size workers : ℕ) → Asks (map string_bytes words.now) (Trial start size workers) →
+        (source.new ≡ source.old) × Writes result (K.written sink.old) (trial_lines size) (K.written sink.new) × HasRun result start size }
 
     // A command that reads an input writes one output that is owed for the whole of it; a prefix where a write fails; or nothing.
     ensures output { IsOfInput result → AsksForInput (map string_bytes words.now) → WhereTold (S.left source.old) (λ input.
@@ -160,10 +174,19 @@ pub fn clay_main<R: Threads + Sync, C: Coder, S: Source, K: Sink>(
         Err(_) => return Status::OutOfMemory,
     };
     let task = match command {
-        Command::Generate { start, size } => return write_generated(alloc, sink, start, size),
+        Command::Generate { start, size } => {
+            return write_made(sink, script_from(alloc, start, size));
+        }
+        Command::Trial {
+            start,
+            size,
+            workers,
+        } => {
+            return write_made(sink, trial(rt, alloc, start, size, workers, coder, gate));
+        }
         Command::OfInput(task) => task,
     };
-    match answer(rt, alloc, coder, task, source) {
+    match answer(rt, alloc, task, source, gate, coder) {
         Ok(output) => write_out(sink, &output.bytes, output.status),
         Err(status) => status,
     }

@@ -13,10 +13,10 @@ mod repair;
 mod repair_plan;
 
 pub use checked::decode_checked;
-pub use clay_parity::{encode, parity, parity_into};
+pub use clay_parity::{Prepared, encode, parity, parity_into};
 pub use coder::LaneCoder;
 pub use layers::solve_layers;
-pub use lost::{couple_chunk, decode, missing};
+pub use lost::{couple_chunk, decode, missing, missing_count};
 pub use places::missing_into;
 pub use plan::{Plan, make_plan};
 pub use repair::{rebuild, rebuild_into, solve_column, write_block};

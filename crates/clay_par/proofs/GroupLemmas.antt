@@ -1,13 +1,16 @@
 -- The groups' values make the parity chunks.
-use Rattle.std.proofs.Common.{◌≡◌, ℕ, ◌*◌, ◌/◌, ◌%◌, ◌^◌, ◌<◌, List, [], length, get_or, subst}
-use Rattle.clay_grid.specs.Shape.{Shape, row_count, layer_count, stripe_length}
+use Rattle.std.proofs.Common.{◌≡◌, ℕ, ◌+◌, ◌*◌, ◌/◌, ◌^◌, ◌<◌, List, [], length, get_or, drop, subst, sym, ap, ◌∙◌, arith}
+use Rattle.std.specs.Fork.{slice_chunk}
+use Rattle.std.proofs.lemmas.List.{get_or-take, get_or-drop}
+use Rattle.clay_grid.specs.Shape.{Shape, row_count, layer_count, chunk_length, stripe_length}
 use Rattle.clay_grid.specs.Limits.{IsGeometry}
-use Rattle.clay_parity.specs.Blocks.{HoldsGroup, Appends, coupled_of}
+use Rattle.clay_parity.specs.Blocks.{HoldsGroup}
+use Rattle.clay_parity.specs.Flat.{HoldsGroups}
 use Rattle.clay_kernels.specs.Generated.{IsLastGenerator}
 use Rattle.clay_parity.specs.Solved.{layer_value}
 use Rattle.clay_parity.specs.Parity.{AreParity}
-use Rattle.clay_parity.proofs.ParityLemmas.{parity_codes}
-use Rattle.clay_par.specs.Groups.{HoldGroups, AreRows}
+use Rattle.clay_parity.proofs.ParityLemmas.{groups, parity_codes}
+use Rattle.clay_par.specs.Groups.{HoldGroups, HoldsRow, AreRows}
 use Rattle.clay_par.specs.declared.parity.Group.{Group}
 
 -- groups by number hold what each group of that number holds
@@ -20,10 +23,34 @@ held g value before after long numbers holds = λ i d h.
     subst (λ n. HoldsGroup g.parity_count g.width n g.parity_count value (get_or after i d).solved.items) (numbers i d there) (holds i d there)
 
 -- rows of all groups are the parity chunks
-pub rows_are_parity : (g : Shape) → IsGeometry g → (factors stripe : List ℕ) (unknown : ℕ) → IsLastGenerator g unknown factors → (groups : List Group) (chunks : List (List ℕ))
-    → length stripe ≡ stripe_length g → ((i : ℕ) → get_or stripe i 0 < 2 ^ 8) → length chunks ≡ g.parity_count → length groups ≡ layer_count g / row_count g
-    → HoldGroups g (layer_value g factors stripe) groups → AreRows g groups chunks → AreParity g stripe chunks
-rows_are_parity g geometry factors stripe unknown gen groups chunks whole bytes count all holds rows =
+pub rows_are_parity : (g : Shape) → IsGeometry g → (factors stripe : List ℕ) (unknown : ℕ) → IsLastGenerator g unknown factors → (held_groups : List Group) (chunks : List (List ℕ))
+    → length stripe ≡ stripe_length g → ((i : ℕ) → get_or stripe i 0 < 2 ^ 8) → length chunks ≡ g.parity_count
+    → HoldGroups g (layer_value g factors stripe) held_groups → AreRows g held_groups chunks → AreParity g stripe chunks
+rows_are_parity g geometry factors stripe unknown gen held_groups chunks whole bytes count holds rows =
     parity_codes g geometry factors stripe unknown gen chunks whole bytes count
-    (λ x h. subst (λ n. Appends (n * (g.parity_count * g.width)) (λ o. coupled_of g.parity_count (layer_value g factors stripe) x (o / g.width) (o % g.width)) [] (get_or chunks x [])) all
-    (rows x h (layer_value g factors stripe) holds))
+    (λ x h.
+    let row = rows x h in
+    let all = groups g geometry in
+    let none_before : chunk_length g ≡ 0 + layer_count g / row_count g * (g.parity_count * g.width) = omega (arith, all) in
+    record {
+      long = row.long ∙ none_before;
+      before = λ p hp. absurd (omega arith);
+      at = λ b hb.
+          let from_none : 0 + b ≡ b = omega arith in
+          ap (λ p. get_or (get_or chunks x []) p 0) from_none
+          ∙ row.holds (layer_value g factors stripe) holds b (omega (arith, all, hb));
+    })
+
+-- the parity chunks of all groups, one behind another
+pub rows_behind : (g : Shape) → IsGeometry g → (held_groups : List Group) (bytes : List ℕ)
+    → ((x : ℕ) → x < g.parity_count → HoldsRow g held_groups x (slice_chunk bytes (chunk_length g) x))
+    → (value : ℕ → ℕ → ℕ → ℕ) → HoldGroups g value held_groups → HoldsGroups g value (layer_count g / row_count g) bytes
+rows_behind g geometry held_groups bytes rows value holds =
+    let len : ℕ = chunk_length g in
+    let all = groups g geometry in
+    record {
+      at = λ x o hx ho.
+          let inside : o < len = omega (arith, all, ho) in
+          sym (get_or-take len (drop (x * len) bytes) o 0 inside ∙ get_or-drop (x * len) bytes o 0)
+          ∙ rows x hx value holds o inside;
+    }

@@ -1,12 +1,14 @@
 //! The coder of several threads.
 ghost use Rattle.std.specs.Prelude.{◌≡◌, ◌*◌, ◌<◌, ◌↔◌, length, OnOk, OnErr, IsErrOf, count_by, is_none};
-ghost use Rattle.clay_grid.specs.Shape.{chunk_count, chunk_length};
+ghost use Rattle.clay_grid.specs.Shape.{chunk_count, chunk_length, stripe_length};
 ghost use Rattle.clay_decode.specs.Left.{AreLong};
 ghost use Rattle.clay_repair.specs.Parts.{AreParts, IsRebuilt};
+ghost use Rattle.clay_parity.specs.Flat.{chunks_in};
+ghost use Rattle.clay_parity.specs.Parity.{AreParity};
 ghost use Rattle.clay_lanes.specs.Places.{AreFilled};
 
 use crate::lost::{missing_into, recover};
-use crate::parity::encode;
+use crate::parity::{encode, parity_into};
 use crate::repair::{rebuild, rebuild_into};
 use clay_decode::DecodeFault;
 use clay_grid::Geometry;
@@ -74,6 +76,28 @@ impl Coder for ParCoder {
 }
 
 impl ParCoder {
+    /// Writes the parity chunks of the stripe's codeword, by rising row, one behind another. `chunks` has room for just them; what it held
+    /// before doesn't matter, and it stays as it is where memory is wanting.
+    pub fn parity_into<R: Threads + Sync>(
+        &self,
+        rt: &R,
+        alloc: Global,
+        g: Geometry,
+        stripe: &[u8],
+        chunks: &mut [u8],
+    ) -> Result<(), AllocError>
+        requires stripe { length stripe.now ≡ stripe_length g }
+        requires chunks { length chunks.old ≡ g.parity_count * chunk_length g }
+        ensures parity { OnOk result (AreParity g stripe.now (chunks_in g.parity_count (chunk_length g) chunks.new)) }
+        ensures kept { OnErr result (chunks.new ≡ chunks.old) }
+    {
+        if is_small(g) {
+            clay_lanes::parity_into(alloc, g, stripe, chunks)
+        } else {
+            parity_into(rt, alloc, g, stripe, chunks)
+        }
+    }
+
     /// Writes the missing chunks of the codeword that agrees with the chunks that are there, where one does, to their places among all
     /// chunks, which stand one behind another.
     ///

@@ -14,7 +14,7 @@ use crate::ranges::{Range, make_ranges};
 use clay_decode::DecodeFault;
 use clay_grid::Geometry;
 use clay_kernels::zeros;
-use clay_lanes::{Plan, couple_chunk, make_plan, solve_layers};
+use clay_lanes::{Plan, couple_chunk, make_plan, missing_count, solve_layers};
 use rayon::current_num_threads;
 use std::alloc::{AllocError, Global};
 use std::thread;
@@ -305,13 +305,6 @@ fn fill_missing<R: Threads + Sync>(
     let ranges = solved_ranges(rt, alloc, g, have, &plan)?;
     fill_all(rt, g, have, &plan, &ranges, chunks);
     Ok(())
-}
-
-// The number of chunks that are missing.
-fn missing_count(have: &[Option<Vec<u8>>]) -> usize
-    ensures { result ≡ count_by is_none have.now }
-{
-    have.iter().filter(|chunk| chunk.is_none()).count()
 }
 
 /// Writes the missing chunks of the codeword that agrees with the chunks that are there, where one does, to their places among all chunks,

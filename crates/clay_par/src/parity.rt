@@ -1,18 +1,19 @@
 //! The parity chunks of a stripe, by groups of layers and then by chunks.
-ghost use Rattle.std.specs.Prelude.{◌≡◌, ℕ, ◌+◌, ◌*◌, ◌/◌, ◌%◌, ◌<◌, ◌≤◌, [], length, slice_index_or, slice_range, IfOk, All};
+ghost use Rattle.std.specs.Prelude.{◌≡◌, ℕ, ◌+◌, ◌*◌, ◌/◌, ◌<◌, ◌≤◌, length, slice_index_or, slice_range, IfOk, OnOk, OnErr, All};
 ghost use Rattle.clay_grid.specs.Shape.{row_count, layer_count, chunk_length, stripe_length};
 ghost use Rattle.clay_model.specs.Code.{Codes};
 ghost use Rattle.clay_encode.specs.Chunks.{contents};
 ghost use Rattle.clay_parity.specs.Blocks.{HoldsGroup};
 ghost use Rattle.clay_kernels.specs.Generated.{IsLastGenerator};
 ghost use Rattle.clay_parity.specs.Solved.{layer_value};
+ghost use Rattle.clay_parity.specs.Flat.{HoldsGroups, chunks_in};
 ghost use Rattle.clay_parity.specs.Parity.{data_pieces, AreParity};
-ghost use Rattle.clay_par.specs.Groups.{HasRoom, AreGroups, IsRow, AreRows};
+ghost use Rattle.clay_par.specs.Groups.{HasRoom, AreGroups, AreWhole, AreSolved, HoldGroups, HoldsRow, IsRow, AreRows};
 
 use crate::made::all_made;
 use clay_grid::Geometry;
 use clay_kernels::{BLOCK, Generator, fifths, zeros};
-use clay_parity::{add_pieces, last_column, solve_group};
+use clay_parity::{last_column, solve_group, write_pieces};
 use rayon::current_num_threads;
 use std::alloc::{AllocError, Global};
 use std::thread;
@@ -100,6 +101,38 @@ fn solve_all<R: Threads + Sync>(
     );
 }
 
+// The groups of all layers, with the last column's uncoupled values.
+fn solved_groups<R: Threads + Sync>(
+    rt: &R,
+    alloc: Global,
+    g: Geometry,
+    stripe: &[u8],
+) -> Result<Vec<Group>, AllocError>
+    requires { length stripe.now ≡ stripe_length g }
+    ensures { IfOk result (λ groups. AreSolved g stripe.now groups.items) }
+{
+    let generator = last_column(alloc, g)?;
+    let mut groups = make_groups(alloc, g)?;
+    solve_all(rt, g, &generator, stripe, &mut groups);
+    Ok(groups)
+}
+
+// Writes the parity chunk of a row, from the values of all groups.
+fn write_row(g: Geometry, groups: &[Group], row: usize, chunk: &mut [u8])
+    requires row { row < row_count g }
+    requires groups { AreWhole g groups.now }
+    requires chunk_len { length chunk.old ≡ chunk_length g }
+    ensures { HoldsRow g groups.now row chunk.new }
+{
+    let fifths = fifths();
+    let len = g.q() as usize * g.w() as usize;
+    for (number, group) in groups.iter().enumerate() {
+        let from = number * len;
+        let out = &mut chunk[from..from + len];
+        write_pieces(g, &fifths, &group.solved, row as u32, out);
+    }
+}
+
 // The parity chunk of a row, from the values of all groups.
 fn parity_chunk(
     alloc: Global,
@@ -108,22 +141,11 @@ fn parity_chunk(
     row: usize,
 ) -> Result<Vec<u8>, AllocError>
     requires row { row < row_count g }
-    requires room { All (HasRoom g) groups.now }
+    requires groups { AreWhole g groups.now }
     ensures { IfOk result (λ chunk. IsRow g groups.now row chunk.items) }
 {
-    let fifths = fifths();
-    let mut values = zeros(alloc, (g.w() as usize).min(BLOCK))?;
-    let mut chunk = Vec::with_capacity(alloc, g.chunk_len() as usize)?;
-    for group in groups {
-        add_pieces(
-            g,
-            &fifths,
-            &group.solved,
-            row as u32,
-            &mut values,
-            &mut chunk,
-        )?;
-    }
+    let mut chunk = zeros(alloc, g.chunk_len() as usize)?;
+    write_row(g, groups, row, &mut chunk);
     Ok(chunk)
 }
 
@@ -134,7 +156,7 @@ fn each_row<R: Threads + Sync>(
     g: Geometry,
     groups: &[Group],
 ) -> Result<Vec<Result<Vec<u8>, AllocError>>, AllocError>
-    requires { All (HasRoom g) groups.now }
+    requires { AreWhole g groups.now }
     ensures count { IfOk result (λ rows. length rows.items ≡ row_count g) }
     ensures each { IfOk result (λ rows. (x : ℕ) (d : _) → x < row_count g →
         IfOk (slice_index_or rows.items x d) (λ chunk. IsRow g groups.now x chunk.items)) }
@@ -154,7 +176,7 @@ fn parity_chunks<R: Threads + Sync>(
     g: Geometry,
     groups: &[Group],
 ) -> Result<Vec<Vec<u8>>, AllocError>
-    requires { All (HasRoom g) groups.now }
+    requires { AreWhole g groups.now }
     ensures count { IfOk result (λ chunks. length chunks.items ≡ row_count g) }
     ensures rows { IfOk result (λ chunks. AreRows g groups.now (contents chunks.items)) }
 {
@@ -172,10 +194,54 @@ pub fn parity<R: Threads + Sync>(
     requires { length stripe.now ≡ stripe_length g }
     ensures { IfOk result (λ chunks. AreParity g stripe.now (contents chunks.items)) }
 {
-    let generator = last_column(alloc, g)?;
-    let mut groups = make_groups(alloc, g)?;
-    solve_all(rt, g, &generator, stripe, &mut groups);
+    let groups = solved_groups(rt, alloc, g, stripe)?;
     parity_chunks(rt, alloc, g, &groups)
+}
+
+// Writes the parity chunk that begins at `start` among all of them, from the values of all groups.
+fn write_row_at(g: Geometry, groups: &[Group], start: usize, chunk: &mut [u8])
+    requires groups { AreWhole g groups.now }
+    requires start { start < g.parity_count * chunk_length g }
+    requires chunk_len { length chunk.old ≡ chunk_length g }
+    ensures { HoldsRow g groups.now (start / chunk_length g) chunk.new }
+{
+    write_row(g, groups, start / g.chunk_len() as usize, chunk);
+}
+
+// Writes the parity chunks, one behind another, from the values of all groups.
+fn write_rows<R: Threads + Sync>(rt: &R, g: Geometry, groups: &[Group], chunks: &mut [u8])
+    requires groups { AreWhole g groups.now }
+    requires chunks { length chunks.old ≡ g.parity_count * chunk_length g }
+    ensures { (value : ℕ → ℕ → ℕ → ℕ) → HoldGroups g value groups.now → HoldsGroups g value (layer_count g / row_count g) chunks.new }
+{
+    let len = g.chunk_len() as usize;
+    thread::for_each_chunk_mut(
+        rt,
+        chunks,
+        len,
+        &|start: usize, chunk: &mut [u8]|
+            requires { AreWhole g groups.now × (start < g.parity_count * chunk_length g) × (length chunk.old ≡ chunk_length g) }
+            ensures { HoldsRow g groups.entry.now (start / chunk_length g) chunk.new }
+        { write_row_at(g, groups, start, chunk) },
+    );
+}
+
+/// Writes the parity chunks of the stripe's codeword, by rising row, one behind another.
+pub fn parity_into<R: Threads + Sync>(
+    rt: &R,
+    alloc: Global,
+    g: Geometry,
+    stripe: &[u8],
+    chunks: &mut [u8],
+) -> Result<(), AllocError>
+    requires stripe { length stripe.now ≡ stripe_length g }
+    requires chunks { length chunks.old ≡ g.parity_count * chunk_length g }
+    ensures parity { OnOk result (AreParity g stripe.now (chunks_in g.parity_count (chunk_length g) chunks.new)) }
+    ensures kept { OnErr result (chunks.new ≡ chunks.old) }
+{
+    let groups = solved_groups(rt, alloc, g, stripe)?;
+    write_rows(rt, g, &groups, chunks);
+    Ok(())
 }
 
 // A data chunk, which is a piece of the stripe.

@@ -105,7 +105,7 @@ flat_codes g geometry factors stripe unknown gen bytes whole stripe_bytes long h
     let len : ℕ = chunk_length g in
     let piece : ℕ → List ℕ = λ c. slice_range bytes (c * len) (c * len + len) in
     let chunks : List (List ℕ) = chunks_in g.parity_count len bytes in
-    let all = groups g geometry factors stripe unknown gen in
+    let all = groups g geometry in
     let chunk_is : (x : ℕ) → x < g.parity_count → get_or chunks x [] ≡ piece x = λ x h. get_or-map-range_with_len piece 0 g.parity_count x x [] h (omega arith) in
     parity_codes g geometry factors stripe unknown gen chunks whole stripe_bytes (length-map-range_with_len piece 0 g.parity_count)
     (λ x h.

@@ -42,6 +42,26 @@ solved_column g factors stripe =
     let part : ℕ = g.parity_count * g.width in
     map (λ p. layer_value g factors stripe (p / part) (p % part / g.width) (p % part % g.width)) (range_with_len 0 (layer_count g * part))
 
+-- whole groups of layers make a chunk
+pub groups : (g : Shape) → IsGeometry g → layer_count g / row_count g * (g.parity_count * g.width) ≡ chunk_length g
+groups g geometry =
+    let q : ℕ = row_count g in
+    let s : ℕ = column_count g - 1 in
+    let rows : 0 < row_count g = let some = geometry.limits.parity_chunks.0 in omega arith in
+    let after : column_count g ≡ suc s = let some = geometry.columns.0 in omega arith in
+    let power : layer_count g ≡ q ^ s * q = ap (λ t. q ^ t) after ∙ pow-suc q s in
+    let over : layer_count g / q ≡ q ^ s = ap (λ v. v / q) power ∙ mul-div_cancel (q ^ s) rows in
+    let grouped : q ^ s * (q * g.width) ≡ q ^ s * q * g.width = omega arith in
+    ap (λ v. v * (q * g.width)) over ∙ grouped ∙ ap (λ v. v * g.width) (sym power)
+
+-- as many groups lie in all layers
+pub group_below : (g : Shape) → IsGeometry g → (number : ℕ) → number < layer_count g / row_count g → number * (g.parity_count * g.width) + g.parity_count * g.width ≤ chunk_length g
+group_below g geometry number h =
+    let all = groups g geometry in
+    let more = mul-le (number + 1) (g.parity_count * g.width) (layer_count g / row_count g) (g.parity_count * g.width) (omega arith) (omega arith) in
+    let next : (number + 1) * (g.parity_count * g.width) ≡ number * (g.parity_count * g.width) + g.parity_count * g.width = omega arith in
+    omega (arith, all, more, next)
+
 module _ (g : Shape) (geometry : IsGeometry g) (factors stripe : List ℕ) (unknown : ℕ) (gen : IsLastGenerator g unknown factors) where
   m : ℕ
   m = g.parity_count
@@ -140,17 +160,6 @@ module _ (g : Shape) (geometry : IsGeometry g) (factors stripe : List ℕ) (unkn
             ∙ paired_last g rows column b x n hn p hp (λ e. other (sym e ∙ last_digit g geometry n)) layer
       ]
 
-  -- whole groups of layers
-  pub groups : layer_count g / row_count g * (g.parity_count * g.width) ≡ chunk_length g
-  groups =
-      let q : ℕ = row_count g in
-      let s : ℕ = column_count g - 1 in
-      let after : column_count g ≡ suc s = let some = columns in omega arith in
-      let power : layer_count g ≡ q ^ s * q = ap (λ t. q ^ t) after ∙ pow-suc q s in
-      let over : layer_count g / q ≡ q ^ s = ap (λ v. v / q) power ∙ mul-div_cancel (q ^ s) rows in
-      let grouped : q ^ s * (q * g.width) ≡ q ^ s * q * g.width = omega arith in
-      ap (λ v. v * (q * g.width)) over ∙ grouped ∙ ap (λ v. v * g.width) (sym power)
-
   pub parity_codes : (chunks : List (List ℕ)) → length stripe ≡ stripe_length g → ((i : ℕ) → get_or stripe i 0 < 2 ^ 8) → length chunks ≡ g.parity_count
       → ((x : ℕ) → x < g.parity_count → Appends (layer_count g / row_count g * (g.parity_count * g.width)) (λ o. coupled_of g.parity_count (layer_value g factors stripe) x (o / g.width) (o % g.width)) [] (get_or chunks x []))
       → AreParity g stripe chunks
@@ -169,7 +178,7 @@ module _ (g : Shape) (geometry : IsGeometry g) (factors stripe : List ℕ) (unkn
         solved = solved;
         count = length-append front chunks ∙ (λ i. front_long i + count i);
         pieces = λ c h. get_or_append_left front chunks [] c (subst (λ n. c < n) (sym front_long) h) ∙ get_or-map-range_with_len piece 0 g.data_count c c [] h (omega arith);
-        lengths = λ x h. ap length (at_row x) ∙ (appended x h).long ∙ omega (arith, groups);
+        lengths = λ x h. ap length (at_row x) ∙ (appended x h).long ∙ (let all = groups g geometry in omega (arith, all));
         coupled = λ x h. record {
           at = λ n b hn hb.
               let o : ℕ = n * g.width + b in
@@ -177,7 +186,7 @@ module _ (g : Shape) (geometry : IsGeometry g) (factors stripe : List ℕ) (unkn
               let front_none : o ≡ 0 + o = omega arith in
               ap (λ l. get_or l o 0) (at_row x)
               ∙ ap (λ p. get_or (get_or chunks x []) p 0) front_none
-              ∙ (appended x h).at o (omega (arith, groups))
+              ∙ (appended x h).at o (let all = groups g geometry in omega (arith, all, inside))
               ∙ (λ i. coupled_of g.parity_count (layer_value g factors stripe) x (div-mul-add n g.width b hb i) (mod-mul-add n g.width b hb i))
               ∙ coupled_at n x b hn h hb;
         };

@@ -405,8 +405,8 @@ fn empty_chunks(alloc: Global, count: usize, len: usize) -> Result<Vec<Vec<u8>>,
     Ok(chunks)
 }
 
-/// Adds to the parity chunk of row `x` its subchunks of a group of layers, which differ in the last digit alone.
-pub fn add_pieces(
+// Adds to the parity chunk of row `x` its subchunks of a group of layers, which differ in the last digit alone.
+fn add_pieces(
     g: Geometry,
     fifths: &Products,
     group: &[u8],

@@ -8,7 +8,8 @@ ghost use Rattle.clay_parity.specs.Short.{short_coupled};
 ghost use Rattle.clay_parity.specs.Flat.{WritesRows, HoldsGroups, chunks_in};
 ghost use Rattle.clay_parity.specs.Parity.{AreParity};
 
-use crate::chunks::{SHORT, block, last_column, solve_layers, solve_rows};
+use crate::chunks::{SHORT, block, solve_layers, solve_rows};
+use crate::prepared::Prepared;
 use crate::short::couple_row;
 use clay_grid::Geometry;
 use clay_kernels::{BLOCK, Generator, Products, couple, fifths, zeros};
@@ -61,8 +62,8 @@ fn write_piece(g: Geometry, fifths: &Products, group: &[u8], x: u32, digit: u32,
     }
 }
 
-// Writes the coupled bytes of row `x` in all layers of the group, one subchunk after another.
-fn write_pieces(g: Geometry, fifths: &Products, group: &[u8], x: u32, out: &mut [u8])
+/// Writes the coupled bytes of row `x` in all layers of the group, one subchunk after another.
+pub fn write_pieces(g: Geometry, fifths: &Products, group: &[u8], x: u32, out: &mut [u8])
     requires fifths { fifths.now ≡ 0xA7 }
     requires group_len { length group.now ≡ g.parity_count * (g.parity_count * g.width) }
     requires row { x < row_count g }
@@ -200,6 +201,38 @@ fn write_groups(
     write_short_groups(g, generator, stripe, column, row, group, out);
 }
 
+/// Writes the parity chunks of the stripe's codeword with the generator of the last column, as `parity_into` does.
+pub fn write_parity(
+    alloc: Global,
+    g: Geometry,
+    generator: &Generator,
+    stripe: &[u8],
+    chunks: &mut [u8],
+) -> Result<(), AllocError>
+    requires stripe { length stripe.now ≡ stripe_length g }
+    requires generator { IsLastGenerator g generator.now.unknown generator.now.each }
+    requires chunks { length chunks.old ≡ g.parity_count * chunk_length g }
+    ensures parity { OnOk result (AreParity g stripe.now (chunks_in g.parity_count (chunk_length g) chunks.new)) }
+    ensures kept { OnErr result (chunks.new ≡ chunks.old) }
+{
+    let w = g.w() as usize;
+    let q = g.q() as usize;
+    let len = w.min(BLOCK);
+    let mut values = zeros(alloc, len)?;
+    let mut room = zeros(alloc, 4 * len + 5 * (q * w).min(SHORT))?;
+    let mut group = vec![in alloc; 0u8; q * (q * w)]?;
+    write_groups(
+        g,
+        generator,
+        stripe,
+        &mut values,
+        &mut room,
+        &mut group,
+        chunks,
+    );
+    Ok(())
+}
+
 /// Writes the parity chunks of the stripe's codeword, by rising row, one behind another. `chunks` has room for just them; what it held before
 /// doesn't matter, and it stays as it is where memory is wanting.
 pub fn parity_into(
@@ -213,21 +246,6 @@ pub fn parity_into(
     ensures parity { OnOk result (AreParity g stripe.now (chunks_in g.parity_count (chunk_length g) chunks.new)) }
     ensures kept { OnErr result (chunks.new ≡ chunks.old) }
 {
-    let w = g.w() as usize;
-    let q = g.q() as usize;
-    let generator = last_column(alloc, g)?;
-    let len = w.min(BLOCK);
-    let mut values = zeros(alloc, len)?;
-    let mut room = zeros(alloc, 4 * len + 5 * (q * w).min(SHORT))?;
-    let mut group = vec![in alloc; 0u8; q * (q * w)]?;
-    write_groups(
-        g,
-        &generator,
-        stripe,
-        &mut values,
-        &mut room,
-        &mut group,
-        chunks,
-    );
-    Ok(())
+    let prepared = Prepared::new(alloc, g)?;
+    prepared.parity_into(alloc, stripe, chunks)
 }

@@ -3,8 +3,10 @@
 
 mod chunks;
 mod flat;
+mod prepared;
 mod short;
 mod stripe;
 
-pub use chunks::{add_pieces, encode, last_column, parity, solve_group};
-pub use flat::parity_into;
+pub use chunks::{encode, last_column, parity, solve_group};
+pub use flat::{parity_into, write_pieces};
+pub use prepared::Prepared;

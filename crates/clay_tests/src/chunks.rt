@@ -1,6 +1,6 @@
 //! The command `chunks`.
-use crate::runs::{Ran, run};
-use clay_cli::Status;
+use command_runs::Status;
+use command_runs::runs::{Ran, run};
 use std::test::Fail;
 
 #[test]

@@ -1,6 +1,6 @@
 //! The command `gen`.
-use crate::runs::{Ran, run, run_failing};
-use clay_cli::Status;
+use command_runs::Status;
+use command_runs::runs::{Ran, run, run_failing};
 use std::test::Fail;
 
 // One call of each client, from the number 10007, as another program drew them.

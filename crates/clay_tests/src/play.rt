@@ -1,25 +1,10 @@
 //! The command `play`, and words that are no command.
-use crate::runs::{Ran, run};
-use clay_cli::Status;
+use command_runs::Status;
+use command_runs::runs::{Ran, run};
+use command_runs::scripts::{PUT_THEN_GET, TRANSCRIPT};
+use std::sync::Wait;
 use std::test::Fail;
 use std::thread::Threads;
-
-/// A client's put and its get. 77 bytes in eight lines.
-pub(crate) const PUT_THEN_GET: &[u8] =
-    b"clay 1\ncode 2 2 1\nclient\nput a hex:0100000000000000\nget a\nschedule\ndrain\nend\n";
-
-/// What `play` prints of it: 113 bytes.
-pub(crate) const TRANSCRIPT: &[u8] = b"\
-H 0 c0.0 ok
-H 1 c0.1 bytes hex:0100000000000000
-L a 8
-G c0.1 4 4 0 0
-T 0 4 1 0
-T 1 4 1 0
-T 2 0 1 0
-T 3 0 1 0
-end
-";
 
 const USAGE: &[u8] =
     b"usage: clay play | run WORKERS | verify | chunks K M W | recover K M W | gen START SIZE | trial START SIZE WORKERS | chunksd K M D W | repaird K M D W LOST\n";
@@ -37,7 +22,7 @@ fn put_then_get(rt: HostRuntime) -> Result<(), Fail> {
 
 #[test]
 fn words_of_no_command(rt: HostRuntime) -> Result<(), Fail> {
-    let lists: [&[&str]; 20] = [
+    let lists: [&[&str]; 23] = [
         &["playy"],
         &["play", "play"],
         &["Play"],
@@ -55,9 +40,12 @@ fn words_of_no_command(rt: HostRuntime) -> Result<(), Fail> {
         &["repaird", "2", "3", "3", "1", "5"],
         &["gen", "0"],
         &["gen", "0", "1", "1"],
-        &["run", "1"],
+        &["run"],
+        &["run", "0"],
+        &["run", "17"],
         &["verify", "verify"],
-        &["trial", "0", "1", "1"],
+        &["trial", "0", "1"],
+        &["trial", "0", "1", "17"],
     ];
     for words in lists {
         let Ran { status, written } = run(&rt, words, PUT_THEN_GET)?;
@@ -68,7 +56,10 @@ fn words_of_no_command(rt: HostRuntime) -> Result<(), Fail> {
 }
 
 // The line with which a script is refused.
-fn refusal_of<R: Threads + Sync + AllocGlobal>(rt: &R, input: &[u8]) -> Result<Vec<u8>, Fail> {
+fn refusal_of<R: Threads + Wait + Sync + AllocGlobal>(
+    rt: &R,
+    input: &[u8],
+) -> Result<Vec<u8>, Fail> {
     let Ran { status, written } = run(rt, &["play"], input)?;
     if status != Status::ScriptRefused {
         return Err(Fail::from("the script is not refused"));

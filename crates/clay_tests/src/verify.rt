@@ -1,14 +1,15 @@
 //! The command `verify`.
-use crate::play::PUT_THEN_GET;
-use crate::runs::{Ran, run};
-use clay_cli::Status;
+use command_runs::Status;
+use command_runs::runs::{Ran, run};
+use command_runs::scripts::PUT_THEN_GET;
+use std::sync::Wait;
 use std::test::Fail;
 use std::thread::Threads;
 
 const TAIL: &[u8] = b"G c0.1 4 4 0 0\nT 0 4 1 0\nT 1 4 1 0\nT 2 0 1 0\nT 3 0 1 0\nend\n";
 
 // What `verify` says of the script and these pieces of a transcript behind it.
-fn verdict<R: Threads + Sync + AllocGlobal>(rt: &R, pieces: &[&[u8]]) -> Result<Ran, Fail> {
+fn verdict<R: Threads + Wait + Sync + AllocGlobal>(rt: &R, pieces: &[&[u8]]) -> Result<Ran, Fail> {
     let mut input = Vec::from_slice(rt.alloc(), PUT_THEN_GET)?;
     for piece in pieces {
         input.extend_from_slice(*piece)?;

@@ -1,10 +1,13 @@
 pub mod StartLaws
 pub mod WordLaws
+pub mod NameLaws
 pub mod WordMet
+pub mod SpelledLaws
 pub mod Walks
-pub mod Levels
+pub mod Lengths
 pub mod Stops
 pub mod Taken
 pub mod Held
 pub mod Unspelled
 pub mod OneCommand
+pub mod Numbered

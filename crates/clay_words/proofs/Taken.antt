@@ -1,170 +1,117 @@
 -- Clap takes the words that are spelled, and holds each under its name.
-use Rattle.std.proofs.Common.{◌≡◌, ℕ, List, [], ◌∷◌, refl, sym, subst, ap, ◌∙◌, codes, arith, inl, inr}
-use Rattle.std.specs.Prelude.{◌⊎◌, Some}
-use Rattle.std.proofs.lemmas.Bool.{ne_eqb}
-use Rattle.std.proofs.lemmas.Str.Parse.{digit_at}
+use Rattle.std.proofs.Common.{◌≡◌, ℕ, List, [], ◌∷◌, length, refl, sym, subst, ap, ◌∙◌}
+use Rattle.std.specs.Prelude.{Bool, true, false, ◌&&◌, Option, Some, find, is_some, option_map}
+use Rattle.std.specs.List.{AllByRecursion, list_all}
+use Rattle.std.specs.Option.{option_map_or}
 use Rattle.line_grammar.specs.Numbers.{IsNumberWord}
-use Rattle.line_grammar.proofs.NumberLaws.{digits_from_number}
-use Rattle.clap.specs.Words.{Text}
-use Rattle.clap.specs.Walk.{Walk, finished}
+use Rattle.clap.specs.Words.{Text, Shape, App}
+use Rattle.clap.specs.Walk.{Held, answers_to, finished, nothing_held, walk, walk_from}
+use Rattle.clap.specs.Simple.{built, built_leaf, inherited, label_of, marked_built, rows_at, with_leaf_noted}
+use Rattle.clap.specs.Takes.{default_passes, is_valid, level_passes, settle_passes, walk_passes}
 use Rattle.clap.proofs.OnLiterals.{clap_on_literals}
-use Rattle.clay_words.specs.Spelled.{IsSpelled, IsTaken}
-use Rattle.clay_words.proofs.WordMet.{IsOther}
-use Rattle.clay_words.proofs.Levels.{aloof_held, aloof_level, aloof_rules, aloof_walk, code_held, code_level, code_rules, code_walk, draw_held, draw_level, draw_rules, draw_walk, repair_held, repair_level, repair_rules, repair_walk}
-use Rattle.clay_words.proofs.Stops.{chunks_stop, chunks_top, chunksd_stop, chunksd_top, repaird_stop, repaird_top, found_by, gen_stop, gen_top, play_stop, play_top, recover_stop, recover_top, taken_by, verify_stop, verify_top}
+use Rattle.clay_words.specs.Grammar.{clay_app, command_app}
+use Rattle.clay_words.specs.Names.{ids_of, word_of}
+use Rattle.clay_words.specs.Spelled.{Hold, IsSpelled, IsTaken}
+use Rattle.clay_words.specs.declared.names.Name.{Name}
+use Rattle.clay_words.specs.declared.names.Name.TheVariants.{Play, Run, Verify, Chunks, Recover, Generate, Trial, AloofChunks, AloofRepair}
+use Rattle.clay_words.proofs.Lengths.{by_length}
+use Rattle.clay_words.proofs.Stops.{found_by, stop, taken_by, top_passes}
+use Rattle.clay_words.proofs.Walks.{AllGo, all_held, all_pass, held_after}
 
--- a number's first byte isn't a hyphen
-number_head : (d : ℕ) (ds : Text) → IsNumberWord (d ∷ ds) → IsOther d
-number_head d ds number =
-    let digits = digits_from_number (d ∷ ds) number in
-    let range = digit_at (d ∷ ds) 0 digits.digits digits.some in
-    ne_eqb d 45 (λ e. omega (arith, range.0))
+-- the command as it is built below the program
+abbrev leaf : Name → Shape
+leaf name = built_leaf (inherited (with_leaf_noted (marked_built clay_app.top)) (command_app name).top)
 
-number_some : IsNumberWord [] → ⊥
-number_some number = let some = (digits_from_number [] number).some in omega arith
+-- what is held behind the words
+abbrev end_of : Shape → List Text → Held
+end_of s words = held_after s.rules nothing_held 1 words
 
-play_taken : IsTaken (codes "play" ∷ [])
+-- what is checked of what is held at the end
+abbrev ends_well : Shape → Held → Bool
+ends_well s end =
+    settle_passes s.rules s.args_override_self end && (list_all default_passes s.rules && is_valid s (finished s.rules end) false)
+
+-- the program's command of this name takes these words, where they are numbers
+record Fits (name : Name) (numbers : List Text) : Type 0 where
+  stops : stop (word_of name ∷ numbers) ≡ Some (word_of name, numbers)
+  top : top_passes (word_of name ∷ numbers) true ≡ true
+  enters : find (λ (s : Shape). answers_to (word_of name) (label_of s)) (built clay_app).subs ≡ Some (leaf name)
+  named : (leaf name).name ≡ word_of name
+  go : AllGo (leaf name) nothing_held 1 numbers
+  well : ends_well (leaf name) (end_of (leaf name) numbers) ≡ true
+  held : Hold (finished (leaf name).rules (end_of (leaf name) numbers)) (ids_of name) numbers
+
+level : (s : Shape) (words : List Text) → AllByRecursion IsNumberWord words → AllGo s nothing_held 1 words → ends_well s (end_of s words) ≡ true
+    → level_passes s [] nothing_held words false ≡ true
+level s words numbers go well =
+    ap (λ (b : Bool). b && ends_well s (walk s.rules [] nothing_held words).held) (all_pass s nothing_held 1 words numbers go)
+    ∙ ap (ends_well s) (all_held s nothing_held 1 words numbers go) ∙ well
+
+taken : (name : Name) (numbers : List Text) → AllByRecursion IsNumberWord numbers → Fits name numbers → IsTaken (word_of name ∷ numbers)
+taken name numbers all fits =
+    let below : level_passes (leaf name) [] nothing_held numbers false ≡ true = level (leaf name) numbers all fits.go fits.well in
+    let rows : (walk (leaf name).rules [] nothing_held numbers).held ≡ end_of (leaf name) numbers = all_held (leaf name) nothing_held 1 numbers all fits.go in
+    record {
+      is_taken = taken_by (word_of name ∷ numbers) (word_of name, numbers) fits.stops
+          (ap (λ (o : Option Shape). is_some (option_map (λ (s : Shape). rows_at s numbers) o)) fits.enters)
+          (ap (λ (o : Option Shape). option_map_or (λ (s : Shape). level_passes s [] nothing_held numbers false) o true) fits.enters ∙ below) fits.top;
+      word = word_of name;
+      rows = finished (leaf name).rules (end_of (leaf name) numbers);
+      found = found_by (word_of name ∷ numbers) (word_of name, numbers) fits.stops ∙ ap (option_map (λ (s : Shape). rows_at s numbers)) fits.enters
+          ∙ (λ i. Some (fits.named i, finished (leaf name).rules (rows i)));
+      held = record { name = name; word_is = refl; numbers = record { numbers = numbers; words_are = refl; held = fits.held } };
+    }
+
+-- ---- a row for each command
+
+play_fits : Fits Play []
 unfolding clap_on_literals
-play_taken = record {
-  is_taken = taken_by (codes "play" ∷ []) (codes "play", []) play_stop refl refl play_top;
-  name = codes "play";
-  rows = [];
-  found = found_by (codes "play" ∷ []) (codes "play", []) play_stop;
-  held = inl (record { words_are = refl; no_k = refl; no_start = refl });
-}
+play_fits = record { stops = refl; top = refl; enters = refl; named = refl; go = tt; well = refl; held = tt }
 
-verify_taken : IsTaken (codes "verify" ∷ [])
+run_fits : (a : Text) → Fits Run (a ∷ [])
 unfolding clap_on_literals
-verify_taken = record {
-  is_taken = taken_by (codes "verify" ∷ []) (codes "verify", []) verify_stop refl refl verify_top;
-  name = codes "verify";
-  rows = [];
-  found = found_by (codes "verify" ∷ []) (codes "verify", []) verify_stop;
-  held = inl (record { words_are = refl; no_k = refl; no_start = refl });
-}
+run_fits a = record { stops = refl; top = refl; enters = refl; named = refl; go = (refl, refl, tt); well = refl; held = (refl, tt) }
 
-gen_taken : (a b : ℕ) (ks ms : Text) → IsOther a → IsOther b → IsTaken (codes "gen" ∷ (a ∷ ks) ∷ (b ∷ ms) ∷ [])
-gen_taken a b ks ms ea eb = record {
-  is_taken = taken_by (codes "gen" ∷ (a ∷ ks) ∷ (b ∷ ms) ∷ []) (codes "gen", (a ∷ ks) ∷ (b ∷ ms) ∷ []) (gen_stop (a ∷ ks) (b ∷ ms)) refl (draw_level a b ks ms ea eb) (gen_top (a ∷ ks) (b ∷ ms));
-  name = codes "gen";
-  rows = finished draw_rules (draw_held (a ∷ ks) (b ∷ ms));
-  found = found_by (codes "gen" ∷ (a ∷ ks) ∷ (b ∷ ms) ∷ []) (codes "gen", (a ∷ ks) ∷ (b ∷ ms) ∷ []) (gen_stop (a ∷ ks) (b ∷ ms))
-      ∙ ap (λ (x : Walk). Some (codes "gen", finished draw_rules x.held)) (draw_walk a b ks ms ea eb);
-  held = inr (inl (record { start = a ∷ ks; size = b ∷ ms; words_are = refl; no_k = refl; start_is = refl; size_is = refl }));
-}
+verify_fits : Fits Verify []
+unfolding clap_on_literals
+verify_fits = record { stops = refl; top = refl; enters = refl; named = refl; go = tt; well = refl; held = tt }
 
-chunks_taken : (a b c : ℕ) (ks ms ws : Text) → IsOther a → IsOther b → IsOther c → IsTaken (codes "chunks" ∷ (a ∷ ks) ∷ (b ∷ ms) ∷ (c ∷ ws) ∷ [])
-chunks_taken a b c ks ms ws ea eb ec = record {
-  is_taken = taken_by (codes "chunks" ∷ (a ∷ ks) ∷ (b ∷ ms) ∷ (c ∷ ws) ∷ []) (codes "chunks", (a ∷ ks) ∷ (b ∷ ms) ∷ (c ∷ ws) ∷ []) (chunks_stop (a ∷ ks) (b ∷ ms) (c ∷ ws)) refl
-      (code_level a b c ks ms ws ea eb ec (codes "chunks")) (chunks_top (a ∷ ks) (b ∷ ms) (c ∷ ws));
-  name = codes "chunks";
-  rows = finished code_rules (code_held (a ∷ ks) (b ∷ ms) (c ∷ ws));
-  found = found_by (codes "chunks" ∷ (a ∷ ks) ∷ (b ∷ ms) ∷ (c ∷ ws) ∷ []) (codes "chunks", (a ∷ ks) ∷ (b ∷ ms) ∷ (c ∷ ws) ∷ []) (chunks_stop (a ∷ ks) (b ∷ ms) (c ∷ ws))
-      ∙ ap (λ (x : Walk). Some (codes "chunks", finished code_rules x.held)) (code_walk a b c ks ms ws ea eb ec);
-  held = inr (inr (inl (record { k = a ∷ ks; m = b ∷ ms; w = c ∷ ws; words_are = refl; k_is = refl; m_is = refl; w_is = refl; no_d = refl })));
-}
+chunks_fits : (a b c : Text) → Fits Chunks (a ∷ b ∷ c ∷ [])
+unfolding clap_on_literals
+chunks_fits a b c = record { stops = refl; top = refl; enters = refl; named = refl; go = (refl, refl, (refl, refl, (refl, refl, tt))); well = refl; held = (refl, (refl, (refl, tt))) }
 
-recover_taken : (a b c : ℕ) (ks ms ws : Text) → IsOther a → IsOther b → IsOther c → IsTaken (codes "recover" ∷ (a ∷ ks) ∷ (b ∷ ms) ∷ (c ∷ ws) ∷ [])
-recover_taken a b c ks ms ws ea eb ec = record {
-  is_taken = taken_by (codes "recover" ∷ (a ∷ ks) ∷ (b ∷ ms) ∷ (c ∷ ws) ∷ []) (codes "recover", (a ∷ ks) ∷ (b ∷ ms) ∷ (c ∷ ws) ∷ []) (recover_stop (a ∷ ks) (b ∷ ms) (c ∷ ws)) refl
-      (code_level a b c ks ms ws ea eb ec (codes "recover")) (recover_top (a ∷ ks) (b ∷ ms) (c ∷ ws));
-  name = codes "recover";
-  rows = finished code_rules (code_held (a ∷ ks) (b ∷ ms) (c ∷ ws));
-  found = found_by (codes "recover" ∷ (a ∷ ks) ∷ (b ∷ ms) ∷ (c ∷ ws) ∷ []) (codes "recover", (a ∷ ks) ∷ (b ∷ ms) ∷ (c ∷ ws) ∷ []) (recover_stop (a ∷ ks) (b ∷ ms) (c ∷ ws))
-      ∙ ap (λ (x : Walk). Some (codes "recover", finished code_rules x.held)) (code_walk a b c ks ms ws ea eb ec);
-  held = inr (inr (inl (record { k = a ∷ ks; m = b ∷ ms; w = c ∷ ws; words_are = refl; k_is = refl; m_is = refl; w_is = refl; no_d = refl })));
-}
+recover_fits : (a b c : Text) → Fits Recover (a ∷ b ∷ c ∷ [])
+unfolding clap_on_literals
+recover_fits a b c = record { stops = refl; top = refl; enters = refl; named = refl; go = (refl, refl, (refl, refl, (refl, refl, tt))); well = refl; held = (refl, (refl, (refl, tt))) }
 
-chunksd_taken : (a b c e : ℕ) (ks ms ds ws : Text) → IsOther a → IsOther b → IsOther c → IsOther e → IsTaken (codes "chunksd" ∷ (a ∷ ks) ∷ (b ∷ ms) ∷ (c ∷ ds) ∷ (e ∷ ws) ∷ [])
-chunksd_taken a b c e ks ms ds ws ea eb ec ee = record {
-  is_taken = taken_by (codes "chunksd" ∷ (a ∷ ks) ∷ (b ∷ ms) ∷ (c ∷ ds) ∷ (e ∷ ws) ∷ []) (codes "chunksd", (a ∷ ks) ∷ (b ∷ ms) ∷ (c ∷ ds) ∷ (e ∷ ws) ∷ [])
-      (chunksd_stop (a ∷ ks) (b ∷ ms) (c ∷ ds) (e ∷ ws)) refl (aloof_level a b c e ks ms ds ws ea eb ec ee) (chunksd_top (a ∷ ks) (b ∷ ms) (c ∷ ds) (e ∷ ws));
-  name = codes "chunksd";
-  rows = finished aloof_rules (aloof_held (a ∷ ks) (b ∷ ms) (c ∷ ds) (e ∷ ws));
-  found = found_by (codes "chunksd" ∷ (a ∷ ks) ∷ (b ∷ ms) ∷ (c ∷ ds) ∷ (e ∷ ws) ∷ []) (codes "chunksd", (a ∷ ks) ∷ (b ∷ ms) ∷ (c ∷ ds) ∷ (e ∷ ws) ∷ [])
-      (chunksd_stop (a ∷ ks) (b ∷ ms) (c ∷ ds) (e ∷ ws))
-      ∙ ap (λ (x : Walk). Some (codes "chunksd", finished aloof_rules x.held)) (aloof_walk a b c e ks ms ds ws ea eb ec ee);
-  held = inr (inr (inr (inl (record { k = a ∷ ks; m = b ∷ ms; d = c ∷ ds; w = e ∷ ws; words_are = refl; k_is = refl; m_is = refl; d_is = refl; w_is = refl; no_lost = refl }))));
-}
+generate_fits : (a b : Text) → Fits Generate (a ∷ b ∷ [])
+unfolding clap_on_literals
+generate_fits a b = record { stops = refl; top = refl; enters = refl; named = refl; go = (refl, refl, (refl, refl, tt)); well = refl; held = (refl, (refl, tt)) }
 
-repaird_taken : (a b c e f : ℕ) (ks ms ds ws ls : Text) → IsOther a → IsOther b → IsOther c → IsOther e → IsOther f
-    → IsTaken (codes "repaird" ∷ (a ∷ ks) ∷ (b ∷ ms) ∷ (c ∷ ds) ∷ (e ∷ ws) ∷ (f ∷ ls) ∷ [])
-repaird_taken a b c e f ks ms ds ws ls ea eb ec ee ef = record {
-  is_taken = taken_by (codes "repaird" ∷ (a ∷ ks) ∷ (b ∷ ms) ∷ (c ∷ ds) ∷ (e ∷ ws) ∷ (f ∷ ls) ∷ []) (codes "repaird", (a ∷ ks) ∷ (b ∷ ms) ∷ (c ∷ ds) ∷ (e ∷ ws) ∷ (f ∷ ls) ∷ [])
-      (repaird_stop (a ∷ ks) (b ∷ ms) (c ∷ ds) (e ∷ ws) (f ∷ ls)) refl (repair_level a b c e f ks ms ds ws ls ea eb ec ee ef)
-      (repaird_top (a ∷ ks) (b ∷ ms) (c ∷ ds) (e ∷ ws) (f ∷ ls));
-  name = codes "repaird";
-  rows = finished repair_rules (repair_held (a ∷ ks) (b ∷ ms) (c ∷ ds) (e ∷ ws) (f ∷ ls));
-  found = found_by (codes "repaird" ∷ (a ∷ ks) ∷ (b ∷ ms) ∷ (c ∷ ds) ∷ (e ∷ ws) ∷ (f ∷ ls) ∷ []) (codes "repaird", (a ∷ ks) ∷ (b ∷ ms) ∷ (c ∷ ds) ∷ (e ∷ ws) ∷ (f ∷ ls) ∷ [])
-      (repaird_stop (a ∷ ks) (b ∷ ms) (c ∷ ds) (e ∷ ws) (f ∷ ls))
-      ∙ ap (λ (x : Walk). Some (codes "repaird", finished repair_rules x.held)) (repair_walk a b c e f ks ms ds ws ls ea eb ec ee ef);
-  held = inr (inr (inr (inr (record {
-    k = a ∷ ks;
-    m = b ∷ ms;
-    d = c ∷ ds;
-    w = e ∷ ws;
-    lost = f ∷ ls;
-    words_are = refl;
-    k_is = refl;
-    m_is = refl;
-    d_is = refl;
-    w_is = refl;
-    lost_is = refl;
-  }))));
-}
+trial_fits : (a b c : Text) → Fits Trial (a ∷ b ∷ c ∷ [])
+unfolding clap_on_literals
+trial_fits a b c = record { stops = refl; top = refl; enters = refl; named = refl; go = (refl, refl, (refl, refl, (refl, refl, tt))); well = refl; held = (refl, (refl, (refl, tt))) }
 
--- a command's name, and two numbers
-draw_taken : (name start size : Text) → name ≡ codes "gen" → IsNumberWord start → IsNumberWord size → IsTaken (name ∷ start ∷ size ∷ [])
-draw_taken name [] size is a b = absurd (number_some a)
-draw_taken name (a ∷ ks) [] is na nb = absurd (number_some nb)
-draw_taken name (a ∷ ks) (b ∷ ms) is na nb =
-    subst (λ (n : Text). IsTaken (n ∷ (a ∷ ks) ∷ (b ∷ ms) ∷ [])) (sym is) (gen_taken a b ks ms (number_head a ks na) (number_head b ms nb))
+aloof_chunks_fits : (a b c d : Text) → Fits AloofChunks (a ∷ b ∷ c ∷ d ∷ [])
+unfolding clap_on_literals
+aloof_chunks_fits a b c d = record { stops = refl; top = refl; enters = refl; named = refl; go = (refl, refl, (refl, refl, (refl, refl, (refl, refl, tt)))); well = refl; held = (refl, (refl, (refl, (refl, tt)))) }
 
--- a command's name, and three numbers
-code_taken : (name k m w : Text) → (name ≡ codes "chunks") ⊎ (name ≡ codes "recover") → IsNumberWord k → IsNumberWord m → IsNumberWord w
-    → IsTaken (name ∷ k ∷ m ∷ w ∷ [])
-code_taken name [] m w is na nb nc = absurd (number_some na)
-code_taken name (a ∷ ks) [] w is na nb nc = absurd (number_some nb)
-code_taken name (a ∷ ks) (b ∷ ms) [] is na nb nc = absurd (number_some nc)
-code_taken name (a ∷ ks) (b ∷ ms) (c ∷ ws) (inl is) na nb nc =
-    subst (λ (n : Text). IsTaken (n ∷ (a ∷ ks) ∷ (b ∷ ms) ∷ (c ∷ ws) ∷ [])) (sym is)
-    (chunks_taken a b c ks ms ws (number_head a ks na) (number_head b ms nb) (number_head c ws nc))
-code_taken name (a ∷ ks) (b ∷ ms) (c ∷ ws) (inr is) na nb nc =
-    subst (λ (n : Text). IsTaken (n ∷ (a ∷ ks) ∷ (b ∷ ms) ∷ (c ∷ ws) ∷ [])) (sym is)
-    (recover_taken a b c ks ms ws (number_head a ks na) (number_head b ms nb) (number_head c ws nc))
+aloof_repair_fits : (a b c d e : Text) → Fits AloofRepair (a ∷ b ∷ c ∷ d ∷ e ∷ [])
+unfolding clap_on_literals
+aloof_repair_fits a b c d e = record { stops = refl; top = refl; enters = refl; named = refl; go = (refl, refl, (refl, refl, (refl, refl, (refl, refl, (refl, refl, tt))))); well = refl; held = (refl, (refl, (refl, (refl, (refl, tt))))) }
 
--- a command's name, and four numbers
-aloof_taken : (name k m d w : Text) → name ≡ codes "chunksd" → IsNumberWord k → IsNumberWord m → IsNumberWord d → IsNumberWord w → IsTaken (name ∷ k ∷ m ∷ d ∷ w ∷ [])
-aloof_taken name [] m d w is na nb nc nd = absurd (number_some na)
-aloof_taken name (a ∷ ks) [] d w is na nb nc nd = absurd (number_some nb)
-aloof_taken name (a ∷ ks) (b ∷ ms) [] w is na nb nc nd = absurd (number_some nc)
-aloof_taken name (a ∷ ks) (b ∷ ms) (c ∷ ds) [] is na nb nc nd = absurd (number_some nd)
-aloof_taken name (a ∷ ks) (b ∷ ms) (c ∷ ds) (e ∷ ws) is na nb nc nd =
-    subst (λ (n : Text). IsTaken (n ∷ (a ∷ ks) ∷ (b ∷ ms) ∷ (c ∷ ds) ∷ (e ∷ ws) ∷ [])) (sym is)
-    (chunksd_taken a b c e ks ms ds ws (number_head a ks na) (number_head b ms nb) (number_head c ds nc) (number_head e ws nd))
-
--- a command's name, and five numbers
-repair_taken : (name k m d w lost : Text) → name ≡ codes "repaird" → IsNumberWord k → IsNumberWord m → IsNumberWord d → IsNumberWord w → IsNumberWord lost
-    → IsTaken (name ∷ k ∷ m ∷ d ∷ w ∷ lost ∷ [])
-repair_taken name [] m d w lost is na nb nc nd ne = absurd (number_some na)
-repair_taken name (a ∷ ks) [] d w lost is na nb nc nd ne = absurd (number_some nb)
-repair_taken name (a ∷ ks) (b ∷ ms) [] w lost is na nb nc nd ne = absurd (number_some nc)
-repair_taken name (a ∷ ks) (b ∷ ms) (c ∷ ds) [] lost is na nb nc nd ne = absurd (number_some nd)
-repair_taken name (a ∷ ks) (b ∷ ms) (c ∷ ds) (e ∷ ws) [] is na nb nc nd ne = absurd (number_some ne)
-repair_taken name (a ∷ ks) (b ∷ ms) (c ∷ ds) (e ∷ ws) (f ∷ ls) is na nb nc nd ne =
-    subst (λ (n : Text). IsTaken (n ∷ (a ∷ ks) ∷ (b ∷ ms) ∷ (c ∷ ds) ∷ (e ∷ ws) ∷ (f ∷ ls) ∷ [])) (sym is)
-    (repaird_taken a b c e f ks ms ds ws ls (number_head a ks na) (number_head b ms nb) (number_head c ds nc) (number_head e ws nd) (number_head f ls ne))
-
-plain_taken : (name : Text) → (name ≡ codes "play") ⊎ (name ≡ codes "verify") → IsTaken (name ∷ [])
-plain_taken name (inl is) = subst (λ (n : Text). IsTaken (n ∷ [])) (sym is) play_taken
-plain_taken name (inr is) = subst (λ (n : Text). IsTaken (n ∷ [])) (sym is) verify_taken
+fits : (name : Name) (numbers : List Text) → length numbers ≡ length (ids_of name) → Fits name numbers
+fits Play numbers long = by_length 0 (Fits Play) play_fits numbers long
+fits Run numbers long = by_length 1 (Fits Run) run_fits numbers long
+fits Verify numbers long = by_length 0 (Fits Verify) verify_fits numbers long
+fits Chunks numbers long = by_length 3 (Fits Chunks) chunks_fits numbers long
+fits Recover numbers long = by_length 3 (Fits Recover) recover_fits numbers long
+fits Generate numbers long = by_length 2 (Fits Generate) generate_fits numbers long
+fits Trial numbers long = by_length 3 (Fits Trial) trial_fits numbers long
+fits AloofChunks numbers long = by_length 4 (Fits AloofChunks) aloof_chunks_fits numbers long
+fits AloofRepair numbers long = by_length 5 (Fits AloofRepair) aloof_repair_fits numbers long
 
 pub spelled_taken : (words : List Text) → IsSpelled words → IsTaken words
 spelled_taken [] spelled = absurd spelled
-spelled_taken (name ∷ []) spelled = plain_taken name spelled
-spelled_taken (name ∷ one ∷ []) spelled = absurd spelled
-spelled_taken (name ∷ start ∷ size ∷ []) spelled = draw_taken name start size spelled.0 spelled.1 spelled.2
-spelled_taken (name ∷ k ∷ m ∷ w ∷ []) spelled = code_taken name k m w spelled.0 spelled.1 spelled.2 spelled.3
-spelled_taken (name ∷ k ∷ m ∷ d ∷ w ∷ []) spelled = aloof_taken name k m d w spelled.0 spelled.1 spelled.2 spelled.3 spelled.4
-spelled_taken (name ∷ k ∷ m ∷ d ∷ w ∷ lost ∷ []) spelled = repair_taken name k m d w lost spelled.0 spelled.1 spelled.2 spelled.3 spelled.4 spelled.5
-spelled_taken (name ∷ k ∷ m ∷ d ∷ w ∷ lost ∷ x ∷ more) spelled = absurd spelled
+spelled_taken (word ∷ numbers) (name, is, (long, all)) =
+    subst (λ (w : Text). IsTaken (w ∷ numbers)) (sym is) (taken name numbers all (fits name numbers long))

@@ -8,8 +8,10 @@ use Rattle.clay_aloof.specs.Shape.{AloofShape}
 use Rattle.clay_words.specs.Spelled.{IsSpelled}
 use Rattle.clay_words.specs.Words.{Asks, AsksNothing, IsCode, IsAloofCode}
 use Rattle.clay_words.specs.declared.words.Command.{Command}
-use Rattle.clay_words.specs.declared.words.Command.TheVariants.{Generate, OfInput}
-use Rattle.clay_words.specs.declared.words.Task.TheVariants.{Play, Verify, Chunks, Recover, AloofChunks, AloofRepair}
+use Rattle.clay_words.specs.declared.words.Command.TheVariants.{OfInput}
+use Rattle.clay_words.specs.declared.words.Command.TheVariants as command
+use Rattle.clay_words.specs.declared.words.Task.TheVariants as task
+use Rattle.clay_words.specs.declared.names.Name.TheVariants.{Play, Run, Verify, Chunks, Recover, Generate, Trial, AloofChunks, AloofRepair}
 use Rattle.clay_words.proofs.WordLaws.{aloof_numbers, code_numbers}
 
 number : (word : List ℕ) (n : ℕ) → n < 2 ^ 64 → word ≡ decimal n → IsNumberWord word
@@ -34,26 +36,34 @@ aloof_is_numbers a k m d w code =
 
 -- words that ask for a command are none, or have its form
 asked_spelled : (words : List (List ℕ)) (command : Command) → Asks words command → (words ≡ []) ⊎ IsSpelled words
-asked_spelled words (OfInput Play) (inl asked) = inl asked
-asked_spelled words (OfInput Play) (inr asked) = inr (subst IsSpelled (sym asked) (inl refl))
-asked_spelled words (OfInput Verify) asked = inr (subst IsSpelled (sym asked) (inr refl))
-asked_spelled words (OfInput (Chunks g)) asked =
+asked_spelled words (OfInput task.Play) (inl asked) = inl asked
+asked_spelled words (OfInput task.Play) (inr asked) = inr (subst IsSpelled (sym asked) (Play, refl, (refl, tt)))
+asked_spelled words (OfInput (task.Run workers)) (is, (some, few)) =
+    inr (subst IsSpelled (sym is) (Run, refl, (refl, (number (decimal workers) workers (omega (arith, few)) refl, tt))))
+asked_spelled words (OfInput task.Verify) asked = inr (subst IsSpelled (sym asked) (Verify, refl, (refl, tt)))
+asked_spelled words (OfInput (task.Chunks g)) asked =
     let numbers = code_is_numbers g asked.k asked.m asked.w asked.code in
-    inr (subst IsSpelled (sym asked.words_are) (inl refl, numbers.0, numbers.1, numbers.2))
-asked_spelled words (OfInput (Recover g)) asked =
+    inr (subst IsSpelled (sym asked.words_are) (Chunks, refl, (refl, (numbers.0, (numbers.1, (numbers.2, tt))))))
+asked_spelled words (OfInput (task.Recover g)) asked =
     let numbers = code_is_numbers g asked.k asked.m asked.w asked.code in
-    inr (subst IsSpelled (sym asked.words_are) (inr refl, numbers.0, numbers.1, numbers.2))
-asked_spelled words (OfInput (AloofChunks a)) asked =
+    inr (subst IsSpelled (sym asked.words_are) (Recover, refl, (refl, (numbers.0, (numbers.1, (numbers.2, tt))))))
+asked_spelled words (OfInput (task.AloofChunks a)) asked =
     let numbers = aloof_is_numbers a asked.k asked.m asked.d asked.w asked.code in
-    inr (subst IsSpelled (sym asked.words_are) (refl, numbers.0, numbers.1, numbers.2, numbers.3))
-asked_spelled words (OfInput (AloofRepair a lost)) (asked, within) =
+    inr (subst IsSpelled (sym asked.words_are) (AloofChunks, refl, (refl, (numbers.0, (numbers.1, (numbers.2, (numbers.3, tt)))))))
+asked_spelled words (OfInput (task.AloofRepair a lost)) (asked, within) =
     let numbers = aloof_is_numbers a asked.k asked.m asked.d asked.w asked.code in
     let small = aloof_numbers a asked.code.limits in
-    let chunk : lost < 2 ^ 64 = omega (arith, small.0, small.1, within) in
-    inr (subst IsSpelled (sym asked.words_are) (refl, numbers.0, numbers.1, numbers.2, numbers.3, number (decimal lost) lost chunk refl))
-asked_spelled words (Generate start size) asked =
-    let few = asked.3 in
-    inr (subst IsSpelled (sym asked.0) (refl, number (decimal start) start asked.1 refl, number (decimal size) size (omega (arith, few)) refl))
+    let chunk = number (decimal lost) lost (omega (arith, small.0, small.1, within)) refl in
+    inr (subst IsSpelled (sym asked.words_are) (AloofRepair, refl, (refl, (numbers.0, (numbers.1, (numbers.2, (numbers.3, (chunk, tt))))))))
+asked_spelled words (command.Generate start size) (is, (small, some, few)) =
+    let first = number (decimal start) start small refl in
+    let second = number (decimal size) size (omega (arith, few)) refl in
+    inr (subst IsSpelled (sym is) (Generate, refl, (refl, (first, (second, tt)))))
+asked_spelled words (command.Trial start size workers) (is, (small, some, few), (least, most)) =
+    let first = number (decimal start) start small refl in
+    let second = number (decimal size) size (omega (arith, few)) refl in
+    let third = number (decimal workers) workers (omega (arith, most)) refl in
+    inr (subst IsSpelled (sym is) (Trial, refl, (refl, (first, (second, (third, tt))))))
 
 pub unspelled : (words : List (List ℕ)) → (IsSpelled words → ⊥) → (words ≡ [] → ⊥) → AsksNothing words
 unspelled words other some command asked = pick (asked_spelled words command asked)

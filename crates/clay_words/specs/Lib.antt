@@ -1,3 +1,4 @@
+pub mod Names
 pub mod Grammar
 pub mod Spelled
 pub mod Words

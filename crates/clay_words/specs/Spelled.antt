@@ -1,83 +1,49 @@
 -- The form of a command's words, and what clap holds of them.
-use Rattle.std.specs.Prelude.{◌≡◌, ◌⊎◌, List, [], ◌∷◌, codes, Some, None, true}
+use Rattle.std.specs.Prelude.{◌≡◌, List, [], ◌∷◌, length, Some, true}
+use Rattle.std.specs.List.{AllByRecursion}
 use Rattle.line_grammar.specs.Numbers.{IsNumberWord}
-use Rattle.clap.specs.Words.{Row, Text, first_of, subcommand_of, takes}
+use Rattle.clap.specs.Words.{Row, Text, first_of, found_of, rows_of, subcommand_of, takes}
+use Rattle.clap.specs.declared.parser.matches.ArgMatches.{ArgMatches}
 use Rattle.clay_words.specs.Grammar.{clay_app}
+use Rattle.clay_words.specs.Names.{ids_of, word_of}
+use Rattle.clay_words.specs.declared.names.Name.{Name}
 
--- a command's name, and behind it as many numbers as the command has
+-- as many numbers as the command has
+abbrev pub AreNumbers : Name → List Text → Type 0
+AreNumbers name numbers = (length numbers ≡ length (ids_of name)) × AllByRecursion IsNumberWord numbers
+
+-- a command's name, and behind it its numbers
 abbrev pub IsSpelled : List Text → Type 0
-IsSpelled (name ∷ []) = (name ≡ codes "play") ⊎ (name ≡ codes "verify")
-IsSpelled (name ∷ start ∷ size ∷ []) = (name ≡ codes "gen") × IsNumberWord start × IsNumberWord size
-IsSpelled (name ∷ k ∷ m ∷ w ∷ []) =
-    ((name ≡ codes "chunks") ⊎ (name ≡ codes "recover")) × IsNumberWord k × IsNumberWord m × IsNumberWord w
-IsSpelled (name ∷ k ∷ m ∷ d ∷ w ∷ []) =
-    (name ≡ codes "chunksd") × IsNumberWord k × IsNumberWord m × IsNumberWord d × IsNumberWord w
-IsSpelled (name ∷ k ∷ m ∷ d ∷ w ∷ lost ∷ []) =
-    (name ≡ codes "repaird") × IsNumberWord k × IsNumberWord m × IsNumberWord d × IsNumberWord w × IsNumberWord lost
-IsSpelled _ = ⊥
+IsSpelled [] = ⊥
+IsSpelled (word ∷ numbers) = (name : Name) × (word ≡ word_of name) × AreNumbers name numbers
 
--- the words are a name alone
-pub record HoldsNone (words : List Text) (name : Text) (rows : List Row) : Type 0 where
-  pub words_are : words ≡ name ∷ []
-  pub no_k : first_of (codes "k") rows ≡ None
-  pub no_start : first_of (codes "start") rows ≡ None
+-- each word is held under its name
+abbrev pub Hold : List Row → List Text → List Text → Type 0
+Hold rows [] [] = Unit {0}
+Hold rows [] (word ∷ words) = ⊥
+Hold rows (id ∷ ids) [] = ⊥
+Hold rows (id ∷ ids) (word ∷ words) = (first_of id rows ≡ Some word) × Hold rows ids words
 
--- the words are a name, a number and a size
-pub record HoldsDraw (words : List Text) (name : Text) (rows : List Row) : Type 0 where
-  pub start : Text
-  pub size : Text
-  pub words_are : words ≡ name ∷ start ∷ size ∷ []
-  pub no_k : first_of (codes "k") rows ≡ None
-  pub start_is : first_of (codes "start") rows ≡ Some start
-  pub size_is : first_of (codes "size") rows ≡ Some size
+-- what clap holds for a subcommand
+abbrev pub rows_held : ArgMatches → List Row
+rows_held matches = rows_of (found_of matches)
 
--- the words are a name and the numbers of a code
-pub record HoldsCode (words : List Text) (name : Text) (rows : List Row) : Type 0 where
-  pub k : Text
-  pub m : Text
-  pub w : Text
-  pub words_are : words ≡ name ∷ k ∷ m ∷ w ∷ []
-  pub k_is : first_of (codes "k") rows ≡ Some k
-  pub m_is : first_of (codes "m") rows ≡ Some m
-  pub w_is : first_of (codes "w") rows ≡ Some w
-  pub no_d : first_of (codes "d") rows ≡ None
+-- the words are the command's name and the numbers that are held for it
+pub record HoldsNumbers (name : Name) (words : List Text) (rows : List Row) : Type 0 where
+  pub numbers : List Text
+  pub words_are : words ≡ word_of name ∷ numbers
+  pub held : Hold rows (ids_of name) numbers
 
--- the words are a name and the numbers of a code with so many helpers
-pub record HoldsAloof (words : List Text) (name : Text) (rows : List Row) : Type 0 where
-  pub k : Text
-  pub m : Text
-  pub d : Text
-  pub w : Text
-  pub words_are : words ≡ name ∷ k ∷ m ∷ d ∷ w ∷ []
-  pub k_is : first_of (codes "k") rows ≡ Some k
-  pub m_is : first_of (codes "m") rows ≡ Some m
-  pub d_is : first_of (codes "d") rows ≡ Some d
-  pub w_is : first_of (codes "w") rows ≡ Some w
-  pub no_lost : first_of (codes "lost") rows ≡ None
-
--- the same, and a lost chunk's number
-pub record HoldsRepair (words : List Text) (name : Text) (rows : List Row) : Type 0 where
-  pub k : Text
-  pub m : Text
-  pub d : Text
-  pub w : Text
-  pub lost : Text
-  pub words_are : words ≡ name ∷ k ∷ m ∷ d ∷ w ∷ lost ∷ []
-  pub k_is : first_of (codes "k") rows ≡ Some k
-  pub m_is : first_of (codes "m") rows ≡ Some m
-  pub d_is : first_of (codes "d") rows ≡ Some d
-  pub w_is : first_of (codes "w") rows ≡ Some w
-  pub lost_is : first_of (codes "lost") rows ≡ Some lost
-
--- the words are those of a subcommand's name and of what is held for it
-abbrev pub AreHeld : List Text → Text → List Row → Type 0
-AreHeld words name rows =
-    HoldsNone words name rows ⊎ HoldsDraw words name rows ⊎ HoldsCode words name rows ⊎ HoldsAloof words name rows ⊎ HoldsRepair words name rows
+-- the same of the command of a word
+pub record AreHeld (words : List Text) (word : Text) (rows : List Row) : Type 0 where
+  pub name : Name
+  pub word_is : word ≡ word_of name
+  pub numbers : HoldsNumbers name words rows
 
 -- clap takes the words, and holds them
 pub record IsTaken (words : List Text) : Type 0 where
   pub is_taken : takes clay_app words ≡ true
-  pub name : Text
+  pub word : Text
   pub rows : List Row
-  pub found : subcommand_of clay_app words ≡ Some (name, rows)
-  pub held : AreHeld words name rows
+  pub found : subcommand_of clay_app words ≡ Some (word, rows)
+  pub held : AreHeld words word rows

@@ -1,13 +1,13 @@
 -- The words that the commands are asked for by.
-use Rattle.std.specs.Prelude.{◌≡◌, ◌⊎◌, ◌<◌, ◌≤◌, ◌^◌, ℕ, List, [], ◌∷◌, codes, decimal}
+use Rattle.std.specs.Prelude.{◌≡◌, ◌⊎◌, ◌<◌, ◌≤◌, ◌^◌, ℕ, List, [], ◌∷◌, codes, decimal, Option, MatchOption}
 use Rattle.clay_grid.specs.Shape.{Shape}
 use Rattle.clay_grid.specs.Limits.{IsWithinLimits}
 use Rattle.clay_aloof.specs.Shape.{AloofShape, all_chunks}
 use Rattle.clay_aloof.specs.Limits as aloof
 use Rattle.clay_words.specs.declared.words.Command.{Command}
-use Rattle.clay_words.specs.declared.words.Command.TheVariants.{Generate, OfInput}
+use Rattle.clay_words.specs.declared.words.Command.TheVariants.{Generate, Trial, OfInput}
 use Rattle.clay_words.specs.declared.words.Task.{Task}
-use Rattle.clay_words.specs.declared.words.Task.TheVariants.{Play, Verify, Chunks, Recover, AloofChunks, AloofRepair}
+use Rattle.clay_words.specs.declared.words.Task.TheVariants.{Play, Run, Verify, Chunks, Recover, AloofChunks, AloofRepair}
 
 -- three words spell the numbers of a code within its limits
 pub record IsCode (g : Shape) (k m w : List ℕ) : Type 0 where
@@ -41,9 +41,18 @@ pub record AreAloofWords (words : List (List ℕ)) (name : List ℕ) (a : AloofS
   pub words_are : words ≡ name ∷ k ∷ m ∷ d ∷ w ∷ more
   pub code : IsAloofCode a k m d w
 
+-- the number is that of the workers of a threaded run
+abbrev pub IsWorkerCount : ℕ → Type 0
+IsWorkerCount workers = (1 ≤ workers) × (workers ≤ 16)
+
+-- the numbers are those of a script that is drawn
+abbrev pub AreDrawn : ℕ → ℕ → Type 0
+AreDrawn start size = (start < 2 ^ 64) × (1 ≤ size) × (size ≤ 4096)
+
 -- the words for what is made of an input
 abbrev pub AsksTask : List (List ℕ) → Task → Type 0
 AsksTask words Play = (words ≡ []) ⊎ (words ≡ codes "play" ∷ [])
+AsksTask words (Run workers) = (words ≡ codes "run" ∷ decimal workers ∷ []) × IsWorkerCount workers
 AsksTask words Verify = words ≡ codes "verify" ∷ []
 AsksTask words (Chunks g) = AreCodeWords words (codes "chunks") g
 AsksTask words (Recover g) = AreCodeWords words (codes "recover") g
@@ -53,17 +62,23 @@ AsksTask words (AloofRepair a lost) = AreAloofWords words (codes "repaird") a (d
 -- the words of a command
 abbrev pub Asks : List (List ℕ) → Command → Type 0
 Asks words (OfInput task) = AsksTask words task
-Asks words (Generate start size) =
-    (words ≡ codes "gen" ∷ decimal start ∷ decimal size ∷ []) × (start < 2 ^ 64) × (1 ≤ size) × (size ≤ 4096)
+Asks words (Generate start size) = (words ≡ codes "gen" ∷ decimal start ∷ decimal size ∷ []) × AreDrawn start size
+Asks words (Trial start size workers) =
+    (words ≡ codes "trial" ∷ decimal start ∷ decimal size ∷ decimal workers ∷ []) × AreDrawn start size × IsWorkerCount workers
 
--- the lost chunk of a repair is one of its code's
-abbrev pub HasItsChunk : Task → Type 0
-HasItsChunk (AloofRepair a lost) = lost < all_chunks a
-HasItsChunk _ = Unit {0}
+-- the lost chunk of a repair is one of its code's, and the workers of a run are as many as there can be
+abbrev pub IsWithinBounds : Task → Type 0
+IsWithinBounds (Run workers) = IsWorkerCount workers
+IsWithinBounds (AloofRepair a lost) = lost < all_chunks a
+IsWithinBounds _ = Unit {0}
 
 -- the words ask for no command
 abbrev pub AsksNothing : List (List ℕ) → Type 0
 AsksNothing words = (command : Command) → Asks words command → ⊥
+
+-- a command that the words ask for, or none where they ask for none
+abbrev pub IsAskedBy : List (List ℕ) → Option Command → Type 0
+IsAskedBy words answer = MatchOption answer (AsksNothing words) (Asks words)
 
 -- the words ask for a command that reads an input
 abbrev pub AsksForInput : List (List ℕ) → Type 0

@@ -3,6 +3,7 @@
 
 mod grammar;
 mod laws;
+mod names;
 mod parse;
 mod spelled;
 mod words;

@@ -1,11 +1,10 @@
-//! The commands and their tasks, each from a name and the words of its numbers.
-ghost use Rattle.std.specs.Prelude.{◌≡◌, ◌≢◌, ◌<◌, ◌≤◌, ◌^◌, ◌∷◌, [], codes, ℕ, MatchOption, decimal, IfSome, IfNone};
+//! The commands and their tasks, and the numbers that words spell.
+ghost use Rattle.std.specs.Prelude.{◌≡◌, ◌≢◌, ◌<◌, ◌≤◌, ◌^◌, ℕ, MatchOption, decimal, IfSome, IfNone};
 ghost use Rattle.clay_grid.specs.Shape.{Shape};
 ghost use Rattle.clay_aloof.specs.Shape.{AloofShape, all_chunks};
-ghost use Rattle.clay_words.specs.Words.{Asks, AsksNothing, IsCode, IsAloofCode};
+ghost use Rattle.clay_words.specs.Words.{IsCode, IsAloofCode};
 
 use clay_aloof::AloofGeometry;
-use clay_gen::MAX_GENERATED;
 use clay_grid::Geometry;
 use line_grammar::{is_number, read_number};
 
@@ -13,6 +12,8 @@ use line_grammar::{is_number, read_number};
 #[derive(Clone, Copy)]
 pub enum Task {
     Play,
+    /// The script is run by so many threads.
+    Run { workers: u32 },
     Verify,
     Chunks(Geometry),
     Recover(Geometry),
@@ -27,12 +28,15 @@ pub enum Task {
 pub enum Command {
     /// The script that a number gives, with so many calls of each client. No input is read.
     Generate { start: u64, size: u32 },
+    /// Such a script is run by so many threads. No input is read.
+    Trial { start: u64, size: u32, workers: u32 },
     OfInput(Task),
 }
 
-fn geometry_of_numbers(k: u32, m: u32, w: u32) -> Option<Geometry>
-    ensures found { IfSome result (λ g. IsCode g (decimal k) (decimal m) (decimal w)) }
-    ensures none { IfNone result ((g : Shape) → IsCode g (decimal k) (decimal m) (decimal w) → ⊥) }
+/// The geometry of a code's numbers.
+pub(crate) fn geometry_of(k: u32, m: u32, w: u32) -> Option<Geometry>
+    ensures { MatchOption result ((g : Shape) → IsCode g (decimal k) (decimal m) (decimal w) → ⊥)
+        (λ g. IsCode g (decimal k) (decimal m) (decimal w)) }
 {
     match Geometry::new(k, m, w) {
         Ok(geometry) => Some(geometry),
@@ -40,20 +44,10 @@ fn geometry_of_numbers(k: u32, m: u32, w: u32) -> Option<Geometry>
     }
 }
 
-// The geometry of three words that spell its numbers.
-fn geometry_of(k: &str, m: &str, w: &str) -> Option<Geometry>
-    ensures found { IfSome result (λ g. IsCode g k.now m.now w.now) }
-    ensures none { IfNone result ((g : Shape) → IsCode g k.now m.now w.now → ⊥) }
-{
-    let data_count = read_number(k.as_bytes())?;
-    let parity_count = read_number(m.as_bytes())?;
-    let width = read_number(w.as_bytes())?;
-    geometry_of_numbers(data_count, parity_count, width)
-}
-
-fn aloof_geometry_of_numbers(k: u32, m: u32, d: u32, w: u32) -> Option<AloofGeometry>
-    ensures found { IfSome result (λ a. IsAloofCode a (decimal k) (decimal m) (decimal d) (decimal w)) }
-    ensures none { IfNone result ((a : AloofShape) → IsAloofCode a (decimal k) (decimal m) (decimal d) (decimal w) → ⊥) }
+/// The geometry of the numbers of a code with so many helpers.
+pub(crate) fn aloof_geometry_of(k: u32, m: u32, d: u32, w: u32) -> Option<AloofGeometry>
+    ensures { MatchOption result ((a : AloofShape) → IsAloofCode a (decimal k) (decimal m) (decimal d) (decimal w) → ⊥)
+        (λ a. IsAloofCode a (decimal k) (decimal m) (decimal d) (decimal w)) }
 {
     match AloofGeometry::new(k, m, d, w) {
         Ok(geometry) => Some(geometry),
@@ -61,20 +55,8 @@ fn aloof_geometry_of_numbers(k: u32, m: u32, d: u32, w: u32) -> Option<AloofGeom
     }
 }
 
-// The geometry of four words that spell its numbers.
-fn aloof_geometry_of(k: &str, m: &str, d: &str, w: &str) -> Option<AloofGeometry>
-    ensures found { IfSome result (λ a. IsAloofCode a k.now m.now d.now w.now) }
-    ensures none { IfNone result ((a : AloofShape) → IsAloofCode a k.now m.now d.now w.now → ⊥) }
-{
-    let data_count = read_number(k.as_bytes())?;
-    let parity_count = read_number(m.as_bytes())?;
-    let helper_count = read_number(d.as_bytes())?;
-    let width = read_number(w.as_bytes())?;
-    aloof_geometry_of_numbers(data_count, parity_count, helper_count, width)
-}
-
-// The chunk of a code that a word names.
-fn chunk_of(g: AloofGeometry, word: &str) -> Option<u32>
+/// The chunk of a code that a word names.
+pub(crate) fn chunk_of(g: AloofGeometry, word: &str) -> Option<u32>
     ensures found { IfSome result (λ chunk. (word.now ≡ decimal chunk) × (chunk < all_chunks g)) }
     ensures none { IfNone result ((chunk : ℕ) → chunk < all_chunks g → word.now ≢ decimal chunk) }
 {
@@ -83,8 +65,8 @@ fn chunk_of(g: AloofGeometry, word: &str) -> Option<u32>
     if chunk < count { Some(chunk) } else { None }
 }
 
-// The number below 2^64 that a word spells.
-fn start_of(word: &str) -> Option<u64>
+/// The number below 2^64 that a word spells.
+pub(crate) fn start_of(word: &str) -> Option<u64>
     ensures { MatchOption result ((n : ℕ) → n < 2 ^ 64 → word.now ≢ decimal n)
         (λ n. (n < 2 ^ 64) × (word.now ≡ decimal n)) }
 {
@@ -94,84 +76,15 @@ fn start_of(word: &str) -> Option<u64>
     word.parse().ok()
 }
 
-// The size of a generated script that a word spells.
-fn size_of_script(word: &str) -> Option<u32>
-    ensures found { IfSome result (λ n. (word.now ≡ decimal n) × (1 ≤ n) × (n ≤ 4096)) }
-    ensures none { IfNone result ((n : ℕ) → 1 ≤ n → n ≤ 4096 → word.now ≢ decimal n) }
+/// The number within bounds that a word spells.
+pub(crate) fn number_of(word: &str, least: u32, most: u32) -> Option<u32>
+    ensures found { IfSome result (λ n. (word.now ≡ decimal n) × (least ≤ n) × (n ≤ most)) }
+    ensures none { IfNone result ((n : ℕ) → least ≤ n → n ≤ most → word.now ≢ decimal n) }
 {
-    let size = read_number(word.as_bytes())?;
-    if size >= 1 && size <= MAX_GENERATED {
-        Some(size)
+    let number = read_number(word.as_bytes())?;
+    if number >= least && number <= most {
+        Some(number)
     } else {
         None
     }
-}
-
-// The command of one word.
-pub(crate) fn plain_command(word: &str) -> Option<Command>
-    ensures { MatchOption result (AsksNothing (word.now ∷ [])) (λ command. Asks (word.now ∷ []) command) }
-{
-    if word == "play" {
-        Some(Command::OfInput(Task::Play))
-    } else if word == "verify" {
-        Some(Command::OfInput(Task::Verify))
-    } else {
-        None
-    }
-}
-
-// The command that has a number and a size.
-pub(crate) fn draw_command(name: &str, first: &str, second: &str) -> Option<Command>
-    ensures { MatchOption result (AsksNothing (name.now ∷ first.now ∷ second.now ∷ [])) (λ command. Asks (name.now ∷ first.now ∷ second.now ∷ []) command) }
-{
-    if name != "gen" {
-        return None;
-    }
-    let start = start_of(first)?;
-    let size = size_of_script(second)?;
-    Some(Command::Generate { start, size })
-}
-
-// The command of a name and the numbers of a code.
-pub(crate) fn code_command(name: &str, k: &str, m: &str, w: &str) -> Option<Command>
-    ensures { MatchOption result (AsksNothing (name.now ∷ k.now ∷ m.now ∷ w.now ∷ [])) (λ command. Asks (name.now ∷ k.now ∷ m.now ∷ w.now ∷ []) command) }
-{
-    let geometry = geometry_of(k, m, w)?;
-    if name == "chunks" {
-        Some(Command::OfInput(Task::Chunks(geometry)))
-    } else if name == "recover" {
-        Some(Command::OfInput(Task::Recover(geometry)))
-    } else {
-        None
-    }
-}
-
-// The command of a name and the numbers of a code with so many helpers.
-pub(crate) fn aloof_command(name: &str, k: &str, m: &str, d: &str, w: &str) -> Option<Command>
-    ensures { MatchOption result (AsksNothing (name.now ∷ k.now ∷ m.now ∷ d.now ∷ w.now ∷ [])) (λ command. Asks (name.now ∷ k.now ∷ m.now ∷ d.now ∷ w.now ∷ []) command) }
-{
-    if name != "chunksd" {
-        return None;
-    }
-    let geometry = aloof_geometry_of(k, m, d, w)?;
-    Some(Command::OfInput(Task::AloofChunks(geometry)))
-}
-
-// The command that has such a code's numbers and a lost chunk's.
-pub(crate) fn repair_command(
-    name: &str,
-    k: &str,
-    m: &str,
-    d: &str,
-    w: &str,
-    lost: &str,
-) -> Option<Command>
-    ensures { MatchOption result (AsksNothing (name.now ∷ k.now ∷ m.now ∷ d.now ∷ w.now ∷ lost.now ∷ [])) (λ command. Asks (name.now ∷ k.now ∷ m.now ∷ d.now ∷ w.now ∷ lost.now ∷ []) command) }
-{
-    if name != "repaird" {
-        return None;
-    }
-    let geometry = aloof_geometry_of(k, m, d, w)?;
-    let lost = chunk_of(geometry, lost)?;
-    Some(Command::OfInput(Task::AloofRepair { geometry, lost }))
 }

@@ -13,7 +13,6 @@ use Rattle.stripe_dir.specs.Sealed.{Sealed}
 use Rattle.call_steps.specs.CallOf.{CallOf}
 use Rattle.call_steps.specs.TokenAfter.{IfInCall}
 use Rattle.call_steps.specs.Steps.{need_by, need_of, coded}
-use Rattle.call_steps.specs.declared.outcomes.Outcome.TheVariants as outcome
 use Rattle.call_steps.specs.declared.outcomes.Change.{Change}
 use Rattle.gather_parts.specs.Wanted.{parts_of}
 use Rattle.gather_parts.specs.Gatherings.{GatheringsOf, owed}

@@ -1,5 +1,5 @@
 -- A call that stands in its gatherings.
-use Rattle.std.proofs.Common.{◌≡◌, ℕ, Bool, true, false, List, [], ◌∷◌, Option, None, Some, refl}
+use Rattle.std.proofs.Common.{◌≡◌, ℕ, true, false, List, [], ◌∷◌, Option, None, Some, refl}
 use Rattle.clay_grid.specs.Shape.{Shape}
 use Rattle.store_core.specs.Act.{Act, Outcome as CoreOutcome}
 use Rattle.store_core.specs.Gathering.{Part}

@@ -1,13 +1,12 @@
 //! What a call does next, by its answers.
-ghost use Rattle.std.specs.Prelude.{◌≡◌, true, map, All, IfOk};
+ghost use Rattle.std.specs.Prelude.{◌≡◌, true, map};
 ghost use Rattle.store_core.specs.Note.{note_of};
 ghost use Rattle.store_core.specs.NextAct.{job_of};
 ghost use Rattle.store_resume.specs.States.{open_state};
 ghost use Rattle.store_resume.specs.LookAfter.{start_after};
 ghost use Rattle.stripe_dir.specs.Answers.{told_or_short, told_look};
 ghost use Rattle.write_course.specs.Writings.{WritingOf};
-ghost use Rattle.stripe_dir.specs.Shown.{stripes_seen};
-ghost use Rattle.gather_parts.specs.Wanted.{wanted_of, IsPinned};
+ghost use Rattle.gather_parts.specs.Wanted.{wanted_of, ArePinned};
 ghost use Rattle.gather_parts.specs.Gatherings.{begun};
 ghost use Rattle.client_patch.specs.Stages.{state_by, after_end};
 ghost use Rattle.client_patch.specs.LookAfter.{looked_stripes, size_told, to_draw, IsPatchLook, IsLooked, IfReady};
@@ -63,7 +62,7 @@ pub(crate) fn after_look(
     gatherings: &mut PartGatherings,
 ) -> Looked
     requires fits { IsPatchLook call.now (told_or_short told_look answer) }
-    requires pinned { IfOk answer (λ answer. All (IsPinned gatherings.old.book) (stripes_seen answer)) }
+    requires pinned { ArePinned gatherings.old.book answer }
     ensures state { (w : WritingOf) → state_by result.stage gatherings.new w result.outcome
         ≡ open_state gatherings.old.book.geometry (start_after gatherings.old.book.geometry (note_of call.now).kind (job_of call.now) (told_or_short told_look answer)) }
     ensures looked { IsLooked call.now (told_or_short told_look answer) result.stage }

@@ -11,7 +11,7 @@ ghost use Rattle.version_seal.specs.Entry.{StampOf};
 ghost use Rattle.stripe_dir.specs.Answers.{told_or_short, told_look};
 ghost use Rattle.stripe_dir.specs.AnswerStamps.{IsSeenIn};
 ghost use Rattle.stripe_dir.specs.Shown.{stripes_seen};
-ghost use Rattle.gather_parts.specs.Wanted.{IsPinned};
+ghost use Rattle.gather_parts.specs.Wanted.{ArePinned};
 ghost use Rattle.gather_parts.specs.Gatherings.{owed};
 ghost use Rattle.client_read.specs.Reads.{is_read};
 ghost use Rattle.client_read.specs.Ends.{IsPlain};
@@ -73,7 +73,7 @@ pub(crate) fn after_look(
 ) -> Looked
     requires read { is_read call.now ≡ true }
     requires fits { FitsKind (note_of call.now).kind (told_or_short told_look answer) }
-    requires pinned { IfOk answer (λ answer. All (IsPinned gatherings.old.book) (stripes_seen answer)) }
+    requires pinned { ArePinned gatherings.old.book answer }
     ensures state { state_by result.stage gatherings.new result.point result.outcome
         ≡ open_state gatherings.old.book.geometry (start_after gatherings.old.book.geometry (note_of call.now).kind (job_of call.now) (told_or_short told_look answer)) }
     ensures plain { IsPlain result.outcome }

@@ -1,9 +1,9 @@
 //! An actor with its ticket, and its steps at the directory, each where the actor may make it.
 
 ghost use Rattle.std.specs.Prelude.{◌≡◌, IfOk};
-ghost use Rattle.store_core.specs.Agreement.{ActorToken, HeldPass};
+ghost use Rattle.store_core.specs.Agreement.{ActorToken};
 ghost use Rattle.dir_walks.specs.Callers.{IsReady, Steps, is_seated};
-ghost use Rattle.stripe_dir.specs.AnswerStamps.{IfDrawn};
+ghost use Rattle.stripe_dir.specs.TicketSteps.{DrewBy};
 ghost use Rattle.dir_walks.specs.Begun.{IfBegun};
 ghost use Rattle.dir_walks.specs.Opened.{new_caller};
 
@@ -186,7 +186,7 @@ impl Caller {
     pub fn draw(&mut self, directory: &mut Directory, book: &Book) -> Result<Drawn<(), ()>, Refusal>
         requires ready { IsReady book.now directory.old self.old }
         ensures steps { Steps directory.old self.old directory.new self.new }
-        ensures drawn { (held : HeldPass) → self.old.token ≡ ActorToken.InCall held → IfOk result (IfDrawn directory.old held self.old.request) }
+        ensures drawn { DrewBy directory.old self.old.token self.old.request result }
     {
         let Stage::Begun = self.stage else {
             return Err(Refusal::NotNow);

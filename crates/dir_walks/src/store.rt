@@ -1,8 +1,7 @@
 //! A directory with two clients and a repairer, and what they, operator and sweeper do there.
 
 ghost use Rattle.std.specs.Prelude.{◌≡◌, ◌<◌, ◌∷◌, ◌++◌, [], length, None, IfOk};
-ghost use Rattle.store_core.specs.Agreement.{ActorToken, HeldPass};
-ghost use Rattle.stripe_dir.specs.AnswerStamps.{IfDrawn};
+ghost use Rattle.stripe_dir.specs.TicketSteps.{DrewBy};
 ghost use Rattle.dir_walks.specs.Begun.{IfBegun};
 ghost use Rattle.dir_walks.specs.Stores.{IsStore};
 ghost use Rattle.version_seal.specs.Sealer.{sealer_at};
@@ -114,7 +113,7 @@ impl<'a> Store<'a> {
 
     /// A draw of the first client.
     pub fn draw(&mut self) -> Result<Drawn<(), ()>, Refusal>
-        ensures drawn { (held : HeldPass) → self.old.first.token ≡ ActorToken.InCall held → IfOk result (IfDrawn self.old.sealed held self.old.first.request) }
+        ensures drawn { DrewBy self.old.sealed self.old.first.token self.old.first.request result }
     {
         self.first.draw(&mut self.directory, self.book)
     }

@@ -1,5 +1,5 @@
 -- The fields of a call's gatherings as callers see them, and what they keep.
-use Rattle.std.specs.Prelude.{◌≡◌, ⊤, ℕ, true, false, List, length, map, replicate, Option, None, Some, is_some, IfSome, All}
+use Rattle.std.specs.Prelude.{◌≡◌, ⊤, ℕ, true, List, length, map, replicate, Option, None, Some, is_some, IfSome, All}
 use Rattle.std.specs.Vec.Iter.{into_iter_items}
 use Rattle.clay_grid.specs.Shape.{Shape, chunk_count}
 use Rattle.store_resume.specs.Stage.{Aim, Asking, Stage}

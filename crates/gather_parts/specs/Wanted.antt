@@ -1,11 +1,14 @@
 -- Bytes of a pinned stripe that are wanted.
-use Rattle.std.specs.Prelude.{◌≡◌, ℕ, List, [], ◌∷◌, ◌++◌, length, map}
+use Rattle.std.specs.Prelude.{◌≡◌, ⊤, ℕ, List, [], ◌∷◌, ◌++◌, length, map, All, Result, IfOk}
+use Rattle.std.specs.declared.alloc.AllocError.{AllocError}
 use Rattle.clay_grid.specs.Shape.{Shape, chunk_count}
 use Rattle.store_core.specs.Gathering.{Part}
 use Rattle.store_core.specs.Read.{part_of}
 use Rattle.version_seal.specs.Entry.{StampOf, BookOf}
 use Rattle.call_steps.specs.declared.seen.Seen.{Seen}
+use Rattle.stripe_dir.specs.declared.answers.Look.{Look}
 use Rattle.stripe_dir.specs.Answers.{seen_in}
+use Rattle.stripe_dir.specs.Shown.{stripes_seen}
 use Rattle.gathering.specs.Made.{bytes_between}
 
 -- a part, with the stamp of its stripe's version
@@ -30,3 +33,7 @@ bytes_of (wanted ∷ left) = bytes_between wanted.part.start wanted.part.end wan
 pub record IsPinned (book : BookOf) (seen : Seen) : Type 0 where
   pub placed : length seen.placed.items ≡ chunk_count book.geometry
   pub home : seen.stamp.home ≡ book.home
+
+-- so are those that come with a look
+abbrev pub ArePinned : BookOf → Result (Look ⊤ ⊤) AllocError → Type 0
+ArePinned book answer = IfOk answer (λ answer. All (IsPinned book) (stripes_seen answer))

@@ -8,8 +8,9 @@ use Rattle.store_resume.specs.Stage.{Aim, Stage}
 use Rattle.store_resume.specs.StageAfter.{step_asked}
 use Rattle.version_seal.specs.Entry.{StampOf}
 use Rattle.version_seal.specs.Sealed.{PartOf}
-use Rattle.chunk_server.specs.State.{ServerState}
 use Rattle.gather_course.specs.Courses.{CourseOf, new_course, server_of, layers_asked, has_bytes, after_answer}
+use Rattle.gathering.specs.Parts.{Shelf, IsPart}
+use Rattle.gathering.specs.Made.{AreMade, Gives}
 use Rattle.call_steps.specs.declared.need.Need.{Need}
 use Rattle.call_steps.specs.declared.need.Need.TheVariants as need
 
@@ -59,3 +60,15 @@ pub record IsOwnPart (w : GatherOf) (part : PartOf) : Type 0 where
   pub of_code : part.geometry ≡ w.course.geometry
   pub of_server : Some part.server ≡ server_of w.course
   pub of_layers : part.layers ≡ layers_asked w.course
+
+-- these layers of its version's chunk, as they were asked for
+abbrev pub IsAskedPart : GatherOf → ℕ → List ℕ → Type 0
+IsAskedPart w server bytes = IsPart w.course.geometry w.stamp.content server (layers_asked w.course) bytes
+
+-- the chunks of its missing servers, made anew
+abbrev pub AreItsMade : GatherOf → Shelf → Type 0
+AreItsMade w made = AreMade w.course.geometry w.stamp.content w.course.gone made
+
+-- its bytes come behind those that were there, or its chunk in their place
+abbrev pub GivesItsBytes : GatherOf → List ℕ → List ℕ → Type 0
+GivesItsBytes w before after = Gives w.course.geometry w.stamp.content w.course.aim before after

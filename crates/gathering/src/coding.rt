@@ -4,7 +4,8 @@ ghost use Rattle.clay_grid.specs.Shape.{chunk_count};
 ghost use Rattle.gather_course.specs.Aims.{target_of};
 ghost use Rattle.gather_course.specs.Courses.{has_bytes};
 ghost use Rattle.gathering.specs.Parts.{is_there};
-ghost use Rattle.gathering.specs.Made.{AreMade, Appends, AppendsChunk, Gives, IsPieceOf, bytes_between};
+ghost use Rattle.gathering.specs.Gathers.{AreItsMade, GivesItsBytes};
+ghost use Rattle.gathering.specs.Made.{Appends, AppendsChunk, IsPieceOf, bytes_between};
 
 use crate::gather::{Gather, empty_shelf};
 use call_steps::Need;
@@ -24,7 +25,7 @@ impl Gather {
         bytes: &mut Vec<u8>,
     ) -> Result<(), AllocError>
         requires { need_of self ≡ Need.Coder }
-        ensures { OnOk result (Gives self.course.geometry self.stamp.content self.course.aim bytes.old.items bytes.new.items) }
+        ensures { OnOk result (GivesItsBytes self bytes.old.items bytes.new.items) }
     {
         self.give(rt, coder, bytes)
     }
@@ -36,7 +37,7 @@ impl Gather {
         bytes: &mut Vec<u8>,
     ) -> Result<(), AllocError>
         requires { has_bytes self.now.course.stage ≡ true }
-        ensures { OnOk result (Gives self.now.course.geometry self.now.stamp.content self.now.course.aim bytes.old.items bytes.new.items) }
+        ensures { OnOk result (GivesItsBytes self.now bytes.old.items bytes.new.items) }
     {
         let made = self.make(rt, coder)?;
         match self.course.target() {
@@ -55,7 +56,7 @@ impl Gather {
         coder: &C,
     ) -> Result<Vec<Option<Vec<u8>>>, AllocError>
         requires { has_bytes self.now.course.stage ≡ true }
-        ensures { IfOk result (λ made. AreMade self.now.course.geometry self.now.stamp.content self.now.course.gone made.items) }
+        ensures { IfOk result (λ made. AreItsMade self.now made.items) }
     {
         let missing = self.course.missing();
         match missing.len() {
@@ -75,7 +76,7 @@ impl Gather {
         requires parts { has_bytes self.now.course.stage ≡ true }
         requires only { self.now.course.gone ≡ lost ∷ [] }
         requires below { lost < chunk_count self.now.course.geometry }
-        ensures { IfOk result (λ made. AreMade self.now.course.geometry self.now.stamp.content self.now.course.gone made.items) }
+        ensures { IfOk result (λ made. AreItsMade self.now made.items) }
     {
         let alloc = *self.helpers.allocator();
         let geometry = self.course.geometry();
@@ -94,7 +95,7 @@ impl Gather {
     ) -> Result<Vec<Option<Vec<u8>>>, AllocError>
         requires parts { has_bytes self.now.course.stage ≡ true }
         requires many { 2 ≤ length self.now.course.gone }
-        ensures { IfOk result (λ made. AreMade self.now.course.geometry self.now.stamp.content self.now.course.gone made.items) }
+        ensures { IfOk result (λ made. AreItsMade self.now made.items) }
     {
         let alloc = *self.helpers.allocator();
         let geometry = self.course.geometry();
@@ -106,9 +107,9 @@ impl Gather {
     // The wanted bytes come behind those that are there, data chunk by data chunk.
     fn append_range(&self, made: &[Option<Vec<u8>>], bytes: &mut Vec<u8>) -> Result<(), AllocError>
         requires parts { has_bytes self.now.course.stage ≡ true }
-        requires made { AreMade self.now.course.geometry self.now.stamp.content self.now.course.gone made.now }
+        requires made { AreItsMade self.now made.now }
         requires range { target_of self.now.course.aim ≡ None }
-        ensures { OnOk result (Gives self.now.course.geometry self.now.stamp.content self.now.course.aim bytes.old.items bytes.new.items) }
+        ensures { OnOk result (GivesItsBytes self.now bytes.old.items bytes.new.items) }
     {
         for chunk in 0..self.course.geometry().k() {
             self.append_chunk(made, bytes, chunk)?;
@@ -124,7 +125,7 @@ impl Gather {
         chunk: u32,
     ) -> Result<(), AllocError>
         requires parts { has_bytes self.now.course.stage ≡ true }
-        requires made { AreMade self.now.course.geometry self.now.stamp.content self.now.course.gone made.now }
+        requires made { AreItsMade self.now made.now }
         requires range { target_of self.now.course.aim ≡ None }
         requires there { chunk < self.now.course.geometry.data_count }
         ensures { OnOk result (AppendsChunk self.now.course.geometry self.now.stamp.content self.now.course.aim chunk bytes.old.items bytes.new.items) }
@@ -150,7 +151,7 @@ impl Gather {
         to: u32,
     ) -> Result<(), AllocError>
         requires parts { has_bytes self.now.course.stage ≡ true }
-        requires made { AreMade self.now.course.geometry self.now.stamp.content self.now.course.gone made.now }
+        requires made { AreItsMade self.now made.now }
         requires wanted { IsPieceOf self.now.course.geometry self.now.course.aim chunk from to }
         ensures { OnOk result (Appends self.now.course.geometry self.now.stamp.content chunk from to bytes.old.items bytes.new.items) }
     {

@@ -4,12 +4,12 @@ ghost use Rattle.clay_grid.specs.Shape.{chunk_count, stripe_length};
 ghost use Rattle.store_core.specs.Told.{Told};
 ghost use Rattle.store_resume.specs.Stage.{Aim};
 ghost use Rattle.chunk_server.specs.Core.{core_of};
-ghost use Rattle.gather_course.specs.Courses.{IsAskingStage, new_course, server_of, is_look, is_fetch, layers_asked};
+ghost use Rattle.gather_course.specs.Courses.{IsAskingStage, new_course, server_of, is_look, is_fetch};
 ghost use Rattle.gather_course.specs.Aims.{IsTooMany};
 ghost use Rattle.store_core.specs.Told.{lost_in};
-ghost use Rattle.gathering.specs.Gathers.{new_gather, heard, taking, stepped, IsOwnPart};
+ghost use Rattle.gathering.specs.Gathers.{new_gather, heard, taking, stepped, IsAskedPart, IsOwnPart};
 ghost use Rattle.chunk_server.specs.State.{IsSame};
-ghost use Rattle.gathering.specs.Parts.{IsPart, AreNone};
+ghost use Rattle.gathering.specs.Parts.{AreNone};
 
 use call_steps::{Need, Seen};
 use chunk_server::{Fetched, Presence, Server};
@@ -283,7 +283,7 @@ impl Gather {
     }
 
     fn hear_wanted(&mut self, server: u32, bytes: Vec<u8>)
-        requires own { IsPart self.old.course.geometry self.old.stamp.content server (layers_asked self.old.course) bytes.items }
+        requires own { IsAskedPart self.old server bytes.items }
         requires asked { server_of self.old.course ≡ Some server }
         requires below { server < chunk_count self.old.course.geometry }
         requires fetch { is_fetch self.old.course.stage ≡ true }
@@ -294,7 +294,7 @@ impl Gather {
     }
 
     fn hear_helper(&mut self, server: u32, bytes: Vec<u8>)
-        requires own { IsPart self.old.course.geometry self.old.stamp.content server (layers_asked self.old.course) bytes.items }
+        requires own { IsAskedPart self.old server bytes.items }
         requires asked { server_of self.old.course ≡ Some server }
         requires below { server < chunk_count self.old.course.geometry }
         requires part { is_look self.old.course.stage ≡ false }

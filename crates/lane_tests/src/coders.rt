@@ -57,8 +57,8 @@ pub fn gone_count(have: &[Option<Vec<u8>>]) -> usize
     have.iter().filter(|chunk| chunk.is_none()).count()
 }
 
-// The missing chunks stand in their places, and other bytes in those of the others.
-fn expect_places(
+/// The missing chunks stand in their places, and other bytes in those of the others.
+pub fn expect_places(
     rt: &impl Abort,
     bytes: &[u8],
     len: usize,

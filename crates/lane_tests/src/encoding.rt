@@ -3,7 +3,7 @@ ghost use Rattle.std.specs.Prelude.{◌≡◌, length};
 ghost use Rattle.clay_grid.specs.Shape.{stripe_length};
 
 use clay_grid::Geometry;
-use clay_lanes::{encode, parity, parity_into};
+use clay_lanes::{Prepared, encode, parity, parity_into};
 use std::alloc::{AllocError, Global};
 use std::process::Abort;
 use std::test::Fail;
@@ -19,8 +19,8 @@ pub fn mixed_bytes(alloc: Global, count: u32) -> Result<Vec<u8>, AllocError> {
     Ok(bytes)
 }
 
-// Pieces of one length stand one behind another.
-fn expect_pieces(rt: &impl Abort, bytes: &[u8], len: usize, expected: &[Vec<u8>]) {
+/// Pieces of one length stand one behind another.
+pub fn expect_pieces(rt: &impl Abort, bytes: &[u8], len: usize, expected: &[Vec<u8>]) {
     assert!(rt; len > 0);
     for (c, piece) in bytes.chunks(len).enumerate() {
         assert!(rt; c < expected.len());
@@ -28,7 +28,7 @@ fn expect_pieces(rt: &impl Abort, bytes: &[u8], len: usize, expected: &[Vec<u8>]
     }
 }
 
-// Writes the parity chunks over bytes that were there before.
+// Writes the parity chunks over bytes that were there before, and once more by a code that was prepared.
 fn check_parity_into(
     rt: &impl Abort,
     alloc: Global,
@@ -42,6 +42,11 @@ fn check_parity_into(
     let mut bytes = vec![in alloc; 0xa5u8; g.m() as usize * len]?;
     parity_into(alloc, g, stripe, &mut bytes)?;
     expect_pieces(rt, &bytes, len, others);
+    let prepared = Prepared::new(alloc, g)?;
+    assert!(rt; prepared.geometry() == g);
+    let mut again = vec![in alloc; 0xa5u8; g.m() as usize * len]?;
+    prepared.parity_into(alloc, stripe, &mut again)?;
+    expect_pieces(rt, &again, len, others);
     Ok(())
 }
 

@@ -2,8 +2,8 @@
 ghost use Rattle.std.specs.Prelude.{◌≡◌, ◌<◌, length};
 ghost use Rattle.clay_grid.specs.Shape.{chunk_count, stripe_length};
 
-use crate::coders::{expect_chunks, gone_count, left_of};
-use crate::encoding::{CODES, WIDTHS, mixed_bytes};
+use crate::coders::{expect_chunks, expect_places, gone_count, left_of};
+use crate::encoding::{CODES, WIDTHS, expect_pieces, mixed_bytes};
 use crate::rebuilding::parts_of;
 use clay_grid::Geometry;
 use clay_lanes::LaneCoder;
@@ -13,6 +13,58 @@ use std::alloc::Global;
 use std::process::Abort;
 use std::test::Fail;
 use std::thread::Threads;
+
+// Writes the parity chunks of a stripe by the coder of several threads over bytes that were there before.
+fn check_parity_into<R: Abort + Threads + Sync>(
+    rt: &R,
+    alloc: Global,
+    g: Geometry,
+    stripe: &[u8],
+    word: &[Vec<u8>],
+) -> Result<(), Fail>
+    requires { length stripe.now ≡ stripe_length g }
+{
+    let len = g.chunk_len() as usize;
+    let mut bytes = vec![in alloc; 0xa5u8; g.m() as usize * len]?;
+    ParCoder.parity_into(rt, alloc, g, stripe, &mut bytes)?;
+    assert_eq!(rt; word.len(), g.n() as usize);
+    expect_pieces(rt, &bytes, len, &word[g.k() as usize..]);
+    Ok(())
+}
+
+// Writes the chunks of the bits of `gone` by the coder of several threads to their places among other bytes.
+fn check_missing_into<R: Abort + Threads + Sync>(
+    rt: &R,
+    alloc: Global,
+    g: Geometry,
+    word: &[Vec<u8>],
+    gone: u32,
+) -> Result<(), Fail> {
+    let have = left_of(rt, alloc, g, word, gone)?;
+    let len = g.chunk_len() as usize;
+    let mut bytes = vec![in alloc; 0xa5u8; g.n() as usize * len]?;
+    ParCoder.missing_into(rt, alloc, g, &have, &mut bytes)?;
+    expect_places(rt, &bytes, len, &have, word);
+    Ok(())
+}
+
+// Writes a chunk by the coder of several threads from the parts of the others.
+fn check_rebuild_into<R: Abort + Threads + Sync>(
+    rt: &R,
+    alloc: Global,
+    g: Geometry,
+    word: &[Vec<u8>],
+    lost: u32,
+) -> Result<(), Fail>
+    requires { lost < chunk_count g }
+{
+    let parts = parts_of(rt, alloc, g, word, lost)?;
+    assert_eq!(rt; word.len(), g.n() as usize);
+    let mut chunk = vec![in alloc; 0xa5u8; g.chunk_len() as usize]?;
+    ParCoder.rebuild_into(rt, alloc, g, lost, &parts, &mut chunk)?;
+    assert_eq!(rt; chunk.as_slice(), word[lost as usize].as_slice());
+    Ok(())
+}
 
 // The chunks of a stripe, of which each coder says the same.
 fn encoded<R: Abort + Threads + Sync>(
@@ -26,6 +78,7 @@ fn encoded<R: Abort + Threads + Sync>(
     let word = PlainCoder.encode(rt, alloc, g, stripe)?;
     expect_chunks(rt, &LaneCoder.encode(rt, alloc, g, stripe)?, &word);
     expect_chunks(rt, &ParCoder.encode(rt, alloc, g, stripe)?, &word);
+    check_parity_into(rt, alloc, g, stripe, &word)?;
     Ok(word)
 }
 
@@ -99,6 +152,22 @@ fn check_coder<R: Abort + Threads + Sync, C: Coder>(
     check_rebuild(rt, alloc, coder, g, word, g.n() - 1)
 }
 
+// Writes missing chunks and a lost one to their places: none, the first column, and as many of both kinds.
+fn check_places<R: Abort + Threads + Sync>(
+    rt: &R,
+    alloc: Global,
+    g: Geometry,
+    word: &[Vec<u8>],
+) -> Result<(), Fail> {
+    let most = mixed_loss(rt, g);
+    assert!(rt; g.n() < 32);
+    check_missing_into(rt, alloc, g, word, 0)?;
+    check_missing_into(rt, alloc, g, word, (1u32 << g.m()) - 1)?;
+    check_missing_into(rt, alloc, g, word, most)?;
+    check_rebuild_into(rt, alloc, g, word, 0)?;
+    check_rebuild_into(rt, alloc, g, word, g.n() - 1)
+}
+
 #[test]
 fn coders_agree(rt: HostRuntime) -> Result<(), Fail> {
     for (k, m) in CODES {
@@ -108,6 +177,7 @@ fn coders_agree(rt: HostRuntime) -> Result<(), Fail> {
             check_coder(&rt, rt.alloc(), &PlainCoder, g, &word)?;
             check_coder(&rt, rt.alloc(), &LaneCoder, g, &word)?;
             check_coder(&rt, rt.alloc(), &ParCoder, g, &word)?;
+            check_places(&rt, rt.alloc(), g, &word)?;
         }
     }
     Ok(())
@@ -119,7 +189,8 @@ fn check_shared<R: Abort + Threads + Sync>(rt: &R, alloc: Global, g: Geometry) -
     let most = mixed_loss(rt, g);
     check_loss(rt, alloc, &PlainCoder, g, &word, most)?;
     check_loss(rt, alloc, &LaneCoder, g, &word, most)?;
-    check_coder(rt, alloc, &ParCoder, g, &word)
+    check_coder(rt, alloc, &ParCoder, g, &word)?;
+    check_places(rt, alloc, g, &word)
 }
 
 #[test]

@@ -1,7 +1,7 @@
 //! The values of several locks, taken out of them by the turns of all numbers.
 ghost use Rattle.std.specs.Prelude.{◌≡◌, ◌<◌, ℕ, List, IfOk, length, Some, slice_get};
 ghost use Rattle.atomic_table.specs.Seated.{TableId};
-ghost use Rattle.lock_turns.specs.Joined.{AreAll, HasOwn};
+ghost use Rattle.lock_turns.specs.Joined.{AreAll, IsWhole};
 ghost use Rattle.lock_rows.specs.Out.{AreOut, AreRows};
 ghost use Rattle.lock_rows.specs.Piles.{items_of};
 
@@ -22,7 +22,7 @@ fn take_at<T: Historied + Drop, R: Wait>(
     requires within { place < length locks.now }
     requires turns { (lock : TableId) → slice_get locks.now place ≡ Some lock → AreAll lock identity turns.items }
     ensures fixed { T.fixed_part result ≡ identity }
-    ensures stands { (log : List (ℕ × T.Entry)) × (T.stands_for result log) × HasOwn turns.items log }
+    ensures stands { (log : List (ℕ × T.Entry)) × (T.stands_for result log) × IsWhole turns.items log }
 {
     take_out(rt, &locks[place], turns)
 }

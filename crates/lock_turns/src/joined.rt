@@ -1,6 +1,6 @@
 //! Turns that are back are joined, and the value is taken out of its lock for good.
 ghost use Rattle.std.specs.Prelude.{◌≡◌, ◌<◌, ◌∷◌, ◌++◌, [], ℕ, List, vec_len};
-ghost use Rattle.lock_turns.specs.Joined.{AreAll, HasOwn, IsJoined};
+ghost use Rattle.lock_turns.specs.Joined.{AreAll, IsJoined, IsWhole};
 
 use std::sync::Wait;
 use turn_lock::{Historied, Lock, Turn};
@@ -30,13 +30,13 @@ pub fn join_all<T: Historied + Drop>(lock: &Lock<T>, turns: Vec<Turn<T>>) -> Tur
     all
 }
 
-/// The value, taken by one turn of all. It stands for a history that has, of each number, the entries
-/// that the turn of this number had seen.
+/// The value, taken by one turn of all. It stands for a history that begins with what each turn had seen
+/// and has, of each number, the entries that the turn of this number had seen.
 pub fn take_out<T: Historied + Drop, R: Wait>(rt: &R, lock: &Lock<T>, turns: Vec<Turn<T>>) -> T
     ghost identity: { T.Fixed }
     requires { AreAll lock.now identity turns.items }
     ensures fixed { T.fixed_part result ≡ identity }
-    ensures stands { (log : List (ℕ × T.Entry)) × (T.stands_for result log) × HasOwn turns.items log }
+    ensures stands { (log : List (ℕ × T.Entry)) × (T.stands_for result log) × IsWhole turns.items log }
 {
     let mut turn = join_all(lock, turns);
     lock.take(rt, &mut turn)

@@ -36,15 +36,15 @@ use Rattle.session_bytes.proofs.Whole.{whole_of, same_of, map_of}
 use Rattle.session_bytes.proofs.CallMaps.{EndedBy, Holds, start_short, start_holds, rebuild_holds, all_steps, ended, still_same}
 
 -- ---- steps with ample memory are steps in which none is wanting
-abbrev none_short : Shortage
+abbrev pub none_short : Shortage
 none_short = record { coding = false; step = false }
 
-ample_by : (g : Shape) (tries : ℕ) (who : Actor) (number : ℕ) (job : Job) (act : Act) (w : AtWork) → step_by g tries who number job act w ≡ wanting_by g tries who number job false act w
+pub ample_by : (g : Shape) (tries : ℕ) (who : Actor) (number : ℕ) (job : Job) (act : Act) (w : AtWork) → step_by g tries who number job act w ≡ wanting_by g tries who number job false act w
 ample_by g tries who number job (Act.AtDirectory step) w = refl
 ample_by g tries who number job (Act.AtServer server step) w = refl
 ample_by g tries who number job (Act.Finish outcome) w = refl
 
-ample : (g : Shape) (tries : ℕ) (who : Actor) (number : ℕ) (job : Job) (made : ℕ) (w : AtWork) → steps g tries who number job made w ≡ wanting_steps g tries who number job (replicate made none_short) w
+pub ample : (g : Shape) (tries : ℕ) (who : Actor) (number : ℕ) (job : Job) (made : ℕ) (w : AtWork) → steps g tries who number job made w ≡ wanting_steps g tries who number job (replicate made none_short) w
 ample g tries who number job zero w = refl
 ample g tries who number job (suc made) w =
     ap (steps g tries who number job made) (ample_by g tries who number job (act_of_state g tries job w.call) w)

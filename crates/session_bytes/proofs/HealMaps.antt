@@ -32,13 +32,13 @@ module _ (g : Shape) (tries : ℕ) (who : Actor) (number : ℕ) (job : Job) wher
   stays zero w outcome e = refl
   stays (suc n) w outcome e = ap (steps g tries who number job n) (ap (λ act. step_by g tries who number job act w) e) ∙ stays n w outcome e
 
-  one_end : (n m : ℕ) (w : AtWork) (first second : Outcome) → act_of_state g tries job (steps g tries who number job n w).call ≡ Act.Finish first →
+  pub one_end : (n m : ℕ) (w : AtWork) (first second : Outcome) → act_of_state g tries job (steps g tries who number job n w).call ≡ Act.Finish first →
       act_of_state g tries job (steps g tries who number job m w).call ≡ Act.Finish second → steps g tries who number job n w ≡ steps g tries who number job m w
   one_end zero m w first second e also = sym (stays m w first e)
   one_end (suc n) zero w first second e also = stays (suc n) w second also
   one_end (suc n) (suc m) w first second e also = one_end n m (step g tries who number job w) first second e also
 
-  same_end : (before after other : Places) (first second : Outcome) → EndsAs g tries who number job before first after → EndsAs g tries who number job before second other → after ≡ other
+  pub same_end : (before after other : Places) (first second : Outcome) → EndsAs g tries who number job before first after → EndsAs g tries who number job before second other → after ≡ other
   same_end before after other first second ends also =
       sym ends.leaves ∙ ap (λ (w : AtWork). w.places) (one_end ends.made also.made (record { call = first_state; places = before }) first second ends.over also.over) ∙ also.leaves
 

@@ -1,26 +1,29 @@
-use Rattle.std.proofs.Common.{codes}
-use Rattle.clap.specs.Words.{found_of}
-use Rattle.clay_words.proofs.Held.{aloof_of, aloof_words, has_m, has_w, in_rows, repair_of, repair_words}
-use Rattle.clay_words.proofs.WordLaws.{same_answer}
+use Rattle.std.proofs.Common.{ℕ, List, sym, subst, Option, MatchOption}
+use Rattle.clay_aloof.specs.Shape.{AloofShape}
+use Rattle.clay_words.specs.Words.{IsAloofCode}
+use Rattle.clay_words.proofs.WordLaws.{aloof_numbers, no_number, same_aloof_answer}
 use Rattle.clay_words.proofs.parse.aloof_held.Goals as goal
 
+abbrev Answers : List ℕ → List ℕ → List ℕ → List ℕ → Option AloofShape → Type 0
+Answers k m d w answer = MatchOption answer ((a : AloofShape) → IsAloofCode a k m d w → ⊥) (λ a. IsAloofCode a k m d w)
+
+pub returns-in_err-k : goal.returns-in_err-k
+returns-in_err-k c = λ k m d w held.
+    subst (Answers k m d w) (sym c.from_residual.ensures) (λ a code. no_number k a.data_count (c.in_err-k.ensures k held.0) (aloof_numbers a code.limits).0 code.data_count)
+
 pub returns-in_err-m : goal.returns-in_err-m
-returns-in_err-m c = λ words held k d. absurd (has_m words _ _ _ _ held k d (in_rows (found_of c.args.numbers.now) (codes "m") _ c.in_err-m.ensures))
+returns-in_err-m c = λ k m d w held.
+    subst (Answers k m d w) (sym c.from_residual-in_err-m.ensures) (λ a code. no_number m a.parity_count (c.in_err-m.ensures m held.1.0) (aloof_numbers a code.limits).1 code.parity_count)
+
+pub returns-in_err-d : goal.returns-in_err-d
+returns-in_err-d c = λ k m d w held.
+    subst (Answers k m d w) (sym c.from_residual-in_err-d.ensures) (λ a code. no_number d a.helper_count (c.in_err-d.ensures d held.1.1.0) (aloof_numbers a code.limits).2 code.helper_count)
 
 pub returns-in_err-w : goal.returns-in_err-w
-returns-in_err-w c = λ words held k d. absurd (has_w words _ _ _ _ held k d (in_rows (found_of c.args.numbers.now) (codes "w") _ c.in_err-w.ensures))
+returns-in_err-w c = λ k m d w held.
+    subst (Answers k m d w) (sym c.from_residual-in_err-w.ensures) (λ a code. no_number w a.width (c.in_err-w.ensures w held.1.1.1.0) (aloof_numbers a code.limits).3 code.width)
 
-pub returns-in-Some : goal.returns-in-Some
-returns-in-Some c = λ words held k d.
-    let f = found_of c.args.numbers.now in
-    let lost = in_rows f (codes "lost") _ c.in-Some.ensures in
-    let code = repair_of words _ _ _ _ _ held k d lost in
-    let is = repair_words words _ _ _ _ _ _ _ code k (in_rows f (codes "m") _ c.in_ok-m.ensures) d (in_rows f (codes "w") _ c.in_ok-w.ensures) lost in
-    same_answer c.repair_command.result words _ is c.repair_command.ensures
-
-pub returns-in-None : goal.returns-in-None
-returns-in-None c = λ words held k d.
-    let f = found_of c.args.numbers.now in
-    let code = aloof_of words _ _ _ _ held k d (in_rows f (codes "lost") _ c.in-None.ensures) in
-    let is = aloof_words words _ _ _ _ _ _ code k (in_rows f (codes "m") _ c.in_ok-m.ensures) d (in_rows f (codes "w") _ c.in_ok-w.ensures) in
-    same_answer c.aloof_command.result words _ is c.aloof_command.ensures
+pub returns : goal.returns
+returns c = λ k m d w held.
+    same_aloof_answer c.aloof_geometry_of.result _ k _ m _ d _ w (sym (c.in_ok-k.ensures k held.0).0) (sym (c.in_ok-m.ensures m held.1.0).0)
+    (sym (c.in_ok-d.ensures d held.1.1.0).0) (sym (c.in_ok-w.ensures w held.1.1.1.0).0) c.aloof_geometry_of.ensures

@@ -1,17 +1,24 @@
-use Rattle.std.proofs.Common.{codes}
-use Rattle.clap.specs.Words.{found_of}
-use Rattle.clay_words.proofs.Held.{code_words, in_rows, not_both}
-use Rattle.clay_words.proofs.WordLaws.{same_answer}
+use Rattle.std.proofs.Common.{ℕ, List, sym, subst, Option, MatchOption}
+use Rattle.clay_grid.specs.Shape.{Shape}
+use Rattle.clay_words.specs.Words.{IsCode}
+use Rattle.clay_words.proofs.WordLaws.{code_numbers, no_number, same_code_answer}
 use Rattle.clay_words.proofs.parse.code_held.Goals as goal
 
+abbrev Answers : List ℕ → List ℕ → List ℕ → Option Shape → Type 0
+Answers k m w answer = MatchOption answer ((g : Shape) → IsCode g k m w → ⊥) (λ g. IsCode g k m w)
+
+pub returns-in_err-k : goal.returns-in_err-k
+returns-in_err-k c = λ k m w held.
+    subst (Answers k m w) (sym c.from_residual.ensures) (λ g code. no_number k g.data_count (c.in_err-k.ensures k held.0) (code_numbers g code.limits).0 code.data_count)
+
 pub returns-in_err-m : goal.returns-in_err-m
-returns-in_err-m c = λ words code k. absurd (not_both _ _ (in_rows (found_of c.args.numbers.now) (codes "m") _ c.in_err-m.ensures) code.m_is)
+returns-in_err-m c = λ k m w held.
+    subst (Answers k m w) (sym c.from_residual-in_err-m.ensures) (λ g code. no_number m g.parity_count (c.in_err-m.ensures m held.1.0) (code_numbers g code.limits).1 code.parity_count)
 
 pub returns-in_err-w : goal.returns-in_err-w
-returns-in_err-w c = λ words code k. absurd (not_both _ _ (in_rows (found_of c.args.numbers.now) (codes "w") _ c.in_err-w.ensures) code.w_is)
+returns-in_err-w c = λ k m w held.
+    subst (Answers k m w) (sym c.from_residual-in_err-w.ensures) (λ g code. no_number w g.width (c.in_err-w.ensures w held.1.1.0) (code_numbers g code.limits).2 code.width)
 
 pub returns : goal.returns
-returns c = λ words code k.
-    let f = found_of c.args.numbers.now in
-    let is = code_words words _ _ _ _ _ code k (in_rows f (codes "m") _ c.in_ok-m.ensures) (in_rows f (codes "w") _ c.in_ok-w.ensures) in
-    same_answer c.code_command.result words _ is c.code_command.ensures
+returns c = λ k m w held.
+    same_code_answer c.geometry_of.result _ k _ m _ w (sym (c.in_ok-k.ensures k held.0).0) (sym (c.in_ok-m.ensures m held.1.0).0) (sym (c.in_ok-w.ensures w held.1.1.0).0) c.geometry_of.ensures

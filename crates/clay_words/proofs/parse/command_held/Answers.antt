@@ -1,36 +1,19 @@
-use Rattle.std.proofs.Common.{codes}
-use Rattle.clap.specs.Words.{found_of}
-use Rattle.clay_words.proofs.Held.{code_of, draw_of, draw_words, in_rows, none_of, not_both}
-use Rattle.clay_words.proofs.WordLaws.{same_answer}
+use Rattle.std.proofs.Common.{List, inr, refl, subst, Some}
+use Rattle.clay_words.specs.Spelled.{HoldsNumbers, rows_held}
+use Rattle.clay_words.specs.Words.{IsAskedBy}
+use Rattle.clay_words.specs.declared.words.Command.TheVariants.{OfInput}
+use Rattle.clay_words.specs.declared.words.Task.TheVariants as task
+use Rattle.clay_words.specs.declared.names.Name.{Name}
+use Rattle.clay_words.specs.declared.names.Name.TheVariants.{Play, Verify}
+use Rattle.clay_words.proofs.Held.{by_numbers}
 use Rattle.clay_words.proofs.parse.command_held.Goals as goal
 
-pub returns-in-Some-get_str : goal.returns-in-Some-get_str
-returns-in-Some-get_str c = λ words held.
-    let f = found_of c.args.numbers.now in
-    c.aloof_held.ensures words held (in_rows f (codes "k") _ c.in-Some.ensures) (in_rows f (codes "d") _ c.in-Some-get_str.ensures)
+pub returns-in-Play : goal.returns-in-Play
+returns-in-Play c = λ words holds.
+    let P : Name → Type 0 = λ name. HoldsNumbers name words (rows_held c.args.held.now) in
+    by_numbers Play words _ (λ list. IsAskedBy list (Some (OfInput task.Play))) (λ held. inr refl) (subst P c.in-Play.is holds)
 
-pub returns-in-None-get_str : goal.returns-in-None-get_str
-returns-in-None-get_str c = λ words held.
-    let f = found_of c.args.numbers.now in
-    let k = in_rows f (codes "k") _ c.in-Some.ensures in
-    c.code_held.ensures words (code_of words _ _ _ held k (in_rows f (codes "d") _ c.in-None-get_str.ensures)) k
-
-pub returns-in_err-size-in-Some-get_str-2 : goal.returns-in_err-size-in-Some-get_str-2
-returns-in_err-size-in-Some-get_str-2 c = λ words held.
-    let f = found_of c.args.numbers.now in
-    let draw = draw_of words _ _ _ held (in_rows f (codes "k") _ c.in-None.ensures) (in_rows f (codes "start") _ c.in-Some-get_str-2.ensures) in
-    absurd (not_both _ _ (in_rows f (codes "size") _ c.in_err-size-in-Some-get_str-2.ensures) draw.size_is)
-
-pub returns-in_ok-size-in-Some-get_str-2 : goal.returns-in_ok-size-in-Some-get_str-2
-returns-in_ok-size-in-Some-get_str-2 c = λ words held.
-    let f = found_of c.args.numbers.now in
-    let start = in_rows f (codes "start") _ c.in-Some-get_str-2.ensures in
-    let draw = draw_of words _ _ _ held (in_rows f (codes "k") _ c.in-None.ensures) start in
-    let is = draw_words words _ _ _ _ draw start (in_rows f (codes "size") _ c.in_ok-size-in-Some-get_str-2.ensures) in
-    same_answer c.draw_command.result words _ is c.draw_command.ensures
-
-pub returns-in-None-get_str-2 : goal.returns-in-None-get_str-2
-returns-in-None-get_str-2 c = λ words held.
-    let f = found_of c.args.numbers.now in
-    let none = none_of words _ _ held (in_rows f (codes "k") _ c.in-None.ensures) (in_rows f (codes "start") _ c.in-None-get_str-2.ensures) in
-    same_answer c.plain_command.result words _ none.words_are c.plain_command.ensures
+pub returns-in-Verify : goal.returns-in-Verify
+returns-in-Verify c = λ words holds.
+    let P : Name → Type 0 = λ name. HoldsNumbers name words (rows_held c.args.held.now) in
+    by_numbers Verify words _ (λ list. IsAskedBy list (Some (OfInput task.Verify))) (λ held. refl) (subst P c.in-Verify.is holds)

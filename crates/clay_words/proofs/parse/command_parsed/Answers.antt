@@ -17,4 +17,4 @@ returns-in-Ok c =
     let words : List (List ℕ) = map string_bytes c.args.words.now in
     let taken = spelled_taken words c.requires in
     let met = (c.in-Ok.ensures.matches (ap is_simple c.in_ok-grammar.ensures)).1 in
-    c.command_taken.ensures words taken.name taken.rows (met ∙ ap (λ (a : App). subcommand_of a words) c.in_ok-grammar.ensures ∙ taken.found) taken.held
+    c.command_taken.ensures words taken.word taken.rows (met ∙ ap (λ (a : App). subcommand_of a words) c.in_ok-grammar.ensures ∙ taken.found) taken.held

@@ -69,7 +69,7 @@ loop-done-preserved g c =
           (record {
             identity_is = c.take_at.ensures.fixed;
             stands_is = out.1;
-            own = own_there g.identity c.args.locks.now rows c.requires.1.1.1.1 (all - 1 - done) left first now tops c.in_ok-turns.ensures out.0 out.2;
+            own = own_there g.identity c.args.locks.now rows c.requires.1.1.1.1 (all - 1 - done) left first now tops c.in_ok-turns.ensures out.0 out.2.own;
           });
     }
 

@@ -33,7 +33,7 @@ loop-left-preserved g c =
     record {
       joining =
           joining_on c.args.lock.now g.identity c.args.turns.items old now c.loop-left.all c.take_last.result c.join-all.result c.requires.1.1.1 inv.first is inv.joining c.join-all.ensures.turn c.join-all.ensures.own.0
-          c.join-all.ensures.own.1;
+          c.join-all.ensures.own.1 c.join-all.ensures.longer;
       first = shorter_first c.args.lock.now g.identity c.args.turns.items old now c.take_last.result inv.first is;
       count = count_on c.loop-left._left (length now) (length old) c.len-left-end.result inv.count (ap length is ∙ length_push now c.take_last.result);
     }

@@ -1,7 +1,6 @@
 use Rattle.std.proofs.Common.{◌≡◌, false, Some, refl, sym, ap, subst, ◌∙◌}
-use Rattle.call_steps.specs.declared.need.Need.TheVariants as need
 use Rattle.gather_course.specs.Aims.{target_of}
-use Rattle.gathering.specs.Gathers.{GatherOf, need_of}
+use Rattle.gathering.specs.Gathers.{GatherOf}
 use Rattle.repairer.specs.declared.stage.Stage.{Stage}
 use Rattle.repairer.specs.declared.stage.Stage.TheVariants as stage
 use Rattle.repairer.specs.Moments.{IsGathered}

@@ -1,0 +1,5 @@
+//! Tests of sources and sinks of bytes.
+#![tactic(auto)]
+
+#[cfg(test)]
+mod streams;

@@ -1,0 +1,72 @@
+//! One call of the program over a source and a sink in memory.
+use clay_bytes::{MemSink, MemSource, Sink, Source};
+use clay_cli::{Gate, NoGate, Status, clay_main};
+use clay_lanes::LaneCoder;
+use clay_repair::Coder;
+use std::sync::Wait;
+use std::test::Fail;
+use std::thread::Threads;
+
+// The bytes of an output that are kept, which are all of it in each test.
+const ROOM: usize = 4_194_304;
+
+/// How a call ended, and what it wrote.
+#[derive(Drop)]
+pub struct Ran {
+    pub status: Status,
+    pub written: Vec<u8>,
+}
+
+/// Calls the program with these words, source, sink, gate and coder.
+pub fn run_with<
+    R: Threads + Wait + Sync + AllocGlobal,
+    S: Source,
+    K: Sink,
+    G: Gate + Sync,
+    C: Coder + Sync,
+>(
+    rt: &R,
+    words: &[&str],
+    source: &mut S,
+    sink: &mut K,
+    gate: &G,
+    coder: &C,
+) -> Result<Status, Fail> {
+    let alloc = rt.alloc();
+    let mut owned = Vec::new(alloc);
+    for word in words {
+        owned.push(String::from_str(alloc, word)?)?;
+    }
+    Ok(clay_main(rt, alloc, &owned, source, sink, gate, coder))
+}
+
+/// Calls the program where the reads and the writes of these numbers fail.
+pub fn run_failing<R: Threads + Wait + Sync + AllocGlobal>(
+    rt: &R,
+    words: &[&str],
+    input: &[u8],
+    reads: &[u64],
+    writes: &[u64],
+) -> Result<Ran, Fail> {
+    let alloc = rt.alloc();
+    let mut source = MemSource::new(
+        Vec::from_slice(alloc, input)?,
+        Vec::from_slice(alloc, reads)?,
+    );
+    let mut sink = MemSink::new(
+        Vec::with_capacity(alloc, ROOM)?,
+        Vec::from_slice(alloc, writes)?,
+    );
+    let status = run_with(rt, words, &mut source, &mut sink, &NoGate, &LaneCoder)?;
+    let written = Vec::from_slice(alloc, sink.kept())?;
+    Ok(Ran { status, written })
+}
+
+/// Calls the program where nothing fails.
+pub fn run<R: Threads + Wait + Sync + AllocGlobal>(
+    rt: &R,
+    words: &[&str],
+    input: &[u8],
+) -> Result<Ran, Fail> {
+    run_failing(rt, words, input, &[], &[])
+}

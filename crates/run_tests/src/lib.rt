@@ -1,0 +1,18 @@
+//! Tests of whole runs in threads, of what no clause says: that threads are inside the locks of two servers at
+//! once, that a run asks the coder that it was given, and that the checker finds the transcripts of its runs legal.
+#![tactic(auto)]
+
+#[cfg(test)]
+mod coders;
+#[cfg(test)]
+mod counted;
+#[cfg(test)]
+mod generated;
+#[cfg(test)]
+mod meeting;
+#[cfg(test)]
+mod meetings;
+#[cfg(test)]
+mod runs;
+#[cfg(test)]
+mod scripts;

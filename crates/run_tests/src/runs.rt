@@ -1,0 +1,99 @@
+//! Runs of scripts in threads, and whether the checker finds their transcripts legal.
+ghost use Rattle.std.specs.Prelude.{IfOk};
+ghost use Rattle.store_map.specs.Naming.{IsValid};
+
+use clay_par::ParCoder;
+use clay_repair::Coder;
+use hist_check::check;
+use hist_tables::verdict_line;
+use script_text::read_script;
+use std::alloc::Global;
+use std::str;
+use std::sync::Wait;
+use std::test::Fail;
+use std::thread::Threads;
+use store_map::Script;
+use store_run::{Gate, NoGate, run};
+use transcript_text::Transcript;
+
+/// In so many threads each script is run.
+pub const WORKERS: [usize; 4] = [1, 2, 4, 16];
+
+// How often in each number of threads: the threads meet otherwise each time.
+const ROUNDS: u32 = 10;
+
+/// The script that a text spells.
+pub fn script_of(alloc: Global, text: &[u8]) -> Result<Script, Fail>
+    ensures { IfOk result IsValid }
+{
+    match read_script(alloc, text) {
+        Ok(script) => Ok(script),
+        Err(_) => Err(Fail::from("the script is refused")),
+    }
+}
+
+/// The transcript of a run of the script in so many threads.
+pub fn transcript_of<R: Threads + Wait + Sync + AllocGlobal, C: Coder + Sync, G: Gate + Sync>(
+    rt: &R,
+    text: &[u8],
+    workers: usize,
+    coder: &C,
+    gate: &G,
+) -> Result<Transcript, Fail> {
+    if workers == 0 {
+        return Err(Fail::from("no workers"));
+    }
+    let script = script_of(rt.alloc(), text)?;
+    Ok(run(rt, rt.alloc(), script, workers, coder, gate)?)
+}
+
+// What the checker prints of a legal transcript.
+const LEGAL: &[u8] = b"legal\n";
+
+// Fails where the checker's line is another.
+fn expect_line(line: &[u8]) -> Result<(), Fail> {
+    if line == LEGAL {
+        return Ok(());
+    }
+    match str::from_utf8(line) {
+        Ok(line) => Err(Fail::new(format_args!("not legal: {line}"))),
+        Err(_) => Err(Fail::from("not legal")),
+    }
+}
+
+/// Fails where the checker finds the transcript of the script not legal.
+pub fn expect_legal(alloc: Global, script: &Script, transcript: &Transcript) -> Result<(), Fail> {
+    if transcript.history.len() >= 1 << 30
+        || transcript.refused.len() >= 1 << 30
+        || transcript.repairs.len() >= 1 << 30
+    {
+        return Err(Fail::from("too many lines"));
+    }
+    let verdict = check(alloc, script, transcript)?;
+    expect_line(&verdict_line(alloc, &verdict)?)
+}
+
+// Runs the script in so many threads some times.
+fn rounds_are_legal<R: Threads + Wait + Sync + AllocGlobal>(
+    rt: &R,
+    text: &[u8],
+    workers: usize,
+) -> Result<(), Fail> {
+    let script = script_of(rt.alloc(), text)?;
+    for _round in 0..ROUNDS {
+        let transcript = transcript_of(rt, text, workers, &ParCoder, &NoGate)?;
+        expect_legal(rt.alloc(), &script, &transcript)?;
+    }
+    Ok(())
+}
+
+/// Runs the script in 1, 2, 4 and 16 threads.
+pub fn runs_are_legal<R: Threads + Wait + Sync + AllocGlobal>(
+    rt: &R,
+    text: &[u8],
+) -> Result<(), Fail> {
+    for workers in WORKERS {
+        rounds_are_legal(rt, text, workers)?;
+    }
+    Ok(())
+}

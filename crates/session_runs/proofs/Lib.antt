@@ -1,0 +1,15 @@
+pub mod Own
+pub mod CallSeats
+pub mod Doomed
+pub mod Kept
+pub mod Ends
+pub mod Rests
+pub mod Answers
+pub mod Clients
+pub mod Repairs
+pub mod Runs
+pub mod CallsAnswered
+pub mod WantingRebuild
+pub mod RebuildsAnswered
+pub mod HealsAnswered
+pub mod AnsweredRuns

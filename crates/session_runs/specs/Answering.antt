@@ -1,0 +1,77 @@
+-- Requests in which memory may be wanting: each is served as the session answers, or is answered that memory was wanting.
+use Rattle.std.specs.Prelude.{◌≡◌, ◌⊎◌, ℕ, ◌+◌, ◌≤◌, ◌<◌, List, length, take, Some, IsTrue}
+use Rattle.std.specs.List.{slice_get}
+use Rattle.clay_grid.specs.Shape.{Shape, chunk_count, stripe_length}
+use Rattle.store_map.specs.declared.actor.Actor.{Actor}
+use Rattle.store_map.specs.declared.actor.Actor.TheVariants as actor
+use Rattle.store_map.specs.declared.call.Call.{Call}
+use Rattle.store_map.specs.declared.call.Rebuild.{Rebuild as RebuildCall}
+use Rattle.store_core.specs.Act.{Outcome}
+use Rattle.store_core.specs.NextAct.{Job, job_of, rebuild_job}
+use Rattle.store_core.specs.Calls.{Calls}
+use Rattle.store_core.specs.Step.{Shortage, Places}
+use Rattle.session_rules.specs.State.{State}
+use Rattle.session_rules.specs.Request.{Request}
+use Rattle.session_rules.specs.Answer.{LostChunk, Answer}
+use Rattle.session_rules.specs.Heals.{to_heal, numbers_last}
+use Rattle.session_rules.specs.Shortages.{IsServed}
+use Rattle.session_laws.specs.Heals.{rebuild_of, AreRebuilt, healed_by}
+use Rattle.session_laws.specs.Outcomes.{outcome_at}
+use Rattle.session_laws.specs.Rebuilds.{rebuilt_as}
+use Rattle.session_runs.specs.Seats.{ran, HasEnded}
+use Rattle.session_runs.specs.Between.{Seats, seats_after, IsBetween}
+use Rattle.session_runs.specs.Serving.{AreSweptTo}
+
+-- an actor's call runs alone to this outcome, wherever memory is wanting, and the sweeper after it to its end
+pub record RunsTo (g : Shape) (tries : ℕ) (who : Actor) (number : ℕ) (job : Job) (before : Places) (outcome : Outcome) (after : Places) :
+    Type 0 where
+  pub shortages : List Shortage
+  pub over : HasEnded g tries who number job shortages before outcome
+  pub swept : AreSweptTo g (ran g tries who number job shortages before).places after
+
+-- a request was answered as a session may, and the places are between requests again
+pub record IsAnswered (calls : Calls) (g : Shape) (max : ℕ) (seats : Seats) (s : State) (request : Request) (after : Places) : Type 0 where
+  pub served : State × Answer
+  pub allowed : IsServed g max request s served
+  pub stands : List ℕ
+  pub between : IsBetween calls g max (seats_after request seats) stands after served.0
+
+-- so it is of each call of the map, with a try at least, to whatever outcome it runs: that stands for the answer
+abbrev pub CallsAreAnswered : Type 0
+CallsAreAnswered =
+    (calls : Calls) (g : Shape) (max tries : ℕ) (seats : Seats) (stands : List ℕ) (p after : Places) (s : State) (call : Call)
+    (outcome : Outcome) → 0 < stripe_length g → 0 < tries → IsBetween calls g max seats stands p s →
+    calls (actor.Client seats.client) seats.calls ≡ Some call →
+    RunsTo g tries (actor.Client seats.client) seats.calls (job_of call) p outcome after →
+    (answered : IsAnswered calls g max seats s (Request.OfMap call) after) × (outcome ≡ outcome_at (length p.directory.points) answered.served.1)
+
+-- and of each rebuild at a server that there is, by a code with parity
+abbrev pub RebuildsAreAnswered : Type 0
+RebuildsAreAnswered =
+    (calls : Calls) (g : Shape) (max tries : ℕ) (seats : Seats) (stands : List ℕ) (p after : Places) (s : State) (name : List ℕ)
+    (stripe server : ℕ) (outcome : Outcome) → 0 < stripe_length g → 0 < g.parity_count → server < chunk_count g →
+    IsBetween calls g max seats stands p s →
+    (let call : RebuildCall = record { name = name; stripe = stripe; server = server } in
+    RunsTo g tries (actor.Repairer seats.repairer) seats.rebuilds (rebuild_job call) p outcome after) →
+    (answered : IsAnswered calls g max seats s (Request.Rebuild name stripe server) after) × (outcome ≡ rebuilt_as answered.served.1)
+
+-- a heal is cut off, and leaves this state: the first so many chunks were made anew, and perhaps the next one's rebuild ended for want of memory, and
+-- has used its number
+pub record IsCutOff (g : Shape) (tries : ℕ) (seats : Seats) (s : State) (before : Places) (now : State) (after : Places) : Type 0 where
+  pub lasts : IsTrue (numbers_last g s)
+  pub made : ℕ
+  pub some : made ≤ length (to_heal g s)
+  pub left : Places
+  pub rebuilt : AreRebuilt g tries (actor.Repairer seats.healer) s.next (take made (to_heal g s)) before left
+  pub last :
+      ((after ≡ left) × (now ≡ healed_by g made s))
+      ⊎ ((chunk : LostChunk) × (slice_get (to_heal g s) made ≡ Some chunk)
+      × RunsTo g tries (actor.Repairer seats.healer) (s.next + made) (rebuild_job (rebuild_of chunk)) left Outcome.NoMemory after
+      × (now ≡ record (healed_by g made s) { next = s.next + made + 1 }))
+
+-- so it is of a heal that is cut off
+abbrev pub HealsAreAnswered : Type 0
+HealsAreAnswered =
+    (calls : Calls) (g : Shape) (max tries : ℕ) (seats : Seats) (stands : List ℕ) (p after : Places) (s now : State) →
+    0 < stripe_length g → 0 < g.parity_count → IsBetween calls g max seats stands p s → IsCutOff g tries seats s p now after →
+    (answered : IsAnswered calls g max seats s Request.Heal after) × (answered.served ≡ (now, Answer.NoMemory))

@@ -1,0 +1,6 @@
+pub mod Seats
+pub mod Between
+pub mod Serving
+pub mod Runs
+pub mod Answering
+pub mod AnsweredRuns

@@ -1,0 +1,17 @@
+pub mod Beginning
+pub mod Chosen
+pub mod Closing
+pub mod Collecting
+pub mod Crews
+pub mod Dealing
+pub mod Ends
+pub mod LastSweep
+pub mod Leaving
+pub mod Locking
+pub mod OneSeated
+pub mod Over
+pub mod Scripts
+pub mod Seats
+pub mod Seeing
+pub mod Shown
+pub mod WhoseNumber

@@ -1,0 +1,29 @@
+use Rattle.std.proofs.Common.{rules, ◌≡◌, ℕ, ◌%◌, true, [], ◌∷◌, ◌++◌, length, sym, ap, subst, ◌∙◌, refl}
+use Rattle.std.specs.Vec.{with_item}
+use Rattle.store_map.specs.declared.actor.Actor.TheVariants as actor
+use Rattle.sweeper.specs.Sweeps.{new_sweeper}
+use Rattle.run_steps.specs.Numbers.{IsTurnOf}
+use Rattle.run_lists.specs.Logs.{counts_of}
+use Rattle.run_seats.specs.SeatedPlain.{IsSweeper}
+use Rattle.run_seats.specs.declared.seated_actor.SeatedActor.TheVariants as kind
+use Rattle.run_seats.specs.declared.seated_sweeper.SeatedSweeper.{SeatedSweeper}
+use Rattle.store_run.proofs.Beginning.{first_sweeper}
+use Rattle.store_run.proofs.OneSeated.{none_taken, seated_on}
+use Rattle.store_run.proofs.Seats.{others_above}
+use Rattle.store_run.proofs.seating.Seating.seat_sweeper.Goals as goal
+
+pub returns-clause-seated : goal.returns-clause-seated
+returns-clause-seated c =
+    let seating = c.args.self.now in
+    let store = seating.store.now in
+    let number = c.args.number in
+    let turns = c.in_ok-turns.turns in
+    let seated : SeatedSweeper = record { sweeper = c.new.result; steps = 0; turns = turns } in
+    let turn : IsTurnOf (counts_of store.script.now) turns.number actor.Sweeper =
+    subst (λ (n : ℕ). IsTurnOf (counts_of store.script.now) n actor.Sweeper) (sym c.in_ok-turns.ensures.number) c.requires.turn in
+    let is : IsSweeper store seated = first_sweeper store seated c.in_ok-turns.ensures.turns turn (c.new.ensures ∙ ap new_sweeper c.n.ensures.value) in
+    let as_many : c.len.result ≡ length seating.workers.items = search rules in
+    seated_on seating number c.requires.seating c.requires.turn.below c.len.result as_many c.index_mut.result.now (record { actors = c.push_reserved.new.self }) (kind.Sweeper seated) c.index_mut.ensures.value
+    (c.push_reserved.ensures.items ∙ ap (λ l. l ++ kind.Sweeper seated ∷ []) c.in_ok-reserve.ensures.items) is c.in_ok-turns.ensures.number c.deal.new.self seating.seats
+    (with_item seating.workers (number % c.len.result) (record { actors = c.push_reserved.new.self })) c.in_ok-turns.ensures.deck
+    (none_taken seating number c.requires.seating (others_above (counts_of store.script.now) true number c.requires.turn.whose)) refl

@@ -1,0 +1,10 @@
+pub mod Closed
+pub mod Crew
+pub mod Dealt
+pub mod Ended
+pub mod First
+pub mod LastSweep
+pub mod Leaving
+pub mod Left
+pub mod Seated
+pub mod Swept
