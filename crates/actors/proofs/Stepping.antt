@@ -203,7 +203,7 @@ module _ (script : Script) (place : ℕ) (a after : CallerOf) (d changed : Seale
         };
       }
 
--- the token that a call has after its coding, and after a step at a server
+-- the ticket that a call has after its coding, and after a step at a server
 ready_token : (coding due : Bool) (c : CallOf) → (if due then coded coding c else c).token ≡ c.token
 ready_token coding true c = refl
 ready_token coding false c = refl

@@ -31,7 +31,7 @@ pub record HasBegun (book : BookOf) (tries number : ℕ) (part : PartOf) (seat :
   pub next : asked_at part number ≡ Some asked
   pub first : now ≡ first_call book tries seat number asked
 
--- a caller at its place of the script with a call left, whose token is its own and whose calls are numbered
+-- a caller at its place of the script with a call left, whose ticket is its own and whose calls are numbered
 pub record MayGoOn (place : ℕ) (a : CallerOf) : Type 0 where
   pub next : length a.actor.ended < calls_of a.part
   pub part : IsPartOf a.book place a.part

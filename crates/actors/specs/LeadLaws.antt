@@ -10,7 +10,7 @@ use Rattle.world_steps.specs.World.{ActorOf, WorldOf, with_client, with_repairer
 use Rattle.world_steps.specs.Tokens.{TokensAgree}
 use Rattle.actors.specs.Turned.{MakesTurn, Leads, places_in, with_places}
 
--- where the directory agrees with the tokens of all actors, a client's turn is its step, and a repairer's is its own
+-- where the directory agrees with the tickets of all actors, a client's turn is its step, and a repairer's is its own
 pub record TurnsLead (script : Script) (i : ℕ) (w : WorldOf) : Type 0 where
   pub client :
       (work : Work) (a after : ActorOf) (q : Places) → slice_get (client_work script) i ≡ Some work → slice_get w.clients i ≡ Some a →

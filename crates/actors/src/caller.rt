@@ -8,7 +8,7 @@ ghost use Rattle.store_core.specs.Work.{has_step};
 ghost use Rattle.chunk_server.specs.State.{IsSame};
 ghost use Rattle.stripe_dir.specs.Sealed.{Sealed};
 ghost use Rattle.call_steps.specs.CallOf.{taken_of};
-ghost use Rattle.call_steps.specs.Steps.{need_of, HoldsItsPass, IfServer, MayMakeNext};
+ghost use Rattle.call_steps.specs.Steps.{need_of, HoldsItsPass, IsServerBelow, MayMakeNext};
 ghost use Rattle.client_patch.specs.Padded.{ArePadded};
 ghost use Rattle.world_lines.specs.Ended.{calling_at};
 ghost use Rattle.world_steps.specs.World.{steps_of};
@@ -25,7 +25,7 @@ use crate::after_step::{conclude, put_call, take};
 use crate::left::has_step;
 use crate::next_call::next_call;
 use crate::part::Part;
-use crate::steps::{code, step_at_directory, step_at_server};
+use crate::steps::{on_coder, step_at_directory, step_at_server};
 use call_machine::CallMachine;
 use call_steps::Need;
 use chunk_server::Server;
@@ -155,7 +155,7 @@ impl<'a> Caller<'a> {
         ensures knows { (d : Sealed) → Knows d self.old → Knows d self.new }
     {
         self.begin(place);
-        code(rt, coder, &mut self.call);
+        on_coder(rt, coder, &mut self.call);
     }
 
     /// Where the call in work has to go on.
@@ -165,7 +165,7 @@ impl<'a> Caller<'a> {
         ensures may { IfSome self.now.work (λ c. MayMakeNext c.call) }
         ensures pass { IfSome self.now.work (λ c. HoldsItsPass c.call) }
         ensures its { IfSome self.now.work (λ c. c.call.book ≡ self.now.book) }
-        ensures below { IfServer result (λ server. server < chunk_count self.now.book.geometry) }
+        ensures below { IsServerBelow (chunk_count self.now.book.geometry) result }
     {
         match &self.call {
             Some(call) => call.need(),

@@ -19,7 +19,7 @@ use stripe_dir::Directory;
 use version_seal::Book;
 
 // The coding before the next step, if one is due.
-fn code_call<R: Threads + Sync, C: Coder>(rt: &R, coder: &C, call: &mut CallMachine)
+fn call_on_coder<R: Threads + Sync, C: Coder>(rt: &R, coder: &C, call: &mut CallMachine)
     requires { GoesOn (need_of call.old.call) }
     ensures ready { call.new.call ≡ ready call.new.call.coding call.old.call }
     ensures place { HasPlace (need_of call.new.call) }
@@ -35,13 +35,17 @@ fn code_call<R: Threads + Sync, C: Coder>(rt: &R, coder: &C, call: &mut CallMach
 }
 
 /// The coding before the next step of the call in work, if one is due.
-pub(crate) fn code<R: Threads + Sync, C: Coder>(rt: &R, coder: &C, call: &mut Option<CallMachine>)
+pub(crate) fn on_coder<R: Threads + Sync, C: Coder>(
+    rt: &R,
+    coder: &C,
+    call: &mut Option<CallMachine>,
+)
     requires there { IsTrue (is_some call.old) }
     requires goes { IfSome call.old (λ c. GoesOn (need_of c.call)) }
     ensures { IsCoded call.old call.new }
 {
     match call {
-        Some(call) => code_call(rt, coder, call),
+        Some(call) => call_on_coder(rt, coder, call),
         None => unreachable!(),
     }
 }

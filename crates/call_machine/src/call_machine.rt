@@ -1,5 +1,5 @@
 //! A call in work, of any kind: of a client, or a rebuild of a repairer.
-ghost use Rattle.std.specs.Prelude.{◌≡◌, ◌<◌, ◌≤◌, ◌++◌, ℕ, List, false, replicate};
+ghost use Rattle.std.specs.Prelude.{◌≡◌, ◌<◌, ◌≤◌, ◌++◌, ℕ, List, false};
 ghost use Rattle.std.specs.Option.{option_map};
 ghost use Rattle.clay_grid.specs.Shape.{chunk_count};
 ghost use Rattle.store_core.specs.Act.{Act};
@@ -7,10 +7,9 @@ ghost use Rattle.store_core.specs.Agreement.{Agrees, ActorToken};
 ghost use Rattle.store_resume.specs.State.{State};
 ghost use Rattle.chunk_server.specs.Core.{core_of};
 ghost use Rattle.chunk_server.specs.State.{IsSame};
-ghost use Rattle.call_steps.specs.Steps.{IfServer};
 ghost use Rattle.stripe_dir.specs.Sealed.{Sealed};
-ghost use Rattle.call_steps.specs.CallOf.{act_of, taken_of};
-ghost use Rattle.call_steps.specs.Steps.{need_of, stepped_at_directory, stepped_at_server, coded, HoldsItsPass, IsDueInPass, MayMakeNext};
+ghost use Rattle.call_steps.specs.CallOf.{act_of, taken_of, HasTakenNothing};
+ghost use Rattle.call_steps.specs.Steps.{need_of, IsServerBelow, LeadsTo, LeadsToAtServer, coded, HoldsItsPass, IsDueInPass, MayMakeNext};
 ghost use Rattle.world_lines.specs.Outcomes.{call_outcome_of};
 ghost use Rattle.call_steps.specs.Callers.{IsOfScript};
 ghost use Rattle.client_patch.specs.Padded.{ArePadded};
@@ -141,7 +140,7 @@ impl<'a> CallMachine<'a> {
         ensures in_pass { IsDueInPass self.now.call }
         ensures pass { HoldsItsPass self.now.call }
         ensures may { MayMakeNext self.now.call }
-        ensures below { IfServer result (λ server. server < chunk_count self.now.call.book.geometry) }
+        ensures below { IsServerBelow (chunk_count self.now.call.book.geometry) result }
     {
         match &self.kind {
             Kind::Read(read) => read.need(),
@@ -161,8 +160,7 @@ impl<'a> CallMachine<'a> {
         requires book { IfDraws (machine_of self.old.asked) (book.now ≡ self.old.call.book) }
         requires padded { IfPatches (machine_of self.old.asked) (ArePadded directory.old) }
         requires knows { KnowsOldOf directory.old self.old }
-        ensures step { (directory.new.core, self.new.call)
-            ≡ stepped_at_directory self.new.call.step self.new.call.due self.old.call directory.old.core }
+        ensures step { LeadsTo self.old.call directory.old.core self.new.call directory.new.core }
         ensures agrees { Agrees directory.new.core self.new.call.token }
         ensures knows { KnowsOldOf directory.new self.new }
         ensures asked { self.new.asked ≡ self.old.asked }
@@ -183,8 +181,7 @@ impl<'a> CallMachine<'a> {
     pub fn on_server(&mut self, s: &mut Server)
         requires need { need_of self.old.call ≡ Need.Server s.old.number }
         requires book { s.old.book ≡ self.old.call.book }
-        ensures step { (core_of s.new, self.new.call)
-            ≡ stepped_at_server self.new.call.step self.new.call.due self.old.call (core_of s.old) }
+        ensures step { LeadsToAtServer self.old.call (core_of s.old) self.new.call (core_of s.new) }
         ensures knows { (d : Sealed) → KnowsOldOf d self.old → KnowsOldOf d self.new }
         ensures asked { self.new.asked ≡ self.old.asked }
         ensures owed { self.new.owed ≡ self.old.owed }
@@ -218,7 +215,7 @@ impl<'a> CallMachine<'a> {
     /// What it has taken, or none where it has taken nothing.
     pub fn takes(&self) -> Option<&Takes>
         ensures takes { option_map (λ takes. takes.now) result ≡ taken_of self.now.call.takes }
-        ensures nothing { IfPuts (machine_of self.now.asked) (self.now.call.takes ≡ replicate (chunk_count self.now.call.book.geometry) 0) }
+        ensures nothing { IfPuts (machine_of self.now.asked) (HasTakenNothing self.now.call) }
     {
         match &self.kind {
             Kind::Read(read) => read.takes(),

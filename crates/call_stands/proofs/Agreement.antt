@@ -1,4 +1,4 @@
--- A call's steps keep the directory in agreement with its token, and with the others'.
+-- A call's steps keep the directory in agreement with its ticket, and with the others'.
 use Rattle.std.proofs.Common.{◌≡◌, ℕ, ◌<◌, Bool, false, sym, subst}
 use Rattle.clay_grid.specs.Shape.{stripe_length}
 use Rattle.store_core.specs.Told.{Told}
@@ -16,7 +16,7 @@ use Rattle.call_steps.specs.CallOf.{CallOf, act_of}
 use Rattle.call_steps.specs.Steps.{at_directory_by}
 use Rattle.call_stands.specs.TokenLaws.{AgreementStays}
 
--- with the token that the call has then
+-- with the ticket that the call has then
 own_goes_on : (token : ActorToken) (number : ℕ) (step : DirectoryStep) (d : Directory) (short : Bool) → 0 < stripe_length d.shape → IsSound d → Agrees d token
     → MayMake d token number step
     → let after : Directory × Told = at_directory short (actor_of token) number step d in

@@ -97,7 +97,7 @@ coded_first g tries job actor c coding short who places stands =
     step_by g tries short who job actor told places (next_act g tries job told))
     (acts_now g tries job actor c stands)
 
--- a coding changes neither the token nor the job
+-- a coding changes neither the ticket nor the job
 kind_ready : (d : Directory) (c : CallOf) (coding due : Bool) → HasPassOfItsKind d c → HasPassOfItsKind d (cond due (coded coding c) c)
 kind_ready d c coding true its = its
 kind_ready d c coding false its = its

@@ -1,4 +1,4 @@
--- A token keeps its actor, and the directory's pass is of its call.
+-- A ticket keeps its actor, and the directory's pass is of its call.
 use Rattle.std.proofs.Common.{◌≡◌, ℕ, Bool, true, false, cond, Option, IfSome, refl, sym, ap, subst}
 use Rattle.store_core.specs.Told.{Told}
 use Rattle.store_core.specs.Note.{Note}
@@ -13,7 +13,7 @@ use Rattle.call_steps.specs.CallOf.{CallOf, act_of}
 use Rattle.call_steps.specs.Steps.{at_directory_by, at_server_by, coded}
 use Rattle.call_stands.specs.TokenLaws.{TokensStay, PassesAreOfCalls}
 
--- ---- a token keeps its actor
+-- ---- a ticket keeps its actor
 look_stays : (seat : Seat) (number : ℕ) (note : Note) (answer : Told) → actor_of (after_look seat number note answer) ≡ seat.actor
 look_stays seat number note (Told.Answer point reply) = refl
 look_stays seat number note (Told.Pinned point length_now seen) = refl

@@ -30,15 +30,15 @@ pub fn needs_tell_acts()
     ensures ends { EndsStay }
 {}
 
-/// A token keeps its actor through all steps of a call; and where the directory agrees with it, the
+/// A ticket keeps its actor through all steps of a call; and where the directory agrees with it, the
 /// actor's pass is of its call.
 pub fn tokens_keep_their_actors()
     ensures tokens { TokensStay }
     ensures passes { PassesAreOfCalls }
 {}
 
-/// Where a directory agrees with a call's token, it does so after each step of the call, with the token
-/// that the call has then; and with the tokens of all other actors.
+/// Where a directory agrees with a call's ticket, it does so after each step of the call, with the ticket
+/// that the call has then; and with the tickets of all other actors.
 pub fn steps_keep_agreement()
     ensures { AgreementStays }
 {}

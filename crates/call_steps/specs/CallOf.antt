@@ -1,6 +1,7 @@
 -- A call in work, as callers of its machine see it: plain data.
-use Rattle.std.specs.Prelude.{ℕ, Bool, false, nat_lt, List, Option, None, Some, if◌then◌else◌}
+use Rattle.std.specs.Prelude.{◌≡◌, ℕ, Bool, false, nat_lt, List, replicate, Option, None, Some, if◌then◌else◌}
 use Rattle.std.specs.List.{list_any}
+use Rattle.clay_grid.specs.Shape.{chunk_count}
 use Rattle.store_map.specs.Limits.{tries_of}
 use Rattle.store_map.specs.declared.script.Script.{Script}
 use Rattle.store_core.specs.Told.{Told}
@@ -13,7 +14,7 @@ use Rattle.store_resume.specs.StateActs.{act_of_state}
 use Rattle.store_resume.specs.CallLaws.{next_call}
 use Rattle.version_seal.specs.Entry.{BookOf}
 
--- the book of its versions, how often a write is tried, the call, its number, its actor's token, where it stands, what it took from each server,
+-- the book of its versions, how often a write is tried, the call, its number, its actor's ticket, where it stands, what it took from each server,
 -- whether coding is due before its next step, and whether memory was wanting in its last coding and in its last step
 pub record CallOf : Type 0 where
   pub book : BookOf
@@ -35,6 +36,10 @@ tries_by (Some script) = tries_of script
 -- what a call took, where it took something
 abbrev pub taken_of : List ℕ → Option (List ℕ)
 taken_of takes = if list_any (nat_lt 0) takes then Some takes else None
+
+-- nothing, of any server
+abbrev pub HasTakenNothing : CallOf → Type 0
+HasTakenNothing c = c.takes ≡ replicate (chunk_count c.book.geometry) 0
 
 -- what it does next
 abbrev pub act_of : CallOf → Act

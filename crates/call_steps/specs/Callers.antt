@@ -16,7 +16,7 @@ IsClient who = ⊥
 abbrev pub IsOfScript : BookOf → Actor → ℕ → Call → Type 0
 IsOfScript book who number written = IfSome book.script (λ script. call_of script who number ≡ Some written)
 
--- the token before a look: a seat under which the call's number is unused
+-- the ticket before a look: a seat under which the call's number is unused
 abbrev pub IsWaiting : ℕ → ActorToken → Type 0
 IsWaiting number (ActorToken.Seated seat) = seat.unused ≤ number
 IsWaiting number (ActorToken.InCall held) = ⊥

@@ -1,5 +1,5 @@
 -- The steps of a call, its coding, and what it needs.
-use Rattle.std.specs.Prelude.{◌≡◌, ⊤, ℕ, Bool, true, false, IsTrue}
+use Rattle.std.specs.Prelude.{◌≡◌, ⊤, ℕ, ◌<◌, Bool, true, false, IsTrue}
 use Rattle.store_core.specs.Told.{Told}
 use Rattle.store_core.specs.Act.{Act, DirectoryStep}
 use Rattle.store_core.specs.ActPlace.{is_in_pass}
@@ -24,6 +24,10 @@ at_directory_by act short due c d = (d, c)
 abbrev pub stepped_at_directory : Bool → Bool → CallOf → Directory → Directory × CallOf
 stepped_at_directory short due c d = at_directory_by (act_of c) short due c d
 
+-- it leads from a call and the directory to these; whether memory was wanting in it and whether coding is due then, the call tells
+abbrev pub LeadsTo : CallOf → Directory → CallOf → Directory → Type 0
+LeadsTo c d after now = (now, after) ≡ stepped_at_directory after.step after.due c d
+
 -- the server and the call after its act there
 abbrev pub at_server_by : Act → Bool → Bool → CallOf → Server → Server × CallOf
 at_server_by (Act.AtServer server step) short due c s =
@@ -34,6 +38,10 @@ at_server_by act short due c s = (s, c)
 -- one step at the server that it needs
 abbrev pub stepped_at_server : Bool → Bool → CallOf → Server → Server × CallOf
 stepped_at_server short due c s = at_server_by (act_of c) short due c s
+
+-- it leads from a call and that server to these
+abbrev pub LeadsToAtServer : CallOf → Server → CallOf → Server → Type 0
+LeadsToAtServer c s after now = (now, after) ≡ stepped_at_server after.step after.due c s
 
 -- where it stands after a coding
 abbrev pub state_coded : Bool → CallOf → CallState
@@ -68,6 +76,10 @@ IsDueInPass c = c.due ≡ true → IsTrue (is_in_pass (act_of c))
 abbrev pub IfServer : Need → (ℕ → Type 0) → Type 0
 IfServer (need.Server server) holds = holds server
 IfServer needed holds = ⊤
+
+-- it is one of so many
+abbrev pub IsServerBelow : ℕ → Need → Type 0
+IsServerBelow count needed = IfServer needed (λ server. server < count)
 
 -- where its next step is one at the directory, every directory of its book's code lets its actor make it
 abbrev pub MayMakeNext : CallOf → Type 0

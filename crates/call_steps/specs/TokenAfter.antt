@@ -1,4 +1,4 @@
--- An actor's token while its call's steps change it.
+-- An actor's ticket while its call's steps change it.
 use Rattle.std.specs.Prelude.{◌≡◌, ⊤, ℕ}
 use Rattle.store_core.specs.Told.{Told}
 use Rattle.store_core.specs.Act.{DirectoryStep}

@@ -1,3 +1,4 @@
+//! What a look at the directory pins of one stripe.
 use store_map::Placement;
 use version_seal::Stamp;
 

@@ -1,5 +1,5 @@
 -- How a call from C ends.
-use Rattle.std.specs.Prelude.{ℕ}
+use Rattle.std.specs.Prelude.{◌≡◌, ◌≢◌, ℕ}
 
 -- what was asked is done
 abbrev pub done : ℕ
@@ -28,3 +28,11 @@ out_of_memory = 5
 -- the helpers aren't as many as the code has, or aren't each other chunk of the lost one's column, or the lost chunk is one
 abbrev pub bad_helpers : ℕ
 bad_helpers = 6
+
+-- with which a call ends that takes bytes
+abbrev pub EndsByLength : ℕ → Type 0
+EndsByLength status = status ≢ bad_geometry → status ≢ bad_length → status ≢ done → status ≡ out_of_memory
+
+-- and one that takes a chunk's number too
+abbrev pub EndsByChunk : ℕ → Type 0
+EndsByChunk status = status ≢ bad_geometry → status ≢ bad_chunk → status ≢ bad_length → status ≢ done → status ≡ out_of_memory

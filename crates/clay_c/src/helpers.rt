@@ -3,7 +3,7 @@ ghost use Rattle.std.specs.Prelude.{◌≡◌, ◌≢◌, ◌+◌, ◌<◌, ◌�
 ghost use Rattle.clay_aloof.specs.Shape.{aloof_of};
 ghost use Rattle.clay_aloof.specs.Limits.{IsAloof};
 ghost use Rattle.clay_aloof.specs.Repair.{aloof_layers_of};
-ghost use Rattle.clay_c.specs.Status.{done, bad_geometry, bad_length, bad_chunk, out_of_memory, bad_helpers};
+ghost use Rattle.clay_c.specs.Status.{done, bad_geometry, bad_length, bad_chunk, out_of_memory, bad_helpers, EndsByLength, EndsByChunk};
 ghost use Rattle.clay_c.specs.Helpers.{HasAloofNumbers, AloofLayersFit, AloofParityFits, MakesAloofParity, MarksFit, MarkedPartsFit, RebuildsAloof};
 
 use crate::ClayNumbers;
@@ -67,7 +67,7 @@ pub extern "C" fn clay_parity_with_helpers(
 ) -> u32
     ensures geometry { (result ≡ bad_geometry) ↔ (IsAloof (aloof_of k m d w) → ⊥) }
     ensures length { (result ≡ bad_length) ↔ (IsAloof (aloof_of k m d w) × (AloofParityFits (aloof_of k m d w) stripe.now parity.old → ⊥)) }
-    ensures other { result ≢ bad_geometry → result ≢ bad_length → result ≢ done → result ≡ out_of_memory }
+    ensures other { EndsByLength result }
     ensures parity { result ≡ done → MakesAloofParity (aloof_of k m d w) stripe.now parity.new }
     ensures kept { result ≢ done → parity.new ≡ parity.old }
 {
@@ -101,7 +101,7 @@ pub extern "C" fn clay_repair_layers_with_helpers(
     ensures geometry { (result ≡ bad_geometry) ↔ (IsAloof (aloof_of k m d w) → ⊥) }
     ensures chunk { (result ≡ bad_chunk) ↔ (IsAloof (aloof_of k m d w) × (lost < k + m → ⊥)) }
     ensures length { (result ≡ bad_length) ↔ (IsAloof (aloof_of k m d w) × (lost < k + m) × (AloofLayersFit (aloof_of k m d w) layers.old → ⊥)) }
-    ensures other { result ≢ bad_geometry → result ≢ bad_chunk → result ≢ bad_length → result ≢ done → result ≡ out_of_memory }
+    ensures other { EndsByChunk result }
     ensures layers { result ≡ done → layers.new ≡ aloof_layers_of (aloof_of k m d w) lost }
     ensures kept { result ≢ done → layers.new ≡ layers.old }
 {

@@ -6,7 +6,7 @@ ghost use Rattle.std.specs.Prelude.{◌≡◌, ◌≢◌, ◌+◌, ◌<◌, ◌�
 ghost use Rattle.clay_grid.specs.Shape.{shape_of};
 ghost use Rattle.clay_grid.specs.Limits.{IsGeometry};
 ghost use Rattle.clay_grid.specs.Repair.{repair_layers_of};
-ghost use Rattle.clay_c.specs.Status.{done, bad_geometry, bad_length, bad_chunk, too_few, out_of_memory};
+ghost use Rattle.clay_c.specs.Status.{done, bad_geometry, bad_length, bad_chunk, too_few, out_of_memory, EndsByLength, EndsByChunk};
 ghost use Rattle.clay_c.specs.Calls.{HasNumbers, LayersFit, ParityFits, MakesParity, ChunksFit, lost_count, Recovers, PartsFit, Rebuilds};
 
 mod aloof;
@@ -94,7 +94,7 @@ pub extern "C" fn clay_repair_layers(
     ensures geometry { (result ≡ bad_geometry) ↔ (IsGeometry (shape_of k m w) → ⊥) }
     ensures chunk { (result ≡ bad_chunk) ↔ (IsGeometry (shape_of k m w) × (lost < k + m → ⊥)) }
     ensures length { (result ≡ bad_length) ↔ (IsGeometry (shape_of k m w) × (lost < k + m) × (LayersFit (shape_of k m w) layers.old → ⊥)) }
-    ensures other { result ≢ bad_geometry → result ≢ bad_chunk → result ≢ bad_length → result ≢ done → result ≡ out_of_memory }
+    ensures other { EndsByChunk result }
     ensures layers { result ≡ done → layers.new ≡ repair_layers_of (shape_of k m w) lost }
     ensures kept { result ≢ done → layers.new ≡ layers.old }
 {
@@ -128,7 +128,7 @@ pub extern "C" fn clay_parity(
 ) -> u32
     ensures geometry { (result ≡ bad_geometry) ↔ (IsGeometry (shape_of k m w) → ⊥) }
     ensures length { (result ≡ bad_length) ↔ (IsGeometry (shape_of k m w) × (ParityFits (shape_of k m w) stripe.now parity.old → ⊥)) }
-    ensures other { result ≢ bad_geometry → result ≢ bad_length → result ≢ done → result ≡ out_of_memory }
+    ensures other { EndsByLength result }
     ensures parity { result ≡ done → MakesParity (shape_of k m w) stripe.now parity.new }
     ensures kept { result ≢ done → parity.new ≡ parity.old }
 {
@@ -198,7 +198,7 @@ pub extern "C" fn clay_rebuild(
     ensures geometry { (result ≡ bad_geometry) ↔ (IsGeometry (shape_of k m w) → ⊥) }
     ensures chunk { (result ≡ bad_chunk) ↔ (IsGeometry (shape_of k m w) × (lost < k + m → ⊥)) }
     ensures length { (result ≡ bad_length) ↔ (IsGeometry (shape_of k m w) × (lost < k + m) × (PartsFit (shape_of k m w) parts.now chunk.old → ⊥)) }
-    ensures other { result ≢ bad_geometry → result ≢ bad_chunk → result ≢ bad_length → result ≢ done → result ≡ out_of_memory }
+    ensures other { EndsByChunk result }
     ensures rebuilt { result ≡ done → Rebuilds (shape_of k m w) lost parts.now chunk.new }
     ensures kept { result ≢ done → chunk.new ≡ chunk.old }
 {

@@ -1,7 +1,7 @@
 -- What the top call owes for its words and its input.
 use Rattle.std.specs.Prelude.{◌≡◌, ◌⊎◌, ℕ, Option, Some, List, [], codes}
 use Rattle.clay_bytes.specs.Stream.{Gains, IsPrefixWritten}
-use Rattle.clay_words.specs.Words.{AsksTask}
+use Rattle.clay_words.specs.Words.{AsksTask, AsksForInput}
 use Rattle.clay_gen.specs.Script.{generated}
 use Rattle.store_answers.specs.Played.{IsPlayed}
 use Rattle.store_run.specs.Swept.{IsRunToEnd}
@@ -23,6 +23,10 @@ usage_line = codes "usage: clay play | run WORKERS | verify | chunks K M W | rec
 -- a fact of the bytes that a source told, if it told them
 abbrev pub WhereTold : Option (List ℕ) → (List ℕ → Type 0) → Type 0
 WhereTold told P = (bytes : List ℕ) → told ≡ Some bytes → P bytes
+
+-- a fact of the input, where the words ask for one and the source told it
+abbrev pub IfInput : List (List ℕ) → Option (List ℕ) → (List ℕ → Type 0) → Type 0
+IfInput words told P = AsksForInput words → WhereTold told P
 
 -- the output of a task for an input, with its status; the other statuses have none
 abbrev pub Answers : Task → List ℕ → Status → List ℕ → Type 0

@@ -3,8 +3,8 @@ ghost use Rattle.std.specs.Prelude.{◌≡◌, ◌≢◌, ◌⊎◌, ◌≤◌, 
 ghost use Rattle.clay_bytes.specs.Stream.{Rises, Gains, GivesAtMost, IsCutOff, IsPrefixWritten};
 ghost use Rattle.clay_gen.specs.Script.{generated};
 ghost use Rattle.script_text.specs.Spelling.{spelling};
-ghost use Rattle.clay_words.specs.Words.{Asks, AsksNothing, AsksForInput, IsWithinBounds};
-ghost use Rattle.clay_cli.specs.Top.{WhereTold, IsAnswer, HasRun, Owes, Writes, IsOfInput, IsSilent, usage_line};
+ghost use Rattle.clay_words.specs.Words.{Asks, AsksNothing, IsWithinBounds};
+ghost use Rattle.clay_cli.specs.Top.{WhereTold, IsAnswer, HasRun, Owes, Writes, IsOfInput, IsSilent, usage_line, IfInput};
 ghost use Rattle.clay_cli.specs.Trial.{trial_lines};
 ghost use Rattle.clay_words.specs.declared.words.Command.TheVariants.{Generate, Trial};
 
@@ -143,10 +143,10 @@ pub fn clay_main<R: Threads + Wait + Sync, S: Source, K: Sink, G: Gate + Sync, C
         (source.new ≡ source.old) × Writes result (K.written sink.old) (trial_lines size) (K.written sink.new) × HasRun result start size }
 
     // A command that reads an input writes one output that is owed for the whole of it; a prefix where a write fails; or nothing.
-    ensures output { IsOfInput result → AsksForInput (map string_bytes words.now) → WhereTold (S.left source.old) (λ input.
+    ensures output { IsOfInput result → IfInput (map string_bytes words.now) (S.left source.old) (λ input.
         (length input ≤ 167772160)
         × ((output : List ℕ) × Owes (map string_bytes words.now) input result output × Gains (K.written sink.old) output (K.written sink.new))) }
-    ensures prefix { result ≡ Status.WriteFault → AsksForInput (map string_bytes words.now) → WhereTold (S.left source.old) (λ input.
+    ensures prefix { result ≡ Status.WriteFault → IfInput (map string_bytes words.now) (S.left source.old) (λ input.
         (status : Status) × (output : List ℕ) × Owes (map string_bytes words.now) input status output
         × IsPrefixWritten (K.written sink.old) output (K.written sink.new)) }
     ensures silent { IsSilent result → Gains (K.written sink.old) [] (K.written sink.new) }
@@ -162,10 +162,10 @@ pub fn clay_main<R: Threads + Wait + Sync, S: Source, K: Sink, G: Gate + Sync, C
     ensures write_steady { (result ≡ Status.WriteFault → ⊥) → K.faults sink.new ≡ K.faults sink.old }
 
     // Where no count rose, an input within the limit gets its output, and a longer one is refused, if memory suffices.
-    ensures complete { AsksForInput (map string_bytes words.now) → WhereTold (S.left source.old) (λ input. length input ≤ 167772160 →
+    ensures complete { IfInput (map string_bytes words.now) (S.left source.old) (λ input. length input ≤ 167772160 →
         (Rises (S.faults source.old) (S.faults source.new) → ⊥) → (Rises (K.faults sink.old) (K.faults sink.new) → ⊥) →
         IsOfInput result ⊎ (result ≡ Status.OutOfMemory)) }
-    ensures complete_long { AsksForInput (map string_bytes words.now) → WhereTold (S.left source.old) (λ input. 167772160 < length input →
+    ensures complete_long { IfInput (map string_bytes words.now) (S.left source.old) (λ input. 167772160 < length input →
         (Rises (S.faults source.old) (S.faults source.new) → ⊥) → (result ≡ Status.InputTooLong) ⊎ (result ≡ Status.OutOfMemory)) }
 {
     let command = match command_of(alloc, words) {

@@ -1,5 +1,6 @@
 //! The command `verify`.
-ghost use Rattle.std.specs.Prelude.{◌≡◌, ◌≢◌, ◌⊎◌, ◌≤◌, ◌<◌, ◌+◌, ◌^◌, length, take, drop, IfOk};
+ghost use Rattle.std.specs.Prelude.{◌≡◌, ◌≢◌, ◌⊎◌, ◌≤◌, ◌+◌, length, take, drop, IfOk};
+ghost use Rattle.hist_rules.specs.Named.{HasFewLines};
 ghost use Rattle.hist_rules.specs.Verdict.{verdict_of};
 ghost use Rattle.hist_rules.specs.VerdictText.{verdict_line};
 ghost use Rattle.clay_cli.specs.Top.{IsAnswer, IsOfInput};
@@ -56,7 +57,7 @@ fn behind(lines: u32, fault: ScriptFault) -> ScriptFault
 
 // The line that a script's transcript gets.
 fn judge(alloc: Global, script: &Script, transcript: &Transcript) -> Result<Output, AllocError>
-    requires few { length transcript.now.history + length transcript.now.refused + length transcript.now.repairs < 2 ^ 32 }
+    requires few { HasFewLines transcript.now }
     ensures line { IfOk result (λ output. output.bytes.items ≡ verdict_line (verdict_of script.now transcript.now)) }
     ensures legal { IfOk result (λ output. output.status ≡ Status.Done → verdict_of script.now transcript.now ≡ Verdict.Legal) }
     ensures broken { IfOk result (λ output. output.status ≡ Status.NotLegal → verdict_of script.now transcript.now ≢ Verdict.Legal) }

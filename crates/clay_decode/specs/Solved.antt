@@ -53,6 +53,10 @@ pub record HoldsLayer (g : Shape) (have : List (Option (Vec ℕ Global))) (point
   pub at : (word : List (List ℕ)) → Completes g have word → (e b : ℕ) → e < length points → b < g.width
       → get_or solved ((n * length points + e) * g.width + b) 0 ≡ uncoupled_byte g word b (get_or points e 0) n
 
+-- a piece for each erased node in each layer
+abbrev pub HasPieces : Shape → Plan → List ℕ → Type 0
+HasPieces g plan solved = length solved ≡ layer_count g * (length plan.points.items * g.width)
+
 -- each layer is solved
 pub record AreSolved (g : Shape) (have : List (Option (Vec ℕ Global))) (plan : Plan) (solved : List ℕ) : Type 0 where
   pub len : length solved ≡ layer_count g * (length plan.points.items * g.width)
@@ -62,6 +66,10 @@ pub record AreSolved (g : Shape) (have : List (Option (Vec ℕ Global))) (plan :
 abbrev pub HoldsLower : Shape → List (Option (Vec ℕ Global)) → List Bool → List ℕ → ℕ → List ℕ → Type 0
 HoldsLower g have erased points n solved =
     (p : ℕ) → p < layer_count g → score_at g erased p < score_at g erased n → HoldsLayer g have points p solved
+
+-- the layers that layer n waits for are solved
+abbrev pub AreLowerSolved : Shape → List (Option (Vec ℕ Global)) → Plan → ℕ → List ℕ → Type 0
+AreLowerSolved g have plan n solved = HoldsLower g have plan.erased.items plan.points.items n solved
 
 -- the first count pieces are the subchunks of node i
 pub record HoldsSubchunks (g : Shape) (have : List (Option (Vec ℕ Global))) (i count : ℕ) (chunk : List ℕ) : Type 0 where

@@ -1,10 +1,10 @@
 //! Decoding that tells whether some codeword agrees.
-ghost use Rattle.std.specs.Prelude.{◌≡◌, ℕ, ◌+◌, ◌*◌, ◌<◌, ◌≤◌, ◌↔◌, List, [], length, take, IfOk, IfSome, IsErrOf, IsTrue, count_by, is_none, Err};
+ghost use Rattle.std.specs.Prelude.{◌≡◌, ◌+◌, ◌*◌, ◌≤◌, ◌↔◌, [], length, take, IfOk, IfSome, IsErrOf, IsTrue, Err};
 ghost use Rattle.std.specs.List.{concat};
 ghost use Rattle.clay_grid.specs.Shape.{Shape, chunk_count, chunk_length, stripe_length};
 ghost use Rattle.clay_model.specs.Code.{AgreesWith};
 ghost use Rattle.clay_encode.specs.Chunks.{contents};
-ghost use Rattle.clay_decode.specs.Left.{parts, AreLong, Completes};
+ghost use Rattle.clay_decode.specs.Left.{parts, AreLong, AreTooFew, Completes, NoneCompletes};
 
 use crate::chunks::{missing_count, recover};
 use crate::fault::CheckedFault;
@@ -57,8 +57,8 @@ pub fn decode_checked(
 ) -> Result<Vec<Vec<u8>>, CheckedFault>
     requires count { length have.now ≡ chunk_count g }
     requires lengths { AreLong (chunk_length g) have.now }
-    ensures too_few { IsErrOf result CheckedFault.TooFew ↔ (g.parity_count < count_by is_none have.now) }
-    ensures disagree { result ≡ Err CheckedFault.Disagree → (word : List (List ℕ)) → Completes g have.now word → ⊥ }
+    ensures too_few { IsErrOf result CheckedFault.TooFew ↔ AreTooFew g have.now }
+    ensures disagree { result ≡ Err CheckedFault.Disagree → NoneCompletes g have.now }
     ensures codeword { IfOk result (λ chunks. Completes g have.now (contents chunks.items)) }
 {
     if missing_count(have) > g.m() as usize {

@@ -1,9 +1,9 @@
 //! The chunks, from the values that are found.
-ghost use Rattle.std.specs.Prelude.{◌≡◌, ℕ, ◌+◌, ◌*◌, ◌<◌, ◌≤◌, ◌↔◌, List, [], length, IfOk, IfSome, IsErrOf, All, slice_index_or, true, false, count_by, is_none, None, Some};
+ghost use Rattle.std.specs.Prelude.{◌≡◌, ◌+◌, ◌*◌, ◌<◌, ◌≤◌, ◌↔◌, length, IfOk, IfSome, IsErrOf, All, slice_index_or, true, false, count_by, is_none, None, Some};
 ghost use Rattle.clay_grid.specs.Shape.{Shape, chunk_count, node_count, layer_count, chunk_length, node_of_chunk};
 ghost use Rattle.clay_model.specs.Code.{AgreesWith};
 ghost use Rattle.clay_encode.specs.Chunks.{contents};
-ghost use Rattle.clay_decode.specs.Left.{parts, AreLong, AreLeft, Completes, AreRecovered};
+ghost use Rattle.clay_decode.specs.Left.{parts, AreLong, AreLeft, AreTooFew, IsRecoveredChunk, AreRecovered};
 ghost use Rattle.clay_decode.specs.Solved.{IsPlan, IsCoupled, AreSolved, HoldsSubchunks};
 
 use crate::fault::DecodeFault;
@@ -85,7 +85,7 @@ fn missing_chunk(
     requires chunk { c < chunk_count g }
     requires missing { slice_index_or have.now c None ≡ None }
     ensures len { IfOk result (λ v. length v.items ≡ chunk_length g) }
-    ensures value { IfOk result (λ v. (word : List (List ℕ)) → Completes g have.now word → v.items ≡ slice_index_or word c []) }
+    ensures value { IfOk result (λ v. IsRecoveredChunk g have.now c v.items) }
 {
     let node = g.node_of_chunk(c);
     let mut chunk = zeros(alloc, g.alpha() as usize * g.w() as usize)?;
@@ -107,7 +107,7 @@ fn chunk(
     requires chunk { c < chunk_count g }
     ensures len { IfOk result (λ v. length v.items ≡ chunk_length g) }
     ensures kept { IfOk result (λ v. IfSome (slice_index_or have.now c None) (λ w. v.items ≡ w.items)) }
-    ensures value { IfOk result (λ v. (word : List (List ℕ)) → Completes g have.now word → v.items ≡ slice_index_or word c []) }
+    ensures value { IfOk result (λ v. IsRecoveredChunk g have.now c v.items) }
 {
     match &have[c as usize] {
         Some(bytes) => bytes.clone(),
@@ -153,7 +153,7 @@ pub fn decode(
 ) -> Result<Vec<Vec<u8>>, DecodeFault>
     requires count { length have.now ≡ chunk_count g }
     requires lengths { AreLong (chunk_length g) have.now }
-    ensures too_few { IsErrOf result DecodeFault.TooFew ↔ (g.parity_count < count_by is_none have.now) }
+    ensures too_few { IsErrOf result DecodeFault.TooFew ↔ AreTooFew g have.now }
     ensures kept { IfOk result (λ chunks. AgreesWith (parts have.now) (contents chunks.items)) }
     ensures recovered { IfOk result (λ chunks. AreRecovered g have.now (contents chunks.items)) }
 {

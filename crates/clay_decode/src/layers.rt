@@ -3,7 +3,7 @@ ghost use Rattle.std.specs.Prelude.{◌≡◌, ℕ, ◌+◌, ◌*◌, ◌/◌, �
 ghost use Rattle.clay_grid.specs.Shape.{Shape, row_count, node_count, layer_count};
 ghost use Rattle.clay_grid.specs.Layers.{layer_of};
 ghost use Rattle.clay_decode.specs.Partners.{ArePartners};
-ghost use Rattle.clay_decode.specs.Solved.{IsPlan, IsCoupled, IsUncoupled, HoldsPresent, HoldsLayer, HoldsLower, AreSolved};
+ghost use Rattle.clay_decode.specs.Solved.{IsPlan, IsCoupled, IsUncoupled, HoldsPresent, HoldsLayer, HasPieces, AreSolved, AreLowerSolved};
 
 use crate::plan::Plan;
 use clay_encode::zeros;
@@ -85,7 +85,7 @@ pub fn solved_piece<'a>(
     z: u32,
 ) -> &'a [u8]
     requires plan { IsPlan g have.now plan.now }
-    requires solved_len { length solved.now ≡ layer_count g * (length plan.now.points.items * g.width) }
+    requires solved_len { HasPieces g plan.now solved.now }
     requires node { node < node_count g }
     requires erased { slice_index_or plan.now.erased.items node false ≡ true }
     requires layer { z < layer_count g }
@@ -109,8 +109,8 @@ fn uncouple_node(
     out: &mut [u8],
 )
     requires plan { IsPlan g have.now plan.now }
-    requires solved_len { length solved.now ≡ layer_count g * (length plan.now.points.items * g.width) }
-    requires lower { HoldsLower g have.now plan.now.erased.items plan.now.points.items z solved.now }
+    requires solved_len { HasPieces g plan.now solved.now }
+    requires lower { AreLowerSolved g have.now plan.now z solved.now }
     requires node { node < node_count g }
     requires there { slice_index_or plan.now.erased.items node false ≡ false }
     requires layer { z < layer_count g }
@@ -143,8 +143,8 @@ fn uncouple_layer(
     layer: &mut [u8],
 )
     requires plan { IsPlan g have.now plan.now }
-    requires solved_len { length solved.now ≡ layer_count g * (length plan.now.points.items * g.width) }
-    requires lower { HoldsLower g have.now plan.now.erased.items plan.now.points.items z solved.now }
+    requires solved_len { HasPieces g plan.now solved.now }
+    requires lower { AreLowerSolved g have.now plan.now z solved.now }
     requires layer { z < layer_count g }
     requires layer_len { length layer.old ≡ node_count g * g.width }
     ensures { HoldsPresent g have.now plan.now.erased.items z (node_count g) layer.new }
@@ -170,7 +170,7 @@ fn solve_layers(
     requires plan { IsPlan g have.now plan.now }
     requires layer_len { length layer.old ≡ node_count g * g.width }
     requires sums_len { length sums.old ≡ length plan.now.points.items * g.width }
-    requires solved_len { length solved.old ≡ layer_count g * (length plan.now.points.items * g.width) }
+    requires solved_len { HasPieces g plan.now solved.old }
     ensures { (n : ℕ) → n < layer_count g → HoldsLayer g have.now plan.now.points.items n solved.new }
 {
     let w = g.w() as usize;

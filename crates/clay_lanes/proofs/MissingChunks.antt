@@ -16,7 +16,8 @@ use Rattle.clay_decode.specs.Left.{parts, AreLong, Completes}
 use Rattle.clay_decode.proofs.Agreeing.{agrees_of}
 use Rattle.clay_decode.proofs.Nodes.{agreeing_chunk, long_chunk}
 use Rattle.clay_repair.specs.Coding.{AreRecovered}
-use Rattle.clay_lanes.specs.Recovered.{HoldsByte, missing_from, missing_of, AreMissing}
+use Rattle.lane_repair.specs.Pieces.{HoldsByte}
+use Rattle.clay_lanes.specs.Recovered.{missing_from, missing_of, AreMissing}
 use Rattle.clay_parity.proofs.ChunkLists.{contents_set, length-contents}
 
 none_of : (o : Option (Vec ℕ Global)) → is_none o ≡ true → o ≡ None

@@ -8,7 +8,7 @@ use borrow.Rule.Slice.PartMut.{put_mid}
 use Rattle.clay_grid.specs.Shape.{Shape, chunk_count, layer_count, chunk_length}
 use Rattle.clay_encode.proofs.Parts.{piece_fits, place_below, put_mid_before, put_mid_past, put_mid_within}
 use Rattle.clay_decode.specs.Left.{Completes}
-use Rattle.clay_lanes.specs.Recovered.{HoldsByte}
+use Rattle.lane_repair.specs.Pieces.{HoldsByte}
 use Rattle.clay_lanes.specs.Places.{HoldsPlace, KeepsPlaces, AreFilled}
 
 pub gone_of : (o : Option (Vec ℕ Global)) → is_some o ≡ false → is_none o ≡ true

@@ -1,14 +1,15 @@
--- What coding by blocks of bytes has found, for each codeword that fits what is there.
-use Rattle.std.specs.Prelude.{◌≡◌, ℕ, ◌+◌, ◌*◌, ◌<◌, ◌≤◌, Bool, false, List, [], map, length, get_or, filter, replicate, is_none, Option, None, All, Vec}
+-- What decoding by blocks of bytes works with and has found, for each codeword that fits what is there.
+use Rattle.std.specs.Prelude.{◌≡◌, ℕ, ◌+◌, ◌*◌, ◌<◌, ◌≤◌, Bool, false, List, [], map, length, get_or, slice_index_or, filter, replicate, is_none, Option, None, All, Vec}
 use Rattle.std.specs.List.{range_with_len}
 use Rattle.std.specs.declared.alloc.Global.{Global}
 use Rattle.clay_grid.specs.Shape.{Shape, chunk_count, node_count, layer_count, chunk_length}
 use Rattle.clay_grid.specs.Limits.{IsGeometry}
 use Rattle.clay_grid.specs.Score.{score_at, IsByScore}
-use Rattle.clay_scalar.specs.Erased.{erased_below, present}
+use Rattle.clay_scalar.specs.Erased.{erased_below}
 use Rattle.clay_decode.specs.Left.{AreLong, Completes}
-use Rattle.clay_decode.specs.Solved.{is_erased, coupled_byte, uncoupled_byte}
+use Rattle.clay_decode.specs.Solved.{is_erased, uncoupled_byte}
 use Rattle.clay_kernels.specs.Generated.{IsGeneratorOf}
+use Rattle.lane_repair.specs.Pieces.{HoldsByte}
 use Rattle.clay_lanes.specs.declared.plan.Plan.{Plan}
 
 -- the erased nodes, the order of the layers, and a subchunk of zeros, for chunks of which few enough are missing
@@ -29,29 +30,7 @@ pub record IsLanePlan (g : Shape) (have : List (Option (Vec ℕ Global))) (plan 
   pub generator : IsGeneratorOf g plan.points.items plan.generator.unknown plan.generator.each
   pub fifths : plan.fifths ≡ 0xA7
 
--- a piece has the bytes from `at` on of node i's subchunk n, as many as len
-pub record IsCoupled (g : Shape) (fits : List (List ℕ) → Type 0) (at len i n : ℕ) (piece : List ℕ) : Type 0 where
-  pub bytes : (word : List (List ℕ)) → fits word → (b : ℕ) → b < len → get_or piece b 0 ≡ coupled_byte g word (at + b) i n
-
--- the same of the uncoupled value
-pub record IsUncoupled (g : Shape) (fits : List (List ℕ) → Type 0) (at len i n : ℕ) (piece : List ℕ) : Type 0 where
-  pub bytes : (word : List (List ℕ)) → fits word → (b : ℕ) → b < len → get_or piece b 0 ≡ uncoupled_byte g word (at + b) i n
-
--- the same, or zeros for an erased node
-pub record IsPresent (g : Shape) (fits : List (List ℕ) → Type 0) (at len : ℕ) (erased : List Bool) (i n : ℕ) (piece : List ℕ) : Type 0 where
-  pub bytes : (word : List (List ℕ)) → fits word → (b : ℕ) → b < len → get_or piece b 0 ≡ present erased (λ i. uncoupled_byte g word (at + b) i n) i
-
--- a row of those values for each of the nodes from 4 y on below 4 y + count
-pub record HoldsColumn (g : Shape) (fits : List (List ℕ) → Type 0) (at len : ℕ) (erased : List Bool) (y n count : ℕ) (values : List ℕ) : Type 0 where
-  pub bytes : (word : List (List ℕ)) → fits word → (x b : ℕ) → x < count → b < len
-      → get_or values (x * len + b) 0 ≡ present erased (λ i. uncoupled_byte g word (at + b) i n) (y * 4 + x)
-
--- a row for each of the nodes: the bytes from `at` on of their uncoupled values in layer n
-pub record HoldsRows (g : Shape) (fits : List (List ℕ) → Type 0) (at len : ℕ) (points : List ℕ) (n : ℕ) (rows : List ℕ) : Type 0 where
-  pub bytes : (word : List (List ℕ)) → fits word → (e b : ℕ) → e < length points → b < len
-      → get_or rows (e * len + b) 0 ≡ uncoupled_byte g word (at + b) (get_or points e 0) n
-
--- the same of layer n where the rows of one layer follow those of the one before
+-- the rows of layer n (`HoldsRows`) where those of one layer follow those of the one before
 pub record HoldsLayerRows (g : Shape) (fits : List (List ℕ) → Type 0) (at len : ℕ) (points : List ℕ) (n : ℕ) (solved : List ℕ) : Type 0 where
   pub bytes : (word : List (List ℕ)) → fits word → (e b : ℕ) → e < length points → b < len
       → get_or solved ((n * length points + e) * len + b) 0 ≡ uncoupled_byte g word (at + b) (get_or points e 0) n
@@ -61,9 +40,22 @@ abbrev pub HoldsLower : Shape → (List (List ℕ) → Type 0) → ℕ → ℕ �
 HoldsLower g fits at len erased points n solved =
     (p : ℕ) → p < layer_count g → score_at g erased p < score_at g erased n → HoldsLayerRows g fits at len points p solved
 
--- byte p of a chunk is that of chunk c
-pub record HoldsByte (fits : List (List ℕ) → Type 0) (c : ℕ) (chunk : List ℕ) (p : ℕ) : Type 0 where
-  pub at : (word : List (List ℕ)) → fits word → get_or chunk p 0 ≡ get_or (get_or word c []) p 0
+-- byte p of a chunk is that of chunk c of each codeword that agrees with the chunks that are there
+abbrev pub HoldsByteOf : Shape → List (Option (Vec ℕ Global)) → ℕ → List ℕ → ℕ → Type 0
+HoldsByteOf g have c chunk p = HoldsByte (λ word. Completes g have word) c chunk p
+
+-- each byte that was right is right
+abbrev pub KeepsBytes : Shape → List (Option (Vec ℕ Global)) → ℕ → List ℕ → List ℕ → Type 0
+KeepsBytes g have c old new = (p : ℕ) → HoldsByteOf g have c old p → HoldsByteOf g have c new p
+
+-- the rows of a plan's erased nodes in every layer, for such codewords
+abbrev pub HoldsLayersOf : Shape → List (Option (Vec ℕ Global)) → Plan → ℕ → ℕ → List ℕ → Type 0
+HoldsLayersOf g have plan at len solved =
+    (n : ℕ) → n < layer_count g → HoldsLayerRows g (λ word. Completes g have word) at len plan.points.items n solved
+
+-- each of so many chunks has this length
+abbrev pub HaveLength : ℕ → ℕ → List (List ℕ) → Type 0
+HaveLength count len chunks = (i : ℕ) → i < count → length (slice_index_or chunks i []) ≡ len
 
 -- the numbers of the missing chunks from c on, rising
 abbrev pub missing_from : List (Option (Vec ℕ Global)) → ℕ → ℕ → List ℕ

@@ -1,9 +1,9 @@
 //! The codeword that agrees with what is left of it, and whether one does.
-ghost use Rattle.std.specs.Prelude.{◌≡◌, ℕ, ◌+◌, ◌≤◌, ◌<◌, ◌↔◌, List, [], length, take, IfOk, IsErrOf, IsTrue, count_by, is_none, slice_index_or, Err};
+ghost use Rattle.std.specs.Prelude.{◌≡◌, ℕ, ◌+◌, ◌≤◌, ◌<◌, ◌↔◌, [], length, take, IfOk, IsErrOf, IsTrue, slice_index_or, Err};
 ghost use Rattle.std.specs.List.{concat};
 ghost use Rattle.clay_grid.specs.Shape.{chunk_count, chunk_length};
 ghost use Rattle.clay_encode.specs.Chunks.{contents};
-ghost use Rattle.clay_decode.specs.Left.{AreLong, Completes};
+ghost use Rattle.clay_decode.specs.Left.{AreLong, AreTooFew, Completes, NoneCompletes};
 
 use crate::lost::{missing_count, recover};
 use clay_decode::CheckedFault;
@@ -55,8 +55,8 @@ pub fn decode_checked(
 ) -> Result<Vec<Vec<u8>>, CheckedFault>
     requires count { length have.now ≡ chunk_count g }
     requires lengths { AreLong (chunk_length g) have.now }
-    ensures too_few { IsErrOf result CheckedFault.TooFew ↔ (g.parity_count < count_by is_none have.now) }
-    ensures disagree { result ≡ Err CheckedFault.Disagree → (word : List (List ℕ)) → Completes g have.now word → ⊥ }
+    ensures too_few { IsErrOf result CheckedFault.TooFew ↔ AreTooFew g have.now }
+    ensures disagree { result ≡ Err CheckedFault.Disagree → NoneCompletes g have.now }
     ensures codeword { IfOk result (λ chunks. Completes g have.now (contents chunks.items)) }
 {
     if missing_count(have) > g.m() as usize {

@@ -1,15 +1,15 @@
 //! The uncoupled values of the erased nodes in a block of bytes, layer by layer.
-ghost use Rattle.std.specs.Prelude.{◌≡◌, ℕ, ◌+◌, ◌*◌, ◌<◌, ◌≤◌, length, slice_index, slice_index_or, true, false, Contains};
+ghost use Rattle.std.specs.Prelude.{◌≡◌, ◌+◌, ◌*◌, ◌<◌, ◌≤◌, length, slice_index, slice_index_or, true, false, Contains};
 ghost use Rattle.clay_grid.specs.Shape.{node_count, layer_count};
-ghost use Rattle.clay_decode.specs.Left.{Completes};
-ghost use Rattle.clay_lanes.specs.Recovered.{IsLanePlan, HoldsLayerRows};
+ghost use Rattle.clay_lanes.specs.Recovered.{IsLanePlan, HoldsLayersOf};
 ghost use Rattle.clay_lanes.specs.Blocks.{IsBlock, rows_length, solved_length, IsCoupledIn, IsUncoupledIn, IsPresentIn, HoldsColumnIn, HoldsRowsIn, HoldsLayerIn, HoldsLayersIn, HoldsLowerIn};
 
 use crate::block::Block;
-use crate::plan::{Plan, is_column_erased};
+use crate::plan::Plan;
 use clay_decode::partner_of;
 use clay_grid::Geometry;
 use clay_kernels::{add_column, column_room, end_column, uncouple, uncouple_from};
+use lane_repair::is_column_erased;
 
 // The place of an erased node among them.
 fn place_of(points: &[u8], node: u32) -> usize
@@ -222,8 +222,7 @@ pub fn solve_layers(
     requires within { at + length values.old ≤ g.width }
     requires rows_len { length rows.old ≡ length plan.now.points.items * length values.old }
     requires solved_len { length solved.old ≡ layer_count g * (length plan.now.points.items * length values.old) }
-    ensures { (n : ℕ) → n < layer_count g →
-        HoldsLayerRows g (λ word. Completes g have.now word) at (length values.old) plan.now.points.items n solved.new }
+    ensures { HoldsLayersOf g have.now plan.now at (length values.old) solved.new }
 {
     let block = Block {
         g,

@@ -8,16 +8,14 @@ mod layers;
 mod lost;
 mod places;
 mod plan;
-mod read_block;
-mod repair;
-mod repair_plan;
 
 pub use checked::decode_checked;
 pub use clay_parity::{Prepared, encode, parity, parity_into};
 pub use coder::LaneCoder;
+pub use lane_repair::{
+    RepairPlan, make_repair_plan, rebuild, rebuild_into, solve_column, write_block,
+};
 pub use layers::solve_layers;
 pub use lost::{couple_chunk, decode, missing, missing_count};
 pub use places::missing_into;
 pub use plan::{Plan, make_plan};
-pub use repair::{rebuild, rebuild_into, solve_column, write_block};
-pub use repair_plan::{RepairPlan, make_repair_plan};

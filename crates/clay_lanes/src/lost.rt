@@ -1,12 +1,12 @@
 //! The missing chunks, a block of bytes of each subchunk after another.
-ghost use Rattle.std.specs.Prelude.{◌≡◌, ℕ, ◌+◌, ◌*◌, ◌<◌, ◌≤◌, ◌↔◌, List, [], length, min, replicate, IfOk, IsErrOf, All, slice_index, slice_index_or, true, false, count_by, is_none, None};
+ghost use Rattle.std.specs.Prelude.{◌≡◌, ℕ, ◌+◌, ◌*◌, ◌<◌, ◌≤◌, ◌↔◌, List, length, min, replicate, IfOk, IsErrOf, All, slice_index_or, true, false, count_by, is_none, None};
 ghost use Rattle.clay_grid.specs.Shape.{chunk_count, node_count, layer_count, chunk_length};
 ghost use Rattle.clay_model.specs.Code.{AgreesWith};
 ghost use Rattle.clay_encode.specs.Chunks.{contents};
-ghost use Rattle.clay_decode.specs.Left.{parts, AreLong, Completes};
+ghost use Rattle.clay_decode.specs.Left.{parts, AreLong, AreTooFew};
 ghost use Rattle.clay_repair.specs.Coding.{AreLeft, AreRecovered};
-ghost use Rattle.clay_lanes.specs.Recovered.{IsLanePlan, HoldsLayerRows, HoldsByte, missing_of, AreMissing};
-ghost use Rattle.clay_lanes.specs.Blocks.{IsBlock, rows_length, solved_length, IsCoupledIn, HoldsLayersIn, HoldsByteIn};
+ghost use Rattle.clay_lanes.specs.Recovered.{IsLanePlan, HoldsByteOf, KeepsBytes, HoldsLayersOf, HaveLength, missing_of, AreMissing};
+ghost use Rattle.clay_lanes.specs.Blocks.{IsBlock, rows_length, solved_length, row_bytes, solved_bytes, IsCoupledIn, HoldsLayersIn, HoldsChunkIn, KeepsBytesIn, HoldsChunksIn, KeepsChunksIn};
 
 use crate::block::Block;
 use crate::plan::{Plan, make_plan};
@@ -48,9 +48,8 @@ impl<'a> Block<'a> {
         requires chunk { c < chunk_count self.now.g }
         requires missing { slice_index_or self.now.have.now c None ≡ None }
         requires chunk_len { length chunk.old ≡ chunk_length self.now.g }
-        ensures written { (z b : ℕ) → z < layer_count self.now.g → b < self.now.len →
-            HoldsByteIn self.now c chunk.new (z * self.now.g.width + (self.now.at + b)) }
-        ensures kept { (p : ℕ) → HoldsByteIn self.now c chunk.old p → HoldsByteIn self.now c chunk.new p }
+        ensures written { HoldsChunkIn self.now c chunk.new }
+        ensures kept { KeepsBytesIn self.now c chunk.old chunk.new }
     {
         let node = self.g.node_of_chunk(c);
         let w = self.g.w() as usize;
@@ -68,12 +67,10 @@ impl<'a> Block<'a> {
         requires holds { HoldsLayersIn self.now solved.now }
         requires lost { lost.now ≡ missing_of self.now.have.now }
         requires chunk_count { length chunks.old ≡ length lost.now }
-        requires chunk_len { (i : ℕ) → i < length chunks.old → length (slice_index_or (contents chunks.old) i []) ≡ chunk_length self.now.g }
-        ensures chunk_len { (i : ℕ) → i < length chunks.old → length (slice_index_or (contents chunks.new) i []) ≡ chunk_length self.now.g }
-        ensures written { (i z b : ℕ) → i < length lost.now → z < layer_count self.now.g → b < self.now.len →
-            HoldsByteIn self.now (slice_index lost.now i) (slice_index_or (contents chunks.new) i []) (z * self.now.g.width + (self.now.at + b)) }
-        ensures kept { (i p : ℕ) → HoldsByteIn self.now (slice_index lost.now i) (slice_index_or (contents chunks.old) i []) p
-            → HoldsByteIn self.now (slice_index lost.now i) (slice_index_or (contents chunks.new) i []) p }
+        requires chunk_len { HaveLength (length chunks.old) (chunk_length self.now.g) (contents chunks.old) }
+        ensures chunk_len { HaveLength (length chunks.old) (chunk_length self.now.g) (contents chunks.new) }
+        ensures written { HoldsChunksIn self.now lost.now (contents chunks.new) }
+        ensures kept { KeepsChunksIn self.now lost.now (contents chunks.old) (contents chunks.new) }
     {
         for (i, c) in lost.iter().enumerate() {
             self.couple_chunk(solved, *c, &mut chunks[i]);
@@ -96,12 +93,10 @@ impl<'a> Block<'a> {
         requires solved_len { length solved.old ≡ solved_length self.now }
         requires lost { lost.now ≡ missing_of self.now.have.now }
         requires chunk_count { length chunks.old ≡ length lost.now }
-        requires chunk_len { (i : ℕ) → i < length chunks.old → length (slice_index_or (contents chunks.old) i []) ≡ chunk_length self.now.g }
-        ensures chunk_len { (i : ℕ) → i < length chunks.old → length (slice_index_or (contents chunks.new) i []) ≡ chunk_length self.now.g }
-        ensures written { (i z b : ℕ) → i < length lost.now → z < layer_count self.now.g → b < self.now.len →
-            HoldsByteIn self.now (slice_index lost.now i) (slice_index_or (contents chunks.new) i []) (z * self.now.g.width + (self.now.at + b)) }
-        ensures kept { (i p : ℕ) → HoldsByteIn self.now (slice_index lost.now i) (slice_index_or (contents chunks.old) i []) p
-            → HoldsByteIn self.now (slice_index lost.now i) (slice_index_or (contents chunks.new) i []) p }
+        requires chunk_len { HaveLength (length chunks.old) (chunk_length self.now.g) (contents chunks.old) }
+        ensures chunk_len { HaveLength (length chunks.old) (chunk_length self.now.g) (contents chunks.new) }
+        ensures written { HoldsChunksIn self.now lost.now (contents chunks.new) }
+        ensures kept { KeepsChunksIn self.now lost.now (contents chunks.old) (contents chunks.new) }
     {
         self.solve(values, rows, solved);
         self.couple_chunks(solved, lost, chunks);
@@ -118,14 +113,13 @@ impl<'a> Block<'a> {
     )
         requires block { IsBlock self.now }
         requires values_len { length values.old ≡ min self.now.len 4096 }
-        requires rows_len { length rows.old ≡ length self.now.plan.now.points.items * min self.now.len 4096 }
-        requires solved_len { length solved.old ≡ layer_count self.now.g * (length self.now.plan.now.points.items * min self.now.len 4096) }
+        requires rows_len { length rows.old ≡ row_bytes self.now (min self.now.len 4096) }
+        requires solved_len { length solved.old ≡ solved_bytes self.now (min self.now.len 4096) }
         requires lost { lost.now ≡ missing_of self.now.have.now }
         requires chunk_count { length chunks.old ≡ length lost.now }
-        requires chunk_len { (i : ℕ) → i < length chunks.old → length (slice_index_or (contents chunks.old) i []) ≡ chunk_length self.now.g }
-        ensures chunk_len { (i : ℕ) → i < length chunks.old → length (slice_index_or (contents chunks.new) i []) ≡ chunk_length self.now.g }
-        ensures written { (i z b : ℕ) → i < length lost.now → z < layer_count self.now.g → b < self.now.len →
-            HoldsByteIn self.now (slice_index lost.now i) (slice_index_or (contents chunks.new) i []) (z * self.now.g.width + (self.now.at + b)) }
+        requires chunk_len { HaveLength (length chunks.old) (chunk_length self.now.g) (contents chunks.old) }
+        ensures chunk_len { HaveLength (length chunks.old) (chunk_length self.now.g) (contents chunks.new) }
+        ensures written { HoldsChunksIn self.now lost.now (contents chunks.new) }
     {
         let layers = self.g.alpha() as usize;
         let mut from = 0;
@@ -164,16 +158,14 @@ pub fn couple_chunk(
 )
     requires plan { IsLanePlan g have.now plan.now }
     requires solved_len { length solved.now ≡ layer_count g * (length plan.now.points.items * len) }
-    requires holds { (n : ℕ) → n < layer_count g →
-        HoldsLayerRows g (λ word. Completes g have.now word) at len plan.now.points.items n solved.now }
+    requires holds { HoldsLayersOf g have.now plan.now at len solved.now }
     requires chunk { c < chunk_count g }
     requires missing { slice_index_or have.now c None ≡ None }
     requires within { at + len ≤ g.width }
     requires chunk_len { length chunk.old ≡ chunk_length g }
     ensures written { (z b : ℕ) → z < layer_count g → b < len →
-        HoldsByte (λ word. Completes g have.now word) c chunk.new (z * g.width + (at + b)) }
-    ensures kept { (p : ℕ) → HoldsByte (λ word. Completes g have.now word) c chunk.old p
-        → HoldsByte (λ word. Completes g have.now word) c chunk.new p }
+        HoldsByteOf g have.now c chunk.new (z * g.width + (at + b)) }
+    ensures kept { KeepsBytes g have.now c chunk.old chunk.new }
 {
     let block = Block {
         g,
@@ -202,7 +194,7 @@ fn missing_numbers(alloc: Global, have: &[Option<Vec<u8>>]) -> Result<Vec<u32>, 
 // As many chunks of `len` zeros.
 fn zero_chunks(alloc: Global, count: usize, len: usize) -> Result<Vec<Vec<u8>>, AllocError>
     ensures count { IfOk result (λ v. length v.items ≡ count) }
-    ensures lengths { IfOk result (λ v. (i : ℕ) → i < count → length (slice_index_or (contents v.items) i []) ≡ len) }
+    ensures lengths { IfOk result (λ v. HaveLength count len (contents v.items)) }
 {
     let mut chunks = Vec::with_capacity(alloc, count)?;
     for _ in 0..count {
@@ -262,7 +254,7 @@ pub fn missing(
 ) -> Result<Vec<Vec<u8>>, DecodeFault>
     requires count { length have.now ≡ chunk_count g }
     requires lengths { AreLong (chunk_length g) have.now }
-    ensures too_few { IsErrOf result DecodeFault.TooFew ↔ (g.parity_count < count_by is_none have.now) }
+    ensures too_few { IsErrOf result DecodeFault.TooFew ↔ AreTooFew g have.now }
     ensures chunks { IfOk result (λ chunks. AreMissing g have.now (contents chunks.items)) }
 {
     if missing_count(have) > g.m() as usize {
@@ -318,7 +310,7 @@ pub fn decode(
 ) -> Result<Vec<Vec<u8>>, DecodeFault>
     requires count { length have.now ≡ chunk_count g }
     requires lengths { AreLong (chunk_length g) have.now }
-    ensures too_few { IsErrOf result DecodeFault.TooFew ↔ (g.parity_count < count_by is_none have.now) }
+    ensures too_few { IsErrOf result DecodeFault.TooFew ↔ AreTooFew g have.now }
     ensures kept { IfOk result (λ chunks. AgreesWith (parts have.now) (contents chunks.items)) }
     ensures recovered { IfOk result (λ chunks. AreRecovered g have.now (contents chunks.items)) }
 {

@@ -1,9 +1,9 @@
 //! The missing chunks, written to their places among all chunks, which stand one behind another.
 ghost use Rattle.std.specs.Prelude.{◌≡◌, ℕ, ◌+◌, ◌*◌, ◌<◌, ◌≤◌, ◌↔◌, length, min, IsErrOf, OnOk, OnErr, slice_index_or, true, count_by, is_none, None};
 ghost use Rattle.clay_grid.specs.Shape.{chunk_count, layer_count, chunk_length};
-ghost use Rattle.clay_decode.specs.Left.{AreLong};
-ghost use Rattle.clay_lanes.specs.Blocks.{IsBlock, rows_length, solved_length, HoldsLayersIn};
-ghost use Rattle.clay_lanes.specs.Places.{HoldsPlace, KeepsPlaces, AreFilled};
+ghost use Rattle.clay_decode.specs.Left.{AreLong, AreTooFew};
+ghost use Rattle.clay_lanes.specs.Blocks.{IsBlock, rows_length, solved_length, row_bytes, solved_bytes, HoldsLayersIn};
+ghost use Rattle.clay_lanes.specs.Places.{HoldsPlace, KeepsPlaces, AreFilled, chunks_length, HoldsPlacesIn};
 
 use crate::block::Block;
 use crate::lost::missing_count;
@@ -20,7 +20,7 @@ impl<'a> Block<'a> {
         requires solved_len { length solved.now ≡ solved_length self.now }
         requires holds { HoldsLayersIn self.now solved.now }
         requires chunk { c < chunk_count self.now.g }
-        requires chunks_len { length chunks.old ≡ chunk_count self.now.g * chunk_length self.now.g }
+        requires chunks_len { length chunks.old ≡ chunks_length self.now.g }
         ensures written { is_none (slice_index_or self.now.have.now c None) ≡ true →
             (z b : ℕ) → z < layer_count self.now.g → b < self.now.len →
             HoldsPlace self.now.g self.now.have.now c chunks.new (z * self.now.g.width + (self.now.at + b)) }
@@ -40,10 +40,8 @@ impl<'a> Block<'a> {
         requires block { IsBlock self.now }
         requires solved_len { length solved.now ≡ solved_length self.now }
         requires holds { HoldsLayersIn self.now solved.now }
-        requires chunks_len { length chunks.old ≡ chunk_count self.now.g * chunk_length self.now.g }
-        ensures written { (c z b : ℕ) → c < chunk_count self.now.g → is_none (slice_index_or self.now.have.now c None) ≡ true →
-            z < layer_count self.now.g → b < self.now.len →
-            HoldsPlace self.now.g self.now.have.now c chunks.new (z * self.now.g.width + (self.now.at + b)) }
+        requires chunks_len { length chunks.old ≡ chunks_length self.now.g }
+        ensures written { HoldsPlacesIn self.now chunks.new }
         ensures kept { KeepsPlaces self.now.g self.now.have.now chunks.old chunks.new }
     {
         for c in 0..self.g.n() {
@@ -57,10 +55,8 @@ impl<'a> Block<'a> {
         requires values_len { length values.old ≡ self.now.len }
         requires rows_len { length rows.old ≡ rows_length self.now }
         requires solved_len { length solved.old ≡ solved_length self.now }
-        requires chunks_len { length chunks.old ≡ chunk_count self.now.g * chunk_length self.now.g }
-        ensures written { (c z b : ℕ) → c < chunk_count self.now.g → is_none (slice_index_or self.now.have.now c None) ≡ true →
-            z < layer_count self.now.g → b < self.now.len →
-            HoldsPlace self.now.g self.now.have.now c chunks.new (z * self.now.g.width + (self.now.at + b)) }
+        requires chunks_len { length chunks.old ≡ chunks_length self.now.g }
+        ensures written { HoldsPlacesIn self.now chunks.new }
         ensures kept { KeepsPlaces self.now.g self.now.have.now chunks.old chunks.new }
     {
         self.solve(values, rows, solved);
@@ -71,12 +67,10 @@ impl<'a> Block<'a> {
     fn fill_parts(&self, values: &mut [u8], rows: &mut [u8], solved: &mut [u8], chunks: &mut [u8])
         requires block { IsBlock self.now }
         requires values_len { length values.old ≡ min self.now.len 4096 }
-        requires rows_len { length rows.old ≡ length self.now.plan.now.points.items * min self.now.len 4096 }
-        requires solved_len { length solved.old ≡ layer_count self.now.g * (length self.now.plan.now.points.items * min self.now.len 4096) }
-        requires chunks_len { length chunks.old ≡ chunk_count self.now.g * chunk_length self.now.g }
-        ensures written { (c z b : ℕ) → c < chunk_count self.now.g → is_none (slice_index_or self.now.have.now c None) ≡ true →
-            z < layer_count self.now.g → b < self.now.len →
-            HoldsPlace self.now.g self.now.have.now c chunks.new (z * self.now.g.width + (self.now.at + b)) }
+        requires rows_len { length rows.old ≡ row_bytes self.now (min self.now.len 4096) }
+        requires solved_len { length solved.old ≡ solved_bytes self.now (min self.now.len 4096) }
+        requires chunks_len { length chunks.old ≡ chunks_length self.now.g }
+        ensures written { HoldsPlacesIn self.now chunks.new }
         ensures kept { KeepsPlaces self.now.g self.now.have.now chunks.old chunks.new }
     {
         let layers = self.g.alpha() as usize;
@@ -147,7 +141,7 @@ pub fn missing_into(
     requires count { length have.now ≡ chunk_count g }
     requires lengths { AreLong (chunk_length g) have.now }
     requires chunks_len { length chunks.old ≡ chunk_count g * chunk_length g }
-    ensures too_few { IsErrOf result DecodeFault.TooFew ↔ (g.parity_count < count_by is_none have.now) }
+    ensures too_few { IsErrOf result DecodeFault.TooFew ↔ AreTooFew g have.now }
     ensures filled { OnOk result (AreFilled g have.now chunks.old chunks.new) }
     ensures kept { OnErr result (chunks.new ≡ chunks.old) }
 {

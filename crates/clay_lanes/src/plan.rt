@@ -1,5 +1,5 @@
 //! What a call of decoding works with.
-ghost use Rattle.std.specs.Prelude.{◌≡◌, ℕ, ◌+◌, ◌*◌, ◌<◌, ◌≤◌, length, IfOk, slice_index_or, true, false, count_by, is_none};
+ghost use Rattle.std.specs.Prelude.{◌≡◌, ℕ, ◌<◌, ◌≤◌, length, IfOk, slice_index_or, false, count_by, is_none};
 ghost use Rattle.clay_grid.specs.Shape.{Shape, chunk_count, node_count, chunk_length};
 ghost use Rattle.clay_scalar.specs.Erased.{erased_below};
 ghost use Rattle.clay_decode.specs.Left.{AreLong};
@@ -55,15 +55,6 @@ fn erased_nodes(
         erased.push(is_missing(g, have, node))?;
     }
     Ok(erased)
-}
-
-/// Whether all four nodes of a column are erased.
-pub fn is_column_erased(erased: &[bool], column: usize) -> bool
-    requires { column * 4 + 4 ≤ length erased.now }
-    ensures { result ≡ true → (x : ℕ) → x < 4 → slice_index_or erased.now (column * 4 + x) false ≡ true }
-{
-    let node = column * 4;
-    erased[node] && erased[node + 1] && erased[node + 2] && erased[node + 3]
 }
 
 // The numbers of the erased nodes, rising.

@@ -6,10 +6,10 @@ use Rattle.clay_grid.specs.Repair.{repair_layers_of}
 use Rattle.clay_repair.specs.Parts.{HasParts, IsRebuilt}
 use Rattle.clay_repair.specs.Rebuilt.{IsReadFor, with_digit}
 use Rattle.clay_repair.proofs.Column.{node_inside, is_read}
-use Rattle.clay_lanes.specs.Recovered.{HoldsByte}
-use Rattle.clay_lanes.specs.Repaired.{IsRepairPlan}
-use Rattle.clay_lanes.specs.declared.repair_plan.RepairPlan.{RepairPlan}
-use Rattle.clay_lanes.proofs.RepairLemmas.{rebuilt_chunk}
+use Rattle.lane_repair.specs.Pieces.{HoldsByte}
+use Rattle.lane_repair.specs.Repaired.{IsRepairPlan}
+use Rattle.lane_repair.specs.declared.repair_plan.RepairPlan.{RepairPlan}
+use Rattle.lane_repair.proofs.RepairLemmas.{rebuilt_chunk}
 use Rattle.clay_par.specs.Rebuilt.{SamePiece, IsCovered, CoverLayers, HoldsPiece}
 use Rattle.clay_par.specs.declared.repair.Piece.{Piece}
 

@@ -6,7 +6,8 @@ use Rattle.std.proofs.lemmas.List.{ext_get_or, get_or-take, get_or-drop}
 use Rattle.clay_grid.specs.Shape.{Shape, chunk_count, layer_count, chunk_length}
 use Rattle.clay_grid.specs.Limits.{IsGeometry}
 use Rattle.clay_decode.specs.Left.{Completes}
-use Rattle.clay_lanes.specs.Recovered.{HoldsLayerRows, HoldsByte}
+use Rattle.lane_repair.specs.Pieces.{HoldsByte}
+use Rattle.clay_lanes.specs.Recovered.{HoldsLayerRows}
 use Rattle.clay_lanes.specs.Places.{AreFilled}
 use Rattle.clay_lanes.specs.declared.plan.Plan.{Plan}
 use Rattle.clay_par.specs.Ranges.{HasRoom}

@@ -4,9 +4,9 @@ use Rattle.std.specs.declared.alloc.Global.{Global}
 use Rattle.clay_grid.specs.Shape.{Shape, row_count}
 use Rattle.clay_repair.specs.Parts.{HasParts}
 use Rattle.clay_repair.specs.Rebuilt.{IsReadFor, with_digit}
-use Rattle.clay_lanes.specs.Recovered.{HoldsRows, HoldsByte}
-use Rattle.clay_lanes.specs.Repaired.{column_nodes}
-use Rattle.clay_lanes.specs.declared.repair_plan.RepairPlan.{RepairPlan}
+use Rattle.lane_repair.specs.Pieces.{HoldsRows, HoldsByte}
+use Rattle.lane_repair.specs.Repaired.{column_nodes}
+use Rattle.lane_repair.specs.declared.repair_plan.RepairPlan.{RepairPlan}
 use Rattle.clay_par.specs.declared.repair.Piece.{Piece}
 
 -- positions of a subchunk, with a row of them for each node of a column

@@ -3,7 +3,8 @@ use Rattle.std.specs.Prelude.{◌≡◌, ◌≢◌, ℕ, ◌<◌, true, List, []
 use Rattle.std.specs.declared.alloc.Global.{Global}
 use Rattle.clay_grid.specs.Shape.{Shape, layer_count, chunk_length}
 use Rattle.clay_decode.specs.Left.{Completes}
-use Rattle.clay_lanes.specs.Recovered.{HoldsLayerRows, HoldsByte}
+use Rattle.lane_repair.specs.Pieces.{HoldsByte}
+use Rattle.clay_lanes.specs.Recovered.{HoldsLayerRows}
 use Rattle.clay_lanes.specs.declared.plan.Plan.{Plan}
 use Rattle.clay_par.specs.declared.ranges.Range.{Range}
 use Rattle.clay_par.specs.Ranges.{HasRoom, IsCovered}

@@ -1,10 +1,9 @@
 //! The coder of several threads.
-ghost use Rattle.std.specs.Prelude.{◌≡◌, ◌*◌, ◌<◌, ◌↔◌, length, OnOk, OnErr, IsErrOf, count_by, is_none};
+ghost use Rattle.std.specs.Prelude.{◌≡◌, ◌*◌, ◌↔◌, length, OnOk, OnErr, IsErrOf};
 ghost use Rattle.clay_grid.specs.Shape.{chunk_count, chunk_length, stripe_length};
-ghost use Rattle.clay_decode.specs.Left.{AreLong};
+ghost use Rattle.clay_decode.specs.Left.{AreLong, AreTooFew};
 ghost use Rattle.clay_repair.specs.Parts.{AreParts, IsRebuilt};
-ghost use Rattle.clay_parity.specs.Flat.{chunks_in};
-ghost use Rattle.clay_parity.specs.Parity.{AreParity};
+ghost use Rattle.clay_parity.specs.Flat.{IsParity};
 ghost use Rattle.clay_lanes.specs.Places.{AreFilled};
 
 use crate::lost::{missing_into, recover};
@@ -88,7 +87,7 @@ impl ParCoder {
     ) -> Result<(), AllocError>
         requires stripe { length stripe.now ≡ stripe_length g }
         requires chunks { length chunks.old ≡ g.parity_count * chunk_length g }
-        ensures parity { OnOk result (AreParity g stripe.now (chunks_in g.parity_count (chunk_length g) chunks.new)) }
+        ensures parity { OnOk result (IsParity g stripe.now chunks.new) }
         ensures kept { OnErr result (chunks.new ≡ chunks.old) }
     {
         if is_small(g) {
@@ -114,7 +113,7 @@ impl ParCoder {
         requires count { length have.now ≡ chunk_count g }
         requires lengths { AreLong (chunk_length g) have.now }
         requires chunks_len { length chunks.old ≡ chunk_count g * chunk_length g }
-        ensures too_few { IsErrOf result DecodeFault.TooFew ↔ (g.parity_count < count_by is_none have.now) }
+        ensures too_few { IsErrOf result DecodeFault.TooFew ↔ AreTooFew g have.now }
         ensures filled { OnOk result (AreFilled g have.now chunks.old chunks.new) }
         ensures kept { OnErr result (chunks.new ≡ chunks.old) }
     {

@@ -1,10 +1,10 @@
 //! The chunks from what is left of them, by ranges of byte positions and then by chunks.
-ghost use Rattle.std.specs.Prelude.{◌≡◌, ℕ, ◌+◌, ◌*◌, ◌/◌, ◌<◌, ◌↔◌, length, slice_index_or, None, IfOk, OnOk, OnErr, IsErrOf, All, count_by, is_none};
+ghost use Rattle.std.specs.Prelude.{◌≡◌, ℕ, ◌+◌, ◌*◌, ◌/◌, ◌<◌, ◌↔◌, length, slice_index_or, None, IfOk, OnOk, OnErr, IsErrOf, All};
 ghost use Rattle.clay_grid.specs.Shape.{chunk_count, layer_count, chunk_length};
 ghost use Rattle.clay_encode.specs.Chunks.{contents};
-ghost use Rattle.clay_decode.specs.Left.{AreLong, Completes};
+ghost use Rattle.clay_decode.specs.Left.{AreLong, AreTooFew};
 ghost use Rattle.clay_repair.specs.Coding.{AreLeft, AreRecovered};
-ghost use Rattle.clay_lanes.specs.Recovered.{IsLanePlan, HoldsByte};
+ghost use Rattle.clay_lanes.specs.Recovered.{IsLanePlan, HoldsByteOf, KeepsBytes};
 ghost use Rattle.clay_lanes.specs.Places.{AreFilled};
 ghost use Rattle.clay_par.specs.Ranges.{HasRoom, SamePlace};
 ghost use Rattle.clay_par.specs.Solved.{HoldsLayers, AreSolved, IsChunk, IsFilled};
@@ -73,9 +73,8 @@ fn write_range(
     requires missing { slice_index_or have.now c None ≡ None }
     requires chunk_len { length chunk.old ≡ chunk_length g }
     ensures written { (z b : ℕ) → z < layer_count g → b < length range.now.values.items →
-        HoldsByte (λ word. Completes g have.now word) c chunk.new (z * g.width + (range.now.at + b)) }
-    ensures kept { (p : ℕ) → HoldsByte (λ word. Completes g have.now word) c chunk.old p
-        → HoldsByte (λ word. Completes g have.now word) c chunk.new p }
+        HoldsByteOf g have.now c chunk.new (z * g.width + (range.now.at + b)) }
+    ensures kept { KeepsBytes g have.now c chunk.old chunk.new }
 {
     couple_chunk(
         g,
@@ -104,7 +103,7 @@ fn write_chunk(
     requires missing { slice_index_or have.now c None ≡ None }
     requires chunk_len { length chunk.old ≡ chunk_length g }
     ensures { (z b : ℕ) → z < layer_count g → b < g.width →
-        HoldsByte (λ word. Completes g have.now word) c chunk.new (z * g.width + b) }
+        HoldsByteOf g have.now c chunk.new (z * g.width + b) }
 {
     for range in ranges {
         write_range(g, have, plan, range, c, chunk);
@@ -319,7 +318,7 @@ pub fn missing_into<R: Threads + Sync>(
     requires count { length have.now ≡ chunk_count g }
     requires lengths { AreLong (chunk_length g) have.now }
     requires chunks_len { length chunks.old ≡ chunk_count g * chunk_length g }
-    ensures too_few { IsErrOf result DecodeFault.TooFew ↔ (g.parity_count < count_by is_none have.now) }
+    ensures too_few { IsErrOf result DecodeFault.TooFew ↔ AreTooFew g have.now }
     ensures filled { OnOk result (AreFilled g have.now chunks.old chunks.new) }
     ensures kept { OnErr result (chunks.new ≡ chunks.old) }
 {

@@ -6,7 +6,7 @@ ghost use Rattle.clay_encode.specs.Chunks.{contents};
 ghost use Rattle.clay_parity.specs.Blocks.{HoldsGroup};
 ghost use Rattle.clay_kernels.specs.Generated.{IsLastGenerator};
 ghost use Rattle.clay_parity.specs.Solved.{layer_value};
-ghost use Rattle.clay_parity.specs.Flat.{HoldsGroups, chunks_in};
+ghost use Rattle.clay_parity.specs.Flat.{HoldsGroups, IsParity};
 ghost use Rattle.clay_parity.specs.Parity.{data_pieces, AreParity};
 ghost use Rattle.clay_par.specs.Groups.{HasRoom, AreGroups, AreWhole, AreSolved, HoldGroups, HoldsRow, IsRow, AreRows};
 
@@ -236,7 +236,7 @@ pub fn parity_into<R: Threads + Sync>(
 ) -> Result<(), AllocError>
     requires stripe { length stripe.now ≡ stripe_length g }
     requires chunks { length chunks.old ≡ g.parity_count * chunk_length g }
-    ensures parity { OnOk result (AreParity g stripe.now (chunks_in g.parity_count (chunk_length g) chunks.new)) }
+    ensures parity { OnOk result (IsParity g stripe.now chunks.new) }
     ensures kept { OnErr result (chunks.new ≡ chunks.old) }
 {
     let groups = solved_groups(rt, alloc, g, stripe)?;

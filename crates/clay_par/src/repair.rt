@@ -2,7 +2,7 @@
 ghost use Rattle.std.specs.Prelude.{◌≡◌, ℕ, ◌+◌, ◌<◌, ◌≤◌, length, slice_index_or, IfOk, OnOk, OnErr, All};
 ghost use Rattle.clay_grid.specs.Shape.{row_count, chunk_length};
 ghost use Rattle.clay_repair.specs.Parts.{AreParts, IsRebuilt};
-ghost use Rattle.clay_lanes.specs.Repaired.{IsRepairPlan};
+ghost use Rattle.lane_repair.specs.Repaired.{IsRepairPlan};
 ghost use Rattle.clay_par.specs.Rebuilt.{HasRows, IsPiece, SamePiece, AreCut, IsSolved, AreSolved, HoldsPiece, KeepsBytes};
 
 use clay_grid::Geometry;

@@ -1,5 +1,5 @@
 //! The parity chunks of a stripe.
-ghost use Rattle.std.specs.Prelude.{◌≡◌, ℕ, ◌+◌, ◌-◌, ◌*◌, ◌/◌, ◌%◌, ◌<◌, ◌≤◌, slice_index, length, min, bit_xor, slice_index_or, [], IfOk};
+ghost use Rattle.std.specs.Prelude.{◌≡◌, ℕ, ◌+◌, ◌-◌, ◌*◌, ◌%◌, ◌<◌, ◌≤◌, slice_index, length, min, bit_xor, slice_index_or, [], IfOk};
 ghost use Rattle.clay_field.specs.Field.{product};
 ghost use Rattle.clay_grid.specs.Shape.{row_count, layer_count, stripe_length};
 ghost use Rattle.clay_grid.specs.Layers.{layer_of};
@@ -8,9 +8,9 @@ ghost use Rattle.clay_model.specs.Code.{Codes};
 ghost use Rattle.clay_encode.specs.Chunks.{contents};
 ghost use Rattle.clay_encode.specs.Columns.{data_byte, uncoupled_value, first_parity};
 ghost use Rattle.clay_kernels.specs.Lanes.{AddsRows};
-ghost use Rattle.clay_parity.specs.Blocks.{HoldsLayer, Appends, HoldsGroup, coupled_of, group_byte, coupled_byte, piece_bytes};
+ghost use Rattle.clay_parity.specs.Blocks.{HoldsLayer, Appends, HoldsGroup, group_byte, coupled_byte, piece_bytes};
 ghost use Rattle.clay_parity.specs.Short.{HoldsShort, short_coupled};
-ghost use Rattle.clay_parity.specs.Parity.{data_pieces, AreParity};
+ghost use Rattle.clay_parity.specs.Parity.{data_pieces, AreParity, AppendsGroups};
 ghost use Rattle.clay_kernels.specs.Generated.{IsLastGenerator, factor_at};
 ghost use Rattle.clay_parity.specs.Solved.{solved_value, layer_value};
 
@@ -465,10 +465,7 @@ fn add_long_groups(
     requires column_len { 4 * min g.width 4096 ≤ length column.old }
     requires group_len { length group.old ≡ g.parity_count * (g.parity_count * g.width) }
     requires chunk_count { length chunks.old ≡ g.parity_count }
-    ensures { IfOk result (λ _. (x : ℕ) → x < g.parity_count →
-        Appends (layer_count g / row_count g * (g.parity_count * g.width))
-        (λ o. coupled_of g.parity_count (layer_value g generator.now.each stripe.now) x (o / g.width) (o % g.width))
-        (slice_index_or (contents chunks.old) x []) (slice_index_or (contents chunks.new) x [])) }
+    ensures { IfOk result (λ _. AppendsGroups g generator.now.each stripe.now (contents chunks.old) (contents chunks.new)) }
 {
     let fifths = fifths();
     for number in 0..g.alpha() / g.q() {
@@ -553,10 +550,7 @@ fn add_short_groups(
     requires coupled_len { length coupled.old ≡ g.parity_count * g.width }
     requires rows_len { length rows.old ≡ g.parity_count * (g.parity_count * g.width) }
     requires chunk_count { length chunks.old ≡ g.parity_count }
-    ensures { IfOk result (λ _. (x : ℕ) → x < g.parity_count →
-        Appends (layer_count g / row_count g * (g.parity_count * g.width))
-        (λ o. coupled_of g.parity_count (layer_value g generator.now.each stripe.now) x (o / g.width) (o % g.width))
-        (slice_index_or (contents chunks.old) x []) (slice_index_or (contents chunks.new) x [])) }
+    ensures { IfOk result (λ _. AppendsGroups g generator.now.each stripe.now (contents chunks.old) (contents chunks.new)) }
 {
     let fifths = fifths();
     let count = g.alpha() / g.q();
@@ -585,10 +579,7 @@ fn add_groups(
     requires short_room { 6 * min (row_count g * g.width) 1024 ≤ length room.old }
     requires group_len { length group.old ≡ g.parity_count * (g.parity_count * g.width) }
     requires chunk_count { length chunks.old ≡ g.parity_count }
-    ensures { IfOk result (λ _. (x : ℕ) → x < g.parity_count →
-        Appends (layer_count g / row_count g * (g.parity_count * g.width))
-        (λ o. coupled_of g.parity_count (layer_value g generator.now.each stripe.now) x (o / g.width) (o % g.width))
-        (slice_index_or (contents chunks.old) x []) (slice_index_or (contents chunks.new) x [])) }
+    ensures { IfOk result (λ _. AppendsGroups g generator.now.each stripe.now (contents chunks.old) (contents chunks.new)) }
 {
     let len = g.q() as usize * g.w() as usize;
     if len > SHORT {

@@ -1,12 +1,10 @@
 //! The parity chunks of a stripe, written one behind another into the caller's bytes.
-ghost use Rattle.std.specs.Prelude.{◌≡◌, ℕ, ◌+◌, ◌-◌, ◌*◌, ◌/◌, ◌%◌, ◌<◌, ◌≤◌, slice_index, length, min, OnOk, OnErr};
+ghost use Rattle.std.specs.Prelude.{◌≡◌, ℕ, ◌+◌, ◌-◌, ◌*◌, ◌%◌, ◌<◌, ◌≤◌, slice_index, length, min, OnOk, OnErr};
 ghost use Rattle.clay_grid.specs.Shape.{row_count, layer_count, chunk_length, stripe_length};
 ghost use Rattle.clay_kernels.specs.Generated.{IsLastGenerator};
-ghost use Rattle.clay_parity.specs.Solved.{layer_value};
 ghost use Rattle.clay_parity.specs.Blocks.{coupled_byte, piece_bytes};
 ghost use Rattle.clay_parity.specs.Short.{short_coupled};
-ghost use Rattle.clay_parity.specs.Flat.{WritesRows, HoldsGroups, chunks_in};
-ghost use Rattle.clay_parity.specs.Parity.{AreParity};
+ghost use Rattle.clay_parity.specs.Flat.{WritesGroup, HoldsAllGroups, IsParity};
 
 use crate::chunks::{SHORT, block, solve_layers, solve_rows};
 use crate::prepared::Prepared;
@@ -83,8 +81,7 @@ fn write_long_group(g: Geometry, fifths: &Products, number: u32, group: &[u8], o
     requires in_layers { number * row_count g + row_count g ≤ layer_count g }
     requires group_len { length group.now ≡ g.parity_count * (g.parity_count * g.width) }
     requires out_len { length out.old ≡ g.parity_count * chunk_length g }
-    ensures { WritesRows g.parity_count (chunk_length g) (number * (g.parity_count * g.width)) (g.parity_count * g.width)
-        (piece_bytes g.parity_count g.width group.now) out.old out.new }
+    ensures { WritesGroup g number (piece_bytes g.parity_count g.width group.now) out.old out.new }
 {
     let chunk_len = g.chunk_len() as usize;
     let len = g.q() as usize * g.w() as usize;
@@ -108,8 +105,7 @@ fn write_short_group(
     requires rows_len { length rows.now ≡ g.parity_count * (g.parity_count * g.width) }
     requires partners_len { length partners.old ≡ g.parity_count * g.width }
     requires out_len { length out.old ≡ g.parity_count * chunk_length g }
-    ensures { WritesRows g.parity_count (chunk_length g) (number * (g.parity_count * g.width)) (g.parity_count * g.width)
-        (short_coupled g.parity_count g.width rows.now) out.old out.new }
+    ensures { WritesGroup g number (short_coupled g.parity_count g.width rows.now) out.old out.new }
 {
     let chunk_len = g.chunk_len() as usize;
     let q = g.q() as usize;
@@ -137,7 +133,7 @@ fn write_long_groups(
     requires column_len { 4 * min g.width 4096 ≤ length column.old }
     requires group_len { length group.old ≡ g.parity_count * (g.parity_count * g.width) }
     requires out_len { length out.old ≡ g.parity_count * chunk_length g }
-    ensures { HoldsGroups g (layer_value g generator.now.each stripe.now) (layer_count g / row_count g) out.new }
+    ensures { HoldsAllGroups g generator.now.each stripe.now out.new }
 {
     let fifths = fifths();
     for number in 0..g.alpha() / g.q() {
@@ -162,7 +158,7 @@ fn write_short_groups(
     requires values_len { length values.old ≡ g.parity_count * g.width }
     requires rows_len { length rows.old ≡ g.parity_count * (g.parity_count * g.width) }
     requires out_len { length out.old ≡ g.parity_count * chunk_length g }
-    ensures { HoldsGroups g (layer_value g generator.now.each stripe.now) (layer_count g / row_count g) out.new }
+    ensures { HoldsAllGroups g generator.now.each stripe.now out.new }
 {
     let fifths = fifths();
     for number in 0..g.alpha() / g.q() {
@@ -189,7 +185,7 @@ fn write_groups(
     requires short_room { 5 * min (row_count g * g.width) 1024 ≤ length room.old }
     requires group_len { length group.old ≡ g.parity_count * (g.parity_count * g.width) }
     requires out_len { length out.old ≡ g.parity_count * chunk_length g }
-    ensures { HoldsGroups g (layer_value g generator.now.each stripe.now) (layer_count g / row_count g) out.new }
+    ensures { HoldsAllGroups g generator.now.each stripe.now out.new }
 {
     let len = g.q() as usize * g.w() as usize;
     if len > SHORT {
@@ -212,7 +208,7 @@ pub fn write_parity(
     requires stripe { length stripe.now ≡ stripe_length g }
     requires generator { IsLastGenerator g generator.now.unknown generator.now.each }
     requires chunks { length chunks.old ≡ g.parity_count * chunk_length g }
-    ensures parity { OnOk result (AreParity g stripe.now (chunks_in g.parity_count (chunk_length g) chunks.new)) }
+    ensures parity { OnOk result (IsParity g stripe.now chunks.new) }
     ensures kept { OnErr result (chunks.new ≡ chunks.old) }
 {
     let w = g.w() as usize;
@@ -243,7 +239,7 @@ pub fn parity_into(
 ) -> Result<(), AllocError>
     requires stripe { length stripe.now ≡ stripe_length g }
     requires chunks { length chunks.old ≡ g.parity_count * chunk_length g }
-    ensures parity { OnOk result (AreParity g stripe.now (chunks_in g.parity_count (chunk_length g) chunks.new)) }
+    ensures parity { OnOk result (IsParity g stripe.now chunks.new) }
     ensures kept { OnErr result (chunks.new ≡ chunks.old) }
 {
     let prepared = Prepared::new(alloc, g)?;

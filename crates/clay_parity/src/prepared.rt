@@ -1,8 +1,7 @@
 //! What encoding works with that a code alone decides, made once for many stripes.
 ghost use Rattle.std.specs.Prelude.{◌≡◌, ◌*◌, length, IfOk, OnOk, OnErr};
 ghost use Rattle.clay_grid.specs.Shape.{chunk_length, stripe_length};
-ghost use Rattle.clay_parity.specs.Flat.{chunks_in};
-ghost use Rattle.clay_parity.specs.Parity.{AreParity};
+ghost use Rattle.clay_parity.specs.Flat.{IsParity};
 
 use crate::chunks::last_column;
 use crate::flat::write_parity;
@@ -54,7 +53,7 @@ impl Prepared {
     ) -> Result<(), AllocError>
         requires stripe { length stripe.now ≡ stripe_length self.now }
         requires chunks { length chunks.old ≡ self.now.parity_count * chunk_length self.now }
-        ensures parity { OnOk result (AreParity self.now stripe.now (chunks_in self.now.parity_count (chunk_length self.now) chunks.new)) }
+        ensures parity { OnOk result (IsParity self.now stripe.now chunks.new) }
         ensures kept { OnErr result (chunks.new ≡ chunks.old) }
     {
         write_parity(alloc, self.g, &self.generator, stripe, chunks)

@@ -1,8 +1,9 @@
 -- The commands' names differ.
-use Rattle.std.proofs.Common.{◌≡◌, ◌≢◌, ℕ, List, refl, sym, ap, ◌∙◌, codes}
-use Rattle.std.specs.Prelude.{if◌then◌else◌}
+use Rattle.std.proofs.Common.{◌≡◌, ◌≢◌, ℕ, ◌<◌, ◌≤◌, List, [], ◌∷◌, get_or, refl, sym, ap, ◌∙◌, arith, codes}
+use Rattle.std.specs.Prelude.{Bool, true, false, ◌&&◌, if◌then◌else◌}
 use Rattle.std.specs.Str.{bytes_eq}
-use Rattle.clay_words.specs.Names.{word_of}
+use Rattle.std.proofs.lemmas.Bool.{eq-eqb}
+use Rattle.clay_words.specs.Names.{all_names, word_of}
 use Rattle.clay_words.specs.declared.names.Name.{Name}
 use Rattle.clay_words.specs.declared.names.Name.TheVariants.{Play, Run, Verify, Chunks, Recover, Generate, Trial, AloofChunks, AloofRepair}
 
@@ -33,15 +34,25 @@ back AloofRepair = refl
 pub same_name : (word : List ℕ) (one other : Name) → word ≡ word_of one → word ≡ word_of other → one ≡ other
 same_name word one other is also = sym (back one) ∙ ap name_at (sym is ∙ also) ∙ back other
 
--- a word that is none of them
-pub no_name : (word : List ℕ) → word ≢ codes "play" → word ≢ codes "run" → word ≢ codes "verify" → word ≢ codes "chunks" → word ≢ codes "recover"
-    → word ≢ codes "gen" → word ≢ codes "trial" → word ≢ codes "chunksd" → word ≢ codes "repaird" → (name : Name) → word ≢ word_of name
-no_name word play run verify chunks recover draw trial aloof repair Play = play
-no_name word play run verify chunks recover draw trial aloof repair Run = run
-no_name word play run verify chunks recover draw trial aloof repair Verify = verify
-no_name word play run verify chunks recover draw trial aloof repair Chunks = chunks
-no_name word play run verify chunks recover draw trial aloof repair Recover = recover
-no_name word play run verify chunks recover draw trial aloof repair Generate = draw
-no_name word play run verify chunks recover draw trial aloof repair Trial = trial
-no_name word play run verify chunks recover draw trial aloof repair AloofChunks = aloof
-no_name word play run verify chunks recover draw trial aloof repair AloofRepair = repair
+-- a word that is none of them, from the first to the last
+no_name : (word : List ℕ) → ((k : ℕ) → k < 9 → word ≢ word_of (get_or all_names k Play)) → (name : Name) → word ≢ word_of name
+no_name word none Play = none 0 (omega arith)
+no_name word none Run = none 1 (omega arith)
+no_name word none Verify = none 2 (omega arith)
+no_name word none Chunks = none 3 (omega arith)
+no_name word none Recover = none 4 (omega arith)
+no_name word none Generate = none 5 (omega arith)
+no_name word none Trial = none 6 (omega arith)
+no_name word none AloofChunks = none 7 (omega arith)
+no_name word none AloofRepair = none 8 (omega arith)
+
+pub all_looked_at : (word : List ℕ) (i : ℕ) → 9 ≤ i → ((k : ℕ) → k < i → word ≢ word_of (get_or all_names k Play)) → (name : Name) → word ≢ word_of name
+all_looked_at word i over none = no_name word (λ k small. none k (omega (arith, small, over)))
+
+same_bytes : (xs : List ℕ) → bytes_eq xs xs ≡ true
+same_bytes [] = refl
+same_bytes (x ∷ xs) = ap (λ (b : Bool). b && bytes_eq xs xs) (eq-eqb x x refl) ∙ same_bytes xs
+
+-- a word that is tested and isn't the same
+pub not_same : (word other : List ℕ) → false ≡ bytes_eq word other → word ≢ other
+not_same word other test same = let bad : false ≡ true = test ∙ ap (bytes_eq word) (sym same) ∙ same_bytes word in cc

@@ -1,16 +1,13 @@
--- A command with one number more.
-use Rattle.std.proofs.Common.{◌≡◌, ap₂, ◌∙◌}
-use Rattle.std.specs.Prelude.{false, ◌||◌, Result, Ok, Err, IfOk}
-use Rattle.clap.specs.Words.{AddsArg, App, Text, app_of, rule_of, with_rule}
+-- A command with one number more, and a program with one command more.
+use Rattle.std.proofs.Common.{◌≡◌, ℕ, ◌+◌, ◌<◌, List, [], ◌∷◌, length, get_or, take, sym, ap, ap₂, ◌∙◌}
+use Rattle.std.specs.Prelude.{false, ◌||◌, fold, map}
+use Rattle.std.proofs.lemmas.List.{map_more, take_more}
+use Rattle.std.proofs.lemmas.List.Sums.{fold-append}
+use Rattle.clap.specs.Words.{AddsArg, AddsSubcommand, App, Text, rule_of, with_rule, with_subcommand}
 use Rattle.clap.specs.declared.builder.Arg.{Arg}
 use Rattle.clap.specs.declared.builder.Command.{Command}
-use Rattle.clap.specs.declared.builder.Command.TheViews.{out-Command as fields_of}
-use Rattle.clay_words.specs.Grammar.{number_rule, with_number}
-
--- what is known of a command as it is made
-pub record IsApp (command : Command) (app : App) : Type 0 where
-  pub shape : app_of command ≡ app
-  pub local : (fields_of command).has_globals ≡ false
+use Rattle.clay_words.specs.Grammar.{IsApp, command_app, number_rule, with_command, with_number}
+use Rattle.clay_words.specs.declared.names.Name.{Name}
 
 -- the argument is a number's
 pub record IsNumber (arg : Arg) (id : Text) : Type 0 where
@@ -23,13 +20,22 @@ with_one old new arg app id is number added = record {
   local = added.globals ∙ ap₂ ◌||◌ is.local number.local;
 }
 
--- the same where the command was made
-pub shape_with : {E : Type 0} (made : Result Command E) (old : Command) (arg : Arg) (app : App) (id : Text) → IsApp old app → IsNumber arg id
-    → IfOk made (AddsArg old arg) → IfOk made (λ new. app_of new ≡ with_number app id)
-shape_with (Ok new) old arg app id is number added = (with_one old new arg app id is number added).shape
-shape_with (Err e) old arg app id is number added = tt
+pub with_another : (old new sub : Command) (app : App) (name : Name) → IsApp old app → IsApp sub (command_app name) → AddsSubcommand old sub new
+    → IsApp new (with_command app name)
+with_another old new sub app name is other added = record {
+  shape = added.shape other.local ∙ ap₂ with_subcommand is.shape (ap (λ (a : App). a.top) other.shape);
+  local = added.globals ∙ ap₂ ◌||◌ is.local other.local;
+}
 
-pub local_with : {E : Type 0} (made : Result Command E) (old : Command) (arg : Arg) (app : App) (id : Text) → IsApp old app → IsNumber arg id
-    → IfOk made (AddsArg old arg) → IfOk made (λ new. (fields_of new).has_globals ≡ false)
-local_with (Ok new) old arg app id is number added = (with_one old new arg app id is number added).local
-local_with (Err e) old arg app id is number added = tt
+-- a fold over one item more
+pub fold_more : {A B : Type 0} (f : B → A → B) (b : B) (xs : List A) (i : ℕ) (x : A) → i < length xs
+    → f (fold f b (take i xs)) (get_or xs i x) ≡ fold f b (take (i + 1) xs)
+fold_more f b xs i x within = sym (ap (fold f b) (take_more xs i x within) ∙ fold-append f b (take i xs) (get_or xs i x ∷ []))
+
+-- the same where the items are made of others
+pub fold_mapped : {A B X : Type 0} (f : B → A → B) (b : B) (g : X → A) (xs : List X) (i : ℕ) (x : X) → i < length xs
+    → f (fold f b (map g (take i xs))) (g (get_or xs i x)) ≡ fold f b (map g (take (i + 1) xs))
+fold_mapped f b g xs i x within = sym (ap (fold f b) (map_more g xs i x within) ∙ fold-append f b (map g (take i xs)) (g (get_or xs i x) ∷ []))
+
+pub app_is : (command : Command) (one other : App) → one ≡ other → IsApp command one → IsApp command other
+app_is command one other same is = record { shape = is.shape ∙ same; local = is.local }

@@ -1,13 +1,13 @@
 -- Clap takes the words that are spelled, and holds each under its name.
-use Rattle.std.proofs.Common.{◌≡◌, ℕ, List, [], ◌∷◌, length, refl, sym, subst, ap, ◌∙◌}
+use Rattle.std.proofs.Common.{◌≡◌, List, [], ◌∷◌, length, refl, sym, subst, ap, ◌∙◌}
 use Rattle.std.specs.Prelude.{Bool, true, false, ◌&&◌, Option, Some, find, is_some, option_map}
 use Rattle.std.specs.List.{AllByRecursion, list_all}
 use Rattle.std.specs.Option.{option_map_or}
 use Rattle.line_grammar.specs.Numbers.{IsNumberWord}
-use Rattle.clap.specs.Words.{Text, Shape, App}
-use Rattle.clap.specs.Walk.{Held, answers_to, finished, nothing_held, walk, walk_from}
+use Rattle.clap.specs.Words.{Text, Shape}
+use Rattle.clap.specs.Walk.{Held, answers_to, finished, nothing_held, walk}
 use Rattle.clap.specs.Simple.{built, built_leaf, inherited, label_of, marked_built, rows_at, with_leaf_noted}
-use Rattle.clap.specs.Takes.{default_passes, is_valid, level_passes, settle_passes, walk_passes}
+use Rattle.clap.specs.Takes.{default_passes, is_valid, level_passes, settle_passes}
 use Rattle.clap.proofs.OnLiterals.{clap_on_literals}
 use Rattle.clay_words.specs.Grammar.{clay_app, command_app}
 use Rattle.clay_words.specs.Names.{ids_of, word_of}

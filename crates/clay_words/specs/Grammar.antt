@@ -1,10 +1,11 @@
 -- The commands as clap is told them: a name, and the words that must stand behind it.
-use Rattle.std.specs.Prelude.{List, [], ◌∷◌, true, codes, fold}
-use Rattle.clap.specs.Words.{App, Rule, Text, new_app, new_rule, with_rule, with_subcommand}
+use Rattle.std.specs.Prelude.{◌≡◌, List, true, false, codes, fold}
+use Rattle.clap.specs.Words.{App, Rule, Text, app_of, new_app, new_rule, with_rule, with_subcommand}
 use Rattle.clap.specs.Simple.{on_top}
-use Rattle.clay_words.specs.Names.{ids_of, word_of}
+use Rattle.clap.specs.declared.builder.Command.{Command}
+use Rattle.clap.specs.declared.builder.Command.TheViews.{out-Command as fields_of}
+use Rattle.clay_words.specs.Names.{all_names, ids_of, word_of}
 use Rattle.clay_words.specs.declared.names.Name.{Name}
-use Rattle.clay_words.specs.declared.names.Name.TheVariants.{Play, Run, Verify, Chunks, Recover, Generate, Trial, AloofChunks, AloofRepair}
 
 -- a word that must stand there
 abbrev pub number_rule : Text → Rule
@@ -30,17 +31,11 @@ bare_app =
 abbrev pub with_command : App → Name → App
 with_command app name = with_subcommand app (command_app name).top
 
--- the commands of the store, and those of its code
-abbrev pub store_names : List Name
-store_names = Play ∷ Run ∷ Verify ∷ Generate ∷ Trial ∷ []
-
-abbrev pub code_names : List Name
-code_names = Chunks ∷ Recover ∷ AloofChunks ∷ AloofRepair ∷ []
-
--- the program with the commands of the store
-abbrev pub store_app : App
-store_app = fold with_command bare_app store_names
-
 -- the program
 abbrev pub clay_app : App
-clay_app = fold with_command store_app code_names
+clay_app = fold with_command bare_app all_names
+
+-- what clap was told is this command, with no argument that its subcommands share
+pub record IsApp (command : Command) (app : App) : Type 0 where
+  pub shape : app_of command ≡ app
+  pub local : (fields_of command).has_globals ≡ false

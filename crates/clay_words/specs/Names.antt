@@ -3,6 +3,10 @@ use Rattle.std.specs.Prelude.{ℕ, List, [], ◌∷◌, codes}
 use Rattle.clay_words.specs.declared.names.Name.{Name}
 use Rattle.clay_words.specs.declared.names.Name.TheVariants.{Play, Run, Verify, Chunks, Recover, Generate, Trial, AloofChunks, AloofRepair}
 
+-- all of them
+abbrev pub all_names : List Name
+all_names = Play ∷ Run ∷ Verify ∷ Chunks ∷ Recover ∷ Generate ∷ Trial ∷ AloofChunks ∷ AloofRepair ∷ []
+
 -- the word that a command is asked for by
 abbrev pub word_of : Name → List ℕ
 word_of Play = codes "play"

@@ -1,5 +1,5 @@
 //! The commands' names.
-ghost use Rattle.std.specs.Prelude.{◌≡◌, ◌≢◌, MatchOption, length};
+ghost use Rattle.std.specs.Prelude.{◌≡◌, ◌≢◌, MatchOption, map};
 ghost use Rattle.clay_words.specs.Names.{ids_of, word_of};
 ghost use Rattle.clay_words.specs.declared.names.Name.{Name};
 
@@ -17,21 +17,51 @@ pub(crate) enum Name {
     AloofRepair,
 }
 
+/// All of them.
+pub(crate) const NAMES: [Name; 9] = [
+    Name::Play,
+    Name::Run,
+    Name::Verify,
+    Name::Chunks,
+    Name::Recover,
+    Name::Generate,
+    Name::Trial,
+    Name::AloofChunks,
+    Name::AloofRepair,
+];
+
 impl Name {
-    /// How many numbers stand behind the name.
-    pub(crate) fn number_count(self) -> usize
-        ensures { result ≡ length (ids_of self) }
+    /// The word that the command is asked for by.
+    pub(crate) fn word<'a>(self) -> &'a str
+        ensures { result.now ≡ word_of self }
     {
         match self {
-            Name::Play => 0,
-            Name::Run => 1,
-            Name::Verify => 0,
-            Name::Chunks => 3,
-            Name::Recover => 3,
-            Name::Generate => 2,
-            Name::Trial => 3,
-            Name::AloofChunks => 4,
-            Name::AloofRepair => 5,
+            Name::Play => "play",
+            Name::Run => "run",
+            Name::Verify => "verify",
+            Name::Chunks => "chunks",
+            Name::Recover => "recover",
+            Name::Generate => "gen",
+            Name::Trial => "trial",
+            Name::AloofChunks => "chunksd",
+            Name::AloofRepair => "repaird",
+        }
+    }
+
+    /// What its numbers are held under, in the order of their words.
+    pub(crate) fn ids<'a>(self) -> &'a [&'a str]
+        ensures { map (λ id. id.now) result.now ≡ ids_of self }
+    {
+        match self {
+            Name::Play => &[],
+            Name::Run => &["workers"],
+            Name::Verify => &[],
+            Name::Chunks => &["k", "m", "w"],
+            Name::Recover => &["k", "m", "w"],
+            Name::Generate => &["start", "size"],
+            Name::Trial => &["start", "size", "workers"],
+            Name::AloofChunks => &["k", "m", "d", "w"],
+            Name::AloofRepair => &["k", "m", "d", "w", "lost"],
         }
     }
 }
@@ -40,25 +70,10 @@ impl Name {
 pub(crate) fn name_of(word: &str) -> Option<Name>
     ensures { MatchOption result ((name : Name) → word.now ≢ word_of name) (λ name. word.now ≡ word_of name) }
 {
-    if word == "play" {
-        Some(Name::Play)
-    } else if word == "run" {
-        Some(Name::Run)
-    } else if word == "verify" {
-        Some(Name::Verify)
-    } else if word == "chunks" {
-        Some(Name::Chunks)
-    } else if word == "recover" {
-        Some(Name::Recover)
-    } else if word == "gen" {
-        Some(Name::Generate)
-    } else if word == "trial" {
-        Some(Name::Trial)
-    } else if word == "chunksd" {
-        Some(Name::AloofChunks)
-    } else if word == "repaird" {
-        Some(Name::AloofRepair)
-    } else {
-        None
+    for name in NAMES {
+        if word == name.word() {
+            return Some(name);
+        }
     }
+    None
 }

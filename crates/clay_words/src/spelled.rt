@@ -25,7 +25,7 @@ pub(crate) fn is_spelled(words: &[String]) -> bool
 {
     match words {
         [word, numbers @ ..] => match name_of(word.as_str()) {
-            Some(name) => numbers.len() == name.number_count() && are_numbers(numbers),
+            Some(name) => numbers.len() == name.ids().len() && are_numbers(numbers),
             None => false,
         },
         [] => false,

@@ -16,7 +16,7 @@ use Rattle.call_steps.specs.Steps.{need_by, need_of, coded}
 use Rattle.call_steps.specs.declared.outcomes.Change.{Change}
 use Rattle.gather_parts.specs.Wanted.{parts_of}
 use Rattle.gather_parts.specs.Gatherings.{GatheringsOf, owed}
-use Rattle.gather_parts.specs.Standings.{is_due}
+use Rattle.gather_parts.specs.Progress.{is_due}
 use Rattle.gather_parts.specs.States.{state_by as gathering_state, state_in}
 use Rattle.gather_parts.proofs.Handing.{open_short}
 use Rattle.write_course.proofs.OfTheCall.{steps_are_of_the_call}

@@ -21,8 +21,8 @@ use Rattle.call_steps.specs.Steps.{need_by, need_of, stepped_at_directory}
 use Rattle.call_steps.specs.TokenAfter.{token_after, IsSeated}
 use Rattle.gather_parts.specs.Wanted.{Wanted, parts_of}
 use Rattle.gather_parts.specs.Gatherings.{GatheringsOf}
-use Rattle.gather_parts.specs.declared.standing.Standing.TheVariants as standing
-use Rattle.gather_parts.specs.Standings.{standing_at, standing_by, standing_of, is_due_at, is_due}
+use Rattle.gather_parts.specs.declared.progress.Progress.TheVariants as progress
+use Rattle.gather_parts.specs.Progress.{progress_at, progress_by, progress_of, is_due_at, is_due}
 use Rattle.gather_parts.specs.States.{state_by as gathering_state, state_in}
 use Rattle.write_course.specs.Laws.{call_at}
 use Rattle.write_course.specs.Writings.{versions_of}
@@ -47,16 +47,16 @@ no_directory (Act.AtServer server step) e = cc
 -- gatherings of which the end is next have ended without their bytes
 module _ (g : Shape) (tries : ℕ) (job : Job) (pairs : List (ℕ × ℕ)) (parts : List Part) where
   ungathered_by : (current : Option GatherOf) (left : List Wanted)
-      → need_by (act_at g tries job pairs (gathering_state g parts Sequel.Draw current)) (is_due_at (standing_by g current left)) ≡ need.Directory
-      → (left ≡ [] → parts ≡ []) → is_ending (gathering_state g parts Sequel.Draw current) ≡ true → IsUngathered (standing_by g current left)
+      → need_by (act_at g tries job pairs (gathering_state g parts Sequel.Draw current)) (is_due_at (progress_by g current left)) ≡ need.Directory
+      → (left ≡ [] → parts ≡ []) → is_ending (gathering_state g parts Sequel.Draw current) ≡ true → IsUngathered (progress_by g current left)
   ungathered_by None (wanted ∷ left) e same h = absurd (no_directory (act_at g tries job pairs (open_parts g parts Sequel.Draw)) e)
   ungathered_by None [] e same h =
       let none : is_ending (open_parts g parts Sequel.Draw) ≡ false = ap (λ parts. is_ending (open_parts g parts Sequel.Draw)) (same refl) in
       absurd (cc)
   ungathered_by (Some w) left e same h = by w.course.stage e h
     where
-      by : (stage : GatherStage) → need_by (act_at g tries job pairs (stage_state (open_parts g parts Sequel.Draw) w.course.aim parts Sequel.Draw stage)) (is_due_at (standing_at g w.course.aim stage)) ≡ need.Directory
-          → is_ending (stage_state (open_parts g parts Sequel.Draw) w.course.aim parts Sequel.Draw stage) ≡ true → IsUngathered (standing_at g w.course.aim stage)
+      by : (stage : GatherStage) → need_by (act_at g tries job pairs (stage_state (open_parts g parts Sequel.Draw) w.course.aim parts Sequel.Draw stage)) (is_due_at (progress_at g w.course.aim stage)) ≡ need.Directory
+          → is_ending (stage_state (open_parts g parts Sequel.Draw) w.course.aim parts Sequel.Draw stage) ≡ true → IsUngathered (progress_at g w.course.aim stage)
       by (GatherStage.Asks asking) e h = absurd (cc)
       by GatherStage.HasBytes e h = absurd (no_directory (act_at g tries job pairs (open_parts g parts Sequel.Draw)) e)
       by (GatherStage.TooMany missing) e h = tt
@@ -65,20 +65,20 @@ module _ (g : Shape) (tries : ℕ) (job : Job) (pairs : List (ℕ × ℕ)) (part
       by GatherStage.Short e h = tt
 
 pub ungathered_at : (p : GatheringsOf) (tries : ℕ) (job : Job) (pairs : List (ℕ × ℕ)) → need_by (act_at p.book.geometry tries job pairs (state_in p Sequel.Draw)) (is_due p) ≡ need.Directory
-    → is_ending (state_in p Sequel.Draw) ≡ true → IsUngathered (standing_of p)
+    → is_ending (state_in p Sequel.Draw) ≡ true → IsUngathered (progress_of p)
 ungathered_at p tries job pairs e h = ungathered_by p.book.geometry tries job pairs (parts_of p.left) p.current p.left e (ap parts_of) h
 
 -- gatherings of which the draw is next are done
 module _ (g : Shape) (tries : ℕ) (job : Job) (pairs : List (ℕ × ℕ)) (parts : List Part) where
   done_by : (current : Option GatherOf) (left : List Wanted)
-      → need_by (act_at g tries job pairs (gathering_state g parts Sequel.Draw current)) (is_due_at (standing_by g current left)) ≡ need.Directory
-      → gathering_state g parts Sequel.Draw current ≡ State.Drawing → standing_by g current left ≡ standing.Done
+      → need_by (act_at g tries job pairs (gathering_state g parts Sequel.Draw current)) (is_due_at (progress_by g current left)) ≡ need.Directory
+      → gathering_state g parts Sequel.Draw current ≡ State.Drawing → progress_by g current left ≡ progress.Done
   done_by None (wanted ∷ left) e h = absurd (no_directory (act_at g tries job pairs (open_parts g parts Sequel.Draw)) e)
   done_by None [] e h = refl
   done_by (Some w) left e h = by w.course.stage e h
     where
-      by : (stage : GatherStage) → need_by (act_at g tries job pairs (stage_state (open_parts g parts Sequel.Draw) w.course.aim parts Sequel.Draw stage)) (is_due_at (standing_at g w.course.aim stage)) ≡ need.Directory
-          → stage_state (open_parts g parts Sequel.Draw) w.course.aim parts Sequel.Draw stage ≡ State.Drawing → standing_at g w.course.aim stage ≡ standing.Done
+      by : (stage : GatherStage) → need_by (act_at g tries job pairs (stage_state (open_parts g parts Sequel.Draw) w.course.aim parts Sequel.Draw stage)) (is_due_at (progress_at g w.course.aim stage)) ≡ need.Directory
+          → stage_state (open_parts g parts Sequel.Draw) w.course.aim parts Sequel.Draw stage ≡ State.Drawing → progress_at g w.course.aim stage ≡ progress.Done
       by (GatherStage.Asks asking) e h = absurd (cc)
       by GatherStage.HasBytes e h = absurd (no_directory (act_at g tries job pairs (open_parts g parts Sequel.Draw)) e)
       by (GatherStage.TooMany missing) e h = absurd (cc)
@@ -87,7 +87,7 @@ module _ (g : Shape) (tries : ℕ) (job : Job) (pairs : List (ℕ × ℕ)) (part
       by GatherStage.Short e h = absurd (cc)
 
 pub done_at : (p : GatheringsOf) (tries : ℕ) (job : Job) (pairs : List (ℕ × ℕ)) → need_by (act_at p.book.geometry tries job pairs (state_in p Sequel.Draw)) (is_due p) ≡ need.Directory
-    → state_in p Sequel.Draw ≡ State.Drawing → standing_of p ≡ standing.Done
+    → state_in p Sequel.Draw ≡ State.Drawing → progress_of p ≡ progress.Done
 done_at p tries job pairs e h = done_by p.book.geometry tries job pairs (parts_of p.left) p.current p.left e h
 
 module _ (a : Inside) (kept : IsPatch a) (old : PatchOf) (view : patch_in a ≡ old) (needs : need_of old.call ≡ need.Directory) (ending : is_ending old.call.state.at ≡ true) where
@@ -108,7 +108,7 @@ module _ (a : Inside) (kept : IsPatch a) (old : PatchOf) (view : patch_in a ≡ 
       let is : is_ending (finished_of a.writing.state) ≡ false = ap (λ at. is_ending (finished_of at)) k.1.is in
       cc
 
-  -- the token that ends
+  -- the ticket that ends
   holding_by : (s : Stage) → Keeps s a → is_ending (state_by s a.gatherings a.writing a.outcome) ≡ true → IsPassing a.number (note_of a.call.now) a.ticket
   holding_by stage.Looking k h = absurd (cc)
   holding_by stage.Looked k h = record { drawn = []; holding = k.0 }

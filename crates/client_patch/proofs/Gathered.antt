@@ -14,7 +14,7 @@ use Rattle.call_steps.specs.declared.need.Need.TheVariants as need
 use Rattle.call_steps.specs.Steps.{need_by}
 use Rattle.gather_parts.specs.Wanted.{Wanted, parts_of}
 use Rattle.gather_parts.specs.Gatherings.{GatheringsOf}
-use Rattle.gather_parts.specs.Standings.{standing_at, standing_by, standing_of, is_due_at, is_due}
+use Rattle.gather_parts.specs.Progress.{progress_at, progress_by, progress_of, is_due_at, is_due}
 use Rattle.gather_parts.specs.States.{state_by, state_in}
 use Rattle.call_steps.specs.Ends.{point_ended, point_of}
 use Rattle.client_patch.specs.Known.{UpToDraw}
@@ -27,12 +27,12 @@ pub record EndsSo (at : State) : Type 0 where
   pub pointless : point_ended outcome ≡ None
 
 module _ (g : Shape) (parts : List Part) where
-  ends_by : (current : Option GatherOf) (left : List Wanted) → IsUngathered (standing_by g current left) → EndsSo (state_by g parts Sequel.Draw current)
+  ends_by : (current : Option GatherOf) (left : List Wanted) → IsUngathered (progress_by g current left) → EndsSo (state_by g parts Sequel.Draw current)
   ends_by None [] h = absurd h
   ends_by None (wanted ∷ left) h = absurd h
   ends_by (Some w) left h = by w.course.stage h
     where
-      by : (stage : Stage) → IsUngathered (standing_at g w.course.aim stage)
+      by : (stage : Stage) → IsUngathered (progress_at g w.course.aim stage)
           → EndsSo (stage_state (open_parts g parts Sequel.Draw) w.course.aim parts Sequel.Draw stage)
       by (Stage.Asks asking) h = absurd h
       by Stage.HasBytes h = absurd h
@@ -41,7 +41,7 @@ module _ (g : Shape) (parts : List Part) where
       by (Stage.TargetAway downs) h = record { outcome = _; is = refl; pointless = refl }
       by Stage.Short h = record { outcome = _; is = refl; pointless = refl }
 
-pub ungathered_ends : (p : GatheringsOf) → IsUngathered (standing_of p) → EndsSo (state_in p Sequel.Draw)
+pub ungathered_ends : (p : GatheringsOf) → IsUngathered (progress_of p) → EndsSo (state_in p Sequel.Draw)
 ungathered_ends p h = ends_by p.book.geometry (parts_of p.left) p.current p.left h
 
 -- while it gathers there is no point
@@ -73,7 +73,7 @@ no_server (Act.AtServer other step) server e = cc
 
 module _ (g : Shape) (tries : ℕ) (job : Job) (pairs : List (ℕ × ℕ)) (H : Type 0) where
   asks_by : (parts : List Part) (current : Option GatherOf) (left : List Wanted) (server : ℕ)
-      → need_by (act_at g tries job pairs (state_by g parts Sequel.Draw current)) (is_due_at (standing_by g current left)) ≡ need.Server server
+      → need_by (act_at g tries job pairs (state_by g parts Sequel.Draw current)) (is_due_at (progress_by g current left)) ≡ need.Server server
       → UpToDraw (state_by g parts Sequel.Draw current) H → H
   asks_by parts None (wanted ∷ left) server e h = absurd (no_server (act_at g tries job pairs (open_parts g parts Sequel.Draw)) server e)
   asks_by parts None [] server e h = open_by parts e h
@@ -92,7 +92,7 @@ module _ (g : Shape) (tries : ℕ) (job : Job) (pairs : List (ℕ × ℕ)) (H : 
       open_by (part ∷ parts) e h = stage_by part parts (first_stage g (Aim.Range part)) e h (open_by parts)
   asks_by parts (Some w) left server e h = by w.course.stage e h
     where
-      by : (stage : Stage) → need_by (act_at g tries job pairs (stage_state (open_parts g parts Sequel.Draw) w.course.aim parts Sequel.Draw stage)) (is_due_at (standing_at g w.course.aim stage)) ≡ need.Server server
+      by : (stage : Stage) → need_by (act_at g tries job pairs (stage_state (open_parts g parts Sequel.Draw) w.course.aim parts Sequel.Draw stage)) (is_due_at (progress_at g w.course.aim stage)) ≡ need.Server server
           → UpToDraw (stage_state (open_parts g parts Sequel.Draw) w.course.aim parts Sequel.Draw stage) H → H
       by (Stage.Asks asking) e h = h
       by Stage.HasBytes e h = absurd (no_server (act_at g tries job pairs (open_parts g parts Sequel.Draw)) server e)

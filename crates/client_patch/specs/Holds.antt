@@ -10,8 +10,8 @@ use Rattle.store_resume.specs.State.{State}
 use Rattle.version_seal.specs.Entry.{BookOf, StampOf}
 use Rattle.call_steps.specs.TokenAfter.{IfInCall}
 use Rattle.gather_parts.specs.Gatherings.{GatheringsOf}
-use Rattle.gather_parts.specs.declared.standing.Standing.{Standing}
-use Rattle.gather_parts.specs.declared.standing.Standing.TheVariants as standing
+use Rattle.gather_parts.specs.declared.progress.Progress.{Progress}
+use Rattle.gather_parts.specs.declared.progress.Progress.TheVariants as progress
 use Rattle.write_course.specs.Writings.{WritingOf}
 use Rattle.client_patch.specs.Kept.{new_of}
 
@@ -23,9 +23,9 @@ pub record IsOfCall (book : BookOf) (written : Call) (size : ℕ) (kept : List �
   pub contents : (place : ℕ) (stamp : StampOf) → slice_get w.stamps place ≡ Some stamp → stamp.content ≡ new_of book.geometry written size kept (w.first + place)
 
 -- gatherings that have ended without their bytes
-abbrev pub IsUngathered : Standing → Type 0
-IsUngathered standing.TooMany = ⊤
-IsUngathered standing.Short = ⊤
+abbrev pub IsUngathered : Progress → Type 0
+IsUngathered progress.TooMany = ⊤
+IsUngathered progress.Short = ⊤
 IsUngathered now = ⊥
 
 -- the pass of a put pins nothing

@@ -7,7 +7,7 @@ use Rattle.store_core.specs.Tokens.{actor_of}
 use Rattle.call_steps.specs.TokenAfter.{IsSeated}
 use Rattle.call_steps.specs.declared.outcomes.Change.{Change}
 use Rattle.gather_parts.specs.Gatherings.{owed}
-use Rattle.gather_parts.specs.Standings.{standing_of}
+use Rattle.gather_parts.specs.Progress.{progress_of}
 use Rattle.write_course.specs.Writings.{versions_of}
 use Rattle.client_patch.specs.Patches.{PatchOf, is_write, is_put, is_drawing, is_change}
 use Rattle.call_steps.specs.Callers.{IsClient, IsOfScript, IsWaiting}
@@ -51,7 +51,7 @@ Keeps stage.Looked a = IsHolding a.number (note_of a.call.now) [] a.ticket × Is
 Keeps stage.Gathering a =
     IsHolding a.number (note_of a.call.now) [] a.ticket × (is_write a.call.now ≡ true → length a.changes.items < vec_capacity a.changes) × (is_drawing a.call.now ≡ true)
     × (is_put a.call.now ≡ true → PinsNothing a.ticket × GathersNothing a.gatherings)
-Keeps stage.Ungathered a = IsSeated a.ticket × IsUngathered (standing_of a.gatherings)
+Keeps stage.Ungathered a = IsSeated a.ticket × IsUngathered (progress_of a.gatherings)
 Keeps stage.Writing a =
     IsOfCall a.opening a.call.now a.size a.gatherings.bytes a.writing × HasToken a.number (note_of a.call.now) (versions_of a.writing.stamps) a.ticket a.writing.state
     × (is_write a.call.now ≡ true → HasRoom a.writing.state (length a.changes.items) (vec_capacity a.changes)) × (is_drawing a.call.now ≡ true)

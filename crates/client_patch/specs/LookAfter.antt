@@ -6,7 +6,7 @@ use Rattle.store_map.specs.declared.call.Call.TheVariants as call
 use Rattle.store_core.specs.Told.{Told}
 use Rattle.store_resume.specs.State.{Sequel}
 use Rattle.gather_parts.specs.Gatherings.{GatheringsOf, owed}
-use Rattle.gather_parts.specs.Standings.{is_due}
+use Rattle.gather_parts.specs.Progress.{is_due}
 use Rattle.gather_parts.specs.States.{state_in}
 use Rattle.call_steps.specs.declared.seen.Seen.{Seen}
 use Rattle.stripe_dir.specs.declared.answers.Look.{Look}

@@ -5,7 +5,7 @@ use Rattle.call_steps.specs.Outcomes.{outcome_of}
 use Rattle.call_steps.specs.declared.outcomes.Outcome.{Outcome}
 use Rattle.call_steps.specs.Ends.{finished_of}
 use Rattle.gather_parts.specs.Gatherings.{GatheringsOf}
-use Rattle.gather_parts.specs.Standings.{is_due}
+use Rattle.gather_parts.specs.Progress.{is_due}
 use Rattle.gather_parts.specs.States.{state_in}
 use Rattle.write_course.specs.Writings.{WritingOf}
 use Rattle.client_patch.specs.declared.stage.Stage.{Stage}

@@ -13,7 +13,7 @@ use crate::stage::Stage;
 use call_steps::{Change, Need, Outcome};
 use clay_grid::Geometry;
 use clay_repair::Coder;
-use gather_parts::{PartGatherings, Standing};
+use gather_parts::{PartGatherings, Progress};
 use std::alloc::{AllocError, Global};
 use std::thread::Threads;
 use store_map::Call;
@@ -34,7 +34,7 @@ fn begin_gathering<R: Threads + Sync, C: Coder>(
     ensures room { OnOk result (length changes.new.items < vec_capacity changes.new) }
 {
     changes.reserve(1)?;
-    if matches!(gatherings.standing(), Standing::Due) {
+    if matches!(gatherings.progress(), Progress::Due) {
         return gatherings.on_coder(rt, coder);
     }
     Ok(())

@@ -1,10 +1,10 @@
 //! The steps of a call at the directory.
-ghost use Rattle.std.specs.Prelude.{◌≡◌, ◌++◌, true};
+ghost use Rattle.std.specs.Prelude.{◌≡◌, true};
 ghost use Rattle.store_core.specs.Agreement.{Agrees};
 ghost use Rattle.store_resume.specs.State.{State};
-ghost use Rattle.call_steps.specs.Steps.{stepped_at_directory, need_of};
+ghost use Rattle.call_steps.specs.Steps.{LeadsTo, need_of};
 ghost use Rattle.call_steps.specs.TokenAfter.{IsSeated};
-ghost use Rattle.write_course.specs.Draws.{stamps_drawn};
+ghost use Rattle.write_course.specs.Draws.{stamps_after};
 ghost use Rattle.write_course.specs.Writings.{is_committing};
 ghost use Rattle.client_patch.specs.Known.{KnowsOld};
 ghost use Rattle.client_patch.specs.Padded.{ArePadded};
@@ -15,10 +15,10 @@ use crate::bytes::bytes_of;
 use crate::patch::PatchCall;
 use crate::stage::{Looked, Stage, after_end, after_look};
 use call_steps::{Change, Need, Outcome};
-use gather_parts::Standing;
+use gather_parts::Progress;
 use stripe_dir::{Committed, Directory, Drawn, Ended};
 use version_seal::Book;
-use write_course::{Doing, Writing};
+use write_course::{Writing, WritingStage};
 
 impl<'a> PatchCall<'a> {
     /// One step at the directory of this book. What it draws is sealed in the book. Behind the ends of
@@ -30,14 +30,13 @@ impl<'a> PatchCall<'a> {
         requires book { book.now ≡ self.old.call.book }
         requires padded { ArePadded directory.old }
         requires knows { KnowsOld directory.old self.old }
-        ensures step { (directory.new.core, self.new.call)
-            ≡ stepped_at_directory self.new.call.step self.new.call.due self.old.call directory.old.core }
+        ensures step { LeadsTo self.old.call directory.old.core self.new.call directory.new.core }
         ensures agrees { Agrees directory.new.core self.new.call.token }
         ensures knows { KnowsOld directory.new self.new }
         ensures written { self.new.written ≡ self.old.written }
         ensures book { directory.new.book ≡ directory.old.book }
         ensures stamps { directory.new.stamps
-            ≡ directory.old.stamps ++ stamps_drawn self.new.call.step directory.old self.old.call self.old.written }
+            ≡ stamps_after self.new.call.step directory.old self.old.call self.old.written }
     {
         self.advance(directory, book);
     }
@@ -50,21 +49,20 @@ impl<'a> PatchCall<'a> {
         requires book { book.now ≡ self.old.call.book }
         requires padded { is_write self.old.written ≡ true → ArePadded directory.old }
         requires knows { is_write self.old.written ≡ true → KnowsOld directory.old self.old }
-        ensures step { (directory.new.core, self.new.call)
-            ≡ stepped_at_directory self.new.call.step self.new.call.due self.old.call directory.old.core }
+        ensures step { LeadsTo self.old.call directory.old.core self.new.call directory.new.core }
         ensures agrees { Agrees directory.new.core self.new.call.token }
         ensures knows { KnowsOld directory.new self.new }
         ensures written { self.new.written ≡ self.old.written }
         ensures book { directory.new.book ≡ directory.old.book }
         ensures stamps { directory.new.stamps
-            ≡ directory.old.stamps ++ stamps_drawn self.new.call.step directory.old self.old.call self.old.written }
+            ≡ stamps_after self.new.call.step directory.old self.old.call self.old.written }
     {
         match self.stage {
             Stage::Looking => self.look(directory),
-            Stage::Gathering if matches!(self.gatherings.standing(), Standing::Done) => {
+            Stage::Gathering if matches!(self.gatherings.progress(), Progress::Done) => {
                 self.draw(directory, book)
             }
-            Stage::Writing if matches!(self.writing.doing(), Doing::Committing) => {
+            Stage::Writing if matches!(self.writing.doing(), WritingStage::Committing) => {
                 self.commit(directory)
             }
             _ => self.end(directory),
@@ -78,8 +76,7 @@ impl<'a> PatchCall<'a> {
         requires agrees { Agrees directory.old.core self.old.call.token }
         requires its { directory.old.book ≡ self.old.call.book }
         requires padded { is_write self.old.written ≡ true → ArePadded directory.old }
-        ensures step { (directory.new.core, self.new.call)
-            ≡ stepped_at_directory self.new.call.step self.new.call.due self.old.call directory.old.core }
+        ensures step { LeadsTo self.old.call directory.old.core self.new.call directory.new.core }
         ensures agrees { Agrees directory.new.core self.new.call.token }
         ensures knows { KnowsOld directory.new self.new }
         ensures written { self.new.written ≡ self.old.written }
@@ -109,14 +106,13 @@ impl<'a> PatchCall<'a> {
         requires its { directory.old.book ≡ self.old.call.book }
         requires book { book.now ≡ self.old.call.book }
         requires knows { is_write self.old.written ≡ true → KnowsOld directory.old self.old }
-        ensures step { (directory.new.core, self.new.call)
-            ≡ stepped_at_directory self.new.call.step self.new.call.due self.old.call directory.old.core }
+        ensures step { LeadsTo self.old.call directory.old.core self.new.call directory.new.core }
         ensures agrees { Agrees directory.new.core self.new.call.token }
         ensures knows { KnowsOld directory.new self.new }
         ensures written { self.new.written ≡ self.old.written }
         ensures book { directory.new.book ≡ directory.old.book }
         ensures stamps { directory.new.stamps
-            ≡ directory.old.stamps ++ stamps_drawn self.new.call.step directory.old self.old.call self.old.written }
+            ≡ stamps_after self.new.call.step directory.old self.old.call self.old.written }
     {
         directory.keeps();
         let request = book.request(self.actor, self.number, self.call);
@@ -149,8 +145,7 @@ impl<'a> PatchCall<'a> {
         requires committing { is_committing self.old.call.state.at ≡ true }
         requires agrees { Agrees directory.old.core self.old.call.token }
         requires its { directory.old.book ≡ self.old.call.book }
-        ensures step { (directory.new.core, self.new.call)
-            ≡ stepped_at_directory self.new.call.step self.new.call.due self.old.call directory.old.core }
+        ensures step { LeadsTo self.old.call directory.old.core self.new.call directory.new.core }
         ensures agrees { Agrees directory.new.core self.new.call.token }
         ensures knows { KnowsOld directory.new self.new }
         ensures written { self.new.written ≡ self.old.written }
@@ -187,14 +182,13 @@ impl<'a> PatchCall<'a> {
         requires need { need_of self.old.call ≡ Need.Directory }
         requires ending { is_ending self.old.call.state.at ≡ true }
         requires agrees { Agrees directory.old.core self.old.call.token }
-        ensures step { (directory.new.core, self.new.call)
-            ≡ stepped_at_directory self.new.call.step self.new.call.due self.old.call directory.old.core }
+        ensures step { LeadsTo self.old.call directory.old.core self.new.call directory.new.core }
         ensures agrees { Agrees directory.new.core self.new.call.token }
         ensures knows { KnowsOld directory.new self.new }
         ensures written { self.new.written ≡ self.old.written }
         ensures book { directory.new.book ≡ directory.old.book }
         ensures stamps { directory.new.stamps
-            ≡ directory.old.stamps ++ stamps_drawn self.new.call.step directory.old self.old.call self.old.written }
+            ≡ stamps_after self.new.call.step directory.old self.old.call self.old.written }
     {
         let answer = self.ticket.end(directory, self.number);
         self.coding = false;

@@ -1,5 +1,5 @@
 //! A put, a write or a delete as a machine of steps: a put is a write that keeps no old bytes.
-ghost use Rattle.std.specs.Prelude.{◌≡◌, ◌<◌, ◌≤◌, true, replicate};
+ghost use Rattle.std.specs.Prelude.{◌≡◌, ◌<◌, ◌≤◌, true};
 ghost use Rattle.std.specs.Option.{option_map};
 ghost use Rattle.clay_grid.specs.Shape.{chunk_count};
 ghost use Rattle.store_core.specs.Note.{Kind};
@@ -7,14 +7,14 @@ ghost use Rattle.store_core.specs.Act.{Act, Outcome as CoreOutcome};
 ghost use Rattle.store_core.specs.Agreement.{ActorToken};
 ghost use Rattle.store_resume.specs.State.{Sequel, State};
 ghost use Rattle.chunk_server.specs.Core.{core_of};
-ghost use Rattle.call_steps.specs.Steps.{IfServer, stepped_at_server, need_of, HoldsItsPass, IsDueInPass, MayMakeNext};
+ghost use Rattle.call_steps.specs.Steps.{IsServerBelow, LeadsToAtServer, need_of, HoldsItsPass, IsDueInPass, MayMakeNext};
 ghost use Rattle.stripe_dir.specs.Sealed.{Sealed};
-ghost use Rattle.call_steps.specs.CallOf.{act_of, taken_of};
+ghost use Rattle.call_steps.specs.CallOf.{act_of, taken_of, HasTakenNothing};
 ghost use Rattle.call_steps.specs.Outcomes.{outcome_of};
 ghost use Rattle.call_steps.specs.Callers.{IsClient, IsOfScript};
 ghost use Rattle.call_steps.specs.Ends.{point_ended, point_of, finished_of};
 ghost use Rattle.gather_parts.specs.States.{state_in};
-ghost use Rattle.gather_parts.specs.Standings.{standing_of};
+ghost use Rattle.gather_parts.specs.Progress.{progress_of};
 ghost use Rattle.client_patch.specs.Holds.{IsUngathered};
 ghost use Rattle.client_patch.specs.Known.{KnowsOld};
 ghost use Rattle.client_patch.specs.Patches.{is_patch, is_put, is_change, first_patch};
@@ -82,7 +82,7 @@ fn point_of_outcome(outcome: &Outcome) -> Option<Point>
 
 // How gatherings have ended without their bytes, and what the call took.
 fn outcome_of_gatherings(gatherings: PartGatherings) -> (Outcome, Option<Takes>)
-    requires { IsUngathered (standing_of gatherings) }
+    requires { IsUngathered (progress_of gatherings) }
     ensures outcome { finished_of (state_in gatherings Sequel.Draw) ≡ State.Finished (outcome_of result.0) }
     ensures takes { result.1 ≡ taken_of gatherings.takes }
 {
@@ -160,8 +160,7 @@ impl<'a> PatchCall<'a> {
     #[tactic(auto, using(crate::proofs::Puts::kind_so, crate::proofs::Puts::takes_nothing, crate::proofs::Puts::ends_so))]
     pub fn keeps(&self)
         ensures kind { is_put self.now.written ≡ true → self.now.call.job.note.kind ≡ Kind.Put }
-        ensures nothing { is_put self.now.written ≡ true →
-            self.now.call.takes ≡ replicate (chunk_count self.now.call.book.geometry) 0 }
+        ensures nothing { is_put self.now.written ≡ true → HasTakenNothing self.now.call }
         ensures ended { (outcome : CoreOutcome) → is_put self.now.written ≡ true →
             act_of self.now.call ≡ Act.Finish outcome → self.now.call.state.at ≡ State.Finished outcome }
     {
@@ -175,7 +174,7 @@ impl<'a> PatchCall<'a> {
         ensures in_pass { IsDueInPass self.now.call }
         ensures pass { HoldsItsPass self.now.call }
         ensures may { MayMakeNext self.now.call }
-        ensures below { IfServer result (λ server. server < chunk_count self.now.call.book.geometry) }
+        ensures below { IsServerBelow (chunk_count self.now.call.book.geometry) result }
     {
         // That a commit has whole rows is needed below.
         self.writing.keeps();
@@ -193,8 +192,7 @@ impl<'a> PatchCall<'a> {
     pub fn on_server(&mut self, s: &mut Server)
         requires need { need_of self.old.call ≡ Need.Server s.old.number }
         requires book { s.old.book ≡ self.old.call.book }
-        ensures step { (core_of s.new, self.new.call)
-            ≡ stepped_at_server self.new.call.step self.new.call.due self.old.call (core_of s.old) }
+        ensures step { LeadsToAtServer self.old.call (core_of s.old) self.new.call (core_of s.new) }
         ensures written { self.new.written ≡ self.old.written }
         ensures knows { (d : Sealed) → KnowsOld d self.old → KnowsOld d self.new }
         ensures number { s.new.number ≡ s.old.number }

@@ -1,9 +1,6 @@
 //! What a call does next, by its answers.
 ghost use Rattle.std.specs.Prelude.{◌≡◌, true, map};
-ghost use Rattle.store_core.specs.Note.{note_of};
-ghost use Rattle.store_core.specs.NextAct.{job_of};
-ghost use Rattle.store_resume.specs.States.{open_state};
-ghost use Rattle.store_resume.specs.LookAfter.{start_after};
+ghost use Rattle.store_resume.specs.LookAfter.{looked_state};
 ghost use Rattle.stripe_dir.specs.Answers.{told_or_short, told_look};
 ghost use Rattle.write_course.specs.Writings.{WritingOf};
 ghost use Rattle.gather_parts.specs.Wanted.{wanted_of, ArePinned};
@@ -64,7 +61,7 @@ pub(crate) fn after_look(
     requires fits { IsPatchLook call.now (told_or_short told_look answer) }
     requires pinned { ArePinned gatherings.old.book answer }
     ensures state { (w : WritingOf) → state_by result.stage gatherings.new w result.outcome
-        ≡ open_state gatherings.old.book.geometry (start_after gatherings.old.book.geometry (note_of call.now).kind (job_of call.now) (told_or_short told_look answer)) }
+        ≡ looked_state gatherings.old.book.geometry call.now (told_or_short told_look answer) }
     ensures looked { IsLooked call.now (told_or_short told_look answer) result.stage }
     ensures begun { IfReady (told_or_short told_look answer) (gatherings.new ≡ begun gatherings.old (map (wanted_of gatherings.old.book.geometry 0 result.size) (looked_stripes answer))) }
     ensures size { size_told (told_or_short told_look answer) ≡ result.size }

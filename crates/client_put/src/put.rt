@@ -1,14 +1,15 @@
 //! A put as a machine of steps: that of writes, of which it keeps no old bytes and is tried once.
-ghost use Rattle.std.specs.Prelude.{◌≡◌, ◌<◌, ◌≤◌, ◌++◌, true, None, replicate};
+ghost use Rattle.std.specs.Prelude.{◌≡◌, ◌<◌, ◌≤◌, true, None};
 ghost use Rattle.std.specs.Option.{option_map};
 ghost use Rattle.clay_grid.specs.Shape.{chunk_count};
 ghost use Rattle.store_core.specs.Agreement.{Agrees, ActorToken};
 ghost use Rattle.store_resume.specs.State.{State};
 ghost use Rattle.chunk_server.specs.Core.{core_of};
-ghost use Rattle.call_steps.specs.Steps.{IfServer, stepped_at_directory, stepped_at_server, coded, need_of, HoldsItsPass, IsDueInPass, MayMakeNext};
+ghost use Rattle.call_steps.specs.CallOf.{HasTakenNothing};
+ghost use Rattle.call_steps.specs.Steps.{IsServerBelow, LeadsTo, LeadsToAtServer, coded, need_of, HoldsItsPass, IsDueInPass, MayMakeNext};
 ghost use Rattle.call_steps.specs.Outcomes.{outcome_of};
 ghost use Rattle.client_put.specs.Puts.{is_put, first_put};
-ghost use Rattle.write_course.specs.Draws.{stamps_drawn};
+ghost use Rattle.write_course.specs.Draws.{stamps_after};
 ghost use Rattle.call_steps.specs.Callers.{IsClient, IsOfScript};
 ghost use Rattle.call_steps.specs.Ends.{point_of};
 
@@ -70,7 +71,7 @@ impl<'a> PutCall<'a> {
         ensures in_pass { IsDueInPass self.now.call }
         ensures pass { HoldsItsPass self.now.call }
         ensures may { MayMakeNext self.now.call }
-        ensures below { IfServer result (λ server. server < chunk_count self.now.call.book.geometry) }
+        ensures below { IsServerBelow (chunk_count self.now.call.book.geometry) result }
     {
         self.patch.keeps();
         self.patch.need()
@@ -82,13 +83,12 @@ impl<'a> PutCall<'a> {
         requires agrees { Agrees directory.old.core self.old.call.token }
         requires its { directory.old.book ≡ self.old.call.book }
         requires book { book.now ≡ self.old.call.book }
-        ensures step { (directory.new.core, self.new.call)
-            ≡ stepped_at_directory self.new.call.step self.new.call.due self.old.call directory.old.core }
+        ensures step { LeadsTo self.old.call directory.old.core self.new.call directory.new.core }
         ensures agrees { Agrees directory.new.core self.new.call.token }
         ensures written { self.new.written ≡ self.old.written }
         ensures book { directory.new.book ≡ directory.old.book }
         ensures stamps { directory.new.stamps
-            ≡ directory.old.stamps ++ stamps_drawn self.new.call.step directory.old self.old.call self.old.written }
+            ≡ stamps_after self.new.call.step directory.old self.old.call self.old.written }
     {
         self.patch.keeps();
         self.patch.advance(directory, book);
@@ -98,8 +98,7 @@ impl<'a> PutCall<'a> {
     pub fn on_server(&mut self, s: &mut Server)
         requires need { need_of self.old.call ≡ Need.Server s.old.number }
         requires book { s.old.book ≡ self.old.call.book }
-        ensures step { (core_of s.new, self.new.call)
-            ≡ stepped_at_server self.new.call.step self.new.call.due self.old.call (core_of s.old) }
+        ensures step { LeadsToAtServer self.old.call (core_of s.old) self.new.call (core_of s.new) }
         ensures written { self.new.written ≡ self.old.written }
         ensures number { s.new.number ≡ s.old.number }
         ensures book { s.new.book ≡ s.old.book }
@@ -129,7 +128,7 @@ impl<'a> PutCall<'a> {
     /// What it has taken: nothing.
     pub fn takes(&self) -> Option<&Takes>
         ensures none { result ≡ None }
-        ensures nothing { self.now.call.takes ≡ replicate (chunk_count self.now.call.book.geometry) 0 }
+        ensures nothing { HasTakenNothing self.now.call }
     {
         self.patch.keeps();
         None
@@ -141,7 +140,7 @@ impl<'a> PutCall<'a> {
         ensures seat { ActorToken.Seated result.0 ≡ self.entry.call.token }
         ensures outcome { self.entry.call.state.at ≡ State.Finished (outcome_of result.1) }
         ensures none { result.2 ≡ None }
-        ensures nothing { self.entry.call.takes ≡ replicate (chunk_count self.entry.call.book.geometry) 0 }
+        ensures nothing { HasTakenNothing self.entry.call }
     {
         let PutCall { patch } = self;
         patch.keeps();

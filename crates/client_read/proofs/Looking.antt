@@ -85,7 +85,7 @@ never_ready (call.Put name content) base length stripes is fits = true≢false (
 never_ready (call.Write name offset content) base length stripes is fits = true≢false (sym is)
 never_ready (call.Delete name) base length stripes is fits = true≢false (sym is)
 
--- the token that a call has after its look
+-- the ticket that a call has after its look
 pub kept_looked : (answer : Result (Look ⊤ ⊤) AllocError) (next : Stage) (read : Call) (number : ℕ) (token : ActorToken) (p : GatheringsOf) → is_read read ≡ true
     → FitsKind (note_of read).kind (looked answer) → IsWaiting number token → IsLooked (looked answer) next
     → Keeps next number (note_of read) (token_after token number (DirectoryStep.Look (note_of read)) (looked answer)) p

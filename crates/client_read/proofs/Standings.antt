@@ -18,10 +18,10 @@ use Rattle.call_steps.specs.CallOf.{CallOf, act_of, tries_by}
 use Rattle.call_steps.specs.TokenAfter.{IfInCall, IsSeated}
 use Rattle.call_steps.specs.Steps.{need_by, HoldsItsPass}
 use Rattle.call_steps.specs.declared.outcomes.Outcome.{Outcome}
-use Rattle.gather_parts.specs.declared.standing.Standing.{Standing}
-use Rattle.gather_parts.specs.declared.standing.Standing.TheVariants as standing
+use Rattle.gather_parts.specs.declared.progress.Progress.{Progress}
+use Rattle.gather_parts.specs.declared.progress.Progress.TheVariants as progress
 use Rattle.gather_parts.specs.Gatherings.{GatheringsOf}
-use Rattle.gather_parts.specs.Standings.{standing_of, is_due, need_at, IsOver}
+use Rattle.gather_parts.specs.Progress.{progress_of, is_due, need_at, IsOver}
 use Rattle.gather_parts.specs.States.{state_in, StandsIn}
 use Rattle.gather_parts.proofs.Handing.{state_needs, state_in_pass}
 use Rattle.gather_parts.proofs.Ended.{over_closes}
@@ -79,17 +79,17 @@ gathering_holds c number note (ActorToken.InCall held) t j n inside h =
     }
 
 -- gatherings that need the directory are over
-over_by : (now : Standing) → need_at now ≡ need.Directory → IsOver now
-over_by (standing.Asks server) e = absurd (true≢false (sym (ap is_directory_need e)))
-over_by standing.Due e = absurd (true≢false (sym (ap is_directory_need e)))
-over_by standing.Done e = tt
-over_by standing.TooMany e = tt
-over_by standing.Short e = tt
+over_by : (now : Progress) → need_at now ≡ need.Directory → IsOver now
+over_by (progress.Asks server) e = absurd (true≢false (sym (ap is_directory_need e)))
+over_by progress.Due e = absurd (true≢false (sym (ap is_directory_need e)))
+over_by progress.Done e = tt
+over_by progress.TooMany e = tt
+over_by progress.Short e = tt
 
-pub gathering_over : (p : GatheringsOf) (job : Job) (point : ℕ) → need_by (act_at p.book.geometry (tries_by p.book.script) job [] (state_in p (Sequel.Serve point))) (is_due p) ≡ need.Directory → IsOver (standing_of p)
-gathering_over p job point e = over_by (standing_of p) (sym (state_needs p (tries_by p.book.script) job [] (Sequel.Serve point)) ∙ e)
+pub gathering_over : (p : GatheringsOf) (job : Job) (point : ℕ) → need_by (act_at p.book.geometry (tries_by p.book.script) job [] (state_in p (Sequel.Serve point))) (is_due p) ≡ need.Directory → IsOver (progress_of p)
+gathering_over p job point e = over_by (progress_of p) (sym (state_needs p (tries_by p.book.script) job [] (Sequel.Serve point)) ∙ e)
 
-pub closed_finished : (p : GatheringsOf) (point : ℕ) → IsOver (standing_of p) → (outcome : CoreOutcome) × (finished_of (state_in p (Sequel.Serve point)) ≡ State.Finished outcome)
+pub closed_finished : (p : GatheringsOf) (point : ℕ) → IsOver (progress_of p) → (outcome : CoreOutcome) × (finished_of (state_in p (Sequel.Serve point)) ≡ State.Finished outcome)
 closed_finished p point over = let closes = over_closes p point over in (closes.0, ap finished_of closes.1)
 
 abbrev is_start : State → Bool
@@ -117,12 +117,12 @@ waits_first a i first =
     subst (λ now. Keeps now a.number (note_of a.call.now) a.ticket a.gatherings) (before_look a.stage a.gatherings a.point a.outcome a.call.now a.number a.ticket i.read i.kept first) i.kept
 
 -- a call that is over
-never_finished : (now : Standing) → need_at now ≡ need.Finished → ⊥
-never_finished (standing.Asks server) e = true≢false (sym (ap is_finished_need e))
-never_finished standing.Due e = true≢false (sym (ap is_finished_need e))
-never_finished standing.Done e = true≢false (sym (ap is_finished_need e))
-never_finished standing.TooMany e = true≢false (sym (ap is_finished_need e))
-never_finished standing.Short e = true≢false (sym (ap is_finished_need e))
+never_finished : (now : Progress) → need_at now ≡ need.Finished → ⊥
+never_finished (progress.Asks server) e = true≢false (sym (ap is_finished_need e))
+never_finished progress.Due e = true≢false (sym (ap is_finished_need e))
+never_finished progress.Done e = true≢false (sym (ap is_finished_need e))
+never_finished progress.TooMany e = true≢false (sym (ap is_finished_need e))
+never_finished progress.Short e = true≢false (sym (ap is_finished_need e))
 
 module _ (read : Call) (number : ℕ) (token : ActorToken) (p : GatheringsOf) (point : Point) (outcome : Outcome) (is : is_read read ≡ true) where
   abbrev need_at_stage : Stage → Need
@@ -166,14 +166,14 @@ module _ (read : Call) (number : ℕ) (token : ActorToken) (p : GatheringsOf) (p
 
   pub over_seated : (now : Stage) → Keeps now number (note_of read) token p → need_at_stage now ≡ need.Finished → IsSeated token
   over_seated stage.Looking kept e = absurd (true≢false (sym (ap is_finished_need (sym (ap (λ act. need_by act false) (looks_first read (tries_by p.book.script) is p.book.geometry)) ∙ e))))
-  over_seated stage.Gathering kept e = absurd (never_finished (standing_of p) (sym (state_needs p (tries_by p.book.script) (job_of read) [] (Sequel.Serve point.0)) ∙ e))
+  over_seated stage.Gathering kept e = absurd (never_finished (progress_of p) (sym (state_needs p (tries_by p.book.script) (job_of read) [] (Sequel.Serve point.0)) ∙ e))
   over_seated stage.Ending kept e = absurd (true≢false (sym (ap is_finished_need e)))
   over_seated stage.Ended kept e = kept.0
   over_seated stage.Finished kept e = kept
 
   pub over_ended : (now : Stage) → Keeps now number (note_of read) token p → need_at_stage now ≡ need.Finished → (now ≡ stage.Finished → ⊥) → now ≡ stage.Ended
   over_ended stage.Looking kept e other = absurd (true≢false (sym (ap is_finished_need (sym (ap (λ act. need_by act false) (looks_first read (tries_by p.book.script) is p.book.geometry)) ∙ e))))
-  over_ended stage.Gathering kept e other = absurd (never_finished (standing_of p) (sym (state_needs p (tries_by p.book.script) (job_of read) [] (Sequel.Serve point.0)) ∙ e))
+  over_ended stage.Gathering kept e other = absurd (never_finished (progress_of p) (sym (state_needs p (tries_by p.book.script) (job_of read) [] (Sequel.Serve point.0)) ∙ e))
   over_ended stage.Ending kept e other = absurd (true≢false (sym (ap is_finished_need e)))
   over_ended stage.Ended kept e other = refl
   over_ended stage.Finished kept e other = absurd (other refl)

@@ -6,7 +6,7 @@ use Rattle.store_core.specs.Agreement.{HeldPass, ActorToken}
 use Rattle.store_core.specs.Tokens.{actor_of}
 use Rattle.call_steps.specs.TokenAfter.{IsSeated}
 use Rattle.gather_parts.specs.Gatherings.{GatheringsOf, owed}
-use Rattle.gather_parts.specs.Standings.{standing_of, IsOver}
+use Rattle.gather_parts.specs.Progress.{progress_of, IsOver}
 use Rattle.client_read.specs.Reads.{ReadOf, is_read}
 use Rattle.call_steps.specs.Callers.{IsClient, IsWaiting}
 use Rattle.client_read.specs.Ends.{IsPlain}
@@ -40,7 +40,7 @@ pub record IsOfCall (number : ℕ) (note : Note) (held : HeldPass) : Type 0 wher
   pub its : held.pass.note ≡ note
   pub its_number : held.pass.number ≡ number
 
--- the token while bytes are gathered
+-- the ticket while bytes are gathered
 abbrev pub IsHolding : ℕ → Note → ActorToken → Type 0
 IsHolding number note (ActorToken.Seated seat) = ⊥
 IsHolding number note (ActorToken.InCall held) = IsOfCall number note held
@@ -50,7 +50,7 @@ abbrev pub Keeps : Stage → ℕ → Note → ActorToken → GatheringsOf → Ty
 Keeps stage.Looking number note token p = IsWaiting number token
 Keeps stage.Gathering number note token p = IsHolding number note token
 Keeps stage.Ending number note token p = IsHolding number note token
-Keeps stage.Ended number note token p = IsSeated token × IsOver (standing_of p)
+Keeps stage.Ended number note token p = IsSeated token × IsOver (progress_of p)
 Keeps stage.Finished number note token p = IsSeated token
 
 -- what every call keeps; bytes are served from its gatherings alone

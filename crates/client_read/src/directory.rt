@@ -2,7 +2,7 @@
 ghost use Rattle.std.specs.Prelude.{◌≡◌, true};
 ghost use Rattle.store_core.specs.Agreement.{Agrees};
 ghost use Rattle.store_resume.specs.State.{State};
-ghost use Rattle.call_steps.specs.Steps.{stepped_at_directory, need_of};
+ghost use Rattle.call_steps.specs.Steps.{LeadsTo, need_of};
 ghost use Rattle.call_steps.specs.Ends.{is_ending};
 ghost use Rattle.client_read.specs.Owed.{owed_after};
 
@@ -17,10 +17,10 @@ impl<'a> ReadCall<'a> {
         requires need { need_of self.old.call ≡ Need.Directory }
         requires agrees { Agrees directory.old.core self.old.call.token }
         requires book { directory.old.book ≡ self.old.call.book }
-        ensures step { (directory.new.core, self.new.call)
-            ≡ stepped_at_directory self.new.call.step self.new.call.due self.old.call directory.old.core }
+        ensures step { LeadsTo self.old.call directory.old.core self.new.call directory.new.core }
         ensures agrees { Agrees directory.new.core self.new.call.token }
-        ensures owed { self.new.owed ≡ owed_after self.new.call.step self.old.call directory.old self.old.owed }
+        ensures owed { self.new.owed
+            ≡ owed_after self.new.call.step self.old.call directory.old self.old.owed }
         ensures book { directory.new.book ≡ directory.old.book }
         ensures stamps { directory.new.stamps ≡ directory.old.stamps }
     {
@@ -34,10 +34,10 @@ impl<'a> ReadCall<'a> {
         requires first { self.old.call.state.at ≡ State.Start }
         requires agrees { Agrees directory.old.core self.old.call.token }
         requires book { directory.old.book ≡ self.old.call.book }
-        ensures step { (directory.new.core, self.new.call)
-            ≡ stepped_at_directory self.new.call.step self.new.call.due self.old.call directory.old.core }
+        ensures step { LeadsTo self.old.call directory.old.core self.new.call directory.new.core }
         ensures agrees { Agrees directory.new.core self.new.call.token }
-        ensures owed { self.new.owed ≡ owed_after self.new.call.step self.old.call directory.old self.old.owed }
+        ensures owed { self.new.owed
+            ≡ owed_after self.new.call.step self.old.call directory.old self.old.owed }
         ensures book { directory.new.book ≡ directory.old.book }
         ensures stamps { directory.new.stamps ≡ directory.old.stamps }
     {
@@ -61,8 +61,7 @@ impl<'a> ReadCall<'a> {
         requires need { need_of self.old.call ≡ Need.Directory }
         requires ending { is_ending self.old.call.state.at ≡ true }
         requires agrees { Agrees directory.old.core self.old.call.token }
-        ensures step { (directory.new.core, self.new.call)
-            ≡ stepped_at_directory self.new.call.step self.new.call.due self.old.call directory.old.core }
+        ensures step { LeadsTo self.old.call directory.old.core self.new.call directory.new.core }
         ensures agrees { Agrees directory.new.core self.new.call.token }
         ensures owed { self.new.owed ≡ self.old.owed }
         ensures book { directory.new.book ≡ directory.old.book }

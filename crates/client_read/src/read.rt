@@ -6,7 +6,7 @@ ghost use Rattle.store_core.specs.Agreement.{ActorToken};
 ghost use Rattle.store_resume.specs.State.{Sequel, State};
 ghost use Rattle.chunk_server.specs.Core.{core_of};
 ghost use Rattle.chunk_server.specs.State.{IsSame};
-ghost use Rattle.call_steps.specs.Steps.{IfServer, stepped_at_server, coded, need_of, HoldsItsPass, IsDueInPass, MayMakeNext};
+ghost use Rattle.call_steps.specs.Steps.{IsServerBelow, LeadsToAtServer, coded, need_of, HoldsItsPass, IsDueInPass, MayMakeNext};
 ghost use Rattle.call_steps.specs.Outcomes.{outcome_of};
 ghost use Rattle.gather_parts.specs.Ends.{end_state};
 ghost use Rattle.call_steps.specs.CallOf.{taken_of};
@@ -102,7 +102,7 @@ impl<'a> ReadCall<'a> {
         ensures in_pass { IsDueInPass self.now.call }
         ensures pass { HoldsItsPass self.now.call }
         ensures may { MayMakeNext self.now.call }
-        ensures below { IfServer result (λ server. server < chunk_count self.now.call.book.geometry) }
+        ensures below { IsServerBelow (chunk_count self.now.call.book.geometry) result }
     {
         match self.stage {
             Stage::Looking | Stage::Ending => Need::Directory,
@@ -115,8 +115,7 @@ impl<'a> ReadCall<'a> {
     pub fn on_server(&mut self, s: &mut Server)
         requires need { need_of self.old.call ≡ Need.Server s.old.number }
         requires book { s.old.book ≡ self.old.call.book }
-        ensures step { (core_of s.new, self.new.call)
-            ≡ stepped_at_server self.new.call.step self.new.call.due self.old.call (core_of s.old) }
+        ensures step { LeadsToAtServer self.old.call (core_of s.old) self.new.call (core_of s.new) }
         ensures owed { self.new.owed ≡ self.old.owed }
         ensures same { IsSame s.old s.new }
     {

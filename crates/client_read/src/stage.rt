@@ -2,11 +2,9 @@
 ghost use Rattle.std.specs.Prelude.{◌≡◌, ◌+◌, ℕ, List, true, All, IfOk};
 ghost use Rattle.clay_grid.specs.Shape.{Shape};
 ghost use Rattle.store_core.specs.Note.{note_of};
-ghost use Rattle.store_core.specs.NextAct.{job_of};
 ghost use Rattle.store_core.specs.Read.{read_start, read_end};
 ghost use Rattle.store_calls.specs.AnswersByKind.{MayPin, FitsKind};
-ghost use Rattle.store_resume.specs.States.{open_state};
-ghost use Rattle.store_resume.specs.LookAfter.{start_after};
+ghost use Rattle.store_resume.specs.LookAfter.{looked_state};
 ghost use Rattle.version_seal.specs.Entry.{StampOf};
 ghost use Rattle.stripe_dir.specs.Answers.{told_or_short, told_look};
 ghost use Rattle.stripe_dir.specs.AnswerStamps.{IsSeenIn};
@@ -75,7 +73,7 @@ pub(crate) fn after_look(
     requires fits { FitsKind (note_of call.now).kind (told_or_short told_look answer) }
     requires pinned { ArePinned gatherings.old.book answer }
     ensures state { state_by result.stage gatherings.new result.point result.outcome
-        ≡ open_state gatherings.old.book.geometry (start_after gatherings.old.book.geometry (note_of call.now).kind (job_of call.now) (told_or_short told_look answer)) }
+        ≡ looked_state gatherings.old.book.geometry call.now (told_or_short told_look answer) }
     ensures plain { IsPlain result.outcome }
     ensures kept { IsLooked (told_or_short told_look answer) result.stage }
     ensures book { gatherings.new.book ≡ gatherings.old.book }

@@ -4,7 +4,7 @@ pub mod TableSteps
 pub mod Actors
 pub mod Births
 pub mod ShelfSteps
-pub mod BookSteps
+pub mod LogSteps
 pub mod Growing
 pub mod Naming
 pub mod Exchange

@@ -6,22 +6,22 @@ use Rattle.std.proofs.lemmas.List.Elements.{All-head, All-tail}
 use Rattle.std.proofs.lemmas.Slice.Eq.{bytes_eq-Decides}
 use Rattle.std.specs.Map.{lookup, keys_of}
 use Rattle.store_core.specs.Lookups.{is_change}
-use Rattle.dir_parts.specs.Book.{point_in}
-use Rattle.dir_parts.specs.declared.history.Entry.{Entry}
-use Rattle.dir_parts.proofs.BookSteps.{is_there, last_from}
+use Rattle.dir_parts.specs.PointLog.{point_in}
+use Rattle.dir_parts.specs.declared.history.PointRow.{PointRow}
+use Rattle.dir_parts.proofs.LogSteps.{is_there, last_from}
 
 pub keys-push : {X : Type 0} (entries : List (List ℕ × X)) (name : List ℕ) (x : X) → keys_of (entries ++ (name, x) ∷ []) ≡ keys_of entries ++ name ∷ []
 keys-push [] name x = refl
 keys-push (entry ∷ entries) name x = ap (λ ks. entry.0 ∷ ks) (keys-push entries name x)
 
 -- the points keep their names
-pub points-named : (names : List (List ℕ)) (name : List ℕ) (entries : List Entry) → All (λ entry. entry.name < length names) entries → map (point_in (names ++ name ∷ [])) entries ≡ map (point_in names) entries
+pub points-named : (names : List (List ℕ)) (name : List ℕ) (entries : List PointRow) → All (λ entry. entry.name < length names) entries → map (point_in (names ++ name ∷ [])) entries ≡ map (point_in names) entries
 points-named names name [] all = refl
 points-named names name (entry ∷ entries) all =
-    λ i. record (point_in names entry) { note = record { kind = (point_in names entry).note.kind; name = same i; offset = entry.offset; length = entry.length } } ∷ points-named names name entries (All-tail (λ (e : Entry). e.name < length names) entry entries all) i
+    λ i. record (point_in names entry) { note = record { kind = (point_in names entry).note.kind; name = same i; offset = entry.offset; length = entry.length } } ∷ points-named names name entries (All-tail (λ (e : PointRow). e.name < length names) entry entries all) i
   where
     same : get_or (names ++ name ∷ []) entry.name [] ≡ get_or names entry.name []
-    same = get_or-append names (name ∷ []) [] entry.name (All-head (λ (e : Entry). e.name < length names) entry entries all)
+    same = get_or-append names (name ∷ []) [] entry.name (All-head (λ (e : PointRow). e.name < length names) entry entries all)
 
 -- inside a list the value for past its end doesn't matter
 get_or_any : {X : Type 0} (xs : List X) (k : ℕ) (d e : X) → k < length xs → get_or xs k d ≡ get_or xs k e
@@ -40,13 +40,13 @@ apart_from {X} name entries none k less = by (cases_Bool (bytes_eq name (get_or 
         let there : Contains (keys_of entries) name = (k, less, get_or_any (keys_of entries) k name [] less ∙ same) in
         absurd (false≢true (sym (ap is_some none) ∙ is_there name entries there))
 
-pub none_changed : {X : Type 0} (name : List ℕ) (known : List (List ℕ × X)) → lookup (bytes_eq name) known ≡ None → (start : ℕ) (entries : List Entry) → All (λ entry. entry.name < length (keys_of known)) entries
+pub none_changed : {X : Type 0} (name : List ℕ) (known : List (List ℕ × X)) → lookup (bytes_eq name) known ≡ None → (start : ℕ) (entries : List PointRow) → All (λ entry. entry.name < length (keys_of known)) entries
     → last_from name start None (map (point_in (keys_of known)) entries) ≡ None
 none_changed name known none start [] all = refl
 none_changed name known none start (entry ∷ entries) all =
     ap (λ b. last_from name (start + 1) (cond {A = Option ℕ} (b && is_change (point_in (keys_of known) entry).event) (Some start) None) (map (point_in (keys_of known)) entries))
-    (apart_from name known none entry.name (All-head (λ (e : Entry). e.name < length (keys_of known)) entry entries all))
-    ∙ none_changed name known none (start + 1) entries (All-tail (λ (e : Entry). e.name < length (keys_of known)) entry entries all)
+    (apart_from name known none entry.name (All-head (λ (e : PointRow). e.name < length (keys_of known)) entry entries all))
+    ∙ none_changed name known none (start + 1) entries (All-tail (λ (e : PointRow). e.name < length (keys_of known)) entry entries all)
 
 -- what is there stays there
 pub contains-push : {X : Type 0} (xs : List X) (x y : X) → Contains xs y → Contains (xs ++ x ∷ []) y

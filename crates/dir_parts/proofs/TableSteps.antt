@@ -17,7 +17,7 @@ use Rattle.dir_parts.specs.Table.{standing_in, version_in, is_superseded, is_gar
 use Rattle.dir_parts.specs.TableSteps.{placed_anew_by}
 use Rattle.dir_parts.specs.declared.versions.Standing.{Standing}
 use Rattle.dir_parts.specs.declared.versions.Standing.TheVariants as standing
-use Rattle.dir_parts.specs.declared.versions.Entry.{Entry}
+use Rattle.dir_parts.specs.declared.versions.VersionRow.{VersionRow}
 use Rattle.dir_parts.proofs.Entries.{slice_get-map}
 use Rattle.dir_parts.proofs.Places.{places-same, places-more, length-places}
 
@@ -46,14 +46,14 @@ superseded_same standing.Taken = refl
 superseded_same standing.Swept = refl
 
 -- garbage stays garbage where it is superseded, and where it loses a pin
-pub marked_stays : (x : Entry) → is_garbage x ≡ true → is_garbage (record x { standing = standing.Superseded }) ≡ true
+pub marked_stays : (x : VersionRow) → is_garbage x ≡ true → is_garbage (record x { standing = standing.Superseded }) ≡ true
 marked_stays x h = by (is_superseded x.standing) (nat_eq x.pins 0) h
   where
     by : (a b : Bool) → (a && b) ≡ true → b ≡ true
     by true b h = h
     by false b h = absurd (false≢true h)
 
-module _ (f : Entry → Entry) (items : List ℕ) (entries : List Entry) (i : ℕ) (x : Entry) (there : slice_get entries i ≡ Some x) (held : IsPermutation items (places is_garbage 0 entries)) where
+module _ (f : VersionRow → VersionRow) (items : List ℕ) (entries : List VersionRow) (i : ℕ) (x : VersionRow) (there : slice_get entries i ≡ Some x) (held : IsPermutation items (places is_garbage 0 entries)) where
   -- the heap holds the garbage as before
   pub held_same : is_garbage (f x) ≡ is_garbage x → IsPermutation items (places is_garbage 0 (change_at i f entries))
   held_same same = subst (IsPermutation items) (sym (places-same is_garbage f 0 i entries x there same)) held
@@ -78,14 +78,14 @@ module _ (f : Entry → Entry) (items : List ℕ) (entries : List Entry) (i : �
       omega (arith, a, b, c, length-change_at i f entries)
 
 -- one version that is changed, and whether it is garbage before and after
-pub record Step (f : Entry → Entry) (old new : List Entry) (i : ℕ) (was is : Bool) : Type 0 where
-  pub entry : Entry
+pub record Step (f : VersionRow → VersionRow) (old new : List VersionRow) (i : ℕ) (was is : Bool) : Type 0 where
+  pub entry : VersionRow
   pub there : slice_get old i ≡ Some entry
   pub after : new ≡ change_at i f old
   pub was_is : was ≡ is_garbage entry
   pub is_is : is ≡ is_garbage (f entry)
 
-pub step_of : (f : Entry → Entry) (old new : List Entry) (i : ℕ) (x y : Entry) (was is : Bool) → i < length old → x ≡ get_or old i x → new ≡ change_at i f old → y ≡ get_or new i y
+pub step_of : (f : VersionRow → VersionRow) (old new : List VersionRow) (i : ℕ) (x y : VersionRow) (was is : Bool) → i < length old → x ≡ get_or old i x → new ≡ change_at i f old → y ≡ get_or new i y
     → was ≡ is_garbage x → is ≡ is_garbage y → Step f old new i was is
 step_of f old new i x y was is within read after read_new was_is is_is =
     let there : slice_get old i ≡ Some x = slice_get_read old (length old) i x refl within read in
@@ -107,26 +107,26 @@ same_both true false h = absurd (false≢true (sym h))
 same_both false true h = absurd (false≢true (sym h))
 same_both false false h = refl
 
-module _ (f : Entry → Entry) (old new : List Entry) (i : ℕ) (was is : Bool) (step : Step f old new i was is) (items : List ℕ) (held : IsPermutation items (places is_garbage 0 old)) where
+module _ (f : VersionRow → VersionRow) (old new : List VersionRow) (i : ℕ) (was is : Bool) (step : Step f old new i was is) (items : List ℕ) (held : IsPermutation items (places is_garbage 0 old)) where
   pub kept_same : not (beq is was) ≡ false → IsPermutation items (places is_garbage 0 new)
   kept_same same =
-      subst (λ (l : List Entry). IsPermutation items (places is_garbage 0 l)) (sym step.after)
+      subst (λ (l : List VersionRow). IsPermutation items (places is_garbage 0 l)) (sym step.after)
       (held_same f items old i step.entry step.there held (sym step.is_is ∙ same_both was is same ∙ step.was_is))
 
-  module _ (stays : (x : Entry) → is_garbage x ≡ true → is_garbage (f x) ≡ true) (apart : not (beq is was) ≡ true) where
+  module _ (stays : (x : VersionRow) → is_garbage x ≡ true → is_garbage (f x) ≡ true) (apart : not (beq is was) ≡ true) where
     now : (was ≡ false) × (is ≡ true)
     now = turned was is apart (λ h. step.is_is ∙ stays step.entry (sym step.was_is ∙ h))
 
     pub kept_more : (pushed : List ℕ) → IsPermutation (i ∷ items) pushed → IsPermutation pushed (places is_garbage 0 new)
     kept_more pushed p =
-        subst (λ (l : List Entry). IsPermutation pushed (places is_garbage 0 l)) (sym step.after)
+        subst (λ (l : List VersionRow). IsPermutation pushed (places is_garbage 0 l)) (sym step.after)
         (held_more f items old i step.entry step.there held pushed (sym step.was_is ∙ now.0) (sym step.is_is ∙ now.1) p)
 
     pub room_left : length items < length old
     room_left = has_room f items old i step.entry step.there held (sym step.was_is ∙ now.0) (sym step.is_is ∙ now.1)
 
 -- a pin less
-pub unpinned_stays : (x : Entry) → is_garbage x ≡ true → is_garbage (record x { pins = x.pins - 1 }) ≡ true
+pub unpinned_stays : (x : VersionRow) → is_garbage x ≡ true → is_garbage (record x { pins = x.pins - 1 }) ≡ true
 unpinned_stays x h = by (is_superseded x.standing) x.pins h
   where
     by : (b : Bool) (n : ℕ) → (b && nat_eq n 0) ≡ true → (b && nat_eq (n - 1) 0) ≡ true
@@ -135,18 +135,18 @@ unpinned_stays x h = by (is_superseded x.standing) x.pins h
     by true (suc n) h = absurd (let no : suc n ≡ 0 = eqb-true (suc n) 0 h in omega (arith, no))
 
 -- a version that isn't superseded and isn't afterwards
-pub placed_same : (f : Entry → Entry) (old new : List Entry) (i : ℕ) → i < length old → new ≡ change_at i f old → holds_standing is_superseded_standing (slice_get (map version_in old) i) ≡ false
-    → ((x : Entry) → is_garbage (f x) ≡ false) → (items : List ℕ) → IsPermutation items (places is_garbage 0 old) → IsPermutation items (places is_garbage 0 new)
+pub placed_same : (f : VersionRow → VersionRow) (old new : List VersionRow) (i : ℕ) → i < length old → new ≡ change_at i f old → holds_standing is_superseded_standing (slice_get (map version_in old) i) ≡ false
+    → ((x : VersionRow) → is_garbage (f x) ≡ false) → (items : List ℕ) → IsPermutation items (places is_garbage 0 old) → IsPermutation items (places is_garbage 0 new)
 placed_same f old new i within after other never items held = by (slice_get_cases old i).1
   where
-    by : ((x : Entry) × (i < length old) × (slice_get old i ≡ Some x) × (get_or old i x ≡ x)) ⊎ ((length old ≤ i) × (slice_get old i ≡ None)) → IsPermutation items (places is_garbage 0 new)
+    by : ((x : VersionRow) × (i < length old) × (slice_get old i ≡ Some x) × (get_or old i x ≡ x)) ⊎ ((length old ≤ i) × (slice_get old i ≡ None)) → IsPermutation items (places is_garbage 0 new)
     by (inr k) = absurd (let more : length old ≤ i = k.0 in omega (arith, within, more))
     by (inl k) =
-        let x : Entry = k.0 in
+        let x : VersionRow = k.0 in
         let read : slice_get (map version_in old) i ≡ Some (version_in x) = slice_get-map version_in old i x k.2 in
         let stands : is_superseded x.standing ≡ false = sym (superseded_same x.standing) ∙ ap (holds_standing is_superseded_standing) (sym read) ∙ other in
         let was : is_garbage x ≡ false = ap (λ b. b && nat_eq x.pins 0) stands in
-        subst (λ (l : List Entry). IsPermutation items (places is_garbage 0 l)) (sym after) (held_same f items old i x k.2 held (never x ∙ sym was))
+        subst (λ (l : List VersionRow). IsPermutation items (places is_garbage 0 l)) (sym after) (held_same f items old i x k.2 held (never x ∙ sym was))
 
 -- ---- lengths
 pub length-fold : {X Y : Type 0} (f : List X → Y → List X) → ((xs : List X) (y : Y) → length (f xs y) ≡ length xs) → (xs : List X) (ys : List Y) → length (fold f xs ys) ≡ length xs

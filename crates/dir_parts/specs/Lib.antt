@@ -8,7 +8,7 @@ pub mod Table
 pub mod TableSteps
 pub mod Events
 pub mod Parts
-pub mod Book
+pub mod PointLog
 pub mod Held
 pub mod Shelf
 pub mod Known

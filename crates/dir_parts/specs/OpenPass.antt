@@ -27,6 +27,13 @@ open_in a =
 abbrev pub HasRoom : ℕ → Open → Type 0
 HasRoom stripe_len o = o.pass.note.kind ≡ Kind.Write → FitsFrom (o.pass.note.offset / stripe_len) o.pass.drawn o.room
 
+-- a pass that has drawn these versions, and one that was given up at a point
+abbrev pub pass_drawn : List ℕ → Pass → Pass
+pass_drawn drawn pass = record pass { drawn = drawn }
+
+abbrev pub pass_reaped : ℕ → Pass → Pass
+pass_reaped point pass = record pass { reaped = Some point }
+
 -- with what it has drawn, and with room
 abbrev pub given : List ℕ → ℕ → Open → Open
 given drawn room o = record { pass = record (o.pass) { drawn = drawn }; room = room }

@@ -12,7 +12,7 @@ pub record Shelf : Type 0 where
   pub room : ℕ
 
 -- the points, the names that they may have, and how many more points fit without memory
-pub record Book : Type 0 where
+pub record PointLog : Type 0 where
   pub points : List Point
   pub names : List (List ℕ)
   pub room : ℕ

@@ -2,13 +2,25 @@
 use Rattle.std.specs.Prelude.{◌≡◌, ℕ, ◌<◌, false, ◌&&◌, nat_eq, List, [], ◌∷◌, length, map, fold, find, get_or, Option, None, Some, option_map}
 use Rattle.std.specs.List.{enumerate_from, range_with_len, slice_get}
 use Rattle.store_map.specs.declared.actor.Actor.{Actor}
+use Rattle.store_map.specs.declared.placement.Placement.{Placement}
 use Rattle.store_core.specs.Lists.{change_at}
+use Rattle.store_core.specs.AtDirectory.{swept_standing}
 use Rattle.store_core.specs.Placements.{placed_anew}
 use Rattle.store_core.specs.Look.{set_standing}
 use Rattle.store_core.specs.Lookups.{is_superseded_standing, holds_standing}
 use Rattle.store_core.specs.Directory.{Version, Pin}
 use Rattle.store_core.specs.Directory.{Standing as CoreStanding}
 use Rattle.dir_parts.specs.Table.{Table}
+
+-- a version of another standing, one that became current with these placements of its chunks, and one that is swept where it was taken
+abbrev pub version_standing : CoreStanding → Version → Version
+version_standing standing version = record version { standing = standing }
+
+abbrev pub version_current : List Placement → Version → Version
+version_current row version = record version { placed = row; standing = CoreStanding.Current }
+
+abbrev pub version_swept : Version → Version
+version_swept version = record version { standing = swept_standing version.standing }
 
 -- the version that pins name for a stripe, if they name one
 abbrev pub base_version : List Pin → ℕ → Option ℕ

@@ -3,7 +3,7 @@ ghost use Rattle.std.specs.Prelude.{◌≡◌, ◌+◌, ◌<◌, ◌∷◌, [], 
 ghost use Rattle.indexmap.specs.IndexMap.{keys, get, IsUnique, set_value_at};
 ghost use Rattle.store_core.specs.Lookups.{last_change, is_change};
 ghost use Rattle.dir_parts.specs.Events.{reply_in, event_in};
-ghost use Rattle.dir_parts.specs.Book.{told_of, told_at, point_in};
+ghost use Rattle.dir_parts.specs.PointLog.{told_of, told_at, point_in};
 ghost use Rattle.dir_parts.specs.Parts.{point_by, KeepsNames};
 
 use crate::passes::{CallNote, Kind};
@@ -41,7 +41,7 @@ pub struct PointEntry {
 
 /// A point of the history, without bytes: the name is a place among the names.
 #[derive(Drop)]
-pub struct Entry {
+pub struct PointRow {
     pub actor: Actor,
     pub number: u32,
     pub event: Event,
@@ -54,20 +54,20 @@ pub struct Entry {
 /// The points, and each name that a point may have with the last change of its object.
 #[derive(Drop)]
 pub struct History {
-    entries: Vec<Entry>,
+    entries: Vec<PointRow>,
     names: IndexMap<Name, Option<u64>>,
 }
 
 impl Model for History {
-    ghost use Rattle.dir_parts.specs.Parts.{Book};
+    ghost use Rattle.dir_parts.specs.Parts.{PointLog};
 
-    ghost Value = { Book };
+    ghost Value = { PointLog };
 
-    ghost use Rattle.dir_parts.specs.Book.{book_in, IsBook};
+    ghost use Rattle.dir_parts.specs.PointLog.{log_in, IsPointLog};
 
-    ghost view = { book_in };
+    ghost view = { log_in };
 
-    ghost invariant = { IsBook };
+    ghost invariant = { IsPointLog };
 }
 
 impl Answer {
@@ -197,7 +197,7 @@ impl History {
     }
 
     // One point more, of a name that is kept.
-    fn push(&mut self, entry: Entry)
+    fn push(&mut self, entry: PointRow)
         requires room { 0 < self.old.room }
         requires named { entry.name < length self.old.names }
         requires still { is_change (event_in entry.event) ≡ false }
@@ -209,7 +209,7 @@ impl History {
     }
 
     // The same of an event that changes the object.
-    fn push_change(&mut self, entry: Entry)
+    fn push_change(&mut self, entry: PointRow)
         requires room { 0 < self.old.room }
         requires named { entry.name < length self.old.names }
         requires changes { is_change (event_in entry.event) ≡ true }
@@ -233,7 +233,7 @@ impl History {
         ensures room { self.new.room + 1 ≡ self.old.room }
     {
         let point = self.entries.len() as u64;
-        let entry = Entry {
+        let entry = PointRow {
             actor,
             number,
             event,

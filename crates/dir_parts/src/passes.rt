@@ -2,7 +2,7 @@
 ghost use Rattle.std.specs.Prelude.{◌≡◌, ◌+◌, ◌<◌, ◌∷◌, [], length, slice_get, ℕ, All, Some, IsTrue, is_some, vec_capacity, IfSome, OnOk, option_map, find};
 ghost use Rattle.std.specs.List.Sorted.{IsPermutation};
 ghost use Rattle.store_core.specs.Lookups.{same_actor};
-ghost use Rattle.dir_parts.specs.OpenPass.{Open, HasRoom, given, reaped_at};
+ghost use Rattle.dir_parts.specs.OpenPass.{Open, HasRoom, pass_drawn, pass_reaped, given, reaped_at};
 ghost use Rattle.dir_parts.specs.Whose.{own_pass, without_own, change_own, AreApart, own_call, without_own_call, change_own_call, AreCallsApart};
 
 use std::alloc::{AllocError, Global};
@@ -251,9 +251,9 @@ impl Passes {
     pub fn draw(&mut self, actor: Actor, drawn: Vec<u64>, spare: Vec<u64>) -> Snapshot<OpenPass>
         requires there { IsTrue (is_some (own_pass actor self.old.listed)) }
         requires apart { AreApart self.old.listed }
-        requires room { IfSome (own_pass actor self.old.listed) (λ pass. HasRoom self.old.stripe_len (record { pass = record pass { drawn = drawn.items }; room = vec_capacity spare })) }
-        ensures listed { self.new.listed ≡ change_own actor (λ pass. record pass { drawn = drawn.items }) self.old.listed }
-        ensures entry { IfSome (own_pass actor self.old.listed) (λ pass. result.value.pass ≡ record pass { drawn = drawn.items }) }
+        requires room { IfSome (own_pass actor self.old.listed) (λ pass. HasRoom self.old.stripe_len (record { pass = pass_drawn drawn.items pass; room = vec_capacity spare })) }
+        ensures listed { self.new.listed ≡ change_own actor (pass_drawn drawn.items) self.old.listed }
+        ensures entry { IfSome (own_pass actor self.old.listed) (λ pass. result.value.pass ≡ pass_drawn drawn.items pass) }
         ensures stripe { self.new.stripe_len ≡ self.old.stripe_len }
     {
         set_drawn(&mut self.open, actor, drawn, spare)
@@ -263,7 +263,7 @@ impl Passes {
     pub fn reap(&mut self, actor: Actor, point: u64)
         requires there { IsTrue (is_some (own_pass actor self.old.listed)) }
         requires apart { AreApart self.old.listed }
-        ensures listed { self.new.listed ≡ change_own actor (λ pass. record pass { reaped = Some point }) self.old.listed }
+        ensures listed { self.new.listed ≡ change_own actor (pass_reaped point) self.old.listed }
         ensures stripe { self.new.stripe_len ≡ self.old.stripe_len }
     {
         set_reaped(&mut self.open, actor, point);

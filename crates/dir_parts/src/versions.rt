@@ -8,10 +8,9 @@ ghost use Rattle.store_core.specs.Lookups.{holds_standing, is_current_standing};
 ghost use Rattle.store_core.specs.Directory.{Standing as CoreStanding};
 ghost use Rattle.store_core.specs.Commit.{place_all};
 ghost use Rattle.store_core.specs.Placements.{placed_anew};
-ghost use Rattle.store_core.specs.AtDirectory.{swept_standing};
 ghost use Rattle.dir_parts.specs.Counts.{unpinned, pinned_more, CanTakeAll};
-ghost use Rattle.dir_parts.specs.Table.{is_garbage, garbage_in, number_in, least_first, versions_in, pins_in, swept};
-ghost use Rattle.dir_parts.specs.TableSteps.{base_version, drawn_versions, IsUnreplaced, IsThereUnreplaced, first_free, taken_from, placed_anew_at, placed_anew_by};
+ghost use Rattle.dir_parts.specs.Table.{is_garbage, garbage_in, number_in, least_first, versions_in, pins_in, swept, entry_standing, entry_current, entry_unpinned, entry_pinned, entry_swept};
+ghost use Rattle.dir_parts.specs.TableSteps.{version_standing, version_current, version_swept, base_version, drawn_versions, IsUnreplaced, IsThereUnreplaced, first_free, taken_from, placed_anew_at, placed_anew_by};
 ghost use Rattle.dir_parts.specs.Known.{is_known};
 ghost use Rattle.dir_parts.specs.declared.versions.Standing.TheVariants as standing;
 
@@ -34,7 +33,7 @@ pub enum Standing {
 
 // A version, with the number of passes that pin it and aren't reaped.
 #[derive(Drop)]
-pub struct Entry {
+pub struct VersionRow {
     pub actor: Actor,
     pub number: u32,
     pub stripe: u32,
@@ -47,7 +46,7 @@ pub struct Entry {
 /// All versions by their numbers, and the garbage among them.
 #[derive(Drop)]
 pub struct Versions {
-    entries: Vec<Entry>,
+    entries: Vec<VersionRow>,
     garbage: BinaryHeap<Reverse<u64>>,
 }
 
@@ -64,9 +63,9 @@ impl Model for Versions {
 }
 
 // Gives a version another standing.
-fn stand(entries: &mut Vec<Entry>, at: usize, standing: Standing)
+fn stand(entries: &mut Vec<VersionRow>, at: usize, standing: Standing)
     requires { at < vec_len entries.old }
-    ensures after { entries.new.items ≡ change_at at (λ entry. record entry { standing = standing }) entries.old.items }
+    ensures after { entries.new.items ≡ change_at at (entry_standing standing) entries.old.items }
     ensures len { vec_len entries.new ≡ vec_len entries.old }
 {
     let entry = &mut entries[at];
@@ -74,9 +73,9 @@ fn stand(entries: &mut Vec<Entry>, at: usize, standing: Standing)
 }
 
 // A drawn version becomes current.
-fn place(entries: &mut Vec<Entry>, at: usize, row: Vec<Placement>)
+fn place(entries: &mut Vec<VersionRow>, at: usize, row: Vec<Placement>)
     requires { at < vec_len entries.old }
-    ensures after { entries.new.items ≡ change_at at (λ entry. record entry { placed = row; standing = standing.Current }) entries.old.items }
+    ensures after { entries.new.items ≡ change_at at (entry_current row) entries.old.items }
     ensures len { vec_len entries.new ≡ vec_len entries.old }
 {
     let entry = &mut entries[at];
@@ -85,9 +84,9 @@ fn place(entries: &mut Vec<Entry>, at: usize, row: Vec<Placement>)
 }
 
 // One pin less.
-fn unpin(entries: &mut Vec<Entry>, at: usize)
+fn unpin(entries: &mut Vec<VersionRow>, at: usize)
     requires { at < vec_len entries.old }
-    ensures after { entries.new.items ≡ change_at at (λ entry. record entry { pins = entry.pins - 1 }) entries.old.items }
+    ensures after { entries.new.items ≡ change_at at entry_unpinned entries.old.items }
     ensures len { vec_len entries.new ≡ vec_len entries.old }
 {
     let entry = &mut entries[at];
@@ -95,10 +94,10 @@ fn unpin(entries: &mut Vec<Entry>, at: usize)
 }
 
 // One pin more.
-fn pin(entries: &mut Vec<Entry>, at: usize)
+fn pin(entries: &mut Vec<VersionRow>, at: usize)
     requires within { at < vec_len entries.old }
     requires fits { get_or (pins_in entries.old.items) at 0 + 1 < 2 ^ 64 }
-    ensures after { entries.new.items ≡ change_at at (λ entry. record entry { pins = entry.pins + 1 }) entries.old.items }
+    ensures after { entries.new.items ≡ change_at at entry_pinned entries.old.items }
     ensures len { vec_len entries.new ≡ vec_len entries.old }
 {
     let entry = &mut entries[at];
@@ -116,9 +115,9 @@ fn swept(standing: Standing) -> Standing
 }
 
 // A version that was taken is swept.
-fn sweep(entries: &mut Vec<Entry>, at: usize)
+fn sweep(entries: &mut Vec<VersionRow>, at: usize)
     requires { at < vec_len entries.old }
-    ensures after { entries.new.items ≡ change_at at (λ entry. record entry { standing = swept entry.standing }) entries.old.items }
+    ensures after { entries.new.items ≡ change_at at entry_swept entries.old.items }
     ensures len { vec_len entries.new ≡ vec_len entries.old }
 {
     let entry = &mut entries[at];
@@ -146,7 +145,7 @@ fn raise(row: &mut Vec<Placement>, server: usize, epoch: u64)
 }
 
 // A version's chunk was placed anew at a server.
-fn place_anew(entries: &mut Vec<Entry>, at: usize, server: u32, epoch: u64)
+fn place_anew(entries: &mut Vec<VersionRow>, at: usize, server: u32, epoch: u64)
     requires { at < vec_len entries.old }
     ensures versions { versions_in entries.new.items ≡ placed_anew_at server epoch at (versions_in entries.old.items) }
     ensures pins { pins_in entries.new.items ≡ pins_in entries.old.items }
@@ -158,7 +157,7 @@ fn place_anew(entries: &mut Vec<Entry>, at: usize, server: u32, epoch: u64)
 }
 
 // Whether the sweeper may take the version.
-fn is_garbage(entry: &Entry) -> bool
+fn is_garbage(entry: &VersionRow) -> bool
     ensures { result ≡ is_garbage entry.now }
 {
     matches!(entry.standing, Standing::Superseded) && entry.pins == 0
@@ -194,7 +193,7 @@ pub fn base_of(pins: &[Pinned], stripe: u32) -> Option<u64>
 
 // A version of each of these stripes, drawn and laid over the pinned one, if one is.
 fn push_drawn(
-    entries: &mut Vec<Entry>,
+    entries: &mut Vec<VersionRow>,
     actor: Actor,
     number: u32,
     pins: &[Pinned],
@@ -212,7 +211,7 @@ fn push_drawn(
     for i in 0..count {
         let stripe = first + i;
         let base = base_of(pins, stripe);
-        entries.push_reserved(Entry {
+        entries.push_reserved(VersionRow {
             actor,
             number,
             stripe,
@@ -269,7 +268,7 @@ impl Versions {
     /// The version is superseded, and is garbage where no pass pins it.
     pub fn supersede(&mut self, number: u64)
         requires { number < length self.old.listed }
-        ensures listed { self.new.listed ≡ change_at number (λ version. record version { standing = CoreStanding.Superseded }) self.old.listed }
+        ensures listed { self.new.listed ≡ change_at number (version_standing CoreStanding.Superseded) self.old.listed }
         ensures pins { self.new.pins ≡ self.old.pins }
     {
         let at = number as usize;
@@ -301,7 +300,7 @@ impl Versions {
     pub fn make_current(&mut self, number: u64, row: Vec<Placement>)
         requires within { number < length self.old.listed }
         requires other { IsUnreplaced self.old.listed number }
-        ensures listed { self.new.listed ≡ change_at number (λ version. record version { placed = row.items; standing = CoreStanding.Current }) self.old.listed }
+        ensures listed { self.new.listed ≡ change_at number (version_current row.items) self.old.listed }
         ensures pins { self.new.pins ≡ self.old.pins }
     {
         place(&mut self.entries, number as usize, row);
@@ -370,7 +369,7 @@ impl Versions {
 
     /// A version that was taken is swept; nothing where it wasn't.
     pub fn sweep(&mut self, number: u64)
-        ensures listed { self.new.listed ≡ change_at number (λ version. record version { standing = swept_standing version.standing }) self.old.listed }
+        ensures listed { self.new.listed ≡ change_at number version_swept self.old.listed }
         ensures pins { self.new.pins ≡ self.old.pins }
     {
         if number >= self.entries.len() as u64 {

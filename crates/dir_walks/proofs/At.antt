@@ -34,7 +34,7 @@ use Rattle.dir_walks.specs.Callers.{CallerOf, IsBegun, IsDrawn, IsAt, is_seated}
 use Rattle.dir_walks.specs.After.{writes, stage_after_look, stage_after_repair_look, stage_after_draw, drawn_by, unused_after_commit, stage_after_confirm}
 use Rattle.dir_walks.proofs.Goes.{to_write, writing}
 
--- ---- what the stage says of the token
+-- ---- what the stage says of the ticket
 module _ (book : BookOf) (c : CallerOf) where
   pub seated : (t : ActorToken) → IsAt book c stage.Seated t → (seat : Seat) × (t ≡ ActorToken.Seated seat) × (seat.unused ≤ c.unused)
   seated (ActorToken.Seated seat) at = (seat, refl, at)

@@ -65,7 +65,7 @@ writing (call.Stat name) h = absurd (false≢true h)
 writing (call.Delete name) h = absurd (false≢true h)
 
 -- ---- a step that is made
--- every other actor's token
+-- every other actor's ticket
 pub others_agree : (short : Bool) (who : Actor) (number : ℕ) (step : DirectoryStep) (d core : Directory) (told : Told) → (core, told) ≡ at_directory short who number step d → OthersAgree who d core
 others_agree short who number step d core told made = λ token apart agrees.
     subst (λ (r : Directory × Told). Agrees r.0 token) (sym made) (agreement_goes_on.others short who number step d token apart agrees)

@@ -36,7 +36,7 @@ use Rattle.dir_walks.proofs.At.{seated, begun, drawn, rebuilding, in_call, at_en
 use Rattle.dir_walks.proofs.Goes.{steps}
 
 module _ (s after : Sealed) (c : CallerOf) (right : IsRight s c) (token : ActorToken) (agrees : Agrees after.core token) (book : after.book ≡ s.book) where
-  -- a step by which the token comes to where the actor is then
+  -- a step by which the ticket comes to where the actor is then
   to : (now : CallerOf) (short : Bool) (number : ℕ) (step : DirectoryStep) (told : Told) → now.who ≡ c.who → now.token ≡ token → (its : ActorToken) → c.token ≡ its
       → (after.core, told) ≡ at_directory short (actor_of c.token) number step s.core → token ≡ token_after c.token number step told → IsAt s.book now now.stage (token_after its number step told) → Steps s c after now
   to now short number step told same own its held made is at =

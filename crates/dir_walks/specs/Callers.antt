@@ -14,7 +14,7 @@ use Rattle.stripe_dir.specs.Sealed.{Sealed, CanSeal}
 use Rattle.dir_walks.specs.declared.stage.Stage.{Stage}
 use Rattle.dir_walks.specs.declared.stage.Stage.TheVariants as stage
 
--- an actor, its token and where it is; the number of its last call, the least one that is unused, how many versions it has drawn, and its put or write
+-- an actor, its ticket and where it is; the number of its last call, the least one that is unused, how many versions it has drawn, and its put or write
 pub record CallerOf : Type 0 where
   pub who : Actor
   pub token : ActorToken
@@ -38,7 +38,7 @@ pub record IsDrawn (g : Shape) (c : CallerOf) (held : HeldPass) : Type 0 where
   pub touched : length held.pass.drawn ≡ length (stripes_between g held.pass.note.offset (held.pass.note.offset + held.pass.note.length))
   pub counted : c.drawn ≡ length held.pass.drawn
 
--- the token is one of the stage
+-- the ticket is one of the stage
 abbrev pub IsAt : BookOf → CallerOf → Stage → ActorToken → Type 0
 IsAt book c stage.Seated (ActorToken.Seated seat) = seat.unused ≤ c.unused
 IsAt book c stage.Reading (ActorToken.InCall held) = held.pass.number ≡ c.number
@@ -59,7 +59,7 @@ pub record IsReady (book : BookOf) (s : Sealed) (c : CallerOf) : Type 0 where
   pub free : book.script ≡ None
   pub right : IsRight s c
 
--- where the directory agreed with another actor's token, it agrees still
+-- where the directory agreed with another actor's ticket, it agrees still
 abbrev pub OthersAgree : Actor → Directory → Directory → Type 0
 OthersAgree who d after = (token : ActorToken) → same_actor who (actor_of token) ≡ false → Agrees d token → Agrees after token
 

@@ -1,5 +1,5 @@
 //! Walks at the directory for tests: two clients and a repairer make their steps one by one, and each
-//! step keeps the directory in agreement with all their tokens. It has no tests of its own, so that it
+//! step keeps the directory in agreement with all their tickets. It has no tests of its own, so that it
 //! is proved once.
 #![tactic(auto)]
 

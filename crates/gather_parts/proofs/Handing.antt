@@ -19,33 +19,33 @@ use Rattle.call_steps.specs.declared.need.Need.TheVariants as need
 use Rattle.call_steps.specs.CallOf.{CallOf, act_of}
 use Rattle.call_steps.specs.Steps.{need_by, need_of, coded as call_coded}
 use Rattle.gather_parts.specs.Steps.{next_of, handed_on, coded}
-use Rattle.gather_parts.specs.declared.standing.Standing.{Standing}
-use Rattle.gather_parts.specs.declared.standing.Standing.TheVariants as standing
+use Rattle.gather_parts.specs.declared.progress.Progress.{Progress}
+use Rattle.gather_parts.specs.declared.progress.Progress.TheVariants as progress
 use Rattle.gather_parts.specs.Wanted.{Wanted, parts_of, bytes_of}
 use Rattle.gather_parts.specs.Gatherings.{GatheringsOf, bytes_at_work, owed}
-use Rattle.gather_parts.specs.Standings.{standing_at, standing_by, standing_of, is_due_at, is_due, need_at}
+use Rattle.gather_parts.specs.Progress.{progress_at, progress_by, progress_of, is_due_at, is_due, need_at}
 use Rattle.gather_parts.specs.States.{state_by, state_in, StandsIn, after_coding}
 use Rattle.gather_parts.proofs.Moving.{standing_call, stands_as}
 use Rattle.gather_parts.proofs.Nexts.{next_state, next_bytes}
 
-not_due : {A : Type 0} (now : Standing) → is_due_at now ≡ false → now ≡ standing.Due → A
+not_due : {A : Type 0} (now : Progress) → is_due_at now ≡ false → now ≡ progress.Due → A
 not_due now none e = absurd (true≢false (sym (ap is_due_at e) ∙ none))
 
 -- where coding is due, the parts that are left are next
 module _ (g : Shape) (parts : List Part) (after : Sequel) where
-  due_stage : (aim : Aim) (stage : Stage) → standing_at g aim stage ≡ standing.Due → stage_state (open_parts g parts after) aim parts after stage ≡ open_parts g parts after
-  due_stage aim (Stage.Asks asking) e = not_due (standing_at g aim (Stage.Asks asking)) refl e
+  due_stage : (aim : Aim) (stage : Stage) → progress_at g aim stage ≡ progress.Due → stage_state (open_parts g parts after) aim parts after stage ≡ open_parts g parts after
+  due_stage aim (Stage.Asks asking) e = not_due (progress_at g aim (Stage.Asks asking)) refl e
   due_stage aim Stage.HasBytes e = refl
-  due_stage aim (Stage.TooMany missing) e = not_due standing.TooMany refl e
-  due_stage aim Stage.AtTarget e = not_due standing.Short refl e
-  due_stage aim (Stage.TargetAway downs) e = not_due standing.Short refl e
-  due_stage aim Stage.Short e = not_due standing.Short refl e
+  due_stage aim (Stage.TooMany missing) e = not_due progress.TooMany refl e
+  due_stage aim Stage.AtTarget e = not_due progress.Short refl e
+  due_stage aim (Stage.TargetAway downs) e = not_due progress.Short refl e
+  due_stage aim Stage.Short e = not_due progress.Short refl e
 
-  due_by : (current : Option GatherOf) (left : List Wanted) → standing_by g current left ≡ standing.Due → state_by g parts after current ≡ open_parts g parts after
+  due_by : (current : Option GatherOf) (left : List Wanted) → progress_by g current left ≡ progress.Due → state_by g parts after current ≡ open_parts g parts after
   due_by (Some w) left e = due_stage w.course.aim w.course.stage e
   due_by None left e = refl
 
-pub due_open : (p : GatheringsOf) (after : Sequel) → standing_of p ≡ standing.Due → state_in p after ≡ open_parts p.book.geometry (parts_of p.left) after
+pub due_open : (p : GatheringsOf) (after : Sequel) → progress_of p ≡ progress.Due → state_in p after ≡ open_parts p.book.geometry (parts_of p.left) after
 due_open p after e = due_by p.book.geometry (parts_of p.left) after p.current p.left e
 
 -- the call has a step to make then, and goes on to its end where memory is wanting
@@ -128,7 +128,7 @@ module _ (g : Shape) (tries : ℕ) (job : Job) (pairs : List (ℕ × ℕ)) (afte
   open_short (part ∷ parts) = stage_short (open_parts g parts after) (Aim.Range part) parts (first_stage g (Aim.Range part)) (open_short parts)
 
 -- a call needs the coder where coding is due
-pub due_needs : (c : CallOf) (p : GatheringsOf) (after : Sequel) → standing_of p ≡ standing.Due → StandsIn c p after → c.due ≡ is_due p → need.Coder ≡ need_of c
+pub due_needs : (c : CallOf) (p : GatheringsOf) (after : Sequel) → progress_of p ≡ progress.Due → StandsIn c p after → c.due ≡ is_due p → need.Coder ≡ need_of c
 due_needs c p after e stands due =
     sym (open_goes p.book.geometry c.tries c.job c.state.pairs after (parts_of p.left))
     ∙ ap (λ at. need_by (act_at p.book.geometry c.tries c.job c.state.pairs at) true) (sym (due_open p after e))
@@ -138,8 +138,8 @@ due_needs c p after e stands due =
 -- what gatherings need is what a call needs that stands in them
 module _ (g : Shape) (tries : ℕ) (job : Job) (pairs : List (ℕ × ℕ)) (after : Sequel) where
   stage_needs : (left : List Wanted) (aim : Aim) (stage : Stage)
-      → need_by (act_at g tries job pairs (stage_state (open_parts g (parts_of left) after) aim (parts_of left) after stage)) (is_due_at (standing_at g aim stage))
-      ≡ need_at (standing_at g aim stage)
+      → need_by (act_at g tries job pairs (stage_state (open_parts g (parts_of left) after) aim (parts_of left) after stage)) (is_due_at (progress_at g aim stage))
+      ≡ need_at (progress_at g aim stage)
   stage_needs left aim (Stage.Asks asking) = refl
   stage_needs left aim Stage.HasBytes = open_goes g tries job pairs after (parts_of left)
   stage_needs left aim (Stage.TooMany missing) = refl
@@ -152,15 +152,15 @@ module _ (g : Shape) (tries : ℕ) (job : Job) (pairs : List (ℕ × ℕ)) (afte
   sequel_needs Sequel.Draw = refl
   sequel_needs (Sequel.Confirm seen target) = refl
 
-  standing_needs : (current : Option GatherOf) (left : List Wanted)
-      → need_by (act_at g tries job pairs (state_by g (parts_of left) after current)) (is_due_at (standing_by g current left)) ≡ need_at (standing_by g current left)
-  standing_needs (Some w) left = stage_needs left w.course.aim w.course.stage
-  standing_needs None [] = sequel_needs after
-  standing_needs None (wanted ∷ left) = open_goes g tries job pairs after (parts_of (wanted ∷ left))
+  progress_needs : (current : Option GatherOf) (left : List Wanted)
+      → need_by (act_at g tries job pairs (state_by g (parts_of left) after current)) (is_due_at (progress_by g current left)) ≡ need_at (progress_by g current left)
+  progress_needs (Some w) left = stage_needs left w.course.aim w.course.stage
+  progress_needs None [] = sequel_needs after
+  progress_needs None (wanted ∷ left) = open_goes g tries job pairs after (parts_of (wanted ∷ left))
 
 pub state_needs : (p : GatheringsOf) (tries : ℕ) (job : Job) (pairs : List (ℕ × ℕ)) (after : Sequel)
-    → need_by (act_at p.book.geometry tries job pairs (state_in p after)) (is_due p) ≡ need_at (standing_of p)
-state_needs p tries job pairs after = standing_needs p.book.geometry tries job pairs after p.current p.left
+    → need_by (act_at p.book.geometry tries job pairs (state_in p after)) (is_due p) ≡ need_at (progress_of p)
+state_needs p tries job pairs after = progress_needs p.book.geometry tries job pairs after p.current p.left
 
 -- it is in its pass then
 pub state_in_pass : (p : GatheringsOf) (after : Sequel) (current : Option GatherOf) (left : List Wanted) (tries : ℕ) (job : Job) (pairs : List (ℕ × ℕ))
@@ -176,7 +176,7 @@ stands_in_pass c p after stands =
     (state_in_pass p after p.current p.left c.tries c.job c.state.pairs)
 
 -- a coding that wanted no memory leaves the state and the bytes that are owed
-pub handed_state : (p : GatheringsOf) (after : Sequel) → standing_of p ≡ standing.Due → state_in (handed_on p) after ≡ state_in p after
+pub handed_state : (p : GatheringsOf) (after : Sequel) → progress_of p ≡ progress.Due → state_in (handed_on p) after ≡ state_in p after
 handed_state p after e = next_state p.book.geometry p.left after ∙ sym (due_open p after e)
 
 pub handed_owed : (p : GatheringsOf) → owed (handed_on p) ≡ owed p
@@ -185,7 +185,7 @@ handed_owed p =
     ∙ ap (λ (l : List ℕ). p.bytes ++ (bytes_at_work p.current ++ l)) (next_bytes p.book.geometry p.left)
 
 -- the coding of gatherings is that of a call that stands in them
-codes_at : (c : CallOf) (p : GatheringsOf) (after : Sequel) (short : Bool) → standing_of p ≡ standing.Due → is_due (coded short p) ≡ false
+codes_at : (c : CallOf) (p : GatheringsOf) (after : Sequel) (short : Bool) → progress_of p ≡ progress.Due → is_due (coded short p) ≡ false
     → after_coding short (standing_call c p after) (coded short p) after ≡ call_coded short (standing_call c p after)
 codes_at c p after true e settled =
     let ends : next_call p.book.geometry c.job (record { pairs = c.state.pairs; at = state_in p after }) Told.Short ≡ record { pairs = c.state.pairs; at = State.Ending Outcome.NoMemory } =
@@ -196,7 +196,7 @@ codes_at c p after true e settled =
 codes_at c p after false e settled =
     λ i. record (standing_call c p after) { state = record { pairs = c.state.pairs; at = handed_state p after e i }; due = settled i; coding = false }
 
-pub call_after_coding : (c : CallOf) (p later : GatheringsOf) (after : Sequel) (short : Bool) → later ≡ coded short p → is_due later ≡ false → standing_of p ≡ standing.Due → StandsIn c p after
+pub call_after_coding : (c : CallOf) (p later : GatheringsOf) (after : Sequel) (short : Bool) → later ≡ coded short p → is_due later ≡ false → progress_of p ≡ progress.Due → StandsIn c p after
     → after_coding short c later after ≡ call_coded short c
 call_after_coding c p later after short e settled due stands =
     ap (λ x. after_coding short c x after) e

@@ -19,20 +19,20 @@ use Rattle.gathering.specs.Gathers.{GatherOf}
 use Rattle.gathering.proofs.Taking.{takes_follow}
 use Rattle.call_steps.specs.CallOf.{CallOf}
 use Rattle.call_steps.specs.Steps.{stepped_at_server}
-use Rattle.gather_parts.specs.declared.standing.Standing.{Standing}
-use Rattle.gather_parts.specs.declared.standing.Standing.TheVariants as standing
+use Rattle.gather_parts.specs.declared.progress.Progress.{Progress}
+use Rattle.gather_parts.specs.declared.progress.Progress.TheVariants as progress
 use Rattle.gather_parts.specs.Wanted.{Wanted, wanted_of, parts_of}
 use Rattle.gather_parts.specs.Gatherings.{GatheringsOf}
 use Rattle.gather_parts.specs.Steps.{stepped}
-use Rattle.gather_parts.specs.Standings.{standing_at, standing_by, standing_of}
+use Rattle.gather_parts.specs.Progress.{progress_at, progress_by, progress_of}
 use Rattle.gather_parts.specs.States.{state_in, StandsIn, moved}
 
 -- a question is asked
-abbrev pub is_question : Standing → Bool
-is_question (standing.Asks server) = true
+abbrev pub is_question : Progress → Bool
+is_question (progress.Asks server) = true
 is_question now = false
 
-no_question : {A : Type 0} (now : Standing) (server : ℕ) → is_question now ≡ false → now ≡ standing.Asks server → A
+no_question : {A : Type 0} (now : Progress) (server : ℕ) → is_question now ≡ false → now ≡ progress.Asks server → A
 no_question now server none e = absurd (true≢false (sym (ap is_question e) ∙ none))
 
 -- a gathering at a stage, opened
@@ -91,28 +91,28 @@ module _ (c : CallOf) (after : Sequel) (due short : Bool) (s : Server) (p : Gath
         },
       )
 
-  stage_moves : (w : GatherOf) (stage : Stage) (server : ℕ) → standing_at p.book.geometry w.course.aim stage ≡ standing.Asks server
+  stage_moves : (w : GatherOf) (stage : Stage) (server : ℕ) → progress_at p.book.geometry w.course.aim stage ≡ progress.Asks server
       → Moves c after due short s (record p { current = Some (record w { course = record (w.course) { geometry = p.book.geometry; stage = stage } }) })
   stage_moves w (Stage.Asks asking) server e = asked_moves w asking
-  stage_moves w Stage.HasBytes server e = no_question standing.Due server refl e
-  stage_moves w (Stage.TooMany missing) server e = no_question standing.TooMany server refl e
-  stage_moves w Stage.AtTarget server e = no_question standing.Short server refl e
-  stage_moves w (Stage.TargetAway downs) server e = no_question standing.Short server refl e
-  stage_moves w Stage.Short server e = no_question standing.Short server refl e
+  stage_moves w Stage.HasBytes server e = no_question progress.Due server refl e
+  stage_moves w (Stage.TooMany missing) server e = no_question progress.TooMany server refl e
+  stage_moves w Stage.AtTarget server e = no_question progress.Short server refl e
+  stage_moves w (Stage.TargetAway downs) server e = no_question progress.Short server refl e
+  stage_moves w Stage.Short server e = no_question progress.Short server refl e
 
   current_moves : (current : Option GatherOf) (server : ℕ) → IfSome current (λ w. w.course.geometry ≡ p.book.geometry)
-      → standing_by p.book.geometry current p.left ≡ standing.Asks server → Moves c after due short s (record p { current = current })
+      → progress_by p.book.geometry current p.left ≡ progress.Asks server → Moves c after due short s (record p { current = current })
   current_moves (Some w) server code e =
       subst (λ g. Moves c after due short s (record p { current = Some (record w { course = record (w.course) { geometry = g } }) })) (sym code)
       (stage_moves w w.course.stage server e)
   current_moves None server code e = none_left p.left e
     where
-      none_left : (left : List Wanted) → standing_by p.book.geometry None left ≡ standing.Asks server → Moves c after due short s (record p { current = None })
-      none_left [] e = no_question standing.Done server refl e
-      none_left (wanted ∷ left) e = no_question standing.Due server refl e
+      none_left : (left : List Wanted) → progress_by p.book.geometry None left ≡ progress.Asks server → Moves c after due short s (record p { current = None })
+      none_left [] e = no_question progress.Done server refl e
+      none_left (wanted ∷ left) e = no_question progress.Due server refl e
 
   -- a call that stands in gatherings which ask makes their step
-  pub step_moves : (server : ℕ) → IfSome p.current (λ w. w.course.geometry ≡ p.book.geometry) → standing_of p ≡ standing.Asks server → StandsIn c p after
+  pub step_moves : (server : ℕ) → IfSome p.current (λ w. w.course.geometry ≡ p.book.geometry) → progress_of p ≡ progress.Asks server → StandsIn c p after
       → ((stepped p short s).0, moved c (stepped p short s).1 after due short) ≡ stepped_at_server short due c s
   step_moves server code asks stands =
       subst (λ (x : CallOf). ((stepped p short s).0, moved x (stepped p short s).1 after due short) ≡ stepped_at_server short due x s) (sym (stands_as c p after stands))

@@ -1,7 +1,7 @@
 pub mod Wanted
 pub mod Gatherings
 pub mod Steps
-pub mod Standings
+pub mod Progress
 pub mod States
 pub mod Ends
 pub mod Inside

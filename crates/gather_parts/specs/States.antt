@@ -9,7 +9,7 @@ use Rattle.gathering.specs.Gathers.{GatherOf}
 use Rattle.call_steps.specs.CallOf.{CallOf}
 use Rattle.gather_parts.specs.Wanted.{parts_of}
 use Rattle.gather_parts.specs.Gatherings.{GatheringsOf}
-use Rattle.gather_parts.specs.Standings.{is_due}
+use Rattle.gather_parts.specs.Progress.{is_due}
 
 -- by the gathering at work
 abbrev pub state_by : Shape → List Part → Sequel → Option GatherOf → State

@@ -6,12 +6,12 @@ ghost use Rattle.call_steps.specs.CallOf.{CallOf};
 ghost use Rattle.call_steps.specs.Steps.{coded as call_coded};
 ghost use Rattle.gather_parts.specs.Gatherings.{bytes_at_work, owed};
 ghost use Rattle.gather_parts.specs.Steps.{coded, handed_on, given_up, next_of};
-ghost use Rattle.gather_parts.specs.Standings.{standing_of, is_due};
+ghost use Rattle.gather_parts.specs.Progress.{progress_of, is_due};
 ghost use Rattle.gather_parts.specs.States.{state_in, StandsIn, after_coding};
 
 use crate::gatherings::PartGatherings;
 use crate::parts::next_gather;
-use crate::standing::Standing;
+use crate::progress::Progress;
 use clay_repair::Coder;
 use read_ledger::Takes;
 use std::alloc::{AllocError, Global};
@@ -40,7 +40,7 @@ impl PartGatherings {
         rt: &R,
         coder: &C,
     ) -> Result<(), AllocError>
-        requires { standing_of self.old ≡ Standing.Due }
+        requires { progress_of self.old ≡ Progress.Due }
         ensures coded { self.new ≡ coded (is_err result) self.old }
         ensures settled { is_due self.new ≡ false }
         ensures book { self.new.book ≡ self.old.book }
@@ -60,7 +60,7 @@ impl PartGatherings {
     }
 
     fn go_on<R: Threads + Sync, C: Coder>(&mut self, rt: &R, coder: &C) -> Result<(), AllocError>
-        requires { standing_of self.old ≡ Standing.Due }
+        requires { progress_of self.old ≡ Progress.Due }
         ensures on { OnOk result (self.new ≡ handed_on self.old) }
         ensures settled { OnOk result (is_due self.new ≡ false) }
         ensures book { self.new.book ≡ self.old.book }
@@ -76,7 +76,7 @@ impl PartGatherings {
         rt: &R,
         coder: &C,
     ) -> Result<(), AllocError>
-        requires { standing_of self.old ≡ Standing.Due }
+        requires { progress_of self.old ≡ Progress.Due }
         ensures over { OnOk result (self.new ≡ record self.old { current = None; bytes = self.old.bytes ++ bytes_at_work self.old.current }) }
         ensures book { self.new.book ≡ self.old.book }
         ensures takes { self.new.takes ≡ self.old.takes }

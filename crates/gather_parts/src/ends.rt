@@ -3,7 +3,7 @@ ghost use Rattle.std.specs.Prelude.{◌≡◌};
 ghost use Rattle.std.specs.Option.{option_map};
 ghost use Rattle.store_resume.specs.State.{Sequel};
 ghost use Rattle.gather_parts.specs.Gatherings.{owed};
-ghost use Rattle.gather_parts.specs.Standings.{standing_of, IsOver};
+ghost use Rattle.gather_parts.specs.Progress.{progress_of, IsOver};
 ghost use Rattle.gather_parts.specs.States.{state_in};
 ghost use Rattle.clay_grid.specs.Shape.{Shape};
 ghost use Rattle.gather_parts.specs.Inside.{takes_in};
@@ -11,7 +11,7 @@ ghost use Rattle.gather_parts.specs.Ends.{end_state, IfBytes};
 ghost use Rattle.call_steps.specs.CallOf.{taken_of};
 
 use crate::gatherings::PartGatherings;
-use crate::standing::Standing;
+use crate::progress::Progress;
 use read_ledger::Takes;
 use store_map::LostChunk;
 
@@ -52,12 +52,12 @@ impl PartGatherings {
 
     /// How they ended, and what the call took, or none where it took nothing.
     pub fn finish(self) -> (Gathered, Option<Takes>)
-        requires { IsOver (standing_of self) }
+        requires { IsOver (progress_of self) }
         ensures state { (after : Sequel) → state_in self after ≡ end_state after result.0 }
         ensures bytes { IfBytes result.0 (λ bytes. bytes.items ≡ owed self) }
         ensures takes { result.1 ≡ taken_of self.takes }
     {
-        let standing = self.standing();
+        let progress = self.progress();
         let PartGatherings {
             takes,
             current,
@@ -65,9 +65,9 @@ impl PartGatherings {
             ..
         } = self;
         let takes = taken(takes);
-        match (standing, current) {
-            (Standing::Done, _) => (Gathered::Bytes(bytes), takes),
-            (Standing::TooMany, Some(gather)) => {
+        match (progress, current) {
+            (Progress::Done, _) => (Gathered::Bytes(bytes), takes),
+            (Progress::TooMany, Some(gather)) => {
                 let stripe = gather.course().stripe();
                 let missing = gather.into_missing();
                 (Gathered::TooMany { stripe, missing }, takes)

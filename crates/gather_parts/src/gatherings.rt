@@ -9,16 +9,16 @@ ghost use Rattle.store_resume.specs.States.{parts_state, open_state};
 ghost use Rattle.stripe_dir.specs.Answers.{seen_in};
 ghost use Rattle.chunk_server.specs.Core.{core_of};
 ghost use Rattle.chunk_server.specs.State.{IsSame};
-ghost use Rattle.call_steps.specs.Steps.{IfServer};
+ghost use Rattle.call_steps.specs.Steps.{IsServerBelow};
 ghost use Rattle.gather_parts.specs.Wanted.{wanted_of, IsPinned};
 ghost use Rattle.gather_parts.specs.Gatherings.{new_gatherings, begun, owed};
 ghost use Rattle.gather_parts.specs.Steps.{stepped};
-ghost use Rattle.gather_parts.specs.Standings.{standing_at, standing_of, is_due, need_at, IfAsks};
+ghost use Rattle.gather_parts.specs.Progress.{progress_at, progress_of, is_due, need_at, IfAsks};
 ghost use Rattle.call_steps.specs.CallOf.{CallOf, act_of};
 ghost use Rattle.call_steps.specs.Steps.{need_of, stepped_at_server};
 ghost use Rattle.gather_parts.specs.States.{state_in, StandsIn, moved};
 
-use crate::standing::Standing;
+use crate::progress::Progress;
 use call_steps::Need;
 use chunk_server::Server;
 use gather_course::Course;
@@ -58,15 +58,15 @@ impl Model for PartGatherings {
 }
 
 // By the course of the gathering at work.
-fn standing_by(course: &Course) -> Standing
-    ensures standing { result ≡ standing_at course.now.geometry course.now.aim course.now.stage }
+fn progress_by(course: &Course) -> Progress
+    ensures progress { result ≡ progress_at course.now.geometry course.now.aim course.now.stage }
     ensures below { IfAsks result (λ server. server < chunk_count course.now.geometry) }
 {
     match course.asked() {
-        Some(server) => Standing::Asks(server),
-        None if course.has_bytes() => Standing::Due,
-        None if course.is_lost() => Standing::TooMany,
-        None => Standing::Short,
+        Some(server) => Progress::Asks(server),
+        None if course.has_bytes() => Progress::Due,
+        None if course.is_lost() => Progress::TooMany,
+        None => Progress::Short,
     }
 }
 
@@ -101,30 +101,30 @@ impl PartGatherings {
         self.bytes.clear();
     }
 
-    /// Where they stand.
-    pub fn standing(&self) -> Standing
-        ensures standing { result ≡ standing_of self.now }
+    /// How far they are.
+    pub fn progress(&self) -> Progress
+        ensures progress { result ≡ progress_of self.now }
         ensures below { IfAsks result (λ server. server < chunk_count self.now.book.geometry) }
-        ensures short { result ≡ Standing.Short → (after : Sequel) → state_in self.now after ≡ State.Ending Outcome.NoMemory }
+        ensures short { result ≡ Progress.Short → (after : Sequel) → state_in self.now after ≡ State.Ending Outcome.NoMemory }
     {
         match &self.current {
-            Some(gather) => standing_by(gather.course()),
-            None if 0 < self.left.len() => Standing::Due,
-            None => Standing::Done,
+            Some(gather) => progress_by(gather.course()),
+            None if 0 < self.left.len() => Progress::Due,
+            None => Progress::Done,
         }
     }
 
     /// What a call needs that stands in them. After the last gathering, or once they have ended without
     /// their bytes, it goes on at the directory.
     pub fn need(&self) -> Need
-        ensures need { result ≡ need_at (standing_of self.now) }
-        ensures below { IfServer result (λ server. server < chunk_count self.now.book.geometry) }
+        ensures need { result ≡ need_at (progress_of self.now) }
+        ensures below { IsServerBelow (chunk_count self.now.book.geometry) result }
         ensures call { (c : CallOf) (after : Sequel) → StandsIn c self.now after → c.due ≡ is_due self.now → result ≡ need_of c }
         ensures in_pass { (c : CallOf) (after : Sequel) → StandsIn c self.now after → IsTrue (is_in_pass (act_of c)) }
     {
-        match self.standing() {
-            Standing::Asks(server) => Need::Server(server),
-            Standing::Due => Need::Coder,
+        match self.progress() {
+            Progress::Asks(server) => Need::Server(server),
+            Progress::Due => Need::Coder,
             _ => Need::Directory,
         }
     }
@@ -138,7 +138,7 @@ impl PartGatherings {
 
     /// One step at the server that is asked. Where memory is wanting the gatherings end.
     pub fn on_server(&mut self, s: &mut Server) -> Result<(), AllocError>
-        requires asked { standing_of self.old ≡ Standing.Asks s.old.number }
+        requires asked { progress_of self.old ≡ Progress.Asks s.old.number }
         requires book { s.old.book ≡ self.old.book }
         ensures step { (core_of s.new, self.new) ≡ stepped self.old (is_err result) (core_of s.old) }
         ensures same { IsSame s.old s.new }

@@ -9,10 +9,10 @@ ghost use Rattle.store_core.specs.Write.{old_parts};
 ghost use Rattle.store_resume.specs.State.{Sequel, State};
 ghost use Rattle.store_resume.specs.States.{sequel_state};
 ghost use Rattle.gather_parts.specs.Gatherings.{GatheringsOf, owed};
-ghost use Rattle.gather_parts.specs.Standings.{standing_of};
+ghost use Rattle.gather_parts.specs.Progress.{progress_of};
 ghost use Rattle.gather_parts.specs.States.{state_in};
 
-use crate::standing::Standing;
+use crate::progress::Progress;
 
 /// What a write gathers of its object's old bytes is what a read of all of them gathers of the same
 /// stripes.
@@ -23,9 +23,9 @@ pub fn old_parts_are_parts()
 
 /// Gatherings that are done have all that is owed, and their call goes on as said; where too many
 /// chunks are missing it ends without its bytes.
-pub fn standings_are_states()
-    ensures done { (p : GatheringsOf) (after : Sequel) → standing_of p ≡ Standing.Done → state_in p after ≡ sequel_state after }
-    ensures bytes { (p : GatheringsOf) → standing_of p ≡ Standing.Done → owed p ≡ p.bytes }
-    ensures lost { (p : GatheringsOf) → standing_of p ≡ Standing.TooMany →
+pub fn progress_tells_states()
+    ensures done { (p : GatheringsOf) (after : Sequel) → progress_of p ≡ Progress.Done → state_in p after ≡ sequel_state after }
+    ensures bytes { (p : GatheringsOf) → progress_of p ≡ Progress.Done → owed p ≡ p.bytes }
+    ensures lost { (p : GatheringsOf) → progress_of p ≡ Progress.TooMany →
         (stripe : ℕ) × (missing : List Lost) × ((after : Sequel) → state_in p after ≡ State.Ending (Outcome.Unavailable stripe missing)) }
 {}

@@ -7,8 +7,8 @@ mod ends;
 mod gatherings;
 pub mod laws;
 mod parts;
-mod standing;
+mod progress;
 
 pub use ends::Gathered;
 pub use gatherings::PartGatherings;
-pub use standing::Standing;
+pub use progress::Progress;

@@ -4,7 +4,7 @@ ghost use Rattle.std.specs.Vec.Iter.{into_iter_items};
 ghost use Rattle.clay_grid.specs.Shape.{stripe_length};
 ghost use Rattle.gather_parts.specs.Wanted.{wanted_of, IsPinned};
 ghost use Rattle.gather_parts.specs.Steps.{next_of};
-ghost use Rattle.gather_parts.specs.Standings.{is_due_at, standing_by};
+ghost use Rattle.gather_parts.specs.Progress.{is_due_at, progress_by};
 ghost use Rattle.gather_parts.specs.Inside.{IsAtWork};
 
 use clay_grid::Geometry;
@@ -43,7 +43,7 @@ pub(crate) fn next_gather(
         ≡ next_of opening.now.geometry (map (wanted_of opening.now.geometry start end) (into_iter_items left.old))) }
     ensures pinned { All (IsPinned opening.now) (into_iter_items left.new) }
     ensures work { IfOk result (λ current. IfSome current (IsAtWork opening.now)) }
-    ensures settled { IfOk result (λ current. is_due_at (standing_by opening.now.geometry current (map (wanted_of opening.now.geometry start end) (into_iter_items left.new))) ≡ false) }
+    ensures settled { IfOk result (λ current. is_due_at (progress_by opening.now.geometry current (map (wanted_of opening.now.geometry start end) (into_iter_items left.new))) ≡ false) }
 {
     let geometry = opening.geometry();
     while let Some(seen) = left.next() {

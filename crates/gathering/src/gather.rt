@@ -77,7 +77,7 @@ fn clear(helpers: &mut [Option<Vec<u8>>])
 
 impl Gather {
     ghost use Rattle.gathering.specs.Gathers.{need_of};
-    ghost use Rattle.call_steps.specs.Steps.{IfServer};
+    ghost use Rattle.call_steps.specs.Steps.{IsServerBelow};
 
     /// The gathering of a stripe's bytes from `start` up to `end`.
     pub fn range(
@@ -146,7 +146,7 @@ impl Gather {
     /// nowhere once it has ended without its bytes.
     pub fn need(&self) -> Need
         ensures need { result ≡ need_of self.now }
-        ensures below { IfServer result (λ server. server < chunk_count self.now.course.geometry) }
+        ensures below { IsServerBelow (chunk_count self.now.course.geometry) result }
     {
         match self.course.asked() {
             Some(server) => Need::Server(server),

@@ -1,9 +1,9 @@
 //! The rule on the objects at the end: they are the map's, in order of creation.
-ghost use Rattle.std.specs.Prelude.{◌≡◌, [], ◌∷◌, map, length, IfOk};
+ghost use Rattle.std.specs.Prelude.{◌≡◌, [], ◌∷◌, IfOk};
 ghost use Rattle.transcript_text.specs.Lines.{l_line};
 ghost use Rattle.transcript_text.specs.declared.line.LLine.{LLine};
 ghost use Rattle.hist_rules.specs.TailText.{without_end, nothing};
-ghost use Rattle.hist_rules.specs.ObjectsListed.{first_difference};
+ghost use Rattle.hist_rules.specs.ObjectsListed.{shown_object, shown_objects, first_difference};
 ghost use Rattle.hist_rules.specs.declared.verdict.TailKind.TheVariants.{Names};
 ghost use Rattle.hist_rules.specs.declared.verdict.Verdict.TheVariants.{BadTail};
 
@@ -20,7 +20,7 @@ fn object_fits(
     bytes: &[u8],
     line: &LLine,
 ) -> Result<Option<Verdict>, AllocError>
-    ensures { IfOk result (λ found. found ≡ first_difference (record { name = name.now; length = length bytes.now } ∷ []) (line.now ∷ [])) }
+    ensures { IfOk result (λ found. found ≡ first_difference (shown_object name.now bytes.now ∷ []) (line.now ∷ [])) }
 {
     let count = bytes.len() as u64;
     if *name == line.name && count == line.length {
@@ -46,7 +46,7 @@ fn superfluous_line(alloc: Global, line: &LLine) -> Result<Verdict, AllocError>
 
 // The fault of an object that has no line.
 fn unlisted_object(alloc: Global, name: &Name, bytes: &[u8]) -> Result<Verdict, AllocError>
-    ensures { IfOk result (λ fault. fault ≡ BadTail Names (without_end (l_line (record { name = name.now; length = length bytes.now }))) nothing) }
+    ensures { IfOk result (λ fault. fault ≡ BadTail Names (without_end (l_line (shown_object name.now bytes.now))) nothing) }
 {
     Ok(Verdict::BadTail {
         kind: TailKind::Names,
@@ -61,7 +61,7 @@ pub fn find_wrong_object(
     objects: &ObjectMap,
     lines: &[LLine],
 ) -> Result<Option<Verdict>, AllocError>
-    ensures { IfOk result (λ found. found ≡ first_difference (map (λ object. record { name = object.0; length = length object.1 }) objects.now.objects) lines.now) }
+    ensures { IfOk result (λ found. found ≡ first_difference (shown_objects objects.now.objects) lines.now) }
 {
     for (place, line) in lines.iter().enumerate() {
         let Some((name, bytes)) = objects.at(place) else {

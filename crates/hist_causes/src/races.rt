@@ -24,11 +24,11 @@ fn name_written(script: &Script, call: CallName) -> Option<&Name>
 }
 
 // Whether a race begins no earlier than the one before was lost.
-fn begins_later(call: CallName, before: Option<(u64, u64)>, base: u64) -> Option<Verdict>
-    ensures { result ≡ begins_later call before base }
+fn begins_later(call: CallName, before: Option<(u64, u64)>, looked_at: u64) -> Option<Verdict>
+    ensures { result ≡ begins_later call before looked_at }
 {
     let (_, lost) = before?;
-    blame_unless(lost <= base, call, lost, base)
+    blame_unless(lost <= looked_at, call, lost, looked_at)
 }
 
 // Whether the write can have lost this race, after the one before.
@@ -44,14 +44,14 @@ fn race_lost(
     ensures { (races : List (ℕ × ℕ)) → before ≡ slice_get races 0
         → result ≡ race_lost script.now transcript.now call name.now races pair }
 {
-    let (base, newer) = pair;
-    if let Some(fault) = blame_unless(base < newer, call, base, newer) {
+    let (looked_at, newer) = pair;
+    if let Some(fault) = blame_unless(looked_at < newer, call, looked_at, newer) {
         return Some(fault);
     }
-    if let Some(fault) = begins_later(call, before, base) {
+    if let Some(fault) = begins_later(call, before, looked_at) {
         return Some(fault);
     }
-    let are_changes = is_change_point(script, transcript, name, base)
+    let are_changes = is_change_point(script, transcript, name, looked_at)
         && is_change_point(script, transcript, name, newer);
     blame_unless(are_changes, call, 1, 0)
 }

@@ -13,7 +13,7 @@ use Rattle.hist_rules.specs.declared.verdict.Verdict.{Verdict}
 use Rattle.hist_rules.specs.First.{first_of}
 use Rattle.hist_rules.specs.CallsExist.{calls_exist}
 use Rattle.hist_rules.specs.PointsRise.{points_rise}
-use Rattle.hist_rules.specs.RepliesMatch.{replies_match, history_calls}
+use Rattle.hist_rules.specs.RepliesMatch.{replies_match, calls_in, history_calls}
 use Rattle.hist_rules.specs.CallsInOrder.{calls_in_order}
 use Rattle.hist_rules.specs.OneOpenCall.{one_open_call}
 use Rattle.hist_rules.specs.LostChunks.{lost_chunks}
@@ -24,7 +24,7 @@ use Rattle.hist_rules.specs.TakesHaveCalls.{takes_have_calls}
 use Rattle.hist_rules.specs.ObjectsListed.{first_difference, objects_listed}
 use Rattle.hist_rules.specs.TakesAddUp.{takes_add_up}
 use Rattle.hist_rules.specs.Verdict.{fault_of}
-use Rattle.hist_check.proofs.Replays.{rest_fault, calls_in}
+use Rattle.hist_check.proofs.Replays.{rest_fault}
 use Rattle.hist_check.proofs.Tests.{found_behind}
 
 abbrev pub line_tests : Script → Transcript → List (Option Verdict)

@@ -1,21 +1,16 @@
 -- A history's calls, made one after the other on the map, beside its lines.
 use Rattle.std.proofs.Common.{◌≡◌, ℕ, ◌≤◌, List, [], ◌∷◌, length, drop, refl, sym, ap, ◌∙◌}
 use Rattle.std.specs.Prelude.{Option, None}
-use Rattle.std.specs.List.{zip, filter_map}
+use Rattle.std.specs.List.{zip}
 use Rattle.std.proofs.lemmas.List.{at_drop_all}
 use Rattle.store_map.specs.History.{replies_from}
 use Rattle.store_map.specs.PlainMap.{Objects}
 use Rattle.store_map.specs.declared.call.Call.{Call}
 use Rattle.store_map.specs.declared.script.Script.{Script}
 use Rattle.transcript_text.specs.declared.line.HLine.{HLine}
-use Rattle.hist_rules.specs.Calls.{call_of}
 use Rattle.hist_rules.specs.First.{first_fault}
-use Rattle.hist_rules.specs.RepliesMatch.{reply_matches}
+use Rattle.hist_rules.specs.RepliesMatch.{reply_matches, calls_in}
 use Rattle.hist_rules.specs.declared.verdict.Verdict.{Verdict}
-
--- the calls of lines
-abbrev pub calls_in : Script → List HLine → List Call
-calls_in script lines = filter_map (λ line. call_of script line.call) lines
 
 -- what is left to be found, of lines beside the replies to calls
 abbrev pub rest_fault : Script → ℕ → List HLine → List Call → Objects → Option Verdict

@@ -1,10 +1,9 @@
 //! The rule on replies: they are the plain map's, where the calls are made in the history's order.
 ghost use Rattle.std.specs.Prelude.{◌≡◌, None, IfOk};
-ghost use Rattle.std.specs.List.{zip, filter_map};
+ghost use Rattle.std.specs.List.{zip};
 ghost use Rattle.store_map.specs.History.{replies_from, apply_all};
 ghost use Rattle.hist_rules.specs.First.{first_fault};
-ghost use Rattle.hist_rules.specs.Calls.{call_of};
-ghost use Rattle.hist_rules.specs.RepliesMatch.{reply_matches};
+ghost use Rattle.hist_rules.specs.RepliesMatch.{reply_matches, calls_in};
 
 use crate::replies::{copy_shown, shows_reply};
 use hist_rules::Verdict;
@@ -34,9 +33,9 @@ pub fn replay(
     map: &mut ObjectMap,
 ) -> Result<Option<Verdict>, AllocError>
     ensures found { IfOk result (λ found. found ≡ first_fault (reply_matches script.now)
-        (zip lines.now (replies_from map.old.max (filter_map (λ line. call_of script.now line.call) lines.now) map.old.objects))) }
+        (zip lines.now (replies_from map.old.max (calls_in script.now lines.now) map.old.objects))) }
     ensures objects { IfOk result (λ found. found ≡ None
-        → map.new.objects ≡ apply_all map.old.max (filter_map (λ line. call_of script.now line.call) lines.now) map.old.objects) }
+        → map.new.objects ≡ apply_all map.old.max (calls_in script.now lines.now) map.old.objects) }
 {
     let mut replied = 0;
     for line in lines {

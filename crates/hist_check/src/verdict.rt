@@ -1,9 +1,9 @@
 //! The verdict: the rules in their order, up to the first that is broken.
-ghost use Rattle.std.specs.Prelude.{◌≡◌, ◌+◌, ◌<◌, ◌^◌, [], ◌∷◌, length, IfOk, None};
+ghost use Rattle.std.specs.Prelude.{◌≡◌, ◌<◌, ◌^◌, [], ◌∷◌, length, IfOk, None};
 ghost use Rattle.store_map.specs.History.{map_after};
 ghost use Rattle.store_map.specs.Limits.{size_of};
 ghost use Rattle.hist_rules.specs.First.{first_of};
-ghost use Rattle.hist_rules.specs.Named.{answered_calls};
+ghost use Rattle.hist_rules.specs.Named.{HasFewLines, answered_calls};
 ghost use Rattle.hist_rules.specs.CallsExist.{calls_exist};
 ghost use Rattle.hist_rules.specs.PointsRise.{points_rise};
 ghost use Rattle.hist_rules.specs.RepliesMatch.{history_calls};
@@ -133,7 +133,7 @@ fn find_fault(
 
 /// Whether the transcript can be that of a run of the script, and the first fault where it can't.
 pub fn check(alloc: Global, script: &Script, transcript: &Transcript) -> Result<Verdict, AllocError>
-    requires few { length transcript.now.history + length transcript.now.refused + length transcript.now.repairs < 2 ^ 32 }
+    requires few { HasFewLines transcript.now }
     ensures { IfOk result (λ verdict. verdict ≡ verdict_of script.now transcript.now) }
 {
     let found = find_fault(alloc, script, transcript)?;

@@ -31,13 +31,13 @@ given_up_judges script t =
     [] (reaped_calls t)
 
 -- ---- races
-begins_judges : (call : CallName) (found : Option (ℕ × ℕ)) (base : ℕ) → Judges (begins_later call found base) (IfSome found (λ other. other.1 ≤ base))
-begins_judges call None base = none_judges
-begins_judges call (Some other) base = unless_judges (nat_le other.1 base) _ refl (decides_leb other.1 base)
+begins_judges : (call : CallName) (found : Option (ℕ × ℕ)) (looked_at : ℕ) → Judges (begins_later call found looked_at) (IfSome found (λ other. other.1 ≤ looked_at))
+begins_judges call None looked_at = none_judges
+begins_judges call (Some other) looked_at = unless_judges (nat_le other.1 looked_at) _ refl (decides_leb other.1 looked_at)
 
 race_judges : (script : Script) (t : Transcript) (call : CallName) (name : List ℕ) (before : List (ℕ × ℕ)) (pair : ℕ × ℕ) → Judges (race_lost script t call name before pair) (IsRace script t name before pair)
 race_judges script t call name before pair =
-    like_judges (race_lost script t call name before pair) (λ h. record { later = h.0; order = h.1.0; base = h.1.1.0.0; newer = h.1.1.0.1 }) (λ h. (h.later, (h.order, ((h.base, h.newer), tt))))
+    like_judges (race_lost script t call name before pair) (λ h. record { later = h.0; order = h.1.0; looked_at = h.1.1.0.0; newer = h.1.1.0.1 }) (λ h. (h.later, (h.order, ((h.looked_at, h.newer), tt))))
     (or_judges _ _ (unless_judges (nat_lt pair.0 pair.1) _ refl (Decides-ltb pair.0 pair.1))
     (or_judges _ _ (begins_judges call (slice_get before 0) pair.0)
     (or_judges _ _ (unless_judges (is_change_point script t name pair.0 && is_change_point script t name pair.1) _ refl

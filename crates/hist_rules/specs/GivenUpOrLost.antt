@@ -21,11 +21,12 @@ use Rattle.hist_rules.specs.FoundMissing.{TellsDowns}
 abbrev pub GivenUp : Script → Transcript → Type 0
 GivenUp script t = AllAlong (λ before call. count_by (same_actor call) before + 1 ≤ reaps script call) (reaped_calls t)
 
--- a lost race, after the ones before it: the base is older than the change that won, and no older than the one that won before; both change the object
+-- a lost race, after the ones before it: the point that was looked at is older than the change that won, and no older than the one that won before; both
+-- change the object
 pub record IsRace (script : Script) (t : Transcript) (name : List ℕ) (before : List (ℕ × ℕ)) (pair : ℕ × ℕ) : Type 0 where
   pub later : pair.0 < pair.1
   pub order : IfSome (slice_get before 0) (λ other. other.1 ≤ pair.0)
-  pub base : IsTrue (is_change_point script t name pair.0)
+  pub looked_at : IsTrue (is_change_point script t name pair.0)
   pub newer : IsTrue (is_change_point script t name pair.1)
 
 -- a write that lost as many races as it had tries

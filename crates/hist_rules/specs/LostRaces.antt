@@ -20,12 +20,13 @@ abbrev pub written_name : Call → Option (List ℕ)
 written_name (Write name offset content) = Some name
 written_name _ = None
 
--- a race begins no earlier than the one before was lost; the fault tells that point, and the base
+-- a race begins no earlier than the one before was lost; the fault tells that point, and the one that was looked at
 abbrev pub begins_later : CallName → Option (ℕ × ℕ) → ℕ → Option Verdict
-begins_later call None base = None
-begins_later call (Some before) base = unless (nat_le before.1 base) (BadCause call before.1 base)
+begins_later call None looked_at = None
+begins_later call (Some before) looked_at = unless (nat_le before.1 looked_at) (BadCause call before.1 looked_at)
 
--- one race, after those before it: its base is older than the change that won it, and both are changes of the object; the fault tells base and change, or 1 and 0
+-- one race, after those before it: the point that was looked at is older than the change that won it, and both are changes of the object; the fault tells
+-- the two, or 1 and 0
 abbrev pub race_lost : Script → Transcript → CallName → List ℕ → List (ℕ × ℕ) → ℕ × ℕ → Option Verdict
 race_lost script t call name before pair =
     first_of (unless (nat_lt pair.0 pair.1) (BadCause call pair.0 pair.1)

@@ -1,5 +1,5 @@
 -- What a transcript's lines say of calls.
-use Rattle.std.specs.Prelude.{ℕ, Bool, true, false, nat_eq, ◌&&◌, List, ◌++◌, map, filter, bytes_eq}
+use Rattle.std.specs.Prelude.{ℕ, ◌+◌, ◌^◌, ◌<◌, Bool, true, false, nat_eq, ◌&&◌, List, ◌++◌, map, filter, length, bytes_eq}
 use Rattle.std.specs.List.{list_any}
 use Rattle.std.specs.Option.{option_map_or}
 use Rattle.store_map.specs.declared.call.Call.{Call}
@@ -18,6 +18,10 @@ use Rattle.hist_rules.specs.Calls.{call_of}
 abbrev pub listed_calls : Transcript → List CallName
 listed_calls t =
     map (λ line. line.call) t.history ++ map (λ line. line.call) t.refused ++ map (λ line. line.call) t.repairs ++ map (λ line. line.call) t.unanswered
+
+-- the lines that tell of calls and rebuilds can be counted
+abbrev pub HasFewLines : Transcript → Type 0
+HasFewLines t = length t.history + length t.refused + length t.repairs < 2 ^ 32
 
 -- a reply that the caller got
 abbrev pub is_reply : Shown → Bool

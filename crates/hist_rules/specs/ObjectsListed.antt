@@ -1,7 +1,8 @@
 -- The objects at the end are those of the plain map after the history's calls, in order of creation.
-use Rattle.std.specs.Prelude.{Bool, nat_eq, ◌&&◌, List, [], ◌∷◌, map, length, bytes_eq, Option, None, Some, if◌then◌else◌}
+use Rattle.std.specs.Prelude.{ℕ, Bool, nat_eq, ◌&&◌, List, [], ◌∷◌, map, length, bytes_eq, Option, None, Some, if◌then◌else◌}
 use Rattle.store_map.specs.History.{map_after}
 use Rattle.store_map.specs.Limits.{size_of}
+use Rattle.store_map.specs.PlainMap.{Objects}
 use Rattle.store_map.specs.declared.script.Script.{Script}
 use Rattle.transcript_text.specs.declared.line.LLine.{LLine}
 use Rattle.transcript_text.specs.declared.transcript.Transcript.{Transcript}
@@ -12,10 +13,16 @@ use Rattle.hist_rules.specs.declared.verdict.Verdict.TheVariants.{BadTail}
 use Rattle.hist_rules.specs.RepliesMatch.{history_calls}
 use Rattle.hist_rules.specs.TailText.{without_end, nothing}
 
+-- the line of an object with this name and these bytes
+abbrev pub shown_object : List ℕ → List ℕ → LLine
+shown_object name bytes = record { name = name; length = length bytes }
+
+abbrev pub shown_objects : Objects → List LLine
+shown_objects objects = map (λ object. shown_object object.0 object.1) objects
+
 -- the lines of the map's objects
 abbrev pub map_lines : Script → Transcript → List LLine
-map_lines script t =
-    map (λ object. record { name = object.0; length = length object.1 }) (map_after (size_of script) (history_calls script t))
+map_lines script t = shown_objects (map_after (size_of script) (history_calls script t))
 
 -- whether two lines are of the same name and length
 abbrev pub same_line : LLine → LLine → Bool

@@ -45,9 +45,13 @@ abbrev pub reply_matches : Script → HLine × Reply → Option Verdict
 reply_matches script line =
     unless (shows_reply (call_of script line.0.call) line.1 line.0.reply) (Differs line.0.call line.1 line.0.reply)
 
--- the calls of the history in its order
+-- the calls of lines of a history in their order
+abbrev pub calls_in : Script → List HLine → List Call
+calls_in script lines = filter_map (λ line. call_of script line.call) lines
+
+-- those of all
 abbrev pub history_calls : Script → Transcript → List Call
-history_calls script t = filter_map (λ line. call_of script line.call) t.history
+history_calls script t = calls_in script t.history
 
 -- the first reply that isn't the map's
 abbrev pub replies_match : Script → Transcript → Option Verdict

@@ -19,7 +19,7 @@ call_of w = w.machine.call
 abbrev pub Knows : Sealed → InWork → Type 0
 Knows s w = KnowsOldOf s w.machine
 
--- a call of the book with whose token the directory agrees, and whose actor doesn't wait
+-- a call of the book with whose ticket the directory agrees, and whose actor doesn't wait
 pub record IsBeside (p : PlacesOf) (c : CallOf) : Type 0 where
   pub its : c.book ≡ p.book
   pub agrees : Agrees p.sealed.core c.token

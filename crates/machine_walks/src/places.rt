@@ -153,7 +153,7 @@ impl<'a> Places<'a> {
         ensures others { Keeps (actor_of (call_of work.old).token) self.old self.new }
         ensures actor { actor_of (call_of work.new).token ≡ actor_of (call_of work.old).token }
     {
-        work.code(rt, &PlainCoder);
+        work.on_coder(rt, &PlainCoder);
         self.step(work);
     }
 }

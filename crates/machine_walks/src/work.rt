@@ -3,11 +3,10 @@
 ghost use Rattle.std.specs.Prelude.{◌≡◌, ◌<◌, true};
 ghost use Rattle.clay_grid.specs.Shape.{chunk_count};
 ghost use Rattle.chunk_server.specs.Core.{core_of};
-ghost use Rattle.call_steps.specs.Steps.{IfServer};
 ghost use Rattle.store_core.specs.Agreement.{Agrees, ActorToken};
 ghost use Rattle.stripe_dir.specs.Sealed.{Sealed};
 ghost use Rattle.stripe_dir.specs.Seats.{client_seat, repairer_seat};
-ghost use Rattle.call_steps.specs.Steps.{need_of, stepped_at_directory, stepped_at_server};
+ghost use Rattle.call_steps.specs.Steps.{need_of, IsServerBelow, LeadsTo, LeadsToAtServer};
 ghost use Rattle.call_machine.specs.Kinds.{client_machine, machine_of};
 ghost use Rattle.machine_walks.specs.Patching.{is_patching};
 ghost use Rattle.machine_walks.specs.Small.{small_code};
@@ -81,7 +80,7 @@ impl<'a> InWork<'a> {
 
     pub(crate) fn need(&self) -> Need
         ensures need { result ≡ need_of (call_of self.now) }
-        ensures below { IfServer result (λ server. server < chunk_count (call_of self.now).book.geometry) }
+        ensures below { IsServerBelow (chunk_count (call_of self.now).book.geometry) result }
     {
         self.machine.need()
     }
@@ -102,8 +101,7 @@ impl<'a> InWork<'a> {
         requires knows { Knows directory.old self.old }
         requires whole { AreWhole directory.old.book directory.old.stamps }
         requires code { directory.old.book.geometry ≡ small_code }
-        ensures step { (directory.new.core, call_of self.new)
-            ≡ stepped_at_directory (call_of self.new).step (call_of self.new).due (call_of self.old) directory.old.core }
+        ensures step { LeadsTo (call_of self.old) directory.old.core (call_of self.new) directory.new.core }
         ensures agrees { Agrees directory.new.core (call_of self.new).token }
         ensures book { directory.new.book ≡ directory.old.book }
         ensures stamps { Grows directory.old directory.new }
@@ -116,8 +114,7 @@ impl<'a> InWork<'a> {
     pub(crate) fn on_server(&mut self, server: &mut Server)
         requires need { need_of (call_of self.old) ≡ Need.Server server.old.number }
         requires book { server.old.book ≡ (call_of self.old).book }
-        ensures step { (core_of server.new, call_of self.new)
-            ≡ stepped_at_server (call_of self.new).step (call_of self.new).due (call_of self.old) (core_of server.old) }
+        ensures step { LeadsToAtServer (call_of self.old) (core_of server.old) (call_of self.new) (core_of server.new) }
         ensures knows { (d : Sealed) → Knows d self.old → Knows d self.new }
         ensures number { server.new.number ≡ server.old.number }
         ensures book { server.new.book ≡ server.old.book }
@@ -126,7 +123,7 @@ impl<'a> InWork<'a> {
     }
 
     /// The coding before its next step, if one is due.
-    pub(crate) fn code<R: Threads + Sync, C: Coder>(&mut self, rt: &R, coder: &C)
+    pub(crate) fn on_coder<R: Threads + Sync, C: Coder>(&mut self, rt: &R, coder: &C)
         ensures token { (call_of self.new).token ≡ (call_of self.old).token }
         ensures book { (call_of self.new).book ≡ (call_of self.old).book }
         ensures knows { (d : Sealed) → Knows d self.old → Knows d self.new }

@@ -1,4 +1,4 @@
--- The parts of a rebuild: its token, its pinned stripe, the gathering of its chunk, and the chunk.
+-- The parts of a rebuild: its ticket, its pinned stripe, the gathering of its chunk, and the chunk.
 use Rattle.std.specs.Prelude.{◌≡◌, ℕ, length}
 use Rattle.clay_grid.specs.Shape.{chunk_count}
 use Rattle.store_core.specs.Note.{Note}

@@ -5,7 +5,7 @@ ghost use Rattle.store_resume.specs.State.{State};
 ghost use Rattle.store_resume.specs.GatherAfter.{ending_after};
 ghost use Rattle.stripe_dir.specs.Answers.{told_ended};
 ghost use Rattle.call_steps.specs.Outcomes.{repair_outcome_of};
-ghost use Rattle.call_steps.specs.Steps.{need_of, stepped_at_directory};
+ghost use Rattle.call_steps.specs.Steps.{need_of, LeadsTo};
 ghost use Rattle.repairer.specs.Standing.{stage_of};
 
 use crate::repair_call::RepairCall;
@@ -33,8 +33,7 @@ impl<'a> RepairCall<'a> {
         requires need { need_of self.old ≡ Need.Directory }
         requires agrees { Agrees d.old.core self.old.token }
         requires book { d.old.book ≡ self.old.book }
-        ensures step { (d.new.core, self.new)
-            ≡ stepped_at_directory self.new.step self.new.due self.old d.old.core }
+        ensures step { LeadsTo self.old d.old.core self.new d.new.core }
         ensures agrees { Agrees d.new.core self.new.token }
         ensures book { d.new.book ≡ d.old.book }
         ensures stamps { d.new.stamps ≡ d.old.stamps }
@@ -72,8 +71,7 @@ impl<'a> RepairCall<'a> {
         requires need { need_of self.old ≡ Need.Directory }
         requires agrees { Agrees d.old.core self.old.token }
         requires book { d.old.book ≡ self.old.book }
-        ensures step { (d.new.core, self.new)
-            ≡ stepped_at_directory self.new.step self.new.due self.old d.old.core }
+        ensures step { LeadsTo self.old d.old.core self.new d.new.core }
         ensures agrees { Agrees d.new.core self.new.token }
         ensures book { d.new.book ≡ d.old.book }
         ensures stamps { d.new.stamps ≡ d.old.stamps }
@@ -99,8 +97,7 @@ impl<'a> RepairCall<'a> {
         requires stage { stage_of self.old.state.at ≡ Stage.Placing }
         requires agrees { Agrees d.old.core self.old.token }
         requires book { d.old.book ≡ self.old.book }
-        ensures step { (d.new.core, self.new)
-            ≡ stepped_at_directory self.new.step self.new.due self.old d.old.core }
+        ensures step { LeadsTo self.old d.old.core self.new d.new.core }
         ensures agrees { Agrees d.new.core self.new.token }
         ensures book { d.new.book ≡ d.old.book }
         ensures stamps { d.new.stamps ≡ d.old.stamps }
@@ -119,8 +116,7 @@ impl<'a> RepairCall<'a> {
     pub(crate) fn end(&mut self, d: &mut Directory)
         requires stage { stage_of self.old.state.at ≡ Stage.Ending }
         requires agrees { Agrees d.old.core self.old.token }
-        ensures step { (d.new.core, self.new)
-            ≡ stepped_at_directory self.new.step self.new.due self.old d.old.core }
+        ensures step { LeadsTo self.old d.old.core self.new d.new.core }
         ensures agrees { Agrees d.new.core self.new.token }
         ensures book { d.new.book ≡ d.old.book }
         ensures stamps { d.new.stamps ≡ d.old.stamps }

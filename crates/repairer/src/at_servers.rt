@@ -7,7 +7,7 @@ ghost use Rattle.gather_course.specs.Aims.{ending_at};
 ghost use Rattle.chunk_server.specs.Core.{core_of};
 ghost use Rattle.chunk_server.specs.State.{IsSame};
 ghost use Rattle.call_steps.specs.Outcomes.{repair_outcome_of};
-ghost use Rattle.call_steps.specs.Steps.{need_of, stepped_at_server};
+ghost use Rattle.call_steps.specs.Steps.{need_of, LeadsToAtServer};
 ghost use Rattle.repairer.specs.Standing.{stage_of};
 
 use crate::repair_call::RepairCall;
@@ -52,8 +52,7 @@ impl<'a> RepairCall<'a> {
         requires stage { stage_of self.old.state.at ≡ Stage.Gathering }
         requires need { need_of self.old ≡ Need.Server s.old.number }
         requires book { s.old.book ≡ self.old.book }
-        ensures step { (core_of s.new, self.new)
-            ≡ stepped_at_server self.new.step self.new.due self.old (core_of s.old) }
+        ensures step { LeadsToAtServer self.old (core_of s.old) self.new (core_of s.new) }
         ensures same { IsSame s.old s.new }
     {
         let (Some(mut gather), Some(mut takes)) = (self.gather.take(), self.takes.take()) else {
@@ -81,8 +80,7 @@ impl<'a> RepairCall<'a> {
         requires stage { stage_of self.old.state.at ≡ Stage.Installing }
         requires need { need_of self.old ≡ Need.Server s.old.number }
         requires book { s.old.book ≡ self.old.book }
-        ensures step { (core_of s.new, self.new)
-            ≡ stepped_at_server self.new.step self.new.due self.old (core_of s.old) }
+        ensures step { LeadsToAtServer self.old (core_of s.old) self.new (core_of s.new) }
         ensures same { IsSame s.old s.new }
     {
         let Some(chunk) = self.chunk.take() else {

@@ -8,7 +8,7 @@ ghost use Rattle.store_core.specs.Tokens.{MayLook};
 ghost use Rattle.store_resume.specs.State.{State};
 ghost use Rattle.chunk_server.specs.Core.{core_of};
 ghost use Rattle.chunk_server.specs.State.{IsSame};
-ghost use Rattle.call_steps.specs.Steps.{IfServer, need_of, stepped_at_directory, stepped_at_server, coded, HoldsItsPass, IsDueInPass, MayMakeNext};
+ghost use Rattle.call_steps.specs.Steps.{IsServerBelow, need_of, LeadsTo, LeadsToAtServer, coded, HoldsItsPass, IsDueInPass, MayMakeNext};
 ghost use Rattle.call_steps.specs.Outcomes.{repair_outcome_of};
 ghost use Rattle.repairer.specs.Calls.{new_call, IsUndueOncePlaced};
 ghost use Rattle.call_steps.specs.CallOf.{taken_of};
@@ -100,7 +100,7 @@ impl<'a> RepairCall<'a> {
     #[tactic(auto, using(crate::proofs::Holding::holds, crate::proofs::Making::may, crate::proofs::Making::undue))]
     pub fn need(&self) -> Need
         ensures need { result ≡ need_of self.now }
-        ensures below { IfServer result (λ server. server < chunk_count self.now.book.geometry) }
+        ensures below { IsServerBelow (chunk_count self.now.book.geometry) result }
         ensures in_pass { IsDueInPass self.now }
         ensures pass { HoldsItsPass self.now }
         ensures may { MayMakeNext self.now }
@@ -194,8 +194,7 @@ impl<'a> RepairCall<'a> {
         requires need { need_of self.old ≡ Need.Directory }
         requires agrees { Agrees d.old.core self.old.token }
         requires book { d.old.book ≡ self.old.book }
-        ensures step { (d.new.core, self.new)
-            ≡ stepped_at_directory self.new.step self.new.due self.old d.old.core }
+        ensures step { LeadsTo self.old d.old.core self.new d.new.core }
         ensures agrees { Agrees d.new.core self.new.token }
         ensures book { d.new.book ≡ d.old.book }
         ensures stamps { d.new.stamps ≡ d.old.stamps }
@@ -214,8 +213,7 @@ impl<'a> RepairCall<'a> {
     pub fn on_server(&mut self, s: &mut Server)
         requires need { need_of self.old ≡ Need.Server s.old.number }
         requires book { s.old.book ≡ self.old.book }
-        ensures step { (core_of s.new, self.new)
-            ≡ stepped_at_server self.new.step self.new.due self.old (core_of s.old) }
+        ensures step { LeadsToAtServer self.old (core_of s.old) self.new (core_of s.new) }
         ensures same { IsSame s.old s.new }
     {
         match self.stage {

@@ -70,7 +70,7 @@ heard_by (Act.Finish outcome) a c e = tt
 heard_by (Act.AtDirectory step) a c e = e
 heard_by (Act.AtServer server step) a c e = e
 
--- one step more leads a token on, if it is at the directory
+-- one step more leads a ticket on, if it is at the directory
 token_more : (act : Act) (m : MadeStep) (steps : List MadeStep) (token : ActorToken) → m.act ≡ act → IsAtAPlace act
     → tokens_after (steps ++ cond {A = List MadeStep} (acts_at Place.Directory act) (m ∷ []) []) token ≡ token_by act m (tokens_after steps token)
 token_more (Act.AtDirectory step) m steps token e placed = tokens_more steps m token ∙ ap (λ act. token_by act m (tokens_after steps token)) e

@@ -12,3 +12,5 @@ pub mod Others
 pub mod LastSweep
 pub mod Worked
 pub mod Calling
+pub mod Numbers
+pub mod Seen

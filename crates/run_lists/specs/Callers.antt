@@ -23,7 +23,7 @@ abbrev pub HeardLast : DoingOf → Type 0
 HeardLast (DoingOf.Between token) = ⊤
 HeardLast (DoingOf.InCall call steps) = call.coding ≡ false
 
--- a client or a repairer with this work: its list leads to a calling that it stands for, and to its token; its calls are numbered, and it makes no more steps than they may
+-- a client or a repairer with this work: its list leads to a calling that it stands for, and to its ticket; its calls are numbered, and it makes no more steps than they may
 pub record IsCalling (script : Script) (who : Actor) (work : Work) (at : Place → List MadeStep) (a : ActorOf) : Type 0 where
   pub calling : Calling
   pub listed : IsListed (calling_next script work) (IsNext script work) (new_calling (chunk_count script.geometry)) (chunk_count script.geometry) at calling

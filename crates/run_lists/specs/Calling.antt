@@ -15,7 +15,7 @@ use Rattle.world_steps.specs.World.{ActorOf}
 use Rattle.run_lists.specs.Callers.{IsCalling}
 use Rattle.run_lists.specs.Stepped.{IsReady}
 
--- the token is its actor's, and the one that the actor's own steps lead to; the call's number is that of the calls that have ended
+-- the ticket is its actor's, and the one that the actor's own steps lead to; the call's number is that of the calls that have ended
 pub record KnowsItself (who : Actor) (at : Place → List MadeStep) (a : ActorOf) (c : CallOf) : Type 0 where
   pub whose : actor_of c.token ≡ who
   pub token : tokens_after (at Place.Directory) (first_token (actor_of c.token)) ≡ c.token

@@ -1,4 +1,7 @@
-//! The laws, as functions that do nothing.
+//! The laws, as functions that do nothing and whose contracts are the laws.
+
+ghost use Rattle.run_lists.specs.Seen.{HistoriesHaveAll, NewTurnsBegin};
+ghost use Rattle.run_lists.specs.Numbers.{ClientsComeFirst, RepairersFollow};
 ghost use Rattle.run_lists.specs.EndLaws.{ActorsEndRuns};
 ghost use Rattle.run_lists.specs.Stepped.{CallersGoOnAtServers, CallersGoOnAtDirectory, CallersSeeMore};
 ghost use Rattle.run_lists.specs.Plain.{SweepingGoesOn, OperatingGoesOn};
@@ -9,12 +12,28 @@ ghost use Rattle.run_lists.specs.LastSweep.{JoinedTurnsSeeAll, LastSweepsFall};
 ghost use Rattle.run_lists.specs.Worked.{StatsHaveEnded};
 ghost use Rattle.run_lists.specs.Calling.{CallsKnowThemselves, ActorsHaveNumbers};
 
+/// An actor whose turns have seen nothing is as it should be before its first step.
+pub fn new_turns_begin()
+    ensures { NewTurnsBegin }
+{}
+
+/// Histories that have, of an actor's number, the entries that its turns have seen have all steps of the actor.
+pub fn histories_have_all()
+    ensures { HistoriesHaveAll }
+{}
+
+/// The numbers of a script's clients are their places in it, and those of its repairers follow.
+pub fn numbers_are_places()
+    ensures clients { ClientsComeFirst }
+    ensures repairers { RepairersFollow }
+{}
+
 /// Where all actors have ended, the last histories are those of steps made apart, in a core for which the values stand.
 pub fn actors_end_runs()
     ensures { ActorsEndRuns }
 {}
 
-/// A client or a repairer keeps its own list of steps, its token and its count of steps in each step, with fewer
+/// A client or a repairer keeps its own list of steps, its ticket and its count of steps in each step, with fewer
 /// left after it, and where its turns see more.
 pub fn callers_go_on()
     ensures at_servers { CallersGoOnAtServers }
@@ -59,7 +78,7 @@ pub fn stats_have_ended()
     ensures { StatsHaveEnded }
 {}
 
-/// A call in work has the token that the own steps of its client or repairer lead to, and the number of its
+/// A call in work has the ticket that the own steps of its client or repairer lead to, and the number of its
 /// ended calls.
 pub fn calls_know_themselves()
     ensures { CallsKnowThemselves }

@@ -39,12 +39,12 @@ token_by_stays (Act.AtDirectory step) m token = token_stays token m.number step 
 token_by_stays (Act.AtServer server step) m token = refl
 token_by_stays (Act.Finish outcome) m token = refl
 
--- whatever an actor's steps are, its token is its own
+-- whatever an actor's steps are, its ticket is its own
 pub token_of_actor : (steps : List MadeStep) (token : ActorToken) → actor_of (tokens_after steps token) ≡ actor_of token
 token_of_actor [] token = refl
 token_of_actor (m ∷ steps) token = token_of_actor steps (token_by m.act m token) ∙ token_by_stays m.act m token
 
--- a step of its own leads its token on, another actor's leaves it
+-- a step of its own leads its ticket on, another actor's leaves it
 own_token : (who : Actor) (steps : List MadeStep) (m : MadeStep) → is_by who m ≡ true → token_in who (steps ++ m ∷ []) ≡ token_by m.act m (token_in who steps)
 own_token who steps m own =
     ap (λ (l : List MadeStep). tokens_after l (first_token who)) (filter-append (is_by who) steps (m ∷ []) ∙ ap (λ b. filter (is_by who) steps ++ cond {A = List MadeStep} b (m ∷ []) []) own)
@@ -55,7 +55,7 @@ others_token who steps m other =
     ap (λ (l : List MadeStep). tokens_after l (first_token who))
     (filter-append (is_by who) steps (m ∷ []) ∙ (ap (λ b. filter (is_by who) steps ++ cond {A = List MadeStep} b (m ∷ []) []) other ∙ append-nil (filter (is_by who) steps)))
 
--- agreement with another actor's token stays
+-- agreement with another actor's ticket stays
 others_stay : (m : MadeStep) (act : Act) (d : Directory) (token : ActorToken) → acts_at Place.Directory act ≡ true → same_actor m.actor (actor_of token) ≡ false → Agrees d token → Agrees (directory_act m act d).0 token
 others_stay m (Act.AtDirectory step) d token here apart agrees = others_agree m.shortage.step m.actor m.number step d token apart agrees
 others_stay m (Act.AtServer server step) d token here apart agrees = agrees

@@ -37,14 +37,14 @@ use Rattle.run_steps.proofs.CallSteps.{directory_step}
 use Rattle.run_steps.proofs.DirectoryAdding.{directories_stand_on}
 use Rattle.store_sound.proofs.OwnSteps.{steps_may_be_made}
 
--- the token of an actor is the one that its entries lead to
+-- the ticket of an actor is the one that its entries lead to
 pub token_seen : (of : Counts) (max number : ℕ) (token : ActorToken) (numbers : List ℕ) (d : Sealed) (seen log : List (ℕ × Noted)) → StandsAtDirectory of max d log → IsTurnOf of number (actor_of token)
     → Among number numbers → GoesOn numbers seen log → tokens_after (made_in (entries_of number seen)) (first_token (actor_of token)) ≡ token → token_in (actor_of token) (made_in log) ≡ token
 token_seen of max number token numbers d seen log stands turn among goes is =
     ap (λ (l : List MadeStep). tokens_after l (first_token (actor_of token)))
     (own_steps (λ (n : Noted). n.made) of number (actor_of token) turn log stands.turns ∙ ap made_in (goes.1 number among)) ∙ is
 
--- it may be made, where the token agrees
+-- it may be made, where the ticket agrees
 may_step : (d : Directory) (token : ActorToken) (number : ℕ) (step : DirectoryStep) → Agrees d token → MayMake d token number step → MayStep d (actor_of token) number step
 may_step d (ActorToken.Seated seat) number step agrees may = steps_may_be_made.look seat number step d agrees may
 may_step d (ActorToken.InCall held) number step agrees may = subst (λ n. MayStep d held.pass.actor n step) may.0 (steps_may_be_made.on_pass held step d agrees may.1)
@@ -115,7 +115,7 @@ module _ (before after : CallOf) (d now : Sealed) (needed : need_of before ≡ n
         fits = fits_directory before d.core after.step max needed wide sound shape most agrees pass may;
       })
 
--- the token goes on with the entries
+-- the ticket goes on with the entries
 pub token_goes : (number last max : ℕ) (seen now : List (ℕ × Noted)) (before after : CallOf) → actor_of after.token ≡ actor_of before.token → HasMadeAtDirectory number last max seen now before after
     → tokens_after (made_in (entries_of number seen)) (first_token (actor_of before.token)) ≡ before.token → tokens_after (made_in (entries_of number now)) (first_token (actor_of after.token)) ≡ after.token
 token_goes number last max seen now before after same made is =

@@ -15,7 +15,7 @@ use Rattle.run_steps.specs.Entries.{last_of}
 use Rattle.run_steps.specs.Noted.{Noted, made_in, stamps_in, token_by, token_in, IsCaller}
 
 -- the steps lead to it from a new one, with their answers, all at the directory and in rising moments, each under the number of its actor; its stamps are those that they drew,
--- it agrees with the token of each actor that has calls, and with a script it has the bytes of the map
+-- it agrees with the ticket of each actor that has calls, and with a script it has the bytes of the map
 pub record StandsAtDirectory (of : Counts) (max : ℕ) (d : Sealed) (log : List (ℕ × Noted)) : Type 0 where
   pub ends : d.core ≡ after_all directory_next (made_in log) (new_directory d.book.geometry max)
   pub answers : AllCome directory_next DirectoryAnswers (made_in log) (new_directory d.book.geometry max)
@@ -27,7 +27,7 @@ pub record StandsAtDirectory (of : Counts) (max : ℕ) (d : Sealed) (log : List 
   pub bytes : IfSome d.book.script (λ script. HasBytes (call_of script) d.core)
 
 -- a step that leads to another directory of the same book, with the answer that the directory gives and the stamps that it drew, under the number of its actor and after the moment of the history's last;
--- afterwards the directory agrees with the token of an actor that has calls, and has the bytes of the map
+-- afterwards the directory agrees with the ticket of an actor that has calls, and has the bytes of the map
 pub record IsAddedAtDirectory (of : Counts) (d now : Sealed) (log : List (ℕ × Noted)) (entry : ℕ × Noted) : Type 0 where
   pub here : is_at Place.Directory entry.1.made ≡ true
   pub answers : DirectoryAnswers entry.1.made d.core

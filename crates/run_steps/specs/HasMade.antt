@@ -42,7 +42,7 @@ pub record HasMadeAtServer (number last : ℕ) (seen now : List (ℕ × MadeStep
   pub hears : HearsAsActor before answer after
   pub fits : (max : ℕ) → AnswersAsActor max before answer
 
--- so it is at the directory, where an object has at most so many bytes, and the step may draw stamps and changes the token
+-- so it is at the directory, where an object has at most so many bytes, and the step may draw stamps and changes the ticket
 pub record HasMadeAtDirectory (number last max : ℕ) (seen now : List (ℕ × Noted)) (before after : CallOf) : Type 0 where
   pub answer : Told
   pub moment : ℕ

@@ -23,7 +23,7 @@ made_in log = map (λ (entry : ℕ × Noted). entry.1.made) log
 abbrev pub stamps_in : List (ℕ × Noted) → List StampOf
 stamps_in log = flat_map (λ (entry : ℕ × Noted). entry.1.drawn) log
 
--- an actor's token after its step; only steps at the directory change it
+-- an actor's ticket after its step; only steps at the directory change it
 abbrev pub token_by : Act → MadeStep → ActorToken → ActorToken
 token_by (Act.AtDirectory step) m token = token_after token m.number step m.answer
 token_by act m token = token
@@ -33,7 +33,7 @@ abbrev pub tokens_after : List MadeStep → ActorToken → ActorToken
 tokens_after [] token = token
 tokens_after (m ∷ steps) token = tokens_after steps (token_by m.act m token)
 
--- the token that an actor has, by its steps at the directory among these
+-- the ticket that an actor has, by its steps at the directory among these
 abbrev pub token_in : Actor → List MadeStep → ActorToken
 token_in who steps = tokens_after (filter (is_by who) steps) (first_token who)
 

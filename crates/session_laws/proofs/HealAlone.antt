@@ -72,6 +72,27 @@ found_at name (other ∷ objects) object e = by (bytes_eq name other.name) e (fo
     by true e rest = (0, e)
     by false e rest = let later : (i : ℕ) × (slice_get objects i ≡ Some object) = rest e in (suc later.0, later.1)
 
+-- ---- the seat's next number is seen by no place
+pub with_next : (g : Shape) (max : ℕ) (stands : List ℕ) (p : Places) (s : Session) (n : ℕ) → IsSeenAs g max stands p s → IsSeenAs g max stands p (record s { next = n })
+with_next g max stands p s n seen = record {
+  shape = seen.shape;
+  most = seen.most;
+  sound = seen.sound;
+  servers = seen.servers;
+  present = seen.present;
+  epochs = seen.epochs;
+  lengths = seen.lengths;
+  versions = seen.versions;
+  count = seen.count;
+  stripes = seen.stripes;
+  apart = seen.apart;
+  timely = seen.timely;
+  names = seen.names;
+}
+
+pub quiet_next : (stands : List ℕ) (p : Places) (s : Session) (n : ℕ) → IsQuiet stands p s → IsQuiet stands p (record s { next = n })
+quiet_next stands p s n quiet = record { passes = quiet.passes; clean = quiet.clean; held = quiet.held; standing = quiet.standing }
+
 module _ (g : Shape) (max tries : ℕ) (stands : List ℕ) (seat : ℕ) (some : 0 < stripe_length g) (parity : 0 < g.parity_count) where
   abbrev who : Actor
   who = actor.Repairer seat
@@ -252,27 +273,6 @@ module _ (g : Shape) (max tries : ℕ) (stands : List ℕ) (seat : ℕ) (some : 
     pub all_two : Pairs (AreTwo s) (to_heal g s)
     all_two = pairs_filter (AreTwo s) can (lost_chunks g s) (pairs_with (IsLost g s h.names) (AreApart g s h.names) (AreTwo s) two_by_number (lost_chunks g s) (lost_all g s h.names) (lost_apart g s h.names))
 
-    -- the seat's next number is seen by no place
-    with_next : (q : Places) (t : Session) (n : ℕ) → IsSeenAs g max stands q t → IsSeenAs g max stands q (record t { next = n })
-    with_next q t n seen = record {
-      shape = seen.shape;
-      most = seen.most;
-      sound = seen.sound;
-      servers = seen.servers;
-      present = seen.present;
-      epochs = seen.epochs;
-      lengths = seen.lengths;
-      versions = seen.versions;
-      count = seen.count;
-      stripes = seen.stripes;
-      apart = seen.apart;
-      timely = seen.timely;
-      names = seen.names;
-    }
-
-    quiet_next : (q : Places) (t : Session) (n : ℕ) → IsQuiet stands q t → IsQuiet stands q (record t { next = n })
-    quiet_next q t n quiet = record { passes = quiet.passes; clean = quiet.clean; held = quiet.held; standing = quiet.standing }
-
     healed : (count : ℕ) → MayBegin p.directory who s.next → IsHealedAs g max tries seat count stands p s
     healed count begin =
         let chunks : List LostChunk = take count (to_heal g s) in
@@ -281,8 +281,8 @@ module _ (g : Shape) (max tries : ℕ) (stands : List ℕ) (seat : ℕ) (some : 
         record {
           after = made.after;
           rebuilt = made.rebuilt;
-          seen = with_next made.after (heal_all g chunks s).0 (s.next + length chunks) made.seen;
-          quiet = λ quiet. quiet_next made.after (heal_all g chunks s).0 (s.next + length chunks) (made.quiet quiet);
+          seen = with_next g max stands made.after (heal_all g chunks s).0 (s.next + length chunks) made.seen;
+          quiet = λ quiet. quiet_next stands made.after (heal_all g chunks s).0 (s.next + length chunks) (made.quiet quiet);
           pinned = λ pinned n live. made.pinned pinned n live;
           next = made.next;
         }

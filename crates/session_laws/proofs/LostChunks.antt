@@ -13,7 +13,7 @@ use Rattle.session_rules.specs.Heals.{servers, lost_chunks}
 use Rattle.session_laws.proofs.Pairs.{Pairs, every_weaker, every_both, every_map, every_unmap, every_filter, every_kept, every_flat, pairs_weaker, pairs_map, pairs_filter, pairs_flat, across_by, row_less, row_apart, numbered_in, numbered_apart, names_apart, same_bytes}
 
 -- where each name stands once, an object is found by its name
-own_numbers : (objects : List (List ℕ × List ℕ)) → IsDistinct bytes_eq (names_of objects) → AllByRecursion (λ (object : List ℕ × List ℕ). bytes_of object.0 objects ≡ Some object.1) objects
+pub own_numbers : (objects : List (List ℕ × List ℕ)) → IsDistinct bytes_eq (names_of objects) → AllByRecursion (λ (object : List ℕ × List ℕ). bytes_of object.0 objects ≡ Some object.1) objects
 unfolding IsDistinct
 own_numbers [] distinct = tt
 own_numbers (object ∷ objects) distinct = (

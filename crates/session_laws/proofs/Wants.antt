@@ -21,7 +21,7 @@ use Rattle.store_core.specs.Directory.{Object, Pass, Directory}
 use Rattle.store_core.specs.Lookups.{same_actor, find_object, pass_of, last_change, is_current}
 use Rattle.store_core.specs.Look.{begin_pass, pin_of, seen_at, stripes_between}
 use Rattle.store_core.specs.Looks.{look_by, look_repair_by}
-use Rattle.store_core.specs.PassSteps.{close_pass, draw, end_pass, confirm, repaired, new_version, touched}
+use Rattle.store_core.specs.PassSteps.{close_pass, draw, end_pass, confirm, new_version, touched}
 use Rattle.store_core.specs.Commit.{same_point, is_overtaken, commit, commit_object}
 use Rattle.store_core.specs.AtDirectory.{at_directory, on_pass, unless_reaped}
 use Rattle.store_core.specs.Gathering.{Part}
@@ -33,7 +33,7 @@ use Rattle.store_resume.specs.Stage.{Aim, Asking, Stage}
 use Rattle.store_resume.specs.StageAfter.{stage_after, server_asked, step_asked}
 use Rattle.store_resume.specs.Stages.{first_stage}
 use Rattle.store_resume.specs.State.{Sequel, State, CallState, first_state}
-use Rattle.store_resume.specs.States.{sequel_state, parts_state, stage_state, prepare_state, prepare_all_state, settle_state, open_parts, open_state, open_call}
+use Rattle.store_resume.specs.States.{sequel_state, parts_state, stage_state, prepare_state, prepare_all_state, open_parts, open_state, open_call}
 use Rattle.store_resume.specs.StateActs.{act_at, act_of_state}
 use Rattle.store_resume.specs.GatherAfter.{ending_after, confirming_after, installing_after}
 use Rattle.store_resume.specs.WriteAfter.{preparing_after, drawing_after}
@@ -47,6 +47,7 @@ use Rattle.session_laws.specs.Sweeps.{IsUnseen}
 use Rattle.session_laws.specs.Unseen.{IsUnseenThere}
 use Rattle.session_laws.specs.Wants.{may_code, after_coding, wanting_by, wanting_step, wanting_steps, WantsAreUnseen}
 use Rattle.session_laws.proofs.AtPlaces.{self}
+use Rattle.session_laws.proofs.Over.{HasPass, IsOverWith, committed_over, coded_over, over_stays, over_replied}
 use Rattle.session_laws.proofs.Beside.{steps_are_unseen}
 use Rattle.session_laws.proofs.Writes.{changed_same}
 
@@ -77,12 +78,6 @@ row_from : (count a n : ℕ) → count ≤ a → AllByRecursion (λ v. count ≤
 row_from count a zero low = tt
 row_from count a (suc n) low = (low, row_from count (a + 1) n (omega (arith, low)))
 
--- a reply of the map, or a chunk that was made anew
-abbrev pub IsReplied : Outcome → Type 0
-IsReplied (Outcome.Answered point reply) = ⊤
-IsReplied Outcome.Rebuilt = ⊤
-IsReplied _ = ⊥
-
 -- a step at a server leaves the directory
 pub same_directory : (short : Bool) (server : ℕ) (step : ServerStep) (p : Places) (found : Option Server) → (at_server_there short server step p found).0.directory ≡ p.directory
 same_directory short server step p None = refl
@@ -111,20 +106,12 @@ module _ (g : Shape) (max tries : ℕ) (stands : List ℕ) (s : Session) (some :
     kind : pass.note.kind ≡ Kind.Rebuild
     alive : pass.reaped ≡ None
 
+  known : (d : Directory) → Rebuilds d → HasPass who d
+  known d on = record { pass = on.pass; is_pass = on.is_pass; alive = on.alive }
+
   -- the call has committed or has placed its chunk, or it was answered
   abbrev IsOver : State → Directory → Type 0
-  IsOver (State.Settling point place places) d = ⊤
-  IsOver (State.Placing target epoch) d = Rebuilds d
-  IsOver (State.Finished outcome) d = IsReplied outcome
-  IsOver _ d = ⊥
-
-  settles : (point : ℕ) (places : List (ℕ × ℕ)) (d : Directory) → IsOver (open_state g (settle_state point places)) d
-  settles point [] d = tt
-  settles point (place ∷ places) d = tt
-
-  committed : (point : ℕ) (places : List (ℕ × ℕ)) (d : Directory) → IsOver (settle_state point places) d
-  committed point [] d = tt
-  committed point (place ∷ places) d = tt
+  IsOver at d = IsOverWith Rebuilds at d
 
   -- what is known while bytes are gathered
   abbrev Follows : Sequel → Directory → Type 0
@@ -363,25 +350,6 @@ module _ (g : Shape) (max tries : ℕ) (stands : List ℕ) (s : Session) (some :
         by true = short_fits c.pairs c.at d ok
         by false = ok
 
-    coded_over : (wanting : Bool) (pairs : List (ℕ × ℕ)) (at : State) (d : Directory) → IsOver at d → after_coding g tries who number job wanting (record { pairs = pairs; at = at }) ≡ record { pairs = pairs; at = at }
-    coded_over true pairs (State.Settling point place places) d ok = refl
-    coded_over false pairs (State.Settling point place places) d ok = refl
-    coded_over true pairs (State.Finished outcome) d ok = refl
-    coded_over false pairs (State.Finished outcome) d ok = refl
-    coded_over wanting pairs State.Start d ok = absurd ok
-    coded_over wanting pairs (State.Parts part parts after) d ok = absurd ok
-    coded_over wanting pairs (State.Chunk seen target) d ok = absurd ok
-    coded_over wanting pairs (State.Gather aim asking parts after) d ok = absurd ok
-    coded_over wanting pairs State.Drawing d ok = absurd ok
-    coded_over wanting pairs (State.Preparing stripe version server servers row later placed versions) d ok = absurd ok
-    coded_over wanting pairs (State.Committing versions placed) d ok = absurd ok
-    coded_over wanting pairs (State.Committed versions) d ok = absurd ok
-    coded_over wanting pairs (State.Confirming seen target) d ok = absurd ok
-    coded_over wanting pairs (State.Installing seen target) d ok = absurd ok
-    coded_over true pairs (State.Placing target epoch) d ok = refl
-    coded_over false pairs (State.Placing target epoch) d ok = refl
-    coded_over wanting pairs (State.Ending outcome) d ok = absurd ok
-
     -- ---- each step of a call that has not committed
     module _ (p : Places) (h : IsSeenAs g max stands p s) where
       -- the directory now
@@ -500,7 +468,7 @@ module _ (g : Shape) (max tries : ℕ) (stands : List ℕ) (s : Session) (some :
           over : IsOver (next_call g job (record { pairs = pairs; at = State.Committing versions placed }) (on_pass (commit placed) (pass_of who now) now).1).at (on_pass (commit placed) (pass_of who now) now).0
           over =
               subst (λ told. IsOver (next_call g job (record { pairs = pairs; at = State.Committing versions placed }) told).at (on_pass (commit placed) (pass_of who now) now).0) (sym told_done)
-              (committed (length now.points) (Rattle.store_core.specs.Lists.places_of (chunk_count g) versions) (on_pass (commit placed) (pass_of who now) now).0)
+              (committed_over Rebuilds (length now.points) (Rattle.store_core.specs.Lists.places_of (chunk_count g) versions) (on_pass (commit placed) (pass_of who now) now).0)
 
           by : (short : Bool) → Holds (wanting_by g tries who number job short (act_at g tries job pairs (State.Committing versions placed)) (record { call = record { pairs = pairs; at = State.Committing versions placed }; places = p }))
           by true = inr over
@@ -588,71 +556,22 @@ module _ (g : Shape) (max tries : ℕ) (stands : List ℕ) (s : Session) (some :
       step_holds short pairs (State.Ending outcome) ok = ending_holds short pairs outcome
       step_holds short pairs (State.Finished outcome) ok = inl (h, tt)
 
-    -- ---- a call that is over
-    over_stays : (short : Bool) (pairs : List (ℕ × ℕ)) (at : State) (p : Places) → IsOver at p.directory →
-        Holds (wanting_by g tries who number job short (act_at g tries job pairs at) (record { call = record { pairs = pairs; at = at }; places = p }))
-    over_stays short pairs (State.Settling point place places) p ok = inr (settles point places (at_server_there short place.0 (ServerStep.Settle place.1) p (slice_get p.servers place.0)).0.directory)
-    over_stays short pairs (State.Placing target epoch) p on = by short
-      where
-        is : on_pass (repaired target epoch) (pass_of who p.directory) p.directory ≡ repaired target epoch on.pass p.directory
-        is = ap (λ f. on_pass (repaired target epoch) f p.directory) on.is_pass ∙ ap (λ reaped. unless_reaped (repaired target epoch) on.pass reaped p.directory) on.alive
-
-        after : Holds (record { call = open_call g (record { pairs = pairs; at = ending_after Outcome.Rebuilt (on_pass (repaired target epoch) (pass_of who p.directory) p.directory).1 }); places = record p { directory = (on_pass (repaired target epoch) (pass_of who p.directory) p.directory).0 } })
-        after =
-            subst (λ (r : Directory × Told). Holds (record { call = open_call g (record { pairs = pairs; at = ending_after Outcome.Rebuilt r.1 }); places = record p { directory = r.0 } })) (sym is) (inr tt)
-
-        by : (short : Bool) → Holds (wanting_by g tries who number job short (act_at g tries job pairs (State.Placing target epoch)) (record { call = record { pairs = pairs; at = State.Placing target epoch }; places = p }))
-        by true = after
-        by false = after
-    over_stays short pairs (State.Finished outcome) p ok = inr ok
-    over_stays short pairs State.Start p ok = absurd ok
-    over_stays short pairs (State.Parts part parts after) p ok = absurd ok
-    over_stays short pairs (State.Chunk seen target) p ok = absurd ok
-    over_stays short pairs (State.Gather aim asking parts after) p ok = absurd ok
-    over_stays short pairs State.Drawing p ok = absurd ok
-    over_stays short pairs (State.Preparing stripe version server servers row later placed versions) p ok = absurd ok
-    over_stays short pairs (State.Committing versions placed) p ok = absurd ok
-    over_stays short pairs (State.Committed versions) p ok = absurd ok
-    over_stays short pairs (State.Confirming seen target) p ok = absurd ok
-    over_stays short pairs (State.Installing seen target) p ok = absurd ok
-    over_stays short pairs (State.Ending outcome) p ok = absurd ok
-
     -- ---- all steps
     one_step : (shortage : Shortage) (w : AtWork) → Holds w → Holds (wanting_step g tries who number job shortage w)
     one_step shortage w (inl ok) =
         let c : CallState = after_coding g tries who number job shortage.coding w.call in step_holds w.places ok.0 shortage.step c.pairs c.at (coded_fits shortage.coding w.call w.places.directory ok.1)
     one_step shortage w (inr over) =
-        subst (λ (c : CallState). Holds (wanting_by g tries who number job shortage.step (act_of_state g tries job c) (record { call = c; places = w.places }))) (sym (coded_over shortage.coding w.call.pairs w.call.at w.places.directory over))
-        (over_stays shortage.step w.call.pairs w.call.at w.places over)
+        subst (λ (c : CallState). Holds (wanting_by g tries who number job shortage.step (act_of_state g tries job c) (record { call = c; places = w.places }))) (sym (coded_over g tries who number Rebuilds known job shortage.coding w.call.pairs w.call.at w.places.directory over))
+        (inr (over_stays g tries who number Rebuilds known job shortage.step w.call.pairs w.call.at w.places over))
 
     all_steps : (shortages : List Shortage) (w : AtWork) → Holds w → Holds (wanting_steps g tries who number job shortages w)
     all_steps [] w ok = ok
     all_steps (shortage ∷ shortages) w ok = all_steps shortages (wanting_step g tries who number job shortage w) (one_step shortage w ok)
 
     -- ---- the end
-    abbrev NotShort : Act → Type 0
-    NotShort (Act.Finish outcome) = IsReplied outcome
-    NotShort _ = ⊤
-
-    not_short : (pairs : List (ℕ × ℕ)) (at : State) (d : Directory) → IsOver at d → NotShort (act_at g tries job pairs at)
-    not_short pairs (State.Settling point place places) d ok = tt
-    not_short pairs (State.Finished outcome) d ok = ok
-    not_short pairs State.Start d ok = absurd ok
-    not_short pairs (State.Parts part parts after) d ok = absurd ok
-    not_short pairs (State.Chunk seen target) d ok = absurd ok
-    not_short pairs (State.Gather aim asking parts after) d ok = absurd ok
-    not_short pairs State.Drawing d ok = absurd ok
-    not_short pairs (State.Preparing stripe version server servers row later placed versions) d ok = absurd ok
-    not_short pairs (State.Committing versions placed) d ok = absurd ok
-    not_short pairs (State.Committed versions) d ok = absurd ok
-    not_short pairs (State.Confirming seen target) d ok = absurd ok
-    not_short pairs (State.Installing seen target) d ok = absurd ok
-    not_short pairs (State.Placing target epoch) d ok = tt
-    not_short pairs (State.Ending outcome) d ok = absurd ok
-
     ends_unseen : (w : AtWork) → Holds w → act_of_state g tries job w.call ≡ Act.Finish Outcome.NoMemory → IsSeenAs g max stands w.places s
     ends_unseen w (inl ok) e = ok.0
-    ends_unseen w (inr over) e = absurd (subst NotShort e (not_short w.call.pairs w.call.at w.places.directory over))
+    ends_unseen w (inr over) e = absurd (over_replied g tries who number Rebuilds known job w.call.pairs w.call.at w.places.directory over e)
 
     ends_all : (shortages : List Shortage) (p : Places) → IsSeenAs g max stands p s → MayBegin p.directory who number × (count ≤ length p.directory.versions) →
         act_of_state g tries job (wanting_steps g tries who number job shortages (record { call = first_state; places = p })).call ≡ Act.Finish Outcome.NoMemory →

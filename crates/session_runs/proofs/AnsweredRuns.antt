@@ -1,5 +1,5 @@
 -- Requests one after another, in each of which memory may be wanting.
-use Rattle.std.proofs.Common.{◌≡◌, ℕ, ◌+◌, ◌<◌, Bool, true, false, List, [], ◌∷◌, length, refl, sym, ap, subst, ◌∙◌, inl, inr, if◌then◌else◌}
+use Rattle.std.proofs.Common.{◌≡◌, ℕ, ◌+◌, ◌<◌, Bool, true, false, List, [], ◌∷◌, length, take, Option, None, Some, refl, sym, ap, subst, ◌∙◌, inl, inr, if◌then◌else◌}
 use Rattle.clay_grid.specs.Shape.{Shape, stripe_length}
 use Rattle.clay_grid.specs.Limits.{IsGeometry}
 use Rattle.store_map.specs.declared.actor.Actor.TheVariants as actor
@@ -7,23 +7,28 @@ use Rattle.store_core.specs.Act.{Outcome}
 use Rattle.store_core.specs.NextAct.{job_of, rebuild_job}
 use Rattle.store_core.specs.Calls.{Calls}
 use Rattle.store_core.specs.Step.{Places}
-use Rattle.session_rules.specs.State.{State}
+use Rattle.session_rules.specs.State.{Snapshot, State}
 use Rattle.session_rules.specs.Request.{Request}
 use Rattle.session_rules.specs.Answer.{Answer}
 use Rattle.session_rules.specs.Heals.{to_heal, heal_all, numbers_last}
 use Rattle.session_rules.specs.Serve.{serve}
+use Rattle.session_rules.specs.Snapshots.{snap, snap_read}
 use Rattle.session_rules.specs.Shortages.{IsServed}
 use Rattle.session_laws.specs.Outcomes.{outcome_at}
 use Rattle.session_laws.specs.Rebuilds.{rebuilt_as}
 use Rattle.session_runs.specs.Between.{Seats, seats_after, IsBetween}
-use Rattle.session_runs.specs.Serving.{AreSweptTo, IsHealServed, IsServedBy, MayBeAsked, IsServedAlone}
+use Rattle.session_runs.specs.Snapshots.{end_all}
+use Rattle.session_runs.specs.Serving.{AreSweptTo, IsHealServed, IsSnapServed, IsSnapDropped, IsServedBy, MayBeAsked, IsServedAlone}
 use Rattle.session_runs.specs.Runs.{seats_after_all}
 use Rattle.session_runs.specs.AnsweredRuns.{IsCutBy, IsAnsweredBy, AreAnsweredBy, MayBeAnswers, RunsAreAnswered}
 use Rattle.session_runs.proofs.Ends.{same_ends, same_swept, same_rebuilt}
 use Rattle.session_runs.proofs.CallsAnswered.{wanting_between as call_wanting}
 use Rattle.session_runs.proofs.RebuildsAnswered.{wanting_between as rebuild_wanting}
 use Rattle.session_runs.proofs.HealsAnswered.{heal_answered}
-use Rattle.session_runs.proofs.Runs.{parity, requests_are_served}
+use Rattle.session_runs.proofs.Repairs.{has_parity}
+use Rattle.session_runs.proofs.KeptReadsServed.{same_read, read_cut}
+use Rattle.session_runs.proofs.SnapsCut.{snap_cut}
+use Rattle.session_runs.proofs.Runs.{requests_are_served}
 
 -- ---- what is done for a request leads to one end
 same_heal : (g : Shape) (tries : ℕ) (seats : Seats) (s : State) (before after other : Places) (last : Bool) →
@@ -31,6 +36,23 @@ same_heal : (g : Shape) (tries : ℕ) (seats : Seats) (s : State) (before after 
     IsHealServed g tries seats s before served.1 after → IsHealServed g tries seats s before served.1 other → after ≡ other)
 same_heal g tries seats s before after other true made also = same_rebuilt g tries (actor.Repairer seats.healer) (to_heal g s) s.next before after other made.0 also.0
 same_heal g tries seats s before after other false made also = made ∙ sym also
+
+same_snap : (seats : Seats) (s : State) (before after other : Places) (answer : Answer) → IsSnapServed seats s before answer after → IsSnapServed seats s before answer other → after ≡ other
+same_snap seats s before after other (Answer.Replied given) made also = made ∙ sym also
+same_snap seats s before after other (Answer.Unavailable stripe missing) made also = made ∙ sym also
+same_snap seats s before after other Answer.BadRequest made also = made ∙ sym also
+same_snap seats s before after other Answer.NoMemory made also = made ∙ sym also
+same_snap seats s before after other Answer.Rebuilt made also = made ∙ sym also
+same_snap seats s before after other Answer.Here made also = made ∙ sym also
+same_snap seats s before after other Answer.NoSnap made also = made ∙ sym also
+same_snap seats s before after other Answer.SnapOpen made also = made ∙ sym also
+same_snap seats s before after other (Answer.TooMany objects) made also = made ∙ sym also
+same_snap seats s before after other (Answer.Scrubbed lost) made also = made ∙ sym also
+same_snap seats s before after other (Answer.Healed rebuilt taken) made also = made ∙ sym also
+
+same_drop : (g : Shape) (seats : Seats) (found : Option Snapshot) (before after other : Places) → IsSnapDropped g seats found before after → IsSnapDropped g seats found before other → after ≡ other
+same_drop g seats None before after other made also = made ∙ sym also
+same_drop g seats (Some kept) before after other made also = same_swept g (end_all seats.looks (take (length kept.numbers) seats.readers) before) after other made also
 
 module _ (calls : Calls) (g : Shape) (max tries : ℕ) (seats : Seats) (s : State) (before after other : Places) where
   same_served : (request : Request) → MayBeAsked calls g seats s request → IsServedBy calls g max tries seats s request before (serve g max request s).1 after →
@@ -46,9 +68,9 @@ module _ (calls : Calls) (g : Shape) (max tries : ℕ) (seats : Seats) (s : Stat
       (same_ends g tries (actor.Repairer seats.repairer) seats.rebuilds (rebuild_job (record { name = name; stripe = stripe; server = server })) before after other outcome outcome made also).1
   same_served Request.Scrub may made also = made.1 ∙ sym also.1
   same_served Request.Heal may made also = same_heal g tries seats s before after other (numbers_last g s) made also
-  same_served Request.Snap may made also = absurd may
-  same_served (Request.SnapRead name offset count) may made also = absurd may
-  same_served Request.SnapDrop may made also = absurd may
+  same_served Request.Snap may made also = same_snap seats s before after other (snap s.snapshot s).1 made also
+  same_served (Request.SnapRead name offset count) may made also = same_read g calls seats name offset count s.snapshot before after other (snap_read g name offset count s.snapshot s).1 made also
+  same_served Request.SnapDrop may made also = same_drop g seats s.snapshot before after other made also
 
 -- ---- one request
 module _ (calls : Calls) (g : Shape) (max tries : ℕ) (some : 0 < stripe_length g) (fits : IsGeometry g) (tried : 0 < tries) where
@@ -68,18 +90,25 @@ module _ (calls : Calls) (g : Shape) (max tries : ℕ) (some : 0 < stripe_length
         (inr (refl, refl), (stands, call_wanting calls g max tries seats stands p after s call Outcome.NoMemory some tried h may run refl))
     cut_off (Request.Rebuild name stripe server) may now (same, run) =
         subst (λ (now : State). Goes seats s (Request.Rebuild name stripe server) (now, Answer.NoMemory) after) (sym same)
-        (inr (refl, refl), (stands, rebuild_wanting calls g max tries seats stands p after s name stripe server Outcome.NoMemory some (parity g fits) may h run refl))
+        (inr (refl, refl), (stands, rebuild_wanting calls g max tries seats stands p after s name stripe server Outcome.NoMemory some (has_parity g fits) may h run refl))
     cut_off Request.Heal may now cut =
         let so : IsServed g max Request.Heal s (now, Answer.NoMemory) × IsBetween calls g max seats stands after now =
-        heal_answered calls g max tries seats stands p after s now some (parity g fits) h cut in
+        heal_answered calls g max tries seats stands p after s now some (has_parity g fits) h cut in
         (so.0, (stands, so.1))
     cut_off Request.Scrub may now (same, there) =
         subst (λ (now : State). Goes seats s Request.Scrub (now, Answer.NoMemory) after) (sym same)
         (inr (refl, refl), (stands, subst (λ (q : Places). IsBetween calls g max seats stands q s) (sym there) h))
-    cut_off (Request.Lose server) may now cut = absurd cut
-    cut_off Request.Snap may now cut = absurd may
-    cut_off (Request.SnapRead name offset count) may now cut = absurd may
-    cut_off Request.SnapDrop may now cut = absurd may
+    cut_off (Request.Lose server) may now (same, there) =
+        subst (λ (now : State). Goes seats s (Request.Lose server) (now, Answer.NoMemory) after) (sym same)
+        (inr (refl, refl), (stands, subst (λ (q : Places). IsBetween calls g max seats stands q s) (sym there) h))
+    cut_off Request.Snap may now (same, cut) =
+        subst (λ (now : State). Goes seats s Request.Snap (now, Answer.NoMemory) after) (sym same) (inr (refl, refl), (stands, snap_cut calls g max tries seats stands p s some h may after cut))
+    cut_off (Request.SnapRead name offset count) may now (same, cut) =
+        subst (λ (now : State). Goes seats s (Request.SnapRead name offset count) (now, Answer.NoMemory) after) (sym same)
+        (inr (refl, refl), (stands, read_cut calls g max tries seats stands p s some h name offset count after s.snapshot cut))
+    cut_off Request.SnapDrop may now (same, there) =
+        subst (λ (now : State). Goes seats s Request.SnapDrop (now, Answer.NoMemory) after) (sym same)
+        (inr (refl, refl), (stands, subst (λ (q : Places). IsBetween calls g max seats stands q s) (sym there) h))
 
     goes : (request : Request) → MayBeAsked calls g seats s request → (served : State × Answer) → IsAnsweredBy calls g max tries seats s request p served after → Goes seats s request served after
     goes request may served (inl (same, made)) =

@@ -28,6 +28,8 @@ use Rattle.session_runs.specs.Answering.{RunsTo, IsAnswered, CallsAreAnswered}
 use Rattle.session_runs.proofs.CallSeats.{call_seated}
 use Rattle.session_runs.proofs.Doomed.{call_ends_either}
 use Rattle.session_runs.proofs.Kept.{begins, steps_leave}
+use Rattle.session_runs.proofs.Leaving.{steps_leave as steps_keep}
+use Rattle.session_runs.proofs.Readers.{client_apart, holds_after}
 use Rattle.session_runs.proofs.Ends.{same_ends, same_swept}
 use Rattle.session_runs.proofs.Rests.{Rests, swept_to, between_swept}
 use Rattle.session_runs.proofs.Clients.{of_client, call_served}
@@ -95,6 +97,12 @@ module _ (calls : Calls) (g : Shape) (max tries : ℕ) (seats : Seats) (stands :
         repairer = other seats.repairer seats.rebuilds h.repairer;
         healer = other seats.healer s.next h.healer;
         apart = h.apart;
+        readers = h.readers;
+        snapshot =
+            holds_after calls g max seats.readers seats.looks stands stands p s some h.seen h.snapshot (actor.Client seats.client) (client_apart seats.client seats.readers h.readers)
+            (wanting_steps g tries (actor.Client seats.client) seats.calls (job_of c) run.shortages (record { call = first_state; places = p })).places.directory
+            (λ P keeps its. steps_keep P (actor.Client seats.client) keeps g tries seats.calls (job_of c) run.shortages (record { call = first_state; places = p }) its)
+            (call_seated g tries (actor.Client seats.client) seats.calls c p run.shortages Outcome.NoMemory h.client over).no_pass (λ n e. refl);
       }
 
       there : clean.after ≡ after

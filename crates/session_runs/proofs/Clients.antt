@@ -1,6 +1,7 @@
 -- Calls of the map: each leads from places between two requests to such places.
-use Rattle.std.proofs.Common.{◌≡◌, ℕ, ◌+◌, ◌<◌, ◌≤◌, true, false, List, ◌++◌, length, Some, refl, sym, ap, subst, subst₂, inl, inr, arith, if◌then◌else◌, nat_lt}
+use Rattle.std.proofs.Common.{◌≡◌, ℕ, ◌+◌, ◌-◌, ◌<◌, ◌≤◌, true, false, List, ◌++◌, length, Some, refl, sym, ap, subst, subst₂, inl, inr, arith, if◌then◌else◌, nat_lt}
 use Rattle.std.specs.Bool.{⊤}
+use Rattle.std.specs.List.{range_with_len}
 use Rattle.std.proofs.lemmas.Bool.{ltb-false}
 use Rattle.clay_grid.specs.Shape.{Shape, stripe_length}
 use Rattle.store_map.specs.Content.{content_bytes, content_length}
@@ -11,6 +12,7 @@ use Rattle.store_map.specs.declared.call.Call.TheVariants as call
 use Rattle.store_map.specs.declared.content.Content.{Content}
 use Rattle.store_map.specs.declared.reply.Reply.{Reply}
 use Rattle.store_map.specs.declared.reply.Reply.TheVariants as reply
+use Rattle.store_core.specs.Lists.{is_among}
 use Rattle.store_core.specs.Note.{Kind, note_of}
 use Rattle.store_core.specs.NextAct.{job_of}
 use Rattle.store_core.specs.Calls.{Calls}
@@ -23,7 +25,7 @@ use Rattle.session_rules.specs.State.{State}
 use Rattle.session_rules.specs.Request.{Request}
 use Rattle.session_rules.specs.Calls.{is_refusal, serve_call}
 use Rattle.session_laws.specs.Alone.{EndsAs}
-use Rattle.session_laws.specs.Seen.{IsSeenAs, IsQuiet}
+use Rattle.session_laws.specs.Seen.{version_of, snapshot_numbers, IsSeenAs, IsQuiet}
 use Rattle.session_laws.specs.Sweeps.{KeepsPinned}
 use Rattle.session_laws.specs.Quiet.{IsSettled, AreSwept}
 use Rattle.session_laws.specs.Outcomes.{outcome_at}
@@ -42,11 +44,14 @@ use Rattle.session_laws.proofs.Settled.{quiet_is_settled}
 use Rattle.session_bytes.proofs.Maps.{bytes_are_owed}
 use Rattle.session_bytes.proofs.CallLeft.{calls_leave_maps}
 use Rattle.session_runs.specs.Seats.{MayBeginFrom}
+use Rattle.session_runs.specs.Readers.{HoldsSnapshot}
 use Rattle.session_runs.specs.Between.{Seats, seats_after, IsBetween}
 use Rattle.session_runs.specs.Serving.{OwesBytes, IsServedAlone}
 use Rattle.session_runs.proofs.Kept.{begins, call_leaves, call_ended}
 use Rattle.session_runs.proofs.Rests.{Rests, swept_to, between_swept}
-use Rattle.session_runs.proofs.Answers.{call_next, refused_state, get_state, read_state, stat_state}
+use Rattle.session_runs.proofs.Leaving.{call_leaves as call_keeps}
+use Rattle.session_runs.proofs.Readers.{client_apart, same_stood, holds_after}
+use Rattle.session_runs.proofs.Answers.{call_next, call_snapshot, refused_state, get_state, read_state, stat_state}
 
 -- a client's calls aren't rebuilds
 abbrev IsOther : Kind → Type 0
@@ -77,7 +82,8 @@ module _ (calls : Calls) (g : Shape) (max tries : ℕ) (seats : Seats) (stands :
 
     -- the call has ended, and left settled places; the sweeper goes on
     module _ (stood : List ℕ) (left : Places) (ends : EndsAs g tries (actor.Client seats.client) seats.calls (job_of c) p (outcome_at (length p.directory.points) (serve_call g max c s).1) left)
-        (seen : IsSeenAs g max stood left (serve_call g max c s).0) (pinned : KeepsPinned stood left (serve_call g max c s).0) (still : IsSettled stood left (serve_call g max c s).0) where
+        (seen : IsSeenAs g max stood left (serve_call g max c s).0) (pinned : KeepsPinned stood left (serve_call g max c s).0) (still : IsSettled stood left (serve_call g max c s).0)
+        (alike : (n : ℕ) → is_among n (snapshot_numbers s.snapshot) ≡ true → version_of stood n ≡ version_of stands n) where
       abbrev now : State
       now = (serve_call g max c s).0
 
@@ -97,6 +103,12 @@ module _ (calls : Calls) (g : Shape) (max tries : ℕ) (seats : Seats) (stands :
         repairer = other seats.repairer seats.rebuilds h.repairer;
         healer = subst (MayBeginFrom left.directory (actor.Repairer seats.healer)) (sym (call_next g max s c)) (other seats.healer s.next h.healer);
         apart = h.apart;
+        readers = h.readers;
+        snapshot =
+            subst (HoldsSnapshot calls g seats.readers seats.looks stood left.directory) (sym (call_snapshot g max s c))
+            (holds_after calls g max seats.readers seats.looks stands stood p s some h.seen h.snapshot (actor.Client seats.client) (client_apart seats.client seats.readers h.readers) left.directory
+            (λ P keeps its. call_keeps P (actor.Client seats.client) keeps g tries seats.calls (job_of c) p left (outcome_at (length p.directory.points) (serve_call g max c s).1) ends its)
+            (call_ended g tries (actor.Client seats.client) seats.calls c p left (outcome_at (length p.directory.points) (serve_call g max c s).1) ends h.client).no_pass alike);
       }
 
       swept : IsServedAlone calls g max tries seats s (Request.OfMap c) p
@@ -112,7 +124,7 @@ module _ (calls : Calls) (g : Shape) (max tries : ℕ) (seats : Seats) (stands :
     unseen served same =
         let quiet : IsQuiet stands served.after (serve_call g max c s).0 = served.quiet (subst (IsQuiet stands p) (sym same) h.quiet) in
         let pinned : KeepsPinned stands served.after (serve_call g max c s).0 = served.pinned (subst (KeepsPinned stands p) (sym same) h.pinned) in
-        swept stands served.after served.ends served.seen pinned (quiet_is_settled g max stands served.after (serve_call g max c s).0 served.seen pinned quiet)
+        swept stands served.after served.ends served.seen pinned (quiet_is_settled g max stands served.after (serve_call g max c s).0 served.seen pinned quiet) (λ n e. refl)
 
   put_served : (name : List ℕ) (content : Content) → calls (actor.Client seats.client) seats.calls ≡ Some (call.Put name content) → IsServedAlone calls g max tries seats s (Request.OfMap (call.Put name content)) p
   put_served name content is = by_bool (nat_lt max (content_length content)) large small
@@ -134,6 +146,7 @@ module _ (calls : Calls) (g : Shape) (max tries : ℕ) (seats : Seats) (stands :
           let still : IsSettledAfter g max stands p s (actor.Client seats.client) seats.calls name content =
           puts_are_settled g max stands p s (actor.Client seats.client) seats.calls name content some h.seen h.pinned settled begin (of_client seats.client (call.Put name content)) few in
           swept (call.Put name content) is (stands ++ drawn_by (actor.Client seats.client) seats.calls (note_of (call.Put name content)) p) _ written.ends written.seen still.pinned still.settled
+          (same_stood g max stands p s some h.seen (drawn_by (actor.Client seats.client) seats.calls (note_of (call.Put name content)) p))
 
   write_served : (name : List ℕ) (offset : ℕ) (content : Content) → calls (actor.Client seats.client) seats.calls ≡ Some (call.Write name offset content) →
       IsServedAlone calls g max tries seats s (Request.OfMap (call.Write name offset content)) p
@@ -151,6 +164,7 @@ module _ (calls : Calls) (g : Shape) (max tries : ℕ) (seats : Seats) (stands :
           writes_are_served g max tries stands p s (actor.Client seats.client) seats.calls name offset content some tried h.seen begin (of_client seats.client (call.Write name offset content)) e in
           swept (call.Write name offset content) is (stands_after stands p s (serve_call g max (call.Write name offset content) s).0) written.after written.ends written.seen (written.pinned h.pinned)
           (written.settled settled)
+          (same_stood g max stands p s some h.seen (range_with_len (length p.directory.versions) (length (serve_call g max (call.Write name offset content) s).0.stripes - length s.stripes)))
 
   pub call_served : (c : Call) → calls (actor.Client seats.client) seats.calls ≡ Some c → IsServedAlone calls g max tries seats s (Request.OfMap c) p
   call_served (call.Put name content) is = put_served name content is
@@ -167,4 +181,4 @@ module _ (calls : Calls) (g : Shape) (max tries : ℕ) (seats : Seats) (stands :
   call_served (call.Delete name) is =
       let gone : IsDeletedAs g max tries (actor.Client seats.client) seats.calls (call.Delete name) stands p s (serve_call g max (call.Delete name) s) =
       deletes_are_served g max tries stands p s (actor.Client seats.client) seats.calls name some h.seen begin (of_client seats.client (call.Delete name)) in
-      swept (call.Delete name) is stands gone.after gone.ends gone.seen (gone.pinned h.pinned) (gone.settled settled)
+      swept (call.Delete name) is stands gone.after gone.ends gone.seen (gone.pinned h.pinned) (gone.settled settled) (λ n e. refl)

@@ -25,48 +25,37 @@ use Rattle.session_laws.proofs.Wants.{same_directory}
 use Rattle.session_bytes.proofs.CallLeft.{none_short, ample}
 use Rattle.session_runs.specs.Seats.{MayBeginFrom, SeatsAreKept}
 use Rattle.session_runs.proofs.CallSeats.{call_seated, rebuild_seated}
+use Rattle.session_runs.proofs.Leaving.{IsKeptBy}
+use Rattle.session_runs.proofs.Leaving.{act_leaves as act_keeps, steps_leave as steps_keep, call_leaves as call_keeps, rebuilds_leave as rebuilds_keep, sweeps_leave as sweeps_keep}
 
 -- ---- the other actors' seats
 module _ (other : Actor) (unused : ℕ) where
-  abbrev Sits : Places → Type 0
-  Sits p = MayBeginFrom p.directory other unused
+  abbrev Sits : Directory → Type 0
+  Sits d = MayBeginFrom d other unused
 
-  -- one step of another actor
-  pub act_leaves : (short : Bool) (who : Actor) (number : ℕ) (act : Act) (p : Places) → same_actor who other ≡ false → Sits p → Sits (at_places short who number act p).0
-  act_leaves short who number (Act.AtDirectory step) p apart seat = others_agree short who number step p.directory (ActorToken.Seated (record { actor = other; unused = unused; told = None })) apart seat
-  act_leaves short who number (Act.AtServer server step) p apart seat =
-      subst (λ (d : Directory). MayBeginFrom d other unused) (sym (same_directory short server step p (slice_get p.servers server))) seat
-  act_leaves short who number (Act.Finish outcome) p apart seat = seat
+  -- each step of another actor leaves the seat
+  pub sits_on : (who : Actor) → same_actor who other ≡ false → IsKeptBy Sits who
+  sits_on who apart short number step d seat = others_agree short who number step d (ActorToken.Seated (record { actor = other; unused = unused; told = None })) apart seat
+
+  pub act_leaves : (short : Bool) (who : Actor) (number : ℕ) (act : Act) (p : Places) → same_actor who other ≡ false → Sits p.directory → Sits (at_places short who number act p).0.directory
+  act_leaves short who number act p apart seat = act_keeps Sits who (sits_on who apart) short number act p seat
 
   -- its call
   module _ (g : Shape) (tries : ℕ) (who : Actor) (number : ℕ) (job : Job) (apart : same_actor who other ≡ false) where
-    step_leaves : (short : Bool) (act : Act) (w : AtWork) → Sits w.places → Sits (wanting_by g tries who number job short act w).places
-    step_leaves short (Act.AtDirectory step) w seat = act_leaves short who number (Act.AtDirectory step) w.places apart seat
-    step_leaves short (Act.AtServer server step) w seat = act_leaves short who number (Act.AtServer server step) w.places apart seat
-    step_leaves short (Act.Finish outcome) w seat = seat
+    pub steps_leave : (shortages : List Shortage) (w : AtWork) → Sits w.places.directory → Sits (wanting_steps g tries who number job shortages w).places.directory
+    steps_leave shortages w seat = steps_keep Sits who (sits_on who apart) g tries number job shortages w seat
 
-    pub steps_leave : (shortages : List Shortage) (w : AtWork) → Sits w.places → Sits (wanting_steps g tries who number job shortages w).places
-    steps_leave [] w seat = seat
-    steps_leave (shortage ∷ shortages) w seat =
-        let call : CallState = after_coding g tries who number job shortage.coding w.call in
-        steps_leave shortages (wanting_step g tries who number job shortage w) (step_leaves shortage.step (act_of_state g tries job call) (record { call = call; places = w.places }) seat)
-
-    pub call_leaves : (before after : Places) (outcome : Outcome) → EndsAs g tries who number job before outcome after → Sits before → Sits after
-    call_leaves before after outcome ends seat =
-        subst Sits (ap (λ (w : AtWork). w.places) (sym (ample g tries who number job ends.made (record { call = first_state; places = before }))) ∙ ends.leaves)
-        (steps_leave (replicate ends.made none_short) (record { call = first_state; places = before }) seat)
+    pub call_leaves : (before after : Places) (outcome : Outcome) → EndsAs g tries who number job before outcome after → Sits before.directory → Sits after.directory
+    call_leaves before after outcome ends seat = call_keeps Sits who (sits_on who apart) g tries number job before after outcome ends seat
 
   -- a repairer's calls one after another
   pub rebuilds_leave : (g : Shape) (tries : ℕ) (who : Actor) → same_actor who other ≡ false → (chunks : List LostChunk) (number : ℕ) (before after : Places) →
-      AreRebuilt g tries who number chunks before after → Sits before → Sits after
-  rebuilds_leave g tries who apart [] number before after same seat = subst Sits same seat
-  rebuilds_leave g tries who apart (chunk ∷ chunks) number before after (between, ends, rest) seat =
-      rebuilds_leave g tries who apart chunks (number + 1) between after rest (call_leaves g tries who number (rebuild_job (rebuild_of chunk)) apart before between Outcome.Rebuilt ends seat)
+      AreRebuilt g tries who number chunks before after → Sits before.directory → Sits after.directory
+  rebuilds_leave g tries who apart chunks number before after made seat = rebuilds_keep Sits who (sits_on who apart) g tries chunks number before after made seat
 
   -- the sweeper
-  pub sweeps_leave : same_actor actor.Sweeper other ≡ false → (g : Shape) (made : ℕ) (w : Sweeping) → Sits w.places → Sits (sweeps g made w).places
-  sweeps_leave apart g zero w seat = seat
-  sweeps_leave apart g (suc made) w seat = sweeps_leave apart g made (sweep g w) (act_leaves false actor.Sweeper 0 (next_sweep (chunk_count g) w.sweeper) w.places apart seat)
+  pub sweeps_leave : same_actor actor.Sweeper other ≡ false → (g : Shape) (made : ℕ) (w : Sweeping) → Sits w.places.directory → Sits (sweeps g made w).places.directory
+  sweeps_leave apart g made w seat = sweeps_keep Sits (sits_on actor.Sweeper apart) g made w seat
 
 -- a call that has ended leaves its own actor's seat, with the next number
 module _ (g : Shape) (tries : ℕ) (who : Actor) (number : ℕ) where

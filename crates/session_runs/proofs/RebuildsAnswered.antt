@@ -27,7 +27,7 @@ use Rattle.session_runs.proofs.Doomed.{rebuild_ends_either}
 use Rattle.session_runs.proofs.Ends.{same_ends, same_swept}
 use Rattle.session_runs.proofs.Rests.{Rests, swept_to, between_swept}
 use Rattle.session_runs.proofs.Repairs.{rebuild_served}
-use Rattle.session_runs.proofs.WantingRebuild.{clean, seen_left, map_left, own, other}
+use Rattle.session_runs.proofs.WantingRebuild.{clean, seen_left, map_left, own, other, readers_left}
 
 module _ (calls : Calls) (g : Shape) (max tries : ℕ) (seats : Seats) (stands : List ℕ) (p after : Places) (s : State) (name : List ℕ) (stripe server : ℕ) (outcome : Outcome) (some : 0 < stripe_length g)
     (parity : 0 < g.parity_count) (less : server < chunk_count g) (h : IsBetween calls g max seats stands p s)
@@ -90,6 +90,8 @@ module _ (calls : Calls) (g : Shape) (max tries : ℕ) (seats : Seats) (stands :
       repairer = own calls g max tries seats stands p s some h seats.repairer seats.rebuilds h.repairer it less run.shortages over;
       healer = beside (actor.Repairer seats.healer) s.next (ne_eqb seats.repairer seats.healer h.apart) h.healer;
       apart = h.apart;
+      readers = h.readers;
+      snapshot = readers_left calls g max tries seats stands p s some h seats.repairer seats.rebuilds h.repairer it less run.shortages over;
     }
 
     there : swept.after ≡ after

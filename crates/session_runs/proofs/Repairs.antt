@@ -1,5 +1,5 @@
 -- Rebuilds, losses, scrubs and heals: each leads from places between two requests to such places.
-use Rattle.std.proofs.Common.{◌≡◌, ℕ, zero, suc, ◌+◌, ◌-◌, ◌^◌, ◌<◌, Bool, true, false, List, [], ◌∷◌, length, get_or, map, take, replicate, slice_get, Some, refl, sym, ap, subst, ◌∙◌, arith, if◌then◌else◌, ne_eqb}
+use Rattle.std.proofs.Common.{◌≡◌, ℕ, zero, suc, ◌+◌, ◌-◌, ◌^◌, ◌<◌, ◌≤◌, Bool, true, false, List, [], ◌∷◌, length, get_or, map, take, replicate, slice_get, Some, refl, sym, ap, subst, ◌∙◌, arith, if◌then◌else◌, ne_eqb}
 use Rattle.std.proofs.lemmas.List.{take_all}
 use Rattle.clay_grid.specs.Shape.{Shape, chunk_count, stripe_length}
 use Rattle.clay_grid.specs.Limits.{IsGeometry}
@@ -26,14 +26,22 @@ use Rattle.session_laws.proofs.Scrubs.{scrubs_are_seen}
 use Rattle.session_laws.proofs.RebuildAlone.{rebuilds_are_served}
 use Rattle.session_laws.proofs.HealAlone.{heals_are_served}
 use Rattle.session_laws.proofs.HealTakes.{heals_are_taken}
+use Rattle.session_laws.proofs.Wants.{same_directory}
 use Rattle.session_bytes.proofs.CallLeft.{rebuilds_leave_maps}
 use Rattle.session_bytes.proofs.HealMaps.{heals_leave_maps}
 use Rattle.session_bytes.proofs.Sweeps.{sweeps_leave_maps}
 use Rattle.session_runs.specs.Seats.{MayBeginFrom}
+use Rattle.session_runs.specs.Readers.{HoldsSnapshot}
 use Rattle.session_runs.specs.Between.{Seats, IsBetween}
 use Rattle.session_runs.specs.Serving.{IsHealServed, IsServedAlone}
 use Rattle.session_runs.proofs.Kept.{begins, act_leaves, call_leaves, rebuild_ended, rebuilds_leave, rebuilds_seat}
-use Rattle.session_runs.proofs.Answers.{rebuild_next}
+use Rattle.session_runs.proofs.Leaving.{call_leaves as call_keeps, rebuilds_leave as rebuilds_keep}
+use Rattle.session_runs.proofs.Readers.{holds_after}
+use Rattle.session_runs.proofs.Answers.{rebuild_next, rebuild_snapshot, healed_snapshot}
+
+-- a shape within the limits has parity chunks
+pub has_parity : (g : Shape) → IsGeometry g → 0 < g.parity_count
+has_parity g fits = let two : 2 ≤ g.parity_count = fits.limits.parity_chunks.0 in omega (arith, two)
 
 -- a server that there is
 server_there : (servers : List Server) (n : ℕ) → n < length servers → (at : Server) × (slice_get servers n ≡ Some at) × (get_or (map (λ (server : Server). server.epoch) servers) n 0 ≡ at.epoch)
@@ -75,6 +83,12 @@ module _ (calls : Calls) (g : Shape) (max tries : ℕ) (seats : Seats) (stands :
             subst (MayBeginFrom made.after.directory (actor.Repairer seats.healer)) (sym (rebuild_next g stripe server s (numbers_of name s.numbers)))
             (other (actor.Repairer seats.healer) s.next (ne_eqb seats.repairer seats.healer h.apart) h.healer);
         apart = h.apart;
+        readers = h.readers;
+        snapshot =
+            subst (HoldsSnapshot calls g seats.readers seats.looks stands made.after.directory) (sym (rebuild_snapshot g stripe server s (numbers_of name s.numbers)))
+            (holds_after calls g max seats.readers seats.looks stands stands p s some h.seen h.snapshot (actor.Repairer seats.repairer) refl made.after.directory
+            (λ P keeps its. call_keeps P (actor.Repairer seats.repairer) keeps g tries seats.rebuilds (rebuild_job c) p made.after (rebuilt_as served.1) made.ends its)
+            (rebuild_ended g tries (actor.Repairer seats.repairer) seats.rebuilds c p made.after (rebuilt_as served.1) made.ends h.repairer).no_pass (λ n e. refl));
       };
     }
 
@@ -97,6 +111,9 @@ module _ (calls : Calls) (g : Shape) (max tries : ℕ) (seats : Seats) (stands :
           repairer = act_leaves (actor.Repairer seats.repairer) seats.rebuilds false actor.Operator 0 (Act.AtServer server ServerStep.Wipe) p refl h.repairer;
           healer = act_leaves (actor.Repairer seats.healer) s.next false actor.Operator 0 (Act.AtServer server ServerStep.Wipe) p refl h.healer;
           apart = h.apart;
+          readers = h.readers;
+          snapshot =
+              subst (λ d. HoldsSnapshot calls g seats.readers seats.looks stands d s.snapshot) (sym (same_directory false server ServerStep.Wipe p (slice_get p.servers server))) h.snapshot;
         };
       }
 
@@ -130,6 +147,12 @@ module _ (calls : Calls) (g : Shape) (max tries : ℕ) (seats : Seats) (stands :
           healed.rebuilt h.repairer;
       healer = rebuilds_seat g tries (actor.Repairer seats.healer) (take count (to_heal g s)) s.next p healed.after healed.rebuilt h.healer;
       apart = h.apart;
+      readers = h.readers;
+      snapshot =
+          subst (HoldsSnapshot calls g seats.readers seats.looks stands healed.after.directory) (sym (healed_snapshot g count s))
+          (holds_after calls g max seats.readers seats.looks stands stands p s some h.seen h.snapshot (actor.Repairer seats.healer) refl healed.after.directory
+          (λ P keeps its. rebuilds_keep P (actor.Repairer seats.healer) keeps g tries (take count (to_heal g s)) s.next p healed.after healed.rebuilt its)
+          (rebuilds_seat g tries (actor.Repairer seats.healer) (take count (to_heal g s)) s.next p healed.after healed.rebuilt h.healer).no_pass (λ n e. refl));
     }
 
   abbrev count : ℕ
@@ -139,16 +162,16 @@ module _ (calls : Calls) (g : Shape) (max tries : ℕ) (seats : Seats) (stands :
   all_healed = take_all (length (to_heal g s)) (to_heal g s) (omega arith)
 
   -- what the healing seat's calls lead to
-  abbrev Heals : State × Answer → Type 0
+  abbrev pub Heals : State × Answer → Type 0
   Heals served = (after : Places) × IsHealServed g tries seats s p served.1 after × IsBetween calls g max seats stands after served.0
 
   -- by whether the seat's numbers last
-  abbrev heal_by : Bool → State × Answer
+  abbrev pub heal_by : Bool → State × Answer
   heal_by last =
       if last then (record ((heal_all g (to_heal g s) s).0) { next = s.next + length (to_heal g s) }, Answer.Healed (length (to_heal g s)) (heal_all g (to_heal g s) s).1)
       else (s, Answer.BadRequest)
 
-  heals_by : IsGeometry g → (last : Bool) → Heals (heal_by last)
+  pub heals_by : IsGeometry g → (last : Bool) → Heals (heal_by last)
   heals_by fits false = (p, refl, h)
   heals_by fits true = (
     (healed count).after,

@@ -21,9 +21,12 @@ use Rattle.session_laws.proofs.WantsSettled.{wants_are_swept}
 use Rattle.session_bytes.specs.Maps.{IsMapOf}
 use Rattle.session_bytes.proofs.CallLeft.{rebuilds_leave_maps}
 use Rattle.session_runs.specs.Seats.{MayBeginFrom}
+use Rattle.session_runs.specs.Readers.{HoldsSnapshot}
 use Rattle.session_runs.specs.Between.{Seats, IsBetween}
 use Rattle.session_runs.proofs.CallSeats.{rebuild_seated}
 use Rattle.session_runs.proofs.Kept.{begins, steps_leave}
+use Rattle.session_runs.proofs.Leaving.{steps_leave as steps_keep}
+use Rattle.session_runs.proofs.Readers.{holds_after}
 
 module _ (calls : Calls) (g : Shape) (max tries : ℕ) (seats : Seats) (stands : List ℕ) (p : Places) (s : State) (some : 0 < stripe_length g) (h : IsBetween calls g max seats stands p s) (r number : ℕ)
     (seat : MayBeginFrom p.directory (actor.Repairer r) number) (c : RebuildCall) (less : c.server < chunk_count g) (shortages : List Shortage)
@@ -48,3 +51,8 @@ module _ (calls : Calls) (g : Shape) (max tries : ℕ) (seats : Seats) (stands :
 
   pub other : (who : Actor) (unused : ℕ) → same_actor (actor.Repairer r) who ≡ false → MayBeginFrom p.directory who unused → MayBeginFrom left.directory who unused
   other who unused apart its = steps_leave who unused g tries (actor.Repairer r) number (rebuild_job c) apart shortages (record { call = first_state; places = p }) its
+
+  pub readers_left : HoldsSnapshot calls g seats.readers seats.looks stands left.directory s.snapshot
+  readers_left =
+      holds_after calls g max seats.readers seats.looks stands stands p s some h.seen h.snapshot (actor.Repairer r) refl left.directory
+      (λ P keeps its. steps_keep P (actor.Repairer r) keeps g tries number (rebuild_job c) shortages (record { call = first_state; places = p }) its) own.no_pass (λ n e. refl)

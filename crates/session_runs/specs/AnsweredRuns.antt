@@ -1,24 +1,44 @@
 -- Requests of a session one after another, in each of which memory may be wanting.
-use Rattle.std.specs.Prelude.{◌≡◌, ◌⊎◌, ℕ, ◌<◌, List, [], ◌∷◌}
+use Rattle.std.specs.Prelude.{◌≡◌, ◌⊎◌, ℕ, ◌<◌, List, [], ◌∷◌, length, take, Option, None, Some}
 use Rattle.clay_grid.specs.Shape.{Shape, stripe_length}
 use Rattle.clay_grid.specs.Limits.{IsGeometry}
+use Rattle.store_map.specs.Laws.{names_of}
 use Rattle.store_map.specs.declared.actor.Actor.TheVariants as actor
 use Rattle.store_map.specs.declared.call.Rebuild.{Rebuild as RebuildCall}
 use Rattle.store_core.specs.Act.{Outcome}
 use Rattle.store_core.specs.NextAct.{job_of, rebuild_job}
 use Rattle.store_core.specs.Calls.{Calls}
-use Rattle.store_core.specs.Step.{Places}
-use Rattle.session_rules.specs.State.{State}
+use Rattle.store_core.specs.Step.{Shortage, Places}
+use Rattle.session_rules.specs.State.{Snapshot, State}
 use Rattle.session_rules.specs.Request.{Request}
 use Rattle.session_rules.specs.Answer.{Answer}
 use Rattle.session_rules.specs.Serve.{serve}
+use Rattle.session_rules.specs.Snapshots.{snap}
 use Rattle.session_rules.specs.Shortages.{IsServed}
 use Rattle.session_runs.specs.Between.{Seats, seats_after, IsBetween}
+use Rattle.session_runs.specs.Reading.{begun, reading_steps}
+use Rattle.session_runs.specs.Snapshots.{look_all, end_all, kept_parts}
 use Rattle.session_runs.specs.Serving.{IsServedBy, MayBeAsked}
 use Rattle.session_runs.specs.Runs.{seats_after_all}
 use Rattle.session_runs.specs.Answering.{RunsTo, IsCutOff}
 
--- a request for which memory was wanting, and the state that it leaves: its call ended so, a heal was cut off, or nothing was done
+-- where a snapshot would be taken the first so many looks were made, and their passes were ended; elsewhere nothing was done
+abbrev pub IsSnapCut : Seats → State → Answer → Places → Places → Type 0
+IsSnapCut seats s (Answer.Replied answer) before after =
+    (made : ℕ)
+    × (let names : List (List ℕ) = take made (names_of s.objects) in
+    after ≡ end_all seats.looks (take (length names) seats.readers) (look_all seats.looks seats.readers names before))
+IsSnapCut seats s answer before after = after ≡ before
+
+-- a read of the snapshot that is open made some steps, wherever memory was wanting
+abbrev pub IsReadCut : Shape → List ℕ → List ℕ → ℕ → ℕ → Option Snapshot → Places → Places → Type 0
+IsReadCut g readers name offset count None before after = after ≡ before
+IsReadCut g readers name offset count (Some kept) before after =
+    (shortages : List Shortage)
+    × (after ≡ (reading_steps g shortages (begun g (kept_parts g readers before.directory kept name offset count) before)).places)
+
+-- a request for which memory was wanting, and the state that it leaves: its call ended so, a heal was cut off, the passes of a snapshot's looks were
+-- ended again, a read of a snapshot was cut off, or nothing was done
 abbrev pub IsCutBy : Shape → ℕ → Seats → State → Request → Places → State → Places → Type 0
 IsCutBy g tries seats s (Request.OfMap call) before now after =
     (now ≡ s) × RunsTo g tries (actor.Client seats.client) seats.calls (job_of call) before Outcome.NoMemory after
@@ -27,7 +47,11 @@ IsCutBy g tries seats s (Request.Rebuild name stripe server) before now after =
     (now ≡ s) × RunsTo g tries (actor.Repairer seats.repairer) seats.rebuilds (rebuild_job call) before Outcome.NoMemory after
 IsCutBy g tries seats s Request.Heal before now after = IsCutOff g tries seats s before now after
 IsCutBy g tries seats s Request.Scrub before now after = (now ≡ s) × (after ≡ before)
-IsCutBy g tries seats s request before now after = ⊥
+IsCutBy g tries seats s (Request.Lose server) before now after = (now ≡ s) × (after ≡ before)
+IsCutBy g tries seats s Request.Snap before now after = (now ≡ s) × IsSnapCut seats s (snap s.snapshot s).1 before after
+IsCutBy g tries seats s (Request.SnapRead name offset count) before now after =
+    (now ≡ s) × IsReadCut g seats.readers name offset count s.snapshot before after
+IsCutBy g tries seats s Request.SnapDrop before now after = (now ≡ s) × (after ≡ before)
 
 -- a request is served with ample memory, or memory was wanting; the state after it, and the answer
 abbrev pub IsAnsweredBy : Calls → Shape → ℕ → ℕ → Seats → State → Request → Places → State × Answer → Places → Type 0

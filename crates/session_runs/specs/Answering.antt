@@ -1,7 +1,8 @@
 -- Requests in which memory may be wanting: each is served as the session answers, or is answered that memory was wanting.
-use Rattle.std.specs.Prelude.{◌≡◌, ◌⊎◌, ℕ, ◌+◌, ◌≤◌, ◌<◌, List, length, take, Some, IsTrue}
+use Rattle.std.specs.Prelude.{◌≡◌, ◌⊎◌, ℕ, ◌+◌, ◌≤◌, ◌<◌, List, [], ◌∷◌, length, take, Some, IsTrue}
 use Rattle.std.specs.List.{slice_get}
 use Rattle.clay_grid.specs.Shape.{Shape, chunk_count, stripe_length}
+use Rattle.clay_grid.specs.Limits.{IsGeometry}
 use Rattle.store_map.specs.declared.actor.Actor.{Actor}
 use Rattle.store_map.specs.declared.actor.Actor.TheVariants as actor
 use Rattle.store_map.specs.declared.call.Call.{Call}
@@ -10,16 +11,20 @@ use Rattle.store_core.specs.Act.{Outcome}
 use Rattle.store_core.specs.NextAct.{Job, job_of, rebuild_job}
 use Rattle.store_core.specs.Calls.{Calls}
 use Rattle.store_core.specs.Step.{Shortage, Places}
-use Rattle.session_rules.specs.State.{State}
+use Rattle.store_resume.specs.State.{State as CallAt}
+use Rattle.session_rules.specs.State.{Snapshot, State}
 use Rattle.session_rules.specs.Request.{Request}
 use Rattle.session_rules.specs.Answer.{LostChunk, Answer}
 use Rattle.session_rules.specs.Heals.{to_heal, numbers_last}
+use Rattle.session_rules.specs.Serve.{serve}
 use Rattle.session_rules.specs.Shortages.{IsServed}
-use Rattle.session_laws.specs.Heals.{rebuild_of, AreRebuilt, healed_by}
+use Rattle.session_laws.specs.Heals.{rebuild_of, healed_by}
 use Rattle.session_laws.specs.Outcomes.{outcome_at}
 use Rattle.session_laws.specs.Rebuilds.{rebuilt_as}
 use Rattle.session_runs.specs.Seats.{ran, HasEnded}
 use Rattle.session_runs.specs.Between.{Seats, seats_after, IsBetween}
+use Rattle.session_runs.specs.Reading.{begun, reading_steps}
+use Rattle.session_runs.specs.Snapshots.{kept_parts, gathered_as}
 use Rattle.session_runs.specs.Serving.{AreSweptTo}
 
 -- an actor's call runs alone to this outcome, wherever memory is wanting, and the sweeper after it to its end
@@ -55,6 +60,13 @@ RebuildsAreAnswered =
     RunsTo g tries (actor.Repairer seats.repairer) seats.rebuilds (rebuild_job call) p outcome after) →
     (answered : IsAnswered calls g max seats s (Request.Rebuild name stripe server) after) × (outcome ≡ rebuilt_as answered.served.1)
 
+-- some chunks are made anew one after another, wherever memory is wanting, by an actor's calls with numbers from this one on
+abbrev pub AreMadeAnew : Shape → ℕ → Actor → ℕ → List LostChunk → Places → Places → Type 0
+AreMadeAnew g tries who number [] before after = before ≡ after
+AreMadeAnew g tries who number (chunk ∷ chunks) before after =
+    (shortages : List Shortage) × HasEnded g tries who number (rebuild_job (rebuild_of chunk)) shortages before Outcome.Rebuilt
+    × AreMadeAnew g tries who (number + 1) chunks (ran g tries who number (rebuild_job (rebuild_of chunk)) shortages before).places after
+
 -- a heal is cut off, and leaves this state: the first so many chunks were made anew, and perhaps the next one's rebuild ended for want of memory, and
 -- has used its number
 pub record IsCutOff (g : Shape) (tries : ℕ) (seats : Seats) (s : State) (before : Places) (now : State) (after : Places) : Type 0 where
@@ -62,7 +74,7 @@ pub record IsCutOff (g : Shape) (tries : ℕ) (seats : Seats) (s : State) (befor
   pub made : ℕ
   pub some : made ≤ length (to_heal g s)
   pub left : Places
-  pub rebuilt : AreRebuilt g tries (actor.Repairer seats.healer) s.next (take made (to_heal g s)) before left
+  pub rebuilt : AreMadeAnew g tries (actor.Repairer seats.healer) s.next (take made (to_heal g s)) before left
   pub last :
       ((after ≡ left) × (now ≡ healed_by g made s))
       ⊎ ((chunk : LostChunk) × (slice_get (to_heal g s) made ≡ Some chunk)
@@ -75,3 +87,27 @@ HealsAreAnswered =
     (calls : Calls) (g : Shape) (max tries : ℕ) (seats : Seats) (stands : List ℕ) (p after : Places) (s now : State) →
     0 < stripe_length g → 0 < g.parity_count → IsBetween calls g max seats stands p s → IsCutOff g tries seats s p now after →
     (answered : IsAnswered calls g max seats s Request.Heal after) × (answered.served ≡ (now, Answer.NoMemory))
+
+-- and of one in which memory was wanting, but which made each chunk anew: it is served
+abbrev pub HealsAreMade : Type 0
+HealsAreMade =
+    (calls : Calls) (g : Shape) (max tries : ℕ) (seats : Seats) (stands : List ℕ) (p after : Places) (s : State) →
+    0 < stripe_length g → IsGeometry g → IsBetween calls g max seats stands p s → IsTrue (numbers_last g s) →
+    AreMadeAnew g tries (actor.Repairer seats.healer) s.next (to_heal g s) p after →
+    (answered : IsAnswered calls g max seats s Request.Heal after) × (answered.served ≡ serve g max Request.Heal s)
+
+-- a read of the snapshot that is open gathers alone to this outcome, wherever memory is wanting
+pub record ReadsTo (g : Shape) (readers : List ℕ) (kept : Snapshot) (name : List ℕ) (offset count : ℕ) (before : Places) (outcome : Outcome)
+    (after : Places) : Type 0 where
+  pub shortages : List Shortage
+  pub ends :
+      reading_steps g shortages (begun g (kept_parts g readers before.directory kept name offset count) before)
+      ≡ record { call = record { pairs = []; at = CallAt.Ending outcome }; places = after }
+
+-- so it is of each such read
+abbrev pub SnapReadsAreAnswered : Type 0
+SnapReadsAreAnswered =
+    (calls : Calls) (g : Shape) (max : ℕ) (seats : Seats) (stands : List ℕ) (p after : Places) (s : State) (kept : Snapshot) (name : List ℕ)
+    (offset count : ℕ) (outcome : Outcome) → 0 < stripe_length g → IsBetween calls g max seats stands p s → s.snapshot ≡ Some kept →
+    ReadsTo g seats.readers kept name offset count p outcome after →
+    (answered : IsAnswered calls g max seats s (Request.SnapRead name offset count) after) × (outcome ≡ gathered_as answered.served.1)

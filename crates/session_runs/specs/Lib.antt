@@ -1,5 +1,8 @@
 pub mod Seats
+pub mod Readers
 pub mod Between
+pub mod Reading
+pub mod Snapshots
 pub mod Serving
 pub mod Runs
 pub mod Answering

@@ -1,10 +1,12 @@
 -- A request that is served alone, with ample memory and no server away.
-use Rattle.std.specs.Prelude.{◌≡◌, ℕ, ◌-◌, ◌^◌, ◌<◌, false, List, length, get_or, replicate, None, Some, ⊤}
+use Rattle.std.specs.Prelude.{◌≡◌, ℕ, ◌-◌, ◌^◌, ◌<◌, false, List, [], ◌∷◌, length, get_or, take, replicate, Option, None, Some, ⊤}
 use Rattle.clay_grid.specs.Shape.{Shape, chunk_count, stripe_length}
 use Rattle.clay_grid.specs.Limits.{IsGeometry}
+use Rattle.store_map.specs.Laws.{names_of}
 use Rattle.store_map.specs.PlainMap.{apply}
 use Rattle.store_map.specs.declared.actor.Actor.TheVariants as actor
 use Rattle.store_map.specs.declared.call.Call.{Call}
+use Rattle.store_map.specs.declared.call.Call.TheVariants as call
 use Rattle.store_map.specs.declared.call.Rebuild.{Rebuild as RebuildCall}
 use Rattle.store_map.specs.declared.reply.Reply.{Reply}
 use Rattle.store_map.specs.declared.reply.Reply.TheVariants as reply
@@ -20,11 +22,12 @@ use Rattle.store_core.specs.Read.{parts_of}
 use Rattle.store_core.specs.Step.{Places, at_places}
 use Rattle.store_core.specs.Sweep.{Sweeper}
 use Rattle.store_reads.specs.ReadLaws.{bytes_read}
-use Rattle.session_rules.specs.State.{State}
+use Rattle.session_rules.specs.State.{Snapshot, State}
 use Rattle.session_rules.specs.Request.{Request}
 use Rattle.session_rules.specs.Answer.{Answer}
 use Rattle.session_rules.specs.Heals.{to_heal}
 use Rattle.session_rules.specs.Serve.{serve}
+use Rattle.session_rules.specs.Snapshots.{snap}
 use Rattle.session_laws.specs.Alone.{EndsAs, sweeps}
 use Rattle.session_laws.specs.Outcomes.{outcome_at}
 use Rattle.session_laws.specs.Rebuilds.{rebuilt_as}
@@ -32,6 +35,7 @@ use Rattle.session_laws.specs.Heals.{AreRebuilt}
 use Rattle.session_laws.specs.Scrubs.{lost_at}
 use Rattle.session_laws.specs.Takes.{AreTaken}
 use Rattle.session_runs.specs.Between.{Seats, seats_after, IsBetween}
+use Rattle.session_runs.specs.Snapshots.{look_all, end_all, IsReadServed}
 
 -- the sweeper comes to the end of its work, and leaves these places
 pub record AreSweptTo (g : Shape) (before after : Places) : Type 0 where
@@ -63,7 +67,25 @@ IsHealServed g tries seats s before (Answer.Healed rebuilt taken) after =
     × AreTaken g tries (actor.Repairer seats.healer) s.next (to_heal g s) before (replicate (chunk_count g) 0) taken
 IsHealServed g tries seats s before answer after = after ≡ before
 
--- what is done for a request in a state, with its answer, from these places to those; snapshots aren't among the requests yet
+-- a snapshot is taken by a look at each object, in the map's order; where none is taken nothing is done
+abbrev pub IsSnapServed : Seats → State → Places → Answer → Places → Type 0
+IsSnapServed seats s before (Answer.Replied answer) after = after ≡ look_all seats.looks seats.readers (names_of s.objects) before
+IsSnapServed seats s before answer after = after ≡ before
+
+-- a read of the snapshot that is open; where none is nothing is done
+abbrev pub IsSnapRead : Calls → Shape → Seats → List ℕ → ℕ → ℕ → Option Snapshot → Places → Answer → Places → Type 0
+IsSnapRead calls g seats name offset count None before answer after = after ≡ before
+IsSnapRead calls g seats name offset count (Some kept) before answer after =
+    IsReadServed calls g seats.readers kept name offset count before answer after
+
+-- a snapshot is dropped: the passes of its looks end, one after another, and the sweeper comes to the end of its work; where none is open nothing is
+-- done
+abbrev pub IsSnapDropped : Shape → Seats → Option Snapshot → Places → Places → Type 0
+IsSnapDropped g seats None before after = after ≡ before
+IsSnapDropped g seats (Some kept) before after =
+    AreSweptTo g (end_all seats.looks (take (length kept.numbers) seats.readers) before) after
+
+-- what is done for a request in a state, with its answer, from these places to those
 abbrev pub IsServedBy : Calls → Shape → ℕ → ℕ → Seats → State → Request → Places → Answer → Places → Type 0
 IsServedBy calls g max tries seats s (Request.OfMap call) before answer after =
     IsCallServed calls g max tries seats call s before answer after
@@ -74,17 +96,30 @@ IsServedBy calls g max tries seats s (Request.Rebuild name stripe server) before
     EndsAs g tries (actor.Repairer seats.repairer) seats.rebuilds (rebuild_job call) before (rebuilt_as answer) after
 IsServedBy calls g max tries seats s Request.Scrub before answer after = (answer ≡ Answer.Scrubbed (lost_at before)) × (after ≡ before)
 IsServedBy calls g max tries seats s Request.Heal before answer after = IsHealServed g tries seats s before answer after
-IsServedBy calls g max tries seats s request before answer after = ⊥
+IsServedBy calls g max tries seats s Request.Snap before answer after = IsSnapServed seats s before answer after
+IsServedBy calls g max tries seats s (Request.SnapRead name offset count) before answer after =
+    IsSnapRead calls g seats name offset count s.snapshot before answer after
+IsServedBy calls g max tries seats s Request.SnapDrop before answer after = IsSnapDropped g seats s.snapshot before after
 
--- a request that may be asked in a state: a call is the one that is known under its number, a server is one that there is, and a loss leaves its
--- epoch a count of 64 bits
+-- the looks of a snapshot are known: a get of each object, in order, by a reader each, under this number
+abbrev pub AreLooks : Calls → ℕ → List ℕ → List (List ℕ) → Type 0
+AreLooks calls number [] names = ⊤
+AreLooks calls number (reader ∷ readers) [] = ⊤
+AreLooks calls number (reader ∷ readers) (name ∷ names) =
+    (calls (actor.Client reader) number ≡ Some (call.Get name)) × AreLooks calls number readers names
+
+-- a request that may be asked in a state: a call is the one that is known under its number, as are the looks of a snapshot that is taken, a server is
+-- one that there is, and a loss leaves its epoch a count of 64 bits
 abbrev pub MayBeAsked : Calls → Shape → Seats → State → Request → Type 0
 MayBeAsked calls g seats s (Request.OfMap call) = calls (actor.Client seats.client) seats.calls ≡ Some call
 MayBeAsked calls g seats s (Request.Lose server) = (server < chunk_count g) × (get_or s.epochs server 0 < 2 ^ 64 - 1)
 MayBeAsked calls g seats s (Request.Rebuild name stripe server) = server < chunk_count g
 MayBeAsked calls g seats s Request.Scrub = ⊤
 MayBeAsked calls g seats s Request.Heal = ⊤
-MayBeAsked calls g seats s request = ⊥
+MayBeAsked calls g seats s Request.Snap =
+    (snap s.snapshot s).1 ≡ Answer.Replied reply.Done → AreLooks calls seats.looks seats.readers (names_of s.objects)
+MayBeAsked calls g seats s (Request.SnapRead name offset count) = ⊤
+MayBeAsked calls g seats s Request.SnapDrop = ⊤
 
 -- it is served with the session's answer, and the places it leaves are between requests again, with the session's state
 pub record IsServedAlone (calls : Calls) (g : Shape) (max tries : ℕ) (seats : Seats) (s : State) (request : Request) (before : Places) :

@@ -5,7 +5,7 @@ ghost use Rattle.session_runs.specs.Between.{BeginningsAreBetween, MoreCallsStay
 ghost use Rattle.session_runs.specs.Serving.{RequestsAreServed};
 ghost use Rattle.session_runs.specs.Runs.{RunsAreServed};
 ghost use Rattle.session_runs.specs.AnsweredRuns.{RunsAreAnswered};
-ghost use Rattle.session_runs.specs.Answering.{CallsAreAnswered, RebuildsAreAnswered, HealsAreAnswered};
+ghost use Rattle.session_runs.specs.Answering.{CallsAreAnswered, RebuildsAreAnswered, HealsAreAnswered, HealsAreMade, SnapReadsAreAnswered};
 
 /// After an actor's call that runs alone to any outcome, wherever memory is wanting, the actor may begin
 /// its next call, and each other one the call that it could begin before.
@@ -49,6 +49,16 @@ pub fn rebuilds_are_answered()
 /// are between requests again, with a state in which some of its chunks are made anew.
 pub fn heals_are_answered()
     ensures { HealsAreAnswered }
+{}
+
+/// A heal in which memory was wanting, but each of whose rebuilds made its chunk, is served.
+pub fn heals_are_made()
+    ensures { HealsAreMade }
+{}
+
+/// A read of a snapshot, wherever memory is wanting, ends as the session answers or for want of memory.
+pub fn snap_reads_are_answered()
+    ensures { SnapReadsAreAnswered }
 {}
 
 /// Any list of requests, each served with ample memory or ended for want of it, is answered as a session

@@ -16,9 +16,9 @@ use Rattle.store_history.proofs.FewWipes.{few_wipes}
 use Rattle.store_history.proofs.GivenUpLines.{runs_give_up}
 use Rattle.store_history.proofs.OrderRuns.{runs_keep_call_order}
 use Rattle.store_history.proofs.Replayed.{runs_reply}
-use Rattle.store_missing.specs.OwnResults.{NamesLoss}
-use Rattle.store_missing.proofs.FoundLines.{runs_find_missing}
-use Rattle.store_missing.proofs.OwnLines.{runs_name_losses}
+use Rattle.store_losses.specs.OwnResults.{NamesLoss}
+use Rattle.store_losses.proofs.FoundLines.{runs_find_missing}
+use Rattle.store_losses.proofs.OwnLines.{runs_name_losses}
 use Rattle.store_races.specs.RaceLaws.{NamesChange}
 use Rattle.store_races.proofs.RaceLines.{runs_lose_races, runs_name_changes}
 use Rattle.store_takes.proofs.ColumnRuns.{runs_add_up}

@@ -46,10 +46,10 @@ use Rattle.store_in_time.specs.LineCauses.{job_of_call, WasCaused, LinesAreCause
 use Rattle.store_in_time.specs.Steps.{run_trace}
 use Rattle.store_in_time.specs.Trace.{Made}
 use Rattle.store_in_time.proofs.CausedLines.{runs_show_causes}
-use Rattle.call_takes.specs.TakesLaws.{TookLeast, TookRange}
-use Rattle.call_takes.specs.TakesOfCalls.{Log, taken_by, missing_count}
-use Rattle.call_takes.proofs.ReadTakes.{reads_take_least}
-use Rattle.call_takes.proofs.Rebuilds.{rebuilds_take_least}
+use Rattle.store_takes.specs.LeastTakes.{TookLeast, TookRange}
+use Rattle.store_takes.specs.TakesOfCalls.{Log, taken_by, missing_count}
+use Rattle.store_takes.proofs.ReadTakes.{reads_take_least}
+use Rattle.store_takes.proofs.Rebuilds.{rebuilds_take_least}
 use Rattle.store_answers.specs.Over.{answers_to, IsOver}
 use Rattle.store_answers.specs.Takes.{first_takes, takes_shown, RunsTakeLeast}
 use Rattle.store_answers.proofs.BytesPinned.{bytes_pinned, was_served}

@@ -23,7 +23,7 @@ use Rattle.store_history.proofs.OrderEnds.{EndKnown}
 use Rattle.store_history.proofs.OrderLists.{indexed}
 use Rattle.store_in_time.specs.LineCauses.{told_to, job_of_call}
 use Rattle.store_in_time.specs.Trace.{Made}
-use Rattle.call_takes.specs.TakesOfCalls.{taken_by, AreExactSince}
+use Rattle.store_takes.specs.TakesOfCalls.{taken_by, AreExactSince}
 use Rattle.store_answers.specs.Over.{answers_to}
 use Rattle.store_answers.specs.Takes.{lines_of_takes, first_takes}
 use Rattle.store_answers.proofs.Overs.{Place, client_place, repairer_place}

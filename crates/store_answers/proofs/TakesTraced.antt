@@ -35,8 +35,8 @@ use Rattle.store_in_time.specs.Trace.{Made, call_made, act_made}
 use Rattle.store_in_time.proofs.CausedCalls.{CauseThen, told_same, told_more}
 use Rattle.store_in_time.proofs.CausedLines.{CausesSoFar, causes_kept, first_causes}
 use Rattle.store_in_time.proofs.Traced.{KeptByMade, run_traced}
-use Rattle.call_takes.specs.TakesOfCalls.{taken_since, taken_by, IsExact, AreExactSince}
-use Rattle.call_takes.proofs.Rebuilds.{takes_stay}
+use Rattle.store_takes.specs.TakesOfCalls.{taken_since, taken_by, IsExact, AreExactSince}
+use Rattle.store_takes.proofs.Rebuilds.{takes_stay}
 
 -- ---- one answer more
 module _ (g : Shape) (tries : ℕ) (job : Job) where

@@ -22,8 +22,8 @@ use Rattle.store_core.specs.Step.{Shortage}
 use Rattle.store_in_time.specs.LineCauses.{job_of_call}
 use Rattle.store_in_time.specs.Steps.{run_trace}
 use Rattle.store_in_time.specs.Trace.{Made}
-use Rattle.call_takes.specs.TakesLaws.{TookLeast, TookRange}
-use Rattle.call_takes.specs.TakesOfCalls.{taken_by, missing_count}
+use Rattle.store_takes.specs.LeastTakes.{TookLeast, TookRange}
+use Rattle.store_takes.specs.TakesOfCalls.{taken_by, missing_count}
 use Rattle.store_answers.specs.Over.{answers_to}
 
 -- the lines that tell what a call took

@@ -8,8 +8,8 @@ use Rattle.store_core.specs.Note.{note_of}
 use Rattle.store_rows.specs.Rows.{Row, Shows}
 use Rattle.store_in_time.specs.Steps.{run_trace}
 use Rattle.store_in_time.specs.Trace.{Made}
-use Rattle.call_takes.specs.TakesLaws.{TookLeast, TookRange}
-use Rattle.call_takes.specs.TakesOfCalls.{missing_count}
+use Rattle.store_takes.specs.LeastTakes.{TookLeast, TookRange}
+use Rattle.store_takes.specs.TakesOfCalls.{missing_count}
 use Rattle.store_answers.specs.Over.{answers_to, IsOver}
 use Rattle.store_answers.specs.Takes.{takes_shown}
 use Rattle.store_answers.specs.Unhindered.{IsUnhindered, CouldWrite, HasItsPlace}

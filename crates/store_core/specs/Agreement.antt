@@ -1,4 +1,4 @@
--- When a directory agrees with an actor's token: with a seat, whose actor is in no call, or with a pass.
+-- When a directory agrees with an actor's ticket: with a seat, whose actor is in no call, or with a pass.
 use Rattle.std.specs.Prelude.{◌≡◌, ◌⊎◌, ℕ, ◌<◌, List, length, Option, None, Some, All, IfSome, MatchOption, IsTrue, ⊤}
 use Rattle.store_map.specs.declared.actor.Actor.{Actor}
 use Rattle.store_core.specs.Lists.{is_among}
@@ -67,7 +67,7 @@ pub record AgreesWithPass (d : Directory) (held : HeldPass) : Type 0 where
   pub told : IsTold d held.told
   pub order : MatchOption reap (KeepsOrder held.pass.note.kind d held.pass held.told) (λ point. IsLater held.told point × (point < length d.points))
 
--- with either token
+-- with either ticket
 abbrev pub Agrees : Directory → ActorToken → Type 0
 Agrees d (ActorToken.Seated seat) = AgreesWithSeat d seat
 Agrees d (ActorToken.InCall held) = AgreesWithPass d held

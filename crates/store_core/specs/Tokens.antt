@@ -1,4 +1,4 @@
--- Which token an actor has after its step at the directory, and when it may make one.
+-- Which ticket an actor has after its step at the directory, and when it may make one.
 use Rattle.std.specs.Prelude.{◌≡◌, ◌⊎◌, ℕ, ◌+◌, ◌<◌, ◌≤◌, List, [], ◌∷◌, map, Option, None, Some, ⊤}
 use Rattle.clay_grid.specs.Shape.{chunk_count}
 use Rattle.store_map.specs.declared.actor.Actor.{Actor}
@@ -10,7 +10,7 @@ use Rattle.store_core.specs.Look.{pin_of}
 use Rattle.store_core.specs.Conditions.{IsOfClient, IsOfRepairer, IsPrepared}
 use Rattle.store_core.specs.Agreement.{Seat, HeldPass, ActorToken}
 
--- whose token it is
+-- whose ticket it is
 abbrev pub actor_of : ActorToken → Actor
 actor_of (ActorToken.Seated seat) = seat.actor
 actor_of (ActorToken.InCall held) = held.pass.actor
@@ -29,7 +29,7 @@ begun_by seat number note seen base told =
       told = told;
     })
 
--- the token after a look, by its answer
+-- the ticket after a look, by its answer
 abbrev pub after_look : Seat → ℕ → Note → Told → ActorToken
 after_look seat number note (Told.Answer point reply) = ActorToken.Seated (record { actor = seat.actor; unused = number + 1; told = Some point })
 after_look seat number note (Told.Pinned point length_now seen) = begun_by seat number note seen None (Some point)
@@ -41,7 +41,7 @@ after_look seat number note answer = ActorToken.Seated seat
 abbrev pub seat_after : HeldPass → ℕ → Option ℕ → ActorToken
 seat_after held unused told = ActorToken.Seated (record { actor = held.pass.actor; unused = unused; told = told })
 
--- the token after a step on a pass, by its answer; a write that was overtaken may use its number once more
+-- the ticket after a step on a pass, by its answer; a write that was overtaken may use its number once more
 abbrev pub after_pass_step : HeldPass → Told → ActorToken
 after_pass_step held (Told.Versions versions) = ActorToken.InCall (record held { pass = record (held.pass) { drawn = versions } })
 after_pass_step held (Told.Done point) = seat_after held (held.pass.number + 1) (Some point)

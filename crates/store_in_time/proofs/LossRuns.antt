@@ -37,7 +37,7 @@ use Rattle.store_history.proofs.GivenUpRuns.{told_either}
 use Rattle.store_losses.proofs.LossesHeard.{HeardBy}
 use Rattle.store_losses.proofs.LossesRows.{RowFrom}
 use Rattle.store_losses.proofs.LossesState.{Pinned, PinsIt}
-use Rattle.store_missing.proofs.FoundActs.{OutcomeLacks, ActLacks, act_lacks}
+use Rattle.store_losses.proofs.FoundActs.{OutcomeLacks, ActLacks, act_lacks}
 use Rattle.store_in_time.specs.Trace.{Made, call_made}
 use Rattle.store_in_time.specs.Moments.{Happened, downs}
 use Rattle.store_in_time.proofs.Counts.{Counted, AllCounted}

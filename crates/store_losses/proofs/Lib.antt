@@ -15,3 +15,11 @@ pub mod LossesOwn
 pub mod LossesServers
 pub mod LossesRuns
 pub mod LossesKept
+pub mod FoundOutcomes
+pub mod FoundActs
+pub mod FoundEnded
+pub mod FoundRuns
+pub mod FoundLines
+pub mod FoundOwn
+pub mod OwnRuns
+pub mod OwnLines

@@ -1,1 +1,3 @@
 pub mod KeptChunks
+pub mod FoundMissing
+pub mod OwnResults

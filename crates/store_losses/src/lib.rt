@@ -1,4 +1,5 @@
-//! Laws of runs of the store on chunks: where they are kept, and when they were lost.
+//! Laws of runs of the store on chunks: where they are kept, when they were lost, and that each which a
+//! call found missing was the operator's doing.
 #![tactic(auto)]
 
 pub mod laws;

@@ -1,3 +1,7 @@
+mod Versions
+mod WrittenStripes
+mod Commits
+mod Drops
 pub mod Changes
 mod RaceSteps
 pub mod ToldChanges

@@ -62,7 +62,7 @@ module _ (script : Script) (tokens : List Token) (core : Core) (known : EndKnown
   shown_races : (object : List ℕ) (past pairs : List (ℕ × ℕ)) → AllAfter (Race core.directory.points object) past pairs → AllAfter (IsRace (scheduled script tokens) t object) past pairs
   shown_races object past [] h = tt
   shown_races object past (pair ∷ pairs) h = (
-    record { later = h.0.later; order = h.0.order; base = shown_change object pair.0 h.0.base; newer = shown_change object pair.1 h.0.newer },
+    record { later = h.0.later; order = h.0.order; looked_at = shown_change object pair.0 h.0.base; newer = shown_change object pair.1 h.0.newer },
     shown_races object (pair ∷ past) pairs h.1,
   )
 

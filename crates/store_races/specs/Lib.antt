@@ -1,1 +1,4 @@
+pub mod StandsFor
+pub mod CommitDrops
+pub mod DropLaws
 pub mod RaceLaws

@@ -1,4 +1,5 @@
-//! Races that calls lost in a run of the store: each is a change that the history has.
+//! Which versions a commit drops, and races that calls lost in a run of the store: each is a change that
+//! the history has.
 #![tactic(auto)]
 
 pub mod laws;

@@ -1,14 +1,15 @@
 -- The state of a call after its look, or after what is kept of a commit or a change.
 use Rattle.std.specs.Prelude.{ℕ}
 use Rattle.clay_grid.specs.Shape.{Shape}
+use Rattle.store_map.specs.declared.call.Call.{Call}
 use Rattle.store_core.specs.Told.{Told}
-use Rattle.store_core.specs.Note.{Note, Kind}
+use Rattle.store_core.specs.Note.{Note, Kind, note_of}
 use Rattle.store_core.specs.Act.{Outcome}
-use Rattle.store_core.specs.NextAct.{Job}
+use Rattle.store_core.specs.NextAct.{Job, job_of}
 use Rattle.store_core.specs.Read.{parts_of}
 use Rattle.store_core.specs.Write.{old_parts}
 use Rattle.store_resume.specs.State.{Sequel, State}
-use Rattle.store_resume.specs.States.{parts_state}
+use Rattle.store_resume.specs.States.{parts_state, open_state}
 
 -- the look of a stat or a delete
 abbrev pub single_after_look : Told → State
@@ -52,3 +53,7 @@ module _ (g : Shape) where
   start_after Kind.Stat job answer = single_after_look answer
   start_after Kind.Delete job answer = single_after_look answer
   start_after Kind.Rebuild job answer = rebuild_after_look job.target answer
+
+-- where a client's call stands after its look
+abbrev pub looked_state : Shape → Call → Told → State
+looked_state g call answer = open_state g (start_after g (note_of call).kind (job_of call) answer)

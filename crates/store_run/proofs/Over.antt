@@ -15,7 +15,7 @@ use Rattle.run_steps.specs.Numbers.{actor_at}
 use Rattle.run_lists.specs.Callers.{IsCalling}
 use Rattle.run_lists.specs.Ended.{CallerOf, HasEnded}
 use Rattle.run_lists.specs.Logs.{Logs, HasSeenOwn, counts_of, own_at}
-use Rattle.run_ends.proofs.Numbers.{clients_come_first, repairers_follow}
+use Rattle.run_lists.proofs.Numbers.{clients_come_first, repairers_follow}
 use Rattle.run_seats.specs.Places.{seen_by}
 use Rattle.run_seats.specs.Seated.{IsSeated, seated_has}
 use Rattle.run_seats.specs.declared.seated.Seated.{Seated}

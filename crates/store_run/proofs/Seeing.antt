@@ -12,7 +12,7 @@ use Rattle.lock_rows.specs.Out.{HasOwnAt}
 use Rattle.lock_rows.specs.Piles.{items_of}
 use Rattle.run_steps.specs.Noted.{Noted}
 use Rattle.run_lists.specs.Logs.{HasSeenOwn, Logs}
-use Rattle.run_ends.proofs.Seen.{histories_have_all}
+use Rattle.run_lists.proofs.Seen.{histories_have_all}
 use Rattle.run_seats.specs.Places.{seen_by}
 use Rattle.run_seats.specs.declared.directory_box.DirectoryIdentity.{DirectoryIdentity}
 use Rattle.run_seats.specs.declared.seated_actor.SeatedActor.{SeatedActor}

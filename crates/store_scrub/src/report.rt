@@ -1,3 +1,4 @@
+//! What a scrub reports.
 use store_map::Name;
 use version_seal::Stamp;
 

@@ -1,3 +1,4 @@
+//! The scrub: each object's chunks are looked for at their servers, and each server's chunks in the directory.
 ghost use Rattle.std.specs.Prelude.{◌≡◌, ◌<◌, ◌^◌, ◌++◌, false, not, length, map, filter, IfOk, OnOk};
 ghost use Rattle.clay_grid.specs.Shape.{chunk_count};
 ghost use Rattle.store_core.specs.Lists.{is_among};

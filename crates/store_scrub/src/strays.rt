@@ -1,3 +1,4 @@
+//! Strays are dropped where they stand.
 ghost use Rattle.std.specs.Prelude.{◌≡◌, [], All};
 ghost use Rattle.store_core.specs.Lists.{change_at};
 ghost use Rattle.store_core.specs.Directory.{Directory as CoreDirectory};

@@ -264,7 +264,7 @@ module _ (token : ActorToken) (who : Actor) (number : ℕ) (apart : same_actor (
   unless false true step = made step
   unless false false step = made step
 
--- every other actor's token agrees after the step
+-- every other actor's ticket agrees after the step
 pub others_agree : (short : Bool) (who : Actor) (number : ℕ) (step : DirectoryStep) (d : Directory) (token : ActorToken) → same_actor who (actor_of token) ≡ false
     → Agrees d token → Agrees (at_directory short who number step d).0 token
 others_agree short who number step d token apart agrees = unless token who number (other_way who (actor_of token) apart) d agrees short (takes_memory step) step

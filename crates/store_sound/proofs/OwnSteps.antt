@@ -1,4 +1,4 @@
--- Each step at the directory that an actor makes with its token leaves agreement with the token that it gives back.
+-- Each step at the directory that an actor makes with its ticket leaves agreement with the ticket that it gives back.
 use Rattle.std.proofs.Common.{◌≡◌, ◌⊎◌, ℕ, ◌+◌, ◌<◌, ◌≤◌, Bool, true, false, cond, not, nat_lt, List, [], ◌∷◌, ◌++◌, length, map, filter, get_or, Option, None, Some, option_map, unwrap_or, MatchOption, IfSome, IsTrue, All, Contains, bytes_eq, refl, sym, ap, subst, subst₂, ◌∙◌, inl, inr, arith}
 use Rattle.std.proofs.lemmas.Bool.{true≢false, false≢true, cond_both, cond-true, eq-eqb, ltb-true, and_cases}
 use Rattle.std.proofs.lemmas.Option.{same_Some, none-some}

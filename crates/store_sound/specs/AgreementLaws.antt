@@ -1,4 +1,4 @@
--- Agreement goes on: each step leaves the directory in agreement with the token that it gives back, and with every other actor's.
+-- Agreement goes on: each step leaves the directory in agreement with the ticket that it gives back, and with every other actor's.
 use Rattle.std.specs.Prelude.{◌≡◌, ◌⊎◌, ℕ, ◌<◌, Bool, false, None, Some, All, IfSome}
 use Rattle.clay_grid.specs.Shape.{Shape, stripe_length}
 use Rattle.store_map.specs.declared.actor.Actor.{Actor}
@@ -13,12 +13,12 @@ use Rattle.store_core.specs.Sound.{IsSound}
 use Rattle.store_core.specs.Agreement.{Seat, HeldPass, ActorToken, IsLater, WasChanged, AgreesWithSeat, AgreesWithPass, Agrees}
 use Rattle.store_core.specs.Tokens.{actor_of, told_of, after_look, after_pass_step, MayLook, MayGoOn}
 
--- the token that is given back agrees, and what it tells is what was told before, or a later point
+-- the ticket that is given back agrees, and what it tells is what was told before, or a later point
 pub record GoesOn (after : Directory) (before now : ActorToken) : Type 0 where
   pub agrees : Agrees after now
   pub later : (told_of now ≡ told_of before) ⊎ IfSome (told_of now) (IsLater (told_of before))
 
--- what a token's actor does next may be done; a rebuild's version that isn't current was changed after the point that was told
+-- what a ticket's actor does next may be done; a rebuild's version that isn't current was changed after the point that was told
 pub record StepsMayBeMade : Type 0 where
   pub look :
       (seat : Seat) (number : ℕ) (step : DirectoryStep) (d : Directory) → AgreesWithSeat d seat → MayLook seat number step → MayStep d seat.actor number step

@@ -17,9 +17,9 @@ pub fn agreement_lets_steps_be_made()
     ensures { StepsMayBeMade }
 {}
 
-/// A directory without objects agrees with each new seat. Each step that an actor makes with its token
-/// leaves a sound directory in agreement with the token that it gives back, which tells no earlier
-/// point than before; and every step leaves it in agreement with every other actor's token.
+/// A directory without objects agrees with each new seat. Each step that an actor makes with its ticket
+/// leaves a sound directory in agreement with the ticket that it gives back, which tells no earlier
+/// point than before; and every step leaves it in agreement with every other actor's ticket.
 pub fn agreement_goes_on()
     ensures { AgreementGoesOn }
 {}

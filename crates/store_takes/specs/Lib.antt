@@ -1,1 +1,3 @@
+pub mod TakesOfCalls
+pub mod LeastTakes
 pub mod TakesLaws

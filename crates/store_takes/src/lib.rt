@@ -1,4 +1,5 @@
-//! What calls took in a run of the store is what the servers gave.
+//! What each call took from the servers, by its answers, and that in a run of the store it is what the
+//! servers gave.
 #![tactic(auto)]
 
 pub mod laws;

@@ -24,10 +24,10 @@ use Rattle.store_history.proofs.OrderEnds.{EndKnown}
 use Rattle.store_history.proofs.OrderRuns.{runs_keep_call_order, end_known}
 use Rattle.store_history.proofs.Replayed.{runs_reply}
 use Rattle.store_losses.proofs.LossesServers.{wiped, made_away}
-use Rattle.store_missing.proofs.FoundRuns.{AllSure, all_sure}
-use Rattle.store_missing.proofs.FoundLines.{found_missing}
-use Rattle.store_missing.proofs.OwnRuns.{AllOwn, all_own}
-use Rattle.store_missing.proofs.OwnLines.{named_losses}
+use Rattle.store_losses.proofs.FoundRuns.{AllSure, all_sure}
+use Rattle.store_losses.proofs.FoundLines.{found_missing}
+use Rattle.store_losses.proofs.OwnRuns.{AllOwn, all_own}
+use Rattle.store_losses.proofs.OwnLines.{named_losses}
 use Rattle.store_races.proofs.RaceLines.{runs_lose_races, runs_name_changes}
 use Rattle.store_takes.proofs.ColumnRuns.{runs_add_up}
 use Rattle.store_answers.specs.Faithful.{IsFaithful}

@@ -46,7 +46,7 @@ pub record AreRepairers (script : Script) (book : BookOf) (d : Sealed) (repairer
   pub count : length repairers ≡ length script.repairers
   pub each : (i : ℕ) (repairer : CallerOf) → slice_get repairers i ≡ Some repairer → IsRepairerAt script book d i repairer
 
--- the book is the script's, all parts are of it, the directory agrees with the tokens of all actors, and some tokens of the script reach the world
+-- the book is the script's, all parts are of it, the directory agrees with the tickets of all actors, and some tokens of the script reach the world
 pub record IsWorld (s : StoredWorld) : Type 0 where
   pub geometry : IsGeometry s.script.geometry
   pub valid : IsValid s.script

@@ -1,4 +1,4 @@
--- A step by the token as it was taken out and as it stood in its place, and that the directory agrees with the token that is left.
+-- A step by the ticket as it was taken out and as it stood in its place, and that the directory agrees with the ticket that is left.
 use Rattle.std.proofs.Common.{◌≡◌, ℕ, ◌<◌, Bool, sym, ap, subst, ◌∙◌}
 use Rattle.clay_grid.specs.Shape.{stripe_length}
 use Rattle.store_core.specs.Told.{Told}
@@ -17,7 +17,7 @@ goes : (core : Directory) (told : Told) (r : Directory × Told) (before now : Ac
 goes core told r before now after made is on = subst (Agrees core) (sym is) (subst (λ (x : Directory × Told). Agrees x.0 (after x.1)) (sym made) on.agrees)
 
 module _ (short : Bool) (number : ℕ) (d : Directory) (some : 0 < stripe_length d.shape) (sound : IsSound d) (core : Directory) (told : Told) (now : ActorToken) where
-  -- of any step that the token's actor may make
+  -- of any step that the ticket's actor may make
   pub agrees_after : (token : ActorToken) (step : DirectoryStep) → Agrees d token → MayMake d token number step → (core, told) ≡ at_directory short (actor_of token) number step d
       → now ≡ token_after token number step told → Agrees core now
   agrees_after (ActorToken.Seated seat) (DirectoryStep.Look note) agrees may made is =
@@ -29,7 +29,7 @@ module _ (short : Bool) (number : ℕ) (d : Directory) (some : 0 < stripe_length
       goes core told (at_directory short held.pass.actor held.pass.number step d) (ActorToken.InCall held) now (after_pass_step held) (made ∙ ap (λ n. at_directory short held.pass.actor n step d) (sym may.0)) is
       (agreement_goes_on.on_pass short held step d sound agrees may.1)
 
--- the step in the words of the token's place; what was told and whether memory was wanting are the same
+-- the step in the words of the ticket's place; what was told and whether memory was wanting are the same
 module _ (number : ℕ) (step : DirectoryStep) (d core : Directory) (token : ActorToken) (short₀ short : Bool) (shorts : short₀ ≡ short) (told₀ told : Told) (same : told₀ ≡ told) where
   -- with a seat
   pub made_seated : (seat : Seat) → ActorToken.Seated seat ≡ token → (core, told₀) ≡ at_directory short₀ seat.actor number step d → (core, told) ≡ at_directory short (actor_of token) number step d

@@ -13,7 +13,7 @@ use Rattle.store_core.specs.SoundPasses.{Stands}
 use Rattle.dir_parts.specs.Counts.{one_if, times, pins_of, pins_by, points_due, objects_due, may_append, pinned_more}
 use Rattle.dir_parts.specs.OpenPass.{Desk}
 use Rattle.dir_parts.specs.Table.{Table}
-use Rattle.dir_parts.specs.Parts.{Shelf, Book}
+use Rattle.dir_parts.specs.Parts.{Shelf, PointLog}
 use Rattle.dir_parts.proofs.TableSteps.{length-change_at}
 use Rattle.stripe_dir.specs.Stripes.{pin_by}
 use Rattle.store_contents.proofs.Grows.{origins}
@@ -102,7 +102,7 @@ current_other d v current = by (slice_get_cases d.versions v).1
         ap (holds_standing is_superseded_standing) k.2 ∙ ap is_superseded_standing b
 
 -- with room for more, the rest stays
-pub record Roomy (a : Inside) (shelf : Shelf) (now : Desk) (book : Book) : Type 0 where
+pub record Roomy (a : Inside) (shelf : Shelf) (now : Desk) (book : PointLog) : Type 0 where
   pub points : book.points ≡ a.history.points
   pub others : (other : List ℕ) → Contains a.history.names other → Contains book.names other
   pub points_room : a.history.room ≤ book.room
@@ -111,7 +111,7 @@ pub record Roomy (a : Inside) (shelf : Shelf) (now : Desk) (book : Book) : Type 
   pub passes : now.listed ≡ a.passes.listed
   pub stripe : now.stripe_len ≡ a.passes.stripe_len
 
-module _ (a : Inside) (kept : IsKept a) (objects : Shelf) (desk : Desk) (history : Book) (roomy : Roomy a objects desk history) where
+module _ (a : Inside) (kept : IsKept a) (objects : Shelf) (desk : Desk) (history : PointLog) (roomy : Roomy a objects desk history) where
   pub same_directory : directory_in (record a { objects = objects; passes = desk; history = history }) ≡ directory_in a
   same_directory = λ i. record (directory_in a) { objects = roomy.objects i; passes = roomy.passes i; points = roomy.points i }
 
@@ -133,7 +133,7 @@ module _ (a : Inside) (kept : IsKept a) (objects : Shelf) (desk : Desk) (history
       }
 
   -- and one point more, with objects and versions that may have changed
-  pub kept_pointed : (shelf : Shelf) (table : Table) (book : Book) → IsWhole (directory_in (record a { objects = shelf; versions = table; passes = desk; history = book })) → length a.passes.listed + 2 ≤ history.room → history.room ≤ book.room + 1
+  pub kept_pointed : (shelf : Shelf) (table : Table) (book : PointLog) → IsWhole (directory_in (record a { objects = shelf; versions = table; passes = desk; history = book })) → length a.passes.listed + 2 ≤ history.room → history.room ≤ book.room + 1
       → book.names ≡ history.names → table.pins ≡ a.versions.pins → origins table.listed ≡ origins a.versions.listed → a.objects.room ≤ shelf.room → IsKept (record a { objects = shelf; versions = table; passes = desk; history = book })
   kept_pointed shelf table book whole more left names pins same shelf_room =
       record {
@@ -151,7 +151,7 @@ module _ (a : Inside) (kept : IsKept a) (objects : Shelf) (desk : Desk) (history
       }
 
   -- and one pass more
-  pub kept_begun : (table : Table) (now : Desk) (book : Book) (n : Pass) → n.reaped ≡ None → IsWhole (directory_in (record a { objects = objects; versions = table; passes = now; history = book })) → now.listed ≡ n ∷ a.passes.listed → now.stripe_len ≡ desk.stripe_len
+  pub kept_begun : (table : Table) (now : Desk) (book : PointLog) (n : Pass) → n.reaped ≡ None → IsWhole (directory_in (record a { objects = objects; versions = table; passes = now; history = book })) → now.listed ≡ n ∷ a.passes.listed → now.stripe_len ≡ desk.stripe_len
       → table.listed ≡ a.versions.listed → table.pins ≡ pinned_more n.pinned a.versions.pins → All (λ pin. pin.version < length a.versions.listed) n.pinned
       → length a.passes.listed + 2 ≤ history.room → history.room ≤ book.room + 1 → book.names ≡ history.names → Contains history.names n.note.name → length a.passes.listed + 1 ≤ objects.room
       → IsKept (record a { objects = objects; versions = table; passes = now; history = book })

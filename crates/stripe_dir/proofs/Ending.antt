@@ -24,7 +24,7 @@ use Rattle.dir_parts.proofs.TableSteps.{length-change_at, length-fold}
 use Rattle.dir_parts.specs.OpenPass.{Desk}
 use Rattle.dir_parts.specs.Table.{Table}
 use Rattle.dir_parts.specs.TableSteps.{placed_anew_by}
-use Rattle.dir_parts.specs.Parts.{Shelf, Book}
+use Rattle.dir_parts.specs.Parts.{Shelf, PointLog}
 use Rattle.stripe_dir.specs.ItsStripes.{IsWhole}
 use Rattle.stripe_dir.specs.Seats.{seat_left}
 use Rattle.store_contents.proofs.Grows.{origins}
@@ -137,7 +137,7 @@ module _ (d : Directory) (who : Actor) (p : Pass) (rest : List Pass) (found : fi
   pub objects_left : objects_due rest ≤ objects_due d.passes
   objects_left = omega (arith, sums (λ (pass : Pass). one_if (may_append pass.note.kind && is_live pass.reaped)))
 
--- the pass is that of the token
+-- the pass is that of the ticket
 pub agreed : (d : Directory) (held : HeldPass) (who : Actor) (p : Pass) → who ≡ held.pass.actor → pass_of who d ≡ Some p → AgreesWithPass d held → record p { reaped = None } ≡ held.pass
 agreed d held who p same found agrees =
     let is : p ≡ record (held.pass) { reaped = agrees.reap } = same_Some p (record (held.pass) { reaped = agrees.reap }) (sym found ∙ ap (λ a. pass_of a d) same ∙ agrees.is_pass) in
@@ -177,7 +177,7 @@ module _ (a : Inside) (kept : IsKept a) (who : Actor) (p : Pass) (desk : Desk) (
       }
 
   -- where it wasn't, and its pins are gone with it
-  pub kept_ended : p.reaped ≡ None → (objects : Shelf) (table : Table) (history : Book) → IsWhole (directory_in (record a { objects = objects; versions = table; passes = desk; history = history }))
+  pub kept_ended : p.reaped ≡ None → (objects : Shelf) (table : Table) (history : PointLog) → IsWhole (directory_in (record a { objects = objects; versions = table; passes = desk; history = history }))
       → table.pins ≡ unpinned p.pinned a.versions.pins → origins table.listed ≡ origins a.versions.listed → history.names ≡ a.history.names → a.history.room ≤ history.room + 1
       → a.objects.room ≤ objects.room + one_if (may_append p.note.kind) → IsKept (record a { objects = objects; versions = table; passes = desk; history = history })
   kept_ended live objects table history whole pins same names points_room objects_room =

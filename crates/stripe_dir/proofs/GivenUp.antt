@@ -15,7 +15,7 @@ use Rattle.stripe_dir.specs.ItsStripes.{IsWhole}
 use Rattle.dir_parts.specs.Counts.{one_if, times, pins_of, pins_by, points_due, objects_due, may_append, unpinned}
 use Rattle.dir_parts.specs.OpenPass.{Desk}
 use Rattle.dir_parts.specs.Table.{Table}
-use Rattle.dir_parts.specs.Parts.{Book}
+use Rattle.dir_parts.specs.Parts.{PointLog}
 use Rattle.dir_parts.proofs.Actors.{same_is, both_of, find_passes}
 use Rattle.dir_parts.proofs.TableSteps.{length-set_standing}
 use Rattle.dir_parts.proofs.Growing.{all_changed}
@@ -88,7 +88,7 @@ module _ (a : Inside) (kept : IsKept a) (who : Actor) (p : Pass) (found : find (
   own : who ≡ p.actor
   own = same_is who p.actor (find_passes (λ (q : Pass). same_actor who q.actor) a.passes.listed p found)
 
-  module _ (desk : Desk) (table : Table) (book : Book) (passes_are : desk.listed ≡ map (λ q. if same_actor who q.actor then marked q else q) a.passes.listed) (listed : table.listed ≡ set_standing Standing.Superseded p.drawn a.versions.listed)
+  module _ (desk : Desk) (table : Table) (book : PointLog) (passes_are : desk.listed ≡ map (λ q. if same_actor who q.actor then marked q else q) a.passes.listed) (listed : table.listed ≡ set_standing Standing.Superseded p.drawn a.versions.listed)
       (points : book.points ≡ a.history.points ++ record { actor = p.actor; number = p.number; note = p.note; event = Event.Reaped } ∷ []) where
     pub reap_step : (by_whom : Actor) (number : ℕ) → (directory_in (record a { versions = table; passes = desk; history = book }), Told.GivenUp (Some point)) ≡ at_directory false by_whom number (DirectoryStep.Reap who) (directory_in a)
     reap_step by_whom number =

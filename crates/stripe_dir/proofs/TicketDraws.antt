@@ -14,7 +14,7 @@ use Rattle.stripe_dir.specs.declared.answers.Drawn.{Drawn}
 use Rattle.stripe_dir.specs.declared.answers.Drawn.TheVariants as drawn
 use Rattle.stripe_dir.specs.AnswerStamps.{AreDrawn, AreDrawnFor, IfDrawn}
 
--- the pass that a token is, where it is one
+-- the pass that a ticket is, where it is one
 abbrev pub held_or : HeldPass → ActorToken → HeldPass
 held_or h (ActorToken.Seated seat) = h
 held_or h (ActorToken.InCall held) = held

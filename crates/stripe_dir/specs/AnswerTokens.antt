@@ -1,4 +1,4 @@
--- The tokens that come back with the answers.
+-- The tickets that come back with the answers.
 use Rattle.std.specs.Prelude.{Result, Ok, Err}
 use Rattle.store_core.specs.Agreement.{Seat, HeldPass, ActorToken}
 use Rattle.stripe_dir.specs.declared.answers.Look.{Look}
@@ -14,7 +14,7 @@ use Rattle.stripe_dir.specs.declared.answers.Ended.TheVariants as ended
 use Rattle.stripe_dir.specs.declared.answers.Confirmed.{Confirmed}
 use Rattle.stripe_dir.specs.declared.answers.Confirmed.TheVariants as confirmed
 
--- the token after a client's look
+-- the ticket after a client's look
 abbrev pub token_look : Look Seat HeldPass → ActorToken
 token_look (look.Answer seat point reply) = ActorToken.Seated seat
 token_look (look.Pinned pass point length stripes) = ActorToken.InCall pass

@@ -13,7 +13,7 @@ abbrev pub token_of : Held → ActorToken
 token_of (held.Seat seat) = ActorToken.Seated seat
 token_of (held.Pass pass) = ActorToken.InCall pass
 
--- of an empty place, which stands only inside a step, any token
+-- of an empty place, which stands only inside a step, any ticket
 abbrev pub token_at : Option Held → ActorToken
 token_at (Some held) = token_of held
 token_at None = ActorToken.Seated (record { actor = actor.Sweeper; unused = 0; told = None })

@@ -1,4 +1,4 @@
--- The tokens of actors, as the definitions see them.
+-- The tickets of actors, as the definitions see them.
 use Rattle.store_core.specs.Agreement.{Seat, HeldPass}
 use Rattle.stripe_dir.specs.declared.tokens.Seat.TheInside.{Inside as SeatFields}
 use Rattle.stripe_dir.specs.declared.tokens.Pass.TheInside.{Inside as PassFields}

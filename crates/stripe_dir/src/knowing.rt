@@ -1,3 +1,4 @@
+//! Whether a version is known.
 ghost use Rattle.std.specs.Prelude.{◌≡◌};
 ghost use Rattle.dir_parts.specs.Known.{is_known};
 

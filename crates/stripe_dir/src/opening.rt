@@ -2,7 +2,7 @@
 ghost use Rattle.std.specs.Prelude.{◌≡◌, ◌+◌, ◌≤◌, ◌<◌, ◌++◌, vec_len, vec_capacity, map, length, option_map, slice_get, IfOk};
 ghost use Rattle.std.specs.List.{range_with_len};
 ghost use Rattle.clay_grid.specs.Shape.{stripe_length};
-ghost use Rattle.dir_parts.specs.Book.{told_of, told_at};
+ghost use Rattle.dir_parts.specs.PointLog.{told_of, told_at};
 ghost use Rattle.dir_parts.specs.Parts.{object_of};
 ghost use Rattle.version_seal.specs.Sealer.{sealer_at};
 ghost use Rattle.stripe_dir.specs.Sealed.{new_sealed};

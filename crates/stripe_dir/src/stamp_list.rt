@@ -1,3 +1,4 @@
+//! The stamps of a directory's versions.
 ghost use Rattle.std.specs.Prelude.{◌≡◌, ◌+◌, ◌≤◌, ◌^◌, [], IfOk, OnOk, OnErr};
 ghost use Rattle.version_seal.specs.Sealer.{sealer_at};
 ghost use Rattle.stripe_dir.specs.DrawnStamps.{stamps_of, with_more, CanSealAll};

@@ -1,10 +1,10 @@
 //! The sweeper as a machine of steps.
-ghost use Rattle.std.specs.Prelude.{◌≡◌, ◌<◌, ℕ};
+ghost use Rattle.std.specs.Prelude.{◌≡◌, ℕ};
 ghost use Rattle.store_map.specs.declared.actor.Actor.{Actor as CoreActor};
 ghost use Rattle.store_core.specs.Sweep.{is_busy};
 ghost use Rattle.chunk_server.specs.Core.{core_of};
 ghost use Rattle.chunk_server.specs.State.{IsSame};
-ghost use Rattle.call_steps.specs.Steps.{IfServer};
+ghost use Rattle.call_steps.specs.Steps.{IsServerBelow};
 ghost use Rattle.sweeper.specs.Sweeps.{new_sweeper, need_of, stepped_at_directory, stepped_at_server, discarded_at};
 
 use call_steps::Need;
@@ -47,7 +47,7 @@ impl Sweeper {
     /// Where it has to go on: at the directory, or at the server that discards the version next.
     pub fn need(&self) -> Need
         ensures need { result ≡ need_of self.now }
-        ensures below { IfServer result (λ server. server < self.now.servers) }
+        ensures below { IsServerBelow self.now.servers result }
     {
         if self.version.is_some() && self.server < self.servers {
             return Need::Server(self.server);

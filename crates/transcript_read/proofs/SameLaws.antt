@@ -96,9 +96,9 @@ same_pair : (t u : ℕ × ℕ) → IsPair t → IsPair u → pair_text t ≡ pai
 same_pair t u p q e =
     let both = sym (two_parts 47 (decimal t.0) (decimal t.1)) ∙ e ∙ two_parts 47 (decimal u.0) (decimal u.1) in
     let one = same_parts 47 (decimal t.0) (decimal t.1) (decimal u.0) (decimal u.1) (long_lacks 47 t.0 (omega arith) p.0) (long_lacks 47 u.0 (omega arith) q.0) both in
-    let base : t.0 ≡ u.0 = same_long t.0 u.0 p.0 q.0 one.0 in
+    let looked_at : t.0 ≡ u.0 = same_long t.0 u.0 p.0 q.0 one.0 in
     let newer : t.1 ≡ u.1 = same_long t.1 u.1 p.1 q.1 one.1 in
-    ap2 (λ (x : ℕ) (y : ℕ). (x, y)) base newer
+    ap2 (λ (x : ℕ) (y : ℕ). (x, y)) looked_at newer
 
 same_pairs : (t u : List (ℕ × ℕ)) → IsPairs t → IsPairs u → pairs_text t ≡ pairs_text u → t ≡ u
 same_pairs t u p q e = listed_injective IsPair pair_text (λ x is. pair_lacks 32 x (omega arith) is) same_pair t u p.0 q.0 e

@@ -66,9 +66,9 @@ impl Field for (u64, u64) {
     ghost spelling = { pair_text };
 
     fn read(alloc: Global, text: &[u8]) -> Result<(u64, u64), Unread> {
-        let (base, rest) = first_field(alloc, b'/', text)?;
+        let (looked_at, rest) = first_field(alloc, b'/', text)?;
         let newer = u64::read(alloc, rest)?;
-        Ok((base, newer))
+        Ok((looked_at, newer))
     }
 }
 

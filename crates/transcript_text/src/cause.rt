@@ -65,7 +65,7 @@ pub enum Cause {
         stripe: u64,
         missing: ListOf<Triple>,
     },
-    /// Each try found that the object had been changed: the point on which it was based, and the
+    /// Each try found that the object had been changed: the point that it looked at, and the
     /// point of the change. At least one pair is listed.
     Contended {
         pairs: ListOf<(u64, u64)>,

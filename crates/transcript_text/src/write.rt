@@ -230,8 +230,8 @@ fn append_contended(out: &mut Vec<u8>, pairs: &[(u64, u64)]) -> Result<(), Alloc
     ensures { OnOk result (out.new.items ≡ out.old.items ++ contended_text pairs.now) }
 {
     append(out, "contended")?;
-    for (base, newer) in pairs {
-        append(out, format_args!(" {base}/{newer}"))?;
+    for (looked_at, newer) in pairs {
+        append(out, format_args!(" {looked_at}/{newer}"))?;
     }
     Ok(())
 }

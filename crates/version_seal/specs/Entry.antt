@@ -15,6 +15,10 @@ pub record BookOf : Type 0 where
   pub geometry : Shape
   pub script : Option Script
 
+-- of this code, with this script or without one
+abbrev pub IsBookFor : Shape → Option Script → BookOf → Type 0
+IsBookFor geometry script book = (book.geometry ≡ geometry) × (book.script ≡ script)
+
 -- a call that a book without a script was asked to make
 pub record RequestOf : Type 0 where
   pub home : List ℕ

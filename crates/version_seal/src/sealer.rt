@@ -1,3 +1,4 @@
+//! Who may seal in a book, and which version comes next.
 ghost use Rattle.std.specs.Prelude.{◌≡◌};
 
 use boxcar::tag::Tag;

@@ -14,6 +14,10 @@ abbrev pub calling_at : ℕ → CallerCalls → Calling
 calling_at servers calls =
     record { ended = map (ended_of servers) calls.ended.items; told = []; takes = unwrap_or calls.takes (replicate servers 0); steps = calls.steps }
 
+-- all callers
+abbrev pub callings_at : ℕ → List CallerCalls → List Calling
+callings_at servers callers = map (calling_at servers) callers
+
 -- how many calls of each have ended
 abbrev pub counts_of : List CallerCalls → List ℕ
 counts_of callers = map (λ calls. length calls.ended.items) callers

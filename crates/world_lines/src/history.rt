@@ -1,14 +1,14 @@
 //! The `H` lines: the directory's points, with what each shows of its call.
-ghost use Rattle.std.specs.Prelude.{◌≡◌, ℕ, [], ◌++◌, map, Some, IfOk, OnOk};
+ghost use Rattle.std.specs.Prelude.{◌≡◌, ℕ, [], ◌++◌, Some, IfOk, OnOk};
 ghost use Rattle.store_map.specs.declared.actor.Actor.TheVariants as kind;
 ghost use Rattle.store_core.specs.Calls.{Calls};
 ghost use Rattle.store_core.specs.Directory.{Event as CoreEvent};
 ghost use Rattle.store_core.specs.History.{name_of, line_of, history_from};
 ghost use Rattle.dir_parts.specs.Events.{event_in};
-ghost use Rattle.world_lines.specs.Ended.{calling_at};
+ghost use Rattle.world_lines.specs.Ended.{callings_at};
 ghost use Rattle.world_lines.specs.Lists.{answered_by};
-ghost use Rattle.world_lines.specs.Served.{ended_at, answered_at, bytes_of, ServedAre};
-ghost use Rattle.world_lines.specs.Taken.{shown_by, KeepsCall};
+ghost use Rattle.world_lines.specs.Served.{ServedAre};
+ghost use Rattle.world_lines.specs.Taken.{shown_call, KeepsEachCall, IsPinnedCall};
 
 use crate::calls::CallerCalls;
 use crate::served::{is_answered, take_served};
@@ -37,8 +37,8 @@ fn take_pinned(
     actor: Actor,
     number: u32,
 ) -> Option<Shown>
-    ensures shown { result ≡ shown_by CoreEvent.Pinned (answered_at clients.old actor number) (bytes_of clients.old actor number) }
-    ensures others { (i n : ℕ) → KeepsCall ((actor ≡ kind.Client i) × (n ≡ number)) (ended_at clients.old i n) (ended_at clients.new i n) }
+    ensures shown { result ≡ shown_call clients.old CoreEvent.Pinned actor number }
+    ensures others { KeepsEachCall (λ i n. (actor ≡ kind.Client i) × (n ≡ number)) clients.old clients.new }
 {
     let Actor::Client(client) = actor else {
         return None;
@@ -49,7 +49,7 @@ fn take_pinned(
 
 // What a commit shows.
 fn shown_done(clients: &[CallerCalls], actor: Actor, number: u32) -> Shown
-    ensures { Some result ≡ shown_by CoreEvent.Done (answered_at clients.now actor number) (bytes_of clients.now actor number) }
+    ensures { Some result ≡ shown_call clients.now CoreEvent.Done actor number }
 {
     if is_answered(clients, actor, number) {
         Shown::Reply(Reply::Done)
@@ -60,8 +60,8 @@ fn shown_done(clients: &[CallerCalls], actor: Actor, number: u32) -> Shown
 
 // What a point shows. The bytes of a pinned point's call are taken out of its outcome.
 fn shown_at(alloc: Global, clients: &mut [CallerCalls], entry: PointEntry) -> Option<Shown>
-    ensures shown { result ≡ shown_by (event_in entry.event) (answered_at clients.old entry.actor entry.number) (bytes_of clients.old entry.actor entry.number) }
-    ensures others { (i n : ℕ) → KeepsCall ((entry.actor ≡ kind.Client i) × (n ≡ entry.number) × (event_in entry.event ≡ CoreEvent.Pinned)) (ended_at clients.old i n) (ended_at clients.new i n) }
+    ensures shown { result ≡ shown_call clients.old (event_in entry.event) entry.actor entry.number }
+    ensures others { KeepsEachCall (IsPinnedCall entry) clients.old clients.new }
 {
     match entry.event {
         Event::Answer(answer) => Some(Shown::Reply(answer.reply())),
@@ -80,8 +80,8 @@ fn push_point(
     entry: PointEntry,
 ) -> Result<(), AllocError>
     ensures lines { OnOk result (lines.new ≡ lines.old ++ line_of point (name_of entry.actor entry.number)
-        (shown_by (event_in entry.event) (answered_at clients.old entry.actor entry.number) (bytes_of clients.old entry.actor entry.number))) }
-    ensures others { (i n : ℕ) → KeepsCall ((entry.actor ≡ kind.Client i) × (n ≡ entry.number) × (event_in entry.event ≡ CoreEvent.Pinned)) (ended_at clients.old i n) (ended_at clients.new i n) }
+        (shown_call clients.old (event_in entry.event) entry.actor entry.number)) }
+    ensures others { KeepsEachCall (IsPinnedCall entry) clients.old clients.new }
 {
     let Some(call) = name_of(entry.actor, entry.number) else {
         return Ok(());
@@ -101,7 +101,7 @@ pub fn history_lines(
     clients: Vec<CallerCalls>,
 ) -> Result<ListOf<HLine>, AllocError>
     ensures { IfOk result (λ lines. (max servers : ℕ) (calls : Calls) → ServedAre max calls directory.now.core.points clients.items
-        → lines ≡ history_from max calls (answered_by (map (calling_at servers) clients.items)) 0 [] directory.now.core.points) }
+        → lines ≡ history_from max calls (answered_by (callings_at servers clients.items)) 0 [] directory.now.core.points) }
 {
     let mut lines = ListOf::new(alloc);
     let mut clients = clients;

@@ -1,10 +1,10 @@
 //! The `X` lines of calls that were refused, and the `R` lines of rebuilds.
-ghost use Rattle.std.specs.Prelude.{◌≡◌, ℕ, ◌^◌, ◌<◌, ◌++◌, length, map, IfOk, OnOk};
+ghost use Rattle.std.specs.Prelude.{◌≡◌, ℕ, ◌^◌, ◌<◌, ◌++◌, length, IfOk, OnOk};
 ghost use Rattle.transcript_text.specs.declared.call_name.CallName.TheVariants as name;
 ghost use Rattle.store_core.specs.Outcomes.{cause_of, result_of};
 ghost use Rattle.store_core.specs.Shown.{lines_of_ended, refused_line, repair_line};
 ghost use Rattle.world_lines.specs.Outcomes.{call_outcome_of};
-ghost use Rattle.world_lines.specs.Ended.{calling_at, counts_of, HaveNames};
+ghost use Rattle.world_lines.specs.Ended.{calling_at, counts_of, HaveNames, callings_at};
 ghost use Rattle.world_lines.specs.Lists.{refused_lines, repair_lines};
 
 use crate::calls::CallerCalls;
@@ -55,7 +55,7 @@ fn push_client(
 /// calls.
 pub fn refused_lines(alloc: Global, clients: &[CallerCalls]) -> Result<ListOf<XLine>, AllocError>
     requires { HaveNames (counts_of clients.now) }
-    ensures { IfOk result (λ lines. (servers : ℕ) → lines ≡ refused_lines (map (calling_at servers) clients.now)) }
+    ensures { IfOk result (λ lines. (servers : ℕ) → lines ≡ refused_lines (callings_at servers clients.now)) }
 {
     let mut lines = ListOf::new(alloc);
     for (i, client) in clients.iter().enumerate() {
@@ -104,7 +104,7 @@ fn push_repairer(
 /// The lines of the rebuilds that have ended, in the order of the repairers and of each one's calls.
 pub fn repair_lines(alloc: Global, repairers: &[CallerCalls]) -> Result<ListOf<RLine>, AllocError>
     requires { HaveNames (counts_of repairers.now) }
-    ensures { IfOk result (λ lines. (servers : ℕ) → lines ≡ repair_lines (map (calling_at servers) repairers.now)) }
+    ensures { IfOk result (λ lines. (servers : ℕ) → lines ≡ repair_lines (callings_at servers repairers.now)) }
 {
     let mut lines = ListOf::new(alloc);
     for (i, repairer) in repairers.iter().enumerate() {

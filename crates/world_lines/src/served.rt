@@ -2,8 +2,8 @@
 ghost use Rattle.std.specs.Prelude.{◌≡◌, ℕ, slice_get, option_map};
 ghost use Rattle.store_core.specs.History.{is_answered};
 ghost use Rattle.world_lines.specs.Outcomes.{call_outcome_of};
-ghost use Rattle.world_lines.specs.Served.{bytes_in, served_in, ended_at, answered_at, outcome_at, bytes_at};
-ghost use Rattle.world_lines.specs.Taken.{KeepsCall};
+ghost use Rattle.world_lines.specs.Served.{bytes_in, served_in, answered_at, outcome_at, bytes_at};
+ghost use Rattle.world_lines.specs.Taken.{KeepsCall, KeepsEachCall};
 
 use crate::calls::{CallerCalls, EndedCall};
 use crate::outcome::CallOutcome;
@@ -76,7 +76,7 @@ pub(crate) fn take_served(
     number: u32,
 ) -> Option<ByteList>
     ensures bytes { result ≡ bytes_at clients.old client number }
-    ensures others { (i n : ℕ) → KeepsCall ((i ≡ client) × (n ≡ number)) (ended_at clients.old i n) (ended_at clients.new i n) }
+    ensures others { KeepsEachCall (λ i n. (i ≡ client) × (n ≡ number)) clients.old clients.new }
 {
     let at = client as usize;
     if clients.len() <= at {

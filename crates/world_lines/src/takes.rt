@@ -1,7 +1,7 @@
 //! The `G` lines: what each call took.
-ghost use Rattle.std.specs.Prelude.{◌≡◌, ℕ, ◌^◌, ◌<◌, ◌++◌, length, map, replicate, unwrap_or, IfOk, OnOk};
+ghost use Rattle.std.specs.Prelude.{◌≡◌, ℕ, ◌^◌, ◌<◌, ◌++◌, length, replicate, unwrap_or, IfOk, OnOk};
 ghost use Rattle.store_core.specs.Shown.{lines_of_ended, lines_of_actors, take_line, take_lines};
-ghost use Rattle.world_lines.specs.Ended.{calling_at, counts_of, HaveNames};
+ghost use Rattle.world_lines.specs.Ended.{calling_at, counts_of, HaveNames, callings_at};
 ghost use Rattle.world_lines.specs.Names.{name_by};
 ghost use Rattle.world_lines.specs.Lists.{all_take_lines};
 
@@ -76,7 +76,7 @@ fn push_callers(
 ) -> Result<(), AllocError>
     requires { HaveNames (counts_of callers.now) }
     ensures { OnOk result ((servers : ℕ) → lines.new ≡ lines.old
-        ++ lines_of_actors (λ i. take_lines (name_by role i)) (map (calling_at servers) callers.now)) }
+        ++ lines_of_actors (λ i. take_lines (name_by role i)) (callings_at servers callers.now)) }
 {
     for (i, caller) in callers.iter().enumerate() {
         push_caller(alloc, lines, role, i as u32, caller)?;
@@ -93,7 +93,8 @@ pub fn take_lines(
 ) -> Result<ListOf<GLine>, AllocError>
     requires clients { HaveNames (counts_of clients.now) }
     requires repairers { HaveNames (counts_of repairers.now) }
-    ensures { IfOk result (λ lines. (servers : ℕ) → lines ≡ all_take_lines (map (calling_at servers) clients.now) (map (calling_at servers) repairers.now)) }
+    ensures { IfOk result (λ lines. (servers : ℕ) →
+        lines ≡ all_take_lines (callings_at servers clients.now) (callings_at servers repairers.now)) }
 {
     let mut lines = ListOf::new(alloc);
     push_callers(alloc, &mut lines, Role::Client, clients)?;

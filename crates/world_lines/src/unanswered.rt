@@ -1,7 +1,7 @@
 //! The `O` lines: calls that have made a step and have no outcome.
-ghost use Rattle.std.specs.Prelude.{◌≡◌, ℕ, ◌++◌, nat_lt, [], ◌∷◌, if◌then◌else◌, map, IfOk, OnOk};
+ghost use Rattle.std.specs.Prelude.{◌≡◌, ℕ, ◌++◌, nat_lt, [], ◌∷◌, if◌then◌else◌, IfOk, OnOk};
 ghost use Rattle.store_core.specs.Shown.{lines_of_actors, unanswered_line};
-ghost use Rattle.world_lines.specs.Ended.{calling_at, counts_of, HaveNames};
+ghost use Rattle.world_lines.specs.Ended.{counts_of, HaveNames, callings_at};
 ghost use Rattle.world_lines.specs.Names.{name_by};
 ghost use Rattle.world_lines.specs.Lists.{unanswered_lines};
 
@@ -29,7 +29,7 @@ fn push_callers(
 ) -> Result<(), AllocError>
     requires { HaveNames (counts_of callers.now) }
     ensures { OnOk result ((servers : ℕ) → lines.new ≡ lines.old
-        ++ lines_of_actors (λ i. unanswered_line (name_by role i)) (map (calling_at servers) callers.now)) }
+        ++ lines_of_actors (λ i. unanswered_line (name_by role i)) (callings_at servers callers.now)) }
 {
     for (i, caller) in callers.iter().enumerate() {
         let call = role.call(i as u32, caller.ended.len() as u32);
@@ -47,7 +47,8 @@ pub fn unanswered_lines(
 ) -> Result<ListOf<OLine>, AllocError>
     requires clients { HaveNames (counts_of clients.now) }
     requires repairers { HaveNames (counts_of repairers.now) }
-    ensures { IfOk result (λ lines. (servers : ℕ) → lines ≡ unanswered_lines (map (calling_at servers) clients.now) (map (calling_at servers) repairers.now)) }
+    ensures { IfOk result (λ lines. (servers : ℕ) →
+        lines ≡ unanswered_lines (callings_at servers clients.now) (callings_at servers repairers.now)) }
 {
     let mut lines = ListOf::new(alloc);
     push_callers(&mut lines, Role::Client, clients)?;

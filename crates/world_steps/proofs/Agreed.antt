@@ -1,4 +1,4 @@
--- The tokens of all actors agree with the directory after each step.
+-- The tickets of all actors agree with the directory after each step.
 use Rattle.std.proofs.Common.{◌≡◌, ◌≢◌, ℕ, zero, suc, ◌+◌, ◌≤◌, Bool, true, false, cond, List, [], ◌∷◌, Some, refl, sym, ap, subst, ◌∙◌, inl, inr, ◌⊎◌, arith, ne_eqb}
 use Rattle.std.proofs.lemmas.Bool.{cases_eq}
 use Rattle.std.proofs.lemmas.Option.{none-some, same_Some}
@@ -78,7 +78,7 @@ all_changed who_of d actors i now keeps others j a e = by (cases_eq j i)
         subst (λ n. KeepsToken d (who_of n) a) (sym same) (subst (KeepsToken d (who_of i)) here keeps)
     by (inr apart) = others j a apart (sym (slice_get-change_at i j (λ _. now) actors apart) ∙ e)
 
--- ---- another actor's token
+-- ---- another actor's ticket
 other_keeps : (before after : Directory) (who : Actor) (a : ActorOf) → KeepsToken before who a → (Agrees before (token_of a.doing) → Agrees after (token_of a.doing)) → KeepsToken after who a
 other_keeps before after who a keeps agrees = record { whose = keeps.whose; agrees = agrees keeps.agrees; numbered = keeps.numbered }
 

@@ -15,7 +15,7 @@ use Rattle.call_stands.specs.Stands.{IsFirst}
 use Rattle.world_steps.specs.World.{DoingOf, ActorOf, steps_of}
 use Rattle.world_steps.specs.Known.{calling_of}
 
--- a call that begins: that of the next job, with the actor's token
+-- a call that begins: that of the next job, with the actor's ticket
 pub record Begins (script : Script) (jobs : List Job) (ended : List Ended) (token : ActorToken) (c : CallOf) : Type 0 where
   pub job : Job
   pub is_next : slice_get jobs (length ended) ≡ Some job

@@ -11,11 +11,11 @@ use Rattle.sweeper.specs.Sweeps.{new_sweeper}
 use Rattle.world_steps.specs.World.{DoingOf, ActorOf, WorldOf}
 use Rattle.world_steps.specs.StandsFor.{StandsFor}
 
--- an actor before its first call, with its token
+-- an actor before its first call, with its ticket
 abbrev pub new_actor : ActorToken → ActorOf
 new_actor token = record { ended = []; doing = DoingOf.Between token }
 
--- it is before its first call, with some token
+-- it is before its first call, with some ticket
 abbrev pub IsNew : ActorOf → Type 0
 IsNew a = (token : ActorToken) × (a ≡ new_actor token)
 

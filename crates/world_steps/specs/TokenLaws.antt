@@ -1,4 +1,4 @@
--- The directory agrees with the tokens of all actors, after every step.
+-- The directory agrees with the tickets of all actors, after every step.
 use Rattle.std.specs.Prelude.{◌≡◌, ℕ, Bool, false, Some}
 use Rattle.std.specs.List.{slice_get}
 use Rattle.store_map.specs.declared.actor.Actor.{Actor}
@@ -20,7 +20,7 @@ use Rattle.world_steps.specs.FirstWorld.{IsFirstWorld, new_actor}
 use Rattle.world_steps.specs.ActorAfter.{HasTurn, actor_after}
 use Rattle.world_steps.specs.Tokens.{TokensAgree, first_token}
 
--- in the first world, where each actor has the token of its own
+-- in the first world, where each actor has the ticket of its own
 abbrev pub FirstTokensAgree : Type 0
 FirstTokensAgree =
     (script : Script) (w : WorldOf) → IsFirstWorld script w →
@@ -28,7 +28,7 @@ FirstTokensAgree =
     ((i : ℕ) (a : ActorOf) → slice_get w.repairers i ≡ Some a → a ≡ new_actor (first_token (actor.Repairer i))) →
     TokensAgree w
 
--- an actor's turn, where `put` puts it back: if at the directory the token that its call has then agrees, so do all
+-- an actor's turn, where `put` puts it back: if at the directory the ticket that its call has then agrees, so do all
 pub record TurnsAgree (script : Script) (who : Actor) (a : ActorOf) (put : ActorOf → WorldOf → WorldOf) (w : WorldOf) : Type 0 where
   pub pass : (work : Work) (c : CallOf) → HasTurn script who work a c → HoldsItsPass c → HasPassOfItsKind w.directory c
   pub directory :
@@ -40,7 +40,7 @@ pub record TurnsAgree (script : Script) (who : Actor) (a : ActorOf) (put : Actor
       let stepped : Server × CallOf = stepped_at_server short due (ready coding c) s in
       TokensAgree (put (actor_after stepped.1 a) (with_server server stepped.0 w))
 
--- in a world whose tokens agree: turns of clients and repairers, and steps of the sweeper and the operator at the directory
+-- in a world whose tickets agree: turns of clients and repairers, and steps of the sweeper and the operator at the directory
 pub record TokensStayAgreed (script : Script) (w : WorldOf) : Type 0 where
   pub client : (i : ℕ) (a : ActorOf) → slice_get w.clients i ≡ Some a → TurnsAgree script (actor.Client i) a (with_client i) w
   pub repairer : (i : ℕ) (a : ActorOf) → slice_get w.repairers i ≡ Some a → TurnsAgree script (actor.Repairer i) a (with_repairer i) w

@@ -8,7 +8,7 @@ use Rattle.store_core.specs.Work.{Ended}
 use Rattle.call_steps.specs.CallOf.{CallOf}
 use Rattle.sweeper.specs.Sweeps.{SweeperOf}
 
--- what an actor does: it waits between two calls with its token, or it is in a call that has made so many steps
+-- what an actor does: it waits between two calls with its ticket, or it is in a call that has made so many steps
 pub data DoingOf : Type 0 where
   Between : (token : ActorToken) → DoingOf
   InCall : (call : CallOf) (steps : ℕ) → DoingOf

@@ -63,8 +63,8 @@ pub fn worlds_show()
     ensures { (script : Script) (w : WorldOf) → WorldsShow script w }
 {}
 
-/// The first directory agrees with the first tokens of all actors; and where the directory of a world
-/// agrees with the tokens of all its actors, it does so after each step. A call's number is how many of
+/// The first directory agrees with the first tickets of all actors; and where the directory of a world
+/// agrees with the tickets of all its actors, it does so after each step. A call's number is how many of
 /// its actor's calls ended before it, and between two calls the next number is unused.
 pub fn tokens_agree()
     ensures first { FirstTokensAgree }

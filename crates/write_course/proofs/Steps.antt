@@ -16,13 +16,13 @@ use Rattle.store_resume.specs.State.{State}
 use Rattle.store_resume.specs.States.{settle_state}
 use Rattle.store_resume.specs.WriteAfter.{preparing_after}
 use Rattle.version_seal.specs.Entry.{StampOf}
-use Rattle.write_course.specs.Chunks.{StripeOf, new_stripe, with_placement, IsAfterPrepare}
+use Rattle.write_course.specs.Chunks.{PlacingOf, new_placing, with_placement, IsAfterPrepare}
 use Rattle.write_course.specs.States.{Prepared, settles_or_is_done, servers_from, places_from, row_in, state_by, placed_on}
 use Rattle.write_course.specs.Writings.{WritingOf, versions_of, is_preparing, is_settling}
 use Rattle.write_course.specs.WritingSteps.{stepped, IsDoing}
 use Rattle.write_course.specs.Inside.{prepared_in, settled_in, writing_in, due_by, IsAtWork, IsPreparing, IsSettling, Keeps, IsWriting}
-use Rattle.write_course.specs.declared.doing.Doing.{Doing}
-use Rattle.write_course.specs.declared.doing.Doing.TheVariants as doing
+use Rattle.write_course.specs.declared.writing_stage.WritingStage.{WritingStage}
+use Rattle.write_course.specs.declared.writing_stage.WritingStage.TheVariants as doing
 use Rattle.write_course.specs.declared.writing.Writing.TheInside.{Inside}
 use Rattle.write_course.proofs.Kept.{prepares, is_settled, nothing_due, due_prepares, settles_undue, placed_kept, placed_whole}
 use Rattle.write_course.proofs.Transitions.{goes_on, settles, settles_more, settles_next, settle_steps}
@@ -53,7 +53,7 @@ module _ (a : Inside) (kept : IsWriting a) (old : WritingOf) (view : writing_in 
       subst (λ d. Keeps d a.opening.geometry a.stamps.items (vec_capacity a.rows) (prepared_in a) (settled_in a)) (preparing_is e) kept.kept
 
   -- and of the version at work
-  pub keeps_at_work : is_preparing old.state ≡ true → (stripe : StripeOf) → a.work ≡ Some stripe
+  pub keeps_at_work : is_preparing old.state ≡ true → (stripe : PlacingOf) → a.work ≡ Some stripe
       → IsAtWork a.opening.geometry a.stamps.items (prepared_in a).rows (vec_capacity a.rows) stripe
   keeps_at_work e stripe is =
       subst (λ work. IfSome work (λ stripe. IsAtWork a.opening.geometry a.stamps.items (prepared_in a).rows (vec_capacity a.rows) stripe)) is (keeps_preparing e).working
@@ -64,9 +64,9 @@ module _ (a : Inside) (kept : IsWriting a) (old : WritingOf) (view : writing_in 
       subst (λ d. Keeps d a.opening.geometry a.stamps.items (vec_capacity a.rows) (prepared_in a) (settled_in a)) (settling_is e) kept.kept
 
   -- a chunk was prepared
-  pub prepare_core : is_preparing old.state ≡ true → (stripe : StripeOf) → a.work ≡ Some stripe
-      → (before after : Server) (next : StripeOf) → IsAfterPrepare stripe before after next
-      → (now : Doing × Prepared) → now ≡ placed_on a.opening.geometry (length a.stamps.items) (prepared_in a).rows next
+  pub prepare_core : is_preparing old.state ≡ true → (stripe : PlacingOf) → a.work ≡ Some stripe
+      → (before after : Server) (next : PlacingOf) → IsAfterPrepare stripe before after next
+      → (now : WritingStage × Prepared) → now ≡ placed_on a.opening.geometry (length a.stamps.items) (prepared_in a).rows next
       → (after, state_by now.0 a.opening.geometry a.first (versions_of a.stamps.items) now.1 (settled_in a)) ≡ stepped old.book.geometry false before old.state
   prepare_core e stripe is before after next prepared now goes =
       let g : Shape = a.opening.geometry in
@@ -85,7 +85,7 @@ module _ (a : Inside) (kept : IsWriting a) (old : WritingOf) (view : writing_in 
       = goes ∙ (λ i. placed_on a.opening.geometry (count i) (prepared_in a).rows (prepared.noted i)) in
       let new : state_by now.0 g a.first versions now.1 (settled_in a)
       ≡ preparing_after g (a.first + length rows) (get_or versions (length rows) 0) (servers_from g (length stripe.row + 1)) stripe.row (drop (length rows + 1) versions) rows versions (Told.Prepared prepared.placement)
-      = ap (λ (now : Doing × Prepared). state_by now.0 a.opening.geometry a.first (versions_of a.stamps.items) now.1 (settled_in a)) now_is
+      = ap (λ (now : WritingStage × Prepared). state_by now.0 a.opening.geometry a.first (versions_of a.stamps.items) now.1 (settled_in a)) now_is
       ∙ goes_on g a.first versions kept.servers rows stripe prepared.placement (settled_in a) at_work.left in
       let step : (after, Told.Prepared prepared.placement) ≡ at_server false (ServerStep.Prepare (get_or versions (length rows) 0)) before
       = prepared.step ∙ ap (λ v. at_server false (ServerStep.Prepare v) before) own in
@@ -116,7 +116,7 @@ module _ (a : Inside) (kept : IsWriting a) (old : WritingOf) (view : writing_in 
       ∙ settles_more a.opening.geometry a.first (versions_of a.stamps.items) kept.servers a.point.0 a.at (a.server + 1) left)
 
   -- after the last one
-  pub settle_next : is_settling old.state ≡ true → (before after : Server) (version : ℕ) (now : Doing) → version ≡ get_or (versions_of a.stamps.items) a.at 0
+  pub settle_next : is_settling old.state ≡ true → (before after : Server) (version : ℕ) (now : WritingStage) → version ≡ get_or (versions_of a.stamps.items) a.at 0
       → (after, Told.Settled) ≡ at_server false (ServerStep.Settle version) before → chunk_count a.opening.geometry ≤ a.server + 1
       → now ≡ settles_or_is_done (a.at + 1) (length a.stamps.items)
       → (after, state_by now a.opening.geometry a.first (versions_of a.stamps.items) (prepared_in a) (record { point = a.point.0; at = a.at + 1; server = 0 }))
@@ -128,7 +128,7 @@ module _ (a : Inside) (kept : IsWriting a) (old : WritingOf) (view : writing_in 
       ∙ settles_next a.opening.geometry a.first (versions_of a.stamps.items) kept.servers (prepared_in a) a.point.0 a.at (a.server + 1) past)
 
   -- the commit's point has come
-  pub committed_core : IsDoing doing.Committed old → (point : Point) (now : Doing) → now ≡ settles_or_is_done 0 (length a.stamps.items)
+  pub committed_core : IsDoing doing.Committed old → (point : Point) (now : WritingStage) → now ≡ settles_or_is_done 0 (length a.stamps.items)
       → writing_in (record a { doing = now; point = point; at = 0; server = 0 })
       ≡ record old { state = settle_state point.0 (places_of (chunk_count old.book.geometry) (versions_of old.stamps)) }
   committed_core e point now is =
@@ -148,17 +148,17 @@ module _ (a : Inside) (kept : IsWriting a) (old : WritingOf) (view : writing_in 
       inside ∙ ap (λ (w : WritingOf). record w { state = settle_state point.0 (places_of (chunk_count w.book.geometry) (versions_of w.stamps)) }) view
 
   -- a chunk was prepared: what is kept then
-  pub prepared_kept : is_preparing old.state ≡ true → (stripe : StripeOf) → a.work ≡ Some stripe
-      → (before after : Server) (next : StripeOf) → IsAfterPrepare stripe before after next
-      → (now : Doing × Prepared) → now ≡ placed_on a.opening.geometry (length a.stamps.items) (prepared_in a).rows next
+  pub prepared_kept : is_preparing old.state ≡ true → (stripe : PlacingOf) → a.work ≡ Some stripe
+      → (before after : Server) (next : PlacingOf) → IsAfterPrepare stripe before after next
+      → (now : WritingStage × Prepared) → now ≡ placed_on a.opening.geometry (length a.stamps.items) (prepared_in a).rows next
       → All (IsRow a.opening.geometry) now.1.rows × Keeps now.0 a.opening.geometry a.stamps.items (vec_capacity a.rows) now.1 (settled_in a)
   prepared_kept e stripe is before after next prepared now goes =
       let at_work : IsAtWork a.opening.geometry a.stamps.items (prepared_in a).rows (vec_capacity a.rows) stripe = keeps_at_work e stripe is in
       let now_is : placed_on a.opening.geometry (length a.stamps.items) (prepared_in a).rows (with_placement stripe prepared.placement) ≡ now
-      = sym (goes ∙ ap (λ (stripe : StripeOf). placed_on a.opening.geometry (length a.stamps.items) (prepared_in a).rows stripe) prepared.noted) in (
-        subst (λ (now : Doing × Prepared). All (IsRow a.opening.geometry) now.1.rows) now_is
+      = sym (goes ∙ ap (λ (stripe : PlacingOf). placed_on a.opening.geometry (length a.stamps.items) (prepared_in a).rows stripe) prepared.noted) in (
+        subst (λ (now : WritingStage × Prepared). All (IsRow a.opening.geometry) now.1.rows) now_is
             (placed_whole a.opening.geometry a.stamps.items (vec_capacity a.rows) (settled_in a) (prepared_in a).rows stripe prepared.placement (length a.stamps.items) at_work.left kept.whole),
-        subst (λ (now : Doing × Prepared). Keeps now.0 a.opening.geometry a.stamps.items (vec_capacity a.rows) now.1 (settled_in a)) now_is
+        subst (λ (now : WritingStage × Prepared). Keeps now.0 a.opening.geometry a.stamps.items (vec_capacity a.rows) now.1 (settled_in a)) now_is
             (placed_kept a.opening.geometry a.stamps.items (vec_capacity a.rows) (settled_in a) (prepared_in a).rows stripe prepared.placement (length a.stamps.items) refl (keeps_preparing e).more at_work),
       )
 
@@ -171,13 +171,13 @@ module _ (a : Inside) (kept : IsWriting a) (old : WritingOf) (view : writing_in 
       subst (λ d. Keeps d a.opening.geometry a.stamps.items (vec_capacity a.rows) (prepared_in a) (settled_in a)) (due_is e) kept.kept
 
   -- they were made
-  pub encoded_kept : old.due ≡ true → (rows : List (List Placement)) (room : ℕ) (stripe : StripeOf) (stamp : StampOf) → rows ≡ (prepared_in a).rows → length rows < room
-      → stripe ≡ new_stripe a.opening.geometry stamp → slice_get a.stamps.items (length rows) ≡ Some stamp
+  pub encoded_kept : old.due ≡ true → (rows : List (List Placement)) (room : ℕ) (stripe : PlacingOf) (stamp : StampOf) → rows ≡ (prepared_in a).rows → length rows < room
+      → stripe ≡ new_placing a.opening.geometry stamp → slice_get a.stamps.items (length rows) ≡ Some stamp
       → Keeps a.doing a.opening.geometry a.stamps.items room (record { rows = rows; work = Some stripe }) (settled_in a)
   encoded_kept e rows room stripe stamp same left is own =
       let more : length rows < length a.stamps.items = subst (λ (rows : List (List Placement)). length rows < length a.stamps.items) (sym same) (keeps_due e).more in
       let servers : 0 < chunk_count a.opening.geometry = kept.servers in
-      let begun : IsAtWork a.opening.geometry a.stamps.items rows room (new_stripe a.opening.geometry stamp)
+      let begun : IsAtWork a.opening.geometry a.stamps.items rows room (new_placing a.opening.geometry stamp)
       = record { code = refl; own = own; left = servers; few = omega arith; room_left = left } in
       subst (λ d. Keeps d a.opening.geometry a.stamps.items room (record { rows = rows; work = Some stripe }) (settled_in a)) (sym (due_is e))
       (record { more = more; working = subst (IsAtWork a.opening.geometry a.stamps.items rows room) (sym is) begun })

@@ -1,4 +1,4 @@
--- The token of a call that writes.
+-- The ticket of a call that writes.
 use Rattle.std.proofs.Common.{◌≡◌, ℕ, ◌+◌, Bool, true, false, cond, ltb, List, [], ◌∷◌, ◌++◌, Some, refl, sym, ap, subst, ◌∙◌}
 use Rattle.std.specs.List.{range_with_len}
 use Rattle.clay_grid.specs.Shape.{Shape, chunk_count}
@@ -77,7 +77,7 @@ module _ (number : ℕ) (note : Note) (drawn : List ℕ) (token : ActorToken) wh
   holds_to_end (State.Ending outcome) h e = (h.0, record { ending = outcome; is = refl; pointless = h.1 })
   holds_to_end _ h e = absurd (cc)
 
--- a token stays with its actor
+-- a ticket stays with its actor
 looks_stay : (seat : Seat) (number : ℕ) (note : Note) (told : Told) → actor_of (after_look seat number note told) ≡ seat.actor
 looks_stay seat number note (Told.Answer point answer) = refl
 looks_stay seat number note (Told.Pinned point length_now seen) = refl

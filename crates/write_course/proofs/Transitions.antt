@@ -13,11 +13,11 @@ use Rattle.store_core.specs.Server.{Server, at_server}
 use Rattle.store_resume.specs.State.{State}
 use Rattle.store_resume.specs.States.{prepare_state, prepare_all_state, settle_state}
 use Rattle.store_resume.specs.WriteAfter.{preparing_after, prepare_rest_state}
-use Rattle.write_course.specs.Chunks.{StripeOf, with_placement}
+use Rattle.write_course.specs.Chunks.{PlacingOf, with_placement}
 use Rattle.write_course.specs.States.{Prepared, Settled, prepares_or_commits, settles_or_is_done, servers_from, places_from, state_by, placed_on}
 use Rattle.write_course.specs.WritingSteps.{stepped}
-use Rattle.write_course.specs.declared.doing.Doing.{Doing}
-use Rattle.write_course.specs.declared.doing.Doing.TheVariants as doing
+use Rattle.write_course.specs.declared.writing_stage.WritingStage.{WritingStage}
+use Rattle.write_course.specs.declared.writing_stage.WritingStage.TheVariants as doing
 
 module _ (g : Shape) where
   -- the servers from one on begin with it
@@ -60,14 +60,14 @@ module _ (g : Shape) where
             sym (ap (λ left. prepare_all_state g versions (first + length rows) left rows) (drop_all (length rows) versions past))
 
     -- a server more has answered
-    pub goes_on : (rows : List (List Placement)) (stripe : StripeOf) (next : Placement) (s : Settled) → length stripe.row < chunk_count g
+    pub goes_on : (rows : List (List Placement)) (stripe : PlacingOf) (next : Placement) (s : Settled) → length stripe.row < chunk_count g
         → state_by (placed_on g (length versions) rows (with_placement stripe next)).0 g first versions (placed_on g (length versions) rows (with_placement stripe next)).1 s
         ≡ preparing_after g (first + length rows) (get_or versions (length rows) 0) (servers_from g (length stripe.row + 1)) stripe.row (drop (length rows + 1) versions) rows versions (Told.Prepared next)
     goes_on rows stripe next s left = many (ltb g.parity_count (skipped_count (stripe.row ++ next ∷ [])))
       where
         more : (c : Bool) → ltb (length (stripe.row ++ next ∷ [])) (chunk_count g) ≡ c
-            → state_by (cond {A = Doing × Prepared} c (doing.Preparing, record { rows = rows; work = Some (with_placement stripe next) }) (prepares_or_commits (length rows + 1) (length versions), record { rows = rows ++ (stripe.row ++ next ∷ []) ∷ []; work = None })).0 g first versions
-            (cond {A = Doing × Prepared} c (doing.Preparing, record { rows = rows; work = Some (with_placement stripe next) }) (prepares_or_commits (length rows + 1) (length versions), record { rows = rows ++ (stripe.row ++ next ∷ []) ∷ []; work = None })).1 s
+            → state_by (cond {A = WritingStage × Prepared} c (doing.Preparing, record { rows = rows; work = Some (with_placement stripe next) }) (prepares_or_commits (length rows + 1) (length versions), record { rows = rows ++ (stripe.row ++ next ∷ []) ∷ []; work = None })).0 g first versions
+            (cond {A = WritingStage × Prepared} c (doing.Preparing, record { rows = rows; work = Some (with_placement stripe next) }) (prepares_or_commits (length rows + 1) (length versions), record { rows = rows ++ (stripe.row ++ next ∷ []) ∷ []; work = None })).1 s
             ≡ prepare_rest_state g (first + length rows) (get_or versions (length rows) 0) (servers_from g (length stripe.row + 1)) (stripe.row ++ next ∷ []) (drop (length rows + 1) versions) rows versions
         more true e =
             let one : length (stripe.row ++ next ∷ []) ≡ length stripe.row + 1 = length_push stripe.row next in
@@ -88,8 +88,8 @@ module _ (g : Shape) where
             ∙ sym (ap (λ servers. prepare_rest_state g (first + length rows) (get_or versions (length rows) 0) servers (stripe.row ++ next ∷ []) (drop (length rows + 1) versions) rows versions) (servers_none (length stripe.row + 1) none))
 
         many : (b : Bool)
-            → state_by (cond {A = Doing × Prepared} b (doing.TooManyAway, record { rows = rows; work = Some (with_placement stripe next) }) (cond (ltb (length (stripe.row ++ next ∷ [])) (chunk_count g)) (doing.Preparing, record { rows = rows; work = Some (with_placement stripe next) }) (prepares_or_commits (length rows + 1) (length versions), record { rows = rows ++ (stripe.row ++ next ∷ []) ∷ []; work = None }))).0 g first versions
-            (cond {A = Doing × Prepared} b (doing.TooManyAway, record { rows = rows; work = Some (with_placement stripe next) }) (cond (ltb (length (stripe.row ++ next ∷ [])) (chunk_count g)) (doing.Preparing, record { rows = rows; work = Some (with_placement stripe next) }) (prepares_or_commits (length rows + 1) (length versions), record { rows = rows ++ (stripe.row ++ next ∷ []) ∷ []; work = None }))).1 s
+            → state_by (cond {A = WritingStage × Prepared} b (doing.TooManyAway, record { rows = rows; work = Some (with_placement stripe next) }) (cond (ltb (length (stripe.row ++ next ∷ [])) (chunk_count g)) (doing.Preparing, record { rows = rows; work = Some (with_placement stripe next) }) (prepares_or_commits (length rows + 1) (length versions), record { rows = rows ++ (stripe.row ++ next ∷ []) ∷ []; work = None }))).0 g first versions
+            (cond {A = WritingStage × Prepared} b (doing.TooManyAway, record { rows = rows; work = Some (with_placement stripe next) }) (cond (ltb (length (stripe.row ++ next ∷ [])) (chunk_count g)) (doing.Preparing, record { rows = rows; work = Some (with_placement stripe next) }) (prepares_or_commits (length rows + 1) (length versions), record { rows = rows ++ (stripe.row ++ next ∷ []) ∷ []; work = None }))).1 s
             ≡ cond b (State.Ending (Outcome.Unavailable (first + length rows) (skipped_from 0 (stripe.row ++ next ∷ []))))
             (prepare_rest_state g (first + length rows) (get_or versions (length rows) 0) (servers_from g (length stripe.row + 1)) (stripe.row ++ next ∷ []) (drop (length rows + 1) versions) rows versions)
         many true = refl

@@ -1,5 +1,5 @@
 -- The stamps that a put or a write draws.
-use Rattle.std.specs.Prelude.{Bool, List, [], Some}
+use Rattle.std.specs.Prelude.{Bool, List, [], ◌++◌, Some}
 use Rattle.clay_grid.specs.Shape.{stripe_length}
 use Rattle.store_map.specs.declared.call.Call.{Call}
 use Rattle.store_core.specs.Told.{Told}
@@ -35,3 +35,7 @@ stamps_by act short s c written = []
 -- of its next act there
 abbrev pub stamps_drawn : Bool → Sealed → CallOf → Call → List StampOf
 stamps_drawn short s c written = stamps_by (act_of c) short s c written
+
+-- what the directory keeps afterwards: they come behind those that were there
+abbrev pub stamps_after : Bool → Sealed → CallOf → Call → List StampOf
+stamps_after short s c written = s.stamps ++ stamps_drawn short s c written

@@ -1,4 +1,4 @@
--- The token of a call that writes, by where it stands from its draw on.
+-- The ticket of a call that writes, by where it stands from its draw on.
 use Rattle.std.specs.Prelude.{◌≡◌, ⊤, ℕ, List, length, All, None}
 use Rattle.clay_grid.specs.Shape.{Shape}
 use Rattle.store_core.specs.Note.{Note}
@@ -23,7 +23,7 @@ pub record IsPassing (number : ℕ) (note : Note) (token : ActorToken) : Type 0 
   pub drawn : List ℕ
   pub holding : IsHolding number note drawn token
 
--- while there is a writing the token is the pass up to the commit, and a seat from then on
+-- while there is a writing the ticket is the pass up to the commit, and a seat from then on
 abbrev pub HasToken : ℕ → Note → List ℕ → ActorToken → State → Type 0
 HasToken number note drawn token (State.Preparing stripe version server servers row later placed versions) = IsHolding number note drawn token
 HasToken number note drawn token (State.Committing versions placed) = IsHolding number note drawn token

@@ -5,11 +5,11 @@ use Rattle.clay_grid.specs.Shape.{Shape, chunk_count}
 use Rattle.store_map.specs.declared.placement.Placement.{Placement}
 use Rattle.store_core.specs.Placements.{IsRow, skipped_count}
 use Rattle.version_seal.specs.Entry.{StampOf}
-use Rattle.write_course.specs.Chunks.{StripeOf}
+use Rattle.write_course.specs.Chunks.{PlacingOf}
 use Rattle.write_course.specs.States.{Prepared, Settled, state_by}
 use Rattle.write_course.specs.Writings.{WritingOf, versions_of}
-use Rattle.write_course.specs.declared.doing.Doing.{Doing}
-use Rattle.write_course.specs.declared.doing.Doing.TheVariants as doing
+use Rattle.write_course.specs.declared.writing_stage.WritingStage.{WritingStage}
+use Rattle.write_course.specs.declared.writing_stage.WritingStage.TheVariants as doing
 use Rattle.write_course.specs.declared.writing.Writing.TheInside.{Inside}
 
 -- the rows of placements
@@ -20,7 +20,7 @@ abbrev pub settled_in : Inside → Settled
 settled_in a = record { point = a.point.0; at = a.at; server = a.server }
 
 -- chunks are to be made of a version at work that has none
-abbrev pub due_by : Doing → Option StripeOf → Bool
+abbrev pub due_by : WritingStage → Option PlacingOf → Bool
 due_by doing.Preparing None = true
 due_by _ work = false
 
@@ -36,17 +36,17 @@ writing_in a =
     }
 
 -- the version at work is the one after those that are prepared, a server is left to be asked, not too many were away, and there is room for its row
-pub record IsAtWork (g : Shape) (stamps : List StampOf) (rows : List (List Placement)) (room : ℕ) (stripe : StripeOf) : Type 0 where
-  pub code : stripe.geometry ≡ g
-  pub own : slice_get stamps (length rows) ≡ Some stripe.stamp
-  pub left : length stripe.row < chunk_count g
-  pub few : skipped_count stripe.row ≤ g.parity_count
+pub record IsAtWork (g : Shape) (stamps : List StampOf) (rows : List (List Placement)) (room : ℕ) (placing : PlacingOf) : Type 0 where
+  pub code : placing.geometry ≡ g
+  pub own : slice_get stamps (length rows) ≡ Some placing.stamp
+  pub left : length placing.row < chunk_count g
+  pub few : skipped_count placing.row ≤ g.parity_count
   pub room_left : length rows < room
 
 -- while chunks are prepared
 pub record IsPreparing (g : Shape) (stamps : List StampOf) (room : ℕ) (p : Prepared) : Type 0 where
   pub more : length p.rows < length stamps
-  pub working : IfSome p.work (λ stripe. IsAtWork g stamps p.rows room stripe)
+  pub working : IfSome p.work (λ placing. IsAtWork g stamps p.rows room placing)
 
 -- while chunks are settled
 pub record IsSettling (g : Shape) (stamps : List StampOf) (s : Settled) : Type 0 where
@@ -59,7 +59,7 @@ pub record IsGivenUp (stamps : List StampOf) (p : Prepared) : Type 0 where
   pub there : IsTrue (is_some p.work)
 
 -- by what is done
-abbrev pub Keeps : Doing → Shape → List StampOf → ℕ → Prepared → Settled → Type 0
+abbrev pub Keeps : WritingStage → Shape → List StampOf → ℕ → Prepared → Settled → Type 0
 Keeps doing.Preparing g stamps room p s = IsPreparing g stamps room p
 Keeps doing.Committing g stamps room p s = length p.rows ≡ length stamps
 Keeps doing.Settling g stamps room p s = IsSettling g stamps s

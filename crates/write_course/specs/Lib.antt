@@ -1,5 +1,5 @@
 pub mod Chunks
-pub mod StripeInside
+pub mod PlacingInside
 pub mod States
 pub mod Writings
 pub mod WritingSteps

@@ -8,15 +8,15 @@ use Rattle.store_core.specs.Lists.{places_of}
 use Rattle.store_core.specs.Placements.{skipped_from, skipped_count}
 use Rattle.store_core.specs.Act.{Outcome}
 use Rattle.store_resume.specs.State.{State}
-use Rattle.write_course.specs.Chunks.{StripeOf}
-use Rattle.write_course.specs.declared.doing.Doing.{Doing}
-use Rattle.write_course.specs.declared.doing.Doing.TheVariants as doing
+use Rattle.write_course.specs.Chunks.{PlacingOf}
+use Rattle.write_course.specs.declared.writing_stage.WritingStage.{WritingStage}
+use Rattle.write_course.specs.declared.writing_stage.WritingStage.TheVariants as doing
 
 -- where so many versions of all are prepared, and where so many are settled
-abbrev pub prepares_or_commits : ℕ → ℕ → Doing
+abbrev pub prepares_or_commits : ℕ → ℕ → WritingStage
 prepares_or_commits prepared versions = if nat_lt prepared versions then doing.Preparing else doing.Committing
 
-abbrev pub settles_or_is_done : ℕ → ℕ → Doing
+abbrev pub settles_or_is_done : ℕ → ℕ → WritingStage
 settles_or_is_done settled versions = if nat_lt settled versions then doing.Settling else doing.Done
 
 -- the servers from one on
@@ -29,14 +29,14 @@ places_from g versions at server =
     map (λ other. (other, get_or versions at 0)) (servers_from g server) ++ places_of (chunk_count g) (drop (at + 1) versions)
 
 -- what the servers answered for the version at work
-abbrev pub row_in : Option StripeOf → List Placement
+abbrev pub row_in : Option PlacingOf → List Placement
 row_in None = []
-row_in (Some stripe) = stripe.row
+row_in (Some placing) = placing.row
 
 -- the rows of the versions before the one at work, and what there is of that one
 pub record Prepared : Type 0 where
   pub rows : List (List Placement)
-  pub work : Option StripeOf
+  pub work : Option PlacingOf
 
 -- the commit's point, the place of the version whose chunk is settled next, and the server
 pub record Settled : Type 0 where
@@ -45,7 +45,7 @@ pub record Settled : Type 0 where
   pub server : ℕ
 
 -- by what is done; first is the stripe of the first version
-abbrev pub state_by : Doing → Shape → ℕ → List ℕ → Prepared → Settled → State
+abbrev pub state_by : WritingStage → Shape → ℕ → List ℕ → Prepared → Settled → State
 state_by doing.Preparing g first versions p s =
     let at : ℕ = length p.rows in
     let server : ℕ = length (row_in p.work) in
@@ -58,8 +58,8 @@ state_by doing.TooManyAway g first versions p s = State.Ending (Outcome.Unavaila
 state_by doing.Short g first versions p s = State.Ending Outcome.NoMemory
 
 -- after a version's answer: its row goes to the others once it is whole, unless too many servers were away
-abbrev pub placed_on : Shape → ℕ → List (List Placement) → StripeOf → Doing × Prepared
-placed_on g versions rows stripe =
-    if nat_lt g.parity_count (skipped_count stripe.row) then (doing.TooManyAway, record { rows = rows; work = Some stripe })
-    else (if nat_lt (length stripe.row) (chunk_count g) then (doing.Preparing, record { rows = rows; work = Some stripe })
-    else (prepares_or_commits (length rows + 1) versions, record { rows = rows ++ stripe.row ∷ []; work = None }))
+abbrev pub placed_on : Shape → ℕ → List (List Placement) → PlacingOf → WritingStage × Prepared
+placed_on g versions rows placing =
+    if nat_lt g.parity_count (skipped_count placing.row) then (doing.TooManyAway, record { rows = rows; work = Some placing })
+    else (if nat_lt (length placing.row) (chunk_count g) then (doing.Preparing, record { rows = rows; work = Some placing })
+    else (prepares_or_commits (length rows + 1) versions, record { rows = rows ++ placing.row ∷ []; work = None }))

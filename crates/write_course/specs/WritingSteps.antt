@@ -10,8 +10,8 @@ use Rattle.store_resume.specs.State.{State}
 use Rattle.store_resume.specs.States.{settle_state}
 use Rattle.store_resume.specs.WriteAfter.{preparing_after}
 use Rattle.write_course.specs.Writings.{WritingOf, versions_of, is_preparing, is_settling}
-use Rattle.write_course.specs.declared.doing.Doing.{Doing}
-use Rattle.write_course.specs.declared.doing.Doing.TheVariants as doing
+use Rattle.write_course.specs.declared.writing_stage.WritingStage.{WritingStage}
+use Rattle.write_course.specs.declared.writing_stage.WritingStage.TheVariants as doing
 
 -- one step at the server, in which memory was wanting or not
 abbrev pub stepped : Shape → Bool → Server → State → Server × State
@@ -24,7 +24,7 @@ stepped g short s (State.Settling point place places) =
 stepped g short s at = (s, at)
 
 -- what a writing's state is, by what it does next
-abbrev pub IsDoing : Doing → WritingOf → Type 0
+abbrev pub IsDoing : WritingStage → WritingOf → Type 0
 IsDoing doing.Preparing w = is_preparing w.state ≡ true
 IsDoing doing.Committing w = (placed : List (List Placement)) × (w.state ≡ State.Committing (versions_of w.stamps) placed)
 IsDoing doing.Committed w = w.state ≡ State.Committed (versions_of w.stamps)

@@ -1,17 +1,17 @@
 //! What a call needs that stands in a writing, and how it ends there.
-ghost use Rattle.std.specs.Prelude.{◌≡◌, ◌<◌, ℕ, List, true};
+ghost use Rattle.std.specs.Prelude.{◌≡◌, ℕ, List, true};
 ghost use Rattle.clay_grid.specs.Shape.{chunk_count};
 ghost use Rattle.store_core.specs.NextAct.{Job};
 ghost use Rattle.store_resume.specs.State.{State};
 ghost use Rattle.store_resume.specs.StateActs.{act_at};
 ghost use Rattle.call_steps.specs.Ends.{finished_of, IsStanding, IsOver};
 ghost use Rattle.call_steps.specs.Outcomes.{outcome_of};
-ghost use Rattle.call_steps.specs.Steps.{need_by, IfServer};
+ghost use Rattle.call_steps.specs.Steps.{need_by, IsServerBelow};
 ghost use Rattle.write_course.specs.Writings.{begins_version};
 ghost use Rattle.write_course.specs.Holding.{HasWholeRows};
 
-use crate::doing::Doing;
 use crate::writing::Writing;
+use crate::writing_stage::WritingStage;
 use call_steps::{Need, Outcome};
 use store_map::Reply;
 
@@ -30,7 +30,7 @@ impl Writing {
         ensures need { (tries : ℕ) (job : Job) (pairs : List (ℕ × ℕ)) → result
             ≡ need_by (act_at self.now.book.geometry tries job pairs self.now.state) self.now.due }
         ensures begins { self.now.due ≡ true → begins_version self.now.state ≡ true }
-        ensures below { IfServer result (λ server. server < chunk_count self.now.book.geometry) }
+        ensures below { IsServerBelow (chunk_count self.now.book.geometry) result }
     {
         if self.due() {
             return Need::Coder;
@@ -38,7 +38,7 @@ impl Writing {
         match self.asked() {
             Some(server) => Need::Server(server),
             None => match self.doing() {
-                Doing::Done => Need::Finished,
+                WritingStage::Done => Need::Finished,
                 _ => Need::Directory,
             },
         }
@@ -56,7 +56,7 @@ impl Writing {
             };
         }
         match self.doing() {
-            Doing::TooManyAway => {
+            WritingStage::TooManyAway => {
                 let (stripe, missing) = self.into_away();
                 Outcome::Unavailable { stripe, missing }
             }

@@ -3,10 +3,10 @@
 #![tactic(auto)]
 
 mod call;
-mod doing;
 pub mod laws;
-mod stripe;
+mod placing;
 mod writing;
+mod writing_stage;
 
-pub use doing::Doing;
 pub use writing::Writing;
+pub use writing_stage::WritingStage;

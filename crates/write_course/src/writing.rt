@@ -13,8 +13,8 @@ ghost use Rattle.write_course.specs.States.{placed_on};
 ghost use Rattle.write_course.specs.Writings.{versions_of, server_of, is_preparing, is_committing, is_settling, begins_version, place_of, stamp_at_work, point_of};
 ghost use Rattle.write_course.specs.WritingSteps.{stepped, IsDoing};
 
-use crate::doing::{Doing, prepares_or_commits, settles_or_is_done};
-use crate::stripe::Stripe;
+use crate::placing::Placing;
+use crate::writing_stage::{WritingStage, prepares_or_commits, settles_or_is_done};
 use chunk_server::Server;
 use clay_grid::Geometry;
 use clay_repair::Coder;
@@ -34,11 +34,11 @@ pub struct Writing {
     // the stripe of the first version
     first: u32,
     stamps: Vec<Stamp>,
-    pub(crate) doing: Doing,
+    pub(crate) doing: WritingStage,
     // those of the versions whose chunks have all gone to their servers
     rows: Vec<Vec<Placement>>,
     // the version after them, once its chunks are made
-    work: Option<Stripe>,
+    work: Option<Placing>,
     // the commit's point, once it has come
     point: Point,
     // the place of the version whose chunk is settled next, and its server
@@ -64,20 +64,20 @@ fn place_on(
     geometry: Geometry,
     versions: usize,
     rows: &mut Vec<Vec<Placement>>,
-    stripe: Stripe,
-) -> (Doing, Option<Stripe>)
+    placing: Placing,
+) -> (WritingStage, Option<Placing>)
     requires room { length rows.old.items < vec_capacity rows.old }
     ensures after { (result.0, record { rows = map (λ row. row.items) rows.new.items; work = result.1 })
-        ≡ placed_on geometry versions (map (λ row. row.items) rows.old.items) stripe }
+        ≡ placed_on geometry versions (map (λ row. row.items) rows.old.items) placing }
     ensures same { vec_capacity rows.new ≡ vec_capacity rows.old }
 {
-    if stripe.away() > geometry.m() as usize {
-        return (Doing::TooManyAway, Some(stripe));
+    if placing.away() > geometry.m() as usize {
+        return (WritingStage::TooManyAway, Some(placing));
     }
-    if stripe.server() < geometry.n() {
-        return (Doing::Preparing, Some(stripe));
+    if placing.server() < geometry.n() {
+        return (WritingStage::Preparing, Some(placing));
     }
-    rows.push_reserved(stripe.into_row());
+    rows.push_reserved(placing.into_row());
     (prepares_or_commits(rows.len(), versions), None)
 }
 
@@ -111,7 +111,7 @@ impl Writing {
     }
 
     /// What it does next, or how it has ended.
-    pub fn doing(&self) -> Doing
+    pub fn doing(&self) -> WritingStage
         ensures { IsDoing result self.now }
     {
         self.doing
@@ -122,7 +122,7 @@ impl Writing {
         ensures due { result ≡ self.now.due }
         ensures begins { result ≡ true → begins_version self.now.state ≡ true }
     {
-        matches!(self.doing, Doing::Preparing) && self.work.is_none()
+        matches!(self.doing, WritingStage::Preparing) && self.work.is_none()
     }
 
     /// The server at which the next step is made, where one is.
@@ -131,8 +131,8 @@ impl Writing {
         ensures below { IfSome result (λ server. server < chunk_count self.now.book.geometry) }
     {
         match self.doing {
-            Doing::Preparing => Some(self.preparing_at()),
-            Doing::Settling => Some(self.server),
+            WritingStage::Preparing => Some(self.preparing_at()),
+            WritingStage::Settling => Some(self.server),
             _ => None,
         }
     }
@@ -146,7 +146,7 @@ impl Writing {
         // That there is a server is needed below.
         let _ = self.opening.geometry().n();
         match &self.work {
-            Some(stripe) => stripe.server(),
+            Some(placing) => placing.server(),
             None => 0,
         }
     }
@@ -156,7 +156,7 @@ impl Writing {
         ensures { result ≡ option_map (λ place. self.now.first + place) (place_of self.now.state) }
     {
         match self.doing {
-            Doing::Preparing => Some(self.first + self.rows.len() as u32),
+            WritingStage::Preparing => Some(self.first + self.rows.len() as u32),
             _ => None,
         }
     }
@@ -166,7 +166,7 @@ impl Writing {
         ensures { option_map (λ point. point.0) result ≡ point_of self.now.state }
     {
         match self.doing {
-            Doing::Settling | Doing::Done => Some(self.point),
+            WritingStage::Settling | WritingStage::Done => Some(self.point),
             _ => None,
         }
     }
@@ -190,7 +190,7 @@ impl Writing {
         let stamp = self.stamps[self.rows.len()].copy();
         self.rows.reserve(self.stamps.len() - self.rows.len())?;
         let chunks = coder.encode(rt, alloc, geometry, content)?;
-        self.work = Some(Stripe::new(alloc, geometry, stamp, chunks)?);
+        self.work = Some(Placing::new(alloc, geometry, stamp, chunks)?);
         Ok(())
     }
 
@@ -199,7 +199,7 @@ impl Writing {
         requires { self.old.due ≡ true }
         ensures { self.new ≡ record self.old { state = State.Ending Outcome.NoMemory; due = false } }
     {
-        self.doing = Doing::Short;
+        self.doing = WritingStage::Short;
     }
 
     /// One step at the server that is asked: it is to keep its chunk of the version at work, or to
@@ -218,7 +218,7 @@ impl Writing {
         ensures book { s.new.book ≡ s.old.book }
     {
         match self.doing {
-            Doing::Preparing => self.prepare(s),
+            WritingStage::Preparing => self.prepare(s),
             _ => {
                 self.settle(s);
                 Ok(())
@@ -239,20 +239,20 @@ impl Writing {
         ensures number { s.new.number ≡ s.old.number }
         ensures book { s.new.book ≡ s.old.book }
     {
-        let Some(stripe) = self.work.take() else {
+        let Some(placing) = self.work.take() else {
             unreachable!()
         };
-        match stripe.prepare(s) {
-            Ok(stripe) => {
+        match placing.prepare(s) {
+            Ok(placing) => {
                 let geometry = self.opening.geometry();
                 let versions = self.stamps.len();
-                let (doing, work) = place_on(geometry, versions, &mut self.rows, stripe);
+                let (doing, work) = place_on(geometry, versions, &mut self.rows, placing);
                 self.doing = doing;
                 self.work = work;
                 Ok(())
             }
             Err(error) => {
-                self.doing = Doing::Short;
+                self.doing = WritingStage::Short;
                 Err(error)
             }
         }
@@ -290,13 +290,13 @@ impl Writing {
         ensures after { self.new ≡ record self.old { state = State.Committed (versions_of self.old.stamps) } }
     {
         let alloc = *self.stamps.allocator();
-        self.doing = Doing::Committed;
+        self.doing = WritingStage::Committed;
         mem::replace(&mut self.rows, Vec::new(alloc))
     }
 
     /// The directory has committed the versions at this point.
     pub fn committed(&mut self, point: Point)
-        requires { IsDoing Doing.Committed self.old }
+        requires { IsDoing WritingStage.Committed self.old }
         ensures { self.new ≡ record self.old {
           state = settle_state point.0
               (places_of (chunk_count self.old.book.geometry) (versions_of self.old.stamps));
@@ -310,7 +310,7 @@ impl Writing {
 
     /// The stripe for whose version too many servers were away, and those servers.
     pub fn into_away(self) -> (u32, Vec<LostChunk>)
-        requires { IsDoing Doing.TooManyAway self }
+        requires { IsDoing WritingStage.TooManyAway self }
         ensures { self.state ≡ State.Ending (Outcome.Unavailable result.0 (map lost_in result.1.items)) }
     {
         let Writing {

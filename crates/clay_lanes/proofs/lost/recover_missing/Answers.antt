@@ -1,7 +1,8 @@
 use Rattle.std.proofs.Common.{◌≡◌, ◌+◌, ◌*◌, ◌<◌, [], length, get_or, sym, subst, ap, ◌∙◌, arith}
 use Rattle.clay_encode.specs.Chunks.{contents}
 use Rattle.clay_decode.specs.Left.{Completes}
-use Rattle.clay_lanes.specs.Recovered.{HoldsByte, missing_of, AreMissing}
+use Rattle.lane_repair.specs.Pieces.{HoldsByte}
+use Rattle.clay_lanes.specs.Recovered.{missing_of, AreMissing}
 use Rattle.clay_parity.proofs.ChunkLists.{length-contents}
 use Rattle.clay_parity.proofs.ParityLemmas.{written_chunks}
 use Rattle.clay_lanes.proofs.MissingChunks.{found_chunks}

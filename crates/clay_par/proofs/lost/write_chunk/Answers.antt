@@ -2,7 +2,7 @@ use Rattle.std.proofs.Common.{◌≡◌, ℕ, ◌+◌, ◌-◌, ◌*◌, ◌<◌
 use Rattle.std.proofs.lemmas.Bool.{cases_eq}
 use Rattle.std.proofs.lemmas.List.{get_or_default}
 use Rattle.clay_decode.specs.Left.{Completes}
-use Rattle.clay_lanes.specs.Recovered.{HoldsByte}
+use Rattle.lane_repair.specs.Pieces.{HoldsByte}
 use Rattle.clay_par.specs.declared.ranges.Range.{Range}
 use Rattle.clay_par.proofs.lost.write_chunk.Goals as goal
 

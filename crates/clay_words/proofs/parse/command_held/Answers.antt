@@ -1,4 +1,4 @@
-use Rattle.std.proofs.Common.{List, inr, refl, subst, Some}
+use Rattle.std.proofs.Common.{inr, refl, subst, Some}
 use Rattle.clay_words.specs.Spelled.{HoldsNumbers, rows_held}
 use Rattle.clay_words.specs.Words.{IsAskedBy}
 use Rattle.clay_words.specs.declared.words.Command.TheVariants.{OfInput}

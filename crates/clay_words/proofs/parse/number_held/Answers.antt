@@ -1,4 +1,3 @@
-use Rattle.std.proofs.Common.{sym}
 use Rattle.clap.specs.Words.{found_of}
 use Rattle.clay_words.proofs.Held.{in_rows, not_both, same_value}
 use Rattle.clay_words.proofs.WordLaws.{number_answer}

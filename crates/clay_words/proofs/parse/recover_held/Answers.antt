@@ -1,4 +1,4 @@
-use Rattle.std.proofs.Common.{ℕ, ◌∷◌, [], List, sym, subst, Some, codes}
+use Rattle.std.proofs.Common.{◌∷◌, [], sym, subst, Some, codes}
 use Rattle.clay_words.specs.Words.{IsAskedBy}
 use Rattle.clay_words.specs.declared.words.Command.TheVariants.{OfInput}
 use Rattle.clay_words.specs.declared.words.Task.TheVariants as task

@@ -1,4 +1,4 @@
-use Rattle.std.proofs.Common.{ℕ, ◌∷◌, [], List, sym, subst, Some, codes, decimal, ◌≡◌}
+use Rattle.std.proofs.Common.{◌∷◌, [], sym, subst, Some, codes, decimal, ◌≡◌}
 use Rattle.clay_words.specs.Words.{IsAskedBy}
 use Rattle.clay_words.specs.declared.words.Command.TheVariants as command
 use Rattle.clay_words.specs.declared.names.Name.TheVariants.{Trial}

@@ -1,7 +1,7 @@
 use Rattle.std.proofs.Common.{is_some, ap, sym, ◌∙◌}
 use Rattle.std.proofs.lemmas.Bool.{false≢true}
 use Rattle.indexmap.specs.IndexMap.{keys}
-use Rattle.dir_parts.proofs.BookSteps.{is_there, stands_at}
+use Rattle.dir_parts.proofs.LogSteps.{is_there, stands_at}
 use Rattle.dir_parts.proofs.history.place_of.Goals as goal
 
 pub unreachable-requires : goal.unreachable-requires

@@ -1,5 +1,5 @@
 use Rattle.std.proofs.Common.{◌<◌, length, arith}
-use Rattle.dir_parts.specs.declared.versions.Entry.{Entry}
+use Rattle.dir_parts.specs.declared.versions.VersionRow.{VersionRow}
 use Rattle.dir_parts.specs.declared.versions.Standing.TheVariants as standing
 use Rattle.dir_parts.proofs.TableSteps.{change_at-set}
 use Rattle.dir_parts.proofs.versions.place.Goals as goal
@@ -7,4 +7,4 @@ use Rattle.dir_parts.proofs.versions.place.Goals as goal
 pub returns-clause-after : goal.returns-clause-after
 returns-clause-after c =
     let within : c.args.at < length c.args.entries.now.items = omega (arith, c.args.entries.now.ok.0, c.requires) in
-    change_at-set (λ (entry : Entry). record entry { placed = c.args.row; standing = standing.Current }) c.args.entries.now.items c.args.at c.index_mut-entry.result.now within c.index_mut-entry.ensures.value
+    change_at-set (λ (entry : VersionRow). record entry { placed = c.args.row; standing = standing.Current }) c.args.entries.now.items c.args.at c.index_mut-entry.result.now within c.index_mut-entry.ensures.value

@@ -4,7 +4,7 @@ use Rattle.std.specs.List.{range_with_len}
 use Rattle.dir_parts.specs.Places.{places}
 use Rattle.dir_parts.specs.Table.{version_in, is_garbage}
 use Rattle.dir_parts.specs.TableSteps.{drawn_version}
-use Rattle.dir_parts.specs.declared.versions.Entry.{Entry}
+use Rattle.dir_parts.specs.declared.versions.VersionRow.{VersionRow}
 use Rattle.dir_parts.specs.declared.versions.Standing.TheVariants as standing
 use Rattle.dir_parts.proofs.Growing.{range-snoc, replicate-snoc, map-snoc, places-snoc}
 use Rattle.dir_parts.proofs.versions.push_drawn.Goals as goal
@@ -12,8 +12,8 @@ use Rattle.dir_parts.proofs.versions.push_drawn.Goals as goal
 pub loop-i-preserved : goal.loop-i-preserved
 loop-i-preserved c =
     let i : ℕ = c.loop-i.i in
-    let entry : Entry = record { actor = c.args.actor; number = c.args.number; stripe = c.args.first + i; base = c.base_of-base.result; placed = c.new.result; standing = standing.Drawn; pins = 0 } in
-    let read : Entry → ℕ = λ e. e.pins in
+    let entry : VersionRow = record { actor = c.args.actor; number = c.args.number; stripe = c.args.first + i; base = c.base_of-base.result; placed = c.new.result; standing = standing.Drawn; pins = 0 } in
+    let read : VersionRow → ℕ = λ e. e.pins in
     record {
       versions =
           ap (map version_in) c.push_reserved.ensures.items

@@ -1,7 +1,7 @@
 use Rattle.std.proofs.Common.{◌<◌, length, set, ap, ◌∙◌, arith}
 use Rattle.dir_parts.specs.Table.{swept}
 use Rattle.dir_parts.specs.declared.versions.Standing.{Standing}
-use Rattle.dir_parts.specs.declared.versions.Entry.{Entry}
+use Rattle.dir_parts.specs.declared.versions.VersionRow.{VersionRow}
 use Rattle.dir_parts.proofs.TableSteps.{change_at-set}
 use Rattle.dir_parts.proofs.versions.sweep.Goals as goal
 
@@ -9,4 +9,4 @@ pub returns-clause-after : goal.returns-clause-after
 returns-clause-after c =
     let within : c.args.at < length c.args.entries.now.items = omega (arith, c.args.entries.now.ok.0, c.requires) in
     ap (λ (s : Standing). set c.args.entries.now.items c.args.at (record c.index_mut-entry.result.now { standing = s })) c.swept-entry.ensures
-    ∙ change_at-set (λ (entry : Entry). record entry { standing = swept entry.standing }) c.args.entries.now.items c.args.at c.index_mut-entry.result.now within c.index_mut-entry.ensures.value
+    ∙ change_at-set (λ (entry : VersionRow). record entry { standing = swept entry.standing }) c.args.entries.now.items c.args.at c.index_mut-entry.result.now within c.index_mut-entry.ensures.value

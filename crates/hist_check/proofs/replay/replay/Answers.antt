@@ -1,4 +1,5 @@
-use Rattle.hist_check.proofs.Replays.{rest_fault, calls_in, replay_ends}
+use Rattle.hist_rules.specs.RepliesMatch.{calls_in}
+use Rattle.hist_check.proofs.Replays.{rest_fault, replay_ends}
 use Rattle.hist_check.proofs.replay.replay.Goals as goal
 
 pub returns-clause-found : goal.returns-clause-found

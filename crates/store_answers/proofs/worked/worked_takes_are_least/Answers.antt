@@ -13,8 +13,8 @@ use Rattle.store_core.specs.Told.{Told, Seen}
 use Rattle.store_sound.proofs.SoundLists.{contains_at}
 use Rattle.store_rows.specs.RowsCalls.{each_refusal}
 use Rattle.store_rows.specs.RowsRebuilds.{rebuilt_then_here}
-use Rattle.call_takes.specs.TakesLaws.{TookRange}
-use Rattle.call_takes.specs.TakesOfCalls.{subchunks_met}
+use Rattle.store_takes.specs.LeastTakes.{TookRange}
+use Rattle.store_takes.specs.TakesOfCalls.{subchunks_met}
 use Rattle.store_answers.specs.Over.{answers_to}
 use Rattle.store_answers.specs.Worked.{row_trace}
 use Rattle.store_answers.proofs.Picked.{picked}

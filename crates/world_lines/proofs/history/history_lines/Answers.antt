@@ -1,6 +1,6 @@
 use Rattle.std.proofs.Common.{◌≡◌, ◌+◌, ◌<◌, ◌∙◌, length, ap, subst, sym, arith}
 use Rattle.std.proofs.lemmas.List.{with_items_is}
-use Rattle.dir_parts.specs.Book.{told_of}
+use Rattle.dir_parts.specs.PointLog.{told_of}
 use Rattle.world_lines.proofs.Numbered.{none_mapped_within}
 use Rattle.world_lines.proofs.SoFar.{SoFar, none_so_far, told_so_far, all_so_far}
 use Rattle.world_lines.proofs.history.history_lines.Goals as goal

@@ -5,8 +5,8 @@ use Rattle.clay_encode.proofs.Parts.{piece_fits}
 use borrow.Rule.Slice.PartMut.{put_mid}
 use Rattle.clay_decode.specs.Left.{Completes}
 use Rattle.clay_decode.proofs.Nodes.{node_real}
-use Rattle.clay_lanes.specs.Recovered.{HoldsByte}
-use Rattle.clay_lanes.proofs.Recovery.{piece_written, byte_kept}
+use Rattle.lane_repair.specs.Pieces.{HoldsByte}
+use Rattle.lane_repair.proofs.RowLemmas.{piece_written, byte_kept}
 use Rattle.clay_lanes.proofs.block.Block.couple_chunk.Goals as goal
 
 pub loop-z-preserved : goal.loop-z-preserved

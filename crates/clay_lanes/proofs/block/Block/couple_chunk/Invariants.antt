@@ -1,6 +1,6 @@
 use Rattle.std.proofs.Common.{ℕ, ◌+◌, ◌*◌, ◌<◌}
 use Rattle.clay_decode.specs.Left.{Completes}
-use Rattle.clay_lanes.specs.Recovered.{HoldsByte}
+use Rattle.lane_repair.specs.Pieces.{HoldsByte}
 use Rattle.clay_lanes.proofs.block.Block.couple_chunk.Given as goal
 
 abbrev pub invariant-loop-z : goal.invariant-loop-z

@@ -5,7 +5,8 @@ use Rattle.clay_grid.specs.Shape.{chunk_count}
 use Rattle.clay_encode.specs.Chunks.{contents}
 use Rattle.clay_encode.proofs.Parts.{written_whole}
 use Rattle.clay_decode.specs.Left.{Completes}
-use Rattle.clay_lanes.specs.Recovered.{HoldsByte, missing_of}
+use Rattle.lane_repair.specs.Pieces.{HoldsByte}
+use Rattle.clay_lanes.specs.Recovered.{missing_of}
 use Rattle.clay_parity.proofs.ChunkLists.{contents_at}
 use Rattle.clay_lanes.proofs.MissingChunks.{missing_below, missing_none, written_at, written_other}
 use Rattle.clay_lanes.proofs.block.Block.couple_chunks.Goals as goal

@@ -2,7 +2,7 @@ use Rattle.std.proofs.Common.{◌≡◌, ℕ, ◌+◌, ◌-◌, ◌*◌, ◌<◌
 use Rattle.clay_grid.specs.Shape.{layer_count, chunk_length}
 use Rattle.clay_encode.specs.Chunks.{contents}
 use Rattle.clay_decode.specs.Left.{Completes}
-use Rattle.clay_lanes.specs.Recovered.{HoldsByte}
+use Rattle.lane_repair.specs.Pieces.{HoldsByte}
 use Rattle.clay_lanes.proofs.block.Block.recover_parts.Given as goal
 
 abbrev pub invariant-loop-from : goal.invariant-loop-from

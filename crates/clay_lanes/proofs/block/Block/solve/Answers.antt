@@ -5,7 +5,8 @@ use Rattle.clay_encode.proofs.Parts.{piece_fits}
 use borrow.Rule.Slice.PartMut.{put_mid}
 use Rattle.clay_decode.specs.Left.{Completes}
 use Rattle.clay_decode.proofs.Layer.{other_layer}
-use Rattle.clay_lanes.specs.Recovered.{HoldsRows, HoldsLayerRows, HoldsLower}
+use Rattle.lane_repair.specs.Pieces.{HoldsRows}
+use Rattle.clay_lanes.specs.Recovered.{HoldsLayerRows, HoldsLower}
 use Rattle.clay_lanes.proofs.Recovery.{lower_solved, every_layer, layer_written, layer_kept}
 use Rattle.clay_lanes.proofs.block.Block.solve.Goals as goal
 

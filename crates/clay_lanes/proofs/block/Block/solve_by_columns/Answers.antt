@@ -2,8 +2,8 @@ use Rattle.std.proofs.Common.{◌≡◌, ℕ, ◌+◌, ◌*◌, ◌<◌, false, 
 use Rattle.clay_grid.specs.Shape.{node_count}
 use Rattle.clay_decode.specs.Left.{Completes}
 use Rattle.clay_kernels.specs.Columns.{IsColumn}
-use Rattle.clay_lanes.proofs.ColumnRows.{HoldsForm, fit_columns, form_more, form_skipped, form_ended}
-use Rattle.clay_lanes.proofs.Recovery.{rows_of_sums}
+use Rattle.lane_repair.proofs.ColumnRows.{HoldsForm, fit_columns, form_more, form_skipped, form_ended}
+use Rattle.lane_repair.proofs.RowLemmas.{rows_of_sums}
 use Rattle.clay_lanes.proofs.block.Block.solve_by_columns.Goals as goal
 use Rattle.clay_lanes.proofs.block.Block.solve_by_columns.Goals.{then-not-is_column_erased, else-not-is_column_erased}
 

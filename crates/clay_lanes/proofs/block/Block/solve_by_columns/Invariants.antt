@@ -1,6 +1,6 @@
 use Rattle.std.proofs.Common.{◌*◌}
 use Rattle.clay_decode.specs.Left.{Completes}
-use Rattle.clay_lanes.proofs.ColumnRows.{HoldsForm}
+use Rattle.lane_repair.proofs.ColumnRows.{HoldsForm}
 use Rattle.clay_lanes.proofs.block.Block.solve_by_columns.Given as goal
 
 abbrev pub invariant-loop-y : goal.invariant-loop-y

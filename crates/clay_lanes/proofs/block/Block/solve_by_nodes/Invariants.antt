@@ -1,6 +1,6 @@
 use Rattle.std.proofs.Common.{length}
 use Rattle.clay_decode.specs.Left.{Completes}
-use Rattle.clay_lanes.proofs.Recovery.{HoldsSums}
+use Rattle.lane_repair.proofs.RowLemmas.{HoldsSums}
 use Rattle.clay_lanes.proofs.block.Block.solve_by_nodes.Given as goal
 
 abbrev pub invariant-loop-node : goal.invariant-loop-node

@@ -2,7 +2,7 @@ use Rattle.std.proofs.Common.{◌≡◌, ℕ, ◌+◌, ◌-◌, ◌*◌, List, l
 use Rattle.std.proofs.lemmas.List.Edits.{length-between}
 use Rattle.clay_encode.proofs.Parts.{piece_fits}
 use Rattle.clay_decode.specs.Left.{Completes}
-use Rattle.clay_lanes.proofs.ColumnRows.{one_more_value}
+use Rattle.lane_repair.proofs.ColumnRows.{one_more_value}
 use Rattle.clay_lanes.proofs.block.Block.write_column.Goals as goal
 
 pub loop-x-preserved : goal.loop-x-preserved

@@ -1,5 +1,5 @@
 use Rattle.clay_decode.specs.Left.{Completes}
-use Rattle.clay_lanes.specs.Recovered.{HoldsColumn}
+use Rattle.lane_repair.specs.Pieces.{HoldsColumn}
 use Rattle.clay_lanes.proofs.block.Block.write_column.Given as goal
 
 abbrev pub invariant-loop-x : goal.invariant-loop-x

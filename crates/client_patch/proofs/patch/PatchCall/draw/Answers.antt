@@ -53,7 +53,7 @@ made c =
     ∙ c.draw-answer.ensures.step
     ∙ ap (λ short. at_directory short (actor_of c.self.inside.ticket) c.self.inside.number DirectoryStep.Draw c.args.directory.now.core) (sym c.is_err-self-inside.ensures.value)
 
--- the token then
+-- the ticket then
 token : (c : After-copy) → c.draw-answer.new.self ≡ token_after c.self.inside.ticket c.self.inside.number DirectoryStep.Draw (Told.Versions (versions_of c.in-Ok-Versions.stamps.items))
 token c = c.draw-answer.ensures.token ∙ ap (token_after c.self.inside.ticket c.self.inside.number DirectoryStep.Draw) (told c)
 

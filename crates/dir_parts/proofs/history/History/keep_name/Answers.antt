@@ -3,7 +3,7 @@ use Rattle.std.proofs.lemmas.List.Elements.{All-push}
 use Rattle.std.specs.Map.{lookup, keys_of}
 use Rattle.store_core.specs.Directory.{Point}
 use Rattle.store_core.specs.Lookups.{last_change}
-use Rattle.dir_parts.specs.Book.{point_in}
+use Rattle.dir_parts.specs.PointLog.{point_in}
 use Rattle.dir_parts.proofs.Naming.{keys-push, points-named, none_changed, contains-push, contains-last, there_in, none_is}
 use Rattle.dir_parts.proofs.history.History.keep_name.Goals as goal
 

@@ -2,8 +2,8 @@ use Rattle.std.proofs.Common.{◌≡◌, None, Some, map, bytes_eq, ap, sym, ◌
 use Rattle.std.specs.Map.{lookup}
 use Rattle.indexmap.specs.IndexMap.{keys}
 use Rattle.store_core.specs.Lookups.{last_change}
-use Rattle.dir_parts.specs.Book.{point_in}
-use Rattle.dir_parts.proofs.BookSteps.{found_last}
+use Rattle.dir_parts.specs.PointLog.{point_in}
+use Rattle.dir_parts.proofs.LogSteps.{found_last}
 use Rattle.dir_parts.proofs.Naming.{none_changed}
 use Rattle.dir_parts.proofs.history.History.last_change.Goals as goal
 

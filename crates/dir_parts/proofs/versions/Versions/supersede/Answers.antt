@@ -4,13 +4,13 @@ use Rattle.std.specs.BinaryHeap.{heap_items}
 use Rattle.store_core.specs.Lists.{change_at}
 use Rattle.store_core.specs.Directory.{Version, Standing as CoreStanding}
 use Rattle.dir_parts.specs.Table.{version_in, number_in}
-use Rattle.dir_parts.specs.declared.versions.Entry.{Entry}
+use Rattle.dir_parts.specs.declared.versions.VersionRow.{VersionRow}
 use Rattle.dir_parts.specs.declared.versions.Standing.TheVariants as standing
 use Rattle.dir_parts.proofs.Entries.{map-change_at, map-change_same}
 use Rattle.dir_parts.proofs.TableSteps.{Step, step_of, kept_same, kept_more, room_left, marked_stays}
 use Rattle.dir_parts.proofs.versions.Versions.supersede.Goals as goal
 
-abbrev change : Entry → Entry
+abbrev change : VersionRow → VersionRow
 change entry = record entry { standing = standing.Superseded }
 
 pub push_reserved-requires : goal.push_reserved-requires
@@ -53,10 +53,10 @@ pub returns-then-is-was-clause-listed : goal.returns-then-is-was-clause-listed
 returns-then-is-was-clause-listed c = ap (map version_in) c.stand.ensures.after ∙ map-change_at version_in c.args.number change (λ (v : Version). record v { standing = CoreStanding.Superseded }) c.self.inside.entries.items (λ x e. refl) ∙ ap (λ t. change_at c.args.number (λ (v : Version). record v { standing = CoreStanding.Superseded }) t.listed) c.self.view_is
 
 pub returns-then-is-was-clause-pins : goal.returns-then-is-was-clause-pins
-returns-then-is-was-clause-pins c = ap (map (λ (entry : Entry). entry.pins)) c.stand.ensures.after ∙ map-change_same (λ (entry : Entry). entry.pins) c.args.number change c.self.inside.entries.items (λ x e. refl) ∙ ap (λ t. t.pins) c.self.view_is
+returns-then-is-was-clause-pins c = ap (map (λ (entry : VersionRow). entry.pins)) c.stand.ensures.after ∙ map-change_same (λ (entry : VersionRow). entry.pins) c.args.number change c.self.inside.entries.items (λ x e. refl) ∙ ap (λ t. t.pins) c.self.view_is
 
 pub returns-else-is-was-clause-listed : goal.returns-else-is-was-clause-listed
 returns-else-is-was-clause-listed c = ap (map version_in) c.stand.ensures.after ∙ map-change_at version_in c.args.number change (λ (v : Version). record v { standing = CoreStanding.Superseded }) c.self.inside.entries.items (λ x e. refl) ∙ ap (λ t. change_at c.args.number (λ (v : Version). record v { standing = CoreStanding.Superseded }) t.listed) c.self.view_is
 
 pub returns-else-is-was-clause-pins : goal.returns-else-is-was-clause-pins
-returns-else-is-was-clause-pins c = ap (map (λ (entry : Entry). entry.pins)) c.stand.ensures.after ∙ map-change_same (λ (entry : Entry). entry.pins) c.args.number change c.self.inside.entries.items (λ x e. refl) ∙ ap (λ t. t.pins) c.self.view_is
+returns-else-is-was-clause-pins c = ap (map (λ (entry : VersionRow). entry.pins)) c.stand.ensures.after ∙ map-change_same (λ (entry : VersionRow). entry.pins) c.args.number change c.self.inside.entries.items (λ x e. refl) ∙ ap (λ t. t.pins) c.self.view_is

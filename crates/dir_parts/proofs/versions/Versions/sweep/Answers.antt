@@ -9,12 +9,12 @@ use Rattle.dir_parts.specs.Places.{places}
 use Rattle.dir_parts.specs.Table.{Table, version_in, standing_in, is_garbage, is_superseded, swept}
 use Rattle.dir_parts.specs.declared.versions.Standing.{Standing}
 use Rattle.dir_parts.specs.declared.versions.Standing.TheVariants as standing
-use Rattle.dir_parts.specs.declared.versions.Entry.{Entry}
+use Rattle.dir_parts.specs.declared.versions.VersionRow.{VersionRow}
 use Rattle.dir_parts.proofs.Entries.{map-change_at, map-change_same}
 use Rattle.dir_parts.proofs.TableSteps.{change_at-past, held_same}
 use Rattle.dir_parts.proofs.versions.Versions.sweep.Goals as goal
 
-abbrev change : Entry → Entry
+abbrev change : VersionRow → VersionRow
 change entry = record entry { standing = swept entry.standing }
 
 swept_same : (s : Standing) → standing_in (swept s) ≡ swept_standing (standing_in s)
@@ -31,12 +31,12 @@ still standing.Superseded = refl
 still standing.Taken = refl
 still standing.Swept = refl
 
-kept : (items : List ℕ) (old new : List Entry) (i : ℕ) → new ≡ change_at i change old → i < length old → IsPermutation items (places is_garbage 0 old) → IsPermutation items (places is_garbage 0 new)
+kept : (items : List ℕ) (old new : List VersionRow) (i : ℕ) → new ≡ change_at i change old → i < length old → IsPermutation items (places is_garbage 0 old) → IsPermutation items (places is_garbage 0 new)
 kept items old new i after within held = by (slice_get_cases old i).1
   where
-    by : ((x : Entry) × (i < length old) × (slice_get old i ≡ Some x) × (get_or old i x ≡ x)) ⊎ ((length old ≤ i) × (slice_get old i ≡ None)) → IsPermutation items (places is_garbage 0 new)
+    by : ((x : VersionRow) × (i < length old) × (slice_get old i ≡ Some x) × (get_or old i x ≡ x)) ⊎ ((length old ≤ i) × (slice_get old i ≡ None)) → IsPermutation items (places is_garbage 0 new)
     by (inr k) = absurd (let more : length old ≤ i = k.0 in omega (arith, within, more))
-    by (inl k) = subst (λ (l : List Entry). IsPermutation items (places is_garbage 0 l)) (sym after) (held_same change items old i k.0 k.2 held (ap (λ b. b && nat_eq k.0.pins 0) (still k.0.standing)))
+    by (inl k) = subst (λ (l : List VersionRow). IsPermutation items (places is_garbage 0 l)) (sym after) (held_same change items old i k.0 k.2 held (ap (λ b. b && nat_eq k.0.pins 0) (still k.0.standing)))
 
 pub returns-then-number-len-clause-listed : goal.returns-then-number-len-clause-listed
 returns-then-number-len-clause-listed c =
@@ -50,7 +50,7 @@ returns-clause-listed c =
 
 pub returns-clause-pins : goal.returns-clause-pins
 returns-clause-pins c =
-    ap (map (λ (entry : Entry). entry.pins)) c.sweep.ensures.after ∙ map-change_same (λ (entry : Entry). entry.pins) c.args.number change c.self.inside.entries.items (λ x e. refl) ∙ ap (λ (t : Table). t.pins) c.self.view_is
+    ap (map (λ (entry : VersionRow). entry.pins)) c.sweep.ensures.after ∙ map-change_same (λ (entry : VersionRow). entry.pins) c.args.number change c.self.inside.entries.items (λ x e. refl) ∙ ap (λ (t : Table). t.pins) c.self.view_is
 
 pub invariant_of-self : goal.invariant_of-self
 invariant_of-self c =

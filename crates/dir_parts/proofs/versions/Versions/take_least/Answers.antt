@@ -8,13 +8,13 @@ use Rattle.store_core.specs.Directory.{Version, Standing as CoreStanding}
 use Rattle.dir_parts.specs.Places.{places}
 use Rattle.dir_parts.specs.Table.{Table, is_garbage, version_in, number_in}
 use Rattle.dir_parts.specs.TableSteps.{first_free}
-use Rattle.dir_parts.specs.declared.versions.Entry.{Entry}
+use Rattle.dir_parts.specs.declared.versions.VersionRow.{VersionRow}
 use Rattle.dir_parts.specs.declared.versions.Standing.TheVariants as standing
 use Rattle.dir_parts.proofs.Entries.{map-change_at, map-change_same}
 use Rattle.dir_parts.proofs.Least.{top_is, top_within, rest_is, free_is, no_garbage, least_below, First}
 use Rattle.dir_parts.proofs.versions.Versions.take_least.Goals as goal
 
-abbrev change : Entry → Entry
+abbrev change : VersionRow → VersionRow
 change entry = record entry { standing = standing.Taken }
 
 pub stand-requires : goal.stand-requires
@@ -32,7 +32,7 @@ invariant_of-self c =
       room = omega (arith, c.stand.ensures.len, c.in-Some.ensures.capacity, c.self.invariant.room);
       heap = (c.in-Some.ensures.heap_order c.self.invariant.heap).0;
       garbage =
-          subst (λ (l : List Entry). IsPermutation (map number_in (heap_items c.pop.new.self)) (places is_garbage 0 l)) (sym c.stand.ensures.after)
+          subst (λ (l : List VersionRow). IsPermutation (map number_in (heap_items c.pop.new.self)) (places is_garbage 0 l)) (sym c.stand.ensures.after)
           (rest_is c.self.inside.entries.items _ _ c.in-Some.field-0.0 c.self.invariant.garbage popped least change (λ e. refl));
     }
 
@@ -49,7 +49,7 @@ returns-in-Some-clause-listed c =
 
 pub returns-in-Some-clause-pins : goal.returns-in-Some-clause-pins
 returns-in-Some-clause-pins c =
-    ap (map (λ (entry : Entry). entry.pins)) c.stand.ensures.after ∙ map-change_same (λ (entry : Entry). entry.pins) c.in-Some.field-0.0 change c.self.inside.entries.items (λ x e. refl)
+    ap (map (λ (entry : VersionRow). entry.pins)) c.stand.ensures.after ∙ map-change_same (λ (entry : VersionRow). entry.pins) c.in-Some.field-0.0 change c.self.inside.entries.items (λ x e. refl)
     ∙ ap (λ (t : Table). t.pins) c.self.view_is
 
 pub returns-in-None-clause-taken : goal.returns-in-None-clause-taken

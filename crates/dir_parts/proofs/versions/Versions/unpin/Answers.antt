@@ -3,12 +3,12 @@ use Rattle.std.proofs.lemmas.List.{length-map}
 use Rattle.std.specs.BinaryHeap.{heap_items}
 use Rattle.store_core.specs.Lists.{change_at}
 use Rattle.dir_parts.specs.Table.{version_in, number_in}
-use Rattle.dir_parts.specs.declared.versions.Entry.{Entry}
+use Rattle.dir_parts.specs.declared.versions.VersionRow.{VersionRow}
 use Rattle.dir_parts.proofs.Entries.{map-change_at, map-change_same}
 use Rattle.dir_parts.proofs.TableSteps.{Step, step_of, kept_same, kept_more, room_left, unpinned_stays}
 use Rattle.dir_parts.proofs.versions.Versions.unpin.Goals as goal
 
-abbrev change : Entry → Entry
+abbrev change : VersionRow → VersionRow
 change entry = record entry { pins = entry.pins - 1 }
 
 pub push_reserved-requires : goal.push_reserved-requires
@@ -51,10 +51,10 @@ pub returns-then-is-was-clause-listed : goal.returns-then-is-was-clause-listed
 returns-then-is-was-clause-listed c = ap (map version_in) c.unpin.ensures.after ∙ map-change_same version_in c.args.number change c.self.inside.entries.items (λ x e. refl) ∙ ap (λ t. t.listed) c.self.view_is
 
 pub returns-then-is-was-clause-pins : goal.returns-then-is-was-clause-pins
-returns-then-is-was-clause-pins c = ap (map (λ (entry : Entry). entry.pins)) c.unpin.ensures.after ∙ map-change_at (λ (entry : Entry). entry.pins) c.args.number change (λ (n : ℕ). n - 1) c.self.inside.entries.items (λ x e. refl) ∙ ap (λ t. change_at c.args.number (λ (n : ℕ). n - 1) t.pins) c.self.view_is
+returns-then-is-was-clause-pins c = ap (map (λ (entry : VersionRow). entry.pins)) c.unpin.ensures.after ∙ map-change_at (λ (entry : VersionRow). entry.pins) c.args.number change (λ (n : ℕ). n - 1) c.self.inside.entries.items (λ x e. refl) ∙ ap (λ t. change_at c.args.number (λ (n : ℕ). n - 1) t.pins) c.self.view_is
 
 pub returns-else-is-was-clause-listed : goal.returns-else-is-was-clause-listed
 returns-else-is-was-clause-listed c = ap (map version_in) c.unpin.ensures.after ∙ map-change_same version_in c.args.number change c.self.inside.entries.items (λ x e. refl) ∙ ap (λ t. t.listed) c.self.view_is
 
 pub returns-else-is-was-clause-pins : goal.returns-else-is-was-clause-pins
-returns-else-is-was-clause-pins c = ap (map (λ (entry : Entry). entry.pins)) c.unpin.ensures.after ∙ map-change_at (λ (entry : Entry). entry.pins) c.args.number change (λ (n : ℕ). n - 1) c.self.inside.entries.items (λ x e. refl) ∙ ap (λ t. change_at c.args.number (λ (n : ℕ). n - 1) t.pins) c.self.view_is
+returns-else-is-was-clause-pins c = ap (map (λ (entry : VersionRow). entry.pins)) c.unpin.ensures.after ∙ map-change_at (λ (entry : VersionRow). entry.pins) c.args.number change (λ (n : ℕ). n - 1) c.self.inside.entries.items (λ x e. refl) ∙ ap (λ t. change_at c.args.number (λ (n : ℕ). n - 1) t.pins) c.self.view_is

@@ -1,7 +1,7 @@
 use Rattle.std.proofs.Common.{◌≡◌, true, false, ap, ◌∙◌}
 use Rattle.gather_parts.specs.Gatherings.{owed}
 use Rattle.gather_parts.specs.Steps.{given_up}
-use Rattle.gather_parts.specs.Standings.{is_due}
+use Rattle.gather_parts.specs.Progress.{is_due}
 use Rattle.gather_parts.specs.States.{state_in}
 use Rattle.gather_parts.proofs.Handing.{handed_state, handed_owed, call_after_coding}
 use Rattle.gather_parts.proofs.gatherings.PartGatherings.on_coder.Goals as goal

@@ -4,7 +4,7 @@ use Rattle.std.proofs.lemmas.Option.{slice_get_read}
 use Rattle.std.specs.List.{slice_get}
 use Rattle.clay_grid.specs.Shape.{Shape}
 use Rattle.store_map.specs.declared.placement.Placement.{Placement}
-use Rattle.write_course.specs.Chunks.{new_stripe}
+use Rattle.write_course.specs.Chunks.{new_placing}
 use Rattle.write_course.specs.Inside.{prepared_in}
 use Rattle.write_course.proofs.Steps.{keeps_due, encoded_kept}
 use Rattle.write_course.proofs.writing.Writing.encode.Goals as goal
@@ -33,7 +33,7 @@ invariant_of-self-2 g c =
     let copied : c.copy-stamp.result ≡ c.index.result.now = c.copy-stamp.ensures in
     let own : slice_get c.self.inside.stamps.items (length (map (λ row. row.items) c.reserve.new.self.items)) ≡ Some c.copy-stamp.result
     = ap (slice_get c.self.inside.stamps.items) (sym place) ∙ read ∙ ap Some (sym copied) in
-    let made : c.in_ok-new.field-0 ≡ new_stripe c.self.inside.opening.geometry c.copy-stamp.result = c.in_ok-new.ensures ∙ ap (λ (g : Shape). new_stripe g c.copy-stamp.result) c.geometry-geometry.ensures in
+    let made : c.in_ok-new.field-0 ≡ new_placing c.self.inside.opening.geometry c.copy-stamp.result = c.in_ok-new.ensures ∙ ap (λ (g : Shape). new_placing g c.copy-stamp.result) c.geometry-geometry.ensures in
     record {
       servers = kept.servers;
       home = kept.home;

@@ -6,10 +6,10 @@ use Rattle.write_course.proofs.writing.Writing.prepare.Goals as goal
 
 -- where the writing goes on
 goes : (c : goal.Joined-self-work) → (c.place_on-doing.result.0, record { rows = map (λ row. row.items) c.place_on-doing.new.rows.items; work = c.place_on-doing.result.1 })
-    ≡ placed_on c.self.inside.opening.geometry (length c.self.inside.stamps.items) (prepared_in c.self.inside).rows c.in-Ok.stripe
+    ≡ placed_on c.self.inside.opening.geometry (length c.self.inside.stamps.items) (prepared_in c.self.inside).rows c.in-Ok.placing
 goes c =
     c.place_on-doing.ensures.after
-    ∙ (λ i. placed_on (c.geometry-geometry.ensures i) (count i) (prepared_in c.self.inside).rows c.in-Ok.stripe)
+    ∙ (λ i. placed_on (c.geometry-geometry.ensures i) (count i) (prepared_in c.self.inside).rows c.in-Ok.placing)
   where
     count : c.len-versions.result ≡ length c.self.inside.stamps.items
     count = c.len-versions.ensures ∙ c.self.inside.stamps.ok.0
@@ -19,8 +19,8 @@ invariant_of-self c =
     let a = c.self.inside in
     let kept = c.self.invariant in
     let now =
-    prepared_kept a kept c.args.self.now c.self.view_is c.requires.preparing c.in-Some.stripe (sym c.take.ensures.value ∙ c.in-Some.is)
-    _ _ c.in-Ok.stripe c.in-Ok.ensures.ok _ (goes c) in
+    prepared_kept a kept c.args.self.now c.self.view_is c.requires.preparing c.in-Some.placing (sym c.take.ensures.value ∙ c.in-Some.is)
+    _ _ c.in-Ok.placing c.in-Ok.ensures.ok _ (goes c) in
     record {
       servers = kept.servers;
       home = kept.home;
@@ -31,5 +31,5 @@ invariant_of-self c =
 
 pub returns-in-Ok-clause-step : goal.returns-in-Ok-clause-step
 returns-in-Ok-clause-step c =
-    prepare_core c.self.inside c.self.invariant c.args.self.now c.self.view_is c.requires.preparing c.in-Some.stripe (sym c.take.ensures.value ∙ c.in-Some.is)
-    _ _ c.in-Ok.stripe c.in-Ok.ensures.ok _ (goes c)
+    prepare_core c.self.inside c.self.invariant c.args.self.now c.self.view_is c.requires.preparing c.in-Some.placing (sym c.take.ensures.value ∙ c.in-Some.is)
+    _ _ c.in-Ok.placing c.in-Ok.ensures.ok _ (goes c)

@@ -1,4 +1,0 @@
-pub mod Cells
-pub mod Rebuilds
-pub mod LogRuns
-pub mod ReadTakes

@@ -1,2 +1,0 @@
-pub mod TakesOfCalls
-pub mod TakesLaws

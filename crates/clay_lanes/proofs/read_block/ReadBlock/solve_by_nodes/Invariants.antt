@@ -1,9 +1,0 @@
-use Rattle.std.proofs.Common.{length}
-use Rattle.clay_repair.specs.Parts.{HasParts}
-use Rattle.clay_lanes.specs.Repaired.{column_nodes}
-use Rattle.clay_lanes.proofs.Recovery.{HoldsSums}
-use Rattle.clay_lanes.proofs.read_block.ReadBlock.solve_by_nodes.Given as goal
-
-abbrev pub invariant-loop-node : goal.invariant-loop-node
-invariant-loop-node l =
-    HoldsSums l.self.g (λ word. HasParts l.self.g l.self.plan.now.lost l.self.parts.now word) l.self.at (l.self.len) l.self.plan.now.erased.items (column_nodes l.self.g l.self.plan.now.column) l.self.plan.now.generator.each l.self.z l.node l.rows

@@ -1,6 +1,0 @@
-use Rattle.clay_repair.specs.Parts.{HasParts}
-use Rattle.clay_lanes.specs.Recovered.{HoldsColumn}
-use Rattle.clay_lanes.proofs.read_block.ReadBlock.write_column.Given as goal
-
-abbrev pub invariant-loop-x : goal.invariant-loop-x
-invariant-loop-x l = HoldsColumn l.self.g (λ word. HasParts l.self.g l.self.plan.now.lost l.self.parts.now word) l.self.at l.self.len l.self.plan.now.erased.items l.column l.self.z l.x l.values

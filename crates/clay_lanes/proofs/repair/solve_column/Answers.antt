@@ -1,4 +1,0 @@
-use Rattle.clay_lanes.proofs.repair.solve_column.Goals as goal
-
-pub returns : goal.returns
-returns c = c.solve.ensures

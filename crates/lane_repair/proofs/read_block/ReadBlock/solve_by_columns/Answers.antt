@@ -1,0 +1,74 @@
+use Rattle.std.proofs.Common.{◌≡◌, ℕ, ◌+◌, ◌*◌, ◌<◌, false, ◌≤◌, List, length, get_or, subst, sym, ap, ◌∙◌, arith}
+use Rattle.clay_grid.specs.Shape.{row_count, column_count, node_count, node_of_chunk}
+use Rattle.clay_repair.proofs.Column.{node_inside}
+use Rattle.clay_repair.proofs.Rows.{column_below}
+use Rattle.clay_repair.specs.Parts.{HasParts}
+use Rattle.lane_repair.specs.Repaired.{column_nodes}
+use Rattle.clay_kernels.specs.Columns.{IsColumn}
+use Rattle.lane_repair.proofs.ColumnRows.{HoldsForm, fit_columns, form_more, form_skipped, form_ended}
+use Rattle.lane_repair.proofs.RepairLemmas.{length-column_nodes, column_points_are}
+use Rattle.lane_repair.proofs.RowLemmas.{rows_of_sums}
+use Rattle.lane_repair.proofs.read_block.ReadBlock.solve_by_columns.Goals as goal
+use Rattle.lane_repair.proofs.read_block.ReadBlock.solve_by_columns.Goals.{then-not-is_column_erased, else-not-is_column_erased}
+
+pub loop-y-preserved : goal.loop-y-preserved
+loop-y-preserved c =
+    let g = c.args.self.now.g in
+    let plan = c.args.self.now.plan.now in
+    let fits : List (List ℕ) → Type 0 = λ word. HasParts g plan.lost c.args.self.now.parts.now word in
+    let gen = plan.generator in
+    let len : ℕ = c.args.self.now.len in
+    let y = c.loop-y.y in
+    let erased = plan.erased.items in
+    let counts = fit_columns g (column_nodes g plan.column) gen.unknown gen.each gen.columns c.columns-columns.ensures.columns c.requires.columns c.requires.block.planned.generator in
+    let below : y < length gen.columns = omega (arith, c.loop-y-test.true, counts.nodes_are, c.nodes-y-end.ensures.value) in
+    elim c.if-not-is_column_erased.branch [
+      | then-not-is_column_erased w ↦
+          let f = w.index-columns-y.result in
+          let there : f ≡ get_or gen.columns y f = w.index-columns-y.is ∙ ap (λ l. get_or l y f) c.columns-columns.ensures.value in
+          let column : IsColumn gen.each y f = subst (IsColumn gen.each y) (sym there) (c.columns-columns.ensures.columns.each y f below) in
+          subst (HoldsForm g fits c.args.self.now.at len erased gen.each c.args.self.now.z ((y + 1) * 4)) (sym w.rows-is)
+          (form_more g fits c.args.self.now.at len erased gen.each c.args.self.now.z y f w.write_column.new.values c.loop-y.rows w.add_column.new.rows column
+          w.write_column.ensures w.add_column.ensures.bytes w.add_column.ensures.added c.loop-y.invariant)
+      | else-not-is_column_erased w ↦
+          subst (HoldsForm g fits c.args.self.now.at len erased gen.each c.args.self.now.z ((y + 1) * 4)) (sym w.rows-is)
+          (form_skipped g fits c.args.self.now.at len erased gen.each c.args.self.now.z y c.loop-y.rows
+          (λ x h. ap (λ l. get_or l (y * 4 + x) false) (sym c.deref.ensures.value) ∙ c.is_column_erased.ensures w.if-not-is_column_erased.false x h) c.loop-y.invariant)
+    ]
+
+pub returns : goal.returns
+returns c =
+    let g = c.args.self.now.g in
+    let plan = c.args.self.now.plan.now in
+    let fits : List (List ℕ) → Type 0 = λ word. HasParts g plan.lost c.args.self.now.parts.now word in
+    let gen = plan.generator in
+    let erased = plan.erased.items in
+    let points = column_nodes g plan.column in
+    let counts = fit_columns g points gen.unknown gen.each gen.columns c.columns-columns.ensures.columns c.requires.columns c.requires.block.planned.generator in
+    let end : c.loop-y.y ≡ length gen.columns = omega (arith, c.loop-y-test.false, c.loop-y.auto.y-end, counts.nodes_are, c.nodes-y-end.ensures.value) in
+    let all : c.loop-y.y * 4 ≡ node_count g = ap (λ n. n * 4) end ∙ sym counts.nodes_are in
+    let sums = form_ended g fits c.args.self.now.at c.args.self.now.len erased gen.each c.args.self.now.z points (c.loop-y.y * 4) (node_count g) c.loop-y.rows c.end_column.new.rows counts.four all
+    c.loop-y.invariant c.end_column.ensures in
+    let geometry = c.requires.block.planned.geometry in
+    let some : 0 < row_count g = omega (arith, geometry.limits.parity_chunks.0) in
+    let inside : node_of_chunk g plan.lost < node_count g = node_inside g plan.lost geometry c.requires.block.planned.chunk in
+    let below : plan.column < column_count g = subst (λ y. y < column_count g) (sym c.requires.block.planned.column) (column_below g plan.lost some inside) in
+    let few : length points ≤ g.parity_count = omega (arith, length-column_nodes g plan.column) in
+    rows_of_sums g fits c.args.self.now.at c.args.self.now.len erased points gen.unknown gen.each c.args.self.now.z c.end_column.new.rows
+    geometry c.requires.block.planned.generator few (column_points_are g plan.column erased some below c.requires.block.planned.erased_are) (λ word f. f.codeword) c.requires.block.within sums
+
+pub add_column-requires-clause-rows_len : goal.add_column-requires-clause-rows_len
+add_column-requires-clause-rows_len c =
+    let g = c.args.self.now.g in
+    let plan = c.args.self.now.plan.now in
+    let gen = plan.generator in
+    let counts = fit_columns g (column_nodes g plan.column) gen.unknown gen.each gen.columns c.columns-columns.ensures.columns c.requires.columns c.requires.block.planned.generator in
+    c.loop-y.auto.rows ∙ c.fill.auto.self ∙ c.requires.rows_len ∙ ap (λ n. n * c.args.self.now.len) (sym (counts.four ∙ length-column_nodes g plan.column))
+
+pub end_column-requires : goal.end_column-requires
+end_column-requires c =
+    let g = c.args.self.now.g in
+    let plan = c.args.self.now.plan.now in
+    let gen = plan.generator in
+    let counts = fit_columns g (column_nodes g plan.column) gen.unknown gen.each gen.columns c.columns-columns.ensures.columns c.requires.columns c.requires.block.planned.generator in
+    c.loop-y.auto.rows ∙ c.fill.auto.self ∙ c.requires.rows_len ∙ ap (λ n. n * c.args.self.now.len) (sym (counts.four ∙ length-column_nodes g plan.column))

@@ -1,0 +1,21 @@
+use Rattle.std.proofs.Common.{◌≡◌, ℕ, ◌+◌, ◌-◌, ◌*◌, List, length, take, drop, subst, ◌∙◌, arith}
+use Rattle.std.proofs.lemmas.List.Edits.{length-between}
+use Rattle.clay_encode.proofs.Parts.{piece_fits}
+use Rattle.clay_repair.specs.Parts.{HasParts}
+use Rattle.lane_repair.proofs.ColumnRows.{one_more_value}
+use Rattle.lane_repair.proofs.read_block.ReadBlock.write_column.Goals as goal
+
+pub loop-x-preserved : goal.loop-x-preserved
+loop-x-preserved c =
+    let g = c.args.self.now.g in
+    let plan = c.args.self.now.plan.now in
+    let fits : List (List ℕ) → Type 0 = λ word. HasParts g plan.lost c.args.self.now.parts.now word in
+    let len : ℕ = c.args.self.now.len in
+    let x = c.loop-x.x in
+    let values = c.loop-x.values in
+    let out = c.write_value.new.out in
+    let long : length values ≡ 4 * len = c.loop-x.auto.values ∙ c.requires.values_len in
+    let fit = piece_fits x 4 len c.loop-x-test.true in
+    let width : x * len + len - x * len ≡ len = omega arith in
+    let part : length (take (x * len + len - x * len) (drop (x * len) values)) ≡ len = length-between values (x * len) (x * len + len) (omega arith) ∙ width in
+    one_more_value g fits c.args.self.now.at len plan.erased.items c.args.column c.args.self.now.z x (x * len + len - x * len) values out (omega arith) (c.write_value.auto.out ∙ part) c.loop-x.invariant c.write_value.ensures

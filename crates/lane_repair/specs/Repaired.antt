@@ -1,0 +1,40 @@
+-- What a call of repair works with.
+use Rattle.std.specs.Prelude.{◌≡◌, ℕ, ◌*◌, ◌/◌, ◌%◌, ◌<◌, eqb, false, List, get_or, length, replicate, Option, Vec}
+use Rattle.std.specs.List.{range_with_len}
+use Rattle.std.specs.declared.alloc.Global.{Global}
+use Rattle.clay_grid.specs.Shape.{Shape, chunk_count, row_count, node_count, node_of_chunk}
+use Rattle.clay_grid.specs.Limits.{IsGeometry}
+use Rattle.clay_grid.specs.Repair.{repair_layers_of}
+use Rattle.clay_kernels.specs.Generated.{IsGeneratorOf}
+use Rattle.clay_repair.specs.Parts.{HasParts}
+use Rattle.lane_repair.specs.Pieces.{HoldsRows, HoldsByte}
+use Rattle.lane_repair.specs.declared.repair_plan.RepairPlan.{RepairPlan}
+
+-- the nodes of a column, rising
+abbrev pub column_nodes : Shape → ℕ → List ℕ
+column_nodes g y = range_with_len (y * row_count g) (row_count g)
+
+-- the lost node's place, the factors of its column, the layers that are read, a subchunk of zeros, and the products of the inverse of 2
+pub record IsRepairPlan (g : Shape) (plan : RepairPlan) : Type 0 where
+  pub geometry : IsGeometry g
+  pub chunk : plan.lost < chunk_count g
+  pub row : plan.row ≡ node_of_chunk g plan.lost % row_count g
+  pub column : plan.column ≡ node_of_chunk g plan.lost / row_count g
+  pub nodes : length plan.erased.items ≡ node_count g
+  pub erased_are : (i : ℕ) → i < node_count g → get_or plan.erased.items i false ≡ eqb (i / row_count g) plan.column
+  pub generator : IsGeneratorOf g (column_nodes g plan.column) plan.generator.unknown plan.generator.each
+  pub layers : plan.layers.items ≡ repair_layers_of g plan.lost
+  pub empty : plan.zeros.items ≡ replicate g.width 0
+  pub halves : plan.halves ≡ 0x8E
+
+-- a row for each node of the lost node's column: its uncoupled value in layer z, for each codeword whose other chunks have these parts
+abbrev pub HoldsColumnRows : Shape → RepairPlan → List (Option (Vec ℕ Global)) → ℕ → ℕ → ℕ → List ℕ → Type 0
+HoldsColumnRows g plan parts at len z rows = HoldsRows g (λ word. HasParts g plan.lost parts word) at len (column_nodes g plan.column) z rows
+
+-- byte p of a chunk is that of the lost chunk, for such codewords
+abbrev pub HoldsLostByte : Shape → RepairPlan → List (Option (Vec ℕ Global)) → List ℕ → ℕ → Type 0
+HoldsLostByte g plan parts chunk p = HoldsByte (λ word. HasParts g plan.lost parts word) plan.lost chunk p
+
+-- each byte that was right is right
+abbrev pub KeepsLostBytes : Shape → RepairPlan → List (Option (Vec ℕ Global)) → List ℕ → List ℕ → Type 0
+KeepsLostBytes g plan parts old new = (p : ℕ) → HoldsLostByte g plan parts old p → HoldsLostByte g plan parts new p

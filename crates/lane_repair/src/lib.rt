@@ -1,0 +1,12 @@
+//! A lost chunk from parts of the others, in one thread: its column's values by a fixed matrix of the scalar code, and products sixteen bytes
+//! at a time.
+#![tactic(auto)]
+
+mod erased;
+mod read_block;
+mod repair;
+mod repair_plan;
+
+pub use erased::is_column_erased;
+pub use repair::{rebuild, rebuild_into, solve_column, write_block};
+pub use repair_plan::{RepairPlan, make_repair_plan};

@@ -1,4 +1,0 @@
-mod Versions
-mod WrittenStripes
-mod Commits
-mod Drops

@@ -1,4 +1,0 @@
-//! Which versions a commit drops, and which a delete, an end or a reap.
-#![tactic(auto)]
-
-pub mod laws;

@@ -1,2 +1,0 @@
-pub mod FoundMissing
-pub mod OwnResults
