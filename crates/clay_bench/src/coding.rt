@@ -1,12 +1,12 @@
 //! How long the coders take to encode a stripe.
 
-ghost use Rattle.std.specs.Prelude.{◌≡◌, length};
-ghost use Rattle.clay_grid.specs.Shape.{stripe_length};
+ghost use Rattle.std.specs.Prelude.{◌≡◌, ◌*◌, length};
+ghost use Rattle.clay_grid.specs.Shape.{chunk_length, stripe_length};
 
 use crate::least::Least;
 use anyhow::bail;
 use clay_grid::Geometry;
-use clay_lanes::LaneCoder;
+use clay_lanes::{LaneCoder, Prepared, parity_into};
 use clay_par::ParCoder;
 use clay_repair::Coder;
 use std::alloc::Global;
@@ -96,4 +96,67 @@ pub fn time_threads<R: Threads + Sync + Clock + Print>(
     };
     let geometry = Geometry::new(k.parse()?, m.parse()?, width.parse()?)?;
     tell(rt, alloc, &ParCoder, geometry, 1, rounds.parse()?)
+}
+
+// Writes a stripe's parity chunks so many times, with the factors solved in each call.
+fn write_plain(
+    alloc: Global,
+    geometry: Geometry,
+    stripe: &[u8],
+    chunks: &mut [u8],
+    times: u64,
+) -> anyhow::Result<()>
+    requires stripe { length stripe.now ≡ stripe_length geometry }
+    requires chunks { length chunks.old ≡ geometry.parity_count * chunk_length geometry }
+{
+    for _time in 0..times {
+        parity_into(alloc, geometry, stripe, chunks)?;
+    }
+    Ok(())
+}
+
+// The same with a code that is prepared.
+fn write_prepared(
+    alloc: Global,
+    prepared: &Prepared,
+    stripe: &[u8],
+    chunks: &mut [u8],
+    times: u64,
+) -> anyhow::Result<()>
+    requires stripe { length stripe.now ≡ stripe_length prepared.now }
+    requires chunks { length chunks.old ≡ prepared.now.parity_count * chunk_length prepared.now }
+{
+    for _time in 0..times {
+        prepared.parity_into(alloc, stripe, chunks)?;
+    }
+    Ok(())
+}
+
+/// Stripes of a MiB together at 8 + 4 in subchunks of a width, by the plain call and by a code that is prepared, in alternating rounds.
+pub fn time_prepared<R: Clock + Print>(
+    rt: &R,
+    alloc: Global,
+    words: &[String],
+) -> anyhow::Result<()> {
+    let [width] = words else {
+        bail!("a width is wanted");
+    };
+    let geometry = Geometry::new(8, 4, width.parse()?)?;
+    let times = MIB / u64::from(geometry.stripe_len()).max(1);
+    let stripe = vec![in alloc; 0x5au8; geometry.stripe_len() as usize]?;
+    let mut chunks = vec![in alloc; 0u8; geometry.m() as usize * geometry.chunk_len() as usize]?;
+    let prepared = Prepared::new(alloc, geometry)?;
+    let mut plain = Least::new();
+    let mut ready = Least::new();
+    for _round in 0..ROUNDS {
+        let begun = rt.monotonic()?;
+        write_plain(alloc, geometry, &stripe, &mut chunks, times)?;
+        let between = rt.monotonic()?;
+        write_prepared(alloc, &prepared, &stripe, &mut chunks, times)?;
+        plain.note(between.saturating_sub(begun));
+        ready.note(rt.monotonic()?.saturating_sub(between));
+    }
+    let (plain, ready) = (plain.nanoseconds(), ready.nanoseconds());
+    println!(rt; "{plain} {ready}")?;
+    Ok(())
 }

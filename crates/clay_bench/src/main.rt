@@ -20,6 +20,7 @@ use std::time::{Clock, CpuClock};
 const USAGE: &str = "\
 clay_bench coder WIDTH: nanoseconds in which one thread encodes a MiB at 8 + 4
 clay_bench threads K M WIDTH ROUNDS: nanoseconds in which as many threads as there are processors encode a stripe
+clay_bench prepared WIDTH: nanoseconds in which one thread writes the parity of a MiB at 8 + 4, and in which it does so with a prepared code
 clay_bench seals ROUNDS: nanoseconds of each call of a chunk server
 clay_bench directory (KIND SIZE STEPS)..: makes steps in directories of a size, to be timed from outside";
 
@@ -34,6 +35,7 @@ fn measure<R: Threads + Sync + Clock + CpuClock + Print>(
     };
     match what.as_str() {
         "coder" => coding::time_one_thread(rt, alloc, words),
+        "prepared" => coding::time_prepared(rt, alloc, words),
         "threads" => coding::time_threads(rt, alloc, words),
         "seals" => seals::time_calls(rt, alloc, words),
         "directory" => directory::make_steps(rt, alloc, words),

@@ -1,6 +1,7 @@
 pub mod Padding
 pub mod Olds
 pub mod Ramps
+pub mod Periods
 pub mod Standings
 pub mod OfWrites
 pub mod Gathered

@@ -152,14 +152,30 @@ fn repeat(piece: &mut [u8], value: u8)
     }
 }
 
-// The bytes of a ramp, behind the first ones.
+// After so many bytes a ramp's come again.
+const PERIOD: usize = 256;
+
+// The bytes of a ramp from a byte on.
+fn count_from(piece: &mut [u8], first: u8)
+    ensures { piece.new ≡ map (λ i. (first + i) % 256) (range_with_len 0 (length piece.old)) }
+{
+    let mut next = first;
+    for byte in piece.iter_mut() {
+        *byte = next;
+        next = next.wrapping_add(1);
+    }
+}
+
+// The bytes of a ramp, behind the first ones: counted once, and copied where they come again.
 fn count_up(piece: &mut [u8], first: u8, skipped: usize)
     requires { skipped < 2 ^ 32 }
     ensures { piece.new ≡ map (λ i. (first + i) % 256) (range_with_len skipped (length piece.old)) }
 {
-    let mut next = first.wrapping_add((skipped % 256) as u8);
-    for byte in piece.iter_mut() {
-        *byte = next;
-        next = next.wrapping_add(1);
+    let mut period = [0u8; PERIOD];
+    count_from(&mut period, first.wrapping_add((skipped % PERIOD) as u8));
+    for block in 0..piece.len().div_ceil(PERIOD) {
+        let start = block * PERIOD;
+        let len = PERIOD.min(piece.len() - start);
+        piece[start..start + len].copy_from_slice(&period[..len]);
     }
 }

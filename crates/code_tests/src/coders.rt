@@ -1,4 +1,7 @@
 //! The coders, over one codeword.
+ghost use Rattle.std.specs.Prelude.{◌<◌};
+ghost use Rattle.clay_grid.specs.Shape.{chunk_count};
+
 use clay_grid::Geometry;
 use clay_lanes::LaneCoder;
 use clay_par::ParCoder;
@@ -20,20 +23,41 @@ fn expect_word(rt: &impl Abort, chunks: &[Vec<u8>]) {
     }
 }
 
-// Codes a stripe, and recovers a chunk of either kind.
+fn check_stripe<R: Threads + Sync + Abort, C: Coder>(
+    rt: &R,
+    alloc: Global,
+    coder: &C,
+) -> Result<(), Fail> {
+    let g = Geometry::new(2, 2, 1)?;
+    expect_word(rt, &coder.encode(rt, alloc, g, &WORD[..8])?);
+    Ok(())
+}
+
+// Recovers a chunk of either kind.
 fn check_word<R: Threads + Sync + Abort, C: Coder>(
     rt: &R,
     alloc: Global,
     coder: &C,
 ) -> Result<(), Fail> {
     let g = Geometry::new(2, 2, 1)?;
-    assert_eq!(rt; [g.n(), g.m(), g.chunk_len()], [4, 2, 4]);
-    assert_eq!(rt; g.stripe_len(), 8);
-    expect_word(rt, &coder.encode(rt, alloc, g, &WORD[..8])?);
     let data = Vec::from_slice(alloc, &WORD[4..8])?;
     let parity = Vec::from_slice(alloc, &WORD[12..])?;
     let have = [None, Some(data), None, Some(parity)];
     expect_word(rt, &coder.recover(rt, alloc, g, &have)?);
+    Ok(())
+}
+
+fn expect_layers(
+    rt: &impl Abort,
+    alloc: Global,
+    g: Geometry,
+    lost: u32,
+    layers: &[u32],
+) -> Result<(), Fail>
+    requires { lost < chunk_count g }
+{
+    let found = g.repair_layers(alloc, lost)?;
+    assert_eq!(rt; found.as_slice(), layers);
     Ok(())
 }
 
@@ -44,7 +68,7 @@ fn check_data_chunk<R: Threads + Sync + Abort, C: Coder>(
     coder: &C,
 ) -> Result<(), Fail> {
     let g = Geometry::new(2, 2, 1)?;
-    assert_eq!(rt; g.repair_layers(alloc, 0)?.as_slice(), [0, 1].as_slice());
+    expect_layers(rt, alloc, g, 0, &[0, 1])?;
     let data = Vec::from_slice(alloc, &[0, 0])?;
     let first = Vec::from_slice(alloc, &[0x03, 0xa6])?;
     let second = Vec::from_slice(alloc, &[0x53, 0])?;
@@ -61,8 +85,7 @@ fn check_parity_chunk<R: Threads + Sync + Abort, C: Coder>(
     coder: &C,
 ) -> Result<(), Fail> {
     let g = Geometry::new(3, 2, 1)?;
-    let layers = g.repair_layers(alloc, 4)?;
-    assert_eq!(rt; layers.as_slice(), [1, 3, 5, 7].as_slice());
+    expect_layers(rt, alloc, g, 4, &[1, 3, 5, 7])?;
     let zero = Vec::from_slice(alloc, &[0; 4])?;
     let one = Vec::from_slice(alloc, &[0; 4])?;
     let two = Vec::from_slice(alloc, &[0; 4])?;
@@ -79,6 +102,7 @@ fn check_coder<R: Threads + Sync + Abort, C: Coder>(
     alloc: Global,
     coder: &C,
 ) -> Result<(), Fail> {
+    check_stripe(rt, alloc, coder)?;
     check_word(rt, alloc, coder)?;
     check_data_chunk(rt, alloc, coder)?;
     check_parity_chunk(rt, alloc, coder)

@@ -1,4 +1,5 @@
 //! The calls on a pair of bytes.
+use crate::expect_bytes;
 use clay_model::{couple, cross, uncouple, uncouple_from};
 
 #[test]
@@ -6,13 +7,13 @@ fn a_pair_of_bytes(rt: HostRuntime) {
     let (c, d) = ([0x01, 0x00, 0x80, 0xff], [0x00, 0x01, 0x01, 0x53]);
     let (mut u, mut v, mut out) = ([0xee; 4], [0xee; 4], [0xee; 4]);
     uncouple(&c, &d, &mut u);
-    assert_eq!(rt; u, [0x01, 0x02, 0x82, 0x59]);
+    expect_bytes(&rt, &u, &[0x01, 0x02, 0x82, 0x59]);
     uncouple(&d, &c, &mut v);
-    assert_eq!(rt; v, [0x02, 0x01, 0x1c, 0xb0]);
+    expect_bytes(&rt, &v, &[0x02, 0x01, 0x1c, 0xb0]);
     couple(&u, &v, &mut out);
-    assert_eq!(rt; out, c);
+    expect_bytes(&rt, &out, &c);
     uncouple_from(&c, &v, &mut out);
-    assert_eq!(rt; out, u);
+    expect_bytes(&rt, &out, &u);
     cross(&u, &c, &mut out);
-    assert_eq!(rt; out, d);
+    expect_bytes(&rt, &out, &d);
 }

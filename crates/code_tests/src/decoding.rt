@@ -3,6 +3,7 @@ ghost use Rattle.std.specs.Prelude.{◌≡◌, length, IfOk, IfSome};
 ghost use Rattle.clay_grid.specs.Shape.{chunk_count, chunk_length};
 ghost use Rattle.clay_decode.specs.Left.{AreLong};
 
+use crate::expect_bytes;
 use clay_decode::{CheckedFault, DecodeFault, decode, decode_checked};
 use clay_encode::encode;
 use clay_grid::Geometry;
@@ -63,76 +64,131 @@ fn left_of(
     ensures count { IfOk result (λ have. length have.items ≡ chunk_count g) }
     ensures lengths { IfOk result (λ have. AreLong (chunk_length g) have.items) }
 {
-    assert_eq!(rt; chunks.len(), g.n() as usize);
+    assert!(rt; chunks.len() == g.n() as usize);
     let mut have = Vec::new(alloc);
     for c in 0..g.n() {
         let chunk = &chunks[c as usize];
-        assert_eq!(rt; chunk.len(), g.chunk_len() as usize);
+        assert!(rt; chunk.len() == g.chunk_len() as usize);
         have.push(part_of(alloc, chunk, missing >> c & 1 == 1)?)?;
     }
     Ok(have)
 }
 
 fn expect_chunks(rt: &impl Abort, chunks: &[Vec<u8>], expected: &[Vec<u8>]) {
-    assert_eq!(rt; chunks.len(), expected.len());
+    assert!(rt; chunks.len() == expected.len());
     for (c, chunk) in chunks.iter().enumerate() {
-        assert_eq!(rt; chunk.as_slice(), expected[c].as_slice());
+        expect_bytes(rt, chunk, &expected[c]);
     }
+}
+
+// Too few chunks are refused.
+fn check_refused(rt: &impl Abort, alloc: Global, g: Geometry, have: &[Option<Vec<u8>>])
+    requires count { length have.now ≡ chunk_count g }
+    requires lengths { AreLong (chunk_length g) have.now }
+{
+    assert!(rt; decode(alloc, g, have).err() == Some(DecodeFault::TooFew));
+    assert!(rt; decode_checked(alloc, g, have).err() == Some(CheckedFault::TooFew));
+}
+
+// The chunks of the codeword come back.
+fn check_decoded(
+    rt: &impl Abort,
+    alloc: Global,
+    g: Geometry,
+    have: &[Option<Vec<u8>>],
+    word: &[Vec<u8>],
+) -> Result<(), Fail>
+    requires count { length have.now ≡ chunk_count g }
+    requires lengths { AreLong (chunk_length g) have.now }
+{
+    expect_chunks(rt, &decode(alloc, g, have)?, word);
+    expect_chunks(rt, &decode_checked(alloc, g, have)?, word);
+    Ok(())
+}
+
+// Decodes what is left after these losses.
+fn check_loss(
+    rt: &impl Abort,
+    alloc: Global,
+    g: Geometry,
+    word: &[Vec<u8>],
+    missing: u32,
+) -> Result<(), Fail> {
+    let have = left_of(rt, alloc, g, word, missing)?;
+    if missing.count_ones() > g.m() {
+        check_refused(rt, alloc, g, &have);
+        return Ok(());
+    }
+    check_decoded(rt, alloc, g, &have, word)
 }
 
 // Decodes what is left after each choice of losses.
 fn check_losses(rt: &impl Abort, alloc: Global, g: Geometry, word: &[Vec<u8>]) -> Result<(), Fail> {
     assert!(rt; g.n() < 8);
     for missing in 0..1u32 << g.n() {
-        let have = left_of(rt, alloc, g, word, missing)?;
-        if missing.count_ones() > g.m() {
-            assert_eq!(rt; decode(alloc, g, &have).err(), Some(DecodeFault::TooFew));
-            assert_eq!(rt;
-                decode_checked(alloc, g, &have).err(),
-                Some(CheckedFault::TooFew)
-            );
-        } else {
-            expect_chunks(rt, &decode(alloc, g, &have)?, word);
-            expect_chunks(rt, &decode_checked(alloc, g, &have)?, word);
-        }
+        check_loss(rt, alloc, g, word, missing)?;
     }
     Ok(())
 }
 
+fn check_word(rt: &impl Abort, alloc: Global, word: &Word) -> Result<(), Fail> {
+    let g = Geometry::new(2, 2, 1)?;
+    check_losses(rt, alloc, g, &chunks_of(alloc, word)?)
+}
+
 #[test]
 fn codewords_are_decoded(rt: HostRuntime) -> Result<(), Fail> {
-    let g = Geometry::new(2, 2, 1)?;
-    check_losses(&rt, rt.alloc(), g, &chunks_of(rt.alloc(), &UNPAIRED)?)?;
-    check_losses(&rt, rt.alloc(), g, &chunks_of(rt.alloc(), &PAIRED)?)?;
-    for (k, m) in [(3, 2), (4, 3)] {
-        let g = Geometry::new(k, m, 2)?;
-        let mut stripe = Vec::new(rt.alloc());
-        for i in 0..g.stripe_len() {
-            stripe.push((i % 251) as u8)?;
-        }
-        assert_eq!(rt; stripe.len(), g.stripe_len() as usize);
-        check_losses(&rt, rt.alloc(), g, &encode(rt.alloc(), g, &stripe)?)?;
+    check_word(&rt, rt.alloc(), &UNPAIRED)?;
+    check_word(&rt, rt.alloc(), &PAIRED)
+}
+
+fn ramp(alloc: Global, len: u32) -> Result<Vec<u8>, AllocError> {
+    (0..len).map(|i| (i % 251) as u8).collect(alloc)
+}
+
+// The chunks of a stripe.
+fn encoded(rt: &impl Abort, alloc: Global, g: Geometry) -> Result<Vec<Vec<u8>>, Fail> {
+    let stripe = ramp(alloc, g.stripe_len())?;
+    assert!(rt; stripe.len() == g.stripe_len() as usize);
+    Ok(encode(alloc, g, &stripe)?)
+}
+
+fn check_code(rt: &impl Abort, alloc: Global, g: Geometry) -> Result<(), Fail> {
+    check_losses(rt, alloc, g, &encoded(rt, alloc, g)?)
+}
+
+#[test]
+fn stripes_are_decoded(rt: HostRuntime) -> Result<(), Fail> {
+    check_code(&rt, rt.alloc(), Geometry::new(3, 2, 2)?)?;
+    check_code(&rt, rt.alloc(), Geometry::new(4, 3, 2)?)
+}
+
+// Whether what is left after these losses is of a codeword.
+fn agrees(
+    rt: &impl Abort,
+    alloc: Global,
+    g: Geometry,
+    chunks: &[Vec<u8>],
+    missing: u32,
+) -> Result<bool, Fail> {
+    let have = left_of(rt, alloc, g, chunks, missing)?;
+    match decode_checked(alloc, g, &have) {
+        Ok(_) => Ok(true),
+        Err(CheckedFault::Disagree) => Ok(false),
+        Err(fault) => Err(fault)?,
     }
+}
+
+fn check_another(rt: &impl Abort, alloc: Global, chunks: &[Vec<u8>]) -> Result<(), Fail> {
+    let g = Geometry::new(2, 2, 1)?;
+    assert!(rt; !agrees(rt, alloc, g, chunks, 0b0000)?);
+    assert!(rt; !agrees(rt, alloc, g, chunks, 0b0001)?);
+    assert!(rt; agrees(rt, alloc, g, chunks, 0b0011)?);
+    assert!(rt; agrees(rt, alloc, g, chunks, 0b1000)?);
     Ok(())
 }
 
 #[test]
 fn chunks_of_no_codeword_disagree(rt: HostRuntime) -> Result<(), Fail> {
-    let g = Geometry::new(2, 2, 1)?;
-    let chunks = chunks_of(rt.alloc(), &ANOTHER)?;
-    for (missing, agrees) in [
-        (0b0000, false),
-        (0b0001, false),
-        (0b0011, true),
-        (0b1000, true),
-    ] {
-        let have = left_of(&rt, rt.alloc(), g, &chunks, missing)?;
-        let expected = if agrees {
-            None
-        } else {
-            Some(CheckedFault::Disagree)
-        };
-        assert_eq!(rt; decode_checked(rt.alloc(), g, &have).err(), expected);
-    }
-    Ok(())
+    check_another(&rt, rt.alloc(), &chunks_of(rt.alloc(), &ANOTHER)?)
 }

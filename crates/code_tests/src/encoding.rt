@@ -1,11 +1,42 @@
 //! Stripes that are encoded, and bytes that are cut into stripes.
+ghost use Rattle.std.specs.Prelude.{◌≤◌, ◌<◌, length};
+ghost use Rattle.std.specs.List.{concat};
+ghost use Rattle.clay_encode.specs.Chunks.{contents};
+
+use crate::expect_bytes;
 use clay_encode::{encode, join, split, stripes_are_joined};
 use clay_grid::Geometry;
-use std::alloc::Global;
+use std::alloc::{AllocError, Global};
 use std::process::Abort;
 use std::test::Fail;
 
-// Encodes a stripe and compares the chunks, joined, with the stripe and the parity.
+fn are_long(chunks: &[Vec<u8>], len: usize) -> bool {
+    chunks.iter().all(|chunk| chunk.len() == len)
+}
+
+fn joined(alloc: Global, chunks: &[Vec<u8>]) -> Result<Vec<u8>, AllocError> {
+    let mut bytes = Vec::new(alloc);
+    for chunk in chunks {
+        bytes.extend_from_slice(chunk)?;
+    }
+    Ok(bytes)
+}
+
+// The chunks are as long as they are to be, and joined they are the stripe with the parity behind it.
+fn expect_chunks(
+    rt: &impl Abort,
+    alloc: Global,
+    g: Geometry,
+    chunks: &[Vec<u8>],
+    stripe: &[u8],
+    parity: &[u8],
+) -> Result<(), Fail> {
+    assert!(rt; are_long(chunks, g.chunk_len() as usize));
+    let bytes = joined(alloc, chunks)?;
+    assert!(rt; bytes.as_slice().strip_prefix(stripe) == Some(parity));
+    Ok(())
+}
+
 fn check_parity(
     rt: &impl Abort,
     alloc: Global,
@@ -13,83 +44,86 @@ fn check_parity(
     stripe: &[u8],
     parity: &[u8],
 ) -> Result<(), Fail> {
-    assert_eq!(rt; stripe.len(), g.stripe_len() as usize);
-    let chunks = encode(alloc, g, stripe)?;
-    let mut joined = Vec::new(alloc);
-    for chunk in &chunks {
-        assert_eq!(rt; chunk.len(), g.chunk_len() as usize);
-        joined.extend_from_slice(chunk)?;
-    }
-    let mut expected = Vec::from_slice(alloc, stripe)?;
-    expected.extend_from_slice(parity)?;
-    assert_eq!(rt; joined.as_slice(), expected.as_slice());
-    Ok(())
+    assert!(rt; stripe.len() == g.stripe_len() as usize);
+    expect_chunks(rt, alloc, g, &encode(alloc, g, stripe)?, stripe, parity)
 }
 
 #[test]
-fn stripes_are_encoded(rt: HostRuntime) -> Result<(), Fail> {
-    let alloc = rt.alloc();
-    let two_and_two = Geometry::new(2, 2, 1)?;
-    let unpaired = [0x01, 0, 0, 0, 0, 0, 0, 0];
-    check_parity(
-        &rt,
-        alloc,
-        two_and_two,
-        &unpaired,
-        &[0x03, 0xa6, 0, 0, 0x53, 0, 0, 0],
-    )?;
-    let paired = [0, 0, 0, 0, 0x01, 0, 0, 0];
-    check_parity(
-        &rt,
-        alloc,
-        two_and_two,
-        &paired,
-        &[0x02, 0xf5, 0x06, 0x51, 0xf4, 0, 0xa6, 0],
-    )?;
-
-    // the data byte is paired with the virtual node
-    let three_and_two = Geometry::new(3, 2, 1)?;
-    let mut late = [0; 24];
-    late[18] = 0x01;
-    let parity = [
-        0x0c, 0x55, 0x07, 0xf7, 0, 0, 0, 0, 0xa4, 0, 0xf5, 0, 0, 0, 0, 0,
-    ];
-    check_parity(&rt, alloc, three_and_two, &late, &parity)
+fn unpaired_bytes_are_encoded(rt: HostRuntime) -> Result<(), Fail> {
+    let g = Geometry::new(2, 2, 1)?;
+    let stripe = b"\x01\0\0\0\0\0\0\0";
+    check_parity(&rt, rt.alloc(), g, stripe, b"\x03\xa6\0\0\x53\0\0\0")
 }
+
+#[test]
+fn paired_bytes_are_encoded(rt: HostRuntime) -> Result<(), Fail> {
+    let g = Geometry::new(2, 2, 1)?;
+    let stripe = b"\0\0\0\0\x01\0\0\0";
+    check_parity(&rt, rt.alloc(), g, stripe, b"\x02\xf5\x06\x51\xf4\0\xa6\0")
+}
+
+// The data byte is paired with the virtual node.
+#[test]
+fn bytes_beside_a_virtual_node_are_encoded(rt: HostRuntime) -> Result<(), Fail> {
+    let g = Geometry::new(3, 2, 1)?;
+    let mut stripe = [0; 24];
+    stripe[18] = 0x01;
+    let parity = b"\x0c\x55\x07\xf7\0\0\0\0\xa4\0\xf5\0\0\0\0\0";
+    check_parity(&rt, rt.alloc(), g, &stripe, parity)
+}
+
+/// of the stripe 0, 1, .., 107
+const RAMP_PARITY: &[u8] = b"\
+    \x09\x82\x40\x34\xac\xa2\xba\x0c\x69\x98\xfd\xd6\xdc\x06\x8c\xca\xaf\xc7\xf8\xee\xb5\x46\x3e\x76\x3d\x32\x28\
+    \xd1\x46\x44\xf2\xec\xb1\xfe\x34\xf2\xe3\xc9\x67\x73\xb8\x91\x48\xa0\x11\x4b\x8a\xf2\x53\xd6\x92\x59\x9d\x33\
+    \x0d\xa3\x11\x98\x84\x51\xec\x72\xe0\x73\x0f\x67\xce\x03\x82\x76\x8d\x09\x1d\xef\x5e\x7b\x89\xe3\xae\x85\xab";
 
 #[test]
 fn two_nodes_are_virtual(rt: HostRuntime) -> Result<(), Fail> {
     let ramp: Vec<u8> = (0..108u8).collect(rt.alloc())?;
-    let parity = [
-        0x09, 0x82, 0x40, 0x34, 0xac, 0xa2, 0xba, 0x0c, 0x69, 0x98, 0xfd, 0xd6, 0xdc, 0x06, 0x8c,
-        0xca, 0xaf, 0xc7, 0xf8, 0xee, 0xb5, 0x46, 0x3e, 0x76, 0x3d, 0x32, 0x28, 0xd1, 0x46, 0x44,
-        0xf2, 0xec, 0xb1, 0xfe, 0x34, 0xf2, 0xe3, 0xc9, 0x67, 0x73, 0xb8, 0x91, 0x48, 0xa0, 0x11,
-        0x4b, 0x8a, 0xf2, 0x53, 0xd6, 0x92, 0x59, 0x9d, 0x33, 0x0d, 0xa3, 0x11, 0x98, 0x84, 0x51,
-        0xec, 0x72, 0xe0, 0x73, 0x0f, 0x67, 0xce, 0x03, 0x82, 0x76, 0x8d, 0x09, 0x1d, 0xef, 0x5e,
-        0x7b, 0x89, 0xe3, 0xae, 0x85, 0xab,
-    ];
-    check_parity(&rt, rt.alloc(), Geometry::new(4, 3, 1)?, &ramp, &parity)
+    check_parity(&rt, rt.alloc(), Geometry::new(4, 3, 1)?, &ramp, RAMP_PARITY)
+}
+
+// The last stripe is filled up, and the bytes come back.
+fn expect_stripes(
+    rt: &impl Abort,
+    alloc: Global,
+    g: Geometry,
+    stripes: &[Vec<u8>],
+    bytes: &[u8],
+) -> Result<(), Fail>
+    requires { length bytes.now ≤ length (concat (contents stripes.now)) }
+{
+    assert!(rt; are_long(stripes, 8));
+    let again = join(alloc, g, stripes, bytes.len())?;
+    expect_bytes(rt, &again, bytes);
+    Ok(())
+}
+
+// Cuts the bytes from 1 up to this many into so many stripes.
+fn check_cut(rt: &impl Abort, alloc: Global, len: u8, count: usize) -> Result<(), Fail>
+    requires { len < 255 }
+{
+    let g = Geometry::new(2, 2, 1)?;
+    let bytes: Vec<u8> = (1..len + 1).collect(alloc)?;
+    stripes_are_joined();
+    let stripes = split(alloc, g, &bytes)?;
+    assert!(rt; stripes.len() == count);
+    expect_stripes(rt, alloc, g, &stripes, &bytes)
 }
 
 #[test]
 fn bytes_are_cut_and_joined(rt: HostRuntime) -> Result<(), Fail> {
-    let alloc = rt.alloc();
-    let g = Geometry::new(2, 2, 1)?;
-    stripes_are_joined();
     for (len, count) in [(0, 0), (1, 1), (7, 1), (8, 1), (9, 2), (17, 3)] {
-        let bytes: Vec<u8> = (1..len + 1).collect(alloc)?;
-        let stripes = split(alloc, g, &bytes)?;
-        assert_eq!(rt; stripes.len(), count);
-        if let Some(last) = stripes.last() {
-            assert_eq!(rt; last.len(), 8);
-        }
-        assert_eq!(rt;
-            join(alloc, g, &stripes, bytes.len())?.as_slice(),
-            bytes.as_slice()
-        );
+        check_cut(&rt, rt.alloc(), len, count)?;
     }
-    let stripes = split(alloc, g, &[5; 9])?;
-    assert_eq!(rt; stripes.len(), 2);
-    assert_eq!(rt; stripes[1].as_slice(), [5, 0, 0, 0, 0, 0, 0, 0].as_slice());
+    Ok(())
+}
+
+#[test]
+fn stripes_are_filled_up(rt: HostRuntime) -> Result<(), Fail> {
+    let stripes = split(rt.alloc(), Geometry::new(2, 2, 1)?, &[5; 9])?;
+    assert!(rt; stripes.len() == 2);
+    expect_bytes(&rt, &stripes[1], &[5, 0, 0, 0, 0, 0, 0, 0]);
     Ok(())
 }

@@ -1,5 +1,6 @@
 //! The numbers of shapes, and shapes that are refused.
-use clay_grid::{BadGeometry, Geometry, Vertex};
+use crate::expect_numbers;
+use clay_grid::{BadGeometry, Geometry};
 use std::test::Fail;
 
 /// k, m; q, nu, t, alpha, the subchunks of each helper in a repair
@@ -20,9 +21,13 @@ const PAIRS: [[u32; 4]; 4] = [[0, 2, 1, 0], [0, 3, 1, 1], [2, 1, 3, 0], [2, 3, 3
 fn numbers_of_shapes(rt: HostRuntime) -> Result<(), Fail> {
     for [k, m, q, nu, t, alpha, helper] in SHAPES {
         let g = Geometry::new(k, m, 3)?;
-        assert_eq!(rt; [g.k(), g.m(), g.w(), g.q()], [k, m, 3, q]);
-        assert_eq!(rt; [g.nu(), g.t(), g.alpha(), g.n()], [nu, t, alpha, k + m]);
-        assert_eq!(rt; g.repair_layers(rt.alloc(), 0)?.len(), helper as usize);
+        expect_numbers(&rt, &[g.k(), g.m(), g.w(), g.q()], &[k, m, 3, q]);
+        expect_numbers(
+            &rt,
+            &[g.nu(), g.t(), g.alpha(), g.n()],
+            &[nu, t, alpha, k + m],
+        );
+        assert!(rt; g.repair_layers(rt.alloc(), 0)?.len() == helper as usize);
     }
     Ok(())
 }
@@ -30,31 +35,50 @@ fn numbers_of_shapes(rt: HostRuntime) -> Result<(), Fail> {
 #[test]
 fn refusals(rt: HostRuntime) {
     let refused = |k, m, w| Geometry::new(k, m, w).err();
-    assert_eq!(rt; refused(1, 1, 0), Some(BadGeometry::DataCount));
-    assert_eq!(rt; refused(2, 9, 0), Some(BadGeometry::ParityCount));
-    assert_eq!(rt; refused(20, 4, 0), Some(BadGeometry::Layers));
-    assert_eq!(rt; refused(u32::MAX, 2, 1), Some(BadGeometry::Layers));
-    assert_eq!(rt; refused(16, 4, 65_537), Some(BadGeometry::Width));
-    assert_eq!(rt; refused(16, 4, 1025), Some(BadGeometry::ChunkSize));
-    assert_eq!(rt; refused(16, 4, 1024), None);
+    assert!(rt; refused(1, 1, 0) == Some(BadGeometry::DataCount));
+    assert!(rt; refused(2, 9, 0) == Some(BadGeometry::ParityCount));
+    assert!(rt; refused(20, 4, 0) == Some(BadGeometry::Layers));
+    assert!(rt; refused(u32::MAX, 2, 1) == Some(BadGeometry::Layers));
+    assert!(rt; refused(16, 4, 65_537) == Some(BadGeometry::Width));
+    assert!(rt; refused(16, 4, 1025) == Some(BadGeometry::ChunkSize));
+    assert!(rt; refused(16, 4, 1024) == None);
 }
 
 #[test]
-fn small_grid(rt: HostRuntime) -> Result<(), Fail> {
+fn lengths(rt: HostRuntime) -> Result<(), Fail> {
+    let g = Geometry::new(2, 2, 1)?;
+    expect_numbers(&rt, &[g.chunk_len(), g.stripe_len()], &[4, 8]);
+    Ok(())
+}
+
+#[test]
+fn partners(rt: HostRuntime) -> Result<(), Fail> {
     let g = Geometry::new(2, 2, 1)?;
     for [node, layer, other, other_layer] in PAIRS {
         let (x, y) = g.place(node);
+        let partner = g.partner(x, y, layer);
         let (other_x, other_y) = g.place(other);
-        let other = Vertex {
-            x: other_x,
-            y: other_y,
-            z: other_layer,
-        };
-        assert_eq!(rt; g.partner(x, y, layer), other);
+        expect_numbers(
+            &rt,
+            &[partner.x, partner.y, partner.z],
+            &[other_x, other_y, other_layer],
+        );
     }
-    let layers = g.layers_by_score(rt.alloc(), &[true, false, true, false])?;
-    assert_eq!(rt; layers.as_slice(), [3, 1, 2, 0].as_slice());
+    Ok(())
+}
+
+#[test]
+fn layers_of_a_small_grid(rt: HostRuntime) -> Result<(), Fail> {
+    let g = Geometry::new(2, 2, 1)?;
+    let by_score = g.layers_by_score(rt.alloc(), &[true, false, true, false])?;
+    expect_numbers(&rt, &by_score, &[3, 1, 2, 0]);
+    Ok(())
+}
+
+#[test]
+fn repair_layers(rt: HostRuntime) -> Result<(), Fail> {
+    let g = Geometry::new(2, 2, 1)?;
     let layers = g.repair_layers(rt.alloc(), 3)?;
-    assert_eq!(rt; layers.as_slice(), [1, 3].as_slice());
+    expect_numbers(&rt, &layers, &[1, 3]);
     Ok(())
 }

@@ -15,3 +15,17 @@ mod field;
 mod geometry;
 #[cfg(test)]
 mod interpolation;
+
+#[cfg(test)]
+use std::process::Abort;
+
+// One function compares, and tells both sides where they differ: each `assert_eq` of a test is proved with all that it prints.
+#[cfg(test)]
+fn expect_bytes(rt: &impl Abort, found: &[u8], wanted: &[u8]) {
+    assert_eq!(rt; found, wanted);
+}
+
+#[cfg(test)]
+fn expect_numbers(rt: &impl Abort, found: &[u32], wanted: &[u32]) {
+    assert_eq!(rt; found, wanted);
+}

@@ -7,7 +7,7 @@ use Rattle.store_map.specs.Name.{is_name}
 use Rattle.store_map.specs.Content.{content_bytes}
 use Rattle.store_map.specs.declared.call.Call.TheVariants as call
 use Rattle.store_map.specs.declared.content.Content.TheVariants as content
-use Rattle.session_rules.specs.Request.{Request}
+use Rattle.session_rules.specs.declared.request.Request.{Request}
 use Rattle.session_rules.specs.Fields.{Reader, name_then, number_then, then_end, rest_then}
 use Rattle.session_rules.specs.Requests.{server_then}
 use Rattle.frame_laws.specs.Sent.{name_bytes, RequestsAreRead}

@@ -7,7 +7,7 @@ use Rattle.store_map.specs.declared.call.Call.{Call}
 use Rattle.store_map.specs.declared.call.Call.TheVariants as call
 use Rattle.store_map.specs.declared.content.Content.{Content}
 use Rattle.store_map.specs.declared.content.Content.TheVariants as content
-use Rattle.session_rules.specs.Request.{Request}
+use Rattle.session_rules.specs.declared.request.Request.{Request}
 use Rattle.session_rules.specs.Requests.{request_of}
 
 -- a name's length in one byte, then its bytes

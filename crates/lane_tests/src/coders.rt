@@ -1,9 +1,9 @@
 //! Codewords recovered by the fast coder from what is left of them, and chunks that are of none.
-ghost use Rattle.std.specs.Prelude.{◌≡◌, length, IfOk, IfSome, count_by, is_none};
+ghost use Rattle.std.specs.Prelude.{◌≡◌, ◌≤◌, length, IfOk, IfSome, count_by, is_none};
 ghost use Rattle.clay_grid.specs.Shape.{chunk_count, chunk_length};
 ghost use Rattle.clay_decode.specs.Left.{AreLong};
 
-use crate::encoding::{CODES, WIDTHS, mixed_bytes};
+use crate::encoding::{CODES, WIDTHS, expect_bytes, expect_chunks, mixed_bytes};
 use clay_decode::{CheckedFault, DecodeFault};
 use clay_grid::Geometry;
 use clay_lanes::{LaneCoder, decode, decode_checked, encode, missing, missing_into};
@@ -33,22 +33,15 @@ pub fn left_of(
     ensures count { IfOk result (λ have. length have.items ≡ chunk_count g) }
     ensures lengths { IfOk result (λ have. AreLong (chunk_length g) have.items) }
 {
-    assert_eq!(rt; chunks.len(), g.n() as usize);
+    assert!(rt; chunks.len() == g.n() as usize);
     assert!(rt; g.n() < 32);
     let mut have = Vec::new(alloc);
     for c in 0..g.n() {
         let chunk = &chunks[c as usize];
-        assert_eq!(rt; chunk.len(), g.chunk_len() as usize);
+        assert!(rt; chunk.len() == g.chunk_len() as usize);
         have.push(part_of(alloc, chunk, gone >> c & 1 == 1)?)?;
     }
     Ok(have)
-}
-
-pub fn expect_chunks(rt: &impl Abort, chunks: &[Vec<u8>], expected: &[Vec<u8>]) {
-    assert_eq!(rt; chunks.len(), expected.len());
-    for (c, chunk) in chunks.iter().enumerate() {
-        assert_eq!(rt; chunk.as_slice(), expected[c].as_slice());
-    }
 }
 
 pub fn gone_count(have: &[Option<Vec<u8>>]) -> usize
@@ -70,7 +63,7 @@ pub fn expect_places(
         assert!(rt; c < have.len());
         assert!(rt; c < word.len());
         if have[c].is_none() {
-            assert_eq!(rt; piece, word[c].as_slice());
+            expect_bytes(rt, piece, &word[c]);
         } else {
             assert!(rt; piece.iter().all(|byte| *byte == 0xa5));
         }
@@ -95,6 +88,66 @@ fn check_missing_into(
     Ok(())
 }
 
+// Too few chunks are refused.
+fn check_refused(rt: &impl Abort, alloc: Global, g: Geometry, have: &[Option<Vec<u8>>])
+    requires count { length have.now ≡ chunk_count g }
+    requires lengths { AreLong (chunk_length g) have.now }
+{
+    assert!(rt; missing(alloc, g, have).err() == Some(DecodeFault::TooFew));
+    assert!(rt; decode(alloc, g, have).err() == Some(DecodeFault::TooFew));
+    assert!(rt; decode_checked(alloc, g, have).err() == Some(CheckedFault::TooFew));
+}
+
+// The chunks of the codeword come back.
+fn check_recovered<R: Abort + Threads + Sync>(
+    rt: &R,
+    alloc: Global,
+    g: Geometry,
+    have: &[Option<Vec<u8>>],
+    word: &[Vec<u8>],
+) -> Result<(), Fail>
+    requires count { length have.now ≡ chunk_count g }
+    requires lengths { AreLong (chunk_length g) have.now }
+    requires few { count_by is_none have.now ≤ g.parity_count }
+{
+    expect_chunks(rt, &LaneCoder.recover(rt, alloc, g, have)?, word);
+    expect_chunks(rt, &decode(alloc, g, have)?, word);
+    expect_chunks(rt, &decode_checked(alloc, g, have)?, word);
+    Ok(())
+}
+
+// The chunks of the bits of `gone`.
+fn lost_of(
+    rt: &impl Abort,
+    alloc: Global,
+    word: &[Vec<u8>],
+    gone: u32,
+) -> Result<Vec<Vec<u8>>, AllocError> {
+    assert!(rt; word.len() < 32);
+    let mut lost = Vec::new(alloc);
+    for (c, chunk) in word.iter().enumerate() {
+        if gone >> c & 1 == 1 {
+            lost.push(Vec::from_slice(alloc, chunk)?)?;
+        }
+    }
+    Ok(lost)
+}
+
+// The missing chunks come back, alone.
+fn check_missing(
+    rt: &impl Abort,
+    alloc: Global,
+    g: Geometry,
+    have: &[Option<Vec<u8>>],
+    lost: &[Vec<u8>],
+) -> Result<(), Fail>
+    requires count { length have.now ≡ chunk_count g }
+    requires lengths { AreLong (chunk_length g) have.now }
+{
+    expect_chunks(rt, &missing(alloc, g, have)?, lost);
+    Ok(())
+}
+
 // Recovers the chunks of the bits of `gone`.
 fn check_loss<R: Abort + Threads + Sync>(
     rt: &R,
@@ -105,46 +158,48 @@ fn check_loss<R: Abort + Threads + Sync>(
 ) -> Result<(), Fail> {
     let have = left_of(rt, alloc, g, word, gone)?;
     if gone_count(&have) > g.m() as usize {
-        assert_eq!(rt; missing(alloc, g, &have).err(), Some(DecodeFault::TooFew));
-        assert_eq!(rt; decode(alloc, g, &have).err(), Some(DecodeFault::TooFew));
-        assert_eq!(rt;
-            decode_checked(alloc, g, &have).err(),
-            Some(CheckedFault::TooFew)
-        );
+        check_refused(rt, alloc, g, &have);
         return Ok(());
     }
+    check_recovered(rt, alloc, g, &have, word)?;
     check_missing_into(rt, alloc, g, &have, word)?;
-    expect_chunks(rt, &LaneCoder.recover(rt, alloc, g, &have)?, word);
-    expect_chunks(rt, &decode(alloc, g, &have)?, word);
-    expect_chunks(rt, &decode_checked(alloc, g, &have)?, word);
-    assert!(rt; word.len() < 32);
-    let mut lost = Vec::new(alloc);
-    for (c, chunk) in word.iter().enumerate() {
-        if gone >> c & 1 == 1 {
-            lost.push(Vec::from_slice(alloc, chunk)?)?;
-        }
-    }
-    expect_chunks(rt, &missing(alloc, g, &have)?, &lost);
-    Ok(())
+    check_missing(rt, alloc, g, &have, &lost_of(rt, alloc, word, gone)?)
+}
+
+// The chunks of some stripe, of which both coders say the same.
+pub fn word_of<R: Abort + Threads + Sync>(
+    rt: &R,
+    alloc: Global,
+    g: Geometry,
+) -> Result<Vec<Vec<u8>>, Fail> {
+    let stripe = mixed_bytes(alloc, g.stripe_len())?;
+    assert!(rt; stripe.len() == g.stripe_len() as usize);
+    let word = LaneCoder.encode(rt, alloc, g, &stripe)?;
+    expect_chunks(rt, &PlainCoder.encode(rt, alloc, g, &stripe)?, &word);
+    Ok(word)
 }
 
 // Loses no chunk, the last data chunk, the first parity chunk, as many as there are parity chunks (the
 // first data chunks, the first parity chunks, some of each), and one too many.
-fn check_losses<R: Abort + Threads + Sync>(rt: &R, alloc: Global, g: Geometry) -> Result<(), Fail> {
-    let stripe = mixed_bytes(alloc, g.stripe_len())?;
-    assert_eq!(rt; stripe.len(), g.stripe_len() as usize);
-    let word = LaneCoder.encode(rt, alloc, g, &stripe)?;
-    expect_chunks(rt, &PlainCoder.encode(rt, alloc, g, &stripe)?, &word);
-    assert_eq!(rt; word.len(), g.n() as usize);
+fn check_word<R: Abort + Threads + Sync>(
+    rt: &R,
+    alloc: Global,
+    g: Geometry,
+    word: &[Vec<u8>],
+) -> Result<(), Fail> {
     assert!(rt; g.n() < 32);
     let some = (1u32 << g.m()) - 1;
-    check_loss(rt, alloc, g, &word, 0)?;
-    check_loss(rt, alloc, g, &word, 1 << (g.k() - 1))?;
-    check_loss(rt, alloc, g, &word, 1 << g.k())?;
-    check_loss(rt, alloc, g, &word, some)?;
-    check_loss(rt, alloc, g, &word, some << g.k())?;
-    check_loss(rt, alloc, g, &word, (some >> 1) << 1 | 1 << (g.n() - 1))?;
-    check_loss(rt, alloc, g, &word, some | 1 << (g.n() - 1))
+    check_loss(rt, alloc, g, word, 0)?;
+    check_loss(rt, alloc, g, word, 1 << (g.k() - 1))?;
+    check_loss(rt, alloc, g, word, 1 << g.k())?;
+    check_loss(rt, alloc, g, word, some)?;
+    check_loss(rt, alloc, g, word, some << g.k())?;
+    check_loss(rt, alloc, g, word, (some >> 1) << 1 | 1 << (g.n() - 1))?;
+    check_loss(rt, alloc, g, word, some | 1 << (g.n() - 1))
+}
+
+fn check_losses<R: Abort + Threads + Sync>(rt: &R, alloc: Global, g: Geometry) -> Result<(), Fail> {
+    check_word(rt, alloc, g, &word_of(rt, alloc, g)?)
 }
 
 #[test]
@@ -157,30 +212,46 @@ fn codes_recover_alike(rt: HostRuntime) -> Result<(), Fail> {
     Ok(())
 }
 
-// Changes a bit of a data chunk or of a parity chunk, and loses the last chunk: what is left is more than makes a codeword.
-fn check_change<R: Abort>(rt: &R, alloc: Global, g: Geometry, changed: usize) -> Result<(), Fail> {
+// The chunks of some stripe, with a bit of one of them changed.
+fn changed_word(
+    rt: &impl Abort,
+    alloc: Global,
+    g: Geometry,
+    changed: usize,
+) -> Result<Vec<Vec<u8>>, Fail> {
     let stripe = mixed_bytes(alloc, g.stripe_len())?;
-    assert_eq!(rt; stripe.len(), g.stripe_len() as usize);
+    assert!(rt; stripe.len() == g.stripe_len() as usize);
     let mut word = encode(alloc, g, &stripe)?;
     assert!(rt; changed < word.len());
     let chunk = &mut word[changed];
     assert!(rt; !chunk.is_empty());
     chunk[0] ^= 1;
+    Ok(word)
+}
+
+// Loses the last chunk: what is left is more than makes a codeword.
+fn check_change(
+    rt: &impl Abort,
+    alloc: Global,
+    g: Geometry,
+    changed: &[Vec<u8>],
+) -> Result<(), Fail> {
     assert!(rt; g.n() < 32);
-    let have = left_of(rt, alloc, g, &word, 1 << (g.n() - 1))?;
-    assert_eq!(rt;
-        decode_checked(alloc, g, &have).err(),
-        Some(CheckedFault::Disagree)
-    );
+    let have = left_of(rt, alloc, g, changed, 1 << (g.n() - 1))?;
+    assert!(rt; decode_checked(alloc, g, &have).err() == Some(CheckedFault::Disagree));
     Ok(())
+}
+
+// Changes a data chunk, and a parity chunk.
+fn check_changes(rt: &impl Abort, alloc: Global, g: Geometry) -> Result<(), Fail> {
+    check_change(rt, alloc, g, &changed_word(rt, alloc, g, 0)?)?;
+    check_change(rt, alloc, g, &changed_word(rt, alloc, g, g.k() as usize)?)
 }
 
 #[test]
 fn changed_chunks_disagree(rt: HostRuntime) -> Result<(), Fail> {
     for (k, m) in CODES {
-        let g = Geometry::new(k, m, 3)?;
-        check_change(&rt, rt.alloc(), g, 0)?;
-        check_change(&rt, rt.alloc(), g, k as usize)?;
+        check_changes(&rt, rt.alloc(), Geometry::new(k, m, 3)?)?;
     }
     Ok(())
 }

@@ -19,16 +19,28 @@ pub fn mixed_bytes(alloc: Global, count: u32) -> Result<Vec<u8>, AllocError> {
     Ok(bytes)
 }
 
+/// One function compares, and tells both sides where they differ: each `assert_eq` is proved with all that it prints.
+pub fn expect_bytes(rt: &impl Abort, found: &[u8], wanted: &[u8]) {
+    assert_eq!(rt; found, wanted);
+}
+
+pub fn expect_chunks(rt: &impl Abort, chunks: &[Vec<u8>], expected: &[Vec<u8>]) {
+    assert!(rt; chunks.len() == expected.len());
+    for (c, chunk) in chunks.iter().enumerate() {
+        expect_bytes(rt, chunk, &expected[c]);
+    }
+}
+
 /// Pieces of one length stand one behind another.
 pub fn expect_pieces(rt: &impl Abort, bytes: &[u8], len: usize, expected: &[Vec<u8>]) {
     assert!(rt; len > 0);
     for (c, piece) in bytes.chunks(len).enumerate() {
         assert!(rt; c < expected.len());
-        assert_eq!(rt; piece, expected[c].as_slice());
+        expect_bytes(rt, piece, &expected[c]);
     }
 }
 
-// Writes the parity chunks over bytes that were there before, and once more by a code that was prepared.
+// Writes the parity chunks over bytes that were there before.
 fn check_parity_into(
     rt: &impl Abort,
     alloc: Global,
@@ -42,29 +54,51 @@ fn check_parity_into(
     let mut bytes = vec![in alloc; 0xa5u8; g.m() as usize * len]?;
     parity_into(alloc, g, stripe, &mut bytes)?;
     expect_pieces(rt, &bytes, len, others);
+    Ok(())
+}
+
+// Writes them by a code that was prepared.
+fn check_prepared(
+    rt: &impl Abort,
+    alloc: Global,
+    g: Geometry,
+    stripe: &[u8],
+    others: &[Vec<u8>],
+) -> Result<(), Fail>
+    requires { length stripe.now ≡ stripe_length g }
+{
+    let len = g.chunk_len() as usize;
+    let mut bytes = vec![in alloc; 0xa5u8; g.m() as usize * len]?;
     let prepared = Prepared::new(alloc, g)?;
     assert!(rt; prepared.geometry() == g);
-    let mut again = vec![in alloc; 0xa5u8; g.m() as usize * len]?;
-    prepared.parity_into(alloc, stripe, &mut again)?;
-    expect_pieces(rt, &again, len, others);
+    prepared.parity_into(alloc, stripe, &mut bytes)?;
+    expect_pieces(rt, &bytes, len, others);
     Ok(())
+}
+
+// Each call of the fast coder, beside the chunks by the plain one.
+fn check_chunks(
+    rt: &impl Abort,
+    alloc: Global,
+    g: Geometry,
+    stripe: &[u8],
+    plain: &[Vec<u8>],
+) -> Result<(), Fail>
+    requires { length stripe.now ≡ stripe_length g }
+{
+    assert!(rt; plain.len() == g.n() as usize);
+    let others = &plain[g.k() as usize..];
+    expect_chunks(rt, &encode(alloc, g, stripe)?, plain);
+    expect_chunks(rt, &parity(alloc, g, stripe)?, others);
+    check_parity_into(rt, alloc, g, stripe, others)?;
+    check_prepared(rt, alloc, g, stripe, others)
 }
 
 fn check_stripe(rt: &impl Abort, alloc: Global, g: Geometry) -> Result<(), Fail> {
     let stripe = mixed_bytes(alloc, g.stripe_len())?;
-    assert_eq!(rt; stripe.len(), g.stripe_len() as usize);
+    assert!(rt; stripe.len() == g.stripe_len() as usize);
     let plain = clay_encode::encode(alloc, g, &stripe)?;
-    let fast = encode(alloc, g, &stripe)?;
-    assert_eq!(rt; fast.len(), plain.len());
-    for (c, chunk) in fast.iter().enumerate() {
-        assert_eq!(rt; chunk.as_slice(), plain[c].as_slice());
-    }
-    let others = parity(alloc, g, &stripe)?;
-    assert_eq!(rt; others.len() + g.k() as usize, plain.len());
-    for (x, chunk) in others.iter().enumerate() {
-        assert_eq!(rt; chunk.as_slice(), plain[g.k() as usize + x].as_slice());
-    }
-    check_parity_into(rt, alloc, g, &stripe, &others)
+    check_chunks(rt, alloc, g, &stripe, &plain)
 }
 
 /// Codes with and without virtual nodes, of up to 1024 layers.

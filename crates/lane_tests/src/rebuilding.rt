@@ -3,10 +3,11 @@ ghost use Rattle.std.specs.Prelude.{◌≡◌, ◌<◌, length, IfOk, IfSome, is
 ghost use Rattle.clay_grid.specs.Shape.{chunk_count};
 ghost use Rattle.clay_repair.specs.Parts.{AreParts};
 
-use crate::encoding::{CODES, WIDTHS, mixed_bytes};
+use crate::coders::word_of;
+use crate::encoding::{CODES, WIDTHS, expect_bytes};
 use clay_grid::Geometry;
 use clay_lanes::LaneCoder;
-use clay_repair::{Coder, PlainCoder};
+use clay_repair::Coder;
 use std::alloc::{AllocError, Global};
 use std::process::Abort;
 use std::test::Fail;
@@ -30,7 +31,7 @@ fn part_at(
         assert!(rt; start + w <= chunk.len());
         part.extend_from_slice(&chunk[start..start + w])?;
     }
-    assert_eq!(rt; part.len(), len);
+    assert!(rt; part.len() == len);
     Ok(part)
 }
 
@@ -57,7 +58,7 @@ pub fn parts_of(
 {
     let layers = g.repair_layers(alloc, lost)?;
     let len = g.stride(0) as usize * g.w() as usize;
-    assert_eq!(rt; word.len(), g.n() as usize);
+    assert!(rt; word.len() == g.n() as usize);
     let mut parts = Vec::new(alloc);
     for c in 0..g.n() {
         let part = part_at(rt, alloc, g, &word[c as usize], &layers, len)?;
@@ -66,22 +67,43 @@ pub fn parts_of(
     Ok(parts)
 }
 
-// Rebuilds each chunk from the parts of the others.
+// Rebuilds a chunk from the parts of the others.
+pub fn check_rebuild<R: Abort + Threads + Sync, C: Coder>(
+    rt: &R,
+    alloc: Global,
+    coder: &C,
+    g: Geometry,
+    word: &[Vec<u8>],
+    lost: u32,
+) -> Result<(), Fail>
+    requires { lost < chunk_count g }
+{
+    let parts = parts_of(rt, alloc, g, word, lost)?;
+    assert!(rt; word.len() == g.n() as usize);
+    let chunk = coder.rebuild(rt, alloc, g, lost, &parts)?;
+    expect_bytes(rt, &chunk, &word[lost as usize]);
+    Ok(())
+}
+
+fn check_word<R: Abort + Threads + Sync>(
+    rt: &R,
+    alloc: Global,
+    g: Geometry,
+    word: &[Vec<u8>],
+) -> Result<(), Fail> {
+    for lost in 0..g.n() {
+        check_rebuild(rt, alloc, &LaneCoder, g, word, lost)?;
+    }
+    Ok(())
+}
+
+// Rebuilds each chunk.
 fn check_rebuilds<R: Abort + Threads + Sync>(
     rt: &R,
     alloc: Global,
     g: Geometry,
 ) -> Result<(), Fail> {
-    let stripe = mixed_bytes(alloc, g.stripe_len())?;
-    assert_eq!(rt; stripe.len(), g.stripe_len() as usize);
-    let word = PlainCoder.encode(rt, alloc, g, &stripe)?;
-    assert_eq!(rt; word.len(), g.n() as usize);
-    for lost in 0..g.n() {
-        let parts = parts_of(rt, alloc, g, &word, lost)?;
-        let chunk = LaneCoder.rebuild(rt, alloc, g, lost, &parts)?;
-        assert_eq!(rt; chunk.as_slice(), word[lost as usize].as_slice());
-    }
-    Ok(())
+    check_word(rt, alloc, g, &word_of(rt, alloc, g)?)
 }
 
 #[test]

@@ -2,9 +2,9 @@
 ghost use Rattle.std.specs.Prelude.{◌≡◌, ◌<◌, length};
 ghost use Rattle.clay_grid.specs.Shape.{chunk_count, stripe_length};
 
-use crate::coders::{expect_chunks, expect_places, gone_count, left_of};
-use crate::encoding::{CODES, WIDTHS, expect_pieces, mixed_bytes};
-use crate::rebuilding::parts_of;
+use crate::coders::{expect_places, gone_count, left_of};
+use crate::encoding::{CODES, WIDTHS, expect_bytes, expect_chunks, expect_pieces, mixed_bytes};
+use crate::rebuilding::{check_rebuild, parts_of};
 use clay_grid::Geometry;
 use clay_lanes::LaneCoder;
 use clay_par::ParCoder;
@@ -27,7 +27,7 @@ fn check_parity_into<R: Abort + Threads + Sync>(
     let len = g.chunk_len() as usize;
     let mut bytes = vec![in alloc; 0xa5u8; g.m() as usize * len]?;
     ParCoder.parity_into(rt, alloc, g, stripe, &mut bytes)?;
-    assert_eq!(rt; word.len(), g.n() as usize);
+    assert!(rt; word.len() == g.n() as usize);
     expect_pieces(rt, &bytes, len, &word[g.k() as usize..]);
     Ok(())
 }
@@ -59,11 +59,26 @@ fn check_rebuild_into<R: Abort + Threads + Sync>(
     requires { lost < chunk_count g }
 {
     let parts = parts_of(rt, alloc, g, word, lost)?;
-    assert_eq!(rt; word.len(), g.n() as usize);
+    assert!(rt; word.len() == g.n() as usize);
     let mut chunk = vec![in alloc; 0xa5u8; g.chunk_len() as usize]?;
     ParCoder.rebuild_into(rt, alloc, g, lost, &parts, &mut chunk)?;
-    assert_eq!(rt; chunk.as_slice(), word[lost as usize].as_slice());
+    expect_bytes(rt, &chunk, &word[lost as usize]);
     Ok(())
+}
+
+// The fast coders say the same of a stripe as the plain one.
+fn check_encoded<R: Abort + Threads + Sync>(
+    rt: &R,
+    alloc: Global,
+    g: Geometry,
+    stripe: &[u8],
+    word: &[Vec<u8>],
+) -> Result<(), Fail>
+    requires { length stripe.now ≡ stripe_length g }
+{
+    expect_chunks(rt, &LaneCoder.encode(rt, alloc, g, stripe)?, word);
+    expect_chunks(rt, &ParCoder.encode(rt, alloc, g, stripe)?, word);
+    check_parity_into(rt, alloc, g, stripe, word)
 }
 
 // The chunks of a stripe, of which each coder says the same.
@@ -76,9 +91,7 @@ fn encoded<R: Abort + Threads + Sync>(
     requires { length stripe.now ≡ stripe_length g }
 {
     let word = PlainCoder.encode(rt, alloc, g, stripe)?;
-    expect_chunks(rt, &LaneCoder.encode(rt, alloc, g, stripe)?, &word);
-    expect_chunks(rt, &ParCoder.encode(rt, alloc, g, stripe)?, &word);
-    check_parity_into(rt, alloc, g, stripe, &word)?;
+    check_encoded(rt, alloc, g, stripe, &word)?;
     Ok(word)
 }
 
@@ -89,7 +102,7 @@ fn word_of<R: Abort + Threads + Sync>(
     g: Geometry,
 ) -> Result<Vec<Vec<u8>>, Fail> {
     let stripe = mixed_bytes(alloc, g.stripe_len())?;
-    assert_eq!(rt; stripe.len(), g.stripe_len() as usize);
+    assert!(rt; stripe.len() == g.stripe_len() as usize);
     encoded(rt, alloc, g, &stripe)
 }
 
@@ -105,24 +118,6 @@ fn check_loss<R: Abort + Threads + Sync, C: Coder>(
     let have = left_of(rt, alloc, g, word, gone)?;
     assert!(rt; gone_count(&have) <= g.m() as usize);
     expect_chunks(rt, &coder.recover(rt, alloc, g, &have)?, word);
-    Ok(())
-}
-
-// Rebuilds a chunk from the parts of the others.
-fn check_rebuild<R: Abort + Threads + Sync, C: Coder>(
-    rt: &R,
-    alloc: Global,
-    coder: &C,
-    g: Geometry,
-    word: &[Vec<u8>],
-    lost: u32,
-) -> Result<(), Fail>
-    requires { lost < chunk_count g }
-{
-    let parts = parts_of(rt, alloc, g, word, lost)?;
-    assert_eq!(rt; word.len(), g.n() as usize);
-    let chunk = coder.rebuild(rt, alloc, g, lost, &parts)?;
-    assert_eq!(rt; chunk.as_slice(), word[lost as usize].as_slice());
     Ok(())
 }
 
@@ -168,16 +163,20 @@ fn check_places<R: Abort + Threads + Sync>(
     check_rebuild_into(rt, alloc, g, word, g.n() - 1)
 }
 
+// Codes some stripe by each coder.
+fn check_code<R: Abort + Threads + Sync>(rt: &R, alloc: Global, g: Geometry) -> Result<(), Fail> {
+    let word = word_of(rt, alloc, g)?;
+    check_coder(rt, alloc, &PlainCoder, g, &word)?;
+    check_coder(rt, alloc, &LaneCoder, g, &word)?;
+    check_coder(rt, alloc, &ParCoder, g, &word)?;
+    check_places(rt, alloc, g, &word)
+}
+
 #[test]
 fn coders_agree(rt: HostRuntime) -> Result<(), Fail> {
     for (k, m) in CODES {
         for w in WIDTHS {
-            let g = Geometry::new(k, m, w)?;
-            let word = word_of(&rt, rt.alloc(), g)?;
-            check_coder(&rt, rt.alloc(), &PlainCoder, g, &word)?;
-            check_coder(&rt, rt.alloc(), &LaneCoder, g, &word)?;
-            check_coder(&rt, rt.alloc(), &ParCoder, g, &word)?;
-            check_places(&rt, rt.alloc(), g, &word)?;
+            check_code(&rt, rt.alloc(), Geometry::new(k, m, w)?)?;
         }
     }
     Ok(())

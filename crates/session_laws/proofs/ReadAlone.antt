@@ -31,7 +31,7 @@ use Rattle.store_resume.specs.GatherAfter.{ending_after}
 use Rattle.store_resume.specs.CallAfter.{pairs_with}
 use Rattle.store_resume.specs.LookAfter.{read_after_look}
 use Rattle.session_rules.specs.State.{Stripe, State as Session}
-use Rattle.session_rules.specs.Answer.{Answer}
+use Rattle.session_rules.specs.declared.answer.Answer.{Answer}
 use Rattle.session_rules.specs.Gathered.{first_unavailable}
 use Rattle.session_laws.specs.Alone.{AtWork, step, steps}
 use Rattle.session_laws.specs.Seen.{version_of, IsSeenAs}

@@ -22,7 +22,7 @@ use Rattle.store_resume.specs.States.{open_call}
 use Rattle.store_resume.specs.CallAfter.{pairs_with}
 use Rattle.store_resume.specs.LookAfter.{put_after_look, write_after_look}
 use Rattle.session_rules.specs.State.{State as Session}
-use Rattle.session_rules.specs.Answer.{Answer}
+use Rattle.session_rules.specs.declared.answer.Answer.{Answer}
 use Rattle.session_rules.specs.Calls.{serve_call, serve_by, is_refusal}
 use Rattle.store_resume.specs.State.{first_state}
 use Rattle.store_core.specs.Act.{Act, DirectoryStep, Outcome}

@@ -13,7 +13,8 @@ use Rattle.store_core.specs.Step.{Places, at_places, take_from}
 use Rattle.store_resume.specs.State.{first_state}
 use Rattle.store_resume.specs.StateActs.{act_of_state}
 use Rattle.session_rules.specs.State.{State, numbers_of, stripe_at}
-use Rattle.session_rules.specs.Answer.{LostChunk, Answer}
+use Rattle.session_rules.specs.declared.answer.LostChunk.{LostChunk}
+use Rattle.session_rules.specs.declared.answer.Answer.{Answer}
 use Rattle.session_rules.specs.Rebuilds.{rebuild}
 use Rattle.session_rules.specs.Heals.{takes_of, to_heal, heal_all}
 use Rattle.session_laws.specs.Alone.{AtWork, step, steps, EndsAs}

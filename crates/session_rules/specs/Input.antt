@@ -2,6 +2,7 @@
 use Rattle.std.specs.Prelude.{ℕ, zero, suc, Bool, false, nat_le, nat_lt, ◌&&◌, not, List, [], ◌∷◌, ◌++◌, length, take, drop, Option, None, Some, unwrap_or, if◌then◌else◌}
 use Rattle.byteorder.specs.Endian.{big_bytes}
 use Rattle.session_rules.specs.Fields.{Reader, number_then}
+use Rattle.session_rules.specs.declared.ending.Ending.{Ending}
 
 -- the most bytes of an input that are served
 abbrev pub most_input : ℕ
@@ -10,10 +11,6 @@ most_input = 167772160
 -- the most bytes of a frame
 abbrev pub most_frame : ℕ
 most_frame = 1048700
-
--- how a session ends by its input: it ended between two frames, or inside one, or a length is none that a frame may have, or it is too long
-pub data Ending : Type 0 where
-  Done TornFrame FrameTooLong InputTooLong : Ending
 
 -- a frame on the wire: its length in four bytes, the highest first, then its bytes
 abbrev pub framed : List ℕ → List ℕ

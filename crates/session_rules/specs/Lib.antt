@@ -1,6 +1,4 @@
 pub mod State
-pub mod Request
-pub mod Answer
 pub mod Gathered
 pub mod Placing
 pub mod Calls

@@ -2,13 +2,14 @@
 use Rattle.std.specs.Prelude.{◌≡◌, ℕ, List, [], ◌∷◌, flat_map, Option, None, Some}
 use Rattle.clay_grid.specs.Shape.{Shape, chunk_count}
 use Rattle.session_rules.specs.State.{State, first_state}
-use Rattle.session_rules.specs.Request.{Request}
-use Rattle.session_rules.specs.Answer.{Answer}
+use Rattle.session_rules.specs.declared.request.Request.{Request}
+use Rattle.session_rules.specs.declared.answer.Answer.{Answer}
 use Rattle.session_rules.specs.Serve.{serve}
 use Rattle.session_rules.specs.Shortages.{IsServed}
 use Rattle.session_rules.specs.Requests.{request_of}
 use Rattle.session_rules.specs.Replies.{answer_bytes}
-use Rattle.session_rules.specs.Input.{Ending, framed, input_of}
+use Rattle.session_rules.specs.declared.ending.Ending.{Ending}
+use Rattle.session_rules.specs.Input.{framed, input_of}
 
 -- a frame that is no request leaves the state
 abbrev pub serve_if : Shape → ℕ → Option Request → State → State × Answer

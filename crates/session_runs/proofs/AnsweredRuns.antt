@@ -8,8 +8,8 @@ use Rattle.store_core.specs.NextAct.{job_of, rebuild_job}
 use Rattle.store_core.specs.Calls.{Calls}
 use Rattle.store_core.specs.Step.{Places}
 use Rattle.session_rules.specs.State.{Snapshot, State}
-use Rattle.session_rules.specs.Request.{Request}
-use Rattle.session_rules.specs.Answer.{Answer}
+use Rattle.session_rules.specs.declared.request.Request.{Request}
+use Rattle.session_rules.specs.declared.answer.Answer.{Answer}
 use Rattle.session_rules.specs.Heals.{to_heal, heal_all, numbers_last}
 use Rattle.session_rules.specs.Serve.{serve}
 use Rattle.session_rules.specs.Snapshots.{snap, snap_read}

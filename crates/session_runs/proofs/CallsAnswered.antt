@@ -11,8 +11,8 @@ use Rattle.store_core.specs.Step.{Places}
 use Rattle.store_resume.specs.State.{first_state}
 use Rattle.store_resume.specs.StateActs.{act_of_state}
 use Rattle.session_rules.specs.State.{State}
-use Rattle.session_rules.specs.Answer.{Answer}
-use Rattle.session_rules.specs.Request.{Request}
+use Rattle.session_rules.specs.declared.answer.Answer.{Answer}
+use Rattle.session_rules.specs.declared.request.Request.{Request}
 use Rattle.session_rules.specs.Calls.{serve_call}
 use Rattle.session_laws.specs.Alone.{AtWork, steps, EndsAs}
 use Rattle.session_laws.specs.Outcomes.{outcome_at}

@@ -22,7 +22,7 @@ use Rattle.store_core.specs.Read.{parts_of}
 use Rattle.store_core.specs.Step.{Places}
 use Rattle.store_reads.specs.ReadLaws.{bytes_read}
 use Rattle.session_rules.specs.State.{State}
-use Rattle.session_rules.specs.Request.{Request}
+use Rattle.session_rules.specs.declared.request.Request.{Request}
 use Rattle.session_rules.specs.Calls.{is_refusal, serve_call}
 use Rattle.session_laws.specs.Alone.{EndsAs}
 use Rattle.session_laws.specs.Seen.{version_of, snapshot_numbers, IsSeenAs, IsQuiet}

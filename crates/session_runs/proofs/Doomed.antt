@@ -121,7 +121,7 @@ module _ (g : Shape) (tries : ℕ) (who : Actor) (number : ℕ) (job : Job) wher
       by true = on (pass_of who p.directory) refl
       by false = on (pass_of who p.directory) refl
 
-  made_doomed : (short : Bool) (pairs : List (ℕ × ℕ)) (at : State) (p : Places) → Own who number p.directory → Doomed at → Doomed (made short (at_work pairs at p)).call.at
+  pub made_doomed : (short : Bool) (pairs : List (ℕ × ℕ)) (at : State) (p : Places) → Own who number p.directory → Doomed at → Doomed (made short (at_work pairs at p)).call.at
   made_doomed short pairs (State.Ending outcome) p own doomed = ending_doomed short pairs outcome p own doomed
   made_doomed short pairs (State.Finished outcome) p own doomed = doomed
   made_doomed short pairs State.Start p own doomed = absurd doomed
@@ -138,10 +138,10 @@ module _ (g : Shape) (tries : ℕ) (who : Actor) (number : ℕ) (job : Job) wher
   made_doomed short pairs (State.Placing target epoch) p own doomed = absurd doomed
 
   -- ---- want of memory in the coding
-  abbrev coded : Bool → List (ℕ × ℕ) → State → CallState
+  abbrev pub coded : Bool → List (ℕ × ℕ) → State → CallState
   coded wanting pairs at = after_coding g tries who number job wanting (record { pairs = pairs; at = at })
 
-  abbrev Coded : List (ℕ × ℕ) → State → Type 0
+  abbrev pub Coded : List (ℕ × ℕ) → State → Type 0
   Coded pairs at = (coded true pairs at ≡ record { pairs = pairs; at = at }) ⊎ Doomed (coded true pairs at).at
 
   module _ (starts_doomed : (pairs : List (ℕ × ℕ)) → Doomed (next_call g job (record { pairs = pairs; at = State.Start }) Told.Short).at)
@@ -152,7 +152,7 @@ module _ (g : Shape) (tries : ℕ) (who : Actor) (number : ℕ) (job : Job) wher
     by_pass pairs at doomed true = inr doomed
     by_pass pairs at doomed false = inl refl
 
-    coded_either : (pairs : List (ℕ × ℕ)) (at : State) (d : Directory) → Fits g tries who number at d → Coded pairs at
+    pub coded_either : (pairs : List (ℕ × ℕ)) (at : State) (d : Directory) → Fits g tries who number at d → Coded pairs at
     coded_either pairs State.Start d ok = by_pass pairs State.Start (starts_doomed pairs) (is_in_pass (act_at g tries job pairs State.Start))
     coded_either pairs (State.Parts part parts after) d ok = absurd ok
     coded_either pairs (State.Chunk seen target) d ok = absurd ok
@@ -188,7 +188,7 @@ module _ (g : Shape) (tries : ℕ) (who : Actor) (number : ℕ) (job : Job) wher
     made_either pairs (State.Finished outcome) p ok = inl refl
 
     -- ---- a step with its coding
-    abbrev OneOf : Shortage → AtWork → Type 0
+    abbrev pub OneOf : Shortage → AtWork → Type 0
     OneOf shortage w = (wanting_step g tries who number job shortage w ≡ step g tries who number job w) ⊎ Doomed (wanting_step g tries who number job shortage w).call.at
 
     plain_either : (short : Bool) (w : AtWork) → Holds g tries who number w → OneOf (record { coding = false; step = short }) w
@@ -199,7 +199,7 @@ module _ (g : Shape) (tries : ℕ) (who : Actor) (number : ℕ) (job : Job) wher
         by (inl same) = inl (same ∙ sym (ample_by g tries who number job (act_of_state g tries job w.call) w))
         by (inr doomed) = inr doomed
 
-    step_either : (coding short : Bool) (w : AtWork) → Holds g tries who number w → OneOf (record { coding = coding; step = short }) w
+    pub step_either : (coding short : Bool) (w : AtWork) → Holds g tries who number w → OneOf (record { coding = coding; step = short }) w
     step_either false short w ok = plain_either short w ok
     step_either true short w ok = by (coded_either w.call.pairs w.call.at w.places.directory ok.1) (plain_either short w ok)
       where
@@ -227,7 +227,7 @@ module _ (g : Shape) (tries : ℕ) (who : Actor) (number : ℕ) (job : Job) wher
 
     -- ---- all steps, where each keeps what is known of the call
     module _ (goes_on : (shortage : Shortage) (w : AtWork) → Holds g tries who number w → Holds g tries who number (wanting_step g tries who number job shortage w)) where
-      doomed_all : (shortages : List Shortage) (w : AtWork) → Holds g tries who number w → Doomed w.call.at → Doomed (wanting_steps g tries who number job shortages w).call.at
+      pub doomed_all : (shortages : List Shortage) (w : AtWork) → Holds g tries who number w → Doomed w.call.at → Doomed (wanting_steps g tries who number job shortages w).call.at
       doomed_all [] w ok doomed = doomed
       doomed_all (shortage ∷ shortages) w ok doomed =
           doomed_all shortages (wanting_step g tries who number job shortage w) (goes_on shortage w ok)
@@ -246,11 +246,11 @@ module _ (g : Shape) (tries : ℕ) (who : Actor) (number : ℕ) (job : Job) wher
           by (inr doomed) rest = inr (doomed_all shortages (wanting_step g tries who number job shortage w) (goes_on shortage w ok) doomed)
 
       -- ---- the end
-      abbrev EndsWanting : Act → Type 0
+      abbrev pub EndsWanting : Act → Type 0
       EndsWanting (Act.Finish outcome) = IsWant outcome
       EndsWanting act = ⊤
 
-      doomed_ends : (pairs : List (ℕ × ℕ)) (at : State) → Doomed at → EndsWanting (act_at g tries job pairs at)
+      pub doomed_ends : (pairs : List (ℕ × ℕ)) (at : State) → Doomed at → EndsWanting (act_at g tries job pairs at)
       doomed_ends pairs (State.Ending outcome) doomed = tt
       doomed_ends pairs (State.Finished outcome) doomed = doomed
       doomed_ends pairs State.Start doomed = absurd doomed

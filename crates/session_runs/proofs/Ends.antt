@@ -13,7 +13,7 @@ use Rattle.store_core.specs.Step.{Places}
 use Rattle.store_core.specs.Sweep.{Sweeper, after_taken}
 use Rattle.store_resume.specs.State.{first_state}
 use Rattle.store_resume.specs.StateActs.{act_of_state}
-use Rattle.session_rules.specs.Answer.{LostChunk}
+use Rattle.session_rules.specs.declared.answer.LostChunk.{LostChunk}
 use Rattle.session_laws.specs.Heals.{rebuild_of, AreRebuilt}
 use Rattle.session_laws.specs.Alone.{AtWork, EndsAs, Sweeping, sweep, sweeps}
 use Rattle.session_bytes.proofs.HealMaps.{one_end, same_end}

@@ -14,15 +14,15 @@ use Rattle.store_core.specs.Step.{Shortage, Places}
 use Rattle.store_resume.specs.State.{first_state}
 use Rattle.store_resume.specs.StateActs.{act_of_state}
 use Rattle.session_rules.specs.State.{State}
-use Rattle.session_rules.specs.Answer.{LostChunk, Answer}
-use Rattle.session_rules.specs.Request.{Request}
+use Rattle.session_rules.specs.declared.answer.LostChunk.{LostChunk}
+use Rattle.session_rules.specs.declared.answer.Answer.{Answer}
+use Rattle.session_rules.specs.declared.request.Request.{Request}
 use Rattle.session_rules.specs.Heals.{to_heal}
 use Rattle.session_rules.specs.Serve.{serve}
 use Rattle.session_rules.specs.Shortages.{IsServed}
 use Rattle.session_laws.specs.Alone.{AtWork, steps, EndsAs}
 use Rattle.session_laws.specs.Heals.{rebuild_of, AreRebuilt, healed_by}
 use Rattle.session_laws.specs.Quiet.{AreSwept}
-use Rattle.session_laws.specs.Seen.{IsSeenAs}
 use Rattle.session_laws.specs.Wants.{wanting_steps}
 use Rattle.session_laws.proofs.HealAlone.{with_next, quiet_next, Ready, all_ready}
 use Rattle.session_bytes.specs.Maps.{IsMapOf}

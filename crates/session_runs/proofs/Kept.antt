@@ -1,7 +1,7 @@
 -- What calls and the sweeper leave of the other actors' seats.
-use Rattle.std.proofs.Common.{◌≡◌, ℕ, zero, suc, ◌+◌, ◌<◌, ◌≤◌, Bool, false, List, [], ◌∷◌, length, replicate, slice_get, None, IsTrue, sym, ap, subst, ◌∙◌, arith}
+use Rattle.std.proofs.Common.{◌≡◌, ℕ, ◌+◌, ◌<◌, ◌≤◌, Bool, false, List, [], ◌∷◌, length, replicate, None, IsTrue, sym, ap, subst, ◌∙◌, arith}
 use Rattle.std.proofs.lemmas.List.Elements.{All-weaker}
-use Rattle.clay_grid.specs.Shape.{Shape, chunk_count}
+use Rattle.clay_grid.specs.Shape.{Shape}
 use Rattle.store_map.specs.declared.actor.Actor.{Actor}
 use Rattle.store_map.specs.declared.actor.Actor.TheVariants as actor
 use Rattle.store_map.specs.declared.call.Call.{Call}
@@ -13,15 +13,13 @@ use Rattle.store_core.specs.Lookups.{same_actor}
 use Rattle.store_core.specs.Conditions.{MayBegin}
 use Rattle.store_core.specs.Directory.{Event, Point, Directory}
 use Rattle.store_core.specs.Step.{Shortage, Places, at_places}
-use Rattle.store_core.specs.Sweep.{next_sweep}
 use Rattle.store_sound.proofs.BesideSteps.{others_agree}
-use Rattle.store_resume.specs.State.{CallState, first_state}
+use Rattle.store_resume.specs.State.{first_state}
 use Rattle.store_resume.specs.StateActs.{act_of_state}
-use Rattle.session_rules.specs.Answer.{LostChunk}
-use Rattle.session_laws.specs.Alone.{AtWork, EndsAs, Sweeping, steps, sweep, sweeps}
+use Rattle.session_rules.specs.declared.answer.LostChunk.{LostChunk}
+use Rattle.session_laws.specs.Alone.{AtWork, EndsAs, Sweeping, steps, sweeps}
 use Rattle.session_laws.specs.Heals.{rebuild_of, AreRebuilt}
-use Rattle.session_laws.specs.Wants.{after_coding, wanting_by, wanting_step, wanting_steps}
-use Rattle.session_laws.proofs.Wants.{same_directory}
+use Rattle.session_laws.specs.Wants.{wanting_steps}
 use Rattle.session_bytes.proofs.CallLeft.{none_short, ample}
 use Rattle.session_runs.specs.Seats.{MayBeginFrom, SeatsAreKept}
 use Rattle.session_runs.proofs.CallSeats.{call_seated, rebuild_seated}

@@ -1,7 +1,7 @@
 -- A read of the snapshot that is open: it gathers what its looks pinned, as the session answers.
-use Rattle.std.proofs.Common.{◌≡◌, ◌≢◌, ◌⊎◌, ℕ, zero, suc, ◌+◌, ◌*◌, ◌-◌, ◌/◌, ◌<◌, ◌≤◌, nat_eq, nat_lt, min, Bool, true, false, not, ◌&&◌, cond, List, [], ◌∷◌, length, map, get_or, take, drop, find, replicate, slice_get, bytes_eq, Option, None, Some, option_map, unwrap_or, All, IsTrue, refl, sym, ap, subst, subst₂, ◌∙◌, inl, inr, arith, if◌then◌else◌, length-drop}
+use Rattle.std.proofs.Common.{◌≡◌, ◌≢◌, ℕ, zero, suc, ◌+◌, ◌*◌, ◌-◌, ◌/◌, ◌<◌, ◌≤◌, nat_lt, min, Bool, true, false, not, ◌&&◌, cond, List, [], ◌∷◌, length, map, get_or, take, drop, find, replicate, bytes_eq, Option, None, Some, option_map, unwrap_or, refl, sym, ap, subst, ◌∙◌, arith, if◌then◌else◌, length-drop}
 use Rattle.std.specs.Bool.{⊤}
-use Rattle.std.specs.List.{AllByRecursion, enumerate_from, list_any, concat, range_with_len}
+use Rattle.std.specs.List.{AllByRecursion, enumerate_from, list_any, concat}
 use Rattle.std.proofs.lemmas.Bool.{true≢false, or_left, or_right, ltb-false, eq-eqb}
 use Rattle.std.proofs.lemmas.Option.{same_Some, none-some, slice_get-get_or}
 use Rattle.std.proofs.lemmas.List.{length-map, take_min, get_or-map as get_or_at}
@@ -9,7 +9,7 @@ use Rattle.std.proofs.lemmas.List.Elements.{All-contains, Contains-get_or}
 use Rattle.std.proofs.lemmas.Simd.{map-map}
 use Rattle.std.proofs.Math.ListN.{get_or-map}
 use Rattle.clay_grid.specs.Shape.{Shape, chunk_count, stripe_length}
-use Rattle.clay_model.specs.Code.{stripes_below, stripes_of}
+use Rattle.clay_model.specs.Code.{stripes_of}
 use Rattle.store_map.specs.Limits.{stripes_met}
 use Rattle.store_map.specs.PlainMap.{bytes_of, read_at}
 use Rattle.store_map.specs.declared.actor.Actor.TheVariants as actor
@@ -20,7 +20,7 @@ use Rattle.store_map.specs.declared.reply.Reply.{Reply}
 use Rattle.store_map.specs.declared.reply.Reply.TheVariants as reply
 use Rattle.store_map.proofs.LimitLaws.{stripes_met-start}
 use Rattle.store_core.specs.Lists.{is_among}
-use Rattle.store_core.specs.Told.{Lost, Seen}
+use Rattle.store_core.specs.Told.{Lost}
 use Rattle.store_core.specs.Note.{Kind, note_of}
 use Rattle.store_core.specs.Act.{Outcome}
 use Rattle.store_core.specs.Calls.{Calls}
@@ -29,36 +29,35 @@ use Rattle.store_core.specs.Directory.{Pin, Pass, Directory}
 use Rattle.store_core.specs.Gathering.{Part, lost_at}
 use Rattle.store_core.specs.GatheringParts.{chunks_in_range}
 use Rattle.store_core.specs.Look.{stripes_between}
-use Rattle.store_core.specs.Lookups.{pass_of}
 use Rattle.store_core.specs.Agreement.{Agrees}
 use Rattle.store_core.specs.Server.{Server, new_server}
-use Rattle.store_core.specs.Step.{Shortage, Places}
+use Rattle.store_core.specs.Step.{Places}
 use Rattle.store_sound.proofs.SoundLists.{at_all, among, is_in}
 use Rattle.store_sound.proofs.SoundStripes.{pins_within}
 use Rattle.store_resume.specs.State.{Sequel, State as CallAt}
 use Rattle.store_resume.specs.States.{open_parts}
 use Rattle.store_contents.proofs.Bytes.{stripe_at as stripe_of_bytes, stripes_below_at, count_stripes}
-use Rattle.store_contents.proofs.Maps.{map_same as maps_same}
 use Rattle.store_contents.specs.Contents.{stripes_in}
 use Rattle.store_reads.specs.ReadLaws.{part_bytes, bytes_read}
-use Rattle.store_reads.proofs.Ranges.{range_of, part_at, parts_are}
+use Rattle.store_reads.proofs.Ranges.{part_at, parts_are}
 use Rattle.session_rules.specs.State.{Chunk, Stripe, Numbering, Snapshot, State, numbers_of, stripe_at, chunk_at}
-use Rattle.session_rules.specs.Answer.{Missing, Answer}
+use Rattle.session_rules.specs.declared.answer.Missing.{Missing}
+use Rattle.session_rules.specs.declared.answer.Answer.{Answer}
 use Rattle.session_rules.specs.Gathered.{Range, ranges_between, holds, lacking, asked_first, is_beyond_repair, named, is_unavailable, unavailable, first_unavailable}
 use Rattle.session_rules.specs.Snapshots.{reply_unless}
 use Rattle.session_laws.specs.Alone.{AtWork}
 use Rattle.session_laws.specs.Outcomes.{lost_as}
-use Rattle.session_laws.specs.Seen.{version_of, all_numbers, snapshot_numbers, live_numbers, StandsFor, IsSeenAs}
+use Rattle.session_laws.specs.Seen.{version_of, all_numbers, snapshot_numbers, live_numbers, IsSeenAs}
 use Rattle.session_laws.proofs.AtPlaces.{map_same}
 use Rattle.session_laws.proofs.Counting.{among_append}
-use Rattle.session_laws.proofs.Names.{under, under_map, is_some_by, is_none_by, among_all}
-use Rattle.session_laws.proofs.Parts.{Answers, Each, Leads, is_unavailable_of, missing_of, state_by, parts_next, AnswerOf}
-use Rattle.session_laws.proofs.Walks.{Reaches, here, untaken}
+use Rattle.session_laws.proofs.Names.{under, under_map, is_some_by, among_all}
+use Rattle.session_laws.proofs.Parts.{Answers, Each, Leads, state_by, parts_next}
+use Rattle.session_laws.proofs.Walks.{Reaches, here}
 use Rattle.session_runs.specs.Reading.{reading, begun, reading_steps}
-use Rattle.session_runs.specs.Readers.{pin_at, look_at, tickets_of, contents_under, kept_numbers, StandForBytes}
+use Rattle.session_runs.specs.Readers.{pin_at, tickets_of, contents_under, kept_numbers, StandForBytes}
 use Rattle.session_runs.specs.Snapshots.{reader_of, pins_by, kept_stripe, kept_parts, gathered_as, IsReadServed}
 use Rattle.session_runs.specs.Between.{Seats, IsBetween}
-use Rattle.session_runs.proofs.ReadingSteps.{IsGathering, OnlyTaken, opened_gathers, from_steps}
+use Rattle.session_runs.proofs.ReadingSteps.{OnlyTaken, opened_gathers, from_steps}
 
 -- ---- what a look pinned, by the tickets
 pinned_by_look : (stands : List ℕ) (number unused : ℕ) (d : Directory) (readers : List ℕ) (numbers : Numbering) (name ns : List ℕ) → length numbers ≤ length readers →

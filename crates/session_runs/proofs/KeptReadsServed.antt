@@ -6,11 +6,11 @@ use Rattle.store_core.specs.Act.{Outcome}
 use Rattle.store_core.specs.Calls.{Calls}
 use Rattle.store_core.specs.Directory.{Directory}
 use Rattle.store_core.specs.Sound.{IsSound}
-use Rattle.store_core.specs.Step.{Shortage, Places}
+use Rattle.store_core.specs.Step.{Places}
 use Rattle.store_resume.specs.State.{State as CallAt}
 use Rattle.session_rules.specs.State.{Snapshot, State}
-use Rattle.session_rules.specs.Answer.{Answer}
-use Rattle.session_rules.specs.Request.{Request}
+use Rattle.session_rules.specs.declared.answer.Answer.{Answer}
+use Rattle.session_rules.specs.declared.request.Request.{Request}
 use Rattle.session_rules.specs.Snapshots.{snap_read}
 use Rattle.session_laws.specs.Alone.{AtWork}
 use Rattle.session_laws.specs.Seen.{IsSeenAs}

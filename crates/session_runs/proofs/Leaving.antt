@@ -1,5 +1,5 @@
 -- What each step of some actor leaves of a directory is left by its calls, by rebuilds one after another, and by the sweeper.
-use Rattle.std.proofs.Common.{◌≡◌, ℕ, zero, suc, ◌+◌, Bool, false, List, [], ◌∷◌, replicate, slice_get, sym, ap, subst, ◌∙◌}
+use Rattle.std.proofs.Common.{ℕ, zero, suc, ◌+◌, Bool, false, List, [], ◌∷◌, replicate, slice_get, sym, ap, subst, ◌∙◌}
 use Rattle.clay_grid.specs.Shape.{Shape, chunk_count}
 use Rattle.store_map.specs.declared.actor.Actor.{Actor}
 use Rattle.store_map.specs.declared.actor.Actor.TheVariants as actor
@@ -11,7 +11,7 @@ use Rattle.store_core.specs.Step.{Shortage, Places, at_places}
 use Rattle.store_core.specs.Sweep.{next_sweep}
 use Rattle.store_resume.specs.State.{CallState, first_state}
 use Rattle.store_resume.specs.StateActs.{act_of_state}
-use Rattle.session_rules.specs.Answer.{LostChunk}
+use Rattle.session_rules.specs.declared.answer.LostChunk.{LostChunk}
 use Rattle.session_laws.specs.Alone.{AtWork, EndsAs, Sweeping, sweep, sweeps}
 use Rattle.session_laws.specs.Heals.{rebuild_of, AreRebuilt}
 use Rattle.session_laws.specs.Wants.{after_coding, wanting_by, wanting_step, wanting_steps}

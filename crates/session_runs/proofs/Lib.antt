@@ -22,4 +22,6 @@ pub mod CallsAnswered
 pub mod WantingRebuild
 pub mod RebuildsAnswered
 pub mod HealsAnswered
+pub mod TakesWanting
+pub mod HealsTaken
 pub mod AnsweredRuns

@@ -1,5 +1,5 @@
 -- A snapshot's looks, one after another: each pins its object's versions, and what is seen of the places stays.
-use Rattle.std.proofs.Common.{◌≡◌, ◌⊎◌, ℕ, suc, ◌+◌, ◌-◌, ◌<◌, ◌≤◌, ◌/◌, nat_eq, Bool, true, false, ◌&&◌, ◌||◌, cond, List, [], ◌∷◌, ◌++◌, length, map, get_or, find, bytes_eq, Option, None, Some, option_map, All, IfSome, IsTrue, refl, sym, ap, subst, subst₂, ◌∙◌, inl, inr, arith}
+use Rattle.std.proofs.Common.{◌≡◌, ◌⊎◌, ℕ, suc, ◌+◌, ◌-◌, ◌<◌, ◌≤◌, nat_eq, true, false, ◌||◌, cond, List, [], ◌∷◌, ◌++◌, length, map, get_or, find, bytes_eq, Option, None, Some, option_map, All, IfSome, IsTrue, refl, sym, ap, subst, ◌∙◌, inl, inr, arith}
 use Rattle.std.specs.Bool.{⊤}
 use Rattle.std.specs.List.{AllByRecursion, IsDistinct, enumerate_from, range_with_len, list_any}
 use Rattle.std.proofs.lemmas.Bool.{true≢false, or_cases, or_left, or_right, eq-eqb, eqb-true}
@@ -9,16 +9,15 @@ use Rattle.std.proofs.lemmas.Simd.{map-map}
 use Rattle.clay_grid.specs.Shape.{Shape, stripe_length}
 use Rattle.store_map.specs.Limits.{stripes_met}
 use Rattle.store_map.specs.Laws.{names_of}
-use Rattle.store_map.specs.PlainMap.{apply, bytes_of}
+use Rattle.store_map.specs.PlainMap.{bytes_of}
 use Rattle.store_map.specs.declared.actor.Actor.{Actor}
 use Rattle.store_map.specs.declared.actor.Actor.TheVariants as actor
 use Rattle.store_map.specs.declared.call.Call.TheVariants as call
 use Rattle.store_core.specs.Lists.{is_among}
-use Rattle.store_core.specs.Told.{Told}
 use Rattle.store_core.specs.Note.{Kind, note_of, refusal}
 use Rattle.store_core.specs.Act.{Act, DirectoryStep}
-use Rattle.store_core.specs.Directory.{Object, Version, Pin, Pass, Event, Point, Directory}
-use Rattle.store_core.specs.Lookups.{same_actor, find_object, pass_of, is_live, is_pinned}
+use Rattle.store_core.specs.Directory.{Object, Pin, Pass, Event, Point, Directory}
+use Rattle.store_core.specs.Lookups.{same_actor, find_object, is_pinned}
 use Rattle.store_core.specs.Look.{pin_of, seen_at, stripes_between}
 use Rattle.store_core.specs.Looks.{look_by}
 use Rattle.store_core.specs.Agreement.{ActorToken, AgreesWithPass, Agrees}
@@ -35,7 +34,7 @@ use Rattle.store_sound.proofs.Passes.{found_has}
 use Rattle.store_lengths.specs.MapAfter.{map_by}
 use Rattle.store_contents.proofs.Laid.{zero_div}
 use Rattle.session_rules.specs.State.{Numbering, State}
-use Rattle.session_laws.specs.Seen.{version_of, all_numbers, versions_under, stood_under, IsSeenAs, IsOfSnapshot}
+use Rattle.session_laws.specs.Seen.{version_of, all_numbers, IsSeenAs, IsOfSnapshot}
 use Rattle.session_laws.proofs.Beside.{steps_are_unseen}
 use Rattle.session_laws.proofs.Counting.{among_append}
 use Rattle.session_laws.proofs.LostChunks.{own_numbers}

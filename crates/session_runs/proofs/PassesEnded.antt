@@ -1,5 +1,5 @@
 -- The ends of the passes of a snapshot's looks, one after another: every reader has its seat again, and nothing else changes.
-use Rattle.std.proofs.Common.{◌≡◌, ℕ, suc, ◌+◌, ◌<◌, ◌≤◌, Bool, true, false, not, List, [], ◌∷◌, length, take, filter, find, Option, None, Some, IfSome, cond, refl, sym, ap, subst, ◌∙◌, arith, nat_eq}
+use Rattle.std.proofs.Common.{◌≡◌, ℕ, ◌+◌, ◌<◌, false, not, List, [], ◌∷◌, length, take, filter, find, Option, None, Some, cond, refl, sym, ap, subst, ◌∙◌, arith, nat_eq}
 use Rattle.std.specs.List.{AllByRecursion, IsDistinct}
 use Rattle.std.proofs.lemmas.Option.{none-some}
 use Rattle.clay_grid.specs.Shape.{Shape, stripe_length}

@@ -1,5 +1,5 @@
 -- The readers' tickets and what the snapshot keeps, where other actors go on.
-use Rattle.std.proofs.Common.{◌≡◌, ◌⊎◌, ℕ, ◌+◌, ◌<◌, nat_eq, Bool, true, false, ◌||◌, List, [], ◌∷◌, ◌++◌, length, map, get_or, All, IsTrue, Option, None, Some, refl, sym, ap, subst, subst₂, ◌∙◌, inl, inr, arith, length-append}
+use Rattle.std.proofs.Common.{◌≡◌, ℕ, ◌+◌, ◌<◌, nat_eq, Bool, true, false, ◌||◌, List, [], ◌∷◌, ◌++◌, length, map, get_or, IsTrue, Option, None, Some, refl, sym, ap, subst, subst₂, ◌∙◌, arith, length-append}
 use Rattle.std.specs.List.{AllByRecursion, IsDistinct, enumerate_from}
 use Rattle.std.proofs.lemmas.Bool.{true≢false, or_left, or_right}
 use Rattle.std.proofs.lemmas.List.{get_or_append_left}
@@ -8,8 +8,7 @@ use Rattle.clay_grid.specs.Shape.{Shape, chunk_count, stripe_length}
 use Rattle.store_map.specs.declared.actor.Actor.{Actor}
 use Rattle.store_map.specs.declared.actor.Actor.TheVariants as actor
 use Rattle.store_core.specs.Lists.{is_among}
-use Rattle.store_core.specs.Act.{DirectoryStep}
-use Rattle.store_core.specs.Directory.{Pass, Point, Directory}
+use Rattle.store_core.specs.Directory.{Point, Directory}
 use Rattle.store_core.specs.Lookups.{same_actor, pass_of}
 use Rattle.store_core.specs.Agreement.{ActorToken, AreBelow, Agrees}
 use Rattle.store_core.specs.Tokens.{actor_of}

@@ -7,7 +7,6 @@ use Rattle.store_map.specs.declared.actor.Actor.TheVariants as actor
 use Rattle.store_core.specs.Told.{Told}
 use Rattle.store_core.specs.Act.{Act, ServerStep, Outcome}
 use Rattle.store_core.specs.ActPlace.{is_in_pass}
-use Rattle.store_core.specs.Lists.{change_at}
 use Rattle.store_core.specs.Lookups.{pass_of}
 use Rattle.store_core.specs.PassSteps.{end_pass}
 use Rattle.store_core.specs.AtDirectory.{on_pass}
@@ -15,11 +14,11 @@ use Rattle.store_core.specs.Directory.{Pass, Directory}
 use Rattle.store_core.specs.Gathering.{Part}
 use Rattle.store_core.specs.Server.{Server, at_server, gives, found_at, raised_by}
 use Rattle.store_core.specs.Step.{Shortage, Places, at_places, at_server_there}
-use Rattle.store_resume.specs.Stage.{Aim, Asking, Stage, seen_of}
+use Rattle.store_resume.specs.Stage.{Aim, Asking, Stage}
 use Rattle.store_resume.specs.Stages.{first_stage}
 use Rattle.store_resume.specs.StageAfter.{stage_after, server_asked, step_asked}
 use Rattle.store_resume.specs.State.{Sequel, State, CallState}
-use Rattle.store_resume.specs.States.{sequel_state, parts_state, stage_state, open_parts, open_state, open_call}
+use Rattle.store_resume.specs.States.{parts_state, stage_state, open_parts, open_state, open_call}
 use Rattle.store_resume.specs.StateActs.{act_of_state}
 use Rattle.store_resume.specs.GatherAfter.{ending_after}
 use Rattle.store_resume.specs.CallLaws.{next_call}
@@ -27,7 +26,7 @@ use Rattle.session_laws.specs.Alone.{AtWork, step, steps}
 use Rattle.session_laws.specs.Wants.{after_coding}
 use Rattle.session_laws.proofs.Lists.{map_kept}
 use Rattle.session_laws.proofs.Walks.{untaken}
-use Rattle.session_runs.specs.Reading.{reading, begun, reading_by, reading_step, reading_steps}
+use Rattle.session_runs.specs.Reading.{reading, reading_by, reading_step, reading_steps}
 
 -- a gathering for a read, or its end
 abbrev pub IsGathering : State → Type 0

@@ -1,8 +1,7 @@
 -- Requests one after another.
-use Rattle.std.proofs.Common.{◌≡◌, ℕ, ◌<◌, List, [], ◌∷◌, map, Option, None, Some, refl, ap, subst, ◌∙◌, arith}
+use Rattle.std.proofs.Common.{◌≡◌, ℕ, List, [], ◌∷◌, map, Option, None, Some, refl, ap, subst, ◌∙◌, arith}
 use Rattle.std.specs.List.{AllByRecursion}
 use Rattle.clay_grid.specs.Shape.{Shape}
-use Rattle.clay_grid.specs.Limits.{IsGeometry}
 use Rattle.store_map.specs.declared.actor.Actor.TheVariants as actor
 use Rattle.store_core.specs.Directory.{Directory, new_directory}
 use Rattle.store_core.specs.Agreement.{Agrees}
@@ -11,7 +10,7 @@ use Rattle.store_core.specs.Content.{contents_by}
 use Rattle.store_sound.proofs.OwnSteps.{agreement_goes_on}
 use Rattle.store_contents.proofs.MoreCalls.{more_calls_change_nothing}
 use Rattle.session_rules.specs.State.{Snapshot}
-use Rattle.session_rules.specs.Request.{Request}
+use Rattle.session_rules.specs.declared.request.Request.{Request}
 use Rattle.session_rules.specs.Serve.{serve}
 use Rattle.session_laws.proofs.Beginnings.{beginnings_are_seen}
 use Rattle.session_bytes.proofs.Maps.{beginnings_are_maps, more_calls_leave_maps}

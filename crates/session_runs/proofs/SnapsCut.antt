@@ -1,16 +1,14 @@
 -- A snapshot whose taking was cut off: the passes of the looks that were made have ended again.
-use Rattle.std.proofs.Common.{◌≡◌, ℕ, zero, suc, ◌+◌, ◌<◌, ◌≤◌, nat_lt, Bool, true, false, List, [], ◌∷◌, length, map, take, slice_get, Option, None, Some, All, IfSome, IsTrue, refl, sym, ap, subst, ◌∙◌, arith, if◌then◌else◌, nat_eq}
-use Rattle.std.specs.Bool.{⊤}
+use Rattle.std.proofs.Common.{◌≡◌, ℕ, zero, suc, ◌+◌, ◌<◌, ◌≤◌, nat_lt, Bool, true, false, List, [], ◌∷◌, length, map, take, Option, None, Some, All, IfSome, IsTrue, refl, sym, ap, subst, ◌∙◌, arith, if◌then◌else◌, nat_eq}
 use Rattle.std.specs.List.{AllByRecursion, IsDistinct}
 use Rattle.std.proofs.lemmas.Bool.{true≢false}
-use Rattle.std.proofs.lemmas.List.{length-map, length-take}
+use Rattle.std.proofs.lemmas.List.{length-map}
 use Rattle.std.proofs.lemmas.List.Elements.{All-nil}
 use Rattle.clay_grid.specs.Shape.{Shape, stripe_length}
 use Rattle.store_map.specs.Laws.{names_of}
 use Rattle.store_map.specs.declared.actor.Actor.{Actor}
 use Rattle.store_map.specs.declared.actor.Actor.TheVariants as actor
 use Rattle.store_map.specs.declared.reply.Reply.TheVariants as reply
-use Rattle.store_core.specs.Directory.{Version, Pass, Directory}
 use Rattle.store_core.specs.Lookups.{pass_of, first_garbage}
 use Rattle.store_core.specs.Agreement.{ActorToken, AreBelow, Agrees}
 use Rattle.store_core.specs.Calls.{Calls}
@@ -19,10 +17,10 @@ use Rattle.store_core.specs.Step.{Places}
 use Rattle.store_lengths.specs.MapAfter.{map_by}
 use Rattle.store_core.specs.Lists.{is_among}
 use Rattle.session_rules.specs.State.{Numbering, Snapshot, State}
-use Rattle.session_rules.specs.Answer.{Answer}
-use Rattle.session_rules.specs.Request.{Request}
+use Rattle.session_rules.specs.declared.answer.Answer.{Answer}
+use Rattle.session_rules.specs.declared.request.Request.{Request}
 use Rattle.session_rules.specs.Snapshots.{most_objects, snap}
-use Rattle.session_laws.specs.Seen.{version_of, snapshot_numbers, live_numbers, IsSeenAs, IsOfSnapshot, IsAtRest, IsQuiet}
+use Rattle.session_laws.specs.Seen.{version_of, snapshot_numbers, live_numbers, IsOfSnapshot, IsAtRest, IsQuiet}
 use Rattle.session_laws.proofs.Pairs.{every_take}
 use Rattle.session_bytes.proofs.Whole.{map_of}
 use Rattle.session_runs.specs.Seats.{MayBeginFrom}
@@ -35,7 +33,7 @@ use Rattle.session_runs.proofs.LooksMade.{InDirectory, AreLooked, all_in_directo
 use Rattle.session_runs.proofs.PassesEnded.{AreEnded, all_ended, none_left}
 use Rattle.session_runs.proofs.Readers.{client_apart, unused_of}
 use Rattle.session_runs.proofs.SnapsDropped.{nobody}
-use Rattle.session_runs.proofs.SnapsServed.{lengths_named, as_many, next_seats, nothing_taken, seats_free, made, others_left, points_same, seat_left, few_numbers, snap_is}
+use Rattle.session_runs.proofs.SnapsServed.{lengths_named, next_seats, nothing_taken, seats_free, made, points_same, few_numbers, snap_is}
 
 cases : {P : Type 0} (b : Bool) → (b ≡ true → P) → (b ≡ false → P) → P
 cases true t f = t refl

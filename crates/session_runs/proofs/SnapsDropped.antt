@@ -1,14 +1,13 @@
 -- A snapshot that is dropped: its passes end, and the sweeper sweeps what they alone kept.
-use Rattle.std.proofs.Common.{◌≡◌, ℕ, ◌<◌, ◌≤◌, Bool, true, false, ◌||◌, List, [], ◌∷◌, length, take, slice_get, Option, None, Some, All, IfSome, IsTrue, refl, sym, ap, subst, ◌∙◌, arith, nat_eq}
+use Rattle.std.proofs.Common.{◌≡◌, ℕ, ◌<◌, Bool, true, false, ◌||◌, List, [], ◌∷◌, length, take, slice_get, Option, None, Some, All, IfSome, IsTrue, refl, sym, ap, subst, ◌∙◌, arith, nat_eq}
 use Rattle.std.specs.List.{AllByRecursion, IsDistinct}
 use Rattle.std.proofs.lemmas.Bool.{true≢false, eqb-true}
 use Rattle.std.proofs.lemmas.List.Elements.{All-nil}
 use Rattle.clay_grid.specs.Shape.{Shape, stripe_length}
 use Rattle.store_map.specs.declared.actor.Actor.{Actor}
 use Rattle.store_map.specs.declared.actor.Actor.TheVariants as actor
-use Rattle.store_map.specs.declared.reply.Reply.TheVariants as reply
 use Rattle.store_core.specs.Lists.{is_among}
-use Rattle.store_core.specs.Directory.{Version, Pass, Directory}
+use Rattle.store_core.specs.Directory.{Version, Directory}
 use Rattle.store_core.specs.Lookups.{pass_of, holds_standing}
 use Rattle.store_core.specs.Agreement.{ActorToken, AreBelow, Agrees}
 use Rattle.store_core.specs.Calls.{Calls}
@@ -16,10 +15,10 @@ use Rattle.store_core.specs.Server.{Server}
 use Rattle.store_core.specs.Step.{Places}
 use Rattle.store_lengths.specs.MapAfter.{map_by}
 use Rattle.session_rules.specs.State.{Snapshot, State}
-use Rattle.session_rules.specs.Answer.{Answer}
-use Rattle.session_rules.specs.Request.{Request}
+use Rattle.session_rules.specs.declared.answer.Answer.{Answer}
+use Rattle.session_rules.specs.declared.request.Request.{Request}
 use Rattle.session_rules.specs.Snapshots.{snap_drop}
-use Rattle.session_laws.specs.Seen.{version_of, snapshot_numbers, IsSeenAs, IsOfSnapshot, IsAtRest}
+use Rattle.session_laws.specs.Seen.{IsSeenAs, IsOfSnapshot, IsAtRest}
 use Rattle.session_laws.specs.Quiet.{is_kept_standing, IsSettled, AreSwept}
 use Rattle.session_laws.proofs.Quiet.{all_garbage_is_swept}
 use Rattle.session_laws.proofs.Settled.{quiet_is_settled}

@@ -1,7 +1,6 @@
 -- A snapshot that is taken, and one that is dropped: each leads from places between two requests to such places.
-use Rattle.std.proofs.Common.{◌≡◌, ◌⊎◌, ℕ, zero, suc, ◌+◌, ◌<◌, ◌≤◌, nat_eq, nat_lt, Bool, true, false, not, ◌&&◌, ◌||◌, cond, List, [], ◌∷◌, ◌++◌, length, map, get_or, take, find, slice_get, Option, None, Some, option_map, All, IfSome, IsTrue, refl, sym, ap, subst, subst₂, ◌∙◌, inl, inr, arith, if◌then◌else◌}
-use Rattle.std.specs.Bool.{⊤}
-use Rattle.std.specs.List.{AllByRecursion, IsDistinct, enumerate_from, list_any}
+use Rattle.std.proofs.Common.{◌≡◌, ◌⊎◌, ℕ, ◌+◌, ◌<◌, ◌≤◌, nat_eq, nat_lt, Bool, true, false, not, ◌&&◌, ◌||◌, cond, List, [], ◌∷◌, length, map, get_or, find, Option, None, Some, option_map, All, IfSome, IsTrue, refl, sym, ap, subst, subst₂, ◌∙◌, inl, inr, arith, if◌then◌else◌}
+use Rattle.std.specs.List.{AllByRecursion, IsDistinct, enumerate_from}
 use Rattle.std.proofs.lemmas.Bool.{true≢false, or_cases, or_left, or_right, ltb-false, eq-eqb, eqb-true}
 use Rattle.std.proofs.lemmas.Option.{none-some}
 use Rattle.std.proofs.lemmas.List.{length-map, map-append}
@@ -13,10 +12,9 @@ use Rattle.store_map.specs.declared.actor.Actor.{Actor}
 use Rattle.store_map.specs.declared.actor.Actor.TheVariants as actor
 use Rattle.store_map.specs.declared.reply.Reply.TheVariants as reply
 use Rattle.store_core.specs.Lists.{is_among}
-use Rattle.store_core.specs.Directory.{Object, Version, Pin, Pass, Directory}
+use Rattle.store_core.specs.Directory.{Object, Version, Pin, Directory}
 use Rattle.store_core.specs.Lookups.{pass_of, is_pinned, is_superseded_standing, first_garbage}
 use Rattle.store_core.specs.Agreement.{ActorToken, AreBelow, Agrees}
-use Rattle.store_core.specs.Tokens.{actor_of}
 use Rattle.store_core.specs.Calls.{Calls}
 use Rattle.store_core.specs.Content.{contents_by}
 use Rattle.store_core.specs.Server.{Server}
@@ -24,30 +22,23 @@ use Rattle.store_core.specs.Step.{Places}
 use Rattle.store_lengths.specs.MapAfter.{map_by}
 use Rattle.store_contents.specs.Contents.{stripes_in, stored_in}
 use Rattle.session_rules.specs.State.{Numbering, Snapshot, State}
-use Rattle.session_rules.specs.Answer.{Answer}
-use Rattle.session_rules.specs.Request.{Request}
-use Rattle.session_rules.specs.Snapshots.{most_objects, snap, snap_drop}
+use Rattle.session_rules.specs.declared.answer.Answer.{Answer}
+use Rattle.session_rules.specs.declared.request.Request.{Request}
+use Rattle.session_rules.specs.Snapshots.{most_objects, snap}
 use Rattle.session_laws.specs.Seen.{version_of, versions_under, stood_under, all_numbers, snapshot_numbers, live_numbers, IsSeenAs, IsOfSnapshot, IsAtRest, IsQuiet}
-use Rattle.session_laws.specs.Sweeps.{KeepsPinned}
-use Rattle.session_laws.specs.Quiet.{is_kept_standing, IsKept, IsSettled, AreSwept}
 use Rattle.session_laws.proofs.AtPlaces.{map_same}
 use Rattle.session_laws.proofs.Counting.{among_append}
 use Rattle.session_laws.proofs.Garbage.{is_free}
 use Rattle.session_laws.proofs.Names.{is_none_by}
-use Rattle.session_laws.proofs.Quiet.{all_garbage_is_swept}
-use Rattle.session_laws.proofs.Settled.{quiet_is_settled}
 use Rattle.session_laws.proofs.Snaps.{snaps_are_seen}
-use Rattle.session_bytes.specs.Maps.{IsMapOf}
 use Rattle.session_bytes.proofs.Whole.{Whole, whole_of, same_of, map_of}
 use Rattle.session_runs.specs.Seats.{MayBeginFrom}
-use Rattle.session_runs.specs.Readers.{AreReaders, is_reader, kept_numbers, tickets_of, contents_under, StandForBytes, HoldsSnapshot}
+use Rattle.session_runs.specs.Readers.{is_reader, kept_numbers, tickets_of, contents_under}
 use Rattle.session_runs.specs.Between.{Seats, seats_after, IsBetween}
-use Rattle.session_runs.specs.Snapshots.{look_all, end_all}
-use Rattle.session_runs.specs.Serving.{AreSweptTo, IsSnapServed, IsSnapDropped, AreLooks, MayBeAsked, IsServedAlone}
+use Rattle.session_runs.specs.Snapshots.{look_all}
+use Rattle.session_runs.specs.Serving.{IsSnapServed, AreLooks, MayBeAsked, IsServedAlone}
 use Rattle.session_runs.proofs.LooksMade.{InDirectory, AreLooked, all_in_directory, seat_raised, all_made}
-use Rattle.session_runs.proofs.PassesEnded.{AreEnded, all_ended, none_left}
 use Rattle.session_runs.proofs.Readers.{client_apart, unused_of}
-use Rattle.session_runs.proofs.Rests.{Rests, swept_to, between_swept}
 
 cases : {P : Type 0} (b : Bool) → (b ≡ true → P) → (b ≡ false → P) → P
 cases true t f = t refl

@@ -10,8 +10,8 @@ use Rattle.store_core.specs.NextAct.{job_of, rebuild_job}
 use Rattle.store_core.specs.Calls.{Calls}
 use Rattle.store_core.specs.Step.{Shortage, Places}
 use Rattle.session_rules.specs.State.{Snapshot, State}
-use Rattle.session_rules.specs.Request.{Request}
-use Rattle.session_rules.specs.Answer.{Answer}
+use Rattle.session_rules.specs.declared.request.Request.{Request}
+use Rattle.session_rules.specs.declared.answer.Answer.{Answer}
 use Rattle.session_rules.specs.Serve.{serve}
 use Rattle.session_rules.specs.Snapshots.{snap}
 use Rattle.session_rules.specs.Shortages.{IsServed}

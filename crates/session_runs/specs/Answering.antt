@@ -1,5 +1,5 @@
 -- Requests in which memory may be wanting: each is served as the session answers, or is answered that memory was wanting.
-use Rattle.std.specs.Prelude.{◌≡◌, ◌⊎◌, ℕ, ◌+◌, ◌≤◌, ◌<◌, List, [], ◌∷◌, length, take, Some, IsTrue}
+use Rattle.std.specs.Prelude.{◌≡◌, ◌⊎◌, ℕ, ◌+◌, ◌≤◌, ◌<◌, List, [], ◌∷◌, length, take, replicate, Some, IsTrue}
 use Rattle.std.specs.List.{slice_get}
 use Rattle.clay_grid.specs.Shape.{Shape, chunk_count, stripe_length}
 use Rattle.clay_grid.specs.Limits.{IsGeometry}
@@ -7,18 +7,23 @@ use Rattle.store_map.specs.declared.actor.Actor.{Actor}
 use Rattle.store_map.specs.declared.actor.Actor.TheVariants as actor
 use Rattle.store_map.specs.declared.call.Call.{Call}
 use Rattle.store_map.specs.declared.call.Rebuild.{Rebuild as RebuildCall}
-use Rattle.store_core.specs.Act.{Outcome}
+use Rattle.store_core.specs.Act.{Act, Outcome}
 use Rattle.store_core.specs.NextAct.{Job, job_of, rebuild_job}
 use Rattle.store_core.specs.Calls.{Calls}
-use Rattle.store_core.specs.Step.{Shortage, Places}
-use Rattle.store_resume.specs.State.{State as CallAt}
+use Rattle.store_core.specs.Step.{Shortage, Places, at_places, take_from}
+use Rattle.store_resume.specs.State.{State as CallAt, CallState, first_state}
+use Rattle.store_resume.specs.StateActs.{act_of_state}
 use Rattle.session_rules.specs.State.{Snapshot, State}
-use Rattle.session_rules.specs.Request.{Request}
-use Rattle.session_rules.specs.Answer.{LostChunk, Answer}
+use Rattle.session_rules.specs.declared.request.Request.{Request}
+use Rattle.session_rules.specs.declared.answer.LostChunk.{LostChunk}
+use Rattle.session_rules.specs.declared.answer.Answer.{Answer}
 use Rattle.session_rules.specs.Heals.{to_heal, numbers_last}
 use Rattle.session_rules.specs.Serve.{serve}
 use Rattle.session_rules.specs.Shortages.{IsServed}
+use Rattle.session_laws.specs.Alone.{AtWork}
 use Rattle.session_laws.specs.Heals.{rebuild_of, healed_by}
+use Rattle.session_laws.specs.Takes.{added}
+use Rattle.session_laws.specs.Wants.{after_coding, wanting_step}
 use Rattle.session_laws.specs.Outcomes.{outcome_at}
 use Rattle.session_laws.specs.Rebuilds.{rebuilt_as}
 use Rattle.session_runs.specs.Seats.{ran, HasEnded}
@@ -111,3 +116,30 @@ SnapReadsAreAnswered =
     (offset count : ℕ) (outcome : Outcome) → 0 < stripe_length g → IsBetween calls g max seats stands p s → s.snapshot ≡ Some kept →
     ReadsTo g seats.readers kept name offset count p outcome after →
     (answered : IsAnswered calls g max seats s (Request.SnapRead name offset count) after) × (outcome ≡ gathered_as answered.served.1)
+
+-- the subchunks taken from each server in a call's steps, wherever memory is wanting
+module _ (g : Shape) (tries : ℕ) (who : Actor) (number : ℕ) (job : Job) where
+  abbrev pub took : List Shortage → AtWork → List ℕ → List ℕ
+  took [] w takes = takes
+  took (shortage ∷ shortages) w takes =
+      let call : CallState = after_coding g tries who number job shortage.coding w.call in
+      let act : Act = act_of_state g tries job call in
+      took shortages (wanting_step g tries who number job shortage w) (take_from act (at_places shortage.step who number act w.places).1 takes)
+
+-- some chunks are made anew so, and what this takes leads from the one count to the other
+abbrev pub AreTakenAnew : Shape → ℕ → Actor → ℕ → List LostChunk → Places → List ℕ → List ℕ → Type 0
+AreTakenAnew g tries who number [] before so_far total = so_far ≡ total
+AreTakenAnew g tries who number (chunk ∷ chunks) before so_far total =
+    (shortages : List Shortage) × HasEnded g tries who number (rebuild_job (rebuild_of chunk)) shortages before Outcome.Rebuilt
+    × AreTakenAnew g tries who (number + 1) chunks (ran g tries who number (rebuild_job (rebuild_of chunk)) shortages before).places
+    (added so_far
+    (took g tries who number (rebuild_job (rebuild_of chunk)) shortages (record { call = first_state; places = before })
+    (replicate (chunk_count g) 0))) total
+
+-- a heal that has made each chunk anew, wherever memory was wanting, has taken what the session answers
+abbrev pub HealsTakeAnew : Type 0
+HealsTakeAnew =
+    (calls : Calls) (g : Shape) (max tries : ℕ) (seats : Seats) (stands : List ℕ) (p : Places) (s : State) (total : List ℕ) →
+    0 < stripe_length g → IsGeometry g → IsBetween calls g max seats stands p s → IsTrue (numbers_last g s) →
+    AreTakenAnew g tries (actor.Repairer seats.healer) s.next (to_heal g s) p (replicate (chunk_count g) 0) total →
+    (serve g max Request.Heal s).1 ≡ Answer.Healed (length (to_heal g s)) total

@@ -6,7 +6,7 @@ use Rattle.store_core.specs.Calls.{Calls}
 use Rattle.store_core.specs.Step.{Places}
 use Rattle.store_contents.specs.MoreCalls.{AreAmong}
 use Rattle.session_rules.specs.State.{State, first_state}
-use Rattle.session_rules.specs.Request.{Request}
+use Rattle.session_rules.specs.declared.request.Request.{Request}
 use Rattle.session_laws.specs.Seen.{IsSeenAs, IsQuiet}
 use Rattle.session_laws.specs.Sweeps.{KeepsPinned}
 use Rattle.session_laws.specs.Beginnings.{new_places}

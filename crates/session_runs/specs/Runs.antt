@@ -5,8 +5,8 @@ use Rattle.clay_grid.specs.Limits.{IsGeometry}
 use Rattle.store_core.specs.Calls.{Calls}
 use Rattle.store_core.specs.Step.{Places}
 use Rattle.session_rules.specs.State.{State}
-use Rattle.session_rules.specs.Request.{Request}
-use Rattle.session_rules.specs.Answer.{Answer}
+use Rattle.session_rules.specs.declared.request.Request.{Request}
+use Rattle.session_rules.specs.declared.answer.Answer.{Answer}
 use Rattle.session_rules.specs.Serve.{serve}
 use Rattle.session_runs.specs.Between.{Seats, seats_after, IsBetween}
 use Rattle.session_runs.specs.Serving.{IsServedBy, MayBeAsked}

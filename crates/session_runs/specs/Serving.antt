@@ -23,8 +23,8 @@ use Rattle.store_core.specs.Step.{Places, at_places}
 use Rattle.store_core.specs.Sweep.{Sweeper}
 use Rattle.store_reads.specs.ReadLaws.{bytes_read}
 use Rattle.session_rules.specs.State.{Snapshot, State}
-use Rattle.session_rules.specs.Request.{Request}
-use Rattle.session_rules.specs.Answer.{Answer}
+use Rattle.session_rules.specs.declared.request.Request.{Request}
+use Rattle.session_rules.specs.declared.answer.Answer.{Answer}
 use Rattle.session_rules.specs.Heals.{to_heal}
 use Rattle.session_rules.specs.Serve.{serve}
 use Rattle.session_rules.specs.Snapshots.{snap}

@@ -1,8 +1,7 @@
 -- Snapshots at the directory: the looks that take one, the ends of their passes, and what a read of one gathers.
-use Rattle.std.specs.Prelude.{◌≡◌, ℕ, ◌+◌, false, min, List, [], ◌∷◌, length, get_or, map, take, replicate, bytes_eq, Option, None, Some, option_map, unwrap_or, if◌then◌else◌}
+use Rattle.std.specs.Prelude.{◌≡◌, ℕ, ◌+◌, false, min, List, [], ◌∷◌, length, get_or, map, replicate, bytes_eq, Option, None, Some, option_map, unwrap_or, if◌then◌else◌}
 use Rattle.clay_grid.specs.Shape.{Shape}
 use Rattle.store_map.specs.PlainMap.{bytes_of, read_at}
-use Rattle.store_map.specs.Laws.{names_of}
 use Rattle.store_map.specs.declared.actor.Actor.TheVariants as actor
 use Rattle.store_map.specs.declared.call.Call.TheVariants as call
 use Rattle.store_map.specs.declared.placement.Placement.TheVariants as placement
@@ -15,12 +14,12 @@ use Rattle.store_core.specs.Content.{contents_by}
 use Rattle.store_core.specs.Directory.{Pin, Directory}
 use Rattle.store_core.specs.Lookups.{pass_of}
 use Rattle.store_core.specs.Gathering.{Part}
-use Rattle.store_core.specs.Step.{Shortage, Places, at_places}
+use Rattle.store_core.specs.Step.{Places, at_places}
 use Rattle.store_resume.specs.State.{State as CallAt}
 use Rattle.store_reads.specs.ReadLaws.{bytes_read}
 use Rattle.session_rules.specs.State.{Numbering, Snapshot, numbers_of, stripe_at}
-use Rattle.session_rules.specs.Answer.{Answer}
-use Rattle.session_rules.specs.Gathered.{Range, ranges_between}
+use Rattle.session_rules.specs.declared.answer.Answer.{Answer}
+use Rattle.session_rules.specs.Gathered.{ranges_between}
 use Rattle.session_laws.specs.Outcomes.{lost_as}
 use Rattle.session_runs.specs.Reading.{begun, reading_steps}
 

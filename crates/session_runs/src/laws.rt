@@ -5,7 +5,7 @@ ghost use Rattle.session_runs.specs.Between.{BeginningsAreBetween, MoreCallsStay
 ghost use Rattle.session_runs.specs.Serving.{RequestsAreServed};
 ghost use Rattle.session_runs.specs.Runs.{RunsAreServed};
 ghost use Rattle.session_runs.specs.AnsweredRuns.{RunsAreAnswered};
-ghost use Rattle.session_runs.specs.Answering.{CallsAreAnswered, RebuildsAreAnswered, HealsAreAnswered, HealsAreMade, SnapReadsAreAnswered};
+ghost use Rattle.session_runs.specs.Answering.{CallsAreAnswered, RebuildsAreAnswered, HealsAreAnswered, HealsAreMade, HealsTakeAnew, SnapReadsAreAnswered};
 
 /// After an actor's call that runs alone to any outcome, wherever memory is wanting, the actor may begin
 /// its next call, and each other one the call that it could begin before.
@@ -54,6 +54,11 @@ pub fn heals_are_answered()
 /// A heal in which memory was wanting, but each of whose rebuilds made its chunk, is served.
 pub fn heals_are_made()
     ensures { HealsAreMade }
+{}
+
+/// Such a heal has taken from each server what the session answers.
+pub fn heals_take_anew()
+    ensures { HealsTakeAnew }
 {}
 
 /// A read of a snapshot, wherever memory is wanting, ends as the session answers or for want of memory.

@@ -1,12 +1,38 @@
-//! Tests of the chunk server. Each runs over a borrowed shelf, so that little is alive at each of its steps.
+//! Tests of the chunk server. Each runs over a borrowed shelf, so that little is alive at each of its steps, and one function
+//! makes the shelves, so that it is proved once.
 use crate::holds;
-use crate::sealing::small_geometry;
-use crate::shelf::Shelf;
 use chunk_server::{Fetched, Installed, Presence, Server};
+use sealed_shelf::sealing::small_geometry;
+use sealed_shelf::shelf::Shelf;
 use std::alloc::Global;
 use std::test::Fail;
 use store_map::{Found, Placement, Version};
 use version_seal::Book;
+
+/// What a test does with a shelf.
+#[derive(Clone, Copy)]
+enum Course {
+    Fetches,
+    HoldsTwice,
+    Discards,
+    Wipes,
+    GoesAway,
+}
+
+fn take(course: Course, shelf: &mut Shelf, alloc: Global) -> Result<(), Fail> {
+    match course {
+        Course::Fetches => fetches(shelf, alloc),
+        Course::HoldsTwice => holds_twice(shelf, alloc),
+        Course::Discards => discards(shelf, alloc),
+        Course::Wipes => wipes(shelf, alloc),
+        Course::GoesAway => goes_away(shelf, alloc),
+    }
+}
+
+fn on_a_shelf(alloc: Global, course: Course) -> Result<(), Fail> {
+    let (book, sealer) = Book::free(alloc, small_geometry()?)?;
+    take(course, &mut Shelf::new(alloc, &book, sealer)?, alloc)
+}
 
 // A version is prepared, and placed so.
 fn prepares(shelf: &mut Shelf, alloc: Global, version: u64, placed: Placement) -> Result<(), Fail> {
@@ -69,8 +95,7 @@ fn fetches(shelf: &mut Shelf, alloc: Global) -> Result<(), Fail> {
 
 #[test]
 fn fetches_in_the_order_asked(rt: HostRuntime) -> Result<(), Fail> {
-    let (book, sealer) = Book::free(rt.alloc(), small_geometry()?)?;
-    fetches(&mut Shelf::new(rt.alloc(), &book, sealer)?, rt.alloc())
+    on_a_shelf(rt.alloc(), Course::Fetches)
 }
 
 fn holds_twice(shelf: &mut Shelf, alloc: Global) -> Result<(), Fail> {
@@ -91,8 +116,7 @@ fn holds_twice(shelf: &mut Shelf, alloc: Global) -> Result<(), Fail> {
 
 #[test]
 fn a_held_version_keeps_its_chunk(rt: HostRuntime) -> Result<(), Fail> {
-    let (book, sealer) = Book::free(rt.alloc(), small_geometry()?)?;
-    holds_twice(&mut Shelf::new(rt.alloc(), &book, sealer)?, rt.alloc())
+    on_a_shelf(rt.alloc(), Course::HoldsTwice)
 }
 
 fn discards(shelf: &mut Shelf, alloc: Global) -> Result<(), Fail> {
@@ -109,8 +133,7 @@ fn discards(shelf: &mut Shelf, alloc: Global) -> Result<(), Fail> {
 
 #[test]
 fn a_discard_leaves_the_others(rt: HostRuntime) -> Result<(), Fail> {
-    let (book, sealer) = Book::free(rt.alloc(), small_geometry()?)?;
-    discards(&mut Shelf::new(rt.alloc(), &book, sealer)?, rt.alloc())
+    on_a_shelf(rt.alloc(), Course::Discards)
 }
 
 fn wipes(shelf: &mut Shelf, alloc: Global) -> Result<(), Fail> {
@@ -126,8 +149,7 @@ fn wipes(shelf: &mut Shelf, alloc: Global) -> Result<(), Fail> {
 
 #[test]
 fn a_wipe_raises_the_epoch(rt: HostRuntime) -> Result<(), Fail> {
-    let (book, sealer) = Book::free(rt.alloc(), small_geometry()?)?;
-    wipes(&mut Shelf::new(rt.alloc(), &book, sealer)?, rt.alloc())
+    on_a_shelf(rt.alloc(), Course::Wipes)
 }
 
 fn goes_away(shelf: &mut Shelf, alloc: Global) -> Result<(), Fail> {
@@ -146,6 +168,5 @@ fn goes_away(shelf: &mut Shelf, alloc: Global) -> Result<(), Fail> {
 
 #[test]
 fn an_away_server_gives_and_takes_nothing(rt: HostRuntime) -> Result<(), Fail> {
-    let (book, sealer) = Book::free(rt.alloc(), small_geometry()?)?;
-    goes_away(&mut Shelf::new(rt.alloc(), &book, sealer)?, rt.alloc())
+    on_a_shelf(rt.alloc(), Course::GoesAway)
 }

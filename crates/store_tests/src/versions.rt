@@ -1,14 +1,14 @@
 //! Tests of sealed versions.
 ghost use Rattle.std.specs.Prelude.{◌≡◌, None, Some, IfOk, IsTrue};
-ghost use Rattle.store_tests.specs.Small.{IsSmall, IsStampOf};
+ghost use Rattle.sealed_shelf.specs.Small.{IsSmall, IsStampOf};
 ghost use Rattle.store_map.specs.declared.actor.Actor.TheVariants.{Client};
 ghost use Rattle.store_core.specs.History.{call_of};
 ghost use Rattle.version_seal.specs.Entry.{is_writing};
 ghost use Rattle.version_seal.specs.Sealer.{sealer_at};
 
 use crate::holds;
-use crate::sealing::{fetched, gathered, part, small_geometry, stamp, stamp_over, stripe};
 use clay_decode::decode;
+use sealed_shelf::sealing::{fetched, gathered, part, small_geometry, stamp, stamp_over, stripe};
 use std::alloc::Global;
 use std::test::Fail;
 use std::thread;
@@ -69,6 +69,34 @@ fn threads_share_a_book(rt: HostRuntime) -> Result<(), Fail> {
     holds(read == (0, 0), "read")
 }
 
+/// What a test does with a book of which nothing is sealed.
+#[derive(Clone, Copy)]
+enum Course {
+    Decodes,
+    TellsItsVersion,
+    LaysOver,
+    Ends,
+    Parts,
+}
+
+fn take(course: Course, alloc: Global, book: &Book, sealer: &mut Sealer) -> Result<(), Fail>
+    requires book { IsSmall book.now }
+    requires sealer { sealer.old ≡ sealer_at book.now 0 }
+{
+    match course {
+        Course::Decodes => decodes(alloc, book, sealer),
+        Course::TellsItsVersion => tells_its_version(alloc, book, sealer),
+        Course::LaysOver => lays_over(alloc, book, sealer),
+        Course::Ends => ends(book),
+        Course::Parts => parts(alloc, book, sealer),
+    }
+}
+
+fn with_a_book(alloc: Global, course: Course) -> Result<(), Fail> {
+    let (book, mut sealer) = Book::free(alloc, small_geometry()?)?;
+    take(course, alloc, &book, &mut sealer)
+}
+
 // Whether the part is server 1's, of version 0.
 fn is_second(part: &SealedPart) -> bool {
     part.server() == 1
@@ -95,8 +123,7 @@ fn decodes(alloc: Global, book: &Book, sealer: &mut Sealer) -> Result<(), Fail>
 
 #[test]
 fn a_put_is_decoded_from_two_servers(rt: HostRuntime) -> Result<(), Fail> {
-    let (book, mut sealer) = Book::free(rt.alloc(), small_geometry()?)?;
-    decodes(rt.alloc(), &book, &mut sealer)
+    with_a_book(rt.alloc(), Course::Decodes)
 }
 
 fn tells_its_version(alloc: Global, book: &Book, sealer: &mut Sealer) -> Result<(), Fail>
@@ -111,8 +138,7 @@ fn tells_its_version(alloc: Global, book: &Book, sealer: &mut Sealer) -> Result<
 
 #[test]
 fn a_stamp_tells_its_version(rt: HostRuntime) -> Result<(), Fail> {
-    let (book, mut sealer) = Book::free(rt.alloc(), small_geometry()?)?;
-    tells_its_version(rt.alloc(), &book, &mut sealer)
+    with_a_book(rt.alloc(), Course::TellsItsVersion)
 }
 
 fn lays_over(alloc: Global, book: &Book, sealer: &mut Sealer) -> Result<(), Fail>
@@ -128,8 +154,7 @@ fn lays_over(alloc: Global, book: &Book, sealer: &mut Sealer) -> Result<(), Fail
 
 #[test]
 fn a_write_is_laid_over_its_base(rt: HostRuntime) -> Result<(), Fail> {
-    let (book, mut sealer) = Book::free(rt.alloc(), small_geometry()?)?;
-    lays_over(rt.alloc(), &book, &mut sealer)
+    with_a_book(rt.alloc(), Course::LaysOver)
 }
 
 // Whether there is room for so many versions from this one on.
@@ -154,8 +179,7 @@ fn ends(book: &Book) -> Result<(), Fail> {
 
 #[test]
 fn room_ends_with_the_book(rt: HostRuntime) -> Result<(), Fail> {
-    let (book, _sealer) = Book::free(rt.alloc(), small_geometry()?)?;
-    ends(&book)
+    with_a_book(rt.alloc(), Course::Ends)
 }
 
 fn parts(alloc: Global, book: &Book, sealer: &mut Sealer) -> Result<(), Fail>
@@ -169,8 +193,7 @@ fn parts(alloc: Global, book: &Book, sealer: &mut Sealer) -> Result<(), Fail>
 
 #[test]
 fn a_part_has_its_layers_alone(rt: HostRuntime) -> Result<(), Fail> {
-    let (book, mut sealer) = Book::free(rt.alloc(), small_geometry()?)?;
-    parts(rt.alloc(), &book, &mut sealer)
+    with_a_book(rt.alloc(), Course::Parts)
 }
 
 // A script of one put.

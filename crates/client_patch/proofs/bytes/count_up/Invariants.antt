@@ -1,6 +1,5 @@
-use Rattle.std.proofs.Common.{◌≡◌, ℕ, ◌+◌, ◌%◌, ◌<◌, get_or}
+use Rattle.std.proofs.Common.{◌≡◌, ℕ, ◌+◌, ◌*◌, ◌%◌, ◌<◌, get_or, length}
 use Rattle.client_patch.proofs.bytes.count_up.Given as goal
 
-abbrev pub invariant-loop-byte : goal.invariant-loop-byte
-invariant-loop-byte l =
-    (l.next ≡ (l.first + (l.skipped + l.byte-index)) % 256) × ((i : ℕ) → i < l.byte-index → get_or l.piece i 0 ≡ (l.first + (l.skipped + i)) % 256)
+abbrev pub invariant-loop-block : goal.invariant-loop-block
+invariant-loop-block l = (i : ℕ) → i < l.block * 256 → i < length l.piece → get_or l.piece i 0 ≡ (l.first + (l.skipped + i)) % 256

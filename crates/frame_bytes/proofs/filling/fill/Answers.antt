@@ -1,0 +1,16 @@
+use Rattle.frame_bytes.proofs.FillLemmas.{more_within, more_given, cut_there}
+use Rattle.std.proofs.Common.{◌∙◌}
+use Rattle.frame_bytes.proofs.filling.fill.Goals as goal
+
+pub reads-preserved : goal.reads-preserved
+reads-preserved g c = record {
+  within = more_within c.reads.at c.in-Ok.n c.reads.buf c.read.new.buf c.reads.invariant.within c.in-Ok.ensures.bound;
+  given =
+      more_given c.reads.at c.in-Ok.n c.reads.buf c.read.new.buf c.reads.invariant.within _ _ _ c.in-Ok.ensures.bound c.reads.invariant.given
+      c.in-Ok.ensures.bytes;
+  steady = c.in-Ok.ensures.steady ∙ c.reads.invariant.steady;
+}
+
+pub returns-in-Err-clause-cut : goal.returns-in-Err-clause-cut
+returns-in-Err-clause-cut g c =
+    cut_there c.reads.at c.reads.buf c.read.new.buf _ _ _ c.reads.invariant.within c.reads.invariant.given c.in-Err.ensures.no_bytes

@@ -1,0 +1,59 @@
+use Rattle.std.proofs.Common.{◌≡◌, ◌≤◌, ◌+◌, ◌-◌, min, true, false, sym, ◌∙◌, arith}
+use Rattle.std.proofs.lemmas.Grind.{common_steps}
+use Rattle.std.proofs.lemmas.Result.{IfOk-weaker, on_err_weaker}
+use Rattle.byteorder.specs.Endian.{big_number}
+use Rattle.clay_bytes.specs.Stream.{GivesAtMost}
+use Rattle.session_rules.specs.Input.{is_frame_length}
+use Rattle.frame_bytes.specs.declared.reading.Next.{Next}
+use Rattle.frame_bytes.specs.Body.{IsBody}
+use Rattle.frame_bytes.specs.Next.{IsNext, StopsWithin}
+use Rattle.frame_bytes.proofs.ReadLemmas.{IsHead, torn, wrong, body, stops_in_body}
+use Rattle.frame_bytes.proofs.reading.read_frame.Goals as goal
+
+pub returns-then-read-lt4-clause-next : goal.returns-then-read-lt4-clause-next
+returns-then-read-lt4-clause-next g c =
+    let it : IsHead c.args.room c.in_ok-read.read c.fill.new.buf (g.S.Source.left c.args.source.now) (g.S.Source.left c.fill.new.source) =
+    record { size = grind (arith, common_steps); within = c.in_ok-read.ensures.within; filled = c.in_ok-read.ensures.bytes } in
+    torn c.args.room c.in_ok-read.read c.fill.new.buf (g.S.Source.left c.args.source.now) (g.S.Source.left c.fill.new.source) it (omega arith)
+    (omega arith) (omega arith)
+
+pub returns-then-not-is_frame_length-clause-next : goal.returns-then-not-is_frame_length-clause-next
+returns-then-not-is_frame_length-clause-next g c =
+    let it : IsHead c.args.room c.in_ok-read.read c.fill.new.buf (g.S.Source.left c.args.source.now) (g.S.Source.left c.fill.new.source) =
+    record { size = grind (arith, common_steps); within = c.in_ok-read.ensures.within; filled = c.in_ok-read.ensures.bytes } in
+    let ends : c.in_ok-read.read ≤ c.args.room = omega arith in
+    let whole : 4 ≤ c.in_ok-read.read = omega arith in
+    let number : c.read_u32-count.result ≡ big_number 4 c.fill.new.buf = c.read_u32-count.ensures in
+    let not_right : is_frame_length c.read_u32-count.result ≡ false = sym c.is_frame_length.ensures ∙ c.if-not-is_frame_length.true in
+    wrong c.args.room c.in_ok-read.read c.read_u32-count.result c.fill.new.buf (g.S.Source.left c.args.source.now)
+    (g.S.Source.left c.fill.new.source) it ends whole number not_right
+
+pub returns-clause-next : goal.returns-clause-next
+returns-clause-next g c =
+    let it : IsHead c.args.room c.in_ok-read.read c.fill.new.buf (g.S.Source.left c.args.source.now) (g.S.Source.left c.fill.new.source) =
+    record { size = grind (arith, common_steps); within = c.in_ok-read.ensures.within; filled = c.in_ok-read.ensures.bytes } in
+    let ends : c.in_ok-read.read ≤ c.args.room = omega arith in
+    let whole : 4 ≤ c.in_ok-read.read = omega arith in
+    let number : c.read_u32-count.result ≡ big_number 4 c.fill.new.buf = c.read_u32-count.ensures in
+    let right : is_frame_length c.read_u32-count.result ≡ true = sym c.is_frame_length.ensures ∙ c.if-not-is_frame_length.false in
+    let old = g.S.Source.left c.args.source.now in
+    let mid = g.S.Source.left c.fill.new.source in
+    let new = g.S.Source.left c.read_body.new.source in
+    let step : (next : Next) → IsBody c.read_u32-count.result (c.args.room - 4) mid next new → IsNext c.args.room old next new =
+    λ next is. body c.args.room c.in_ok-read.read c.read_u32-count.result c.fill.new.buf old mid new next it ends whole number right is in
+    IfOk-weaker c.read_body.result (λ next. IsBody c.read_u32-count.result (c.args.room - 4) mid next new) (λ next. IsNext c.args.room old next new)
+    step c.read_body.ensures.body
+
+pub returns-clause-fault : goal.returns-clause-fault
+returns-clause-fault g c =
+    let it : IsHead c.args.room c.in_ok-read.read c.fill.new.buf (g.S.Source.left c.args.source.now) (g.S.Source.left c.fill.new.source) =
+    record { size = grind (arith, common_steps); within = c.in_ok-read.ensures.within; filled = c.in_ok-read.ensures.bytes } in
+    let ends : c.in_ok-read.read ≤ c.args.room = omega arith in
+    let whole : 4 ≤ c.in_ok-read.read = omega arith in
+    let number : c.read_u32-count.result ≡ big_number 4 c.fill.new.buf = c.read_u32-count.ensures in
+    let old = g.S.Source.left c.args.source.now in
+    let mid = g.S.Source.left c.fill.new.source in
+    let new = g.S.Source.left c.read_body.new.source in
+    let step : GivesAtMost mid (min c.read_u32-count.result (c.args.room - 4 + 1)) new → StopsWithin c.args.room old new =
+    λ gave. stops_in_body c.args.room c.in_ok-read.read c.read_u32-count.result c.fill.new.buf old mid new it ends whole number gave in
+    on_err_weaker c.read_body.result step c.read_body.ensures.fault

@@ -1,0 +1,24 @@
+-- A session's input, read from its front: what stands next, and then what stands behind it.
+use Rattle.std.specs.Prelude.{◌≡◌, ℕ, ◌+◌, ◌-◌, nat_lt, List, [], ◌∷◌, length, take, drop}
+use Rattle.session_rules.specs.declared.ending.Ending.{Ending}
+use Rattle.session_rules.specs.Input.{most_input, frames_by, ending_by, input_of}
+use Rattle.frame_bytes.specs.declared.reading.Next.{Next}
+use Rattle.frame_bytes.specs.Next.{next_of}
+
+-- the frames and the ending of bytes of which so many are served
+abbrev pub rest_of : ℕ → List ℕ → List (List ℕ) × Ending
+rest_of room bytes =
+    let cut : List (List ℕ) × List ℕ = frames_by (length bytes) (take room bytes) in
+    (cut.0, ending_by (nat_lt room (length bytes)) cut.1)
+
+-- the same where it is known what stands next
+abbrev pub from_next : Next → ℕ → List ℕ → List (List ℕ) × Ending
+from_next (Next.Frame frame) room bytes =
+    let rest : List (List ℕ) × Ending = rest_of (room - (4 + length frame)) (drop (4 + length frame) bytes) in
+    (frame ∷ rest.0, rest.1)
+from_next (Next.End ending) room bytes = ([], ending)
+
+-- a session's frames and its ending are those that are read one after another
+pub record InputsAreRead : Type 0 where
+  pub whole : (input : List ℕ) → input_of input ≡ rest_of most_input input
+  pub next : (room : ℕ) (bytes : List ℕ) → rest_of room bytes ≡ from_next (next_of room bytes) room bytes

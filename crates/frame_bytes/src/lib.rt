@@ -1,0 +1,18 @@
+//! The frames of a session as bytes: read from a source, taken as requests, and answers written to a sink.
+#![tactic(auto)]
+
+mod block;
+mod fault;
+mod fields;
+mod filling;
+pub mod laws;
+mod lengths;
+mod reading;
+mod requests;
+mod writing;
+
+pub use fault::FrameFault;
+pub use lengths::MOST_LISTED;
+pub use reading::{MOST_FRAME, MOST_INPUT, Next, read_frame};
+pub use requests::request_of;
+pub use writing::write_answer;

@@ -1,0 +1,12 @@
+pub mod Apart
+pub mod Others
+pub mod Gets
+pub mod Restoring
+pub mod Looking
+pub mod Ending
+pub mod Standing
+pub mod Taken
+pub mod Staying
+pub mod Needs
+pub mod Ranging
+pub mod Replying

@@ -1,0 +1,12 @@
+pub mod Snapshots
+pub mod Tickets
+pub mod LookSteps
+pub mod Taking
+pub mod Laws
+pub mod Releasing
+pub mod Refused
+pub mod Met
+pub mod Reads
+pub mod ReadSteps
+pub mod Inside
+pub mod ReadInside
