@@ -3,7 +3,7 @@
 ghost use Rattle.frame_laws.specs.Cuts.{InputsAreCut, CutsAreTheOnlyOnes};
 ghost use Rattle.frame_laws.specs.Sent.{RequestsAreRead};
 
-/// What a session reads is cut into frames, and what is left holds no whole frame.
+/// What a session reads is cut into frames, and no whole frame stands first in what is left.
 pub fn inputs_are_cut()
     ensures { InputsAreCut }
 {}
