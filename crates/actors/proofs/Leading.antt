@@ -27,38 +27,36 @@ module _ (script : Script) (part : Run → Run) (who : Actor) (work : Work) (a a
   now = ready m.turn.coding m.call
 
   -- at the directory
-  at_directory : need_of now ≡ need.Directory → IsMadeAtDirectory m.turn.short m.turn.due now (places_in w) m.next q → Leads script part w (put after (with_places q w))
+  at_directory : need_of now ≡ need.Directory → IsMadeAtDirectory m.turn.short m.turn.due now (places_in w) m.next q → Leads script part w (shortage_of m.turn.coding m.turn.short m.call ∷ []) (put after (with_places q w))
   at_directory needs made =
       let stepped : Directory × CallOf = stepped_at_directory m.turn.short m.turn.due now w.directory in
       let agrees : Agrees stepped.0 stepped.1.token = subst (λ (c : CallOf). Agrees stepped.0 c.token) made.call (subst (λ (d : Directory). Agrees d m.next.token) made.directory m.agrees) in
       let same : put (actor_after stepped.1 a) (with_directory stepped.0 w) ≡ put after (with_places q w) =
       λ i. put ((ap (λ (c : CallOf). actor_after c a) (sym made.call) ∙ sym m.actor) i) (record w { directory = sym made.directory i; servers = sym made.servers i }) in
       record {
-        shortages = shortage_of m.turn.coding m.turn.short m.call ∷ [];
         leads =
             subst (λ (v : WorldOf). LeadsWorld script part w (shortage_of m.turn.coding m.turn.short m.call ∷ []) v) same
             (makes.directory m.call m.turn.coding m.turn.short m.turn.due m.has needs (stays.pass work m.call m.has m.pass));
         agree = subst (λ (v : WorldOf). TokensAgree v) same (stays.directory work m.call m.turn.coding m.turn.short m.turn.due m.has agrees);
       }
 
-  at_server : (server : ℕ) → need_of now ≡ need.Server server → IsMadeAtServer server m.turn.short m.turn.due now (places_in w) m.next q → Leads script part w (put after (with_places q w))
+  at_server : (server : ℕ) → need_of now ≡ need.Server server → IsMadeAtServer server m.turn.short m.turn.due now (places_in w) m.next q → Leads script part w (shortage_of m.turn.coding m.turn.short m.call ∷ []) (put after (with_places q w))
   at_server server needs made =
       let stepped : Server × CallOf = stepped_at_server m.turn.short m.turn.due now made.before in
       let same : put (actor_after stepped.1 a) (with_server server stepped.0 w) ≡ put after (with_places q w) =
       λ i. put ((ap (λ (c : CallOf). actor_after c a) (sym made.call) ∙ sym m.actor) i) (record w { directory = sym made.directory i; servers = sym made.servers i }) in
       record {
-        shortages = shortage_of m.turn.coding m.turn.short m.call ∷ [];
         leads =
             subst (λ (v : WorldOf). LeadsWorld script part w (shortage_of m.turn.coding m.turn.short m.call ∷ []) v) same
             (makes.server m.call server made.before m.turn.coding m.turn.short m.turn.due m.has needs made.there);
         agree = subst (λ (v : WorldOf). TokensAgree v) same (stays.server work m.call server made.before m.turn.coding m.turn.short m.turn.due m.has);
       }
 
-  by_need : (at : Need) → need_of now ≡ at → IsMadeAt at m.turn.short m.turn.due now (places_in w) m.next q → Leads script part w (put after (with_places q w))
+  by_need : (at : Need) → need_of now ≡ at → IsMadeAt at m.turn.short m.turn.due now (places_in w) m.next q → Leads script part w (shortage_of m.turn.coding m.turn.short m.call ∷ []) (put after (with_places q w))
   by_need need.Directory needs made = at_directory needs made
   by_need (need.Server server) needs made = at_server server needs made
   by_need need.Coder needs made = absurd made
   by_need need.Finished needs made = absurd made
 
-  pub turn_leads : Leads script part w (put after (with_places q w))
+  pub turn_leads : Leads script part w (shortage_of m.turn.coding m.turn.short m.call ∷ []) (put after (with_places q w))
   turn_leads = by_need (need_of now) refl m.turn.made

@@ -5,4 +5,5 @@ pub mod Serving
 pub mod Owing
 pub mod Begins
 pub mod Stepping
+pub mod Telling
 pub mod Ended

@@ -1,5 +1,5 @@
 -- A caller whose call is ready, makes its step, and has its whole turn.
-use Rattle.std.proofs.Common.{◌≡◌, ℕ, ◌<◌, Bool, true, false, List, ◌++◌, length, map, get_or, set, Option, None, Some, IfSome, refl, sym, ap, subst, ◌∙◌, if◌then◌else◌}
+use Rattle.std.proofs.Common.{◌≡◌, ℕ, ◌<◌, Bool, true, false, List, ◌++◌, length, map, get_or, set, Option, None, Some, IfSome, refl, sym, ap, subst, ◌∙◌, ◌&&◌, if◌then◌else◌}
 use Rattle.std.proofs.lemmas.Option.{same_Some}
 use Rattle.clay_grid.specs.Shape.{chunk_count}
 use Rattle.store_map.specs.declared.script.Script.{Script}
@@ -22,6 +22,9 @@ use Rattle.call_machine.specs.Calls.{MachineOf, KnowsOldOf, drawn_by, owed_by}
 use Rattle.call_machine.proofs.Machines.{if_patches}
 use Rattle.world_lines.specs.Ended.{ended_of}
 use Rattle.world_lines.specs.declared.calls.EndedCall.{EndedCall}
+use Rattle.trace_lines.specs.declared.step.Step.{Step}
+use Rattle.trace_lines.specs.Steps.{IsStep}
+use Rattle.world_traces.specs.TurnMade.{turn_made}
 use Rattle.world_steps.specs.World.{DoingOf}
 use Rattle.world_steps.specs.Known.{calling_of}
 use Rattle.world_steps.specs.ActorAfter.{actor_after_by}
@@ -29,8 +32,8 @@ use Rattle.world_steps.specs.Tokens.{token_of}
 use Rattle.actors.specs.Turns.{IsMadeAt, IsSameCall, GoesOn, places_of}
 use Rattle.actors.specs.Callers.{PartOf, CallerOf, IsOfScript, Knows, IsPaddedFor, work_of, who_of, asked_at}
 use Rattle.actors.specs.Owing.{left_by}
-use Rattle.actors.specs.Steps.{BeginsCall, IsCodedCall, IsCoded, IsReady, Concludes, MadeAtDirectory, MadeAtServer, MakesStep, in_work}
-use Rattle.actors.specs.CallerTurns.{MakesCallerTurn}
+use Rattle.actors.specs.Steps.{BeginsCall, IsCodedCall, IsCoded, IsReady, IsReadyIn, Concludes, MadeAtDirectory, MadeAtServer, MakesStep, in_work}
+use Rattle.actors.specs.CallerTurns.{TellsCallerTurn}
 use Rattle.actors.specs.Concluded.{IsConcluded}
 use Rattle.actors.specs.Inside.{caller_by, doing_by, IsInWork}
 use Rattle.actors.proofs.Owing.{owed_at_server, stamps_at_server}
@@ -41,25 +44,28 @@ module _ (part : PartOf) (book : BookOf) (tries : ℕ) (ended : List EndedCall) 
   abbrev with_call : Option MachineOf → CallerOf
   with_call slot = caller_by part book tries ended seat slot steps
 
-  ready_with : (begun now call : MachineOf) → BeginsCall a (with_call (Some call)) → IsCodedCall call now → IsReady a (with_call (Some now))
-  ready_with begun now call b coded =
+  ready_with : (short : Bool) (begun now call : MachineOf) → BeginsCall a (with_call (Some call)) → IsCodedCall call now → short ≡ (call.call.due && now.call.coding) → IsReadyIn short a (with_call (Some now))
+  ready_with short begun now call b coded is =
       let same : call ≡ b.call = same_Some call b.call (ap (λ (c : CallerOf). c.work) b.leaves) in
       record {
-        call = b.call;
-        its = b.its;
-        now = now;
-        coded = subst (λ (c : MachineOf). IsCodedCall c now) same coded;
-        leaves = ap (in_work now) b.leaves;
+        ready = record {
+          call = b.call;
+          its = b.its;
+          now = now;
+          coded = subst (λ (c : MachineOf). IsCodedCall c now) same coded;
+          leaves = ap (in_work now) b.leaves;
+        };
+        short_is = is ∙ ap (λ (c : MachineOf). c.call.due && now.call.coding) same;
       }
 
-  pub ready_by : (slot after : Option MachineOf) → BeginsCall a (with_call slot) → IsCoded slot after → IsReady a (with_call after)
-  ready_by slot after b coded =
-      subst (λ (o : Option MachineOf). IsReady a (with_call o)) (sym coded.is)
-      (ready_with coded.call coded.now coded.call (subst (λ (o : Option MachineOf). BeginsCall a (with_call o)) coded.was b) coded.coded)
+  pub ready_by : (short : Bool) (slot after : Option MachineOf) → BeginsCall a (with_call slot) → IsCoded short slot after → IsReadyIn short a (with_call after)
+  ready_by short slot after b coded =
+      subst (λ (o : Option MachineOf). IsReadyIn short a (with_call o)) (sym coded.is)
+      (ready_with short coded.call coded.now coded.call (subst (λ (o : Option MachineOf). BeginsCall a (with_call o)) coded.was b) coded.coded coded.short_is)
 
   -- what it knows
-  pub ready_knows : (slot after : Option MachineOf) (d : Sealed) → BeginsCall a (with_call slot) → IsCoded slot after → Knows d a → Knows d (with_call after)
-  ready_knows slot after d b coded knows =
+  pub ready_knows : (short : Bool) (slot after : Option MachineOf) (d : Sealed) → BeginsCall a (with_call slot) → IsCoded short slot after → Knows d a → Knows d (with_call after)
+  ready_knows short slot after d b coded knows =
       let was : with_call slot ≡ with_call (Some coded.call) = ap with_call coded.was in
       let same : b.call ≡ coded.call = same_Some b.call coded.call (sym (ap (λ (c : CallerOf). c.work) b.leaves) ∙ coded.was) in
       subst (λ (o : Option MachineOf). IfSome o (KnowsOldOf d)) (sym coded.is)
@@ -163,48 +169,51 @@ module _ (script : Script) (place : ℕ) (a after : CallerOf) (d changed : Seale
     (made : IsMadeAt (need_of now.call) short due now.call (places_of d servers) last.call (places_of changed others)) (agrees : Agrees changed.core last.call.token)
     (asked : last.asked ≡ now.asked) (owed : last.owed ≡ owed_by short d now) (stamps : changed.stamps ≡ d.stamps ++ drawn_by short d now)
     (done : Concludes (in_work now a) last after) (whose : actor_of (token_of a.actor.doing) ≡ who_of a.part place) (of : IsOfScript script a)
-    (may : has_step (work_of a.part) (calling_of script a.actor) ≡ true) where
-  pub turned_by : MakesCallerTurn script place a d servers after changed others
+    (may : has_step (work_of a.part) (calling_of script a.actor) ≡ true) (step : Step) (told : IsStep step (turn_made (who_of a.part place) r.now.call.coding short r.call.call (places_of d servers))) where
+  pub turned_by : TellsCallerTurn script place a d servers after changed others step
   turned_by =
       record {
-        makes = record {
-          call = r.call.call;
-          has = record {
-            may = may;
-            call = r.its.before script of;
-            due = r.coded.in_pass;
-            whose = ap actor_of (sym r.its.token) ∙ whose;
+        turn = record {
+          makes = record {
+            call = r.call.call;
+            has = record {
+              may = may;
+              call = r.its.before script of;
+              due = r.coded.in_pass;
+              whose = ap actor_of (sym r.its.token) ∙ whose;
+            };
+            pass = r.coded.pass;
+            next = last.call;
+            turn = record {
+              coding = r.now.call.coding;
+              short = short;
+              due = due;
+              made =
+                  subst (λ (c : CallOf). IsMadeAt (need_of c) short due c (places_of d servers) last.call (places_of changed others))
+                  (sym (ap (λ (c : MachineOf). c.call) is_now) ∙ r.coded.is_ready) made;
+            };
+            agrees = agrees;
+            actor = done.actor ∙ after_in_work (act_of last.call) last.call now a;
           };
-          pass = r.coded.pass;
-          next = last.call;
-          turn = record {
-            coding = r.now.call.coding;
-            short = short;
-            due = due;
-            made =
-                subst (λ (c : CallOf). IsMadeAt (need_of c) short due c (places_of d servers) last.call (places_of changed others))
-                (sym (ap (λ (c : MachineOf). c.call) is_now) ∙ r.coded.is_ready) made;
+          owes = record {
+            before = now;
+            last = last;
+            is_ready = sym (ap (λ (c : MachineOf). c.call) is_now) ∙ r.coded.is_ready;
+            is_last = refl;
+            its = r.its.asked ∙ ap (λ (x : _). Some x) (sym r.coded.asked ∙ ap (λ (c : MachineOf). c.asked) is_now);
+            asked = asked;
+            owed = λ e. ap (λ (c : MachineOf). c.owed) (sym is_now) ∙ r.coded.owed e ∙ r.its.owed;
+            goes = owed;
+            stamps = stamps;
+            served = done.served;
+            work = done.work;
           };
-          agrees = agrees;
-          actor = done.actor ∙ after_in_work (act_of last.call) last.call now a;
         };
-        owes = record {
-          before = now;
-          last = last;
-          is_ready = sym (ap (λ (c : MachineOf). c.call) is_now) ∙ r.coded.is_ready;
-          is_last = refl;
-          its = r.its.asked ∙ ap (λ (x : _). Some x) (sym r.coded.asked ∙ ap (λ (c : MachineOf). c.asked) is_now);
-          asked = asked;
-          owed = λ e. ap (λ (c : MachineOf). c.owed) (sym is_now) ∙ r.coded.owed e ∙ r.its.owed;
-          goes = owed;
-          stamps = stamps;
-          served = done.served;
-          work = done.work;
-        };
+        told = told;
       }
 
 -- the ticket that a call has after its coding, and after a step at a server
-ready_token : (coding due : Bool) (c : CallOf) → (if due then coded coding c else c).token ≡ c.token
+pub ready_token : (coding due : Bool) (c : CallOf) → (if due then coded coding c else c).token ≡ c.token
 ready_token coding true c = refl
 ready_token coding false c = refl
 
@@ -230,18 +239,20 @@ module _ (script : Script) (place : ℕ) (a mid after : CallerOf) (r : IsReady a
   ends_so last m = subst (λ (c : CallerOf). Concludes c last after) r.leaves m.concludes
 
   pub turned_there : (d changed : Sealed) (servers : List ServerState) (last : MachineOf) (m : MakesStep (λ (c last : MachineOf). MadeAtDirectory c last d changed) last mid after)
-      → IfSome mid.work (λ (c : MachineOf). need.Directory ≡ need_of c.call) → MakesCallerTurn script place a d servers after changed servers
-  turned_there d changed servers last m is =
+      → IfSome mid.work (λ (c : MachineOf). need.Directory ≡ need_of c.call) → (step : Step) → IsStep step (turn_made (who_of a.part place) r.now.call.coding last.call.step r.call.call (places_of d servers))
+      → TellsCallerTurn script place a d servers after changed servers step
+  turned_there d changed servers last m is tells told =
       let step : MadeAtDirectory r.now last d changed = subst (λ (c : MachineOf). MadeAtDirectory c last d changed) (its_call last m) m.step in
       turned_by script place a after d changed servers servers r.now last last.call.step last.call.due here refl
       (subst (λ (at : Need). IsMadeAt at last.call.step last.call.due r.now.call (places_of d servers) last.call (places_of changed servers)) (needs_it need.Directory is)
       (record { directory = ap (λ (p : Directory × CallOf). p.0) step.made; servers = refl; call = ap (λ (p : Directory × CallOf). p.1) step.made }))
-      step.agrees step.asked step.owed step.stamps (ends_so last m) whose of may
+      step.agrees step.asked step.owed step.stamps (ends_so last m) whose of may tells told
 
   pub turned_here : (d : Sealed) (servers : List ServerState) (i : ℕ) (s now : ServerState) (last : MachineOf) (m : MakesStep (λ (c last : MachineOf). MadeAtServer c last s now) last mid after)
       → IfSome mid.work (λ (c : MachineOf). need.Server i ≡ need_of c.call) → i < length servers → s ≡ get_or servers i s → Agrees d.core (token_of a.actor.doing)
-      → MakesCallerTurn script place a d servers after d (set servers i now)
-  turned_here d servers i s now last m is less read agrees =
+      → (step : Step) → IsStep step (turn_made (who_of a.part place) r.now.call.coding last.call.step r.call.call (places_of d servers))
+      → TellsCallerTurn script place a d servers after d (set servers i now) step
+  turned_here d servers i s now last m is less read agrees tells told =
       let step : MadeAtServer r.now last s now = subst (λ (c : MachineOf). MadeAtServer c last s now) (its_call last m) m.step in
       let needs : need.Server i ≡ need_of r.now.call = needs_it (need.Server i) is in
       let token : last.call.token ≡ token_of a.actor.doing =
@@ -249,4 +260,4 @@ module _ (script : Script) (place : ℕ) (a mid after : CallerOf) (r : IsReady a
       ∙ ap (λ (c : CallOf). c.token) r.coded.is_ready ∙ ready_token r.now.call.coding r.call.call.due r.call.call ∙ sym r.its.token in
       turned_by script place a after d d servers (set servers i now) r.now last last.call.step last.call.due here refl
       (served_at r.now.call last.call last.call.step last.call.due d.core servers i s now needs less read step.made)
-      (subst (Agrees d.core) (sym token) agrees) step.asked (step.owed ∙ owed_at_server last.call.step d r.now i (sym needs)) (stamps_at_server last.call.step d r.now i (sym needs)) (ends_so last m) whose of may
+      (subst (Agrees d.core) (sym token) agrees) step.asked (step.owed ∙ owed_at_server last.call.step d r.now i (sym needs)) (stamps_at_server last.call.step d r.now i (sym needs)) (ends_so last m) whose of may tells told

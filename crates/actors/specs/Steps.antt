@@ -1,5 +1,5 @@
 -- The parts of a caller's turn: its call is ready, makes its step, and goes on or is over.
-use Rattle.std.specs.Prelude.{◌≡◌, ⊤, false, ◌&&◌, ◌++◌, length, Option, Some}
+use Rattle.std.specs.Prelude.{◌≡◌, ⊤, Bool, false, ◌&&◌, ◌++◌, length, Option, Some}
 use Rattle.store_map.specs.declared.script.Script.{Script}
 use Rattle.store_core.specs.Agreement.{Agrees}
 use Rattle.chunk_server.specs.State.{ServerState}
@@ -63,6 +63,11 @@ pub record IsReady (a after : CallerOf) : Type 0 where
   pub coded : IsCodedCall call now
   pub leaves : after ≡ in_work now a
 
+-- and whether memory was wanting in the coding before that step, if one was due
+pub record IsReadyIn (short : Bool) (a after : CallerOf) : Type 0 where
+  pub ready : IsReady a after
+  pub short_is : short ≡ (ready.call.call.due && ready.now.call.coding)
+
 -- a caller whose call has come to this value by its step: the call goes on, or it is over
 pub record Concludes (a : CallerOf) (last : MachineOf) (after : CallerOf) : Type 0 where
   pub actor : after.actor ≡ actor_after last.call a.actor
@@ -84,13 +89,14 @@ pub record MadeAtServer (c last : MachineOf) (s now : ServerState) : Type 0 wher
   pub asked : last.asked ≡ c.asked
   pub owed : last.owed ≡ c.owed
 
--- what a call in work is, before and after its coding, and before and after its step at the directory or at a server
-pub record IsCoded (before after : Option MachineOf) : Type 0 where
+-- what a call in work is, before and after its coding, in which memory was wanting or not if one was due, and before and after its step at the directory or at a server
+pub record IsCoded (short : Bool) (before after : Option MachineOf) : Type 0 where
   pub call : MachineOf
   pub was : before ≡ Some call
   pub now : MachineOf
   pub is : after ≡ Some now
   pub coded : IsCodedCall call now
+  pub short_is : short ≡ (call.call.due && now.call.coding)
 
 pub record GoesToDirectory (before : Option MachineOf) (d : Sealed) : Type 0 where
   pub call : MachineOf

@@ -32,8 +32,7 @@ places_in w = record { directory = w.directory; servers = w.servers }
 abbrev pub with_places : Places → WorldOf → WorldOf
 with_places q w = record w { directory = q.directory; servers = q.servers }
 
--- a part of a run leads from the first world to the second one, with some shortages, and the directory agrees with the tickets of all actors again
-pub record Leads (script : Script) (part : Run → Run) (w after : WorldOf) : Type 0 where
-  pub shortages : List Shortage
+-- a part of a run leads from the first world to the second one, with these shortages, and the directory agrees with the tickets of all actors again
+pub record Leads (script : Script) (part : Run → Run) (w : WorldOf) (shortages : List Shortage) (after : WorldOf) : Type 0 where
   pub leads : LeadsWorld script part w shortages after
   pub agree : TokensAgree after

@@ -5,9 +5,12 @@ ghost use Rattle.clay_grid.specs.Shape.{chunk_count};
 ghost use Rattle.store_map.specs.declared.script.Script.{Script};
 ghost use Rattle.store_core.specs.Agreement.{Agrees};
 ghost use Rattle.store_core.specs.Work.{has_step};
+ghost use Rattle.chunk_server.specs.Core.{core_of};
 ghost use Rattle.chunk_server.specs.State.{IsSame};
 ghost use Rattle.stripe_dir.specs.Sealed.{Sealed};
+ghost use Rattle.call_steps.specs.Acts.{act_now};
 ghost use Rattle.call_steps.specs.CallOf.{taken_of};
+ghost use Rattle.call_steps.specs.Hearing.{IsToldHere, IsToldThere};
 ghost use Rattle.call_steps.specs.Steps.{need_of, HoldsItsPass, IsServerBelow, MayMakeNext};
 ghost use Rattle.client_patch.specs.Padded.{ArePadded};
 ghost use Rattle.world_lines.specs.Ended.{calling_at};
@@ -17,8 +20,8 @@ ghost use Rattle.world_steps.specs.Tokens.{KeepsToken, token_of};
 ghost use Rattle.actors.specs.Turns.{AreServers};
 ghost use Rattle.actors.specs.Callers.{Knows, IsOfScript, IsPaddedFor, IsPartOf, calls_of, first_caller, who_of, work_of};
 ghost use Rattle.actors.specs.Beginning.{MayGoOn};
-ghost use Rattle.actors.specs.Steps.{BeginsCall, IsReady, MadeAtDirectory, MadeAtServer, MakesStep, NeedsNow};
-ghost use Rattle.actors.specs.CallerTurns.{HasMore, MakesCallerTurn};
+ghost use Rattle.actors.specs.Steps.{BeginsCall, IsReadyIn, MadeAtDirectory, MadeAtServer, MakesStep, NeedsNow};
+ghost use Rattle.actors.specs.CallerTurns.{HasMore, TellsCallerTurn};
 ghost use Rattle.actors.specs.Inside.{AreOfServers, part_by, served_of};
 
 use crate::after_step::{conclude, put_call, take};
@@ -27,7 +30,7 @@ use crate::next_call::next_call;
 use crate::part::Part;
 use crate::steps::{on_coder, step_at_directory, step_at_server};
 use call_machine::CallMachine;
-use call_steps::Need;
+use call_steps::{Act, DirectoryAnswer, Need, ServerAnswer};
 use chunk_server::Server;
 use clay_repair::Coder;
 use std::alloc::{AllocError, Global};
@@ -35,6 +38,7 @@ use std::marker::Model;
 use std::snapshot::Snapshot;
 use std::thread::Threads;
 use stripe_dir::{Directory, Seat};
+use trace_lines::{Answer, Step};
 use version_seal::{Book, Opening};
 use world_lines::{CallerCalls, EndedCall};
 
@@ -148,14 +152,14 @@ impl<'a> Caller<'a> {
     }
 
     /// Its next call begins, where none is in work, and the coding before the call's next step is made,
-    /// if one is due.
-    pub fn ready<R: Threads + Sync, C: Coder>(&mut self, rt: &R, coder: &C, place: u32)
+    /// if one is due: whether memory was wanting in it.
+    pub fn ready<R: Threads + Sync, C: Coder>(&mut self, rt: &R, coder: &C, place: u32) -> bool
         requires may { MayGoOn place self.old }
-        ensures ready { IsReady self.old self.new }
+        ensures ready { IsReadyIn result self.old self.new }
         ensures knows { (d : Sealed) → Knows d self.old → Knows d self.new }
     {
         self.begin(place);
-        on_coder(rt, coder, &mut self.call);
+        on_coder(rt, coder, &mut self.call)
     }
 
     /// Where the call in work has to go on.
@@ -173,15 +177,26 @@ impl<'a> Caller<'a> {
         }
     }
 
-    /// The step of its call at the directory of this book. What it draws is sealed in the book. A write or
-    /// a delete asks that behind the ends of the directory's objects its stamps have zeros, and that it
-    /// knows the old bytes that it keeps. For contracts it gives the call as the step leaves it, which may
-    /// be over.
+    /// What the call in work does next.
+    pub fn act(&self) -> Act
+        requires { IsTrue (is_some self.now.work) }
+        ensures { IfSome self.now.work (λ c. result ≡ act_now c.call) }
+    {
+        match &self.call {
+            Some(call) => call.act(),
+            None => unreachable!(),
+        }
+    }
+
+    /// The step of its call at the directory of this book, and its answer. What it draws is sealed in the
+    /// book. A write or a delete asks that behind the ends of the directory's objects its stamps have
+    /// zeros, and that it knows the old bytes that it keeps. For contracts it gives the call as the step
+    /// leaves it, which may be over.
     pub fn on_directory(
         &mut self,
         directory: &mut Directory,
         book: &Book,
-    ) -> Snapshot<CallMachine<'a>>
+    ) -> (Snapshot<CallMachine<'a>>, DirectoryAnswer)
         requires need { NeedsNow self.old Need.Directory }
         requires steps { steps_of self.old.actor.doing + 1 < 2 ^ 64 }
         requires agrees { Agrees directory.old.core (token_of self.old.actor.doing) }
@@ -189,42 +204,44 @@ impl<'a> Caller<'a> {
         requires book { book.now ≡ self.old.book }
         requires padded { IsPaddedFor self.old directory.old }
         requires knows { Knows directory.old self.old }
-        ensures step { MakesStep (λ c last. MadeAtDirectory c last directory.old directory.new) result.value self.old self.new }
+        ensures step { MakesStep (λ c last. MadeAtDirectory c last directory.old directory.new) result.0.value self.old self.new }
+        ensures told { IfSome self.old.work (λ c. IsToldThere result.1 c.call directory.old.core result.0.value.call) }
         ensures knows { Knows directory.new self.new }
         ensures book { directory.new.book ≡ directory.old.book }
     {
-        let last = step_at_directory(&mut self.call, directory, book);
+        let made = step_at_directory(&mut self.call, directory, book);
         conclude(
             &mut self.call,
             &mut self.seat,
             &mut self.steps,
             &mut self.ended,
         );
-        last
+        made
     }
 
-    /// The step of its call at the server that is needed. For contracts it gives the call as the step
-    /// leaves it, which may be over.
-    pub fn on_server(&mut self, server: &mut Server) -> Snapshot<CallMachine<'a>>
+    /// The step of its call at the server that is needed, and its answer. For contracts it gives the call
+    /// as the step leaves it, which may be over.
+    pub fn on_server(&mut self, server: &mut Server) -> (Snapshot<CallMachine<'a>>, ServerAnswer)
         requires need { NeedsNow self.old (Need.Server server.old.number) }
         requires steps { steps_of self.old.actor.doing + 1 < 2 ^ 64 }
         requires book { server.old.book ≡ self.old.book }
-        ensures step { MakesStep (λ c last. MadeAtServer c last server.old server.new) result.value self.old self.new }
+        ensures step { MakesStep (λ c last. MadeAtServer c last server.old server.new) result.0.value self.old self.new }
+        ensures told { IfSome self.old.work (λ c. IsToldHere result.1 c.call (core_of server.old) result.0.value.call) }
         ensures knows { (d : Sealed) → Knows d self.old → Knows d self.new }
         ensures same { IsSame server.old server.new }
     {
-        let last = step_at_server(&mut self.call, server);
+        let made = step_at_server(&mut self.call, server);
         conclude(
             &mut self.call,
             &mut self.seat,
             &mut self.steps,
             &mut self.ended,
         );
-        last
+        made
     }
 
     /// A turn of the caller at this place of the script, whose next call begins if none is in work: the
-    /// coding before its call's next step, if one is due, and the step.
+    /// coding before its call's next step, if one is due, and the step, which it tells.
     pub fn turn<R: Threads + Sync, C: Coder>(
         &mut self,
         rt: &R,
@@ -233,7 +250,7 @@ impl<'a> Caller<'a> {
         directory: &mut Directory,
         book: &Book,
         servers: &mut Vec<Server>,
-    )
+    ) -> Step
         requires keeps { KeepsToken directory.old.core (who_of self.old.part place) self.old.actor }
         requires next { length self.old.actor.ended < calls_of self.old.part }
         requires steps { steps_of self.old.actor.doing + 1 < 2 ^ 64 }
@@ -245,22 +262,34 @@ impl<'a> Caller<'a> {
         requires servers { AreServers self.old.book servers.old.items }
         ensures turn { (script : Script) → IsOfScript script self.old
             → has_step (work_of self.old.part) (calling_of script self.old.actor) ≡ true
-            → MakesCallerTurn script place self.old directory.old servers.old.items self.new directory.new servers.new.items }
+            → TellsCallerTurn script place self.old directory.old servers.old.items self.new directory.new servers.new.items result }
         ensures same { self.new ≡ record self.old { actor = self.new.actor; work = self.new.work; served = self.new.served } }
         ensures knows { Knows directory.new self.new }
         ensures book { directory.new.book ≡ directory.old.book }
         ensures stamps { HasMore directory.old.stamps directory.new.stamps }
         ensures servers { AreServers self.old.book servers.new.items }
     {
-        self.ready(rt, coder, place);
-        match self.need() {
+        let who = self.part.actor(place);
+        let number = self.ended.len() as u32;
+        let short = self.ready(rt, coder, place);
+        let act = self.act();
+        let answer = match self.need() {
             Need::Directory => {
-                let _last = self.on_directory(directory, book);
+                let (_last, answer) = self.on_directory(directory, book);
+                Answer::Directory(answer)
             }
             Need::Server(server) => {
-                let _last = self.on_server(&mut servers[server as usize]);
+                let (_last, answer) = self.on_server(&mut servers[server as usize]);
+                Answer::Server(answer)
             }
             _ => unreachable!(),
+        };
+        Step {
+            who,
+            number,
+            short,
+            act,
+            answer,
         }
     }
 

@@ -1,9 +1,9 @@
 //! The calls that a caller makes.
 ghost use Rattle.std.specs.Prelude.{◌≡◌};
-ghost use Rattle.actors.specs.Callers.{calls_of, work_of};
+ghost use Rattle.actors.specs.Callers.{calls_of, who_of, work_of};
 ghost use Rattle.actors.specs.Inside.{part_by};
 
-use store_map::{ClientPart, RepairPart};
+use store_map::{Actor, ClientPart, RepairPart};
 
 /// The calls that a caller makes, in their order: those of a client, or the rebuilds of a repairer.
 #[derive(Clone, Copy)]
@@ -20,6 +20,16 @@ impl<'a> Part<'a> {
         match self {
             Part::Client(part) => part.calls.len(),
             Part::Repairer(part) => part.calls.len(),
+        }
+    }
+
+    /// Who makes them, at this place of the script's clients or of its repairers.
+    pub(crate) fn actor(self, place: u32) -> Actor
+        ensures { result ≡ who_of (part_by self.entry) place }
+    {
+        match self {
+            Part::Client(_) => Actor::Client(place),
+            Part::Repairer(_) => Actor::Repairer(place),
         }
     }
 

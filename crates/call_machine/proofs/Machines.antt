@@ -1,5 +1,5 @@
 -- What a call of one machine leaves of clauses that speak of all.
-use Rattle.std.proofs.Common.{◌≡◌, ℕ, replicate, None, sym, ap, subst, ◌∙◌}
+use Rattle.std.proofs.Common.{◌≡◌, ℕ, replicate, None, refl, sym, ap, subst, ◌∙◌}
 use Rattle.store_map.specs.declared.call.Call.{Call}
 use Rattle.stripe_dir.specs.Sealed.{Sealed}
 use Rattle.call_steps.specs.CallOf.{taken_of}
@@ -7,7 +7,7 @@ use Rattle.gather_parts.proofs.Counts.{none_taken}
 use Rattle.client_put.specs.Puts.{PutOf}
 use Rattle.client_patch.specs.Patches.{PatchOf}
 use Rattle.client_patch.specs.Known.{KnowsOld}
-use Rattle.call_machine.specs.Kinds.{Asked, Machine, client_machine, machine_of, IfReads, IfPatches, IfDraws}
+use Rattle.call_machine.specs.Kinds.{Asked, Machine, client_machine, machine_of, IfReads, IfPatches, IfDraws, IfRebuilds}
 use Rattle.call_machine.specs.Calls.{MachineOf, patch_of, KnowsFor, KnowsOldOf}
 use Rattle.call_machine.specs.Inside.{asked_by, call_by, call_in, IsOfKind}
 use Rattle.call_machine.specs.declared.call_machine.Kind.{Kind}
@@ -47,6 +47,20 @@ patch_knows d a c patch next view is of_kind same knows holds =
     subst (λ (w : Asked). KnowsFor w d (call_by (kind.Patch patch) w)) (sym its.1) was in
     let machine : client_machine patch.written ≡ Machine.Patches = ap machine_of its.1 ∙ its.0 in
     subst (λ (w : Asked). KnowsFor w d (call_by (kind.Patch next) w)) its.1 (knows_as d patch next machine same knows old)
+
+-- what is asked, whatever machine makes it
+asked_is : (k : Kind) (asked : Asked) → (call_by k asked).asked ≡ asked
+asked_is (kind.Read read) asked = refl
+asked_is (kind.Put put) asked = refl
+asked_is (kind.Patch patch) asked = refl
+asked_is (kind.Rebuild rebuild) asked = refl
+
+-- what holds of rebuilds holds of the machine of any
+pub of_rebuilds : (a : Inside) (c : MachineOf) (m : Machine) (P : Type 0) → call_in a ≡ c → machine_of (asked_by a.task) ≡ m → IfRebuilds m P
+    → IfRebuilds (machine_of c.asked) P
+of_rebuilds a c m P view is holds =
+    subst (λ (v : MachineOf). IfRebuilds (machine_of v.asked) P) view
+    (subst (λ (asked : Asked). IfRebuilds (machine_of asked) P) (sym (asked_is a.kind (asked_by a.task))) (subst (λ (m : Machine). IfRebuilds m P) (sym is) holds))
 
 -- what a machine of reads owes holds of all
 pub if_reads : {P : Type 0} (m : Machine) → P → IfReads m P

@@ -61,3 +61,8 @@ abbrev pub IfDraws : Machine → Type 0 → Type 0
 IfDraws Machine.Puts holds = holds
 IfDraws Machine.Patches holds = holds
 IfDraws machine holds = ⊤
+
+-- of rebuilds
+abbrev pub IfRebuilds : Machine → Type 0 → Type 0
+IfRebuilds Machine.Rebuilds holds = holds
+IfRebuilds machine holds = ⊤

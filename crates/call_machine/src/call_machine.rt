@@ -2,23 +2,26 @@
 ghost use Rattle.std.specs.Prelude.{◌≡◌, ◌<◌, ◌≤◌, ◌++◌, ℕ, List, false};
 ghost use Rattle.std.specs.Option.{option_map};
 ghost use Rattle.clay_grid.specs.Shape.{chunk_count};
-ghost use Rattle.store_core.specs.Act.{Act};
+ghost use Rattle.store_core.specs.Act.{Act as CoreAct};
 ghost use Rattle.store_core.specs.Agreement.{Agrees, ActorToken};
 ghost use Rattle.store_resume.specs.State.{State};
 ghost use Rattle.chunk_server.specs.Core.{core_of};
 ghost use Rattle.chunk_server.specs.State.{IsSame};
 ghost use Rattle.stripe_dir.specs.Sealed.{Sealed};
+ghost use Rattle.call_steps.specs.Acts.{act_now};
 ghost use Rattle.call_steps.specs.CallOf.{act_of, taken_of, HasTakenNothing};
-ghost use Rattle.call_steps.specs.Steps.{need_of, IsServerBelow, LeadsTo, LeadsToAtServer, coded, HoldsItsPass, IsDueInPass, MayMakeNext};
+ghost use Rattle.call_steps.specs.Hearing.{IsToldHere, IsToldThere};
+ghost use Rattle.call_steps.specs.Steps.{need_of, IsServerBelow, LeadsTo, LeadsToAtServer, coded, HoldsItsPass};
+ghost use Rattle.call_steps.specs.Steps.{IsDueInPass, MayMakeNext, IsUndueOncePlaced};
 ghost use Rattle.world_lines.specs.Outcomes.{call_outcome_of};
 ghost use Rattle.call_steps.specs.Callers.{IsOfScript};
 ghost use Rattle.client_patch.specs.Padded.{ArePadded};
-ghost use Rattle.call_machine.specs.Kinds.{Asked, client_machine, machine_of, IfReads, IfDraws, IfPuts, IfPatches, UnlessPatches};
+ghost use Rattle.call_machine.specs.Kinds.{Asked, client_machine, machine_of, IfReads, IfDraws, IfPuts, IfPatches, IfRebuilds, UnlessPatches};
 ghost use Rattle.call_machine.specs.Calls.{first_call, drawn_by, owed_by, KnowsOldOf};
 ghost use Rattle.call_machine.specs.Ends.{IfBytesServed};
 
 use crate::ends::{of_client, of_rebuild};
-use call_steps::Need;
+use call_steps::{Act, DirectoryAnswer, Need, ServerAnswer};
 use chunk_server::Server;
 use clay_repair::Coder;
 use client_patch::PatchCall;
@@ -140,6 +143,7 @@ impl<'a> CallMachine<'a> {
         ensures in_pass { IsDueInPass self.now.call }
         ensures pass { HoldsItsPass self.now.call }
         ensures may { MayMakeNext self.now.call }
+        ensures placed { IfRebuilds (machine_of self.now.asked) (IsUndueOncePlaced self.now.call) }
         ensures below { IsServerBelow (chunk_count self.now.call.book.geometry) result }
     {
         match &self.kind {
@@ -150,10 +154,22 @@ impl<'a> CallMachine<'a> {
         }
     }
 
-    /// One step at the directory of this book. What it draws is sealed in the book. A write or a delete
+    /// What the call does next.
+    pub fn act(&self) -> Act
+        ensures { result ≡ act_now self.now.call }
+    {
+        match &self.kind {
+            Kind::Read(read) => read.act(),
+            Kind::Put(put) => put.act(),
+            Kind::Patch(patch) => patch.act(),
+            Kind::Rebuild(rebuild) => rebuild.act(),
+        }
+    }
+
+    /// One step at the directory of this book, and its answer. What it draws is sealed in the book. A write or a delete
     /// asks that behind the ends of the directory's objects its stamps have zeros, and that it knows the
     /// old bytes that it keeps.
-    pub fn on_directory(&mut self, directory: &mut Directory, book: &Book)
+    pub fn on_directory(&mut self, directory: &mut Directory, book: &Book) -> DirectoryAnswer
         requires need { need_of self.old.call ≡ Need.Directory }
         requires agrees { Agrees directory.old.core self.old.call.token }
         requires its { directory.old.book ≡ self.old.call.book }
@@ -161,6 +177,7 @@ impl<'a> CallMachine<'a> {
         requires padded { IfPatches (machine_of self.old.asked) (ArePadded directory.old) }
         requires knows { KnowsOldOf directory.old self.old }
         ensures step { LeadsTo self.old.call directory.old.core self.new.call directory.new.core }
+        ensures told { IsToldThere result self.old.call directory.old.core self.new.call }
         ensures agrees { Agrees directory.new.core self.new.call.token }
         ensures knows { KnowsOldOf directory.new self.new }
         ensures asked { self.new.asked ≡ self.old.asked }
@@ -177,11 +194,12 @@ impl<'a> CallMachine<'a> {
         }
     }
 
-    /// One step at the server that is needed.
-    pub fn on_server(&mut self, s: &mut Server)
+    /// One step at the server that is needed, and its answer.
+    pub fn on_server(&mut self, s: &mut Server) -> ServerAnswer
         requires need { need_of self.old.call ≡ Need.Server s.old.number }
         requires book { s.old.book ≡ self.old.call.book }
         ensures step { LeadsToAtServer self.old.call (core_of s.old) self.new.call (core_of s.new) }
+        ensures told { IsToldHere result self.old.call (core_of s.old) self.new.call }
         ensures knows { (d : Sealed) → KnowsOldOf d self.old → KnowsOldOf d self.new }
         ensures asked { self.new.asked ≡ self.old.asked }
         ensures owed { self.new.owed ≡ self.old.owed }
@@ -212,6 +230,18 @@ impl<'a> CallMachine<'a> {
         }
     }
 
+    /// Whether memory was wanting in the last coding, where no step came after it.
+    pub fn coding_was_short(&self) -> bool
+        ensures { result ≡ self.now.call.coding }
+    {
+        match &self.kind {
+            Kind::Read(read) => read.coding_was_short(),
+            Kind::Put(put) => put.coding_was_short(),
+            Kind::Patch(patch) => patch.coding_was_short(),
+            Kind::Rebuild(rebuild) => rebuild.coding_was_short(),
+        }
+    }
+
     /// What it has taken, or none where it has taken nothing.
     pub fn takes(&self) -> Option<&Takes>
         ensures takes { option_map (λ takes. takes.now) result ≡ taken_of self.now.call.takes }
@@ -230,7 +260,7 @@ impl<'a> CallMachine<'a> {
     pub fn finish(self) -> (Seat, CallOutcome, Option<Takes>)
         requires { need_of self.call ≡ Need.Finished }
         ensures seat { ActorToken.Seated result.0 ≡ self.entry.call.token }
-        ensures outcome { act_of self.entry.call ≡ Act.Finish (call_outcome_of result.1) }
+        ensures outcome { act_of self.entry.call ≡ CoreAct.Finish (call_outcome_of result.1) }
         ensures state { UnlessPatches (machine_of self.entry.asked) (self.entry.call.state.at ≡ State.Finished (call_outcome_of result.1)) }
         ensures served { IfReads (machine_of self.entry.asked) (IfBytesServed result.1 (λ bytes. bytes.items ≡ self.entry.owed)) }
         ensures takes { result.2 ≡ taken_of self.entry.call.takes }

@@ -1,42 +1,19 @@
 -- A ticket keeps its actor, and the directory's pass is of its call.
 use Rattle.std.proofs.Common.{◌≡◌, ℕ, Bool, true, false, cond, Option, IfSome, refl, sym, ap, subst}
-use Rattle.store_core.specs.Told.{Told}
 use Rattle.store_core.specs.Note.{Note}
-use Rattle.store_core.specs.Act.{Act, DirectoryStep}
+use Rattle.store_core.specs.Act.{Act}
 use Rattle.store_core.specs.Directory.{Pass, Directory}
 use Rattle.store_core.specs.Lookups.{pass_of}
-use Rattle.store_core.specs.Agreement.{Seat, HeldPass, ActorToken, Agrees}
-use Rattle.store_core.specs.Tokens.{actor_of, after_look, after_pass_step}
+use Rattle.store_core.specs.Agreement.{ActorToken, Agrees}
+use Rattle.store_core.specs.Tokens.{actor_of}
 use Rattle.store_core.specs.Server.{Server}
-use Rattle.call_steps.specs.TokenAfter.{token_after, IfInCall}
+use Rattle.call_steps.specs.TokenAfter.{IfInCall}
 use Rattle.call_steps.specs.CallOf.{CallOf, act_of}
 use Rattle.call_steps.specs.Steps.{at_directory_by, at_server_by, coded}
+use Rattle.call_steps.proofs.Tickets.{token_stays}
 use Rattle.call_stands.specs.TokenLaws.{TokensStay, PassesAreOfCalls}
 
--- ---- a ticket keeps its actor
-look_stays : (seat : Seat) (number : ℕ) (note : Note) (answer : Told) → actor_of (after_look seat number note answer) ≡ seat.actor
-look_stays seat number note (Told.Answer point reply) = refl
-look_stays seat number note (Told.Pinned point length_now seen) = refl
-look_stays seat number note (Told.Ready base length_now seen) = refl
-look_stays seat number note (Told.PinnedStripe seen) = refl
-look_stays seat number note answer = refl
-
-pass_stays : (held : HeldPass) (answer : Told) → actor_of (after_pass_step held answer) ≡ held.pass.actor
-pass_stays held (Told.Versions versions) = refl
-pass_stays held (Told.Done point) = refl
-pass_stays held (Told.Changed base newer) = refl
-pass_stays held Told.Ended = refl
-pass_stays held (Told.Superseded newer) = refl
-pass_stays held (Told.Reaped point) = refl
-pass_stays held answer = refl
-
-token_stays : (token : ActorToken) (number : ℕ) (step : DirectoryStep) (answer : Told) → actor_of (token_after token number step answer) ≡ actor_of token
-token_stays (ActorToken.Seated seat) number (DirectoryStep.Look note) answer = look_stays seat number note answer
-token_stays (ActorToken.Seated seat) number (DirectoryStep.LookRepair note) answer = look_stays seat number note answer
-token_stays (ActorToken.Seated seat) number step answer = refl
-token_stays (ActorToken.InCall held) number step answer = pass_stays held answer
-
--- by the act of its call
+-- ---- a ticket keeps its actor, by the act of its call
 directory_stays : (c : CallOf) (d : Directory) (short due : Bool) (act : Act) → actor_of (at_directory_by act short due c d).1.token ≡ actor_of c.token
 directory_stays c d short due (Act.AtDirectory step) = token_stays c.token c.number step _
 directory_stays c d short due (Act.AtServer server step) = refl

@@ -4,3 +4,6 @@ pub mod CallOf
 pub mod Steps
 pub mod Ends
 pub mod Outcomes
+pub mod Acts
+pub mod Answers
+pub mod Hearing

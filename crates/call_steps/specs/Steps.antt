@@ -7,7 +7,7 @@ use Rattle.store_core.specs.Tokens.{actor_of}
 use Rattle.store_core.specs.Directory.{Directory}
 use Rattle.store_core.specs.AtDirectory.{at_directory}
 use Rattle.store_core.specs.Server.{Server, at_server}
-use Rattle.store_resume.specs.State.{CallState}
+use Rattle.store_resume.specs.State.{State, CallState}
 use Rattle.call_steps.specs.declared.need.Need.{Need}
 use Rattle.call_steps.specs.declared.need.Need.TheVariants as need
 use Rattle.call_steps.specs.TokenAfter.{token_after, MayMake, IsSeated, IfInCall}
@@ -71,6 +71,10 @@ pub record HoldsItsPass (c : CallOf) : Type 0 where
 -- coding is due only before a step on its pass, where want of memory is heard
 abbrev pub IsDueInPass : CallOf → Type 0
 IsDueInPass c = c.due ≡ true → IsTrue (is_in_pass (act_of c))
+
+-- no coding is due between a chunk's install and the telling of its epoch, so want of memory can't come between the two
+abbrev pub IsUndueOncePlaced : CallOf → Type 0
+IsUndueOncePlaced c = (target epoch : ℕ) → c.state.at ≡ State.Placing target epoch → c.due ≡ false
 
 -- of the server that is needed
 abbrev pub IfServer : Need → (ℕ → Type 0) → Type 0

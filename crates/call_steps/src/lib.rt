@@ -1,12 +1,17 @@
-//! A call in work, as each machine of a call shows itself: where it stands, what it does next, and
-//! how it ended. The machines stand on it: of a put, of a read, of a write, of a rebuild. And a
-//! pinned stripe, as looks give it and gatherings take it.
+//! A call in work, as each machine of a call shows itself: where it stands, what it does next, what it
+//! is told, and how it ended. The machines stand on it: of a put, of a read, of a write, of a rebuild.
+//! And a pinned stripe, as looks give it and gatherings take it.
 #![tactic(auto)]
 
+mod act;
+mod answer;
+pub mod laws;
 mod need;
 mod outcomes;
 mod seen;
 
+pub use act::{Act, DirectoryAct, ServerAct};
+pub use answer::{DirectoryAnswer, ReplyKind, ServerAnswer};
 pub use need::Need;
 pub use outcomes::{Change, Outcome, RepairOutcome};
 pub use seen::Seen;

@@ -5,6 +5,7 @@ mod by_threads;
 mod chunks;
 mod chunksd;
 mod generate;
+mod input;
 pub mod laws;
 mod output;
 mod play;
@@ -15,6 +16,9 @@ mod status;
 mod top;
 mod verify;
 
+pub use input::read_input;
+pub use output::{Output, write_out};
+pub use play::refusal;
 pub use program::run;
 pub use status::Status;
 pub use store_run::{Gate, NoGate, Place};

@@ -31,8 +31,8 @@ fn kind_text(kind: FaultKind) -> &'static str
     }
 }
 
-// The line that names the first fault.
-pub(crate) fn refusal(alloc: Global, fault: ScriptFault) -> Result<Output, AllocError>
+/// The line that names the first fault.
+pub fn refusal(alloc: Global, fault: ScriptFault) -> Result<Output, AllocError>
     ensures status { IfOk result (λ output. output.status ≡ Status.ScriptRefused) }
     ensures line { IfOk result (λ output. output.bytes.items ≡ refusal_line fault.line (kind_text fault.kind)) }
     ensures memory { IfOk result (λ output. fault.kind ≢ FaultKind.OutOfMemory) }

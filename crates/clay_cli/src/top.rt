@@ -13,20 +13,19 @@ use crate::by_threads::{run_by_threads, trial};
 use crate::chunks::chunks;
 use crate::chunksd::chunksd;
 use crate::generate::script_from;
-use crate::output::Output;
+use crate::input::read_input;
+use crate::output::{Output, write_out};
 use crate::play::play;
 use crate::recover::recover;
 use crate::repaird::repaird;
 use crate::verify::verify;
-use clay_bytes::{InFault, Sink, Source, read_all, write_all};
+use clay_bytes::{Sink, Source};
 use clay_repair::Coder;
 use clay_words::{Command, Task, command_of};
 use std::alloc::{AllocError, Global};
 use std::sync::Wait;
 use std::thread::Threads;
 use store_run::Gate;
-
-const INPUT_LIMIT: u64 = 167_772_160;
 
 const USAGE_LINE: &[u8] =
     b"usage: clay play | run WORKERS | verify | chunks K M W | recover K M W | gen START SIZE | trial START SIZE WORKERS | chunksd K M D W | repaird K M D W LOST\n";
@@ -77,25 +76,8 @@ fn answer<R: Threads + Wait + Sync, S: Source, G: Gate + Sync, C: Coder + Sync>(
     ensures read_steady { (IsErrOf result Status.ReadFault → ⊥) → S.faults source.new ≡ S.faults source.old }
     ensures read_fault { IfErr result (λ status. status ≡ Status.ReadFault → Rises (S.faults source.old) (S.faults source.new)) }
 {
-    match read_all(alloc, source, INPUT_LIMIT) {
-        Ok(input) => output_of(rt, alloc, task, input, gate, coder),
-        Err(InFault::ReadFault) => Err(Status::ReadFault),
-        Err(InFault::InputTooLong) => Err(Status::InputTooLong),
-        Err(InFault::OutOfMemory) => Err(Status::OutOfMemory),
-    }
-}
-
-// Writes a whole output, and says which status it has.
-fn write_out<K: Sink>(sink: &mut K, bytes: &[u8], wanted: Status) -> Status
-    ensures whole { (result ≡ Status.WriteFault → ⊥) → (result ≡ wanted) × Gains (K.written sink.old) bytes.now (K.written sink.new) }
-    ensures prefix { result ≡ Status.WriteFault → wanted ≢ Status.WriteFault → IsPrefixWritten (K.written sink.old) bytes.now (K.written sink.new) × Rises (K.faults sink.old) (K.faults sink.new) }
-    ensures steady { (result ≡ Status.WriteFault → ⊥) → K.faults sink.new ≡ K.faults sink.old }
-    ensures which { (result ≡ wanted) ⊎ (result ≡ Status.WriteFault) }
-{
-    match write_all(sink, bytes) {
-        Ok(()) => wanted,
-        Err(_) => Status::WriteFault,
-    }
+    let input = read_input(alloc, source)?;
+    output_of(rt, alloc, task, input, gate, coder)
 }
 
 // Writes a text that was made without an input, if memory sufficed for it.

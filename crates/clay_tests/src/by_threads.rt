@@ -2,11 +2,14 @@
 //! (`run_tests`).
 use clay_bytes::{MemSink, MemSource};
 use clay_par::ParCoder;
-use command_runs::runs::{Ran, run, run_failing, run_with};
+use command_runs::runs::{Ran, fails, run_with};
 use command_runs::scripts::{PUT_THEN_GET, TRANSCRIPT};
+use command_runs::tables::answers;
 use command_runs::{Gate, Place, Status};
+use std::sync::Wait;
 use std::sync::atomic::{AtomicU64, Ordering};
 use std::test::Fail;
+use std::thread::Threads;
 use store_map::Actor;
 
 // Counts the steps that it is told of.
@@ -29,63 +32,77 @@ const LARGEST_TRIAL: &[u8] = b"calls 16384\nrebuilds 1024\nlegal\n";
 
 #[test]
 fn one_client_leaves_no_choice(rt: HostRuntime) -> Result<(), Fail> {
-    let workers: [&str; 3] = ["1", "4", "16"];
-    for count in workers {
-        let Ran { status, written } = run(&rt, &["run", count], PUT_THEN_GET)?;
-        assert_eq!(rt; status, Status::Done);
-        assert_eq!(rt; written.as_slice(), TRANSCRIPT);
-    }
+    assert!(rt; answers(&rt, &["run", "1"], PUT_THEN_GET, Status::Done, TRANSCRIPT)?);
+    assert!(rt; answers(&rt, &["run", "4"], PUT_THEN_GET, Status::Done, TRANSCRIPT)?);
+    assert!(rt; answers(&rt, &["run", "16"], PUT_THEN_GET, Status::Done, TRANSCRIPT)?);
     Ok(())
 }
 
 #[test]
 fn run_refuses_what_is_no_script(rt: HostRuntime) -> Result<(), Fail> {
-    let Ran { status, written } = run(&rt, &["run", "4"], b"clay 1\n")?;
-    assert_eq!(rt; status, Status::ScriptRefused);
-    assert_eq!(rt; written.as_slice(), REFUSAL);
+    assert!(rt;
+        answers(
+            &rt,
+            &["run", "4"],
+            b"clay 1\n",
+            Status::ScriptRefused,
+            REFUSAL
+        )?
+    );
     Ok(())
 }
 
 #[test]
 fn faults_of_run(rt: HostRuntime) -> Result<(), Fail> {
-    let failed_read = run_failing(&rt, &["run", "4"], PUT_THEN_GET, &[0], &[])?;
-    assert_eq!(rt; failed_read.status, Status::ReadFault);
-    assert_eq!(rt; failed_read.written.len(), 0);
-    let failed_write = run_failing(&rt, &["run", "4"], PUT_THEN_GET, &[], &[0])?;
-    assert_eq!(rt; failed_write.status, Status::WriteFault);
-    assert_eq!(rt; failed_write.written.len(), 0);
+    let words = ["run", "4"];
+    assert!(rt; fails(&rt, &words, PUT_THEN_GET, &[0], &[], Status::ReadFault)?);
+    assert!(rt; fails(&rt, &words, PUT_THEN_GET, &[], &[0], Status::WriteFault)?);
     Ok(())
+}
+
+// A trial whose source fails at once, with this gate.
+fn trial_with<R: Threads + Wait + Sync + AllocGlobal>(
+    rt: &R,
+    gate: &CountingGate,
+) -> Result<Ran, Fail> {
+    let alloc = rt.alloc();
+    let mut source = MemSource::new(Vec::new(alloc), Vec::from_slice(alloc, &[0])?);
+    let mut sink = MemSink::new(Vec::with_capacity(alloc, 4096)?, Vec::new(alloc));
+    let words = ["trial", "7", "64", "4"];
+    let status = run_with(rt, &words, &mut source, &mut sink, gate, &ParCoder)?;
+    let written = Vec::from_slice(alloc, sink.kept())?;
+    Ok(Ran { status, written })
+}
+
+fn is_legal_with<R: Threads + Wait + Sync + AllocGlobal>(
+    rt: &R,
+    gate: &CountingGate,
+) -> Result<bool, Fail> {
+    let ran = trial_with(rt, gate)?;
+    Ok(ran.status == Status::Done && ran.written.as_slice() == TRIAL)
 }
 
 // The lines are the same for every run, so no clause says that there was one.
 #[test]
 fn trial_makes_a_step_of_each_call(rt: HostRuntime) -> Result<(), Fail> {
-    let alloc = rt.alloc();
     let gate = CountingGate {
         passes: AtomicU64::new(0),
     };
-    let mut source = MemSource::new(Vec::new(alloc), Vec::from_slice(alloc, &[0])?);
-    let mut sink = MemSink::new(Vec::with_capacity(alloc, 4096)?, Vec::new(alloc));
-    let words: [&str; 4] = ["trial", "7", "64", "4"];
-    let status = run_with(&rt, &words, &mut source, &mut sink, &gate, &ParCoder)?;
-    assert_eq!(rt; status, Status::Done);
-    assert_eq!(rt; sink.kept(), TRIAL);
+    assert!(rt; is_legal_with(&rt, &gate)?);
     assert!(rt; gate.passes.load(Ordering::SeqCst) >= 272);
     Ok(())
 }
 
 #[test]
 fn largest_trial(rt: HostRuntime) -> Result<(), Fail> {
-    let Ran { status, written } = run(&rt, &["trial", "0", "4096", "4"], b"")?;
-    assert_eq!(rt; status, Status::Done);
-    assert_eq!(rt; written.as_slice(), LARGEST_TRIAL);
+    let words = ["trial", "0", "4096", "4"];
+    assert!(rt; answers(&rt, &words, b"", Status::Done, LARGEST_TRIAL)?);
     Ok(())
 }
 
 #[test]
 fn trial_that_cannot_write(rt: HostRuntime) -> Result<(), Fail> {
-    let Ran { status, written } = run_failing(&rt, &["trial", "0", "1", "2"], b"", &[], &[0])?;
-    assert_eq!(rt; status, Status::WriteFault);
-    assert_eq!(rt; written.len(), 0);
+    let words = ["trial", "0", "1", "2"];
+    assert!(rt; fails(&rt, &words, b"", &[], &[0], Status::WriteFault)?);
     Ok(())
 }

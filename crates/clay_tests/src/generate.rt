@@ -1,7 +1,9 @@
 //! The command `gen`.
 use command_runs::Status;
-use command_runs::runs::{Ran, run, run_failing};
+use command_runs::runs::{Ran, fails, run, run_failing};
+use std::sync::Wait;
 use std::test::Fail;
+use std::thread::Threads;
 
 // One call of each client, from the number 10007, as another program drew them.
 const ONE_CALL: &[u8] = b"\
@@ -32,34 +34,41 @@ end
 
 #[test]
 fn generated_script(rt: HostRuntime) -> Result<(), Fail> {
-    let Ran { status, written } = run_failing(&rt, &["gen", "10007", "1"], b"x", &[0], &[])?;
+    let words = ["gen", "10007", "1"];
+    let Ran { status, written } = run_failing(&rt, &words, b"x", &[0], &[])?;
     assert_eq!(rt; status, Status::Done);
     assert_eq!(rt; written.as_slice(), ONE_CALL);
-    let failed_write = run_failing(&rt, &["gen", "10007", "1"], b"", &[], &[0])?;
-    assert_eq!(rt; failed_write.status, Status::WriteFault);
-    assert_eq!(rt; failed_write.written.len(), 0);
     Ok(())
 }
 
 #[test]
+fn generated_script_that_cannot_be_written(rt: HostRuntime) -> Result<(), Fail> {
+    let words = ["gen", "10007", "1"];
+    assert!(rt; fails(&rt, &words, b"", &[], &[0], Status::WriteFault)?);
+    Ok(())
+}
+
+/// Words of no command, parted by spaces.
+const NO_COMMANDS: &str = "\
+gen 18446744073709551616 1|gen 99999999999999999999999 1|gen 0 0|gen 0 4097|gen 0 4294967297|\
+gen 01 1|gen 0 01|gen -1 1|gen +1 1|generate 0 1";
+
+fn status_of<R: Threads + Wait + Sync + AllocGlobal>(rt: &R, words: &str) -> Result<Status, Fail> {
+    let words: Vec<&str> = words.split(' ').collect(rt.alloc())?;
+    Ok(run(rt, &words, b"")?.status)
+}
+
+#[test]
 fn numbers_at_their_ends(rt: HostRuntime) -> Result<(), Fail> {
-    let rows: [([&str; 3], Status); 12] = [
-        (["gen", "0", "1"], Status::Done),
-        (["gen", "18446744073709551615", "1"], Status::Done),
-        (["gen", "18446744073709551616", "1"], Status::Usage),
-        (["gen", "99999999999999999999999", "1"], Status::Usage),
-        (["gen", "0", "0"], Status::Usage),
-        (["gen", "0", "4097"], Status::Usage),
-        (["gen", "0", "4294967297"], Status::Usage),
-        (["gen", "01", "1"], Status::Usage),
-        (["gen", "0", "01"], Status::Usage),
-        (["gen", "-1", "1"], Status::Usage),
-        (["gen", "+1", "1"], Status::Usage),
-        (["generate", "0", "1"], Status::Usage),
-    ];
-    for (words, wanted) in rows {
-        let Ran { status, .. } = run(&rt, &words, b"")?;
-        assert_eq!(rt; status, wanted);
+    assert_eq!(rt; status_of(&rt, "gen 0 1")?, Status::Done);
+    assert_eq!(rt; status_of(&rt, "gen 18446744073709551615 1")?, Status::Done);
+    Ok(())
+}
+
+#[test]
+fn numbers_past_their_ends(rt: HostRuntime) -> Result<(), Fail> {
+    for words in NO_COMMANDS.split('|') {
+        assert_eq!(rt; status_of(&rt, words)?, Status::Usage);
     }
     Ok(())
 }

@@ -1,6 +1,7 @@
 -- Where a call stands after its look.
-use Rattle.std.proofs.Common.{◌≡◌, ℕ, List, Option, map, refl, ap}
+use Rattle.std.proofs.Common.{◌≡◌, ℕ, List, Option, None, Some, option_map, map, refl, ap}
 use Rattle.clay_grid.specs.Shape.{Shape}
+use Rattle.store_map.specs.declared.actor.Point.{Point}
 use Rattle.store_map.specs.declared.call.Call.{Call}
 use Rattle.store_map.specs.declared.call.Call.TheVariants as call
 use Rattle.store_core.specs.Note.{note_of}
@@ -28,3 +29,11 @@ pub ready_state : (g : Shape) (written : Call) (base : Option ℕ) (size : ℕ) 
 ready_state g (call.Put name content) base size seens fits = ap (λ seens. open_state g (parts_state (map (part_of g 0 size) seens) Sequel.Draw)) (fits.1 refl)
 ready_state g (call.Write name offset content) base size seens fits = ap (λ parts. open_state g (parts_state parts Sequel.Draw)) (old_are_parts g size seens)
 ready_state g _ base size seens fits = absurd (cc)
+
+-- the point that it looked at
+abbrev point_at : ℕ → Point
+point_at n = record { 0 = n }
+
+pub points_back : (base : Option Point) → option_map point_at (option_map (λ (point : Point). point.0) base) ≡ base
+points_back None = refl
+points_back (Some point) = refl

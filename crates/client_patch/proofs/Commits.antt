@@ -1,5 +1,9 @@
 -- The commit of a write.
-use Rattle.std.proofs.Common.{◌≡◌, ℕ, ◌<◌, true, false, List, [], length, All, vec_capacity, refl, sym, ap, subst, ◌∙◌}
+use Rattle.call_steps.specs.declared.answer.DirectoryAnswer.{DirectoryAnswer}
+use Rattle.call_steps.specs.Answers.{directory_answer}
+use Rattle.call_steps.specs.Hearing.{told_there}
+use Rattle.call_steps.proofs.Telling.{there, by_act_there}
+use Rattle.std.proofs.Common.{◌≡◌, ℕ, ◌<◌, true, false, List, [], Some, length, All, vec_capacity, refl, sym, ap, subst, ◌∙◌}
 use Rattle.std.proofs.lemmas.Bool.{true≢false}
 use Rattle.std.proofs.lemmas.List.{length-map}
 use Rattle.clay_grid.specs.Shape.{chunk_count}
@@ -96,6 +100,18 @@ module _ (a : Inside) (kept : IsPatch a) (old : PatchOf) (view : patch_in a ≡ 
       room_of : (at : State) → is_committing at ≡ true → HasRoom at (length a.changes.items) (vec_capacity a.changes) → length a.changes.items < vec_capacity a.changes
       room_of (State.Committing versions placed) e h = h
       room_of _ e h = absurd (cc)
+
+  -- what it is told
+  pub commit_tells : (placed : List (List Placement)) → a.writing.state ≡ State.Committing (versions_of a.writing.stamps) placed
+      → (d after : Directory) (told : Told) (answer : DirectoryAnswer)
+      → (after, told) ≡ at_directory false (actor_of a.ticket) a.number (DirectoryStep.Commit placed) d → directory_answer told ≡ Some answer
+      → directory_answer (told_there false old.call d) ≡ Some answer
+  commit_tells placed committed d after told answer made tells =
+      let at : state_by a.stage a.gatherings a.writing a.outcome ≡ State.Committing (versions_of a.writing.stamps) placed
+      = ap (λ s. state_by s a.gatherings a.writing a.outcome) commit_is ∙ committed in
+      there (patch_in a).call old.call d false told answer (ap (λ (p : PatchOf). p.call) view)
+      (by_act_there (patch_in a).call d after false (DirectoryStep.Commit placed) told
+      (ap (λ at. act_of_state a.opening.geometry a.tries (job_of a.call.now) (call_at (pairs_in a.changes.items) at)) at) made) tells
 
   module _ (point : ℕ) (placed : List (List Placement)) (committed : a.writing.state ≡ State.Committing (versions_of a.writing.stamps) placed) (w : WritingOf)
       (w_is : w ≡ record (a.writing) { state = settle_state point (places_of (chunk_count a.writing.book.geometry) (versions_of a.writing.stamps)) })

@@ -1,4 +1,8 @@
 -- The draw of a put or a write.
+use Rattle.call_steps.specs.declared.answer.DirectoryAnswer.{DirectoryAnswer}
+use Rattle.call_steps.specs.Answers.{directory_answer}
+use Rattle.call_steps.specs.Hearing.{told_there}
+use Rattle.call_steps.proofs.Telling.{there, by_act_there}
 use Rattle.std.proofs.Common.{◌≡◌, ◌⊎◌, ℕ, zero, suc, ◌+◌, ◌-◌, ◌*◌, ◌/◌, ◌^◌, ◌<◌, ◌≤◌, Bool, true, List, [], length, Some, vec_capacity, refl, ap, subst, sym, ◌∙◌, inl, inr, arith}
 use Rattle.std.specs.List.{slice_get}
 use Rattle.std.proofs.lemmas.List.FromFn.{length-range_with_len}
@@ -162,8 +166,16 @@ module _ (a : Inside) (kept : IsPatch a) (old : PatchOf) (view : patch_in a ≡ 
           let nothing : PinsNothing a.ticket × GathersNothing a.gatherings = draw_keeps.3 put in
           old_of_nothing d.stamps a.opening (note_of a.call.now) a.size a.gatherings.bytes holding.held.pass (subst PinsNothing holding.is nothing.0) nothing.1.no_bytes
 
-  draws : act_of ((patch_in a).call) ≡ Act.AtDirectory DirectoryStep.Draw
+  pub draws : act_of ((patch_in a).call) ≡ Act.AtDirectory DirectoryStep.Draw
   draws = ap (λ at. act_of_state a.opening.geometry a.tries (job_of a.call.now) (call_at (pairs_in a.changes.items) at)) at_draw
+
+  -- what it is told
+  pub draw_tells : (d after : Directory) (short : Bool) (told : Told) (answer : DirectoryAnswer)
+      → (after, told) ≡ at_directory short (actor_of a.ticket) a.number DirectoryStep.Draw d → directory_answer told ≡ Some answer
+      → directory_answer (told_there short old.call d) ≡ Some answer
+  draw_tells d after short told answer made tells =
+      there (patch_in a).call old.call d short told answer (ap (λ (p : PatchOf). p.call) view)
+      (by_act_there (patch_in a).call d after short DirectoryStep.Draw told draws made) tells
 
   -- the stamps
   pub draw_stamps : (s : Sealed) (short : Bool) (after : Directory) (versions : List ℕ) (stamps : List StampOf) (request : RequestOf)

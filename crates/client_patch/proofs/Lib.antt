@@ -21,3 +21,4 @@ pub mod Knowing
 pub mod Looks
 pub mod Learning
 pub mod Making
+pub mod Acting

@@ -194,7 +194,7 @@ module _ (a : Inside) (kept : IsPatch a) (old : PatchOf) (view : patch_in a ≡ 
   start_here : (patch_in a).call.state.at ≡ State.Start
   start_here = ap (λ (p : PatchOf). p.call.state.at) view ∙ first
 
-  looks_here : act_of (patch_in a).call ≡ Act.AtDirectory (DirectoryStep.Look (note_of a.call.now))
+  pub looks_here : act_of (patch_in a).call ≡ Act.AtDirectory (DirectoryStep.Look (note_of a.call.now))
   looks_here =
       ap (λ at. act_at a.opening.geometry a.tries (job_of a.call.now) (pairs_in a.changes.items) at) start_here
       ∙ looks_first a.opening.geometry a.tries a.call.now (pairs_in a.changes.items) kept.change

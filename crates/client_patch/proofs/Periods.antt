@@ -15,6 +15,10 @@ module _ (first skipped : ℕ) where
   pub period_at : (block b : ℕ) → ((first + skipped % 256) % 256 + b) % 256 ≡ (first + (skipped + (block * 256 + b))) % 256
   period_at block b = omega arith
 
+  -- of the first block
+  pub counted_at : (b : ℕ) → ((first + skipped % 256) % 256 + b) % 256 ≡ (first + (skipped + b)) % 256
+  counted_at b = omega arith
+
   pub next_block : (block k len : ℕ) (piece period copied : List ℕ) → period ≡ map (λ i. ((first + skipped % 256) % 256 + i) % 256) (range_with_len 0 256)
       → len ≤ 256 → copied ≡ take len period → block * 256 ≤ length piece
       → ((i : ℕ) → i < block * 256 → get_or piece i 0 ≡ ramp_at i)

@@ -13,7 +13,8 @@ use Rattle.call_steps.specs.Steps.{need_by, need_of, stepped_at_server}
 use Rattle.gather_parts.specs.Gatherings.{GatheringsOf, owed}
 use Rattle.gather_parts.specs.States.{state_in}
 use Rattle.write_course.specs.Writings.{WritingOf, versions_of}
-use Rattle.write_course.specs.WritingSteps.{stepped}
+use Rattle.call_steps.specs.Hearing.{told_here}
+use Rattle.write_course.specs.WritingSteps.{stepped, told_at}
 use Rattle.client_patch.specs.Patches.{PatchOf, is_write}
 use Rattle.client_patch.specs.Known.{AreOldBytes, UpToDraw, KnowsOld}
 use Rattle.client_patch.specs.Stages.{state_by, due_by}
@@ -25,7 +26,7 @@ use Rattle.client_patch.specs.declared.stage.Stage.TheVariants as stage
 use Rattle.client_patch.proofs.Gathered.{asks_up_to_draw, known_at}
 use Rattle.write_course.proofs.Tokens.{stepped_has}
 use Rattle.client_patch.proofs.Rooms.{same_call, stepped_room, known_drawn}
-use Rattle.write_course.proofs.AtServers.{Asks, server_step, asks}
+use Rattle.write_course.proofs.AtServers.{Asks, server_step, server_tells, asks}
 use Rattle.client_patch.proofs.Servers.{writes_at_server}
 
 module _ (a : Inside) (kept : IsPatch a) (old : PatchOf) (view : patch_in a ≡ old) (server : ℕ) (needs : need_of old.call ≡ need.Server server) where
@@ -56,6 +57,14 @@ module _ (a : Inside) (kept : IsPatch a) (old : PatchOf) (view : patch_in a ≡ 
     asked =
         asks a.opening.geometry a.tries (job_of a.call.now) (pairs_in a.changes.items) a.number (note_of a.call.now) (versions_of a.writing.stamps) a.ticket a.writing.state a.writing.due server (keeps.1)
         (ap (λ s. need_by (act_at a.opening.geometry a.tries (job_of a.call.now) (pairs_in a.changes.items) (state_by s a.gatherings a.writing a.outcome)) (due_by s a.gatherings a.writing)) (sym writing_is) ∙ needs_here)
+
+    -- what it is told
+    pub served_tells : (short : Bool) (before : Server) {told_short : Bool} → short ≡ told_short → told_at told_short before a.writing.state ≡ told_here short old.call before
+    served_tells short before is =
+        ap (λ b. told_at b before a.writing.state) (sym is)
+        ∙ server_tells (patch_in a).call (pairs_in a.changes.items) a.writing.state server
+        (ap (λ s. record { pairs = pairs_in a.changes.items; at = state_by s a.gatherings a.writing a.outcome }) writing_is) asked.asked short before
+        ∙ ap (λ (p : PatchOf). told_here short p.call before) view
 
     module _ (now : WritingOf) (short : Bool) (before after : Server) (step : (after, now.state) ≡ stepped a.writing.book.geometry short before a.writing.state) (same : now ≡ record a.writing { state = now.state; due = now.due }) where
       stamps : a.writing.stamps ≡ now.stamps

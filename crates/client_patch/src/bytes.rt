@@ -166,8 +166,8 @@ fn count_from(piece: &mut [u8], first: u8)
     }
 }
 
-// The bytes of a ramp, behind the first ones: counted once, and copied where they come again.
-fn count_up(piece: &mut [u8], first: u8, skipped: usize)
+// The bytes of a ramp, behind the first ones: copies of what is counted once.
+fn copy_periods(piece: &mut [u8], first: u8, skipped: usize)
     requires { skipped < 2 ^ 32 }
     ensures { piece.new ≡ map (λ i. (first + i) % 256) (range_with_len skipped (length piece.old)) }
 {
@@ -177,5 +177,17 @@ fn count_up(piece: &mut [u8], first: u8, skipped: usize)
         let start = block * PERIOD;
         let len = PERIOD.min(piece.len() - start);
         piece[start..start + len].copy_from_slice(&period[..len]);
+    }
+}
+
+// The bytes of a ramp, behind the first ones. A short piece is counted: its bytes don't come again.
+fn count_up(piece: &mut [u8], first: u8, skipped: usize)
+    requires { skipped < 2 ^ 32 }
+    ensures { piece.new ≡ map (λ i. (first + i) % 256) (range_with_len skipped (length piece.old)) }
+{
+    if piece.len() <= PERIOD {
+        count_from(piece, first.wrapping_add((skipped % PERIOD) as u8));
+    } else {
+        copy_periods(piece, first, skipped);
     }
 }

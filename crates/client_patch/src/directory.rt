@@ -3,6 +3,7 @@ ghost use Rattle.std.specs.Prelude.{◌≡◌, true};
 ghost use Rattle.store_core.specs.Agreement.{Agrees};
 ghost use Rattle.store_resume.specs.State.{State};
 ghost use Rattle.call_steps.specs.Steps.{LeadsTo, need_of};
+ghost use Rattle.call_steps.specs.Hearing.{IsToldThere};
 ghost use Rattle.call_steps.specs.TokenAfter.{IsSeated};
 ghost use Rattle.write_course.specs.Draws.{stamps_after};
 ghost use Rattle.write_course.specs.Writings.{is_committing};
@@ -14,16 +15,16 @@ ghost use Rattle.call_steps.specs.Ends.{is_ending};
 use crate::bytes::bytes_of;
 use crate::patch::PatchCall;
 use crate::stage::{Looked, Stage, after_end, after_look};
-use call_steps::{Change, Need, Outcome};
+use call_steps::{Change, DirectoryAnswer, Need, Outcome};
 use gather_parts::Progress;
 use stripe_dir::{Committed, Directory, Drawn, Ended};
 use version_seal::Book;
 use write_course::{Writing, WritingStage};
 
 impl<'a> PatchCall<'a> {
-    /// One step at the directory of this book. What it draws is sealed in the book. Behind the ends of
+    /// One step at the directory of this book, and its answer. What it draws is sealed in the book. Behind the ends of
     /// the directory's objects its stamps have zeros: no bytes are gathered of these.
-    pub fn on_directory(&mut self, directory: &mut Directory, book: &Book)
+    pub fn on_directory(&mut self, directory: &mut Directory, book: &Book) -> DirectoryAnswer
         requires need { need_of self.old.call ≡ Need.Directory }
         requires agrees { Agrees directory.old.core self.old.call.token }
         requires its { directory.old.book ≡ self.old.call.book }
@@ -31,6 +32,7 @@ impl<'a> PatchCall<'a> {
         requires padded { ArePadded directory.old }
         requires knows { KnowsOld directory.old self.old }
         ensures step { LeadsTo self.old.call directory.old.core self.new.call directory.new.core }
+        ensures told { IsToldThere result self.old.call directory.old.core self.new.call }
         ensures agrees { Agrees directory.new.core self.new.call.token }
         ensures knows { KnowsOld directory.new self.new }
         ensures written { self.new.written ≡ self.old.written }
@@ -38,11 +40,11 @@ impl<'a> PatchCall<'a> {
         ensures stamps { directory.new.stamps
             ≡ stamps_after self.new.call.step directory.old self.old.call self.old.written }
     {
-        self.advance(directory, book);
+        self.advance(directory, book)
     }
 
     /// The same, of a put too: only of a write's stamps something is asked.
-    pub fn advance(&mut self, directory: &mut Directory, book: &Book)
+    pub fn advance(&mut self, directory: &mut Directory, book: &Book) -> DirectoryAnswer
         requires need { need_of self.old.call ≡ Need.Directory }
         requires agrees { Agrees directory.old.core self.old.call.token }
         requires its { directory.old.book ≡ self.old.call.book }
@@ -50,6 +52,7 @@ impl<'a> PatchCall<'a> {
         requires padded { is_write self.old.written ≡ true → ArePadded directory.old }
         requires knows { is_write self.old.written ≡ true → KnowsOld directory.old self.old }
         ensures step { LeadsTo self.old.call directory.old.core self.new.call directory.new.core }
+        ensures told { IsToldThere result self.old.call directory.old.core self.new.call }
         ensures agrees { Agrees directory.new.core self.new.call.token }
         ensures knows { KnowsOld directory.new self.new }
         ensures written { self.new.written ≡ self.old.written }
@@ -69,7 +72,7 @@ impl<'a> PatchCall<'a> {
         }
     }
 
-    fn look(&mut self, directory: &mut Directory)
+    fn look(&mut self, directory: &mut Directory) -> DirectoryAnswer
         requires need { need_of self.old.call ≡ Need.Directory }
         requires first { self.old.call.state.at ≡ State.Start }
         requires seated { IsSeated self.old.call.token }
@@ -77,6 +80,7 @@ impl<'a> PatchCall<'a> {
         requires its { directory.old.book ≡ self.old.call.book }
         requires padded { is_write self.old.written ≡ true → ArePadded directory.old }
         ensures step { LeadsTo self.old.call directory.old.core self.new.call directory.new.core }
+        ensures told { IsToldThere result self.old.call directory.old.core self.new.call }
         ensures agrees { Agrees directory.new.core self.new.call.token }
         ensures knows { KnowsOld directory.new self.new }
         ensures written { self.new.written ≡ self.old.written }
@@ -93,13 +97,15 @@ impl<'a> PatchCall<'a> {
             stage,
             size,
             outcome,
+            told,
         } = after_look(answer, self.call, &mut self.gatherings);
         self.stage = stage;
         self.size = size;
         self.outcome = outcome;
+        told
     }
 
-    fn draw(&mut self, directory: &mut Directory, book: &Book)
+    fn draw(&mut self, directory: &mut Directory, book: &Book) -> DirectoryAnswer
         requires drawing { self.old.call.state.at ≡ State.Drawing }
         requires need { need_of self.old.call ≡ Need.Directory }
         requires agrees { Agrees directory.old.core self.old.call.token }
@@ -107,6 +113,7 @@ impl<'a> PatchCall<'a> {
         requires book { book.now ≡ self.old.call.book }
         requires knows { is_write self.old.written ≡ true → KnowsOld directory.old self.old }
         ensures step { LeadsTo self.old.call directory.old.core self.new.call directory.new.core }
+        ensures told { IsToldThere result self.old.call directory.old.core self.new.call }
         ensures agrees { Agrees directory.new.core self.new.call.token }
         ensures knows { KnowsOld directory.new self.new }
         ensures written { self.new.written ≡ self.old.written }
@@ -129,23 +136,27 @@ impl<'a> PatchCall<'a> {
                 let first = offset / self.opening.geometry().stripe_len();
                 self.writing = Writing::new(self.alloc, self.opening.copy(), first, stamps);
                 self.stage = Stage::Writing;
+                DirectoryAnswer::Versions
             }
             Ok(Drawn::Reaped { at, .. }) => {
                 self.outcome = Outcome::Reaped { at };
                 self.stage = Stage::Finished;
+                DirectoryAnswer::Reaped { at }
             }
             Err(_) => {
                 self.outcome = Outcome::NoMemory;
                 self.stage = Stage::Ending;
+                DirectoryAnswer::Short
             }
         }
     }
 
-    fn commit(&mut self, directory: &mut Directory)
+    fn commit(&mut self, directory: &mut Directory) -> DirectoryAnswer
         requires committing { is_committing self.old.call.state.at ≡ true }
         requires agrees { Agrees directory.old.core self.old.call.token }
         requires its { directory.old.book ≡ self.old.call.book }
         ensures step { LeadsTo self.old.call directory.old.core self.new.call directory.new.core }
+        ensures told { IsToldThere result self.old.call directory.old.core self.new.call }
         ensures agrees { Agrees directory.new.core self.new.call.token }
         ensures knows { KnowsOld directory.new self.new }
         ensures written { self.new.written ≡ self.old.written }
@@ -161,6 +172,7 @@ impl<'a> PatchCall<'a> {
             Committed::Done { point, .. } => {
                 self.changes.clear();
                 self.writing.committed(point);
+                DirectoryAnswer::Done { point }
             }
             Committed::Changed {
                 looked_at,
@@ -169,20 +181,23 @@ impl<'a> PatchCall<'a> {
             } => {
                 self.changes.push_reserved(Change { looked_at, newer });
                 self.stage = Stage::Looking;
+                DirectoryAnswer::Changed { looked_at, newer }
             }
             Committed::Reaped { at, .. } => {
                 self.outcome = Outcome::Reaped { at };
                 self.stage = Stage::Finished;
+                DirectoryAnswer::Reaped { at }
             }
         }
     }
 
     // The pass ends.
-    fn end(&mut self, directory: &mut Directory)
+    fn end(&mut self, directory: &mut Directory) -> DirectoryAnswer
         requires need { need_of self.old.call ≡ Need.Directory }
         requires ending { is_ending self.old.call.state.at ≡ true }
         requires agrees { Agrees directory.old.core self.old.call.token }
         ensures step { LeadsTo self.old.call directory.old.core self.new.call directory.new.core }
+        ensures told { IsToldThere result self.old.call directory.old.core self.new.call }
         ensures agrees { Agrees directory.new.core self.new.call.token }
         ensures knows { KnowsOld directory.new self.new }
         ensures written { self.new.written ≡ self.old.written }
@@ -194,10 +209,14 @@ impl<'a> PatchCall<'a> {
         self.coding = false;
         self.step = false;
         match answer {
-            Ended::Ended { .. } => self.stage = after_end(self.stage),
+            Ended::Ended { .. } => {
+                self.stage = after_end(self.stage);
+                DirectoryAnswer::Ended
+            }
             Ended::Reaped { at, .. } => {
                 self.outcome = Outcome::Reaped { at };
                 self.stage = Stage::Finished;
+                DirectoryAnswer::Reaped { at }
             }
         }
     }

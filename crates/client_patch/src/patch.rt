@@ -3,13 +3,15 @@ ghost use Rattle.std.specs.Prelude.{◌≡◌, ◌<◌, ◌≤◌, true};
 ghost use Rattle.std.specs.Option.{option_map};
 ghost use Rattle.clay_grid.specs.Shape.{chunk_count};
 ghost use Rattle.store_core.specs.Note.{Kind};
-ghost use Rattle.store_core.specs.Act.{Act, Outcome as CoreOutcome};
+ghost use Rattle.store_core.specs.Act.{Act as CoreAct, Outcome as CoreOutcome};
 ghost use Rattle.store_core.specs.Agreement.{ActorToken};
 ghost use Rattle.store_resume.specs.State.{Sequel, State};
 ghost use Rattle.chunk_server.specs.Core.{core_of};
 ghost use Rattle.call_steps.specs.Steps.{IsServerBelow, LeadsToAtServer, need_of, HoldsItsPass, IsDueInPass, MayMakeNext};
 ghost use Rattle.stripe_dir.specs.Sealed.{Sealed};
 ghost use Rattle.call_steps.specs.CallOf.{act_of, taken_of, HasTakenNothing};
+ghost use Rattle.call_steps.specs.Acts.{act_now};
+ghost use Rattle.call_steps.specs.Hearing.{IsToldHere};
 ghost use Rattle.call_steps.specs.Outcomes.{outcome_of};
 ghost use Rattle.call_steps.specs.Callers.{IsClient, IsOfScript};
 ghost use Rattle.call_steps.specs.Ends.{point_ended, point_of, finished_of};
@@ -20,7 +22,7 @@ ghost use Rattle.client_patch.specs.Known.{KnowsOld};
 ghost use Rattle.client_patch.specs.Patches.{is_patch, is_put, is_change, first_patch};
 
 use crate::stage::Stage;
-use call_steps::{Change, Need, Outcome};
+use call_steps::{Act, Change, DirectoryAct, Need, Outcome, ServerAnswer};
 use chunk_server::Server;
 use gather_parts::{Gathered, PartGatherings};
 use read_ledger::Takes;
@@ -162,7 +164,7 @@ impl<'a> PatchCall<'a> {
         ensures kind { is_put self.now.written ≡ true → self.now.call.job.note.kind ≡ Kind.Put }
         ensures nothing { is_put self.now.written ≡ true → HasTakenNothing self.now.call }
         ensures ended { (outcome : CoreOutcome) → is_put self.now.written ≡ true →
-            act_of self.now.call ≡ Act.Finish outcome → self.now.call.state.at ≡ State.Finished outcome }
+            act_of self.now.call ≡ CoreAct.Finish outcome → self.now.call.state.at ≡ State.Finished outcome }
     {
         let _ = &self.alloc;
     }
@@ -188,11 +190,28 @@ impl<'a> PatchCall<'a> {
         }
     }
 
-    /// One step at the server that is needed.
-    pub fn on_server(&mut self, s: &mut Server)
+    /// What the call does next.
+    #[tactic(auto, using(crate::proofs::Acting::looks, crate::proofs::Acting::tried, crate::proofs::Acting::ends, crate::proofs::Acting::ungathered, crate::proofs::Acting::given_up, crate::proofs::Acting::finished,))]
+    pub fn act(&self) -> Act
+        ensures { result ≡ act_now self.now.call }
+    {
+        match self.stage {
+            Stage::Looking if self.changes.len() >= self.tries as usize => Act::Finished,
+            Stage::Looking => Act::Directory(DirectoryAct::Look),
+            Stage::Ending => Act::Directory(DirectoryAct::End),
+            Stage::Looked => Act::Coding,
+            Stage::Gathering => self.gatherings.act(DirectoryAct::Draw),
+            Stage::Writing => self.writing.act(),
+            Stage::Ungathered | Stage::GivenUp | Stage::Finished => Act::Finished,
+        }
+    }
+
+    /// One step at the server that is needed, and its answer.
+    pub fn on_server(&mut self, s: &mut Server) -> ServerAnswer
         requires need { need_of self.old.call ≡ Need.Server s.old.number }
         requires book { s.old.book ≡ self.old.call.book }
         ensures step { LeadsToAtServer self.old.call (core_of s.old) self.new.call (core_of s.new) }
+        ensures told { IsToldHere result self.old.call (core_of s.old) self.new.call }
         ensures written { self.new.written ≡ self.old.written }
         ensures knows { (d : Sealed) → KnowsOld d self.old → KnowsOld d self.new }
         ensures number { s.new.number ≡ s.old.number }
@@ -200,9 +219,24 @@ impl<'a> PatchCall<'a> {
     {
         self.coding = false;
         match self.stage {
-            Stage::Gathering => self.step = self.gatherings.on_server(s).is_err(),
-            _ => self.step = self.writing.on_server(s).is_err(),
+            Stage::Gathering => {
+                let answer = self.gatherings.on_server(s);
+                self.step = answer.is_err();
+                ServerAnswer::or_short(answer)
+            }
+            _ => {
+                let answer = self.writing.on_server(s);
+                self.step = answer.is_err();
+                ServerAnswer::or_short(answer)
+            }
         }
+    }
+
+    /// Whether memory was wanting in the last coding, where no step came after it.
+    pub fn coding_was_short(&self) -> bool
+        ensures { result ≡ self.now.call.coding }
+    {
+        self.coding
     }
 
     /// The point of its change, once it has come: of a write's commit, or of a delete that was answered
@@ -233,7 +267,7 @@ impl<'a> PatchCall<'a> {
     pub fn finish(self) -> (Seat, Outcome, Option<Takes>)
         requires { need_of self.call ≡ Need.Finished }
         ensures seat { ActorToken.Seated result.0 ≡ self.entry.call.token }
-        ensures outcome { act_of self.entry.call ≡ Act.Finish (outcome_of result.1) }
+        ensures outcome { act_of self.entry.call ≡ CoreAct.Finish (outcome_of result.1) }
         ensures takes { result.2 ≡ taken_of self.entry.call.takes }
     {
         // That it holds no pass is needed below.

@@ -1,14 +1,15 @@
 //! What a call does next, by its answers.
-ghost use Rattle.std.specs.Prelude.{◌≡◌, true, map};
+ghost use Rattle.std.specs.Prelude.{◌≡◌, true, map, Some};
 ghost use Rattle.store_resume.specs.LookAfter.{looked_state};
 ghost use Rattle.stripe_dir.specs.Answers.{told_or_short, told_look};
+ghost use Rattle.call_steps.specs.Answers.{directory_answer};
 ghost use Rattle.write_course.specs.Writings.{WritingOf};
 ghost use Rattle.gather_parts.specs.Wanted.{wanted_of, ArePinned};
 ghost use Rattle.gather_parts.specs.Gatherings.{begun};
 ghost use Rattle.client_patch.specs.Stages.{state_by, after_end};
 ghost use Rattle.client_patch.specs.LookAfter.{looked_stripes, size_told, to_draw, IsPatchLook, IsLooked, IfReady};
 
-use call_steps::Outcome;
+use call_steps::{DirectoryAnswer, Outcome, ReplyKind};
 use gather_parts::PartGatherings;
 use std::alloc::AllocError;
 use store_map::Call;
@@ -35,11 +36,12 @@ pub(crate) enum Stage {
     Finished,
 }
 
-// What a look leads to: the object's size, or how the call has ended.
+// What a look leads to: the object's size, or how the call has ended; and what it was told.
 pub(crate) struct Looked {
     pub(crate) stage: Stage,
     pub(crate) size: u64,
     pub(crate) outcome: Outcome,
+    pub(crate) told: DirectoryAnswer,
 }
 
 // Where a call goes on that draws.
@@ -62,6 +64,7 @@ pub(crate) fn after_look(
     requires pinned { ArePinned gatherings.old.book answer }
     ensures state { (w : WritingOf) → state_by result.stage gatherings.new w result.outcome
         ≡ looked_state gatherings.old.book.geometry call.now (told_or_short told_look answer) }
+    ensures told { directory_answer (told_or_short told_look answer) ≡ Some result.told }
     ensures looked { IsLooked call.now (told_or_short told_look answer) result.stage }
     ensures begun { IfReady (told_or_short told_look answer) (gatherings.new ≡ begun gatherings.old (map (wanted_of gatherings.old.book.geometry 0 result.size) (looked_stripes answer))) }
     ensures size { size_told (told_or_short told_look answer) ≡ result.size }
@@ -72,10 +75,15 @@ pub(crate) fn after_look(
         Ok(Look::Answer { point, reply, .. }) => Looked {
             stage: Stage::Finished,
             size: 0,
+            told: DirectoryAnswer::Answered {
+                point,
+                reply: ReplyKind::of(&reply),
+            },
             outcome: Outcome::Answered { point, reply },
         },
         Ok(
             Look::Ready {
+                looked_at,
                 length,
                 stripes,
                 ..
@@ -85,6 +93,7 @@ pub(crate) fn after_look(
             Looked {
                 stage: to_draw(call),
                 size: length,
+                told: DirectoryAnswer::Ready { looked_at, length },
                 outcome: Outcome::NoMemory,
             }
         }
@@ -92,6 +101,7 @@ pub(crate) fn after_look(
         Err(_) => Looked {
             stage: Stage::Finished,
             size: 0,
+            told: DirectoryAnswer::Short,
             outcome: Outcome::NoMemory,
         },
     }

@@ -14,6 +14,8 @@ use Rattle.store_resume.specs.StateActs.{start_act, act_at}
 use Rattle.stripe_dir.specs.Sealed.{Sealed}
 use Rattle.call_steps.specs.CallOf.{CallOf, tries_by, act_of}
 use Rattle.call_steps.specs.Steps.{at_directory_by, stepped_at_directory, at_server_by, stepped_at_server, coded, need_by, need_of, HoldsItsPass, IsDueInPass, MayMakeNext}
+use Rattle.call_steps.specs.Acts.{act_by, act_now}
+use Rattle.call_steps.specs.Hearing.{told_there_by, told_there, told_here_by, told_here}
 use Rattle.write_course.specs.Draws.{stamps_of_draw, stamps_by, stamps_drawn}
 use Rattle.client_put.specs.Inside.{by_script}
 
@@ -38,6 +40,10 @@ module _ (c : CallOf) where
   drawn_by (Act.AtDirectory DirectoryStep.Draw) short s written = draw_by c.token short s written
   drawn_by _ short s written = refl
 
+  tells_by : (act : Act) (short : Bool) (d : Directory) → told_there_by act short c d ≡ told_there_by act short (by_script c) d
+  tells_by (Act.AtDirectory step) short d = refl
+  tells_by _ short d = refl
+
   -- a coding
   pub coded_so : (short : Bool) → by_script (coded short c) ≡ coded short (by_script c)
   coded_so true = refl
@@ -50,6 +56,16 @@ module _ (c : CallOf) where
     -- what it needs
     pub needs_so : need_of c ≡ need_of (by_script c)
     needs_so = ap (λ act. need_by act c.due) same_act
+
+    -- what it does next, and what it is told
+    pub acts_so : act_now c ≡ act_now (by_script c)
+    acts_so = ap (λ act. act_by act c.due) same_act
+
+    pub there_so : (short : Bool) (d : Directory) → told_there short c d ≡ told_there short (by_script c) d
+    there_so short d = tells_by (act_of c) short d ∙ ap (λ act. told_there_by act short (by_script c) d) same_act
+
+    pub here_so : (short : Bool) (s : Server) → told_here short c s ≡ told_here short (by_script c) s
+    here_so short s = ap (λ act. told_here_by act short s) same_act
 
     pub in_pass_so : IsDueInPass c → IsDueInPass (by_script c)
     in_pass_so h due = subst (λ act. IsTrue (is_in_pass act)) same_act (h due)

@@ -5,7 +5,9 @@ ghost use Rattle.clay_grid.specs.Shape.{chunk_count};
 ghost use Rattle.store_core.specs.Agreement.{Agrees, ActorToken};
 ghost use Rattle.store_resume.specs.State.{State};
 ghost use Rattle.chunk_server.specs.Core.{core_of};
+ghost use Rattle.call_steps.specs.Acts.{act_now};
 ghost use Rattle.call_steps.specs.CallOf.{HasTakenNothing};
+ghost use Rattle.call_steps.specs.Hearing.{IsToldHere, IsToldThere};
 ghost use Rattle.call_steps.specs.Steps.{IsServerBelow, LeadsTo, LeadsToAtServer, coded, need_of, HoldsItsPass, IsDueInPass, MayMakeNext};
 ghost use Rattle.call_steps.specs.Outcomes.{outcome_of};
 ghost use Rattle.client_put.specs.Puts.{is_put, first_put};
@@ -13,7 +15,7 @@ ghost use Rattle.write_course.specs.Draws.{stamps_after};
 ghost use Rattle.call_steps.specs.Callers.{IsClient, IsOfScript};
 ghost use Rattle.call_steps.specs.Ends.{point_of};
 
-use call_steps::{Need, Outcome};
+use call_steps::{Act, DirectoryAnswer, Need, Outcome, ServerAnswer};
 use chunk_server::Server;
 use clay_repair::Coder;
 use client_patch::PatchCall;
@@ -77,13 +79,22 @@ impl<'a> PutCall<'a> {
         self.patch.need()
     }
 
-    /// One step at the directory of this book. What it draws is sealed in the book.
-    pub fn on_directory(&mut self, directory: &mut Directory, book: &Book)
+    /// What the call does next.
+    pub fn act(&self) -> Act
+        ensures { result ≡ act_now self.now.call }
+    {
+        self.patch.keeps();
+        self.patch.act()
+    }
+
+    /// One step at the directory of this book, and its answer. What it draws is sealed in the book.
+    pub fn on_directory(&mut self, directory: &mut Directory, book: &Book) -> DirectoryAnswer
         requires need { need_of self.old.call ≡ Need.Directory }
         requires agrees { Agrees directory.old.core self.old.call.token }
         requires its { directory.old.book ≡ self.old.call.book }
         requires book { book.now ≡ self.old.call.book }
         ensures step { LeadsTo self.old.call directory.old.core self.new.call directory.new.core }
+        ensures told { IsToldThere result self.old.call directory.old.core self.new.call }
         ensures agrees { Agrees directory.new.core self.new.call.token }
         ensures written { self.new.written ≡ self.old.written }
         ensures book { directory.new.book ≡ directory.old.book }
@@ -91,20 +102,21 @@ impl<'a> PutCall<'a> {
             ≡ stamps_after self.new.call.step directory.old self.old.call self.old.written }
     {
         self.patch.keeps();
-        self.patch.advance(directory, book);
+        self.patch.advance(directory, book)
     }
 
-    /// One step at the server that is needed.
-    pub fn on_server(&mut self, s: &mut Server)
+    /// One step at the server that is needed, and its answer.
+    pub fn on_server(&mut self, s: &mut Server) -> ServerAnswer
         requires need { need_of self.old.call ≡ Need.Server s.old.number }
         requires book { s.old.book ≡ self.old.call.book }
         ensures step { LeadsToAtServer self.old.call (core_of s.old) self.new.call (core_of s.new) }
+        ensures told { IsToldHere result self.old.call (core_of s.old) self.new.call }
         ensures written { self.new.written ≡ self.old.written }
         ensures number { s.new.number ≡ s.old.number }
         ensures book { s.new.book ≡ s.old.book }
     {
         self.patch.keeps();
-        self.patch.on_server(s);
+        self.patch.on_server(s)
     }
 
     /// Makes the chunks of the version at work. It makes no step. Afterwards the put tells whether
@@ -116,6 +128,13 @@ impl<'a> PutCall<'a> {
     {
         self.patch.keeps();
         self.patch.on_coder(rt, coder);
+    }
+
+    /// Whether memory was wanting in the last coding, where no step came after it.
+    pub fn coding_was_short(&self) -> bool
+        ensures { result ≡ self.now.call.coding }
+    {
+        self.patch.coding_was_short()
     }
 
     /// The point of the commit, once it has come.

@@ -4,3 +4,4 @@ pub mod Pinned
 pub mod Serving
 pub mod Closing
 pub mod Making
+pub mod Acting

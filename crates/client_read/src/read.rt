@@ -7,6 +7,8 @@ ghost use Rattle.store_resume.specs.State.{Sequel, State};
 ghost use Rattle.chunk_server.specs.Core.{core_of};
 ghost use Rattle.chunk_server.specs.State.{IsSame};
 ghost use Rattle.call_steps.specs.Steps.{IsServerBelow, LeadsToAtServer, coded, need_of, HoldsItsPass, IsDueInPass, MayMakeNext};
+ghost use Rattle.call_steps.specs.Acts.{act_now};
+ghost use Rattle.call_steps.specs.Hearing.{IsToldHere};
 ghost use Rattle.call_steps.specs.Outcomes.{outcome_of};
 ghost use Rattle.gather_parts.specs.Ends.{end_state};
 ghost use Rattle.call_steps.specs.CallOf.{taken_of};
@@ -16,7 +18,7 @@ ghost use Rattle.client_read.specs.Reads.{is_read, first_read};
 ghost use Rattle.client_read.specs.Ends.{IfServed, AreBytes};
 
 use crate::stage::Stage;
-use call_steps::{Need, Outcome};
+use call_steps::{Act, DirectoryAct, Need, Outcome, ServerAnswer};
 use chunk_server::Server;
 use clay_repair::Coder;
 use gather_parts::{Gathered, PartGatherings};
@@ -111,16 +113,32 @@ impl<'a> ReadCall<'a> {
         }
     }
 
-    /// One step at the server that is needed.
-    pub fn on_server(&mut self, s: &mut Server)
+    /// What the call does next.
+    #[tactic(auto, using(crate::proofs::Acting::looks, crate::proofs::Acting::ends, crate::proofs::Acting::over, crate::proofs::Acting::finished))]
+    pub fn act(&self) -> Act
+        ensures { result ≡ act_now self.now.call }
+    {
+        match self.stage {
+            Stage::Looking => Act::Directory(DirectoryAct::Look),
+            Stage::Ending => Act::Directory(DirectoryAct::End),
+            Stage::Gathering => self.gatherings.act(DirectoryAct::End),
+            Stage::Ended | Stage::Finished => Act::Finished,
+        }
+    }
+
+    /// One step at the server that is needed, and its answer.
+    pub fn on_server(&mut self, s: &mut Server) -> ServerAnswer
         requires need { need_of self.old.call ≡ Need.Server s.old.number }
         requires book { s.old.book ≡ self.old.call.book }
         ensures step { LeadsToAtServer self.old.call (core_of s.old) self.new.call (core_of s.new) }
+        ensures told { IsToldHere result self.old.call (core_of s.old) self.new.call }
         ensures owed { self.new.owed ≡ self.old.owed }
         ensures same { IsSame s.old s.new }
     {
         self.coding = false;
-        self.step = self.gatherings.on_server(s).is_err();
+        let answer = self.gatherings.on_server(s);
+        self.step = answer.is_err();
+        ServerAnswer::or_short(answer)
     }
 
     /// Makes the bytes of the stripe that has come, and takes the memory for the next one. It makes no
@@ -138,6 +156,13 @@ impl<'a> ReadCall<'a> {
                 self.stage = Stage::Ending;
             }
         }
+    }
+
+    /// Whether memory was wanting in the last coding, where no step came after it.
+    pub fn coding_was_short(&self) -> bool
+        ensures { result ≡ self.now.call.coding }
+    {
+        self.coding
     }
 
     /// What it has taken, or none where it has taken nothing.

@@ -1,11 +1,12 @@
 //! What a call that reads does next, by the answer of its look.
-ghost use Rattle.std.specs.Prelude.{◌≡◌, ◌+◌, ℕ, List, true, All, IfOk};
+ghost use Rattle.std.specs.Prelude.{◌≡◌, ◌+◌, ℕ, List, true, All, IfOk, Some};
 ghost use Rattle.clay_grid.specs.Shape.{Shape};
 ghost use Rattle.store_core.specs.Note.{note_of};
 ghost use Rattle.store_core.specs.Read.{read_start, read_end};
 ghost use Rattle.store_calls.specs.AnswersByKind.{MayPin, FitsKind};
 ghost use Rattle.store_resume.specs.LookAfter.{looked_state};
 ghost use Rattle.version_seal.specs.Entry.{StampOf};
+ghost use Rattle.call_steps.specs.Answers.{directory_answer};
 ghost use Rattle.stripe_dir.specs.Answers.{told_or_short, told_look};
 ghost use Rattle.stripe_dir.specs.AnswerStamps.{IsSeenIn};
 ghost use Rattle.stripe_dir.specs.Shown.{stripes_seen};
@@ -16,7 +17,7 @@ ghost use Rattle.client_read.specs.Ends.{IsPlain};
 ghost use Rattle.client_read.specs.Stages.{state_by, after_end, IsLooked};
 ghost use Rattle.client_read.specs.Owed.{owed_after_look};
 
-use call_steps::Outcome;
+use call_steps::{DirectoryAnswer, Outcome, ReplyKind};
 use gather_parts::PartGatherings;
 use std::alloc::AllocError;
 use store_map::{Call, Point};
@@ -37,11 +38,12 @@ pub(crate) enum Stage {
     Finished,
 }
 
-// What a look leads to: the point of the bytes, or how the call has ended.
+// What a look leads to: the point of the bytes, or how the call has ended; and what it was told.
 pub(crate) struct Looked {
     pub(crate) stage: Stage,
     pub(crate) point: Point,
     pub(crate) outcome: Outcome,
+    pub(crate) told: DirectoryAnswer,
 }
 
 // Where the bytes begin and end that the call asks for, of an object of this length.
@@ -74,6 +76,7 @@ pub(crate) fn after_look(
     requires pinned { ArePinned gatherings.old.book answer }
     ensures state { state_by result.stage gatherings.new result.point result.outcome
         ≡ looked_state gatherings.old.book.geometry call.now (told_or_short told_look answer) }
+    ensures told { directory_answer (told_or_short told_look answer) ≡ Some result.told }
     ensures plain { IsPlain result.outcome }
     ensures kept { IsLooked (told_or_short told_look answer) result.stage }
     ensures book { gatherings.new.book ≡ gatherings.old.book }
@@ -85,6 +88,10 @@ pub(crate) fn after_look(
         Ok(Look::Answer { point, reply, .. }) => Looked {
             stage: Stage::Finished,
             point,
+            told: DirectoryAnswer::Answered {
+                point,
+                reply: ReplyKind::of(&reply),
+            },
             outcome: Outcome::Answered { point, reply },
         },
         Ok(
@@ -100,6 +107,7 @@ pub(crate) fn after_look(
             Looked {
                 stage: Stage::Gathering,
                 point,
+                told: DirectoryAnswer::Pinned { point, length },
                 outcome: Outcome::NoMemory,
             }
         }
@@ -107,6 +115,7 @@ pub(crate) fn after_look(
         Err(_) => Looked {
             stage: Stage::Finished,
             point: Point(0),
+            told: DirectoryAnswer::Short,
             outcome: Outcome::NoMemory,
         },
     }

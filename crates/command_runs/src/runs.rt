@@ -62,6 +62,19 @@ pub fn run_failing<R: Threads + Wait + Sync + AllocGlobal>(
     Ok(Ran { status, written })
 }
 
+/// Whether the call ends so where the reads and the writes of these numbers fail, with nothing written.
+pub fn fails<R: Threads + Wait + Sync + AllocGlobal>(
+    rt: &R,
+    words: &[&str],
+    input: &[u8],
+    reads: &[u64],
+    writes: &[u64],
+    status: Status,
+) -> Result<bool, Fail> {
+    let ran = run_failing(rt, words, input, reads, writes)?;
+    Ok(ran.status == status && ran.written.is_empty())
+}
+
 /// Calls the program where nothing fails.
 pub fn run<R: Threads + Wait + Sync + AllocGlobal>(
     rt: &R,

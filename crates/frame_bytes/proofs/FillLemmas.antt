@@ -1,10 +1,11 @@
 -- What one more read adds to the bytes that stand in a buffer.
-use Rattle.std.proofs.Common.{◌≡◌, ◌≤◌, ◌+◌, ◌-◌, ℕ, Option, None, Some, List, ◌++◌, length, take, sym, ap, ◌∙◌, arith, length-append}
+use Rattle.std.proofs.Common.{◌≡◌, ◌≤◌, ◌<◌, ◌+◌, ◌-◌, ℕ, Option, None, Some, List, ◌++◌, length, take, sym, ap, ◌∙◌, arith, length-append}
 use Rattle.std.proofs.Math.Seq.{take-append-add}
 use Rattle.std.proofs.lemmas.List.{length-take-le, take-append-le}
 use borrow.Rule.Slice.PartMut.{put_mid, post_of}
-use Rattle.clay_bytes.specs.Stream.{Gives, GivesAtMost, Same}
+use Rattle.clay_bytes.specs.Stream.{Gives, Same}
 use Rattle.clay_bytes.proofs.StreamLemmas.{gives-then}
+use Rattle.frame_bytes.specs.Filling.{GivesFewer}
 
 gives-same : (a b c : Option (List ℕ)) (xs : List ℕ) → Gives a xs b → Same b c → Gives a xs c
 gives-same None b c xs g s = tt
@@ -38,8 +39,8 @@ module _ (at n : ℕ) (buf new : List ℕ) (within : at ≤ length buf) where
   more_given a b c fits g h = gives-then a b c (take at buf) (take n new) (take (at + n) (put_mid at (length buf - at) buf new)) g h (more_taken fits)
 
 -- a read that failed gave none
-pub cut_there : (at : ℕ) (buf new : List ℕ) (a b c : Option (List ℕ)) → at ≤ length buf → Gives a (take at buf) b → Same b c →
-    GivesAtMost a (length (put_mid at (length buf - at) buf new)) c
-cut_there at buf new a b c within g s =
-    let kept : at ≤ length (put_mid at (length buf - at) buf new) = first_kept at 0 buf new within in
+pub cut_there : (at : ℕ) (buf new : List ℕ) (a b c : Option (List ℕ)) → at ≤ length buf → 0 < length new → Gives a (take at buf) b → Same b c →
+    GivesFewer a (length (put_mid at (length buf - at) buf new)) c
+cut_there at buf new a b c within some g s =
+    let kept : at + 1 ≤ length (put_mid at (length buf - at) buf new) = more_within at 1 buf new within some in
     (take at buf, omega (arith, length-take-le at buf within, kept), gives-same a b c (take at buf) g s)

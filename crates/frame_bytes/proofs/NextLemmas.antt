@@ -20,10 +20,10 @@ pub number_some : {X : Type 0} (next : ℕ → Reader X) (bytes : List ℕ) → 
 number_some next bytes enough = ap (λ t. if t then next (big_number 4 bytes) (drop 4 bytes) else None) (le-leb 4 (length bytes) enough)
 
 -- a frame behind its length, and whether its length is wrong
-abbrev framed_in : ℕ → Reader (List ℕ × List ℕ)
+abbrev pub framed_in : ℕ → Reader (List ℕ × List ℕ)
 framed_in count left = if is_frame_length count && nat_le count (length left) then Some (take count left, drop count left) else None
 
-abbrev is_wrong : ℕ → Reader Bool
+abbrev pub is_wrong : ℕ → Reader Bool
 is_wrong count left = Some (not (is_frame_length count))
 
 -- fewer than four bytes are served

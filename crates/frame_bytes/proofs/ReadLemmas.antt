@@ -1,18 +1,18 @@
 -- What stands next in what a source has left, by what was read of it.
-use Rattle.std.proofs.Common.{◌≡◌, ◌≤◌, ◌<◌, ℕ, ◌+◌, ◌-◌, min, true, false, unwrap_or, Option, None, Some, List, ◌++◌, length, take, drop, refl, sym, ap, subst, ◌∙◌, arith, length-append, length-take, take-append-drop}
-use Rattle.std.proofs.lemmas.List.{take_all, drop_all}
+use Rattle.std.proofs.Common.{◌≡◌, ◌≤◌, ◌<◌, ℕ, ◌+◌, ◌-◌, min, nat_le, not, ◌&&◌, true, false, unwrap_or, Option, None, Some, List, [], ◌++◌, length, take, drop, refl, sym, ap, subst, ◌∙◌, arith, length-append, length-take, take-append-drop, if◌then◌else◌}
+use Rattle.std.proofs.lemmas.Bool.{lt-leb, leb-true, and_parts}
+use Rattle.std.proofs.lemmas.List.{take_all, drop_all, take_at, length-drop}
 use Rattle.byteorder.specs.Endian.{big_number}
 use Rattle.byteorder.specs.Numbers.{big_from-take}
-use Rattle.clay_bytes.specs.Stream.{GivesAtMost}
+use Rattle.clay_bytes.specs.Stream.{Gives}
 use Rattle.clay_bytes.proofs.StreamLemmas.{gives-then}
-use Rattle.session_rules.specs.Fields.{number_then}
 use Rattle.session_rules.specs.declared.ending.Ending.{Ending}
-use Rattle.session_rules.specs.Input.{is_frame_length}
+use Rattle.session_rules.specs.Input.{is_frame_length, most_frame}
 use Rattle.frame_bytes.specs.declared.reading.Next.{Next}
-use Rattle.frame_bytes.specs.Filling.{Fills}
-use Rattle.frame_bytes.specs.Next.{IsNext, StopsWithin}
+use Rattle.frame_bytes.specs.Filling.{Fills, GivesFewer}
+use Rattle.frame_bytes.specs.Next.{IsNext, IsPart, StopsWithin, StopsAtLength}
 use Rattle.frame_bytes.specs.Body.{IsBody}
-use Rattle.frame_bytes.proofs.NextLemmas.{number_some, read_is, head_too_long, head_torn, head_done, wrong_length, body_next}
+use Rattle.frame_bytes.proofs.NextLemmas.{number_none, number_some, framed_in, is_wrong, read_is, head_too_long, head_torn, head_done, wrong_length, body_next}
 
 -- what a buffer for a length was filled with
 pub record IsHead (room read : ℕ) (buf : List ℕ) (old new : Option (List ℕ)) : Type 0 where
@@ -84,28 +84,93 @@ body room read count buf (Some bytes) (Some rest) (Some left) next h ends four n
     body_next room count bytes head.served head.enough head.number is next left
     (subst (λ l. IsBody count (room - 4) (Some l) next (Some left)) head.behind b)
 
--- a read of the length failed, or one of the frame
-pub stops_in_head : (room n : ℕ) (old new : Option (List ℕ)) → n ≡ min room 3 + 1 → GivesAtMost old n new → StopsWithin room old new
-stops_in_head room n None new size g = tt
-stops_in_head room n (Some bytes) new size (got, few, given) = (got, omega (arith, size, few), given)
+-- a frame has a byte at least
+pub least : (count : ℕ) → is_frame_length count ≡ true → 1 ≤ count
+least count right = leb-true 1 count (and_parts (nat_le 1 count) (nat_le count most_frame) right).0
 
-pub stops_in_body : (room read count : ℕ) (buf : List ℕ) (old mid new : Option (List ℕ)) → IsHead room read buf old mid → read ≤ room → 4 ≤ read →
-    count ≡ big_number 4 buf → GivesAtMost mid (min count (room - 4 + 1)) new → StopsWithin room old new
-stops_in_body room read count buf None mid new h ends four number g = tt
-stops_in_body room read count buf (Some bytes) None new h ends four number g = absurd h.filled
-stops_in_body room read count buf (Some bytes) (Some rest) new h ends four number (got, few, given) =
+-- fewer bytes than a length has were read
+short_part : (room : ℕ) (got : List ℕ) → length got ≤ room → length got < 4 → IsPart room got
+short_part room got served less = record {
+  served = served;
+  no_frame = number_none (λ count left. framed_in count left) got less;
+  no_fault = ap (λ o. unwrap_or o false) (number_none is_wrong got less);
+}
+
+-- a length was read, and fewer bytes than are in its frame
+long_part : (room count : ℕ) (got : List ℕ) → length got ≤ room → 4 ≤ length got → big_number 4 got ≡ count → is_frame_length count ≡ true →
+    length got < 4 + count → IsPart room got
+long_part room count got served enough number right less =
+    let behind : length (drop 4 got) ≡ length got - 4 = length-drop 4 got in
+    let short : length (drop 4 got) < count = omega (arith, behind, enough, less) in
+    record {
+      served = served;
+      no_frame =
+          number_some framed_in got enough ∙ ap (λ n. framed_in n (drop 4 got)) number
+          ∙ ap (λ t. if t && nat_le count (length (drop 4 got)) then Some (take count (drop 4 got), drop count (drop 4 got)) else None) right
+          ∙ ap (λ t. if t then Some (take count (drop 4 got), drop count (drop 4 got)) else None) (lt-leb count (length (drop 4 got)) short);
+      no_fault =
+          ap (λ o. unwrap_or o false) (number_some is_wrong got enough) ∙ ap (λ n. not (is_frame_length n)) number ∙ ap not right;
+    }
+
+-- a read of the length failed, or one of the frame
+pub stops_in_head : (room n : ℕ) (old new : Option (List ℕ)) → n ≡ min room 3 + 1 → GivesFewer old n new → StopsWithin room old new
+stops_in_head room n old new size (got, few, given) = (got, short_part room got (omega (arith, size, few)) (omega (arith, size, few)), given)
+
+gives_none : (old : Option (List ℕ)) → Gives old [] old
+gives_none None = tt
+gives_none (Some bytes) = refl
+
+nothing_read : (room : ℕ) (new : Option (List ℕ)) → StopsWithin room None new
+nothing_read room new = ([], short_part room [] (omega arith) (omega arith), tt)
+
+-- those bytes and some behind them were read
+part_read : (room read count : ℕ) (buf : List ℕ) (bytes rest got : List ℕ) → IsHead room read buf (Some bytes) (Some rest) → read ≤ room →
+    4 ≤ read → count ≡ big_number 4 buf → is_frame_length count ≡ true → length got < min count (room - 4 + 1) → (new : Option (List ℕ)) →
+    Gives (Some rest) got new → IsPart room (take 4 bytes ++ got) × (length (take 4 bytes ++ got) ≡ 4 + length got) × Gives (Some bytes) (take 4 bytes ++ got) new
+part_read room read count buf bytes rest got h ends four number right few new given =
     let head = has_head room read count buf bytes rest h ends four number in
-    let most : unwrap_or (number_then (λ count left. Some count) bytes) 0 ≡ count =
-    ap (λ o. unwrap_or o 0) (number_some (λ count left. Some count) bytes head.enough) ∙ sym head.number in
     let whole : bytes ≡ take 4 bytes ++ rest = sym (take-append-drop 4 bytes) ∙ ap (λ l. take 4 bytes ++ l) (sym head.behind) in
     let size : length (take 4 bytes ++ got) ≡ length (take 4 bytes) + length got = length-append (take 4 bytes) got in
     let first : length (take 4 bytes) ≡ min 4 (length bytes) = length-take 4 bytes in
-    let served : 4 ≤ room = head.served in (
-      take 4 bytes ++ got,
-      omega (arith, size, first, few, most, served),
-      gives-then (Some bytes) (Some rest) new (take 4 bytes) got
-          (take 4 bytes ++ got) whole given refl,
+    let enough : 4 ≤ length bytes = head.enough in
+    let served : 4 ≤ room = head.served in
+    let all : length (take 4 bytes ++ got) ≡ 4 + length got = omega (arith, size, first, enough) in
+    let taken : take 4 (take 4 bytes ++ got) ≡ take 4 bytes = take_at (take 4 bytes) got 4 (omega (arith, first, enough)) in
+    let same : big_number 4 (take 4 bytes ++ got) ≡ count =
+    sym (big_from-take 0 4 4 (take 4 bytes ++ got) (omega arith)) ∙ ap (big_number 4) taken ∙ big_from-take 0 4 4 bytes (omega arith) ∙ sym head.number in (
+      long_part room count (take 4 bytes ++ got) (omega (arith, all, few, served)) (omega (arith, all)) same right (omega (arith, all, few)),
+      all,
+      gives-then (Some bytes) (Some rest) new (take 4 bytes) got (take 4 bytes ++ got) whole given refl,
     )
+
+pub stops_in_body : (room read count : ℕ) (buf : List ℕ) (old mid new : Option (List ℕ)) → IsHead room read buf old mid → read ≤ room → 4 ≤ read →
+    count ≡ big_number 4 buf → is_frame_length count ≡ true → GivesFewer mid (min count (room - 4 + 1)) new → StopsWithin room old new
+stops_in_body room read count buf None mid new h ends four number right g = nothing_read room new
+stops_in_body room read count buf (Some bytes) None new h ends four number right g = absurd h.filled
+stops_in_body room read count buf (Some bytes) (Some rest) new h ends four number right (got, few, given) =
+    let it = part_read room read count buf bytes rest got h ends four number right few new given in (take 4 bytes ++ got, it.0, it.2)
+
+-- memory was wanting for the frame, of which nothing was read
+pub stops_at_length : (room read count : ℕ) (buf : List ℕ) (old mid : Option (List ℕ)) → IsHead room read buf old mid → read ≤ room → 4 ≤ read →
+    count ≡ big_number 4 buf → is_frame_length count ≡ true → StopsAtLength room old mid
+stops_at_length room read count buf None mid h ends four number right =
+    let at : length buf ≡ min room 3 + 1 = h.size in
+    let within : read ≤ length buf = h.within in
+    let four_long : length buf ≡ 4 = omega (arith, at, within, four) in (
+      buf,
+      four_long,
+      long_part room count buf (omega (arith, four_long, ends, four)) (omega (arith, four_long)) (sym number) right
+          (let some : 1 ≤ count = least count right in omega (arith, four_long, some)),
+      tt,
+    )
+stops_at_length room read count buf (Some bytes) None h ends four number right = absurd h.filled
+stops_at_length room read count buf (Some bytes) (Some rest) h ends four number right =
+    let some : 1 ≤ count = least count right in
+    let it = part_read room read count buf bytes rest [] h ends four number right (omega (arith, some)) (Some rest) refl in
+    (take 4 bytes ++ [], it.1, it.0, it.2)
+
+pub fewer_none : (n : ℕ) (old new : Option (List ℕ)) → old ≡ new → 0 < n → GivesFewer old n new
+fewer_none n old new same some = ([], some, subst (λ o. Gives old [] o) same (gives_none old))
 
 -- what stands behind a length, of a buffer of the bytes that are wanted
 pub record IsFilledBody (count room read : ℕ) (buf : List ℕ) (old new : Option (List ℕ)) : Type 0 where

@@ -1,9 +1,8 @@
 -- What stands next in a session's input, of which so many bytes are served.
-use Rattle.std.specs.Prelude.{◌≡◌, ◌≤◌, ℕ, ◌+◌, min, nat_lt, Option, None, Some, unwrap_or, List, length, take, drop, IsTrue}
-use Rattle.clay_bytes.specs.Stream.{GivesAtMost}
-use Rattle.session_rules.specs.Fields.{number_then}
+use Rattle.std.specs.Prelude.{◌≡◌, ◌≤◌, ℕ, ◌+◌, nat_lt, false, Option, None, Some, List, length, take, drop, IsTrue}
+use Rattle.clay_bytes.specs.Stream.{Gives}
 use Rattle.session_rules.specs.declared.ending.Ending.{Ending}
-use Rattle.session_rules.specs.Input.{is_frame_length, first_frame, ending_by}
+use Rattle.session_rules.specs.Input.{is_frame_length, first_frame, has_wrong_length, ending_by}
 use Rattle.frame_bytes.specs.declared.reading.Next.{Next}
 
 -- the frame that stands first, where one does, and otherwise the input's ending
@@ -36,11 +35,16 @@ abbrev pub IsServed : ℕ → Next → Type 0
 IsServed room (Next.Frame frame) = IsTrue (is_frame_length (length frame)) × (4 + length frame ≤ room)
 IsServed room (Next.End ending) = Unit {0}
 
--- the most bytes that are read for what stands next: no byte past a frame, and one past those that are served
-abbrev pub most_read : ℕ → List ℕ → ℕ
-most_read room bytes = min (room + 1) (4 + unwrap_or (number_then (λ count left. Some count) bytes) 0)
+-- what was read of what stands next: no whole frame, no length that no frame may have, and no more bytes than are served
+pub record IsPart (room : ℕ) (got : List ℕ) : Type 0 where
+  pub served : length got ≤ room
+  pub no_frame : first_frame got ≡ None
+  pub no_fault : has_wrong_length got ≡ false
 
--- reading was given up, and no more bytes were read
+-- reading was given up within what stands next
 abbrev pub StopsWithin : ℕ → Option (List ℕ) → Option (List ℕ) → Type 0
-StopsWithin room None new = Unit {0}
-StopsWithin room (Some bytes) new = GivesAtMost (Some bytes) (most_read room bytes) new
+StopsWithin room old new = (got : List ℕ) × IsPart room got × Gives old got new
+
+-- it was given up behind a frame's length
+abbrev pub StopsAtLength : ℕ → Option (List ℕ) → Option (List ℕ) → Type 0
+StopsAtLength room old new = (got : List ℕ) × (length got ≡ 4) × IsPart room got × Gives old got new

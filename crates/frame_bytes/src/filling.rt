@@ -1,7 +1,7 @@
 //! A buffer filled from a source, however the source cuts its pieces.
 ghost use Rattle.std.specs.Prelude.{◌≡◌, ◌≤◌, length, take, IfOk, OnOk, OnErr};
-ghost use Rattle.clay_bytes.specs.Stream.{Rises, GivesAtMost};
-ghost use Rattle.frame_bytes.specs.Filling.{Fills};
+ghost use Rattle.clay_bytes.specs.Stream.{Rises};
+ghost use Rattle.frame_bytes.specs.Filling.{Fills, GivesFewer};
 
 use clay_bytes::{Failed, Source};
 
@@ -9,7 +9,7 @@ use clay_bytes::{Failed, Source};
 pub(crate) fn fill<S: Source>(source: &mut S, buf: &mut [u8]) -> Result<usize, Failed>
     ensures within { IfOk result (λ n. n ≤ length buf.new) }
     ensures bytes { IfOk result (λ n. Fills (S.left source.old) (length buf.new) (take n buf.new) (S.left source.new)) }
-    ensures cut { OnErr result (GivesAtMost (S.left source.old) (length buf.new) (S.left source.new)) }
+    ensures cut { OnErr result (GivesFewer (S.left source.old) (length buf.new) (S.left source.new)) }
     ensures cause { OnErr result (Rises (S.faults source.old) (S.faults source.new)) }
     ensures steady { OnOk result (S.faults source.new ≡ S.faults source.old) }
     ensures count { S.faults source.old ≤ S.faults source.new }

@@ -13,6 +13,6 @@ mod writing;
 
 pub use fault::FrameFault;
 pub use lengths::MOST_LISTED;
-pub use reading::{MOST_FRAME, MOST_INPUT, Next, read_frame};
+pub use reading::{MOST_FRAME, Next, most_input, read_frame};
 pub use requests::request_of;
 pub use writing::write_answer;

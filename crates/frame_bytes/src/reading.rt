@@ -1,10 +1,11 @@
 //! Frames from a source, one after another.
 ghost use Rattle.std.specs.Prelude.{◌≡◌, ◌≤◌, ◌+◌, min, vec_len, IfOk, IsErrOf, OnErr};
-ghost use Rattle.clay_bytes.specs.Stream.{Rises, GivesAtMost};
-ghost use Rattle.session_rules.specs.Input.{is_frame_length};
+ghost use Rattle.clay_bytes.specs.Stream.{Rises};
+ghost use Rattle.session_rules.specs.Input.{is_frame_length, most_input};
 ghost use Rattle.frame_bytes.specs.Body.{IsBody, IsOfLength};
-ghost use Rattle.frame_bytes.specs.Next.{IsNext, IsServed, StopsWithin};
-ghost use Rattle.frame_bytes.specs.declared.fault.FrameFault.TheVariants.{ReadFault};
+ghost use Rattle.frame_bytes.specs.Next.{IsNext, IsServed, StopsWithin, StopsAtLength};
+ghost use Rattle.frame_bytes.specs.Filling.{GivesFewer};
+ghost use Rattle.frame_bytes.specs.declared.fault.FrameFault.TheVariants.{ReadFault, OutOfMemory};
 
 use crate::fault::FrameFault;
 use crate::filling::fill;
@@ -14,8 +15,8 @@ use session_rules::Ending;
 use std::alloc::{AllocError, Global};
 use store_map::ByteList;
 
-/// The most bytes of an input that are served.
-pub const MOST_INPUT: u64 = 167_772_160;
+// The most bytes of an input that are served.
+const MOST_INPUT: u64 = 167_772_160;
 
 /// The most bytes of a frame.
 pub const MOST_FRAME: u32 = 1_048_700;
@@ -27,6 +28,13 @@ pub enum Next {
     Frame(ByteList),
     /// The input's end.
     End(Ending),
+}
+
+/// How many bytes of an input are served.
+pub fn most_input() -> u64
+    ensures { result ≡ most_input }
+{
+    MOST_INPUT
 }
 
 // Whether a frame may have so many bytes.
@@ -50,9 +58,11 @@ fn read_body<S: Source>(
     count: u32,
     room: u64,
 ) -> Result<Next, FrameFault>
+    requires { 1 ≤ count }
     ensures body { IfOk result (λ next. IsBody count room (S.left source.old) next (S.left source.new)) }
     ensures length { IfOk result (IsOfLength count room) }
-    ensures fault { OnErr result (GivesAtMost (S.left source.old) (min count (room + 1)) (S.left source.new)) }
+    ensures fault { OnErr result (GivesFewer (S.left source.old) (min count (room + 1)) (S.left source.new)) }
+    ensures memory { IsErrOf result OutOfMemory → source.new ≡ source.old }
     ensures cause { IsErrOf result ReadFault → Rises (S.faults source.old) (S.faults source.new) }
     ensures steady { (IsErrOf result ReadFault → ⊥) → S.faults source.new ≡ S.faults source.old }
     ensures count { S.faults source.old ≤ S.faults source.new }
@@ -73,12 +83,14 @@ fn read_body<S: Source>(
 
 /// What stands next in an input of which `room` more bytes are served.
 ///
-/// No byte past a frame is read. A session begins with `MOST_INPUT` bytes of room, and a frame takes
-/// its own length and four bytes of it. After a fault the bytes that were read are lost.
+/// No byte past a frame is read. A session begins with `most_input` bytes of room, and a frame takes
+/// its own length and four bytes of it. After a fault the bytes that were read are lost; they are no
+/// whole frame, and where memory was wanting they are a frame's length.
 pub fn read_frame<S: Source>(alloc: Global, source: &mut S, room: u64) -> Result<Next, FrameFault>
     ensures next { IfOk result (λ next. IsNext room (S.left source.old) next (S.left source.new)) }
     ensures served { IfOk result (IsServed room) }
     ensures fault { OnErr result (StopsWithin room (S.left source.old) (S.left source.new)) }
+    ensures memory { IsErrOf result OutOfMemory → StopsAtLength room (S.left source.old) (S.left source.new) }
     ensures cause { IsErrOf result ReadFault → Rises (S.faults source.old) (S.faults source.new) }
     ensures steady { (IsErrOf result ReadFault → ⊥) → S.faults source.new ≡ S.faults source.old }
     ensures count { S.faults source.old ≤ S.faults source.new }

@@ -10,10 +10,10 @@ use Rattle.session_rules.specs.Input.{framed, most_frame, is_frame_length, first
 use Rattle.frame_laws.specs.Cuts.{IsCut, InputsAreCut, CutsAreTheOnlyOnes}
 use Rattle.frame_laws.proofs.Numbers.{number_at, number_read, number_written}
 
-all_tail : {X : Type 0} (P : X → Type 0) (x : X) (xs : List X) → All P (x ∷ xs) → All P xs
+pub all_tail : {X : Type 0} (P : X → Type 0) (x : X) (xs : List X) → All P (x ∷ xs) → All P xs
 all_tail P x xs all = λ k d h. all (suc k) d (omega (arith, h))
 
-all_head : {X : Type 0} (P : X → Type 0) (x : X) (xs : List X) → All P (x ∷ xs) → P x
+pub all_head : {X : Type 0} (P : X → Type 0) (x : X) (xs : List X) → All P (x ∷ xs) → P x
 all_head P x xs all = all 0 x (omega arith)
 
 -- what is read after a length
@@ -97,7 +97,7 @@ first_is (a ∷ b ∷ c ∷ d ∷ rest) first all e =
     first_by (from_be_bytes w32 (a ∷ b ∷ c ∷ d ∷ [])) (a ∷ b ∷ c ∷ d ∷ []) rest first
     (number_written a b c d (all 0 0 (omega arith)) (all 1 0 (omega arith)) (all 2 0 (omega arith)) (all 3 0 (omega arith))) (sym (number_at after_length a b c d rest) ∙ e)
 
-all_right : {X : Type 0} (P : X → Type 0) (xs ys : List X) → All P (xs ++ ys) → All P ys
+pub all_right : {X : Type 0} (P : X → Type 0) (xs ys : List X) → All P (xs ++ ys) → All P ys
 all_right P [] ys all = all
 all_right P (x ∷ xs) ys all = all_right P xs ys (all_tail P x (xs ++ ys) all)
 

@@ -1,5 +1,5 @@
 -- A request is read from its frame as it was written.
-use Rattle.std.specs.Prelude.{◌≡◌, ◌<◌, ℕ, ◌^◌, List, [], ◌∷◌, ◌++◌, length, Some, ⊤}
+use Rattle.std.specs.Prelude.{◌≡◌, ◌<◌, ℕ, ◌^◌, List, [], ◌∷◌, ◌++◌, length, Some, All, ⊤}
 use Rattle.byteorder.specs.Endian.{big_bytes}
 use Rattle.store_map.specs.Name.{IsName}
 use Rattle.store_map.specs.Content.{content_bytes}
@@ -58,3 +58,9 @@ IsSendable servers request = ⊤
 -- each such request is read as it was written
 abbrev pub RequestsAreRead : Type 0
 RequestsAreRead = (servers : ℕ) (request : Request) → IsSendable servers request → request_of servers (request_bytes request) ≡ Some request
+
+-- and what is read as a request is the frame of one that can be sent, and of no other
+abbrev pub RequestsAreSent : Type 0
+RequestsAreSent =
+    (servers : ℕ) (bytes : List ℕ) (request : Request) → All (λ byte. byte < 256) bytes → request_of servers bytes ≡ Some request →
+    IsSendable servers request × (bytes ≡ request_bytes request)

@@ -1,7 +1,7 @@
 //! What the definitions of frames say, as functions that do nothing and whose contracts are the laws.
 
 ghost use Rattle.frame_laws.specs.Cuts.{InputsAreCut, CutsAreTheOnlyOnes};
-ghost use Rattle.frame_laws.specs.Sent.{RequestsAreRead};
+ghost use Rattle.frame_laws.specs.Sent.{RequestsAreRead, RequestsAreSent};
 
 /// What a session reads is cut into frames, and no whole frame stands first in what is left.
 pub fn inputs_are_cut()
@@ -16,4 +16,9 @@ pub fn cuts_are_the_only_ones()
 /// A request that is written into a frame field by field is read from it.
 pub fn requests_are_read()
     ensures { RequestsAreRead }
+{}
+
+/// What is read as a request was written so, field by field, and nothing stands behind it.
+pub fn requests_are_sent()
+    ensures { RequestsAreSent }
 {}

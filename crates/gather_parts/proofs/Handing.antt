@@ -6,7 +6,7 @@ use Rattle.clay_grid.specs.Shape.{Shape}
 use Rattle.store_core.specs.Told.{Told}
 use Rattle.store_core.specs.NextAct.{Job}
 use Rattle.store_core.specs.Gathering.{Part}
-use Rattle.store_core.specs.Act.{Outcome}
+use Rattle.store_core.specs.Act.{Act, Outcome}
 use Rattle.store_core.specs.ActPlace.{is_in_pass}
 use Rattle.store_resume.specs.Stage.{Aim, Asking, Stage}
 use Rattle.store_resume.specs.Stages.{first_stage}
@@ -15,7 +15,11 @@ use Rattle.store_resume.specs.States.{sequel_state, stage_state, open_parts}
 use Rattle.store_resume.specs.StateActs.{act_at}
 use Rattle.store_resume.specs.CallLaws.{next_call}
 use Rattle.gathering.specs.Gathers.{GatherOf}
+use Rattle.call_steps.specs.declared.need.Need.{Need}
 use Rattle.call_steps.specs.declared.need.Need.TheVariants as need
+use Rattle.call_steps.specs.declared.act.DirectoryAct.{DirectoryAct}
+use Rattle.call_steps.specs.declared.act.Act.TheVariants as next
+use Rattle.call_steps.specs.Acts.{act_by, act_now}
 use Rattle.call_steps.specs.CallOf.{CallOf, act_of}
 use Rattle.call_steps.specs.Steps.{need_by, need_of, coded as call_coded}
 use Rattle.gather_parts.specs.Steps.{next_of, handed_on, coded}
@@ -24,9 +28,14 @@ use Rattle.gather_parts.specs.declared.progress.Progress.TheVariants as progress
 use Rattle.gather_parts.specs.Wanted.{Wanted, parts_of, bytes_of}
 use Rattle.gather_parts.specs.Gatherings.{GatheringsOf, bytes_at_work, owed}
 use Rattle.gather_parts.specs.Progress.{progress_at, progress_by, progress_of, is_due_at, is_due, need_at}
+use Rattle.gather_parts.specs.Doing.{act_after, act_at_stage, act_by_parts, act_in}
 use Rattle.gather_parts.specs.States.{state_by, state_in, StandsIn, after_coding}
 use Rattle.gather_parts.proofs.Moving.{standing_call, stands_as}
 use Rattle.gather_parts.proofs.Nexts.{next_state, next_bytes}
+
+abbrev is_coder : Need → Bool
+is_coder need.Coder = true
+is_coder other = false
 
 not_due : {A : Type 0} (now : Progress) → is_due_at now ≡ false → now ≡ progress.Due → A
 not_due now none e = absurd (true≢false (sym (ap is_due_at e) ∙ none))
@@ -161,6 +170,45 @@ module _ (g : Shape) (tries : ℕ) (job : Job) (pairs : List (ℕ × ℕ)) (afte
 pub state_needs : (p : GatheringsOf) (tries : ℕ) (job : Job) (pairs : List (ℕ × ℕ)) (after : Sequel)
     → need_by (act_at p.book.geometry tries job pairs (state_in p after)) (is_due p) ≡ need_at (progress_of p)
 state_needs p tries job pairs after = progress_needs p.book.geometry tries job pairs after p.current p.left
+
+-- so is what a call does next
+coding_by : (act : Act) → need_by act true ≡ need.Coder → act_by act true ≡ next.Coding
+coding_by (Act.AtDirectory step) e = refl
+coding_by (Act.AtServer server step) e = refl
+coding_by (Act.Finish outcome) e = absurd (true≢false (sym (ap is_coder e)))
+
+module _ (g : Shape) (tries : ℕ) (job : Job) (pairs : List (ℕ × ℕ)) (after : Sequel) where
+  stage_acts : (left : List Wanted) (aim : Aim) (stage : Stage)
+      → act_at_stage g aim stage
+      ≡ act_by (act_at g tries job pairs (stage_state (open_parts g (parts_of left) after) aim (parts_of left) after stage)) (is_due_at (progress_at g aim stage))
+  stage_acts left aim (Stage.Asks asking) = refl
+  stage_acts left aim Stage.HasBytes =
+      sym (coding_by (act_at g tries job pairs (open_parts g (parts_of left) after)) (open_goes g tries job pairs after (parts_of left)))
+  stage_acts left aim (Stage.TooMany missing) = refl
+  stage_acts left aim Stage.AtTarget = refl
+  stage_acts left aim (Stage.TargetAway downs) = refl
+  stage_acts left aim Stage.Short = refl
+
+  sequel_acts : (after : Sequel) → next.Directory (act_after after) ≡ act_by (act_at g tries job pairs (sequel_state after)) false
+  sequel_acts (Sequel.Serve point) = refl
+  sequel_acts Sequel.Draw = refl
+  sequel_acts (Sequel.Confirm seen target) = refl
+
+  progress_acts : (current : Option GatherOf) (left : List Wanted)
+      → act_by_parts g (act_after after) current left
+      ≡ act_by (act_at g tries job pairs (state_by g (parts_of left) after current)) (is_due_at (progress_by g current left))
+  progress_acts (Some w) left = stage_acts left w.course.aim w.course.stage
+  progress_acts None [] = sequel_acts after
+  progress_acts None (wanted ∷ left) =
+      sym (coding_by (act_at g tries job pairs (open_parts g (parts_of (wanted ∷ left)) after)) (open_goes g tries job pairs after (parts_of (wanted ∷ left))))
+
+pub state_acts : (c : CallOf) (p : GatheringsOf) (after : Sequel) (follows : DirectoryAct) → StandsIn c p after → c.due ≡ is_due p → act_after after ≡ follows
+    → act_in p follows ≡ act_now c
+state_acts c p after follows stands due so =
+    ap (λ step. act_in p step) (sym so)
+    ∙ progress_acts p.book.geometry c.tries c.job c.state.pairs after p.current p.left
+    ∙ ap (λ (x : CallOf). act_by (act_of x) (is_due p)) (sym (stands_as c p after stands))
+    ∙ ap (λ b. act_by (act_of c) b) (sym due)
 
 -- it is in its pass then
 pub state_in_pass : (p : GatheringsOf) (after : Sequel) (current : Option GatherOf) (left : List Wanted) (tries : ℕ) (job : Job) (pairs : List (ℕ × ℕ))

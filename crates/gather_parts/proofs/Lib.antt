@@ -7,3 +7,4 @@ pub mod Counts
 pub mod OldParts
 pub mod Ended
 pub mod Doing
+pub mod Asking

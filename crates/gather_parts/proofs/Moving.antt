@@ -15,10 +15,11 @@ use Rattle.store_resume.specs.StageAfter.{step_asked, server_asked, stage_after}
 use Rattle.store_resume.specs.State.{Sequel}
 use Rattle.store_resume.specs.States.{parts_state, stage_state, open_parts, open_state}
 use Rattle.store_resume.proofs.Opened.{opened_next}
-use Rattle.gathering.specs.Gathers.{GatherOf}
+use Rattle.gathering.specs.Gathers.{GatherOf, told_at, told_by}
 use Rattle.gathering.proofs.Taking.{takes_follow}
 use Rattle.call_steps.specs.CallOf.{CallOf}
 use Rattle.call_steps.specs.Steps.{stepped_at_server}
+use Rattle.call_steps.specs.Hearing.{told_here}
 use Rattle.gather_parts.specs.declared.progress.Progress.{Progress}
 use Rattle.gather_parts.specs.declared.progress.Progress.TheVariants as progress
 use Rattle.gather_parts.specs.Wanted.{Wanted, wanted_of, parts_of}
@@ -117,3 +118,23 @@ module _ (c : CallOf) (after : Sequel) (due short : Bool) (s : Server) (p : Gath
   step_moves server code asks stands =
       subst (λ (x : CallOf). ((stepped p short s).0, moved x (stepped p short s).1 after due short) ≡ stepped_at_server short due x s) (sym (stands_as c p after stands))
       (current_moves p.current server code asks)
+
+  -- and is told what they are
+  stage_tells : (w : GatherOf) (stage : Stage) (server : ℕ) → progress_at p.book.geometry w.course.aim stage ≡ progress.Asks server
+      → told_at (record w { course = record (w.course) { geometry = p.book.geometry } }) short s stage
+      ≡ told_here short (standing_call c (record p { current = Some (record w { course = record (w.course) { geometry = p.book.geometry; stage = stage } }) }) after) s
+  stage_tells w (Stage.Asks asking) server e = refl
+  stage_tells w Stage.HasBytes server e = no_question progress.Due server refl e
+  stage_tells w (Stage.TooMany missing) server e = no_question progress.TooMany server refl e
+  stage_tells w Stage.AtTarget server e = no_question progress.Short server refl e
+  stage_tells w (Stage.TargetAway downs) server e = no_question progress.Short server refl e
+  stage_tells w Stage.Short server e = no_question progress.Short server refl e
+
+  pub step_tells : (w : GatherOf) (server : ℕ) → p.current ≡ Some w → w.course.geometry ≡ p.book.geometry → progress_of p ≡ progress.Asks server → StandsIn c p after
+      → told_by w short s ≡ told_here short c s
+  step_tells w server is code asks stands =
+      ap (λ g. told_by (record w { course = record (w.course) { geometry = g } }) short s) code
+      ∙ stage_tells w w.course.stage server (ap (λ o. progress_by p.book.geometry o p.left) (sym is) ∙ asks)
+      ∙ ap (λ g. told_here short (standing_call c (record p { current = Some (record w { course = record (w.course) { geometry = g } }) }) after) s) (sym code)
+      ∙ ap (λ o. told_here short (standing_call c (record p { current = o }) after) s) (sym is)
+      ∙ ap (λ (x : CallOf). told_here short x s) (sym (stands_as c p after stands))

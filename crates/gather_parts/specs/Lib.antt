@@ -5,3 +5,4 @@ pub mod Progress
 pub mod States
 pub mod Ends
 pub mod Inside
+pub mod Doing

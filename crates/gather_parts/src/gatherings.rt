@@ -16,10 +16,14 @@ ghost use Rattle.gather_parts.specs.Steps.{stepped};
 ghost use Rattle.gather_parts.specs.Progress.{progress_at, progress_of, is_due, need_at, IfAsks};
 ghost use Rattle.call_steps.specs.CallOf.{CallOf, act_of};
 ghost use Rattle.call_steps.specs.Steps.{need_of, stepped_at_server};
+ghost use Rattle.call_steps.specs.Acts.{act_now};
+ghost use Rattle.call_steps.specs.Answers.{told_by_server};
+ghost use Rattle.call_steps.specs.Hearing.{told_here};
+ghost use Rattle.gather_parts.specs.Doing.{act_after, act_at_stage, act_in};
 ghost use Rattle.gather_parts.specs.States.{state_in, StandsIn, moved};
 
 use crate::progress::Progress;
-use call_steps::Need;
+use call_steps::{Act, DirectoryAct, Need, ServerAnswer};
 use chunk_server::Server;
 use gather_course::Course;
 use gathering::Gather;
@@ -67,6 +71,18 @@ fn progress_by(course: &Course) -> Progress
         None if course.has_bytes() => Progress::Due,
         None if course.is_lost() => Progress::TooMany,
         None => Progress::Short,
+    }
+}
+
+// What a call does next whose gathering is at work.
+#[tactic(auto, using(crate::proofs::Asking::asks_server, crate::proofs::Asking::asks_coder, crate::proofs::Asking::asks_nobody))]
+fn act_at(gather: &Gather) -> Act
+    ensures { result ≡ act_at_stage gather.now.course.geometry gather.now.course.aim gather.now.course.stage }
+{
+    match gather.question() {
+        Some((server, step)) => Act::Server(server, step),
+        None if gather.course().has_bytes() => Act::Coding,
+        None => Act::Directory(DirectoryAct::End),
     }
 }
 
@@ -129,6 +145,25 @@ impl PartGatherings {
         }
     }
 
+    /// What a call does next that stands in them, and that does this once they have their bytes.
+    pub fn act(&self, follows: DirectoryAct) -> Act
+        ensures act { result ≡ act_in self.now follows }
+        ensures call { (c : CallOf) (after : Sequel) → StandsIn c self.now after → c.due ≡ is_due self.now →
+            act_after after ≡ follows → result ≡ act_now c }
+    {
+        self.act_then(follows)
+    }
+
+    fn act_then(&self, follows: DirectoryAct) -> Act
+        ensures { result ≡ act_in self.now follows }
+    {
+        match &self.current {
+            Some(gather) => act_at(gather),
+            None if 0 < self.left.len() => Act::Coding,
+            None => Act::Directory(follows),
+        }
+    }
+
     /// The bytes of the stripes that were gathered, one after another.
     pub fn bytes(&self) -> &[u8]
         ensures { result.now ≡ self.now.bytes }
@@ -136,8 +171,8 @@ impl PartGatherings {
         &self.bytes
     }
 
-    /// One step at the server that is asked. Where memory is wanting the gatherings end.
-    pub fn on_server(&mut self, s: &mut Server) -> Result<(), AllocError>
+    /// One step at the server that is asked, and its answer. Where memory is wanting the gatherings end.
+    pub fn on_server(&mut self, s: &mut Server) -> Result<ServerAnswer, AllocError>
         requires asked { progress_of self.old ≡ Progress.Asks s.old.number }
         requires book { s.old.book ≡ self.old.book }
         ensures step { (core_of s.new, self.new) ≡ stepped self.old (is_err result) (core_of s.old) }
@@ -146,6 +181,8 @@ impl PartGatherings {
         ensures owed { owed self.new ≡ owed self.old }
         ensures call { (c : CallOf) (after : Sequel) (due : Bool) → StandsIn c self.old after →
             (core_of s.new, moved c self.new after due (is_err result)) ≡ stepped_at_server (is_err result) due c (core_of s.old) }
+        ensures told { (c : CallOf) (after : Sequel) → StandsIn c self.old after →
+            told_by_server result ≡ told_here (is_err result) c (core_of s.old) }
     {
         let Some(gather) = &mut self.current else {
             unreachable!()

@@ -8,3 +8,4 @@ pub mod Pieces
 pub mod Making
 pub mod Serving
 pub mod Taking
+pub mod Asking

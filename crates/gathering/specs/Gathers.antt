@@ -5,7 +5,7 @@ use Rattle.store_core.specs.Lists.{change_at}
 use Rattle.store_core.specs.Told.{Told}
 use Rattle.store_core.specs.Server.{Server, raised_by, at_server}
 use Rattle.store_resume.specs.Stage.{Aim, Stage}
-use Rattle.store_resume.specs.StageAfter.{step_asked}
+use Rattle.store_resume.specs.StageAfter.{server_asked, step_asked}
 use Rattle.version_seal.specs.Entry.{StampOf}
 use Rattle.version_seal.specs.Sealed.{PartOf}
 use Rattle.gather_course.specs.Courses.{CourseOf, new_course, server_of, layers_asked, has_bytes, after_answer}
@@ -13,6 +13,8 @@ use Rattle.gathering.specs.Parts.{Shelf, IsPart}
 use Rattle.gathering.specs.Made.{AreMade, Gives}
 use Rattle.call_steps.specs.declared.need.Need.{Need}
 use Rattle.call_steps.specs.declared.need.Need.TheVariants as need
+use Rattle.call_steps.specs.declared.act.ServerAct.{ServerAct}
+use Rattle.call_steps.specs.Acts.{server_act}
 
 -- the stamp of the pinned version, and its course
 pub record GatherOf : Type 0 where
@@ -42,6 +44,22 @@ stepped_at w short s takes stage = (s, w, takes)
 -- the server, the gathering and what its call has taken after it, where memory was wanting or not
 abbrev pub stepped : GatherOf → Bool → Server → List ℕ → Server × GatherOf × List ℕ
 stepped w short s takes = stepped_at w short s takes w.course.stage
+
+-- what it is told then
+abbrev pub told_at : GatherOf → Bool → Server → Stage → Told
+told_at w short s (Stage.Asks asking) = (at_server short (step_asked w.course.geometry w.course.aim asking) s).1
+told_at w short s stage = Told.NotMade
+
+abbrev pub told_by : GatherOf → Bool → Server → Told
+told_by w short s = told_at w short s w.course.stage
+
+-- the server that is asked, and what it is asked
+abbrev pub question_at : Shape → Aim → Stage → Option (ℕ × ServerAct)
+question_at g aim (Stage.Asks asking) = Some (server_asked g aim asking, server_act (step_asked g aim asking))
+question_at g aim stage = None
+
+abbrev pub question_of : GatherOf → Option (ℕ × ServerAct)
+question_of w = question_at w.course.geometry w.course.aim w.course.stage
 
 -- what it needs: a server, or the coder once all parts have come
 abbrev pub need_by : Option ℕ → Bool → Need

@@ -7,11 +7,12 @@ ghost use Rattle.chunk_server.specs.Core.{core_of};
 ghost use Rattle.gather_course.specs.Courses.{IsAskingStage, new_course, server_of, is_look, is_fetch};
 ghost use Rattle.gather_course.specs.Aims.{IsTooMany};
 ghost use Rattle.store_core.specs.Told.{lost_in};
-ghost use Rattle.gathering.specs.Gathers.{new_gather, heard, taking, stepped, IsAskedPart, IsOwnPart};
+ghost use Rattle.call_steps.specs.Answers.{server_told, told_by_server};
+ghost use Rattle.gathering.specs.Gathers.{new_gather, heard, taking, stepped, told_by, question_of, IsAskedPart, IsOwnPart};
 ghost use Rattle.chunk_server.specs.State.{IsSame};
 ghost use Rattle.gathering.specs.Parts.{AreNone};
 
-use call_steps::{Need, Seen};
+use call_steps::{Need, Seen, ServerAct, ServerAnswer};
 use chunk_server::{Fetched, Presence, Server};
 use clay_grid::Geometry;
 use gather_course::Course;
@@ -183,38 +184,63 @@ impl Gather {
         course.into_missing()
     }
 
-    /// One step at the server that is asked. Where memory is wanting the gathering ends.
-    pub fn on_server(&mut self, s: &mut Server, takes: &mut Takes) -> Result<(), AllocError>
+    /// The server that is asked, and what it is asked.
+    #[tactic(auto, using(crate::proofs::Asking::asks_has, crate::proofs::Asking::asks_part, crate::proofs::Asking::asks_none))]
+    pub fn question(&self) -> Option<(u32, ServerAct)>
+        ensures { result ≡ question_of self.now }
+    {
+        let server = self.course.asked()?;
+        let version = self.course.version();
+        if self.course.asks_whether() {
+            Some((server, ServerAct::Has(version)))
+        } else {
+            Some((server, ServerAct::Fetch(version)))
+        }
+    }
+
+    /// One step at the server that is asked, and its answer. Where memory is wanting the gathering ends.
+    pub fn on_server(
+        &mut self,
+        s: &mut Server,
+        takes: &mut Takes,
+    ) -> Result<ServerAnswer, AllocError>
         requires asked { server_of self.old.course ≡ Some s.old.number }
         requires home { s.old.book.home ≡ self.old.stamp.home }
         requires code { s.old.book.geometry ≡ self.old.course.geometry }
         requires counts { length takes.old ≡ chunk_count self.old.course.geometry }
         ensures step { (core_of s.new, self.new, takes.new)
             ≡ stepped self.old (is_err result) (core_of s.old) takes.old }
+        ensures told { told_by_server result ≡ told_by self.old (is_err result) (core_of s.old) }
         ensures same { IsSame s.old s.new }
         ensures look { is_look self.old.course.stage ≡ true → IsOk result }
     {
         if self.course.asks_whether() {
-            self.look(s);
-            return Ok(());
+            return Ok(self.look(s));
         }
         self.fetch(s, takes)
     }
 
-    fn look(&mut self, s: &mut Server)
+    fn look(&mut self, s: &mut Server) -> ServerAnswer
         requires asking { IsAskingStage self.old.course.stage }
         requires look { is_look self.old.course.stage ≡ true }
         ensures step { (takes : List ℕ) → (core_of s.new, self.new, takes)
             ≡ stepped self.old false (core_of s.old) takes }
+        ensures told { server_told result ≡ told_by self.old false (core_of s.old) }
         ensures same { IsSame s.old s.new }
     {
         match s.has(self.course.version()) {
-            Presence::Here => self.hear_here(),
-            Presence::Missing { found } => self.hear_missing(found),
+            Presence::Here => {
+                self.hear_here();
+                ServerAnswer::Here
+            }
+            Presence::Missing { found } => {
+                self.hear_missing(found);
+                ServerAnswer::Missing(found)
+            }
         }
     }
 
-    fn fetch(&mut self, s: &mut Server, takes: &mut Takes) -> Result<(), AllocError>
+    fn fetch(&mut self, s: &mut Server, takes: &mut Takes) -> Result<ServerAnswer, AllocError>
         requires asked { server_of self.old.course ≡ Some s.old.number }
         requires part { is_look self.old.course.stage ≡ false }
         requires home { s.old.book.home ≡ self.old.stamp.home }
@@ -222,6 +248,7 @@ impl Gather {
         requires counts { length takes.old ≡ chunk_count self.old.course.geometry }
         ensures step { (core_of s.new, self.new, takes.new)
             ≡ stepped self.old (is_err result) (core_of s.old) takes.old }
+        ensures told { told_by_server result ≡ told_by self.old (is_err result) (core_of s.old) }
         ensures same { IsSame s.old s.new }
     {
         let alloc = *self.helpers.allocator();
@@ -230,14 +257,19 @@ impl Gather {
             return Err(AllocError);
         };
         match s.fetch(self.course.version(), &layers) {
-            Ok(Fetched::Part(part)) => self.hear_part(layers.len(), part, takes),
-            Ok(Fetched::Missing { found }) => self.hear_missing(found),
+            Ok(Fetched::Part(part)) => {
+                self.hear_part(layers.len(), part, takes);
+                Ok(ServerAnswer::Given(layers.len() as u64))
+            }
+            Ok(Fetched::Missing { found }) => {
+                self.hear_missing(found);
+                Ok(ServerAnswer::Missing(found))
+            }
             Err(error) => {
                 self.hear_short();
-                return Err(error);
+                Err(error)
             }
         }
-        Ok(())
     }
 
     fn hear_short(&mut self)

@@ -14,7 +14,9 @@ impl<'a> Places<'a> {
         ensures { KeepsAll self.old self.new }
     {
         match sweeper.need() {
-            Need::Directory => sweeper.on_directory(&mut self.directory),
+            Need::Directory => {
+                sweeper.on_directory(&mut self.directory);
+            }
             Need::Server(server) => {
                 if let Some(its) = self.servers.get_mut(server as usize) {
                     sweeper.on_server(its);

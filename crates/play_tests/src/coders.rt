@@ -50,14 +50,23 @@ fn asked_by_the_program<R: Threads + Wait + Sync + AllocGlobal>(
     Ok(coder)
 }
 
+fn encodes_of_the_program<R: Threads + Wait + Sync + AllocGlobal>(
+    rt: &R,
+    words: &[&str],
+) -> Result<u64, Fail> {
+    Ok(asked_by_the_program(rt, words, PUT_THEN_GET)?.encodes())
+}
+
 #[test]
 fn the_program_asks_its_coder(rt: HostRuntime) -> Result<(), Fail> {
-    let of_no_words = asked_by_the_program(&rt, &[], PUT_THEN_GET)?;
-    assert!(rt; of_no_words.encodes() >= 1);
-    let of_play = asked_by_the_program(&rt, &["play"], PUT_THEN_GET)?;
-    assert!(rt; of_play.encodes() >= 1);
-    let of_run = asked_by_the_program(&rt, &["run", "4"], PUT_THEN_GET)?;
-    assert!(rt; of_run.encodes() >= 1);
+    assert!(rt; encodes_of_the_program(&rt, &[])? >= 1);
+    assert!(rt; encodes_of_the_program(&rt, &["play"])? >= 1);
+    assert!(rt; encodes_of_the_program(&rt, &["run", "4"])? >= 1);
+    Ok(())
+}
+
+#[test]
+fn the_program_asks_for_a_rebuild(rt: HostRuntime) -> Result<(), Fail> {
     let after_a_loss = asked_by_the_program(&rt, &[], ONE_LOSS)?;
     assert!(rt; after_a_loss.rebuilds() >= 1);
     Ok(())
@@ -104,6 +113,11 @@ fn asked_by_a_world<R: Threads + Sync + AllocGlobal>(
 fn a_world_asks_its_coder(rt: HostRuntime) -> Result<(), Fail> {
     let of_a_put = asked_by_a_world(&rt, PUT_THEN_GET)?;
     assert!(rt; of_a_put.encodes() >= 1);
+    Ok(())
+}
+
+#[test]
+fn a_world_asks_for_a_rebuild(rt: HostRuntime) -> Result<(), Fail> {
     let after_a_loss = asked_by_a_world(&rt, ONE_LOSS)?;
     assert!(rt; after_a_loss.rebuilds() >= 1);
     Ok(())

@@ -1,7 +1,7 @@
 //! Reads and writes that fail, each in turn.
 use clay_bytes::{DripSink, DripSource, MemSink, MemSource};
 use clay_lanes::LaneCoder;
-use command_runs::runs::{Ran, run_failing, run_with};
+use command_runs::runs::{Ran, fails, run_with};
 use command_runs::scripts::{PUT_THEN_GET, TRANSCRIPT};
 use command_runs::{NoGate, Status};
 use std::sync::Wait;
@@ -11,15 +11,18 @@ use text_tables::faults::same;
 
 #[test]
 fn first_call_fails(rt: HostRuntime) -> Result<(), Fail> {
-    let failed_read = run_failing(&rt, &[], PUT_THEN_GET, &[0], &[])?;
-    assert_eq!(rt; failed_read.status, Status::ReadFault);
-    assert_eq!(rt; failed_read.written.len(), 0);
-    let failed_write = run_failing(&rt, &[], PUT_THEN_GET, &[], &[0])?;
-    assert_eq!(rt; failed_write.status, Status::WriteFault);
-    assert_eq!(rt; failed_write.written.len(), 0);
-    let failed_usage = run_failing(&rt, &["playy"], PUT_THEN_GET, &[0], &[0])?;
-    assert_eq!(rt; failed_usage.status, Status::WriteFault);
-    assert_eq!(rt; failed_usage.written.len(), 0);
+    assert!(rt; fails(&rt, &[], PUT_THEN_GET, &[0], &[], Status::ReadFault)?);
+    assert!(rt; fails(&rt, &[], PUT_THEN_GET, &[], &[0], Status::WriteFault)?);
+    assert!(rt;
+        fails(
+            &rt,
+            &["playy"],
+            PUT_THEN_GET,
+            &[0],
+            &[0],
+            Status::WriteFault
+        )?
+    );
     Ok(())
 }
 

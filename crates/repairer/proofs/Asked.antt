@@ -1,13 +1,17 @@
 -- What a step at a server leaves of a rebuild whose gathering asks.
-use Rattle.std.proofs.Common.{◌≡◌, ℕ, Bool, false, List, Option, Some, sym, ap, subst, ◌∙◌}
-use Rattle.clay_grid.specs.Shape.{chunk_count}
+use Rattle.std.proofs.Common.{◌≡◌, ℕ, Bool, false, List, [], Option, Some, refl, sym, ap, subst, ◌∙◌}
+use Rattle.clay_grid.specs.Shape.{Shape, chunk_count}
+use Rattle.store_core.specs.NextAct.{Job, rebuild_job}
+use Rattle.store_core.specs.Told.{Seen as CoreSeen}
 use Rattle.store_core.specs.Note.{note_of_rebuild}
 use Rattle.store_core.specs.Server.{Server}
-use Rattle.store_resume.specs.Stage.{Aim}
+use Rattle.store_resume.specs.Stage.{Aim, Stage as CoreStage}
+use Rattle.store_resume.specs.StateActs.{act_at}
 use Rattle.gather_course.specs.Courses.{IsAskingStage}
 use Rattle.call_steps.specs.declared.need.Need.TheVariants as need
-use Rattle.gathering.specs.Gathers.{GatherOf, stepped}
-use Rattle.call_steps.specs.CallOf.{CallOf, act_of}
+use Rattle.gathering.specs.Gathers.{GatherOf, stepped, told_at, told_by}
+use Rattle.call_steps.specs.CallOf.{CallOf, act_of, tries_by}
+use Rattle.call_steps.specs.Hearing.{told_here_by, told_here}
 use Rattle.call_steps.specs.Steps.{need_of, stepped_at_server}
 use Rattle.repairer.specs.declared.stage.Stage.TheVariants as stage
 use Rattle.repairer.specs.declared.repair_call.RepairCall.TheInside.{Inside}
@@ -65,3 +69,21 @@ steps a c w next takes counts short due s after is view gather_is takes_is made 
     (gathered_state (seen_at a.looked.value) a.rebuild.now.server (course_at a.opening.geometry (seen_at a.looked.value) a.rebuild.now.server (gather_is i)).stage)
     (takes_at (chunk_count a.opening.geometry) (takes_is i)) (sym is.due i) a.coding a.step)
     ∙ seen_by a c stage.Gathering view is.at)
+
+-- and it is told what that is
+asking_tells : (g : Shape) (seen : CoreSeen) (target tries : ℕ) (job : Job) (w : GatherOf) (short : Bool) (s : Server) (at : CoreStage) → IsAskingStage at
+    → told_at (record w { course = record (w.course) { geometry = g; aim = Aim.Chunk seen target } }) short s at
+    ≡ told_here_by (act_at g tries job [] (gathered_state seen target at)) short s
+asking_tells g seen target tries job w short s (CoreStage.Asks asking) asks = refl
+asking_tells g seen target tries job w short s at asks = absurd asks
+
+pub tells : (a : Inside) (c : CallOf) (w : GatherOf) (takes : List ℕ) (short : Bool) (s : Server) → IsAsked a w takes → call_in a ≡ c → Some w ≡ a.gather
+    → told_by w short s ≡ told_here short c s
+tells a c w takes short s is view gather_is =
+    let g : Shape = a.opening.geometry in
+    let seen : CoreSeen = seen_at a.looked.value in
+    let target : ℕ = a.rebuild.now.server in
+    (λ i. told_by (record w { course = record (w.course) { geometry = is.code i; aim = is.aim i } }) short s)
+    ∙ asking_tells g seen target (tries_by a.opening.script) (rebuild_job a.rebuild.now) w short s w.course.stage is.asks
+    ∙ ap (λ o. told_here_by (act_at g (tries_by a.opening.script) (rebuild_job a.rebuild.now) [] (gathered_state seen target (course_at g seen target o).stage)) short s) gather_is
+    ∙ ap (λ (call : CallOf). told_here short call s) (seen_by a c stage.Gathering view is.at)

@@ -10,7 +10,7 @@ use Rattle.store_resume.specs.StateActs.{act_at}
 use Rattle.call_steps.specs.declared.need.Need.{Need}
 use Rattle.call_steps.specs.declared.need.Need.TheVariants as need
 use Rattle.call_steps.specs.TokenAfter.{IsSeated, IfInCall}
-use Rattle.call_steps.specs.CallOf.{CallOf, act_of}
+use Rattle.call_steps.specs.CallOf.{CallOf}
 use Rattle.call_steps.specs.Steps.{need_by, HoldsItsPass}
 use Rattle.repairer.specs.declared.stage.Stage.{Stage}
 use Rattle.repairer.specs.declared.stage.Stage.TheVariants as stage

@@ -6,3 +6,5 @@ pub mod Asking
 pub mod Asked
 pub mod Holding
 pub mod Making
+pub mod Acting
+pub mod Hearing

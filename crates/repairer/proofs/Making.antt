@@ -1,7 +1,6 @@
 -- A rebuild's next step at the directory may be made, and nothing is coded once its chunk is placed.
 use Rattle.std.proofs.Common.{◌≡◌, ◌<◌, ℕ, refl, sym, ap, subst, ◌∙◌}
 use Rattle.clay_grid.specs.Shape.{chunk_count}
-use Rattle.store_map.specs.declared.call.Rebuild.{Rebuild}
 use Rattle.store_core.specs.Note.{Note, Kind, note_of_rebuild}
 use Rattle.store_core.specs.Act.{Act, DirectoryStep}
 use Rattle.store_core.specs.Directory.{Directory}
@@ -10,14 +9,13 @@ use Rattle.store_resume.specs.State.{State}
 use Rattle.store_resume.specs.StateActs.{act_of_state}
 use Rattle.call_steps.specs.TokenAfter.{MayMake}
 use Rattle.call_steps.specs.CallOf.{CallOf, act_of}
-use Rattle.call_steps.specs.Steps.{MayMakeNext}
+use Rattle.call_steps.specs.Steps.{MayMakeNext, IsUndueOncePlaced}
 use Rattle.call_steps.proofs.Making.{MayBy, makes, passes}
 use Rattle.repairer.specs.declared.stage.Stage.{Stage}
 use Rattle.repairer.specs.declared.stage.Stage.TheVariants as stage
 use Rattle.repairer.specs.declared.repair_call.RepairCall.TheInside.{Inside}
 use Rattle.repairer.specs.Standing.{stage_of}
 use Rattle.repairer.specs.Inside.{call_by, call_in}
-use Rattle.repairer.specs.Calls.{IsUndueOncePlaced}
 use Rattle.repairer.specs.Parts.{IsOfCall, MayStart}
 use Rattle.repairer.specs.Kept.{Keeps, IsRepair}
 use Rattle.repairer.proofs.Stages.{shown, is_at, keeps}

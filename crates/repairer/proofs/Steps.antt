@@ -1,5 +1,6 @@
 -- Steps of a rebuild.
 use Rattle.std.proofs.Common.{◌≡◌, ℕ, Bool, false, List, refl, sym, ap, subst, ◌∙◌}
+use Rattle.std.specs.Prelude.{⊤}
 use Rattle.store_map.specs.declared.call.Rebuild.{Rebuild}
 use Rattle.store_core.specs.Note.{Note}
 use Rattle.store_core.specs.Told.{Told, Seen as CoreSeen}
@@ -14,7 +15,10 @@ use Rattle.store_resume.specs.States.{open_state}
 use Rattle.store_resume.specs.GatherAfter.{ending_after, confirming_after}
 use Rattle.version_seal.specs.Entry.{BookOf}
 use Rattle.call_steps.specs.CallOf.{heard}
-use Rattle.call_steps.specs.TokenAfter.{token_after}
+use Rattle.stripe_dir.specs.declared.answers.Ended.{Ended}
+use Rattle.stripe_dir.specs.declared.answers.Ended.TheVariants as answer
+use Rattle.stripe_dir.specs.Answers.{told_ended}
+use Rattle.call_steps.specs.TokenAfter.{token_after, IsSeated}
 use Rattle.call_steps.specs.Steps.{stepped_at_directory, stepped_at_server}
 use Rattle.repairer.specs.Calls.{call_at}
 use Rattle.repairer.specs.Parts.{MayStart, IsOfCall}
@@ -65,3 +69,10 @@ pub begun : (token next : ActorToken) (number : ℕ) (note : Note) (seen : CoreS
     → next ≡ token_after token number (DirectoryStep.LookRepair note) (Told.PinnedStripe seen) → IsOfCall next number note
 begun (ActorToken.Seated seat) next number note seen may e = subst (λ (t : ActorToken). IsOfCall t number note) (sym e) (refl, refl)
 begun (ActorToken.InCall held) next number note seen may e = absurd may
+
+-- and one whose pass has ended is in no call
+pub end_seats : (token next : ActorToken) (number : ℕ) (note : Note) (step : DirectoryStep) (told : Ended ⊤) → IsOfCall token number note
+    → next ≡ token_after token number step (told_ended told) → IsSeated next
+end_seats (ActorToken.Seated seat) next number note step told its e = absurd its
+end_seats (ActorToken.InCall held) next number note step (answer.Ended seat) its e = subst IsSeated (sym e) tt
+end_seats (ActorToken.InCall held) next number note step (answer.Reaped seat at) its e = subst IsSeated (sym e) tt

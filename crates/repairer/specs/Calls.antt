@@ -1,5 +1,5 @@
 -- A rebuild as callers see it.
-use Rattle.std.specs.Prelude.{◌≡◌, ℕ, Bool, false, List, [], replicate}
+use Rattle.std.specs.Prelude.{ℕ, Bool, false, List, [], replicate}
 use Rattle.clay_grid.specs.Shape.{chunk_count}
 use Rattle.store_map.specs.declared.call.Rebuild.{Rebuild}
 use Rattle.store_core.specs.NextAct.{rebuild_job}
@@ -28,7 +28,3 @@ call_at book rebuild number token at takes due coding step =
 abbrev pub new_call : BookOf → Rebuild → ℕ → Seat → CallOf
 new_call book rebuild number seat =
     call_at book rebuild number (ActorToken.Seated seat) State.Start (replicate (chunk_count book.geometry) 0) false false false
-
--- no coding is due between the chunk's install and the telling of its epoch, so want of memory can't come between the two
-abbrev pub IsUndueOncePlaced : CallOf → Type 0
-IsUndueOncePlaced c = (target epoch : ℕ) → c.state.at ≡ State.Placing target epoch → c.due ≡ false

@@ -4,3 +4,4 @@ pub mod Parts
 pub mod Moments
 pub mod Inside
 pub mod Kept
+pub mod Acting

@@ -1,16 +1,18 @@
 //! A rebuild's steps at the directory.
-ghost use Rattle.std.specs.Prelude.{◌≡◌};
+ghost use Rattle.std.specs.Prelude.{◌≡◌, Some};
 ghost use Rattle.store_core.specs.Agreement.{Agrees};
 ghost use Rattle.store_resume.specs.State.{State};
 ghost use Rattle.store_resume.specs.GatherAfter.{ending_after};
 ghost use Rattle.stripe_dir.specs.Answers.{told_ended};
 ghost use Rattle.call_steps.specs.Outcomes.{repair_outcome_of};
+ghost use Rattle.call_steps.specs.Answers.{directory_answer};
+ghost use Rattle.call_steps.specs.Hearing.{IsToldThere};
 ghost use Rattle.call_steps.specs.Steps.{need_of, LeadsTo};
 ghost use Rattle.repairer.specs.Standing.{stage_of};
 
 use crate::repair_call::RepairCall;
 use crate::stage::Stage;
-use call_steps::{Need, RepairOutcome};
+use call_steps::{DirectoryAnswer, Need, RepairOutcome};
 use std::mem;
 use std::snapshot::Snapshot;
 use stripe_dir::{Confirmed, Directory, Ended, RepairLook};
@@ -26,14 +28,25 @@ fn ended_with(answer: Ended<()>, outcome: RepairOutcome) -> RepairOutcome
     }
 }
 
+// What the end of a pass is answered.
+fn told_of(answer: &Ended<()>) -> DirectoryAnswer
+    ensures { directory_answer (told_ended answer.now) ≡ Some result }
+{
+    match answer {
+        Ended::Ended { .. } => DirectoryAnswer::Ended,
+        Ended::Reaped { at, .. } => DirectoryAnswer::Reaped { at: *at },
+    }
+}
+
 impl<'a> RepairCall<'a> {
     // Pins the stripe, if it is there.
-    pub(crate) fn look(&mut self, d: &mut Directory)
+    pub(crate) fn look(&mut self, d: &mut Directory) -> DirectoryAnswer
         requires stage { stage_of self.old.state.at ≡ Stage.Start }
         requires need { need_of self.old ≡ Need.Directory }
         requires agrees { Agrees d.old.core self.old.token }
         requires book { d.old.book ≡ self.old.book }
         ensures step { LeadsTo self.old d.old.core self.new d.new.core }
+        ensures told { IsToldThere result self.old d.old.core self.new }
         ensures agrees { Agrees d.new.core self.new.token }
         ensures book { d.new.book ≡ d.old.book }
         ensures stamps { d.new.stamps ≡ d.old.stamps }
@@ -52,26 +65,30 @@ impl<'a> RepairCall<'a> {
                 self.looked = Snapshot::of(&self.seen);
                 self.due = true;
                 self.stage = Stage::Gathering;
+                DirectoryAnswer::PinnedStripe
             }
             Ok(RepairLook::NoSuch { .. }) => {
                 self.outcome = RepairOutcome::NoSuch;
                 self.stage = Stage::Finished;
+                DirectoryAnswer::NoSuch
             }
             Err(_) => {
                 self.step = true;
                 self.outcome = RepairOutcome::NoMemory;
                 self.stage = Stage::Finished;
+                DirectoryAnswer::Short
             }
         }
     }
 
     // Asks whether the version is current still.
-    pub(crate) fn confirm(&mut self, d: &mut Directory)
+    pub(crate) fn confirm(&mut self, d: &mut Directory) -> DirectoryAnswer
         requires stage { stage_of self.old.state.at ≡ Stage.Confirming }
         requires need { need_of self.old ≡ Need.Directory }
         requires agrees { Agrees d.old.core self.old.token }
         requires book { d.old.book ≡ self.old.book }
         ensures step { LeadsTo self.old d.old.core self.new d.new.core }
+        ensures told { IsToldThere result self.old d.old.core self.new }
         ensures agrees { Agrees d.new.core self.new.token }
         ensures book { d.new.book ≡ d.old.book }
         ensures stamps { d.new.stamps ≡ d.old.stamps }
@@ -80,24 +97,30 @@ impl<'a> RepairCall<'a> {
         self.coding = false;
         self.step = false;
         match answer {
-            Confirmed::Current { .. } => self.stage = Stage::Installing,
+            Confirmed::Current { .. } => {
+                self.stage = Stage::Installing;
+                DirectoryAnswer::Current
+            }
             Confirmed::Superseded { newer, .. } => {
                 self.outcome = RepairOutcome::Superseded { newer };
                 self.stage = Stage::Finished;
+                DirectoryAnswer::Superseded { newer }
             }
             Confirmed::Reaped { at, .. } => {
                 self.outcome = RepairOutcome::Reaped { at };
                 self.stage = Stage::Finished;
+                DirectoryAnswer::Reaped { at }
             }
         }
     }
 
     // Tells at which epoch the chunk was placed, which ends the pass.
-    pub(crate) fn tell_placed(&mut self, d: &mut Directory)
+    pub(crate) fn tell_placed(&mut self, d: &mut Directory) -> DirectoryAnswer
         requires stage { stage_of self.old.state.at ≡ Stage.Placing }
         requires agrees { Agrees d.old.core self.old.token }
         requires book { d.old.book ≡ self.old.book }
         ensures step { LeadsTo self.old d.old.core self.new d.new.core }
+        ensures told { IsToldThere result self.old d.old.core self.new }
         ensures agrees { Agrees d.new.core self.new.token }
         ensures book { d.new.book ≡ d.old.book }
         ensures stamps { d.new.stamps ≡ d.old.stamps }
@@ -108,15 +131,18 @@ impl<'a> RepairCall<'a> {
         let answer = self.ticket.repaired(d, self.number, server, self.epoch);
         self.coding = false;
         self.step = false;
+        let told = told_of(&answer);
         self.outcome = ended_with(answer, RepairOutcome::Rebuilt);
         self.stage = Stage::Finished;
+        told
     }
 
     // Ends the pass of a call whose outcome is known.
-    pub(crate) fn end(&mut self, d: &mut Directory)
+    pub(crate) fn end(&mut self, d: &mut Directory) -> DirectoryAnswer
         requires stage { stage_of self.old.state.at ≡ Stage.Ending }
         requires agrees { Agrees d.old.core self.old.token }
         ensures step { LeadsTo self.old d.old.core self.new d.new.core }
+        ensures told { IsToldThere result self.old d.old.core self.new }
         ensures agrees { Agrees d.new.core self.new.token }
         ensures book { d.new.book ≡ d.old.book }
         ensures stamps { d.new.stamps ≡ d.old.stamps }
@@ -124,8 +150,10 @@ impl<'a> RepairCall<'a> {
         let answer = self.ticket.end(d, self.number);
         self.coding = false;
         self.step = false;
+        let told = told_of(&answer);
         let outcome = mem::replace(&mut self.outcome, RepairOutcome::NoMemory);
         self.outcome = ended_with(answer, outcome);
         self.stage = Stage::Finished;
+        told
     }
 }

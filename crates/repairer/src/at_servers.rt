@@ -8,11 +8,12 @@ ghost use Rattle.chunk_server.specs.Core.{core_of};
 ghost use Rattle.chunk_server.specs.State.{IsSame};
 ghost use Rattle.call_steps.specs.Outcomes.{repair_outcome_of};
 ghost use Rattle.call_steps.specs.Steps.{need_of, LeadsToAtServer};
+ghost use Rattle.call_steps.specs.Hearing.{IsToldHere};
 ghost use Rattle.repairer.specs.Standing.{stage_of};
 
 use crate::repair_call::RepairCall;
 use crate::stage::Stage;
-use call_steps::{Need, RepairOutcome};
+use call_steps::{Need, RepairOutcome, ServerAnswer};
 use chunk_server::{Installed, Server};
 use gather_course::Ending;
 use gathering::Gather;
@@ -48,17 +49,19 @@ fn stage_after(has_bytes: bool) -> Stage
 
 impl<'a> RepairCall<'a> {
     // The next question of the gathering.
-    pub(crate) fn ask(&mut self, s: &mut Server)
+    pub(crate) fn ask(&mut self, s: &mut Server) -> ServerAnswer
         requires stage { stage_of self.old.state.at ≡ Stage.Gathering }
         requires need { need_of self.old ≡ Need.Server s.old.number }
         requires book { s.old.book ≡ self.old.book }
         ensures step { LeadsToAtServer self.old (core_of s.old) self.new (core_of s.new) }
+        ensures told { IsToldHere result self.old (core_of s.old) self.new }
         ensures same { IsSame s.old s.new }
     {
         let (Some(mut gather), Some(mut takes)) = (self.gather.take(), self.takes.take()) else {
             unreachable!()
         };
-        self.step = gather.on_server(s, &mut takes).is_err();
+        let answer = gather.on_server(s, &mut takes);
+        self.step = answer.is_err();
         self.takes = Some(takes);
         self.coding = false;
         let ready = gather.course().has_bytes();
@@ -67,20 +70,23 @@ impl<'a> RepairCall<'a> {
             Some(ending) => {
                 self.outcome = outcome_of(ending, gather);
                 self.stage = Stage::Ending;
+                ServerAnswer::or_short(answer)
             }
             None => {
                 self.gather = Some(gather);
                 self.stage = stage_after(ready);
+                ServerAnswer::or_short(answer)
             }
         }
     }
 
     // The chunk goes to its server.
-    pub(crate) fn install(&mut self, s: &mut Server)
+    pub(crate) fn install(&mut self, s: &mut Server) -> ServerAnswer
         requires stage { stage_of self.old.state.at ≡ Stage.Installing }
         requires need { need_of self.old ≡ Need.Server s.old.number }
         requires book { s.old.book ≡ self.old.book }
         ensures step { LeadsToAtServer self.old (core_of s.old) self.new (core_of s.new) }
+        ensures told { IsToldHere result self.old (core_of s.old) self.new }
         ensures same { IsSame s.old s.new }
     {
         let Some(chunk) = self.chunk.take() else {
@@ -92,19 +98,23 @@ impl<'a> RepairCall<'a> {
             Ok(Installed::Placed { epoch }) => {
                 self.epoch = epoch;
                 self.stage = Stage::Placing;
+                ServerAnswer::Placed { epoch }
             }
             Ok(Installed::AlreadyThere) => {
                 self.outcome = RepairOutcome::Here;
                 self.stage = Stage::Ending;
+                ServerAnswer::AlreadyThere
             }
             Ok(Installed::Away { downs }) => {
                 self.outcome = RepairOutcome::Away { downs };
                 self.stage = Stage::Ending;
+                ServerAnswer::Away { downs }
             }
             Err(_) => {
                 self.step = true;
                 self.outcome = RepairOutcome::NoMemory;
                 self.stage = Stage::Ending;
+                ServerAnswer::Short
             }
         }
     }

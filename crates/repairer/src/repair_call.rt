@@ -1,5 +1,5 @@
 //! A rebuild as a machine of steps.
-ghost use Rattle.std.specs.Prelude.{◌≡◌, ◌<◌, ℕ, option_map};
+ghost use Rattle.std.specs.Prelude.{◌≡◌, ◌<◌, ℕ, option_map, IfSome, IsTrue, is_some};
 ghost use Rattle.clay_grid.specs.Shape.{chunk_count};
 ghost use Rattle.store_core.specs.Act.{DirectoryStep};
 ghost use Rattle.store_core.specs.Note.{note_of_rebuild};
@@ -8,14 +8,21 @@ ghost use Rattle.store_core.specs.Tokens.{MayLook};
 ghost use Rattle.store_resume.specs.State.{State};
 ghost use Rattle.chunk_server.specs.Core.{core_of};
 ghost use Rattle.chunk_server.specs.State.{IsSame};
-ghost use Rattle.call_steps.specs.Steps.{IsServerBelow, need_of, LeadsTo, LeadsToAtServer, coded, HoldsItsPass, IsDueInPass, MayMakeNext};
+ghost use Rattle.call_steps.specs.Steps.{IsServerBelow, need_of, LeadsTo, LeadsToAtServer, coded, HoldsItsPass};
+ghost use Rattle.call_steps.specs.Steps.{IsDueInPass, MayMakeNext, IsUndueOncePlaced};
+ghost use Rattle.call_steps.specs.Acts.{act_now};
+ghost use Rattle.call_steps.specs.Hearing.{IsToldHere, IsToldThere};
 ghost use Rattle.call_steps.specs.Outcomes.{repair_outcome_of};
-ghost use Rattle.repairer.specs.Calls.{new_call, IsUndueOncePlaced};
+ghost use Rattle.repairer.specs.Calls.{new_call};
 ghost use Rattle.call_steps.specs.CallOf.{taken_of};
+ghost use Rattle.gather_course.specs.Courses.{IsAskingStage};
+ghost use Rattle.repairer.specs.Acting.{AsksAs, install_act};
 ghost use Rattle.repairer.specs.Inside.{takes_at};
 
 use crate::stage::Stage;
-use call_steps::{Need, RepairOutcome};
+use call_steps::{
+    Act, DirectoryAct, DirectoryAnswer, Need, RepairOutcome, ServerAct, ServerAnswer,
+};
 use chunk_server::Server;
 use clay_repair::Coder;
 use gathering::Gather;
@@ -120,6 +127,13 @@ impl<'a> RepairCall<'a> {
         }
     }
 
+    /// Whether memory was wanting in the last coding, where no step came after it.
+    pub fn coding_was_short(&self) -> bool
+        ensures { result ≡ self.now.coding }
+    {
+        self.coding
+    }
+
     /// What was taken from each server so far, or none where nothing was.
     pub fn takes(&self) -> Option<&Takes>
         ensures { option_map (λ takes. takes.now) result ≡ taken_of self.now.takes }
@@ -189,12 +203,36 @@ impl<'a> RepairCall<'a> {
         let _taken = self.abandon();
     }
 
-    /// One step at the directory. Afterwards the call tells whether memory was wanting in it.
-    pub fn on_directory(&mut self, d: &mut Directory)
+    /// What the call does next.
+    #[tactic(auto, using(crate::proofs::Acting::asks_there, crate::proofs::Acting::asks_stage, crate::proofs::Acting::gathers, crate::proofs::Acting::made_there, crate::proofs::Acting::installs, crate::proofs::Acting::looks, crate::proofs::Acting::confirms, crate::proofs::Acting::tells, crate::proofs::Acting::ends, crate::proofs::Acting::finished, crate::proofs::Acting::codes,))]
+    pub fn act(&self) -> Act
+        ensures { result ≡ act_now self.now }
+    {
+        if self.due {
+            return Act::Coding;
+        }
+        match self.stage {
+            Stage::Start => Act::Directory(DirectoryAct::LookRepair),
+            Stage::Gathering => asks(&self.gather),
+            Stage::Confirming => Act::Directory(DirectoryAct::Confirm),
+            Stage::Installing => installs(&self.chunk, self.rebuild.server),
+            Stage::Placing => Act::Directory(DirectoryAct::Repaired {
+                server: self.rebuild.server,
+                epoch: self.epoch,
+            }),
+            Stage::Ending => Act::Directory(DirectoryAct::End),
+            Stage::Finished => Act::Finished,
+        }
+    }
+
+    /// One step at the directory, and its answer. Afterwards the call tells whether memory was wanting
+    /// in it.
+    pub fn on_directory(&mut self, d: &mut Directory) -> DirectoryAnswer
         requires need { need_of self.old ≡ Need.Directory }
         requires agrees { Agrees d.old.core self.old.token }
         requires book { d.old.book ≡ self.old.book }
         ensures step { LeadsTo self.old d.old.core self.new d.new.core }
+        ensures told { IsToldThere result self.old d.old.core self.new }
         ensures agrees { Agrees d.new.core self.new.token }
         ensures book { d.new.book ≡ d.old.book }
         ensures stamps { d.new.stamps ≡ d.old.stamps }
@@ -208,12 +246,13 @@ impl<'a> RepairCall<'a> {
         }
     }
 
-    /// One step at the server that is needed. Afterwards the call tells whether memory was wanting in
-    /// it.
-    pub fn on_server(&mut self, s: &mut Server)
+    /// One step at the server that is needed, and its answer. Afterwards the call tells whether memory
+    /// was wanting in it.
+    pub fn on_server(&mut self, s: &mut Server) -> ServerAnswer
         requires need { need_of self.old ≡ Need.Server s.old.number }
         requires book { s.old.book ≡ self.old.book }
         ensures step { LeadsToAtServer self.old (core_of s.old) self.new (core_of s.new) }
+        ensures told { IsToldHere result self.old (core_of s.old) self.new }
         ensures same { IsSame s.old s.new }
     {
         match self.stage {
@@ -234,6 +273,32 @@ impl<'a> RepairCall<'a> {
             Stage::Confirming => self.make(rt, coder),
             _ => unreachable!(),
         }
+    }
+}
+
+// The question of a gathering that asks.
+fn asks(gather: &Option<Gather>) -> Act
+    requires there { IsTrue (is_some gather.now) }
+    requires asks { IfSome gather.now (λ w. IsAskingStage w.course.stage) }
+    ensures { IfSome gather.now (λ w. AsksAs w result) }
+{
+    match gather {
+        Some(gather) => match gather.question() {
+            Some((server, step)) => Act::Server(server, step),
+            None => unreachable!(),
+        },
+        None => unreachable!(),
+    }
+}
+
+// The install of a chunk that is made.
+fn installs(chunk: &Option<SealedChunk>, server: u32) -> Act
+    requires { IsTrue (is_some chunk.now) }
+    ensures { IfSome chunk.now (λ made. result ≡ install_act server made.stamp.version) }
+{
+    match chunk {
+        Some(chunk) => Act::Server(server, ServerAct::Install(chunk.stamp().version())),
+        None => unreachable!(),
     }
 }
 

@@ -57,6 +57,6 @@ pub(crate) fn step_at_directory<R: Wait, G: Gate>(
     let before = Snapshot::of(&held);
     let stood = Snapshot::of(caller);
     gate.pass(stepper.actor, stepper.steps, Place::Directory);
-    let left = caller.on_directory(&mut held.directory, book);
+    let (left, _answer) = caller.on_directory(&mut held.directory, book);
     give_step(lock, turn, held, before, stood, left, stepper.number);
 }

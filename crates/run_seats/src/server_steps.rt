@@ -57,6 +57,6 @@ pub(crate) fn step_at_server<R: Wait, G: Gate>(
         stepper.steps,
         Place::Server(held.server.number()),
     );
-    let left = caller.on_server(&mut held.server);
+    let (left, _answer) = caller.on_server(&mut held.server);
     give_step(lock, turn, held, before, stood, left, stepper.number);
 }

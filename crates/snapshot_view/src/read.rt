@@ -7,6 +7,8 @@ ghost use Rattle.store_resume.specs.State.{Sequel};
 ghost use Rattle.store_resume.specs.States.{parts_state, open_state};
 ghost use Rattle.chunk_server.specs.Core.{core_of};
 ghost use Rattle.chunk_server.specs.State.{IsSame};
+ghost use Rattle.call_steps.specs.Answers.{told_by_server};
+ghost use Rattle.call_steps.specs.Hearing.{told_here};
 ghost use Rattle.call_steps.specs.Steps.{IsServerBelow, stepped_at_server};
 ghost use Rattle.call_steps.specs.CallOf.{CallOf, taken_of};
 ghost use Rattle.stripe_dir.specs.Answers.{seen_in};
@@ -17,7 +19,7 @@ ghost use Rattle.snapshot_view.specs.Reads.{reply_of};
 ghost use Rattle.snapshot_view.specs.ReadSteps.{need_of, stepped, coded, EndsAs};
 
 use crate::ends::{Ending, SnapOutcome};
-use call_steps::{Need, Seen};
+use call_steps::{Need, Seen, ServerAnswer};
 use chunk_server::Server;
 use clay_repair::Coder;
 use gather_parts::PartGatherings;
@@ -95,8 +97,8 @@ impl SnapRead {
         }
     }
 
-    /// One step at the server that is needed. Where memory is wanting the read ends.
-    pub fn on_server(&mut self, s: &mut Server) -> Result<(), AllocError>
+    /// One step at the server that is needed, and what it answers. Where memory is wanting the read ends.
+    pub fn on_server(&mut self, s: &mut Server) -> Result<ServerAnswer, AllocError>
         requires need { need_of self.old ≡ Need.Server s.old.number }
         requires book { s.old.book ≡ self.old.gatherings.book }
         ensures step { (core_of s.new, self.new) ≡ stepped self.old (is_err result) (core_of s.old) }
@@ -105,6 +107,8 @@ impl SnapRead {
         ensures reply { reply_of self.new ≡ reply_of self.old }
         ensures call { (c : CallOf) (after : Sequel) (due : Bool) → StandsIn c self.old.gatherings after →
             (core_of s.new, moved c self.new.gatherings after due (is_err result)) ≡ stepped_at_server (is_err result) due c (core_of s.old) }
+        ensures told { (c : CallOf) (after : Sequel) → StandsIn c self.old.gatherings after →
+            told_by_server result ≡ told_here (is_err result) c (core_of s.old) }
     {
         self.gatherings.on_server(s)
     }

@@ -24,8 +24,12 @@ impl Ended {
     {
         self.directory.keeps();
         match self.sweeper.need() {
-            Need::Directory => self.sweeper.on_directory(&mut self.directory),
-            Need::Server(server) => self.sweeper.on_server(&mut self.servers[server as usize]),
+            Need::Directory => {
+                self.sweeper.on_directory(&mut self.directory);
+            }
+            Need::Server(server) => {
+                self.sweeper.on_server(&mut self.servers[server as usize]);
+            }
             Need::Coder | Need::Finished => unreachable!(),
         }
     }

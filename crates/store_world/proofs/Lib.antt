@@ -2,6 +2,7 @@ pub mod Lists
 pub mod Knowing
 pub mod Keeping
 pub mod Callers
+pub mod Told
 pub mod Clients
 pub mod Repairers
 pub mod Places

@@ -1,8 +1,9 @@
 -- Steps of the sweeper and of the operator in the world.
-use Rattle.std.proofs.Common.{◌≡◌, ℕ, ◌<◌, Bool, true, false, if◌then◌else◌, List, [], ◌∷◌, length, set, slice_get, nat_lt, Some, refl, sym, ap, subst, ◌∙◌, arith}
+use Rattle.std.proofs.Common.{◌≡◌, ℕ, ◌<◌, Bool, true, false, if◌then◌else◌, List, [], ◌∷◌, length, set, slice_get, nat_lt, Option, Some, option_map, refl, sym, ap, subst, ◌∙◌, arith}
 use Rattle.clay_grid.specs.Shape.{chunk_count}
 use Rattle.store_map.specs.declared.actor.Actor.{Actor}
 use Rattle.store_map.specs.declared.actor.Actor.TheVariants as actor
+use Rattle.store_map.specs.declared.actor.Point.{Point}
 use Rattle.store_map.specs.declared.actor.Token.{Token}
 use Rattle.store_map.specs.declared.actor.Token.TheVariants as token
 use Rattle.store_core.specs.Act.{Act, DirectoryStep, ServerStep}
@@ -18,9 +19,16 @@ use Rattle.store_core.specs.Told.{Told}
 use Rattle.chunk_server.specs.State.{ServerState}
 use Rattle.chunk_server.specs.Core.{core_of}
 use Rattle.dir_parts.proofs.Entries.{map-set, slice_get-map}
+use Rattle.store_in_time.specs.Trace.{act_made}
+use Rattle.call_steps.specs.declared.act.Act.{Act as ActTold}
+use Rattle.call_steps.specs.declared.answer.DirectoryAnswer.{DirectoryAnswer}
+use Rattle.call_steps.specs.declared.answer.ServerAnswer.{ServerAnswer}
 use Rattle.call_steps.specs.declared.need.Need.TheVariants as need
+use Rattle.call_steps.specs.Acts.{act_by, server_act}
+use Rattle.call_steps.specs.Answers.{directory_answer, server_told}
+use Rattle.trace_lines.specs.declared.step.Answer.TheVariants as answer
 use Rattle.stripe_dir.specs.Sealed.{Sealed}
-use Rattle.sweeper.specs.Sweeps.{SweeperOf, need_at, need_of, stepped_at_directory, stepped_at_server}
+use Rattle.sweeper.specs.Sweeps.{SweeperOf, act_of, need_at, need_of, stepped_at_directory, stepped_at_server, told_at_directory, told_at_server}
 use Rattle.world_steps.specs.World.{WorldOf, with_directory, with_server, with_sweeper}
 use Rattle.world_steps.specs.Leads.{LeadsWorld}
 use Rattle.world_steps.specs.StandsFor.{StandsFor}
@@ -31,11 +39,16 @@ use Rattle.world_steps.proofs.Agreed.{worlds_stay_agreed}
 use Rattle.world_steps.proofs.PlaceLaws.{sweeper_makes_turns}
 use Rattle.world_steps.proofs.Runs.{runs_reach}
 use Rattle.world_steps.specs.Goes.{Leads}
+use Rattle.world_traces.specs.Telling.{TellsOf}
+use Rattle.world_traces.specs.TurnMade.{places_of}
+use Rattle.world_traces.proofs.Places.{sweeper_tells}
 use Rattle.world_owes.specs.ServeLaws.{HasMorePoints}
 use Rattle.world_owes.proofs.Grow.{histories_grow}
 use Rattle.store_world.specs.Stored.{StoredWorld, world_of}
+use Rattle.store_world.specs.Telling.{LeadsTold, act_told, server_act_told, reap_told}
 use Rattle.store_world.specs.Kept.{IsWorld}
 use Rattle.store_world.proofs.Keeping.{changed, kept_by, clients_stay, repairers_stay, others_stay}
+use Rattle.store_world.proofs.Told.{one_told, sweep_is_told, discard_is_told, action_is_told, reap_is_told}
 use Rattle.store_world.proofs.Lists.{below, read_back}
 
 -- a step that wants no memory
@@ -104,6 +117,13 @@ module _ (s : StoredWorld) (is : IsWorld s) where
     sweep_leads =
         directory_leads s is d sweeper token.Sweep _ swept_is ((worlds_stay_agreed s.script (world_of s) is.agree).sweeper) ((sweeper_makes_turns s.script (world_of s) ample).directory needs)
 
+    pub sweep_told : (step : ActTold) (its : DirectoryAnswer) → step ≡ act_by (act_of s.sweeper) false
+        → directory_answer (told_at_directory actor.Sweeper 0 s.sweeper s.directory.core) ≡ Some its
+        → LeadsTold token.Sweep s (changed s d s.servers s.clients s.repairers sweeper) (act_told actor.Sweeper step (answer.Directory its) ∷ [])
+    sweep_told told its acts hears =
+        one_told token.Sweep s (changed s d s.servers s.clients s.repairers sweeper) (act_made actor.Sweeper (act_of s.sweeper) (places_of (world_of s))) _ sweep_leads (sweeper_tells s.script (world_of s))
+        (sweep_is_told (act_of s.sweeper) (places_of (world_of s)) told its needs acts hears)
+
     pub sweep_kept : d.book ≡ s.directory.book → d.stamps ≡ s.directory.stamps → IsWorld (changed s d s.servers s.clients s.repairers sweeper)
     sweep_kept book stamps =
         directory_kept s is d sweeper token.Sweep _ swept_is ((worlds_stay_agreed s.script (world_of s) is.agree).sweeper) ((sweeper_makes_turns s.script (world_of s) ample).directory needs) book stamps
@@ -118,6 +138,13 @@ module _ (s : StoredWorld) (is : IsWorld s) where
 
     pub discard_leads : Leads s.script (sweeper_step s.script) (world_of s) (world_of (changed s s.directory (set s.servers i now) s.clients s.repairers sweeper))
     discard_leads = server_leads s is i x now (core_of now) there refl sweeper token.Sweep led
+
+    pub discard_told : (told : ActTold) (its : ServerAnswer) → told ≡ act_by (act_of s.sweeper) false → server_told its ≡ told_at_server s.sweeper (core_of x)
+        → LeadsTold token.Sweep s (changed s s.directory (set s.servers i now) s.clients s.repairers sweeper) (act_told actor.Sweeper told (answer.Server its) ∷ [])
+    discard_told told its acts hears =
+        one_told token.Sweep s (changed s s.directory (set s.servers i now) s.clients s.repairers sweeper) (act_made actor.Sweeper (act_of s.sweeper) (places_of (world_of s))) _ discard_leads
+        (sweeper_tells s.script (world_of s))
+        (discard_is_told (act_of s.sweeper) i (core_of x) (places_of (world_of s)) told its needs (slice_get-map core_of s.servers i x there) acts hears)
 
     pub discard_kept : now.number ≡ x.number → now.book ≡ x.book → IsWorld (changed s s.directory (set s.servers i now) s.clients s.repairers sweeper)
     discard_kept = server_kept s is i x now (core_of now) there refl sweeper token.Sweep led
@@ -134,6 +161,12 @@ module _ (s : StoredWorld) (is : IsWorld s) where
     pub action_leads : Leads s.script (step_core s.script (action i)) (world_of s) (world_of (changed s s.directory (set s.servers i now) s.clients s.repairers s.sweeper))
     action_leads = server_leads s is i x now (core_of now) there refl s.sweeper (action i) acted
 
+    pub action_told : told ≡ Told.Made → ((shortages : List Shortage) → TellsOf s.script (action i ∷ []) (world_of s) shortages (act_made actor.Operator (Act.AtServer i step) (places_of (world_of s)) ∷ []))
+        → LeadsTold (action i) s (changed s s.directory (set s.servers i now) s.clients s.repairers s.sweeper) (server_act_told i (server_act step) ∷ [])
+    action_told is tells =
+        one_told (action i) s (changed s s.directory (set s.servers i now) s.clients s.repairers s.sweeper) (act_made actor.Operator (Act.AtServer i step) (places_of (world_of s))) _ action_leads tells
+        (action_is_told i (core_of x) (core_of now) (places_of (world_of s)) step (slice_get-map core_of s.servers i x there) (ap (λ (t : Told). (core_of now, t)) (sym is) ∙ made))
+
     pub action_kept : now.number ≡ x.number → now.book ≡ x.book → IsWorld (changed s s.directory (set s.servers i now) s.clients s.repairers s.sweeper)
     action_kept = server_kept s is i x now (core_of now) there refl s.sweeper (action i) acted
 
@@ -144,6 +177,13 @@ module _ (s : StoredWorld) (is : IsWorld s) where
 
     pub reap_leads : Leads s.script (step_core s.script t) (world_of s) (world_of (changed s d s.servers s.clients s.repairers s.sweeper))
     reap_leads = directory_leads s is d s.sweeper t _ reaped_is ((worlds_stay_agreed s.script (world_of s) is.agree).operator (DirectoryStep.Reap who)) reaps
+
+    pub reap_told_of : (at : Option Point) → told ≡ Told.GivenUp (option_map (λ (point : Point). point.0) at)
+        → ((shortages : List Shortage) → TellsOf s.script (t ∷ []) (world_of s) shortages (act_made actor.Operator (Act.AtDirectory (DirectoryStep.Reap who)) (places_of (world_of s)) ∷ []))
+        → LeadsTold t s (changed s d s.servers s.clients s.repairers s.sweeper) (reap_told who at ∷ [])
+    reap_told_of at is tells =
+        one_told t s (changed s d s.servers s.clients s.repairers s.sweeper) (act_made actor.Operator (Act.AtDirectory (DirectoryStep.Reap who)) (places_of (world_of s))) _ reap_leads tells
+        (reap_is_told who at d.core (places_of (world_of s)) (ap (λ (t : Told). (d.core, t)) (sym is) ∙ made))
 
     pub reap_kept : d.book ≡ s.directory.book → d.stamps ≡ s.directory.stamps → IsWorld (changed s d s.servers s.clients s.repairers s.sweeper)
     reap_kept book stamps =

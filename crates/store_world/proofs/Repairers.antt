@@ -1,5 +1,5 @@
 -- A repairer's turn in the world.
-use Rattle.std.proofs.Common.{◌≡◌, ℕ, Bool, true, false, List, [], length-set, map, set, slice_get, Option, None, Some, refl, sym, ap, subst, ◌∙◌}
+use Rattle.std.proofs.Common.{◌≡◌, ℕ, Bool, true, false, List, [], ◌∷◌, length-set, map, set, slice_get, Option, None, Some, refl, sym, ap, subst, ◌∙◌}
 use Rattle.store_map.specs.declared.actor.Actor.TheVariants as actor
 use Rattle.store_map.specs.declared.actor.Token.TheVariants as token
 use Rattle.store_map.specs.declared.script.RepairPart.{RepairPart}
@@ -12,24 +12,30 @@ use Rattle.chunk_server.specs.State.{ServerState}
 use Rattle.chunk_server.specs.Core.{core_of}
 use Rattle.dir_parts.proofs.Entries.{map-set, slice_get-map}
 use Rattle.stripe_dir.specs.Sealed.{Sealed}
+use Rattle.call_stands.specs.Ready.{shortage_of}
 use Rattle.world_steps.specs.World.{ActorOf, WorldOf, with_repairer}
 use Rattle.world_steps.specs.Known.{calling_of}
 use Rattle.world_steps.specs.Tokens.{KeepsToken}
 use Rattle.world_steps.proofs.TurnLaws.{repairers_make_turns}
 use Rattle.world_steps.specs.Goes.{Leads}
 use Rattle.world_steps.proofs.Few.{worlds_make_few_steps}
+use Rattle.world_traces.specs.TurnMade.{turn_made}
+use Rattle.world_traces.proofs.Turns.{repairers_tell}
+use Rattle.trace_lines.specs.declared.step.Step.{Step}
 use Rattle.actors.specs.Turns.{AreServers, places_of}
 use Rattle.actors.specs.Turned.{MakesTurn, Leads as ActorLeads, with_places}
 use Rattle.actors.specs.LeadLaws.{AllTurnsLead}
 use Rattle.actors.specs.Callers.{PartOf, CallerOf, StandsIn, Knows, who_of, work_of}
-use Rattle.actors.specs.CallerTurns.{MakesCallerTurn, HasMore}
+use Rattle.actors.specs.CallerTurns.{MakesCallerTurn, TellsCallerTurn, HasMore}
 use Rattle.world_owes.specs.ServeLaws.{HasMorePoints}
 use Rattle.world_owes.proofs.Grow.{histories_grow}
 use Rattle.world_owes.proofs.Serving.{clients_go_on_serving}
 use Rattle.store_world.specs.Having.{caller_has}
 use Rattle.store_world.specs.Stored.{StoredWorld, world_of}
+use Rattle.store_world.specs.Telling.{LeadsTold}
 use Rattle.store_world.specs.Kept.{IsRepairerAt, IsClientAt, IsWorld}
 use Rattle.store_world.proofs.Callers.{HasTurnNow, may_turn}
+use Rattle.store_world.proofs.Told.{IsToldTurn, leads_of}
 use Rattle.store_world.proofs.Keeping.{caller_stays, changed, kept_by}
 use Rattle.store_world.proofs.Lists.{each_set, below, read_back, map_none}
 
@@ -54,26 +60,41 @@ module _ (s : StoredWorld) (is : IsWorld s) (i : ℕ) (c : CallerOf) (there : sl
       (subst (λ (p : PartOf). KeepsToken s.directory.core (who_of p i) c.actor) (sym of.is_part) (is.agree.repairers i c.actor actor_is))
       ((worlds_make_few_steps s.script (world_of s) is.geometry is.valid is.reached).repairers i (work_of c.part) c.actor work_there actor_is has) has
 
--- a client without a step
-pub idle_repairer : (s : StoredWorld) → IsWorld s → (i : ℕ) (b : Bool)
+-- a repairer without a step tells nothing
+pub idle_repairer_told : (s : StoredWorld) → IsWorld s → (i : ℕ) (b : Bool)
     → ((script : Script) (c : CallerOf) → slice_get s.repairers i ≡ Some c → c.book.geometry ≡ script.geometry → b ≡ caller_has script c)
-    → b ≡ false → Leads s.script (repairer_step s.script i) (world_of s) (world_of s)
-idle_repairer s is i b has none = by (slice_get s.repairers i) refl
+    → b ≡ false → LeadsTold (token.Repairer i) s s []
+idle_repairer_told s is i b has none = by (slice_get s.repairers i) refl
   where
-    by : (found : Option CallerOf) → slice_get s.repairers i ≡ found → Leads s.script (repairer_step s.script i) (world_of s) (world_of s)
+    by : (found : Option CallerOf) → slice_get s.repairers i ≡ found → LeadsTold (token.Repairer i) s s []
     by None e =
+        let absent : slice_get (world_of s).repairers i ≡ None = map_none (λ (caller : CallerOf). caller.actor) s.repairers i e in
         record {
-          shortages = [];
-          leads = (repairers_make_turns s.script i (world_of s)).absent (map_none (λ (client : CallerOf). client.actor) s.repairers i e);
+          made = [];
+          leads = record {
+            shortages = [];
+            leads = (repairers_make_turns s.script i (world_of s)).absent absent;
+            tells = (repairers_tell s.script i (world_of s)).absent absent;
+          };
+          are = tt;
         }
     by (Some c) e =
         let code : c.book.geometry ≡ s.script.geometry = ap (λ (b : BookOf). b.geometry) (at s is i c e).at.same_book ∙ is.code in
+        let idle : has_step (work_of c.part) (calling_of s.script c.actor) ≡ false = sym (has s.script c e code) ∙ none in
         record {
-          shortages = [];
-          leads =
-              ((repairers_make_turns s.script i (world_of s)).turns (work_of c.part) c.actor (work_there s is i c e) (actor_there s is i c e)).none
-              (sym (has s.script c e code) ∙ none);
+          made = [];
+          leads = record {
+            shortages = [];
+            leads = ((repairers_make_turns s.script i (world_of s)).turns (work_of c.part) c.actor (work_there s is i c e) (actor_there s is i c e)).none idle;
+            tells = ((repairers_tell s.script i (world_of s)).turns (work_of c.part) c.actor (work_there s is i c e) (actor_there s is i c e)).none idle;
+          };
+          are = tt;
         }
+
+pub idle_repairer : (s : StoredWorld) → IsWorld s → (i : ℕ) (b : Bool)
+    → ((script : Script) (c : CallerOf) → slice_get s.repairers i ≡ Some c → c.book.geometry ≡ script.geometry → b ≡ caller_has script c)
+    → b ≡ false → Leads s.script (repairer_step s.script i) (world_of s) (world_of s)
+idle_repairer s is i b has none = leads_of (token.Repairer i) s s [] (idle_repairer_told s is i b has none)
 
 -- one that has a step
 pub ready_repairer : (s : StoredWorld) → IsWorld s → (i : ℕ) (c : CallerOf) → slice_get s.repairers i ≡ Some c → (b : Bool)
@@ -84,57 +105,77 @@ ready_repairer s is i c there b has holds =
     ready s is i c there (sym (has s.script c there code) ∙ holds)
 
 -- ---- after a turn
-module _ (law : AllTurnsLead) (s : StoredWorld) (is : IsWorld s) (i : ℕ) (c c' : CallerOf) (there : slice_get s.repairers i ≡ Some c) (d : Sealed) (servers : List ServerState)
-    (makes : MakesCallerTurn s.script i c s.directory s.servers c' d servers) where
+module _ (law : AllTurnsLead) (s : StoredWorld) (is : IsWorld s) (i : ℕ) (c c' : CallerOf) (there : slice_get s.repairers i ≡ Some c) (d : Sealed) (servers : List ServerState) where
   world_is : with_repairer i c'.actor (with_places (places_of d servers) (world_of s)) ≡ world_of (changed s d servers s.clients (set s.repairers i c') s.sweeper)
   world_is =
       ap (λ (actors : List ActorOf). record { directory = d.core; servers = map core_of servers; clients = (world_of s).clients; repairers = actors; sweeper = s.sweeper })
       (sym (map-set (λ (client : CallerOf). client.actor) (λ _. c'.actor) s.repairers i c c' (below s.repairers i c there) (read_back s.repairers i c there) refl))
 
-  made : MakesTurn s.script (actor.Repairer i) (work_of c.part) c.actor (places_of s.directory s.servers) c'.actor (places_of d servers)
-  made =
-      subst (λ (p : PartOf). MakesTurn s.script (who_of p i) (work_of c.part) c.actor (places_of s.directory s.servers) c'.actor (places_of d servers)) (is.repairers.each i c there).is_part makes.makes
+  led_by : (m : MakesTurn s.script (actor.Repairer i) (work_of c.part) c.actor (places_of s.directory s.servers) c'.actor (places_of d servers))
+      → ActorLeads s.script (repairer_step s.script i) (world_of s) (shortage_of m.turn.coding m.turn.short m.call ∷ []) (world_of (changed s d servers s.clients (set s.repairers i c') s.sweeper))
+  led_by m =
+      subst (λ (w : WorldOf). ActorLeads s.script (repairer_step s.script i) (world_of s) (shortage_of m.turn.coding m.turn.short m.call ∷ []) w) world_is
+      ((law s.script i (world_of s) is.agree).repairer (work_of c.part) c.actor c'.actor (places_of d servers) (work_there s is i c there) (actor_there s is i c there) m)
 
-  led : ActorLeads s.script (repairer_step s.script i) (world_of s) (world_of (changed s d servers s.clients (set s.repairers i c') s.sweeper))
-  led =
-      subst (λ (w : WorldOf). ActorLeads s.script (repairer_step s.script i) (world_of s) w) world_is
-      ((law s.script i (world_of s) is.agree).repairer (work_of c.part) c.actor c'.actor (places_of d servers) (work_there s is i c there) (actor_there s is i c there) made)
+  module _ (makes : MakesCallerTurn s.script i c s.directory s.servers c' d servers) where
+    made : MakesTurn s.script (actor.Repairer i) (work_of c.part) c.actor (places_of s.directory s.servers) c'.actor (places_of d servers)
+    made =
+        subst (λ (p : PartOf). MakesTurn s.script (who_of p i) (work_of c.part) c.actor (places_of s.directory s.servers) c'.actor (places_of d servers)) (is.repairers.each i c there).is_part makes.makes
 
-  pub repairer_leads : Leads s.script (repairer_step s.script i) (world_of s) (world_of (changed s d servers s.clients (set s.repairers i c') s.sweeper))
-  repairer_leads = record { shortages = led.shortages; leads = led.leads }
+    pub repairer_leads : Leads s.script (repairer_step s.script i) (world_of s) (world_of (changed s d servers s.clients (set s.repairers i c') s.sweeper))
+    repairer_leads = record { shortages = shortage_of made.turn.coding made.turn.short made.call ∷ []; leads = (led_by made).leads }
 
-  pub repairer_kept : c' ≡ record c { actor = c'.actor; work = c'.work; served = c'.served } → Knows d c' → d.book ≡ s.directory.book → HasMore s.directory.stamps d.stamps → AreServers c.book servers
-      → IsWorld (changed s d servers s.clients (set s.repairers i c') s.sweeper)
-  repairer_kept same knows book more held =
-      let was : IsRepairerAt s.script s.book s.directory i c = is.repairers.each i c there in
-      let now : IsRepairerAt s.script s.book d i c' =
-      record {
-        part = was.part;
-        is_part = ap (λ (x : CallerOf). x.part) same ∙ was.is_part;
-        at = record {
-          its = subst (StandsIn s.script i) (sym (ap (λ (x : CallerOf). x.part) same)) was.at.its;
-          same_book = ap (λ (x : CallerOf). x.book) same ∙ was.at.same_book;
-          often = ap (λ (x : CallerOf). x.tries) same ∙ was.at.often;
-          knows = knows;
-        };
-      } in
-      let grown : HasMorePoints s.directory.core.points d.core.points =
-      histories_grow.turn s.script (actor.Repairer i) (work_of c.part) c.actor c'.actor (places_of s.directory s.servers) (places_of d servers) made in
-      let again : (k : ℕ) (x : CallerOf) → IsRepairerAt s.script s.book s.directory k x → IsRepairerAt s.script s.book d k x =
-      λ k x of. record { part = of.part; is_part = of.is_part; at = caller_stays s.script s.book s.directory d k x more.more more.is of.at } in
-      kept_by s d servers s.clients (set s.repairers i c') s.sweeper (token.Repairer i) is book (subst (λ (b : BookOf). AreServers b servers) was.at.same_book held)
-      (record {
-        count = is.clients.count;
-        each = λ k x e. let of : IsClientAt s.script s.book s.directory k x = is.clients.each k x e in
-            record {
-              part = of.part;
-              is_part = of.is_part;
-              at = caller_stays s.script s.book s.directory d k x more.more more.is of.at;
-              serves = (clients_go_on_serving s.script).stays s.directory.core.points d.core.points k x grown of.serves;
-            };
-      })
-      (record {
-        count = length-set s.repairers i c' ∙ is.repairers.count;
-        each = each_set (IsRepairerAt s.script s.book s.directory) (IsRepairerAt s.script s.book d) s.repairers i c' again is.repairers.each now;
-      })
-      led.agree repairer_leads
+    pub repairer_kept : c' ≡ record c { actor = c'.actor; work = c'.work; served = c'.served } → Knows d c' → d.book ≡ s.directory.book → HasMore s.directory.stamps d.stamps → AreServers c.book servers
+        → IsWorld (changed s d servers s.clients (set s.repairers i c') s.sweeper)
+    repairer_kept same knows book more held =
+        let was : IsRepairerAt s.script s.book s.directory i c = is.repairers.each i c there in
+        let now : IsRepairerAt s.script s.book d i c' =
+        record {
+          part = was.part;
+          is_part = ap (λ (x : CallerOf). x.part) same ∙ was.is_part;
+          at = record {
+            its = subst (StandsIn s.script i) (sym (ap (λ (x : CallerOf). x.part) same)) was.at.its;
+            same_book = ap (λ (x : CallerOf). x.book) same ∙ was.at.same_book;
+            often = ap (λ (x : CallerOf). x.tries) same ∙ was.at.often;
+            knows = knows;
+          };
+        } in
+        let grown : HasMorePoints s.directory.core.points d.core.points =
+        histories_grow.turn s.script (actor.Repairer i) (work_of c.part) c.actor c'.actor (places_of s.directory s.servers) (places_of d servers) made in
+        let again : (k : ℕ) (x : CallerOf) → IsRepairerAt s.script s.book s.directory k x → IsRepairerAt s.script s.book d k x =
+        λ k x of. record { part = of.part; is_part = of.is_part; at = caller_stays s.script s.book s.directory d k x more.more more.is of.at } in
+        kept_by s d servers s.clients (set s.repairers i c') s.sweeper (token.Repairer i) is book (subst (λ (b : BookOf). AreServers b servers) was.at.same_book held)
+        (record {
+          count = is.clients.count;
+          each = λ k x e. let of : IsClientAt s.script s.book s.directory k x = is.clients.each k x e in
+              record {
+                part = of.part;
+                is_part = of.is_part;
+                at = caller_stays s.script s.book s.directory d k x more.more more.is of.at;
+                serves = (clients_go_on_serving s.script).stays s.directory.core.points d.core.points k x grown of.serves;
+              };
+        })
+        (record {
+          count = length-set s.repairers i c' ∙ is.repairers.count;
+          each = each_set (IsRepairerAt s.script s.book s.directory) (IsRepairerAt s.script s.book d) s.repairers i c' again is.repairers.each now;
+        })
+        (led_by made).agree repairer_leads
+
+  module _ (step : Step) (tells : TellsCallerTurn s.script i c s.directory s.servers c' d servers step) where
+    turn : IsToldTurn s.script (actor.Repairer i) (work_of c.part) c.actor (places_of s.directory s.servers) c'.actor (places_of d servers) step
+    turn =
+        subst (λ (p : PartOf). IsToldTurn s.script (who_of p i) (work_of c.part) c.actor (places_of s.directory s.servers) c'.actor (places_of d servers) step) (is.repairers.each i c there).is_part
+        (record { makes = tells.turn.makes; told = tells.told })
+
+    pub repairer_told : LeadsTold (token.Repairer i) s (changed s d servers s.clients (set s.repairers i c') s.sweeper) (step ∷ [])
+    repairer_told =
+        let m : MakesTurn s.script (actor.Repairer i) (work_of c.part) c.actor (places_of s.directory s.servers) c'.actor (places_of d servers) = turn.makes in
+        record {
+          made = turn_made (actor.Repairer i) m.turn.coding m.turn.short m.call (places_of s.directory s.servers) ∷ [];
+          leads = record {
+            shortages = shortage_of m.turn.coding m.turn.short m.call ∷ [];
+            leads = (led_by m).leads;
+            tells = (((repairers_tell s.script i (world_of s)).turns (work_of c.part) c.actor (work_there s is i c there) (actor_there s is i c there)).turn m.call m.turn.coding m.turn.short m.has);
+          };
+          are = (turn.told, tt);
+        }

@@ -64,8 +64,8 @@ impl<'a> World<'a> {
         }
     }
 
-    // Whether somebody has a step.
-    fn is_unfinished(&self) -> bool
+    /// Whether somebody has a step: a client, a repairer or the sweeper.
+    pub fn is_unfinished(&self) -> bool
         ensures { result ≡ is_unfinished self.now.script (core_of self.now.script (world_of self.now)) }
     {
         if some_has_step(&self.clients) {

@@ -9,6 +9,7 @@ mod operator;
 mod script_run;
 mod step;
 mod sweep;
+mod telling;
 mod turns;
 mod world;
 

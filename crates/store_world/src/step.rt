@@ -19,14 +19,30 @@ impl<'a> World<'a> {
         ensures same_book { self.new.book ≡ self.old.book }
     {
         match token {
-            Token::Client(i) => self.client_turn(rt, coder, i),
-            Token::Repairer(i) => self.repairer_turn(rt, coder, i),
-            Token::Sweep => self.sweeper_turn(),
-            Token::Wipe(server) => self.wipe(server),
-            Token::Down(server) => self.down(server),
-            Token::Up(server) => self.up(server),
-            Token::ReapClient(i) => self.reap_client(i),
-            Token::ReapRepairer(i) => self.reap_repairer(i),
+            Token::Client(i) => {
+                self.client_turn(rt, coder, i);
+            }
+            Token::Repairer(i) => {
+                self.repairer_turn(rt, coder, i);
+            }
+            Token::Sweep => {
+                self.sweeper_turn();
+            }
+            Token::Wipe(server) => {
+                self.wipe(server);
+            }
+            Token::Down(server) => {
+                self.down(server);
+            }
+            Token::Up(server) => {
+                self.up(server);
+            }
+            Token::ReapClient(i) => {
+                self.reap_client(i);
+            }
+            Token::ReapRepairer(i) => {
+                self.reap_repairer(i);
+            }
             Token::Drain => self.drain(rt, coder),
         }
     }

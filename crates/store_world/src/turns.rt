@@ -1,10 +1,12 @@
 //! The turns of the callers.
 ghost use Rattle.std.specs.Prelude.{◌≡◌, ◌<◌, true, length, slice_get, Some};
+ghost use Rattle.store_map.specs.declared.actor.Token.{Token};
 ghost use Rattle.store_map.specs.declared.script.Script.{Script};
 ghost use Rattle.store_core.specs.Run.{client_step, repairer_step};
 ghost use Rattle.actors.specs.Callers.{CallerOf};
 ghost use Rattle.store_world.specs.Having.{caller_has};
 ghost use Rattle.store_world.specs.Stored.{LeadsBy};
+ghost use Rattle.store_world.specs.Telling.{LeadsTold, steps_in};
 
 use crate::world::World;
 use actors::Caller;
@@ -12,6 +14,7 @@ use actors::laws::turns_lead;
 use clay_repair::Coder;
 use client_patch::laws::bytes_of_the_map_are_padded;
 use std::thread::Threads;
+use trace_lines::Step;
 
 // Whether there is such a caller and it has a step.
 fn has_step(callers: &[Caller], i: u32) -> bool
@@ -26,9 +29,16 @@ fn has_step(callers: &[Caller], i: u32) -> bool
 }
 
 impl<'a> World<'a> {
-    // The turn of client i, or nothing where there is none or it has no step.
-    pub(crate) fn client_turn<R: Threads + Sync, C: Coder>(&mut self, rt: &R, coder: &C, i: u32)
+    /// The turn of client i, and the step that it made. Where there is no such client or it has no step,
+    /// nothing is done.
+    pub fn client_turn<R: Threads + Sync, C: Coder>(
+        &mut self,
+        rt: &R,
+        coder: &C,
+        i: u32,
+    ) -> Option<Step>
         ensures leads { LeadsBy (client_step self.old.script i) self.old self.new }
+        ensures told { LeadsTold (Token.Client i) self.old self.new (steps_in result) }
         ensures same { self.new.script ≡ self.old.script }
         ensures same_book { self.new.book ≡ self.old.book }
     {
@@ -36,9 +46,9 @@ impl<'a> World<'a> {
         bytes_of_the_map_are_padded();
         self.directory.keeps();
         if !has_step(&self.clients, i) {
-            return;
+            return None;
         }
-        self.clients[i as usize].turn(
+        let step = self.clients[i as usize].turn(
             rt,
             coder,
             i,
@@ -46,11 +56,19 @@ impl<'a> World<'a> {
             self.book,
             &mut self.servers,
         );
+        Some(step)
     }
 
-    // The turn of repairer i, or nothing where there is none or it has no step.
-    pub(crate) fn repairer_turn<R: Threads + Sync, C: Coder>(&mut self, rt: &R, coder: &C, i: u32)
+    /// The turn of repairer i, and the step that it made. Where there is no such repairer or it has no
+    /// step, nothing is done.
+    pub fn repairer_turn<R: Threads + Sync, C: Coder>(
+        &mut self,
+        rt: &R,
+        coder: &C,
+        i: u32,
+    ) -> Option<Step>
         ensures leads { LeadsBy (repairer_step self.old.script i) self.old self.new }
+        ensures told { LeadsTold (Token.Repairer i) self.old self.new (steps_in result) }
         ensures same { self.new.script ≡ self.old.script }
         ensures same_book { self.new.book ≡ self.old.book }
     {
@@ -58,9 +76,9 @@ impl<'a> World<'a> {
         bytes_of_the_map_are_padded();
         self.directory.keeps();
         if !has_step(&self.repairers, i) {
-            return;
+            return None;
         }
-        self.repairers[i as usize].turn(
+        let step = self.repairers[i as usize].turn(
             rt,
             coder,
             i,
@@ -68,5 +86,6 @@ impl<'a> World<'a> {
             self.book,
             &mut self.servers,
         );
+        Some(step)
     }
 }

@@ -51,6 +51,14 @@ at_directory_by act who number w d = (d, w)
 abbrev pub stepped_at_directory : Actor → ℕ → SweeperOf → Directory → Directory × SweeperOf
 stepped_at_directory who number w d = at_directory_by (act_of w) who number w d
 
+-- what it is told there
+abbrev pub told_at_directory_by : Act → Actor → ℕ → Directory → Told
+told_at_directory_by (Act.AtDirectory step) who number d = (at_directory false who number step d).1
+told_at_directory_by act who number d = Told.NotMade
+
+abbrev pub told_at_directory : Actor → ℕ → SweeperOf → Directory → Told
+told_at_directory who number w d = told_at_directory_by (act_of w) who number d
+
 -- the server and the sweeper after its act there
 abbrev pub at_server_by : Act → SweeperOf → Server → Server × SweeperOf
 at_server_by (Act.AtServer server step) w s =
@@ -61,6 +69,14 @@ at_server_by act w s = (s, w)
 -- one step at the server that it needs
 abbrev pub stepped_at_server : SweeperOf → Server → Server × SweeperOf
 stepped_at_server w s = at_server_by (act_of w) w s
+
+-- what it is told there
+abbrev pub told_at_server_by : Act → Server → Told
+told_at_server_by (Act.AtServer server step) s = (at_server false step s).1
+told_at_server_by act s = Told.NotMade
+
+abbrev pub told_at_server : SweeperOf → Server → Told
+told_at_server w s = told_at_server_by (act_of w) s
 
 -- a server from which the version that is swept is discarded
 abbrev pub discarded_at : Sweeper → ServerState → ServerState

@@ -1,5 +1,6 @@
 -- A call's steps at servers while it stands in a writing.
 use Rattle.std.proofs.Common.{◌≡◌, ℕ, Bool, true, false, List, Some, refl, ap, sym, ◌∙◌}
+use Rattle.std.proofs.lemmas.Option.{none-some}
 use Rattle.clay_grid.specs.Shape.{Shape}
 use Rattle.store_core.specs.Told.{Told}
 use Rattle.store_core.specs.Note.{Note}
@@ -14,8 +15,9 @@ use Rattle.store_resume.specs.CallLaws.{next_call}
 use Rattle.call_steps.specs.declared.need.Need.TheVariants as need
 use Rattle.call_steps.specs.CallOf.{CallOf, act_of}
 use Rattle.call_steps.specs.Steps.{need_by, stepped_at_server, at_server_by}
+use Rattle.call_steps.specs.Hearing.{told_here_by, told_here}
 use Rattle.write_course.specs.Writings.{server_of}
-use Rattle.write_course.specs.WritingSteps.{stepped}
+use Rattle.write_course.specs.WritingSteps.{stepped, told_at}
 use Rattle.write_course.specs.Laws.{call_at, IsServerStep}
 use Rattle.write_course.specs.Holding.{HasToken}
 use Rattle.write_course.proofs.OfTheCall.{steps_are_of_the_call}
@@ -35,6 +37,15 @@ server_step c pairs at server is asked short due before after now step =
     let made : (after, record c { state = call_at pairs now; due = due; coding = false; step = short }) ≡ at_server_by (Act.AtServer server law.step) short due c before
     = λ i. (places i, record c { state = state i; takes = takes i; due = due; coding = false; step = short }) in
     made ∙ ap (λ act. at_server_by act short due c before) (sym act)
+
+-- what a writing is told its call is told
+pub server_tells : (c : CallOf) (pairs : List (ℕ × ℕ)) (at : State) (server : ℕ) → c.state ≡ call_at pairs at → server_of at ≡ Some server
+    → (short : Bool) (before : Server) → told_at short before at ≡ told_here short c before
+server_tells c pairs (State.Preparing stripe version asked servers row later placed versions) server is asks short before =
+    ap (λ s. told_here_by (act_of_state c.book.geometry c.tries c.job s) short before) (sym is)
+server_tells c pairs (State.Settling point place places) server is asks short before =
+    ap (λ s. told_here_by (act_of_state c.book.geometry c.tries c.job s) short before) (sym is)
+server_tells c pairs at server is asks short before = absurd (none-some server asks)
 
 -- which server a writing needs
 pub record Asks (at : State) (due : Bool) (server : ℕ) : Type 0 where

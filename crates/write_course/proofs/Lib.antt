@@ -7,3 +7,5 @@ pub mod OfTheCall
 pub mod Tokens
 pub mod AtServers
 pub mod AtDirectory
+pub mod Telling
+pub mod Acting

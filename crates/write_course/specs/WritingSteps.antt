@@ -23,6 +23,12 @@ stepped g short s (State.Settling point place places) =
     (after.0, settle_state point places)
 stepped g short s at = (s, at)
 
+-- what it is told then
+abbrev pub told_at : Bool → Server → State → Told
+told_at short s (State.Preparing stripe version server servers row later placed versions) = (at_server short (ServerStep.Prepare version) s).1
+told_at short s (State.Settling point place places) = (at_server short (ServerStep.Settle place.1) s).1
+told_at short s at = Told.NotMade
+
 -- what a writing's state is, by what it does next
 abbrev pub IsDoing : WritingStage → WritingOf → Type 0
 IsDoing doing.Preparing w = is_preparing w.state ≡ true

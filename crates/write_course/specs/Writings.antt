@@ -6,6 +6,8 @@ use Rattle.store_map.specs.declared.placement.Placement.{Placement}
 use Rattle.store_core.specs.Act.{Outcome}
 use Rattle.store_resume.specs.State.{State}
 use Rattle.version_seal.specs.Entry.{BookOf, StampOf}
+use Rattle.call_steps.specs.declared.act.ServerAct.{ServerAct}
+use Rattle.call_steps.specs.declared.act.ServerAct.TheVariants as here
 
 -- its book, the stripe of its first version, the stamps of its versions, where its call stands, and whether chunks are to be made before its next step
 pub record WritingOf : Type 0 where
@@ -24,6 +26,12 @@ abbrev pub server_of : State → Option ℕ
 server_of (State.Preparing stripe version server servers row later placed versions) = Some server
 server_of (State.Settling point place places) = Some (place.0)
 server_of at = None
+
+-- and what it does there
+abbrev pub question_of : State → Option (ℕ × ServerAct)
+question_of (State.Preparing stripe version server servers row later placed versions) = Some (server, here.Prepare (record { 0 = version }))
+question_of (State.Settling point place places) = Some (place.0, here.Settle (record { 0 = place.1 }))
+question_of at = None
 
 -- a chunk is prepared next, and the commit, and a chunk is settled
 abbrev pub is_preparing : State → Bool

@@ -7,12 +7,13 @@ ghost use Rattle.store_resume.specs.StateActs.{act_at};
 ghost use Rattle.call_steps.specs.Ends.{finished_of, IsStanding, IsOver};
 ghost use Rattle.call_steps.specs.Outcomes.{outcome_of};
 ghost use Rattle.call_steps.specs.Steps.{need_by, IsServerBelow};
+ghost use Rattle.call_steps.specs.Acts.{act_by};
 ghost use Rattle.write_course.specs.Writings.{begins_version};
 ghost use Rattle.write_course.specs.Holding.{HasWholeRows};
 
 use crate::writing::Writing;
 use crate::writing_stage::WritingStage;
-use call_steps::{Need, Outcome};
+use call_steps::{Act, DirectoryAct, Need, Outcome};
 use store_map::Reply;
 
 impl Writing {
@@ -40,6 +41,26 @@ impl Writing {
             None => match self.doing() {
                 WritingStage::Done => Need::Finished,
                 _ => Need::Directory,
+            },
+        }
+    }
+
+    /// What its call does next.
+    #[tactic(auto, using(crate::proofs::Acting::asking_acts, crate::proofs::Acting::done_acts, crate::proofs::Acting::commit_acts, crate::proofs::Acting::end_acts))]
+    pub fn act(&self) -> Act
+        requires { IsStanding self.now.state }
+        ensures { (tries : ℕ) (job : Job) (pairs : List (ℕ × ℕ)) → result
+            ≡ act_by (act_at self.now.book.geometry tries job pairs self.now.state) self.now.due }
+    {
+        if self.due() {
+            return Act::Coding;
+        }
+        match self.question() {
+            Some((server, step)) => Act::Server(server, step),
+            None => match self.doing() {
+                WritingStage::Done => Act::Finished,
+                WritingStage::Committing => Act::Directory(DirectoryAct::Commit),
+                _ => Act::Directory(DirectoryAct::End),
             },
         }
     }

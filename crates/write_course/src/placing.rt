@@ -1,5 +1,5 @@
 //! A version whose chunks go to their servers.
-ghost use Rattle.std.specs.Prelude.{◌≡◌, ◌<◌, ◌≤◌, ◌∷◌, ◌++◌, [], map, length, true, IfOk, OnErr, vec_capacity};
+ghost use Rattle.std.specs.Prelude.{◌≡◌, ◌<◌, ◌≤◌, ◌∷◌, ◌++◌, [], map, length, true, false, IfOk, OnErr, vec_capacity};
 ghost use Rattle.clay_grid.specs.Shape.{chunk_count};
 ghost use Rattle.clay_encode.specs.Chunks.{contents};
 ghost use Rattle.clay_model.specs.Code.{Codes};
@@ -110,13 +110,15 @@ impl Placing {
         self.away.len()
     }
 
-    /// The next chunk goes to its server.
-    pub(crate) fn prepare(self, s: &mut Server) -> Result<Placing, AllocError>
+    /// The next chunk goes to its server, which answers how it took the chunk.
+    pub(crate) fn prepare(self, s: &mut Server) -> Result<(Placing, Placement), AllocError>
         requires asked { s.old.number ≡ length self.row }
         requires left { length self.row < chunk_count self.geometry }
         requires home { s.old.book.home ≡ self.stamp.home }
         requires code { s.old.book.geometry ≡ self.geometry }
-        ensures ok { IfOk result (IsAfterPrepare self (core_of s.old) (core_of s.new)) }
+        ensures ok { IfOk result (λ made. IsAfterPrepare self (core_of s.old) (core_of s.new) made.0) }
+        ensures told { IfOk result (λ made. (core_of s.new, Told.Prepared made.1)
+            ≡ at_server false (ServerStep.Prepare self.stamp.version) (core_of s.old)) }
         ensures err { OnErr result ((core_of s.new, Told.Short)
             ≡ at_server true (ServerStep.Prepare self.stamp.version) (core_of s.old)) }
         ensures number { s.new.number ≡ s.old.number }
@@ -136,13 +138,14 @@ impl Placing {
         let chunk = SealedChunk::new(geometry, stamp.copy(), server, bytes);
         let placement = s.prepare(chunk)?;
         note_placement(&mut row, &mut away, server, placement);
-        Ok(Placing {
+        let placing = Placing {
             geometry,
             stamp,
             chunks,
             row,
             away,
-        })
+        };
+        Ok((placing, placement))
     }
 
     /// What the servers answered.

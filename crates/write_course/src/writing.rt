@@ -7,14 +7,17 @@ ghost use Rattle.store_core.specs.Placements.{IsRow};
 ghost use Rattle.store_core.specs.Act.{Outcome};
 ghost use Rattle.store_resume.specs.State.{State};
 ghost use Rattle.store_resume.specs.States.{prepare_all_state, settle_state};
-ghost use Rattle.store_core.specs.Told.{lost_in};
+ghost use Rattle.store_core.specs.Told.{Told, lost_in};
 ghost use Rattle.chunk_server.specs.Core.{core_of};
+ghost use Rattle.call_steps.specs.Answers.{told_by_server};
 ghost use Rattle.write_course.specs.States.{placed_on};
-ghost use Rattle.write_course.specs.Writings.{versions_of, server_of, is_preparing, is_committing, is_settling, begins_version, place_of, stamp_at_work, point_of};
-ghost use Rattle.write_course.specs.WritingSteps.{stepped, IsDoing};
+ghost use Rattle.write_course.specs.Writings.{versions_of, server_of, question_of, is_preparing, is_committing, is_settling};
+ghost use Rattle.write_course.specs.Writings.{begins_version, place_of, stamp_at_work, point_of};
+ghost use Rattle.write_course.specs.WritingSteps.{stepped, told_at, IsDoing};
 
 use crate::placing::Placing;
 use crate::writing_stage::{WritingStage, prepares_or_commits, settles_or_is_done};
+use call_steps::{ServerAct, ServerAnswer};
 use chunk_server::Server;
 use clay_grid::Geometry;
 use clay_repair::Coder;
@@ -137,6 +140,23 @@ impl Writing {
         }
     }
 
+    /// The same, with what it does there.
+    pub fn question(&self) -> Option<(u32, ServerAct)>
+        ensures { result ≡ question_of self.now.state }
+    {
+        match self.doing {
+            WritingStage::Preparing => {
+                let version = self.stamps[self.rows.len()].version();
+                Some((self.preparing_at(), ServerAct::Prepare(version)))
+            }
+            WritingStage::Settling => {
+                let version = self.stamps[self.at].version();
+                Some((self.server, ServerAct::Settle(version)))
+            }
+            _ => None,
+        }
+    }
+
     // The server that is asked next for the version at work.
     fn preparing_at(&self) -> u32
         requires { is_preparing self.now.state ≡ true }
@@ -202,15 +222,16 @@ impl Writing {
         self.doing = WritingStage::Short;
     }
 
-    /// One step at the server that is asked: it is to keep its chunk of the version at work, or to
-    /// settle it. Where memory is wanting the writing ends.
-    pub fn on_server(&mut self, s: &mut Server) -> Result<(), AllocError>
+    /// One step at the server that is asked, and its answer: it is to keep its chunk of the version at
+    /// work, or to settle it. Where memory is wanting the writing ends.
+    pub fn on_server(&mut self, s: &mut Server) -> Result<ServerAnswer, AllocError>
         requires asked { server_of self.old.state ≡ Some s.old.number }
         requires made { self.old.due ≡ false }
         requires book { s.old.book ≡ self.old.book }
         ensures step { (core_of s.new, self.new.state)
             ≡ stepped self.old.book.geometry (is_err result) (core_of s.old) self.old.state }
         ensures due { self.new.due ≡ begins_version self.new.state }
+        ensures told { told_by_server result ≡ told_at (is_err result) (core_of s.old) self.old.state }
         ensures settled { is_settling self.old.state ≡ true → IsOk result }
         ensures same { self.new
             ≡ record self.old { state = self.new.state; due = self.new.due } }
@@ -221,12 +242,12 @@ impl Writing {
             WritingStage::Preparing => self.prepare(s),
             _ => {
                 self.settle(s);
-                Ok(())
+                Ok(ServerAnswer::Settled)
             }
         }
     }
 
-    fn prepare(&mut self, s: &mut Server) -> Result<(), AllocError>
+    fn prepare(&mut self, s: &mut Server) -> Result<ServerAnswer, AllocError>
         requires preparing { is_preparing self.old.state ≡ true }
         requires asked { server_of self.old.state ≡ Some s.old.number }
         requires made { self.old.due ≡ false }
@@ -234,6 +255,7 @@ impl Writing {
         ensures step { (core_of s.new, self.new.state)
             ≡ stepped self.old.book.geometry (is_err result) (core_of s.old) self.old.state }
         ensures due { self.new.due ≡ begins_version self.new.state }
+        ensures told { told_by_server result ≡ told_at (is_err result) (core_of s.old) self.old.state }
         ensures same { self.new
             ≡ record self.old { state = self.new.state; due = self.new.due } }
         ensures number { s.new.number ≡ s.old.number }
@@ -243,13 +265,13 @@ impl Writing {
             unreachable!()
         };
         match placing.prepare(s) {
-            Ok(placing) => {
+            Ok((placing, placement)) => {
                 let geometry = self.opening.geometry();
                 let versions = self.stamps.len();
                 let (doing, work) = place_on(geometry, versions, &mut self.rows, placing);
                 self.doing = doing;
                 self.work = work;
-                Ok(())
+                Ok(ServerAnswer::Prepared(placement))
             }
             Err(error) => {
                 self.doing = WritingStage::Short;
@@ -263,6 +285,7 @@ impl Writing {
         ensures step { (core_of s.new, self.new.state)
             ≡ stepped self.old.book.geometry false (core_of s.old) self.old.state }
         ensures due { self.new.due ≡ false }
+        ensures told { Told.Settled ≡ told_at false (core_of s.old) self.old.state }
         ensures last { begins_version self.new.state ≡ false }
         ensures same { self.new
             ≡ record self.old { state = self.new.state; due = self.new.due } }

@@ -1,5 +1,6 @@
 use Rattle.frame_bytes.proofs.FillLemmas.{more_within, more_given, cut_there}
-use Rattle.std.proofs.Common.{◌∙◌}
+use Rattle.std.proofs.Common.{◌≡◌, ◌<◌, ◌-◌, ◌∙◌, length, arith}
+use Rattle.std.proofs.lemmas.Grind.{common_steps}
 use Rattle.frame_bytes.proofs.filling.fill.Goals as goal
 
 pub reads-preserved : goal.reads-preserved
@@ -13,4 +14,7 @@ reads-preserved g c = record {
 
 pub returns-in-Err-clause-cut : goal.returns-in-Err-clause-cut
 returns-in-Err-clause-cut g c =
-    cut_there c.reads.at c.reads.buf c.read.new.buf _ _ _ c.reads.invariant.within c.reads.invariant.given c.in-Err.ensures.no_bytes
+    let less : c.reads.at < length c.reads.buf = omega arith in
+    let size : length c.read.new.buf ≡ length c.reads.buf - c.reads.at = grind (arith, common_steps) in
+    cut_there c.reads.at c.reads.buf c.read.new.buf _ _ _ c.reads.invariant.within (omega (arith, less, size)) c.reads.invariant.given
+    c.in-Err.ensures.no_bytes

@@ -1,13 +1,13 @@
-use Rattle.std.proofs.Common.{◌≡◌, ◌≤◌, ◌+◌, ◌-◌, min, true, false, sym, ◌∙◌, arith}
+use Rattle.std.proofs.Common.{◌≡◌, ◌≤◌, ◌+◌, ◌-◌, min, true, false, sym, subst, ◌∙◌, arith}
 use Rattle.std.proofs.lemmas.Grind.{common_steps}
 use Rattle.std.proofs.lemmas.Result.{IfOk-weaker, on_err_weaker}
 use Rattle.byteorder.specs.Endian.{big_number}
-use Rattle.clay_bytes.specs.Stream.{GivesAtMost}
 use Rattle.session_rules.specs.Input.{is_frame_length}
 use Rattle.frame_bytes.specs.declared.reading.Next.{Next}
 use Rattle.frame_bytes.specs.Body.{IsBody}
-use Rattle.frame_bytes.specs.Next.{IsNext, StopsWithin}
-use Rattle.frame_bytes.proofs.ReadLemmas.{IsHead, torn, wrong, body, stops_in_body}
+use Rattle.frame_bytes.specs.Next.{IsNext, StopsWithin, StopsAtLength}
+use Rattle.frame_bytes.specs.Filling.{GivesFewer}
+use Rattle.frame_bytes.proofs.ReadLemmas.{IsHead, torn, wrong, body, stops_in_body, stops_at_length}
 use Rattle.frame_bytes.proofs.reading.read_frame.Goals as goal
 
 pub returns-then-read-lt4-clause-next : goal.returns-then-read-lt4-clause-next
@@ -51,9 +51,22 @@ returns-clause-fault g c =
     let ends : c.in_ok-read.read ≤ c.args.room = omega arith in
     let whole : 4 ≤ c.in_ok-read.read = omega arith in
     let number : c.read_u32-count.result ≡ big_number 4 c.fill.new.buf = c.read_u32-count.ensures in
+    let right : is_frame_length c.read_u32-count.result ≡ true = sym c.is_frame_length.ensures ∙ c.if-not-is_frame_length.false in
     let old = g.S.Source.left c.args.source.now in
     let mid = g.S.Source.left c.fill.new.source in
     let new = g.S.Source.left c.read_body.new.source in
-    let step : GivesAtMost mid (min c.read_u32-count.result (c.args.room - 4 + 1)) new → StopsWithin c.args.room old new =
-    λ gave. stops_in_body c.args.room c.in_ok-read.read c.read_u32-count.result c.fill.new.buf old mid new it ends whole number gave in
+    let step : GivesFewer mid (min c.read_u32-count.result (c.args.room - 4 + 1)) new → StopsWithin c.args.room old new =
+    λ gave. stops_in_body c.args.room c.in_ok-read.read c.read_u32-count.result c.fill.new.buf old mid new it ends whole number right gave in
     on_err_weaker c.read_body.result step c.read_body.ensures.fault
+
+pub returns-clause-memory : goal.returns-clause-memory
+returns-clause-memory g c = λ wanting.
+    let it : IsHead c.args.room c.in_ok-read.read c.fill.new.buf (g.S.Source.left c.args.source.now) (g.S.Source.left c.fill.new.source) =
+    record { size = grind (arith, common_steps); within = c.in_ok-read.ensures.within; filled = c.in_ok-read.ensures.bytes } in
+    let ends : c.in_ok-read.read ≤ c.args.room = omega arith in
+    let whole : 4 ≤ c.in_ok-read.read = omega arith in
+    let number : c.read_u32-count.result ≡ big_number 4 c.fill.new.buf = c.read_u32-count.ensures in
+    let right : is_frame_length c.read_u32-count.result ≡ true = sym c.is_frame_length.ensures ∙ c.if-not-is_frame_length.false in
+    subst (λ source. StopsAtLength c.args.room (g.S.Source.left c.args.source.now) (g.S.Source.left source)) (sym (c.read_body.ensures.memory wanting))
+    (stops_at_length c.args.room c.in_ok-read.read c.read_u32-count.result c.fill.new.buf (g.S.Source.left c.args.source.now)
+    (g.S.Source.left c.fill.new.source) it ends whole number right)

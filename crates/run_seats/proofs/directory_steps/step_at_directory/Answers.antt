@@ -58,15 +58,15 @@ give_step-requires g c =
     let log = c.take-held.new.turn.seen in
     let n = c.args.stepper.number in
     let a = c.args.caller.now in
-    let left = c.on_directory-left.result.value in
+    let left = c.on_directory-left.result.0.value in
     let now = c.on_directory-left.new.directory in
     let there =
     is_there held.clients held.repairers held.max n c.args.turn.now.fixed c.args.turn.now.numbers c.args.turn.now.seen log held.directory a before c.take-held.ensures.fixed c.take-held.ensures.stands c.keeps.ensures.bytes
     c.keeps.ensures.whole.sound c.keeps.ensures.stamps c.requires.1.1.0.number c.take-held.ensures.seen in
     let m = c.on_directory-left.ensures.step in
     let made : MadeAtDirectory before.call left held.directory now = subst (λ (x : MachineOf). MadeAtDirectory x left held.directory now) (call_is before.call m.call a before.work m.was) m.step in
-    let number : (entry_at_directory c.args.stepper.number c.of-stood.result.value.work c.on_directory-left.result.value c.of-before.result.value.directory c.take-held.new.turn.seen g.last).0 ≡ c.args.stepper.number =
-    number_is c.args.stepper.number c.of-stood.result.value.work c.on_directory-left.result.value c.of-before.result.value.directory c.take-held.new.turn.seen g.last in (
+    let number : (entry_at_directory c.args.stepper.number c.of-stood.result.value.work c.on_directory-left.result.0.value c.of-before.result.value.directory c.take-held.new.turn.seen g.last).0 ≡ c.args.stepper.number =
+    number_is c.args.stepper.number c.of-stood.result.value.work c.on_directory-left.result.0.value c.of-before.result.value.directory c.take-held.new.turn.seen g.last in (
       holding c.args.lock.now c.args.stepper.number _ (directory_identity c.take-held.result) _ c.args.turn.now c.take-held.new.turn c.requires.1.1.0 c.take-held.ensures.turn c.take-held.ensures.fixed
           (λ i. record { opening = c.on_directory-left.ensures.book i; max = c.take-held.result.max; clients = c.take-held.result.clients; repairers = c.take-held.result.repairers }) number,
       subst (λ (b : DirectoryBox). StandsAtDirectory of held.max now (log ++ entry_at_directory n c.of-stood.result.value.work left b.directory log g.last ∷ []))
@@ -84,7 +84,7 @@ returns-clause-step g c =
     let log = c.take-held.new.turn.seen in
     let n = c.args.stepper.number in
     let a = c.args.caller.now in
-    let left = c.on_directory-left.result.value in
+    let left = c.on_directory-left.result.0.value in
     let now = c.on_directory-left.new.directory in
     let there =
     is_there held.clients held.repairers held.max n c.args.turn.now.fixed c.args.turn.now.numbers c.args.turn.now.seen log held.directory a before c.take-held.ensures.fixed c.take-held.ensures.stands c.keeps.ensures.bytes

@@ -34,13 +34,13 @@ give_step-requires g c =
     let of : Counts = record { clients = held.clients; repairers = held.repairers } in
     let log = c.take-held.new.turn.seen in
     let n = c.args.stepper.number in
-    let left = c.on_server-left.result.value in
+    let left = c.on_server-left.result.0.value in
     let s = c.on_server-left.new.server in
     let h = fits _ c.args.turn.now.fixed n c.args.caller.now c.take-held.ensures.fixed before in
     let m = c.on_server-left.ensures.step in
     let made : MadeAtServer before.call left held.server s = subst (λ (x : MachineOf). MadeAtServer x left held.server s) (call_is before.call m.call c.args.caller.now before.work m.was) m.step in
-    let number : (entry_at_server c.args.stepper.number c.of-stood.result.value.work c.on_server-left.result.value (core_of c.of-before.result.value.server) c.take-held.new.turn.seen g.last).0 ≡ c.args.stepper.number =
-    number_is c.args.stepper.number c.of-stood.result.value.work c.on_server-left.result.value (core_of c.of-before.result.value.server) c.take-held.new.turn.seen g.last in (
+    let number : (entry_at_server c.args.stepper.number c.of-stood.result.value.work c.on_server-left.result.0.value (core_of c.of-before.result.value.server) c.take-held.new.turn.seen g.last).0 ≡ c.args.stepper.number =
+    number_is c.args.stepper.number c.of-stood.result.value.work c.on_server-left.result.0.value (core_of c.of-before.result.value.server) c.take-held.new.turn.seen g.last in (
       holding c.args.lock.now c.args.stepper.number _ (server_identity c.take-held.result) _ c.args.turn.now c.take-held.new.turn c.requires.1.1.0 c.take-held.ensures.turn c.take-held.ensures.fixed
           (λ i. record { number = c.on_server-left.ensures.same.number i; opening = c.on_server-left.ensures.same.book i; clients = c.take-held.result.clients; repairers = c.take-held.result.repairers }) number,
       subst (λ (number : ℕ). StandsAtServer of number (core_of s) (log ++ entry_at_server n c.of-stood.result.value.work left (core_of c.of-before.result.value.server) log g.last ∷ []))
@@ -58,7 +58,7 @@ returns-clause-step g c =
     let held = c.take-held.result in
     let log = c.take-held.new.turn.seen in
     let n = c.args.stepper.number in
-    let left = c.on_server-left.result.value in
+    let left = c.on_server-left.result.0.value in
     let s = c.on_server-left.new.server in
     let h = fits _ c.args.turn.now.fixed n c.args.caller.now c.take-held.ensures.fixed before in
     let m = c.on_server-left.ensures.step in

@@ -8,11 +8,14 @@ use Rattle.store_core.specs.Agreement.{Agrees}
 use Rattle.store_core.specs.Tokens.{actor_of}
 use Rattle.store_resume.specs.States.{settle_state}
 use Rattle.version_seal.specs.Entry.{BookOf}
+use Rattle.stripe_dir.specs.Answers.{told_committed}
+use Rattle.call_steps.specs.declared.answer.DirectoryAnswer.TheVariants as there
+use Rattle.call_steps.specs.Answers.{directory_answer}
 use Rattle.write_course.specs.Writings.{WritingOf, versions_of}
 use Rattle.client_patch.specs.Patches.{PatchOf, is_write}
 use Rattle.client_patch.specs.Inside.{pairs_in}
 use Rattle.write_course.proofs.Tokens.{token_stays}
-use Rattle.client_patch.proofs.Commits.{commit_may, told_change, commit_room, writing_commits, done_kept, done_step}
+use Rattle.client_patch.proofs.Commits.{commit_tells, commit_may, told_change, commit_room, writing_commits, done_kept, done_step}
 use Rattle.client_patch.proofs.patch.PatchCall.commit.Goals as goal
 
 pub rows-rows-requires : goal.rows-rows-requires
@@ -57,3 +60,21 @@ returns-in-Done-clause-step c =
     ∙ ap (λ (w : WritingOf). record w { state = settle_state c.in-Done.point.0 (places_of (chunk_count w.book.geometry) (versions_of w.stamps)) }) c.rows-rows.ensures.after in
     done_step c.self.inside c.self.invariant c.args.self.now c.self.view_is c.requires.committing c.in-Done.point.0 placed c.rows-rows.ensures.rows c.committed.new.self writing
     c.commit-answer.new.self c.in-Done.ensures.token c.args.directory.now.core c.commit-answer.new.directory.core (pairs_in c.clear.new.self.items) (ap pairs_in c.clear.ensures.items) c.in-Done.ensures.step
+
+pub returns-in-Done-clause-told : goal.returns-in-Done-clause-told
+returns-in-Done-clause-told c =
+    commit_tells c.self.inside c.self.invariant c.args.self.now c.self.view_is c.requires.committing (map (λ row. row.items) c.rows-rows.result.items) c.rows-rows.ensures.rows
+    c.args.directory.now.core c.commit-answer.new.directory.core (told_committed c.commit-answer.result) (there.Done c.in-Done.point) c.commit-answer.ensures.step
+    (ap (λ answer. directory_answer (told_committed answer)) c.in-Done.is)
+
+pub returns-in-Changed-clause-told : goal.returns-in-Changed-clause-told
+returns-in-Changed-clause-told c =
+    commit_tells c.self.inside c.self.invariant c.args.self.now c.self.view_is c.requires.committing (map (λ row. row.items) c.rows-rows.result.items) c.rows-rows.ensures.rows
+    c.args.directory.now.core c.commit-answer.new.directory.core (told_committed c.commit-answer.result) (there.Changed c.in-Changed.looked_at c.in-Changed.newer) c.commit-answer.ensures.step
+    (ap (λ answer. directory_answer (told_committed answer)) c.in-Changed.is)
+
+pub returns-in-Reaped-clause-told : goal.returns-in-Reaped-clause-told
+returns-in-Reaped-clause-told c =
+    commit_tells c.self.inside c.self.invariant c.args.self.now c.self.view_is c.requires.committing (map (λ row. row.items) c.rows-rows.result.items) c.rows-rows.ensures.rows
+    c.args.directory.now.core c.commit-answer.new.directory.core (told_committed c.commit-answer.result) (there.Reaped c.in-Reaped.at) c.commit-answer.ensures.step
+    (ap (λ answer. directory_answer (told_committed answer)) c.in-Reaped.is)

@@ -1,4 +1,4 @@
-use Rattle.std.proofs.Common.{◌≡◌, ◌+◌, ◌-◌, ◌/◌, ◌^◌, ◌<◌, ◌≤◌, false, [], ◌++◌, length, Ok, Some, IfOk, ap, subst, sym, ◌∙◌, arith}
+use Rattle.std.proofs.Common.{◌≡◌, ◌+◌, ◌-◌, ◌/◌, ◌^◌, ◌<◌, ◌≤◌, false, [], ◌++◌, length, Ok, Some, IfOk, refl, ap, subst, sym, ◌∙◌, arith}
 use Rattle.clay_grid.specs.Shape.{stripe_length}
 use Rattle.clay_grid.specs.Limits.{IsGeometry}
 use Rattle.store_core.specs.Told.{Told}
@@ -7,6 +7,8 @@ use Rattle.store_core.specs.AtDirectory.{at_directory}
 use Rattle.store_core.specs.Tokens.{actor_of}
 use Rattle.store_resume.specs.States.{prepare_all_state}
 use Rattle.stripe_dir.specs.Answers.{told_or_short, told_drawn}
+use Rattle.call_steps.specs.declared.answer.DirectoryAnswer.TheVariants as there
+use Rattle.call_steps.specs.Answers.{directory_answer}
 use Rattle.call_steps.specs.TokenAfter.{token_after}
 use Rattle.stripe_dir.specs.AnswerStamps.{IfDrawn, AreDrawnFor, stamps_given}
 use Rattle.stripe_dir.specs.declared.answers.Drawn.TheVariants as draw
@@ -15,7 +17,7 @@ use Rattle.write_course.specs.Draws.{request_of}
 use Rattle.client_patch.specs.Patches.{PatchOf, is_write}
 use Rattle.client_patch.specs.Inside.{patch_in}
 use Rattle.write_course.proofs.Tokens.{token_stays}
-use Rattle.client_patch.proofs.Drawing.{holding, draw_stamps, draw_kept, draw_count}
+use Rattle.client_patch.proofs.Drawing.{holding, draw_tells, draw_stamps, draw_kept, draw_count}
 use Rattle.client_patch.proofs.patch.PatchCall.draw.Goals as goal
 use Rattle.client_patch.proofs.patch.PatchCall.draw.Goals.{After-copy}
 
@@ -96,3 +98,25 @@ returns-in-Ok-Versions-clause-stamps c =
     ∙ ap (λ stamps. c.args.directory.now.stamps ++ stamps)
     (draw_stamps c.self.inside c.self.invariant c.args.self.now c.self.view_is c.requires.drawing c.requires.need c.args.directory.now c.is_err-self-inside.result c.draw-answer.new.directory.core
     (versions_of c.in-Ok-Versions.stamps.items) c.in-Ok-Versions.stamps.items c.request-request.result (made d) (asked d) (drawn d))
+
+pub returns-in-Ok-Versions-clause-told : goal.returns-in-Ok-Versions-clause-told
+returns-in-Ok-Versions-clause-told c =
+    let d = (goal.at.returns-in-Ok-Versions-clause-told c).After-copy in
+    draw_tells c.self.inside c.self.invariant c.args.self.now c.self.view_is c.requires.drawing c.requires.need c.args.directory.now.core c.draw-answer.new.directory.core
+    c.is_err-self-inside.result (Told.Versions (versions_of c.in-Ok-Versions.stamps.items)) there.Versions (made d) refl
+
+pub returns-in-Ok-Reaped-clause-told : goal.returns-in-Ok-Reaped-clause-told
+returns-in-Ok-Reaped-clause-told c =
+    draw_tells c.self.inside c.self.invariant c.args.self.now c.self.view_is c.requires.drawing c.requires.need c.args.directory.now.core c.draw-answer.new.directory.core
+    c.is_err-self-inside.result (told_or_short told_drawn c.draw-answer.result) (there.Reaped c.in-Ok-Reaped.at)
+    (c.draw-answer.ensures.step
+    ∙ ap (λ short. at_directory short (actor_of c.self.inside.ticket) c.self.inside.number DirectoryStep.Draw c.args.directory.now.core) (sym c.is_err-self-inside.ensures.value))
+    (ap (λ result. directory_answer (told_or_short told_drawn result)) (c.in-Ok-Reaped.is ∙ ap Ok c.in-Ok-Reaped.field-0-is))
+
+pub returns-clause-told : goal.returns-clause-told
+returns-clause-told c =
+    draw_tells c.self.inside c.self.invariant c.args.self.now c.self.view_is c.requires.drawing c.requires.need c.args.directory.now.core c.draw-answer.new.directory.core
+    c.is_err-self-inside.result (told_or_short told_drawn c.draw-answer.result) there.Short
+    (c.draw-answer.ensures.step
+    ∙ ap (λ short. at_directory short (actor_of c.self.inside.ticket) c.self.inside.number DirectoryStep.Draw c.args.directory.now.core) (sym c.is_err-self-inside.ensures.value))
+    (ap (λ result. directory_answer (told_or_short told_drawn result)) c.in-Err.is)

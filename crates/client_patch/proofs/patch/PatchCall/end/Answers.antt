@@ -2,7 +2,12 @@ use Rattle.std.proofs.Common.{false, ap, subst, sym, ◌∙◌}
 use Rattle.store_core.specs.Told.{Told}
 use Rattle.store_core.specs.Act.{DirectoryStep}
 use Rattle.store_core.specs.Tokens.{actor_of}
-use Rattle.client_patch.specs.Inside.{Keeps}
+use Rattle.stripe_dir.specs.Answers.{told_ended}
+use Rattle.call_steps.specs.declared.answer.DirectoryAnswer.TheVariants as there
+use Rattle.call_steps.specs.Answers.{directory_answer}
+use Rattle.call_steps.proofs.Telling.{end_tells}
+use Rattle.client_patch.specs.Patches.{PatchOf}
+use Rattle.client_patch.specs.Inside.{Keeps, patch_in}
 use Rattle.write_course.proofs.Tokens.{token_stays, seated_by}
 use Rattle.write_course.proofs.AtDirectory.{end_draws}
 use Rattle.client_patch.proofs.Ends.{end_holding, end_kept, end_step}
@@ -36,3 +41,13 @@ returns-in-Ended-clause-stamps c = end_draws c.args.directory.now c.end-answer.n
 
 pub returns-in-Reaped-clause-stamps : goal.returns-in-Reaped-clause-stamps
 returns-in-Reaped-clause-stamps c = end_draws c.args.directory.now c.end-answer.new.directory c.args.self.now.call c.args.self.now.written false c.requires.ending c.end-answer.ensures.stamps
+
+pub returns-in-Ended-clause-told : goal.returns-in-Ended-clause-told
+returns-in-Ended-clause-told c =
+    end_tells (patch_in c.self.inside).call c.args.self.now.call c.args.directory.now.core c.end-answer.new.directory.core (told_ended c.end-answer.result) there.Ended
+    (ap (λ (p : PatchOf). p.call) c.self.view_is) c.requires.ending c.end-answer.ensures.step (ap (λ answer. directory_answer (told_ended answer)) c.in-Ended.is)
+
+pub returns-in-Reaped-clause-told : goal.returns-in-Reaped-clause-told
+returns-in-Reaped-clause-told c =
+    end_tells (patch_in c.self.inside).call c.args.self.now.call c.args.directory.now.core c.end-answer.new.directory.core (told_ended c.end-answer.result) (there.Reaped c.in-Reaped.at)
+    (ap (λ (p : PatchOf). p.call) c.self.view_is) c.requires.ending c.end-answer.ensures.step (ap (λ answer. directory_answer (told_ended answer)) c.in-Reaped.is)

@@ -8,8 +8,10 @@ use Rattle.store_core.specs.Tokens.{actor_of}
 use Rattle.client_patch.specs.Patches.{PatchOf, is_write}
 use Rattle.client_patch.specs.Stages.{state_by, due_by}
 use Rattle.client_patch.specs.LookAfter.{looked_stripes, IsPatchLook}
+use Rattle.client_patch.specs.Inside.{patch_in}
+use Rattle.call_steps.proofs.Telling.{there, by_act_there}
 use Rattle.write_course.proofs.Tokens.{token_stays}
-use Rattle.client_patch.proofs.Looks.{looked, patch_looks, nothing_wanted, if_ready, waits, look_kept, look_step}
+use Rattle.client_patch.proofs.Looks.{looked, looks_here, patch_looks, nothing_wanted, if_ready, waits, look_kept, look_step}
 use Rattle.client_patch.proofs.Learning.{look_knows}
 use Rattle.client_patch.proofs.Drawing.{some_bytes}
 use Rattle.clay_grid.specs.Shape.{Shape, stripe_length}
@@ -71,3 +73,15 @@ returns-clause-knows c =
     next.ensures.size
     (if_ready told (λ begun. ap owed begun ∙ ap (λ (book : BookOf). bytes_of (map (wanted_of book.geometry 0 next.result.size) (looked_stripes c.look-answer.result))) kept.book) next.ensures.begun)
     c.look-answer.ensures.token
+
+pub returns-clause-told : goal.returns-clause-told
+returns-clause-told c =
+    let a = c.self.inside in
+    let d = c.args.directory.now.core in
+    let short : Bool = c.is_err-self-inside.result in
+    let told = looked c.look-answer.result in
+    there (patch_in a).call c.args.self.now.call d short told c.after_look-stage.result.told (ap (λ (p : PatchOf). p.call) c.self.view_is)
+    (by_act_there (patch_in a).call d c.look-answer.new.directory.core short (DirectoryStep.Look (note_of a.call.now)) told
+    (looks_here a c.self.invariant c.args.self.now c.self.view_is c.requires.first c.requires.need)
+    (c.look-answer.ensures.step ∙ ap (λ s. at_directory s (actor_of a.ticket) a.number (DirectoryStep.Look (note_of a.call.now)) d) (sym c.is_err-self-inside.ensures.value)))
+    c.after_look-stage.ensures.told

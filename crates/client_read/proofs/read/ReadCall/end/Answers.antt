@@ -12,7 +12,11 @@ use Rattle.client_read.specs.Stages.{state_by}
 use Rattle.client_read.specs.Inside.{Keeps, IsHolding}
 use Rattle.client_read.specs.declared.stage.Stage.{Stage}
 use Rattle.client_read.proofs.Standings.{ends_holding, ended_keeps}
+use Rattle.call_steps.specs.declared.answer.DirectoryAnswer.TheVariants as there
+use Rattle.call_steps.specs.Answers.{directory_answer}
+use Rattle.client_read.specs.Inside.{read_in}
 use Rattle.client_read.proofs.Closing.{end_seated, end_client}
+use Rattle.call_steps.proofs.Telling.{end_tells}
 use Rattle.client_read.proofs.read.ReadCall.end.Goals as goal
 
 pub invariant_of-self : goal.invariant_of-self
@@ -32,3 +36,15 @@ invariant_of-self c =
           (ap (λ (r : ReadOf). need_of r.call) c.self.view_is ∙ c.requires.need)
           (subst IsSeated (sym ended) (end_seated a.ticket a.number (note_of a.call.now) holds)));
     }
+
+pub returns-in-Ended-clause-told : goal.returns-in-Ended-clause-told
+returns-in-Ended-clause-told c =
+    let a = c.self.inside in
+    end_tells (read_in a).call c.args.self.now.call c.args.directory.now.core c.end-answer.new.directory.core (told_ended c.end-answer.result) there.Ended (ap (λ (r : ReadOf). r.call) c.self.view_is)
+    c.requires.ending c.end-answer.ensures.step (ap (λ answer. directory_answer (told_ended answer)) c.in-Ended.is)
+
+pub returns-in-Reaped-clause-told : goal.returns-in-Reaped-clause-told
+returns-in-Reaped-clause-told c =
+    let a = c.self.inside in
+    end_tells (read_in a).call c.args.self.now.call c.args.directory.now.core c.end-answer.new.directory.core (told_ended c.end-answer.result) (there.Reaped c.in-Reaped.at)
+    (ap (λ (r : ReadOf). r.call) c.self.view_is) c.requires.ending c.end-answer.ensures.step (ap (λ answer. directory_answer (told_ended answer)) c.in-Reaped.is)

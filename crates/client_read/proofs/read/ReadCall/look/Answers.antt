@@ -13,7 +13,9 @@ use Rattle.client_read.specs.Stages.{state_by, due_by}
 use Rattle.client_read.specs.Owed.{owed_after}
 use Rattle.client_read.specs.Inside.{read_in, Keeps}
 use Rattle.client_read.proofs.Standings.{waits_first}
-use Rattle.client_read.proofs.Looking.{may_look, look_fits, kept_looked, client_looked, look_step, look_owed, all_own}
+use Rattle.call_steps.proofs.Telling.{there, by_act_there}
+use Rattle.client_read.proofs.Acting.{first_act}
+use Rattle.client_read.proofs.Looking.{looked, may_look, look_fits, kept_looked, client_looked, look_step, look_owed, all_own}
 use Rattle.client_read.proofs.read.ReadCall.look.Goals as goal
 
 pub look-answer-requires-clause-may : goal.look-answer-requires-clause-may
@@ -68,3 +70,14 @@ returns-clause-owed c =
     (c.look-answer.ensures.step ∙ ap (λ s. at_directory s (actor_of a.ticket) a.number (DirectoryStep.Look (note_of a.call.now)) d.core) (sym c.is_err-self-inside.ensures.value))
     (owed a.gatherings) d refl
     ∙ ap (λ (r : ReadOf). owed_after short r.call d r.owed) c.self.view_is
+
+pub returns-clause-told : goal.returns-clause-told
+returns-clause-told c =
+    let a = c.self.inside in
+    let d = c.args.directory.now.core in
+    let short : Bool = c.is_err-self-inside.result in
+    there (read_in a).call c.args.self.now.call d short (looked c.look-answer.result) c.after_look-looked.result.told (ap (λ (r : ReadOf). r.call) c.self.view_is)
+    (by_act_there (read_in a).call d c.look-answer.new.directory.core short (DirectoryStep.Look (note_of a.call.now)) (looked c.look-answer.result)
+    (first_act a c.self.invariant (ap (λ (r : ReadOf). r.call.state.at) c.self.view_is ∙ c.requires.first))
+    (c.look-answer.ensures.step ∙ ap (λ s. at_directory s (actor_of a.ticket) a.number (DirectoryStep.Look (note_of a.call.now)) d) (sym c.is_err-self-inside.ensures.value)))
+    c.after_look-looked.ensures.told

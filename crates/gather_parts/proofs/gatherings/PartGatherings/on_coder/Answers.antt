@@ -1,4 +1,4 @@
-use Rattle.std.proofs.Common.{◌≡◌, true, false, ap, ◌∙◌}
+use Rattle.std.proofs.Common.{true, false, ap, ◌∙◌}
 use Rattle.gather_parts.specs.Gatherings.{owed}
 use Rattle.gather_parts.specs.Steps.{given_up}
 use Rattle.gather_parts.specs.Progress.{is_due}

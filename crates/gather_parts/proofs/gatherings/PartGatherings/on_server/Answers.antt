@@ -1,4 +1,4 @@
-use Rattle.std.proofs.Common.{◌≡◌, is_err, length, IfSome, refl, sym, ap, subst, ◌∙◌}
+use Rattle.std.proofs.Common.{◌≡◌, false, is_err, length, IfSome, refl, sym, ap, subst, ◌∙◌}
 use Rattle.store_core.specs.Server.{Server}
 use Rattle.gathering.specs.Gathers.{GatherOf}
 use Rattle.clay_grid.specs.Shape.{chunk_count}
@@ -8,7 +8,7 @@ use Rattle.gather_parts.specs.Steps.{stepped}
 use Rattle.gather_parts.specs.Inside.{IsAtWork}
 use Rattle.gather_parts.specs.States.{moved}
 use Rattle.gather_parts.proofs.AtWork.{still_at_work, still_counted, stepped_is, still_owed, same_book}
-use Rattle.gather_parts.proofs.Moving.{step_moves}
+use Rattle.gather_parts.proofs.Moving.{step_moves, step_tells}
 use Rattle.gather_parts.proofs.gatherings.PartGatherings.on_server.Goals as goal
 
 pub invariant_of-self : goal.invariant_of-self
@@ -50,3 +50,12 @@ returns-clause-call c = λ call after due stands.
 pub returns-clause-book : goal.returns-clause-book
 returns-clause-book c =
     ap (λ (r : Server × GatheringsOf). r.1.book) (returns-clause-step c) ∙ same_book c.args.self.now (is_err c.on_server.result) (core_of c.args.s.now)
+
+pub returns-clause-told : goal.returns-clause-told
+returns-clause-told c = λ call after stands.
+    let a = c.self.inside in
+    c.on_server.ensures.told
+    ∙ step_tells call after false (is_err c.on_server.result) (core_of c.args.s.now) c.args.self.now c.in-Some.gather c.args.s.now.number
+    (sym (ap (λ (p : GatheringsOf). p.current) c.self.view_is) ∙ c.in-Some.is)
+    ((subst (λ o. IfSome o (IsAtWork a.opening)) c.in-Some.is c.self.invariant.current).code ∙ ap (λ (p : GatheringsOf). p.book.geometry) c.self.view_is)
+    c.requires.asked stands

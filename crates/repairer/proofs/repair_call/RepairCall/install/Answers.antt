@@ -1,4 +1,4 @@
-use Rattle.std.proofs.Common.{◌≡◌, Ok, Option, Result, false, is_err, unwrap_or, sym, ap, ◌∙◌}
+use Rattle.std.proofs.Common.{◌≡◌, Ok, Result, false, is_err, sym, ap, ◌∙◌}
 use Rattle.std.specs.declared.alloc.AllocError.{AllocError}
 use Rattle.clay_grid.specs.Shape.{chunk_count}
 use Rattle.store_core.specs.Told.{Told}
@@ -7,26 +7,22 @@ use Rattle.store_core.specs.Server.{at_server}
 use Rattle.chunk_server.specs.declared.answers.Installed.{Installed}
 use Rattle.chunk_server.specs.declared.answers.Installed.TheVariants as installed
 use Rattle.chunk_server.specs.Core.{core_of, told_installed}
-use Rattle.version_seal.specs.Sealed.{ChunkOf}
-use Rattle.call_steps.specs.declared.seen.Seen.{Seen}
 use Rattle.call_steps.specs.CallOf.{CallOf}
 use Rattle.call_steps.specs.Steps.{stepped_at_server}
 use Rattle.repairer.specs.declared.stage.Stage.TheVariants as stage
 use Rattle.repairer.specs.Standing.{seen_at}
 use Rattle.repairer.specs.Inside.{takes_at}
-use Rattle.repairer.specs.Moments.{IsMade}
-use Rattle.repairer.proofs.Stages.{is_at, keeps, seen_by}
+use Rattle.repairer.proofs.Stages.{is_at, seen_by}
 use Rattle.repairer.proofs.Steps.{placed}
+use Rattle.repairer.proofs.Hearing.{its_version, installed_tells}
 use Rattle.repairer.proofs.repair_call.RepairCall.install.Goals as goal
 
 pub returns-in-Ok-Placed-clause-step : goal.returns-in-Ok-Placed-clause-step
 returns-in-Ok-Placed-clause-step c =
     let a = c.self.inside in
     let at = is_at a c.args.self.now stage.Installing c.self.invariant c.self.view_is c.requires.stage in
-    let made : IsMade a.opening a.rebuild.now.server a.looked.value a.chunk = (keeps a stage.Installing c.self.invariant at).2 in
-    let same : c.in-Some.chunk ≡ made.chunk = ap (λ (o : Option ChunkOf). unwrap_or o made.chunk) (c.in-Some.ensures.value ∙ made.is_chunk) in
     let version : c.in-Some.chunk.stamp.version ≡ (seen_at a.looked.value).version =
-    ap (λ (chunk : ChunkOf). chunk.stamp.version) same ∙ ap (λ stamp. stamp.version) made.its.stamp ∙ ap (λ (o : Option Seen). (seen_at o).version) (sym made.is_seen)
+    its_version a c.args.self.now c.self.invariant c.self.view_is c.requires.stage c.in-Some.chunk c.in-Some.ensures.value
     in
     let is : c.install.result ≡ Ok (installed.Placed c.in-Ok-Placed.epoch) = c.in-Ok-Placed.is ∙ ap Ok c.in-Ok-Placed.field-0-is in
     let step : (core_of c.install.new.self, Told.Placed c.in-Ok-Placed.epoch) ≡ at_server false (ServerStep.Install c.in-Some.chunk.stamp.version) (core_of c.args.s.now) =
@@ -37,3 +33,23 @@ returns-in-Ok-Placed-clause-step c =
     placed a.opening a.rebuild.now a.number a.ticket (seen_at a.looked.value) (takes_at (chunk_count a.opening.geometry) a.takes) a.due a.due a.coding a.step c.in-Some.chunk.stamp.version
     c.in-Ok-Placed.epoch (core_of c.args.s.now) (core_of c.install.new.self) step version
     ∙ ap (λ (call : CallOf). stepped_at_server false a.due call (core_of c.args.s.now)) (seen_by a c.args.self.now stage.Installing c.self.view_is at)
+
+pub returns-in-Ok-Placed-clause-told : goal.returns-in-Ok-Placed-clause-told
+returns-in-Ok-Placed-clause-told c =
+    installed_tells c.self.inside c.args.self.now c.self.invariant c.self.view_is c.requires.stage c.in-Some.chunk c.in-Some.ensures.value (core_of c.args.s.now)
+    (core_of c.install.new.self) c.install.result (Ok (installed.Placed c.in-Ok-Placed.epoch)) c.install.ensures.core (c.in-Ok-Placed.is ∙ ap Ok c.in-Ok-Placed.field-0-is)
+
+pub returns-in-Ok-AlreadyThere-clause-told : goal.returns-in-Ok-AlreadyThere-clause-told
+returns-in-Ok-AlreadyThere-clause-told c =
+    installed_tells c.self.inside c.args.self.now c.self.invariant c.self.view_is c.requires.stage c.in-Some.chunk c.in-Some.ensures.value (core_of c.args.s.now)
+    (core_of c.install.new.self) c.install.result (Ok installed.AlreadyThere) c.install.ensures.core (c.in-Ok-AlreadyThere.is ∙ ap Ok c.in-Ok-AlreadyThere.field-0-is)
+
+pub returns-in-Ok-Away-clause-told : goal.returns-in-Ok-Away-clause-told
+returns-in-Ok-Away-clause-told c =
+    installed_tells c.self.inside c.args.self.now c.self.invariant c.self.view_is c.requires.stage c.in-Some.chunk c.in-Some.ensures.value (core_of c.args.s.now)
+    (core_of c.install.new.self) c.install.result (Ok (installed.Away c.in-Ok-Away.downs)) c.install.ensures.core (c.in-Ok-Away.is ∙ ap Ok c.in-Ok-Away.field-0-is)
+
+pub returns-in-Err-clause-told : goal.returns-in-Err-clause-told
+returns-in-Err-clause-told c =
+    installed_tells c.self.inside c.args.self.now c.self.invariant c.self.view_is c.requires.stage c.in-Some.chunk c.in-Some.ensures.value (core_of c.args.s.now)
+    (core_of c.install.new.self) c.install.result _ c.install.ensures.core c.in-Err.is

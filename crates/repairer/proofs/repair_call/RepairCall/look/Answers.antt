@@ -8,6 +8,7 @@ use Rattle.version_seal.specs.Entry.{BookOf}
 use Rattle.stripe_dir.specs.declared.answers.RepairLook.{RepairLook}
 use Rattle.stripe_dir.specs.declared.answers.RepairLook.TheVariants as repair
 use Rattle.stripe_dir.specs.Answers.{seen_in, told_or_short, told_repair_look}
+use Rattle.call_steps.specs.declared.answer.DirectoryAnswer.TheVariants as there
 use Rattle.call_steps.specs.CallOf.{CallOf}
 use Rattle.call_steps.specs.TokenAfter.{token_after}
 use Rattle.stripe_dir.specs.Shown.{IsShown, AreShown, stripe_seen}
@@ -15,6 +16,7 @@ use Rattle.repairer.specs.declared.stage.Stage.TheVariants as stage
 use Rattle.repairer.specs.Moments.{IsNew}
 use Rattle.repairer.proofs.Stages.{is_at, keeps}
 use Rattle.repairer.proofs.Steps.{begun}
+use Rattle.repairer.proofs.Hearing.{look_tells}
 use Rattle.repairer.proofs.repair_call.RepairCall.look.Goals as goal
 
 pub invariant_of-self : goal.invariant_of-self
@@ -48,3 +50,18 @@ invariant_of-self c =
         },
       );
     }
+
+pub returns-in-Ok-Pinned-clause-told : goal.returns-in-Ok-Pinned-clause-told
+returns-in-Ok-Pinned-clause-told c =
+    look_tells c.self.inside c.args.self.now c.self.invariant c.self.view_is c.requires.stage c.args.d.now.core c.look_repair-look.new.directory.core c.look_repair-look.result
+    (Ok (repair.Pinned tt c.in-Ok-Pinned.seen)) there.PinnedStripe c.look_repair-look.ensures.step (c.in-Ok-Pinned.is ∙ ap Ok c.in-Ok-Pinned.field-0-is) refl
+
+pub returns-in-Ok-NoSuch-clause-told : goal.returns-in-Ok-NoSuch-clause-told
+returns-in-Ok-NoSuch-clause-told c =
+    look_tells c.self.inside c.args.self.now c.self.invariant c.self.view_is c.requires.stage c.args.d.now.core c.look_repair-look.new.directory.core c.look_repair-look.result
+    (Ok (repair.NoSuch tt)) there.NoSuch c.look_repair-look.ensures.step (c.in-Ok-NoSuch.is ∙ ap Ok c.in-Ok-NoSuch.field-0-is) refl
+
+pub returns-in-Err-clause-told : goal.returns-in-Err-clause-told
+returns-in-Err-clause-told c =
+    look_tells c.self.inside c.args.self.now c.self.invariant c.self.view_is c.requires.stage c.args.d.now.core c.look_repair-look.new.directory.core c.look_repair-look.result
+    _ there.Short c.look_repair-look.ensures.step c.in-Err.is refl

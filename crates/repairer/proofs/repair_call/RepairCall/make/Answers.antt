@@ -1,4 +1,4 @@
-use Rattle.std.proofs.Common.{◌≡◌, false, Some, refl, sym, ap, subst, ◌∙◌}
+use Rattle.std.proofs.Common.{false, Some, refl, sym, ap, subst, ◌∙◌}
 use Rattle.gather_course.specs.Aims.{target_of}
 use Rattle.gathering.specs.Gathers.{GatherOf}
 use Rattle.repairer.specs.declared.stage.Stage.{Stage}

@@ -27,8 +27,8 @@ step_at_directory-requires g c κs within =
           free_of c.args.store.now.directory (directory_of c.args.store.now) c.args.self.now.turns.number c.stepper-stepper.result.number c.args.self.now.turns.directory may.seated_is.turns.directory number,
           (
             subst (λ (n : ℕ). IsBeforeDirectory c.args.self.now.turns.directory.fixed n c.args.self.now.turns.directory.seen c.ready.new.self) (sym number)
-                (before_directory c.args.store.now c.args.self.now may c.ready.new.self c.ready.ensures.ready c.need.ensures.its c.in-Directory.ensures.need c.need.ensures.may c.need.ensures.pass c.ready.ensures.knows),
-            sym may.seated_is.book ∙ sym (ap (λ (x : _). x.book) c.ready.ensures.ready.leaves),
+                (before_directory c.args.store.now c.args.self.now may c.ready.new.self c.ready.ensures.ready.ready c.need.ensures.its c.in-Directory.ensures.need c.need.ensures.may c.need.ensures.pass c.ready.ensures.knows),
+            sym may.seated_is.book ∙ sym (ap (λ (x : _). x.book) c.ready.ensures.ready.ready.leaves),
           ),
         ),
       ),
@@ -41,7 +41,7 @@ step_at_server-requires g c κs within =
     let seated = c.args.self.now in
     let j = c.in-Server.server in
     let number : c.stepper-stepper.result.number ≡ seated.turns.number = ap (λ (s : _). s.number) c.stepper-stepper.ensures in
-    let below : j < chunk_count store.script.now.geometry = below_all store seated may c.ready.new.self c.ready.ensures.ready j c.in-Server.ensures.below in
+    let below : j < chunk_count store.script.now.geometry = below_all store seated may c.ready.new.self c.ready.ensures.ready.ready j c.in-Server.ensures.below in
     let lock : slice_get store.servers.items j ≡ Some c.index.result.now = got store.servers.items j c.index.result.now (subst (λ (n : ℕ). j < n) (sym may.store_is.count) below) c.index.ensures in
     let turn : slice_get seated.turns.servers.items j ≡ Some c.index_mut.result.now =
     got seated.turns.servers.items j c.index_mut.result.now (subst (λ (n : ℕ). j < n) (sym may.seated_is.turns.count) below) c.index_mut.ensures.value in
@@ -52,7 +52,7 @@ step_at_server-requires g c κs within =
         (
           free_of c.index.result.now (server_of store j) seated.turns.number c.stepper-stepper.result.number c.index_mut.result.now at number,
           subst (λ (n : ℕ). IsBeforeServer c.index_mut.result.now.fixed n c.ready.new.self) (sym number)
-              (before_server store seated may c.ready.new.self c.ready.ensures.ready c.need.ensures.its j c.index_mut.result.now at.fixed c.in-Server.ensures.need),
+              (before_server store seated may c.ready.new.self c.ready.ensures.ready.ready c.need.ensures.its j c.index_mut.result.now at.fixed c.in-Server.ensures.need),
         ),
       ),
     )
@@ -64,7 +64,7 @@ returns-in-Directory g c =
     let after = c.step_at_directory.new.caller in
     let turn = c.step_at_directory.new.turn in
     let number : c.stepper-stepper.result.number ≡ seated.turns.number = ap (λ (s : _). s.number) c.stepper-stepper.ensures in
-    directory_stepped c.args.store.now seated may c.ready.new.self after c.ready.ensures.ready g.last c.requires.1.1.1.1.0 turn c.step_at_directory.ensures.turn
+    directory_stepped c.args.store.now seated may c.ready.new.self after c.ready.ensures.ready.ready g.last c.requires.1.1.1.1.0 turn c.step_at_directory.ensures.turn
     (subst (λ (n : ℕ). HasSteppedAtDirectory n g.last (max_in seated.turns.directory.fixed) seated.turns.directory.seen turn.seen c.ready.new.self after) number c.step_at_directory.ensures.step) c.in-Directory.ensures.need c.need.ensures.its
 
 pub returns-in-Server : goal.returns-in-Server
@@ -77,7 +77,7 @@ returns-in-Server g c =
     let before = c.index_mut.result.now in
     let turn = c.step_at_server.new.turn in
     let number : c.stepper-stepper.result.number ≡ seated.turns.number = ap (λ (s : _). s.number) c.stepper-stepper.ensures in
-    let below : j < chunk_count store.script.now.geometry = below_all store seated may c.ready.new.self c.ready.ensures.ready j c.in-Server.ensures.below in
-    server_stepped store seated may c.ready.new.self after c.ready.ensures.ready g.last c.requires.1.1.1.1.0 j turn before _ refl refl refl
+    let below : j < chunk_count store.script.now.geometry = below_all store seated may c.ready.new.self c.ready.ensures.ready.ready j c.in-Server.ensures.below in
+    server_stepped store seated may c.ready.new.self after c.ready.ensures.ready.ready g.last c.requires.1.1.1.1.0 j turn before _ refl refl refl
     (subst (λ (n : ℕ). j < n) (sym may.seated_is.turns.count) below) c.index_mut.ensures.value c.step_at_server.ensures.turn
     (subst (λ (n : ℕ). HasSteppedAtServer n g.last before.seen turn.seen c.ready.new.self after) number c.step_at_server.ensures.step) c.in-Server.ensures.need c.ready.ensures.knows

@@ -31,3 +31,7 @@ returns-clause-reply c = ap (reply_by c.self.inside.ended) c.on_server.ensures.o
 pub returns-clause-call : goal.returns-clause-call
 returns-clause-call c = λ call after due stands.
     c.on_server.ensures.call call after due (subst (λ (r : ReadOf). StandsIn call r.gatherings after) (sym c.self.view_is) stands)
+
+pub returns-clause-told : goal.returns-clause-told
+returns-clause-told c = λ call after stands.
+    c.on_server.ensures.told call after (subst (λ (r : ReadOf). StandsIn call r.gatherings after) (sym c.self.view_is) stands)

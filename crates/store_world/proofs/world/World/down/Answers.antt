@@ -1,4 +1,4 @@
-use Rattle.std.proofs.Common.{◌≡◌, ◌<◌, set, slice_get, Some, ap, subst, sym}
+use Rattle.std.proofs.Common.{◌≡◌, ◌<◌, set, slice_get, Some, ap, subst, sym, [], ◌∷◌, refl}
 use Rattle.clay_grid.specs.Shape.{chunk_count}
 use Rattle.store_map.specs.declared.actor.Token.TheVariants as token
 use Rattle.store_core.specs.Act.{ServerStep}
@@ -7,11 +7,14 @@ use Rattle.store_core.specs.Told.{Told}
 use Rattle.chunk_server.specs.State.{ServerState}
 use Rattle.world_steps.proofs.PlaceLaws.{operator_makes_actions}
 use Rattle.world_steps.specs.Goes.{Leads}
+use Rattle.world_traces.proofs.Places.{operator_tells}
+use Rattle.trace_lines.specs.declared.step.Step.{Step}
 use Rattle.store_world.specs.Stored.{StoredWorld, world_of}
+use Rattle.store_world.specs.Telling.{LeadsTold}
 use Rattle.store_world.specs.Inside.{stored_in}
 use Rattle.store_world.proofs.Keeping.{changed}
 use Rattle.store_world.proofs.Lists.{got}
-use Rattle.store_world.proofs.Places.{ample, server_there, action_leads, action_kept}
+use Rattle.store_world.proofs.Places.{ample, server_there, action_leads, action_told, action_kept}
 use Rattle.store_world.proofs.world.World.down.Goals as goal
 
 pub invariant_of-self : goal.invariant_of-self
@@ -30,3 +33,19 @@ returns-clause-leads c =
     (λ (v : StoredWorld). Leads v.script (step_core v.script (token.Down c.args.server)) (world_of v)
     (world_of (changed (stored_in c.self.inside) c.self.inside.directory (set c.self.inside.servers.items c.args.server c.down.new.self) c.self.inside.clients.items c.self.inside.repairers.items c.self.inside.sweeper)))
     c.self.view_is leads
+
+pub returns-clause-told : goal.returns-clause-told
+returns-clause-told c =
+    let there : slice_get c.self.inside.servers.items c.args.server ≡ Some c.index_mut.result.now =
+    got c.self.inside.servers.items c.args.server c.index_mut.result.now (server_there (stored_in c.self.inside) c.self.invariant c.args.server (subst (λ (v : StoredWorld). c.args.server < chunk_count v.script.geometry) (sym c.self.view_is) c.requires)) c.index_mut.ensures.value in
+    let told : _ = action_told (stored_in c.self.inside) c.self.invariant c.args.server c.index_mut.result.now c.down.new.self there token.Down ServerStep.Down Told.Made
+    ((operator_makes_actions c.self.inside.script.now (world_of (stored_in c.self.inside)) ample).down) c.down.ensures.core
+    refl ((operator_tells c.self.inside.script.now (world_of (stored_in c.self.inside))).down c.args.server) in
+    subst
+    (λ (v : StoredWorld). LeadsTold (token.Down c.args.server) v
+    (changed (stored_in c.self.inside) c.self.inside.directory (set c.self.inside.servers.items c.args.server c.down.new.self) c.self.inside.clients.items c.self.inside.repairers.items c.self.inside.sweeper)
+    (c.step_at_server.result ∷ []))
+    c.self.view_is
+    (subst (λ (step : Step). LeadsTold (token.Down c.args.server) (stored_in c.self.inside)
+    (changed (stored_in c.self.inside) c.self.inside.directory (set c.self.inside.servers.items c.args.server c.down.new.self) c.self.inside.clients.items c.self.inside.repairers.items c.self.inside.sweeper)
+    (step ∷ [])) (sym c.step_at_server.ensures) told)

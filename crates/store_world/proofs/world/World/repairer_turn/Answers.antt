@@ -1,12 +1,14 @@
-use Rattle.std.proofs.Common.{◌≡◌, set, slice_get, Some, subst}
+use Rattle.std.proofs.Common.{◌≡◌, [], ◌∷◌, set, slice_get, Some, subst}
+use Rattle.store_map.specs.declared.actor.Token.TheVariants as token
 use Rattle.store_core.specs.Run.{repairer_step}
 use Rattle.world_steps.specs.Goes.{Leads}
 use Rattle.store_world.specs.Stored.{StoredWorld, world_of}
+use Rattle.store_world.specs.Telling.{LeadsTold}
 use Rattle.store_world.specs.Inside.{stored_in}
 use Rattle.store_world.proofs.Keeping.{changed}
 use Rattle.store_world.proofs.Lists.{got}
 use Rattle.store_world.proofs.Callers.{HasTurnNow, there_of, has_of}
-use Rattle.store_world.proofs.Repairers.{ready_repairer, idle_repairer, repairer_leads, repairer_kept}
+use Rattle.store_world.proofs.Repairers.{ready_repairer, idle_repairer, idle_repairer_told, repairer_leads, repairer_told, repairer_kept}
 use Rattle.store_world.proofs.Padding.{are_padded}
 use Rattle.store_world.proofs.world.World.repairer_turn.Goals as goal
 
@@ -15,40 +17,40 @@ returns-then-not-has_step-clause-leads g c =
     subst (λ (v : StoredWorld). Leads v.script (repairer_step v.script c.args.i) (world_of v) (world_of v)) c.self.view_is
     (idle_repairer (stored_in c.self.inside) c.self.invariant c.args.i c.has_step.result (has_of c.self.inside.repairers.items c.deref.result.now c.deref.ensures.value c.args.i c.has_step.result c.has_step.ensures.has) c.if-not-has_step.true)
 
-pub turn-requires-clause-keeps : goal.turn-requires-clause-keeps
-turn-requires-clause-keeps g c κs within =
+pub turn-step-requires-clause-keeps : goal.turn-step-requires-clause-keeps
+turn-step-requires-clause-keeps g c κs within =
     let there : slice_get c.self.inside.repairers.items c.args.i ≡ Some c.index_mut.result.now =
     got c.self.inside.repairers.items c.args.i c.index_mut.result.now (there_of c.self.inside.repairers.items c.deref.result.now c.deref.ensures.value c.args.i c.has_step.result c.has_step.ensures.there c.if-not-has_step.false) c.index_mut.ensures.value in
     let ready : HasTurnNow (stored_in c.self.inside) c.args.i c.index_mut.result.now =
     ready_repairer (stored_in c.self.inside) c.self.invariant c.args.i c.index_mut.result.now there c.has_step.result (has_of c.self.inside.repairers.items c.deref.result.now c.deref.ensures.value c.args.i c.has_step.result c.has_step.ensures.has) c.if-not-has_step.false in
     ready.turn.keeps
 
-pub turn-requires-clause-next : goal.turn-requires-clause-next
-turn-requires-clause-next g c κs within =
+pub turn-step-requires-clause-next : goal.turn-step-requires-clause-next
+turn-step-requires-clause-next g c κs within =
     let there : slice_get c.self.inside.repairers.items c.args.i ≡ Some c.index_mut.result.now =
     got c.self.inside.repairers.items c.args.i c.index_mut.result.now (there_of c.self.inside.repairers.items c.deref.result.now c.deref.ensures.value c.args.i c.has_step.result c.has_step.ensures.there c.if-not-has_step.false) c.index_mut.ensures.value in
     let ready : HasTurnNow (stored_in c.self.inside) c.args.i c.index_mut.result.now =
     ready_repairer (stored_in c.self.inside) c.self.invariant c.args.i c.index_mut.result.now there c.has_step.result (has_of c.self.inside.repairers.items c.deref.result.now c.deref.ensures.value c.args.i c.has_step.result c.has_step.ensures.has) c.if-not-has_step.false in
     ready.turn.next
 
-pub turn-requires-clause-steps : goal.turn-requires-clause-steps
-turn-requires-clause-steps g c κs within =
+pub turn-step-requires-clause-steps : goal.turn-step-requires-clause-steps
+turn-step-requires-clause-steps g c κs within =
     let there : slice_get c.self.inside.repairers.items c.args.i ≡ Some c.index_mut.result.now =
     got c.self.inside.repairers.items c.args.i c.index_mut.result.now (there_of c.self.inside.repairers.items c.deref.result.now c.deref.ensures.value c.args.i c.has_step.result c.has_step.ensures.there c.if-not-has_step.false) c.index_mut.ensures.value in
     let ready : HasTurnNow (stored_in c.self.inside) c.args.i c.index_mut.result.now =
     ready_repairer (stored_in c.self.inside) c.self.invariant c.args.i c.index_mut.result.now there c.has_step.result (has_of c.self.inside.repairers.items c.deref.result.now c.deref.ensures.value c.args.i c.has_step.result c.has_step.ensures.has) c.if-not-has_step.false in
     ready.turn.steps
 
-pub turn-requires-clause-its : goal.turn-requires-clause-its
-turn-requires-clause-its g c κs within =
+pub turn-step-requires-clause-its : goal.turn-step-requires-clause-its
+turn-step-requires-clause-its g c κs within =
     let there : slice_get c.self.inside.repairers.items c.args.i ≡ Some c.index_mut.result.now =
     got c.self.inside.repairers.items c.args.i c.index_mut.result.now (there_of c.self.inside.repairers.items c.deref.result.now c.deref.ensures.value c.args.i c.has_step.result c.has_step.ensures.there c.if-not-has_step.false) c.index_mut.ensures.value in
     let ready : HasTurnNow (stored_in c.self.inside) c.args.i c.index_mut.result.now =
     ready_repairer (stored_in c.self.inside) c.self.invariant c.args.i c.index_mut.result.now there c.has_step.result (has_of c.self.inside.repairers.items c.deref.result.now c.deref.ensures.value c.args.i c.has_step.result c.has_step.ensures.has) c.if-not-has_step.false in
     ready.turn.its
 
-pub turn-requires-clause-servers : goal.turn-requires-clause-servers
-turn-requires-clause-servers g c κs within =
+pub turn-step-requires-clause-servers : goal.turn-step-requires-clause-servers
+turn-step-requires-clause-servers g c κs within =
     let there : slice_get c.self.inside.repairers.items c.args.i ≡ Some c.index_mut.result.now =
     got c.self.inside.repairers.items c.args.i c.index_mut.result.now (there_of c.self.inside.repairers.items c.deref.result.now c.deref.ensures.value c.args.i c.has_step.result c.has_step.ensures.there c.if-not-has_step.false) c.index_mut.ensures.value in
     let ready : HasTurnNow (stored_in c.self.inside) c.args.i c.index_mut.result.now =
@@ -61,8 +63,8 @@ invariant_of-self g c =
     got c.self.inside.repairers.items c.args.i c.index_mut.result.now (there_of c.self.inside.repairers.items c.deref.result.now c.deref.ensures.value c.args.i c.has_step.result c.has_step.ensures.there c.if-not-has_step.false) c.index_mut.ensures.value in
     let ready : HasTurnNow (stored_in c.self.inside) c.args.i c.index_mut.result.now =
     ready_repairer (stored_in c.self.inside) c.self.invariant c.args.i c.index_mut.result.now there c.has_step.result (has_of c.self.inside.repairers.items c.deref.result.now c.deref.ensures.value c.args.i c.has_step.result c.has_step.ensures.has) c.if-not-has_step.false in
-    repairer_kept c.turns_lead.ensures (stored_in c.self.inside) c.self.invariant c.args.i c.index_mut.result.now c.turn.new.self there c.turn.new.directory c.turn.new.servers.items
-    (c.turn.ensures.turn c.self.inside.script.now ready.turn.of_script ready.has) c.turn.ensures.same c.turn.ensures.knows c.turn.ensures.book c.turn.ensures.stamps c.turn.ensures.servers
+    repairer_kept c.turns_lead.ensures (stored_in c.self.inside) c.self.invariant c.args.i c.index_mut.result.now c.turn-step.new.self there c.turn-step.new.directory c.turn-step.new.servers.items
+    (c.turn-step.ensures.turn c.self.inside.script.now ready.turn.of_script ready.has).turn c.turn-step.ensures.same c.turn-step.ensures.knows c.turn-step.ensures.book c.turn-step.ensures.stamps c.turn-step.ensures.servers
 
 pub returns-clause-leads : goal.returns-clause-leads
 returns-clause-leads g c =
@@ -70,36 +72,56 @@ returns-clause-leads g c =
     got c.self.inside.repairers.items c.args.i c.index_mut.result.now (there_of c.self.inside.repairers.items c.deref.result.now c.deref.ensures.value c.args.i c.has_step.result c.has_step.ensures.there c.if-not-has_step.false) c.index_mut.ensures.value in
     let ready : HasTurnNow (stored_in c.self.inside) c.args.i c.index_mut.result.now =
     ready_repairer (stored_in c.self.inside) c.self.invariant c.args.i c.index_mut.result.now there c.has_step.result (has_of c.self.inside.repairers.items c.deref.result.now c.deref.ensures.value c.args.i c.has_step.result c.has_step.ensures.has) c.if-not-has_step.false in
-    let leads : _ = repairer_leads c.turns_lead.ensures (stored_in c.self.inside) c.self.invariant c.args.i c.index_mut.result.now c.turn.new.self there c.turn.new.directory c.turn.new.servers.items (c.turn.ensures.turn c.self.inside.script.now ready.turn.of_script ready.has) in
+    let leads : _ = repairer_leads c.turns_lead.ensures (stored_in c.self.inside) c.self.invariant c.args.i c.index_mut.result.now c.turn-step.new.self there c.turn-step.new.directory c.turn-step.new.servers.items (c.turn-step.ensures.turn c.self.inside.script.now ready.turn.of_script ready.has).turn in
     subst
     (λ (v : StoredWorld). Leads v.script (repairer_step v.script c.args.i) (world_of v)
-    (world_of (changed (stored_in c.self.inside) c.turn.new.directory c.turn.new.servers.items c.self.inside.clients.items (set c.self.inside.repairers.items c.args.i c.turn.new.self) c.self.inside.sweeper)))
+    (world_of (changed (stored_in c.self.inside) c.turn-step.new.directory c.turn-step.new.servers.items c.self.inside.clients.items (set c.self.inside.repairers.items c.args.i c.turn-step.new.self) c.self.inside.sweeper)))
     c.self.view_is leads
 
-pub turn-requires-clause-book : goal.turn-requires-clause-book
-turn-requires-clause-book g c κs within =
+pub turn-step-requires-clause-book : goal.turn-step-requires-clause-book
+turn-step-requires-clause-book g c κs within =
     let there : slice_get c.self.inside.repairers.items c.args.i ≡ Some c.index_mut.result.now =
     got c.self.inside.repairers.items c.args.i c.index_mut.result.now (there_of c.self.inside.repairers.items c.deref.result.now c.deref.ensures.value c.args.i c.has_step.result c.has_step.ensures.there c.if-not-has_step.false) c.index_mut.ensures.value in
     let ready : HasTurnNow (stored_in c.self.inside) c.args.i c.index_mut.result.now =
     ready_repairer (stored_in c.self.inside) c.self.invariant c.args.i c.index_mut.result.now there c.has_step.result (has_of c.self.inside.repairers.items c.deref.result.now c.deref.ensures.value c.args.i c.has_step.result c.has_step.ensures.has) c.if-not-has_step.false in
     ready.turn.book
 
-pub turn-requires-clause-part : goal.turn-requires-clause-part
-turn-requires-clause-part g c κs within =
+pub turn-step-requires-clause-part : goal.turn-step-requires-clause-part
+turn-step-requires-clause-part g c κs within =
     let there : slice_get c.self.inside.repairers.items c.args.i ≡ Some c.index_mut.result.now =
     got c.self.inside.repairers.items c.args.i c.index_mut.result.now (there_of c.self.inside.repairers.items c.deref.result.now c.deref.ensures.value c.args.i c.has_step.result c.has_step.ensures.there c.if-not-has_step.false) c.index_mut.ensures.value in
     let ready : HasTurnNow (stored_in c.self.inside) c.args.i c.index_mut.result.now =
     ready_repairer (stored_in c.self.inside) c.self.invariant c.args.i c.index_mut.result.now there c.has_step.result (has_of c.self.inside.repairers.items c.deref.result.now c.deref.ensures.value c.args.i c.has_step.result c.has_step.ensures.has) c.if-not-has_step.false in
     ready.turn.part
 
-pub turn-requires-clause-knows : goal.turn-requires-clause-knows
-turn-requires-clause-knows g c κs within =
+pub turn-step-requires-clause-knows : goal.turn-step-requires-clause-knows
+turn-step-requires-clause-knows g c κs within =
     let there : slice_get c.self.inside.repairers.items c.args.i ≡ Some c.index_mut.result.now =
     got c.self.inside.repairers.items c.args.i c.index_mut.result.now (there_of c.self.inside.repairers.items c.deref.result.now c.deref.ensures.value c.args.i c.has_step.result c.has_step.ensures.there c.if-not-has_step.false) c.index_mut.ensures.value in
     let ready : HasTurnNow (stored_in c.self.inside) c.args.i c.index_mut.result.now =
     ready_repairer (stored_in c.self.inside) c.self.invariant c.args.i c.index_mut.result.now there c.has_step.result (has_of c.self.inside.repairers.items c.deref.result.now c.deref.ensures.value c.args.i c.has_step.result c.has_step.ensures.has) c.if-not-has_step.false in
     ready.turn.knows
 
-pub turn-requires-clause-padded : goal.turn-requires-clause-padded
-turn-requires-clause-padded g c κs within =
+pub turn-step-requires-clause-padded : goal.turn-step-requires-clause-padded
+turn-step-requires-clause-padded g c κs within =
     are_padded (stored_in c.self.inside) c.self.invariant c.bytes_of_the_map_are_padded.ensures c.keeps.ensures.whole.sound c.keeps.ensures.stamps
+
+pub returns-then-not-has_step-clause-told : goal.returns-then-not-has_step-clause-told
+returns-then-not-has_step-clause-told g c =
+    subst (λ (v : StoredWorld). LeadsTold (token.Repairer c.args.i) v v []) c.self.view_is
+    (idle_repairer_told (stored_in c.self.inside) c.self.invariant c.args.i c.has_step.result
+    (has_of c.self.inside.repairers.items c.deref.result.now c.deref.ensures.value c.args.i c.has_step.result c.has_step.ensures.has) c.if-not-has_step.true)
+
+pub returns-clause-told : goal.returns-clause-told
+returns-clause-told g c =
+    let there : slice_get c.self.inside.repairers.items c.args.i ≡ Some c.index_mut.result.now =
+    got c.self.inside.repairers.items c.args.i c.index_mut.result.now (there_of c.self.inside.repairers.items c.deref.result.now c.deref.ensures.value c.args.i c.has_step.result c.has_step.ensures.there c.if-not-has_step.false) c.index_mut.ensures.value in
+    let ready : HasTurnNow (stored_in c.self.inside) c.args.i c.index_mut.result.now =
+    ready_repairer (stored_in c.self.inside) c.self.invariant c.args.i c.index_mut.result.now there c.has_step.result (has_of c.self.inside.repairers.items c.deref.result.now c.deref.ensures.value c.args.i c.has_step.result c.has_step.ensures.has) c.if-not-has_step.false in
+    let told : _ = repairer_told c.turns_lead.ensures (stored_in c.self.inside) c.self.invariant c.args.i c.index_mut.result.now c.turn-step.new.self there c.turn-step.new.directory c.turn-step.new.servers.items c.turn-step.result
+    (c.turn-step.ensures.turn c.self.inside.script.now ready.turn.of_script ready.has) in
+    subst
+    (λ (v : StoredWorld). LeadsTold (token.Repairer c.args.i) v
+    (changed (stored_in c.self.inside) c.turn-step.new.directory c.turn-step.new.servers.items c.self.inside.clients.items (set c.self.inside.repairers.items c.args.i c.turn-step.new.self) c.self.inside.sweeper)
+    (c.turn-step.result ∷ []))
+    c.self.view_is told

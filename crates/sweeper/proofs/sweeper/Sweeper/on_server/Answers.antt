@@ -1,8 +1,9 @@
 use Rattle.std.proofs.Common.{◌≡◌, ◌+◌, ◌<◌, Option, sym, ap, subst, ◌∙◌, arith}
 use Rattle.store_map.specs.declared.actor.Version.{Version}
+use Rattle.store_core.specs.Told.{Told}
 use Rattle.chunk_server.specs.Core.{core_of}
-use Rattle.sweeper.specs.Sweeps.{SweeperOf, need_of, stepped_at_server, discarded_at}
-use Rattle.sweeper.proofs.Standing.{stands, sweeping, is_next, discard_stepped}
+use Rattle.sweeper.specs.Sweeps.{SweeperOf, need_of, stepped_at_server, told_at_server, discarded_at}
+use Rattle.sweeper.proofs.Standing.{stands, sweeping, is_next, discard_stepped, discard_told}
 use Rattle.sweeper.proofs.sweeper.Sweeper.on_server.Goals as goal
 
 pub overflow_add-self : goal.overflow_add-self
@@ -25,3 +26,10 @@ returns-clause-server c =
     let a = c.self.inside in
     let is : sweeping a.servers c.in-Some.version.0 a.server ≡ c.args.self.now = sym (sym c.self.view_is ∙ ap (λ (version : Option Version). stands a.servers version a.server) c.in-Some.is) in
     subst (λ (w : SweeperOf). c.discard.new.self ≡ discarded_at w.at c.args.s.now) is c.discard.ensures.removed
+
+pub returns-clause-told : goal.returns-clause-told
+returns-clause-told c =
+    let a = c.self.inside in
+    let is : sweeping a.servers c.in-Some.version.0 a.server ≡ c.args.self.now = sym (sym c.self.view_is ∙ ap (λ (version : Option Version). stands a.servers version a.server) c.in-Some.is) in
+    subst (λ (w : SweeperOf). Told.Made ≡ told_at_server w (core_of c.args.s.now)) is
+    (discard_told a.servers c.in-Some.version.0 a.server c.args.s.now.number (core_of c.args.s.now) (core_of c.discard.new.self) (ap need_of is ∙ c.requires) c.discard.ensures.core)

@@ -13,8 +13,8 @@ note_placement-requires-clause-away_room c =
     let left : length a.row.items < chunk_count a.geometry = subst (λ (stripe : PlacingOf). length stripe.row < chunk_count stripe.geometry) (sym c.self.view_is) c.requires.left in
     omega (arith, skipped_few a.row.items, away_counted a.row.items a.away.items c.self.invariant.away, c.self.invariant.away_room)
 
-pub invariant_of-result : goal.invariant_of-result
-invariant_of-result c =
+pub invariant_of-placing : goal.invariant_of-placing
+invariant_of-placing c =
     let a = c.self.inside in
     let noted = c.note_placement.ensures in
     let left : length a.row.items < chunk_count a.geometry = subst (λ (stripe : PlacingOf). length stripe.row < chunk_count stripe.geometry) (sym c.self.view_is) c.requires.left in

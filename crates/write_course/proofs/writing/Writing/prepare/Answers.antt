@@ -1,7 +1,8 @@
-use Rattle.std.proofs.Common.{◌≡◌, map, length, ◌∙◌, sym}
+use Rattle.std.proofs.Common.{◌≡◌, true, false, map, length, ◌∙◌, sym}
 use Rattle.write_course.specs.States.{placed_on}
 use Rattle.write_course.specs.Inside.{prepared_in}
 use Rattle.write_course.proofs.Steps.{prepare_core, prepared_kept}
+use Rattle.write_course.proofs.Telling.{prepare_tells}
 use Rattle.write_course.proofs.writing.Writing.prepare.Goals as goal
 
 -- where the writing goes on
@@ -33,3 +34,9 @@ pub returns-in-Ok-clause-step : goal.returns-in-Ok-clause-step
 returns-in-Ok-clause-step c =
     prepare_core c.self.inside c.self.invariant c.args.self.now c.self.view_is c.requires.preparing c.in-Some.placing (sym c.take.ensures.value ∙ c.in-Some.is)
     _ _ c.in-Ok.placing c.in-Ok.ensures.ok _ (goes c)
+
+pub returns-in-Ok-clause-told : goal.returns-in-Ok-clause-told
+returns-in-Ok-clause-told c = prepare_tells c.args.self.now.state false _ _ _ _ c.requires.preparing c.in-Ok.ensures.told
+
+pub returns-in-Err-clause-told : goal.returns-in-Err-clause-told
+returns-in-Err-clause-told c = prepare_tells c.args.self.now.state true _ _ c.in-Some.placing.stamp.version _ c.requires.preparing c.in-Err.ensures.err

@@ -1,0 +1,69 @@
+//! What a call does next, told without lists: a name for each step, with the version, the server or the
+//! epoch that it speaks of.
+ghost use Rattle.std.specs.Prelude.{◌≡◌};
+ghost use Rattle.call_steps.specs.Acts.{need_for};
+
+use crate::need::Need;
+use store_map::{Actor, Version};
+
+/// A step at the directory.
+#[derive(Clone, Copy, PartialEq, Eq, Debug)]
+pub enum DirectoryAct {
+    /// What a client's call begins with, and what a repairer's does.
+    Look,
+    LookRepair,
+    Draw,
+    Commit,
+    End,
+    Confirm,
+    /// The server has its chunk since this epoch.
+    Repaired { server: u32, epoch: u64 },
+    /// Of the sweeper.
+    NextGarbage,
+    Swept(Version),
+    /// Of the operator.
+    Reap(Actor),
+}
+
+/// A step at a server, of its chunk of a version.
+#[derive(Clone, Copy, PartialEq, Eq, Debug)]
+pub enum ServerAct {
+    Prepare(Version),
+    Settle(Version),
+    Has(Version),
+    /// Some layers of it.
+    Fetch(Version),
+    Install(Version),
+    /// Of the sweeper.
+    Discard(Version),
+    /// Of the operator.
+    Wipe,
+    Down,
+    Up,
+}
+
+/// What a call does next.
+#[derive(Clone, Copy, PartialEq, Eq, Debug)]
+pub enum Act {
+    Directory(DirectoryAct),
+    /// At the server of this number.
+    Server(u32, ServerAct),
+    /// The coding before its next step. It makes no step.
+    Coding,
+    /// Nothing: it has come to its end.
+    Finished,
+}
+
+impl Act {
+    /// Where it is done.
+    pub fn need(self) -> Need
+        ensures { result ≡ need_for self }
+    {
+        match self {
+            Act::Directory(_) => Need::Directory,
+            Act::Server(server, _) => Need::Server(server),
+            Act::Coding => Need::Coder,
+            Act::Finished => Need::Finished,
+        }
+    }
+}

@@ -1,0 +1,54 @@
+//! Tables of bytes with what is read of them, as `{:?}` prints it, each a text: a table that is an array is proved row by row.
+use crate::inputs::first_shown;
+use crate::requests::request_shown;
+use std::alloc::Global;
+use std::test::Fail;
+
+/// What reads the bytes of a row.
+#[derive(Clone, Copy)]
+pub enum Reader {
+    /// Of a frame's request.
+    Request,
+    /// Of what stands first in an input of which so many bytes are served.
+    Input(u64),
+}
+
+// The parts of a row before and behind its first `>`: the bytes, and what is read of them.
+fn parts(row: &[u8]) -> Result<(&[u8], &[u8]), Fail> {
+    let at = row
+        .iter()
+        .position(|byte| *byte == b'>')
+        .ok_or("a row without what is wanted")?;
+    Ok((&row[..at], &row[at + 1..]))
+}
+
+/// Holds what was found against what is wanted.
+pub fn same(found: &str, wanted: &[u8]) -> Result<(), Fail> {
+    if found.as_bytes() == wanted {
+        return Ok(());
+    }
+    Err(Fail::new(format_args!("found {found}")))
+}
+
+fn is_read(alloc: Global, reader: Reader, row: &[u8]) -> Result<(), Fail> {
+    let (bytes, wanted) = parts(row)?;
+    let found = match reader {
+        Reader::Request => request_shown(alloc, bytes)?,
+        Reader::Input(room) => first_shown(alloc, bytes, room)?,
+    };
+    same(&found, wanted)
+}
+
+/// Holds what is read of each row's bytes against what that row says. The rows are parted by `;`, and a row's
+/// bytes and what is read of them by `>`; there are so many.
+pub fn are_read(alloc: Global, reader: Reader, rows: usize, table: &[u8]) -> Result<(), Fail> {
+    let mut held: usize = 0;
+    for row in table.split(|byte| *byte == b';') {
+        is_read(alloc, reader, row)?;
+        held = held.saturating_add(1);
+    }
+    if held != rows {
+        return Err(Fail::from("not so many rows"));
+    }
+    Ok(())
+}

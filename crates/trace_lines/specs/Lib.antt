@@ -1,0 +1,5 @@
+pub mod Steps
+pub mod Words
+pub mod Answers
+pub mod Lines
+pub mod Worked

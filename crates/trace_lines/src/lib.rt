@@ -1,0 +1,12 @@
+//! The steps of a run as its trace shows them, a line each.
+#![tactic(auto)]
+
+mod answers;
+mod step;
+mod words;
+mod worked;
+mod write;
+
+pub use step::{Answer, Step};
+pub use worked::worked_steps;
+pub use write::{append_step, append_steps};

@@ -1,0 +1,5 @@
+pub mod Adding
+pub mod Turning
+pub mod Draining
+pub mod Tracing
+pub mod Statuses
