@@ -132,6 +132,78 @@ fn write_prepared(
     Ok(())
 }
 
+// The least times of a round by the plain call, and by a code that is prepared.
+#[derive(Clone, Copy)]
+struct Both {
+    plain: Least,
+    prepared: Least,
+}
+
+// Times a round of each.
+fn time_round(
+    rt: &impl Clock,
+    alloc: Global,
+    prepared: &Prepared,
+    stripe: &[u8],
+    chunks: &mut [u8],
+    times: u64,
+    least: Both,
+) -> anyhow::Result<Both>
+    requires stripe { length stripe.now ≡ stripe_length prepared.now }
+    requires chunks { length chunks.old ≡ prepared.now.parity_count * chunk_length prepared.now }
+{
+    let begun = rt.monotonic()?;
+    write_plain(alloc, prepared.geometry(), stripe, chunks, times)?;
+    let between = rt.monotonic()?;
+    write_prepared(alloc, prepared, stripe, chunks, times)?;
+    let ended = rt.monotonic()?;
+    let mut least = least;
+    least.plain.note(between.saturating_sub(begun));
+    least.prepared.note(ended.saturating_sub(between));
+    Ok(least)
+}
+
+// Times the rounds, one of each in turn.
+fn time_rounds(
+    rt: &impl Clock,
+    alloc: Global,
+    prepared: &Prepared,
+    stripe: &[u8],
+    chunks: &mut [u8],
+    times: u64,
+) -> anyhow::Result<Both>
+    requires stripe { length stripe.now ≡ stripe_length prepared.now }
+    requires chunks { length chunks.old ≡ prepared.now.parity_count * chunk_length prepared.now }
+{
+    let mut least = Both {
+        plain: Least::new(),
+        prepared: Least::new(),
+    };
+    for _round in 0..ROUNDS {
+        least = time_round(rt, alloc, prepared, stripe, chunks, times, least)?;
+    }
+    Ok(least)
+}
+
+fn time_stripe(
+    rt: &impl Clock,
+    alloc: Global,
+    prepared: &Prepared,
+    stripe: &[u8],
+) -> anyhow::Result<Both>
+    requires stripe { length stripe.now ≡ stripe_length prepared.now }
+{
+    let geometry = prepared.geometry();
+    let times = MIB / u64::from(geometry.stripe_len()).max(1);
+    let mut chunks = vec![in alloc; 0u8; geometry.m() as usize * geometry.chunk_len() as usize]?;
+    time_rounds(rt, alloc, prepared, stripe, &mut chunks, times)
+}
+
+fn time_code(rt: &impl Clock, alloc: Global, prepared: &Prepared) -> anyhow::Result<Both> {
+    let stripe = vec![in alloc; 0x5au8; prepared.geometry().stripe_len() as usize]?;
+    time_stripe(rt, alloc, prepared, &stripe)
+}
+
 /// Stripes of a MiB together at 8 + 4 in subchunks of a width, by the plain call and by a code that is prepared, in alternating rounds.
 pub fn time_prepared<R: Clock + Print>(
     rt: &R,
@@ -142,21 +214,8 @@ pub fn time_prepared<R: Clock + Print>(
         bail!("a width is wanted");
     };
     let geometry = Geometry::new(8, 4, width.parse()?)?;
-    let times = MIB / u64::from(geometry.stripe_len()).max(1);
-    let stripe = vec![in alloc; 0x5au8; geometry.stripe_len() as usize]?;
-    let mut chunks = vec![in alloc; 0u8; geometry.m() as usize * geometry.chunk_len() as usize]?;
-    let prepared = Prepared::new(alloc, geometry)?;
-    let mut plain = Least::new();
-    let mut ready = Least::new();
-    for _round in 0..ROUNDS {
-        let begun = rt.monotonic()?;
-        write_plain(alloc, geometry, &stripe, &mut chunks, times)?;
-        let between = rt.monotonic()?;
-        write_prepared(alloc, &prepared, &stripe, &mut chunks, times)?;
-        plain.note(between.saturating_sub(begun));
-        ready.note(rt.monotonic()?.saturating_sub(between));
-    }
-    let (plain, ready) = (plain.nanoseconds(), ready.nanoseconds());
-    println!(rt; "{plain} {ready}")?;
+    let least = time_code(rt, alloc, &Prepared::new(alloc, geometry)?)?;
+    let (plain, prepared) = (least.plain.nanoseconds(), least.prepared.nanoseconds());
+    println!(rt; "{plain} {prepared}")?;
     Ok(())
 }

@@ -37,7 +37,7 @@ frame_read frame rest e =
     enough = let both : length (frame ++ rest) ≡ length frame + length rest = length-append frame rest in omega (arith, both)
 
 -- with fuel enough, frames that were written are read
-frames_read : (fuel : ℕ) (frames : List (List ℕ)) (left : List ℕ) → length frames ≤ fuel → All (λ frame. IsTrue (is_frame_length (length frame))) frames → first_frame left ≡ None →
+pub frames_read : (fuel : ℕ) (frames : List (List ℕ)) (left : List ℕ) → length frames ≤ fuel → All (λ frame. IsTrue (is_frame_length (length frame))) frames → first_frame left ≡ None →
     frames_by fuel (flat_map framed frames ++ left) ≡ (frames, left)
 frames_read zero [] left enough lengths ends = refl
 frames_read (suc fuel) [] left enough lengths ends = ap (frames_after (frames_by fuel) left) ends
@@ -51,7 +51,7 @@ frames_read (suc fuel) (frame ∷ frames) left enough lengths ends =
     ∙ ap (λ (cut : List (List ℕ) × List ℕ). let all : List (List ℕ) × List ℕ = (frame ∷ cut.0, cut.1) in all) tail
 
 -- as many bytes at least as there are frames
-count_less : (frames : List (List ℕ)) (left : List ℕ) → length frames ≤ length (flat_map framed frames ++ left)
+pub count_less : (frames : List (List ℕ)) (left : List ℕ) → length frames ≤ length (flat_map framed frames ++ left)
 count_less [] left = omega arith
 count_less (frame ∷ frames) left =
     let rest : length frames ≤ length (flat_map framed frames ++ left) = count_less frames left in

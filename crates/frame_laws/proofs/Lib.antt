@@ -2,3 +2,4 @@ pub mod Numbers
 pub mod Cuts
 pub mod Sent
 pub mod Taken
+pub mod Endings

@@ -1,6 +1,7 @@
 //! What the definitions of frames say, as functions that do nothing and whose contracts are the laws.
 
 ghost use Rattle.frame_laws.specs.Cuts.{InputsAreCut, CutsAreTheOnlyOnes};
+ghost use Rattle.frame_laws.specs.Endings.{InputsEnd};
 ghost use Rattle.frame_laws.specs.Sent.{RequestsAreRead, RequestsAreSent};
 
 /// What a session reads is cut into frames, and no whole frame stands first in what is left.
@@ -11,6 +12,11 @@ pub fn inputs_are_cut()
 /// No other cut into frames has that property.
 pub fn cuts_are_the_only_ones()
     ensures { CutsAreTheOnlyOnes }
+{}
+
+/// When each ending of an input comes, by what is left behind its frames.
+pub fn inputs_end()
+    ensures { InputsEnd }
 {}
 
 /// A request that is written into a frame field by field is read from it.

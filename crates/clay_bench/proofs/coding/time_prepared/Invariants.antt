@@ -1,6 +1,0 @@
-use Rattle.std.proofs.Common.{◌≡◌, ◌*◌, length}
-use Rattle.clay_grid.specs.Shape.{chunk_length}
-use Rattle.clay_bench.proofs.coding.time_prepared.Given as goal
-
-abbrev pub invariant-loop-round : goal.invariant-loop-round
-invariant-loop-round g l = length l.chunks.items ≡ l.geometry.parity_count * chunk_length l.geometry
