@@ -5,6 +5,7 @@ use Rattle.store_core.specs.Told.{lost_in}
 use Rattle.store_core.specs.Act.{Outcome}
 use Rattle.store_core.specs.Server.{Server}
 use Rattle.store_resume.specs.State.{Sequel, State}
+use Rattle.store_resume.specs.States.{sequel_state}
 use Rattle.call_steps.specs.declared.need.Need.{Need}
 use Rattle.call_steps.specs.declared.need.Need.TheVariants as need
 use Rattle.gather_parts.specs.Gatherings.{GatheringsOf}
@@ -51,10 +52,11 @@ coded short r = record { gatherings = gathered_coding short r.gatherings; ended 
 abbrev pub CameTo : ReadOf → Outcome → Type 0
 CameTo r came = (r.ended ≡ None) × ((after : Sequel) → state_in r.gatherings after ≡ State.Ending came)
 
--- bytes and refusals are the map's reply; a read without either was told that more chunks of a stripe are missing than the code can make anew, or
--- memory was wanting
+-- bytes, which were all gathered, and refusals are the map's reply; a read without either was told that more chunks of a stripe are missing than the
+-- code can make anew, or memory was wanting
 abbrev pub EndsAs : ReadOf → SnapOutcome → Type 0
-EndsAs r (outcome.Bytes bytes) = reply_of r ≡ Some (reply.Bytes bytes.items)
+EndsAs r (outcome.Bytes bytes) =
+    (reply_of r ≡ Some (reply.Bytes bytes.items)) × ((after : Sequel) → state_in r.gatherings after ≡ sequel_state after)
 EndsAs r outcome.NoSuch = reply_of r ≡ Some reply.NoSuch
 EndsAs r outcome.OutRange = reply_of r ≡ Some reply.OutRange
 EndsAs r (outcome.Unavailable stripe missing) = CameTo r (Outcome.Unavailable stripe (map lost_in missing.items))

@@ -6,9 +6,11 @@ use Rattle.snapshot_view.specs.Reads.{reply_by}
 use Rattle.snapshot_view.proofs.ends.SnapOutcome.of_gathered.Goals as goal
 
 pub returns-in-Bytes : goal.returns-in-Bytes
-returns-in-Bytes c = λ r going state bytes.
-    ap (λ ended. reply_by ended (owed r.gatherings)) going
-    ∙ ap (λ l. Some (reply.Bytes l)) (sym (subst (λ gathered. IfBytes gathered (λ b. b.items ≡ owed r.gatherings)) c.in-Bytes.is bytes))
+returns-in-Bytes c = λ r going state bytes. (
+  ap (λ ended. reply_by ended (owed r.gatherings)) going
+      ∙ ap (λ l. Some (reply.Bytes l)) (sym (subst (λ gathered. IfBytes gathered (λ b. b.items ≡ owed r.gatherings)) c.in-Bytes.is bytes)),
+  λ after. state after ∙ ap (end_state after) c.in-Bytes.is,
+)
 
 pub returns-in-TooMany : goal.returns-in-TooMany
 returns-in-TooMany c = λ r going state bytes. (going, λ after. state after ∙ ap (end_state after) c.in-TooMany.is)

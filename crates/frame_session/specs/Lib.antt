@@ -1,0 +1,6 @@
+pub mod Status
+pub mod Words
+pub mod Session
+pub mod Fits
+pub mod Serving
+pub mod Written

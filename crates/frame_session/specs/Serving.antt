@@ -1,0 +1,61 @@
+-- How frames are served by a store.
+use Rattle.std.specs.Prelude.{◌≡◌, ℕ, ◌+◌, ◌≤◌, Option, List, Result, Ok, Err}
+use Rattle.clay_bytes.specs.Stream.{Gains, IsPrefixWritten}
+use Rattle.clay_grid.specs.Shape.{chunk_count}
+use Rattle.clay_grid.specs.Limits.{IsGeometry}
+use Rattle.session_rules.specs.State.{State, first_state}
+use Rattle.session_rules.specs.declared.answer.Answer.{Answer}
+use Rattle.session_rules.specs.Input.{framed}
+use Rattle.session_rules.specs.Requests.{request_of}
+use Rattle.session_rules.specs.Replies.{answer_bytes}
+use Rattle.session_rules.specs.Session.{IsAnswered}
+use Rattle.session_store.specs.Stored.{StoreOf}
+use Rattle.session_store.specs.Standing.{StandsAt}
+use Rattle.frame_session.specs.Fits.{IsBounded}
+
+-- from a state a frame was answered so, and the store stands at the state after it
+pub record Answers (frame : List ℕ) (before : State) (answer : Answer) (now : StoreOf) : Type 0 where
+  pub after : State
+  pub answered : IsAnswered now.geometry now.max (request_of (chunk_count now.geometry) frame) before (after, answer)
+  pub stands : StandsAt now after
+
+-- so it is from each state at which the store stood
+abbrev pub AnswersAll : List ℕ → StoreOf → Answer → StoreOf → Type 0
+AnswersAll frame old answer now = (before : State) → StandsAt old before → Answers frame before answer now
+
+-- a store of the same code and limit, which has served one request more at most
+pub record IsLater (old now : StoreOf) : Type 0 where
+  pub geometry : now.geometry ≡ old.geometry
+  pub max : now.max ≡ old.max
+  pub served : now.served ≤ old.served + 1
+
+-- a store within the limits of a session
+pub record IsLimited (store : StoreOf) : Type 0 where
+  pub geometry : IsGeometry store.geometry
+  pub max : store.max ≤ 1048576
+
+-- that has served nothing
+pub record IsBeginning (store : StoreOf) : Type 0 where
+  pub limited : IsLimited store
+  pub none : store.served ≡ 0
+  pub stands : StandsAt store (first_state store.geometry)
+
+-- or stands at some state of its objects within the limits
+pub record IsReady (store : StoreOf) : Type 0 where
+  pub limited : IsLimited store
+  pub state : State
+  pub stands : StandsAt store state
+  pub bounded : IsBounded store.max state
+
+-- bytes were written, or after a fault a prefix of them
+abbrev pub IsWritten : {X E : Type 0} → Result X E → Option (List ℕ) → List ℕ → Option (List ℕ) → Type 0
+IsWritten (Ok done) old bytes new = Gains old bytes new
+IsWritten (Err fault) old bytes new = IsPrefixWritten old bytes new
+
+-- from a state a frame was answered, and the answer written as a frame; the store stands at the state after it
+pub record ServesFrame {X E : Type 0} (frame : List ℕ) (before : State) (now : StoreOf) (result : Result X E) (old new : Option (List ℕ)) : Type 0 where
+  pub after : State
+  pub answer : Answer
+  pub answered : IsAnswered now.geometry now.max (request_of (chunk_count now.geometry) frame) before (after, answer)
+  pub stands : StandsAt now after
+  pub written : IsWritten result old (framed (answer_bytes answer)) new

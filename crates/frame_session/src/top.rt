@@ -1,0 +1,113 @@
+//! The top call: from words, a source and a sink to a status.
+ghost use Rattle.std.specs.Prelude.{◌≡◌, ◌⊎◌, ◌≤◌, map, string_bytes};
+ghost use Rattle.clay_bytes.specs.Stream.{Rises};
+ghost use Rattle.clay_grid.specs.Limits.{IsGeometry};
+ghost use Rattle.session_rules.specs.Input.{input_of};
+ghost use Rattle.session_rules.specs.declared.ending.Ending.{Ending};
+ghost use Rattle.frame_session.specs.Status.{status_of};
+ghost use Rattle.frame_session.specs.Words.{AskNothing, IfAsked};
+ghost use Rattle.frame_session.specs.Session.{WhereTold, IsSession, IsGivenUp, IsWanting, IsCutOff};
+
+use crate::SessionStatus;
+use crate::serving::serve_frames;
+use crate::words::{Asked, asked_by};
+use clay_bytes::{Sink, Source};
+use clay_repair::Coder;
+use session_store::SessionStore;
+use std::alloc::Global;
+use std::thread::Threads;
+
+// Small pieces of an answer wait in so many bytes.
+const BLOCK: usize = 65536;
+
+// The session of a code, with objects of at most so many bytes.
+fn serve_session<R: Threads + Sync, S: Source, K: Sink, C: Coder>(
+    rt: &R,
+    alloc: Global,
+    coder: &C,
+    asked: Asked,
+    source: &mut S,
+    sink: &mut K,
+) -> SessionStatus
+    requires geometry { IsGeometry asked.geometry }
+    requires max { asked.max ≤ 1048576 }
+    ensures session { (ending : Ending) → result ≡ status_of ending → WhereTold (S.left source.old) (λ input.
+        IsSession asked.geometry asked.max input ending (S.left source.new) (K.written sink.old) (K.written sink.new)) }
+    ensures given_up { result ≡ SessionStatus.ReadFault → WhereTold (S.left source.old) (λ input.
+        IsGivenUp asked.geometry asked.max input (S.left source.new) (K.written sink.old) (K.written sink.new)) }
+    ensures wanting { result ≡ SessionStatus.OutOfMemory → WhereTold (S.left source.old) (λ input.
+        IsWanting asked.geometry asked.max input (S.left source.new) (K.written sink.old) (K.written sink.new)) }
+    ensures cut_off { result ≡ SessionStatus.WriteFault → WhereTold (S.left source.old) (λ input.
+        IsCutOff asked.geometry asked.max input (S.left source.new) (K.written sink.old) (K.written sink.new)) }
+    ensures which { result ≡ SessionStatus.Usage → ⊥ }
+    ensures read_fault { result ≡ SessionStatus.ReadFault → Rises (S.faults source.old) (S.faults source.new) }
+    ensures write_fault { result ≡ SessionStatus.WriteFault → Rises (K.faults sink.old) (K.faults sink.new) }
+    ensures read_steady { (result ≡ SessionStatus.ReadFault → ⊥) → S.faults source.new ≡ S.faults source.old }
+    ensures write_steady { (result ≡ SessionStatus.WriteFault → ⊥) → K.faults sink.new ≡ K.faults sink.old }
+{
+    let Asked { geometry, max } = asked;
+    let mut block = match Vec::with_capacity(alloc, BLOCK) {
+        Ok(block) => block,
+        Err(_) => return SessionStatus::OutOfMemory,
+    };
+    let mut store = match SessionStore::new(alloc, geometry, max) {
+        Ok(store) => store,
+        Err(_) => return SessionStatus::OutOfMemory,
+    };
+    let servers = geometry.n();
+    let status = serve_frames(
+        rt, alloc, coder, &mut store, servers, source, sink, &mut block,
+    );
+    store.close();
+    status
+}
+
+/// Serves the frames of an input by a store of its own, writes their answers, and says how that ended.
+///
+/// The words are those after the program's name: the three numbers of a code, and how many bytes an object may have. Other words
+/// are no session's, and nothing is read or written for them.
+pub fn frame_main<R: Threads + Sync, S: Source, K: Sink, C: Coder>(
+    rt: &R,
+    alloc: Global,
+    words: &[String],
+    source: &mut S,
+    sink: &mut K,
+    coder: &C,
+) -> SessionStatus
+    // Words that are no session's, and no others, are refused.
+    ensures usage { AskNothing (map string_bytes words.now) → (result ≡ SessionStatus.Usage) × (source.new ≡ source.old) × (sink.new ≡ sink.old) }
+    ensures usage_only { result ≡ SessionStatus.Usage → AskNothing (map string_bytes words.now) }
+
+    // To the ending of its input: the answers to all frames that stand before it are written, in order, as frames, and what stands
+    // behind what was read for it is left.
+    ensures session { IfAsked (map string_bytes words.now) (λ g max. (ending : Ending) → result ≡ status_of ending →
+        WhereTold (S.left source.old) (λ input. IsSession g max input ending (S.left source.new) (K.written sink.old) (K.written sink.new))) }
+
+    // A read failed: of the bytes that were read the same is written, and they end with a frame or inside one.
+    ensures given_up { IfAsked (map string_bytes words.now) (λ g max. result ≡ SessionStatus.ReadFault →
+        WhereTold (S.left source.old) (λ input. IsGivenUp g max input (S.left source.new) (K.written sink.old) (K.written sink.new))) }
+
+    // Memory was wanting outside a request: so it is too, and what was read ends with a frame's length, or is nothing.
+    ensures wanting { IfAsked (map string_bytes words.now) (λ g max. result ≡ SessionStatus.OutOfMemory →
+        WhereTold (S.left source.old) (λ input. IsWanting g max input (S.left source.new) (K.written sink.old) (K.written sink.new))) }
+
+    // A write failed: what was read are whole frames; the answers to all but the last are written, then a prefix of that to the last.
+    ensures cut_off { IfAsked (map string_bytes words.now) (λ g max. result ≡ SessionStatus.WriteFault →
+        WhereTold (S.left source.old) (λ input. IsCutOff g max input (S.left source.new) (K.written sink.old) (K.written sink.new))) }
+
+    // A read or a write is blamed only where its count of faults rose; else that count is as it was.
+    ensures read_fault { result ≡ SessionStatus.ReadFault → Rises (S.faults source.old) (S.faults source.new) }
+    ensures write_fault { result ≡ SessionStatus.WriteFault → Rises (K.faults sink.old) (K.faults sink.new) }
+    ensures read_steady { (result ≡ SessionStatus.ReadFault → ⊥) → S.faults source.new ≡ S.faults source.old }
+    ensures write_steady { (result ≡ SessionStatus.WriteFault → ⊥) → K.faults sink.new ≡ K.faults sink.old }
+
+    // Where no count rose the input comes to its ending, or memory was wanting outside a request.
+    ensures complete { IfAsked (map string_bytes words.now) (λ g max. WhereTold (S.left source.old) (λ input.
+        (Rises (S.faults source.old) (S.faults source.new) → ⊥) → (Rises (K.faults sink.old) (K.faults sink.new) → ⊥) →
+        (result ≡ status_of (input_of input).1) ⊎ (result ≡ SessionStatus.OutOfMemory))) }
+{
+    match asked_by(words) {
+        Some(asked) => serve_session(rt, alloc, coder, asked, source, sink),
+        None => SessionStatus::Usage,
+    }
+}

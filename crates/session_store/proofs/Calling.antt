@@ -1,0 +1,410 @@
+-- A call of the map is served.
+use Rattle.std.proofs.Common.{◌≡◌, ◌⊎◌, ℕ, zero, suc, ◌+◌, ◌<◌, ◌≤◌, ◌^◌, Bool, true, false, nat_eq, cond, if◌then◌else◌, List, [], ◌∷◌, length, map, find, Option, None, Some, option_map, unwrap_or, Vec, Contains, refl, sym, ap, subst, ◌∙◌, inl, inr, arith, true≢false}
+use Rattle.std.specs.Global.{Global}
+use Rattle.std.specs.Prelude.{⊤}
+use Rattle.std.proofs.lemmas.Bool.{ne_eqb}
+use Rattle.std.proofs.lemmas.Option.{same_Some}
+use Rattle.clay_grid.specs.Shape.{Shape, stripe_length}
+use Rattle.clay_grid.specs.Limits.{IsGeometry}
+use Rattle.store_map.specs.PlainMap.{apply, bytes_of}
+use Rattle.store_map.specs.declared.actor.Actor.{Actor}
+use Rattle.store_map.specs.declared.actor.Actor.TheVariants as actor
+use Rattle.store_map.specs.declared.call.Call.{Call}
+use Rattle.store_map.specs.declared.call.Call.TheVariants as call
+use Rattle.store_map.specs.declared.reply.Reply.{Reply}
+use Rattle.store_map.specs.declared.reply.Reply.TheVariants as reply
+use Rattle.store_core.specs.Act.{Act, DirectoryStep, Outcome}
+use Rattle.store_core.specs.Agreement.{Seat, ActorToken, Agrees, AgreesWithSeat}
+use Rattle.store_core.specs.AtDirectory.{at_directory}
+use Rattle.store_core.specs.Calls.{Calls}
+use Rattle.store_core.specs.NextAct.{Job, job_of}
+use Rattle.store_core.specs.Note.{Kind, note_of}
+use Rattle.store_core.specs.Read.{parts_of}
+use Rattle.store_core.specs.Step.{Shortage, Places as CorePlaces}
+use Rattle.store_core.specs.Told.{Seen, Told}
+use Rattle.store_core.specs.Tokens.{actor_of}
+use Rattle.store_resume.specs.State.{first_state}
+use Rattle.store_resume.specs.StateActs.{act_of_state}
+use Rattle.version_seal.specs.Entry.{BookOf}
+use Rattle.stripe_dir.specs.Stamped.{HaveContents}
+use Rattle.session_rules.specs.State.{State}
+use Rattle.session_rules.specs.Serve.{serve}
+use Rattle.session_rules.specs.Shortages.{IsServed}
+use Rattle.session_rules.specs.declared.answer.Answer.{Answer}
+use Rattle.session_rules.specs.declared.request.Request.{Request}
+use Rattle.session_laws.specs.Alone.{AtWork}
+use Rattle.session_laws.specs.Outcomes.{outcome_at}
+use Rattle.session_laws.specs.Wants.{wanting_steps}
+use Rattle.session_runs.specs.Seats.{HasEnded}
+use Rattle.session_runs.specs.Between.{seats_after, IsBetween}
+use Rattle.session_runs.specs.Serving.{AreSweptTo}
+use Rattle.session_runs.specs.Answering.{RunsTo, IsAnswered}
+use Rattle.session_runs.proofs.CallsAnswered.{calls_are_answered}
+use Rattle.session_runs.proofs.Answers.{call_next, call_snapshot}
+use Rattle.call_steps.specs.CallOf.{tries_by, act_of}
+use Rattle.call_machine.specs.Calls.{MachineOf, first_call, tries_in}
+use Rattle.call_machine.specs.Kinds.{Asked, Machine, machine_of, client_machine, IfReads}
+use Rattle.call_alone.specs.AtWork.{HasRun}
+use Rattle.call_alone.proofs.Running.{calls_run_alone}
+use Rattle.world_lines.specs.Outcomes.{call_outcome_of}
+use Rattle.world_lines.specs.declared.outcome.CallOutcome.{CallOutcome}
+use Rattle.store_map.specs.declared.actor.Point.{Point}
+use Rattle.store_core.specs.Content.{contents_by}
+use Rattle.store_reads.specs.ReadLaws.{bytes_read}
+use Rattle.client_read.specs.Owed.{contents_of}
+use Rattle.call_owes.specs.Owes.{OwesBy}
+use Rattle.call_owes.specs.OwesLaws.{AreAmong}
+use Rattle.call_owes.proofs.Owing.{at_end_owes}
+use Rattle.call_owes.proofs.Stamped.{contents_read}
+use Rattle.call_machine.specs.Ends.{IfBytesServed}
+use Rattle.session_bytes.proofs.Maps.{bytes_are_owed}
+use Rattle.session_runs.proofs.Clients.{of_client}
+use Rattle.session_runs.proofs.Kept.{begins}
+use Rattle.world_lines.specs.declared.outcome.CallOutcome.TheVariants as ended
+use Rattle.store_core.specs.Lookups.{same_actor}
+use Rattle.session_rules.specs.Calls.{serve_call}
+use Rattle.session_store.specs.Answers.{AnswersCall}
+use Rattle.session_store.specs.Kept.{HasSeat, IsServedBy}
+use Rattle.session_store.specs.Serving.{Serves}
+use Rattle.session_store.specs.Standing.{AreKept}
+use Rattle.session_store.specs.Running.{IsLow}
+use Rattle.session_store.proofs.Numbers.{known_fresh, passed_over}
+use Rattle.session_store.proofs.Outcomes.{answer_is, wanting_is, call_answer, replied_in}
+use Rattle.session_store.proofs.Seating.{tickets_still}
+use Rattle.session_store.proofs.Standing.{call_epochs, later_epochs}
+use Rattle.session_store.specs.declared.parts.Parts.{Parts}
+use Rattle.session_store.specs.declared.places.Places.{Places}
+use Rattle.session_store.specs.Inside.{store_of}
+use Rattle.session_store.specs.Kept.{IsStore}
+use Rattle.session_store.specs.Places.{seen_in}
+use Rattle.session_store.specs.Running.{IsKnownBy, KnowsBytes, MayRun, HasRunTo, LookOwes, left_of}
+use Rattle.session_store.specs.Standing.{StandsAt, seats_at}
+use Rattle.session_store.specs.Sweeping.{IsSwept}
+use Rattle.session_store.proofs.Bounds.{steps_few}
+use Rattle.session_store.proofs.Knowing.{more, between_more, contents_more}
+use Rattle.session_store.proofs.Numbers.{known_now}
+use Rattle.session_store.specs.Answers.{EndsCall}
+use Rattle.session_store.proofs.Outcomes.{ends_call}
+use Rattle.session_store.proofs.Tries.{NoWrite, same_act, same_steps}
+
+-- a list of one
+contains_one : {X : Type 0} (x : X) → Contains (x ∷ []) x
+contains_one x = (0, omega arith, refl)
+
+one_contained : {X : Type 0} (x y : X) → Contains (y ∷ []) x → x ≡ y
+one_contained x y (zero, less, is) = sym is
+one_contained x y (suc k, less, is) = absurd (omega (arith, less))
+
+none_contained : {X : Type 0} (x : X) → Contains [] x → ⊥
+none_contained x (k, less, is) = absurd (omega (arith, less))
+
+-- the bytes of a reply
+abbrev bytes_of_reply : Reply → List ℕ
+bytes_of_reply (reply.Bytes bytes) = bytes
+bytes_of_reply other = []
+
+bytes_in : {given bytes : List ℕ} → reply.Bytes given ≡ reply.Bytes bytes → given ≡ bytes
+bytes_in e = ap bytes_of_reply e
+
+-- the client's call alone
+abbrev pub asked_of : Call → ℕ → Option Call
+asked_of written i = if nat_eq i 0 then Some written else None
+
+-- ---- before it
+tries_few : (written : Call) (book : BookOf) → book.script ≡ None → tries_in (client_machine written) 1 book ≤ 1
+tries_few written book free = by (client_machine written)
+  where
+    none : tries_by book.script ≡ 0
+    none = ap tries_by free
+
+    by : (m : Machine) → tries_in m 1 book ≤ 1
+    by Machine.Patches = omega arith
+    by Machine.Reads = let x : ℕ = tries_by book.script in omega (arith, none)
+    by Machine.Puts = let x : ℕ = tries_by book.script in omega (arith, none)
+    by Machine.Rebuilds = let x : ℕ = tries_by book.script in omega (arith, none)
+
+no_target : (written : Call) → (note_of written).kind ≡ Kind.Rebuild → ⊥
+no_target (call.Put name content) e = cc (e)
+no_target (call.Write name offset content) e = cc (e)
+no_target (call.Get name) e = cc (e)
+no_target (call.ReadAt name offset count) e = cc (e)
+no_target (call.Stat name) e = cc (e)
+no_target (call.Delete name) e = cc (e)
+
+module _ (parts : Parts) (is : IsStore (store_of parts)) (written : Call) (seat : Seat) (seat_is : parts.client ≡ Some seat) (first : MachineOf) (opening : BookOf) (opening_is : opening ≡ parts.places.book)
+    (first_is : first ≡ first_call opening 1 seat parts.served (Asked.OfClient written)) (short : (note_of written).offset + (note_of written).length < 2 ^ 33) where
+  its_seat : is.client.seat ≡ seat
+  its_seat = same_Some is.client.seat seat (sym is.client.there ∙ seat_is)
+
+  first_here : first ≡ first_call parts.places.book 1 seat parts.served (Asked.OfClient written)
+  first_here = first_is ∙ ap (λ (b : BookOf). first_call b 1 seat parts.served (Asked.OfClient written)) opening_is
+
+  number_is : first.call.number ≡ parts.served
+  number_is = ap (λ (x : MachineOf). x.call.number) first_here
+
+  asked_is : first.asked ≡ Asked.OfClient written
+  asked_is = ap (λ (x : MachineOf). x.asked) first_here
+
+  who_is : actor_of first.call.token ≡ actor.Client 0
+  who_is = ap (λ (x : MachineOf). actor_of x.call.token) first_here ∙ ap (λ (x : Seat). x.actor) (sym its_seat) ∙ is.client.actor
+
+  pub known_bytes : (s : State) (at : StandsAt (store_of parts) s) → KnowsBytes (more (store_of parts) (asked_of written) s at) first parts.places
+  known_bytes s at = record {
+    bytes = (between_more (store_of parts) (asked_of written) s at).its_map.bytes;
+    drawn = (between_more (store_of parts) (asked_of written) s at).its_map.drawn;
+    contents = contents_more (store_of parts) (asked_of written) s at;
+    known = subst (λ a. IsKnownBy (more (store_of parts) (asked_of written) s at) first a) (sym asked_is) ((λ i. more (store_of parts) (asked_of written) s at (who_is i) (number_is i)) ∙ known_now at.calls parts.served (asked_of written) 0);
+  }
+
+  pub may_run : MayRun first parts.places
+  may_run = record {
+    places = record { free = is.free.1; book = is.book; servers = is.servers };
+    seat = seat;
+    tries = 1;
+    first = first_here ∙ (λ i. first_call parts.places.book 1 seat (sym number_is i) (sym asked_is i));
+    unused = subst (λ n. seat.unused ≤ n) (sym number_is) (subst (λ (x : Seat). x.unused ≤ parts.served) its_seat is.client.unused);
+    agrees = subst (λ x. AgreesWithSeat parts.places.directory.core x) its_seat is.client.agrees;
+    calls = more (store_of parts) (asked_of written) is.state is.stands;
+    bytes = known_bytes is.state is.stands;
+    target = λ e. absurd (no_target written (sym (ap (λ (x : MachineOf). x.call.job.note.kind) first_here) ∙ e));
+    few =
+        subst (λ (m : ℕ). left_of m first [] < 2 ^ 64) (sym is.most)
+        (subst (λ (x : MachineOf). left_of (store_of parts).max x [] < 2 ^ 64) (sym first_here)
+        (steps_few parts.places.book.geometry (store_of parts).max is.code is.wide is.small (note_of written) short (tries_in (client_machine written) 1 parts.places.book) (job_of written) (tries_few written parts.places.book is.free.1) refl));
+  }
+
+  -- ---- the call, and the sweeper after it
+  module _ (c : MachineOf) (left now : Places) (ran : HasRunTo first parts.places c left) (outcome : CallOutcome) (over : act_of c.call ≡ Act.Finish (call_outcome_of outcome)) (swept : IsSwept left now) where
+    abbrev g : Shape
+    g = parts.places.book.geometry
+
+    abbrev shortages : List Shortage
+    shortages = ran.shortages
+
+    job_is : first.call.job ≡ job_of written
+    job_is = ap (λ (x : MachineOf). x.call.job) first_here
+
+    -- as the session's own call, by its tries
+    run_first : HasRun g first.call.tries (actor.Client 0) parts.served (job_of written) shortages (seen_in parts.places) c.call (seen_in left)
+    run_first = subst (λ j. HasRun g first.call.tries (actor.Client 0) parts.served j shortages (seen_in parts.places) c.call (seen_in left)) job_is (subst (λ n. HasRun g first.call.tries (actor.Client 0) n first.call.job shortages (seen_in parts.places) c.call (seen_in left)) number_is (subst (λ a. HasRun g first.call.tries a first.call.number first.call.job shortages (seen_in parts.places) c.call (seen_in left)) who_is ran.run))
+
+    abbrev end_by : ℕ → AtWork
+    end_by tries = wanting_steps g tries (actor.Client 0) parts.served (job_of written) shortages (record { call = first_state; places = seen_in parts.places })
+
+    abbrev EndedBy : ℕ → Type 0
+    EndedBy tries = (act_of_state g tries (job_of written) (end_by tries).call ≡ Act.Finish (call_outcome_of outcome)) × ((end_by tries).places ≡ seen_in left)
+
+    ended_first : EndedBy first.call.tries
+    ended_first = (calls_run_alone.ends g first.call.tries (actor.Client 0) parts.served (job_of written)).run shortages (seen_in parts.places) (seen_in left) c.call (call_outcome_of outcome) over ran.uncoded run_first
+
+    ended_once : EndedBy 1
+    ended_once = by (once written)
+      where
+        once : (w : Call) → (tries_in (client_machine w) 1 parts.places.book ≡ 1) ⊎ NoWrite (note_of w).kind
+        once (call.Put name content) = inr tt
+        once (call.Write name offset content) = inl refl
+        once (call.Get name) = inr tt
+        once (call.ReadAt name offset count) = inr tt
+        once (call.Stat name) = inr tt
+        once (call.Delete name) = inl refl
+
+        by : (tries_in (client_machine written) 1 parts.places.book ≡ 1) ⊎ NoWrite (note_of written).kind → EndedBy 1
+        by (inl e) = subst EndedBy (ap (λ (x : MachineOf). x.call.tries) first_here ∙ e) ended_first
+        by (inr other) =
+            let same : end_by first.call.tries ≡ end_by 1 = same_steps g first.call.tries 1 (actor.Client 0) parts.served (job_of written) other shortages (record { call = first_state; places = seen_in parts.places }) in (
+              sym (same_act g first.call.tries 1 (actor.Client 0) parts.served (job_of written) other (end_by 1).call) ∙ ap (λ (w : AtWork). act_of_state g first.call.tries (job_of written) w.call) (sym same) ∙ ended_first.0,
+              ap (λ (w : AtWork). w.places) (sym same) ∙ ended_first.1,
+            )
+
+    runs_to : RunsTo g 1 (actor.Client 0) parts.served (job_of written) (seen_in parts.places) (call_outcome_of outcome) (seen_in now)
+    runs_to = record {
+      shortages = shortages;
+      over = ended_once.0;
+      swept = subst (λ (p : CorePlaces). AreSweptTo g p (seen_in now)) (sym ended_once.1) (subst (λ (b : BookOf). AreSweptTo b.geometry (seen_in left) (seen_in now)) ran.same.book swept.swept);
+    }
+
+    module _ (s : State) (at : StandsAt (store_of parts) s) where
+      pub is_answered : (answered : IsAnswered (more (store_of parts) (asked_of written) s at) g (store_of parts).max (seats_at parts.served) s (Request.OfMap written) (seen_in now)) × (call_outcome_of outcome ≡ outcome_at (length parts.places.directory.core.points) answered.served.1)
+      is_answered =
+          calls_are_answered (more (store_of parts) (asked_of written) s at) g (store_of parts).max 1 (seats_at parts.served) at.stands (seen_in parts.places) (seen_in now) s written (call_outcome_of outcome) is.wide (omega arith)
+          (between_more (store_of parts) (asked_of written) s at) (known_now at.calls parts.served (asked_of written) 0) runs_to
+
+    pub ends_well : EndsCall outcome
+    ends_well = let its = is_answered is.state is.stands in ends_call outcome (length parts.places.directory.core.points) its.0.served.1 its.1
+
+    -- ---- what the call is served
+    -- what its look owes
+    abbrev owed_by : Told → List (ℕ × List ℕ)
+    owed_by (Told.Pinned point length_now seen) = (point, contents_of parts.places.directory.stamps (parts_of g (note_of written) length_now seen)) ∷ []
+    owed_by told = []
+
+    pins_or : (told : Told) → ((point : ℕ) × (length_now : ℕ) × (seen : List Seen) × (told ≡ Told.Pinned point length_now seen)) ⊎ (owed_by told ≡ [])
+    pins_or (Told.Answer point reply) = inr refl
+    pins_or (Told.Pinned point length_now seen) = inl (point, length_now, seen, refl)
+    pins_or (Told.Ready base length stripes) = inr refl
+    pins_or Told.NoSuch = inr refl
+    pins_or (Told.PinnedStripe seen) = inr refl
+    pins_or (Told.Versions versions) = inr refl
+    pins_or (Told.Done point) = inr refl
+    pins_or (Told.Changed base newer) = inr refl
+    pins_or Told.Ended = inr refl
+    pins_or Told.Current = inr refl
+    pins_or (Told.Superseded newer) = inr refl
+    pins_or (Told.Reaped point) = inr refl
+    pins_or (Told.Taken version) = inr refl
+    pins_or (Told.GivenUp point) = inr refl
+    pins_or (Told.Prepared placement) = inr refl
+    pins_or Told.Settled = inr refl
+    pins_or Told.Here = inr refl
+    pins_or (Told.Missing found) = inr refl
+    pins_or (Told.Given layers) = inr refl
+    pins_or (Told.Placed epoch) = inr refl
+    pins_or Told.AlreadyThere = inr refl
+    pins_or (Told.Away downs) = inr refl
+    pins_or Told.Made = inr refl
+    pins_or Told.NotMade = inr refl
+    pins_or Told.Short = inr refl
+    pins_or Told.Gathered = inr refl
+
+    abbrev looked : Told
+    looked = (at_directory false (actor.Client 0) parts.served (DirectoryStep.Look (note_of written)) parts.places.directory.core).1
+
+    look_owes : LookOwes (owed_by looked) first parts.places
+    look_owes point length_now seen told =
+        let here : looked ≡ Told.Pinned point length_now seen = (λ i. (at_directory false (sym who_is i) (sym number_is i) (DirectoryStep.Look (sym job_is i).note) parts.places.directory.core).1) ∙ told in
+        subst (λ (j : Job). AreAmong (owed_by looked) point (contents_of parts.places.directory.stamps (parts_of g j.note length_now seen))) (sym job_is)
+        (subst (λ (t : Told). AreAmong (owed_by t) point (contents_of parts.places.directory.stamps (parts_of g (note_of written) length_now seen))) (sym here) (contains_one (point, contents_of parts.places.directory.stamps (parts_of g (note_of written) length_now seen))))
+
+    module _ (s : State) (at : StandsAt (store_of parts) s) where
+      abbrev calls : Calls
+      calls = more (store_of parts) (asked_of written) s at
+
+      among_by : ((point : ℕ) × (length_now : ℕ) × (seen : List Seen) × (looked ≡ Told.Pinned point length_now seen)) ⊎ (owed_by looked ≡ []) → (place : ℕ) (bytes given : List ℕ) → Contains (owed_by looked) (place, bytes) → (apply (store_of parts).max written s.objects).1 ≡ reply.Bytes given → given ≡ bytes
+      among_by (inl (point, length_now, seen, is_told)) place bytes given within is_given =
+          let one : (place, bytes) ≡ (point, contents_of parts.places.directory.stamps (parts_of g (note_of written) length_now seen)) = one_contained (place, bytes) (point, contents_of parts.places.directory.stamps (parts_of g (note_of written) length_now seen)) (subst (λ (t : Told). Contains (owed_by t) (place, bytes)) is_told within) in
+          let stamped : contents_of parts.places.directory.stamps (parts_of g (note_of written) length_now seen) ≡ bytes_read (contents_by parts.places.directory.core.shape calls parts.places.directory.core.versions) (parts_of g (note_of written) length_now seen) =
+          contents_read parts.places.directory.stamps (parts_of g (note_of written) length_now seen) ∙ ap (λ l. bytes_read l (parts_of g (note_of written) length_now seen)) (contents_more (store_of parts) (asked_of written) s at) in
+          let between = between_more (store_of parts) (asked_of written) s at in
+          let owed : (apply parts.places.directory.core.max written s.objects).1 ≡ reply.Bytes (bytes_read (contents_by parts.places.directory.core.shape calls parts.places.directory.core.versions) (parts_of parts.places.directory.core.shape (note_of written) length_now seen)) =
+          bytes_are_owed calls g (store_of parts).max at.stands (seen_in parts.places) s (actor.Client 0) parts.served written point length_now seen (subst (λ (x : Shape). 0 < stripe_length x) (sym between.seen.shape) is.wide) between.seen between.its_map
+          (begins parts.places.directory.core (actor.Client 0) parts.served between.client) (of_client 0 written) (known_now at.calls parts.served (asked_of written) 0) is_told in
+          bytes_in (sym is_given ∙ owed ∙ ap (λ (x : Shape). reply.Bytes (bytes_read (contents_by parts.places.directory.core.shape calls parts.places.directory.core.versions) (parts_of x (note_of written) length_now seen))) between.seen.shape)
+          ∙ sym stamped ∙ sym (ap (λ (x : ℕ × List ℕ). x.1) one)
+      among_by (inr none) place bytes given within is_given = absurd (none_contained (place, bytes) (subst (λ (l : List (ℕ × List ℕ)). Contains l (place, bytes)) none within))
+
+      pub served_bytes : IfReads (machine_of c.asked) (IfBytesServed outcome (λ bytes. bytes.items ≡ c.owed)) → (p : Point) (bytes : Vec ℕ Global) (given : List ℕ) → outcome ≡ ended.Served p bytes →
+          (apply (store_of parts).max written s.objects).1 ≡ reply.Bytes given → given ≡ bytes.items
+      served_bytes served p bytes given is_served is_given =
+          let owes : OwesBy (AreAmong (owed_by looked)) c = ran.owes (owed_by looked) look_owes in
+          let at_end = at_end_owes (AreAmong (owed_by looked)) c p.0 owes (over ∙ ap (λ o. Act.Finish (call_outcome_of o)) is_served) in
+          let its : bytes.items ≡ c.owed = subst (λ o. IfBytesServed o (λ bytes. bytes.items ≡ c.owed)) is_served (subst (λ m. IfReads m (IfBytesServed outcome (λ bytes. bytes.items ≡ c.owed))) at_end.0 served) in
+          among_by (pins_or looked) p.0 c.owed given at_end.1 is_given ∙ sym its
+
+    -- ---- what it leaves
+    module _ (seat_now : Seat) (seat_after : ActorToken.Seated seat_now ≡ c.call.token) (served : IfReads (machine_of c.asked) (IfBytesServed outcome (λ bytes. bytes.items ≡ c.owed))) (answer : Answer) (answers : AnswersCall outcome answer) where
+      abbrev parts_after : Parts
+      parts_after = record parts { places = now; served = parts.served + 1; client = Some seat_now }
+
+      book_same : now.book ≡ parts.places.book
+      book_same = swept.keeps.same.book ∙ ran.same.book
+
+      most_same : now.directory.core.max ≡ parts.places.directory.core.max
+      most_same = (is_answered is.state is.stands).0.between.seen.most
+
+      -- tickets of others agree still
+      others_still : (token : ActorToken) → same_actor (actor.Client 0) (actor_of token) ≡ false → same_actor actor.Sweeper (actor_of token) ≡ false → Agrees parts.places.directory.core token → Agrees now.directory.core token
+      others_still token apart unswept agrees = swept.keeps.agrees token unswept (ran.others token (ap (λ a. same_actor a (actor_of token)) who_is ∙ apart) agrees)
+
+      module _ (s : State) (at : StandsAt (store_of parts) s) where
+        abbrev its : IsAnswered (calls s at) g (store_of parts).max (seats_at parts.served) s (Request.OfMap written) (seen_in now)
+        its = (is_answered s at).0
+
+        -- the answer is the session's
+        served_so : IsServed g (store_of parts).max (Request.OfMap written) s (its.served.0, answer)
+        served_so = by its.allowed
+          where
+            by : (its.served ≡ serve g (store_of parts).max (Request.OfMap written) s) ⊎ ((its.served.1 ≡ Answer.NoMemory) × (its.served.0 ≡ s)) → IsServed g (store_of parts).max (Request.OfMap written) s (its.served.0, answer)
+            by (inr (none, same)) = inr (wanting_is outcome (length parts.places.directory.core.points) answer ((is_answered s at).1 ∙ ap (outcome_at (length parts.places.directory.core.points)) none) answers, same)
+            by (inl e) = either
+                (answer_is outcome (length parts.places.directory.core.points) (serve_call g (store_of parts).max written s).1 answer (serve_call g (store_of parts).max written s).0 s (call_answer g (store_of parts).max s written)
+                ((is_answered s at).1 ∙ ap (λ (r : State × Answer). outcome_at (length parts.places.directory.core.points) r.1) e) answers
+                (λ p bytes given is_served is_reply. served_bytes s at served p bytes given is_served (reply_is is_reply)))
+              where
+                either : (answer ≡ (serve_call g (store_of parts).max written s).1) ⊎ ((answer ≡ Answer.NoMemory) × ((serve_call g (store_of parts).max written s).0 ≡ s)) → IsServed g (store_of parts).max (Request.OfMap written) s (its.served.0, answer)
+                either (inl same) = inl (λ i. (ap (λ (r : State × Answer). r.0) e i, same i))
+                either (inr (none, same)) = inr (none, ap (λ (r : State × Answer). r.0) e ∙ same)
+
+                reply_is : {given : List ℕ} → (serve_call g (store_of parts).max written s).1 ≡ Answer.Replied (reply.Bytes given) → (apply (store_of parts).max written s.objects).1 ≡ reply.Bytes given
+                reply_is is_reply = replied_in g (store_of parts).max s written is_reply
+
+        -- what requests of other kinds see stays
+        kept_by : {X : Type 0} (f : State → X) → f (serve g (store_of parts).max (Request.OfMap written) s).0 ≡ f s → f its.served.0 ≡ f s
+        kept_by f stays = by its.allowed
+          where
+            by : (its.served ≡ serve g (store_of parts).max (Request.OfMap written) s) ⊎ ((its.served.1 ≡ Answer.NoMemory) × (its.served.0 ≡ s)) → f its.served.0 ≡ f s
+            by (inl e) = ap (λ (r : State × Answer). f r.0) e ∙ stays
+            by (inr (none, same)) = ap f same
+
+        between_after : IsBetween (calls s at) g (store_of parts).max (seats_at (parts.served + 1)) its.stands (seen_in now) its.served.0
+        between_after =
+            passed_over (calls s at) g (store_of parts).max (seats_after (Request.OfMap written) (seats_at parts.served)) (parts.served + 1) (parts.served + 1) (parts.served + 1) its.stands (seen_in now) its.served.0 (omega arith) (omega arith) (omega arith)
+            its.between
+
+        pub stands_after : StandsAt (store_of parts_after) its.served.0
+        stands_after = record {
+          calls = calls s at;
+          stands = its.stands;
+          between =
+              subst (λ (b : BookOf). IsBetween (calls s at) b.geometry now.directory.core.max (seats_at (parts.served + 1)) its.stands (seen_in now) its.served.0) (sym book_same)
+              (subst (λ m. IsBetween (calls s at) g m (seats_at (parts.served + 1)) its.stands (seen_in now) its.served.0) (sym most_same) between_after);
+          contents = swept.keeps.contents (calls s at) (ran.bytes (calls s at) (known_bytes s at)).contents;
+          fresh = known_fresh at.calls parts.served (asked_of written) at.fresh;
+          next = kept_by (λ x. x.next) (call_next g (store_of parts).max s written) ∙ at.next;
+          epochs = later_epochs s.epochs its.served.0.epochs parts.served (kept_by (λ x. x.epochs) (call_epochs g (store_of parts).max s written)) at.epochs;
+          snapshot = subst (λ x. AreKept x parts.snapshot) (sym (kept_by (λ x. x.snapshot) (call_snapshot g (store_of parts).max s written))) at.snapshot;
+        }
+
+        pub serves_call : Serves (Request.OfMap written) s answer (store_of parts_after)
+        serves_call = record {
+          after = its.served.0;
+          served =
+              subst (λ (b : BookOf). IsServed b.geometry now.directory.core.max (Request.OfMap written) s (its.served.0, answer)) (sym book_same)
+              (subst (λ m. IsServed g m (Request.OfMap written) s (its.served.0, answer)) (sym most_same) served_so);
+          stands = stands_after;
+        }
+
+      pub call_is_served : IsServedBy (Request.OfMap written) (store_of parts) answer (store_of parts_after)
+      call_is_served = record {
+        serves = serves_call;
+        same = λ i. record { geometry = ap (λ (b : BookOf). b.geometry) book_same i; max = most_same i; served = parts.served + 1; kept = (store_of parts_after).kept };
+        kept = record {
+          code = subst (λ (b : BookOf). IsGeometry b.geometry) (sym book_same) is.code;
+          wide = subst (λ (b : BookOf). 0 < stripe_length b.geometry) (sym book_same) is.wide;
+          free = (refl, swept.keeps.same.places.free);
+          book = swept.keeps.same.places.book;
+          most = refl;
+          small = subst (λ m. m < 2 ^ 32) (sym most_same) is.small;
+          servers = swept.keeps.same.places.servers;
+          client = record {
+            seat = seat_now;
+            there = refl;
+            actor = ap actor_of seat_after ∙ ran.run.its.its_actor ∙ who_is;
+            unused = subst (λ n. seat_now.unused ≤ n + 1) number_is (subst (IsLow first.call.number) (sym seat_after) ran.low);
+            agrees = swept.keeps.agrees (ActorToken.Seated seat_now) (ap (same_actor actor.Sweeper) (ap actor_of seat_after ∙ ran.run.its.its_actor ∙ who_is)) (subst (Agrees left.directory.core) (sym seat_after) ran.agrees);
+          };
+          repairer = seat_still (actor.Repairer 0) parts.served (parts.served + 1) parts.repairer (omega arith) refl refl is.repairer;
+          healer = seat_still (actor.Repairer 1) parts.next parts.next parts.healer (omega arith) refl refl is.healer;
+          tickets = tickets_still parts.places.directory.core now.directory.core (actor.Client 0) (λ n some. ne_eqb 0 n (λ e. omega (arith, some, e))) others_still parts.served (parts.served + 1) parts.places.book now.book book_same (omega arith) parts.snapshot (store_of parts).kept.tickets is.tickets;
+          state = (is_answered is.state is.stands).0.served.0;
+          stands = stands_after is.state is.stands;
+        };
+      }
+        where
+          seat_still : (who : Actor) (n m : ℕ) (place : Option Seat) → n ≤ m → same_actor (actor.Client 0) who ≡ false → same_actor actor.Sweeper who ≡ false → HasSeat parts.places.directory.core who n place → HasSeat now.directory.core who m place
+          seat_still who n m place less apart unswept has = record {
+            seat = has.seat;
+            there = has.there;
+            actor = has.actor;
+            unused = (let low = has.unused in omega (arith, less, low));
+            agrees = others_still (ActorToken.Seated has.seat) (ap (same_actor (actor.Client 0)) has.actor ∙ apart) (ap (same_actor actor.Sweeper) has.actor ∙ unswept) has.agrees;
+          }

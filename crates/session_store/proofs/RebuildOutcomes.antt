@@ -1,0 +1,172 @@
+-- The answer to a rebuild that ended so is the session's.
+use Rattle.std.proofs.Common.{◌≡◌, ◌⊎◌, ℕ, Bool, true, false, List, [], ◌∷◌, length, map, find, Option, None, Some, option_map, unwrap_or, Vec, refl, sym, ap, subst, ◌∙◌, inl, inr, arith, true≢false, nat_lt, get_or, if◌then◌else◌}
+use Rattle.std.specs.Global.{Global}
+use Rattle.std.specs.Prelude.{⊤}
+use Rattle.clay_grid.specs.Shape.{Shape}
+use Rattle.store_map.specs.PlainMap.{apply, bytes_of}
+use Rattle.store_map.specs.declared.actor.Point.{Point}
+use Rattle.store_map.specs.declared.call.Call.{Call}
+use Rattle.store_map.specs.declared.placement.LostChunk.{LostChunk}
+use Rattle.store_map.specs.declared.reply.Reply.{Reply}
+use Rattle.store_map.specs.declared.reply.Reply.TheVariants as reply
+use Rattle.store_core.specs.Act.{Outcome}
+use Rattle.store_core.specs.Told.{Lost, lost_in}
+use Rattle.session_rules.specs.State.{Stripe, State}
+use Rattle.session_rules.specs.Gathered.{holds, is_beyond_repair, named}
+use Rattle.session_rules.specs.Rebuilds.{place_anew, rebuild_one, rebuild}
+use Rattle.session_rules.specs.declared.answer.Answer.{Answer}
+use Rattle.session_rules.specs.declared.answer.Missing.{Missing}
+use Rattle.session_laws.specs.Outcomes.{lost_as}
+use Rattle.session_laws.specs.Rebuilds.{rebuilt_as}
+use Rattle.world_lines.specs.Outcomes.{call_outcome_of}
+use Rattle.world_lines.specs.declared.outcome.CallOutcome.{CallOutcome}
+use Rattle.world_lines.specs.declared.outcome.CallOutcome.TheVariants as ended
+use Rattle.session_store.specs.Answers.{AnswersRebuild, EndsRebuild}
+use Rattle.session_store.proofs.Outcomes.{same_missing}
+
+-- ---- what a rebuild is answered
+abbrev pub IsOfRebuild : Answer → State → State → Type 0
+IsOfRebuild Answer.Rebuilt after s = ⊤
+IsOfRebuild Answer.Here after s = ⊤
+IsOfRebuild (Answer.Replied reply.NoSuch) after s = ⊤
+IsOfRebuild (Answer.Unavailable stripe missing) after s = after ≡ s
+IsOfRebuild answer after s = ⊥
+
+pub rebuild_answer : (g : Shape) (stripe server : ℕ) (s : State) (numbers : List ℕ) → IsOfRebuild (rebuild g stripe server s numbers).1 (rebuild g stripe server s numbers).0 s
+rebuild_answer g stripe server s numbers = by (nat_lt stripe (length numbers))
+  where
+    beyond : (chunks : Stripe) (n : ℕ) (b : Bool) → (let r : State × Answer = if b then (s, Answer.Unavailable stripe (named g s.epochs chunks chunks (server ∷ []))) else (place_anew n server s, Answer.Rebuilt) in IsOfRebuild r.1 r.0 s)
+    beyond chunks n true = refl
+    beyond chunks n false = tt
+
+    one : (chunks : Stripe) (n : ℕ) (b : Bool) →
+        (let r : State × Answer = if b then (s, Answer.Here) else (if is_beyond_repair g chunks then (s, Answer.Unavailable stripe (named g s.epochs chunks chunks (server ∷ []))) else (place_anew n server s, Answer.Rebuilt)) in IsOfRebuild r.1 r.0 s)
+    one chunks n true = tt
+    one chunks n false = beyond chunks n (is_beyond_repair g chunks)
+
+    by : (b : Bool) → (let r : State × Answer = if b then rebuild_one g stripe server s (get_or numbers stripe 0) (get_or s.stripes (get_or numbers stripe 0) []) else (s, Answer.Replied reply.NoSuch) in IsOfRebuild r.1 r.0 s)
+    by true = one (get_or s.stripes (get_or numbers stripe 0) []) (get_or numbers stripe 0) (holds (get_or s.stripes (get_or numbers stripe 0) []) server)
+    by false = tt
+
+-- ---- what an outcome is
+abbrev number_of : Outcome → ℕ
+number_of Outcome.Rebuilt = 1
+number_of Outcome.Here = 2
+number_of Outcome.NoSuch = 3
+number_of (Outcome.Unavailable stripe missing) = 4
+number_of Outcome.NoMemory = 5
+number_of outcome = 0
+
+abbrev stripe_in : Outcome → ℕ
+stripe_in (Outcome.Unavailable stripe missing) = stripe
+stripe_in outcome = 0
+
+abbrev missing_of : Outcome → List Lost
+missing_of (Outcome.Unavailable stripe missing) = missing
+missing_of outcome = []
+
+by_rebuilt : (outcome : CallOutcome) (answer : Answer) → number_of (call_outcome_of outcome) ≡ 1 → AnswersRebuild outcome answer → answer ≡ Answer.Rebuilt
+by_rebuilt ended.Rebuilt answer e answers = answers
+by_rebuilt ended.Here answer e answers = absurd (omega (arith, e))
+by_rebuilt ended.NoSuch answer e answers = absurd (omega (arith, e))
+by_rebuilt (ended.Unavailable stripe missing) answer e answers = absurd (omega (arith, e))
+by_rebuilt ended.NoMemory answer e answers = absurd (omega (arith, e))
+by_rebuilt outcome answer e answers = absurd answers
+
+by_here : (outcome : CallOutcome) (answer : Answer) → number_of (call_outcome_of outcome) ≡ 2 → AnswersRebuild outcome answer → answer ≡ Answer.Here
+by_here ended.Rebuilt answer e answers = absurd (omega (arith, e))
+by_here ended.Here answer e answers = answers
+by_here ended.NoSuch answer e answers = absurd (omega (arith, e))
+by_here (ended.Unavailable stripe missing) answer e answers = absurd (omega (arith, e))
+by_here ended.NoMemory answer e answers = absurd (omega (arith, e))
+by_here outcome answer e answers = absurd answers
+
+by_none : (outcome : CallOutcome) (answer : Answer) → number_of (call_outcome_of outcome) ≡ 3 → AnswersRebuild outcome answer → answer ≡ Answer.Replied reply.NoSuch
+by_none ended.Rebuilt answer e answers = absurd (omega (arith, e))
+by_none ended.Here answer e answers = absurd (omega (arith, e))
+by_none ended.NoSuch answer e answers = answers
+by_none (ended.Unavailable stripe missing) answer e answers = absurd (omega (arith, e))
+by_none ended.NoMemory answer e answers = absurd (omega (arith, e))
+by_none outcome answer e answers = absurd answers
+
+by_missing : (outcome : CallOutcome) (stripe : ℕ) (missing : List Missing) (answer : Answer) → call_outcome_of outcome ≡ Outcome.Unavailable stripe (map lost_as missing) → AnswersRebuild outcome answer →
+    (answer ≡ Answer.NoMemory) ⊎ (answer ≡ Answer.Unavailable stripe missing)
+by_missing (ended.Unavailable own lost) stripe missing answer e (inl none) = inl none
+by_missing (ended.Unavailable own lost) stripe missing answer e (inr answers) =
+    inr (answers ∙ (λ i. Answer.Unavailable (ap stripe_in e i) (same_missing lost.items missing (ap missing_of e) i)))
+by_missing ended.Rebuilt stripe missing answer e answers = let n : 1 ≡ 4 = ap number_of e in absurd (omega (arith, n))
+by_missing ended.Here stripe missing answer e answers = let n : 2 ≡ 4 = ap number_of e in absurd (omega (arith, n))
+by_missing ended.NoSuch stripe missing answer e answers = let n : 3 ≡ 4 = ap number_of e in absurd (omega (arith, n))
+by_missing ended.NoMemory stripe missing answer e answers = let n : 5 ≡ 4 = ap number_of e in absurd (omega (arith, n))
+by_missing outcome stripe missing answer e answers = absurd answers
+
+pub rebuild_wanting : (outcome : CallOutcome) (answer : Answer) → number_of (call_outcome_of outcome) ≡ 5 → AnswersRebuild outcome answer → answer ≡ Answer.NoMemory
+rebuild_wanting ended.Rebuilt answer e answers = absurd (omega (arith, e))
+rebuild_wanting ended.Here answer e answers = absurd (omega (arith, e))
+rebuild_wanting ended.NoSuch answer e answers = absurd (omega (arith, e))
+rebuild_wanting (ended.Unavailable stripe missing) answer e answers = absurd (omega (arith, e))
+rebuild_wanting ended.NoMemory answer e answers = answers
+rebuild_wanting outcome answer e answers = absurd answers
+
+pub wanting_number : (outcome : CallOutcome) (a : Answer) → a ≡ Answer.NoMemory → call_outcome_of outcome ≡ rebuilt_as a → number_of (call_outcome_of outcome) ≡ 5
+wanting_number outcome a none e = ap number_of (e ∙ ap rebuilt_as none)
+
+-- ---- so the answer is the session's, or memory was wanting for it and the state is left
+pub rebuild_is : (outcome : CallOutcome) (a answer : Answer) (after s : State) → IsOfRebuild a after s → call_outcome_of outcome ≡ rebuilt_as a → AnswersRebuild outcome answer → (answer ≡ a) ⊎ ((answer ≡ Answer.NoMemory) × (after ≡ s))
+rebuild_is outcome Answer.Rebuilt answer after s its e answers = inl (by_rebuilt outcome answer (ap number_of e) answers)
+rebuild_is outcome Answer.Here answer after s its e answers = inl (by_here outcome answer (ap number_of e) answers)
+rebuild_is outcome (Answer.Replied reply.NoSuch) answer after s its e answers = inl (by_none outcome answer (ap number_of e) answers)
+rebuild_is outcome (Answer.Unavailable stripe missing) answer after s its e answers = by (by_missing outcome stripe missing answer e answers)
+  where
+    by : (answer ≡ Answer.NoMemory) ⊎ (answer ≡ Answer.Unavailable stripe missing) → (answer ≡ Answer.Unavailable stripe missing) ⊎ ((answer ≡ Answer.NoMemory) × (after ≡ s))
+    by (inl none) = inr (none, its)
+    by (inr is) = inl is
+rebuild_is outcome (Answer.Replied reply.Done) answer after s its e answers = absurd its
+rebuild_is outcome (Answer.Replied (reply.Bytes bytes)) answer after s its e answers = absurd its
+rebuild_is outcome (Answer.Replied (reply.Length n)) answer after s its e answers = absurd its
+rebuild_is outcome (Answer.Replied reply.OutRange) answer after s its e answers = absurd its
+rebuild_is outcome (Answer.Replied reply.TooLarge) answer after s its e answers = absurd its
+rebuild_is outcome a answer after s its e answers = absurd its
+
+-- ---- and its end is one of a rebuild
+abbrev is_end : Outcome → Bool
+is_end Outcome.Rebuilt = true
+is_end Outcome.Here = true
+is_end Outcome.NoSuch = true
+is_end (Outcome.Unavailable stripe missing) = true
+is_end Outcome.NoMemory = true
+is_end outcome = false
+
+answers_end : (a : Answer) → is_end (rebuilt_as a) ≡ true
+answers_end (Answer.Replied reply.NoSuch) = refl
+answers_end (Answer.Replied reply.Done) = refl
+answers_end (Answer.Replied (reply.Bytes bytes)) = refl
+answers_end (Answer.Replied (reply.Length n)) = refl
+answers_end (Answer.Replied reply.OutRange) = refl
+answers_end (Answer.Replied reply.TooLarge) = refl
+answers_end (Answer.Unavailable stripe missing) = refl
+answers_end Answer.BadRequest = refl
+answers_end Answer.NoMemory = refl
+answers_end Answer.Rebuilt = refl
+answers_end Answer.Here = refl
+answers_end Answer.NoSnap = refl
+answers_end Answer.SnapOpen = refl
+answers_end (Answer.TooMany objects) = refl
+answers_end (Answer.Scrubbed lost) = refl
+answers_end (Answer.Healed rebuilt taken) = refl
+
+ends_by : (outcome : CallOutcome) → is_end (call_outcome_of outcome) ≡ true → EndsRebuild outcome
+ends_by ended.Rebuilt e = tt
+ends_by ended.Here e = tt
+ends_by ended.NoSuch e = tt
+ends_by (ended.Unavailable stripe missing) e = tt
+ends_by ended.NoMemory e = tt
+ends_by (ended.Answered p r) e = absurd (true≢false (sym e))
+ends_by (ended.Served p bytes) e = absurd (true≢false (sym e))
+ends_by (ended.Contended changes) e = absurd (true≢false (sym e))
+ends_by (ended.Away downs) e = absurd (true≢false (sym e))
+ends_by (ended.Superseded newer) e = absurd (true≢false (sym e))
+ends_by (ended.Reaped at) e = absurd (true≢false (sym e))
+
+pub ends_rebuild : (outcome : CallOutcome) (a : Answer) → call_outcome_of outcome ≡ rebuilt_as a → EndsRebuild outcome
+ends_rebuild outcome a e = ends_by outcome (ap is_end e ∙ answers_end a)

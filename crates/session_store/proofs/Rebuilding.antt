@@ -1,0 +1,266 @@
+-- A rebuild is served.
+use Rattle.std.proofs.Common.{◌≡◌, ◌⊎◌, ℕ, zero, suc, ◌+◌, ◌<◌, ◌≤◌, ◌^◌, Bool, true, false, nat_eq, cond, if◌then◌else◌, List, [], ◌∷◌, length, map, find, Option, None, Some, option_map, unwrap_or, Vec, Contains, refl, sym, ap, subst, ◌∙◌, inl, inr, arith, true≢false}
+use Rattle.std.specs.Global.{Global}
+use Rattle.std.specs.Prelude.{⊤}
+use Rattle.std.proofs.lemmas.Bool.{ne_eqb}
+use Rattle.std.proofs.lemmas.Option.{same_Some}
+use Rattle.clay_grid.specs.Shape.{Shape, chunk_count, stripe_length}
+use Rattle.clay_grid.specs.Limits.{IsGeometry}
+use Rattle.store_map.specs.PlainMap.{apply, bytes_of}
+use Rattle.store_map.specs.declared.actor.Actor.{Actor}
+use Rattle.store_map.specs.declared.actor.Actor.TheVariants as actor
+use Rattle.store_map.specs.declared.call.Call.{Call}
+use Rattle.store_map.specs.declared.call.Call.TheVariants as call
+use Rattle.store_map.specs.declared.reply.Reply.{Reply}
+use Rattle.store_map.specs.declared.reply.Reply.TheVariants as reply
+use Rattle.store_core.specs.Act.{Act, DirectoryStep, Outcome}
+use Rattle.store_core.specs.Agreement.{Seat, ActorToken, Agrees, AgreesWithSeat}
+use Rattle.store_core.specs.AtDirectory.{at_directory}
+use Rattle.store_core.specs.Calls.{Calls}
+use Rattle.store_core.specs.NextAct.{Job, rebuild_job}
+use Rattle.store_map.specs.declared.call.Rebuild.{Rebuild as RebuildCall}
+use Rattle.store_core.specs.Note.{Kind, note_of}
+use Rattle.store_core.specs.Read.{parts_of}
+use Rattle.store_core.specs.Step.{Shortage, Places as CorePlaces}
+use Rattle.store_core.specs.Told.{Seen, Told}
+use Rattle.store_core.specs.Tokens.{actor_of}
+use Rattle.store_resume.specs.State.{first_state}
+use Rattle.store_resume.specs.StateActs.{act_of_state}
+use Rattle.version_seal.specs.Entry.{BookOf}
+use Rattle.stripe_dir.specs.Stamped.{HaveContents}
+use Rattle.session_rules.specs.State.{State, numbers_of}
+use Rattle.session_rules.specs.Serve.{serve}
+use Rattle.session_rules.specs.Shortages.{IsServed}
+use Rattle.session_rules.specs.declared.answer.Answer.{Answer}
+use Rattle.session_rules.specs.declared.request.Request.{Request}
+use Rattle.session_laws.specs.Alone.{AtWork}
+use Rattle.session_laws.specs.Rebuilds.{rebuilt_as}
+use Rattle.session_laws.specs.Wants.{wanting_steps}
+use Rattle.session_runs.specs.Seats.{HasEnded}
+use Rattle.session_runs.specs.Between.{seats_after, IsBetween}
+use Rattle.session_runs.specs.Serving.{AreSweptTo}
+use Rattle.session_runs.specs.Answering.{RunsTo, IsAnswered}
+use Rattle.session_runs.proofs.RebuildsAnswered.{rebuilds_are_answered}
+use Rattle.session_runs.proofs.Answers.{rebuild_next, rebuild_snapshot}
+use Rattle.session_runs.proofs.Repairs.{has_parity}
+use Rattle.call_steps.specs.CallOf.{tries_by, act_of}
+use Rattle.call_machine.specs.Calls.{MachineOf, first_call, tries_in}
+use Rattle.call_machine.specs.Kinds.{Asked, Machine, machine_of, client_machine, IfReads}
+use Rattle.call_alone.specs.AtWork.{HasRun}
+use Rattle.call_alone.proofs.Running.{calls_run_alone}
+use Rattle.world_lines.specs.Outcomes.{call_outcome_of}
+use Rattle.world_lines.specs.declared.outcome.CallOutcome.{CallOutcome}
+use Rattle.store_map.specs.declared.actor.Point.{Point}
+use Rattle.store_core.specs.Content.{contents_by}
+use Rattle.store_reads.specs.ReadLaws.{bytes_read}
+use Rattle.client_read.specs.Owed.{contents_of}
+use Rattle.call_owes.specs.Owes.{OwesBy}
+use Rattle.call_owes.specs.OwesLaws.{AreAmong}
+use Rattle.call_owes.proofs.Owing.{at_end_owes}
+use Rattle.call_owes.proofs.Stamped.{contents_read}
+use Rattle.call_machine.specs.Ends.{IfBytesServed}
+use Rattle.session_bytes.proofs.Maps.{bytes_are_owed}
+use Rattle.session_runs.proofs.Clients.{of_client}
+use Rattle.session_runs.proofs.Kept.{begins}
+use Rattle.world_lines.specs.declared.outcome.CallOutcome.TheVariants as ended
+use Rattle.store_core.specs.Lookups.{same_actor}
+use Rattle.session_rules.specs.Rebuilds.{rebuild}
+use Rattle.session_store.specs.Answers.{AnswersRebuild, EndsRebuild}
+use Rattle.session_store.specs.Kept.{HasSeat, IsServedBy}
+use Rattle.session_store.specs.Serving.{Serves}
+use Rattle.session_store.specs.Standing.{AreKept}
+use Rattle.session_store.specs.Running.{IsLow}
+use Rattle.session_store.proofs.Numbers.{fresh_later, passed_over}
+use Rattle.session_store.proofs.RebuildOutcomes.{rebuild_answer, rebuild_is, rebuild_wanting, wanting_number, ends_rebuild}
+use Rattle.session_store.proofs.Seating.{tickets_still}
+use Rattle.session_store.proofs.Standing.{rebuild_epochs, later_epochs}
+use Rattle.session_store.specs.declared.parts.Parts.{Parts}
+use Rattle.session_store.specs.declared.places.Places.{Places}
+use Rattle.session_store.specs.Inside.{store_of}
+use Rattle.session_store.specs.Kept.{IsStore}
+use Rattle.session_store.specs.Places.{seen_in}
+use Rattle.session_store.specs.Running.{IsKnownBy, KnowsBytes, MayRun, HasRunTo, LookOwes, left_of}
+use Rattle.session_store.specs.Standing.{StandsAt, seats_at}
+use Rattle.session_store.specs.Sweeping.{IsSwept}
+use Rattle.session_store.proofs.Bounds.{rebuild_steps_few}
+
+module _ (parts : Parts) (is : IsStore (store_of parts)) (it : RebuildCall) (below : it.server < chunk_count parts.places.book.geometry) (seat : Seat) (seat_is : parts.repairer ≡ Some seat) (first : MachineOf) (opening : BookOf)
+    (opening_is : opening ≡ parts.places.book) (first_is : first ≡ first_call opening 1 seat parts.served (Asked.OfRepairer it)) where
+  its_seat : is.repairer.seat ≡ seat
+  its_seat = same_Some is.repairer.seat seat (sym is.repairer.there ∙ seat_is)
+
+  first_here : first ≡ first_call parts.places.book 1 seat parts.served (Asked.OfRepairer it)
+  first_here = first_is ∙ ap (λ (b : BookOf). first_call b 1 seat parts.served (Asked.OfRepairer it)) opening_is
+
+  number_is : first.call.number ≡ parts.served
+  number_is = ap (λ (x : MachineOf). x.call.number) first_here
+
+  asked_is : first.asked ≡ Asked.OfRepairer it
+  asked_is = ap (λ (x : MachineOf). x.asked) first_here
+
+  who_is : actor_of first.call.token ≡ actor.Repairer 0
+  who_is = ap (λ (x : MachineOf). actor_of x.call.token) first_here ∙ ap (λ (x : Seat). x.actor) (sym its_seat) ∙ is.repairer.actor
+
+  known_bytes : (s : State) (at : StandsAt (store_of parts) s) → KnowsBytes at.calls first parts.places
+  known_bytes s at = record {
+    bytes = at.between.its_map.bytes;
+    drawn = at.between.its_map.drawn;
+    contents = at.contents;
+    known = subst (IsKnownBy at.calls first) (sym asked_is) tt;
+  }
+
+  pub may_rebuild : MayRun first parts.places
+  may_rebuild = record {
+    places = record { free = is.free.1; book = is.book; servers = is.servers };
+    seat = seat;
+    tries = 1;
+    first = first_here ∙ (λ i. first_call parts.places.book 1 seat (sym number_is i) (sym asked_is i));
+    unused = subst (λ n. seat.unused ≤ n) (sym number_is) (subst (λ (x : Seat). x.unused ≤ parts.served) its_seat is.repairer.unused);
+    agrees = subst (λ x. AgreesWithSeat parts.places.directory.core x) its_seat is.repairer.agrees;
+    calls = is.stands.calls;
+    bytes = known_bytes is.state is.stands;
+    target = λ e. subst (λ (x : MachineOf). x.call.job.target < chunk_count parts.places.book.geometry) (sym first_here) below;
+    few =
+        subst (λ (x : MachineOf). left_of parts.places.directory.core.max x [] < 2 ^ 64) (sym first_here)
+        (rebuild_steps_few parts.places.book.geometry parts.places.directory.core.max (tries_in Machine.Rebuilds 1 parts.places.book) (rebuild_job it) is.code refl);
+  }
+
+  -- ---- the rebuild, and the sweeper after it
+  module _ (c : MachineOf) (left now : Places) (ran : HasRunTo first parts.places c left) (outcome : CallOutcome) (over : act_of c.call ≡ Act.Finish (call_outcome_of outcome)) (swept : IsSwept left now) where
+    abbrev g : Shape
+    g = parts.places.book.geometry
+
+    abbrev tries : ℕ
+    tries = first.call.tries
+
+    job_is : first.call.job ≡ rebuild_job it
+    job_is = ap (λ (x : MachineOf). x.call.job) first_here
+
+    run_first : HasRun g tries (actor.Repairer 0) parts.served (rebuild_job it) ran.shortages (seen_in parts.places) c.call (seen_in left)
+    run_first = subst (λ j. HasRun g tries (actor.Repairer 0) parts.served j ran.shortages (seen_in parts.places) c.call (seen_in left)) job_is (subst (λ n. HasRun g tries (actor.Repairer 0) n first.call.job ran.shortages (seen_in parts.places) c.call (seen_in left)) number_is (subst (λ a. HasRun g tries a first.call.number first.call.job ran.shortages (seen_in parts.places) c.call (seen_in left)) who_is ran.run))
+
+    abbrev end : AtWork
+    end = wanting_steps g tries (actor.Repairer 0) parts.served (rebuild_job it) ran.shortages (record { call = first_state; places = seen_in parts.places })
+
+    has_ended : (act_of_state g tries (rebuild_job it) end.call ≡ Act.Finish (call_outcome_of outcome)) × (end.places ≡ seen_in left)
+    has_ended = (calls_run_alone.ends g tries (actor.Repairer 0) parts.served (rebuild_job it)).run ran.shortages (seen_in parts.places) (seen_in left) c.call (call_outcome_of outcome) over ran.uncoded run_first
+
+    runs_to : RunsTo g tries (actor.Repairer 0) parts.served (rebuild_job it) (seen_in parts.places) (call_outcome_of outcome) (seen_in now)
+    runs_to = record {
+      shortages = ran.shortages;
+      over = has_ended.0;
+      swept = subst (λ (p : CorePlaces). AreSweptTo g p (seen_in now)) (sym has_ended.1) (subst (λ (b : BookOf). AreSweptTo b.geometry (seen_in left) (seen_in now)) ran.same.book swept.swept);
+    }
+
+    abbrev request : Request
+    request = Request.Rebuild it.name it.stripe it.server
+
+    module _ (s : State) (at : StandsAt (store_of parts) s) where
+      pub is_answered : (answered : IsAnswered at.calls g (store_of parts).max (seats_at parts.served) s request (seen_in now)) × (call_outcome_of outcome ≡ rebuilt_as answered.served.1)
+      is_answered = rebuilds_are_answered at.calls g (store_of parts).max tries (seats_at parts.served) at.stands (seen_in parts.places) (seen_in now) s it.name it.stripe it.server (call_outcome_of outcome) is.wide (has_parity g is.code) below at.between runs_to
+
+    pub ends_well : EndsRebuild outcome
+    ends_well = let its = is_answered is.state is.stands in ends_rebuild outcome its.0.served.1 its.1
+
+    -- ---- what it leaves
+    module _ (seat_now : Seat) (seat_after : ActorToken.Seated seat_now ≡ c.call.token) (answer : Answer) (answers : AnswersRebuild outcome answer) where
+      abbrev parts_after : Parts
+      parts_after = record parts { places = now; served = parts.served + 1; repairer = Some seat_now }
+
+      book_same : now.book ≡ parts.places.book
+      book_same = swept.keeps.same.book ∙ ran.same.book
+
+      most_same : now.directory.core.max ≡ parts.places.directory.core.max
+      most_same = (is_answered is.state is.stands).0.between.seen.most
+
+      others_still : (token : ActorToken) → same_actor (actor.Repairer 0) (actor_of token) ≡ false → same_actor actor.Sweeper (actor_of token) ≡ false → Agrees parts.places.directory.core token → Agrees now.directory.core token
+      others_still token apart unswept agrees = swept.keeps.agrees token unswept (ran.others token (ap (λ a. same_actor a (actor_of token)) who_is ∙ apart) agrees)
+
+      module _ (s : State) (at : StandsAt (store_of parts) s) where
+        abbrev its : IsAnswered at.calls g (store_of parts).max (seats_at parts.served) s request (seen_in now)
+        its = (is_answered s at).0
+
+        abbrev made : State × Answer
+        made = rebuild g it.stripe it.server s (numbers_of it.name s.numbers)
+
+        served_so : IsServed g (store_of parts).max request s (its.served.0, answer)
+        served_so = by its.allowed
+          where
+            by : (its.served ≡ made) ⊎ ((its.served.1 ≡ Answer.NoMemory) × (its.served.0 ≡ s)) → IsServed g (store_of parts).max request s (its.served.0, answer)
+            by (inr (none, same)) = inr (rebuild_wanting outcome answer (wanting_number outcome its.served.1 none (is_answered s at).1) answers, same)
+            by (inl e) = either
+                (rebuild_is outcome made.1 answer made.0 s (rebuild_answer g it.stripe it.server s (numbers_of it.name s.numbers)) ((is_answered s at).1 ∙ ap (λ (r : State × Answer). rebuilt_as r.1) e) answers)
+              where
+                either : (answer ≡ made.1) ⊎ ((answer ≡ Answer.NoMemory) × (made.0 ≡ s)) → IsServed g (store_of parts).max request s (its.served.0, answer)
+                either (inl same) = inl (λ i. (ap (λ (r : State × Answer). r.0) e i, same i))
+                either (inr (none, same)) = inr (none, ap (λ (r : State × Answer). r.0) e ∙ same)
+
+        kept_by : {X : Type 0} (f : State → X) → f made.0 ≡ f s → f its.served.0 ≡ f s
+        kept_by f stays = by its.allowed
+          where
+            by : (its.served ≡ made) ⊎ ((its.served.1 ≡ Answer.NoMemory) × (its.served.0 ≡ s)) → f its.served.0 ≡ f s
+            by (inl e) = ap (λ (r : State × Answer). f r.0) e ∙ stays
+            by (inr (none, same)) = ap f same
+
+        between_after : IsBetween at.calls g (store_of parts).max (seats_at (parts.served + 1)) its.stands (seen_in now) its.served.0
+        between_after =
+            passed_over at.calls g (store_of parts).max (seats_after request (seats_at parts.served)) (parts.served + 1) (parts.served + 1) (parts.served + 1) its.stands (seen_in now) its.served.0 (omega arith) (omega arith) (omega arith) its.between
+
+        stands_after : StandsAt (store_of parts_after) its.served.0
+        stands_after = record {
+          calls = at.calls;
+          stands = its.stands;
+          between =
+              subst (λ (b : BookOf). IsBetween at.calls b.geometry now.directory.core.max (seats_at (parts.served + 1)) its.stands (seen_in now) its.served.0) (sym book_same)
+              (subst (λ m. IsBetween at.calls g m (seats_at (parts.served + 1)) its.stands (seen_in now) its.served.0) (sym most_same) between_after);
+          contents = swept.keeps.contents at.calls (ran.bytes at.calls (known_bytes s at)).contents;
+          fresh = fresh_later at.calls parts.served at.fresh;
+          next = kept_by (λ x. x.next) (rebuild_next g it.stripe it.server s (numbers_of it.name s.numbers)) ∙ at.next;
+          epochs = later_epochs s.epochs its.served.0.epochs parts.served (kept_by (λ x. x.epochs) (rebuild_epochs g it.stripe it.server s (numbers_of it.name s.numbers))) at.epochs;
+          snapshot = subst (λ x. AreKept x parts.snapshot) (sym (kept_by (λ x. x.snapshot) (rebuild_snapshot g it.stripe it.server s (numbers_of it.name s.numbers)))) at.snapshot;
+        }
+
+        serves_rebuild : Serves request s answer (store_of parts_after)
+        serves_rebuild = record {
+          after = its.served.0;
+          served =
+              subst (λ (b : BookOf). IsServed b.geometry now.directory.core.max request s (its.served.0, answer)) (sym book_same)
+              (subst (λ m. IsServed g m request s (its.served.0, answer)) (sym most_same) served_so);
+          stands = stands_after;
+        }
+
+      pub rebuild_is_served : IsServedBy request (store_of parts) answer (store_of parts_after)
+      rebuild_is_served = record {
+        serves = serves_rebuild;
+        same = λ i. record { geometry = ap (λ (b : BookOf). b.geometry) book_same i; max = most_same i; served = parts.served + 1; kept = (store_of parts_after).kept };
+        kept = record {
+          code = subst (λ (b : BookOf). IsGeometry b.geometry) (sym book_same) is.code;
+          wide = subst (λ (b : BookOf). 0 < stripe_length b.geometry) (sym book_same) is.wide;
+          free = (refl, swept.keeps.same.places.free);
+          book = swept.keeps.same.places.book;
+          most = refl;
+          small = subst (λ m. m < 2 ^ 32) (sym most_same) is.small;
+          servers = swept.keeps.same.places.servers;
+          client = seat_still (actor.Client 0) parts.served (parts.served + 1) parts.client (omega arith) refl refl is.client;
+          repairer = record {
+            seat = seat_now;
+            there = refl;
+            actor = ap actor_of seat_after ∙ ran.run.its.its_actor ∙ who_is;
+            unused = subst (λ n. seat_now.unused ≤ n + 1) number_is (subst (IsLow first.call.number) (sym seat_after) ran.low);
+            agrees = swept.keeps.agrees (ActorToken.Seated seat_now) (ap (same_actor actor.Sweeper) (ap actor_of seat_after ∙ ran.run.its.its_actor ∙ who_is)) (subst (Agrees left.directory.core) (sym seat_after) ran.agrees);
+          };
+          healer = seat_still (actor.Repairer 1) parts.next parts.next parts.healer (omega arith) refl refl is.healer;
+          tickets = tickets_still parts.places.directory.core now.directory.core (actor.Repairer 0) (λ n some. refl) others_still parts.served (parts.served + 1) parts.places.book now.book book_same (omega arith) parts.snapshot (store_of parts).kept.tickets is.tickets;
+          state = (is_answered is.state is.stands).0.served.0;
+          stands = stands_after is.state is.stands;
+        };
+      }
+        where
+          seat_still : (who : Actor) (n m : ℕ) (place : Option Seat) → n ≤ m → same_actor (actor.Repairer 0) who ≡ false → same_actor actor.Sweeper who ≡ false → HasSeat parts.places.directory.core who n place → HasSeat now.directory.core who m place
+          seat_still who n m place less apart unswept has = record {
+            seat = has.seat;
+            there = has.there;
+            actor = has.actor;
+            unused = (let low = has.unused in omega (arith, less, low));
+            agrees = others_still (ActorToken.Seated has.seat) (ap (same_actor (actor.Repairer 0)) has.actor ∙ apart) (ap (same_actor actor.Sweeper) has.actor ∙ unswept) has.agrees;
+          }

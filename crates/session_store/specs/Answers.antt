@@ -1,0 +1,73 @@
+-- The answer to a call, a rebuild or a read that ended so.
+use Rattle.std.specs.Prelude.{◌≡◌, ◌⊎◌, ⊤, ℕ, List, map}
+use Rattle.store_map.specs.declared.placement.Placement.{Placement}
+use Rattle.store_map.specs.declared.placement.Placement.TheVariants as placement
+use Rattle.store_map.specs.declared.placement.Found.{Found}
+use Rattle.store_map.specs.declared.placement.Found.TheVariants as found
+use Rattle.store_map.specs.declared.placement.LostChunk.{LostChunk}
+use Rattle.store_map.specs.declared.reply.Reply.TheVariants as reply
+use Rattle.session_rules.specs.declared.answer.Missing.{Missing}
+use Rattle.session_rules.specs.declared.answer.Answer.{Answer}
+use Rattle.snapshot_view.specs.declared.ends.SnapOutcome.{SnapOutcome}
+use Rattle.snapshot_view.specs.declared.ends.SnapOutcome.TheVariants as read
+use Rattle.world_lines.specs.declared.outcome.CallOutcome.{CallOutcome}
+use Rattle.world_lines.specs.declared.outcome.CallOutcome.TheVariants as ended
+
+-- the count that a placement tells, and that why a chunk isn't given tells
+abbrev pub placed_epoch : Placement → ℕ
+placed_epoch (placement.At epoch) = epoch
+placed_epoch (placement.Skipped downs) = downs
+
+abbrev pub found_epoch : Found → ℕ
+found_epoch (found.Absent epoch) = epoch
+found_epoch (found.Away downs) = downs
+
+-- a server without its chunk
+abbrev pub missing_in : LostChunk → Missing
+missing_in lost = record { server = lost.server; placed = placed_epoch lost.placed; found = found_epoch lost.found }
+
+-- of a stripe that is beyond repair, or that memory was wanting for the answer
+abbrev pub IsUnavailable : ℕ → List LostChunk → Answer → Type 0
+IsUnavailable stripe missing answer = (answer ≡ Answer.NoMemory) ⊎ (answer ≡ Answer.Unavailable stripe (map missing_in missing))
+
+-- to a client's call
+abbrev pub AnswersCall : CallOutcome → Answer → Type 0
+AnswersCall (ended.Answered point reply) answer = answer ≡ Answer.Replied reply
+AnswersCall (ended.Served point bytes) answer = answer ≡ Answer.Replied (reply.Bytes bytes.items)
+AnswersCall (ended.Unavailable stripe missing) answer = IsUnavailable stripe missing.items answer
+AnswersCall ended.NoMemory answer = answer ≡ Answer.NoMemory
+AnswersCall _ answer = ⊥
+
+-- to a rebuild
+abbrev pub AnswersRebuild : CallOutcome → Answer → Type 0
+AnswersRebuild ended.Rebuilt answer = answer ≡ Answer.Rebuilt
+AnswersRebuild ended.Here answer = answer ≡ Answer.Here
+AnswersRebuild ended.NoSuch answer = answer ≡ Answer.Replied reply.NoSuch
+AnswersRebuild (ended.Unavailable stripe missing) answer = IsUnavailable stripe missing.items answer
+AnswersRebuild ended.NoMemory answer = answer ≡ Answer.NoMemory
+AnswersRebuild _ answer = ⊥
+
+-- to a read of a snapshot
+abbrev pub AnswersRead : SnapOutcome → Answer → Type 0
+AnswersRead (read.Bytes bytes) answer = answer ≡ Answer.Replied (reply.Bytes bytes.items)
+AnswersRead read.NoSuch answer = answer ≡ Answer.Replied reply.NoSuch
+AnswersRead read.OutRange answer = answer ≡ Answer.Replied reply.OutRange
+AnswersRead (read.Unavailable stripe missing) answer = IsUnavailable stripe missing.items answer
+AnswersRead read.NoMemory answer = answer ≡ Answer.NoMemory
+
+-- a call of the map that runs alone ends so
+abbrev pub EndsCall : CallOutcome → Type 0
+EndsCall (ended.Answered point reply) = ⊤
+EndsCall (ended.Served point bytes) = ⊤
+EndsCall (ended.Unavailable stripe missing) = ⊤
+EndsCall ended.NoMemory = ⊤
+EndsCall _ = ⊥
+
+-- and a rebuild so
+abbrev pub EndsRebuild : CallOutcome → Type 0
+EndsRebuild ended.Rebuilt = ⊤
+EndsRebuild ended.Here = ⊤
+EndsRebuild ended.NoSuch = ⊤
+EndsRebuild (ended.Unavailable stripe missing) = ⊤
+EndsRebuild ended.NoMemory = ⊤
+EndsRebuild _ = ⊥

@@ -1,0 +1,12 @@
+pub mod Stored
+pub mod Places
+pub mod Standing
+pub mod Serving
+pub mod Kept
+pub mod Beginning
+pub mod Answers
+pub mod Sweeping
+pub mod Running
+pub mod Inside
+pub mod Healing
+pub mod Reading

@@ -1,0 +1,123 @@
+//! A store before its first request.
+ghost use Rattle.std.specs.Prelude.{◌≡◌, ◌≤◌, ◌++◌, [], map, vec_capacity, IfOk};
+ghost use Rattle.std.specs.List.{range_with_len};
+ghost use Rattle.chunk_server.specs.State.{empty_server};
+ghost use Rattle.stripe_dir.specs.Seats.{client_seat, repairer_seat};
+ghost use Rattle.session_store.specs.Beginning.{AreNew, IsFirst, reader_tickets, session_seats};
+ghost use Rattle.session_store.specs.Inside.{store_of};
+
+use crate::parts::Parts;
+use crate::places::Places;
+use chunk_server::Server;
+use clay_grid::Geometry;
+use std::alloc::{AllocError, Global};
+use stripe_dir::{Directory, Seat, Ticket};
+use version_seal::Book;
+
+// A snapshot has so many objects at most: a reader looks at each.
+const READERS: u32 = 64;
+
+// So many servers of the book's stripes, each empty.
+fn new_servers(alloc: Global, book: &Book, count: u32) -> Result<Vec<Server>, AllocError>
+    ensures { IfOk result (λ servers. servers.items ≡ map (λ number. empty_server number book.now) (range_with_len 0 count)) }
+{
+    let mut servers = Vec::with_capacity(alloc, count as usize)?;
+    for number in 0..count {
+        servers.push_reserved(Server::new(alloc, number, book.opening()));
+    }
+    Ok(servers)
+}
+
+// The places of a code in which nothing was done yet, and the seats of their clients and repairers.
+fn new_places(
+    alloc: Global,
+    geometry: Geometry,
+    max: u32,
+) -> Result<(Places, Vec<Seat>), AllocError>
+    ensures places { IfOk result (λ made. AreNew geometry max made.0) }
+    ensures seats { IfOk result (λ made. made.1.items ≡ session_seats 64) }
+{
+    let (book, sealer) = Book::free(alloc, geometry)?;
+    let servers = new_servers(alloc, &book, geometry.n())?;
+    let opening = book.opening();
+    let (directory, seats) = Directory::new(alloc, opening, sealer, max, READERS + 1, 2)?;
+    directory.keeps();
+    let places = Places {
+        book,
+        directory,
+        servers,
+    };
+    Ok((places, seats))
+}
+
+// The tickets of so many seats that stand next.
+fn add_tickets(seats: &mut Vec<Seat>, tickets: &mut Vec<Ticket>, count: u32)
+    requires seats { seats.old.items ≡ map client_seat (range_with_len 1 count) ++ map repairer_seat (range_with_len 0 2) }
+    requires none { tickets.old.items ≡ [] }
+    requires room { count ≤ vec_capacity tickets.old }
+    ensures seats { seats.new.items ≡ map repairer_seat (range_with_len 0 2) }
+    ensures tickets { tickets.new.items ≡ reader_tickets count }
+{
+    for _made in 0..count {
+        let seat = seats.remove(0);
+        tickets.push_reserved(Ticket::new(seat));
+    }
+}
+
+// A store of new places and these seats, which are all taken.
+fn with_seats(
+    alloc: Global,
+    places: Places,
+    seats: &mut Vec<Seat>,
+    mut tickets: Vec<Ticket>,
+) -> Parts
+    requires places { AreNew places.book.geometry places.directory.core.max places }
+    requires seats { seats.old.items ≡ session_seats 64 }
+    requires none { tickets.items ≡ [] }
+    requires room { 64 ≤ vec_capacity tickets }
+    ensures { IsFirst places.book.geometry places.directory.core.max (store_of result) }
+{
+    let client = seats.remove(0);
+    add_tickets(seats, &mut tickets, READERS);
+    let repairer = seats.remove(0);
+    let healer = seats.remove(0);
+    Parts {
+        alloc,
+        places,
+        served: 0,
+        client: Some(client),
+        repairer: Some(repairer),
+        healer: Some(healer),
+        next: 0,
+        snapshot: None,
+        tickets: Some(tickets),
+    }
+}
+
+// Seats that nobody takes are spent.
+fn leave_seats(mut seats: Vec<Seat>) {
+    for _left in 0..seats.len() {
+        if let Some(seat) = seats.pop() {
+            seat.leave();
+        }
+    }
+    seats.destroy_empty();
+}
+
+/// A store without objects, of a code, whose objects may have `max` bytes each.
+pub(crate) fn new_parts(alloc: Global, geometry: Geometry, max: u32) -> Result<Parts, AllocError>
+    ensures { IfOk result (λ parts. IsFirst geometry max (store_of parts)) }
+{
+    let (places, mut seats) = new_places(alloc, geometry, max)?;
+    match Vec::with_capacity(alloc, READERS as usize) {
+        Ok(tickets) => {
+            let parts = with_seats(alloc, places, &mut seats, tickets);
+            leave_seats(seats);
+            Ok(parts)
+        }
+        Err(e) => {
+            leave_seats(seats);
+            Err(e)
+        }
+    }
+}

@@ -1,0 +1,38 @@
+//! Rebuilds.
+ghost use Rattle.std.specs.Prelude.{◌<◌};
+ghost use Rattle.clay_grid.specs.Shape.{chunk_count};
+ghost use Rattle.session_rules.specs.declared.request.Request.{Request};
+ghost use Rattle.session_store.specs.Inside.{store_of};
+ghost use Rattle.session_store.specs.Kept.{MayServe, IsServedBy};
+
+use crate::alone::run_call;
+use crate::answers::of_rebuild;
+use crate::parts::Parts;
+use crate::seats::{put_seat, take};
+use crate::sweeps::sweep_all;
+use call_machine::CallMachine;
+use clay_repair::Coder;
+use session_rules::Answer;
+use std::thread::Threads;
+use store_map::Rebuild;
+
+/// The repairer's rebuild, and the sweeper after it.
+pub(crate) fn rebuild<R: Threads + Sync, C: Coder>(
+    rt: &R,
+    coder: &C,
+    parts: &mut Parts,
+    rebuild: &Rebuild,
+) -> Answer
+    requires may { MayServe (store_of parts.old) }
+    requires there { rebuild.now.server < chunk_count parts.old.places.book.geometry }
+    ensures { IsServedBy (Request.Rebuild rebuild.now.name rebuild.now.stripe rebuild.now.server) (store_of parts.old) result (store_of parts.new) }
+{
+    let seat = take(&mut parts.repairer);
+    let opening = parts.places.book.opening();
+    let machine = CallMachine::rebuild(seat, 0, parts.served, rebuild, opening);
+    let (_last, seat, outcome, _takes) = run_call(rt, coder, &mut parts.places, machine);
+    put_seat(&mut parts.repairer, seat);
+    sweep_all(&mut parts.places);
+    parts.served += 1;
+    of_rebuild(parts.alloc, outcome)
+}
