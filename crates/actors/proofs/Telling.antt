@@ -1,5 +1,5 @@
 -- That a caller's turn tells the step that it makes.
-use Rattle.std.proofs.Common.{◌≡◌, ℕ, ◌<◌, Bool, true, false, List, length, map, get_or, set, Option, None, Some, IfSome, refl, sym, ap, subst, ◌∙◌, ◌&&◌, slice_get}
+use Rattle.std.proofs.Common.{◌≡◌, ℕ, ◌<◌, Bool, true, false, List, length, map, get_or, set, Option, Some, IfSome, sym, ap, subst, ◌∙◌, ◌&&◌, slice_get}
 use Rattle.store_map.specs.declared.script.Script.{Script}
 use Rattle.store_map.specs.declared.actor.Actor.{Actor}
 use Rattle.store_core.specs.Act.{Act, DirectoryStep, ServerStep}
@@ -16,10 +16,9 @@ use Rattle.dir_parts.proofs.Entries.{slice_get-map}
 use Rattle.stripe_dir.specs.Sealed.{Sealed}
 use Rattle.call_steps.specs.declared.answer.DirectoryAnswer.{DirectoryAnswer}
 use Rattle.call_steps.specs.declared.answer.ServerAnswer.{ServerAnswer}
-use Rattle.call_steps.specs.declared.need.Need.{Need}
 use Rattle.call_steps.specs.declared.need.Need.TheVariants as need
 use Rattle.call_steps.specs.Acts.{act_by, act_now}
-use Rattle.call_steps.specs.Answers.{directory_answer, server_told}
+use Rattle.call_steps.specs.Answers.{directory_answer}
 use Rattle.call_steps.specs.CallOf.{CallOf, act_of}
 use Rattle.call_steps.specs.Hearing.{IsToldHere, IsToldThere, told_here, told_here_by, told_there, told_there_by}
 use Rattle.call_steps.specs.Steps.{need_of}
@@ -36,7 +35,7 @@ use Rattle.world_steps.specs.ActorAfter.{IsCallBefore}
 use Rattle.world_steps.specs.Tokens.{AreNumbered, token_of}
 use Rattle.actors.specs.Turns.{places_of}
 use Rattle.actors.specs.Callers.{CallerOf, IsOfScript, work_of, who_of}
-use Rattle.actors.specs.Steps.{IsReady, IsReadyIn, MadeAtDirectory, MadeAtServer, MakesStep}
+use Rattle.actors.specs.Steps.{IsReadyIn, MadeAtDirectory, MadeAtServer, MakesStep}
 use Rattle.actors.specs.CallerTurns.{TellsCallerTurn}
 use Rattle.actors.proofs.Turning.{got, ready_same}
 use Rattle.actors.proofs.Stepping.{ready_token, turned_there, turned_here}

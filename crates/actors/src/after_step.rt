@@ -81,6 +81,28 @@ fn over<'a>(call: CallMachine<'a>, ended: &mut Vec<EndedCall>) -> Seat
     seat
 }
 
+// Ends a call that is over. Apart from `conclude`, since each step would pay for a stack that holds a
+// machine.
+#[inline(never)]
+fn end_call<'a>(
+    call: &mut Option<CallMachine<'a>>,
+    seat: &mut Option<Seat>,
+    steps: &mut u64,
+    ended: &mut Vec<EndedCall>,
+)
+    requires there { IsTrue (is_some call.old) }
+    requires over { IfSome call.old (λ c. need_of c.call ≡ Need.Finished) }
+    requires none { seat.old ≡ None }
+    requires room { length ended.old.items < vec_capacity ended.old }
+    requires servers { IfSome call.old (λ c. length c.call.takes ≡ chunk_count c.call.book.geometry) }
+    ensures concluded { (c : MachineOf) → call.old ≡ Some c → IsConcluded c steps.old ended.old.items ended.new.items call.new seat.new steps.new }
+    ensures room { vec_capacity ended.new ≡ vec_capacity ended.old }
+{
+    let back = over(take(call), ended);
+    put_seat(seat, back);
+    *steps = 0;
+}
+
 /// After its call's step: a call that goes on has made a step more, and one that is over is kept, with
 /// its actor's seat.
 pub(crate) fn conclude<'a>(
@@ -98,9 +120,7 @@ pub(crate) fn conclude<'a>(
     ensures room { vec_capacity ended.new ≡ vec_capacity ended.old }
 {
     if is_over(call) {
-        let back = over(take(call), ended);
-        put_seat(seat, back);
-        *steps = 0;
+        end_call(call, seat, steps, ended);
     } else {
         *steps += 1;
     }

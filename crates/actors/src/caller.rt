@@ -128,14 +128,14 @@ impl<'a> Caller<'a> {
         has_step(left, self.part.leave(), self.steps())
     }
 
-    // Its next call begins, where none is in work.
-    fn begin(&mut self, place: u32)
+    // Its next call begins. Apart from `begin`, since each step would pay for a stack that holds
+    // machines.
+    #[inline(never)]
+    fn begin_next(&mut self, place: u32)
         requires may { MayGoOn place self.old }
+        requires none { self.old.work ≡ None }
         ensures begun { BeginsCall self.old self.new }
     {
-        if self.call.is_some() {
-            return;
-        }
         let number = self.ended.len() as u32;
         let seat = take(&mut self.seat);
         let call = next_call(
@@ -149,6 +149,17 @@ impl<'a> Caller<'a> {
         );
         put_call(&mut self.call, call);
         self.steps = 0;
+    }
+
+    // Its next call begins, where none is in work.
+    fn begin(&mut self, place: u32)
+        requires may { MayGoOn place self.old }
+        ensures begun { BeginsCall self.old self.new }
+    {
+        if self.call.is_some() {
+            return;
+        }
+        self.begin_next(place);
     }
 
     /// Its next call begins, where none is in work, and the coding before the call's next step is made,

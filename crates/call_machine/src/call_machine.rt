@@ -215,6 +215,8 @@ impl<'a> CallMachine<'a> {
 
     /// The coding before the next step. It makes no step. Afterwards the call tells whether memory was
     /// wanting in it.
+    // Apart from the turns that code nothing, which would pay for its stack.
+    #[inline(never)]
     pub fn on_coder<R: Threads + Sync, C: Coder>(&mut self, rt: &R, coder: &C)
         requires { need_of self.old.call ≡ Need.Coder }
         ensures coded { self.new.call ≡ coded self.new.call.coding self.old.call }

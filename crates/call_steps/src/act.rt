@@ -9,8 +9,9 @@ use store_map::{Actor, Version};
 /// A step at the directory.
 #[derive(Clone, Copy, PartialEq, Eq, Debug)]
 pub enum DirectoryAct {
-    /// What a client's call begins with, and what a repairer's does.
+    /// The look with which a client's call begins.
     Look,
+    /// The look with which a repairer's call begins.
     LookRepair,
     Draw,
     Commit,
@@ -18,10 +19,11 @@ pub enum DirectoryAct {
     Confirm,
     /// The server has its chunk since this epoch.
     Repaired { server: u32, epoch: u64 },
-    /// Of the sweeper.
+    /// The sweeper asks for a version that nobody needs.
     NextGarbage,
+    /// The sweeper has swept this version.
     Swept(Version),
-    /// Of the operator.
+    /// The operator gives up the call in work of this actor.
     Reap(Actor),
 }
 
@@ -34,11 +36,13 @@ pub enum ServerAct {
     /// Some layers of it.
     Fetch(Version),
     Install(Version),
-    /// Of the sweeper.
+    /// The sweeper has it dropped.
     Discard(Version),
-    /// Of the operator.
+    /// The operator empties the server.
     Wipe,
+    /// The operator makes the server leave.
     Down,
+    /// The operator makes the server come back.
     Up,
 }
 

@@ -19,42 +19,54 @@ pub enum ReplyKind {
 /// What a step at the directory is answered.
 #[derive(Clone, Copy, PartialEq, Eq, Debug)]
 pub enum DirectoryAnswer {
-    /// A client's look: a reply of the map, or pinned stripes of an object of this length.
+    /// A client's look: the map's reply at this point.
     Answered {
         point: Point,
         reply: ReplyKind,
     },
+    /// A client's look: the stripes that it reads are pinned; the object has this length.
     Pinned {
         point: Point,
         length: u64,
     },
+    /// A client's look: the stripes that it overwrites are pinned; the object, of this length, was last
+    /// changed at that point.
     Ready {
         looked_at: Option<Point>,
         length: u64,
     },
-    /// A repairer's look.
+    /// A repairer's look: there is no such stripe.
     NoSuch,
+    /// A repairer's look: its stripe is pinned.
     PinnedStripe,
-    /// A step on the pass.
+    /// Versions are drawn.
     Versions,
+    /// The change is made, at this point.
     Done {
         point: Point,
     },
+    /// The object was changed since the look, at the newer point.
     Changed {
         looked_at: Point,
         newer: Point,
     },
+    /// The pass is over.
     Ended,
+    /// The stripe's version is still current.
     Current,
+    /// The stripe was replaced, at the newer point.
     Superseded {
         newer: Point,
     },
+    /// The call was given up before, at this point.
     Reaped {
         at: Point,
     },
-    /// A step of the sweeper, and one of the operator.
+    /// The sweeper is given this version to sweep, or none.
     Taken(Option<Version>),
+    /// A step after which nothing is told.
     Made,
+    /// The operator gave the call up at this point, where one was in work.
     GivenUp(Option<Point>),
     /// Memory was wanting.
     Short,
@@ -72,7 +84,7 @@ pub enum ServerAnswer {
     Placed { epoch: u64 },
     AlreadyThere,
     Away { downs: u64 },
-    /// A step of the sweeper or of the operator.
+    /// A step of the sweeper or of the operator, after which nothing is told.
     Made,
     /// Memory was wanting.
     Short,

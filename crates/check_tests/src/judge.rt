@@ -2,12 +2,15 @@
 use hist_check::check;
 use hist_tables::verdict_line;
 use script_text::read_script;
-use std::process::Abort;
+use std::alloc::Global;
 use std::test::Fail;
+use store_map::Script;
+use text_tables::faults::{Around, joined, parts, same};
 use transcript_read::read_transcript;
+use transcript_text::Transcript;
 
 /// Two clients that put and read, one that writes, one repairer. Server 1 is emptied once.
-pub const SCRIPT: &str = "\
+pub const SCRIPT: &[u8] = b"\
 clay 1
 code 2 2 1
 tries 2
@@ -29,50 +32,77 @@ drain
 end
 ";
 
-/// The end of a transcript after which the object `a` has two bytes, and nothing was taken.
-pub const END: &str = "\
+/// A transcript stands alone in its row.
+pub const ALONE: Around<'static> = Around {
+    before: b"",
+    behind: b"",
+};
+
+/// A row has the first lines of a transcript; these follow, by which the object `a` has two bytes and
+/// nothing was taken.
+pub const BEFORE_ITS_END: Around<'static> = Around {
+    before: b"",
+    behind: b"\
 L a 2
 T 0 0 1 0
 T 1 0 1 1
 T 2 0 1 0
 T 3 0 1 0
 end
-";
+",
+};
 
-/// The line that is printed of a script and a transcript.
-pub fn judged(rt: &(impl Abort + AllocGlobal), script: &str, text: &str) -> Result<Vec<u8>, Fail> {
-    let alloc = rt.alloc();
-    let Ok(script) = read_script(alloc, script.as_bytes()) else {
-        return Err(Fail::from("the script is refused"));
-    };
-    if text.len() >= 1 << 31 {
-        return Err(Fail::from("too long"));
-    }
-    let Ok(transcript) = read_transcript(alloc, text.as_bytes(), script.geometry.n()) else {
-        return Err(Fail::from("the transcript is refused"));
-    };
+fn line_of(alloc: Global, script: &Script, transcript: &Transcript) -> Result<Vec<u8>, Fail> {
     if transcript.history.len() >= 1 << 30
         || transcript.refused.len() >= 1 << 30
         || transcript.repairs.len() >= 1 << 30
     {
         return Err(Fail::from("too many lines"));
     }
-    let verdict = check(alloc, &script, &transcript)?;
+    let verdict = check(alloc, script, transcript)?;
     Ok(verdict_line(alloc, &verdict)?)
 }
 
-/// Holds the line of each transcript of the script, made of its first lines and its end, against
-/// the one that is wanted.
-pub fn has_lines(
-    rt: &(impl Abort + AllocGlobal),
-    script: &str,
-    rows: &[(&str, &str, &str)],
+fn judged_by(alloc: Global, script: &Script, text: &[u8]) -> Result<Vec<u8>, Fail> {
+    if text.len() >= 1 << 31 {
+        return Err(Fail::from("too long"));
+    }
+    let Ok(transcript) = read_transcript(alloc, text, script.geometry.n()) else {
+        return Err(Fail::from("the transcript is refused"));
+    };
+    line_of(alloc, script, &transcript)
+}
+
+/// The line that is printed of a script and a transcript.
+fn judged(alloc: Global, script: &[u8], text: &[u8]) -> Result<Vec<u8>, Fail> {
+    let Ok(script) = read_script(alloc, script) else {
+        return Err(Fail::from("the script is refused"));
+    };
+    judged_by(alloc, &script, text)
+}
+
+fn is_judged(alloc: Global, script: &[u8], around: Around<'_>, row: &[u8]) -> Result<(), Fail> {
+    let (wanted, text) = parts(row)?;
+    let text = joined(alloc, around.before, text, around.behind)?;
+    same(&judged(alloc, script, &text)?, wanted)
+}
+
+/// Holds the line of each row's transcript, with what stands around it, against the one that is wanted, which the row begins with, `>`
+/// behind it. The rows are parted by `|`; there are so many.
+pub fn are_judged(
+    rt: &impl AllocGlobal,
+    script: &[u8],
+    around: Around<'_>,
+    rows: usize,
+    table: &[u8],
 ) -> Result<(), Fail> {
-    for (lines, end, wanted) in rows.iter() {
-        let mut text = String::from_str(rt.alloc(), lines)?;
-        text.push_str(end)?;
-        let line = judged(rt, script, text.as_str())?;
-        assert_eq!(rt; line.as_slice(), wanted.as_bytes());
+    let mut held: usize = 0;
+    for row in table.split(|byte| *byte == b'|') {
+        is_judged(rt.alloc(), script, around, row)?;
+        held = held.saturating_add(1);
+    }
+    if held != rows {
+        return Err(Fail::from("not so many rows"));
     }
     Ok(())
 }

@@ -1,77 +1,70 @@
 //! Transcripts whose calls or replies aren't those of an order of the calls.
-use crate::judge::{END, SCRIPT, has_lines};
+use crate::judge::{BEFORE_ITS_END, SCRIPT, are_judged};
 use std::test::Fail;
+
+const CALLS_THAT_NOBODY_MADE: &[u8] = b"\
+misplaced c1.2 2 2
+>H 0 c0.0 ok
+H 1 c1.2 ok
+|misplaced c5.0 0 0
+>H 0 c0.0 ok
+X c5.0 nomem
+";
 
 #[test]
 fn calls_that_nobody_made(rt: HostRuntime) -> Result<(), Fail> {
-    has_lines(
-        &rt,
-        SCRIPT,
-        &[
-            ("H 0 c0.0 ok\nH 1 c1.2 ok\n", END, "misplaced c1.2 2 2\n"),
-            ("H 0 c0.0 ok\nX c5.0 nomem\n", END, "misplaced c5.0 0 0\n"),
-        ],
-    )
+    are_judged(&rt, SCRIPT, BEFORE_ITS_END, 2, CALLS_THAT_NOBODY_MADE)
 }
+
+const CALLS_OUT_OF_ORDER: &[u8] = b"\
+misplaced c0.0 1 0
+>H 0 c0.1 nosuch
+H 1 c0.0 ok
+|misplaced c0.1 0 1
+>H 1 c1.0 ok
+H 2 c0.1 bytes hex:0102
+|misplaced c0.0 1 0
+>H 0 c0.0 ok
+H 1 c1.0 ok
+X c0.0 nomem
+";
 
 #[test]
 fn calls_out_of_order(rt: HostRuntime) -> Result<(), Fail> {
-    has_lines(
-        &rt,
-        SCRIPT,
-        &[
-            (
-                "H 0 c0.1 nosuch\nH 1 c0.0 ok\n",
-                END,
-                "misplaced c0.0 1 0\n",
-            ),
-            (
-                "H 1 c1.0 ok\nH 2 c0.1 bytes hex:0102\n",
-                END,
-                "misplaced c0.1 0 1\n",
-            ),
-            (
-                "H 0 c0.0 ok\nH 1 c1.0 ok\nX c0.0 nomem\n",
-                END,
-                "misplaced c0.0 1 0\n",
-            ),
-        ],
-    )
+    are_judged(&rt, SCRIPT, BEFORE_ITS_END, 3, CALLS_OUT_OF_ORDER)
 }
+
+const REPLIES_OF_ANOTHER_MAP: &[u8] = b"\
+differs c0.1 expected bytes hex:0102 got bytes hex:00
+>H 0 c0.0 ok
+H 1 c1.0 ok
+H 2 c0.1 bytes hex:00
+|differs c1.1 expected nosuch got open
+>H 0 c1.0 ok
+H 1 c1.1 open
+O c1.1
+";
 
 #[test]
 fn replies_of_another_map(rt: HostRuntime) -> Result<(), Fail> {
-    has_lines(
-        &rt,
-        SCRIPT,
-        &[
-            (
-                "H 0 c0.0 ok\nH 1 c1.0 ok\nH 2 c0.1 bytes hex:00\n",
-                END,
-                "differs c0.1 expected bytes hex:0102 got bytes hex:00\n",
-            ),
-            (
-                "H 0 c1.0 ok\nH 1 c1.1 open\nO c1.1\n",
-                END,
-                "differs c1.1 expected nosuch got open\n",
-            ),
-        ],
-    )
+    are_judged(&rt, SCRIPT, BEFORE_ITS_END, 2, REPLIES_OF_ANOTHER_MAP)
 }
+
+const CALLS_WITHOUT_A_REPLY: &[u8] = b"\
+misplaced c0.0 0 2
+>H 0 c0.0 open
+H 1 c1.0 ok
+|misplaced c0.0 1 0
+>H 0 c0.0 ok
+H 1 c1.0 ok
+O c0.0
+|misplaced c0.1 0 1
+>H 1 c1.0 ok
+O c0.0
+O c0.1
+";
 
 #[test]
 fn calls_without_a_reply(rt: HostRuntime) -> Result<(), Fail> {
-    has_lines(
-        &rt,
-        SCRIPT,
-        &[
-            ("H 0 c0.0 open\nH 1 c1.0 ok\n", END, "misplaced c0.0 0 2\n"),
-            (
-                "H 0 c0.0 ok\nH 1 c1.0 ok\nO c0.0\n",
-                END,
-                "misplaced c0.0 1 0\n",
-            ),
-            ("H 1 c1.0 ok\nO c0.0\nO c0.1\n", END, "misplaced c0.1 0 1\n"),
-        ],
-    )
+    are_judged(&rt, SCRIPT, BEFORE_ITS_END, 3, CALLS_WITHOUT_A_REPLY)
 }

@@ -4,7 +4,7 @@ ghost use Rattle.std.specs.Prelude.{◌≡◌, ◌*◌, length};
 ghost use Rattle.clay_grid.specs.Shape.{chunk_length, stripe_length};
 
 use crate::least::Least;
-use anyhow::bail;
+use crate::words::number_at;
 use clay_grid::Geometry;
 use clay_lanes::{LaneCoder, Prepared, parity_into};
 use clay_par::ParCoder;
@@ -77,10 +77,7 @@ pub fn time_one_thread<R: Threads + Sync + Clock + Print>(
     alloc: Global,
     words: &[String],
 ) -> anyhow::Result<()> {
-    let [width] = words else {
-        bail!("a width is wanted");
-    };
-    let geometry = Geometry::new(8, 4, width.parse()?)?;
+    let geometry = Geometry::new(8, 4, number_at(words, 0)?)?;
     let times = MIB / u64::from(geometry.stripe_len()).max(1);
     tell(rt, alloc, &LaneCoder, geometry, times, ROUNDS)
 }
@@ -91,14 +88,12 @@ pub fn time_threads<R: Threads + Sync + Clock + Print>(
     alloc: Global,
     words: &[String],
 ) -> anyhow::Result<()> {
-    let [k, m, width, rounds] = words else {
-        bail!("k, m, a width and rounds are wanted");
-    };
-    let geometry = Geometry::new(k.parse()?, m.parse()?, width.parse()?)?;
-    tell(rt, alloc, &ParCoder, geometry, 1, rounds.parse()?)
+    let (k, m) = (number_at(words, 0)?, number_at(words, 1)?);
+    let geometry = Geometry::new(k, m, number_at(words, 2)?)?;
+    tell(rt, alloc, &ParCoder, geometry, 1, number_at(words, 3)?)
 }
 
-// Writes a stripe's parity chunks so many times, with the factors solved in each call.
+// Writes a stripe's parity chunks so many times, with the factors made in each call.
 fn write_plain(
     alloc: Global,
     geometry: Geometry,
@@ -210,10 +205,7 @@ pub fn time_prepared<R: Clock + Print>(
     alloc: Global,
     words: &[String],
 ) -> anyhow::Result<()> {
-    let [width] = words else {
-        bail!("a width is wanted");
-    };
-    let geometry = Geometry::new(8, 4, width.parse()?)?;
+    let geometry = Geometry::new(8, 4, number_at(words, 0)?)?;
     let least = time_code(rt, alloc, &Prepared::new(alloc, geometry)?)?;
     let (plain, prepared) = (least.plain.nanoseconds(), least.prepared.nanoseconds());
     println!(rt; "{plain} {prepared}")?;

@@ -1,6 +1,7 @@
 //! Steps at one directory.
 
 use crate::steps::{Kind, prepare, work};
+use crate::words::number_at;
 use anyhow::bail;
 use clay_grid::Geometry;
 use dir_walks::store::Store;
@@ -45,13 +46,10 @@ fn tell_anew(
 /// steps are made.
 pub fn make_steps(rt: &impl Print, alloc: Global, words: &[String]) -> anyhow::Result<()> {
     for three in words.chunks(3) {
-        let [kind, size, steps] = three else {
-            bail!("a kind of step, a size and a number of steps are wanted");
-        };
-        let Some(kind) = Kind::named(kind) else {
+        let Some(kind) = Kind::named(three) else {
             bail!("there is no such kind of step");
         };
-        tell_anew(rt, alloc, kind, size.parse()?, steps.parse()?)?;
+        tell_anew(rt, alloc, kind, number_at(three, 1)?, number_at(three, 2)?)?;
     }
     Ok(())
 }

@@ -5,7 +5,8 @@ ghost use Rattle.std.specs.Prelude.{◌≡◌, ◌<◌, length};
 use crate::chunks::chunks_of;
 use crate::least::Least;
 use crate::rack::{Rack, ServerCall, VERSIONS};
-use anyhow::{bail, ensure};
+use crate::words::number_at;
+use anyhow::ensure;
 use clay_grid::Geometry;
 use std::alloc::Global;
 use std::io;
@@ -112,10 +113,7 @@ pub fn time_calls(
     alloc: Global,
     words: &[String],
 ) -> anyhow::Result<()> {
-    let [rounds] = words else {
-        bail!("a number of rounds is wanted");
-    };
-    let rounds: u64 = rounds.parse()?;
+    let rounds = u64::from(number_at(words, 0)?);
     time_width(rt, alloc, 64, rounds)?;
     time_width(rt, alloc, 4096, rounds)
 }

@@ -24,9 +24,9 @@ pub enum Kind {
 }
 
 impl Kind {
-    /// By its word.
-    pub fn named(word: &str) -> Option<Kind> {
-        match word {
+    /// That which the first word names.
+    pub fn named(words: &[String]) -> Option<Kind> {
+        match words.first()?.as_str() {
             "write" => Some(Kind::Write),
             "read" => Some(Kind::Read),
             "append" => Some(Kind::Append),
@@ -59,11 +59,6 @@ fn make(store: &mut Store<'_>, call: &Call) -> anyhow::Result<()> {
     }
 }
 
-// A call to its end, which isn't kept.
-fn make_new(store: &mut Store<'_>, call: Call) -> anyhow::Result<()> {
-    make(store, &call)
-}
-
 // Sweeps all garbage: so many versions.
 fn sweep(store: &mut Store<'_>) -> u64 {
     let mut swept: u64 = 0;
@@ -87,23 +82,25 @@ fn repeat(store: &mut Store<'_>, call: &Call, steps: u32) -> anyhow::Result<u64>
     Ok(swept)
 }
 
-// A call so many times, which isn't kept.
+// A call so many times, which isn't kept: what owns a call is dear to prove.
 fn repeat_new(store: &mut Store<'_>, call: Call, steps: u32) -> anyhow::Result<u64> {
     repeat(store, &call, steps)
 }
 
 // So many writes of a stripe, each behind the object's end.
 fn append(alloc: Global, store: &mut Store<'_>, stripes: u32, steps: u32) -> anyhow::Result<u64> {
+    let mut swept: u64 = 0;
     for step in 0..steps {
-        make_new(store, write(alloc, 0, stripes.saturating_add(step))?)?;
+        let call = write(alloc, 0, stripes.saturating_add(step))?;
+        swept = swept.saturating_add(repeat_new(store, call, 1)?);
     }
-    Ok(sweep(store))
+    Ok(swept)
 }
 
 // So many objects of a stripe.
 fn put_all(alloc: Global, store: &mut Store<'_>, objects: u32) -> anyhow::Result<u64> {
     for object in 0..objects {
-        make_new(store, put(alloc, object, 1)?)?;
+        repeat_new(store, put(alloc, object, 1)?, 1)?;
     }
     Ok(0)
 }
@@ -115,9 +112,8 @@ fn renew(alloc: Global, store: &mut Store<'_>, objects: u32, steps: u32) -> anyh
         let Some(oldest) = step.checked_rem(objects) else {
             bail!("there are no objects");
         };
-        make_new(store, delete(alloc, oldest)?)?;
-        make_new(store, put(alloc, oldest, 1)?)?;
-        swept = swept.saturating_add(sweep(store));
+        swept = swept.saturating_add(repeat_new(store, delete(alloc, oldest)?, 1)?);
+        swept = swept.saturating_add(repeat_new(store, put(alloc, oldest, 1)?, 1)?);
     }
     Ok(swept)
 }

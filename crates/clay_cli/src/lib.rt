@@ -4,6 +4,7 @@
 mod by_threads;
 mod chunks;
 mod chunksd;
+mod coder;
 mod generate;
 mod input;
 pub mod laws;

@@ -1,9 +1,8 @@
 //! The program: the top call over the process's words, its standard input and its standard output.
 use crate::Status;
+use crate::coder::CommandCoder;
 use crate::top::clay_main;
 use clay_bytes::{StdSink, StdSource};
-use clay_lanes::LaneCoder;
-use clay_par::ParCoder;
 use std::env::{self, Env};
 use std::io::{self, ErrorKind, Input, Print};
 use std::process::ExitCode;
@@ -36,8 +35,17 @@ fn asks_for_threads(words: &[String]) -> bool {
     }
 }
 
-/// Runs the command that the process's words ask for, and ends with the number of its status. Stripes are coded in several threads
-/// where the command runs threads itself. No clause speaks of the process's own words, input and output: stored runs try it.
+// Stripes are coded in several threads where the command runs threads itself.
+fn coder_of(words: &[String]) -> CommandCoder {
+    if asks_for_threads(words) {
+        CommandCoder::ManyThreads
+    } else {
+        CommandCoder::OneThread
+    }
+}
+
+/// Runs the command that the process's words ask for, and ends with the number of its status. No clause speaks of the process's own
+/// words, input and output: stored runs try it.
 pub fn run<R: Env + AllocGlobal + Input + Print + Threads + Wait + Sync>(rt: &R) -> ExitCode {
     let Ok(words) = words_of(rt) else {
         return ExitCode::from(Status::OutOfMemory.number());
@@ -45,26 +53,14 @@ pub fn run<R: Env + AllocGlobal + Input + Print + Threads + Wait + Sync>(rt: &R)
     let mut source = StdSource::new(rt.reader());
     let mut sink = StdSink::new(io::writer(rt));
     let alloc = rt.alloc();
-    let status = if asks_for_threads(&words) {
-        clay_main(
-            rt,
-            alloc,
-            &words,
-            &mut source,
-            &mut sink,
-            &NoGate,
-            &ParCoder,
-        )
-    } else {
-        clay_main(
-            rt,
-            alloc,
-            &words,
-            &mut source,
-            &mut sink,
-            &NoGate,
-            &LaneCoder,
-        )
-    };
+    let status = clay_main(
+        rt,
+        alloc,
+        &words,
+        &mut source,
+        &mut sink,
+        &NoGate,
+        &coder_of(&words),
+    );
     ExitCode::from(status.number())
 }

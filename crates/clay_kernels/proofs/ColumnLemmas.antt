@@ -1,46 +1,10 @@
 -- Rows that are written side by side, block by block.
 use Rattle.std.proofs.Common.{◌≡◌, ℕ, ◌+◌, ◌-◌, ◌*◌, ◌<◌, List, [], ◌∷◌, ◌++◌, length, get_or, take, drop, inl, inr, subst, sym, ap, ◌∙◌, arith, bit_xor}
-use Rattle.std.specs.Simd.Lanes.{zip2}
 use Rattle.std.proofs.lemmas.Bool.{cases_lt}
 use Rattle.std.proofs.lemmas.List.{get_or_append_left, get_or-append_right, get_or-take, get_or-drop}
-use Rattle.clay_kernels.specs.Lanes.{HasLanes}
 use Rattle.clay_field.specs.Field.{product}
 use Rattle.clay_kernels.specs.declared.column.ColumnFactors.{ColumnFactors}
-use Rattle.clay_kernels.specs.Columns.{row_byte, both_of, all_of, both_rows, all_rows, IsColumn, AddsColumn, EndsColumn}
-use Rattle.clay_kernels.proofs.LaneLemmas.{HasLanes-zip2}
-use Rattle.clay_kernels.proofs.ScaleLemmas.{IsDoneBelow}
-
-pub HasLanes-op : (n : ℕ) (h : ℕ → ℕ → ℕ) {a b : List ℕ} {f g : ℕ → ℕ} → HasLanes n a f → HasLanes n b g → HasLanes n (zip2 h a b) (λ k. h (f k) (g k))
-HasLanes-op n h {a} {b} p q =
-    let z = HasLanes-zip2 n h a b p.long q.long in
-    record { long = z.long; each = λ k l. z.each k l ∙ (λ i. h (p.each k l i) (q.each k l i)) }
-
-pub record FourDoneBelow (at n : ℕ) (b0 d0 b1 d1 b2 d2 b3 d3 : List ℕ) (f0 f1 f2 f3 : ℕ → ℕ) : Type 0 where
-  pub a0 : IsDoneBelow at n b0 d0 f0
-  pub a1 : IsDoneBelow at n b1 d1 f1
-  pub a2 : IsDoneBelow at n b2 d2 f2
-  pub a3 : IsDoneBelow at n b3 d3 f3
-
-pub record ThreeDoneBelow (at n : ℕ) (b0 d0 b1 d1 b2 d2 : List ℕ) (f0 f1 f2 : ℕ → ℕ) : Type 0 where
-  pub a0 : IsDoneBelow at n b0 d0 f0
-  pub a1 : IsDoneBelow at n b1 d1 f1
-  pub a2 : IsDoneBelow at n b2 d2 f2
-
--- the bytes that a column's values make of the bytes that were there
-abbrev pub all_added : List ℕ → List ℕ → List ℕ → List ℕ → List ℕ → ℕ → ℕ
-all_added u0 u1 u2 u3 d k = bit_xor (get_or d k 0) (all_of u0 u1 u2 u3 k)
-
-abbrev pub odd_added : ℕ → List ℕ → List ℕ → List ℕ → List ℕ → List ℕ → ℕ → ℕ
-odd_added sigma u0 u1 u2 u3 d k = bit_xor (bit_xor (get_or d k 0) (both_of u1 u3 k)) (product sigma (all_of u0 u1 u2 u3 k))
-
-abbrev pub high_added : ℕ → List ℕ → List ℕ → List ℕ → List ℕ → List ℕ → ℕ → ℕ
-high_added tau u0 u1 u2 u3 d k = bit_xor (bit_xor (get_or d k 0) (both_of u2 u3 k)) (product tau (all_of u0 u1 u2 u3 k))
-
-abbrev pub last_added : ℕ → ℕ → ℕ → List ℕ → List ℕ → List ℕ → List ℕ → List ℕ → ℕ → ℕ
-last_added kappa tau rho u0 u1 u2 u3 d k =
-    bit_xor
-    (bit_xor (bit_xor (bit_xor (get_or d k 0) (get_or u3 k 0)) (product kappa (all_of u0 u1 u2 u3 k))) (product tau (both_of u1 u3 k)))
-    (product rho (both_of u2 u3 k))
+use Rattle.clay_kernels.specs.Columns.{row_byte, both_of, all_of, both_rows, all_rows, all_added, odd_added, high_added, last_added, IsColumn, AddsColumn, EndsColumn}
 
 -- the rows of four lists, one behind the other
 module _ (len : ℕ) (a b c d : List ℕ) (la : length a ≡ len) (lb : length b ≡ len) (lc : length c ≡ len) where

@@ -1,5 +1,5 @@
 -- Values that a fixed matrix gives have the sums of the values that they are made from.
-use Rattle.std.proofs.Common.{◌≡◌, ℕ, zero, suc, ◌+◌, ◌*◌, ◌/◌, ◌%◌, ◌<◌, List, length, get_or, refl, inl, inr, subst, sym, ap, ◌∙◌, arith, bit_xor}
+use Rattle.std.proofs.Common.{◌≡◌, ℕ, zero, suc, ◌+◌, ◌*◌, ◌/◌, ◌%◌, ◌^◌, ◌<◌, ◌≤◌, List, length, get_or, refl, inl, inr, subst, sym, ap, ◌∙◌, arith, bit_xor}
 use Rattle.std.proofs.lemmas.Nat.{mod_below, div_below, mul-add-lt, div-mul-add, mod-mul-add}
 use Rattle.std.proofs.lemmas.Bool.{cases_lt}
 use Rattle.std.proofs.Math.Nat.{mul_comm}
@@ -7,12 +7,14 @@ use Rattle.clay_field.specs.Field.{product, power_of}
 use Rattle.clay_field.proofs.FieldLaws.{product_assoc, product_comm}
 use Rattle.clay_model.specs.Sums.{sum_below, weighted_sum}
 use Rattle.clay_model.proofs.SumLaws.{sum_below_same, sum_below-xor, sum_below-product, sum_below-zero}
-use Rattle.clay_scalar.specs.Points.{sum_over, byte_of, HaveSums}
+use Rattle.clay_scalar.specs.Points.{AreDistinct, sum_over}
+use Rattle.clay_kernels.specs.Distances.{lagrange_factor}
 use Rattle.clay_kernels.specs.Generated.{factor_at, generated, Generates}
+use Rattle.clay_kernels.proofs.DistanceLaws.{lagrange_sums}
 
--- a place of the matrix by columns, in the one by rows
-pub turned_below : (m n p : ℕ) → p < m * n → p % m * n + p / m < m * n
-turned_below m n p h =
+-- a place of the matrix by columns, in the one by rows, of which each has w values for n nodes and more
+pub turned_below : (m n w p : ℕ) → n ≤ w → p < m * n → p % m * w + p / m < m * w
+turned_below m n w p wide h =
     let some : 0 < m = elim (cases_lt 0 m) [
       | inl some_rows ↦ some_rows
       | inr none ↦
@@ -23,7 +25,8 @@ turned_below m n p h =
     let turn : m * n ≡ n * m = mul_comm m n in
     let row : p % m < m = mod_below p m some in
     let column : p / m < n = div_below p m n some (omega arith) in
-    let inside = mul-add-lt (p % m) n (p / m) m row column in
+    let inside = mul-add-lt (p % m) w (p / m) m row (omega arith) in
+    let back : w * m ≡ m * w = mul_comm w m in
     omega arith
 
 sum_below-swap : (n m : ℕ) (h : ℕ → ℕ → ℕ) → sum_below n (λ j. sum_below m (h j)) ≡ sum_below m (λ i. sum_below n (λ j. h j i))
@@ -51,24 +54,29 @@ generated_sums unknown known factors each f j hj =
     ∙ product_comm (f i) (sum_over unknown (factor_at factors m i) j)
     ∙ ap (λ x. product x (f i)) (each i j h hj))
 
--- the matrix that a solver gives for the powers of the known nodes, turned
-pub turned_generates : (unknown known values sums factors : List ℕ) → HaveSums unknown (length known) values sums
-    → ((p : ℕ) → p < length unknown * length known → get_or sums p 0 ≡ power_of (get_or known (p % length known) 0) (p / length known))
-    → ((p : ℕ) → p < length unknown * length known → get_or factors p 0 ≡ get_or values (p % length unknown * length known + p / length unknown) 0)
+-- the matrix of the factors by distances, of which each row has those of all nodes and of zeros behind them, turned
+pub turned_generates : (unknown known nodes values factors : List ℕ) → AreDistinct unknown → ((e : ℕ) → get_or unknown e 0 < 2 ^ 8)
+    → length known ≤ length nodes → ((i : ℕ) → i < length known → get_or nodes i 0 ≡ get_or known i 0)
+    → ((p : ℕ) → p < length unknown * length nodes → get_or values p 0 ≡ lagrange_factor unknown (p / length nodes) (get_or nodes (p % length nodes) 0))
+    → ((p : ℕ) → p < length unknown * length known → get_or factors p 0 ≡ get_or values (p % length unknown * length nodes + p / length unknown) 0)
     → Generates unknown known factors
-turned_generates unknown known values sums factors have powers turned =
+turned_generates unknown known nodes values factors distinct bytes wide same made turned =
     let m = length unknown in
     let n = length known in
+    let w = length nodes in
     generated_sums unknown known factors (λ i j hi hj.
-    sum_below_same m _ (λ e. product (power_of (get_or unknown e 0) j) (byte_of values n i e))
+    lagrange_sums unknown (get_or known i 0) (factor_at factors m i) distinct bytes
     (λ e h.
     let place = mul-add-lt i m e n hi h in
-    ap (product (power_of (get_or unknown e 0) j))
-    (turned (i * m + e) (omega arith)
-    ∙ (λ t. get_or values (mod-mul-add i m e h t * n + div-mul-add i m e h t) 0)))
-    ∙ have j i hj hi
-    ∙ powers (j * n + i) (let place = mul-add-lt j n i m hj hi in let turn : n * m ≡ m * n = mul_comm n m in omega arith)
-    ∙ (λ t. power_of (get_or known (mod-mul-add j n i hi t) 0) (div-mul-add j n i hi t)))
+    let inside = mul-add-lt e w i m h (omega arith) in
+    let turn : w * m ≡ m * w = mul_comm w m in
+    let within : i < w = omega arith in
+    turned (i * m + e) (omega arith)
+    ∙ (λ t. get_or values (mod-mul-add i m e h t * w + div-mul-add i m e h t) 0)
+    ∙ made (e * w + i) (omega arith)
+    ∙ (λ t. lagrange_factor unknown (div-mul-add e w i within t) (get_or nodes (mod-mul-add e w i within t) 0))
+    ∙ ap (lagrange_factor unknown e) (same i hi))
+    j hj)
 
 -- the law at the last column
 pub last_generates : (first m : ℕ) (unknown known factors : List ℕ) → length unknown ≡ m → length known ≡ first

@@ -1,9 +1,8 @@
 pub mod LaneLemmas
 pub mod NibbleLemmas
-pub mod BlockLemmas
-pub mod FourLemmas
-pub mod ScaleLemmas
+pub mod ProgressLemmas
 pub mod RowLemmas
+pub mod DistanceLaws
 pub mod GeneratorLaws
 pub mod ColumnLemmas
 pub mod ColumnLaws

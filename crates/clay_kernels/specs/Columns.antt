@@ -36,6 +36,26 @@ both_of a b k = bit_xor (get_or a k 0) (get_or b k 0)
 abbrev pub all_of : List ℕ → List ℕ → List ℕ → List ℕ → ℕ → ℕ
 all_of a b c d k = bit_xor (bit_xor (get_or a k 0) (get_or c k 0)) (both_of b d k)
 
+-- the bytes that a column's values make of the bytes that were there
+abbrev pub all_added : List ℕ → List ℕ → List ℕ → List ℕ → List ℕ → ℕ → ℕ
+all_added u0 u1 u2 u3 d k = bit_xor (get_or d k 0) (all_of u0 u1 u2 u3 k)
+
+abbrev pub odd_added : ℕ → List ℕ → List ℕ → List ℕ → List ℕ → List ℕ → ℕ → ℕ
+odd_added sigma u0 u1 u2 u3 d k = bit_xor (bit_xor (get_or d k 0) (both_of u1 u3 k)) (product sigma (all_of u0 u1 u2 u3 k))
+
+abbrev pub high_added : ℕ → List ℕ → List ℕ → List ℕ → List ℕ → List ℕ → ℕ → ℕ
+high_added tau u0 u1 u2 u3 d k = bit_xor (bit_xor (get_or d k 0) (both_of u2 u3 k)) (product tau (all_of u0 u1 u2 u3 k))
+
+abbrev pub last_added : ℕ → ℕ → ℕ → List ℕ → List ℕ → List ℕ → List ℕ → List ℕ → ℕ → ℕ
+last_added kappa tau rho u0 u1 u2 u3 d k =
+    bit_xor
+    (bit_xor (bit_xor (bit_xor (get_or d k 0) (get_or u3 k 0)) (product kappa (all_of u0 u1 u2 u3 k))) (product tau (both_of u1 u3 k)))
+    (product rho (both_of u2 u3 k))
+
+-- the byte of the first of four rows out of their column form
+abbrev pub first_ended : List ℕ → List ℕ → List ℕ → List ℕ → ℕ → ℕ
+first_ended d0 d1 d2 d3 k = bit_xor (bit_xor (get_or d0 k 0) (both_of d1 d3 k)) (get_or d2 k 0)
+
 -- byte b of row x, of rows of len bytes
 abbrev pub row_byte : ℕ → List ℕ → ℕ → ℕ → ℕ
 row_byte len rows x b = get_or rows (x * len + b) 0

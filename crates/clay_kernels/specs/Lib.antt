@@ -1,3 +1,5 @@
 pub mod Lanes
 pub mod Columns
 pub mod Generated
+pub mod Distances
+pub mod Progress

@@ -1,17 +1,15 @@
 //! The values of unknown nodes as fixed sums of those of the known nodes.
 ghost use Rattle.std.specs.Prelude.{◌≡◌, ℕ, ◌+◌, ◌*◌, ◌<◌, ◌≤◌, ◌/◌, ◌%◌, IfOk, slice_index, slice_range, length};
 ghost use Rattle.clay_scalar.specs.Points.{AreDistinct};
-ghost use Rattle.clay_field.specs.Field.{power_of};
 ghost use Rattle.clay_kernels.specs.Lanes.{AddsRows};
 ghost use Rattle.clay_kernels.specs.Generated.{IsGenerator, IsGeneratorOf, factor_at};
 ghost use Rattle.clay_kernels.specs.Columns.{AreColumns};
 
 use crate::column::ColumnFactors;
+use crate::factors::{in_blocks, lagrange_factors};
 use crate::kernels::add_rows;
 use crate::products::Products;
-use clay_field::power;
 use clay_grid::Geometry;
-use clay_scalar::Solver;
 use std::alloc::{AllocError, Global};
 use std::marker::Model;
 
@@ -47,34 +45,26 @@ pub fn nodes(alloc: Global, first: u32, count: u32) -> Result<Vec<u8>, AllocErro
     Ok(nodes)
 }
 
-// The powers of the nodes, all of power 0 first, then those of power 1 and so on below `count`.
-fn powers(alloc: Global, nodes: &[u8], count: usize) -> Result<Vec<u8>, AllocError>
-    requires few { count ≤ 8 }
-    requires nodes { length nodes.now ≤ 256 }
-    ensures len { IfOk result (λ v. length v.items ≡ count * length nodes.now) }
-    ensures value { IfOk result (λ v. (p : ℕ) → p < count * length nodes.now →
-        slice_index v.items p ≡ power_of (slice_index nodes.now (p % length nodes.now)) (p / length nodes.now)) }
-{
-    let n = nodes.len();
-    let mut powers = Vec::with_capacity(alloc, count * n)?;
-    for p in 0..count * n {
-        powers.push(power(nodes[p % n], (p / n) as u32))?;
-    }
-    Ok(powers)
-}
-
-// The products of the values, of which those of one known node stand side by side in place of those of one unknown one.
-fn turned(alloc: Global, values: &[u8], m: usize, n: usize) -> Result<Vec<Products>, AllocError>
+// The products of the values, of which those of one known node stand side by side in place of those of one unknown one. A row has `width`
+// values, of which those of the first `n` nodes count.
+fn turned(
+    alloc: Global,
+    values: &[u8],
+    m: usize,
+    n: usize,
+    width: usize,
+) -> Result<Vec<Products>, AllocError>
     requires few { m ≤ 8 }
     requires nodes { n ≤ 256 }
-    requires values_len { length values.now ≡ m * n }
+    requires within { n ≤ width }
+    requires values_len { length values.now ≡ m * width }
     ensures len { IfOk result (λ v. length v.items ≡ m * n) }
     ensures value { IfOk result (λ v. (p : ℕ) → p < m * n →
-        slice_index v.items p ≡ slice_index values.now (p % m * n + p / m)) }
+        slice_index v.items p ≡ slice_index values.now (p % m * width + p / m)) }
 {
     let mut factors = Vec::with_capacity(alloc, m * n)?;
     for p in 0..m * n {
-        factors.push(Products::new(values[p % m * n + p / m]))?;
+        factors.push(Products::new(values[p % m * width + p / m]))?;
     }
     Ok(factors)
 }
@@ -111,11 +101,9 @@ impl Generator {
     {
         let m = unknown.len();
         let n = known.len();
-        let solver = Solver::new(alloc, unknown)?;
-        let sums = powers(alloc, known, m)?;
-        let mut values = vec![in alloc; 0u8; m * n]?;
-        solver.solve(n, &sums, &mut values);
-        let factors = turned(alloc, &values, m, n)?;
+        let nodes = in_blocks(alloc, known)?;
+        let values = lagrange_factors(alloc, unknown, &nodes)?;
+        let factors = turned(alloc, &values, m, n, nodes.len())?;
         let columns = columns_of(alloc, m, &factors)?;
         Ok(Generator {
             unknown: m,

@@ -1,10 +1,11 @@
-//! The kernels of the fast coder: sums of products, sixteen bytes at a time, coupling by doublings, and the unknown nodes' values as fixed sums
+//! The kernels of the fast coder: sums of products, 32 and 16 bytes at a time, coupling by doublings, and the unknown nodes' values as fixed sums
 //! of those of the known ones.
 #![tactic(auto)]
 
 mod blocks;
 mod column;
 mod coupling;
+mod factors;
 mod generator;
 mod kernels;
 mod products;

@@ -1,6 +1,6 @@
 -- The pieces of chunks that are there and of erased nodes in a block of bytes, and the layers that are solved.
 use Rattle.std.proofs.Common.{◌≡◌, ◌≢◌, ℕ, subst, ◌+◌, ◌*◌, ◌<◌, ◌≤◌, Bool, List, length, get_or, take, drop, Option, Some, None, Vec, Global, sym, ap, ◌∙◌, inl, inr, arith}
-use Rattle.std.proofs.lemmas.Bool.{cases_lt}
+use Rattle.std.proofs.lemmas.Bool.{cases_eq, cases_lt}
 use Rattle.std.proofs.lemmas.List.{get_or-take, get_or-drop}
 use Rattle.clay_grid.specs.Shape.{Shape, row_count, layer_count}
 use Rattle.clay_grid.specs.Score.{IsByScore}
@@ -11,7 +11,7 @@ use Rattle.clay_decode.specs.Solved.{uncoupled_byte}
 use Rattle.clay_decode.proofs.Layer.{lower_earlier}
 use Rattle.clay_decode.proofs.Nodes.{IsNodeOf, agreeing_chunk, chunk_byte}
 use Rattle.lane_repair.specs.Pieces.{IsCoupled, IsUncoupled, HoldsRows}
-use Rattle.clay_lanes.specs.Recovered.{HoldsLayerRows, HoldsLower}
+use Rattle.clay_lanes.specs.Recovered.{HoldsLayerRows, HoldsLower, AreRowsOfLayers}
 
 -- ---- pieces
 
@@ -94,4 +94,32 @@ layer_kept g fits at len points n start k p solved rows below other start_is wid
                 put_mid_past (n * part) k solved rows place (omega arith) (rows_long ∙ sym width) (omega arith)
           ] in
           ap (λ v. get_or (put_mid (n * part) k solved rows) v 0) is ∙ kept ∙ ap (λ v. get_or solved v 0) (sym is) ∙ holds.bytes word fit e b he hb;
+    })
+
+-- the rows of one more of some layers
+pub rows_written : (g : Shape) (fits : List (List ℕ) → Type 0) (at len : ℕ) (points layers : List ℕ) (all i start k : ℕ) (rows new : List ℕ) → i < all → start ≡ i * (length points * len)
+    → length rows ≡ all * (length points * len) → length new ≡ length points * len
+    → HoldsRows g fits at len points (get_or layers i 0) new → AreRowsOfLayers g fits at len points layers i rows
+    → AreRowsOfLayers g fits at len points layers (i + 1) (put_mid start k rows new)
+rows_written g fits at len points layers all i start k rows new below start_is long new_long holds before =
+    let part : ℕ = length points * len in
+    let room : i * part + part ≤ all * part = piece_fits i all part below in
+    let within : i * part ≤ length rows = omega arith in
+    subst (λ a. AreRowsOfLayers g fits at len points layers (i + 1) (put_mid a k rows new)) (sym start_is) (record {
+      bytes = λ word fit j e b hj he hb.
+          let byte : e * len + b < part = place_below e (length points) len b he hb in
+          let is : (j * length points + e) * len + b ≡ j * part + (e * len + b) = place_is j (length points) e len b in
+          elim (cases_eq j i) [
+            | inl same ↦
+                ap (λ p. get_or (put_mid (i * part) k rows new) p 0) (is ∙ ap (λ n. n * part + (e * len + b)) same)
+                ∙ put_mid_within (i * part) k rows new (e * len + b) within (subst (λ l. e * len + b < l) (sym new_long) byte)
+                ∙ holds.bytes word fit e b he hb
+                ∙ ap (λ n. uncoupled_byte g word (at + b) (get_or points e 0) (get_or layers n 0)) (sym same)
+            | inr other ↦
+                let early : j < i = omega (arith, hj, other) in
+                ap (λ p. get_or (put_mid (i * part) k rows new) p 0) is
+                ∙ put_mid_before (i * part) k rows new (j * part + (e * len + b)) within (place_below j i part (e * len + b) early byte)
+                ∙ ap (λ p. get_or rows p 0) (sym is)
+                ∙ before.bytes word fit j e b early he hb
+          ];
     })

@@ -40,6 +40,16 @@ abbrev pub HoldsLower : Shape → (List (List ℕ) → Type 0) → ℕ → ℕ �
 HoldsLower g fits at len erased points n solved =
     (p : ℕ) → p < layer_count g → score_at g erased p < score_at g erased n → HoldsLayerRows g fits at len points p solved
 
+-- the rows of the first of some layers, as many as count, where those of one follow those of the one before
+pub record AreRowsOfLayers (g : Shape) (fits : List (List ℕ) → Type 0) (at len : ℕ) (points layers : List ℕ) (count : ℕ) (rows : List ℕ) : Type 0 where
+  pub bytes : (word : List (List ℕ)) → fits word → (i e b : ℕ) → i < count → e < length points → b < len
+      → get_or rows ((i * length points + e) * len + b) 0 ≡ uncoupled_byte g word (at + b) (get_or points e 0) (get_or layers i 0)
+
+-- the layers of a score below that of any of some layers are solved
+abbrev pub AreNext : Shape → (List (List ℕ) → Type 0) → ℕ → ℕ → List Bool → List ℕ → List ℕ → List ℕ → Type 0
+AreNext g fits at len erased points layers solved =
+    (i : ℕ) → i < length layers → (get_or layers i 0 < layer_count g) × HoldsLower g fits at len erased points (get_or layers i 0) solved
+
 -- byte p of a chunk is that of chunk c of each codeword that agrees with the chunks that are there
 abbrev pub HoldsByteOf : Shape → List (Option (Vec ℕ Global)) → ℕ → List ℕ → ℕ → Type 0
 HoldsByteOf g have c chunk p = HoldsByte (λ word. Completes g have word) c chunk p
@@ -56,6 +66,13 @@ HoldsLayersOf g have plan at len solved =
 -- each of so many chunks has this length
 abbrev pub HaveLength : ℕ → ℕ → List (List ℕ) → Type 0
 HaveLength count len chunks = (i : ℕ) → i < count → length (slice_index_or chunks i []) ≡ len
+
+-- of some layers, for such codewords: their rows, and that those of a lower score are solved
+abbrev pub AreRowsOfLayersFor : Shape → List (Option (Vec ℕ Global)) → Plan → ℕ → ℕ → List ℕ → List ℕ → Type 0
+AreRowsOfLayersFor g have plan at len layers rows = AreRowsOfLayers g (λ word. Completes g have word) at len plan.points.items layers (length layers) rows
+
+abbrev pub AreNextOf : Shape → List (Option (Vec ℕ Global)) → Plan → ℕ → ℕ → List ℕ → List ℕ → Type 0
+AreNextOf g have plan at len layers solved = AreNext g (λ word. Completes g have word) at len plan.erased.items plan.points.items layers solved
 
 -- the numbers of the missing chunks from c on, rising
 abbrev pub missing_from : List (Option (Vec ℕ Global)) → ℕ → ℕ → List ℕ

@@ -1,8 +1,8 @@
 //! The uncoupled values of the erased nodes in a block of bytes, layer by layer.
 ghost use Rattle.std.specs.Prelude.{◌≡◌, ◌+◌, ◌*◌, ◌<◌, ◌≤◌, length, slice_index, slice_index_or, true, false, Contains};
 ghost use Rattle.clay_grid.specs.Shape.{node_count, layer_count};
-ghost use Rattle.clay_lanes.specs.Recovered.{IsLanePlan, HoldsLayersOf};
-ghost use Rattle.clay_lanes.specs.Blocks.{IsBlock, rows_length, solved_length, IsCoupledIn, IsUncoupledIn, IsPresentIn, HoldsColumnIn, HoldsRowsIn, HoldsLayerIn, HoldsLayersIn, HoldsLowerIn};
+ghost use Rattle.clay_lanes.specs.Recovered.{IsLanePlan, HoldsLayersOf, AreNextOf, AreRowsOfLayersFor};
+ghost use Rattle.clay_lanes.specs.Blocks.{IsBlock, rows_length, solved_length, IsCoupledIn, IsUncoupledIn, IsPresentIn, HoldsColumnIn, HoldsRowsIn, HoldsLayerIn, HoldsLayersIn, HoldsLowerIn, AreNextIn, AreRowsOfLayersIn};
 
 use crate::block::Block;
 use crate::plan::Plan;
@@ -206,6 +206,57 @@ impl<'a> Block<'a> {
             solved[start..start + part].copy_from_slice(rows);
         }
     }
+
+    /// Writes the uncoupled values of the erased nodes in each of some layers, the rows of one layer behind those of the one before, where
+    /// the layers of a lower score are solved.
+    pub(crate) fn solve_some(&self, solved: &[u8], layers: &[u32], rows: &mut [u8])
+        requires block { IsBlock self.now }
+        requires short { self.now.len ≤ 4096 }
+        requires solved_len { length solved.now ≡ solved_length self.now }
+        requires next { AreNextIn self.now layers.now solved.now }
+        requires rows_len { length rows.old ≡ length layers.now * rows_length self.now }
+        ensures { AreRowsOfLayersIn self.now layers.now rows.new }
+    {
+        let part = self.plan.points.len() * self.len;
+        let mut room = column_room();
+        let mut column = column_room();
+        let values = &mut room[..self.len];
+        for (i, z) in layers.iter().enumerate() {
+            let start = i * part;
+            let out = &mut rows[start..start + part];
+            self.solve_layer(solved, *z, values, &mut column, out);
+        }
+    }
+}
+
+/// Writes the uncoupled values of the erased nodes in the bytes from `at` on of some layers, as many bytes as `len`, the rows of one layer
+/// behind those of the one before, where the layers of a lower score are solved.
+pub fn solve_some_layers(
+    g: Geometry,
+    have: &[Option<Vec<u8>>],
+    plan: &Plan,
+    at: usize,
+    len: usize,
+    solved: &[u8],
+    layers: &[u32],
+    rows: &mut [u8],
+)
+    requires plan { IsLanePlan g have.now plan.now }
+    requires within { at + len ≤ g.width }
+    requires short { len ≤ 4096 }
+    requires solved_len { length solved.now ≡ layer_count g * (length plan.now.points.items * len) }
+    requires next { AreNextOf g have.now plan.now at len layers.now solved.now }
+    requires rows_len { length rows.old ≡ length layers.now * (length plan.now.points.items * len) }
+    ensures { AreRowsOfLayersFor g have.now plan.now at len layers.now rows.new }
+{
+    let block = Block {
+        g,
+        have,
+        plan,
+        at,
+        len,
+    };
+    block.solve_some(solved, layers, rows);
 }
 
 /// Writes the uncoupled values of the erased nodes in the bytes from `at` on of each layer.

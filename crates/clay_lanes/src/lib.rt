@@ -15,7 +15,7 @@ pub use coder::LaneCoder;
 pub use lane_repair::{
     RepairPlan, make_repair_plan, rebuild, rebuild_into, solve_column, write_block,
 };
-pub use layers::solve_layers;
+pub use layers::{solve_layers, solve_some_layers};
 pub use lost::{couple_chunk, decode, missing, missing_count};
 pub use places::missing_into;
 pub use plan::{Plan, make_plan};

@@ -1,4 +1,5 @@
 pub mod Groups
 pub mod Ranges
 pub mod Rebuilt
+pub mod Scores
 pub mod Solved

@@ -1,5 +1,6 @@
-//! The chunks from what is left of them, by ranges of byte positions and then by chunks.
-ghost use Rattle.std.specs.Prelude.{◌≡◌, ℕ, ◌+◌, ◌*◌, ◌/◌, ◌<◌, ◌↔◌, length, slice_index_or, None, IfOk, OnOk, OnErr, IsErrOf, All};
+//! The chunks from what is left of them: by ranges of byte positions, or by layers of one score where subchunks are short, and then by
+//! chunks.
+ghost use Rattle.std.specs.Prelude.{◌≡◌, ℕ, ◌+◌, ◌*◌, ◌/◌, ◌<◌, ◌≤◌, ◌↔◌, length, slice_index_or, None, IfOk, OnOk, OnErr, IsErrOf, All};
 ghost use Rattle.clay_grid.specs.Shape.{chunk_count, layer_count, chunk_length};
 ghost use Rattle.clay_encode.specs.Chunks.{contents};
 ghost use Rattle.clay_decode.specs.Left.{AreLong, AreTooFew};
@@ -10,10 +11,11 @@ ghost use Rattle.clay_par.specs.Ranges.{HasRoom, SamePlace};
 ghost use Rattle.clay_par.specs.Solved.{HoldsLayers, AreSolved, IsChunk, IsFilled};
 
 use crate::made::all_made;
-use crate::ranges::{Range, make_ranges};
+use crate::ranges::{Range, make_range, make_ranges};
+use crate::scores::solve_by_scores;
 use clay_decode::DecodeFault;
 use clay_grid::Geometry;
-use clay_kernels::zeros;
+use clay_kernels::{BLOCK, zeros};
 use clay_lanes::{Plan, couple_chunk, make_plan, missing_count, solve_layers};
 use rayon::current_num_threads;
 use std::alloc::{AllocError, Global};
@@ -190,7 +192,50 @@ fn chunks<R: Threads + Sync>(
     all_made(alloc, made)
 }
 
-// The ranges of all positions, with the erased nodes' uncoupled values.
+// Writes the erased nodes' uncoupled values in a range, in threads.
+fn solve_shared<R: Threads + Sync>(
+    rt: &R,
+    alloc: Global,
+    g: Geometry,
+    have: &[Option<Vec<u8>>],
+    plan: &Plan,
+    range: &mut Range,
+) -> Result<(), AllocError>
+    requires plan { IsLanePlan g have.now plan.now }
+    requires short { length range.old.values.items ≤ 4096 }
+    requires some { 0 < length range.old.values.items }
+    requires room { HasRoom g (length plan.now.points.items) (layer_count g) range.old }
+    ensures place { IfOk result (λ _. SamePlace range.old range.new) }
+    ensures solved { IfOk result (λ _. HoldsLayers g have.now plan.now range.new) }
+{
+    if plan.points.is_empty() {
+        return Ok(());
+    }
+    let len = range.values.len();
+    solve_by_scores(rt, alloc, g, have, plan, range.at, len, &mut range.solved)
+}
+
+// One range of all positions, with the erased nodes' uncoupled values.
+fn solved_range<R: Threads + Sync>(
+    rt: &R,
+    alloc: Global,
+    g: Geometry,
+    have: &[Option<Vec<u8>>],
+    plan: &Plan,
+) -> Result<Vec<Range>, AllocError>
+    requires plan { IsLanePlan g have.now plan.now }
+    requires short { g.width ≤ 4096 }
+    ensures { IfOk result (λ ranges. AreSolved g have.now plan.now ranges.items) }
+{
+    let nodes = plan.points.len();
+    let mut range = make_range(alloc, g, nodes, g.alpha() as usize, 0, g.w() as usize)?;
+    solve_shared(rt, alloc, g, have, plan, &mut range)?;
+    let mut ranges = Vec::new(alloc);
+    ranges.push(range)?;
+    Ok(ranges)
+}
+
+// The ranges of all positions, with the erased nodes' uncoupled values. Short subchunks are one range, in which threads share the layers.
 fn solved_ranges<R: Threads + Sync>(
     rt: &R,
     alloc: Global,
@@ -201,6 +246,9 @@ fn solved_ranges<R: Threads + Sync>(
     requires { IsLanePlan g have.now plan.now }
     ensures { IfOk result (λ ranges. AreSolved g have.now plan.now ranges.items) }
 {
+    if g.w() as usize <= BLOCK {
+        return solved_range(rt, alloc, g, have, plan);
+    }
     let mut ranges = make_ranges(alloc, g, plan.points.len(), g.alpha() as usize)?;
     solve_all(rt, g, have, plan, &mut ranges);
     Ok(ranges)

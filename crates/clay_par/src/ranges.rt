@@ -26,8 +26,8 @@ fn range_len(g: Geometry) -> usize
     (g.w() as usize / 4).clamp(FEWEST, BLOCK)
 }
 
-// The range of `len` positions from `at` on, with room for the values of so many nodes and layers.
-fn make_range(
+/// The range of `len` positions from `at` on, with room for the values of so many nodes and layers.
+pub fn make_range(
     alloc: Global,
     g: Geometry,
     nodes: usize,

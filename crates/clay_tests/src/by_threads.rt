@@ -1,8 +1,7 @@
 //! The commands `run` and `trial`. That clients work at once, and that transcripts of runs are legal, is tested below the program
 //! (`run_tests`).
-use clay_bytes::{MemSink, MemSource};
 use clay_par::ParCoder;
-use command_runs::runs::{Ran, fails, run_with};
+use command_runs::runs::{Ran, fails, run_by};
 use command_runs::scripts::{PUT_THEN_GET, TRANSCRIPT};
 use command_runs::tables::answers;
 use command_runs::{Gate, Place, Status};
@@ -65,13 +64,15 @@ fn trial_with<R: Threads + Wait + Sync + AllocGlobal>(
     rt: &R,
     gate: &CountingGate,
 ) -> Result<Ran, Fail> {
-    let alloc = rt.alloc();
-    let mut source = MemSource::new(Vec::new(alloc), Vec::from_slice(alloc, &[0])?);
-    let mut sink = MemSink::new(Vec::with_capacity(alloc, 4096)?, Vec::new(alloc));
-    let words = ["trial", "7", "64", "4"];
-    let status = run_with(rt, &words, &mut source, &mut sink, gate, &ParCoder)?;
-    let written = Vec::from_slice(alloc, sink.kept())?;
-    Ok(Ran { status, written })
+    run_by(
+        rt,
+        &["trial", "7", "64", "4"],
+        b"",
+        &[0],
+        &[],
+        gate,
+        &ParCoder,
+    )
 }
 
 fn is_legal_with<R: Threads + Wait + Sync + AllocGlobal>(

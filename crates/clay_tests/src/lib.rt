@@ -1,7 +1,12 @@
-//! The commands as they run: words and an input to a status and an output, over sources and sinks in memory.
-//! All of it is tests, so without them the crate is empty, and it is proved once.
+//! The program's commands over sources and sinks in memory: what each answers, worked scripts as they are played, reads and writes
+//! that fail, and what the coder is asked. The worked scripts were reckoned by hand from the rules of the store; each row is named by
+//! what it shows. All of it is tests, so without them the crate is empty, and it is proved once.
 #![tactic(auto)]
 
+#[cfg(test)]
+mod answers;
+#[cfg(test)]
+mod away;
 #[cfg(test)]
 mod by_threads;
 #[cfg(test)]
@@ -9,9 +14,21 @@ mod chunks;
 #[cfg(test)]
 mod chunksd;
 #[cfg(test)]
+mod coders;
+#[cfg(test)]
+mod counted;
+#[cfg(test)]
+mod drips;
+#[cfg(test)]
+mod faults;
+#[cfg(test)]
 mod generate;
 #[cfg(test)]
+mod losses;
+#[cfg(test)]
 mod play;
+#[cfg(test)]
+mod races;
 #[cfg(test)]
 mod recover;
 #[cfg(test)]

@@ -3,6 +3,7 @@ use clay_bytes::{MemSink, MemSource, Sink, Source};
 use clay_cli::{Gate, NoGate, Status, clay_main};
 use clay_lanes::LaneCoder;
 use clay_repair::Coder;
+use std::alloc::Global;
 use std::sync::Wait;
 use std::test::Fail;
 use std::thread::Threads;
@@ -40,6 +41,44 @@ pub fn run_with<
     Ok(clay_main(rt, alloc, &owned, source, sink, gate, coder))
 }
 
+fn source_of(alloc: Global, input: &[u8], reads: &[u64]) -> Result<MemSource, Fail> {
+    let input = Vec::from_slice(alloc, input)?;
+    Ok(MemSource::new(input, Vec::from_slice(alloc, reads)?))
+}
+
+fn sink_of(alloc: Global, writes: &[u64]) -> Result<MemSink, Fail> {
+    let writes = Vec::from_slice(alloc, writes)?;
+    Ok(MemSink::new(Vec::with_capacity(alloc, ROOM)?, writes))
+}
+
+fn run_over<R: Threads + Wait + Sync + AllocGlobal, G: Gate + Sync, C: Coder + Sync>(
+    rt: &R,
+    words: &[&str],
+    source: &mut MemSource,
+    sink: &mut MemSink,
+    gate: &G,
+    coder: &C,
+) -> Result<Ran, Fail> {
+    let status = run_with(rt, words, source, sink, gate, coder)?;
+    let written = Vec::from_slice(rt.alloc(), sink.kept())?;
+    Ok(Ran { status, written })
+}
+
+/// Calls the program with this gate and this coder where the reads and the writes of these numbers fail.
+pub fn run_by<R: Threads + Wait + Sync + AllocGlobal, G: Gate + Sync, C: Coder + Sync>(
+    rt: &R,
+    words: &[&str],
+    input: &[u8],
+    reads: &[u64],
+    writes: &[u64],
+    gate: &G,
+    coder: &C,
+) -> Result<Ran, Fail> {
+    let mut source = source_of(rt.alloc(), input, reads)?;
+    let mut sink = sink_of(rt.alloc(), writes)?;
+    run_over(rt, words, &mut source, &mut sink, gate, coder)
+}
+
 /// Calls the program where the reads and the writes of these numbers fail.
 pub fn run_failing<R: Threads + Wait + Sync + AllocGlobal>(
     rt: &R,
@@ -48,18 +87,7 @@ pub fn run_failing<R: Threads + Wait + Sync + AllocGlobal>(
     reads: &[u64],
     writes: &[u64],
 ) -> Result<Ran, Fail> {
-    let alloc = rt.alloc();
-    let mut source = MemSource::new(
-        Vec::from_slice(alloc, input)?,
-        Vec::from_slice(alloc, reads)?,
-    );
-    let mut sink = MemSink::new(
-        Vec::with_capacity(alloc, ROOM)?,
-        Vec::from_slice(alloc, writes)?,
-    );
-    let status = run_with(rt, words, &mut source, &mut sink, &NoGate, &LaneCoder)?;
-    let written = Vec::from_slice(alloc, sink.kept())?;
-    Ok(Ran { status, written })
+    run_by(rt, words, input, reads, writes, &NoGate, &LaneCoder)
 }
 
 /// Whether the call ends so where the reads and the writes of these numbers fail, with nothing written.

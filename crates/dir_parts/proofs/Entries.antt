@@ -1,5 +1,5 @@
 -- The versions and the counts of pins of entries, one of which is changed.
-use Rattle.std.proofs.Common.{◌≡◌, ℕ, zero, suc, ◌+◌, ◌<◌, length, drop, get_or, arith, List, [], ◌∷◌, map, set, Some, slice_get, refl, ap, ◌∙◌}
+use Rattle.std.proofs.Common.{◌≡◌, ℕ, zero, suc, ◌+◌, ◌<◌, length, drop, get_or, arith, List, [], ◌∷◌, map, set, None, Some, slice_get, refl, sym, ap, ◌∙◌}
 use Rattle.std.proofs.lemmas.Option.{same_Some, none-some}
 use Rattle.store_core.specs.Lists.{change_at}
 
@@ -23,6 +23,11 @@ slice_get-map g [] i x e = absurd (none-some x e)
 slice_get-map g (y ∷ xs) zero x e = ap (λ z. Some (g z)) (same_Some y x e)
 slice_get-map g (y ∷ xs) (suc i) x e = slice_get-map g xs i x e
 
+pub slice_get-map_none : {X Y : Type 0} (g : X → Y) (xs : List X) (i : ℕ) → slice_get xs i ≡ None → slice_get (map g xs) i ≡ None
+slice_get-map_none g [] i e = refl
+slice_get-map_none g (y ∷ xs) zero e = absurd (none-some y (sym e))
+slice_get-map_none g (y ∷ xs) (suc i) e = slice_get-map_none g xs i e
+
 -- the next element and the rest
 pub drop-next : {X : Type 0} (xs : List X) (i : ℕ) (d : X) → i < length xs → drop i xs ≡ get_or xs i d ∷ drop (i + 1) xs
 drop-next [] i d h = absurd (omega arith)
@@ -36,8 +41,3 @@ pub map-set : {X Y : Type 0} (g : X → Y) (h : Y → Y) (xs : List X) (i : ℕ)
 map-set g h [] i x y less read same = absurd (omega arith)
 map-set g h (z ∷ xs) zero x y less read same = ap (λ w. w ∷ map g xs) (same ∙ ap (λ w. h (g w)) read)
 map-set g h (z ∷ xs) (suc i) x y less read same = ap (λ l. g z ∷ l) (map-set g h xs i x y (omega arith) read same)
-
-pub map-set_same : {X Y : Type 0} (g : X → Y) (xs : List X) (i : ℕ) (x y : X) → i < length xs → x ≡ get_or xs i x → g y ≡ g x → map g (set xs i y) ≡ map g xs
-map-set_same g [] i x y less read same = absurd (omega arith)
-map-set_same g (z ∷ xs) zero x y less read same = ap (λ w. w ∷ map g xs) (same ∙ ap g read)
-map-set_same g (z ∷ xs) (suc i) x y less read same = ap (λ l. g z ∷ l) (map-set_same g xs i x y (omega arith) read same)

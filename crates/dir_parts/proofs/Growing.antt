@@ -1,11 +1,9 @@
 -- Lists that grow by one.
 use Rattle.std.proofs.Common.{◌≡◌, ◌≢◌, ℕ, zero, suc, ◌+◌, ◌<◌, Bool, true, false, cond, List, [], ◌∷◌, ◌++◌, length, map, get_or, set, slice_get, replicate, sum_by, All, Some, refl, sym, ap, ◌∙◌, arith}
-use Rattle.std.proofs.lemmas.List.{map-append, append_assoc}
 use Rattle.std.proofs.lemmas.Option.{same_Some, none-some}
 use Rattle.std.proofs.lemmas.List.Sums.{sum_by-cons}
 use Rattle.std.proofs.lemmas.List.Elements.{All-cons, All-head, All-tail}
 use Rattle.std.specs.List.{range_with_len}
-use Rattle.dir_parts.specs.Places.{places}
 
 pub range-snoc : (a n : ℕ) → range_with_len a (n + 1) ≡ range_with_len a n ++ (a + n) ∷ []
 range-snoc a zero = ap (λ k. k ∷ []) first
@@ -26,16 +24,6 @@ replicate-snoc (suc n) x = ap (λ k. replicate k x) shift ∙ ap (λ l. x ∷ l)
   where
     shift : suc n + 1 ≡ suc (n + 1)
     shift = omega arith
-
--- what is read of elements, one of which comes
-pub map-snoc : {X Y Z : Type 0} (f : X → Y) (g : Z → Y) (xs olds : List X) (x : X) (zs : List Z) (z : Z) → map f xs ≡ map f olds ++ map g zs → f x ≡ g z → map f (xs ++ x ∷ []) ≡ map f olds ++ map g (zs ++ z ∷ [])
-map-snoc f g xs olds x zs z e same =
-    map-append f xs (x ∷ []) ∙ (λ i. e i ++ same i ∷ []) ∙ append_assoc (map f olds) (map g zs) (g z ∷ []) ∙ ap (λ l. map f olds ++ l) (sym (map-append g zs (z ∷ [])))
-
--- one that fails adds no place
-pub places-snoc : {X : Type 0} (test : X → Bool) (n : ℕ) (xs : List X) (x : X) → test x ≡ false → places test n (xs ++ x ∷ []) ≡ places test n xs
-places-snoc test n [] x e = ap (λ b. cond b (n ∷ []) []) e
-places-snoc test n (y ∷ xs) x e = ap (λ rest. cond (test y) (n ∷ rest) rest) (places-snoc test (n + 1) xs x e)
 
 -- one element is changed where it alone passes
 pub set-map : {X : Type 0} (test : X → Bool) (f : X → X) (xs : List X) (i : ℕ) (x : X) → slice_get xs i ≡ Some x → test x ≡ true → ((k : ℕ) (d : X) → k < length xs → k ≢ i → test (get_or xs k d) ≡ false)

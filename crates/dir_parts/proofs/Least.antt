@@ -3,6 +3,7 @@ use Rattle.std.proofs.Common.{◌≡◌, ◌⊎◌, ℕ, suc, ◌+◌, ◌<◌, 
 use Rattle.std.proofs.lemmas.Bool.{cases_Bool, ne_eqb, ltb-false, false≢true}
 use Rattle.std.proofs.lemmas.List.Sorted.{IsPermutation-trans, IsPermutation-sym, length_permutation, All-permutation}
 use Rattle.std.proofs.lemmas.List.Elements.{All-head, All-cons}
+use Rattle.std.specs.Option.{option_and_then}
 use Rattle.std.specs.List.{enumerate_from}
 use Rattle.std.specs.List.Sorted.{IsPermutation}
 use Rattle.std.specs.BinaryHeap.{IsUpperBound}
@@ -14,9 +15,11 @@ use Rattle.store_core.specs.Lists.{change_at}
 use Rattle.store_core.specs.Lookups.{is_superseded_standing}
 use Rattle.store_core.specs.Directory.{Version}
 use Rattle.dir_parts.specs.Places.{places}
-use Rattle.dir_parts.specs.Table.{version_in, is_garbage, number_in, least_first}
+use Rattle.dir_parts.specs.Table.{version_in, number_in, least_first}
 use Rattle.dir_parts.specs.TableSteps.{first_free}
-use Rattle.dir_parts.specs.declared.versions.VersionRow.{VersionRow}
+use Rattle.dir_parts.specs.Told.{Entry}
+use Rattle.dir_parts.specs.Rows.{is_garbage, kept_of, kept_at}
+use Rattle.dir_parts.proofs.RowSteps.{kept_unswept, garbage_unswept}
 use Rattle.dir_parts.proofs.TableSteps.{superseded_same}
 use Rattle.dir_parts.proofs.Counting.{cancel}
 
@@ -63,6 +66,7 @@ module _ {X : Type 0} (test : X → Bool) where
     pub element : X
     pub place : x ≡ n + at
     pub there : slice_get xs at ≡ Some element
+    pub passes : test element ≡ true
     pub found : option_map (λ (e : ℕ × X). e.0) (find (λ (e : ℕ × X). test e.1) (enumerate_from n xs)) ≡ Some x
     pub left : (f : X → X) → test (f element) ≡ false → places test n xs ≡ x ∷ places test n (change_at at f xs)
 
@@ -78,6 +82,7 @@ module _ {X : Type 0} (test : X → Bool) where
             element = y;
             place = omega (arith, same);
             there = refl;
+            passes = here;
             found = ap (λ b. option_map (λ (e : ℕ × X). e.0) (cond {A = Option (ℕ × X)} b (Some (n, y)) (find (λ (e : ℕ × X). test e.1) (enumerate_from (n + 1) xs)))) here ∙ ap Some same;
             left = λ f fails.
                 ap (λ b. cond {A = List ℕ} b (n ∷ places test (n + 1) xs) (places test (n + 1) xs)) here
@@ -90,6 +95,7 @@ module _ {X : Type 0} (test : X → Bool) where
             element = it.element;
             place = omega (arith, it.place);
             there = it.there;
+            passes = it.passes;
             found = ap (λ b. option_map (λ (e : ℕ × X). e.0) (cond {A = Option (ℕ × X)} b (Some (n, y)) (find (λ (e : ℕ × X). test e.1) (enumerate_from (n + 1) xs)))) here ∙ it.found;
             left = λ f fails.
                 ap (λ b. cond {A = List ℕ} b (n ∷ places test (n + 1) xs) (places test (n + 1) xs)) here ∙ it.left f fails
@@ -120,7 +126,7 @@ module _ {X : Type 0} (test : X → Bool) where
           (ps, e ∙ ap (λ q. q ∷ ps) same)
 
 -- the heap's top, and what is left in it
-module _ (entries : List VersionRow) (held left : List ℕ) (x : ℕ) (kept : IsPermutation held (places is_garbage 0 entries)) (popped : IsPermutation held (x ∷ left)) (least : All (λ y. x ≤ y) left) where
+module _ (entries : List Entry) (held left : List ℕ) (x : ℕ) (kept : IsPermutation held (places is_garbage 0 entries)) (popped : IsPermutation held (x ∷ left)) (least : All (λ y. x ≤ y) left) where
   all_places : IsPermutation (x ∷ left) (places is_garbage 0 entries)
   all_places = IsPermutation-trans (x ∷ left) held (places is_garbage 0 entries) (IsPermutation-sym held (x ∷ left) popped) kept
 
@@ -128,22 +134,22 @@ module _ (entries : List VersionRow) (held left : List ℕ) (x : ℕ) (kept : Is
   top_is = let first : (ps : List ℕ) × (places is_garbage 0 entries ≡ x ∷ ps) = is_first is_garbage entries x left all_places least in
       first_of is_garbage 0 entries x first.0 first.1
 
-  pub top_within : x < length entries
-  top_within =
-      let below : All (λ place. place < 0 + length entries) (x ∷ left) = All-permutation (λ place. place < 0 + length entries) (places is_garbage 0 entries) (x ∷ left)
-      (IsPermutation-sym (x ∷ left) (places is_garbage 0 entries) all_places) (places-below is_garbage 0 entries) in
-      let here : x < 0 + length entries = All-head (λ place. place < 0 + length entries) x left below in
-      omega (arith, here)
+  -- something is kept of it
+  pub top_kept : is_some (kept_at entries x) ≡ true
+  top_kept =
+      let same : top_is.at ≡ x = omega (arith, top_is.place) in
+      let there : slice_get entries x ≡ Some top_is.element = ap (slice_get entries) (sym same) ∙ top_is.there in
+      ap (λ o. is_some (option_and_then kept_of o)) there ∙ kept_unswept top_is.element ∙ garbage_unswept top_is.element top_is.passes
 
-  pub rest_is : (f : VersionRow → VersionRow) → ((e : VersionRow) → is_garbage (f e) ≡ false) → IsPermutation left (places is_garbage 0 (change_at x f entries))
+  pub rest_is : (f : Entry → Entry) → ((e : Entry) → is_garbage (f e) ≡ false) → IsPermutation left (places is_garbage 0 (change_at x f entries))
   rest_is f never =
       let same : top_is.at ≡ x = omega (arith, top_is.place) in
       cancel x left (places is_garbage 0 (change_at x f entries))
       (subst (IsPermutation (x ∷ left)) (top_is.left f (never top_is.element) ∙ ap (λ k. x ∷ places is_garbage 0 (change_at k f entries)) same) all_places)
 
 -- what nobody pins, by the counts of pins
-free_from : (n : ℕ) (pins : ℕ → ℕ) (entries : List VersionRow) → ((k : ℕ) → k < length entries → pins (n + k) ≡ get_or (map (λ entry. entry.pins) entries) k 0)
-    → option_map (λ (e : ℕ × VersionRow). e.0) (find (λ (e : ℕ × VersionRow). is_garbage e.1) (enumerate_from n entries))
+free_from : (n : ℕ) (pins : ℕ → ℕ) (entries : List Entry) → ((k : ℕ) → k < length entries → pins (n + k) ≡ get_or (map (λ entry. entry.pins) entries) k 0)
+    → option_map (λ (e : ℕ × Entry). e.0) (find (λ (e : ℕ × Entry). is_garbage e.1) (enumerate_from n entries))
     ≡ option_map (λ (e : ℕ × Version). e.0) (find (λ (e : ℕ × Version). is_superseded_standing e.1.standing && nat_eq (pins e.0) 0) (enumerate_from n (map version_in entries)))
 free_from n pins [] same = refl
 free_from n pins (entry ∷ entries) same =
@@ -154,21 +160,21 @@ free_from n pins (entry ∷ entries) same =
     here = sym (ap pins (let none : n ≡ n + 0 = omega arith in none) ∙ same 0 (omega arith))
 
     by : (a b : Bool) → a ≡ b
-        → option_map (λ (e : ℕ × VersionRow). e.0) (find (λ (e : ℕ × VersionRow). is_garbage e.1) (enumerate_from (n + 1) entries))
+        → option_map (λ (e : ℕ × Entry). e.0) (find (λ (e : ℕ × Entry). is_garbage e.1) (enumerate_from (n + 1) entries))
         ≡ option_map (λ (e : ℕ × Version). e.0) (find (λ (e : ℕ × Version). is_superseded_standing e.1.standing && nat_eq (pins e.0) 0) (enumerate_from (n + 1) (map version_in entries)))
-        → option_map (λ (e : ℕ × VersionRow). e.0) (cond {A = Option (ℕ × VersionRow)} a (Some (n, entry)) (find (λ (e : ℕ × VersionRow). is_garbage e.1) (enumerate_from (n + 1) entries)))
+        → option_map (λ (e : ℕ × Entry). e.0) (cond {A = Option (ℕ × Entry)} a (Some (n, entry)) (find (λ (e : ℕ × Entry). is_garbage e.1) (enumerate_from (n + 1) entries)))
         ≡ option_map (λ (e : ℕ × Version). e.0) (cond {A = Option (ℕ × Version)} b (Some (n, version_in entry)) (find (λ (e : ℕ × Version). is_superseded_standing e.1.standing && nat_eq (pins e.0) 0) (enumerate_from (n + 1) (map version_in entries))))
     by true true e rest = refl
     by true false e rest = absurd (false≢true (sym e))
     by false true e rest = absurd (false≢true e)
     by false false e rest = rest
 
-pub free_is : (entries : List VersionRow) → option_map (λ (e : ℕ × VersionRow). e.0) (find (λ (e : ℕ × VersionRow). is_garbage e.1) (enumerate_from 0 entries))
+pub free_is : (entries : List Entry) → option_map (λ (e : ℕ × Entry). e.0) (find (λ (e : ℕ × Entry). is_garbage e.1) (enumerate_from 0 entries))
     ≡ first_free (record { listed = map version_in entries; pins = map (λ entry. entry.pins) entries; room = 0 })
 free_is entries = free_from 0 (λ k. get_or (map (λ entry. entry.pins) entries) k 0) entries (λ k less. ap (λ j. get_or (map (λ entry. entry.pins) entries) j 0) (let same : 0 + k ≡ k = omega arith in same))
 
 -- there is garbage where the heap isn't empty
-pub some_garbage : (entries : List VersionRow) (held : List ℕ) (size : ℕ) → IsPermutation held (places is_garbage 0 entries) → size ≡ length held
+pub some_garbage : (entries : List Entry) (held : List ℕ) (size : ℕ) → IsPermutation held (places is_garbage 0 entries) → size ≡ length held
     → not (nat_eq size 0) ≡ is_some (first_free (record { listed = map version_in entries; pins = map (λ entry. entry.pins) entries; room = 0 }))
 some_garbage entries held size kept count = by (places is_garbage 0 entries) refl
   where
@@ -183,7 +189,7 @@ some_garbage entries held size kept count = by (places is_garbage 0 entries) ref
         let more : size ≡ suc (length ps) = (let some : length (places is_garbage 0 entries) ≡ suc (length ps) = ap length e in omega (arith, some, count, sizes)) in
         ap (λ n. not (nat_eq n 0)) more ∙ ap not (ne_eqb (suc (length ps)) 0 (λ same. omega (arith, same))) ∙ ap is_some (sym (First.found (first_of is_garbage 0 entries p ps e)) ∙ free_is entries)
 
-pub no_garbage : (entries : List VersionRow) (held : List ℕ) → IsPermutation held (places is_garbage 0 entries) → length held ≡ 0
+pub no_garbage : (entries : List Entry) (held : List ℕ) → IsPermutation held (places is_garbage 0 entries) → length held ≡ 0
     → None ≡ first_free (record { listed = map version_in entries; pins = map (λ entry. entry.pins) entries; room = 0 })
 no_garbage entries held kept count = by (places is_garbage 0 entries) refl
   where

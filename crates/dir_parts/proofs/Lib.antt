@@ -1,3 +1,4 @@
+pub mod Changes
 pub mod Places
 pub mod Entries
 pub mod TableSteps
@@ -11,3 +12,10 @@ pub mod Exchange
 pub mod Options
 pub mod Counting
 pub mod Least
+pub mod Codec
+pub mod Told
+pub mod ToldPoints
+pub mod RowSteps
+pub mod Drawing
+pub mod Known
+pub mod Keeping

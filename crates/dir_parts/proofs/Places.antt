@@ -1,5 +1,5 @@
 -- The places at which a test holds, after one element was changed.
-use Rattle.std.proofs.Common.{◌≡◌, ℕ, zero, suc, ◌+◌, ◌<◌, ◌≤◌, get_or, set, Bool, true, false, cond, List, [], ◌∷◌, length, Some, slice_get, refl, sym, ap, subst, ◌∙◌, arith}
+use Rattle.std.proofs.Common.{◌≡◌, ℕ, zero, suc, ◌+◌, Bool, true, false, cond, List, [], ◌∷◌, Some, slice_get, refl, sym, ap, subst, ◌∙◌, arith}
 use Rattle.std.proofs.lemmas.Option.{same_Some, none-some}
 use Rattle.std.proofs.lemmas.List.Sorted.{IsPermutation-refl, IsPermutation-cons, IsPermutation-trans, IsPermutation-sym, IsPermutation-middle}
 use Rattle.std.specs.List.Sorted.{IsPermutation}
@@ -41,18 +41,3 @@ module _ {X : Type 0} (test : X → Bool) (f : X → X) where
           let swapped : IsPermutation ((n + suc i) ∷ n ∷ p) (n ∷ (n + suc i) ∷ p) = IsPermutation-sym (n ∷ (n + suc i) ∷ p) ((n + suc i) ∷ n ∷ p) (IsPermutation-middle (n ∷ []) (n + suc i) p) in
           let kept : IsPermutation ((n + suc i) ∷ p) q = subst (λ (k : ℕ). IsPermutation (k ∷ p) q) later rest in
           IsPermutation-trans ((n + suc i) ∷ n ∷ p) (n ∷ (n + suc i) ∷ p) (n ∷ q) swapped (IsPermutation-cons n ((n + suc i) ∷ p) q kept)
-
--- there are no more than elements
-pub length-places : {X : Type 0} (test : X → Bool) (n : ℕ) (xs : List X) → length (places test n xs) ≤ length xs
-length-places test n [] = omega arith
-length-places test n (x ∷ xs) = by (test x) (length-places test (n + 1) xs)
-  where
-    by : (b : Bool) → length (places test (n + 1) xs) ≤ length xs → length (cond b (n ∷ places test (n + 1) xs) (places test (n + 1) xs)) ≤ suc (length xs)
-    by true rest = omega (arith, rest)
-    by false rest = omega (arith, rest)
-
--- another element that passes as the old one
-pub places-set : {X : Type 0} (test : X → Bool) (n : ℕ) (xs : List X) (i : ℕ) (x y : X) → i < length xs → x ≡ get_or xs i x → test y ≡ test x → places test n (set xs i y) ≡ places test n xs
-places-set test n [] i x y less read same = absurd (omega arith)
-places-set test n (z ∷ xs) zero x y less read same = ap (λ b. cond b (n ∷ places test (n + 1) xs) (places test (n + 1) xs)) (same ∙ ap test read)
-places-set test n (z ∷ xs) (suc i) x y less read same = ap (λ rest. cond (test z) (n ∷ rest) rest) (places-set test (n + 1) xs i x y (omega arith) read same)

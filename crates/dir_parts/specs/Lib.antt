@@ -4,8 +4,13 @@ pub mod Passes
 pub mod OpenPass
 pub mod Whose
 pub mod Desk
+pub mod Codec
+pub mod Told
+pub mod Rows
+pub mod RowSteps
 pub mod Table
 pub mod TableSteps
+pub mod ToldPoints
 pub mod Events
 pub mod Parts
 pub mod PointLog

@@ -1,5 +1,5 @@
 -- The directory's objects and its history, each with its room.
-use Rattle.std.specs.Prelude.{ℕ, ◌+◌, ◌<◌, ◌≤◌, max, List, [], ◌++◌, length, take, drop, unwrap_or, Contains}
+use Rattle.std.specs.Prelude.{ℕ, Bool, ◌+◌, ◌<◌, ◌≤◌, max, List, [], ◌++◌, length, take, drop, unwrap_or, Contains}
 use Rattle.store_map.specs.declared.actor.Actor.{Actor}
 use Rattle.store_core.specs.Note.{Note}
 use Rattle.store_core.specs.Directory.{Object, Point, Event}
@@ -11,10 +11,11 @@ pub record Shelf : Type 0 where
   pub objects : List Object
   pub room : ℕ
 
--- the points, the names that they may have, and how many more points fit without memory
+-- the points, the names that they may have, whether the points are kept when it runs, and how many more of them fit without memory
 pub record PointLog : Type 0 where
   pub points : List Point
   pub names : List (List ℕ)
+  pub keeps : Bool
   pub room : ℕ
 
 -- a point of an actor's call with this number

@@ -1,12 +1,13 @@
 //! The history: points, and each name that a point may have with the last change of its object.
-ghost use Rattle.std.specs.Prelude.{◌≡◌, ◌+◌, ◌<◌, ◌∷◌, [], ◌++◌, length, ◌≤◌, true, false, get_or, None, Some, bytes_eq, OnOk, OnErr, Contains, option_map};
+ghost use Rattle.std.specs.Prelude.{◌≡◌, ◌+◌, ◌<◌, ◌∷◌, [], ◌++◌, length, ◌≤◌, true, false, get_or, slice_get, None, Some, bytes_eq, OnOk, OnErr, Contains, option_map};
 ghost use Rattle.indexmap.specs.IndexMap.{keys, get, IsUnique, set_value_at};
 ghost use Rattle.store_core.specs.Lookups.{last_change, is_change};
 ghost use Rattle.dir_parts.specs.Events.{reply_in, event_in};
-ghost use Rattle.dir_parts.specs.PointLog.{told_of, told_at, point_in};
+ghost use Rattle.dir_parts.specs.PointLog.{told_of, told_at, point_in, entry_of, spare_in, spare_after};
 ghost use Rattle.dir_parts.specs.Parts.{point_by, KeepsNames};
 
 use crate::passes::{CallNote, Kind};
+use crate::told_points::ToldPoints;
 use indexmap::IndexMap;
 use std::alloc::{AllocError, Global};
 use std::marker::Model;
@@ -40,7 +41,7 @@ pub struct PointEntry {
 }
 
 /// A point of the history, without bytes: the name is a place among the names.
-#[derive(Drop)]
+#[derive(Clone, Copy)]
 pub struct PointRow {
     pub actor: Actor,
     pub number: u32,
@@ -51,10 +52,13 @@ pub struct PointRow {
     pub length: u32,
 }
 
-/// The points, and each name that a point may have with the last change of its object.
+/// The points, and each name that a point may have with the last change of its object. Contracts see
+/// all points; a history that only counts them keeps none when it runs.
 #[derive(Drop)]
 pub struct History {
-    entries: Vec<PointRow>,
+    told: ToldPoints,
+    count: u64,
+    kept: Option<Vec<PointRow>>,
     names: IndexMap<Name, Option<u64>>,
 }
 
@@ -129,11 +133,47 @@ fn insert_name(names: &mut IndexMap<Name, Option<u64>>, name: Name) -> Result<()
     Ok(())
 }
 
+// Takes the room for so many points more, where they are kept.
+fn reserve_kept(kept: &mut Option<Vec<PointRow>>, more: usize) -> Result<(), AllocError>
+    ensures rows { option_map (λ rows. rows.items) kept.new ≡ option_map (λ rows. rows.items) kept.old }
+    ensures room { spare_in kept.old ≤ spare_in kept.new }
+    ensures ok { OnOk result (more ≤ spare_in kept.new) }
+{
+    match kept {
+        Some(rows) => rows.reserve(more),
+        None => Ok(()),
+    }
+}
+
+// One point more, where they are kept.
+fn push_kept(kept: &mut Option<Vec<PointRow>>, point: PointRow)
+    requires { 0 < spare_in kept.old }
+    ensures rows { option_map (λ rows. rows.items) kept.new ≡ option_map (λ rows. rows.items ++ point ∷ []) kept.old }
+    ensures room { spare_in kept.new ≡ spare_after kept.old }
+{
+    if let Some(rows) = kept {
+        rows.push_reserved(point);
+    }
+}
+
+// The point at this place.
+fn point_of(rows: &[PointRow], place: usize) -> Option<PointEntry>
+    ensures { result ≡ option_map entry_of (slice_get rows.now place) }
+{
+    let row = rows.get(place)?;
+    Some(PointEntry {
+        actor: row.actor,
+        number: row.number,
+        event: row.event,
+    })
+}
+
 impl History {
     /// Points may have the name from now on.
     pub fn keep_name(&mut self, name: &Name) -> Result<(), AllocError>
         ensures points { self.new.points ≡ self.old.points }
         ensures room { self.new.room ≡ self.old.room }
+        ensures keeps { self.new.keeps ≡ self.old.keeps }
         ensures named { OnOk result (Contains self.new.names name.now) }
         ensures others { KeepsNames self.old.names self.new.names }
     {
@@ -149,20 +189,40 @@ impl History {
     pub fn reserve(&mut self, more: usize) -> Result<(), AllocError>
         ensures points { self.new.points ≡ self.old.points }
         ensures names { self.new.names ≡ self.old.names }
+        ensures keeps { self.new.keeps ≡ self.old.keeps }
         ensures room { self.old.room ≤ self.new.room }
         ensures ok { OnOk result (more ≤ self.new.room) }
     {
-        self.entries.reserve(more)?;
-        Ok(())
+        if u64::MAX - self.count < more as u64 {
+            return Err(AllocError);
+        }
+        reserve_kept(&mut self.kept, more)
     }
 
-    /// No points.
+    /// No points. Each that comes is kept.
     pub fn new(alloc: Global) -> History
+        ensures points { result.points ≡ [] }
+        ensures names { result.names ≡ [] }
+        ensures keeps { result.keeps ≡ true }
+    {
+        History {
+            told: ToldPoints::new(),
+            count: 0,
+            kept: Some(Vec::new(alloc)),
+            names: IndexMap::new(alloc),
+        }
+    }
+
+    /// No points. Those that come are counted and not kept: what is left of them when it runs is the
+    /// last change of each name.
+    pub fn counting(alloc: Global) -> History
         ensures points { result.points ≡ [] }
         ensures names { result.names ≡ [] }
     {
         History {
-            entries: Vec::new(alloc),
+            told: ToldPoints::new(),
+            count: 0,
+            kept: None,
             names: IndexMap::new(alloc),
         }
     }
@@ -171,7 +231,7 @@ impl History {
     pub fn len(&self) -> usize
         ensures { result ≡ length self.now.points }
     {
-        self.entries.len()
+        self.count as usize
     }
 
     /// The last point at which the object with this name was changed, also where it was deleted then.
@@ -184,16 +244,15 @@ impl History {
         }
     }
 
-    /// The point with this number.
+    /// The point with this number, of a history that keeps its points.
     pub fn get(&self, point: usize) -> Option<PointEntry>
+        requires { self.now.keeps ≡ true }
         ensures { option_map told_of result ≡ told_at self.now.points point }
     {
-        let entry = self.entries.get(point)?;
-        Some(PointEntry {
-            actor: entry.actor,
-            number: entry.number,
-            event: entry.event,
-        })
+        match &self.kept {
+            Some(rows) => point_of(rows, point),
+            None => unreachable!(),
+        }
     }
 
     // One point more, of a name that is kept.
@@ -203,9 +262,12 @@ impl History {
         requires still { is_change (event_in entry.event) ≡ false }
         ensures points { self.new.points ≡ self.old.points ++ point_in self.old.names entry ∷ [] }
         ensures names { self.new.names ≡ self.old.names }
+        ensures keeps { self.new.keeps ≡ self.old.keeps }
         ensures room { self.new.room + 1 ≡ self.old.room }
     {
-        self.entries.push_reserved(entry);
+        self.told.push(&entry);
+        push_kept(&mut self.kept, entry);
+        self.count += 1;
     }
 
     // The same of an event that changes the object.
@@ -215,12 +277,13 @@ impl History {
         requires changes { is_change (event_in entry.event) ≡ true }
         ensures points { self.new.points ≡ self.old.points ++ point_in self.old.names entry ∷ [] }
         ensures names { self.new.names ≡ self.old.names }
+        ensures keeps { self.new.keeps ≡ self.old.keeps }
         ensures room { self.new.room + 1 ≡ self.old.room }
     {
-        let point = self.entries.len() as u64;
-        let name = entry.name;
-        self.entries.push_reserved(entry);
-        set_last(&mut self.names, name, point);
+        self.told.push(&entry);
+        push_kept(&mut self.kept, entry);
+        set_last(&mut self.names, entry.name, self.count);
+        self.count += 1;
     }
 
     /// One point more, of an actor's call. Gives its number.
@@ -230,9 +293,10 @@ impl History {
         ensures point { result ≡ length self.old.points }
         ensures points { self.new.points ≡ self.old.points ++ point_by actor number note.now (event_in event) ∷ [] }
         ensures names { self.new.names ≡ self.old.names }
+        ensures keeps { self.new.keeps ≡ self.old.keeps }
         ensures room { self.new.room + 1 ≡ self.old.room }
     {
-        let point = self.entries.len() as u64;
+        let point = self.count;
         let entry = PointRow {
             actor,
             number,

@@ -4,9 +4,13 @@
 mod history;
 mod objects;
 mod passes;
+mod rows;
+mod told_points;
+mod told_versions;
 mod versions;
 
 pub use history::{Answer, Event, History, PointEntry};
 pub use objects::{Contents, Objects};
 pub use passes::{CallNote, Kind, OpenPass, Passes, Pinned};
-pub use versions::{Versions, base_of};
+pub use rows::base_of;
+pub use versions::Versions;

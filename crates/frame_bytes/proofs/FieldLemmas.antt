@@ -1,11 +1,11 @@
 -- What the fields of a request are made of.
-use Rattle.std.proofs.Common.{◌≡◌, ◌≤◌, ◌<◌, ℕ, nat_le, nat_lt, ◌==◌, ◌&&◌, Bool, true, false, Option, None, Some, List, [], ◌∷◌, length, take, drop, IsSome, Result, Ok, Err, IsErr, refl, sym, ap, subst, ◌∙◌, arith, if◌then◌else◌}
+use Rattle.std.proofs.Common.{◌≡◌, ◌≤◌, ◌<◌, ℕ, nat_le, nat_lt, ◌==◌, ◌&&◌, Bool, true, false, Option, None, Some, List, [], ◌∷◌, length, take, drop, Result, Ok, Err, IsErr, refl, sym, ap, subst, ◌∙◌, arith, if◌then◌else◌}
 use Rattle.std.proofs.lemmas.Bool.{true≢false, false≢true, le-leb, lt-leb, lt-ltb, le-ltb, eqb-true, and_from, and_right}
 use Rattle.std.proofs.lemmas.List.{nil_from_length}
 use Rattle.store_map.specs.Name.{is_name}
 use Rattle.session_rules.specs.declared.request.Request.{Request}
 use Rattle.session_rules.specs.Fields.{Reader, number_then, then_end}
-use Rattle.frame_bytes.specs.Requests.{IsRead, BeginsWithName, BeginsWithNoName, BeginsWithNumber, BeginsWithNoNumber, IsNameAlone, IsNoNameAlone, AreNameAndNumbers, AreNoNameAndNumbers, IsServerAlone, IsNoServerAlone}
+use Rattle.frame_bytes.specs.Requests.{HasName, IsNamed, IsRead, BeginsWithName, BeginsWithNoName, BeginsWithNumber, BeginsWithNoNumber, IsNameAlone, IsNoNameAlone, AreNameAndNumbers, AreNoNameAndNumbers, IsServerAlone, IsNoServerAlone}
 
 -- a name's length goes past the end, or the bytes are no name, or they are one
 pub name_short : (count : ℕ) (bytes : List ℕ) → length bytes < count → BeginsWithNoName (count ∷ bytes)
@@ -101,8 +101,8 @@ no_server servers server fields rest one above request =
 pub numberless : (servers : ℕ) (fields : List ℕ) → BeginsWithNoNumber fields → IsNoServerAlone servers fields
 numberless servers fields none request = none (server_of servers request)
 
--- a request that is there, for which memory was wanting
-pub wanting : {E : Type 0} (request : Option Request) (it : Request) → request ≡ Some it → (r : Result (Option Request) E) → IsErr r →
+-- a request with a name is there, for which memory was wanting
+pub wanting : {E : Type 0} (request : Option Request) (it : Request) → HasName it → request ≡ Some it → (r : Result (Option Request) E) → IsErr r →
     IsRead request r
-wanting request it is (Ok found) bad = absurd (false≢true bad)
-wanting request it is (Err fault) bad = subst IsSome (sym is) refl
+wanting request it named is (Ok found) bad = absurd (false≢true bad)
+wanting request it named is (Err fault) bad = subst IsNamed (sym is) named

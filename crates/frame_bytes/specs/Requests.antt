@@ -1,13 +1,25 @@
 -- How a request is read from the fields of its frame.
-use Rattle.std.specs.Prelude.{◌≡◌, ℕ, Option, None, Some, List, Result, Ok, Err, IsSome}
+use Rattle.std.specs.Prelude.{◌≡◌, ⊤, ℕ, Option, None, Some, List, Result, Ok, Err}
 use Rattle.session_rules.specs.declared.request.Request.{Request}
 use Rattle.session_rules.specs.Fields.{Reader, name_then, number_then, then_end}
 use Rattle.session_rules.specs.Requests.{server_then}
 
--- this was found: the request, if the bytes are one; memory was wanting only for one
+-- a request that has a name, which takes memory of its own
+abbrev pub HasName : Request → Type 0
+HasName (Request.OfMap call) = ⊤
+HasName (Request.Rebuild name stripe server) = ⊤
+HasName (Request.SnapRead name offset count) = ⊤
+HasName request = ⊥
+
+-- there is one, and it has a name
+abbrev pub IsNamed : Option Request → Type 0
+IsNamed None = ⊥
+IsNamed (Some request) = HasName request
+
+-- this was found: the request, if the bytes are one; memory was wanting only for one with a name
 abbrev pub IsRead : {E : Type 0} → Option Request → Result (Option Request) E → Type 0
 IsRead request (Ok found) = found ≡ request
-IsRead request (Err fault) = IsSome request
+IsRead request (Err fault) = IsNamed request
 
 -- a name stands first, and these bytes follow it: whatever is made of them is made of the fields
 abbrev pub BeginsWithName : List ℕ → List ℕ → List ℕ → Type 0

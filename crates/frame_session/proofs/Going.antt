@@ -1,7 +1,5 @@
 -- A store that serves a session, and how far the session has come.
 use Rattle.std.proofs.Common.{◌≡◌, ℕ, ◌+◌, ◌-◌, ◌^◌, ◌<◌, ◌≤◌, List, length, Option, None, Some, Result, Ok, Err, IsTrue, OnOk, OnErr, refl, sym, ap, subst, ◌∙◌, inr, arith}
-use Rattle.std.specs.Option.{IsSome}
-use Rattle.std.proofs.lemmas.Bool.{false≢true}
 use Rattle.clay_bytes.specs.Stream.{Gains, IsPrefixWritten}
 use Rattle.clay_grid.specs.Shape.{Shape, chunk_count}
 use Rattle.clay_grid.specs.Limits.{IsGeometry}
@@ -17,12 +15,13 @@ use Rattle.session_rules.specs.Shortages.{IsServed as IsServedAs, Leaves}
 use Rattle.session_rules.specs.Heals.{to_heal, heal_all}
 use Rattle.frame_bytes.specs.declared.reading.Next.{Next}
 use Rattle.frame_bytes.specs.Next.{IsNext, IsServed, StopsWithin, StopsAtLength}
+use Rattle.frame_bytes.specs.Requests.{IsNamed}
 use Rattle.frame_bytes.specs.Writing.{IsWritable}
 use Rattle.session_store.specs.Stored.{StoreOf}
 use Rattle.session_store.specs.Standing.{StandsAt}
 use Rattle.session_store.specs.Serving.{Serves, ServesAll, served_one}
 use Rattle.frame_session.specs.Fits.{IsBounded}
-use Rattle.frame_session.specs.Session.{IsSession, IsGivenUp, IsWanting, IsCutOff}
+use Rattle.frame_session.specs.Session.{IsSession, IsGivenUp, IsWanting, IsCutShort}
 use Rattle.frame_session.specs.Serving.{Answers, AnswersAll, IsLater, IsLimited, IsBeginning, IsReady, IsWritten, ServesFrame}
 use Rattle.frame_session.proofs.Bounded.{Keeps, answered_keeps, first_bounded}
 use Rattle.frame_session.proofs.Progress.{HasServed, nothing_served, next_served, ended, stopped, stopped_at_length, cut}
@@ -196,7 +195,7 @@ module _ (begun store now : StoreOf) (room : ℕ) (frame : List ℕ) (before lef
 
   -- its answer couldn't be written
   pub is_cut : {X E : Type 0} (fault : E) → ((before : State) → StandsAt store before → ServesFrame {X = X} {E = E} frame before now (Err fault) new newer) →
-      (input : List ℕ) → before ≡ Some input → IsCutOff begun.geometry begun.max input taken old newer
+      (input : List ℕ) → before ≡ Some input → IsCutShort begun.geometry begun.max input taken old newer
   is_cut fault serves input told =
       let served : ServesFrame frame going.state now (Err fault) new newer = serves going.state going.stands in
       cut begun.geometry begun.max input room going.state served.after frame served.answer left taken old new newer (going.so_far input told) next
@@ -216,10 +215,10 @@ module _ (begun store : StoreOf) (room : ℕ) (before left taken old new : Optio
   is_wanting stops input told = stopped_at_length begun.geometry begun.max input room going.state left taken old new (going.so_far input told) stops
 
 -- memory was wanting for some request
-pub any_wanting : (frame : List ℕ) (servers : ℕ) (store : StoreOf) → IsSome (request_of servers frame) → servers ≡ chunk_count store.geometry →
+pub any_wanting : (frame : List ℕ) (servers : ℕ) (store : StoreOf) → IsNamed (request_of servers frame) → servers ≡ chunk_count store.geometry →
     AnswersAll frame store Answer.NoMemory store
-any_wanting frame servers store some same = by (request_of servers frame) refl some
+any_wanting frame servers store named same = by (request_of servers frame) refl named
   where
-    by : (found : Option Request) → request_of servers frame ≡ found → IsSome found → AnswersAll frame store Answer.NoMemory store
-    by None is none = absurd (false≢true none)
-    by (Some request) is some = wanting_answered frame request store (ap (λ n. request_of n frame) (sym same) ∙ is)
+    by : (found : Option Request) → request_of servers frame ≡ found → IsNamed found → AnswersAll frame store Answer.NoMemory store
+    by None is none = absurd none
+    by (Some request) is named = wanting_answered frame request store (ap (λ n. request_of n frame) (sym same) ∙ is)

@@ -18,7 +18,7 @@ use Rattle.frame_bytes.specs.declared.reading.Next.{Next}
 use Rattle.frame_bytes.specs.Next.{next_of, read_to_end, IsNext, IsPart, StopsWithin, StopsAtLength}
 use Rattle.frame_bytes.specs.Inputs.{rest_of, from_next, part_ending}
 use Rattle.frame_bytes.proofs.InputLemmas.{inputs_are_read}
-use Rattle.frame_session.specs.Session.{read_to, AreServed, IsSession, IsWithin, IsGivenUp, IsAtLength, IsWanting, IsCutOff}
+use Rattle.frame_session.specs.Session.{read_to, AreServed, IsSession, IsWithin, IsGivenUp, IsAtLength, IsWanting, IsCutShort}
 
 -- whole frames were read, and so many bytes more are served: whatever follows, they stand first
 pub record HasRead (input : List ℕ) (room : ℕ) (left : Option (List ℕ)) (frames : List (List ℕ)) : Type 0 where
@@ -228,7 +228,7 @@ never_begun g max input old = record {
 pub cut : (g : Shape) (max : ℕ) (input : List ℕ) (room : ℕ) (s after : State) (frame : List ℕ) (answer : Answer) (left now old new newer : Option (List ℕ)) →
     HasServed g max input room s left old new → IsNext room left (Next.Frame frame) now →
     IsAnswered g max (request_of (chunk_count g) frame) s (after, answer) → IsPrefixWritten new (framed (answer_bytes answer)) newer →
-    IsCutOff g max input now old newer
+    IsCutShort g max input now old newer
 cut g max input room s after frame answer left now old new newer h is one some =
     let read : HasRead input (room - (length frame + 4)) now (h.frames ++ frame ∷ []) = next_read input room frame left now h.frames h.read is in
     let answered : HasAnswered g max (h.frames ++ frame ∷ []) (h.answers ++ answer ∷ []) after =

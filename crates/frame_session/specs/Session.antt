@@ -53,7 +53,7 @@ pub record IsWanting (g : Shape) (max : ℕ) (input : List ℕ) (left old new : 
 
 -- a write failed: some whole frames were read and no more, each is answered, and the answers to all but the last are written, then a prefix of
 -- that to the last
-pub record IsCutOff (g : Shape) (max : ℕ) (input : List ℕ) (left old new : Option (List ℕ)) : Type 0 where
+pub record IsCutShort (g : Shape) (max : ℕ) (input : List ℕ) (left old new : Option (List ℕ)) : Type 0 where
   pub got : List ℕ
   pub taken : Gives (Some input) got left
   pub whole : (input_of got).1 ≡ Ending.Done

@@ -4,7 +4,7 @@ use Rattle.session_rules.specs.declared.ending.Ending.{Ending}
 use Rattle.frame_bytes.specs.declared.fault.FrameFault.{FrameFault}
 use Rattle.frame_session.specs.declared.status.SessionStatus.{SessionStatus}
 
--- numbered as those of the program clay, with two more
+-- the program's exit status
 abbrev pub status_number : SessionStatus → ℕ
 status_number SessionStatus.Done = 0
 status_number SessionStatus.Usage = 1

@@ -6,7 +6,7 @@ ghost use Rattle.session_rules.specs.State.{State};
 ghost use Rattle.session_rules.specs.declared.ending.Ending.{Ending};
 ghost use Rattle.session_store.specs.Standing.{StandsAt};
 ghost use Rattle.frame_session.specs.Status.{status_of};
-ghost use Rattle.frame_session.specs.Session.{WhereTold, IsSession, IsGivenUp, IsWanting, IsCutOff};
+ghost use Rattle.frame_session.specs.Session.{WhereTold, IsSession, IsGivenUp, IsWanting, IsCutShort};
 ghost use Rattle.frame_session.specs.Serving.{ServesFrame, IsLater, IsReady, IsBeginning};
 
 use crate::SessionStatus;
@@ -65,7 +65,7 @@ pub(crate) fn serve_frames<R: Threads + Sync, S: Source, K: Sink, C: Coder>(
     ensures wanting { result ≡ SessionStatus.OutOfMemory → WhereTold (S.left source.old) (λ input.
         IsWanting store.old.geometry store.old.max input (S.left source.new) (K.written sink.old) (K.written sink.new)) }
     ensures cut_off { result ≡ SessionStatus.WriteFault → WhereTold (S.left source.old) (λ input.
-        IsCutOff store.old.geometry store.old.max input (S.left source.new) (K.written sink.old) (K.written sink.new)) }
+        IsCutShort store.old.geometry store.old.max input (S.left source.new) (K.written sink.old) (K.written sink.new)) }
     ensures which { result ≡ SessionStatus.Usage → ⊥ }
     ensures read_fault { result ≡ SessionStatus.ReadFault → Rises (S.faults source.old) (S.faults source.new) }
     ensures write_fault { result ≡ SessionStatus.WriteFault → Rises (K.faults sink.old) (K.faults sink.new) }

@@ -6,7 +6,7 @@ ghost use Rattle.session_rules.specs.Input.{input_of};
 ghost use Rattle.session_rules.specs.declared.ending.Ending.{Ending};
 ghost use Rattle.frame_session.specs.Status.{status_of};
 ghost use Rattle.frame_session.specs.Words.{AskNothing, IfAsked};
-ghost use Rattle.frame_session.specs.Session.{WhereTold, IsSession, IsGivenUp, IsWanting, IsCutOff};
+ghost use Rattle.frame_session.specs.Session.{WhereTold, IsSession, IsGivenUp, IsWanting, IsCutShort};
 
 use crate::SessionStatus;
 use crate::serving::serve_frames;
@@ -38,7 +38,7 @@ fn serve_session<R: Threads + Sync, S: Source, K: Sink, C: Coder>(
     ensures wanting { result ≡ SessionStatus.OutOfMemory → WhereTold (S.left source.old) (λ input.
         IsWanting asked.geometry asked.max input (S.left source.new) (K.written sink.old) (K.written sink.new)) }
     ensures cut_off { result ≡ SessionStatus.WriteFault → WhereTold (S.left source.old) (λ input.
-        IsCutOff asked.geometry asked.max input (S.left source.new) (K.written sink.old) (K.written sink.new)) }
+        IsCutShort asked.geometry asked.max input (S.left source.new) (K.written sink.old) (K.written sink.new)) }
     ensures which { result ≡ SessionStatus.Usage → ⊥ }
     ensures read_fault { result ≡ SessionStatus.ReadFault → Rises (S.faults source.old) (S.faults source.new) }
     ensures write_fault { result ≡ SessionStatus.WriteFault → Rises (K.faults sink.old) (K.faults sink.new) }
@@ -93,7 +93,7 @@ pub fn frame_main<R: Threads + Sync, S: Source, K: Sink, C: Coder>(
 
     // A write failed: what was read are whole frames; the answers to all but the last are written, then a prefix of that to the last.
     ensures cut_off { IfAsked (map string_bytes words.now) (λ g max. result ≡ SessionStatus.WriteFault →
-        WhereTold (S.left source.old) (λ input. IsCutOff g max input (S.left source.new) (K.written sink.old) (K.written sink.new))) }
+        WhereTold (S.left source.old) (λ input. IsCutShort g max input (S.left source.new) (K.written sink.old) (K.written sink.new))) }
 
     // A read or a write is blamed only where its count of faults rose; else that count is as it was.
     ensures read_fault { result ≡ SessionStatus.ReadFault → Rises (S.faults source.old) (S.faults source.new) }

@@ -4,4 +4,6 @@
 #[cfg(test)]
 mod columns;
 #[cfg(test)]
+mod coupling;
+#[cfg(test)]
 mod kernels;

@@ -9,7 +9,7 @@ pub mod Plain
 pub mod Begin
 pub mod Room
 pub mod Others
-pub mod LastSweep
+pub mod JoinedTurns
 pub mod Worked
 pub mod Calling
 pub mod Numbers

@@ -8,7 +8,7 @@ ghost use Rattle.run_lists.specs.Plain.{SweepingGoesOn, OperatingGoesOn};
 ghost use Rattle.run_lists.specs.Room.{ActorsHaveRoom};
 ghost use Rattle.run_lists.specs.Others.{OthersAddNothing};
 ghost use Rattle.run_lists.specs.Begin.{AllPlacesBegin, AllBegin};
-ghost use Rattle.run_lists.specs.LastSweep.{JoinedTurnsSeeAll, LastSweepsFall};
+ghost use Rattle.run_lists.specs.JoinedTurns.{JoinedTurnsSeeAll};
 ghost use Rattle.run_lists.specs.Worked.{StatsHaveEnded};
 ghost use Rattle.run_lists.specs.Calling.{CallsKnowThemselves, ActorsHaveNumbers};
 
@@ -67,10 +67,9 @@ pub fn all_places_begin()
     ensures { AllPlacesBegin }
 {}
 
-/// With all turns joined nobody else adds to a history, and the last sweep ends.
-pub fn last_sweeps_end()
-    ensures joined { JoinedTurnsSeeAll }
-    ensures fall { LastSweepsFall }
+/// With all turns joined nobody else adds to a history.
+pub fn joined_turns_see_all()
+    ensures { JoinedTurnsSeeAll }
 {}
 
 /// A small run whose places and actors meet all that is asked of them.

@@ -1,5 +1,5 @@
 -- A session's calls make fewer steps than there are numbers of 64 bits.
-use Rattle.std.proofs.Common.{◌≡◌, ℕ, zero, suc, ◌+◌, ◌-◌, ◌*◌, ◌/◌, ◌^◌, ◌<◌, ◌≤◌, min, List, [], refl, sym, ap, subst, ◌∙◌, arith, mul-le-mul_left}
+use Rattle.std.proofs.Common.{◌≡◌, ℕ, zero, suc, ◌+◌, ◌-◌, ◌*◌, ◌/◌, ◌^◌, ◌<◌, ◌≤◌, min, [], ap, ◌∙◌, arith, mul-le-mul_left}
 use Rattle.std.proofs.Math.Nat.{div-le_of_le-mul}
 use Rattle.clay_grid.specs.Shape.{Shape, chunk_count, node_count, stripe_length}
 use Rattle.clay_grid.specs.Limits.{IsGeometry}

@@ -1,19 +1,19 @@
 -- A call of the map is served.
-use Rattle.std.proofs.Common.{◌≡◌, ◌⊎◌, ℕ, zero, suc, ◌+◌, ◌<◌, ◌≤◌, ◌^◌, Bool, true, false, nat_eq, cond, if◌then◌else◌, List, [], ◌∷◌, length, map, find, Option, None, Some, option_map, unwrap_or, Vec, Contains, refl, sym, ap, subst, ◌∙◌, inl, inr, arith, true≢false}
+use Rattle.std.proofs.Common.{◌≡◌, ◌⊎◌, ℕ, zero, suc, ◌+◌, ◌<◌, ◌≤◌, ◌^◌, false, nat_eq, if◌then◌else◌, List, [], ◌∷◌, length, Option, None, Some, Vec, Contains, refl, sym, ap, subst, ◌∙◌, inl, inr, arith}
 use Rattle.std.specs.Global.{Global}
 use Rattle.std.specs.Prelude.{⊤}
 use Rattle.std.proofs.lemmas.Bool.{ne_eqb}
 use Rattle.std.proofs.lemmas.Option.{same_Some}
 use Rattle.clay_grid.specs.Shape.{Shape, stripe_length}
 use Rattle.clay_grid.specs.Limits.{IsGeometry}
-use Rattle.store_map.specs.PlainMap.{apply, bytes_of}
+use Rattle.store_map.specs.PlainMap.{apply}
 use Rattle.store_map.specs.declared.actor.Actor.{Actor}
 use Rattle.store_map.specs.declared.actor.Actor.TheVariants as actor
 use Rattle.store_map.specs.declared.call.Call.{Call}
 use Rattle.store_map.specs.declared.call.Call.TheVariants as call
 use Rattle.store_map.specs.declared.reply.Reply.{Reply}
 use Rattle.store_map.specs.declared.reply.Reply.TheVariants as reply
-use Rattle.store_core.specs.Act.{Act, DirectoryStep, Outcome}
+use Rattle.store_core.specs.Act.{Act, DirectoryStep}
 use Rattle.store_core.specs.Agreement.{Seat, ActorToken, Agrees, AgreesWithSeat}
 use Rattle.store_core.specs.AtDirectory.{at_directory}
 use Rattle.store_core.specs.Calls.{Calls}
@@ -26,7 +26,6 @@ use Rattle.store_core.specs.Tokens.{actor_of}
 use Rattle.store_resume.specs.State.{first_state}
 use Rattle.store_resume.specs.StateActs.{act_of_state}
 use Rattle.version_seal.specs.Entry.{BookOf}
-use Rattle.stripe_dir.specs.Stamped.{HaveContents}
 use Rattle.session_rules.specs.State.{State}
 use Rattle.session_rules.specs.Serve.{serve}
 use Rattle.session_rules.specs.Shortages.{IsServed}
@@ -35,7 +34,6 @@ use Rattle.session_rules.specs.declared.request.Request.{Request}
 use Rattle.session_laws.specs.Alone.{AtWork}
 use Rattle.session_laws.specs.Outcomes.{outcome_at}
 use Rattle.session_laws.specs.Wants.{wanting_steps}
-use Rattle.session_runs.specs.Seats.{HasEnded}
 use Rattle.session_runs.specs.Between.{seats_after, IsBetween}
 use Rattle.session_runs.specs.Serving.{AreSweptTo}
 use Rattle.session_runs.specs.Answering.{RunsTo, IsAnswered}
@@ -64,7 +62,7 @@ use Rattle.world_lines.specs.declared.outcome.CallOutcome.TheVariants as ended
 use Rattle.store_core.specs.Lookups.{same_actor}
 use Rattle.session_rules.specs.Calls.{serve_call}
 use Rattle.session_store.specs.Answers.{AnswersCall}
-use Rattle.session_store.specs.Kept.{HasSeat, IsServedBy}
+use Rattle.session_store.specs.Kept.{HasSeat, ServesRequest}
 use Rattle.session_store.specs.Serving.{Serves}
 use Rattle.session_store.specs.Standing.{AreKept}
 use Rattle.session_store.specs.Running.{IsLow}
@@ -73,13 +71,14 @@ use Rattle.session_store.proofs.Outcomes.{answer_is, wanting_is, call_answer, re
 use Rattle.session_store.proofs.Seating.{tickets_still}
 use Rattle.session_store.proofs.Standing.{call_epochs, later_epochs}
 use Rattle.session_store.specs.declared.parts.Parts.{Parts}
-use Rattle.session_store.specs.declared.places.Places.{Places}
+use Rattle.session_store.specs.declared.places.SessionPlaces.{SessionPlaces}
 use Rattle.session_store.specs.Inside.{store_of}
 use Rattle.session_store.specs.Kept.{IsStore}
 use Rattle.session_store.specs.Places.{seen_in}
-use Rattle.session_store.specs.Running.{IsKnownBy, KnowsBytes, MayRun, HasRunTo, LookOwes, left_of}
+use Rattle.session_store.specs.CallBytes.{IsKnownBy, KnowsBytes}
+use Rattle.session_store.specs.Running.{MayRun, HasRunTo, LookOwes, left_of}
 use Rattle.session_store.specs.Standing.{StandsAt, seats_at}
-use Rattle.session_store.specs.Sweeping.{IsSwept}
+use Rattle.session_store.specs.Sweeping.{HasSwept}
 use Rattle.session_store.proofs.Bounds.{steps_few}
 use Rattle.session_store.proofs.Knowing.{more, between_more, contents_more}
 use Rattle.session_store.proofs.Numbers.{known_now}
@@ -174,7 +173,7 @@ module _ (parts : Parts) (is : IsStore (store_of parts)) (written : Call) (seat 
   }
 
   -- ---- the call, and the sweeper after it
-  module _ (c : MachineOf) (left now : Places) (ran : HasRunTo first parts.places c left) (outcome : CallOutcome) (over : act_of c.call ≡ Act.Finish (call_outcome_of outcome)) (swept : IsSwept left now) where
+  module _ (c : MachineOf) (left now : SessionPlaces) (ran : HasRunTo first parts.places c left) (outcome : CallOutcome) (over : act_of c.call ≡ Act.Finish (call_outcome_of outcome)) (swept : HasSwept left now) where
     abbrev g : Shape
     g = parts.places.book.geometry
 
@@ -373,7 +372,7 @@ module _ (parts : Parts) (is : IsStore (store_of parts)) (written : Call) (seat 
           stands = stands_after;
         }
 
-      pub call_is_served : IsServedBy (Request.OfMap written) (store_of parts) answer (store_of parts_after)
+      pub call_is_served : ServesRequest (Request.OfMap written) (store_of parts) answer (store_of parts_after)
       call_is_served = record {
         serves = serves_call;
         same = λ i. record { geometry = ap (λ (b : BookOf). b.geometry) book_same i; max = most_same i; served = parts.served + 1; kept = (store_of parts_after).kept };

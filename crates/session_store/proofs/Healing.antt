@@ -1,45 +1,12 @@
 -- Lost chunks that are made anew one after another.
-use Rattle.std.proofs.Common.{◌≡◌, ℕ, zero, suc, ◌+◌, ◌<◌, ◌≤◌, ◌-◌, ◌^◌, Bool, true, false, List, [], ◌∷◌, ◌++◌, length, map, filter, take, drop, set, get_or, slice_get, Some, refl, sym, ap, subst, ◌∙◌, arith, nat_le, if◌then◌else◌}
+use Rattle.std.proofs.Common.{◌≡◌, ℕ, zero, suc, ◌+◌, ◌<◌, ◌≤◌, ◌-◌, ◌^◌, Bool, true, false, List, [], ◌∷◌, ◌++◌, length, map, filter, take, drop, set, get_or, sym, ap, ◌∙◌, arith, nat_le, if◌then◌else◌}
 use Rattle.std.proofs.Math.Numerals.{add-one}
-use Rattle.std.proofs.lemmas.List.{append-nil, length-map}
-use Rattle.std.proofs.lemmas.Bool.{le-leb, lt-leb}
-use Rattle.std.proofs.lemmas.Option.{none-some, same_Some}
+use Rattle.std.proofs.lemmas.List.{length-map}
 use Rattle.session_rules.specs.declared.answer.LostChunk.{LostChunk}
 use Rattle.store_map.specs.declared.call.Rebuild.{Rebuild as RebuildCall}
 use Rattle.session_laws.specs.Heals.{rebuild_of}
-use Rattle.session_store.specs.Healing.{beside, healable, low, added_low}
-use Rattle.session_store.proofs.Lists.{got}
-
--- ---- chunks that were chosen, by one more that is looked at
-module _ {X Y : Type 0} (P : X → Bool) (f : X → Y) where
-  chosen_next : (xs : List X) (i : ℕ) (x : X) → slice_get xs i ≡ Some x → map f (filter P (take (suc i) xs)) ≡ map f (filter P (take i xs)) ++ map f (if P x then x ∷ [] else [])
-  chosen_next [] i x is = absurd (none-some x is)
-  chosen_next (y ∷ ys) zero x is = ap (λ (z : X). map f (if P z then z ∷ [] else [])) (same_Some y x is)
-  chosen_next (y ∷ ys) (suc i) x is = by (P y) (chosen_next ys i x is)
-    where
-      by : (b : Bool) → map f (filter P (take (suc i) ys)) ≡ map f (filter P (take i ys)) ++ map f (if P x then x ∷ [] else []) →
-          map f (if b then y ∷ filter P (take (suc i) ys) else filter P (take (suc i) ys)) ≡ map f (if b then y ∷ filter P (take i ys) else filter P (take i ys)) ++ map f (if P x then x ∷ [] else [])
-      by true rest = ap (λ l. f y ∷ l) rest
-      by false rest = rest
-
-  pub chosen_more : (xs : List X) (i : ℕ) (x : X) → slice_get xs i ≡ Some x → P x ≡ true → map f (filter P (take (i + 1) xs)) ≡ map f (filter P (take i xs)) ++ f x ∷ []
-  chosen_more xs i x is wanted = ap (λ n. map f (filter P (take n xs))) (add-one i) ∙ chosen_next xs i x is ∙ ap (λ (b : Bool). map f (filter P (take i xs)) ++ map f (if b then x ∷ [] else [])) wanted
-
-  pub chosen_same : (xs : List X) (i : ℕ) (x : X) → slice_get xs i ≡ Some x → P x ≡ false → map f (filter P (take (i + 1) xs)) ≡ map f (filter P (take i xs))
-  chosen_same xs i x is left =
-      ap (λ n. map f (filter P (take n xs))) (add-one i) ∙ chosen_next xs i x is ∙ ap (λ (b : Bool). map f (filter P (take i xs)) ++ map f (if b then x ∷ [] else [])) left ∙ append-nil (map f (filter P (take i xs)))
-
-module _ (lost : List LostChunk) (parity most i : ℕ) (chunk : LostChunk) (count : ℕ) (chunks : List RebuildCall) (bound : most ≡ parity) (less : i < length lost) (read : chunk ≡ get_or lost i chunk) (counted : count ≡ beside lost chunk) where
-  abbrev few : LostChunk → Bool
-  few other = nat_le (beside lost other) parity
-
-  pub healed_more : count ≤ most → chunks ≡ map rebuild_of (filter few (take i lost)) → chunks ++ rebuild_of chunk ∷ [] ≡ map rebuild_of (filter few (take (i + 1) lost))
-  healed_more enough so_far =
-      ap (λ (l : List RebuildCall). l ++ rebuild_of chunk ∷ []) so_far
-      ∙ sym (chosen_more few rebuild_of lost i chunk (got lost i chunk less read) (le-leb (beside lost chunk) parity (omega (arith, bound, counted, enough))))
-
-  pub healed_same : most < count → chunks ≡ map rebuild_of (filter few (take i lost)) → chunks ≡ map rebuild_of (filter few (take (i + 1) lost))
-  healed_same more so_far = so_far ∙ sym (chosen_same few rebuild_of lost i chunk (got lost i chunk less read) (lt-leb (beside lost chunk) parity (omega (arith, bound, counted, more))))
+use Rattle.session_store.specs.LostStripes.{beside, healable}
+use Rattle.session_store.specs.Healing.{low, added_low}
 
 -- ---- counts that were added to
 abbrev added_to : List ℕ → List ℕ → ℕ → List ℕ

@@ -1,5 +1,5 @@
 -- The healer makes chunks anew one after another.
-use Rattle.std.proofs.Common.{◌≡◌, ℕ, zero, suc, ◌+◌, ◌<◌, ◌≤◌, ◌^◌, Bool, true, false, List, [], ◌∷◌, ◌++◌, length, map, zip, take, get_or, replicate, slice_get, Option, None, Some, All, refl, sym, ap, subst, ◌∙◌, inr, arith, nat_lt, if◌then◌else◌, true≢false}
+use Rattle.std.proofs.Common.{◌≡◌, ℕ, zero, suc, ◌+◌, ◌<◌, ◌≤◌, ◌^◌, Bool, true, false, List, [], ◌∷◌, ◌++◌, length, take, get_or, replicate, slice_get, None, Some, All, refl, sym, ap, subst, ◌∙◌, inr, arith, nat_lt, if◌then◌else◌, true≢false}
 use Rattle.std.specs.List.{list_any}
 use Rattle.std.proofs.Math.Numerals.{add-one}
 use Rattle.std.proofs.lemmas.List.{length-append, length-replicate, length-take-le, take_all}
@@ -14,15 +14,15 @@ use Rattle.store_core.specs.NextAct.{rebuild_job}
 use Rattle.store_core.specs.Step.{Shortage, Places as CorePlaces}
 use Rattle.version_seal.specs.Entry.{BookOf}
 use Rattle.session_rules.specs.declared.answer.Answer.{Answer}
-use Rattle.session_store.specs.declared.places.Places.{Places}
+use Rattle.session_store.specs.declared.places.SessionPlaces.{SessionPlaces}
 use Rattle.session_runs.specs.Seats.{ran, HasEnded}
 use Rattle.session_runs.specs.Answering.{took}
 use Rattle.call_steps.specs.CallOf.{tries_by, taken_of}
 use Rattle.call_alone.specs.AtWork.{first_at}
 use Rattle.session_store.specs.declared.parts.Parts.{Parts}
 use Rattle.session_store.specs.Places.{seen_in}
-use Rattle.session_store.specs.Healing.{MayHeal, KeepsOthers, is_rebuilt, low, added_low, added_if, HasHealedOne, AreMade, HasMade, IsCutOffAt, HasHealed, AreOfServers, HealsWith}
-use Rattle.session_store.specs.Sweeping.{IsSwept}
+use Rattle.session_store.specs.Healing.{MayHeal, KeepsOthers, is_rebuilt, added_low, added_if, HasHealedOne, AreMade, HasMade, IsCutOffAt, HasHealed, AreOfServers, HealsWith}
+use Rattle.session_store.specs.Sweeping.{HasSwept}
 use Rattle.session_store.proofs.Lists.{got}
 use Rattle.session_store.proofs.HealingOne.{took_length}
 
@@ -154,8 +154,8 @@ pub made_all : (old now : Parts) (chunks : List RebuildCall) (i : ℕ) (taken to
 made_all old now chunks i taken total all m = subst (λ (l : List RebuildCall). HasMade old l taken now total) (take_all i chunks all) m
 
 -- the sweeper after a rebuild that ended otherwise
-pub cut_answered : (old left : Parts) (chunks items : List RebuildCall) (taken counts total : List ℕ) (told : Bool) (places : Places) → chunks ≡ items → taken ≡ counts → told ≡ false →
-    HasHealed old chunks taken told left total → IsSwept left.places places → HealsWith old items counts Answer.NoMemory (record left { places = places })
+pub cut_answered : (old left : Parts) (chunks items : List RebuildCall) (taken counts total : List ℕ) (told : Bool) (places : SessionPlaces) → chunks ≡ items → taken ≡ counts → told ≡ false →
+    HasHealed old chunks taken told left total → HasSwept left.places places → HealsWith old items counts Answer.NoMemory (record left { places = places })
 cut_answered old left chunks items taken counts total told places same also is healed swept =
     inr (record {
       left = left;

@@ -1,10 +1,9 @@
 -- A heal that has made each chunk anew answers what the session answers.
-use Rattle.std.proofs.Common.{◌≡◌, ℕ, zero, suc, ◌+◌, ◌-◌, ◌≤◌, ◌^◌, Bool, true, List, [], ◌∷◌, length, map, replicate, nat_le, if◌then◌else◌, refl, sym, ap, subst, ◌∙◌, arith}
+use Rattle.std.proofs.Common.{◌≡◌, ℕ, zero, suc, ◌+◌, ◌-◌, ◌≤◌, ◌^◌, true, List, [], ◌∷◌, length, map, replicate, if◌then◌else◌, refl, sym, ap, subst, ◌∙◌, arith}
 use Rattle.std.proofs.lemmas.Bool.{le-leb}
 use Rattle.std.proofs.lemmas.List.{length-replicate}
 use Rattle.clay_grid.specs.Shape.{Shape, chunk_count}
 use Rattle.store_map.specs.declared.actor.Actor.TheVariants as actor
-use Rattle.store_map.specs.declared.call.Rebuild.{Rebuild as RebuildCall}
 use Rattle.session_rules.specs.State.{State}
 use Rattle.session_rules.specs.Heals.{lost_chunks, to_heal, numbers_last}
 use Rattle.session_rules.specs.declared.answer.LostChunk.{LostChunk}
@@ -18,7 +17,8 @@ use Rattle.session_store.specs.Kept.{IsStore}
 use Rattle.session_store.specs.Places.{seen_in}
 use Rattle.session_store.specs.Standing.{StandsAt}
 use Rattle.session_store.specs.Stored.{places_in}
-use Rattle.session_store.specs.Healing.{healable, low, AreMade, HasMade}
+use Rattle.session_store.specs.LostStripes.{healable}
+use Rattle.session_store.specs.Healing.{low, AreMade, HasMade}
 use Rattle.session_store.proofs.HealingServed.{lost_of_state}
 use Rattle.session_store.proofs.HealingStripes.{heals_the_same}
 use Rattle.session_store.proofs.HealingTakes.{made_anew, taken_anew}

@@ -1,9 +1,8 @@
 -- What a heal takes is few.
-use Rattle.std.proofs.Common.{◌≡◌, ℕ, suc, ◌+◌, ◌-◌, ◌*◌, ◌<◌, ◌≤◌, ◌^◌, Bool, true, false, nat_eq, List, [], ◌∷◌, length, map, filter, fold, take, get_or, replicate, if◌then◌else◌, refl, sym, ap, subst, ◌∙◌, arith}
+use Rattle.std.proofs.Common.{◌≡◌, ℕ, suc, ◌+◌, ◌-◌, ◌*◌, ◌<◌, ◌≤◌, ◌^◌, Bool, true, false, nat_eq, List, [], ◌∷◌, length, map, filter, fold, take, get_or, if◌then◌else◌, refl, ◌∙◌, arith}
 use Rattle.std.proofs.Math.Nat.{mul-suc}
 use Rattle.std.specs.List.{AllByRecursion}
-use Rattle.clay_grid.specs.Shape.{Shape, chunk_count, row_count, column_count, layer_count}
-use Rattle.clay_grid.specs.Limits.{IsGeometry}
+use Rattle.clay_grid.specs.Shape.{Shape, row_count, column_count, layer_count}
 use Rattle.store_core.specs.Lists.{is_among}
 use Rattle.session_rules.specs.State.{Stripe, State}
 use Rattle.session_rules.specs.Gathered.{holds, lacking}

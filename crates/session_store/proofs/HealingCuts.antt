@@ -36,11 +36,12 @@ use Rattle.session_runs.proofs.Repairs.{has_parity, healed}
 use Rattle.call_steps.specs.CallOf.{tries_by}
 use Rattle.session_store.specs.declared.parts.Parts.{Parts}
 use Rattle.session_store.specs.Inside.{store_of}
-use Rattle.session_store.specs.Kept.{IsStore, IsServedBy}
+use Rattle.session_store.specs.Kept.{IsStore, ServesRequest}
 use Rattle.session_store.specs.Places.{seen_in}
 use Rattle.session_store.specs.Standing.{StandsAt, seats_at}
 use Rattle.session_store.specs.Stored.{places_in}
-use Rattle.session_store.specs.Healing.{healable, is_rebuilt, AreMade, HasCut, HealsWith}
+use Rattle.session_store.specs.LostStripes.{healable}
+use Rattle.session_store.specs.Healing.{is_rebuilt, AreMade, HasCut, HealsWith}
 use Rattle.session_store.proofs.Standing.{healed_epochs}
 use Rattle.session_store.proofs.HealingAll.{take_next}
 use Rattle.session_store.proofs.HealingTakes.{made_anew}
@@ -249,12 +250,12 @@ module _ (parts : Parts) (is : IsStore (store_of parts)) (lost : List LostChunk)
   rest_is : now ≡ after_heal parts is answer now.places has.left.healer has.left.next
   rest_is = has.rest ∙ ap (λ (p : Parts). let q : Parts = record p { places = now.places } in q) has.cut.keeps.rest
 
-  pub heal_cut : IsServedBy Request.Heal (store_of parts) answer (store_of now)
-  heal_cut = subst (λ (p : Parts). IsServedBy Request.Heal (store_of parts) answer (store_of p)) (sym rest_is) (heal_is_served parts is answer now.places has.left.healer has.left.next places_left state_left)
+  pub heal_cut : ServesRequest Request.Heal (store_of parts) answer (store_of now)
+  heal_cut = subst (λ (p : Parts). ServesRequest Request.Heal (store_of parts) answer (store_of p)) (sym rest_is) (heal_is_served parts is answer now.places has.left.healer has.left.next places_left state_left)
 
 -- ---- the heal's end
 module _ (parts : Parts) (is : IsStore (store_of parts)) (lost : List LostChunk) (are : lost ≡ lost_at (places_in (store_of parts))) (few : parts.next + length lost ≤ 2 ^ 32 - 1) (answer : Answer) (now : Parts) where
   pub heal_ended : HealsWith (record parts { served = parts.served + 1 }) (map rebuild_of (healable parts.places.book.geometry.parity_count lost)) (replicate (chunk_count parts.places.book.geometry) 0) answer now →
-      IsServedBy Request.Heal (store_of parts) answer (store_of now)
+      ServesRequest Request.Heal (store_of parts) answer (store_of now)
   heal_ended (inl has) = heal_made parts is lost are few answer now has
   heal_ended (inr has) = heal_cut parts is lost are few answer now has

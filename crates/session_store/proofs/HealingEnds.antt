@@ -28,14 +28,15 @@ use Rattle.session_runs.proofs.HealsAnswered.{heals_are_made}
 use Rattle.session_runs.proofs.HealsTaken.{heals_take_anew}
 use Rattle.call_steps.specs.CallOf.{tries_by}
 use Rattle.session_store.specs.declared.parts.Parts.{Parts}
-use Rattle.session_store.specs.declared.places.Places.{Places}
+use Rattle.session_store.specs.declared.places.SessionPlaces.{SessionPlaces}
 use Rattle.session_store.specs.Inside.{store_of}
-use Rattle.session_store.specs.Kept.{HasSeat, IsStore, IsServedBy}
+use Rattle.session_store.specs.Kept.{HasSeat, IsStore, ServesRequest}
 use Rattle.session_store.specs.Places.{ArePlaces, seen_in}
 use Rattle.session_store.specs.Serving.{Serves}
 use Rattle.session_store.specs.Standing.{StandsAt, AreKept, seats_at}
 use Rattle.session_store.specs.Stored.{places_in}
-use Rattle.session_store.specs.Healing.{healable, low, HoldsBytes, HasAnswered}
+use Rattle.session_store.specs.LostStripes.{healable}
+use Rattle.session_store.specs.Healing.{low, HoldsBytes, HasAnswered}
 use Rattle.session_store.proofs.Numbers.{fresh_later, passed_over}
 use Rattle.session_store.proofs.Seating.{tickets_still}
 use Rattle.session_store.proofs.Standing.{healed_epochs, later_epochs}
@@ -45,7 +46,7 @@ use Rattle.session_store.proofs.HealingAnswered.{chunks_are, numbers_last_so, al
 use Rattle.session_laws.proofs.Pairs.{every_weaker}
 
 -- ---- what it leaves
-module _ (parts : Parts) (is : IsStore (store_of parts)) (answer : Answer) (places : Places) (healer : Option Seat) (next : ℕ) where
+module _ (parts : Parts) (is : IsStore (store_of parts)) (answer : Answer) (places : SessionPlaces) (healer : Option Seat) (next : ℕ) where
   abbrev pub after_heal : Parts
   after_heal = record parts { places = places; healer = healer; next = next; served = parts.served + 1 }
 
@@ -95,7 +96,7 @@ module _ (parts : Parts) (is : IsStore (store_of parts)) (answer : Answer) (plac
       stands = stands_after s at;
     }
 
-    pub heal_is_served : IsServedBy Request.Heal (store_of parts) answer (store_of after_heal)
+    pub heal_is_served : ServesRequest Request.Heal (store_of parts) answer (store_of after_heal)
     heal_is_served = record {
       serves = serves_heal;
       same = λ i. record { geometry = ap (λ (b : BookOf). b.geometry) left.book i; max = left.most i; served = parts.served + 1; kept = (store_of after_heal).kept };
@@ -223,5 +224,5 @@ module _ (parts : Parts) (is : IsStore (store_of parts)) (lost : List LostChunk)
           ∙ healed_snapshot g (length (to_heal g s)) s;
     }
 
-  pub heal_made : IsServedBy Request.Heal (store_of parts) answer (store_of now)
-  heal_made = subst (λ (p : Parts). IsServedBy Request.Heal (store_of parts) answer (store_of p)) (sym has.made.keeps.rest) (heal_is_served parts is answer now.places now.healer now.next places_left state_left)
+  pub heal_made : ServesRequest Request.Heal (store_of parts) answer (store_of now)
+  heal_made = subst (λ (p : Parts). ServesRequest Request.Heal (store_of parts) answer (store_of p)) (sym has.made.keeps.rest) (heal_is_served parts is answer now.places now.healer now.next places_left state_left)

@@ -1,5 +1,5 @@
 -- A rebuild of the healer runs alone.
-use Rattle.std.proofs.Common.{◌≡◌, ℕ, ◌+◌, ◌<◌, ◌≤◌, ◌^◌, Bool, true, false, List, [], ◌∷◌, length, replicate, Option, None, Some, IfSome, refl, sym, ap, subst, ◌∙◌, arith, nat_lt, if◌then◌else◌}
+use Rattle.std.proofs.Common.{◌≡◌, ℕ, ◌+◌, ◌<◌, ◌≤◌, ◌^◌, Bool, true, false, List, [], ◌∷◌, length, replicate, Option, None, Some, IfSome, refl, sym, ap, subst, ◌∙◌, nat_lt, if◌then◌else◌}
 use Rattle.std.specs.List.{list_any}
 use Rattle.std.proofs.lemmas.List.{length-replicate}
 use Rattle.std.proofs.lemmas.Option.{same_Some}
@@ -8,16 +8,16 @@ use Rattle.clay_grid.specs.Limits.{IsGeometry}
 use Rattle.store_map.specs.declared.actor.Actor.{Actor}
 use Rattle.store_map.specs.declared.actor.Actor.TheVariants as actor
 use Rattle.store_map.specs.declared.call.Rebuild.{Rebuild as RebuildCall}
-use Rattle.store_core.specs.Act.{Act, Outcome}
+use Rattle.store_core.specs.Act.{Act}
 use Rattle.store_core.specs.Agreement.{Seat, ActorToken, Agrees, AgreesWithSeat}
 use Rattle.store_core.specs.Calls.{Calls}
 use Rattle.store_core.specs.Lookups.{same_actor}
 use Rattle.store_core.specs.NextAct.{Job, rebuild_job}
 use Rattle.store_core.specs.Server.{raised_by}
-use Rattle.store_core.specs.Step.{Shortage, Places as CorePlaces, at_places, take_from}
+use Rattle.store_core.specs.Step.{Shortage, at_places, take_from}
 use Rattle.store_core.specs.Told.{Told}
 use Rattle.store_core.specs.Tokens.{actor_of}
-use Rattle.store_resume.specs.State.{CallState, first_state}
+use Rattle.store_resume.specs.State.{CallState}
 use Rattle.store_resume.specs.StateActs.{act_of_state}
 use Rattle.version_seal.specs.Entry.{BookOf}
 use Rattle.dir_parts.proofs.TableSteps.{length-change_at}
@@ -33,9 +33,10 @@ use Rattle.call_alone.proofs.Running.{calls_run_alone}
 use Rattle.world_lines.specs.Outcomes.{call_outcome_of}
 use Rattle.world_lines.specs.declared.outcome.CallOutcome.{CallOutcome}
 use Rattle.session_store.specs.declared.parts.Parts.{Parts}
-use Rattle.session_store.specs.declared.places.Places.{Places}
+use Rattle.session_store.specs.declared.places.SessionPlaces.{SessionPlaces}
 use Rattle.session_store.specs.Places.{seen_in}
-use Rattle.session_store.specs.Running.{IsKnownBy, KnowsBytes, IsLow, MayRun, HasRunTo, left_of}
+use Rattle.session_store.specs.CallBytes.{IsKnownBy, KnowsBytes}
+use Rattle.session_store.specs.Running.{IsLow, MayRun, HasRunTo, left_of}
 use Rattle.session_store.specs.Healing.{HoldsBytes, MayHeal, KeepsOthers, is_rebuilt, added_if, HasHealedOne}
 use Rattle.session_store.proofs.Bounds.{rebuild_steps_few}
 
@@ -100,7 +101,7 @@ module _ (old : Parts) (heals : MayHeal old) (it : RebuildCall) (below : it.serv
   }
 
   -- ---- after it
-  module _ (c : MachineOf) (left : Places) (run : HasRunTo first old.places c left) (outcome : CallOutcome) (over : act_of c.call ≡ Act.Finish (call_outcome_of outcome)) (takes : Option (List ℕ)) (takes_are : takes ≡ taken_of c.call.takes) where
+  module _ (c : MachineOf) (left : SessionPlaces) (run : HasRunTo first old.places c left) (outcome : CallOutcome) (over : act_of c.call ≡ Act.Finish (call_outcome_of outcome)) (takes : Option (List ℕ)) (takes_are : takes ≡ taken_of c.call.takes) where
     abbrev g : Shape
     g = old.places.book.geometry
 

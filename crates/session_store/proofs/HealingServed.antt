@@ -1,5 +1,5 @@
 -- A heal is served.
-use Rattle.std.proofs.Common.{◌≡◌, ℕ, suc, ◌+◌, ◌-◌, ◌<◌, ◌≤◌, ◌^◌, Bool, true, false, List, [], ◌∷◌, length, map, filter, nat_le, All, if◌then◌else◌, refl, sym, ap, subst, ◌∙◌, inl, inr, arith}
+use Rattle.std.proofs.Common.{◌≡◌, ◌+◌, ◌-◌, ◌<◌, ◌^◌, List, [], ◌∷◌, length, map, nat_le, All, if◌then◌else◌, refl, sym, ap, subst, ◌∙◌, inl, inr, arith}
 use Rattle.std.specs.List.{AllByRecursion}
 use Rattle.std.proofs.lemmas.Bool.{lt-leb}
 use Rattle.std.proofs.lemmas.List.Elements.{All-nil, All-cons}
@@ -7,7 +7,6 @@ use Rattle.clay_grid.specs.Shape.{chunk_count}
 use Rattle.store_map.specs.declared.call.Rebuild.{Rebuild as RebuildCall}
 use Rattle.session_rules.specs.State.{State}
 use Rattle.session_rules.specs.Heals.{lost_chunks, to_heal, heal_all}
-use Rattle.session_rules.specs.Shortages.{IsServed}
 use Rattle.session_rules.specs.declared.answer.Answer.{Answer}
 use Rattle.session_rules.specs.declared.answer.LostChunk.{LostChunk}
 use Rattle.session_rules.specs.declared.request.Request.{Request}
@@ -18,13 +17,13 @@ use Rattle.session_laws.proofs.Pairs.{every_weaker, every_filter, every_map}
 use Rattle.session_laws.proofs.Scrubs.{scrubs_are_seen}
 use Rattle.session_store.specs.declared.parts.Parts.{Parts}
 use Rattle.session_store.specs.Inside.{store_of}
-use Rattle.session_store.specs.Kept.{IsStore, IsServedBy}
+use Rattle.session_store.specs.Kept.{IsStore, ServesRequest}
 use Rattle.session_store.specs.Standing.{StandsAt}
 use Rattle.session_store.specs.Stored.{StoreOf, places_in}
-use Rattle.session_store.specs.Healing.{beside, healable, MayHeal, AreOfServers}
+use Rattle.session_store.specs.LostStripes.{beside, healable, StandTogether}
+use Rattle.session_store.specs.Healing.{MayHeal, AreOfServers}
+use Rattle.session_store.proofs.StandingTogether.{all_together}
 use Rattle.session_store.proofs.Scrubbing.{one_more, left_served}
-use Rattle.session_store.proofs.HealingBounds.{low_same, few_healed}
-use Rattle.session_store.proofs.HealingStripes.{heals_the_same}
 
 all_of : {X : Type 0} (P : X → Type 0) (xs : List X) → AllByRecursion P xs → All P xs
 all_of P [] all = All-nil P
@@ -36,7 +35,7 @@ module _ (old : StoreOf) (is : IsStore old) (lost : List LostChunk) (are : lost 
   lost_of_state s at = are ∙ sym (scrubs_are_seen old.geometry old.max at.stands (places_in old) s at.between.seen)
 
   -- the healer's numbers don't last
-  pub heal_refused : 2 ^ 32 - 1 < old.kept.next + length lost → IsServedBy Request.Heal old Answer.BadRequest (one_more old)
+  pub heal_refused : 2 ^ 32 - 1 < old.kept.next + length lost → ServesRequest Request.Heal old Answer.BadRequest (one_more old)
   heal_refused many = left_served old is Request.Heal Answer.BadRequest (λ s at. inl (sym (refused s at)))
     where
       refused : (s : State) (at : StandsAt old s) →
@@ -48,7 +47,7 @@ module _ (old : StoreOf) (is : IsStore old) (lost : List LostChunk) (are : lost 
           (lt-leb (s.next + length (lost_chunks old.geometry s)) (2 ^ 32 - 1) (omega (arith, many, next, count)))
 
 -- memory was wanting before the first
-pub heal_wanting : (old : StoreOf) → IsStore old → IsServedBy Request.Heal old Answer.NoMemory (one_more old)
+pub heal_wanting : (old : StoreOf) → IsStore old → ServesRequest Request.Heal old Answer.NoMemory (one_more old)
 heal_wanting old is =
     left_served old is Request.Heal Answer.NoMemory
     (λ s at. inr (
@@ -81,3 +80,6 @@ module _ (parts : Parts) (is : IsStore (store_of parts)) where
       (subst (λ l. AllByRecursion (λ (x : LostChunk). x.server < chunk_count parts.places.book.geometry) l) (sym (lost_of_state (store_of parts) is lost are is.state is.stands))
       (every_weaker (IsLost parts.places.book.geometry is.state is.stands.between.seen.names) (λ (x : LostChunk). x.server < chunk_count parts.places.book.geometry) (λ x lost. lost.server) (lost_chunks parts.places.book.geometry is.state)
       (lost_all parts.places.book.geometry is.state is.stands.between.seen.names)))))
+
+  pub of_one_stripe : (lost : List LostChunk) → lost ≡ lost_at (places_in (store_of parts)) → StandTogether lost
+  of_one_stripe lost are = subst StandTogether (sym (lost_of_state (store_of parts) is lost are is.state is.stands)) (all_together parts.places.book.geometry is.state is.stands.between.seen.names)

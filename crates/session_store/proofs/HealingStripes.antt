@@ -1,28 +1,27 @@
 -- The chunks that a heal makes anew are those that the session heals.
-use Rattle.std.proofs.Common.{◌≡◌, ℕ, zero, suc, ◌+◌, ◌-◌, ◌<◌, ◌≤◌, Bool, true, false, not, cond, ◌&&◌, nat_eq, nat_le, nat_lt, List, [], ◌∷◌, ◌++◌, length, get_or, map, filter, flat_map, bytes_eq, Option, Some, unwrap_or, refl, sym, ap, subst, ◌∙◌, arith, true≢false}
+use Rattle.std.proofs.Common.{◌≡◌, ℕ, zero, suc, ◌+◌, ◌-◌, ◌<◌, ◌≤◌, Bool, true, false, not, cond, ◌&&◌, nat_eq, nat_le, nat_lt, List, [], ◌∷◌, ◌++◌, length, get_or, map, filter, flat_map, bytes_eq, Some, unwrap_or, refl, sym, ap, subst, ◌∙◌, arith}
 use Rattle.std.specs.List.{AllByRecursion, IsDistinct, enumerate_from}
-use Rattle.std.proofs.lemmas.Bool.{eq-eqb, ne_eqb, le-leb, lt-leb, leb-true, leb-false, le-ltb, lt-ltb}
+use Rattle.std.proofs.lemmas.Bool.{eq-eqb, ne_eqb, leb-true, leb-false, le-ltb, lt-ltb}
 use Rattle.std.proofs.lemmas.Cmp.{nat_list_eq_equiv}
-use Rattle.std.proofs.lemmas.List.{length-map, length-append}
 use Rattle.std.proofs.lemmas.Option.{none-some, same_Some}
-use Rattle.clay_grid.specs.Shape.{Shape, chunk_count}
+use Rattle.clay_grid.specs.Shape.{Shape}
 use Rattle.store_map.specs.Laws.{names_of}
 use Rattle.store_map.specs.PlainMap.{bytes_of}
-use Rattle.session_rules.specs.State.{State, numbers_of}
+use Rattle.session_rules.specs.State.{State}
 use Rattle.session_rules.specs.Gathered.{lacking, is_beyond_repair}
 use Rattle.session_rules.specs.Heals.{servers, lost_chunks, number_of, to_heal}
 use Rattle.session_rules.specs.declared.answer.LostChunk.{LostChunk}
 use Rattle.session_laws.proofs.LostChunks.{IsLost, lost_all}
 use Rattle.session_laws.proofs.Pairs.{every_weaker}
 use Rattle.store_sound.proofs.SoundHistory.{same_name}
-use Rattle.session_store.specs.Healing.{is_beside, beside, healable}
+use Rattle.session_store.specs.LostStripes.{is_beside, beside, healable}
 
 -- ---- how many of a list pass a test
 module _ {X : Type 0} (P : X → Bool) where
-  abbrev count : List X → ℕ
+  abbrev pub count : List X → ℕ
   count xs = length (filter P xs)
 
-  count_append : (xs ys : List X) → count (xs ++ ys) ≡ count xs + count ys
+  pub count_append : (xs ys : List X) → count (xs ++ ys) ≡ count xs + count ys
   count_append [] ys = omega arith
   count_append (x ∷ xs) ys = by (P x) (count_append xs ys)
     where
@@ -69,7 +68,7 @@ module _ (g : Shape) (s : State) (chunk : LostChunk) where
   not_here : (name : List ℕ) (stripe : ℕ) → (stripe ≡ chunk.stripe → ⊥) → is_here name stripe ≡ false
   not_here name stripe other = ap (λ b. b && bytes_eq name chunk.name) (ne_eqb stripe chunk.stripe other)
 
-  later_none : (name : List ℕ) (numbers : List ℕ) (k : ℕ) → chunk.stripe < k → counted (flat_map (of_stripe name) (enumerate_from k numbers)) ≡ 0
+  pub later_none : (name : List ℕ) (numbers : List ℕ) (k : ℕ) → chunk.stripe < k → counted (flat_map (of_stripe name) (enumerate_from k numbers)) ≡ 0
   later_none name [] k later = refl
   later_none name (n ∷ numbers) k later =
       let here : counted (of_stripe name (k, n)) ≡ 0 = stripe_by name k false (not_here name k (λ same. omega (arith, same, later))) (lacking (get_or s.stripes n []) (servers g)) in
@@ -97,7 +96,7 @@ module _ (g : Shape) (s : State) (chunk : LostChunk) where
   abbrev of_object : List ℕ × List ℕ → List LostChunk
   of_object object = flat_map (of_stripe object.0) (enumerate_from 0 object.1)
 
-  none_named : (objects : List (List ℕ × List ℕ)) → AllByRecursion (λ name. bytes_eq chunk.name name ≡ false) (names_of objects) → counted (flat_map of_object objects) ≡ 0
+  pub none_named : (objects : List (List ℕ × List ℕ)) → AllByRecursion (λ name. bytes_eq chunk.name name ≡ false) (names_of objects) → counted (flat_map of_object objects) ≡ 0
   none_named [] all = refl
   none_named (object ∷ objects) all =
       let here : counted (of_object object) ≡ 0 = others_none object.0 (nat_list_eq_equiv.symm object.0 chunk.name ∙ all.0) (enumerate_from 0 object.1) in

@@ -1,12 +1,12 @@
 -- What a heal's rebuilds took, as the session counts it.
-use Rattle.std.proofs.Common.{◌≡◌, ℕ, suc, ◌+◌, ◌-◌, ◌<◌, ◌^◌, Bool, true, false, nat_lt, List, [], ◌∷◌, length, map, replicate, Option, None, Some, refl, sym, ap, subst, ◌∙◌, arith, if◌then◌else◌, ◌||◌, true≢false}
+use Rattle.std.proofs.Common.{◌≡◌, ℕ, suc, ◌+◌, ◌-◌, ◌<◌, ◌^◌, Bool, true, false, nat_lt, List, [], ◌∷◌, length, map, replicate, None, Some, refl, sym, ap, ◌∙◌, arith, if◌then◌else◌, ◌||◌, true≢false}
 use Rattle.std.specs.List.{list_any}
 use Rattle.std.proofs.lemmas.Bool.{ltb-false}
 use Rattle.std.proofs.lemmas.List.{length-replicate}
 use Rattle.clay_grid.specs.Shape.{Shape, chunk_count}
 use Rattle.store_map.specs.declared.actor.Actor.{Actor}
 use Rattle.store_core.specs.NextAct.{rebuild_job}
-use Rattle.store_core.specs.Step.{Shortage, Places}
+use Rattle.store_core.specs.Step.{Places}
 use Rattle.session_rules.specs.declared.answer.LostChunk.{LostChunk}
 use Rattle.session_laws.specs.Heals.{rebuild_of}
 use Rattle.session_laws.specs.Takes.{added}

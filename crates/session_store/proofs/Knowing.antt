@@ -1,5 +1,5 @@
 -- A store that knows a call more.
-use Rattle.std.proofs.Common.{◌≡◌, ℕ, ◌+◌, Option, refl, sym, ◌∙◌}
+use Rattle.std.proofs.Common.{◌≡◌, ℕ, ◌+◌, Option, sym, ◌∙◌}
 use Rattle.store_map.specs.declared.call.Call.{Call}
 use Rattle.store_core.specs.Calls.{Calls}
 use Rattle.store_contents.specs.MoreCalls.{AreAmong}

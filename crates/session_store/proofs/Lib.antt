@@ -24,6 +24,8 @@ mod HealingOne
 mod HealingAll
 mod HealingTakes
 mod HealingStripes
+mod Together
+mod StandingTogether
 mod HealingBounds
 mod HealingServed
 mod HealingAnswered

@@ -1,10 +1,10 @@
 -- One element of a list, and what holds of each after it is another.
-use Rattle.std.proofs.Common.{◌≡◌, ℕ, zero, suc, ◌<◌, Bool, List, [], ◌∷◌, length, map, get_or, set, slice_get, length-set, Some, refl, sym, ap, subst, ◌∙◌, arith}
+use Rattle.std.proofs.Common.{◌≡◌, ℕ, zero, suc, ◌<◌, Bool, List, [], ◌∷◌, length, map, get_or, set, slice_get, length-set, Some, sym, ap, subst, ◌∙◌, arith}
 use Rattle.std.proofs.lemmas.Option.{same_Some, none-some}
 use Rattle.store_core.specs.Act.{Act, ServerStep}
 use Rattle.store_core.specs.Directory.{Directory}
 use Rattle.store_core.specs.Server.{Server, at_server}
-use Rattle.store_core.specs.Step.{Places, at_places, at_server_there}
+use Rattle.store_core.specs.Step.{at_places, at_server_there}
 use Rattle.store_core.specs.Told.{Told}
 use Rattle.store_map.specs.declared.actor.Actor.{Actor}
 use Rattle.dir_parts.proofs.Entries.{slice_get-map, map-set}

@@ -1,8 +1,6 @@
 -- A loss is served.
-use Rattle.std.proofs.Common.{◌≡◌, ℕ, ◌+◌, ◌-◌, ◌^◌, ◌≤◌, ◌<◌, false, List, length, map, get_or, set, Option, Some, None, Vec, refl, sym, ap, subst, ◌∙◌, arith, inl}
-use Rattle.std.specs.Global.{Global}
-use Rattle.clay_grid.specs.Shape.{Shape, chunk_count, stripe_length}
-use Rattle.clay_grid.specs.Limits.{IsGeometry}
+use Rattle.std.proofs.Common.{◌≡◌, ℕ, ◌+◌, ◌-◌, ◌^◌, ◌≤◌, ◌<◌, false, length, get_or, set, refl, ap, subst, ◌∙◌, arith, inl}
+use Rattle.clay_grid.specs.Shape.{chunk_count}
 use Rattle.store_map.specs.declared.actor.Actor.TheVariants as actor
 use Rattle.store_map.specs.declared.reply.Reply.TheVariants as reply
 use Rattle.store_core.specs.Act.{Act, ServerStep}
@@ -18,12 +16,10 @@ use Rattle.session_rules.specs.declared.request.Request.{Request}
 use Rattle.session_runs.specs.Between.{IsBetween}
 use Rattle.session_runs.specs.Serving.{IsServedAlone}
 use Rattle.session_runs.proofs.Repairs.{has_parity, loss_served}
-use Rattle.stripe_dir.specs.Sealed.{Sealed}
-use Rattle.session_store.specs.Places.{AreServers}
-use Rattle.session_store.specs.Stored.{StoreOf, places_of, places_in}
+use Rattle.session_store.specs.Stored.{StoreOf, places_in}
 use Rattle.session_store.specs.Standing.{seats_at, StandsAt}
-use Rattle.session_store.specs.Serving.{Serves, served_one}
-use Rattle.session_store.specs.Kept.{HasSeat, IsStore, MayServe, IsServedBy}
+use Rattle.session_store.specs.Serving.{Serves}
+use Rattle.session_store.specs.Kept.{IsStore, ServesRequest}
 use Rattle.session_store.proofs.Lists.{got, servers_set, step_at}
 use Rattle.session_store.proofs.Numbers.{passed_over, fresh_later}
 use Rattle.session_store.proofs.Seating.{seat_later, tickets_later}
@@ -72,7 +68,7 @@ module _ (old : StoreOf) (is : IsStore old) (few : old.served + 1 < 2 ^ 32) (ser
   same_server : (now.number ≡ server) × (now.book ≡ old.kept.book)
   same_server = let there = is.servers.each server s (got old.kept.servers server s less read) in (number ∙ there.0, its ∙ there.1)
 
-  pub loss_is_served : IsServedBy (Request.Lose server) old (Answer.Replied reply.Done) after
+  pub loss_is_served : ServesRequest (Request.Lose server) old (Answer.Replied reply.Done) after
   loss_is_served = record {
     serves = serves;
     same = refl;

@@ -1,7 +1,7 @@
 -- A call's coding and its step as its machine makes them.
-use Rattle.std.proofs.Common.{◌≡◌, ◌⊎◌, ℕ, ◌<◌, Bool, true, false, ◌&&◌, if◌then◌else◌, length, get_or, set, refl, sym, ap, subst, ◌∙◌, inr, true≢false}
+use Rattle.std.proofs.Common.{◌≡◌, ◌⊎◌, ℕ, ◌<◌, Bool, true, false, ◌&&◌, if◌then◌else◌, length, get_or, set, sym, ap, subst, ◌∙◌, inr, true≢false}
 use Rattle.clay_grid.specs.Shape.{chunk_count, stripe_length}
-use Rattle.store_core.specs.Act.{Act, DirectoryStep, Outcome}
+use Rattle.store_core.specs.Act.{Act, DirectoryStep}
 use Rattle.store_core.specs.Agreement.{Agrees}
 use Rattle.store_core.specs.Server.{Server}
 use Rattle.version_seal.specs.Entry.{BookOf}
@@ -10,18 +10,16 @@ use Rattle.chunk_server.specs.State.{ServerState, IsSame}
 use Rattle.stripe_dir.specs.ItsStripes.{IsWhole}
 use Rattle.stripe_dir.specs.Sealed.{Sealed}
 use Rattle.stripe_dir.specs.Stamped.{HasStamps}
-use Rattle.call_steps.specs.declared.need.Need.{Need}
 use Rattle.call_steps.specs.declared.need.Need.TheVariants as need
 use Rattle.call_steps.specs.CallOf.{CallOf, act_of}
 use Rattle.call_steps.specs.Steps.{need_by, need_of, coded, at_server_by, LeadsToAtServer, HoldsItsPass, IsDueInPass, MayMakeNext, IsUndueOncePlaced}
-use Rattle.call_stands.specs.Ready.{ready}
 use Rattle.call_stands.proofs.Codings.{acts_stand}
 use Rattle.call_stands.proofs.Needs.{needs_tell_acts, is_coder}
 use Rattle.call_machine.specs.Calls.{MachineOf, KnowsOldOf}
 use Rattle.call_machine.specs.Kinds.{machine_of, IfRebuilds}
-use Rattle.session_store.specs.declared.places.Places.{Places}
-use Rattle.session_store.specs.Places.{AreServers, AreSame}
-use Rattle.session_store.specs.Running.{HasPlace, IsCoded, MayStep, HasStepped}
+use Rattle.session_store.specs.declared.places.SessionPlaces.{SessionPlaces}
+use Rattle.session_store.specs.Places.{AreServers}
+use Rattle.session_store.specs.Stepping.{HasPlace, IsCoded, MayStep, HasStepped}
 use Rattle.session_store.proofs.Lists.{got, servers_set}
 
 -- ---- the coding
@@ -54,7 +52,7 @@ is_coded c now needs in_pass undue holds may is asked owed knows =
     }
 
 -- ---- the step at a server
-module _ (c after : MachineOf) (p : Places) (may_step : MayStep c p) (i : ℕ) (x one : ServerState) (below : i < chunk_count c.call.book.geometry) (read : x ≡ get_or p.servers.items i x) where
+module _ (c after : MachineOf) (p : SessionPlaces) (may_step : MayStep c p) (i : ℕ) (x one : ServerState) (below : i < chunk_count c.call.book.geometry) (read : x ≡ get_or p.servers.items i x) where
   pub there : i < length p.servers.items
   there = subst (λ n. i < n) (ap (λ (b : BookOf). chunk_count b.geometry) may_step.book ∙ sym may_step.places.servers.count) below
 
@@ -64,7 +62,7 @@ module _ (c after : MachineOf) (p : Places) (may_step : MayStep c p) (i : ℕ) (
   pub its_book : x.book ≡ c.call.book
   its_book = (may_step.places.servers.each i x (got p.servers.items i x there read)).1 ∙ sym may_step.book
 
-  pub stepped_here : (now : Places) → 0 < stripe_length p.directory.core.shape → IsWhole p.directory.core → HasStamps p.directory → need_of c.call ≡ need.Server i → HoldsItsPass c.call → MayMakeNext c.call →
+  pub stepped_here : (now : SessionPlaces) → 0 < stripe_length p.directory.core.shape → IsWhole p.directory.core → HasStamps p.directory → need_of c.call ≡ need.Server i → HoldsItsPass c.call → MayMakeNext c.call →
       LeadsToAtServer c.call (core_of x) after.call (core_of one) → ((d : Sealed) → KnowsOldOf d c → KnowsOldOf d after) → after.asked ≡ c.asked → after.owed ≡ c.owed → IsSame x one →
       now.servers.items ≡ set p.servers.items i one → now.directory ≡ p.directory → now.book ≡ p.book → HasStepped c p after now
   stepped_here now wide whole stamped needs holds may leads knows asked owed same items directory book = record {

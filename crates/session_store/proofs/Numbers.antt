@@ -1,5 +1,5 @@
 -- Numbers that rise, and calls that come to be known.
-use Rattle.std.proofs.Common.{◌≡◌, ℕ, ◌+◌, ◌≤◌, ◌<◌, Bool, true, false, nat_eq, cond, if◌then◌else◌, List, [], ◌∷◌, Option, None, Some, IfSome, IsTrue, refl, sym, ap, subst, ◌∙◌, arith}
+use Rattle.std.proofs.Common.{◌≡◌, ℕ, ◌+◌, ◌≤◌, ◌<◌, Bool, true, false, nat_eq, cond, if◌then◌else◌, List, [], ◌∷◌, Option, None, Some, IfSome, IsTrue, refl, sym, ap, ◌∙◌, arith}
 use Rattle.std.proofs.lemmas.Bool.{eq-eqb, eqb-true, ne_eqb}
 use Rattle.std.proofs.lemmas.List.Elements.{All-weaker}
 use Rattle.std.proofs.lemmas.Option.{none-some}
@@ -8,7 +8,7 @@ use Rattle.clay_grid.specs.Shape.{Shape}
 use Rattle.store_map.specs.declared.actor.Actor.{Actor}
 use Rattle.store_map.specs.declared.actor.Actor.TheVariants as actor
 use Rattle.store_map.specs.declared.call.Call.{Call}
-use Rattle.store_core.specs.Agreement.{ActorToken, Agrees, AreBelow}
+use Rattle.store_core.specs.Agreement.{Agrees, AreBelow}
 use Rattle.store_core.specs.Calls.{Calls}
 use Rattle.store_core.specs.Directory.{Directory, Point}
 use Rattle.store_core.specs.Lookups.{same_actor}

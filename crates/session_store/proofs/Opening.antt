@@ -6,7 +6,7 @@ use Rattle.session_rules.specs.declared.request.Request.{Request}
 use Rattle.session_rules.specs.declared.answer.Answer.{Answer}
 use Rattle.clay_grid.specs.Shape.{Shape}
 use Rattle.snapshot_view.specs.Snapshots.{SnapshotOf}
-use Rattle.session_store.specs.Kept.{IsStore, IsServedBy}
+use Rattle.session_store.specs.Kept.{IsStore, ServesRequest}
 use Rattle.store_map.specs.declared.reply.Reply.{Reply}
 use Rattle.session_store.specs.Serving.{ServesAll, dropped_one}
 use Rattle.session_store.specs.Standing.{AreKept}
@@ -32,13 +32,13 @@ none_open None e = refl
 none_open (Some x) e = absurd (true≢false e)
 
 module _ (old : StoreOf) (is : IsStore old) where
-  pub open_served : IsTrue (is_some old.kept.snapshot) → IsServedBy Request.Snap old Answer.SnapOpen (one_more old)
+  pub open_served : IsTrue (is_some old.kept.snapshot) → ServesRequest Request.Snap old Answer.SnapOpen (one_more old)
   open_served sure = left_served old is Request.Snap Answer.SnapOpen (λ s at. inl (sym (open_is s s.snapshot old.kept.snapshot at.snapshot sure)))
 
-  pub none_dropped : old.kept.snapshot ≡ None → IsServedBy Request.SnapDrop old Answer.NoSnap (one_more old)
+  pub none_dropped : old.kept.snapshot ≡ None → ServesRequest Request.SnapDrop old Answer.NoSnap (one_more old)
   none_dropped none = left_served old is Request.SnapDrop Answer.NoSnap (λ s at. inl (sym (none_is s s.snapshot (subst (AreKept s.snapshot) none at.snapshot))))
 
-  pub none_read_of : (name : List ℕ) (offset count : ℕ) → old.kept.snapshot ≡ None → IsServedBy (Request.SnapRead name offset count) old Answer.NoSnap (one_more old)
+  pub none_read_of : (name : List ℕ) (offset count : ℕ) → old.kept.snapshot ≡ None → ServesRequest (Request.SnapRead name offset count) old Answer.NoSnap (one_more old)
   none_read_of name offset count none =
       left_served old is (Request.SnapRead name offset count) Answer.NoSnap (λ s at. inl (sym (none_read old.geometry name offset count s s.snapshot (subst (AreKept s.snapshot) none at.snapshot))))
 
@@ -46,5 +46,5 @@ module _ (old : StoreOf) (is : IsStore old) where
   pub later : IsStore (one_more old)
   later = (left_served old is Request.SnapDrop Answer.NoMemory (λ s at. inr (refl, refl))).kept
 
-  pub then_dropped : (now : StoreOf) → ServesAll Request.SnapDrop (one_more old) (Answer.Replied Reply.Done) now → now ≡ dropped_one (one_more old) now → IsStore now → IsServedBy Request.SnapDrop old (Answer.Replied Reply.Done) now
+  pub then_dropped : (now : StoreOf) → ServesAll Request.SnapDrop (one_more old) (Answer.Replied Reply.Done) now → now ≡ dropped_one (one_more old) now → IsStore now → ServesRequest Request.SnapDrop old (Answer.Replied Reply.Done) now
   then_dropped now serves same kept = record { serves = λ s at. serves s (stands_more old is s at); same = same; kept = kept }

@@ -21,7 +21,7 @@ use Rattle.session_laws.specs.Outcomes.{lost_as, replied_at, outcome_at}
 use Rattle.world_lines.specs.Outcomes.{call_outcome_of}
 use Rattle.world_lines.specs.declared.outcome.CallOutcome.{CallOutcome}
 use Rattle.world_lines.specs.declared.outcome.CallOutcome.TheVariants as ended
-use Rattle.session_store.specs.Answers.{placed_epoch, found_epoch, missing_in, IsUnavailable, AnswersCall, EndsCall}
+use Rattle.session_store.specs.Answers.{placed_epoch, found_epoch, missing_in, AnswersCall, EndsCall}
 
 -- ---- a call of the map is replied, or its bytes are unavailable
 abbrev pub IsOfCall : Answer → State → State → Type 0

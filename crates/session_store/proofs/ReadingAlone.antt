@@ -47,14 +47,14 @@ use Rattle.session_laws.specs.Wants.{may_code}
 use Rattle.session_runs.specs.Reading.{reading, reading_by, reading_step, reading_steps}
 use Rattle.session_runs.proofs.ReadingSteps.{IsGathering, opened_gathers}
 use Rattle.stripe_dir.specs.Sealed.{Sealed}
-use Rattle.session_store.specs.declared.places.Places.{Places}
+use Rattle.session_store.specs.declared.places.SessionPlaces.{SessionPlaces}
 use Rattle.session_store.specs.Places.{AreServers, AreSame, seen_in}
 use Rattle.session_store.specs.Reading.{stands_by, at_work, MayReadOn, HasCoded, HasAsked, HasReadOn, MayRead, job_from, codings_next, left_of, ReadsOn}
 use Rattle.session_store.proofs.Falling.{IsTold, IsToldMore, told_more, server_fits}
 use Rattle.session_store.proofs.Lists.{got, servers_set, step_at}
 
 -- ---- the step and the coding, as the code makes them
-module _ (r after : ReadOf) (p now : Places) (may : MayReadOn r p) (i : ℕ) (x one : ServerState) (short : Bool) (needs : need.Server i ≡ need_of r) (below : i < chunk_count r.gatherings.book.geometry) (read : x ≡ get_or p.servers.items i x) where
+module _ (r after : ReadOf) (p now : SessionPlaces) (may : MayReadOn r p) (i : ℕ) (x one : ServerState) (short : Bool) (needs : need.Server i ≡ need_of r) (below : i < chunk_count r.gatherings.book.geometry) (read : x ≡ get_or p.servers.items i x) where
   there : i < length p.servers.items
   there = subst (λ n. i < n) (ap (λ (b : BookOf). chunk_count b.geometry) may.book ∙ sym may.places.servers.count) below
 
@@ -112,7 +112,7 @@ abbrev standing : State → CorePlaces → AtWork
 standing at q = record { call = record { pairs = []; at = at }; places = q }
 
 -- ---- a step at a server
-module _ (r after : ReadOf) (p now : Places) (t : HasAsked r p after now) where
+module _ (r after : ReadOf) (p now : SessionPlaces) (t : HasAsked r p after now) where
   asks : (r.ended ≡ None) × (progress_of r.gatherings ≡ progress.Asks t.server)
   asks = asks_by r.ended (progress_of r.gatherings) t.server t.needs
 
@@ -173,7 +173,7 @@ module _ (g : Shape) (q : CorePlaces) (parts : List Part) where
       ∙ ap (λ b. going_on (wanting_if b)) (open_in_pass g 0 reading [] (Sequel.Serve 0) parts)
       ∙ ap going_on (open_short g 0 reading [] (Sequel.Serve 0) parts)
 
-module _ (r after : ReadOf) (p now : Places) (t : HasCoded r p after now) where
+module _ (r after : ReadOf) (p now : SessionPlaces) (t : HasCoded r p after now) where
   due : (r.ended ≡ None) × (progress_of r.gatherings ≡ progress.Due)
   due = due_by r.ended (progress_of r.gatherings) t.needs
 
@@ -211,7 +211,7 @@ no_coding need.Finished other = refl
 target : (g : Shape) (start : ℕ) → HasTarget g (job_from start)
 target g start kind = absurd (cc (kind))
 
-pub reads_none : (first : ReadOf) (before : Places) → MayRead first before → ReadsOn first before first before 0
+pub reads_none : (first : ReadOf) (before : SessionPlaces) → MayRead first before → ReadsOn first before first before 0
 reads_none first before may = record {
   ran = record { shortages = []; run = refl; same = record { places = may.places; book = refl }; directory = refl; book = may.book; reply = λ given e. e };
   start = may.start;
@@ -233,13 +233,13 @@ reads_none first before may = record {
       omega (arith, begun, many, coding, few);
 }
 
-pub may_read_on : (first r : ReadOf) (before p : Places) (count : ℕ) → ReadsOn first before r p count → MayReadOn r p
+pub may_read_on : (first r : ReadOf) (before p : SessionPlaces) (count : ℕ) → ReadsOn first before r p count → MayReadOn r p
 may_read_on first r before p count on = record {
   places = on.ran.same.places;
   book = on.ran.book ∙ sym on.ran.same.book;
 }
 
-module _ (first r after : ReadOf) (before p now : Places) (count : ℕ) (on : ReadsOn first before r p count) (s : HasReadOn r p after now) where
+module _ (first r after : ReadOf) (before p now : SessionPlaces) (count : ℕ) (on : ReadsOn first before r p count) (s : HasReadOn r p after now) where
   abbrev shape : Shape
   shape = before.book.geometry
 
@@ -258,7 +258,7 @@ module _ (first r after : ReadOf) (before p now : Places) (count : ℕ) (on : Re
   coded_more t short is = by short is
     where
       directory : now.directory ≡ before.directory
-      directory = ap (λ (q : Places). q.directory) t.left ∙ on.ran.directory
+      directory = ap (λ (q : SessionPlaces). q.directory) t.left ∙ on.ran.directory
 
       left : left_of on.start before on.told + codings_next (need_of after) + (count + 1) ≤ 2 ^ 63
       left =
@@ -348,7 +348,7 @@ module _ (first r after : ReadOf) (before p now : Places) (count : ℕ) (on : Re
       by (inr t) = asked_more t
 
 -- so it is over before the numbers of 64 bits are
-pub never_out : (first r : ReadOf) (before p : Places) (count : ℕ) → ReadsOn first before r p count → 2 ^ 64 ≤ count + 1 → ⊥
+pub never_out : (first r : ReadOf) (before p : SessionPlaces) (count : ℕ) → ReadsOn first before r p count → 2 ^ 64 ≤ count + 1 → ⊥
 never_out first r before p count on out =
     let so_far : left_of on.start before on.told + codings_next (need_of r) + count ≤ 2 ^ 63 = on.left in
     let a : ℕ = call_left before.book.geometry 0 0 (job_from on.start) on.told in

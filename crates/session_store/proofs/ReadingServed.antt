@@ -69,12 +69,12 @@ use Rattle.session_runs.specs.Answering.{ReadsTo, IsAnswered}
 use Rattle.session_runs.specs.Reading.{begun, reading_steps}
 use Rattle.session_runs.specs.Snapshots.{kept_parts, gathered_as}
 use Rattle.session_runs.proofs.KeptReadsServed.{snap_reads_are_answered}
-use Rattle.session_store.specs.declared.places.Places.{Places}
+use Rattle.session_store.specs.declared.places.SessionPlaces.{SessionPlaces}
 use Rattle.session_store.specs.Places.{AreServers, seen_in as places_seen}
 use Rattle.session_store.specs.Stored.{StoreOf, places_in}
 use Rattle.session_store.specs.Standing.{readers, seats_at}
 use Rattle.session_store.specs.Serving.{Serves}
-use Rattle.session_store.specs.Kept.{IsServedBy}
+use Rattle.session_store.specs.Kept.{ServesRequest}
 use Rattle.session_store.specs.Answers.{missing_in, AnswersRead}
 use Rattle.session_store.specs.Reading.{stands_by, state_of_read, at_work, HasReadTo}
 use Rattle.session_store.proofs.Numbers.{passed_over, fresh_later}
@@ -353,8 +353,8 @@ module _ (parts : Parts) (may : MayServe (store_of parts)) (s : SnapshotOf) (is_
         (ap (λ (where_it_is : CallAt). let w : AtWork = record { call = record { pairs = []; at = where_it_is }; places = places_seen parts.places } in w) (begins_by r.ended refl))
 
     -- ---- its end
-    module _ (last : ReadOf) (now : Places) (ran : HasReadTo r parts.places last now) where
-      abbrev after : Places
+    module _ (last : ReadOf) (now : SessionPlaces) (ran : HasReadTo r parts.places last now) where
+      abbrev after : SessionPlaces
       after = record (parts.places) { servers = now.servers }
 
       abbrev request : Request
@@ -474,11 +474,11 @@ module _ (parts : Parts) (may : MayServe (store_of parts)) (s : SnapshotOf) (is_
           served = by (ended.fits first answered.0.served.1 (choice answered.0.allowed) answered.1)
 
   -- ---- from every state
-  module _ (last : ReadOf) (now : Places) (ran : HasReadTo r parts.places last now) where
+  module _ (last : ReadOf) (now : SessionPlaces) (ran : HasReadTo r parts.places last now) where
     pub read_is_served : (how : SnapOutcome) (answer : Answer) → EndsAs last how → AnswersRead how answer →
-        IsServedBy (Request.SnapRead name offset count) (store_of parts) answer (store_of (record parts { places = now; served = parts.served + 1 }))
+        ServesRequest (Request.SnapRead name offset count) (store_of parts) answer (store_of (record parts { places = now; served = parts.served + 1 }))
     read_is_served how answer e answers =
-        subst (λ (p : Places). IsServedBy (Request.SnapRead name offset count) (store_of parts) answer (store_of (record parts { places = p; served = parts.served + 1 }))) (sym now_here)
+        subst (λ (p : SessionPlaces). ServesRequest (Request.SnapRead name offset count) (store_of parts) answer (store_of (record parts { places = p; served = parts.served + 1 }))) (sym now_here)
         (record { serves = λ state at. serves_here state at last now ran how answer e answers; same = refl; kept = kept_after })
       where
         now_here : now ≡ record (parts.places) { servers = now.servers }

@@ -1,16 +1,10 @@
 -- The answer to a rebuild that ended so is the session's.
-use Rattle.std.proofs.Common.{◌≡◌, ◌⊎◌, ℕ, Bool, true, false, List, [], ◌∷◌, length, map, find, Option, None, Some, option_map, unwrap_or, Vec, refl, sym, ap, subst, ◌∙◌, inl, inr, arith, true≢false, nat_lt, get_or, if◌then◌else◌}
-use Rattle.std.specs.Global.{Global}
+use Rattle.std.proofs.Common.{◌≡◌, ◌⊎◌, ℕ, Bool, true, false, List, [], ◌∷◌, length, map, refl, sym, ap, ◌∙◌, inl, inr, arith, true≢false, nat_lt, get_or, if◌then◌else◌}
 use Rattle.std.specs.Prelude.{⊤}
 use Rattle.clay_grid.specs.Shape.{Shape}
-use Rattle.store_map.specs.PlainMap.{apply, bytes_of}
-use Rattle.store_map.specs.declared.actor.Point.{Point}
-use Rattle.store_map.specs.declared.call.Call.{Call}
-use Rattle.store_map.specs.declared.placement.LostChunk.{LostChunk}
-use Rattle.store_map.specs.declared.reply.Reply.{Reply}
 use Rattle.store_map.specs.declared.reply.Reply.TheVariants as reply
 use Rattle.store_core.specs.Act.{Outcome}
-use Rattle.store_core.specs.Told.{Lost, lost_in}
+use Rattle.store_core.specs.Told.{Lost}
 use Rattle.session_rules.specs.State.{Stripe, State}
 use Rattle.session_rules.specs.Gathered.{holds, is_beyond_repair, named}
 use Rattle.session_rules.specs.Rebuilds.{place_anew, rebuild_one, rebuild}

@@ -1,72 +1,47 @@
 -- A rebuild is served.
-use Rattle.std.proofs.Common.{◌≡◌, ◌⊎◌, ℕ, zero, suc, ◌+◌, ◌<◌, ◌≤◌, ◌^◌, Bool, true, false, nat_eq, cond, if◌then◌else◌, List, [], ◌∷◌, length, map, find, Option, None, Some, option_map, unwrap_or, Vec, Contains, refl, sym, ap, subst, ◌∙◌, inl, inr, arith, true≢false}
-use Rattle.std.specs.Global.{Global}
+use Rattle.std.proofs.Common.{◌≡◌, ◌⊎◌, ℕ, ◌+◌, ◌<◌, ◌≤◌, ◌^◌, false, if◌then◌else◌, [], ◌∷◌, Option, Some, refl, sym, ap, subst, ◌∙◌, inl, inr, arith}
 use Rattle.std.specs.Prelude.{⊤}
-use Rattle.std.proofs.lemmas.Bool.{ne_eqb}
 use Rattle.std.proofs.lemmas.Option.{same_Some}
 use Rattle.clay_grid.specs.Shape.{Shape, chunk_count, stripe_length}
 use Rattle.clay_grid.specs.Limits.{IsGeometry}
-use Rattle.store_map.specs.PlainMap.{apply, bytes_of}
 use Rattle.store_map.specs.declared.actor.Actor.{Actor}
 use Rattle.store_map.specs.declared.actor.Actor.TheVariants as actor
-use Rattle.store_map.specs.declared.call.Call.{Call}
 use Rattle.store_map.specs.declared.call.Call.TheVariants as call
-use Rattle.store_map.specs.declared.reply.Reply.{Reply}
 use Rattle.store_map.specs.declared.reply.Reply.TheVariants as reply
-use Rattle.store_core.specs.Act.{Act, DirectoryStep, Outcome}
+use Rattle.store_core.specs.Act.{Act}
 use Rattle.store_core.specs.Agreement.{Seat, ActorToken, Agrees, AgreesWithSeat}
-use Rattle.store_core.specs.AtDirectory.{at_directory}
-use Rattle.store_core.specs.Calls.{Calls}
-use Rattle.store_core.specs.NextAct.{Job, rebuild_job}
+use Rattle.store_core.specs.NextAct.{rebuild_job}
 use Rattle.store_map.specs.declared.call.Rebuild.{Rebuild as RebuildCall}
-use Rattle.store_core.specs.Note.{Kind, note_of}
-use Rattle.store_core.specs.Read.{parts_of}
-use Rattle.store_core.specs.Step.{Shortage, Places as CorePlaces}
-use Rattle.store_core.specs.Told.{Seen, Told}
+use Rattle.store_core.specs.Step.{Places as CorePlaces}
 use Rattle.store_core.specs.Tokens.{actor_of}
 use Rattle.store_resume.specs.State.{first_state}
 use Rattle.store_resume.specs.StateActs.{act_of_state}
 use Rattle.version_seal.specs.Entry.{BookOf}
-use Rattle.stripe_dir.specs.Stamped.{HaveContents}
 use Rattle.session_rules.specs.State.{State, numbers_of}
-use Rattle.session_rules.specs.Serve.{serve}
 use Rattle.session_rules.specs.Shortages.{IsServed}
 use Rattle.session_rules.specs.declared.answer.Answer.{Answer}
 use Rattle.session_rules.specs.declared.request.Request.{Request}
 use Rattle.session_laws.specs.Alone.{AtWork}
 use Rattle.session_laws.specs.Rebuilds.{rebuilt_as}
 use Rattle.session_laws.specs.Wants.{wanting_steps}
-use Rattle.session_runs.specs.Seats.{HasEnded}
 use Rattle.session_runs.specs.Between.{seats_after, IsBetween}
 use Rattle.session_runs.specs.Serving.{AreSweptTo}
 use Rattle.session_runs.specs.Answering.{RunsTo, IsAnswered}
 use Rattle.session_runs.proofs.RebuildsAnswered.{rebuilds_are_answered}
 use Rattle.session_runs.proofs.Answers.{rebuild_next, rebuild_snapshot}
 use Rattle.session_runs.proofs.Repairs.{has_parity}
-use Rattle.call_steps.specs.CallOf.{tries_by, act_of}
+use Rattle.call_steps.specs.CallOf.{act_of}
 use Rattle.call_machine.specs.Calls.{MachineOf, first_call, tries_in}
-use Rattle.call_machine.specs.Kinds.{Asked, Machine, machine_of, client_machine, IfReads}
+use Rattle.call_machine.specs.Kinds.{Asked, Machine}
 use Rattle.call_alone.specs.AtWork.{HasRun}
 use Rattle.call_alone.proofs.Running.{calls_run_alone}
 use Rattle.world_lines.specs.Outcomes.{call_outcome_of}
 use Rattle.world_lines.specs.declared.outcome.CallOutcome.{CallOutcome}
-use Rattle.store_map.specs.declared.actor.Point.{Point}
-use Rattle.store_core.specs.Content.{contents_by}
-use Rattle.store_reads.specs.ReadLaws.{bytes_read}
-use Rattle.client_read.specs.Owed.{contents_of}
-use Rattle.call_owes.specs.Owes.{OwesBy}
-use Rattle.call_owes.specs.OwesLaws.{AreAmong}
-use Rattle.call_owes.proofs.Owing.{at_end_owes}
-use Rattle.call_owes.proofs.Stamped.{contents_read}
-use Rattle.call_machine.specs.Ends.{IfBytesServed}
-use Rattle.session_bytes.proofs.Maps.{bytes_are_owed}
-use Rattle.session_runs.proofs.Clients.{of_client}
-use Rattle.session_runs.proofs.Kept.{begins}
 use Rattle.world_lines.specs.declared.outcome.CallOutcome.TheVariants as ended
 use Rattle.store_core.specs.Lookups.{same_actor}
 use Rattle.session_rules.specs.Rebuilds.{rebuild}
 use Rattle.session_store.specs.Answers.{AnswersRebuild, EndsRebuild}
-use Rattle.session_store.specs.Kept.{HasSeat, IsServedBy}
+use Rattle.session_store.specs.Kept.{HasSeat, ServesRequest}
 use Rattle.session_store.specs.Serving.{Serves}
 use Rattle.session_store.specs.Standing.{AreKept}
 use Rattle.session_store.specs.Running.{IsLow}
@@ -75,13 +50,14 @@ use Rattle.session_store.proofs.RebuildOutcomes.{rebuild_answer, rebuild_is, reb
 use Rattle.session_store.proofs.Seating.{tickets_still}
 use Rattle.session_store.proofs.Standing.{rebuild_epochs, later_epochs}
 use Rattle.session_store.specs.declared.parts.Parts.{Parts}
-use Rattle.session_store.specs.declared.places.Places.{Places}
+use Rattle.session_store.specs.declared.places.SessionPlaces.{SessionPlaces}
 use Rattle.session_store.specs.Inside.{store_of}
 use Rattle.session_store.specs.Kept.{IsStore}
 use Rattle.session_store.specs.Places.{seen_in}
-use Rattle.session_store.specs.Running.{IsKnownBy, KnowsBytes, MayRun, HasRunTo, LookOwes, left_of}
+use Rattle.session_store.specs.CallBytes.{IsKnownBy, KnowsBytes}
+use Rattle.session_store.specs.Running.{MayRun, HasRunTo, left_of}
 use Rattle.session_store.specs.Standing.{StandsAt, seats_at}
-use Rattle.session_store.specs.Sweeping.{IsSwept}
+use Rattle.session_store.specs.Sweeping.{HasSwept}
 use Rattle.session_store.proofs.Bounds.{rebuild_steps_few}
 
 module _ (parts : Parts) (is : IsStore (store_of parts)) (it : RebuildCall) (below : it.server < chunk_count parts.places.book.geometry) (seat : Seat) (seat_is : parts.repairer ≡ Some seat) (first : MachineOf) (opening : BookOf)
@@ -126,7 +102,7 @@ module _ (parts : Parts) (is : IsStore (store_of parts)) (it : RebuildCall) (bel
   }
 
   -- ---- the rebuild, and the sweeper after it
-  module _ (c : MachineOf) (left now : Places) (ran : HasRunTo first parts.places c left) (outcome : CallOutcome) (over : act_of c.call ≡ Act.Finish (call_outcome_of outcome)) (swept : IsSwept left now) where
+  module _ (c : MachineOf) (left now : SessionPlaces) (ran : HasRunTo first parts.places c left) (outcome : CallOutcome) (over : act_of c.call ≡ Act.Finish (call_outcome_of outcome)) (swept : HasSwept left now) where
     abbrev g : Shape
     g = parts.places.book.geometry
 
@@ -229,7 +205,7 @@ module _ (parts : Parts) (is : IsStore (store_of parts)) (it : RebuildCall) (bel
           stands = stands_after;
         }
 
-      pub rebuild_is_served : IsServedBy request (store_of parts) answer (store_of parts_after)
+      pub rebuild_is_served : ServesRequest request (store_of parts) answer (store_of parts_after)
       rebuild_is_served = record {
         serves = serves_rebuild;
         same = λ i. record { geometry = ap (λ (b : BookOf). b.geometry) book_same i; max = most_same i; served = parts.served + 1; kept = (store_of parts_after).kept };

@@ -1,44 +1,35 @@
 -- A call that runs alone goes on step by step.
-use Rattle.std.proofs.Common.{◌≡◌, ◌⊎◌, ℕ, ◌+◌, ◌<◌, ◌≤◌, Bool, true, false, ◌&&◌, if◌then◌else◌, List, [], ◌∷◌, ◌++◌, length, map, set, slice_get, replicate, Option, None, Some, IfSome, option_map, refl, sym, ap, subst, ◌∙◌, inl, inr, arith, true≢false}
-use Rattle.std.proofs.lemmas.List.{append-nil, length-replicate}
-use Rattle.std.specs.Prelude.{⊤, IsTrue}
-use Rattle.clay_grid.specs.Shape.{Shape, chunk_count, stripe_length}
+use Rattle.std.proofs.Common.{◌≡◌, ◌⊎◌, ℕ, ◌+◌, ◌<◌, ◌≤◌, Bool, true, false, ◌&&◌, if◌then◌else◌, List, [], ◌∷◌, ◌++◌, Option, None, Some, refl, sym, ap, subst, ◌∙◌, inl, inr}
+use Rattle.std.proofs.lemmas.List.{append-nil}
+use Rattle.std.specs.Prelude.{⊤}
+use Rattle.clay_grid.specs.Shape.{stripe_length}
 use Rattle.store_map.specs.declared.actor.Actor.{Actor}
 use Rattle.store_map.specs.declared.call.Call.{Call}
 use Rattle.store_map.specs.declared.call.Call.TheVariants as call
-use Rattle.store_core.specs.Act.{Act, DirectoryStep, ServerStep, Outcome}
+use Rattle.store_core.specs.Act.{Act, DirectoryStep}
 use Rattle.store_core.specs.Agreement.{HeldPass, ActorToken, Agrees}
 use Rattle.store_core.specs.AtDirectory.{at_directory, on_pass, unless_reaped}
-use Rattle.store_core.specs.Bounds.{touched_count}
-use Rattle.store_core.specs.Calls.{Calls, IsOfCall}
-use Rattle.store_core.specs.Conditions.{MayStep as MayStepThere}
-use Rattle.store_core.specs.Directory.{Pass, Directory, new_directory}
-use Rattle.store_core.specs.Lookups.{same_actor, pass_of}
-use Rattle.store_core.specs.NextAct.{Job, job_of, next_act}
+use Rattle.store_core.specs.Calls.{Calls}
+use Rattle.store_core.specs.Directory.{Directory}
+use Rattle.store_core.specs.Lookups.{pass_of}
+use Rattle.store_core.specs.NextAct.{Job}
 use Rattle.store_core.specs.Note.{Kind, Note, note_of}
 use Rattle.store_core.specs.PassSteps.{draw}
-use Rattle.store_core.specs.Tell.{tell}
 use Rattle.store_core.specs.Told.{Told}
-use Rattle.store_core.specs.Tokens.{actor_of, MayGoOn, IsToWrite}
-use Rattle.store_sound.proofs.OwnSteps.{agreement_goes_on}
-use Rattle.store_contents.proofs.ContentSteps.{steps_keep_bytes}
-use Rattle.store_contents.proofs.MoreCalls.{steps_keep_drawn}
-use Rattle.version_seal.specs.Entry.{BookOf, StampOf, RequestOf, call_written}
-use Rattle.stripe_dir.specs.Sealed.{Sealed, stamps_touched}
+use Rattle.store_core.specs.Tokens.{actor_of, IsToWrite}
+use Rattle.version_seal.specs.Entry.{StampOf, RequestOf, call_written}
+use Rattle.stripe_dir.specs.Sealed.{Sealed}
 use Rattle.stripe_dir.specs.Stamped.{HaveContents, HasStamps}
 use Rattle.stripe_dir.specs.ItsStripes.{IsWhole}
 use Rattle.stripe_dir.proofs.StampSteps.{stamps_keep_contents}
-use Rattle.call_steps.specs.declared.need.Need.{Need}
 use Rattle.call_steps.specs.declared.need.Need.TheVariants as need
 use Rattle.call_steps.specs.TokenAfter.{MayMake, IfInCall}
-use Rattle.call_steps.specs.CallOf.{CallOf, act_of}
-use Rattle.call_steps.specs.Steps.{need_of, at_directory_by, stepped_at_directory, LeadsTo, HoldsItsPass, MayMakeNext, IsUndueOncePlaced}
+use Rattle.call_steps.specs.CallOf.{act_of}
+use Rattle.call_steps.specs.Steps.{HoldsItsPass, MayMakeNext}
 use Rattle.write_course.specs.Draws.{stamps_told, stamps_drawn, stamps_by, stamps_of_draw, request_of}
 use Rattle.call_machine.specs.Calls.{MachineOf, drawn_in, drawn_for, drawn_by}
 use Rattle.call_machine.specs.Kinds.{Asked, asked_job, Machine, client_machine}
-use Rattle.session_store.specs.declared.places.Places.{Places}
-use Rattle.session_store.specs.Running.{IsKnownBy, KnowsBytes}
-use Rattle.session_rules.specs.State.{State as Session}
+use Rattle.session_store.specs.CallBytes.{IsKnownBy}
 
 -- ---- what a step at the directory keeps of bytes and contents
 module _ (calls : Calls) (d now : Sealed) (wide : 0 < stripe_length d.core.shape) (whole : IsWhole d.core) (stamped : HasStamps d) (free : d.book.script ≡ None) (contents : HaveContents calls d) where

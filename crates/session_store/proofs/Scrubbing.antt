@@ -1,12 +1,11 @@
 -- A scrub is served, and so is what leaves the places.
-use Rattle.std.proofs.Common.{◌≡◌, ◌⊎◌, ℕ, ◌+◌, ◌≤◌, ◌<◌, ◌^◌, false, List, [], ◌∷◌, length, map, All, refl, sym, ap, subst, ◌∙◌, inl, inr, arith}
+use Rattle.std.proofs.Common.{◌≡◌, ◌⊎◌, ℕ, ◌+◌, ◌≤◌, ◌<◌, ◌^◌, false, List, [], ◌∷◌, length, map, All, refl, sym, ap, ◌∙◌, inl, inr, arith}
 use Rattle.std.proofs.lemmas.List.Elements.{All-nil, All-cons, All-head, All-tail}
-use Rattle.clay_grid.specs.Shape.{Shape, chunk_count}
+use Rattle.clay_grid.specs.Shape.{chunk_count}
 use Rattle.store_map.specs.declared.actor.Actor.TheVariants as actor
 use Rattle.store_core.specs.Server.{Server}
 use Rattle.chunk_server.specs.Core.{core_of}
 use Rattle.chunk_server.specs.State.{ServerState}
-use Rattle.version_seal.specs.Entry.{BookOf}
 use Rattle.session_rules.specs.State.{State}
 use Rattle.session_rules.specs.Shortages.{IsServed}
 use Rattle.session_rules.specs.declared.answer.Answer.{Answer}
@@ -15,8 +14,7 @@ use Rattle.session_rules.specs.declared.request.Request.{Request}
 use Rattle.session_laws.specs.Scrubs.{lost_at}
 use Rattle.session_laws.proofs.Scrubs.{scrubs_are_seen}
 use Rattle.store_scrub.specs.Lost.{ArePresent}
-use Rattle.session_store.specs.Kept.{IsStore, IsServedBy}
-use Rattle.session_store.specs.Serving.{Serves}
+use Rattle.session_store.specs.Kept.{IsStore, ServesRequest}
 use Rattle.session_store.specs.Standing.{StandsAt, seats_at}
 use Rattle.session_store.specs.Stored.{StoreOf, places_in}
 use Rattle.session_store.proofs.Numbers.{passed_over, fresh_later}
@@ -40,7 +38,7 @@ module _ (old : StoreOf) (is : IsStore old) where
     snapshot = at.snapshot;
   }
 
-  pub left_served : (request : Request) (answer : Answer) → ((s : State) → StandsAt old s → IsServed old.geometry old.max request s (s, answer)) → IsServedBy request old answer (one_more old)
+  pub left_served : (request : Request) (answer : Answer) → ((s : State) → StandsAt old s → IsServed old.geometry old.max request s (s, answer)) → ServesRequest request old answer (one_more old)
   left_served request answer served = record {
     serves = λ s at. record { after = s; served = served s at; stands = stands_more s at };
     same = refl;
@@ -74,10 +72,10 @@ module _ (old : StoreOf) (is : IsStore old) where
   pub all_there : length old.kept.servers ≡ chunk_count old.kept.directory.core.shape
   all_there = is.servers.count ∙ ap chunk_count (is.free.0 ∙ sym is.stands.between.seen.shape)
 
-  pub scrub_served : (lost : List LostChunk) → lost ≡ lost_at (places_in old) → IsServedBy Request.Scrub old (Answer.Scrubbed lost) (one_more old)
+  pub scrub_served : (lost : List LostChunk) → lost ≡ lost_at (places_in old) → ServesRequest Request.Scrub old (Answer.Scrubbed lost) (one_more old)
   scrub_served lost same =
       left_served Request.Scrub (Answer.Scrubbed lost)
       (λ s at. inl (λ i. (s, Answer.Scrubbed ((same ∙ sym (scrubs_are_seen old.geometry old.max at.stands (places_in old) s at.between.seen)) i))))
 
-  pub scrub_wanting : IsServedBy Request.Scrub old Answer.NoMemory (one_more old)
+  pub scrub_wanting : ServesRequest Request.Scrub old Answer.NoMemory (one_more old)
   scrub_wanting = left_served Request.Scrub Answer.NoMemory (λ s at. inr (refl, refl))

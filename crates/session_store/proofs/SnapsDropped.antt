@@ -41,9 +41,9 @@ use Rattle.session_store.specs.Places.{seen_in}
 use Rattle.session_store.specs.Serving.{Serves, ServesAll, dropped_one}
 use Rattle.session_store.specs.Standing.{AreKept, IsKeptAs, StandsAt, readers, seats_at}
 use Rattle.session_store.specs.Stored.{StoreOf, places_of, places_in}
-use Rattle.session_store.specs.Sweeping.{IsSwept}
+use Rattle.session_store.specs.Sweeping.{HasSwept}
 use Rattle.session_store.specs.declared.parts.Parts.{Parts}
-use Rattle.session_store.specs.declared.places.Places.{Places}
+use Rattle.session_store.specs.declared.places.SessionPlaces.{SessionPlaces}
 use Rattle.session_store.proofs.SnapTokens.{AreOf, IsBelow, ends_same, first_are_of, ends_below, below_of, held_below, free_all, none_of, still_all}
 
 held_by : (d : Directory) (n : ℕ) (book : BookOf) (its : SnapshotOf) (tickets : Option (List ActorToken)) → HoldTickets d n book (Some its) tickets → HoldTickets d n book (Some its) None
@@ -57,7 +57,7 @@ some_in its (Some kept) h = (kept, refl, h)
 module _ (parts : Parts) (is : IsStore (store_of parts)) (its : SnapshotOf) (open_is : parts.snapshot ≡ Some its) (left : Sealed) (items : List ActorToken) (points : List Point)
     (ends : released_with left.core (take (length its.objects) items) points ≡ ends_of its.number (no_end parts.places.directory.core) (take (length its.objects) its.tokens))
     (rest : drop (length its.objects) items ≡ drop (length its.objects) its.tokens) (actors : AreOfSame its.tokens items) (agrees : AgreesWithAll left.core items) (others : OthersAgree its.tokens parts.places.directory.core left.core)
-    (stamps : left.stamps ≡ parts.places.directory.stamps) (now : Places) (swept : IsSwept (record (parts.places) { directory = left }) now) where
+    (stamps : left.stamps ≡ parts.places.directory.stamps) (now : SessionPlaces) (swept : HasSwept (record (parts.places) { directory = left }) now) where
   abbrev d : Directory
   d = parts.places.directory.core
 

@@ -49,7 +49,7 @@ use Rattle.snapshot_view.specs.Tickets.{AgreesWithAll, AreOfSame, MayGet, Others
 use Rattle.snapshot_view.specs.declared.fault.SnapFault.{SnapFault}
 use Rattle.snapshot_view.specs.declared.fault.SnapFault.TheVariants as fault
 use Rattle.snapshot_view.specs.declared.fault.SnapRefused.{SnapRefused}
-use Rattle.session_store.specs.Kept.{HasSeat, HoldTickets, IsStore, IsServedBy}
+use Rattle.session_store.specs.Kept.{HasSeat, HoldTickets, IsStore, ServesRequest}
 use Rattle.session_store.specs.Serving.{Serves}
 use Rattle.session_store.specs.Standing.{AreKept, IsKeptAs, StandsAt, readers, seats_at}
 use Rattle.session_store.specs.Stored.{StoreOf, places_of, places_in}
@@ -227,7 +227,7 @@ module _ (old : StoreOf) (is : IsStore old) (none : old.kept.snapshot ≡ None) 
         stands = stands_after;
       }
 
-    pub snap_is_taken : IsServedBy Request.Snap old (Answer.Replied reply.Done) now
+    pub snap_is_taken : ServesRequest Request.Snap old (Answer.Replied reply.Done) now
     snap_is_taken = record {
       serves = serves_taken;
       same = ap (λ m. record { geometry = old.geometry; max = m; served = old.served + 1; kept = now.kept }) most_same;
@@ -281,9 +281,9 @@ module _ (old : StoreOf) (is : IsStore old) (none : old.kept.snapshot ≡ None) 
         (lt-ltb most_objects (length s.objects) (let all : length s.objects ≡ length d.objects = as_many_objects s at in let more : length tokens < length d.objects = many.more in let few : length tokens ≡ 64 = count in omega (arith, all, more, few)))
         ∙ ap (λ n. let r : State × Answer = (s, Answer.TooMany n) in r) (as_many_objects s at ∙ sym objects_are)
 
-    pub too_many_served : IsServedBy Request.Snap old (Answer.TooMany objects) (refused_now after refused.tickets.items)
+    pub too_many_served : ServesRequest Request.Snap old (Answer.TooMany objects) (refused_now after refused.tickets.items)
     too_many_served =
-        subst (IsServedBy Request.Snap old (Answer.TooMany objects))
+        subst (ServesRequest Request.Snap old (Answer.TooMany objects))
         (λ i. record { geometry = old.geometry; max = max_is i; served = old.served + 1; kept = record (old.kept) { directory = sym many.directory i; snapshot = none i; tickets = (tokens_are ∙ ap (λ (l : List ActorToken). Some l) (sym many.tickets)) i } })
         (left_served old is Request.Snap (Answer.TooMany objects) (λ s at. inl (sym (is_snap s at))))
       where
@@ -378,7 +378,7 @@ module _ (old : StoreOf) (is : IsStore old) (none : old.kept.snapshot ≡ None) 
         (All-take (IsBelow (old.served + 1)) up.made tokens all_below))))
         (All-drop (IsBelow (old.served + 1)) up.made tokens all_below))
 
-    pub given_up_served : IsServedBy Request.Snap old Answer.NoMemory (refused_now after refused.tickets.items)
+    pub given_up_served : ServesRequest Request.Snap old Answer.NoMemory (refused_now after refused.tickets.items)
     given_up_served = record {
       serves = λ s at. record { after = s; served = inr (refl, refl); stands = stands_given s at };
       same = ap (λ m. record { geometry = old.geometry; max = m; served = old.served + 1; kept = given_now.kept }) most_given;
@@ -405,16 +405,16 @@ module _ (old : StoreOf) (is : IsStore old) (none : old.kept.snapshot ≡ None) 
     IsOfMany (fault.TooMany objects) = ⊤
     IsOfMany fault.OutOfMemory = ⊥
 
-    pub many_refused : (objects : ℕ) → refused.why ≡ fault.TooMany objects → IsServedBy Request.Snap old (Answer.TooMany objects) (refused_now after refused.tickets.items)
+    pub many_refused : (objects : ℕ) → refused.why ≡ fault.TooMany objects → ServesRequest Request.Snap old (Answer.TooMany objects) (refused_now after refused.tickets.items)
     many_refused objects why = by its.case
       where
-        by : AreTooMany tokens old.kept.directory after refused ⊎ IsGivenUp old.served tokens old.kept.directory after refused → IsServedBy Request.Snap old (Answer.TooMany objects) (refused_now after refused.tickets.items)
+        by : AreTooMany tokens old.kept.directory after refused ⊎ IsGivenUp old.served tokens old.kept.directory after refused → ServesRequest Request.Snap old (Answer.TooMany objects) (refused_now after refused.tickets.items)
         by (inl many) = too_many_served after refused many objects why
         by (inr up) = absurd (subst IsOfMany (sym why ∙ up.why) tt)
 
-    pub wanting_refused : refused.why ≡ fault.OutOfMemory → IsServedBy Request.Snap old Answer.NoMemory (refused_now after refused.tickets.items)
+    pub wanting_refused : refused.why ≡ fault.OutOfMemory → ServesRequest Request.Snap old Answer.NoMemory (refused_now after refused.tickets.items)
     wanting_refused why = by its.case
       where
-        by : AreTooMany tokens old.kept.directory after refused ⊎ IsGivenUp old.served tokens old.kept.directory after refused → IsServedBy Request.Snap old Answer.NoMemory (refused_now after refused.tickets.items)
+        by : AreTooMany tokens old.kept.directory after refused ⊎ IsGivenUp old.served tokens old.kept.directory after refused → ServesRequest Request.Snap old Answer.NoMemory (refused_now after refused.tickets.items)
         by (inl many) = absurd (subst IsOfMany (sym many.why ∙ why) tt)
         by (inr up) = given_up_served after refused up its.actors its.agrees others

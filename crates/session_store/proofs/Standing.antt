@@ -1,5 +1,5 @@
 -- What a served request leaves of where a store stands.
-use Rattle.std.proofs.Common.{◌≡◌, ℕ, zero, suc, ◌+◌, ◌≤◌, Bool, true, false, List, [], ◌∷◌, length, get_or, find, fold, replicate, Option, None, Some, option_map, unwrap_or, refl, sym, ap, subst, ◌∙◌, arith, nat_lt, if◌then◌else◌}
+use Rattle.std.proofs.Common.{◌≡◌, ℕ, zero, suc, ◌+◌, ◌≤◌, Bool, true, false, List, [], ◌∷◌, length, get_or, find, fold, replicate, Option, None, Some, option_map, unwrap_or, refl, sym, subst, ◌∙◌, arith, nat_lt, if◌then◌else◌}
 use Rattle.clay_grid.specs.Shape.{Shape, chunk_count}
 use Rattle.store_map.specs.PlainMap.{apply, bytes_of}
 use Rattle.store_map.specs.declared.call.Call.{Call}

@@ -1,7 +1,7 @@
 -- A call that runs alone makes a step more.
-use Rattle.std.proofs.Common.{◌≡◌, ◌⊎◌, ℕ, suc, ◌+◌, ◌-◌, ◌^◌, ◌<◌, ◌≤◌, Bool, true, false, ◌&&◌, if◌then◌else◌, List, [], ◌∷◌, ◌++◌, length, map, get_or, set, slice_get, Option, None, Some, Vec, IfSome, refl, sym, ap, subst, ◌∙◌, inl, inr, arith, true≢false}
+use Rattle.std.proofs.Common.{◌≡◌, ◌⊎◌, ℕ, ◌+◌, ◌-◌, ◌^◌, ◌<◌, ◌≤◌, Bool, true, false, ◌&&◌, if◌then◌else◌, List, [], ◌∷◌, ◌++◌, length, map, Vec, IfSome, refl, sym, ap, subst, ◌∙◌, inl, inr, arith}
 use Rattle.std.specs.Global.{Global}
-use Rattle.clay_grid.specs.Shape.{Shape, chunk_count, stripe_length}
+use Rattle.clay_grid.specs.Shape.{Shape}
 use Rattle.store_map.specs.declared.actor.Actor.{Actor}
 use Rattle.store_map.specs.declared.call.Call.{Call}
 use Rattle.store_map.specs.declared.call.Call.TheVariants as call
@@ -16,37 +16,32 @@ use Rattle.store_core.specs.Lookups.{same_actor}
 use Rattle.store_core.specs.NextAct.{Job}
 use Rattle.store_core.specs.Note.{Kind, Note, note_of}
 use Rattle.store_core.specs.Server.{Server, at_server}
-use Rattle.store_core.specs.Sound.{IsSound}
 use Rattle.store_core.specs.Step.{Shortage, Places as CorePlaces}
 use Rattle.store_core.specs.Told.{Seen, Told}
-use Rattle.store_core.specs.Tokens.{actor_of, after_look, after_pass_step, MayGoOn}
+use Rattle.store_core.specs.Tokens.{actor_of, after_look, after_pass_step}
 use Rattle.store_sound.proofs.OwnSteps.{agreement_goes_on, steps_may_be_made}
 use Rattle.store_sound.proofs.Passes.{passes_move, passes_stay}
 use Rattle.store_sound.proofs.Beside.{self_actor}
 use Rattle.store_contents.proofs.ContentSteps.{steps_keep_bytes}
 use Rattle.store_contents.proofs.MoreCalls.{steps_keep_drawn}
-use Rattle.store_contents.proofs.VersionsMove.{versions_move}
 use Rattle.dir_parts.proofs.Entries.{slice_get-map, map-set}
 use Rattle.store_resume.specs.State.{State, CallState}
 use Rattle.store_calls.specs.StepLaws.{HasTarget}
 use Rattle.store_contents.specs.Contents.{HasBytes}
 use Rattle.store_contents.specs.MoreCalls.{AreDrawnBy}
 use Rattle.store_resume.specs.StateActs.{start_act, act_at}
-use Rattle.version_seal.specs.Entry.{BookOf, StampOf}
+use Rattle.version_seal.specs.Entry.{BookOf}
 use Rattle.chunk_server.specs.Core.{core_of}
 use Rattle.chunk_server.specs.State.{ServerState}
 use Rattle.stripe_dir.specs.Sealed.{Sealed}
 use Rattle.stripe_dir.specs.Stamped.{HaveContents}
-use Rattle.call_steps.specs.declared.need.Need.{Need}
 use Rattle.call_steps.specs.declared.need.Need.TheVariants as need
 use Rattle.call_steps.specs.TokenAfter.{token_after, MayMake, IfInCall}
 use Rattle.call_steps.specs.CallOf.{CallOf, act_of}
-use Rattle.call_steps.specs.Steps.{need_of, coded as coded_call, at_directory_by, at_server_by, stepped_at_directory, stepped_at_server, HoldsItsPass, IsDueInPass, MayMakeNext, IsUndueOncePlaced}
-use Rattle.call_stands.specs.Ready.{ready}
-use Rattle.call_stands.proofs.Agreement.{agreement_stays}
+use Rattle.call_steps.specs.Steps.{need_of, coded as coded_call, at_directory_by, at_server_by, HoldsItsPass, IsDueInPass, MayMakeNext, IsUndueOncePlaced}
 use Rattle.call_stands.proofs.Needs.{needs_tell_acts, ends_stay}
 use Rattle.call_machine.specs.Calls.{MachineOf, KnowsOldOf}
-use Rattle.call_machine.specs.Kinds.{Asked, asked_job, Machine, machine_of, client_machine, IfRebuilds}
+use Rattle.call_machine.specs.Kinds.{Asked, asked_job, Machine, machine_of, IfRebuilds}
 use Rattle.call_owes.specs.Owes.{OwesBy}
 use Rattle.call_owes.specs.OwesLaws.{AreAmong, LookIsOwed}
 use Rattle.call_owes.specs.Pinned.{pinned_at}
@@ -60,10 +55,13 @@ use Rattle.store_core.specs.Read.{parts_of}
 use Rattle.store_resume.specs.FitLaws.{Fits}
 use Rattle.call_alone.specs.AtWork.{IsOf, HasRun}
 use Rattle.call_alone.proofs.Running.{calls_run_alone}
-use Rattle.session_store.specs.declared.places.Places.{Places}
-use Rattle.session_store.specs.Places.{ArePlaces, AreSame, seen_in}
+use Rattle.session_store.specs.declared.places.SessionPlaces.{SessionPlaces}
+use Rattle.session_store.specs.Places.{seen_in}
 use Rattle.call_machine.proofs.Knowing.{first_calls_know}
-use Rattle.session_store.specs.Running.{IsKnownBy, KnowsBytes, IsCoded, MayStep, AtTheDirectory, AtAServer, HasStepped, MayRun, LookOwes, OthersAgree, HasRunTo, RunsOn, IsReading, IsLow, left_of}
+use Rattle.session_store.specs.CallBytes.{IsKnownBy, KnowsBytes}
+use Rattle.session_store.specs.Stepping.{IsCoded, MayStep, AtTheDirectory, AtAServer, HasStepped}
+use Rattle.session_store.specs.Running.{MayRun, LookOwes, OthersAgree, RunsOn, IsLow, left_of}
+use Rattle.store_reads.specs.PinLaws.{IsReading}
 use Rattle.session_store.proofs.Lists.{got}
 use Rattle.session_store.proofs.Taking.{took_from, taken_more, taken_here}
 use Rattle.session_store.proofs.Running.{contents_kept}
@@ -169,7 +167,7 @@ may_there : (d : Directory) (token : ActorToken) (number : ℕ) (step : Director
 may_there d (ActorToken.Seated seat) number step agrees may = steps_may_be_made.look seat number step d agrees may
 may_there d (ActorToken.InCall held) number step agrees may = subst (λ n. MayStepThere d held.pass.actor n step) may.0 (steps_may_be_made.on_pass held step d agrees may.1)
 
-module _ (first c prior after : MachineOf) (before p now : Places) (made : ℕ) (r : RunsOn first before c p made) (first_job : first.call.job ≡ asked_job first.asked) (target : HasTarget before.book.geometry first.call.job)
+module _ (first c prior after : MachineOf) (before p now : SessionPlaces) (made : ℕ) (r : RunsOn first before c p made) (first_job : first.call.job ≡ asked_job first.asked) (target : HasTarget before.book.geometry first.call.job)
     (coded : IsCoded c prior) (s : HasStepped prior p after now) (first_shape : first.call.book.geometry ≡ before.book.geometry) where
   abbrev g : Shape
   g = before.book.geometry
@@ -527,7 +525,7 @@ module _ (first c prior after : MachineOf) (before p now : Places) (made : ℕ) 
       by (inr t) = let acts = needs_tell_acts.server prior.call t.server t.needs in runs_here t acts.0 acts.1
 
 -- ---- before the first step
-module _ (c : MachineOf) (p : Places) (may : MayRun c p) where
+module _ (c : MachineOf) (p : SessionPlaces) (may : MayRun c p) where
   stamps_know : KnowsOldOf p.directory c
   stamps_know = subst (KnowsOldOf p.directory) (sym may.first) (first_calls_know p.directory p.book may.tries may.seat c.call.number c.asked)
 
@@ -561,7 +559,7 @@ module _ (c : MachineOf) (p : Places) (may : MayRun c p) where
   }
 
 -- ---- the next step may be made
-pub may_step_next : (first c prior : MachineOf) (before p : Places) (made : ℕ) → MayRun first before → RunsOn first before c p made → IsCoded c prior → MayStep prior p
+pub may_step_next : (first c prior : MachineOf) (before p : SessionPlaces) (made : ℕ) → MayRun first before → RunsOn first before c p made → IsCoded c prior → MayStep prior p
 may_step_next first c prior before p made may r coded = record {
   place = coded.place;
   places = r.ran.same.places;
@@ -592,12 +590,12 @@ may_step_next first c prior before p made may r coded = record {
     number_by true = refl
     number_by false = refl
 
-pub runs_more : (first c prior after : MachineOf) (before p now : Places) (made : ℕ) → MayRun first before → RunsOn first before c p made → IsCoded c prior → HasStepped prior p after now → RunsOn first before after now (made + 1)
+pub runs_more : (first c prior after : MachineOf) (before p now : SessionPlaces) (made : ℕ) → MayRun first before → RunsOn first before c p made → IsCoded c prior → HasStepped prior p after now → RunsOn first before after now (made + 1)
 runs_more first c prior after before p now made may r coded s =
     runs_on first c prior after before p now made r (ap (λ (x : MachineOf). x.call.job) may.first) may.target coded s (ap (λ (x : MachineOf). x.call.book.geometry) may.first)
 
 -- ---- after as many steps as it may make it is over
-pub over_at_end : (first c : MachineOf) (before p : Places) (made : ℕ) → MayRun first before → RunsOn first before c p made → 2 ^ 64 - 1 ≤ made → need_of c.call ≡ need.Finished
+pub over_at_end : (first c : MachineOf) (before p : SessionPlaces) (made : ℕ) → MayRun first before → RunsOn first before c p made → 2 ^ 64 - 1 ≤ made → need_of c.call ≡ need.Finished
 over_at_end first c before p made may r all =
     let shape : first.call.book.geometry ≡ before.book.geometry = ap (λ (x : MachineOf). x.call.book.geometry) may.first in
     let same : left_of before.directory.core.max first r.told ≡ call_left before.book.geometry before.directory.core.max first.call.tries first.call.job r.told =

@@ -1,21 +1,18 @@
 -- The sweeper's steps in a session's places.
-use Rattle.std.proofs.Common.{◌≡◌, ℕ, zero, suc, ◌+◌, ◌-◌, ◌*◌, ◌<◌, ◌≤◌, ◌||◌, Bool, true, false, cond, nat_lt, List, [], ◌∷◌, length, map, get_or, set, Option, None, Some, is_some, Vec, refl, sym, ap, subst, ◌∙◌, arith, true≢false, mul-le-mul_left}
-use Rattle.std.proofs.lemmas.Bool.{ltb-true}
+use Rattle.std.proofs.Common.{◌≡◌, ℕ, zero, suc, ◌-◌, ◌<◌, ◌||◌, Bool, true, false, cond, nat_lt, List, length, map, get_or, set, Option, None, Some, is_some, Vec, refl, sym, ap, subst, ◌∙◌, true≢false}
 use Rattle.std.specs.Global.{Global}
 use Rattle.clay_grid.specs.Shape.{Shape, chunk_count}
 use Rattle.store_map.specs.declared.actor.Actor.TheVariants as actor
 use Rattle.store_core.specs.Told.{Told}
 use Rattle.store_core.specs.Act.{Act, DirectoryStep, ServerStep}
 use Rattle.store_core.specs.ActPlace.{place_of}
-use Rattle.store_core.specs.AtDirectory.{take_garbage, at_directory}
-use Rattle.store_core.specs.Bounds.{sweep_bound}
-use Rattle.store_core.specs.Directory.{Standing, Version, Directory}
+use Rattle.store_core.specs.AtDirectory.{at_directory}
+use Rattle.store_core.specs.Directory.{Directory}
 use Rattle.store_core.specs.Lookups.{first_garbage}
 use Rattle.store_core.specs.Server.{Server, at_server}
 use Rattle.store_core.specs.Sound.{IsSound}
 use Rattle.store_core.specs.Step.{Places, at_places}
 use Rattle.store_core.specs.Sweep.{Sweeper, next_sweep, after_sweep, is_busy}
-use Rattle.store_runs.proofs.LiveVersions.{is_live_standing, live_count, sound_live, counts_move, take_lowers}
 use Rattle.chunk_server.specs.Core.{core_of}
 use Rattle.chunk_server.specs.State.{ServerState}
 use Rattle.call_steps.specs.declared.need.Need.TheVariants as need
@@ -29,9 +26,11 @@ use Rattle.store_core.specs.Calls.{Calls}
 use Rattle.stripe_dir.specs.Sealed.{Sealed}
 use Rattle.stripe_dir.specs.Stamped.{HaveContents}
 use Rattle.stripe_dir.proofs.StampSteps.{stamps_keep_contents}
-use Rattle.session_store.specs.declared.places.Places.{Places as Declared}
+use Rattle.session_store.specs.declared.places.SessionPlaces.{SessionPlaces}
 use Rattle.session_store.specs.Places.{AreServers, ArePlaces, seen_in}
-use Rattle.session_store.specs.Sweeping.{StillAgrees, KeepsStamps, MaySweep, IsSweptBy, IsSwept, Sweeps, has_sweep, is_untaken, untaken, sweeps_left, sweeps_left_in}
+use Rattle.world_steps.specs.SweepsLeft.{sweeps_left}
+use Rattle.world_steps.proofs.SweepsLeft.{sweeps_fall}
+use Rattle.session_store.specs.Sweeping.{StillAgrees, KeepsStamps, MaySweep, IsSweptBy, HasSwept, Sweeps, has_sweep, sweeps_left_in}
 use Rattle.session_store.proofs.Lists.{got, servers_set, step_at}
 
 -- ---- one step more comes behind those before
@@ -94,106 +93,6 @@ module _ (g : Shape) (s after : SweeperOf) (width : s.servers ≡ chunk_count g)
         Swept (record { directory = d; servers = map core_of servers }) (record { directory = d; servers = map core_of (set servers i now) })
     at_server_swept needs made = here_by (act_of s) refl needs made
 
--- ---- the steps left
-same_standing : (standing : Standing) → is_live_standing standing ≡ is_untaken standing
-same_standing Standing.Taken = refl
-same_standing Standing.Swept = refl
-same_standing standing = refl
-
-same_count : (versions : List Version) → live_count versions ≡ untaken versions
-same_count [] = refl
-same_count (version ∷ versions) = λ i. cond (same_standing version.standing i) 1 0 + same_count versions i
-
-falls_by_left : (bound count count_now left left_now : ℕ) → count_now ≤ count → left_now < left → bound * count_now + left_now < bound * count + left
-falls_by_left bound count count_now left left_now fewer less =
-    let product : bound * count_now ≤ bound * count = mul-le-mul_left bound fewer in
-    let x : ℕ = bound * count_now in
-    let y : ℕ = bound * count in
-    omega (arith, product, less)
-
-falls_by_count : (n count count_now left : ℕ) → count_now < count → left < n + 2 → (n + 2) * count_now + left < (n + 2) * count + 0
-falls_by_count n count count_now left fewer less =
-    let product : (n + 2) * (count_now + 1) ≤ (n + 2) * count = mul-le-mul_left (n + 2) (omega (arith, fewer)) in
-    let one : (n + 2) * (count_now + 1) ≡ (n + 2) * count_now + (n + 2) = grind arith in
-    let x : ℕ = (n + 2) * count_now in
-    let y : ℕ = (n + 2) * count in
-    let z : ℕ = (n + 2) * (count_now + 1) in
-    omega (arith, product, one, less)
-
--- a sweeper that is busy or finds garbage has fewer left after its step
-pub record Falls (g : Shape) (s : Sweeper) (d : Directory) : Type 0 where
-  pub at_directory :
-      (step : DirectoryStep) → next_sweep (chunk_count g) s ≡ Act.AtDirectory step → (is_busy s || is_some (first_garbage d)) ≡ true →
-      let after : Directory × Told = at_directory false actor.Sweeper 0 step d in
-      sweeps_left g (after_sweep (chunk_count g) s after.1) after.0 < sweeps_left g s d
-  pub at_server :
-      (server : ℕ) (step : ServerStep) (answer : Told) → next_sweep (chunk_count g) s ≡ Act.AtServer server step →
-      sweeps_left g (after_sweep (chunk_count g) s answer) d < sweeps_left g s d
-
-module _ (g : Shape) (d : Directory) (sound : IsSound d) where
-  abbrev n : ℕ
-  n = chunk_count g
-
-  -- it takes a version
-  takes : (found : Option ℕ) → first_garbage d ≡ found → is_some found ≡ true → sweeps_left g (after_sweep n Sweeper.Idle (take_garbage found d).1) (take_garbage found d).0 < sweeps_left g Sweeper.Idle d
-  takes None e some = absurd (true≢false (sym some))
-  takes (Some version) e some =
-      let taken : Directory = (take_garbage (Some version) d).0 in
-      let less : live_count taken.versions < live_count d.versions = take_lowers d version e in
-      let now : live_count taken.versions ≡ untaken taken.versions = same_count taken.versions in
-      let before : live_count d.versions ≡ untaken d.versions = same_count d.versions in
-      let a : ℕ = untaken taken.versions in
-      let b : ℕ = untaken d.versions in
-      let fewer : a < b = omega (arith, less, now, before) in
-      falls_by_count n b a (n - 0 + 1) fewer (omega arith)
-
-  -- it says that one is swept
-  says : (version server : ℕ) → nat_lt server n ≡ false
-      → let after : Directory = (at_directory false actor.Sweeper 0 (DirectoryStep.Swept version) d).0 in sweeps_left g Sweeper.Idle after < sweeps_left g (Sweeper.Sweeping version server) d
-  says version server past =
-      let after : Directory = (at_directory false actor.Sweeper 0 (DirectoryStep.Swept version) d).0 in
-      let count : live_count after.versions ≤ live_count d.versions + 0 = counts_move d (sound_live d sound) false actor.Sweeper 0 (DirectoryStep.Swept version) in
-      let now : live_count after.versions ≡ untaken after.versions = same_count after.versions in
-      let before : live_count d.versions ≡ untaken d.versions = same_count d.versions in
-      let a : ℕ = untaken after.versions in
-      let b : ℕ = untaken d.versions in
-      falls_by_left (sweep_bound g) b a (n - server + 1) 0 (omega (arith, count, now, before)) (omega arith)
-
-  -- it discards one
-  discards : (version server : ℕ) → nat_lt server n ≡ true → sweeps_left g (Sweeper.Sweeping version (server + 1)) d < sweeps_left g (Sweeper.Sweeping version server) d
-  discards version server e =
-      let below : server < n = ltb-true server n e in
-      falls_by_left (sweep_bound g) (untaken d.versions) (untaken d.versions) (n - server + 1) (n - (server + 1) + 1) (omega arith) (omega (arith, below))
-
-  -- by what it does next
-  busy_directory : (version server : ℕ) (b : Bool) → nat_lt server n ≡ b → (step : DirectoryStep) → cond {A = Act} b (Act.AtServer server (ServerStep.Discard version)) (Act.AtDirectory (DirectoryStep.Swept version)) ≡ Act.AtDirectory step
-      → let after : Directory × Told = at_directory false actor.Sweeper 0 step d in sweeps_left g (cond {A = Sweeper} b (Sweeper.Sweeping version (server + 1)) Sweeper.Idle) after.0 < sweeps_left g (Sweeper.Sweeping version server) d
-  busy_directory version server true e step is = absurd (cc (is))
-  busy_directory version server false e step is =
-      let same : DirectoryStep.Swept version ≡ step = cc (is) in
-      subst (λ (x : DirectoryStep). sweeps_left g Sweeper.Idle (at_directory false actor.Sweeper 0 x d).0 < sweeps_left g (Sweeper.Sweeping version server) d) same (says version server e)
-
-  busy_server : (version server : ℕ) (b : Bool) → nat_lt server n ≡ b → (other : ℕ) (step : ServerStep) → cond {A = Act} b (Act.AtServer server (ServerStep.Discard version)) (Act.AtDirectory (DirectoryStep.Swept version)) ≡ Act.AtServer other step
-      → sweeps_left g (cond {A = Sweeper} b (Sweeper.Sweeping version (server + 1)) Sweeper.Idle) d < sweeps_left g (Sweeper.Sweeping version server) d
-  busy_server version server true e other step is = discards version server e
-  busy_server version server false e other step is = absurd (cc (is))
-
-  pub falls : (s : Sweeper) → Falls g s d
-  falls Sweeper.Idle =
-      record {
-        at_directory = λ step is has.
-            let same : DirectoryStep.NextGarbage ≡ step = cc (is) in
-            subst
-            (λ (x : DirectoryStep). sweeps_left g (after_sweep n Sweeper.Idle (at_directory false actor.Sweeper 0 x d).1) (at_directory false actor.Sweeper 0 x d).0 < sweeps_left g Sweeper.Idle d)
-            same (takes (first_garbage d) refl has);
-        at_server = λ server step answer is. absurd (cc (is));
-      }
-  falls (Sweeper.Sweeping version server) =
-      record {
-        at_directory = λ step is has. busy_directory version server (nat_lt server n) refl step is;
-        at_server = λ other step answer is. busy_server version server (nat_lt server n) refl other step is;
-      }
-
 -- ---- the places after a step
 -- the sweeper draws nothing
 not_drawn : (n : ℕ) (at : Sweeper) (step : DirectoryStep) → next_sweep n at ≡ Act.AtDirectory step → step ≡ DirectoryStep.Draw → ⊥
@@ -204,7 +103,7 @@ not_drawn n (Sweeper.Sweeping version server) step acts same = by (nat_lt server
     by true e = cc (e)
     by false e = cc (e)
 
-module _ (p now : Declared) (s after : SweeperOf) (may : MaySweep s p) where
+module _ (p now : SessionPlaces) (s after : SweeperOf) (may : MaySweep s p) where
   abbrev g : Shape
   g = p.book.geometry
 
@@ -253,7 +152,7 @@ module _ (p now : Declared) (s after : SweeperOf) (may : MaySweep s p) where
         by : (act : Act) → act_of s ≡ act → need_at (place_of act) ≡ need.Directory → (now.directory.core, after) ≡ at_directory_by act actor.Sweeper 0 s p.directory.core → sweeps_left_in after now < sweeps_left_in s p
         by (Act.AtDirectory step) acts needed is =
             let told : Directory × Told = at_directory false actor.Sweeper 0 step p.directory.core in
-            let fewer : sweeps_left g (after_sweep (chunk_count g) s.at told.1) told.0 < sweeps_left g s.at p.directory.core = (falls g p.directory.core sound s.at).at_directory step (next_is g s after may.servers (Act.AtDirectory step) acts) busy in
+            let fewer : sweeps_left g (after_sweep (chunk_count g) s.at told.1) told.0 < sweeps_left g s.at p.directory.core = (sweeps_fall g s.at p.directory.core sound).at_directory step (next_is g s after may.servers (Act.AtDirectory step) acts) busy in
             let at_now : after.at ≡ after_sweep (chunk_count g) s.at told.1 = ap (λ (r : Directory × SweeperOf). r.1.at) is ∙ ap (λ n. after_sweep n s.at told.1) may.servers in
             subst (λ (b : BookOf). sweeps_left b.geometry after.at now.directory.core < sweeps_left g s.at p.directory.core) (sym book)
             (subst (λ (d : Directory). sweeps_left g after.at d < sweeps_left g s.at p.directory.core) (sym (ap (λ (r : Directory × SweeperOf). r.0) is))
@@ -297,7 +196,7 @@ module _ (p now : Declared) (s after : SweeperOf) (may : MaySweep s p) where
         by : (act : Act) → act_of s ≡ act → need_at (place_of act) ≡ need.Server i → (core_of one, after) ≡ at_server_by act s (core_of x) → sweeps_left_in after now < sweeps_left_in s p
         by (Act.AtServer server step) acts needed is =
             let answer : Told = (at_server false step (core_of x)).1 in
-            let fewer : sweeps_left g (after_sweep (chunk_count g) s.at answer) p.directory.core < sweeps_left g s.at p.directory.core = (falls g p.directory.core sound s.at).at_server server step answer (next_is g s after may.servers (Act.AtServer server step) acts) in
+            let fewer : sweeps_left g (after_sweep (chunk_count g) s.at answer) p.directory.core < sweeps_left g s.at p.directory.core = (sweeps_fall g s.at p.directory.core sound).at_server server step answer (next_is g s after may.servers (Act.AtServer server step) acts) in
             let at_now : after.at ≡ after_sweep (chunk_count g) s.at answer = ap (λ (r : Server × SweeperOf). r.1.at) is ∙ ap (λ n. after_sweep n s.at answer) may.servers in
             subst (λ (b : BookOf). sweeps_left b.geometry after.at now.directory.core < sweeps_left g s.at p.directory.core) (sym book)
             (subst (λ (d : Sealed). sweeps_left g after.at d.core < sweeps_left g s.at p.directory.core) (sym directory)
@@ -306,7 +205,7 @@ module _ (p now : Declared) (s after : SweeperOf) (may : MaySweep s p) where
         by (Act.Finish outcome) acts needed is = absurd (true≢false (sym (ap is_server needed)))
 
 -- ---- all steps
-module _ (p : Declared) (places : ArePlaces p) where
+module _ (p : SessionPlaces) (places : ArePlaces p) where
   pub sweeps_none : (s : SweeperOf) → s ≡ new_sweeper (chunk_count p.book.geometry) → Sweeps p s p
   sweeps_none s is = record {
     may = record { places = places; servers = ap (λ (x : SweeperOf). x.servers) is };
@@ -315,7 +214,7 @@ module _ (p : Declared) (places : ArePlaces p) where
     keeps = record { same = record { places = places; book = refl }; stamps = refl; agrees = λ token apart agrees. agrees; contents = λ calls h. h };
   }
 
-pub keeps_on : (p q r : Declared) → KeepsStamps p q → KeepsStamps q r → KeepsStamps p r
+pub keeps_on : (p q r : SessionPlaces) → KeepsStamps p q → KeepsStamps q r → KeepsStamps p r
 keeps_on p q r first later = record {
   same = record { places = later.same.places; book = later.same.book ∙ first.same.book };
   stamps = later.stamps ∙ first.stamps;
@@ -323,7 +222,7 @@ keeps_on p q r first later = record {
   contents = λ calls h. later.contents calls (first.contents calls h);
 }
 
-pub sweeps_more : (p q r : Declared) (s after : SweeperOf) → Sweeps p s q → IsSweptBy s q after r → Sweeps p after r
+pub sweeps_more : (p q r : SessionPlaces) (s after : SweeperOf) → Sweeps p s q → IsSweptBy s q after r → Sweeps p after r
 sweeps_more p q r s after before one = record {
   may = record {
     places = one.keeps.same.places;
@@ -346,7 +245,7 @@ none_found : (found : Option ℕ) → is_some found ≡ false → found ≡ None
 none_found None e = refl
 none_found (Some n) e = absurd (true≢false e)
 
-pub swept_all : (p q : Declared) (s : SweeperOf) → Sweeps p s q → has_sweep s q.directory ≡ false → IsSwept p q
+pub swept_all : (p q : SessionPlaces) (s : SweeperOf) → Sweeps p s q → has_sweep s q.directory ≡ false → HasSwept p q
 swept_all p q s swept over =
     let ends = idle_at s.at q.directory (is_some (first_garbage q.directory.core)) over in
     record {

@@ -1,12 +1,12 @@
 -- Tries are counted of writes alone.
-use Rattle.std.proofs.Common.{◌≡◌, ℕ, Bool, ◌&&◌, List, [], ◌∷◌, refl, sym, ap, ◌∙◌, if◌then◌else◌}
+use Rattle.std.proofs.Common.{◌≡◌, ℕ, Bool, ◌&&◌, List, [], ◌∷◌, refl, ap, ◌∙◌, if◌then◌else◌}
 use Rattle.clay_grid.specs.Shape.{Shape}
 use Rattle.store_map.specs.declared.actor.Actor.{Actor}
-use Rattle.store_core.specs.Act.{Act, DirectoryStep, ServerStep, Outcome}
+use Rattle.store_core.specs.Act.{Act}
 use Rattle.store_core.specs.ActPlace.{is_in_pass}
 use Rattle.store_core.specs.NextAct.{Job}
 use Rattle.store_core.specs.Note.{Kind}
-use Rattle.store_core.specs.Step.{Shortage, Places}
+use Rattle.store_core.specs.Step.{Shortage}
 use Rattle.store_core.specs.Told.{Told}
 use Rattle.store_resume.specs.State.{State, CallState}
 use Rattle.store_resume.specs.StateActs.{start_act, act_at, act_of_state}

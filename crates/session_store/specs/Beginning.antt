@@ -9,7 +9,7 @@ use Rattle.chunk_server.specs.State.{empty_server}
 use Rattle.stripe_dir.specs.Sealed.{new_sealed}
 use Rattle.stripe_dir.specs.Seats.{client_seat, first_seats}
 use Rattle.session_rules.specs.State.{first_state}
-use Rattle.session_store.specs.declared.places.Places.{Places}
+use Rattle.session_store.specs.declared.places.SessionPlaces.{SessionPlaces}
 use Rattle.session_store.specs.Stored.{StoreOf}
 use Rattle.session_store.specs.Standing.{StandsAt}
 use Rattle.session_store.specs.Kept.{IsStore}
@@ -23,7 +23,7 @@ pub record IsFirst (g : Shape) (max : ℕ) (store : StoreOf) : Type 0 where
   pub kept : IsStore store
 
 -- new places of this code
-pub record AreNew (g : Shape) (max : ℕ) (p : Places) : Type 0 where
+pub record AreNew (g : Shape) (max : ℕ) (p : SessionPlaces) : Type 0 where
   pub code : IsGeometry g
   pub wide : 0 < stripe_length g
   pub small : max < 2 ^ 32

@@ -1,5 +1,5 @@
 -- Lost chunks that are made anew one after another.
-use Rattle.std.specs.Prelude.{◌≡◌, ◌⊎◌, ℕ, ◌+◌, ◌-◌, ◌<◌, ◌≤◌, ◌^◌, Bool, true, false, ◌&&◌, nat_eq, nat_le, bytes_eq, min, List, [], ◌∷◌, length, map, filter, take, replicate, Option, None, Some, All, Result, Ok, Err}
+use Rattle.std.specs.Prelude.{◌≡◌, ◌⊎◌, ℕ, ◌+◌, ◌-◌, ◌<◌, ◌^◌, Bool, true, false, min, List, [], ◌∷◌, length, map, take, replicate, Option, None, Some, All, Result, Ok, Err}
 use Rattle.std.specs.List.{slice_get}
 use Rattle.std.specs.declared.alloc.AllocError.{AllocError}
 use Rattle.clay_grid.specs.Shape.{Shape, chunk_count}
@@ -20,29 +20,14 @@ use Rattle.store_contents.specs.MoreCalls.{AreDrawnBy}
 use Rattle.stripe_dir.specs.Sealed.{Sealed}
 use Rattle.stripe_dir.specs.Stamped.{HaveContents}
 use Rattle.call_steps.specs.CallOf.{tries_by, taken_of}
-use Rattle.session_rules.specs.declared.answer.LostChunk.{LostChunk}
 use Rattle.session_rules.specs.declared.answer.Answer.{Answer}
-use Rattle.session_laws.specs.Heals.{rebuild_of}
 use Rattle.session_laws.specs.Takes.{added}
 use Rattle.session_runs.specs.Seats.{ran, HasEnded}
 use Rattle.session_runs.specs.Answering.{took}
 use Rattle.session_store.specs.declared.parts.Parts.{Parts}
-use Rattle.session_store.specs.declared.places.Places.{Places}
 use Rattle.session_store.specs.Kept.{HasSeat}
 use Rattle.session_store.specs.Places.{ArePlaces, AreSame, seen_in}
-use Rattle.session_store.specs.Sweeping.{IsSwept}
-
--- another lost chunk is of the same stripe
-abbrev pub is_beside : LostChunk → LostChunk → Bool
-is_beside chunk other = nat_eq other.stripe chunk.stripe && bytes_eq other.name chunk.name
-
--- how many are
-abbrev pub beside : List LostChunk → LostChunk → ℕ
-beside lost chunk = length (filter (is_beside chunk) lost)
-
--- those of stripes of which at most so many are lost
-abbrev pub healable : ℕ → List LostChunk → List LostChunk
-healable most lost = filter (λ chunk. nat_le (beside lost chunk) most) lost
+use Rattle.session_store.specs.Sweeping.{HasSwept}
 
 -- a count stays at the last value of 64 bits
 abbrev pub low : ℕ → ℕ
@@ -151,7 +136,7 @@ AreOfServers parts chunks = All (λ chunk. chunk.server < chunk_count parts.plac
 pub record HasCut (old : Parts) (chunks : List RebuildCall) (taken : List ℕ) (answer : Answer) (now : Parts) : Type 0 where
   pub left : Parts
   pub cut : IsCutOffAt old chunks taken left
-  pub swept : IsSwept left.places now.places
+  pub swept : HasSwept left.places now.places
   pub rest : now ≡ record left { places = now.places }
   pub wanting : answer ≡ Answer.NoMemory
 

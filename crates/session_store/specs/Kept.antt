@@ -60,7 +60,7 @@ abbrev pub MayServe : StoreOf → Type 0
 MayServe store = IsStore store × (store.served + 1 < 2 ^ 32)
 
 -- the request was served, and the store keeps what every store keeps
-pub record IsServedBy (request : Request) (old : StoreOf) (answer : Answer) (now : StoreOf) : Type 0 where
+pub record ServesRequest (request : Request) (old : StoreOf) (answer : Answer) (now : StoreOf) : Type 0 where
   pub serves : ServesAll request old answer now
   pub same : now ≡ served_one old now
   pub kept : IsStore now

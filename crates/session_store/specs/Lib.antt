@@ -6,7 +6,10 @@ pub mod Kept
 pub mod Beginning
 pub mod Answers
 pub mod Sweeping
+pub mod CallBytes
+pub mod Stepping
 pub mod Running
 pub mod Inside
+pub mod LostStripes
 pub mod Healing
 pub mod Reading

@@ -26,7 +26,7 @@ use Rattle.snapshot_view.specs.declared.ends.Ending.{Ending}
 use Rattle.snapshot_view.specs.declared.ends.Ending.TheVariants as ending
 use Rattle.session_laws.specs.Alone.{AtWork}
 use Rattle.session_runs.specs.Reading.{reading_steps}
-use Rattle.session_store.specs.declared.places.Places.{Places}
+use Rattle.session_store.specs.declared.places.SessionPlaces.{SessionPlaces}
 use Rattle.session_store.specs.Places.{ArePlaces, AreSame, seen_in}
 
 -- where it stands: one that the map refuses gathers nothing, and one for which memory was wanting in a coding has ended so
@@ -39,17 +39,17 @@ abbrev pub state_of_read : ReadOf → State
 state_of_read r = stands_by r.ended (state_in r.gatherings (Sequel.Serve 0))
 
 -- at these places
-abbrev pub at_work : ReadOf → Places → AtWork
+abbrev pub at_work : ReadOf → SessionPlaces → AtWork
 at_work r p = record { call = record { pairs = []; at = state_of_read r }; places = seen_in p }
 
 -- ---- one step
 -- a read whose next coding or step may be made in these places
-pub record MayReadOn (r : ReadOf) (p : Places) : Type 0 where
+pub record MayReadOn (r : ReadOf) (p : SessionPlaces) : Type 0 where
   pub places : ArePlaces p
   pub book : r.gatherings.book ≡ p.book
 
 -- its coding, in which memory was wanting or not
-pub record HasCoded (r : ReadOf) (p : Places) (after : ReadOf) (now : Places) : Type 0 where
+pub record HasCoded (r : ReadOf) (p : SessionPlaces) (after : ReadOf) (now : SessionPlaces) : Type 0 where
   pub needs : need_of r ≡ need.Coder
   pub short : Bool
   pub coded_so : after ≡ coded short r
@@ -59,7 +59,7 @@ pub record HasCoded (r : ReadOf) (p : Places) (after : ReadOf) (now : Places) : 
   pub left : now ≡ p
 
 -- its step at a server, in which memory was wanting or not; it is that of each call that stands in its gatherings
-pub record HasAsked (r : ReadOf) (p : Places) (after : ReadOf) (now : Places) : Type 0 where
+pub record HasAsked (r : ReadOf) (p : SessionPlaces) (after : ReadOf) (now : SessionPlaces) : Type 0 where
   pub server : ℕ
   pub before : ServerState
   pub left : ServerState
@@ -76,7 +76,7 @@ pub record HasAsked (r : ReadOf) (p : Places) (after : ReadOf) (now : Places) : 
   pub directory : now.directory ≡ p.directory
 
 -- it has made its coding or its step
-pub record HasReadOn (r : ReadOf) (p : Places) (after : ReadOf) (now : Places) : Type 0 where
+pub record HasReadOn (r : ReadOf) (p : SessionPlaces) (after : ReadOf) (now : SessionPlaces) : Type 0 where
   pub same : AreSame p now
   pub book : after.gatherings.book ≡ r.gatherings.book
   pub step : HasCoded r p after now ⊎ HasAsked r p after now
@@ -84,7 +84,7 @@ pub record HasReadOn (r : ReadOf) (p : Places) (after : ReadOf) (now : Places) :
 -- ---- the whole read
 -- a read before its first step, that may run in these places: if the map doesn't refuse it, it gathers of some stripes, which are few, the bytes from a
 -- start up to an end
-pub record MayRead (r : ReadOf) (p : Places) : Type 0 where
+pub record MayRead (r : ReadOf) (p : SessionPlaces) : Type 0 where
   pub places : ArePlaces p
   pub book : r.gatherings.book ≡ p.book
   pub start : ℕ
@@ -97,7 +97,7 @@ pub record MayRead (r : ReadOf) (p : Places) : Type 0 where
   pub few : 3 * chunk_count p.book.geometry * length stripes + 1 < 2 ^ 62
 
 -- the read has come from its first value and from these places to its present one and to those; what it replies it was to reply from the first on
-pub record HasReadTo (first : ReadOf) (before : Places) (r : ReadOf) (now : Places) : Type 0 where
+pub record HasReadTo (first : ReadOf) (before : SessionPlaces) (r : ReadOf) (now : SessionPlaces) : Type 0 where
   pub shortages : List Shortage
   pub run : reading_steps before.book.geometry shortages (at_work first before) ≡ at_work r now
   pub same : AreSame before now
@@ -115,11 +115,11 @@ codings_next need.Coder = 1
 codings_next _ = 0
 
 -- at most the codings and the steps that are left of a read that was told so much, of which one of two is a step
-abbrev pub left_of : ℕ → Places → List Told → ℕ
+abbrev pub left_of : ℕ → SessionPlaces → List Told → ℕ
 left_of start before told = 2 * call_left before.book.geometry 0 0 (job_from start) told
 
 -- so it has after so many of its codings and its steps, and has so many fewer left
-pub record ReadsOn (first : ReadOf) (before : Places) (r : ReadOf) (now : Places) (made : ℕ) : Type 0 where
+pub record ReadsOn (first : ReadOf) (before : SessionPlaces) (r : ReadOf) (now : SessionPlaces) (made : ℕ) : Type 0 where
   pub ran : HasReadTo first before r now
   pub start : ℕ
   pub told : List Told

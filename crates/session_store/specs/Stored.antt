@@ -11,7 +11,7 @@ use Rattle.snapshot_view.specs.Snapshots.{SnapshotOf}
 
 -- what it keeps for its requests: the book of its versions, the directory and the servers, the seats of the client, the repairer and the healer, the
 -- healer's next number, the snapshot that is open, and the readers' tickets where none is
-pub record KeptOf : Type 0 where
+pub record StoredOf : Type 0 where
   pub book : BookOf
   pub directory : Sealed
   pub servers : List ServerState
@@ -27,7 +27,7 @@ pub record StoreOf : Type 0 where
   pub geometry : Shape
   pub max : ℕ
   pub served : ℕ
-  pub kept : KeptOf
+  pub kept : StoredOf
 
 -- its directory and its servers as the definitions see them
 abbrev pub places_of : Sealed → List ServerState → Places

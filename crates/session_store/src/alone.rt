@@ -8,9 +8,10 @@ ghost use Rattle.call_steps.specs.Steps.{need_of};
 ghost use Rattle.call_machine.specs.Ends.{IfBytesServed};
 ghost use Rattle.call_machine.specs.Kinds.{machine_of, IfReads};
 ghost use Rattle.world_lines.specs.Outcomes.{call_outcome_of};
-ghost use Rattle.session_store.specs.Running.{GoesOn, HasPlace, IsCoded, MayStep, HasStepped, MayRun, HasRunTo};
+ghost use Rattle.session_store.specs.Stepping.{GoesOn, HasPlace, IsCoded, MayStep, HasStepped};
+ghost use Rattle.session_store.specs.Running.{MayRun, HasRunTo};
 
-use crate::places::Places;
+use crate::places::SessionPlaces;
 use call_machine::CallMachine;
 use call_steps::Need;
 use clay_repair::Coder;
@@ -31,7 +32,7 @@ fn code<R: Threads + Sync, C: Coder>(rt: &R, coder: &C, call: &mut CallMachine)
 }
 
 // The call's next step.
-fn make_step(places: &mut Places, call: &mut CallMachine)
+fn make_step(places: &mut SessionPlaces, call: &mut CallMachine)
     requires { MayStep call.old places.old }
     ensures { HasStepped call.old places.old call.new places.new }
 {
@@ -51,7 +52,7 @@ fn make_step(places: &mut Places, call: &mut CallMachine)
 fn run_to_end<R: Threads + Sync, C: Coder>(
     rt: &R,
     coder: &C,
-    places: &mut Places,
+    places: &mut SessionPlaces,
     call: &mut CallMachine,
 )
     requires { MayRun call.old places.old }
@@ -73,7 +74,7 @@ fn run_to_end<R: Threads + Sync, C: Coder>(
 pub(crate) fn run_call<'a, R: Threads + Sync, C: Coder>(
     rt: &R,
     coder: &C,
-    places: &mut Places,
+    places: &mut SessionPlaces,
     mut call: CallMachine<'a>,
 ) -> (Snapshot<CallMachine<'a>>, Seat, CallOutcome, Option<Takes>)
     requires { MayRun call places.old }

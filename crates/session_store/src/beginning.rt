@@ -7,7 +7,7 @@ ghost use Rattle.session_store.specs.Beginning.{AreNew, IsFirst, reader_tickets,
 ghost use Rattle.session_store.specs.Inside.{store_of};
 
 use crate::parts::Parts;
-use crate::places::Places;
+use crate::places::SessionPlaces;
 use chunk_server::Server;
 use clay_grid::Geometry;
 use std::alloc::{AllocError, Global};
@@ -33,16 +33,23 @@ fn new_places(
     alloc: Global,
     geometry: Geometry,
     max: u32,
-) -> Result<(Places, Vec<Seat>), AllocError>
+) -> Result<(SessionPlaces, Vec<Seat>), AllocError>
     ensures places { IfOk result (λ made. AreNew geometry max made.0) }
     ensures seats { IfOk result (λ made. made.1.items ≡ session_seats 64) }
 {
     let (book, sealer) = Book::free(alloc, geometry)?;
     let servers = new_servers(alloc, &book, geometry.n())?;
     let opening = book.opening();
-    let (directory, seats) = Directory::new(alloc, opening, sealer, max, READERS + 1, 2)?;
+    let (directory, seats) = Directory::counting_points(
+        alloc,
+        opening,
+        sealer,
+        max,
+        READERS + 1,
+        2,
+    )?;
     directory.keeps();
-    let places = Places {
+    let places = SessionPlaces {
         book,
         directory,
         servers,
@@ -67,7 +74,7 @@ fn add_tickets(seats: &mut Vec<Seat>, tickets: &mut Vec<Ticket>, count: u32)
 // A store of new places and these seats, which are all taken.
 fn with_seats(
     alloc: Global,
-    places: Places,
+    places: SessionPlaces,
     seats: &mut Vec<Seat>,
     mut tickets: Vec<Ticket>,
 ) -> Parts

@@ -3,7 +3,7 @@ ghost use Rattle.std.specs.Prelude.{◌≡◌, ◌+◌, ◌<◌, ◌^◌};
 ghost use Rattle.store_core.specs.Note.{note_of};
 ghost use Rattle.session_rules.specs.declared.request.Request.{Request};
 ghost use Rattle.session_store.specs.Inside.{store_of};
-ghost use Rattle.session_store.specs.Kept.{MayServe, IsServedBy};
+ghost use Rattle.session_store.specs.Kept.{MayServe, ServesRequest};
 
 use crate::alone::run_call;
 use crate::answers::of_call;
@@ -44,7 +44,7 @@ pub(crate) fn serve_call<R: Threads + Sync, C: Coder>(
     call: &Call,
 ) -> Answer
     requires { MayServe (store_of parts.old) }
-    ensures { IsServedBy (Request.OfMap call.now) (store_of parts.old) result (store_of parts.new) }
+    ensures { ServesRequest (Request.OfMap call.now) (store_of parts.old) result (store_of parts.new) }
 {
     // The call speaks of fewer than 2^33 bytes, which bounds its steps.
     let _reach = reach(call);

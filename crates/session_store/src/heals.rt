@@ -3,12 +3,14 @@ ghost use Rattle.std.specs.Prelude.{◌≡◌, ◌<◌, ◌+◌, ◌^◌, length
 ghost use Rattle.clay_grid.specs.Shape.{chunk_count};
 ghost use Rattle.session_laws.specs.Heals.{rebuild_of};
 ghost use Rattle.session_rules.specs.declared.request.Request.{Request};
-ghost use Rattle.session_store.specs.Healing.{beside, healable, added_low, added_if, is_rebuilt, MayHeal, HasHealedOne, AreOfServers, HasHealed, HealsWith, HealsLost};
+ghost use Rattle.session_store.specs.LostStripes.{healable, StandTogether};
+ghost use Rattle.session_store.specs.Healing.{added_low, added_if, is_rebuilt, MayHeal, HasHealedOne, AreOfServers, HasHealed, HealsWith, HealsLost};
 ghost use Rattle.world_lines.specs.Outcomes.{call_outcome_of};
 ghost use Rattle.session_store.specs.Inside.{store_of};
-ghost use Rattle.session_store.specs.Kept.{MayServe, IsServedBy};
+ghost use Rattle.session_store.specs.Kept.{MayServe, ServesRequest};
 
 use crate::alone::run_call;
+use crate::lost_stripes::to_heal;
 use crate::parts::Parts;
 use crate::scrubs::lost_chunks;
 use crate::seats::{put_seat, take};
@@ -21,38 +23,6 @@ use std::alloc::AllocError;
 use std::thread::Threads;
 use store_map::{ListOf, Rebuild};
 use world_lines::CallOutcome;
-
-// How many chunks are listed of the stripe of one.
-fn lost_beside(lost: &[LostChunk], chunk: &LostChunk) -> usize
-    ensures { result ≡ beside lost.now chunk.now }
-{
-    let mut count = 0;
-    for other in lost {
-        if other.stripe == chunk.stripe && other.name == chunk.name {
-            count += 1;
-        }
-    }
-    count
-}
-
-// The chunks that can be made anew: of stripes of which no more chunks are lost than there are parity
-// chunks.
-fn to_heal(parts: &Parts, lost: &[LostChunk]) -> Result<Vec<Rebuild>, AllocError>
-    ensures { IfOk result (λ chunks. chunks.items ≡ map rebuild_of (healable parts.now.places.book.geometry.parity_count lost.now)) }
-{
-    let most = parts.places.book.opening().geometry().m() as usize;
-    let mut chunks = Vec::new(parts.alloc);
-    for chunk in lost {
-        if lost_beside(lost, chunk) <= most {
-            chunks.push(Rebuild {
-                name: chunk.name.copy()?,
-                stripe: chunk.stripe,
-                server: chunk.server,
-            })?;
-        }
-    }
-    Ok(chunks)
-}
 
 // Counts come to the rest. A count stays at the last value of 64 bits.
 fn add_counts(taken: &mut [u64], takes: &Takes)
@@ -160,6 +130,7 @@ fn heal_lost<R: Threads + Sync, C: Coder>(
     lost: &[LostChunk],
 ) -> Result<Answer, AllocError>
     requires may { MayHeal parts.old }
+    requires order { StandTogether lost.now }
     requires there { AreOfServers parts.old (map rebuild_of (healable parts.old.places.book.geometry.parity_count lost.now)) }
     requires few { parts.old.next + length lost.now < 2 ^ 32 }
     ensures { HealsLost parts.old (map rebuild_of (healable parts.old.places.book.geometry.parity_count lost.now)) result parts.new }
@@ -170,10 +141,11 @@ fn heal_lost<R: Threads + Sync, C: Coder>(
     Ok(heal_with(rt, coder, parts, chunks, taken))
 }
 
-/// All lost chunks that can be made anew are, one after another.
+/// All lost chunks that can be made anew are, one after another. Where the healer has fewer numbers left
+/// than chunks are lost, nothing is done, and it is answered as a frame that is no request.
 pub(crate) fn heal<R: Threads + Sync, C: Coder>(rt: &R, coder: &C, parts: &mut Parts) -> Answer
     requires { MayServe (store_of parts.old) }
-    ensures { IsServedBy Request.Heal (store_of parts.old) result (store_of parts.new) }
+    ensures { ServesRequest Request.Heal (store_of parts.old) result (store_of parts.new) }
 {
     let lost = lost_chunks(parts);
     parts.served += 1;

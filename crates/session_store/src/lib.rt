@@ -7,6 +7,7 @@ mod beginning;
 mod calls;
 mod heals;
 mod losses;
+mod lost_stripes;
 mod parts;
 mod places;
 mod rebuilds;

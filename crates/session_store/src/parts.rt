@@ -1,5 +1,5 @@
 //! What a session's store keeps.
-use crate::places::Places;
+use crate::places::SessionPlaces;
 use snapshot_view::Snapshot;
 use std::alloc::Global;
 use stripe_dir::{Seat, Ticket};
@@ -7,7 +7,7 @@ use stripe_dir::{Seat, Ticket};
 /// The places, whose calls are made in them, and the snapshot that is open.
 pub(crate) struct Parts {
     pub(crate) alloc: Global,
-    pub(crate) places: Places,
+    pub(crate) places: SessionPlaces,
     // how many requests were served: the number of the next one's call
     pub(crate) served: u32,
     // the seats of those whose calls serve requests, but in a call

@@ -5,7 +5,7 @@ use version_seal::Book;
 
 /// The directory and the servers of one book, whose calls run one after another.
 #[derive(Drop)]
-pub(crate) struct Places {
+pub(crate) struct SessionPlaces {
     pub(crate) book: Book,
     pub(crate) directory: Directory,
     pub(crate) servers: Vec<Server>,

@@ -3,7 +3,7 @@ ghost use Rattle.std.specs.Prelude.{◌<◌};
 ghost use Rattle.clay_grid.specs.Shape.{chunk_count};
 ghost use Rattle.session_rules.specs.declared.request.Request.{Request};
 ghost use Rattle.session_store.specs.Inside.{store_of};
-ghost use Rattle.session_store.specs.Kept.{MayServe, IsServedBy};
+ghost use Rattle.session_store.specs.Kept.{MayServe, ServesRequest};
 
 use crate::alone::run_call;
 use crate::answers::of_rebuild;
@@ -25,7 +25,7 @@ pub(crate) fn rebuild<R: Threads + Sync, C: Coder>(
 ) -> Answer
     requires may { MayServe (store_of parts.old) }
     requires there { rebuild.now.server < chunk_count parts.old.places.book.geometry }
-    ensures { IsServedBy (Request.Rebuild rebuild.now.name rebuild.now.stripe rebuild.now.server) (store_of parts.old) result (store_of parts.new) }
+    ensures { ServesRequest (Request.Rebuild rebuild.now.name rebuild.now.stripe rebuild.now.server) (store_of parts.old) result (store_of parts.new) }
 {
     let seat = take(&mut parts.repairer);
     let opening = parts.places.book.opening();

@@ -4,7 +4,7 @@ ghost use Rattle.session_laws.specs.Scrubs.{lost_at};
 ghost use Rattle.session_rules.specs.declared.request.Request.{Request};
 ghost use Rattle.store_scrub.specs.Lost.{lost_in};
 ghost use Rattle.session_store.specs.Inside.{store_of};
-ghost use Rattle.session_store.specs.Kept.{IsStore, MayServe, IsServedBy};
+ghost use Rattle.session_store.specs.Kept.{IsStore, MayServe, ServesRequest};
 ghost use Rattle.session_store.specs.Stored.{places_in};
 
 use crate::parts::Parts;
@@ -46,7 +46,7 @@ pub(crate) fn lost_chunks(parts: &Parts) -> Result<Vec<LostChunk>, AllocError>
 /// The lost chunks are listed.
 pub(crate) fn scrub(parts: &mut Parts) -> Answer
     requires { MayServe (store_of parts.old) }
-    ensures { IsServedBy Request.Scrub (store_of parts.old) result (store_of parts.new) }
+    ensures { ServesRequest Request.Scrub (store_of parts.old) result (store_of parts.new) }
 {
     let lost = lost_chunks(parts);
     parts.served += 1;

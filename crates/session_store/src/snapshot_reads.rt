@@ -3,13 +3,13 @@ ghost use Rattle.std.specs.Prelude.{◌≡◌};
 ghost use Rattle.snapshot_view.specs.ReadSteps.{need_of};
 ghost use Rattle.session_rules.specs.declared.request.Request.{Request};
 ghost use Rattle.session_store.specs.Inside.{store_of};
-ghost use Rattle.session_store.specs.Kept.{MayServe, IsServedBy};
-ghost use Rattle.session_store.specs.Running.{GoesOn};
+ghost use Rattle.session_store.specs.Kept.{MayServe, ServesRequest};
+ghost use Rattle.session_store.specs.Stepping.{GoesOn};
 ghost use Rattle.session_store.specs.Reading.{MayReadOn, HasReadOn, MayRead, HasReadTo};
 
 use crate::answers::of_read;
 use crate::parts::Parts;
-use crate::places::Places;
+use crate::places::SessionPlaces;
 use call_steps::Need;
 use clay_repair::Coder;
 use session_rules::Answer;
@@ -18,7 +18,12 @@ use std::thread::Threads;
 use store_map::Name;
 
 // The read's next coding or its next step.
-fn read_on<R: Threads + Sync, C: Coder>(rt: &R, coder: &C, places: &mut Places, read: &mut SnapRead)
+fn read_on<R: Threads + Sync, C: Coder>(
+    rt: &R,
+    coder: &C,
+    places: &mut SessionPlaces,
+    read: &mut SnapRead,
+)
     requires goes { GoesOn (need_of read.old) }
     requires may { MayReadOn read.old places.old }
     ensures { HasReadOn read.old places.old read.new places.new }
@@ -38,7 +43,7 @@ fn read_on<R: Threads + Sync, C: Coder>(rt: &R, coder: &C, places: &mut Places, 
 fn run_read<R: Threads + Sync, C: Coder>(
     rt: &R,
     coder: &C,
-    places: &mut Places,
+    places: &mut SessionPlaces,
     read: &mut SnapRead,
 )
     requires { MayRead read.old places.old }
@@ -63,7 +68,7 @@ pub(crate) fn snap_read<R: Threads + Sync, C: Coder>(
     length: u32,
 ) -> Answer
     requires { MayServe (store_of parts.old) }
-    ensures { IsServedBy (Request.SnapRead name.now offset length) (store_of parts.old) result (store_of parts.new) }
+    ensures { ServesRequest (Request.SnapRead name.now offset length) (store_of parts.old) result (store_of parts.new) }
 {
     parts.served += 1;
     let Some(snapshot) = &parts.snapshot else {

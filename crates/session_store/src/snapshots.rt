@@ -5,7 +5,7 @@ ghost use Rattle.session_rules.specs.declared.request.Request.{Request};
 ghost use Rattle.session_rules.specs.declared.answer.Answer.{Answer};
 ghost use Rattle.session_store.specs.Inside.{store_of};
 ghost use Rattle.session_store.specs.Serving.{ServesAll, dropped_one};
-ghost use Rattle.session_store.specs.Kept.{IsStore, MayServe, IsServedBy};
+ghost use Rattle.session_store.specs.Kept.{IsStore, MayServe, ServesRequest};
 
 use crate::parts::Parts;
 use crate::seats::{put_snapshot, put_tickets, take};
@@ -18,7 +18,7 @@ use store_map::Reply;
 fn snap_anew(parts: &mut Parts) -> Answer
     requires may { MayServe (store_of parts.old) }
     requires none { parts.old.snapshot ≡ None }
-    ensures { IsServedBy Request.Snap (store_of parts.old) result (store_of parts.new) }
+    ensures { ServesRequest Request.Snap (store_of parts.old) result (store_of parts.new) }
 {
     let tickets = take(&mut parts.tickets);
     let opening = parts.places.book.opening();
@@ -43,7 +43,7 @@ fn snap_anew(parts: &mut Parts) -> Answer
 /// A snapshot is taken, where none is open.
 pub(crate) fn snap(parts: &mut Parts) -> Answer
     requires { MayServe (store_of parts.old) }
-    ensures { IsServedBy Request.Snap (store_of parts.old) result (store_of parts.new) }
+    ensures { ServesRequest Request.Snap (store_of parts.old) result (store_of parts.new) }
 {
     if parts.snapshot.is_some() {
         parts.served += 1;
@@ -70,7 +70,7 @@ pub(crate) fn drop_open(parts: &mut Parts)
 /// The snapshot is dropped, where one is open.
 pub(crate) fn snap_drop(parts: &mut Parts) -> Answer
     requires { MayServe (store_of parts.old) }
-    ensures { IsServedBy Request.SnapDrop (store_of parts.old) result (store_of parts.new) }
+    ensures { ServesRequest Request.SnapDrop (store_of parts.old) result (store_of parts.new) }
 {
     parts.served += 1;
     if !parts.snapshot.is_some() {

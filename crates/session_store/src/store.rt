@@ -4,7 +4,7 @@ ghost use Rattle.clay_grid.specs.Shape.{chunk_count};
 ghost use Rattle.session_rules.specs.State.{first_state};
 ghost use Rattle.session_store.specs.Standing.{StandsAt};
 ghost use Rattle.session_store.specs.Inside.{store_of};
-ghost use Rattle.session_store.specs.Kept.{MayServe, IsServedBy};
+ghost use Rattle.session_store.specs.Kept.{MayServe, ServesRequest};
 ghost use Rattle.session_store.specs.Serving.{NamesServerBelow, ServesAll, served_one};
 
 use crate::beginning::new_parts;
@@ -91,7 +91,7 @@ fn serve_request<R: Threads + Sync, C: Coder>(
 ) -> Answer
     requires may { MayServe (store_of parts.old) }
     requires there { NamesServerBelow (chunk_count parts.old.places.book.geometry) request }
-    ensures { IsServedBy request (store_of parts.old) result (store_of parts.new) }
+    ensures { ServesRequest request (store_of parts.old) result (store_of parts.new) }
 {
     match request {
         Request::OfMap(call) => serve_call(rt, coder, parts, &call),

@@ -1,21 +1,21 @@
 //! The sweeper after a request.
 ghost use Rattle.std.specs.Prelude.{◌≡◌, ◌<◌, true};
 ghost use Rattle.session_store.specs.Places.{ArePlaces};
-ghost use Rattle.session_store.specs.Sweeping.{IsSweptBy, IsSwept, has_sweep, sweeps_left_in, MaySweep};
+ghost use Rattle.session_store.specs.Sweeping.{IsSweptBy, HasSwept, has_sweep, sweeps_left_in, MaySweep};
 
-use crate::places::Places;
+use crate::places::SessionPlaces;
 use call_steps::Need;
 use sweeper::Sweeper;
 
 // Whether the sweeper has something to do.
-fn is_unswept(places: &Places, sweeper: &Sweeper) -> bool
+fn is_unswept(places: &SessionPlaces, sweeper: &Sweeper) -> bool
     ensures { result ≡ has_sweep sweeper.now places.now.directory }
 {
     sweeper.busy() || places.directory.has_garbage()
 }
 
 // A step of the sweeper.
-fn sweep_step(places: &mut Places, sweeper: &mut Sweeper)
+fn sweep_step(places: &mut SessionPlaces, sweeper: &mut Sweeper)
     requires { MaySweep sweeper.old places.old }
     ensures swept { IsSweptBy sweeper.old places.old sweeper.new places.new }
     ensures falls { has_sweep sweeper.old places.old.directory ≡ true
@@ -34,9 +34,9 @@ fn sweep_step(places: &mut Places, sweeper: &mut Sweeper)
 }
 
 /// The sweeper makes its steps until there is no garbage left. It takes no memory.
-pub(crate) fn sweep_all(places: &mut Places)
+pub(crate) fn sweep_all(places: &mut SessionPlaces)
     requires { ArePlaces places.old }
-    ensures { IsSwept places.old places.new }
+    ensures { HasSwept places.old places.new }
 {
     let geometry = places.book.opening().geometry();
     let mut sweeper = Sweeper::new(geometry.n());

@@ -62,8 +62,8 @@ pub fn row_holds<R: Threads + Sync + AllocGlobal>(
     ends_so(rt, &input, failing, status, &output)
 }
 
-// Holds each row of a table, parted by `;`; there are so many.
-fn rows_hold<R: Threads + Sync + AllocGlobal>(
+/// Holds each row of a table, parted by `;`; there are so many.
+pub fn rows_hold<R: Threads + Sync + AllocGlobal>(
     rt: &R,
     rows: usize,
     table: &[u8],

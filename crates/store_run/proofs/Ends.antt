@@ -263,6 +263,7 @@ module _ (store : Store) (store_is : IsStore store) (left : Left) (has : HasLeft
         record {
           geometry = store_is.geometry;
           valid = store_is.valid;
+          written = ap (λ (b : BookOf). b.script) out.book ∙ store_is.written;
           logs = logs;
           swept = seen_by has.sweeper.seated.turns;
           operated = seen_by operator_there.0.turns;

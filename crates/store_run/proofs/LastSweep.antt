@@ -31,16 +31,16 @@ use Rattle.sweeper.specs.Sweeps.{SweeperOf, act_of, at_directory_by, heard, need
 use Rattle.turn_lock.specs.History.{Among, GoesOn}
 use Rattle.turn_lock.proofs.Lists.{among_one, entries_of-with_entry, prefix_after, prefix_self, prefix_trans}
 use Rattle.lock_turns.proofs.Lists.{each_changed, map_set}
+use Rattle.world_steps.specs.SweepsLeft.{sweeps_left}
+use Rattle.world_steps.proofs.SweepsLeft.{sweeps_fall}
 use Rattle.run_steps.specs.AtServer.{StandsAtServer}
 use Rattle.run_steps.specs.Noted.{Noted}
 use Rattle.run_steps.specs.Numbers.{IsTurnOf}
 use Rattle.run_lists.specs.Callers.{IsSweeping}
 use Rattle.run_lists.specs.Ended.{AllHaveEnded, CallerOf, HasEnded, PlacesStand}
-use Rattle.run_lists.specs.LastSweep.{sweeps_left}
 use Rattle.run_lists.specs.Logs.{Logs, counts_of, log_of, own_at}
 use Rattle.run_lists.specs.Plain.{HasAddedAtServer}
 use Rattle.run_lists.specs.Stepped.{last_own, with_log, with_notes}
-use Rattle.run_lists.proofs.LastSweep.{last_sweeps_fall}
 use Rattle.run_lists.proofs.Others.{others_add_nothing}
 use Rattle.run_lists.proofs.Placing.{changed_get}
 use Rattle.run_lists.proofs.Plain.{sweeping_goes_on}
@@ -118,7 +118,7 @@ module _ (script : Script) (old : Ended) (is : IsEnded script old) where
   -- ---- with histories in which the entries of all others are the same
   module _ (directory : Sealed) (servers : Vec ServerState Global) (sweeper : SweeperOf) (logs : Logs) (others : (n : ℕ) → n ≢ its → (place : Place) → own_at n logs place ≡ own_at n is.logs place)
       (grown : IsPrefix is.logs.directory logs.directory) (stand : PlacesStand script directory (map core_of servers.items) logs)
-      (numbered : (k : ℕ) (server : ServerState) → slice_get servers.items k ≡ Some server → server.number ≡ k) (sweeps : IsSweeping script (own_at its logs) sweeper.at) (width : sweeper.servers ≡ old.sweeper.servers) where
+      (numbered : (k : ℕ) (server : ServerState) → slice_get servers.items k ≡ Some server → server.number ≡ k) (sweeps : IsSweeping script (own_at its logs) sweeper.at) (width : sweeper.servers ≡ old.sweeper.servers) (same_book : directory.book ≡ old.directory.book) where
     still : (n : ℕ) (who : Actor) (work : Work) (caller : CallerOf) → n ≢ its → HasEnded script is.logs n who work caller → HasEnded script logs n who work caller
     still n who work caller other ended = record { saw = λ place. others n other place ∙ ended.saw place; acting = ended.acting; over = ended.over }
 
@@ -157,6 +157,7 @@ module _ (script : Script) (old : Ended) (is : IsEnded script old) where
         record {
           geometry = is.geometry;
           valid = is.valid;
+          written = ap (λ (b : BookOf). b.script) same_book ∙ is.written;
           logs = logs;
           swept = logs;
           operated = is.operated;
@@ -234,7 +235,7 @@ module _ (script : Script) (old : Ended) (is : IsEnded script old) where
     ended_at_server number =
         ended_on old.directory servers sweeper (with_log j log_now is.logs)
         (λ n apart. others_at_server is.logs n j (plain_at_server its actor.Sweeper (act_of old.sweeper) (core_of x) (log_of is.logs j) last) apart logged)
-        (prefix_self is.logs.directory) places_stand (numbered_here number) sweeps_here (ap (λ (s : SweeperOf). s.servers) swept.hears)
+        (prefix_self is.logs.directory) places_stand (numbered_here number) sweeps_here (ap (λ (s : SweeperOf). s.servers) swept.hears) refl
 
   -- ---- after a step at the directory
   module _ (directory : Sealed) (sweeper : SweeperOf) (needs : need_of old.sweeper ≡ need.Directory) (stepped : (directory.core, sweeper) ≡ stepped_at_directory actor.Sweeper 0 old.sweeper old.directory.core)
@@ -265,7 +266,7 @@ module _ (script : Script) (old : Ended) (is : IsEnded script old) where
           logged = is.places.logged;
           at_server = is.places.at_server;
         })
-        is.numbers sweeps_there (ap (λ (s : SweeperOf). s.servers) swept_on.hears)
+        is.numbers sweeps_there (ap (λ (s : SweeperOf). s.servers) swept_on.hears) book
 
     -- the directory and the sweeper after it
     both : (directory.core, sweeper) ≡ at_directory_by (Act.AtDirectory swept_on.step) actor.Sweeper 0 old.sweeper old.directory.core
@@ -276,4 +277,4 @@ module _ (script : Script) (old : Ended) (is : IsEnded script old) where
         let after : Directory × Told = at_directory false actor.Sweeper 0 swept_on.step old.directory.core in
         subst (λ (d : Directory). sweeps_left script.geometry sweeper.at d < sweeps_left script.geometry old.sweeper.at old.directory.core) (sym (ap (λ (p : Directory × SweeperOf). p.0) both))
         (heard_is (λ (s : Sweeper). sweeps_left script.geometry s after.0 < sweeps_left script.geometry old.sweeper.at old.directory.core) after.1 sweeper (ap (λ (p : Directory × SweeperOf). p.1) both)
-        ((last_sweeps_fall script.geometry old.sweeper.at old.directory.core sound).at_directory swept_on.step (next_is (Act.AtDirectory swept_on.step) swept_on.acts) has))
+        ((sweeps_fall script.geometry old.sweeper.at old.directory.core sound).at_directory swept_on.step (next_is (Act.AtDirectory swept_on.step) swept_on.acts) has))

@@ -21,10 +21,11 @@ use Rattle.store_run.specs.declared.ended.Ended.{Ended}
 abbrev pub AreCallsOf : Script → List CallerOf → List CallerCalls → Type 0
 AreCallsOf script callers calls = map (λ caller. calling_of script caller.actor) callers ≡ map (calling_at (chunk_count script.geometry)) calls
 
--- directory and servers stand for whole histories, in which all clients and repairers have ended, and the operator has made all its lines; each call that was served has the bytes that it was owed
+-- the directory is of the script's book, directory and servers stand for whole histories, in which all clients and repairers have ended, and the operator has made all its lines; each call that was served has the bytes that it was owed
 pub record IsEnded (script : Script) (ended : Ended) : Type 0 where
   pub geometry : IsGeometry script.geometry
   pub valid : IsValid script
+  pub written : ended.directory.book.script ≡ Some script
   pub logs : Logs
   pub swept : Logs
   pub operated : Logs

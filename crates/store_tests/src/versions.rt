@@ -60,13 +60,27 @@ fn both<R: Threads + Sync>(
     )
 }
 
+fn both_see<R: Threads + Sync>(
+    rt: &R,
+    alloc: Global,
+    book: &Book,
+    sealer: &mut Sealer,
+    first: &Stamp,
+) -> Result<(), Fail>
+    requires book { IsSmall book.now }
+    requires sealer { sealer.old ≡ sealer_at book.now 1 }
+    requires first { IsStampOf book.now 0 first.now }
+{
+    let (read, sealed) = both(rt, alloc, book, sealer, first);
+    holds(sealed? == (1, 0), "seal")?;
+    holds(read == (0, 0), "read")
+}
+
 #[test]
 fn threads_share_a_book(rt: HostRuntime) -> Result<(), Fail> {
     let (book, mut sealer) = Book::free(rt.alloc(), small_geometry()?)?;
     let first = stamp(rt.alloc(), &book, &mut sealer)?;
-    let (read, sealed) = both(&rt, rt.alloc(), &book, &mut sealer, &first);
-    holds(sealed? == (1, 0), "seal")?;
-    holds(read == (0, 0), "read")
+    both_see(&rt, rt.alloc(), &book, &mut sealer, &first)
 }
 
 /// What a test does with a book of which nothing is sealed.
@@ -217,6 +231,18 @@ fn one_put(alloc: Global) -> Result<Script, Fail>
     })
 }
 
+// The book has room for as many versions as a script may draw, and tells its script.
+fn is_of_one_client(book: &Book) -> Result<(), Fail> {
+    holds(has_room(book, 2_097_151, 1), "last")?;
+    holds(!has_room(book, 2_097_152, 1), "past")?;
+    let clients = book.script().map(|script| script.clients.len());
+    holds(clients == Some(1), "script")?;
+    holds(
+        book.opening().copy().geometry() == small_geometry()?,
+        "geometry",
+    )
+}
+
 #[test]
 fn a_script_has_room_for_its_versions(rt: HostRuntime) -> Result<(), Fail> {
     let (book, mut sealer) = Book::new(rt.alloc(), one_put(rt.alloc())?)?;
@@ -224,12 +250,5 @@ fn a_script_has_room_for_its_versions(rt: HostRuntime) -> Result<(), Fail> {
     let room = book.reserve(sealer.next(), 1)?;
     let first = book.seal(&mut sealer, &room, actor, 0, 0, None, None)?;
     holds(first.version() == Version(0), "first")?;
-    holds(has_room(&book, 2_097_151, 1), "last")?;
-    holds(!has_room(&book, 2_097_152, 1), "past")?;
-    let clients = book.script().map(|script| script.clients.len());
-    holds(clients == Some(1), "script")?;
-    holds(
-        book.opening().copy().geometry() == small_geometry()?,
-        "geometry",
-    )
+    is_of_one_client(&book)
 }

@@ -52,6 +52,15 @@ module _ (script : Script) (w : WorldOf) where
       }
 
 -- ---- whether somebody has a step
+or_false : (b : Bool) → (b || false) ≡ b
+or_false true = refl
+or_false false = refl
+
+true_last : (a b : Bool) → (a || b || true) ≡ true
+true_last true b = refl
+true_last false true = refl
+true_last false false = refl
+
 -- a caller whose part is the one at this place
 record IsPartAt (X : Type 0) (as_part : X → PartOf) (parts : List X) (i : ℕ) (c : CallerOf) : Type 0 where
   part : X
@@ -101,14 +110,14 @@ module _ (s : StoredWorld) (is : IsWorld s) where
       let sweeps : Bool = sweeper_has_step (core_of s.script (world_of s)) in
       ap (λ (b : Bool). b || rest || sweeps) (sym holds) ∙ unfinished some_client rest one refl
 
-  pub by_repairer : (some_client some_repairer : Bool) → some_client ≡ some_caller_has s.script s.clients → some_client ≡ false → some_repairer ≡ some_caller_has s.script s.repairers → some_repairer ≡ true
-      → true ≡ is_unfinished s.script (core_of s.script (world_of s))
-  by_repairer some_client some_repairer one without two holds =
-      let sweeps : Bool = sweeper_has_step (core_of s.script (world_of s)) in
-      (λ k. sym without k || sym holds k || sweeps) ∙ unfinished some_client some_repairer one two
+  pub by_repairers : (some_client some_repairer sweeps : Bool) → some_client ≡ some_caller_has s.script s.clients → some_client ≡ false → some_repairer ≡ some_caller_has s.script s.repairers
+      → sweeps ≡ sweeper_has_step (core_of s.script (world_of s)) → sweeps ≡ false → some_repairer ≡ is_unfinished s.script (core_of s.script (world_of s))
+  by_repairers some_client some_repairer sweeps one without two three rests =
+      sym (or_false some_repairer) ∙ (λ k. sym without k || some_repairer || (sym rests ∙ three) k) ∙ unfinished some_client some_repairer one two
 
-  pub by_sweeper : (some_client some_repairer : Bool) → some_client ≡ some_caller_has s.script s.clients → some_client ≡ false → some_repairer ≡ some_caller_has s.script s.repairers → some_repairer ≡ false
-      → sweeper_has_step (core_of s.script (world_of s)) ≡ is_unfinished s.script (core_of s.script (world_of s))
-  by_sweeper some_client some_repairer one without two none =
-      let sweeps : Bool = sweeper_has_step (core_of s.script (world_of s)) in
-      (λ k. sym without k || sym none k || sweeps) ∙ unfinished some_client some_repairer one two
+-- the sweeper has a step, whoever else has
+pub by_sweeper : (s : StoredWorld) (sweeps : Bool) → sweeps ≡ sweeper_has_step (core_of s.script (world_of s)) → sweeps ≡ true → true ≡ is_unfinished s.script (core_of s.script (world_of s))
+by_sweeper s sweeps tells holds =
+    let some_client : Bool = any_has_step (client_work s.script) (map (calling_of s.script) (world_of s).clients) in
+    let some_repairer : Bool = any_has_step (repairer_work s.script) (map (calling_of s.script) (world_of s).repairers) in
+    sym (true_last some_client some_repairer) ∙ (λ k. some_client || some_repairer || (sym holds ∙ tells) k)

@@ -16,7 +16,6 @@ use Rattle.store_core.specs.Told.{Told}
 use Rattle.store_core.specs.Work.{Work}
 use Rattle.store_in_time.specs.Trace.{Made, act_made}
 use Rattle.call_steps.specs.declared.act.Act.{Act as ActTold}
-use Rattle.call_steps.specs.declared.act.ServerAct.{ServerAct}
 use Rattle.call_steps.specs.declared.answer.DirectoryAnswer.{DirectoryAnswer}
 use Rattle.call_steps.specs.declared.answer.DirectoryAnswer.TheVariants as said
 use Rattle.call_steps.specs.declared.answer.ServerAnswer.{ServerAnswer}
@@ -28,7 +27,7 @@ use Rattle.sweeper.specs.Sweeps.{need_at, told_at_directory_by, told_at_server_b
 use Rattle.trace_lines.specs.declared.step.Answer.TheVariants as answer
 use Rattle.trace_lines.specs.declared.step.Step.{Step}
 use Rattle.trace_lines.specs.Steps.{IsStep}
-use Rattle.world_steps.specs.World.{WorldOf, ActorOf}
+use Rattle.world_steps.specs.World.{ActorOf}
 use Rattle.world_steps.specs.Goes.{Leads}
 use Rattle.world_traces.specs.Telling.{TellsOf}
 use Rattle.world_traces.specs.TurnMade.{turn_made}

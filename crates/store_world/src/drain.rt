@@ -68,13 +68,15 @@ impl<'a> World<'a> {
     pub fn is_unfinished(&self) -> bool
         ensures { result ≡ is_unfinished self.now.script (core_of self.now.script (world_of self.now)) }
     {
+        // The sweeper first: it mostly has a step, and goes on after the callers have ended, when a search
+        // for one goes over all of them.
+        if self.sweeper_has_step() {
+            return true;
+        }
         if some_has_step(&self.clients) {
             return true;
         }
-        if some_has_step(&self.repairers) {
-            return true;
-        }
-        self.sweeper_has_step()
+        some_has_step(&self.repairers)
     }
 
     /// All take turns until nobody has a step.

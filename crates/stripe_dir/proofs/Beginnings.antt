@@ -105,6 +105,7 @@ current_other d v current = by (slice_get_cases d.versions v).1
 pub record Roomy (a : Inside) (shelf : Shelf) (now : Desk) (book : PointLog) : Type 0 where
   pub points : book.points ≡ a.history.points
   pub others : (other : List ℕ) → Contains a.history.names other → Contains book.names other
+  pub keeps : book.keeps ≡ a.history.keeps
   pub points_room : a.history.room ≤ book.room
   pub objects : shelf.objects ≡ a.objects.objects
   pub objects_room : a.objects.room ≤ shelf.room
@@ -122,6 +123,7 @@ module _ (a : Inside) (kept : IsKept a) (objects : Shelf) (desk : Desk) (history
   kept_roomy =
       record {
         stripes = kept.stripes;
+        keeps = λ script. roomy.keeps ∙ kept.keeps script;
         desk = roomy.stripe ∙ kept.desk;
         whole = subst IsWhole (sym same_directory) kept.whole;
         counted = kept.counted;
@@ -134,10 +136,11 @@ module _ (a : Inside) (kept : IsKept a) (objects : Shelf) (desk : Desk) (history
 
   -- and one point more, with objects and versions that may have changed
   pub kept_pointed : (shelf : Shelf) (table : Table) (book : PointLog) → IsWhole (directory_in (record a { objects = shelf; versions = table; passes = desk; history = book })) → length a.passes.listed + 2 ≤ history.room → history.room ≤ book.room + 1
-      → book.names ≡ history.names → table.pins ≡ a.versions.pins → origins table.listed ≡ origins a.versions.listed → a.objects.room ≤ shelf.room → IsKept (record a { objects = shelf; versions = table; passes = desk; history = book })
-  kept_pointed shelf table book whole more left names pins same shelf_room =
+      → book.names ≡ history.names → book.keeps ≡ history.keeps → table.pins ≡ a.versions.pins → origins table.listed ≡ origins a.versions.listed → a.objects.room ≤ shelf.room → IsKept (record a { objects = shelf; versions = table; passes = desk; history = book })
+  kept_pointed shelf table book whole more left names keeps pins same shelf_room =
       record {
         stripes = kept.stripes;
+        keeps = λ script. keeps ∙ roomy.keeps ∙ kept.keeps script;
         desk = roomy.stripe ∙ kept.desk;
         whole = whole;
         counted = ap length pins ∙ kept.counted ∙ sym (same_count a.versions.listed table.listed same);
@@ -153,11 +156,12 @@ module _ (a : Inside) (kept : IsKept a) (objects : Shelf) (desk : Desk) (history
   -- and one pass more
   pub kept_begun : (table : Table) (now : Desk) (book : PointLog) (n : Pass) → n.reaped ≡ None → IsWhole (directory_in (record a { objects = objects; versions = table; passes = now; history = book })) → now.listed ≡ n ∷ a.passes.listed → now.stripe_len ≡ desk.stripe_len
       → table.listed ≡ a.versions.listed → table.pins ≡ pinned_more n.pinned a.versions.pins → All (λ pin. pin.version < length a.versions.listed) n.pinned
-      → length a.passes.listed + 2 ≤ history.room → history.room ≤ book.room + 1 → book.names ≡ history.names → Contains history.names n.note.name → length a.passes.listed + 1 ≤ objects.room
+      → length a.passes.listed + 2 ≤ history.room → history.room ≤ book.room + 1 → book.names ≡ history.names → book.keeps ≡ history.keeps → Contains history.names n.note.name → length a.passes.listed + 1 ≤ objects.room
       → IsKept (record a { objects = objects; versions = table; passes = now; history = book })
-  kept_begun table now book n live whole passes stripe listed pins within more left names named more_objects =
+  kept_begun table now book n live whole passes stripe listed pins within more left names keeps named more_objects =
       record {
         stripes = kept.stripes;
+        keeps = λ script. keeps ∙ roomy.keeps ∙ kept.keeps script;
         desk = stripe ∙ roomy.stripe ∙ kept.desk;
         whole = whole;
         counted = ap length pins ∙ length-pinned n.pinned a.versions.pins ∙ kept.counted ∙ sym (ap length listed);

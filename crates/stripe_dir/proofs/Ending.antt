@@ -164,6 +164,7 @@ module _ (a : Inside) (kept : IsKept a) (who : Actor) (p : Pass) (desk : Desk) (
   kept_reaped point reaped =
       record {
         stripes = kept.stripes;
+        keeps = kept.keeps;
         desk = gone.stripe ∙ kept.desk;
         whole =
             subst IsWhole (sym (ap (λ r. r.0) (reaped_any (directory_in a) who p desk.listed gone.found gone.left gone.perm end_pass point reaped)))
@@ -178,13 +179,14 @@ module _ (a : Inside) (kept : IsKept a) (who : Actor) (p : Pass) (desk : Desk) (
 
   -- where it wasn't, and its pins are gone with it
   pub kept_ended : p.reaped ≡ None → (objects : Shelf) (table : Table) (history : PointLog) → IsWhole (directory_in (record a { objects = objects; versions = table; passes = desk; history = history }))
-      → table.pins ≡ unpinned p.pinned a.versions.pins → origins table.listed ≡ origins a.versions.listed → history.names ≡ a.history.names → a.history.room ≤ history.room + 1
+      → table.pins ≡ unpinned p.pinned a.versions.pins → origins table.listed ≡ origins a.versions.listed → history.names ≡ a.history.names → history.keeps ≡ a.history.keeps → a.history.room ≤ history.room + 1
       → a.objects.room ≤ objects.room + one_if (may_append p.note.kind) → IsKept (record a { objects = objects; versions = table; passes = desk; history = history })
-  kept_ended live objects table history whole pins same names points_room objects_room =
+  kept_ended live objects table history whole pins same names keeps points_room objects_room =
       let one : one_if (is_live p.reaped) ≡ 1 = ap (λ (r : Option ℕ). one_if (is_live r)) live in
       let also : one_if (may_append p.note.kind && is_live p.reaped) ≡ one_if (may_append p.note.kind) = ap (λ (r : Option ℕ). one_if (may_append p.note.kind && is_live r)) live ∙ with_true (may_append p.note.kind) in
       record {
         stripes = kept.stripes;
+        keeps = λ script. keeps ∙ kept.keeps script;
         desk = gone.stripe ∙ kept.desk;
         whole = whole;
         counted = ap length pins ∙ length-unpinned p.pinned a.versions.pins ∙ kept.counted ∙ sym (same_count a.versions.listed table.listed same);
@@ -206,7 +208,7 @@ module _ (a : Inside) (kept : IsKept a) (who : Actor) (p : Pass) (desk : Desk) (
       → (directory_in (record a { versions = table; passes = desk }), told) ≡ at_directory false who 0 step (directory_in a)
       → table.pins ≡ unpinned p.pinned a.versions.pins → origins table.listed ≡ origins a.versions.listed → IsKept (record a { versions = table; passes = desk })
   kept_closed live step told table may made pins same =
-      kept_ended live a.objects table a.history (subst IsWhole (sym (ap (λ (r : Directory × Told). r.0) made)) (keeps_whole who 0 step (directory_in a) kept.stripes kept.whole may)) pins same refl (omega arith) (omega arith)
+      kept_ended live a.objects table a.history (subst IsWhole (sym (ap (λ (r : Directory × Told). r.0) made)) (keeps_whole who 0 step (directory_in a) kept.stripes kept.whole may)) pins same refl refl (omega arith) (omega arith)
 
 -- what is known of a pass that its actor's step has taken out
 pub record Taken (a : Inside) (d : Directory) (held : HeldPass) (who : Actor) (p : Pass) (desk : Desk) : Type 0 where

@@ -70,6 +70,7 @@ module _ (a : Inside) (kept : IsKept a) where
         counted = ap length pins ∙ kept.counted ∙ sym (same_count a.versions.listed t.listed same);
         pins = λ v. ap (λ ps. get_or ps v 0) pins ∙ kept.pins v;
         named = kept.named;
+        keeps = kept.keeps;
         points_room = kept.points_room;
         objects_room = kept.objects_room;
         stamps = stamps_stay (sealed_in a) kept.stamps (directory_in (record a { versions = t })) refl same;

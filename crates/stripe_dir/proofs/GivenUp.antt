@@ -105,11 +105,12 @@ module _ (a : Inside) (kept : IsKept a) (who : Actor) (p : Pass) (found : find (
         ))
         )
 
-    pub kept_given_up : desk.stripe_len ≡ a.passes.stripe_len → table.pins ≡ unpinned p.pinned a.versions.pins → book.names ≡ a.history.names → book.room + 1 ≡ a.history.room
+    pub kept_given_up : desk.stripe_len ≡ a.passes.stripe_len → table.pins ≡ unpinned p.pinned a.versions.pins → book.names ≡ a.history.names → book.keeps ≡ a.history.keeps → book.room + 1 ≡ a.history.room
         → IsKept (record a { versions = table; passes = desk; history = book })
-    kept_given_up stripe pins names room =
+    kept_given_up stripe pins names keeps room =
         record {
           stripes = kept.stripes;
+          keeps = λ script. keeps ∙ kept.keeps script;
           desk = stripe ∙ kept.desk;
           whole = subst IsWhole (sym (ap (λ r. r.0) (reap_step actor.Operator 0))) (keeps_whole actor.Operator 0 (DirectoryStep.Reap who) (directory_in a) kept.stripes kept.whole tt);
           counted = ap length pins ∙ length-unpinned p.pinned a.versions.pins ∙ kept.counted ∙ sym (ap length listed ∙ length-set_standing Standing.Superseded p.drawn a.versions.listed);

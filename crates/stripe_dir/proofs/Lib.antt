@@ -14,3 +14,4 @@ pub mod Opened
 pub mod Agreeing
 pub mod ShownRows
 pub mod TicketDraws
+pub mod KnownVersions

@@ -1,5 +1,5 @@
 -- What a directory begins with.
-use Rattle.std.proofs.Common.{◌≡◌, ◌<◌, List, [], length, get_or, map, Option, None, Some, IfSome, All, Contains, refl, sym, ap, subst, ◌∙◌, arith}
+use Rattle.std.proofs.Common.{◌≡◌, ◌<◌, true, List, [], length, get_or, map, Option, None, Some, is_some, IfSome, IsTrue, All, Contains, refl, sym, ap, subst, ◌∙◌, arith}
 use Rattle.std.proofs.lemmas.List.Elements.{All-nil}
 use Rattle.clay_grid.specs.Shape.{stripe_length}
 use Rattle.store_map.specs.declared.script.Script.{Script}
@@ -22,6 +22,7 @@ pub record IsEmpty (a : Inside) : Type 0 where
   pub passes : a.passes.listed ≡ []
   pub points : a.history.points ≡ []
   pub stamps : a.stamps.listed ≡ []
+  pub keeps : IsTrue (is_some a.stamps.book.script) → a.history.keeps ≡ true
 
 module _ (a : Inside) (empty : IsEmpty a) (code : a.stamps.book.geometry ≡ a.geometry) where
   first_whole : IsWhole (directory_in a)
@@ -56,4 +57,5 @@ module _ (a : Inside) (empty : IsEmpty a) (code : a.stamps.book.geometry ≡ a.g
         named = subst (λ (l : List Pass). All (λ pass. Contains a.history.names pass.note.name) l) (sym empty.passes) (All-nil (λ (pass : Pass). Contains a.history.names pass.note.name));
         points_room = omega (arith, no_points);
         objects_room = omega (arith, no_objects);
+        keeps = empty.keeps;
       }

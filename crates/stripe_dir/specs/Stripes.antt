@@ -1,11 +1,12 @@
 -- The stripes that looks pin and draws touch, by the length of a stripe.
-use Rattle.std.specs.Prelude.{◌≡◌, ℕ, ◌+◌, ◌*◌, ◌-◌, ◌/◌, Bool, ◌||◌, nat_lt, min, ◌<◌, List, [], length, map, get_or, filter, All}
+use Rattle.std.specs.Prelude.{◌≡◌, ℕ, ◌+◌, ◌*◌, ◌-◌, ◌/◌, Bool, ◌||◌, nat_lt, min, List, [], map, get_or, filter, All}
 use Rattle.std.specs.List.{range_with_len, slice_get}
 use Rattle.store_map.specs.Limits.{stripes_met}
 use Rattle.store_core.specs.Told.{Seen}
 use Rattle.store_core.specs.Note.{Note, Kind}
 use Rattle.store_core.specs.Directory.{Version, Pin, Pass}
 use Rattle.store_core.specs.Look.{placed_of}
+use Rattle.dir_parts.specs.Known.{IsKnown}
 use Rattle.dir_parts.specs.TableSteps.{drawn_versions}
 use Rattle.call_steps.specs.declared.seen.Seen.{Seen as SeenStripe}
 use Rattle.stripe_dir.specs.Answers.{seen_in}
@@ -37,9 +38,9 @@ seen_by listed held stripe = record { stripe = stripe; version = get_or held str
 abbrev pub pin_by : List ℕ → ℕ → Pin
 pin_by held stripe = record { stripe = stripe; version = get_or held stripe 0 }
 
--- each of these stripes has a version that is there
+-- each of these stripes has a version that is there and isn't swept
 abbrev pub AreThere : List Version → List ℕ → List ℕ → Type 0
-AreThere listed held stripes = All (λ stripe. get_or held stripe 0 < length listed) stripes
+AreThere listed held stripes = All (λ stripe. IsKnown listed (get_or held stripe 0)) stripes
 
 -- these are told of the stripes
 abbrev pub AreTold : List Version → List ℕ → List ℕ → List SeenStripe → Type 0

@@ -7,6 +7,7 @@ ghost use Rattle.store_core.specs.Told.{Told};
 ghost use Rattle.store_core.specs.Looks.{answer};
 ghost use Rattle.store_core.specs.SoundPasses.{Stands};
 ghost use Rattle.dir_parts.specs.Events.{reply_in};
+ghost use Rattle.dir_parts.specs.Known.{IsKnown};
 ghost use Rattle.dir_parts.specs.Parts.{versions_under};
 ghost use Rattle.stripe_dir.specs.Answers.{seen_in};
 ghost use Rattle.stripe_dir.specs.Stamped.{AreNumbered};
@@ -59,7 +60,7 @@ fn see_object(
 
 // The object with this name goes, and its versions are superseded.
 fn remove_object(objects: &mut Objects, versions: &mut Versions, name: &Name)
-    requires { All (λ number. number < length versions.old.listed) (versions_under name.now objects.old.objects) }
+    requires { All (IsKnown versions.old.listed) (versions_under name.now objects.old.objects) }
     ensures objects { objects.new.objects ≡ remove_object name.now objects.old.objects }
     ensures room { objects.old.room ≤ objects.new.room }
     ensures listed { versions.new.listed ≡ set_standing Standing.Superseded (versions_under name.now objects.old.objects) versions.old.listed }

@@ -1,5 +1,5 @@
 //! A new directory with its actors' seats, and what it tells of its objects, points and stamps.
-ghost use Rattle.std.specs.Prelude.{◌≡◌, ◌+◌, ◌≤◌, ◌<◌, ◌++◌, vec_len, vec_capacity, map, length, option_map, slice_get, IfOk};
+ghost use Rattle.std.specs.Prelude.{◌≡◌, ◌+◌, ◌≤◌, ◌<◌, ◌++◌, [], true, None, is_some, vec_len, vec_capacity, map, length, option_map, slice_get, IfOk, IsTrue};
 ghost use Rattle.std.specs.List.{range_with_len};
 ghost use Rattle.clay_grid.specs.Shape.{stripe_length};
 ghost use Rattle.dir_parts.specs.PointLog.{told_of, told_at};
@@ -61,7 +61,8 @@ fn add_repairers(seats: &mut Vec<Seat>, count: u32)
 
 impl Directory {
     /// A directory without objects, of a book's versions, which it alone seals, whose objects may have
-    /// `max` bytes each, and the seats of its clients, then of its repairers.
+    /// `max` bytes each, and the seats of its clients, then of its repairers. It keeps every point of
+    /// its history; where the book has a script they can be read (`point_at`).
     pub fn new(
         alloc: Global,
         opening: Opening,
@@ -75,19 +76,56 @@ impl Directory {
         ensures seats { IfOk result (λ made. made.1.items ≡ first_seats clients repairers) }
     {
         let seats = seats(alloc, clients, repairers)?;
+        let directory = Directory::with_history(alloc, opening, sealer, max, History::new(alloc));
+        Ok((directory, seats))
+    }
+
+    /// The same for a book without a script. Its points are counted and not kept: of a call that was
+    /// served stay its object's name, once, and the stamps of what it drew.
+    pub fn counting_points(
+        alloc: Global,
+        opening: Opening,
+        sealer: Sealer,
+        max: u32,
+        clients: u32,
+        repairers: u32,
+    ) -> Result<(Directory, Vec<Seat>), AllocError>
+        requires sealer { sealer ≡ sealer_at opening 0 }
+        requires free { opening.script ≡ None }
+        ensures directory { IfOk result (λ made. made.0 ≡ new_sealed opening max) }
+        ensures seats { IfOk result (λ made. made.1.items ≡ first_seats clients repairers) }
+    {
+        let seats = seats(alloc, clients, repairers)?;
+        let history = History::counting(alloc);
+        let directory = Directory::with_history(alloc, opening, sealer, max, history);
+        Ok((directory, seats))
+    }
+
+    // A directory without objects and with this history, which has no points.
+    fn with_history(
+        alloc: Global,
+        opening: Opening,
+        sealer: Sealer,
+        max: u32,
+        history: History,
+    ) -> Directory
+        requires sealer { sealer ≡ sealer_at opening 0 }
+        requires points { history.points ≡ [] }
+        requires keeps { IsTrue (is_some opening.script) → history.keeps ≡ true }
+        ensures { result ≡ new_sealed opening max }
+    {
         let geometry = opening.geometry();
         let stripe_len = geometry.stripe_len();
-        let directory = Directory {
+        Directory {
             alloc,
             geometry,
             max,
             objects: Objects::new(alloc),
             versions: Versions::new(alloc),
             passes: Passes::new(alloc, stripe_len),
-            history: History::new(alloc),
+            history,
             stamps: Stamps::new(alloc, opening, sealer),
-        };
-        Ok((directory, seats))
+        }
     }
 
     /// The code of the stripes.
@@ -118,8 +156,10 @@ impl Directory {
         self.history.len()
     }
 
-    /// The point of the history with this number.
+    /// The point of the history with this number, where the directory's book has a script: without one
+    /// the points needn't be kept.
     pub fn point_at(&self, point: usize) -> Option<PointEntry>
+        requires { IsTrue (is_some self.now.book.script) }
         ensures { option_map told_of result ≡ told_at self.now.core.points point }
     {
         self.history.get(point)

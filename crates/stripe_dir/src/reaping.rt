@@ -5,6 +5,7 @@ ghost use Rattle.store_core.specs.Act.{DirectoryStep};
 ghost use Rattle.store_core.specs.Directory.{Standing, Event as CoreEvent};
 ghost use Rattle.store_core.specs.Look.{set_standing};
 ghost use Rattle.dir_parts.specs.Counts.{unpinned};
+ghost use Rattle.dir_parts.specs.Known.{IsKnown};
 ghost use Rattle.dir_parts.specs.Parts.{point_by};
 ghost use Rattle.stripe_dir.specs.Steps.{IsStepOfAny};
 
@@ -15,7 +16,7 @@ use store_map::{Actor, Point};
 // Gives up a pass's pins and what it drew, and appends the point of its reap.
 fn give_up(versions: &mut Versions, history: &mut History, pass: &OpenPass) -> u64
     requires pinned { All (λ pin. pin.version < length versions.old.listed) pass.now.pass.pinned }
-    requires drawn { All (λ version. version < length versions.old.listed) pass.now.pass.drawn }
+    requires drawn { All (IsKnown versions.old.listed) pass.now.pass.drawn }
     requires room { 0 < history.old.room }
     requires named { Contains history.old.names pass.now.pass.note.name }
     ensures listed { versions.new.listed ≡ set_standing Standing.Superseded pass.now.pass.drawn versions.old.listed }
@@ -23,6 +24,7 @@ fn give_up(versions: &mut Versions, history: &mut History, pass: &OpenPass) -> u
     ensures point { result ≡ length history.old.points }
     ensures points { history.new.points ≡ history.old.points ++ point_by pass.now.pass.actor pass.now.pass.number pass.now.pass.note CoreEvent.Reaped ∷ [] }
     ensures names { history.new.names ≡ history.old.names }
+    ensures keeps { history.new.keeps ≡ history.old.keeps }
     ensures left { history.new.room + 1 ≡ history.old.room }
 {
     versions.unpin_all(&pass.pinned);

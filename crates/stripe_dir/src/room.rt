@@ -16,6 +16,7 @@ pub(crate) fn make_room(
 ) -> Result<(), AllocError>
     ensures points { history.new.points ≡ history.old.points }
     ensures others { KeepsNames history.old.names history.new.names }
+    ensures keeps { history.new.keeps ≡ history.old.keeps }
     ensures points_room { history.old.room ≤ history.new.room }
     ensures objects { objects.new.objects ≡ objects.old.objects }
     ensures objects_room { objects.old.room ≤ objects.new.room }
@@ -41,6 +42,7 @@ pub(crate) fn add_look(history: &mut History, actor: Actor, number: u32, note: &
     requires named { Contains history.old.names note.now.name }
     ensures points { history.new.points ≡ history.old.points ++ looked actor number note.now }
     ensures names { history.new.names ≡ history.old.names }
+    ensures keeps { history.new.keeps ≡ history.old.keeps }
     ensures left { history.old.room ≤ history.new.room + 1 }
 {
     match note.kind {

@@ -2,6 +2,7 @@
 ghost use Rattle.std.specs.Prelude.{◌≡◌, ◌+◌, ◌-◌, ◌<◌, ◌≤◌, ◌/◌, ◌^◌, map, filter, length, get_or, All, IfOk};
 ghost use Rattle.std.specs.List.{range_with_len};
 ghost use Rattle.store_map.specs.Limits.{stripes_met};
+ghost use Rattle.dir_parts.specs.Known.{IsKnown};
 ghost use Rattle.dir_parts.specs.Passes.{kind_in};
 ghost use Rattle.stripe_dir.specs.Answers.{seen_in};
 ghost use Rattle.stripe_dir.specs.AnswerStamps.{IsSeenIn};
@@ -128,7 +129,7 @@ fn see_one(
     held: &[u64],
     stripe: u32,
 ) -> Result<Seen, AllocError>
-    requires there { get_or held.now stripe 0 < length versions.now.listed }
+    requires there { IsKnown versions.now.listed (get_or held.now stripe 0) }
     requires stamped { length stamps.now ≡ length versions.now.listed }
     requires numbered { AreNumbered stamps.now }
     ensures seen { IfOk result (λ seen. seen_in seen ≡ seen_by versions.now.listed held.now stripe) }

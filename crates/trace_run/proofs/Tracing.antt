@@ -18,10 +18,10 @@ use Rattle.world_steps.specs.World.{WorldOf}
 use Rattle.world_steps.specs.Known.{core_of}
 use Rattle.world_steps.specs.Goes.{IsReachedBy}
 use Rattle.world_steps.proofs.Shows.{worlds_show}
-use Rattle.world_traces.specs.Traced.{IsTraced as IsTracedTo, IsTracedAfter, GoesTelling}
+use Rattle.world_traces.specs.Traced.{IsTraced, IsTracedAfter, GoesTelling}
 use Rattle.world_traces.proofs.Traces.{traces_go_on}
 use Rattle.trace_run.specs.Adds.{Adds, TracesTo}
-use Rattle.trace_run.specs.Traced.{IsTraced}
+use Rattle.trace_run.specs.Traced.{IsTracedRun}
 use Rattle.trace_run.proofs.Adding.{all_are}
 
 module _ (script : Script) where
@@ -41,12 +41,12 @@ module _ (script : Script) where
       }
 
   -- a world that is come to so is traced
-  pub traced_to : (tokens : List Token) (w : WorldOf) (steps : List Step) → TracesTo script tokens w steps → IsTracedTo script w
+  pub traced_to : (tokens : List Token) (w : WorldOf) (steps : List Step) → TracesTo script tokens w steps → IsTraced script w
   traced_to tokens w steps traces = record { tokens = tokens; shortages = traces.shortages; made = traces.made; by = traces.by }
 
   -- the trace of a run with these wants of memory, and what it shows
   played_so : (steps : List Step) (ms : List Shortage) → IsGeometry script.geometry → IsValid script → AreSteps steps (run_trace script ms script.schedule)
-      → IsTraced script steps (shown_of script ms)
+      → IsTracedRun script steps (shown_of script ms)
   played_so steps ms geometry valid are =
       record {
         played = record {
@@ -61,9 +61,9 @@ module _ (script : Script) where
 
   -- what the world shows after the whole schedule, and the steps that led there
   pub run_is_traced : (w : WorldOf) (steps : List Step) (t : Transcript) → IsGeometry script.geometry → IsValid script → TracesTo script script.schedule w steps → t ≡ shown script (core_of script w)
-      → IsTraced script steps t
+      → IsTracedRun script steps t
   run_is_traced w steps t geometry valid traces shows =
       let ms : List Shortage = traces.shortages in
       let e : t ≡ shown_of script ms = shows ∙ (worlds_show script w).run script.schedule ms traces.by.reaches in
       let trace : run_trace script ms script.schedule ≡ traces.made = ((traces_go_on script).ends script.schedule ms w traces.made traces.by).trace in
-      subst (IsTraced script steps) (sym e) (played_so steps ms geometry valid (subst (λ (l : List Made). AreSteps steps l) (sym trace) traces.are))
+      subst (IsTracedRun script steps) (sym e) (played_so steps ms geometry valid (subst (λ (l : List Made). AreSteps steps l) (sym trace) traces.are))

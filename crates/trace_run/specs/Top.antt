@@ -10,13 +10,13 @@ use Rattle.clay_cli.specs.Play.{IsFaulty}
 use Rattle.clay_cli.specs.declared.status.Status.{Status}
 use Rattle.clay_cli.specs.declared.status.Status.TheVariants.{Done, ScriptRefused}
 use Rattle.clay_cli.specs.declared.output.Output.{Output}
-use Rattle.trace_run.specs.Traced.{IsTraced}
+use Rattle.trace_run.specs.Traced.{IsTracedRun}
 
 -- the lines of a run's steps, and behind them its transcript's text
 pub record IsTextOf (script : Script) (text : List ℕ) : Type 0 where
   pub steps : List Step
   pub transcript : Transcript
-  pub traced : IsTraced script steps transcript
+  pub traced : IsTracedRun script steps transcript
   pub written : text ≡ lines_of steps ++ text_of transcript
 
 -- the input spells a script, and the text is that of a run of it

@@ -8,6 +8,6 @@ use Rattle.trace_lines.specs.declared.step.Step.{Step}
 use Rattle.trace_lines.specs.Steps.{AreSteps}
 
 -- the transcript is one that a run of the script shows, and the steps are that run's trace: of the same wants of memory
-pub record IsTraced (script : Script) (steps : List Step) (t : Transcript) : Type 0 where
+pub record IsTracedRun (script : Script) (steps : List Step) (t : Transcript) : Type 0 where
   pub played : IsPlayed script t
   pub are : AreSteps steps (run_trace script played.shortages script.schedule)

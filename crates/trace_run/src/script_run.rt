@@ -6,7 +6,7 @@ ghost use Rattle.version_seal.specs.Sealer.{sealer_at};
 ghost use Rattle.world_steps.specs.Goes.{IsReachedBy};
 ghost use Rattle.store_world.specs.Stored.{world_of};
 ghost use Rattle.trace_run.specs.Adds.{TracesTo};
-ghost use Rattle.trace_run.specs.Traced.{IsTraced};
+ghost use Rattle.trace_run.specs.Traced.{IsTracedRun};
 
 use crate::step::step;
 use clay_repair::Coder;
@@ -60,7 +60,7 @@ fn run<R: Threads + Sync, C: Coder>(
     requires written { book.now.script ≡ Some script.now }
     requires sealer { sealer ≡ sealer_at book.now 0 }
     requires code { book.now.geometry ≡ script.now.geometry }
-    ensures { IfOk result (λ run. IsTraced script.now run.steps.items run.transcript) }
+    ensures { IfOk result (λ run. IsTracedRun script.now run.steps.items run.transcript) }
 {
     let mut world = World::new(alloc, script, book, sealer)?;
     let steps = make_steps(rt, alloc, coder, script, &mut world);
@@ -79,7 +79,7 @@ pub fn trace<R: Threads + Sync, C: Coder>(
     script: Script,
 ) -> Result<TracedRun, AllocError>
     requires { IsValid script }
-    ensures { IfOk result (λ run. IsTraced script run.steps.items run.transcript) }
+    ensures { IfOk result (λ run. IsTracedRun script run.steps.items run.transcript) }
 {
     let (book, sealer) = Book::new(alloc, script)?;
     match book.script() {

@@ -4,6 +4,7 @@
 
 mod call_name;
 mod cause;
+mod digits;
 mod line;
 mod shown;
 mod transcript;

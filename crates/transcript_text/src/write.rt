@@ -2,13 +2,13 @@
 ghost use Rattle.std.specs.Prelude.{◌≡◌, ◌++◌, IfOk, OnOk, List, ℕ};
 ghost use Rattle.std.specs.List.{flat_map};
 ghost use Rattle.std.specs.Fmt.{AppendsText};
-ghost use Rattle.hex.specs.Hex.{encode_lower};
 ghost use Rattle.transcript_text.specs.Words.{contended_text, missing_text, reply_text, shown_text, unavailable_text, cause_text, result_text};
 ghost use Rattle.transcript_text.specs.Triples.{triple_text};
 ghost use Rattle.transcript_text.specs.Lines.{h_line, x_line, r_line, o_line, l_line, g_line, t_line};
 ghost use Rattle.transcript_text.specs.Text.{text_of};
 
 use crate::cause::{Cause, RepairResult, Triple};
+use crate::digits::append_digits;
 use crate::line::{GLine, HLine, LLine, OLine, RLine, TLine, XLine};
 use crate::shown::Shown;
 use crate::transcript::Transcript;
@@ -17,11 +17,32 @@ use std::fmt::Display;
 use std::io::Write;
 use store_map::Reply;
 
-/// A transcript's text. It takes time and memory in proportion to the text.
+// The room that a line takes beside its digits: mostly more than it needs, so that the text doesn't grow on its way.
+const WORDS: usize = 64;
+
+// The room for the digits of a reply.
+fn digits_room(shown: &Shown) -> usize {
+    match shown {
+        Shown::Reply(Reply::Bytes(bytes)) => bytes.len().saturating_mul(2),
+        _ => 0,
+    }
+}
+
+// The room for the lines of a history. Where those behind it take more, the text grows.
+fn history_room(lines: &[HLine]) -> usize {
+    let mut room = lines.len().saturating_mul(WORDS);
+    for line in lines {
+        room = room.saturating_add(digits_room(&line.reply));
+    }
+    room
+}
+
+/// A transcript's text. It takes time and memory in proportion to the text, the memory for the history's lines at once.
 pub fn write_transcript(alloc: Global, transcript: &Transcript) -> Result<Vec<u8>, AllocError>
     ensures { IfOk result (λ bytes. bytes.items ≡ text_of transcript.now) }
 {
-    let mut out = Vec::new(alloc);
+    let room = history_room(transcript.history.as_slice());
+    let mut out = Vec::with_capacity(alloc, room)?;
     write_lines(&mut out, transcript.history.as_slice())?;
     write_lines(&mut out, transcript.refused.as_slice())?;
     write_lines(&mut out, transcript.repairs.as_slice())?;
@@ -153,30 +174,13 @@ pub fn append_reply(out: &mut Vec<u8>, reply: &Reply) -> Result<(), AllocError>
         Reply::Done => append(out, "ok"),
         Reply::Bytes(bytes) => {
             append(out, "bytes hex:")?;
-            append_hex(out, bytes.as_slice())
+            append_digits(out, bytes.as_slice())
         }
         Reply::Length(length) => append(out, format_args!("length {length}")),
         Reply::NoSuch => append(out, "nosuch"),
         Reply::OutRange => append(out, "outrange"),
         Reply::TooLarge => append(out, "toolarge"),
     }
-}
-
-// Appends the bytes' digits, in lower case.
-fn append_hex(out: &mut Vec<u8>, bytes: &[u8]) -> Result<(), AllocError>
-    ensures { OnOk result (out.new.items ≡ out.old.items ++ encode_lower bytes.now) }
-{
-    let start = out.len();
-    let Some(half) = start.checked_add(bytes.len()) else {
-        return Err(AllocError);
-    };
-    let Some(end) = half.checked_add(bytes.len()) else {
-        return Err(AllocError);
-    };
-    out.resize(end, 0)?;
-    // The slice is just as long as the digits, so this can't fail.
-    let _ = hex::encode_to_slice(bytes, &mut out[start..]);
-    Ok(())
 }
 
 fn append_cause(out: &mut Vec<u8>, cause: &Cause) -> Result<(), AllocError>

@@ -1,5 +1,5 @@
 //! The `H` lines: the directory's points, with what each shows of its call.
-ghost use Rattle.std.specs.Prelude.{◌≡◌, ℕ, [], ◌++◌, Some, IfOk, OnOk};
+ghost use Rattle.std.specs.Prelude.{◌≡◌, ℕ, [], ◌++◌, Some, is_some, IfOk, OnOk, IsTrue};
 ghost use Rattle.store_map.specs.declared.actor.Actor.TheVariants as kind;
 ghost use Rattle.store_core.specs.Calls.{Calls};
 ghost use Rattle.store_core.specs.Directory.{Event as CoreEvent};
@@ -93,13 +93,14 @@ fn push_point(
     Ok(())
 }
 
-/// The lines of the directory's points. The bytes of a call that was served are moved out of its
+/// The lines of the points of a directory whose book has a script. The bytes of a call that was served are moved out of its
 /// outcome into its line, so the clients' calls are used up: this list is made last.
 pub fn history_lines(
     alloc: Global,
     directory: &Directory,
     clients: Vec<CallerCalls>,
 ) -> Result<ListOf<HLine>, AllocError>
+    requires { IsTrue (is_some directory.now.book.script) }
     ensures { IfOk result (λ lines. (max servers : ℕ) (calls : Calls) → ServedAre max calls directory.now.core.points clients.items
         → lines ≡ history_from max calls (answered_by (callings_at servers clients.items)) 0 [] directory.now.core.points) }
 {

@@ -1,5 +1,5 @@
 //! The transcript of a run that is over, from all its lists.
-ghost use Rattle.std.specs.Prelude.{◌≡◌, ◌^◌, ◌≤◌, length, IfOk};
+ghost use Rattle.std.specs.Prelude.{◌≡◌, ◌^◌, ◌≤◌, length, is_some, IfOk, IsTrue};
 ghost use Rattle.store_map.specs.Limits.{size_of};
 ghost use Rattle.store_map.specs.declared.script.Script.{Script};
 ghost use Rattle.store_core.specs.Core.{Core};
@@ -20,7 +20,7 @@ use std::alloc::{AllocError, Global};
 use stripe_dir::Directory;
 use transcript_text::Transcript;
 
-/// The transcript of a run that is over, from the directory, the servers in their order, and the
+/// The transcript of a script's run that is over, from the directory, the servers in their order, and the
 /// actors' calls. The bytes that calls were served are moved into it.
 pub fn make_transcript(
     alloc: Global,
@@ -29,6 +29,7 @@ pub fn make_transcript(
     clients: Vec<CallerCalls>,
     repairers: &[CallerCalls],
 ) -> Result<Transcript, AllocError>
+    requires script { IsTrue (is_some directory.now.book.script) }
     requires servers { length servers.now ≤ 2 ^ 32 }
     requires clients { HaveNames (counts_of clients.items) }
     requires repairers { HaveNames (counts_of repairers.now) }

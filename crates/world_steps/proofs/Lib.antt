@@ -17,3 +17,4 @@ pub mod UnderWay
 pub mod Goes
 pub mod Drains
 pub mod Few
+pub mod SweepsLeft

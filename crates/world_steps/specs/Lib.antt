@@ -15,3 +15,4 @@ pub mod WayLaws
 pub mod Goes
 pub mod Drains
 pub mod Few
+pub mod SweepsLeft

@@ -16,6 +16,7 @@ ghost use Rattle.world_steps.specs.PlaceLaws.{SweeperMakesTurns, OperatorMakesAc
 ghost use Rattle.world_steps.specs.Goes.{WorldsGoOn};
 ghost use Rattle.world_steps.specs.Drains.{DrainsOfValidScriptsGo};
 ghost use Rattle.world_steps.specs.Few.{WorldsMakeFewSteps};
+ghost use Rattle.world_steps.specs.SweepsLeft.{SweepsFallFrom};
 
 /// The world before the first step stands for the first core of its script.
 pub fn first_worlds_stand()
@@ -92,4 +93,10 @@ pub fn drains_go()
 /// In a world that is reached, a count of 64 bits holds the steps of each call in work, and one more.
 pub fn worlds_make_few_steps()
     ensures { WorldsMakeFewSteps }
+{}
+
+/// At a sound directory a sweeper that is busy or finds garbage has fewer steps left after each of its
+/// steps, where nobody else makes one.
+pub fn sweeps_fall()
+    ensures { SweepsFallFrom }
 {}

@@ -19,12 +19,12 @@ use Rattle.world_steps.specs.Leads.{IsAt}
 use Rattle.world_steps.proofs.Ends.{ends_are_known, round_idle}
 use Rattle.world_steps.proofs.Runs.{few_rounds, drains_reach}
 use Rattle.world_traces.specs.Telling.{tokens_made}
-use Rattle.world_traces.specs.Traced.{IsTracedBy, IsTraced, IsTracedAfter, GoesTelling}
+use Rattle.world_traces.specs.Traced.{IsTraced, GoesTelling}
 use Rattle.world_traces.specs.RoundTells.{round_made, RoundTells}
 use Rattle.world_traces.specs.DrainTells.{rounds_made, IsTracedInDrain, IsTracedInDrainAfter, GoesTellingByRounds, DrainsTell, DrainsOfValidScriptsTell}
 use Rattle.world_traces.proofs.Lists.{trace_append, made_append, round_run}
 use Rattle.world_traces.proofs.Parts.{told_at}
-use Rattle.world_traces.proofs.Traces.{reached_at, traced_with}
+use Rattle.world_traces.proofs.Traces.{reached_at}
 use Rattle.world_traces.proofs.Idle.{round_makes_none}
 
 module _ (script : Script) where

@@ -1,5 +1,5 @@
 -- Where nobody has a step a round makes none.
-use Rattle.std.proofs.Common.{◌≡◌, ℕ, zero, suc, ◌+◌, Bool, false, ◌||◌, List, [], ◌∷◌, ◌++◌, length, map, Option, None, Some, refl, ap, ◌∙◌}
+use Rattle.std.proofs.Common.{◌≡◌, ℕ, zero, suc, ◌+◌, false, ◌||◌, List, [], ◌∷◌, ◌++◌, length, map, Option, None, Some, refl, ap, ◌∙◌}
 use Rattle.std.proofs.lemmas.Bool.{or_parts}
 use Rattle.std.specs.List.{slice_get, range_with_len}
 use Rattle.store_map.specs.declared.actor.Actor.TheVariants as actor
@@ -11,8 +11,8 @@ use Rattle.store_core.specs.Schedule.{is_unfinished, run_tokens}
 use Rattle.store_core.specs.Work.{Work, Calling, client_work, repairer_work, has_step, any_has_step}
 use Rattle.store_runs.specs.ShortageLaws.{may_turn}
 use Rattle.store_runs.proofs.Leading.{steps_lead}
-use Rattle.store_in_time.specs.Trace.{Made, made_of, trace_of}
-use Rattle.store_in_time.specs.Steps.{actors_round, sweep_token, round_steps}
+use Rattle.store_in_time.specs.Trace.{made_of, trace_of}
+use Rattle.store_in_time.specs.Steps.{actors_round, sweep_token}
 use Rattle.world_steps.proofs.TurnLaws.{ample}
 use Rattle.world_traces.specs.RoundTells.{client_tokens, repairer_tokens, round_made}
 use Rattle.world_traces.proofs.Lists.{run_append, trace_append}

@@ -1,6 +1,5 @@
 -- The sweeper and the operator in a trace.
-use Rattle.std.proofs.Common.{◌≡◌, [], ◌∷◌, sym, ap}
-use Rattle.store_map.specs.declared.actor.Actor.{Actor}
+use Rattle.std.proofs.Common.{◌≡◌, [], ◌∷◌, sym}
 use Rattle.store_map.specs.declared.actor.Actor.TheVariants as actor
 use Rattle.store_map.specs.declared.script.Script.{Script}
 use Rattle.store_core.specs.Act.{Act, DirectoryStep, ServerStep}

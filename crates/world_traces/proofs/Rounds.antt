@@ -1,5 +1,5 @@
 -- Rounds in a trace.
-use Rattle.std.proofs.Common.{◌≡◌, ℕ, ◌+◌, Bool, List, [], ◌∷◌, ◌++◌, length, map, refl, sym, ap, subst, ◌∙◌, arith}
+use Rattle.std.proofs.Common.{◌≡◌, ℕ, ◌+◌, Bool, List, [], ◌∷◌, ◌++◌, length, map, sym, ap, subst, ◌∙◌, arith}
 use Rattle.std.proofs.lemmas.List.{map-append}
 use Rattle.std.specs.List.{range_with_len}
 use Rattle.clay_grid.proofs.Rising.{range_with_len_more}
@@ -8,7 +8,7 @@ use Rattle.store_map.specs.declared.actor.Token.TheVariants as token
 use Rattle.store_map.specs.declared.script.Script.{Script}
 use Rattle.store_core.specs.Core.{Core, sweeper_has_step}
 use Rattle.store_core.specs.Run.{Run}
-use Rattle.store_core.specs.Schedule.{run_tokens, round}
+use Rattle.store_core.specs.Schedule.{run_tokens}
 use Rattle.store_core.specs.Step.{Shortage}
 use Rattle.store_in_time.specs.Trace.{Made}
 use Rattle.store_in_time.specs.Steps.{actors_round, sweep_token, round_steps}

@@ -9,12 +9,11 @@ use Rattle.store_in_time.specs.Trace.{Made}
 use Rattle.store_in_time.specs.Steps.{first_run, run_trace}
 use Rattle.world_steps.specs.World.{WorldOf}
 use Rattle.world_steps.specs.FirstWorld.{IsFirstWorld}
-use Rattle.world_steps.specs.Leads.{IsAt, LeadsWorld}
-use Rattle.world_steps.specs.RunLaws.{Reaches}
+use Rattle.world_steps.specs.Leads.{IsAt}
 use Rattle.world_steps.specs.Goes.{IsReached}
 use Rattle.world_steps.proofs.Parts.{goes_on}
 use Rattle.world_steps.proofs.Runs.{runs_reach}
-use Rattle.world_traces.specs.Telling.{tokens_made, Tells, LeadsTelling}
+use Rattle.world_traces.specs.Telling.{tokens_made, LeadsTelling}
 use Rattle.world_traces.specs.Traced.{IsTracedBy, IsTraced, IsTracedAfter, GoesTelling, EndsTraced, TracesGoOn}
 use Rattle.world_traces.proofs.Lists.{run_append, made_append}
 use Rattle.world_traces.proofs.Parts.{told_at}

@@ -8,10 +8,8 @@ use Rattle.store_map.specs.declared.script.Script.{Script}
 use Rattle.store_core.specs.Act.{Act}
 use Rattle.store_core.specs.ActPlace.{is_in_pass}
 use Rattle.store_core.specs.Core.{Core}
-use Rattle.store_core.specs.Directory.{Directory}
 use Rattle.store_core.specs.NextAct.{Job, next_act}
 use Rattle.store_core.specs.Run.{places_in}
-use Rattle.store_core.specs.Server.{Server}
 use Rattle.store_core.specs.Step.{Shortage, Places, at_places, told_first}
 use Rattle.store_core.specs.Work.{Work, Calling, client_work, repairer_work, has_step}
 use Rattle.store_runs.specs.ShortageLaws.{may_turn}
@@ -20,7 +18,6 @@ use Rattle.call_steps.specs.CallOf.{CallOf, act_of}
 use Rattle.call_steps.specs.Steps.{IsDueInPass}
 use Rattle.call_stands.specs.Stands.{Stands}
 use Rattle.call_stands.specs.Ready.{ready, shortage_of}
-use Rattle.call_stands.specs.StandLaws.{ActsStand}
 use Rattle.call_stands.proofs.Codings.{acts_stand}
 use Rattle.world_steps.specs.World.{ActorOf, WorldOf}
 use Rattle.world_steps.specs.Known.{calling_of}

@@ -3,4 +3,4 @@ use Rattle.clay_kernels.proofs.GeneratorLaws.{turned_below}
 use Rattle.clay_kernels.proofs.generator.turned.Goals as goal
 
 pub bounds-values-p : goal.bounds-values-p
-bounds-values-p c = omega (arith, turned_below c.args.m c.args.n c.loop-p.p c.loop-p-test.true)
+bounds-values-p c = omega (arith, turned_below c.args.m c.args.n c.args.width c.loop-p.p c.requires.within c.loop-p-test.true)

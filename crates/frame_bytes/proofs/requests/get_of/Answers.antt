@@ -11,7 +11,7 @@ pub returns-in_default : goal.returns-in_default
 returns-in_default c = sym (c.in_default.ensures.none made)
 
 pub returns-in_err-name : goal.returns-in_err-name
-returns-in_err-name c = wanting _ (made c.in-Some.name.now) (c.in-Some.ensures.some made) _ c.from_residual.ensures.0
+returns-in_err-name c = wanting _ (made c.in-Some.name.now) tt (c.in-Some.ensures.some made) _ c.from_residual.ensures.0
 
 pub returns : goal.returns
 returns c = ap (λ name. Some (made name)) c.in_ok-name.ensures ∙ sym (c.in-Some.ensures.some made)

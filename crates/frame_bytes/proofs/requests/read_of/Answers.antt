@@ -12,7 +12,7 @@ returns-in_default c = sym (c.in_default.ensures.none made)
 
 pub returns-in_err-name : goal.returns-in_err-name
 returns-in_err-name c =
-    wanting _ (made c.in-Some.name.now c.in-Some.offset c.in-Some.length) (c.in-Some.ensures.some made) _ c.from_residual.ensures.0
+    wanting _ (made c.in-Some.name.now c.in-Some.offset c.in-Some.length) tt (c.in-Some.ensures.some made) _ c.from_residual.ensures.0
 
 pub returns : goal.returns
 returns c = ap (λ name. Some (made name c.in-Some.offset c.in-Some.length)) c.in_ok-name.ensures ∙ sym (c.in-Some.ensures.some made)

@@ -27,7 +27,7 @@ returns-in_default-only_server c =
 
 pub returns-in_err-name : goal.returns-in_err-name
 returns-in_err-name c =
-    wanting _ (made c.in-Some.name.now c.in-Some-number_field.stripe c.in-Some-only_server.server)
+    wanting _ (made c.in-Some.name.now c.in-Some-number_field.stripe c.in-Some-only_server.server) tt
     (c.in-Some.ensures.some (by_stripe c.args.servers) ∙ c.in-Some-number_field.ensures.some (by_server c.args.servers c.in-Some.name.now)
     ∙ c.in-Some-only_server.ensures.some (made c.in-Some.name.now c.in-Some-number_field.stripe)) _
     c.from_residual.ensures.0

@@ -18,12 +18,12 @@ returns-in_default-number_field c = sym (c.in-Some.ensures.some by_offset ∙ c.
 
 pub returns-in_err-name : goal.returns-in_err-name
 returns-in_err-name c =
-    wanting _ (Request.OfMap (call.Write c.in-Some.name.now c.in-Some-number_field.offset (content.Hex c.in-Some-number_field.bytes.now)))
+    wanting _ (Request.OfMap (call.Write c.in-Some.name.now c.in-Some-number_field.offset (content.Hex c.in-Some-number_field.bytes.now))) tt
     (c.in-Some.ensures.some by_offset ∙ c.in-Some-number_field.ensures.some (by_data c.in-Some.name.now)) _ c.from_residual.ensures.0
 
 pub returns-in_err-content : goal.returns-in_err-content
 returns-in_err-content c =
-    wanting _ (Request.OfMap (call.Write c.in-Some.name.now c.in-Some-number_field.offset (content.Hex c.in-Some-number_field.bytes.now)))
+    wanting _ (Request.OfMap (call.Write c.in-Some.name.now c.in-Some-number_field.offset (content.Hex c.in-Some-number_field.bytes.now))) tt
     (c.in-Some.ensures.some by_offset ∙ c.in-Some-number_field.ensures.some (by_data c.in-Some.name.now)) _ c.from_residual-in_err-content.ensures.0
 
 pub returns : goal.returns

@@ -3,7 +3,7 @@ use Rattle.std.specs.declared.alloc.Global.{Global}
 use Rattle.session_rules.specs.declared.ending.Ending.{Ending}
 use Rattle.frame_session.specs.declared.status.SessionStatus.{SessionStatus}
 use Rattle.frame_session.specs.Status.{status_of}
-use Rattle.frame_session.specs.Session.{WhereTold, IsSession, IsGivenUp, IsWanting, IsCutOff}
+use Rattle.frame_session.specs.Session.{WhereTold, IsSession, IsGivenUp, IsWanting, IsCutShort}
 use Rattle.frame_session.proofs.Tops.{of_asked, comes_to_end}
 use Rattle.frame_session.proofs.top.frame_main.Goals as goal
 
@@ -32,7 +32,7 @@ pub returns-in-Some-clause-cut_off : goal.returns-in-Some-clause-cut_off
 returns-in-Some-clause-cut_off g c =
     of_asked
     (λ code most. c.serve_session.result ≡ SessionStatus.WriteFault → WhereTold (g.S.Source.left c.args.source.now) (λ input.
-    IsCutOff code most input (g.S.Source.left c.serve_session.new.source) (g.K.Sink.written c.args.sink.now) (g.K.Sink.written c.serve_session.new.sink)))
+    IsCutShort code most input (g.S.Source.left c.serve_session.new.source) (g.K.Sink.written c.args.sink.now) (g.K.Sink.written c.serve_session.new.sink)))
     (map (string_bytes {Z = Global}) c.args.words.now) c.in-Some.asked.geometry c.in-Some.asked.max c.in-Some.ensures c.serve_session.ensures.cut_off
 
 pub returns-in-Some-clause-complete : goal.returns-in-Some-clause-complete

@@ -1,5 +1,5 @@
 use Rattle.frame_session.proofs.Tops.{nothing_begun, of_code}
-use Rattle.frame_session.specs.Session.{IsSession, IsGivenUp, IsWanting, IsCutOff}
+use Rattle.frame_session.specs.Session.{IsSession, IsGivenUp, IsWanting, IsCutShort}
 use Rattle.frame_session.proofs.top.serve_session.Goals as goal
 
 pub returns-in-Err-clause-wanting : goal.returns-in-Err-clause-wanting
@@ -37,7 +37,7 @@ returns-clause-given_up g c = λ same input told.
 pub returns-clause-cut_off : goal.returns-clause-cut_off
 returns-clause-cut_off g c = λ same input told.
     of_code
-    (λ code most. IsCutOff code most input (g.S.Source.left c.serve_frames-status.new.source) (g.K.Sink.written c.args.sink.now)
+    (λ code most. IsCutShort code most input (g.S.Source.left c.serve_frames-status.new.source) (g.K.Sink.written c.args.sink.now)
     (g.K.Sink.written c.serve_frames-status.new.sink))
     c.in-Ok-new.store.geometry c.args.asked.geometry c.in-Ok-new.store.max c.args.asked.max c.in-Ok-new.ensures.code c.in-Ok-new.ensures.most
     (c.serve_frames-status.ensures.cut_off same input told)

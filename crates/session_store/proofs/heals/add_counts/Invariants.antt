@@ -1,4 +1,4 @@
-use Rattle.std.specs.Prelude.{◌≡◌, ◌++◌, take, drop, length}
+use Rattle.std.specs.Prelude.{◌≡◌, ◌++◌, take, drop}
 use Rattle.session_store.specs.Healing.{added_low}
 use Rattle.session_store.proofs.heals.add_counts.Given as goal
 

@@ -1,7 +1,7 @@
 use Rattle.std.proofs.Common.{◌+◌, sym, subst}
 use Rattle.session_rules.specs.declared.request.Request.{Request}
 use Rattle.session_store.specs.Inside.{store_of}
-use Rattle.session_store.specs.Kept.{IsServedBy}
+use Rattle.session_store.specs.Kept.{ServesRequest}
 use Rattle.session_store.proofs.Rebuilding.{may_rebuild, ends_well, rebuild_is_served}
 use Rattle.session_store.proofs.rebuilds.rebuild.Goals as goal
 
@@ -17,7 +17,7 @@ of_rebuild-requires g c =
 pub returns : goal.returns
 returns g c =
     subst
-    (λ place. IsServedBy (Request.Rebuild c.args.rebuild.now.name c.args.rebuild.now.stripe c.args.rebuild.now.server) (store_of c.args.parts.now) c.of_rebuild.result
+    (λ place. ServesRequest (Request.Rebuild c.args.rebuild.now.name c.args.rebuild.now.stripe c.args.rebuild.now.server) (store_of c.args.parts.now) c.of_rebuild.result
     (store_of (record (c.args.parts.now) { places = c.sweep_all.new.places; served = c.args.parts.now.served + 1; repairer = place })))
     (sym c.put_seat.ensures)
     (rebuild_is_served c.args.parts.now c.requires.may.0 c.args.rebuild.now c.requires.there c.take-seat.result c.take-seat.ensures.taken c.rebuild-machine.result c.opening-opening.result c.opening-opening.ensures (c.rebuild-machine.ensures 1)

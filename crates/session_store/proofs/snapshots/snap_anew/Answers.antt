@@ -4,18 +4,18 @@ use Rattle.store_map.specs.declared.reply.Reply.{Reply}
 use Rattle.session_rules.specs.declared.request.Request.{Request}
 use Rattle.session_rules.specs.declared.answer.Answer.{Answer}
 use Rattle.session_store.specs.Inside.{store_of}
-use Rattle.session_store.specs.Kept.{IsServedBy}
+use Rattle.session_store.specs.Kept.{ServesRequest}
 use Rattle.session_store.proofs.SnapsTaken.{snap_is_taken, many_refused, wanting_refused}
 use Rattle.session_store.proofs.snapshots.snap_anew.Goals as goal
 
 pub returns-in-Ok : goal.returns-in-Ok
 returns-in-Ok c =
     subst
-    (λ place. IsServedBy Request.Snap (store_of c.args.parts.now) (Answer.Replied Reply.Done)
+    (λ place. ServesRequest Request.Snap (store_of c.args.parts.now) (Answer.Replied Reply.Done)
     (store_of (record (c.args.parts.now) { places = record (c.args.parts.now.places) { directory = c.take.new.directory }; served = c.args.parts.now.served + 1; snapshot = place; tickets = c.take-tickets.new.place })))
     (sym c.put_snapshot.ensures)
     (subst
-    (λ place. IsServedBy Request.Snap (store_of c.args.parts.now) (Answer.Replied Reply.Done)
+    (λ place. ServesRequest Request.Snap (store_of c.args.parts.now) (Answer.Replied Reply.Done)
     (store_of (record (c.args.parts.now) { places = record (c.args.parts.now.places) { directory = c.take.new.directory }; served = c.args.parts.now.served + 1; snapshot = Some c.in-Ok.snapshot; tickets = place })))
     (sym c.take-tickets.ensures.gone)
     (snap_is_taken (store_of c.args.parts.now) c.requires.may.0 c.requires.none c.take-tickets.result.items (ap (option_map (λ tickets. tickets.items)) c.take-tickets.ensures.taken) c.take.new.directory c.in-Ok.snapshot
@@ -24,11 +24,11 @@ returns-in-Ok c =
 pub returns-in-TooMany : goal.returns-in-TooMany
 returns-in-TooMany c =
     subst
-    (λ place. IsServedBy Request.Snap (store_of c.args.parts.now) (Answer.TooMany c.in-TooMany.objects)
+    (λ place. ServesRequest Request.Snap (store_of c.args.parts.now) (Answer.TooMany c.in-TooMany.objects)
     (store_of (record (c.args.parts.now) { places = record (c.args.parts.now.places) { directory = c.take.new.directory }; served = c.args.parts.now.served + 1; tickets = place })))
     (sym c.put_tickets.ensures)
     (subst
-    (λ place. IsServedBy Request.Snap (store_of c.args.parts.now) (Answer.TooMany c.in-TooMany.objects)
+    (λ place. ServesRequest Request.Snap (store_of c.args.parts.now) (Answer.TooMany c.in-TooMany.objects)
     (store_of (record (c.args.parts.now) { places = record (c.args.parts.now.places) { directory = c.take.new.directory }; served = c.args.parts.now.served + 1; snapshot = place; tickets = Some c.in-Err.field-0.tickets })))
     (sym c.requires.none)
     (many_refused (store_of c.args.parts.now) c.requires.may.0 c.requires.none c.take-tickets.result.items (ap (option_map (λ tickets. tickets.items)) c.take-tickets.ensures.taken) c.take.new.directory c.in-Err.field-0
@@ -37,11 +37,11 @@ returns-in-TooMany c =
 pub returns-in-OutOfMemory : goal.returns-in-OutOfMemory
 returns-in-OutOfMemory c =
     subst
-    (λ place. IsServedBy Request.Snap (store_of c.args.parts.now) Answer.NoMemory
+    (λ place. ServesRequest Request.Snap (store_of c.args.parts.now) Answer.NoMemory
     (store_of (record (c.args.parts.now) { places = record (c.args.parts.now.places) { directory = c.take.new.directory }; served = c.args.parts.now.served + 1; tickets = place })))
     (sym c.put_tickets.ensures)
     (subst
-    (λ place. IsServedBy Request.Snap (store_of c.args.parts.now) Answer.NoMemory
+    (λ place. ServesRequest Request.Snap (store_of c.args.parts.now) Answer.NoMemory
     (store_of (record (c.args.parts.now) { places = record (c.args.parts.now.places) { directory = c.take.new.directory }; served = c.args.parts.now.served + 1; snapshot = place; tickets = Some c.in-Err.field-0.tickets })))
     (sym c.requires.none)
     (wanting_refused (store_of c.args.parts.now) c.requires.may.0 c.requires.none c.take-tickets.result.items (ap (option_map (λ tickets. tickets.items)) c.take-tickets.ensures.taken) c.take.new.directory c.in-Err.field-0

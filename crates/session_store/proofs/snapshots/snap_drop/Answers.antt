@@ -1,4 +1,4 @@
-use Rattle.std.proofs.Common.{rules, refl}
+use Rattle.std.proofs.Common.{rules}
 use Rattle.session_store.specs.Inside.{store_of}
 use Rattle.session_store.proofs.Opening.{none_dropped, none_open, later, then_dropped}
 use Rattle.session_store.proofs.snapshots.snap_drop.Goals as goal

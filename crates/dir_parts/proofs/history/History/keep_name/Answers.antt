@@ -33,7 +33,7 @@ returns-clause-points c =
     let name : List ℕ = c.args.name.now in
     let entries : c.insert_name.new.names.entries ≡ known ++ (name, None) ∷ [] = c.in_ok-insert_name.ensures.entries ∙ ap (λ n. known ++ (n, None) ∷ []) c.in_ok-copy.ensures in
     let keys_are : keys_of c.insert_name.new.names.entries ≡ keys_of known ++ name ∷ [] = ap keys_of entries ∙ keys-push known name None in
-    ap (λ ks. map (point_in ks) c.self.inside.entries.items) keys_are ∙ points-named (keys_of known) name c.self.inside.entries.items c.self.invariant.named
+    ap (λ ks. map (point_in ks) c.self.inside.told) keys_are ∙ points-named (keys_of known) name c.self.inside.told c.self.invariant.named
     ∙ ap (λ b. b.points) c.self.view_is
 
 pub invariant_of-self-2 : goal.invariant_of-self-2
@@ -43,15 +43,17 @@ invariant_of-self-2 c =
     let entries : c.insert_name.new.names.entries ≡ known ++ (name, None) ∷ [] = c.in_ok-insert_name.ensures.entries ∙ ap (λ n. known ++ (n, None) ∷ []) c.in_ok-copy.ensures in
     let keys_are : keys_of c.insert_name.new.names.entries ≡ keys_of known ++ name ∷ [] = ap keys_of entries ∙ keys-push known name None in
     let none : lookup (bytes_eq name) known ≡ None = none_is (lookup (bytes_eq name) known) (sym c.contains_key.ensures ∙ c.if-contains_key.false) in
-    let points : map (point_in (keys_of c.insert_name.new.names.entries)) c.self.inside.entries.items ≡ map (point_in (keys_of known)) c.self.inside.entries.items =
-    ap (λ ks. map (point_in ks) c.self.inside.entries.items) keys_are ∙ points-named (keys_of known) name c.self.inside.entries.items c.self.invariant.named
+    let points : map (point_in (keys_of c.insert_name.new.names.entries)) c.self.inside.told ≡ map (point_in (keys_of known)) c.self.inside.told =
+    ap (λ ks. map (point_in ks) c.self.inside.told) keys_are ∙ points-named (keys_of known) name c.self.inside.told c.self.invariant.named
     in
-    let old : List Point = map (point_in (keys_of known)) c.self.inside.entries.items in
+    let old : List Point = map (point_in (keys_of known)) c.self.inside.told in
     let more : length (keys_of c.insert_name.new.names.entries) ≡ length (keys_of known) + 1 = ap length keys_are ∙ length-append (keys_of known) (name ∷ []) in
     let last : All (λ (e : List ℕ × Option ℕ). e.1 ≡ last_change e.0 old) (known ++ (name, None) ∷ []) =
-    All-push (λ (e : List ℕ × Option ℕ). e.1 ≡ last_change e.0 old) known (name, None) c.self.invariant.last (sym (none_changed name known none 0 c.self.inside.entries.items c.self.invariant.named))
+    All-push (λ (e : List ℕ × Option ℕ). e.1 ≡ last_change e.0 old) known (name, None) c.self.invariant.last (sym (none_changed name known none 0 c.self.inside.told c.self.invariant.named))
     in
     record {
+      count = c.self.invariant.count;
+      kept = c.self.invariant.kept;
       unique = c.insert_name.ensures.unique;
       named = λ k d less. omega (arith, more, c.self.invariant.named k d less);
       last = subst (λ (l : List Point × List (List ℕ × Option ℕ)). All (λ e. e.1 ≡ last_change e.0 l.0) l.1) (λ i. (sym points i, sym entries i)) last;

@@ -10,11 +10,11 @@ use Rattle.dir_parts.proofs.history.History.last_change.Goals as goal
 pub returns-in-Some : goal.returns-in-Some
 returns-in-Some c =
     let found : Some c.in-Some.last.now ≡ lookup (bytes_eq c.args.name.now) c.self.inside.names.entries = c.in-Some.ensures.value in
-    found_last (map (point_in (keys c.self.inside.names)) c.self.inside.entries.items) c.args.name.now c.self.inside.names.entries c.in-Some.last.now c.self.invariant.last (sym found)
+    found_last (map (point_in (keys c.self.inside.names)) c.self.inside.told) c.args.name.now c.self.inside.names.entries c.in-Some.last.now c.self.invariant.last (sym found)
     ∙ ap (λ b. last_change c.args.name.now b.points) c.self.view_is
 
 pub returns-in-None : goal.returns-in-None
 returns-in-None c =
     let found : None ≡ lookup (bytes_eq c.args.name.now) c.self.inside.names.entries = c.in-None.ensures.value in
-    sym (none_changed c.args.name.now c.self.inside.names.entries (sym found) 0 c.self.inside.entries.items c.self.invariant.named)
+    sym (none_changed c.args.name.now c.self.inside.names.entries (sym found) 0 c.self.inside.told c.self.invariant.named)
     ∙ ap (λ b. last_change c.args.name.now b.points) c.self.view_is

@@ -1,11 +1,13 @@
-use Rattle.std.proofs.Common.{◌≡◌, ℕ, ◌<◌, ◌∷◌, [], ◌++◌, List, length, map, All, Option, sym, ap, subst, ◌∙◌}
+use Rattle.std.proofs.Common.{◌≡◌, ℕ, ◌<◌, ◌∷◌, [], ◌++◌, List, length, map, All, Option, sym, ap, subst, ◌∙◌, ◌+◌, ◌-◌, ◌^◌, min, is_some, length-append, arith}
 use Rattle.std.proofs.lemmas.List.{map-append}
 use Rattle.std.proofs.lemmas.List.Elements.{All-push}
 use Rattle.indexmap.specs.IndexMap.{keys}
 use Rattle.store_core.specs.Directory.{Point}
 use Rattle.store_core.specs.Lookups.{last_change}
-use Rattle.dir_parts.specs.PointLog.{point_in}
+use Rattle.dir_parts.specs.PointLog.{point_in, spare_in}
+use Rattle.dir_parts.specs.Parts.{PointLog}
 use Rattle.dir_parts.specs.declared.history.PointRow.{PointRow}
+use Rattle.dir_parts.proofs.Keeping.{there_still, kept_more, room_less}
 use Rattle.dir_parts.proofs.LogSteps.{last_still}
 use Rattle.dir_parts.proofs.history.History.push.Goals as goal
 
@@ -13,24 +15,39 @@ pub returns-clause-points : goal.returns-clause-points
 returns-clause-points c =
     let names : List (List ℕ) = keys c.self.inside.names in
     let entry : PointRow = c.args.entry in
-    ap (map (point_in names)) c.push_reserved.ensures.items ∙ map-append (point_in names) c.self.inside.entries.items (entry ∷ [])
+    ap (map (point_in names)) c.push.ensures ∙ map-append (point_in names) c.self.inside.told (entry ∷ [])
     ∙ ap (λ b. b.points ++ point_in b.names c.args.entry ∷ []) c.self.view_is
+
+pub push_kept-requires : goal.push_kept-requires
+push_kept-requires c =
+    let some : 0 < min (2 ^ 64 - 1 - c.self.inside.count) (spare_in c.self.inside.kept) = subst (λ (b : PointLog). 0 < b.room) (sym c.self.view_is) c.requires.room in
+    omega (arith, some)
+
+pub returns-clause-keeps : goal.returns-clause-keeps
+returns-clause-keeps c = sym (there_still (λ rows. rows.items) c.push_kept.new.kept) ∙ ap is_some c.push_kept.ensures.rows ∙ there_still (λ rows. rows.items ++ c.args.entry ∷ []) c.self.inside.kept ∙ ap (λ (b : PointLog). b.keeps) c.self.view_is
+
+pub returns-clause-room : goal.returns-clause-room
+returns-clause-room c =
+    room_less c.self.inside.count c.self.inside.kept c.push_kept.new.kept c.push_kept.ensures.room (subst (λ (b : PointLog). 0 < b.room) (sym c.self.view_is) c.requires.room)
+    ∙ ap (λ (b : PointLog). b.room) c.self.view_is
 
 pub invariant_of-self : goal.invariant_of-self
 invariant_of-self c =
     let names : List (List ℕ) = keys c.self.inside.names in
     let within : c.args.entry.name < length names = subst (λ b. c.args.entry.name < length b.names) (sym c.self.view_is) c.requires.named in
-    let old : List Point = map (point_in names) c.self.inside.entries.items in
+    let old : List Point = map (point_in names) c.self.inside.told in
     let entry : PointRow = c.args.entry in
-    let points : map (point_in names) c.push_reserved.new.self.items ≡ old ++ point_in names entry ∷ [] =
-    ap (map (point_in names)) c.push_reserved.ensures.items ∙ map-append (point_in names) c.self.inside.entries.items (entry ∷ [])
+    let points : map (point_in names) c.push.new.self ≡ old ++ point_in names entry ∷ [] =
+    ap (map (point_in names)) c.push.ensures ∙ map-append (point_in names) c.self.inside.told (entry ∷ [])
     in
-    let named : All (λ (e : PointRow). e.name < length names) (c.self.inside.entries.items ++ entry ∷ []) =
-    All-push (λ (e : PointRow). e.name < length names) c.self.inside.entries.items entry c.self.invariant.named within
+    let named : All (λ (e : PointRow). e.name < length names) (c.self.inside.told ++ entry ∷ []) =
+    All-push (λ (e : PointRow). e.name < length names) c.self.inside.told entry c.self.invariant.named within
     in
     record {
+      count = (let more : length c.push.new.self ≡ length c.self.inside.told + 1 = ap length c.push.ensures ∙ length-append c.self.inside.told (entry ∷ []) in omega (arith, more, c.self.invariant.count));
+      kept = kept_more c.self.inside.kept c.push_kept.new.kept entry c.self.inside.told c.push.new.self c.push_kept.ensures.rows c.self.invariant.kept c.push.ensures;
       unique = c.self.invariant.unique;
-      named = subst (λ (l : List PointRow). All (λ (e : PointRow). e.name < length names) l) (sym c.push_reserved.ensures.items) named;
+      named = subst (λ (l : List PointRow). All (λ (e : PointRow). e.name < length names) l) (sym c.push.ensures) named;
       last = subst (λ (l : List Point). All (λ (known : List ℕ × Option ℕ). known.1 ≡ last_change known.0 l) c.self.inside.names.entries) (sym points)
           (λ k d less. c.self.invariant.last k d less ∙ sym (last_still old (point_in names entry) c.requires.still _));
     }

@@ -1,13 +1,16 @@
-use Rattle.std.proofs.Common.{◌≡◌, ℕ, ◌+◌, ◌∷◌, List, length, drop, map, zip, slice_get, get_or, ap, sym, ◌∙◌, arith}
+use Rattle.std.proofs.Common.{◌≡◌, ℕ, ◌+◌, ◌∷◌, List, length, drop, map, zip, slice_get, get_or, refl, ap, sym, subst, ◌∙◌, arith}
 use Rattle.std.specs.Vec.Iter.{into_iter_items}
+use Rattle.store_core.specs.Directory.{Version, Standing as CoreStanding}
 use Rattle.store_core.specs.Commit.{place_all}
 use Rattle.store_core.specs.Lookups.{holds_standing, is_superseded_standing}
-use Rattle.dir_parts.proofs.TableSteps.{length-change_at, still_other}
+use Rattle.dir_parts.specs.Known.{IsKnown}
+use Rattle.dir_parts.proofs.TableSteps.{still_other}
+use Rattle.dir_parts.proofs.Known.{still_known}
 use Rattle.dir_parts.proofs.Entries.{drop-next}
 use Rattle.dir_parts.proofs.versions.Versions.make_all_current.Goals as goal
 
-pub make_current-requires-clause-within : goal.make_current-requires-clause-within
-make_current-requires-clause-within c = omega (arith, (c.requires.drawn c.loop-number.number-index 0 c.loop-number-test.true).0, c.loop-number.invariant.size)
+pub make_current-requires-clause-known : goal.make_current-requires-clause-known
+make_current-requires-clause-known c = c.loop-number.invariant.known (get_or c.args.numbers.now c.loop-number.number-index 0) (c.requires.known c.loop-number.number-index 0 c.loop-number-test.true)
 
 pub make_current-requires-clause-other : goal.make_current-requires-clause-other
 make_current-requires-clause-other c = c.loop-number.invariant.other (get_or c.args.numbers.now c.loop-number.number-index 0) (c.requires.drawn c.loop-number.number-index 0 c.loop-number-test.true).1
@@ -24,6 +27,8 @@ loop-number-preserved c =
           ∙ c.loop-number.invariant.ahead;
       pins = c.make_current.ensures.pins ∙ c.loop-number.invariant.pins;
       rows = omega (arith, ap length c.in-Some.ensures.items, c.loop-number.invariant.rows);
-      size = ap length c.make_current.ensures.listed ∙ length-change_at (get_or numbers i 0) _ c.loop-number.self.listed ∙ c.loop-number.invariant.size;
+      known = λ n h.
+          let put : Version → Version = λ version. record version { placed = c.in-Some.row.items; standing = CoreStanding.Current } in
+          subst (λ vs. IsKnown vs n) (sym c.make_current.ensures.listed) (still_known (get_or numbers i 0) n put c.loop-number.self.listed (λ v unswept. refl) (c.loop-number.invariant.known n h));
       other = λ n h. ap (λ vs. holds_standing is_superseded_standing (slice_get vs n)) c.make_current.ensures.listed ∙ still_other (get_or numbers i 0) n c.in-Some.row.items c.loop-number.self.listed (c.loop-number.invariant.other n h);
     }

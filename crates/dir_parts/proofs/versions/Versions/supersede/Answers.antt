@@ -1,62 +1,58 @@
-use Rattle.std.proofs.Common.{ℕ, ◌<◌, length, map, List, ap, refl, ◌∙◌, arith}
+use Rattle.std.proofs.Common.{◌<◌, ℕ, length, map, List, ap, refl, ◌∙◌, arith}
 use Rattle.std.proofs.lemmas.List.{length-map}
 use Rattle.std.specs.BinaryHeap.{heap_items}
 use Rattle.store_core.specs.Lists.{change_at}
 use Rattle.store_core.specs.Directory.{Version, Standing as CoreStanding}
-use Rattle.dir_parts.specs.Table.{version_in, number_in}
-use Rattle.dir_parts.specs.declared.versions.VersionRow.{VersionRow}
-use Rattle.dir_parts.specs.declared.versions.Standing.TheVariants as standing
+use Rattle.dir_parts.specs.Told.{Entry, entry_standing}
+use Rattle.dir_parts.specs.Rows.{unswept_count}
+use Rattle.dir_parts.specs.Table.{Table, version_in, number_in}
+use Rattle.dir_parts.specs.Known.{is_known}
+use Rattle.dir_parts.specs.declared.told_versions.Standing.TheVariants as standing
 use Rattle.dir_parts.proofs.Entries.{map-change_at, map-change_same}
-use Rattle.dir_parts.proofs.TableSteps.{Step, step_of, kept_same, kept_more, room_left, marked_stays}
+use Rattle.dir_parts.proofs.TableSteps.{kept_same, kept_more, room_left, known_kept, marked_stays}
 use Rattle.dir_parts.proofs.versions.Versions.supersede.Goals as goal
 
-abbrev change : VersionRow → VersionRow
-change entry = record entry { standing = standing.Superseded }
+pub stand-requires-clause-kept : goal.stand-requires-clause-kept
+stand-requires-clause-kept c = known_kept c.self.inside.rows.entries c.args.number ∙ ap (λ (t : Table). is_known t.listed c.args.number) c.self.view_is ∙ c.requires
 
 pub push_reserved-requires : goal.push_reserved-requires
 push_reserved-requires c =
-    let within : c.args.number < length c.self.inside.entries.items = omega (arith, c.requires, ap (λ t. length t.listed) c.self.view_is, length-map c.self.inside.entries.items version_in) in
-    let step : Step change c.self.inside.entries.items c.stand.new.entries.items c.args.number c.is_garbage-was.result c.is_garbage-is.result =
-    step_of change c.self.inside.entries.items c.stand.new.entries.items c.args.number c.index.result.now c.index-2.result.now c.is_garbage-was.result c.is_garbage-is.result within c.index.ensures c.stand.ensures.after c.index-2.ensures c.is_garbage-was.ensures c.is_garbage-is.ensures
-    in
     let held : List ℕ = map number_in (heap_items c.self.inside.garbage) in
-    let room : length held < length c.self.inside.entries.items = room_left change _ _ _ _ _ step held c.self.invariant.garbage marked_stays c.if-is-was.true in
-    omega (arith, room, length-map (heap_items c.self.inside.garbage) number_in, c.self.invariant.room, c.self.inside.garbage.data.ok.0, c.self.inside.entries.ok.0)
+    let room : length held < unswept_count c.stand.new.self.entries =
+    room_left (entry_standing standing.Superseded) c.self.inside.rows.entries c.stand.new.self.entries c.args.number c.stand.ensures.entries c.stand.result c.stand.ensures.turned held c.self.invariant.garbage marked_stays c.if-stand.true
+    in
+    omega (arith, room, length-map (heap_items c.self.inside.garbage) number_in, c.stand.ensures.unswept, c.self.invariant.room, c.self.inside.garbage.data.ok.0)
 
 pub invariant_of-self : goal.invariant_of-self
 invariant_of-self c =
-    let within : c.args.number < length c.self.inside.entries.items = omega (arith, c.requires, ap (λ t. length t.listed) c.self.view_is, length-map c.self.inside.entries.items version_in) in
-    let step : Step change c.self.inside.entries.items c.stand.new.entries.items c.args.number c.is_garbage-was.result c.is_garbage-is.result =
-    step_of change c.self.inside.entries.items c.stand.new.entries.items c.args.number c.index.result.now c.index-2.result.now c.is_garbage-was.result c.is_garbage-is.result within c.index.ensures c.stand.ensures.after c.index-2.ensures c.is_garbage-was.ensures c.is_garbage-is.ensures
-    in
     let held : List ℕ = map number_in (heap_items c.self.inside.garbage) in
     record {
-      room = omega (arith, c.stand.ensures.len, c.push_reserved.ensures.capacity, c.self.invariant.room);
+      room = omega (arith, c.stand.ensures.unswept, c.push_reserved.ensures.capacity, c.self.invariant.room);
       heap = c.push_reserved.ensures.order c.self.invariant.heap;
-      garbage = kept_more change _ _ _ _ _ step held c.self.invariant.garbage marked_stays c.if-is-was.true _ c.push_reserved.ensures.items;
+      garbage =
+          kept_more (entry_standing standing.Superseded) c.self.inside.rows.entries c.stand.new.self.entries c.args.number c.stand.ensures.entries c.stand.result c.stand.ensures.turned held c.self.invariant.garbage marked_stays c.if-stand.true
+          _ c.push_reserved.ensures.items;
     }
 
-pub invariant_of-self-else-is-was : goal.invariant_of-self-else-is-was
-invariant_of-self-else-is-was c =
-    let within : c.args.number < length c.self.inside.entries.items = omega (arith, c.requires, ap (λ t. length t.listed) c.self.view_is, length-map c.self.inside.entries.items version_in) in
-    let step : Step change c.self.inside.entries.items c.stand.new.entries.items c.args.number c.is_garbage-was.result c.is_garbage-is.result =
-    step_of change c.self.inside.entries.items c.stand.new.entries.items c.args.number c.index.result.now c.index-2.result.now c.is_garbage-was.result c.is_garbage-is.result within c.index.ensures c.stand.ensures.after c.index-2.ensures c.is_garbage-was.ensures c.is_garbage-is.ensures
-    in
+pub invariant_of-self-else-stand : goal.invariant_of-self-else-stand
+invariant_of-self-else-stand c =
     let held : List ℕ = map number_in (heap_items c.self.inside.garbage) in
     record {
-      room = omega (arith, c.stand.ensures.len, c.self.invariant.room);
+      room = omega (arith, c.stand.ensures.unswept, c.self.invariant.room);
       heap = c.self.invariant.heap;
-      garbage = kept_same change _ _ _ _ _ step held c.self.invariant.garbage c.if-is-was.false;
+      garbage = kept_same (entry_standing standing.Superseded) c.self.inside.rows.entries c.stand.new.self.entries c.args.number c.stand.ensures.entries c.stand.result c.stand.ensures.turned held c.self.invariant.garbage c.if-stand.false;
     }
 
-pub returns-then-is-was-clause-listed : goal.returns-then-is-was-clause-listed
-returns-then-is-was-clause-listed c = ap (map version_in) c.stand.ensures.after ∙ map-change_at version_in c.args.number change (λ (v : Version). record v { standing = CoreStanding.Superseded }) c.self.inside.entries.items (λ x e. refl) ∙ ap (λ t. change_at c.args.number (λ (v : Version). record v { standing = CoreStanding.Superseded }) t.listed) c.self.view_is
+pub returns-then-stand-clause-listed : goal.returns-then-stand-clause-listed
+returns-then-stand-clause-listed c = ap (map version_in) c.stand.ensures.entries ∙ map-change_at version_in c.args.number (entry_standing standing.Superseded) (λ (v : Version). record v { standing = CoreStanding.Superseded }) c.self.inside.rows.entries (λ x e. refl)
+    ∙ ap (λ (t : Table). change_at c.args.number (λ (v : Version). record v { standing = CoreStanding.Superseded }) t.listed) c.self.view_is
 
-pub returns-then-is-was-clause-pins : goal.returns-then-is-was-clause-pins
-returns-then-is-was-clause-pins c = ap (map (λ (entry : VersionRow). entry.pins)) c.stand.ensures.after ∙ map-change_same (λ (entry : VersionRow). entry.pins) c.args.number change c.self.inside.entries.items (λ x e. refl) ∙ ap (λ t. t.pins) c.self.view_is
+pub returns-then-stand-clause-pins : goal.returns-then-stand-clause-pins
+returns-then-stand-clause-pins c = ap (map (λ (entry : Entry). entry.pins)) c.stand.ensures.entries ∙ map-change_same (λ (entry : Entry). entry.pins) c.args.number (entry_standing standing.Superseded) c.self.inside.rows.entries (λ x e. refl) ∙ ap (λ (t : Table). t.pins) c.self.view_is
 
-pub returns-else-is-was-clause-listed : goal.returns-else-is-was-clause-listed
-returns-else-is-was-clause-listed c = ap (map version_in) c.stand.ensures.after ∙ map-change_at version_in c.args.number change (λ (v : Version). record v { standing = CoreStanding.Superseded }) c.self.inside.entries.items (λ x e. refl) ∙ ap (λ t. change_at c.args.number (λ (v : Version). record v { standing = CoreStanding.Superseded }) t.listed) c.self.view_is
+pub returns-else-stand-clause-listed : goal.returns-else-stand-clause-listed
+returns-else-stand-clause-listed c = ap (map version_in) c.stand.ensures.entries ∙ map-change_at version_in c.args.number (entry_standing standing.Superseded) (λ (v : Version). record v { standing = CoreStanding.Superseded }) c.self.inside.rows.entries (λ x e. refl)
+    ∙ ap (λ (t : Table). change_at c.args.number (λ (v : Version). record v { standing = CoreStanding.Superseded }) t.listed) c.self.view_is
 
-pub returns-else-is-was-clause-pins : goal.returns-else-is-was-clause-pins
-returns-else-is-was-clause-pins c = ap (map (λ (entry : VersionRow). entry.pins)) c.stand.ensures.after ∙ map-change_same (λ (entry : VersionRow). entry.pins) c.args.number change c.self.inside.entries.items (λ x e. refl) ∙ ap (λ t. t.pins) c.self.view_is
+pub returns-else-stand-clause-pins : goal.returns-else-stand-clause-pins
+returns-else-stand-clause-pins c = ap (map (λ (entry : Entry). entry.pins)) c.stand.ensures.entries ∙ map-change_same (λ (entry : Entry). entry.pins) c.args.number (entry_standing standing.Superseded) c.self.inside.rows.entries (λ x e. refl) ∙ ap (λ (t : Table). t.pins) c.self.view_is

@@ -1,60 +1,52 @@
-use Rattle.std.proofs.Common.{ℕ, ◌<◌, ◌-◌, length, map, List, ap, refl, ◌∙◌, arith}
+use Rattle.std.proofs.Common.{◌<◌, ◌-◌, ℕ, length, map, List, ap, refl, ◌∙◌, arith}
 use Rattle.std.proofs.lemmas.List.{length-map}
 use Rattle.std.specs.BinaryHeap.{heap_items}
 use Rattle.store_core.specs.Lists.{change_at}
-use Rattle.dir_parts.specs.Table.{version_in, number_in}
-use Rattle.dir_parts.specs.declared.versions.VersionRow.{VersionRow}
+use Rattle.dir_parts.specs.Told.{Entry, entry_unpinned}
+use Rattle.dir_parts.specs.Rows.{unswept_count}
+use Rattle.dir_parts.specs.Table.{Table, version_in, number_in}
 use Rattle.dir_parts.proofs.Entries.{map-change_at, map-change_same}
-use Rattle.dir_parts.proofs.TableSteps.{Step, step_of, kept_same, kept_more, room_left, unpinned_stays}
+use Rattle.dir_parts.proofs.TableSteps.{kept_same, kept_more, room_left, unpinned_stays}
 use Rattle.dir_parts.proofs.versions.Versions.unpin.Goals as goal
-
-abbrev change : VersionRow → VersionRow
-change entry = record entry { pins = entry.pins - 1 }
 
 pub push_reserved-requires : goal.push_reserved-requires
 push_reserved-requires c =
-    let within : c.args.number < length c.self.inside.entries.items = omega (arith, c.requires, ap (λ t. length t.listed) c.self.view_is, length-map c.self.inside.entries.items version_in) in
-    let step : Step change c.self.inside.entries.items c.unpin.new.entries.items c.args.number c.is_garbage-was.result c.is_garbage-is.result =
-    step_of change c.self.inside.entries.items c.unpin.new.entries.items c.args.number c.index.result.now c.index-2.result.now c.is_garbage-was.result c.is_garbage-is.result within c.index.ensures c.unpin.ensures.after c.index-2.ensures c.is_garbage-was.ensures c.is_garbage-is.ensures
-    in
     let held : List ℕ = map number_in (heap_items c.self.inside.garbage) in
-    let room : length held < length c.self.inside.entries.items = room_left change _ _ _ _ _ step held c.self.invariant.garbage unpinned_stays c.if-is-was.true in
-    omega (arith, room, length-map (heap_items c.self.inside.garbage) number_in, c.self.invariant.room, c.self.inside.garbage.data.ok.0, c.self.inside.entries.ok.0)
+    let room : length held < unswept_count c.unpin.new.self.entries =
+    room_left entry_unpinned c.self.inside.rows.entries c.unpin.new.self.entries c.args.number c.unpin.ensures.entries c.unpin.result c.unpin.ensures.turned held c.self.invariant.garbage unpinned_stays c.if-unpin.true
+    in
+    omega (arith, room, length-map (heap_items c.self.inside.garbage) number_in, c.unpin.ensures.unswept, c.self.invariant.room, c.self.inside.garbage.data.ok.0)
 
 pub invariant_of-self : goal.invariant_of-self
 invariant_of-self c =
-    let within : c.args.number < length c.self.inside.entries.items = omega (arith, c.requires, ap (λ t. length t.listed) c.self.view_is, length-map c.self.inside.entries.items version_in) in
-    let step : Step change c.self.inside.entries.items c.unpin.new.entries.items c.args.number c.is_garbage-was.result c.is_garbage-is.result =
-    step_of change c.self.inside.entries.items c.unpin.new.entries.items c.args.number c.index.result.now c.index-2.result.now c.is_garbage-was.result c.is_garbage-is.result within c.index.ensures c.unpin.ensures.after c.index-2.ensures c.is_garbage-was.ensures c.is_garbage-is.ensures
-    in
     let held : List ℕ = map number_in (heap_items c.self.inside.garbage) in
     record {
-      room = omega (arith, c.unpin.ensures.len, c.push_reserved.ensures.capacity, c.self.invariant.room);
+      room = omega (arith, c.unpin.ensures.unswept, c.push_reserved.ensures.capacity, c.self.invariant.room);
       heap = c.push_reserved.ensures.order c.self.invariant.heap;
-      garbage = kept_more change _ _ _ _ _ step held c.self.invariant.garbage unpinned_stays c.if-is-was.true _ c.push_reserved.ensures.items;
+      garbage =
+          kept_more entry_unpinned c.self.inside.rows.entries c.unpin.new.self.entries c.args.number c.unpin.ensures.entries c.unpin.result c.unpin.ensures.turned held c.self.invariant.garbage unpinned_stays c.if-unpin.true
+          _ c.push_reserved.ensures.items;
     }
 
-pub invariant_of-self-else-is-was : goal.invariant_of-self-else-is-was
-invariant_of-self-else-is-was c =
-    let within : c.args.number < length c.self.inside.entries.items = omega (arith, c.requires, ap (λ t. length t.listed) c.self.view_is, length-map c.self.inside.entries.items version_in) in
-    let step : Step change c.self.inside.entries.items c.unpin.new.entries.items c.args.number c.is_garbage-was.result c.is_garbage-is.result =
-    step_of change c.self.inside.entries.items c.unpin.new.entries.items c.args.number c.index.result.now c.index-2.result.now c.is_garbage-was.result c.is_garbage-is.result within c.index.ensures c.unpin.ensures.after c.index-2.ensures c.is_garbage-was.ensures c.is_garbage-is.ensures
-    in
+pub invariant_of-self-else-unpin : goal.invariant_of-self-else-unpin
+invariant_of-self-else-unpin c =
     let held : List ℕ = map number_in (heap_items c.self.inside.garbage) in
     record {
-      room = omega (arith, c.unpin.ensures.len, c.self.invariant.room);
+      room = omega (arith, c.unpin.ensures.unswept, c.self.invariant.room);
       heap = c.self.invariant.heap;
-      garbage = kept_same change _ _ _ _ _ step held c.self.invariant.garbage c.if-is-was.false;
+      garbage = kept_same entry_unpinned c.self.inside.rows.entries c.unpin.new.self.entries c.args.number c.unpin.ensures.entries c.unpin.result c.unpin.ensures.turned held c.self.invariant.garbage c.if-unpin.false;
     }
 
-pub returns-then-is-was-clause-listed : goal.returns-then-is-was-clause-listed
-returns-then-is-was-clause-listed c = ap (map version_in) c.unpin.ensures.after ∙ map-change_same version_in c.args.number change c.self.inside.entries.items (λ x e. refl) ∙ ap (λ t. t.listed) c.self.view_is
+pub returns-then-unpin-clause-listed : goal.returns-then-unpin-clause-listed
+returns-then-unpin-clause-listed c = ap (map version_in) c.unpin.ensures.entries ∙ map-change_same version_in c.args.number entry_unpinned c.self.inside.rows.entries (λ x e. refl) ∙ ap (λ (t : Table). t.listed) c.self.view_is
 
-pub returns-then-is-was-clause-pins : goal.returns-then-is-was-clause-pins
-returns-then-is-was-clause-pins c = ap (map (λ (entry : VersionRow). entry.pins)) c.unpin.ensures.after ∙ map-change_at (λ (entry : VersionRow). entry.pins) c.args.number change (λ (n : ℕ). n - 1) c.self.inside.entries.items (λ x e. refl) ∙ ap (λ t. change_at c.args.number (λ (n : ℕ). n - 1) t.pins) c.self.view_is
+pub returns-then-unpin-clause-pins : goal.returns-then-unpin-clause-pins
+returns-then-unpin-clause-pins c = ap (map (λ (entry : Entry). entry.pins)) c.unpin.ensures.entries ∙ map-change_at (λ (entry : Entry). entry.pins) c.args.number entry_unpinned (λ (n : ℕ). n - 1) c.self.inside.rows.entries (λ x e. refl)
+    ∙ ap (λ (t : Table). change_at c.args.number (λ (n : ℕ). n - 1) t.pins) c.self.view_is
 
-pub returns-else-is-was-clause-listed : goal.returns-else-is-was-clause-listed
-returns-else-is-was-clause-listed c = ap (map version_in) c.unpin.ensures.after ∙ map-change_same version_in c.args.number change c.self.inside.entries.items (λ x e. refl) ∙ ap (λ t. t.listed) c.self.view_is
+pub returns-else-unpin-clause-listed : goal.returns-else-unpin-clause-listed
+returns-else-unpin-clause-listed c = ap (map version_in) c.unpin.ensures.entries ∙ map-change_same version_in c.args.number entry_unpinned c.self.inside.rows.entries (λ x e. refl) ∙ ap (λ (t : Table). t.listed) c.self.view_is
 
-pub returns-else-is-was-clause-pins : goal.returns-else-is-was-clause-pins
-returns-else-is-was-clause-pins c = ap (map (λ (entry : VersionRow). entry.pins)) c.unpin.ensures.after ∙ map-change_at (λ (entry : VersionRow). entry.pins) c.args.number change (λ (n : ℕ). n - 1) c.self.inside.entries.items (λ x e. refl) ∙ ap (λ t. change_at c.args.number (λ (n : ℕ). n - 1) t.pins) c.self.view_is
+pub returns-else-unpin-clause-pins : goal.returns-else-unpin-clause-pins
+returns-else-unpin-clause-pins c = ap (map (λ (entry : Entry). entry.pins)) c.unpin.ensures.entries ∙ map-change_at (λ (entry : Entry). entry.pins) c.args.number entry_unpinned (λ (n : ℕ). n - 1) c.self.inside.rows.entries (λ x e. refl)
+    ∙ ap (λ (t : Table). change_at c.args.number (λ (n : ℕ). n - 1) t.pins) c.self.view_is

@@ -1,4 +1,4 @@
-use Rattle.std.proofs.Common.{rules, ap, sym, ◌∙◌}
+use Rattle.std.proofs.Common.{rules, ap, ◌∙◌}
 use Rattle.session_store.specs.declared.parts.Parts.{Parts}
 use Rattle.session_store.proofs.Opening.{none_open}
 use Rattle.session_store.proofs.store.SessionStore.close.Goals.{then-is_some, else-is_some}

@@ -1,14 +1,18 @@
-use Rattle.std.proofs.Common.{◌≤◌, ◌^◌, List, length, sym, subst}
+use Rattle.std.proofs.Common.{◌≤◌, ◌^◌, List, length, is_some, sym, ap, subst}
 use Rattle.std.proofs.lemmas.Result.{IfOk-weaker}
 use Rattle.transcript_text.specs.declared.transcript.Transcript.{Transcript}
 use Rattle.chunk_server.specs.State.{ServerState}
 use Rattle.world_lines.specs.Ended.{HaveNames, counts_of}
 use Rattle.world_lines.specs.declared.calls.CallerCalls.{CallerCalls}
 use Rattle.run_served.specs.ServedLaws.{IsMadeOf}
+use Rattle.store_run.specs.Ended.{IsEnded}
 use Rattle.store_run.specs.Swept.{IsRunToEnd}
 use Rattle.store_run.specs.declared.ended.Ended.{Ended}
 use Rattle.store_run.proofs.Shown.{clients_have_names, few_servers, repairers_have_names, shows_run_to_end}
 use Rattle.store_run.proofs.ended.Ended.finish.Goals as goal
+
+pub make_transcript-requires-clause-script : goal.make_transcript-requires-clause-script
+make_transcript-requires-clause-script g c = ap is_some (IsEnded.written c.requires.0)
 
 pub make_transcript-requires-clause-servers : goal.make_transcript-requires-clause-servers
 make_transcript-requires-clause-servers g c =

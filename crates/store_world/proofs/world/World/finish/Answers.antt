@@ -1,8 +1,9 @@
-use Rattle.std.proofs.Common.{◌≡◌, List, sym, subst}
+use Rattle.std.proofs.Common.{◌≡◌, List, is_some, sym, ap, subst, ◌∙◌}
 use Rattle.std.specs.Prelude.{IfOk}
 use Rattle.store_map.specs.Limits.{size_of}
 use Rattle.store_core.specs.History.{call_of}
 use Rattle.store_core.specs.Shown.{shown}
+use Rattle.version_seal.specs.Entry.{BookOf}
 use Rattle.chunk_server.specs.State.{ServerState}
 use Rattle.world_lines.specs.Ended.{counts_of, HaveNames}
 use Rattle.world_lines.specs.Served.{ServedAre}
@@ -14,6 +15,9 @@ use Rattle.store_world.specs.Inside.{stored_in}
 use Rattle.store_world.proofs.Ended.{are_held, are_served, clients_have_names, repairers_have_names}
 use Rattle.store_world.proofs.Results.{on_ok}
 use Rattle.store_world.proofs.world.World.finish.Goals as goal
+
+pub make_transcript-requires-clause-script : goal.make_transcript-requires-clause-script
+make_transcript-requires-clause-script c = ap (λ (b : BookOf). is_some b.script) c.self.invariant.directory_book ∙ ap is_some c.self.invariant.written
 
 pub make_transcript-requires-clause-clients : goal.make_transcript-requires-clause-clients
 make_transcript-requires-clause-clients c =

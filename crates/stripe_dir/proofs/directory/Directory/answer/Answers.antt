@@ -17,7 +17,7 @@ invariant_of-self c =
     let view : d ≡ c.args.self.now.core = (ap (λ (s : Sealed). s.core) c.self.view_is) in
     let m = c.make_room.ensures in
     let roomy : Roomy a c.make_room.new.objects c.make_room.new.passes c.make_room.new.history =
-    record { points = m.points; others = m.others; points_room = m.points_room; objects = m.objects; objects_room = m.objects_room; passes = m.passes; stripe = m.stripe }
+    record { points = m.points; others = m.others; points_room = m.points_room; objects = m.objects; objects_room = m.objects_room; passes = m.passes; stripe = m.stripe; keeps = m.keeps }
     in
     kept_roomy a c.self.invariant c.make_room.new.objects c.make_room.new.passes c.make_room.new.history roomy
 
@@ -28,7 +28,7 @@ invariant_of-self-2 c =
     let view : d ≡ c.args.self.now.core = (ap (λ (s : Sealed). s.core) c.self.view_is) in
     let m = c.make_room.ensures in
     let roomy : Roomy a c.make_room.new.objects c.make_room.new.passes c.make_room.new.history =
-    record { points = m.points; others = m.others; points_room = m.points_room; objects = m.objects; objects_room = m.objects_room; passes = m.passes; stripe = m.stripe }
+    record { points = m.points; others = m.others; points_room = m.points_room; objects = m.objects; objects_room = m.objects_room; passes = m.passes; stripe = m.stripe; keeps = m.keeps }
     in
     let fine : is_err c.make_room.result ≡ false = sym c.is_err.ensures.value ∙ c.if-is_err.false in
     let actor : c.seat.inside.actor ≡ c.args.seat.actor = ap (λ (s : Seat). s.actor) c.seat.view_is in
@@ -41,4 +41,4 @@ invariant_of-self-2 c =
     in
     kept_pointed a c.self.invariant c.make_room.new.objects c.make_room.new.passes c.make_room.new.history roomy c.make_room.new.objects a.versions c.add-point.new.self
     (subst IsWhole (sym made) (subst (λ (x : Directory). IsWhole (append_point c.args.seat.actor c.args.number c.args.note (Event.Answer (reply_in c.args.reply)) x)) (sym view) c.requires.whole))
-    (ok_of c.make_room.result fine m.more_points) (omega (arith, c.add-point.ensures.room)) c.add-point.ensures.names refl refl m.objects_room
+    (ok_of c.make_room.result fine m.more_points) (omega (arith, c.add-point.ensures.room)) c.add-point.ensures.names c.add-point.ensures.keeps refl refl m.objects_room

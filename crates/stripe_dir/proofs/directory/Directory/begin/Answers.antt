@@ -7,11 +7,13 @@ use Rattle.stripe_dir.specs.ItsStripes.{IsWhole}
 use Rattle.store_core.specs.SoundPasses.{Stands}
 use Rattle.dir_parts.specs.Counts.{pinned_more}
 use Rattle.dir_parts.specs.OpenPass.{Open}
+use Rattle.dir_parts.specs.Known.{IsKnown}
 use Rattle.dir_parts.specs.Parts.{object_or_new}
 use Rattle.stripe_dir.specs.Stripes.{pin_by, seen_by}
 use Rattle.stripe_dir.specs.Begun.{begun_in, begun_pass, seen_in_object, looked}
 use Rattle.stripe_dir.specs.Kept.{directory_in}
 use Rattle.stripe_dir.specs.declared.directory.Directory.TheInside.{Inside}
+use Rattle.stripe_dir.proofs.KnownVersions.{stands_known}
 use Rattle.stripe_dir.proofs.Beginnings.{Roomy, kept_roomy, kept_begun, pins_are, pins_have, current_other}
 use Rattle.stripe_dir.proofs.directory.Directory.begin.Goals as goal
 
@@ -22,7 +24,7 @@ invariant_of-self c =
     let view : d ≡ c.args.self.now.core = (ap (λ (s : Sealed). s.core) c.self.view_is) in
     let m = c.make_room.ensures in
     let roomy : Roomy a c.make_room.new.objects c.make_room.new.passes c.make_room.new.history =
-    record { points = m.points; others = m.others; points_room = m.points_room; objects = m.objects; objects_room = m.objects_room; passes = m.passes; stripe = m.stripe }
+    record { points = m.points; others = m.others; points_room = m.points_room; objects = m.objects; objects_room = m.objects_room; passes = m.passes; stripe = m.stripe; keeps = m.keeps }
     in
     kept_roomy a c.self.invariant c.make_room.new.objects c.make_room.new.passes c.make_room.new.history roomy
 
@@ -33,7 +35,7 @@ invariant_of-self-in_err-seen c =
     let view : d ≡ c.args.self.now.core = (ap (λ (s : Sealed). s.core) c.self.view_is) in
     let m = c.make_room.ensures in
     let roomy : Roomy a c.make_room.new.objects c.make_room.new.passes c.make_room.new.history =
-    record { points = m.points; others = m.others; points_room = m.points_room; objects = m.objects; objects_room = m.objects_room; passes = m.passes; stripe = m.stripe }
+    record { points = m.points; others = m.others; points_room = m.points_room; objects = m.objects; objects_room = m.objects_room; passes = m.passes; stripe = m.stripe; keeps = m.keeps }
     in
     kept_roomy a c.self.invariant c.make_room.new.objects c.make_room.new.passes c.make_room.new.history roomy
 
@@ -44,9 +46,24 @@ invariant_of-self-then-not-can_pin c =
     let view : d ≡ c.args.self.now.core = (ap (λ (s : Sealed). s.core) c.self.view_is) in
     let m = c.make_room.ensures in
     let roomy : Roomy a c.make_room.new.objects c.make_room.new.passes c.make_room.new.history =
-    record { points = m.points; others = m.others; points_room = m.points_room; objects = m.objects; objects_room = m.objects_room; passes = m.passes; stripe = m.stripe }
+    record { points = m.points; others = m.others; points_room = m.points_room; objects = m.objects; objects_room = m.objects_room; passes = m.passes; stripe = m.stripe; keeps = m.keeps }
     in
     kept_roomy a c.self.invariant c.make_room.new.objects c.make_room.new.passes c.make_room.new.history roomy
+
+pub see_object-requires-clause-there : goal.see_object-requires-clause-there
+see_object-requires-clause-there c =
+    let a : Inside = c.self.inside in
+    let d : Directory = directory_in a in
+    let view : d ≡ c.args.self.now.core = (ap (λ (s : Sealed). s.core) c.self.view_is) in
+    let m = c.make_room.ensures in
+    let stripes : List ℕ = c.args.stripes.now in
+    let object : Object = object_or_new c.args.note.name d.objects in
+    let held_is : (object_or_new c.note.inside.name c.make_room.new.objects.objects).versions ≡ object.versions = (λ i. (object_or_new ((ap (λ (n : Note). n.name) c.note.view_is) i) (m.objects i)).versions) in
+    let stands : All (λ s. Stands d Standing.Current (get_or object.versions s 0)) stripes =
+    subst (λ (x : Directory). All (λ s. Stands x Standing.Current (get_or (object_or_new c.args.note.name x.objects).versions s 0)) stripes) (sym view) c.requires.stands
+    in
+    subst (λ (held : List ℕ). All (λ s. IsKnown d.versions (get_or held s 0)) stripes) (sym held_is)
+    (λ k x less. stands_known d Standing.Current (get_or object.versions (get_or stripes k x) 0) refl (stands k x less))
 
 pub can_pin-requires : goal.can_pin-requires
 can_pin-requires c =
@@ -55,7 +72,7 @@ can_pin-requires c =
     let view : d ≡ c.args.self.now.core = (ap (λ (s : Sealed). s.core) c.self.view_is) in
     let m = c.make_room.ensures in
     let roomy : Roomy a c.make_room.new.objects c.make_room.new.passes c.make_room.new.history =
-    record { points = m.points; others = m.others; points_room = m.points_room; objects = m.objects; objects_room = m.objects_room; passes = m.passes; stripe = m.stripe }
+    record { points = m.points; others = m.others; points_room = m.points_room; objects = m.objects; objects_room = m.objects_room; passes = m.passes; stripe = m.stripe; keeps = m.keeps }
     in
     let stripes : List ℕ = c.args.stripes.now in
     let object : Object = object_or_new c.args.note.name d.objects in
@@ -66,7 +83,8 @@ can_pin-requires c =
     let pinned_is : c.in_ok-seen.field-0.pinned.items ≡ map (pin_by object.versions) stripes =
     c.in_ok-seen.ensures.pinned ∙ ap (λ h. map (pin_by h) stripes) held_is
     in
-    subst (λ (ps : List Pin). All (λ pin. pin.version < length d.versions) ps) (sym (c.deref.ensures.value ∙ pinned_is)) (pins_have (λ v. v < length d.versions) object.versions stripes (λ k x less. (stands k x less).1))
+    subst (λ (ps : List Pin). All (λ pin. IsKnown d.versions pin.version) ps) (sym (c.deref.ensures.value ∙ pinned_is))
+    (pins_have (IsKnown d.versions) object.versions stripes (λ k x less. stands_known d Standing.Current (get_or object.versions (get_or stripes k x) 0) refl (stands k x less)))
 
 pub pin_all-requires-clause-others : goal.pin_all-requires-clause-others
 pin_all-requires-clause-others c =
@@ -75,7 +93,7 @@ pin_all-requires-clause-others c =
     let view : d ≡ c.args.self.now.core = (ap (λ (s : Sealed). s.core) c.self.view_is) in
     let m = c.make_room.ensures in
     let roomy : Roomy a c.make_room.new.objects c.make_room.new.passes c.make_room.new.history =
-    record { points = m.points; others = m.others; points_room = m.points_room; objects = m.objects; objects_room = m.objects_room; passes = m.passes; stripe = m.stripe }
+    record { points = m.points; others = m.others; points_room = m.points_room; objects = m.objects; objects_room = m.objects_room; passes = m.passes; stripe = m.stripe; keeps = m.keeps }
     in
     let stripes : List ℕ = c.args.stripes.now in
     let object : Object = object_or_new c.args.note.name d.objects in
@@ -101,7 +119,7 @@ invariant_of-self-2 c =
     let view : d ≡ c.args.self.now.core = (ap (λ (s : Sealed). s.core) c.self.view_is) in
     let m = c.make_room.ensures in
     let roomy : Roomy a c.make_room.new.objects c.make_room.new.passes c.make_room.new.history =
-    record { points = m.points; others = m.others; points_room = m.points_room; objects = m.objects; objects_room = m.objects_room; passes = m.passes; stripe = m.stripe }
+    record { points = m.points; others = m.others; points_room = m.points_room; objects = m.objects; objects_room = m.objects_room; passes = m.passes; stripe = m.stripe; keeps = m.keeps }
     in
     let stripes : List ℕ = c.args.stripes.now in
     let object : Object = object_or_new c.args.note.name d.objects in
@@ -126,7 +144,7 @@ invariant_of-self-2 c =
     (subst IsWhole (sym made) (subst (λ (x : Directory). IsWhole (begun_in c.args.actor c.args.number c.args.note stripes c.args.looked_at x)) (sym view) c.requires.whole))
     passes c.begin-entry.ensures.stripe c.pin_all.ensures.listed (c.pin_all.ensures.pins ∙ ap (λ ps. pinned_more ps a.versions.pins) (c.deref-2.ensures.value ∙ pins))
     (subst (λ (ps : List Pin). All (λ pin. pin.version < length d.versions) ps) (sym (pins_are d object stripes)) (pins_have (λ v. v < length d.versions) object.versions stripes (λ k x less. (stands k x less).1)))
-    c.in_ok-make_room.ensures.more_points c.add_look.ensures.left c.add_look.ensures.names (subst (λ (n : Note). Contains c.make_room.new.history.names n.name) c.note.view_is c.in_ok-make_room.ensures.named) c.in_ok-make_room.ensures.more_objects
+    c.in_ok-make_room.ensures.more_points c.add_look.ensures.left c.add_look.ensures.names c.add_look.ensures.keeps (subst (λ (n : Note). Contains c.make_room.new.history.names n.name) c.note.view_is c.in_ok-make_room.ensures.named) c.in_ok-make_room.ensures.more_objects
 
 pub returns-clause-after : goal.returns-clause-after
 returns-clause-after c =
@@ -135,7 +153,7 @@ returns-clause-after c =
     let view : d ≡ c.args.self.now.core = (ap (λ (s : Sealed). s.core) c.self.view_is) in
     let m = c.make_room.ensures in
     let roomy : Roomy a c.make_room.new.objects c.make_room.new.passes c.make_room.new.history =
-    record { points = m.points; others = m.others; points_room = m.points_room; objects = m.objects; objects_room = m.objects_room; passes = m.passes; stripe = m.stripe }
+    record { points = m.points; others = m.others; points_room = m.points_room; objects = m.objects; objects_room = m.objects_room; passes = m.passes; stripe = m.stripe; keeps = m.keeps }
     in
     let stripes : List ℕ = c.args.stripes.now in
     let object : Object = object_or_new c.args.note.name d.objects in
@@ -165,7 +183,7 @@ returns-clause-entry c =
     let view : d ≡ c.args.self.now.core = (ap (λ (s : Sealed). s.core) c.self.view_is) in
     let m = c.make_room.ensures in
     let roomy : Roomy a c.make_room.new.objects c.make_room.new.passes c.make_room.new.history =
-    record { points = m.points; others = m.others; points_room = m.points_room; objects = m.objects; objects_room = m.objects_room; passes = m.passes; stripe = m.stripe }
+    record { points = m.points; others = m.others; points_room = m.points_room; objects = m.objects; objects_room = m.objects_room; passes = m.passes; stripe = m.stripe; keeps = m.keeps }
     in
     let stripes : List ℕ = c.args.stripes.now in
     let object : Object = object_or_new c.args.note.name d.objects in
@@ -189,7 +207,7 @@ returns-clause-seen c =
     let view : d ≡ c.args.self.now.core = (ap (λ (s : Sealed). s.core) c.self.view_is) in
     let m = c.make_room.ensures in
     let roomy : Roomy a c.make_room.new.objects c.make_room.new.passes c.make_room.new.history =
-    record { points = m.points; others = m.others; points_room = m.points_room; objects = m.objects; objects_room = m.objects_room; passes = m.passes; stripe = m.stripe }
+    record { points = m.points; others = m.others; points_room = m.points_room; objects = m.objects; objects_room = m.objects_room; passes = m.passes; stripe = m.stripe; keeps = m.keeps }
     in
     let stripes : List ℕ = c.args.stripes.now in
     let object : Object = object_or_new c.args.note.name d.objects in

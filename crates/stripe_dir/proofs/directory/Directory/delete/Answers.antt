@@ -1,5 +1,5 @@
 use Rattle.stripe_dir.specs.Sealed.{Sealed}
-use Rattle.std.proofs.Common.{◌≡◌, ◌<◌, ◌∷◌, ◌++◌, [], List, All, length, is_err, false, ap, sym, subst, ◌∙◌, arith}
+use Rattle.std.proofs.Common.{◌≡◌, ◌<◌, ◌∷◌, ◌++◌, [], List, All, length, is_err, false, refl, ap, sym, subst, ◌∙◌, arith}
 use Rattle.store_map.specs.declared.reply.Reply.TheVariants as reply
 use Rattle.store_core.specs.Told.{Told}
 use Rattle.store_core.specs.Note.{Note}
@@ -7,11 +7,13 @@ use Rattle.store_core.specs.Directory.{Object, Standing, Event, Directory}
 use Rattle.store_core.specs.Look.{remove_object, set_standing}
 use Rattle.store_core.specs.Agreement.{Seat}
 use Rattle.stripe_dir.specs.ItsStripes.{IsWhole}
+use Rattle.dir_parts.specs.Known.{IsKnown}
 use Rattle.dir_parts.specs.Parts.{object_or_new}
 use Rattle.store_contents.proofs.Grows.{origins, set_keeps}
 use Rattle.stripe_dir.specs.Begun.{deleted}
 use Rattle.stripe_dir.specs.Kept.{directory_in}
 use Rattle.stripe_dir.specs.declared.directory.Directory.TheInside.{Inside}
+use Rattle.stripe_dir.proofs.KnownVersions.{all_known}
 use Rattle.stripe_dir.proofs.Commits.{old_current, old_name}
 use Rattle.stripe_dir.proofs.Beginnings.{Roomy, kept_roomy, kept_pointed, ok_of}
 use Rattle.stripe_dir.proofs.directory.Directory.delete.Goals as goal
@@ -23,7 +25,7 @@ invariant_of-self c =
     let view : d ≡ c.args.self.now.core = (ap (λ (s : Sealed). s.core) c.self.view_is) in
     let m = c.make_room.ensures in
     let roomy : Roomy a c.make_room.new.objects c.make_room.new.passes c.make_room.new.history =
-    record { points = m.points; others = m.others; points_room = m.points_room; objects = m.objects; objects_room = m.objects_room; passes = m.passes; stripe = m.stripe }
+    record { points = m.points; others = m.others; points_room = m.points_room; objects = m.objects; objects_room = m.objects_room; passes = m.passes; stripe = m.stripe; keeps = m.keeps }
     in
     kept_roomy a c.self.invariant c.make_room.new.objects c.make_room.new.passes c.make_room.new.history roomy
 
@@ -34,9 +36,10 @@ remove_object-requires c =
     let view : d ≡ c.args.self.now.core = (ap (λ (s : Sealed). s.core) c.self.view_is) in
     let m = c.make_room.ensures in
     let roomy : Roomy a c.make_room.new.objects c.make_room.new.passes c.make_room.new.history =
-    record { points = m.points; others = m.others; points_room = m.points_room; objects = m.objects; objects_room = m.objects_room; passes = m.passes; stripe = m.stripe }
+    record { points = m.points; others = m.others; points_room = m.points_room; objects = m.objects; objects_room = m.objects_room; passes = m.passes; stripe = m.stripe; keeps = m.keeps }
     in
-    subst (λ (os : List Object). All (λ number. number < length d.versions) (object_or_new c.note.inside.name os).versions) (sym m.objects) (λ k x less. (old_current d c.self.invariant.whole.sound c.note.inside.name k x less).1)
+    subst (λ (os : List Object). All (IsKnown d.versions) (object_or_new c.note.inside.name os).versions) (sym m.objects)
+    (all_known d Standing.Current (object_or_new c.note.inside.name d.objects).versions refl (old_current d c.self.invariant.whole.sound c.note.inside.name))
 
 pub invariant_of-self-2 : goal.invariant_of-self-2
 invariant_of-self-2 c =
@@ -45,7 +48,7 @@ invariant_of-self-2 c =
     let view : d ≡ c.args.self.now.core = (ap (λ (s : Sealed). s.core) c.self.view_is) in
     let m = c.make_room.ensures in
     let roomy : Roomy a c.make_room.new.objects c.make_room.new.passes c.make_room.new.history =
-    record { points = m.points; others = m.others; points_room = m.points_room; objects = m.objects; objects_room = m.objects_room; passes = m.passes; stripe = m.stripe }
+    record { points = m.points; others = m.others; points_room = m.points_room; objects = m.objects; objects_room = m.objects_room; passes = m.passes; stripe = m.stripe; keeps = m.keeps }
     in
     let object : Object = object_or_new c.args.note.name d.objects in
     let actor : c.seat.inside.actor ≡ c.args.seat.actor = ap (λ (s : Seat). s.actor) c.seat.view_is in
@@ -62,7 +65,7 @@ invariant_of-self-2 c =
     let fine : is_err c.make_room.result ≡ false = sym c.is_err.ensures.value ∙ c.if-is_err.false in
     kept_pointed a c.self.invariant c.make_room.new.objects c.make_room.new.passes c.make_room.new.history roomy c.remove_object.new.objects c.remove_object.new.versions c.add-point.new.self
     (subst IsWhole (sym made) (subst (λ (x : Directory). IsWhole (deleted c.args.seat.actor c.args.number c.args.note x)) (sym view) c.requires.whole))
-    (ok_of c.make_room.result fine m.more_points) (omega (arith, c.add-point.ensures.room)) c.add-point.ensures.names c.remove_object.ensures.pins (ap origins listed ∙ set_keeps Standing.Superseded object.versions d.versions)
+    (ok_of c.make_room.result fine m.more_points) (omega (arith, c.add-point.ensures.room)) c.add-point.ensures.names c.add-point.ensures.keeps c.remove_object.ensures.pins (ap origins listed ∙ set_keeps Standing.Superseded object.versions d.versions)
     (omega (arith, m.objects_room, c.remove_object.ensures.room))
 
 pub returns-clause-step : goal.returns-clause-step
@@ -72,7 +75,7 @@ returns-clause-step c =
     let view : d ≡ c.args.self.now.core = (ap (λ (s : Sealed). s.core) c.self.view_is) in
     let m = c.make_room.ensures in
     let roomy : Roomy a c.make_room.new.objects c.make_room.new.passes c.make_room.new.history =
-    record { points = m.points; others = m.others; points_room = m.points_room; objects = m.objects; objects_room = m.objects_room; passes = m.passes; stripe = m.stripe }
+    record { points = m.points; others = m.others; points_room = m.points_room; objects = m.objects; objects_room = m.objects_room; passes = m.passes; stripe = m.stripe; keeps = m.keeps }
     in
     let object : Object = object_or_new c.args.note.name d.objects in
     let actor : c.seat.inside.actor ≡ c.args.seat.actor = ap (λ (s : Seat). s.actor) c.seat.view_is in

@@ -2,16 +2,19 @@ use Rattle.std.proofs.Common.{◌≡◌, ℕ, ◌+◌, ◌<◌, List, length, No
 use Rattle.store_map.specs.declared.actor.Actor.{Actor}
 use Rattle.store_core.specs.Told.{Told}
 use Rattle.store_core.specs.Act.{DirectoryStep}
-use Rattle.store_core.specs.Directory.{Standing, Pin, Pass, Directory}
+use Rattle.store_core.specs.Directory.{Standing, Version, Pin, Pass, Directory}
+use Rattle.store_core.specs.Lookups.{is_live}
 use Rattle.store_core.specs.Look.{set_standing}
 use Rattle.store_core.specs.AtDirectory.{at_directory}
 use Rattle.store_core.specs.Agreement.{HeldPass, AgreesWithPass}
 use Rattle.dir_parts.specs.Counts.{unpinned}
 use Rattle.dir_parts.specs.OpenPass.{Open}
+use Rattle.dir_parts.specs.Known.{IsKnown}
 use Rattle.store_contents.proofs.Grows.{origins, set_keeps}
 use Rattle.stripe_dir.specs.Sealed.{Sealed}
 use Rattle.stripe_dir.specs.Kept.{directory_in}
 use Rattle.stripe_dir.specs.declared.directory.Directory.TheInside.{Inside}
+use Rattle.stripe_dir.proofs.KnownVersions.{drawn_known}
 use Rattle.stripe_dir.proofs.Ending.{Taken, taken, taken_said, taken_seat, kept_closed, ended_step, is_there}
 use Rattle.stripe_dir.proofs.directory.Directory.end_live.Goals as goal
 
@@ -39,8 +42,10 @@ supersede_all-requires c =
     taken a c.self.invariant c.args.self.now.core (ap (λ (s : Sealed). s.core) c.self.view_is) c.args.pass c.requires.agrees who (ap (λ (h : HeldPass). h.pass.actor) c.pass.view_is) p c.take-open.new.self
     c.take-open.ensures.found c.take-open.ensures.left c.take-open.ensures.others c.take-open.ensures.stripe
     in
-    subst (λ (n : ℕ). All (λ version. version < n) c.deref-2.result.now) (sym (ap length c.unpin_all.ensures.listed))
-    (subst (λ (numbers : List ℕ). All (λ version. version < length a.versions.listed) numbers) (sym (c.deref-2.ensures.value ∙ ap (λ (o : Open). o.pass.drawn) c.open.view_is)) t.drawn)
+    let live : p.reaped ≡ None = taken_said a c.args.self.now.core c.args.pass who p c.take-open.new.self t (λ (own : Pass). own.reaped ≡ None) c.requires.live in
+    subst (λ (versions : List Version). All (IsKnown versions) c.deref-2.result.now) (sym c.unpin_all.ensures.listed)
+    (subst (λ (numbers : List ℕ). All (IsKnown a.versions.listed) numbers) (sym (c.deref-2.ensures.value ∙ ap (λ (o : Open). o.pass.drawn) c.open.view_is))
+    (drawn_known (directory_in a) c.self.invariant.whole.sound who p t.gone.found (ap is_live live)))
 
 pub invariant_of-self : goal.invariant_of-self
 invariant_of-self c =

@@ -1,5 +1,5 @@
 use Rattle.stripe_dir.specs.Sealed.{Sealed}
-use Rattle.std.proofs.Common.{◌≡◌, ◌⊎◌, ℕ, ◌+◌, ◌<◌, ◌∷◌, ◌++◌, ◌&&◌, List, [], length, map, zip, slice_get, Vec, Global, None, Some, IsTrue, All, Contains, false, ap, sym, subst, ◌∙◌, arith}
+use Rattle.std.proofs.Common.{◌≡◌, ◌⊎◌, ℕ, ◌+◌, ◌<◌, ◌∷◌, ◌++◌, ◌&&◌, List, [], length, map, zip, slice_get, Vec, Global, None, Some, IsTrue, All, Contains, get_or, false, refl, ap, sym, subst, ◌∙◌, arith}
 use Rattle.std.proofs.lemmas.List.{length-map}
 use Rattle.clay_grid.specs.Shape.{stripe_length}
 use Rattle.store_map.specs.declared.actor.Actor.{Actor}
@@ -19,12 +19,14 @@ use Rattle.store_core.specs.Agreement.{HeldPass, AgreesWithPass, ActorToken}
 use Rattle.dir_parts.specs.Counts.{unpinned, one_if, may_append, points_due}
 use Rattle.dir_parts.specs.OpenPass.{Open}
 use Rattle.dir_parts.specs.Parts.{object_or_new}
-use Rattle.dir_parts.proofs.TableSteps.{length-place_all}
+use Rattle.dir_parts.specs.Known.{IsKnown}
+use Rattle.dir_parts.proofs.Known.{known_placed}
 use Rattle.store_contents.proofs.Grows.{origins, set_keeps, place_keeps}
 use Rattle.stripe_dir.specs.Kept.{directory_in}
 use Rattle.stripe_dir.specs.Installed.{installed, dropped, changed_in}
 use Rattle.stripe_dir.specs.declared.directory.Directory.TheInside.{Inside}
 use Rattle.stripe_dir.proofs.Sound.{keeps_whole}
+use Rattle.stripe_dir.proofs.KnownVersions.{stands_known, drawn_known}
 use Rattle.stripe_dir.proofs.Ending.{Taken, taken, taken_said, taken_seat, kept_ended, is_there, it_has, own, sums}
 use Rattle.stripe_dir.proofs.Commits.{commit_step, not_changed, drawn_other, old_current, dropped_has, may_one}
 use Rattle.stripe_dir.proofs.GivenUp.{one_due}
@@ -77,6 +79,21 @@ make_all_current-requires-clause-drawn c =
     let drawn_now : c.deref-2.result.now ≡ p.drawn = c.deref-2.ensures.value ∙ ap (λ (o : Open). o.pass.drawn) c.open.view_is in
     subst (λ (vs : List Version). All (λ n. (n < length vs) × (holds_standing is_superseded_standing (slice_get vs n) ≡ false)) c.deref-2.result.now) (sym c.unpin_all.ensures.listed)
     (subst (λ (ns : List ℕ). All (λ n. (n < length d.versions) × (holds_standing is_superseded_standing (slice_get d.versions n) ≡ false)) ns) (sym drawn_now) (λ k x less. ((alive.drawn k x less).1, drawn_other d _ (alive.drawn k x less))))
+
+pub make_all_current-requires-clause-known : goal.make_all_current-requires-clause-known
+make_all_current-requires-clause-known c =
+    let a : Inside = c.self.inside in
+    let d : Directory = directory_in a in
+    let p : Pass = c.take-open.result.pass in
+    let who : Actor = c.pass.inside.actor in
+    let t : Taken a c.args.self.now.core c.args.pass who p c.take-open.new.self =
+    taken a c.self.invariant c.args.self.now.core (ap (λ (s : Sealed). s.core) c.self.view_is) c.args.pass c.requires.agrees who (ap (λ (h : HeldPass). h.pass.actor) c.pass.view_is) p c.take-open.new.self
+    c.take-open.ensures.found c.take-open.ensures.left c.take-open.ensures.others c.take-open.ensures.stripe
+    in
+    let live : p.reaped ≡ None = taken_said a c.args.self.now.core c.args.pass who p c.take-open.new.self t (λ (own : Pass). own.reaped ≡ None) c.requires.live in
+    let drawn_now : c.deref-2.result.now ≡ p.drawn = c.deref-2.ensures.value ∙ ap (λ (o : Open). o.pass.drawn) c.open.view_is in
+    subst (λ (vs : List Version). All (IsKnown vs) c.deref-2.result.now) (sym c.unpin_all.ensures.listed)
+    (subst (λ (ns : List ℕ). All (IsKnown d.versions) ns) (sym drawn_now) (drawn_known d c.self.invariant.whole.sound who p t.gone.found (ap is_live live)))
 
 pub add-point-requires-clause-room : goal.add-point-requires-clause-room
 add-point-requires-clause-room c =
@@ -140,10 +157,12 @@ supersede_all-requires c =
     let replaced : c.deref-3.result.now ≡ dropped p.note.kind (stripe_length d.shape) p.note p.drawn (object_or_new p.note.name d.objects).versions =
     c.deref-3.ensures.value ∙ c.install-replaced.ensures.replaced ∙ (λ i. dropped (noted i).kind (stripe i) (noted i) (drawn i) (object_or_new (noted i).name d.objects).versions)
     in
-    let size : length c.make_all_current.new.self.listed ≡ length d.versions = ap length placed ∙ length-place_all (zip p.drawn rows) d.versions in
-    subst (λ (ns : List ℕ). All (λ number. number < length c.make_all_current.new.self.listed) ns) (sym replaced)
-    (dropped_has (λ number. number < length c.make_all_current.new.self.listed) p.note.kind (stripe_length d.shape) p.note p.drawn (object_or_new p.note.name d.objects).versions
-    (λ k x less. (let current = old_current d c.self.invariant.whole.sound p.note.name k x less in omega (arith, size, current.1))))
+    subst (λ (ns : List ℕ). All (IsKnown c.make_all_current.new.self.listed) ns) (sym replaced)
+    (dropped_has (IsKnown c.make_all_current.new.self.listed) p.note.kind (stripe_length d.shape) p.note p.drawn (object_or_new p.note.name d.objects).versions
+    (λ k x less.
+    let number : ℕ = get_or (object_or_new p.note.name d.objects).versions k x in
+    subst (λ (vs : List Version). IsKnown vs number) (sym placed)
+    (known_placed (zip p.drawn rows) d.versions number (stands_known d Standing.Current number refl (old_current d c.self.invariant.whole.sound p.note.name k x less)))))
 
 pub invariant_of-self : goal.invariant_of-self
 invariant_of-self c =
@@ -189,7 +208,7 @@ invariant_of-self c =
     kept_ended a c.self.invariant who p c.take-open.new.self t.gone live c.install-replaced.new.objects c.supersede_all.new.self c.add-point.new.self
     (subst IsWhole (sym (ap (λ r. r.0) (commit_step d who p c.take-open.new.self.listed t.gone.found t.gone.left t.gone.perm live still c.args.pass.pass.number rows c.install-replaced.new.objects.objects c.supersede_all.new.self.listed c.add-point.new.self.points objects listed points)))
     (keeps_whole who c.args.pass.pass.number (DirectoryStep.Commit rows) d c.self.invariant.stripes c.self.invariant.whole (p, record { is_pass = t.gone.found; kind = kind }, record { drawn = asked.drawn; rows = asked.rows; whole = asked.whole })))
-    counts (ap origins listed ∙ set_keeps Standing.Superseded (dropped p.note.kind (stripe_length d.shape) p.note p.drawn (object_or_new p.note.name d.objects).versions) (place_all (zip p.drawn rows) d.versions) ∙ place_keeps (zip p.drawn rows) d.versions) c.add-point.ensures.names (omega (arith, c.add-point.ensures.room)) (omega (arith, one, c.install-replaced.ensures.left))
+    counts (ap origins listed ∙ set_keeps Standing.Superseded (dropped p.note.kind (stripe_length d.shape) p.note p.drawn (object_or_new p.note.name d.objects).versions) (place_all (zip p.drawn rows) d.versions) ∙ place_keeps (zip p.drawn rows) d.versions) c.add-point.ensures.names c.add-point.ensures.keeps (omega (arith, c.add-point.ensures.room)) (omega (arith, one, c.install-replaced.ensures.left))
 
 pub returns-clause-step : goal.returns-clause-step
 returns-clause-step c =

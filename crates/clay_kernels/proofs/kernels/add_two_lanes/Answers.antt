@@ -1,0 +1,14 @@
+use Rattle.std.proofs.Common.{arith, ◌+◌, ◌≤◌, length}
+use Rattle.clay_kernels.proofs.ProgressLemmas.{IsAdded-block}
+use Rattle.clay_kernels.proofs.kernels.add_two_lanes.Goals as goal
+
+pub loop-at-preserved : goal.loop-at-preserved
+loop-at-preserved c =
+    let i = c.loop-at.invariant in
+    let at = c.loop-at.at in
+    let src = c.args.src.now in
+    let room : at + 16 ≤ length src = omega (arith, c.loop-at-test.true) in
+    record {
+      a0 = IsAdded-block 16 c.args.start at c.args.d0.now c.loop-at.d0 c.args.p0.now src c.times_lanes-s0.result room i.a0 c.times_lanes-s0.ensures;
+      a1 = IsAdded-block 16 c.args.start at c.args.d1.now c.loop-at.d1 c.args.p1.now src c.times_lanes-s1.result room i.a1 c.times_lanes-s1.ensures;
+    }

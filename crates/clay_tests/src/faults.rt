@@ -1,0 +1,91 @@
+//! Reads and writes that fail, each in turn.
+use crate::counted::CountingCoder;
+use crate::drips::{Failing, NONE, run_in_drips};
+use command_runs::Status;
+use command_runs::runs::fails;
+use command_runs::scripts::{PUT_THEN_GET, TRANSCRIPT};
+use std::sync::Wait;
+use std::test::Fail;
+use std::thread::Threads;
+use text_tables::faults::same;
+
+#[test]
+fn first_call_fails(rt: HostRuntime) -> Result<(), Fail> {
+    assert!(rt; fails(&rt, &[], PUT_THEN_GET, &[0], &[], Status::ReadFault)?);
+    assert!(rt; fails(&rt, &[], PUT_THEN_GET, &[], &[0], Status::WriteFault)?);
+    assert!(rt;
+        fails(
+            &rt,
+            &["playy"],
+            PUT_THEN_GET,
+            &[0],
+            &[0],
+            Status::WriteFault
+        )?
+    );
+    Ok(())
+}
+
+// Plays the script a byte a call, and holds how that ends and what is written against what is wanted.
+fn play<R: Threads + Wait + Sync + AllocGlobal>(
+    rt: &R,
+    failing: Failing<'_>,
+    status: Status,
+    written: &[u8],
+) -> Result<(), Fail> {
+    let ran = run_in_drips(rt, &[], PUT_THEN_GET, failing, &CountingCoder::new())?;
+    if ran.status != status {
+        return Err(Fail::from("another status"));
+    }
+    same(&ran.written, written)
+}
+
+// The read of this number fails.
+fn play_to_read<R: Threads + Wait + Sync + AllocGlobal>(
+    rt: &R,
+    call: u64,
+    status: Status,
+    written: &[u8],
+) -> Result<(), Fail> {
+    let failing = Failing {
+        reads: &[call],
+        writes: &[],
+    };
+    play(rt, failing, status, written)
+}
+
+// The write of this number fails.
+fn play_to_write<R: Threads + Wait + Sync + AllocGlobal>(
+    rt: &R,
+    call: u64,
+    status: Status,
+    written: &[u8],
+) -> Result<(), Fail> {
+    let failing = Failing {
+        reads: &[],
+        writes: &[call],
+    };
+    play(rt, failing, status, written)
+}
+
+#[test]
+fn a_byte_a_call(rt: HostRuntime) -> Result<(), Fail> {
+    play(&rt, NONE, Status::Done, TRANSCRIPT)
+}
+
+// The last read finds the end of the input.
+#[test]
+fn each_read_fails_in_turn(rt: HostRuntime) -> Result<(), Fail> {
+    for call in 0..78 {
+        play_to_read(&rt, call, Status::ReadFault, b"")?;
+    }
+    play_to_read(&rt, 78, Status::Done, TRANSCRIPT)
+}
+
+#[test]
+fn each_write_fails_in_turn(rt: HostRuntime) -> Result<(), Fail> {
+    for call in 0..TRANSCRIPT.len() {
+        play_to_write(&rt, call as u64, Status::WriteFault, &TRANSCRIPT[..call])?;
+    }
+    play_to_write(&rt, 113, Status::Done, TRANSCRIPT)
+}
