@@ -16,16 +16,15 @@ use clay_repair::Coder;
 use std::alloc::{AllocError, Global};
 use std::thread::Threads;
 
-/// The bytes of a stripe that are worth more than one thread.
-const SHARED: u32 = 1 << 20;
+// The bytes of a stripe that are worth more than one thread, as measured: to start threads and to join them took half a millisecond.
+const ENCODED_BY_THREADS: u32 = 1_000_000;
 
-// Whether a call is coded in the thread of its caller alone, since starting others would take longer.
-fn is_small(g: Geometry) -> bool {
-    g.stripe_len() < SHARED
-}
+const RECOVERED_BY_THREADS: u32 = 8_000_000;
 
-/// Codes in as many threads as there are processors where the stripe is large enough, sixteen bytes at a time. Its chunks are those of
-/// `PlainCoder`.
+const REBUILT_BY_THREADS: u32 = 16_000_000;
+
+/// Codes in as many threads as there are processors where the stripe is large enough, else as the fast coder in the thread of its caller.
+/// Its chunks are those of `PlainCoder`.
 #[derive(Clone, Copy, Debug, PartialEq, Eq)]
 pub struct ParCoder;
 
@@ -37,7 +36,7 @@ impl Coder for ParCoder {
         g: Geometry,
         stripe: &[u8],
     ) -> Result<Vec<Vec<u8>>, AllocError> {
-        if is_small(g) {
+        if g.stripe_len() < ENCODED_BY_THREADS {
             LaneCoder.encode(rt, alloc, g, stripe)
         } else {
             encode(rt, alloc, g, stripe)
@@ -51,7 +50,7 @@ impl Coder for ParCoder {
         g: Geometry,
         have: &[Option<Vec<u8>>],
     ) -> Result<Vec<Vec<u8>>, AllocError> {
-        if is_small(g) {
+        if g.stripe_len() < RECOVERED_BY_THREADS {
             LaneCoder.recover(rt, alloc, g, have)
         } else {
             recover(rt, alloc, g, have)
@@ -66,7 +65,7 @@ impl Coder for ParCoder {
         lost: u32,
         parts: &[Option<Vec<u8>>],
     ) -> Result<Vec<u8>, AllocError> {
-        if is_small(g) {
+        if g.stripe_len() < REBUILT_BY_THREADS {
             LaneCoder.rebuild(rt, alloc, g, lost, parts)
         } else {
             rebuild(rt, alloc, g, lost, parts)
@@ -90,7 +89,7 @@ impl ParCoder {
         ensures parity { OnOk result (IsParity g stripe.now chunks.new) }
         ensures kept { OnErr result (chunks.new ≡ chunks.old) }
     {
-        if is_small(g) {
+        if g.stripe_len() < ENCODED_BY_THREADS {
             clay_lanes::parity_into(alloc, g, stripe, chunks)
         } else {
             parity_into(rt, alloc, g, stripe, chunks)
@@ -117,7 +116,7 @@ impl ParCoder {
         ensures filled { OnOk result (AreFilled g have.now chunks.old chunks.new) }
         ensures kept { OnErr result (chunks.new ≡ chunks.old) }
     {
-        if is_small(g) {
+        if g.stripe_len() < RECOVERED_BY_THREADS {
             clay_lanes::missing_into(alloc, g, have, chunks)
         } else {
             missing_into(rt, alloc, g, have, chunks)
@@ -143,7 +142,7 @@ impl ParCoder {
         ensures rebuilt { OnOk result (IsRebuilt g lost parts.now chunk.new) }
         ensures kept { OnErr result (chunk.new ≡ chunk.old) }
     {
-        if is_small(g) {
+        if g.stripe_len() < REBUILT_BY_THREADS {
             clay_lanes::rebuild_into(alloc, g, lost, parts, chunk)
         } else {
             rebuild_into(rt, alloc, g, lost, parts, chunk)

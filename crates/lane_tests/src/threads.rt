@@ -182,7 +182,7 @@ fn coders_agree(rt: HostRuntime) -> Result<(), Fail> {
     Ok(())
 }
 
-// Codes a stripe of a MiB or more, which is shared among threads.
+// Codes a stripe that threads share: all of these are encoded and recovered by several, the longest rebuilt.
 fn check_shared<R: Abort + Threads + Sync>(rt: &R, alloc: Global, g: Geometry) -> Result<(), Fail> {
     let word = word_of(rt, alloc, g)?;
     let most = mixed_loss(rt, g);
@@ -194,17 +194,17 @@ fn check_shared<R: Abort + Threads + Sync>(rt: &R, alloc: Global, g: Geometry) -
 
 #[test]
 fn threads_share_one_range(rt: HostRuntime) -> Result<(), Fail> {
-    check_shared(&rt, rt.alloc(), Geometry::new(16, 4, 64)?)
+    check_shared(&rt, rt.alloc(), Geometry::new(16, 4, 1024)?)
 }
 
 // The last range has three positions.
 #[test]
 fn threads_share_ranges(rt: HostRuntime) -> Result<(), Fail> {
-    check_shared(&rt, rt.alloc(), Geometry::new(8, 4, 2051)?)
+    check_shared(&rt, rt.alloc(), Geometry::new(8, 4, 16383)?)
 }
 
 // Ranges of as many positions as they ever have, and a shorter one.
 #[test]
 fn threads_share_long_ranges(rt: HostRuntime) -> Result<(), Fail> {
-    check_shared(&rt, rt.alloc(), Geometry::new(4, 2, 33000)?)
+    check_shared(&rt, rt.alloc(), Geometry::new(8, 2, 32767)?)
 }
