@@ -7,3 +7,6 @@ mod OneVerdict
 mod SameEntries
 mod OneAnswer
 mod Tried
+mod ServesLemmas
+mod HeardLaws
+mod Printed

@@ -8,3 +8,5 @@ pub mod Verify
 pub mod Top
 pub mod ExitStatus
 pub mod Laws
+pub mod Serves
+pub mod Printed

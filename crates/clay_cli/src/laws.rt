@@ -1,5 +1,8 @@
 //! What the definitions say, as functions that do nothing and whose contracts are the laws.
 
+ghost use Rattle.store_answers.specs.Played.{IsPlayed};
+ghost use Rattle.store_run.specs.Swept.{IsRunToEnd};
+ghost use Rattle.clay_cli.specs.Printed.{PrintedAreLegal};
 ghost use Rattle.std.specs.Prelude.{ℕ};
 ghost use Rattle.clay_grid.specs.Shape.{Shape};
 ghost use Rattle.clay_grid.specs.Limits.{IsGeometry};
@@ -27,4 +30,11 @@ pub fn an_input_has_one_answer()
     ensures recover { (g : Shape) → IsGeometry g → HasOneAnswer (Recover g) }
     ensures chunksd { (a : AloofShape) → IsAloof a → HasOneAnswer (AloofChunks a) }
     ensures repaird { (a : AloofShape) (lost : ℕ) → HasOneAnswer (AloofRepair a lost) }
+{}
+
+/// What `play` or `run` prints for a script, put behind that script, `verify` finds legal, with status 0, and
+/// has no other answer to it.
+pub fn printed_are_legal()
+    ensures play { PrintedAreLegal IsPlayed }
+    ensures run { PrintedAreLegal IsRunToEnd }
 {}
