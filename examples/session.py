@@ -17,7 +17,7 @@ PROGRAM = str(Path(__file__).resolve().parent.parent / 'clay_session')
 MOST_FRAME = 1_048_700
 ENDINGS = {
     1: 'the words ask for no session', 3: 'the requests have more than 167,772,160 bytes', 4: 'a read failed', 5: 'a write failed',
-    6: 'memory was wanting outside a request', 10: 'a length was none that a frame may have', 11: 'the input ended inside a frame',
+    6: 'an allocation failed outside a request', 10: 'a length was none that a frame may have', 11: 'the input ended inside a frame',
     125: 'the program could not be built',
 }
 
@@ -35,10 +35,11 @@ class NoSuch(SessionError): """there is no such object, or no such stripe of it"
 class OutOfRange(SessionError): """the offset is past the object's end"""
 class TooLarge(SessionError): """the object would have more bytes than it may"""
 class BadRequest(SessionError): """the frame is no request"""
-class NoMemory(SessionError): """memory was wanting"""
+class NoMemory(SessionError): """an allocation failed"""
 class Here(SessionError): """the server has its chunk"""
 class NoSnapshot(SessionError): """no snapshot is open"""
 class SnapshotOpen(SessionError): """a snapshot is open already"""
+class NoProgram(SessionError): """the program could not be started"""
 
 
 class Unavailable(SessionError):
@@ -73,6 +74,13 @@ def field(value):
     return value.to_bytes(4, 'big') if isinstance(value, int) else bytes(value)
 
 
+def data_of(value):
+    """What an object's bytes are to be. A str or a number is none: it would be taken for another field of the request."""
+    if not isinstance(value, (bytes, bytearray, memoryview)):
+        raise TypeError(f'an object has bytes, and this is {type(value).__name__}: {value!r:.40}')
+    return bytes(value)
+
+
 def cause_of(kind, fields):
     """The exception for a reply of this kind."""
     if kind == 6:
@@ -89,7 +97,11 @@ class Session:
 
     def __init__(self, k, m, w, most, command=(PROGRAM,)):
         self.servers = k + m
-        self._program = subprocess.Popen([*command, *map(str, (k, m, w, most))], stdin=subprocess.PIPE, stdout=subprocess.PIPE)
+        words = [*command, *map(str, (k, m, w, most))]
+        try:
+            self._program = subprocess.Popen(words, stdin=subprocess.PIPE, stdout=subprocess.PIPE)
+        except OSError as fault:
+            raise NoProgram(f'{words[0]}: {fault.strerror}') from None
 
     def __enter__(self):
         return self
@@ -128,7 +140,7 @@ class Session:
         return reply
 
     def put(self, name, data):
-        self._ask(1, 0, name, data)
+        self._ask(1, 0, name, data_of(data))
 
     def get(self, name):
         return self._ask(2, 1, name).read()
@@ -137,7 +149,7 @@ class Session:
         return self._ask(3, 1, name, offset, length).read()
 
     def write(self, name, offset, data):
-        self._ask(4, 0, name, offset, data)
+        self._ask(4, 0, name, offset, data_of(data))
 
     def stat(self, name):
         return number(self._ask(5, 2, name), 8)
@@ -195,4 +207,7 @@ def main():
 
 
 if __name__ == '__main__':
-    main()
+    try:
+        main()
+    except SessionError as cause:
+        sys.exit(f'session.py: {cause}')

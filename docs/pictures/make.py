@@ -61,8 +61,18 @@ CARD, EDGE, INK, GREY, PALE = '#ffffff', '#8c959f', '#1f2328', '#57606a', '#eaee
 BLUE, LIGHT_BLUE, RED, LIGHT_RED, YELLOW = '#0550ae', '#9ec9ff', '#a40e26', '#ffc1ba', '#fff1b8'
 
 
+# How wide letters are in DejaVu Sans, the widest of the usual fonts, in parts of the size; bold ones are a ninth wider.
+NARROW, WIDE = dict.fromkeys("ijl.,:;'|· ", 0.34) | dict.fromkeys('frt()/-*', 0.46), dict.fromkeys('mwM+=W', 0.9) | dict.fromkeys('ABCDEFGHKLNOPRSTUVXYZ', 0.72)
+
+
+def widest(words, size, weight):
+    """How wide words may come to be in whatever font they are shown."""
+    return sum((NARROW | WIDE).get(letter, 0.64) for letter in words) * size * (1.12 if weight == 'bold' else 1)
+
+
 class Picture:
     def __init__(self, width, height, title):
+        self.width = width
         self.parts = [
             f'<svg xmlns="http://www.w3.org/2000/svg" viewBox="0 0 {width} {height}" width="{width}" height="{height}"'
             ' font-family="Helvetica, Arial, sans-serif" role="img">',
@@ -75,6 +85,10 @@ class Picture:
         self.parts.append(f'<rect x="{x}" y="{y}" width="{width}" height="{height}" rx="{corner}" fill="{fill}" stroke="{edge}" stroke-width="{line}"/>')
 
     def text(self, x, y, words, size=14, anchor='start', fill=INK, weight='normal'):
+        """Words that stay within the frame: set smaller where they might not."""
+        room = {'start': self.width - x, 'end': x, 'middle': 2 * min(x, self.width - x)}[anchor] - 10
+        wide = widest(words, size, weight)
+        size = size if wide <= room else int(size * room / wide * 10) / 10
         self.parts.append(f'<text x="{x}" y="{y}" font-size="{size}" text-anchor="{anchor}" fill="{fill}" font-weight="{weight}">{words}</text>')
 
     def path(self, way, edge, line):
