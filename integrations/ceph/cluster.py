@@ -1,0 +1,314 @@
+"""A small Ceph cluster of its own for `try` and `check`: a monitor, a manager and osds over sparse files, on loopback, without authentication.
+
+Each daemon is a child of this process, is ended by its process id, and is killed by the kernel where this process dies. The folder with all
+that they write goes at the end. Needs Debian's Ceph 16.2 and python3-rados."""
+import json
+import os
+import pathlib
+import shutil
+import signal
+import socket
+import subprocess
+import tempfile
+import time
+import uuid
+
+try:
+    import rados
+except ImportError:  # expect_packages tells it
+    rados = None
+
+from common import Failed, link_plugins, run
+
+CONFIGURATION = """
+[global]
+fsid = {fsid}
+mon_host = [v2:127.0.0.1:{port}]
+mon_initial_members = a
+public_addr = 127.0.0.1
+cluster_addr = 127.0.0.1
+auth_cluster_required = none
+auth_service_required = none
+auth_client_required = none
+erasure_code_dir = {folder}/plugins
+run_dir = {folder}/run
+admin_socket = {folder}/run/$name.asok
+pid_file =
+log_file = {folder}/log/$name.log
+crash_dir = {folder}/run
+mon_cluster_log_file = {folder}/log/cluster.log
+mon_data_avail_crit = 1
+mon_data_avail_warn = 2
+mon_allow_pool_delete = true
+mon_max_pg_per_osd = 1000
+osd_pool_default_size = 2
+osd_pool_default_min_size = 1
+osd_pool_default_pg_autoscale_mode = off
+osd_crush_chooseleaf_type = 0
+[client]
+admin_socket =
+log_file =
+rados_osd_op_timeout = 120
+rados_mon_op_timeout = 60
+[osd]
+osd_objectstore = bluestore
+bluestore_block_size = 4294967296
+bluestore_block_db_create = false
+bluestore_block_wal_create = false
+bluestore_cache_autotune = false
+bluestore_cache_size = 67108864
+osd_memory_target = 939524096
+osd_op_num_shards = 2
+osd_op_num_threads_per_shard = 1
+osd_fast_shutdown_notify_mon = true
+osd_heartbeat_interval = 1
+osd_max_backfills = 2
+osd_recovery_max_active = 4
+osd_recovery_sleep = 0
+osd_recovery_sleep_hdd = 0
+osd_max_scrubs = 4
+osd_scrub_backoff_ratio = 0
+osd_scrub_min_interval = 10000000
+osd_scrub_max_interval = 10000000
+osd_deep_scrub_interval = 10000000
+[mgr]
+mgr_data = {folder}/mgr
+mgr_initial_modules =
+[mon]
+mon_data = {folder}/mon
+"""
+
+
+class Cluster:
+    """Use it by `with`. `plugin` is a libec_hijpswol.so, which is put beside Ceph's own plugins."""
+
+    def __init__(self, plugin, osds):
+        self.plugin, self.count = pathlib.Path(plugin), osds
+        self.daemons = {}
+        self.rados = None
+        self.folder = None
+
+    def __enter__(self):
+        self.folder = pathlib.Path(tempfile.mkdtemp(prefix="ceph-", dir=os.environ.get("TMPDIR", "/var/tmp")))
+        try:
+            self.configure()
+            self.start_monitor()
+            self.make(*range(self.count))
+            self.command("osd set", key="noout")
+        except BaseException:
+            self.end()
+            raise
+        return self
+
+    def __exit__(self, kind, *_):
+        if kind and kind is not Failed:
+            self.show_logs()
+        self.end()
+
+    def configure(self):
+        self.conf = self.folder / "ceph.conf"
+        for name in ("log", "run", "mon", "mgr", "plugins"):
+            (self.folder / name).mkdir()
+        link_plugins(self.folder / "plugins", self.plugin)
+        with socket.socket() as free:
+            free.bind(("127.0.0.1", 0))
+            self.port = free.getsockname()[1]
+        self.fsid = str(uuid.uuid4())
+        self.conf.write_text(CONFIGURATION.format(fsid=self.fsid, port=self.port, folder=self.folder))
+
+    def start_monitor(self):
+        address, monmap = f"[v2:127.0.0.1:{self.port}]", self.folder / "monmap"
+        run("monmaptool", "--create", "--addv", "a", address, "--fsid", self.fsid, monmap)
+        run("ceph-mon", "-c", self.conf, "-i", "a", "--mkfs", "--monmap", monmap)
+        self.begin("mon.a", "ceph-mon", "-f", "-c", self.conf, "-i", "a")
+        self.rados = rados.Rados(conffile=str(self.conf))
+        self.rados.connect(timeout=60)
+        self.begin("mgr.x", "ceph-mgr", "-f", "-c", self.conf, "-i", "x")
+
+    # ---- Daemons
+
+    def begin(self, name, *words):
+        log = open(self.folder / "log" / f"{name}.out", "ab")
+        # the kernel kills the daemon where this process is gone, and Ctrl-C reaches this process alone
+        command = ["setpriv", "--pdeathsig", "KILL", "nice", "-n", "10", *words]
+        self.daemons[name] = subprocess.Popen(command, stdin=subprocess.DEVNULL, stdout=log, stderr=log, start_new_session=True)
+        log.close()
+
+    def start(self, *osds):
+        for osd in osds:
+            self.begin(f"osd.{osd}", "ceph-osd", "-f", "-c", self.conf, "-i", str(osd), "--osd-data", self.data_of(osd))
+        self.wait(lambda: set(osds) <= self.up(), f"start of osds {osds}")
+
+    def stop(self, *osds):
+        for osd in osds:
+            self.daemons[f"osd.{osd}"].terminate()
+        for osd in osds:
+            self.daemons.pop(f"osd.{osd}").wait(60)
+        self.wait(lambda: not set(osds) & self.up(), f"stop of osds {osds}")
+
+    def make(self, *osds):
+        """Makes osds and starts them: without data where they were there."""
+        for osd in osds:
+            data, new = self.data_of(osd), str(uuid.uuid4())
+            if data.exists():
+                shutil.rmtree(data)
+                self.command("osd destroy-actual", id=osd, yes_i_really_mean_it=True)
+            data.mkdir()
+            self.command("osd new", uuid=new, id=osd)
+            run("ceph-osd", "-c", self.conf, "-i", str(osd), "--mkfs", "--osd-uuid", new, "--osd-data", data)
+        self.start(*osds)
+
+    def data_of(self, osd):
+        return self.folder / f"osd{osd}"
+
+    def end(self):
+        """Ends all daemons, osds first, and takes the folder away."""
+        for number in (signal.SIGTERM, signal.SIGHUP, signal.SIGINT, signal.SIGALRM):
+            signal.signal(number, signal.SIG_IGN)
+        if self.rados:
+            self.rados.shutdown()
+        daemons = [self.daemons[name] for name in sorted(self.daemons, reverse=True)]
+        for daemon in daemons:
+            daemon.terminate()
+        for daemon in daemons:
+            try:
+                daemon.wait(10)
+            except subprocess.TimeoutExpired:
+                daemon.kill()
+                daemon.wait()
+        shutil.rmtree(self.folder)
+
+    def show_logs(self):
+        for name, daemon in self.daemons.items():
+            if daemon.poll() is not None:
+                log = (self.folder / "log" / f"{name}.out").read_text(errors="replace")
+                print(f"{name} ended with {daemon.returncode}: {log[-1000:]}")
+
+    # ---- Commands
+
+    def command(self, prefix, **arguments):
+        return self.answer(self.rados.mon_command, prefix, arguments)
+
+    def manage(self, prefix, **arguments):
+        return self.answer(self.rados.mgr_command, prefix, arguments)
+
+    def ask(self, osd, prefix, **arguments):
+        return self.answer(lambda *words: self.rados.osd_command(osd, *words), prefix, arguments)
+
+    @staticmethod
+    def answer(send, prefix, arguments):
+        text = json.dumps({"prefix": prefix, "format": "json", **arguments})
+        status, output, error = send(text, b"", 60)
+        if status:
+            raise Failed(f"{text}: {status} {error}")
+        try:
+            return json.loads(output) if output else None
+        except ValueError:
+            return output
+
+    def wait(self, holds, what, seconds=240):
+        end = time.monotonic() + seconds
+        while not holds():
+            dead = [name for name, daemon in self.daemons.items() if daemon.poll() is not None]
+            if dead:
+                raise Failed(f"while waiting for {what}: {', '.join(dead)} ended")
+            if time.monotonic() > end:
+                raise Failed(f"no {what} in {seconds} s")
+            time.sleep(0.2)
+
+    def map(self):
+        return self.command("osd dump")
+
+    def up(self):
+        return {osd["osd"] for osd in self.map()["osds"] if osd["up"]}
+
+
+class Pool:
+    """A pool of an erasure code profile, and what it should hold. Each read is compared with that, byte by byte."""
+
+    def __init__(self, cluster, name, profile, overwrites=False, groups=8):
+        self.cluster, self.name, self.groups = cluster, name, groups
+        self.k, self.m = profile["k"], profile["m"]
+        self.objects = {}
+        words = [f"{key}={value}" for key, value in profile.items()] + ["crush-failure-domain=osd"]
+        cluster.command("osd erasure-code-profile set", name=name, profile=words)
+        cluster.command("osd pool create", pool=name, pg_num=groups, pool_type="erasure", erasure_code_profile=name)
+        # by default writes stop one osd earlier than they must
+        cluster.command("osd pool set", pool=name, var="min_size", val=str(self.k))
+        if overwrites:
+            cluster.command("osd pool set", pool=name, var="allow_ec_overwrites", val="true")
+        told = next(pool for pool in cluster.map()["pools"] if pool["pool_name"] == name)
+        self.number, self.stripe_width = told["pool"], told["stripe_width"]
+        self.wait_clean("a new pool")
+        self.context = cluster.rados.open_ioctx(name)
+
+    def delete(self):
+        self.context.close()
+        self.cluster.command("osd pool delete", pool=self.name, pool2=self.name, yes_i_really_really_mean_it=True)
+
+    # ---- Objects
+
+    def put(self, name, data):
+        self.context.write_full(name, bytes(data))
+        self.objects[name] = bytearray(data)
+
+    def write(self, name, data, at):
+        self.context.write(name, data, at)
+        self.objects[name][at:at + len(data)] = data
+
+    def check(self, what):
+        """Reads each object whole; the bytes that were compared."""
+        for name, wanted in self.objects.items():
+            got = self.context.read(name, len(wanted) + 100)
+            if got != bytes(wanted):
+                raise Failed(f"{self.name}, {what}: {name} is wrong, {len(got)} bytes for {len(wanted)}")
+        return sum(map(len, self.objects.values()))
+
+    def chunks_len(self):
+        """The bytes of all objects' chunks on one osd."""
+        chunk = self.stripe_width // self.k
+        return sum(-(-len(data) // self.stripe_width) * chunk for data in self.objects.values())
+
+    # ---- Placement groups, as their osds tell; the manager's figures are seconds old
+
+    def states(self):
+        """The state of each group. One whose osd hasn't seen the newest map has none."""
+        epoch = self.cluster.map()["epoch"]
+        self.cluster.rados.wait_for_latest_osdmap()  # a query goes to the osd that leads the group in this process's map
+        for group in range(self.groups):
+            pgid = f"{self.number}.{group:x}"
+            query = json.dumps({"prefix": "query", "pgid": pgid, "format": "json"})
+            status, output, _ = self.cluster.rados.pg_command(pgid, query, b"", 20)
+            told = json.loads(output) if status == 0 else {}
+            yield told["state"] if told.get("epoch", 0) >= epoch else "", told
+
+    def wait_active(self, what):
+        self.cluster.wait(lambda: all(state.startswith("active") for state, _ in self.states()), f"active pool after {what}")
+
+    def wait_settled(self, what):
+        """Until nothing recovers but what a stopped osd lacks."""
+        works = ("recover", "backfill", "peering")
+        self.cluster.wait(lambda: all(state.startswith("active") and not any(word in state for word in works) for state, _ in self.states()),
+                          f"settled pool after {what}")
+
+    def wait_clean(self, what):
+        self.cluster.wait(lambda: all(state.startswith("active+clean") for state, _ in self.states()), f"clean pool after {what}")
+
+    def scrub(self, command="pg deep-scrub", groups=None):
+        """Has groups scrubbed, all where none are named; those of the pool that are inconsistent then."""
+        stamps = {told["info"]["pgid"]: self.stamp(told) for _, told in self.states()}
+        groups = groups or list(stamps)
+        for pgid in groups:
+            self.cluster.manage(command, pgid=pgid)
+        is_done = lambda state, told: (state.startswith("active+clean") and "scrubbing" not in state and "repair" not in state and
+                                       (told["info"]["pgid"] not in groups or self.stamp(told) != stamps[told["info"]["pgid"]]))
+        self.cluster.wait(lambda: all(is_done(state, told) for state, told in self.states()), command)
+        return [told["info"]["pgid"] for state, told in self.states() if "inconsistent" in state]
+
+    def mend(self, pgid):
+        """Has a group's wrong chunks made anew from the others."""
+        self.scrub("pg repair", [pgid])
+
+    @staticmethod
+    def stamp(told):
+        return told["info"]["stats"]["last_deep_scrub_stamp"]

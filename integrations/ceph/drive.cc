@@ -1,0 +1,519 @@
+// Calls erasure code plugins as an osd does, in one process. `check` and `speed` build it.
+//   drive losses PLUGINS K M UNIT [EACH]      each set of up to M + 1 lost chunks, or each EACHth
+//   drive refusals PLUGINS                    profiles that are refused, by their causes
+//   drive failures PLUGINS                    calls of the library that fail (failing_library.cc), and memory that is short
+//   drive speed PLUGINS K M UNIT PLUGIN..     encoding, decoding and repair, by alternating slices of time
+// PLUGINS is a folder of libec_*.so, UNIT a chunk's length. Ends with 1 and a line where something isn't as it should be.
+#include <algorithm>
+#include <cstdio>
+#include <cstdlib>
+#include <cstring>
+#include <ctime>
+#include <functional>
+#include <iostream>
+#include <random>
+#include <sstream>
+#include <dlfcn.h>
+#include <malloc.h>
+#include <sys/resource.h>
+
+#include "erasure_code.h"
+#include <rados/librados.h>
+
+using ceph::bufferlist;
+using ceph::Chunks;
+using ceph::ErasureCodeProfile;
+using ceph::SubChunks;
+using std::set;
+using std::string;
+using std::vector;
+using Code = ceph::ErasureCodeInterfaceRef;
+
+[[noreturn]] static void end_with(const string &message) {
+  std::cerr << "drive: " << message << std::endl;
+  _Exit(1);
+}
+
+static void expect(bool holds, const string &what) {
+  if (!holds) end_with(what);
+}
+
+static void expect_same(const bufferlist &got, const bufferlist &wanted, const string &what) {
+  expect(got.contents_equal(wanted), what + ": the bytes are wrong");
+}
+
+// ---- The registry, which stands in for that of an osd
+
+namespace ceph {
+
+ErasureCodePluginRegistry ErasureCodePluginRegistry::singleton;
+static std::map<string, ErasureCodePlugin *> plugins;
+
+int ErasureCodePluginRegistry::add(const string &name, ErasureCodePlugin *plugin) { return plugins.emplace(name, plugin).second ? 0 : -EEXIST; }
+
+static void load(const string &name, const string &directory) {
+  string path = directory + "/libec_" + name + ".so", own_name = name, own_directory = directory;
+  void *library = dlopen(path.c_str(), RTLD_NOW);
+  if (!library) end_with(path + ": " + dlerror());
+  auto start = reinterpret_cast<int (*)(char *, char *)>(dlsym(library, "__erasure_code_init"));
+  expect(start && start(own_name.data(), own_directory.data()) == 0, path + " can't be started");
+}
+
+int ErasureCodePluginRegistry::factory(const string &name, const string &directory, ErasureCodeProfile &profile, ErasureCodeInterfaceRef *code,
+                                       std::ostream *why) {
+  if (!plugins.count(name)) load(name, directory);
+  int error = plugins.at(name)->factory(directory, profile, code, why);
+  if (!error) expect((*code)->get_profile() == profile, "the profile of " + name + " isn't the one that was told back"); // an osd refuses such
+  return error;
+}
+
+// Ceph's own plugins write their log by it.
+namespace common {
+class CephContext;
+}
+namespace global {
+extern common::CephContext *g_ceph_context;
+}
+
+} // namespace ceph
+
+static int make(ErasureCodeProfile profile, const string &directory, Code *code, string *cause) {
+  std::ostringstream why;
+  int error = ceph::ErasureCodePluginRegistry::singleton.factory(profile.at("plugin"), directory, profile, code, &why);
+  *cause = why.str();
+  return error;
+}
+
+static Code code_of(const string &plugin, const string &directory, int k, int m) {
+  ErasureCodeProfile profile = {{"plugin", plugin}, {"k", std::to_string(k)}, {"m", std::to_string(m)}};
+  if (plugin == "jerasure" || plugin == "isa") profile["technique"] = "reed_sol_van";
+  if (plugin == "clay") profile["scalar_mds"] = "isa";
+  Code code;
+  string cause;
+  int error = make(profile, directory, &code, &cause);
+  expect(error == 0 && code, plugin + ": " + cause);
+  return code;
+}
+
+// ---- Chunks
+
+static ceph::bufferptr room(size_t len, char fill) {
+  ceph::bufferptr buffer(ceph::buffer::create_aligned(len, 4096));
+  memset(buffer.c_str(), fill, len);
+  return buffer;
+}
+
+static bufferlist random_list(size_t len, int pieces, unsigned seed) {
+  std::mt19937 random(seed);
+  bufferlist list;
+  for (int i = 0; i < pieces; i++) {
+    size_t from = len * i / pieces, to = len * (i + 1) / pieces;
+    ceph::bufferptr piece = room(to - from, 0);
+    for (size_t at = 0; at < to - from; at++) piece.c_str()[at] = random();
+    list.append(piece);
+  }
+  return list;
+}
+
+static set<int> first(int count) {
+  set<int> numbers;
+  for (int i = 0; i < count; i++) numbers.insert(i);
+  return numbers;
+}
+
+static set<int> without(const set<int> &numbers, const set<int> &others) {
+  set<int> left;
+  std::set_difference(numbers.begin(), numbers.end(), others.begin(), others.end(), std::inserter(left, left.end()));
+  return left;
+}
+
+static Chunks only(const Chunks &chunks, const set<int> &numbers) {
+  Chunks some;
+  for (int chunk : numbers) some[chunk] = chunks.at(chunk);
+  return some;
+}
+
+// What a plan reads of the chunks, cut as an osd cuts it (ECBackend::handle_sub_read).
+static Chunks parts_of(const Chunks &chunks, const SubChunks &plan, unsigned subchunk_len) {
+  Chunks parts;
+  for (auto &[chunk, runs] : plan)
+    for (auto &[begin, count] : runs) {
+      bufferlist piece;
+      piece.substr_of(chunks.at(chunk), begin * subchunk_len, count * subchunk_len);
+      parts[chunk].claim_append(piece);
+    }
+  return parts;
+}
+
+static vector<set<int>> sets_of(int n, int most) {
+  vector<set<int>> sets;
+  for (unsigned bits = 1; bits < 1u << n; bits++) {
+    if (__builtin_popcount(bits) > most) continue;
+    set<int> some;
+    for (int i = 0; i < n; i++)
+      if (bits >> i & 1) some.insert(i);
+    sets.push_back(some);
+  }
+  return sets;
+}
+
+// ---- Losses
+
+// A stripe with its chunks.
+struct Stripe {
+  Code code;
+  int k, m, n, layers;
+  unsigned chunk_len;
+  set<int> all;
+  bufferlist in;
+  Chunks chunks;
+
+  Stripe(Code code, unsigned unit, int pieces)
+      : code(code), k(code->get_data_chunk_count()), m(code->get_coding_chunk_count()), n(k + m), layers(code->get_sub_chunk_count()),
+        chunk_len(code->get_chunk_size(unit * k)), all(first(n)), in(random_list(size_t(chunk_len) * k, pieces, pieces)) {
+    expect(code->encode(all, in, &chunks) == 0 && numbers(chunks) == all, "encode");
+  }
+
+  static set<int> numbers(const Chunks &chunks) {
+    set<int> all;
+    for (auto &[chunk, list] : chunks) all.insert(chunk);
+    return all;
+  }
+
+  // All chunks in buffers of their own; those of `scribbled` have other bytes.
+  Chunks places(const set<int> &scribbled) const {
+    Chunks places;
+    for (int chunk : all) {
+      ceph::bufferptr own = room(chunk_len, 7);
+      if (!scribbled.count(chunk)) chunks.at(chunk).begin().copy(chunk_len, own.c_str());
+      places[chunk].append(own);
+    }
+    return places;
+  }
+};
+
+static void check_all(const Stripe &s, const Chunks &got, const string &what) {
+  expect(Stripe::numbers(got) == s.all, what + ": other chunks");
+  for (int chunk : s.all) expect_same(got.at(chunk), s.chunks.at(chunk), what + " of chunk " + std::to_string(chunk));
+}
+
+static void check_encoding(const Stripe &s) {
+  bufferlist whole;
+  for (int chunk = 0; chunk < s.k; chunk++) whole.append(s.chunks.at(chunk));
+  expect_same(whole, s.in, "data chunks");
+  Chunks some;
+  expect(s.code->encode({0, s.n - 1}, s.in, &some) == 0 && Stripe::numbers(some) == set<int>{0, s.n - 1}, "encode of two chunks");
+  expect_same(some.at(s.n - 1), s.chunks.at(s.n - 1), "encode of two chunks");
+  Chunks places = s.places(without(s.all, first(s.k)));
+  expect(s.code->encode_chunks(s.all, &places) == 0, "encode_chunks");
+  check_all(s, places, "encode_chunks");
+}
+
+static SubChunks plan_of(const Stripe &s, const set<int> &want, const set<int> &available, int wanted_status) {
+  SubChunks plan;
+  std::map<int, int> costs;
+  for (int chunk : available) costs[chunk] = chunk;
+  set<int> least, read;
+  int status = s.code->minimum_to_decode(want, available, &plan);
+  expect(status == wanted_status, "minimum_to_decode ends with " + std::to_string(status));
+  expect(s.code->minimum_to_decode_with_cost(want, costs, &least) == wanted_status, "minimum_to_decode_with_cost");
+  for (auto &[chunk, runs] : plan) read.insert(chunk);
+  expect(read == least, "minimum_to_decode_with_cost has other chunks");
+  return plan;
+}
+
+// The subchunks that a plan reads: of each other chunk one in m where one chunk alone is lost, else k whole chunks.
+static void check_plan(const Stripe &s, const set<int> &lost, const SubChunks &plan) {
+  bool is_repair = lost.size() == 1;
+  int read = 0;
+  for (auto &[chunk, runs] : plan)
+    for (auto &[begin, count] : runs) read += count;
+  expect(plan.size() == unsigned(is_repair ? s.n - 1 : s.k), "a plan of other chunks");
+  expect(read == (is_repair ? (s.n - 1) * s.layers / s.m : s.k * s.layers), "a plan of other subchunks");
+}
+
+static void check_loss(const Stripe &s, const set<int> &lost) {
+  set<int> left = without(s.all, lost);
+  SubChunks plan = plan_of(s, lost, left, 0);
+  check_plan(s, lost, plan);
+  Chunks made, every, given = only(s.chunks, left), places = s.places(lost);
+  expect(s.code->decode(lost, parts_of(s.chunks, plan, s.chunk_len / s.layers), &made, s.chunk_len) == 0, "decode by plan");
+  expect(Stripe::numbers(made) == lost, "decode by plan: other chunks");
+  for (int chunk : lost) expect_same(made.at(chunk), s.chunks.at(chunk), "decode by plan");
+  expect(s.code->decode(s.all, given, &every, 0) == 0, "decode");
+  check_all(s, every, "decode");
+  bufferlist data;
+  expect(s.code->decode_concat(given, &data) == 0, "decode_concat");
+  expect_same(data, s.in, "decode_concat");
+  expect(s.code->decode_chunks(lost, given, &places) == 0, "decode_chunks");
+  check_all(s, places, "decode_chunks");
+}
+
+// One chunk is wanted of several that are lost: whole chunks are read, since helpers are away.
+static void check_one_of(const Stripe &s, const set<int> &lost) {
+  int wanted = *lost.rbegin();
+  SubChunks plan = plan_of(s, {wanted}, without(s.all, lost), 0);
+  expect(plan.size() == unsigned(s.k), "a plan for one of several");
+  Chunks made;
+  expect(s.code->decode({wanted}, parts_of(s.chunks, plan, s.chunk_len / s.layers), &made, s.chunk_len) == 0, "decode of one of several");
+  expect_same(made.at(wanted), s.chunks.at(wanted), "decode of one of several");
+}
+
+static void check_too_many(const Stripe &s, const set<int> &lost) {
+  Chunks made, given = only(s.chunks, without(s.all, lost)), places = s.places(lost), before = s.places(lost);
+  plan_of(s, lost, without(s.all, lost), -EIO);
+  bufferlist data;
+  expect(s.code->decode(lost, given, &made, s.chunk_len) == -EIO && made.empty(), "decode of too few");
+  expect(s.code->decode_chunks(lost, given, &places) == -EIO, "decode_chunks of too few");
+  for (int chunk : s.all) expect_same(places.at(chunk), before.at(chunk), "decode_chunks of too few");
+  bool has_data = *lost.begin() >= s.k;
+  expect(s.code->decode_concat(given, &data) == (has_data ? 0 : -EIO) && (has_data || data.length() == 0), "decode_concat of too few");
+}
+
+// Parts that aren't those of a plan: fewer, uneven, shorter, or beside whole chunks.
+static void check_wrong_parts(const Stripe &s) {
+  SubChunks plan = plan_of(s, {0}, without(s.all, {0}), 0);
+  const Chunks parts = parts_of(s.chunks, plan, s.chunk_len / s.layers);
+  vector<Chunks> wrong(4, parts);
+  wrong[0].erase(s.n - 1);
+  wrong[1].at(1).append("x", 1);
+  wrong[2].at(1) = s.chunks.at(1);
+  for (auto &[chunk, list] : wrong[3]) list.splice(0, s.chunk_len / s.layers);
+  for (size_t i = 0; i < wrong.size(); i++) {
+    Chunks made;
+    expect(s.code->decode({0}, wrong[i], &made, s.chunk_len) == -EINVAL && made.empty(), "wrong parts " + std::to_string(i));
+  }
+  Chunks made;
+  expect(s.code->decode({0, 1}, only(parts, without(s.all, {0, 1})), &made, s.chunk_len) == -EINVAL && made.empty(), "parts for two");
+  expect(s.code->decode({1}, parts, &made, s.chunk_len) == -EINVAL && made.empty(), "a part that is there");
+}
+
+static void check_wrong_calls(const Stripe &s) {
+  SubChunks plan;
+  Chunks made, uneven = only(s.chunks, without(s.all, {0})), few = only(s.chunks, {0, 1});
+  expect(s.code->minimum_to_decode({s.n}, s.all, &plan) == -EINVAL && s.code->minimum_to_decode({-1}, s.all, &plan) == -EINVAL, "no such chunk");
+  expect(s.code->minimum_to_decode({0}, {1, s.n}, &plan) == -EINVAL && plan.empty(), "no such chunk is there");
+  expect(s.code->encode({s.n}, s.in, &made) == -EINVAL, "encode of no such chunk");
+  expect(s.code->encode(s.all, bufferlist(), &made) == -EINVAL, "encode of nothing");
+  expect(s.code->decode({s.n}, s.chunks, &made, s.chunk_len) == -EINVAL, "decode of no such chunk");
+  expect(s.code->decode({0}, {}, &made, s.chunk_len) == -EIO, "decode of no chunks");
+  uneven.at(1).append("x", 1);
+  expect(s.code->decode({0}, uneven, &made, 0) == -EINVAL, "decode of uneven chunks");
+  expect(s.code->encode_chunks(s.all, &few) == -EINVAL && s.code->decode_chunks({}, few, &few) == -EINVAL, "chunks without a place");
+  expect(made.empty(), "a call that failed made something");
+  expect(s.code->minimum_to_decode({0}, s.all, &plan) == 0 && plan == SubChunks{{0, {{0, s.layers}}}}, "a chunk that is there");
+}
+
+static void check_odd_length(const Stripe &s, unsigned len) {
+  bufferlist in = random_list(len, len > 2 ? 2 : 1, len), back, front;
+  Chunks chunks;
+  expect(s.code->encode(s.all, in, &chunks) == 0, "encode of an odd length");
+  expect(chunks.at(0).length() == s.code->get_chunk_size(len), "chunks of an odd length");
+  expect(s.code->decode_concat(only(chunks, without(s.all, {0, s.n - 1})), &back) == 0 && back.length() >= len, "decode of an odd length");
+  front.substr_of(back, 0, len);
+  expect_same(front, in, "an odd length");
+  for (unsigned at = len; at < back.length(); at++) expect(back[at] == 0, "the padding isn't zeros");
+}
+
+static void losses(const string &directory, int k, int m, unsigned unit, size_t each) {
+  Code code = code_of("hijpswol", directory, k, m);
+  expect(code->get_chunk_count() == unsigned(k + m) && code->get_data_chunk_count() == unsigned(k), "counts");
+  expect(code->get_coding_chunk_count() == unsigned(m) && code->get_chunk_mapping().empty(), "counts");
+  int decoded = 0, refused = 0;
+  vector<set<int>> sets = sets_of(k + m, m + 1);
+  for (int pieces : {1, 3, k}) {
+    Stripe s(code, unit, pieces);
+    check_encoding(s);
+    check_wrong_parts(s);
+    check_wrong_calls(s);
+    for (size_t i = 0; i < sets.size(); i += each) {
+      bool is_much = sets[i].size() > unsigned(m);
+      is_much ? check_too_many(s, sets[i]) : check_loss(s, sets[i]);
+      if (!is_much && sets[i].size() > 1) check_one_of(s, sets[i]);
+      (is_much ? refused : decoded)++;
+    }
+  }
+  Stripe s(code, unit, 1);
+  for (unsigned len : {1u, 17u, s.chunk_len * k - 1, s.chunk_len * k + 1}) check_odd_length(s, len);
+  printf("%d+%d, chunks of %u bytes, %d subchunks: %d sets of lost chunks decoded, %d refused, of an input in 1, 3 and %d pieces\n", k, m, s.chunk_len,
+         s.layers, decoded / 3, refused / 3, k);
+}
+
+// ---- Refusals and failures
+
+static void refusals(const string &directory) {
+  struct Refusal {
+    ErasureCodeProfile profile;
+    string cause;
+  };
+  const vector<Refusal> all = {
+      {{{"k", "1"}}, "k=1, and 2 is the least"},
+      {{{"k", "0"}}, "k=0, and 2 is the least"},
+      {{{"m", "1"}}, "m=1, and 2 to 8 are possible"},
+      {{{"m", "9"}}, "m=9, and 2 to 8 are possible"},
+      {{{"k", "four"}}, "k=four isn't a number of at most four digits"},
+      {{{"k", "-4"}}, "k=-4 isn't a number of at most four digits"},
+      {{{"m", "10000"}}, "m=10000 isn't a number of at most four digits"},
+      {{{"d", "5x"}}, "d=5x isn't a number of at most four digits"},
+      {{{"k", "20"}, {"m", "4"}}, "k=20 with m=4 makes more than 1024 subchunks"},
+      {{{"k", "9999"}}, "k=9999 with m=2 makes more than 1024 subchunks"},
+      {{{"k", "8"}, {"m", "4"}, {"d", "10"}}, "d=10 is fewer helpers than k+m-1=11: the library doesn't recover such a code yet"},
+      {{{"k", "8"}, {"m", "4"}, {"d", "9"}}, "d=9 is fewer helpers than k+m-1=11: the library doesn't recover such a code yet"},
+      {{{"k", "5"}, {"m", "3"}, {"d", "6"}}, "d=6 is fewer helpers than k+m-1=7: the library doesn't recover such a code yet"},
+      {{{"d", "4"}}, "d=4 helpers of a repair are impossible: more than k and at most k+m-1=5"},
+      {{{"d", "6"}}, "d=6 helpers of a repair are impossible: more than k and at most k+m-1=5"},
+      {{{"mapping", "_DD"}}, "mapping isn't supported: chunk i is shard i"},
+  };
+  for (auto [profile, cause] : all) {
+    profile["plugin"] = "hijpswol";
+    Code code;
+    string told;
+    int error = make(profile, directory, &code, &told);
+    expect(error == -EINVAL && !code && told == "hijpswol: " + cause + "\n", cause + ", but told was: " + told);
+  }
+  ErasureCodeProfile least = {{"plugin", "hijpswol"}, {"k", ""}, {"crush-failure-domain", "osd"}};
+  Code code;
+  string told;
+  int error = make(least, directory, &code, &told);
+  expect(error == 0, "a profile of defaults: " + told);
+  for (auto [name, value] : ErasureCodeProfile{{"k", "4"}, {"m", "2"}, {"d", "5"}, {"crush-failure-domain", "osd"}})
+    expect(code->get_profile().at(name) == value, "the default of " + name);
+  printf("%zu profiles refused, each with its cause\n", all.size());
+}
+
+// Each call of the library fails with each status, and no function of the plugin hands on what it wrote.
+static void check_failure(const Stripe &s, const string &call, int status) {
+  setenv("CLAY_FAILS", (call + " " + std::to_string(status)).c_str(), 1);
+  int error = status == 5 ? -ENOMEM : status == 4 ? -EIO : -EINVAL;
+  Chunks made, given = only(s.chunks, without(s.all, {0})), places = s.places({0, s.n - 1}), before = places;
+  bufferlist data;
+  if (call == "clay_parity") {
+    expect(s.code->encode(s.all, s.in, &made) == error, "encode though the library failed");
+    expect(s.code->encode_chunks(s.all, &places) == error, "encode_chunks though the library failed");
+  } else if (call == "clay_recover") {
+    expect(s.code->decode({0}, given, &made, 0) == error, "decode though the library failed");
+    expect(s.code->decode_concat(given, &data) == error, "decode_concat though the library failed");
+    expect(s.code->decode_chunks({0}, given, &places) == error, "decode_chunks though the library failed");
+  } else {
+    SubChunks plan = plan_of(s, {0}, without(s.all, {0}), 0);
+    expect(s.code->decode({0}, parts_of(s.chunks, plan, s.chunk_len / s.layers), &made, s.chunk_len) == error, "repair though the library failed");
+  }
+  expect(made.empty() && data.length() == 0, "bytes of a call that failed");
+  for (int chunk : {0, s.n - 1})
+    expect(places.at(chunk)[0] == 7 && places.at(chunk)[s.chunk_len - 1] == 7, "bytes of a call that failed, in place");
+  unsetenv("CLAY_FAILS");
+}
+
+// A buffer that can't be had is thrown by Ceph's library; the caller gets an error. The input takes little memory, what is made of it much.
+static void check_short_memory(const Stripe &s) {
+  bufferlist much;
+  ceph::bufferptr piece = room(1 << 20, 1);
+  for (int i = 0; i < 2048; i++) much.append(piece);
+  rlimit before, little;
+  getrlimit(RLIMIT_AS, &before);
+  little = {rlim_t(1) << 30, before.rlim_max};
+  expect(setrlimit(RLIMIT_AS, &little) == 0, "setrlimit");
+  Chunks made;
+  int error = s.code->encode(s.all, much, &made);
+  setrlimit(RLIMIT_AS, &before);
+  expect(error < 0 && made.empty(), "an encoding without memory ends with " + std::to_string(error));
+}
+
+static void failures(const string &directory) {
+  Code code = code_of("hijpswol", directory, 4, 2);
+  Stripe s(code, 4096, 1);
+  for (auto call : {"clay_parity", "clay_recover", "clay_rebuild"})
+    for (int status : {1, 2, 3, 4, 5, 6, 77}) check_failure(s, call, status);
+  Stripe after(code, 4096, 1);
+  check_loss(after, {0});
+  check_short_memory(s);
+  puts("3 calls of the library that fail, each with 7 statuses, and short memory: errors, no bytes");
+}
+
+// ---- Speed
+
+static double seconds() {
+  timespec time;
+  clock_gettime(CLOCK_THREAD_CPUTIME_ID, &time);
+  return time.tv_sec + time.tv_nsec * 1e-9;
+}
+
+// The median of a slice of calls.
+static double seconds_of(const std::function<void()> &call) {
+#ifdef __x86_64__
+  if (__builtin_cpu_supports("avx")) asm volatile("vzeroupper" ::: "memory"); // a coder that left the upper halves dirty slows the next one
+#endif
+  vector<double> all;
+  double begun = seconds();
+  do {
+    double before = seconds();
+    call();
+    all.push_back(seconds() - before);
+  } while (seconds() - begun < 0.03);
+  std::nth_element(all.begin(), all.begin() + all.size() / 2, all.end());
+  return all[all.size() / 2];
+}
+
+struct Row {
+  string what, plugin;
+  double bytes; // that a call makes or hands over
+  std::function<void()> call;
+  vector<double> times;
+};
+
+static const vector<string> timed = {"encode", "decode, m lost", "decode, 1 lost", "repair"};
+
+static void add_rows(const string &plugin, Code code, unsigned unit, vector<Row> *rows) {
+  auto s = std::make_shared<Stripe>(code, unit, 1);
+  double data = double(s->k) * s->chunk_len;
+  string name = plugin + (s->chunk_len == unit ? "" : " (" + std::to_string(s->chunk_len) + ")");
+  auto decode = [s](Chunks left) {
+    return [s, left] {
+      bufferlist made;
+      expect(s->code->decode_concat(left, &made) == 0, "decode_concat");
+    };
+  };
+  rows->push_back({timed[0], name, data, [s] { Chunks made; expect(s->code->encode(s->all, s->in, &made) == 0, "encode"); }, {}});
+  rows->push_back({timed[1], name, data, decode(only(s->chunks, without(s->all, first(s->m)))), {}});
+  rows->push_back({timed[2], name, data, decode(only(s->chunks, without(first(s->k + 1), {0}))), {}});
+  SubChunks plan;
+  expect(code->minimum_to_decode({0}, without(s->all, {0}), &plan) == 0, "minimum_to_decode");
+  Chunks parts = parts_of(s->chunks, plan, s->chunk_len / s->layers);
+  rows->push_back({timed[3], name, double(s->chunk_len), [s, parts] {
+                     Chunks made;
+                     expect(s->code->decode({0}, parts, &made, s->chunk_len) == 0, "repair");
+                   }, {}});
+}
+
+static void speed(const string &directory, int k, int m, unsigned unit, const vector<string> &plugins) {
+  vector<Row> rows;
+  for (auto &plugin : plugins) add_rows(plugin, code_of(plugin, directory, k, m), unit, &rows);
+  for (int round = 0; round < 7; round++)
+    for (auto &row : rows) row.times.push_back(seconds_of(row.call));
+  printf("%d+%d, chunks of %u bytes, GB/s (least..greatest of 7 rounds)\n", k, m, unit);
+  for (auto &what : timed)
+    for (auto &row : rows) {
+      if (row.what != what) continue;
+      std::sort(row.times.begin(), row.times.end());
+      auto speed_at = [&row](size_t round) { return row.bytes / row.times[round] / 1e9; };
+      printf("  %-16s %-18s %7.3f (%.3f..%.3f)\n", what.c_str(), row.plugin.c_str(), speed_at(3), speed_at(6), speed_at(0));
+    }
+}
+
+int main(int count, char **words) {
+  // memory once taken is kept, so that no call's time is that of fresh pages
+  mallopt(M_MMAP_THRESHOLD, 1 << 30);
+  mallopt(M_TRIM_THRESHOLD, INT32_MAX);
+  rados_t cluster;
+  expect(rados_create(&cluster, nullptr) == 0, "Ceph's library can't be started");
+  ceph::global::g_ceph_context = reinterpret_cast<ceph::common::CephContext *>(rados_cct(cluster));
+  string verb = count > 2 ? words[1] : "", directory = count > 2 ? words[2] : "";
+  auto number = [&](int i) { return i < count ? atoi(words[i]) : 1; };
+  if (verb == "losses" && count >= 6) losses(directory, number(3), number(4), number(5), number(6));
+  else if (verb == "refusals") refusals(directory);
+  else if (verb == "failures") failures(directory);
+  else if (verb == "speed" && count > 6) speed(directory, number(3), number(4), number(5), vector<string>(words + 6, words + count));
+  else end_with("drive losses|refusals|failures|speed PLUGINS ..");
+  fflush(stdout);
+  _Exit(0); // Ceph's library has threads that outlive its context
+}
