@@ -11,6 +11,7 @@ import socket
 import subprocess
 import tempfile
 import time
+import typing
 import uuid
 
 try:
@@ -100,10 +101,12 @@ class Cluster:
             raise
         return self
 
-    def __exit__(self, kind, *_):
-        if kind and kind is not Failed:
+    def __exit__(self, kind, error, _):
+        if kind:
             self.show_logs()
         self.end()
+        if rados and isinstance(error, rados.Error):
+            raise Failed(f"a client's call: {error}") from error
 
     def configure(self):
         self.conf = self.folder / "ceph.conf"
@@ -179,6 +182,7 @@ class Cluster:
         shutil.rmtree(self.folder)
 
     def show_logs(self):
+        """The last lines of daemons that ended by themselves."""
         for name, daemon in self.daemons.items():
             if daemon.poll() is not None:
                 log = (self.folder / "log" / f"{name}.out").read_text(errors="replace")
@@ -223,16 +227,24 @@ class Cluster:
         return {osd["osd"] for osd in self.map()["osds"] if osd["up"]}
 
 
+class Group(typing.NamedTuple):
+    """A placement group as the osd that leads it tells; without a state where that osd hasn't seen the newest map."""
+    pgid: str
+    state: str
+    acting: list
+    scrubbed: str  # when its last deep scrub ended
+
+
 class Pool:
     """A pool of an erasure code profile, and what it should hold. Each read is compared with that, byte by byte."""
 
-    def __init__(self, cluster, name, profile, overwrites=False, groups=8):
-        self.cluster, self.name, self.groups = cluster, name, groups
+    def __init__(self, cluster, name, profile, overwrites=False, count=8):
+        self.cluster, self.name, self.count = cluster, name, count
         self.k, self.m = profile["k"], profile["m"]
         self.objects = {}
         words = [f"{key}={value}" for key, value in profile.items()] + ["crush-failure-domain=osd"]
         cluster.command("osd erasure-code-profile set", name=name, profile=words)
-        cluster.command("osd pool create", pool=name, pg_num=groups, pool_type="erasure", erasure_code_profile=name)
+        cluster.command("osd pool create", pool=name, pg_num=count, pool_type="erasure", erasure_code_profile=name)
         # by default writes stop one osd earlier than they must
         cluster.command("osd pool set", pool=name, var="min_size", val=str(self.k))
         if overwrites:
@@ -269,46 +281,44 @@ class Pool:
         chunk = self.stripe_width // self.k
         return sum(-(-len(data) // self.stripe_width) * chunk for data in self.objects.values())
 
-    # ---- Placement groups, as their osds tell; the manager's figures are seconds old
+    # ---- Placement groups, of which the manager's figures are seconds old
 
-    def states(self):
-        """The state of each group. One whose osd hasn't seen the newest map has none."""
+    def groups(self):
         epoch = self.cluster.map()["epoch"]
         self.cluster.rados.wait_for_latest_osdmap()  # a query goes to the osd that leads the group in this process's map
-        for group in range(self.groups):
-            pgid = f"{self.number}.{group:x}"
+        for number in range(self.count):
+            pgid = f"{self.number}.{number:x}"
             query = json.dumps({"prefix": "query", "pgid": pgid, "format": "json"})
             status, output, _ = self.cluster.rados.pg_command(pgid, query, b"", 20)
             told = json.loads(output) if status == 0 else {}
-            yield told["state"] if told.get("epoch", 0) >= epoch else "", told
+            if told.get("epoch", 0) >= epoch:
+                yield Group(pgid, told["state"], told["acting"], told["info"]["stats"]["last_deep_scrub_stamp"])
+            else:
+                yield Group(pgid, "", [], "")
 
-    def wait_active(self, what):
-        self.cluster.wait(lambda: all(state.startswith("active") for state, _ in self.states()), f"active pool after {what}")
+    def wait_all(self, holds, what):
+        self.cluster.wait(lambda: all(map(holds, self.groups())), f"{self.name}: {what}")
 
-    def wait_settled(self, what):
+    def wait_active(self, after):
+        self.wait_all(lambda group: group.state.startswith("active"), f"active groups after {after}")
+
+    def wait_clean(self, after):
+        self.wait_all(lambda group: group.state.startswith("active+clean"), f"clean groups after {after}")
+
+    def wait_settled(self, after):
         """Until nothing recovers but what a stopped osd lacks."""
-        works = ("recover", "backfill", "peering")
-        self.cluster.wait(lambda: all(state.startswith("active") and not any(word in state for word in works) for state, _ in self.states()),
-                          f"settled pool after {what}")
+        def is_settled(group):
+            return group.state.startswith("active") and not any(word in group.state for word in ("recover", "backfill", "peering"))
+        self.wait_all(is_settled, f"settled groups after {after}")
 
-    def wait_clean(self, what):
-        self.cluster.wait(lambda: all(state.startswith("active+clean") for state, _ in self.states()), f"clean pool after {what}")
-
-    def scrub(self, command="pg deep-scrub", groups=None):
-        """Has groups scrubbed, all where none are named; those of the pool that are inconsistent then."""
-        stamps = {told["info"]["pgid"]: self.stamp(told) for _, told in self.states()}
-        groups = groups or list(stamps)
-        for pgid in groups:
+    def scrub(self, command="pg deep-scrub", only=None):
+        """Has each group scrubbed, or one only; those of the pool that are inconsistent then."""
+        stamps = {group.pgid: group.scrubbed for group in self.groups() if only in (None, group.pgid)}
+        for pgid in stamps:
             self.cluster.manage(command, pgid=pgid)
-        is_done = lambda state, told: (state.startswith("active+clean") and "scrubbing" not in state and "repair" not in state and
-                                       (told["info"]["pgid"] not in groups or self.stamp(told) != stamps[told["info"]["pgid"]]))
-        self.cluster.wait(lambda: all(is_done(state, told) for state, told in self.states()), command)
-        return [told["info"]["pgid"] for state, told in self.states() if "inconsistent" in state]
 
-    def mend(self, pgid):
-        """Has a group's wrong chunks made anew from the others."""
-        self.scrub("pg repair", [pgid])
-
-    @staticmethod
-    def stamp(told):
-        return told["info"]["stats"]["last_deep_scrub_stamp"]
+        def is_done(group):
+            is_at_rest = group.state.startswith("active+clean") and "scrubbing" not in group.state and "repair" not in group.state
+            return is_at_rest and group.scrubbed != stamps.get(group.pgid)
+        self.wait_all(is_done, command)
+        return [group.pgid for group in self.groups() if "inconsistent" in group.state]

@@ -23,7 +23,10 @@ def end_by_signals(seconds):
 
 def run(*words, seconds=120, **more):
     """A program's standard output, with bytes for its standard input as `input`."""
-    done = subprocess.run(words, stdout=subprocess.PIPE, stderr=subprocess.PIPE, timeout=seconds, check=False, **more)
+    try:
+        done = subprocess.run(words, stdout=subprocess.PIPE, stderr=subprocess.PIPE, timeout=seconds, check=False, **more)
+    except subprocess.TimeoutExpired:
+        raise Failed(f"{words[0]} took more than {seconds} s") from None
     if done.returncode:
         raise Failed(f"{' '.join(map(str, words))}: {done.returncode} {done.stderr.decode(errors='replace')[-500:]}")
     return done.stdout

@@ -209,6 +209,16 @@ static void check_encoding(const Stripe &s) {
   check_all(s, places, "encode_chunks");
 }
 
+// Data chunks of an input in one buffer, and chunks that are there and wanted, are handed on without a copy.
+static void check_shared(const Stripe &s) {
+  for (int chunk = 0; s.in.is_contiguous() && chunk < s.k; chunk++)
+    expect(s.chunks.at(chunk).front().c_str() == s.in.front().c_str() + size_t(chunk) * s.chunk_len, "encode copies a data chunk");
+  Chunks every;
+  expect(s.code->decode(s.all, only(s.chunks, without(s.all, {0})), &every, 0) == 0, "decode");
+  for (int chunk = 1; chunk < s.n; chunk++)
+    expect(every.at(chunk).front().c_str() == s.chunks.at(chunk).front().c_str(), "decode copies a chunk that is there");
+}
+
 static SubChunks plan_of(const Stripe &s, const set<int> &want, const set<int> &available, int wanted_status) {
   SubChunks plan;
   std::map<int, int> costs;
@@ -324,6 +334,7 @@ static void losses(const string &directory, int k, int m, unsigned unit, size_t 
   for (int pieces : {1, 3, k}) {
     Stripe s(code, unit, pieces);
     check_encoding(s);
+    check_shared(s);
     check_wrong_parts(s);
     check_wrong_calls(s);
     for (size_t i = 0; i < sets.size(); i += each) {
@@ -335,8 +346,8 @@ static void losses(const string &directory, int k, int m, unsigned unit, size_t 
   }
   Stripe s(code, unit, 1);
   for (unsigned len : {1u, 17u, s.chunk_len * k - 1, s.chunk_len * k + 1}) check_odd_length(s, len);
-  printf("%d+%d, chunks of %u bytes, %d subchunks: %d sets of lost chunks decoded, %d refused, of an input in 1, 3 and %d pieces\n", k, m, s.chunk_len,
-         s.layers, decoded / 3, refused / 3, k);
+  printf("%d+%d, chunks of %u bytes, %d subchunks, inputs in 1, 3 and %d pieces: %d sets of lost chunks decoded, %d refused\n", k, m, s.chunk_len, s.layers,
+         k, decoded / 3, refused / 3);
 }
 
 // ---- Refusals and failures
