@@ -63,6 +63,7 @@ osd_op_num_shards = 2
 osd_op_num_threads_per_shard = 1
 osd_fast_shutdown_notify_mon = true
 osd_heartbeat_interval = 1
+bluestore_debug_inject_read_err = true
 osd_max_backfills = 2
 osd_recovery_max_active = 4
 osd_recovery_sleep = 0
@@ -88,6 +89,7 @@ class Cluster:
         self.daemons = {}
         self.rados = None
         self.folder = None
+        self.revived = None  # a list of osds that ended by themselves and were started again; None where none may end
 
     def __enter__(self):
         self.folder = pathlib.Path(tempfile.mkdtemp(prefix="ceph-", dir=os.environ.get("TMPDIR", "/var/tmp")))
@@ -137,9 +139,12 @@ class Cluster:
         self.daemons[name] = subprocess.Popen(command, stdin=subprocess.DEVNULL, stdout=log, stderr=log, start_new_session=True)
         log.close()
 
+    def begin_osd(self, osd):
+        self.begin(f"osd.{osd}", "ceph-osd", "-f", "-c", self.conf, "-i", str(osd), "--osd-data", self.data_of(osd))
+
     def start(self, *osds):
         for osd in osds:
-            self.begin(f"osd.{osd}", "ceph-osd", "-f", "-c", self.conf, "-i", str(osd), "--osd-data", self.data_of(osd))
+            self.begin_osd(osd)
         self.wait(lambda: set(osds) <= self.up(), f"start of osds {osds}")
 
     def stop(self, *osds):
@@ -213,12 +218,19 @@ class Cluster:
     def wait(self, holds, what, seconds=240):
         end = time.monotonic() + seconds
         while not holds():
-            dead = [name for name, daemon in self.daemons.items() if daemon.poll() is not None]
-            if dead:
-                raise Failed(f"while waiting for {what}: {', '.join(dead)} ended")
+            self.look_for_ended(what)
             if time.monotonic() > end:
                 raise Failed(f"no {what} in {seconds} s")
             time.sleep(0.2)
+
+    def look_for_ended(self, what):
+        ended = [name for name, daemon in self.daemons.items() if daemon.poll() is not None]
+        if ended and self.revived is None:
+            raise Failed(f"while waiting for {what}: {', '.join(ended)} ended")
+        for name in ended:
+            osd = int(name.removeprefix("osd."))
+            self.revived.append(osd)
+            self.begin_osd(osd)
 
     def map(self):
         return self.command("osd dump")
