@@ -57,7 +57,7 @@ def build_driver(program):
     """Builds drive.cc. Plugins find the registry in it (-rdynamic)."""
     ceph = libraries() / "ceph"
     run("g++", "-std=c++17", "-O2", "-g", "-Wall", "-Wextra", "-Werror", HERE / "drive.cc", "-o", program, "-rdynamic",
-        f"-L{ceph}", "-l:libceph-common.so.2", f"-Wl,-rpath,{ceph}", "-lrados", "-ldl")
+        f"-L{ceph}", "-l:libceph-common.so.2", f"-Wl,-rpath,{ceph}", "-lrados", "-ldl", seconds=600)
 
 
 def link_plugins(folder, plugin):
