@@ -1,6 +1,6 @@
 -- With which statuses the program ends, and what it owes then.
 use Rattle.std.proofs.Common.{◌≡◌, ◌⊎◌, inl, inr, ◌∙◌, sym, subst, ℕ, List, Option}
-use Rattle.clay_bytes.specs.Stream.{Gains, IsPrefixWritten}
+use Rattle.clay_bytes.specs.Stream.{Gains, IsPrefixWritten, Accepts, AcceptsPrefix}
 use Rattle.clay_cli.specs.Top.{IsSilent}
 use Rattle.clay_cli.specs.declared.status.Status.{Status}
 use Rattle.clay_cli.specs.declared.status.Status.TheVariants.{Done, ScriptRefused, InputTooLong, ReadFault, WriteFault, OutOfMemory}
@@ -28,3 +28,15 @@ pub only_too_long : (s : Status) → IsSilent s → (s ≡ ReadFault → ⊥) �
 only_too_long s (inl too_long) not = inl too_long
 only_too_long s (inr (inl fault)) not = absurd (not fault)
 only_too_long s (inr (inr memory)) not = inr memory
+
+-- the same, of what the sink has accepted
+pub owed_heard : (input : List ℕ) (wanted result : Status) (output bytes accepted now : List ℕ) (old new : Option (List ℕ))
+    → result ≡ wanted → bytes ≡ output → Accepts accepted old bytes now new → Owes input wanted output
+    → Owes input result output × Accepts accepted old output now new
+owed_heard input wanted result output bytes accepted now old new is same took owes =
+    let P : Status → Type 0 = λ status. Owes input status output in
+    let Q : List ℕ → Type 0 = λ made. Accepts accepted old made now new in
+    (subst P (sym is) owes, subst Q same took)
+
+pub part_heard : (output bytes accepted now : List ℕ) (old new : Option (List ℕ)) → bytes ≡ output → AcceptsPrefix accepted old bytes now new → AcceptsPrefix accepted old output now new
+part_heard output bytes accepted now old new same took = let P : List ℕ → Type 0 = λ made. AcceptsPrefix accepted old made now new in subst P same took
