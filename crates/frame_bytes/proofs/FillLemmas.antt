@@ -1,11 +1,11 @@
 -- What one more read adds to the bytes that stand in a buffer.
-use Rattle.std.proofs.Common.{◌≡◌, ◌≤◌, ◌<◌, ◌+◌, ◌-◌, ℕ, Option, None, Some, List, ◌++◌, length, take, sym, ap, ◌∙◌, arith, length-append}
+use Rattle.std.proofs.Common.{◌≡◌, ◌≤◌, ◌<◌, ◌+◌, ◌-◌, ℕ, Option, None, Some, List, [], ◌++◌, length, take, sym, ap, ◌∙◌, append-nil, arith, length-append}
 use Rattle.std.proofs.Math.Seq.{take-append-add}
-use Rattle.std.proofs.lemmas.List.{length-take-le, take-append-le}
+use Rattle.std.proofs.lemmas.List.{length-take-le, take-append-le, take_at}
 use borrow.Rule.Slice.PartMut.{put_mid, post_of}
-use Rattle.clay_bytes.specs.Stream.{Gives, Same}
-use Rattle.clay_bytes.proofs.StreamLemmas.{gives-then}
-use Rattle.frame_bytes.specs.Filling.{GivesFewer}
+use Rattle.clay_bytes.specs.Stream.{Gives, Same, HandsOut}
+use Rattle.clay_bytes.proofs.StreamLemmas.{gives-then, and-more}
+use Rattle.frame_bytes.specs.Filling.{GivesFewer, HandsOutFewer}
 
 gives-same : (a b c : Option (List ℕ)) (xs : List ℕ) → Gives a xs b → Same b c → Gives a xs c
 gives-same None b c xs g s = tt
@@ -37,6 +37,29 @@ module _ (at n : ℕ) (buf new : List ℕ) (within : at ≤ length buf) where
   pub more_given : (a b c : Option (List ℕ)) → n ≤ length new → Gives a (take at buf) b → Gives b (take n new) c →
       Gives a (take (at + n) (put_mid at (length buf - at) buf new)) c
   more_given a b c fits g h = gives-then a b c (take at buf) (take n new) (take (at + n) (put_mid at (length buf - at) buf new)) g h (more_taken fits)
+
+  pub more_heard : (a b c : List ℕ) → n ≤ length new → b ≡ a ++ take at buf → c ≡ b ++ take n new →
+      c ≡ a ++ take (at + n) (put_mid at (length buf - at) buf new)
+  more_heard a b c fits g h = and-more a b c (take at buf) (take n new) (take (at + n) (put_mid at (length buf - at) buf new)) g h (more_taken fits)
+
+-- the first bytes stay, whatever stands behind them
+same_taken : (at : ℕ) (buf new : List ℕ) → at ≤ length buf → take at (put_mid at (length buf - at) buf new) ≡ take at buf
+same_taken at buf new within = take_at (take at buf) (new ++ post_of at (length buf - at) buf) at (omega (arith, length-take-le at buf within))
+
+-- a read that gave none handed out none
+pub none_heard : (at : ℕ) (buf new : List ℕ) (a b c : List ℕ) (o p q : Option (List ℕ)) → at ≤ length buf → b ≡ a ++ take at buf → c ≡ b ++ [] →
+    Gives o (take at buf) p → Gives p [] q → HandsOut a o (take at (put_mid at (length buf - at) buf new)) c q
+none_heard at buf new a b c o p q within g h given none = (
+  h ∙ append-nil b ∙ g ∙ ap (λ l. a ++ l) (sym (same_taken at buf new within)),
+  gives-then o p q (take at buf) [] (take at (put_mid at (length buf - at) buf new)) given none (same_taken at buf new within ∙ sym (append-nil (take at buf))),
+)
+
+-- a read that failed handed out none
+pub cut_heard : (at : ℕ) (buf new : List ℕ) (a b c : List ℕ) (o p q : Option (List ℕ)) → at ≤ length buf → 0 < length new → b ≡ a ++ take at buf → c ≡ b →
+    Gives o (take at buf) p → Same p q → HandsOutFewer a o (length (put_mid at (length buf - at) buf new)) c q
+cut_heard at buf new a b c o p q within some g h given same =
+    let kept : at + 1 ≤ length (put_mid at (length buf - at) buf new) = more_within at 1 buf new within some in
+    (take at buf, omega (arith, length-take-le at buf within, kept), (h ∙ g, gives-same o p q (take at buf) given same))
 
 -- a read that failed gave none
 pub cut_there : (at : ℕ) (buf new : List ℕ) (a b c : Option (List ℕ)) → at ≤ length buf → 0 < length new → Gives a (take at buf) b → Same b c →

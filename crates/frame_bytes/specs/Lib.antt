@@ -4,3 +4,4 @@ pub mod Body
 pub mod Inputs
 pub mod Requests
 pub mod Writing
+pub mod Heard

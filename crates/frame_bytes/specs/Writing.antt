@@ -1,23 +1,23 @@
 -- What is handed to a sink through a block in which bytes wait.
 use Rattle.std.specs.Prelude.{◌≡◌, ◌≤◌, ◌<◌, ℕ, ◌+◌, ◌*◌, ◌^◌, Option, List, ◌++◌, length, Result, Ok, Err, OnOk, OnErr}
-use Rattle.clay_bytes.specs.Stream.{Rises, Gains, IsPrefixWritten}
+use Rattle.clay_bytes.specs.Stream.{Rises, Accepts, AcceptsPrefix}
 use Rattle.store_map.specs.declared.reply.Reply.{Reply}
 use Rattle.store_map.specs.declared.reply.Reply.TheVariants as reply
 use Rattle.session_rules.specs.declared.answer.Answer.{Answer}
 
--- of these bytes some are written, and the others wait
-abbrev pub Passes : Option (List ℕ) → List ℕ → Option (List ℕ) → List ℕ → Type 0
-Passes old bytes new waiting = (gone : List ℕ) × Gains old gone new × (bytes ≡ gone ++ waiting)
+-- of these bytes some were accepted, and the others wait
+abbrev pub Passes : List ℕ → Option (List ℕ) → List ℕ → List ℕ → Option (List ℕ) → List ℕ → Type 0
+Passes accepted written bytes now new waiting = (gone : List ℕ) × Accepts accepted written gone now new × (bytes ≡ gone ++ waiting)
 
--- so it is after a call that put bytes behind others; after a fault a prefix of them is written
-abbrev pub Reaches : {X E : Type 0} → Result X E → Option (List ℕ) → List ℕ → Option (List ℕ) → List ℕ → Type 0
-Reaches (Ok done) old bytes new waiting = Passes old bytes new waiting
-Reaches (Err fault) old bytes new waiting = IsPrefixWritten old bytes new
+-- so it is after a call that put bytes behind others; after a fault a prefix of them was accepted
+abbrev pub Reaches : {X E : Type 0} → Result X E → List ℕ → Option (List ℕ) → List ℕ → List ℕ → Option (List ℕ) → List ℕ → Type 0
+Reaches (Ok done) accepted written bytes now new waiting = Passes accepted written bytes now new waiting
+Reaches (Err fault) accepted written bytes now new waiting = AcceptsPrefix accepted written bytes now new
 
 -- a piece was put behind the bytes that waited, or a write failed, and then its count rose
-pub record Puts {K X E : Type 0} (written : K → Option (List ℕ)) (faults : K → ℕ) (old new : K) (waited waiting piece : List ℕ)
-    (result : Result X E) : Type 0 where
-  pub bytes : Reaches result (written old) (waited ++ piece) (written new) waiting
+pub record Puts {K X E : Type 0} (accepted : K → List ℕ) (written : K → Option (List ℕ)) (faults : K → ℕ) (old new : K)
+    (waited waiting piece : List ℕ) (result : Result X E) : Type 0 where
+  pub bytes : Reaches result (accepted old) (written old) (waited ++ piece) (accepted new) (written new) waiting
   pub cause : OnErr result (Rises (faults old) (faults new))
   pub steady : OnOk result (faults new ≡ faults old)
   pub count : faults old ≤ faults new

@@ -29,7 +29,7 @@ pub(crate) fn put<K: Sink>(
     block: &mut Vec<u8>,
     piece: &[u8],
 ) -> Result<(), WriteFault>
-    ensures { Puts K.written K.faults sink.old sink.new block.old.items block.new.items piece.now result }
+    ensures { Puts K.accepted K.written K.faults sink.old sink.new block.old.items block.new.items piece.now result }
 {
     if has_room(block, piece.len()) {
         keep(block, piece);
@@ -46,7 +46,7 @@ pub(crate) fn put_byte<K: Sink>(
     block: &mut Vec<u8>,
     byte: u8,
 ) -> Result<(), WriteFault>
-    ensures { Puts K.written K.faults sink.old sink.new block.old.items block.new.items (byte ∷ []) result }
+    ensures { Puts K.accepted K.written K.faults sink.old sink.new block.old.items block.new.items (byte ∷ []) result }
 {
     put(sink, block, &[byte])
 }
@@ -57,7 +57,7 @@ pub(crate) fn put_u64<K: Sink>(
     block: &mut Vec<u8>,
     number: u64,
 ) -> Result<(), WriteFault>
-    ensures { Puts K.written K.faults sink.old sink.new block.old.items block.new.items (big_bytes 8 number) result }
+    ensures { Puts K.accepted K.written K.faults sink.old sink.new block.old.items block.new.items (big_bytes 8 number) result }
 {
     let mut piece = [0u8; 8];
     BigEndian::write_u64(&mut piece, number);
@@ -70,7 +70,7 @@ pub(crate) fn put_u32<K: Sink>(
     block: &mut Vec<u8>,
     number: u64,
 ) -> Result<(), WriteFault>
-    ensures { Puts K.written K.faults sink.old sink.new block.old.items block.new.items (big_bytes 4 number) result }
+    ensures { Puts K.accepted K.written K.faults sink.old sink.new block.old.items block.new.items (big_bytes 4 number) result }
 {
     let mut piece = [0u8; 8];
     BigEndian::write_u64(&mut piece, number);

@@ -4,7 +4,8 @@ ghost use Rattle.clay_bytes.specs.Stream.{Rises};
 ghost use Rattle.session_rules.specs.Input.{is_frame_length, most_input};
 ghost use Rattle.frame_bytes.specs.Body.{IsBody, IsOfLength};
 ghost use Rattle.frame_bytes.specs.Next.{IsNext, IsServed, StopsWithin, StopsAtLength};
-ghost use Rattle.frame_bytes.specs.Filling.{GivesFewer};
+ghost use Rattle.frame_bytes.specs.Filling.{GivesFewer, HandsOutFewer};
+ghost use Rattle.frame_bytes.specs.Heard.{HandsOutNext, HandsOutBody, HandsOutPart, HandsOutLength};
 ghost use Rattle.frame_bytes.specs.declared.fault.FrameFault.TheVariants.{ReadFault, OutOfMemory};
 
 use crate::fault::FrameFault;
@@ -59,6 +60,8 @@ fn read_body<S: Source>(
     room: u64,
 ) -> Result<Next, FrameFault>
     requires { 1 ≤ count }
+    ensures heard { IfOk result (λ next. HandsOutBody count room (S.given source.old) (S.left source.old) next (S.given source.new) (S.ended source.new) (S.left source.new)) }
+    ensures part { OnErr result (HandsOutFewer (S.given source.old) (S.left source.old) (min count (room + 1)) (S.given source.new) (S.left source.new)) }
     ensures body { IfOk result (λ next. IsBody count room (S.left source.old) next (S.left source.new)) }
     ensures length { IfOk result (IsOfLength count room) }
     ensures fault { OnErr result (GivesFewer (S.left source.old) (min count (room + 1)) (S.left source.new)) }
@@ -87,6 +90,9 @@ fn read_body<S: Source>(
 /// its own length and four bytes of it. After a fault the bytes that were read are lost; they are no
 /// whole frame, and where memory was wanting they are a frame's length.
 pub fn read_frame<S: Source>(alloc: Global, source: &mut S, room: u64) -> Result<Next, FrameFault>
+    ensures heard { IfOk result (λ next. HandsOutNext room (S.given source.old) (S.left source.old) next (S.given source.new) (S.ended source.new) (S.left source.new)) }
+    ensures part { OnErr result (HandsOutPart room (S.given source.old) (S.left source.old) (S.given source.new) (S.left source.new)) }
+    ensures at_length { IsErrOf result OutOfMemory → HandsOutLength room (S.given source.old) (S.left source.old) (S.given source.new) (S.left source.new) }
     ensures next { IfOk result (λ next. IsNext room (S.left source.old) next (S.left source.new)) }
     ensures served { IfOk result (IsServed room) }
     ensures fault { OnErr result (StopsWithin room (S.left source.old) (S.left source.new)) }

@@ -1,7 +1,7 @@
 //! Answers to a sink, as frames.
 ghost use Rattle.std.specs.Prelude.{◌≡◌, ◌≤◌, ◌<◌, ◌^◌, ◌∷◌, length, take, flat_map, OnOk, OnErr};
 ghost use Rattle.byteorder.specs.Endian.{big_bytes};
-ghost use Rattle.clay_bytes.specs.Stream.{Rises, Gains, IsPrefixWritten};
+ghost use Rattle.clay_bytes.specs.Stream.{Rises, Gains, IsPrefixWritten, Accepts, AcceptsPrefix};
 ghost use Rattle.session_rules.specs.Input.{framed};
 ghost use Rattle.session_rules.specs.Replies.{most_listed, missing_bytes, lost_bytes, reply_bytes, answer_bytes};
 ghost use Rattle.session_rules.specs.declared.answer.Answer.TheVariants.{Unavailable, Scrubbed, Healed};
@@ -20,7 +20,7 @@ fn put_number<K: Sink>(
     kind: u8,
     number: u64,
 ) -> Result<(), WriteFault>
-    ensures { Puts K.written K.faults sink.old sink.new block.old.items block.new.items (kind ∷ big_bytes 8 number) result }
+    ensures { Puts K.accepted K.written K.faults sink.old sink.new block.old.items block.new.items (kind ∷ big_bytes 8 number) result }
 {
     put_byte(sink, block, kind)?;
     put_u64(sink, block, number)
@@ -31,7 +31,7 @@ fn put_missing<K: Sink>(
     block: &mut Vec<u8>,
     missing: &Missing,
 ) -> Result<(), WriteFault>
-    ensures { Puts K.written K.faults sink.old sink.new block.old.items block.new.items (missing_bytes missing.now) result }
+    ensures { Puts K.accepted K.written K.faults sink.old sink.new block.old.items block.new.items (missing_bytes missing.now) result }
 {
     put_u32(sink, block, missing.server as u64)?;
     put_u64(sink, block, missing.placed)?;
@@ -43,7 +43,7 @@ fn put_each_missing<K: Sink>(
     block: &mut Vec<u8>,
     missing: &[Missing],
 ) -> Result<(), WriteFault>
-    ensures { Puts K.written K.faults sink.old sink.new block.old.items block.new.items (flat_map missing_bytes missing.now) result }
+    ensures { Puts K.accepted K.written K.faults sink.old sink.new block.old.items block.new.items (flat_map missing_bytes missing.now) result }
 {
     for server in missing {
         put_missing(sink, block, server)?;
@@ -58,7 +58,7 @@ fn put_unavailable<K: Sink>(
     missing: &[Missing],
 ) -> Result<(), WriteFault>
     requires { length missing.now < 2 ^ 8 }
-    ensures { Puts K.written K.faults sink.old sink.new block.old.items block.new.items (answer_bytes (Unavailable stripe missing.now)) result }
+    ensures { Puts K.accepted K.written K.faults sink.old sink.new block.old.items block.new.items (answer_bytes (Unavailable stripe missing.now)) result }
 {
     put_byte(sink, block, 6)?;
     put_u32(sink, block, stripe as u64)?;
@@ -67,7 +67,7 @@ fn put_unavailable<K: Sink>(
 }
 
 fn put_lost<K: Sink>(sink: &mut K, block: &mut Vec<u8>, chunk: &LostChunk) -> Result<(), WriteFault>
-    ensures { Puts K.written K.faults sink.old sink.new block.old.items block.new.items (lost_bytes chunk.now) result }
+    ensures { Puts K.accepted K.written K.faults sink.old sink.new block.old.items block.new.items (lost_bytes chunk.now) result }
 {
     let name = chunk.name.as_bytes();
     put_byte(sink, block, name.len() as u8)?;
@@ -81,7 +81,7 @@ fn put_each_lost<K: Sink>(
     block: &mut Vec<u8>,
     lost: &[LostChunk],
 ) -> Result<(), WriteFault>
-    ensures { Puts K.written K.faults sink.old sink.new block.old.items block.new.items (flat_map lost_bytes lost.now) result }
+    ensures { Puts K.accepted K.written K.faults sink.old sink.new block.old.items block.new.items (flat_map lost_bytes lost.now) result }
 {
     for chunk in lost {
         put_lost(sink, block, chunk)?;
@@ -94,7 +94,7 @@ fn put_scrubbed<K: Sink>(
     block: &mut Vec<u8>,
     lost: &[LostChunk],
 ) -> Result<(), WriteFault>
-    ensures { Puts K.written K.faults sink.old sink.new block.old.items block.new.items (answer_bytes (Scrubbed lost.now)) result }
+    ensures { Puts K.accepted K.written K.faults sink.old sink.new block.old.items block.new.items (answer_bytes (Scrubbed lost.now)) result }
 {
     put_byte(sink, block, 15)?;
     put_u32(sink, block, lost.len() as u64)?;
@@ -106,7 +106,7 @@ fn put_each_taken<K: Sink>(
     block: &mut Vec<u8>,
     taken: &[u64],
 ) -> Result<(), WriteFault>
-    ensures { Puts K.written K.faults sink.old sink.new block.old.items block.new.items (flat_map (big_bytes 8) taken.now) result }
+    ensures { Puts K.accepted K.written K.faults sink.old sink.new block.old.items block.new.items (flat_map (big_bytes 8) taken.now) result }
 {
     for count in taken {
         put_u64(sink, block, *count)?;
@@ -120,21 +120,21 @@ fn put_healed<K: Sink>(
     rebuilt: u64,
     taken: &[u64],
 ) -> Result<(), WriteFault>
-    ensures { Puts K.written K.faults sink.old sink.new block.old.items block.new.items (answer_bytes (Healed rebuilt taken.now)) result }
+    ensures { Puts K.accepted K.written K.faults sink.old sink.new block.old.items block.new.items (answer_bytes (Healed rebuilt taken.now)) result }
 {
     put_number(sink, block, 16, rebuilt)?;
     put_each_taken(sink, block, taken)
 }
 
 fn put_bytes<K: Sink>(sink: &mut K, block: &mut Vec<u8>, bytes: &[u8]) -> Result<(), WriteFault>
-    ensures { Puts K.written K.faults sink.old sink.new block.old.items block.new.items (1 ∷ bytes.now) result }
+    ensures { Puts K.accepted K.written K.faults sink.old sink.new block.old.items block.new.items (1 ∷ bytes.now) result }
 {
     put_byte(sink, block, 1)?;
     put(sink, block, bytes)
 }
 
 fn put_reply<K: Sink>(sink: &mut K, block: &mut Vec<u8>, reply: &Reply) -> Result<(), WriteFault>
-    ensures { Puts K.written K.faults sink.old sink.new block.old.items block.new.items (reply_bytes reply.now) result }
+    ensures { Puts K.accepted K.written K.faults sink.old sink.new block.old.items block.new.items (reply_bytes reply.now) result }
 {
     match reply {
         Reply::Done => put_byte(sink, block, 0),
@@ -148,7 +148,7 @@ fn put_reply<K: Sink>(sink: &mut K, block: &mut Vec<u8>, reply: &Reply) -> Resul
 
 fn put_answer<K: Sink>(sink: &mut K, block: &mut Vec<u8>, answer: &Answer) -> Result<(), WriteFault>
     requires { IsWritable answer.now }
-    ensures { Puts K.written K.faults sink.old sink.new block.old.items block.new.items (answer_bytes answer.now) result }
+    ensures { Puts K.accepted K.written K.faults sink.old sink.new block.old.items block.new.items (answer_bytes answer.now) result }
 {
     match answer {
         Answer::Replied(reply) => put_reply(sink, block, reply),
@@ -178,6 +178,8 @@ pub fn write_answer<K: Sink>(
     answer: &Answer,
 ) -> Result<(), WriteFault>
     requires { IsWritable answer.now }
+    ensures accepted { OnOk result (Accepts (K.accepted sink.old) (K.written sink.old) (framed (answer_bytes answer.now)) (K.accepted sink.new) (K.written sink.new)) }
+    ensures part { OnErr result (AcceptsPrefix (K.accepted sink.old) (K.written sink.old) (framed (answer_bytes answer.now)) (K.accepted sink.new) (K.written sink.new)) }
     ensures whole { OnOk result (Gains (K.written sink.old) (framed (answer_bytes answer.now)) (K.written sink.new)) }
     ensures prefix { OnErr result (IsPrefixWritten (K.written sink.old) (framed (answer_bytes answer.now)) (K.written sink.new)) }
     ensures cause { OnErr result (Rises (K.faults sink.old) (K.faults sink.new)) }

@@ -1,4 +1,4 @@
-use Rattle.frame_bytes.proofs.FillLemmas.{more_within, more_given, cut_there}
+use Rattle.frame_bytes.proofs.FillLemmas.{more_within, more_given, more_heard, cut_there, cut_heard}
 use Rattle.std.proofs.Common.{◌≡◌, ◌<◌, ◌-◌, ◌∙◌, length, arith}
 use Rattle.std.proofs.lemmas.Grind.{common_steps}
 use Rattle.frame_bytes.proofs.filling.fill.Goals as goal
@@ -9,6 +9,9 @@ reads-preserved g c = record {
   given =
       more_given c.reads.at c.in-Ok.n c.reads.buf c.read.new.buf c.reads.invariant.within _ _ _ c.in-Ok.ensures.bound c.reads.invariant.given
       c.in-Ok.ensures.bytes;
+  heard =
+      more_heard c.reads.at c.in-Ok.n c.reads.buf c.read.new.buf c.reads.invariant.within _ _ _ c.in-Ok.ensures.bound c.reads.invariant.heard
+      c.in-Ok.ensures.hands_out;
   steady = c.in-Ok.ensures.steady ∙ c.reads.invariant.steady;
 }
 
@@ -18,3 +21,10 @@ returns-in-Err-clause-cut g c =
     let size : length c.read.new.buf ≡ length c.reads.buf - c.reads.at = grind (arith, common_steps) in
     cut_there c.reads.at c.reads.buf c.read.new.buf _ _ _ c.reads.invariant.within (omega (arith, less, size)) c.reads.invariant.given
     c.in-Err.ensures.no_bytes
+
+pub returns-in-Err-clause-part : goal.returns-in-Err-clause-part
+returns-in-Err-clause-part g c =
+    let less : c.reads.at < length c.reads.buf = omega arith in
+    let size : length c.read.new.buf ≡ length c.reads.buf - c.reads.at = grind (arith, common_steps) in
+    cut_heard c.reads.at c.reads.buf c.read.new.buf _ _ _ _ _ _ c.reads.invariant.within (omega (arith, less, size)) c.reads.invariant.heard
+    c.in-Err.ensures.unheard.0 c.reads.invariant.given c.in-Err.ensures.no_bytes

@@ -1,4 +1,4 @@
-use Rattle.std.proofs.Common.{◌≡◌, ◌≤◌, ◌-◌, take, length}
+use Rattle.std.proofs.Common.{◌≡◌, ◌≤◌, ◌-◌, ◌++◌, take, length}
 use Rattle.clay_bytes.specs.Stream.{Gives}
 use Rattle.frame_bytes.proofs.filling.fill.Given as goal
 
@@ -6,6 +6,7 @@ abbrev pub invariant-reads : goal.invariant-reads
 invariant-reads g l = record {
   within : l.at ≤ length l.buf;
   given : Gives (g.S.Source.left l.fn.source) (take l.at l.buf) (g.S.Source.left l.source);
+  heard : g.S.Source.given l.source ≡ g.S.Source.given l.fn.source ++ take l.at l.buf;
   steady : g.S.Source.faults l.source ≡ g.S.Source.faults l.fn.source;
 }
 

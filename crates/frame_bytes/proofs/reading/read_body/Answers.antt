@@ -1,6 +1,7 @@
 use Rattle.std.proofs.Common.{◌≤◌, ◌<◌, length, arith}
 use Rattle.std.proofs.lemmas.Grind.{common_steps}
 use Rattle.frame_bytes.proofs.ReadLemmas.{IsFilledBody, body_torn}
+use Rattle.frame_bytes.proofs.HeardLemmas.{heard_body_torn}
 use Rattle.frame_bytes.proofs.reading.read_body.Goals as goal
 
 pub returns-then-read-wanted-clause-body : goal.returns-then-read-wanted-clause-body
@@ -11,3 +12,8 @@ returns-then-read-wanted-clause-body g c =
     let less : c.in_ok-read.read < length c.fill.new.buf = grind (arith, common_steps) in
     body_torn c.args.count c.args.room c.in_ok-read.read c.fill.new.buf (g.S.Source.left c.args.source.now) (g.S.Source.left c.fill.new.source) it ends
     less
+
+pub returns-then-read-wanted-clause-heard : goal.returns-then-read-wanted-clause-heard
+returns-then-read-wanted-clause-heard g c =
+    heard_body_torn c.args.count c.args.room c.in_ok-read.read c.fill.new.buf (grind (arith, common_steps)) c.in_ok-read.ensures.within _ _ _ _ _
+    c.in_ok-read.ensures.handed_out c.in_ok-read.ensures.told (omega arith) (grind (arith, common_steps))

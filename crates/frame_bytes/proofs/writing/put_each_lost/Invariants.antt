@@ -7,4 +7,4 @@ use Rattle.frame_bytes.proofs.writing.put_each_lost.Given as goal
 
 abbrev pub invariant-loop-chunk : goal.invariant-loop-chunk
 invariant-loop-chunk g l =
-    Puts g.K.Sink.written g.K.Sink.faults l.fn.sink l.sink l.fn.block.items l.block.items (flat_map lost_bytes (take l.chunk-index l.lost)) put_done
+    Puts g.K.Sink.accepted g.K.Sink.written g.K.Sink.faults l.fn.sink l.sink l.fn.block.items l.block.items (flat_map lost_bytes (take l.chunk-index l.lost)) put_done

@@ -7,5 +7,5 @@ use Rattle.frame_bytes.proofs.writing.put_each_missing.Given as goal
 
 abbrev pub invariant-loop-server : goal.invariant-loop-server
 invariant-loop-server g l =
-    Puts g.K.Sink.written g.K.Sink.faults l.fn.sink l.sink l.fn.block.items l.block.items (flat_map missing_bytes (take l.server-index l.missing))
+    Puts g.K.Sink.accepted g.K.Sink.written g.K.Sink.faults l.fn.sink l.sink l.fn.block.items l.block.items (flat_map missing_bytes (take l.server-index l.missing))
     put_done

@@ -7,5 +7,5 @@ use Rattle.frame_bytes.proofs.writing.put_each_taken.Given as goal
 
 abbrev pub invariant-loop-count : goal.invariant-loop-count
 invariant-loop-count g l =
-    Puts g.K.Sink.written g.K.Sink.faults l.fn.sink l.sink l.fn.block.items l.block.items (flat_map (big_bytes 8) (take l.count-index l.taken))
+    Puts g.K.Sink.accepted g.K.Sink.written g.K.Sink.faults l.fn.sink l.sink l.fn.block.items l.block.items (flat_map (big_bytes 8) (take l.count-index l.taken))
     put_done

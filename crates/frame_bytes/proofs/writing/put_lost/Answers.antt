@@ -34,7 +34,7 @@ returns g c =
     let stripe = big_bytes 4 c.args.chunk.now.stripe in
     let server = big_bytes 4 c.args.chunk.now.server in
     subst
-    (λ l. Puts g.K.Sink.written g.K.Sink.faults c.args.sink.now c.put_u32-2.new.sink c.args.block.now.items c.put_u32-2.new.block.items
+    (λ l. Puts g.K.Sink.accepted g.K.Sink.written g.K.Sink.faults c.args.sink.now c.put_u32-2.new.sink c.args.block.now.items c.put_u32-2.new.block.items
     (length l ∷ ((l ++ stripe) ++ server)) c.put_u32-2.result)
     c.as_bytes-name.ensures.bytes
     (and_then _ (and_then _ (and_then _ c.in_ok-put_byte.ensures c.in_ok-put.ensures) c.in_ok-put_u32.ensures) c.put_u32-2.ensures)

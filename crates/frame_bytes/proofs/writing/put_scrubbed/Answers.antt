@@ -20,6 +20,6 @@ pub returns : goal.returns
 returns g c =
     and_then _ (and_then _ c.in_ok-put_byte.ensures c.in_ok-put_u32.ensures)
     (subst
-    (λ l. Puts g.K.Sink.written g.K.Sink.faults c.put_u32.new.sink c.put_each_lost.new.sink c.put_u32.new.block.items c.put_each_lost.new.block.items
+    (λ l. Puts g.K.Sink.accepted g.K.Sink.written g.K.Sink.faults c.put_u32.new.sink c.put_each_lost.new.sink c.put_u32.new.block.items c.put_each_lost.new.block.items
     (flat_map lost_bytes l) c.put_each_lost.result)
     c.listed.ensures.listed c.put_each_lost.ensures)
