@@ -1,16 +1,15 @@
 -- The steps of a valid script's actors are few.
-use Rattle.std.proofs.Common.{◌≡◌, ℕ, ◌+◌, ◌*◌, ◌<◌, ◌≤◌, ◌^◌, List, sum_by, drop, inl, inr, arith}
+use Rattle.std.proofs.Common.{◌≡◌, ℕ, ◌+◌, ◌<◌, ◌≤◌, ◌^◌, List, inl, inr, arith}
 use Rattle.clay_grid.specs.Limits.{IsGeometry}
-use Rattle.store_map.specs.Limits.{size_of, tries_of}
 use Rattle.store_map.specs.Naming.{IsValid}
 use Rattle.store_map.specs.declared.script.Script.{Script}
 use Rattle.store_core.specs.NextAct.{Job}
 use Rattle.store_core.specs.Work.{Work, Calling}
 use Rattle.store_runs.proofs.Runs.{CanRun}
+use Rattle.store_runs.proofs.ScriptBounds.{client_steps_most, repairer_steps_most}
 use Rattle.store_runs.proofs.Scripts.{can_run}
 use Rattle.world_steps.specs.World.{DoingOf, steps_of}
 use Rattle.world_steps.specs.StandsFor.{DoingStands}
-use Rattle.world_steps.proofs.FuelFits.{steps_most, servers, size, tries, client_most, repairer_most, steps_by, rebuild_steps}
 use Rattle.run_lists.specs.Measure.{left_of, bound_of, HasTargets}
 use Rattle.run_lists.specs.Room.{IsWorkOf, ActorsHaveRoom}
 
@@ -24,19 +23,14 @@ targets_of script i work can (inr is) = can.repairers.targets i work is
 
 few_of : (script : Script) (i : ℕ) (work : Work) → IsGeometry script.geometry → IsValid script → CanRun script → IsWorkOf script i work → bound_of script work < 2 ^ 42
 few_of script i work geometry valid can (inl is) =
-    let most : sum_by (steps_by script geometry valid can) (drop 0 work.jobs) ≤ 4096 * 536870912 =
-    client_most script geometry valid can (steps_by script geometry valid can) 536870912
-    (λ c long. steps_most script.geometry (size_of script) (tries_of script) can.some (servers script geometry valid can) (size script geometry valid can) (tries script geometry valid can) c long) i 0 work is in
-    below (bound_of script work) most
+    below (bound_of script work) (client_steps_most script geometry valid can.some i 0 work is)
   where
-    below : (n : ℕ) → n ≤ 4096 * 536870912 → n < 2 ^ 42
+    below : (n : ℕ) → n ≤ 2199023255552 → n < 2 ^ 42
     below n h = omega (arith, h)
 few_of script i work geometry valid can (inr is) =
-    let most : sum_by (steps_by script geometry valid can) (drop 0 work.jobs) ≤ 4096 * 75 =
-    repairer_most script geometry valid can (steps_by script geometry valid can) 75 (rebuild_steps script geometry valid can) i 0 work is in
-    below (bound_of script work) most
+    below (bound_of script work) (repairer_steps_most script geometry valid i 0 work is)
   where
-    below : (n : ℕ) → n ≤ 4096 * 75 → n < 2 ^ 42
+    below : (n : ℕ) → n ≤ 307200 → n < 2 ^ 42
     below n h = omega (arith, h)
 
 room : (steps made left bound : ℕ) → made ≡ steps → made + left ≤ bound → bound < 2 ^ 42 → steps + 1 < 2 ^ 64

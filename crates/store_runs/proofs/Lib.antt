@@ -14,6 +14,7 @@ pub mod ActorSteps
 pub mod Groups
 pub mod Runs
 pub mod Scripts
+pub mod ScriptBounds
 pub mod StillToMake
 pub mod Drains
 pub mod PassesInWork

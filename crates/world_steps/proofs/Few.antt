@@ -15,11 +15,11 @@ use Rattle.store_core.specs.Work.{Work, Calling, client_work, repairer_work, is_
 use Rattle.store_runs.specs.DrainLaws.{KeepsBound, KeepBounds}
 use Rattle.store_runs.proofs.Drains.{drains_end}
 use Rattle.store_runs.proofs.Runs.{CanRun}
+use Rattle.store_runs.proofs.ScriptBounds.{client_steps_most, repairer_steps_most}
 use Rattle.store_runs.proofs.Scripts.{can_run}
 use Rattle.world_steps.specs.World.{DoingOf, ActorOf, WorldOf, steps_of}
 use Rattle.world_steps.specs.StandsFor.{DoingStands, ActorStands, StandsFor}
 use Rattle.world_steps.proofs.Actors.{Found, found, same_turn}
-use Rattle.world_steps.proofs.FuelFits.{client_most, repairer_most, steps_most, rebuild_steps, steps_by, servers, size, tries}
 use Rattle.world_steps.proofs.Runs.{runs_reach}
 use Rattle.world_steps.specs.Goes.{IsReached}
 use Rattle.world_steps.specs.Few.{MakesFewSteps, MakeFewSteps, WorldsMakeFewSteps}
@@ -64,12 +64,12 @@ module _ (script : Script) where
   made_by jobs calling (DoingOf.Between token) stands = stands.none
   made_by jobs calling (DoingOf.InCall call steps) stands = stands.made
 
-  small : (steps bound sum most : ℕ) → steps < bound → bound ≤ sum → sum ≤ most → most ≤ 4096 * 536870912 → steps + 1 < 2 ^ 64
+  small : (steps bound sum most : ℕ) → steps < bound → bound ≤ sum → sum ≤ most → most ≤ 2199023255552 → steps + 1 < 2 ^ 64
   small steps bound sum most a b c d = omega (arith, a, b, c, d)
 
   few_by : (work : Work) (calling : Calling) (a : ActorOf) (most : ℕ) → ActorStands script work.jobs calling a → KeepsBound script work calling
       → sum_by (λ (job : Job). step_bound script.geometry (size_of script) (tries_of script) job.note) (drop (length calling.ended) work.jobs) ≤ most
-      → most ≤ 4096 * 536870912 → MakesFewSteps script work a
+      → most ≤ 2199023255552 → MakesFewSteps script work a
   few_by work calling a most stands bounded low few has =
       let may : has_step work calling ≡ true = same_turn script work calling a stands ∙ has in
       let left : IsLeft work.jobs (length calling.ended) = left_at work.jobs (length calling.ended) (has_left work calling may) in
@@ -99,20 +99,18 @@ module _ (script : Script) (w : WorldOf) (geometry : IsGeometry script.geometry)
   client i work a is_work is_a =
       let at : Found script work (run_core script reached.by.shortages reached.tokens).clients a i =
       found script (client_work script) (run_core script reached.by.shortages reached.tokens).clients w.clients i work a stands.clients is_work is_a in
-      few_by script work at.calling a (4096 * 536870912) at.stands
+      few_by script work at.calling a 2199023255552 at.stands
       (there (KeepsBound script) (slice_get (client_work script) i) (slice_get (run_core script reached.by.shortages reached.tokens).clients i) work at.calling (bounds.clients i) is_work at.is_calling)
-      (client_most script geometry valid can (steps_by script geometry valid can) 536870912
-      (λ c long. steps_most script.geometry (size_of script) (tries_of script) can.some (servers script geometry valid can) (size script geometry valid can) (tries script geometry valid can) c long) i
-      (length at.calling.ended) work is_work)
+      (client_steps_most script geometry valid can.some i (length at.calling.ended) work is_work)
       (omega arith)
 
   repairer : (i : ℕ) (work : Work) (a : ActorOf) → slice_get (repairer_work script) i ≡ Some work → slice_get w.repairers i ≡ Some a → MakesFewSteps script work a
   repairer i work a is_work is_a =
       let at : Found script work (run_core script reached.by.shortages reached.tokens).repairers a i =
       found script (repairer_work script) (run_core script reached.by.shortages reached.tokens).repairers w.repairers i work a stands.repairers is_work is_a in
-      few_by script work at.calling a (4096 * 75) at.stands
+      few_by script work at.calling a 307200 at.stands
       (there (KeepsBound script) (slice_get (repairer_work script) i) (slice_get (run_core script reached.by.shortages reached.tokens).repairers i) work at.calling (bounds.repairers i) is_work at.is_calling)
-      (repairer_most script geometry valid can (steps_by script geometry valid can) 75 (rebuild_steps script geometry valid can) i (length at.calling.ended) work is_work)
+      (repairer_steps_most script geometry valid i (length at.calling.ended) work is_work)
       (omega arith)
 
   pub make_few_steps : MakeFewSteps script w

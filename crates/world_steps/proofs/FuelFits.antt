@@ -1,224 +1,77 @@
 -- The fuel of the first core of a valid script fits 64 bits.
-use Rattle.std.proofs.Common.{◌≡◌, ℕ, zero, suc, ◌+◌, ◌-◌, ◌*◌, ◌/◌, ◌^◌, ◌<◌, ◌≤◌, min, List, length, map, drop, sum_by, zip, Option, None, Some, unwrap_or, IfSome, All, subst, arith}
-use Rattle.std.proofs.lemmas.List.{length-map, length-drop}
-use Rattle.std.proofs.lemmas.List.Elements.{All-map, All-drop}
-use Rattle.std.proofs.lemmas.List.Sums.{sum_by-le}
-use Rattle.std.proofs.lemmas.Slice.Zip.{length-zip}
-use Rattle.std.proofs.Math.Nat.{mul-le-mul_right, add-mul-div_left, div-mul-le_self}
-use Rattle.std.proofs.lemmas.Nat.{le-div, mul-le}
-use Rattle.std.specs.List.{slice_get}
+use Rattle.std.proofs.Common.{ℕ, ◌+◌, ◌-◌, ◌*◌, ◌^◌, ◌<◌, ◌≤◌, List, length, drop, sum_by, zip, arith}
+use Rattle.std.proofs.Math.Nat.{le_trans, mul-le-mul_right}
+use Rattle.std.proofs.lemmas.Nat.{mul-le}
 use Rattle.clay_grid.specs.Limits.{IsGeometry}
-use Rattle.clay_grid.specs.Shape.{Shape, chunk_count, node_count, stripe_length}
+use Rattle.clay_grid.specs.Shape.{Shape, chunk_count, stripe_length}
 use Rattle.store_map.specs.Content.{content_length}
-use Rattle.store_map.specs.Limits.{size_of, tries_of, stripes_met, data_length}
+use Rattle.store_map.specs.Limits.{tries_of, stripes_met, data_length}
 use Rattle.store_map.specs.Naming.{IsValid}
 use Rattle.store_map.specs.declared.call.Call.{Call}
 use Rattle.store_map.specs.declared.call.Call.TheVariants as call
-use Rattle.store_map.specs.declared.call.Rebuild.{Rebuild as RebuildCall}
-use Rattle.store_map.specs.declared.script.ClientPart.{ClientPart}
-use Rattle.store_map.specs.declared.script.RepairPart.{RepairPart}
 use Rattle.store_map.specs.declared.script.Script.{Script}
-use Rattle.store_core.specs.Bounds.{step_bound, draw_bound, sweep_bound}
+use Rattle.store_core.specs.Bounds.{draw_bound, sweep_bound}
 use Rattle.store_core.specs.Core.{first_core}
 use Rattle.store_core.specs.Fuel.{steps_left, draws_left, fuel_of}
-use Rattle.store_core.specs.NextAct.{Job, job_of, rebuild_job}
+use Rattle.store_core.specs.NextAct.{Job}
 use Rattle.store_core.specs.Note.{note_of}
 use Rattle.store_core.specs.Work.{Work, Calling, client_work, repairer_work}
-use Rattle.store_sound.proofs.SoundLists.{at_all}
-use Rattle.store_runs.proofs.Groups.{sum_below}
 use Rattle.store_runs.proofs.Runs.{CanRun}
-use Rattle.store_runs.proofs.Scripts.{Mapped, mapped}
+use Rattle.store_runs.proofs.ScriptBounds.{met_below, actors_most, servers, tries, client_most, repairer_most, client_steps_most, repairer_steps_most, client_count, repairer_count}
 
--- ---- stripes met are no more than bytes
-div_rises : (a b k : ℕ) → 0 < k → a ≤ b → a / k ≤ b / k
-div_rises a b k some h = le-div (a / k) b k some (let back : a / k * k ≤ a = div-mul-le_self a k in omega (arith, back, h))
-
-met_by : (stripe : ℕ) → 0 < stripe → (offset k : ℕ) → (offset + k) / stripe ≤ offset / stripe + k
-met_by stripe some offset k =
-    let more : offset + k ≤ offset + stripe * k = (let one : 1 * k ≤ stripe * k = mul-le-mul_right k some in omega (arith, one)) in
-    let whole : (offset + stripe * k) / stripe ≡ offset / stripe + k = add-mul-div_left offset k some in
-    let less : (offset + k) / stripe ≤ (offset + stripe * k) / stripe = div_rises (offset + k) (offset + stripe * k) stripe some more in
-    omega (arith, whole, less)
-
-met_most : (stripe : ℕ) → 0 < stripe → (offset n : ℕ) → stripes_met stripe offset n ≤ n
-met_most stripe some offset zero = omega arith
-met_most stripe some offset (suc k) = let most : (offset + k) / stripe ≤ offset / stripe + k = met_by stripe some offset k in omega (arith, most)
-
--- ---- one call, where there are at most 24 servers, 8 tries, 2^21 bytes to write and 2^20 to read
-put_most : (n s : ℕ) → n ≤ 24 → s ≤ 2097152 → 2 * n * s + 3 ≤ 536870912
-put_most n s few small = let product : 2 * n * s ≤ 48 * 2097152 = mul-le (2 * n) s 48 2097152 (omega (arith, few)) small in omega (arith, product)
-
-write_most : (n tries s : ℕ) → n ≤ 24 → tries ≤ 8 → s ≤ 2097152 → tries * (6 * n + n * s + 3) + n * s + 1 ≤ 536870912
-write_most n tries s few some small =
-    let product : n * s ≤ 50331648 = mul-le n s 24 2097152 few small in
-    let one : 6 * n + n * s + 3 ≤ 50331795 = omega (arith, product, few) in
-    let all : tries * (6 * n + n * s + 3) ≤ 8 * 50331795 = mul-le tries (6 * n + n * s + 3) 8 50331795 some one in
-    omega (arith, product, all)
-
-read_most : (n r : ℕ) → n ≤ 24 → r ≤ 1048576 → 3 * n * r + 2 ≤ 536870912
-read_most n r few small = let product : 3 * n * r ≤ 72 * 1048576 = mul-le (3 * n) r 72 1048576 (omega (arith, few)) small in omega (arith, product)
-
-module _ (g : Shape) (max tries : ℕ) (some : 0 < stripe_length g) (few : chunk_count g ≤ 24) (size : max ≤ 1048576) (less : tries ≤ 8) where
-  touched : (offset n : ℕ) → n ≤ 2097152 → stripes_met (stripe_length g) offset n ≤ 2097152
-  touched offset n long = let met : stripes_met (stripe_length g) offset n ≤ n = met_most (stripe_length g) some offset n in omega (arith, met, long)
-
-  pub steps_most : (c : Call) → data_length c ≤ 2097152 → step_bound g max tries (note_of c) ≤ 536870912
-  steps_most (call.Put name content) long = put_most (chunk_count g) (stripes_met (stripe_length g) 0 (content_length content)) few (touched 0 (content_length content) long)
-  steps_most (call.Write name offset content) long = write_most (chunk_count g) tries (stripes_met (stripe_length g) offset (content_length content)) few less (touched offset (content_length content) long)
-  steps_most (call.Get name) long =
-      read_most (chunk_count g) (stripes_met (stripe_length g) 0 max) few (let met : stripes_met (stripe_length g) 0 max ≤ max = met_most (stripe_length g) some 0 max in omega (arith, met, size))
-  steps_most (call.ReadAt name offset count) long =
-      read_most (chunk_count g) (stripes_met (stripe_length g) offset (min count (max - offset))) few
-      (let met : stripes_met (stripe_length g) offset (min count (max - offset)) ≤ min count (max - offset) = met_most (stripe_length g) some offset (min count (max - offset)) in omega (arith, met, size))
-  steps_most (call.Stat name) long = omega arith
-  steps_most (call.Delete name) long = omega arith
-
-  draws_most : (c : Call) → data_length c ≤ 2097152 → draw_bound g tries (note_of c) ≤ 16777216
-  draws_most (call.Put name content) long =
-      let s : ℕ = stripes_met (stripe_length g) 0 (content_length content) in
-      let low : s ≤ 2097152 = touched 0 (content_length content) long in
-      omega (arith, low)
-  draws_most (call.Write name offset content) long = mul-le tries (stripes_met (stripe_length g) offset (content_length content)) 8 2097152 less (touched offset (content_length content) long)
-  draws_most (call.Get name) long = omega arith
-  draws_most (call.ReadAt name offset count) long = omega arith
-  draws_most (call.Stat name) long = omega arith
-  draws_most (call.Delete name) long = omega arith
+-- ---- the versions of one call
+draws_most : (g : Shape) (tries : ℕ) → 0 < stripe_length g → tries ≤ 8 → (c : Call) → data_length c ≤ 2097152 → draw_bound g tries (note_of c) ≤ 16777216
+draws_most g tries some less (call.Put name content) long =
+    let low : stripes_met (stripe_length g) 0 (content_length content) ≤ 2097152 = met_below g some 0 (content_length content) 2097152 long in
+    omega (arith, low)
+draws_most g tries some less (call.Write name offset content) long =
+    mul-le tries (stripes_met (stripe_length g) offset (content_length content)) 8 2097152 less (met_below g some offset (content_length content) 2097152 long)
+draws_most g tries some less (call.Get name) long = omega arith
+draws_most g tries some less (call.ReadAt name offset count) long = omega arith
+draws_most g tries some less (call.Stat name) long = omega arith
+draws_most g tries some less (call.Delete name) long = omega arith
 
 -- ---- sums
--- of the jobs that are left
-jobs_most : (f : Job → ℕ) (most n : ℕ) (jobs : List Job) → length jobs ≤ 4096 → All (λ job. f job ≤ most) jobs → sum_by f (drop n jobs) ≤ 4096 * most
-jobs_most f most n jobs short all =
-    let sum : sum_by f (drop n jobs) ≤ length (drop n jobs) * most = sum_by-le f most (drop n jobs) (All-drop (λ (job : Job). f job ≤ most) n jobs all) in
-    let left : length (drop n jobs) ≡ length jobs - n = length-drop n jobs in
-    let few : length (drop n jobs) ≤ 4096 = omega (arith, left, short) in
-    let product : length (drop n jobs) * most ≤ 4096 * most = mul-le-mul_right most few in
-    let a : ℕ = sum_by f (drop n jobs) in
-    let b : ℕ = length (drop n jobs) * most in
-    let c : ℕ = 4096 * most in
-    let first : a ≤ b = sum in
-    let then : b ≤ c = product in
-    let all : a ≤ c = omega (arith, first, then) in
-    all
-
--- of the actors
-actors_most : (f : Work → Calling → ℕ) (most : ℕ) (works : List Work) (callings : List Calling) → ((i : ℕ) (work : Work) (calling : Calling) → slice_get works i ≡ Some work → f work calling ≤ most)
-    → sum_by (λ (both : Work × Calling). f both.0 both.1) (zip works callings) ≤ length works * most
-actors_most f most works callings each =
-    let below : sum_by (λ (both : Work × Calling). f both.0 both.1) (zip works callings) ≤ sum_by (λ (both : Work × Calling). most) (zip works callings) =
-    sum_below f (λ work calling. most) works callings (λ i work calling is_work is_calling. each i work calling is_work) in
-    let sum : sum_by (λ (both : Work × Calling). most) (zip works callings) ≤ length (zip works callings) * most = sum_by-le (λ (both : Work × Calling). most) most (zip works callings) (λ k d within. omega arith) in
-    let count : length (zip works callings) ≡ min (length works) (length callings) = length-zip works callings in
-    let few : length (zip works callings) ≤ length works = omega (arith, count) in
-    let product : length (zip works callings) * most ≤ length works * most = mul-le-mul_right most few in
-    let a : ℕ = sum_by (λ (both : Work × Calling). f both.0 both.1) (zip works callings) in
-    let b : ℕ = sum_by (λ (both : Work × Calling). most) (zip works callings) in
-    let c : ℕ = length (zip works callings) * most in
-    let d : ℕ = length works * most in
-    let one : a ≤ b = below in
-    let two : b ≤ c = sum in
-    let three : c ≤ d = product in
-    let all : a ≤ d = omega (arith, one, two, three) in
-    all
-
 module _ (script : Script) (geometry : IsGeometry script.geometry) (valid : IsValid script) (can : CanRun script) where
-  pub servers : chunk_count script.geometry ≤ 24
-  servers = let one : chunk_count script.geometry ≤ node_count script.geometry = geometry.chunks in let two : node_count script.geometry ≤ 24 = geometry.nodes in omega (arith, one, two)
-
-  pub size : size_of script ≤ 1048576
-  size = by script.size valid.limits.size
-    where
-      by : (found : Option ℕ) → IfSome found (λ n. (1 ≤ n) × (n ≤ 1048576)) → unwrap_or found 65536 ≤ 1048576
-      by None h = omega arith
-      by (Some n) h = h.1
-
-  pub tries : tries_of script ≤ 8
-  tries = by script.tries valid.limits.tries
-    where
-      by : (found : Option ℕ) → IfSome found (λ n. (1 ≤ n) × (n ≤ 8)) → unwrap_or found 8 ≤ 8
-      by None h = omega arith
-      by (Some n) h = h.1
-
-  -- a client's calls
-  pub client_most : (f : Job → ℕ) (most : ℕ) → ((c : Call) → data_length c ≤ 2097152 → f (job_of c) ≤ most) → (i n : ℕ) (work : Work) → slice_get (client_work script) i ≡ Some work → sum_by f (drop n work.jobs) ≤ 4096 * most
-  client_most f most each i n work is_work =
-      let of : Mapped (λ (part : ClientPart). record { jobs = map job_of part.calls; leave = part.leave }) script.clients i work =
-      mapped (λ (part : ClientPart). record { jobs = map job_of part.calls; leave = part.leave }) script.clients i work is_work in
-      let few : length of.source.calls ≤ 4096 = at_all (λ (p : ClientPart). length p.calls ≤ 4096) script.clients i of.source valid.limits.client_calls of.found in
-      let long : All (λ (c : Call). data_length c ≤ 2097152) of.source.calls =
-      at_all (λ (p : ClientPart). All (λ c. data_length c ≤ 2097152) p.calls) script.clients i of.source valid.limits.data_lengths of.found in
-      let count : length (map job_of of.source.calls) ≡ length of.source.calls = length-map of.source.calls job_of in
-      subst (λ (w : Work). sum_by f (drop n w.jobs) ≤ 4096 * most) of.is_image
-      (jobs_most f most n (map job_of of.source.calls) (omega (arith, count, few)) (All-map (λ (job : Job). f job ≤ most) job_of of.source.calls (λ k d within. each _ (long k d within))))
-
-  -- a repairer's
-  pub repairer_most : (f : Job → ℕ) (most : ℕ) → ((c : RebuildCall) → f (rebuild_job c) ≤ most) → (i n : ℕ) (work : Work) → slice_get (repairer_work script) i ≡ Some work → sum_by f (drop n work.jobs) ≤ 4096 * most
-  repairer_most f most each i n work is_work =
-      let of : Mapped (λ (part : RepairPart). record { jobs = map rebuild_job part.calls; leave = part.leave }) script.repairers i work =
-      mapped (λ (part : RepairPart). record { jobs = map rebuild_job part.calls; leave = part.leave }) script.repairers i work is_work in
-      let few : length of.source.calls ≤ 4096 = at_all (λ (p : RepairPart). length p.calls ≤ 4096) script.repairers i of.source valid.limits.repairer_calls of.found in
-      let count : length (map rebuild_job of.source.calls) ≡ length of.source.calls = length-map of.source.calls rebuild_job in
-      subst (λ (w : Work). sum_by f (drop n w.jobs) ≤ 4096 * most) of.is_image
-      (jobs_most f most n (map rebuild_job of.source.calls) (omega (arith, count, few)) (All-map (λ (job : Job). f job ≤ most) rebuild_job of.source.calls (λ k d within. each _)))
-
-  abbrev pub steps_by : Job → ℕ
-  steps_by job = step_bound script.geometry (size_of script) (tries_of script) job.note
-
   abbrev draws_by : Job → ℕ
   draws_by job = draw_bound script.geometry (tries_of script) job.note
 
-  client_count : length (client_work script) ≤ 64
-  client_count =
-      let same : length (client_work script) ≡ length script.clients = length-map script.clients (λ (part : ClientPart). record { jobs = map job_of part.calls; leave = part.leave }) in
-      let few : length script.clients ≤ 64 = valid.limits.clients in
-      omega (arith, same, few)
-
-  repairer_count : length (repairer_work script) ≤ 16
-  repairer_count =
-      let same : length (repairer_work script) ≡ length script.repairers = length-map script.repairers (λ (part : RepairPart). record { jobs = map rebuild_job part.calls; leave = part.leave }) in
-      let few : length script.repairers ≤ 16 = valid.limits.repairers in
-      omega (arith, same, few)
+  abbrev sum_of : (Work → Calling → ℕ) → List Work → List Calling → ℕ
+  sum_of f works callings = sum_by (λ (both : Work × Calling). f both.0 both.1) (zip works callings)
 
   -- less than was there
   fewer : (a b c : ℕ) → a ≤ c → a - b ≤ c
   fewer a b c h = omega (arith, h)
 
-  client_steps : (callings : List Calling) → sum_by (λ (both : Work × Calling). steps_left script both.0 both.1) (zip (client_work script) callings) ≤ 64 * 2199023255552
+  client_steps : (callings : List Calling) → sum_of (steps_left script) (client_work script) callings ≤ 64 * 2199023255552
   client_steps callings =
-      let sum : sum_by (λ (both : Work × Calling). steps_left script both.0 both.1) (zip (client_work script) callings) ≤ length (client_work script) * 2199023255552 =
-      actors_most (steps_left script) 2199023255552 (client_work script) callings
-      (λ i work calling is_work.
-      fewer (sum_by steps_by (drop (length calling.ended) work.jobs)) calling.steps 2199023255552
-      (client_most steps_by 536870912 (λ c long. steps_most script.geometry (size_of script) (tries_of script) can.some servers size tries c long) i (length calling.ended) work is_work)) in
-      let product : length (client_work script) * 2199023255552 ≤ 64 * 2199023255552 = mul-le-mul_right 2199023255552 client_count in
-      omega (arith, sum, product)
+      le_trans
+      (actors_most (steps_left script) 2199023255552 (client_work script) callings
+      (λ i work calling is_work is_calling. fewer _ calling.steps 2199023255552 (client_steps_most script geometry valid can.some i (length calling.ended) work is_work)))
+      (mul-le-mul_right 2199023255552 (client_count script geometry valid))
 
-  client_draws : (callings : List Calling) → sum_by (λ (both : Work × Calling). draws_left script both.0 both.1) (zip (client_work script) callings) ≤ 64 * 68719476736
+  client_draws : (callings : List Calling) → sum_of (draws_left script) (client_work script) callings ≤ 64 * 68719476736
   client_draws callings =
-      let sum : sum_by (λ (both : Work × Calling). draws_left script both.0 both.1) (zip (client_work script) callings) ≤ length (client_work script) * 68719476736 =
-      actors_most (draws_left script) 68719476736 (client_work script) callings
-      (λ i work calling is_work. client_most draws_by 16777216 (λ c long. draws_most script.geometry (size_of script) (tries_of script) can.some servers size tries c long) i (length calling.ended) work is_work) in
-      let product : length (client_work script) * 68719476736 ≤ 64 * 68719476736 = mul-le-mul_right 68719476736 client_count in
-      omega (arith, sum, product)
+      le_trans
+      (actors_most (draws_left script) 68719476736 (client_work script) callings
+      (λ i work calling is_work is_calling.
+      client_most script geometry valid draws_by 16777216 (λ c long. draws_most script.geometry (tries_of script) can.some (tries script geometry valid) c long) i
+      (length calling.ended) work is_work))
+      (mul-le-mul_right 68719476736 (client_count script geometry valid))
 
-  pub rebuild_steps : (c : RebuildCall) → steps_by (rebuild_job c) ≤ 75
-  rebuild_steps c = let few : chunk_count script.geometry ≤ 24 = servers in omega (arith, few)
-
-  repairer_steps : (callings : List Calling) → sum_by (λ (both : Work × Calling). steps_left script both.0 both.1) (zip (repairer_work script) callings) ≤ 16 * 307200
+  repairer_steps : (callings : List Calling) → sum_of (steps_left script) (repairer_work script) callings ≤ 16 * 307200
   repairer_steps callings =
-      let sum : sum_by (λ (both : Work × Calling). steps_left script both.0 both.1) (zip (repairer_work script) callings) ≤ length (repairer_work script) * 307200 =
-      actors_most (steps_left script) 307200 (repairer_work script) callings
-      (λ i work calling is_work.
-      fewer (sum_by steps_by (drop (length calling.ended) work.jobs)) calling.steps 307200 (repairer_most steps_by 75 rebuild_steps i (length calling.ended) work is_work)) in
-      let product : length (repairer_work script) * 307200 ≤ 16 * 307200 = mul-le-mul_right 307200 repairer_count in
-      omega (arith, sum, product)
+      le_trans
+      (actors_most (steps_left script) 307200 (repairer_work script) callings
+      (λ i work calling is_work is_calling. fewer _ calling.steps 307200 (repairer_steps_most script geometry valid i (length calling.ended) work is_work)))
+      (mul-le-mul_right 307200 (repairer_count script geometry valid))
 
-  repairer_draws : (callings : List Calling) → sum_by (λ (both : Work × Calling). draws_left script both.0 both.1) (zip (repairer_work script) callings) ≤ 16 * 4096
+  repairer_draws : (callings : List Calling) → sum_of (draws_left script) (repairer_work script) callings ≤ 16 * 4096
   repairer_draws callings =
-      let sum : sum_by (λ (both : Work × Calling). draws_left script both.0 both.1) (zip (repairer_work script) callings) ≤ length (repairer_work script) * 4096 =
-      actors_most (draws_left script) 4096 (repairer_work script) callings
-      (λ i work calling is_work. repairer_most draws_by 1 (λ c. omega arith) i (length calling.ended) work is_work) in
-      let product : length (repairer_work script) * 4096 ≤ 16 * 4096 = mul-le-mul_right 4096 repairer_count in
-      omega (arith, sum, product)
+      le_trans
+      (actors_most (draws_left script) 4096 (repairer_work script) callings
+      (λ i work calling is_work is_calling. repairer_most script geometry valid draws_by 1 (λ c. omega arith) i (length calling.ended) work is_work))
+      (mul-le-mul_right 4096 (repairer_count script geometry valid))
 
   summed : (steps more sweeps draws others : ℕ) → steps ≤ 64 * 2199023255552 → more ≤ 16 * 307200 → sweeps ≤ 26 → draws ≤ 64 * 68719476736 → others ≤ 16 * 4096
       → steps + more + sweeps * (0 + (draws + others)) < 2 ^ 64 - 1
@@ -230,9 +83,8 @@ module _ (script : Script) (geometry : IsGeometry script.geometry) (valid : IsVa
   -- the sum of all
   pub fuel_fits : fuel_of script (first_core script) < 2 ^ 64 - 1
   fuel_fits =
-      summed (sum_by (λ (both : Work × Calling). steps_left script both.0 both.1) (zip (client_work script) (first_core script).clients))
-      (sum_by (λ (both : Work × Calling). steps_left script both.0 both.1) (zip (repairer_work script) (first_core script).repairers)) (sweep_bound script.geometry)
-      (sum_by (λ (both : Work × Calling). draws_left script both.0 both.1) (zip (client_work script) (first_core script).clients))
-      (sum_by (λ (both : Work × Calling). draws_left script both.0 both.1) (zip (repairer_work script) (first_core script).repairers))
-      (client_steps (first_core script).clients) (repairer_steps (first_core script).repairers) (let few : chunk_count script.geometry ≤ 24 = servers in omega (arith, few))
+      summed (sum_of (steps_left script) (client_work script) (first_core script).clients) (sum_of (steps_left script) (repairer_work script) (first_core script).repairers)
+      (sweep_bound script.geometry) (sum_of (draws_left script) (client_work script) (first_core script).clients)
+      (sum_of (draws_left script) (repairer_work script) (first_core script).repairers) (client_steps (first_core script).clients)
+      (repairer_steps (first_core script).repairers) (let few : chunk_count script.geometry ≤ 24 = servers script geometry valid in omega (arith, few))
       (client_draws (first_core script).clients) (repairer_draws (first_core script).repairers)
