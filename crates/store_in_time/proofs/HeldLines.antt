@@ -27,18 +27,22 @@ use Rattle.store_core.specs.Told.{Told}
 use Rattle.store_core.specs.Work.{Work, Calling, client_work, repairer_work, new_calling}
 use Rattle.store_calls.specs.GatherLaws.{Tells}
 use Rattle.store_runs.proofs.ActorSteps.{InWork}
+use Rattle.store_runs.proofs.DirectoryInvariants.{StepsKeep, runs_hold}
 use Rattle.store_runs.proofs.Groups.{slice_changed}
 use Rattle.store_runs.proofs.Runs.{CanRun, IsOperatorAct}
 use Rattle.store_runs.proofs.RunsSound.{RunKeeps}
 use Rattle.store_runs.proofs.Scripts.{can_run, replicated}
+use Rattle.store_sound.specs.DrawnLaws.{DrawnAreBeingWritten}
+use Rattle.store_sound.proofs.DrawnPasses.{steps_keep_drawn}
 use Rattle.store_sound.proofs.Passes.{pass_is}
+use Rattle.store_sound.proofs.SoundVersions.{stands_at}
 use Rattle.store_history.proofs.ActorLines.{each_changed}
 use Rattle.store_history.proofs.AnsweredPoints.{act_grows}
 use Rattle.store_history.proofs.AtWork.{AtWork, client_at, repairer_at, pass_number, first, act, after}
 use Rattle.store_history.proofs.GivenUpRuns.{told_either}
 use Rattle.store_history.proofs.Induction.{client_after, repairer_after, operator_after, sweeper_after}
 use Rattle.store_history.proofs.ReapedPasses.{sweeps_apart}
-use Rattle.store_in_time.specs.Held.{IsNotSwept, WasGivenUp, IsStray, MayBeHeld, RunsHoldWhatTheyMay}
+use Rattle.store_in_time.specs.Held.{IsKept, WasGivenUp, IsStray, MayBeHeld, RunsHoldWhatTheyMay}
 use Rattle.store_in_time.specs.Moments.{Happened}
 use Rattle.store_in_time.specs.Steps.{run_trace}
 use Rattle.store_in_time.specs.Trace.{Made, call_made, act_made}
@@ -301,20 +305,28 @@ module _ (script : Script) (can : CanRun script) (some : 0 < script.geometry.par
   all_held : (shortages : List Shortage) (tokens : List Token) → HeldSoFar script (run_trace script shortages tokens) (run_core script shortages tokens)
   all_held shortages tokens = (run_traced script can (HeldSoFar script) held_kept shortages first_held tokens).1
 
+-- ---- versions that stand as drawn
+drawn_kept : (script : Script) → StepsKeep script DrawnAreBeingWritten
+drawn_kept script =
+    record {
+      first = steps_keep_drawn.first script.geometry (size_of script);
+      step = λ short who number step d some sound before may is_of_call. steps_keep_drawn.step short who number step d some sound before may;
+    }
+
 -- ---- as the law says it
-module _ (script : Script) (trace : List Made) (core : Core) (has : HeldThen trace core.directory core.servers core.sweeper) where
+module _ (script : Script) (trace : List Made) (core : Core) (drawn : DrawnAreBeingWritten core.directory) (has : HeldThen trace core.directory core.servers core.sweeper) where
   one : (j : ℕ) (s : Server) → slice_get core.servers j ≡ Some s → (v : ℕ) → is_among v s.held ≡ true → MayBeHeld trace core v
   one j s e v is = (there.0, there.1, by there.0.standing refl)
     where
       there : (version : Version) × (slice_get core.directory.versions v ≡ Some version)
       there = has.there j s e v is
 
-      by : (standing : Standing) → there.0.standing ≡ standing → IsNotSwept there.0.standing ⊎ IsStray trace core.directory.points v
+      by : (standing : Standing) → there.0.standing ≡ standing → IsKept core.directory v there.0.standing ⊎ IsStray trace core.directory.points v
       by Standing.Swept same = inr (has.swept j s e v is there.0 there.1 same)
-      by Standing.Drawn same = inl (subst IsNotSwept (sym same) tt)
-      by Standing.Current same = inl (subst IsNotSwept (sym same) tt)
-      by Standing.Superseded same = inl (subst IsNotSwept (sym same) tt)
-      by Standing.Taken same = inl (subst IsNotSwept (sym same) tt)
+      by Standing.Drawn same = inl (subst (IsKept core.directory v) (sym same) (drawn v (stands_at core.directory.versions Standing.Drawn v there.0 there.1 same)))
+      by Standing.Current same = inl (subst (IsKept core.directory v) (sym same) tt)
+      by Standing.Superseded same = inl (subst (IsKept core.directory v) (sym same) tt)
+      by Standing.Taken same = inl (subst (IsKept core.directory v) (sym same) tt)
 
   all_versions : (held : List ℕ) → ((v : ℕ) → is_among v held ≡ true → MayBeHeld trace core v) → All (MayBeHeld trace core) held
   all_versions [] h = All-nil (MayBeHeld trace core)
@@ -331,5 +343,7 @@ pub runs_hold_what_they_may : RunsHoldWhatTheyMay
 runs_hold_what_they_may script shortages geometry valid tokens =
     let some : 0 < script.geometry.parity_count = (let two : 2 ≤ script.geometry.parity_count = geometry.limits.parity_chunks.0 in omega (arith, two)) in
     let core : Core = run_core script shortages tokens in
-    let all : HeldSoFar script (run_trace script shortages tokens) core = all_held script (can_run script geometry valid) some shortages tokens in
-    all_servers script (run_trace script shortages tokens) core all.held 0 core.servers (λ j s e. subst (λ n. slice_get core.servers n ≡ Some s) (let same : j ≡ 0 + j = omega arith in same) e)
+    let can : CanRun script = can_run script geometry valid in
+    let all : HeldSoFar script (run_trace script shortages tokens) core = all_held script can some shortages tokens in
+    let drawn : DrawnAreBeingWritten core.directory = (runs_hold script DrawnAreBeingWritten (drawn_kept script) can shortages tokens).holds in
+    all_servers script (run_trace script shortages tokens) core drawn all.held 0 core.servers (λ j s e. subst (λ n. slice_get core.servers n ≡ Some s) (let same : j ≡ 0 + j = omega arith in same) e)

@@ -1,4 +1,4 @@
--- What servers may hold in a run: versions that are not yet swept, and strays of calls that were given up.
+-- What servers may hold at each moment of a run: versions that are in use or not yet swept, and strays of calls that were given up.
 use Rattle.std.specs.Prelude.{◌≡◌, ◌⊎◌, ℕ, List, Some, All, Contains, ⊤}
 use Rattle.std.specs.List.{slice_get}
 use Rattle.clay_grid.specs.Limits.{IsGeometry}
@@ -7,21 +7,23 @@ use Rattle.store_map.specs.declared.actor.Actor.{Actor}
 use Rattle.store_map.specs.declared.actor.Token.{Token}
 use Rattle.store_map.specs.declared.script.Script.{Script}
 use Rattle.store_core.specs.Core.{Core}
-use Rattle.store_core.specs.Directory.{Standing, Version, Event, Point}
+use Rattle.store_core.specs.Directory.{Standing, Version, Event, Point, Directory}
 use Rattle.store_core.specs.PlaceLaws.{new_versions}
 use Rattle.store_core.specs.Schedule.{run_core}
 use Rattle.store_core.specs.Server.{Server}
 use Rattle.store_core.specs.Step.{Shortage}
 use Rattle.store_core.specs.Told.{Seen}
+use Rattle.store_sound.specs.DrawnLaws.{IsBeingWritten}
 use Rattle.store_in_time.specs.LostChunks.{TellsSeen}
 use Rattle.store_in_time.specs.Moments.{Happened}
 use Rattle.store_in_time.specs.Steps.{run_trace}
 use Rattle.store_in_time.specs.Trace.{Made}
 
--- current, drawn, superseded, or taken and not yet swept
-abbrev pub IsNotSwept : Standing → Type 0
-IsNotSwept Standing.Swept = ⊥
-IsNotSwept standing = ⊤
+-- a version that stands so is current, superseded, or taken and not yet swept; or it was drawn by a pass that has not ended
+abbrev pub IsKept : Directory → ℕ → Standing → Type 0
+IsKept d version Standing.Drawn = IsBeingWritten d version
+IsKept d version Standing.Swept = ⊥
+IsKept d version standing = ⊤
 
 -- an actor's call was given up
 abbrev pub WasGivenUp : List Point → Actor → ℕ → Type 0
@@ -42,9 +44,9 @@ IsStray trace points version =
 -- a version that may be held
 abbrev pub MayBeHeld : List Made → Core → ℕ → Type 0
 MayBeHeld trace core number =
-    (version : Version) × (slice_get core.directory.versions number ≡ Some version) × (IsNotSwept version.standing ⊎ IsStray trace core.directory.points number)
+    (version : Version) × (slice_get core.directory.versions number ≡ Some version) × (IsKept core.directory number version.standing ⊎ IsStray trace core.directory.points number)
 
--- in every run servers hold no other
+-- at each moment of every run servers hold no other: after any tokens, and so between any two steps
 abbrev pub RunsHoldWhatTheyMay : Type 0
 RunsHoldWhatTheyMay =
     (script : Script) (shortages : List Shortage) → IsGeometry script.geometry → IsValid script → (tokens : List Token) →

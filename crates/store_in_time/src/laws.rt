@@ -36,8 +36,8 @@ pub fn runs_show_causes()
     ensures { RunsShowCauses }
 {}
 
-/// In every run each version that a server holds is not yet swept, or a call that was given up drew it or
-/// looked at it.
+/// At each moment of every run each version that a server holds is current, or superseded and not yet
+/// swept, or drawn by a pass that has not ended; or a call that was given up drew it or looked at it.
 pub fn runs_hold_what_they_may()
     ensures { RunsHoldWhatTheyMay }
 {}

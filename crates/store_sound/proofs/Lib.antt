@@ -17,6 +17,7 @@ pub mod SoundLook
 pub mod SoundChanged
 pub mod SoundCommit
 pub mod SoundSteps
+pub mod DrawnPasses
 pub mod Beside
 pub mod BesideSteps
 pub mod OwnSteps

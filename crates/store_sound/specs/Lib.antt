@@ -1,2 +1,3 @@
 pub mod SoundLaws
 pub mod AgreementLaws
+pub mod DrawnLaws

@@ -1,6 +1,7 @@
 //! What the definitions say, as functions that do nothing and whose contracts are the laws.
 
 ghost use Rattle.store_sound.specs.SoundLaws.{StepsKeepSound};
+ghost use Rattle.store_sound.specs.DrawnLaws.{StepsKeepDrawn};
 ghost use Rattle.store_sound.specs.AgreementLaws.{StepsMayBeMade, AgreementGoesOn};
 
 /// A directory without objects is sound, and each step that may be made leaves a sound directory
@@ -8,6 +9,12 @@ ghost use Rattle.store_sound.specs.AgreementLaws.{StepsMayBeMade, AgreementGoesO
 /// and each pass has what it pinned and drew.
 pub fn steps_keep_a_directory_sound()
     ensures { StepsKeepSound }
+{}
+
+/// Each version that stands as drawn was drawn by a pass that has not ended and wasn't reaped: so it is in
+/// a directory without objects, and after each step that may be made at a sound directory where it is so.
+pub fn steps_keep_drawn_versions_in_passes()
+    ensures { StepsKeepDrawn }
 {}
 
 /// What an actor does next with its seat or its pass may be done: with a seat a look of its own under
