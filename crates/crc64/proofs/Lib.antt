@@ -1,0 +1,4 @@
+pub mod Division
+pub mod Lookups
+pub mod Degrees
+pub mod Bursts

@@ -1,0 +1,22 @@
+//! Checksums that liblzma writes.
+use crate::Crc64;
+use std::alloc::AllocError;
+
+#[test]
+fn computes_known_checksums(rt: HostRuntime) -> Result<(), AllocError> {
+    let crc = Crc64::new(rt.alloc())?;
+    let zeros = vec![in rt.alloc(); 0u8; 1000]?;
+    assert_eq!(rt; crc.checksum(b""), 0);
+    assert_eq!(rt; crc.checksum(b"a"), 0x3302_8477_2E65_2B05);
+    assert_eq!(rt; crc.checksum(b"123456789"), 0x995D_C9BB_DF19_39FA);
+    assert_eq!(rt; crc.checksum(&zeros), 0x372A_E22B_EC8A_254F);
+    Ok(())
+}
+
+#[test]
+fn goes_on_in_pieces(rt: HostRuntime) -> Result<(), AllocError> {
+    let crc = Crc64::new(rt.alloc())?;
+    let first = crc.checksum(b"1234");
+    assert_eq!(rt; crc.extended(first, b"56789"), 0x995D_C9BB_DF19_39FA);
+    Ok(())
+}
