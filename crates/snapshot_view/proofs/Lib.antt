@@ -8,5 +8,6 @@ pub mod Standing
 pub mod Taken
 pub mod Staying
 pub mod Needs
+pub mod InTime
 pub mod Ranging
 pub mod Replying

@@ -10,3 +10,4 @@ pub mod Reads
 pub mod ReadSteps
 pub mod Inside
 pub mod ReadInside
+pub mod InTime
