@@ -32,7 +32,7 @@ use crate::steps::{on_coder, step_at_directory, step_at_server};
 use call_machine::CallMachine;
 use call_steps::{Act, DirectoryAnswer, Need, ServerAnswer};
 use chunk_server::Server;
-use clay_repair::Coder;
+use clay_model::Coder;
 use std::alloc::{AllocError, Global};
 use std::marker::Model;
 use std::snapshot::Snapshot;

@@ -13,7 +13,7 @@ ghost use Rattle.actors.specs.Steps.{GoesToDirectory, GoesToServer, IsCoded, IsM
 use call_machine::CallMachine;
 use call_steps::{DirectoryAnswer, Need, ServerAnswer};
 use chunk_server::Server;
-use clay_repair::Coder;
+use clay_model::Coder;
 use std::snapshot::Snapshot;
 use std::thread::Threads;
 use stripe_dir::Directory;

@@ -23,7 +23,7 @@ ghost use Rattle.call_machine.specs.Ends.{IfBytesServed};
 use crate::ends::{of_client, of_rebuild};
 use call_steps::{Act, DirectoryAnswer, Need, ServerAnswer};
 use chunk_server::Server;
-use clay_repair::Coder;
+use clay_model::Coder;
 use client_patch::PatchCall;
 use client_put::PutCall;
 use client_read::ReadCall;

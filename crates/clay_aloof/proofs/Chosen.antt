@@ -6,8 +6,8 @@ use Rattle.clay_grid.specs.Shape.{node_count}
 use Rattle.clay_grid.specs.Score.{count_below}
 use Rattle.clay_grid.proofs.Counting.{count_below_same, count_below_false, count_below_true, count_below_one}
 use Rattle.clay_model.proofs.SumLaws.{one_if}
-use Rattle.clay_scalar.specs.Erased.{erased_below}
-use Rattle.clay_decode.proofs.Nodes.{length-erased_below}
+use Rattle.clay_model.specs.Erased.{erased_below}
+use Rattle.code_laws.proofs.Nodes.{length-erased_below}
 use Rattle.clay_aloof.specs.Shape.{AloofShape, all_chunks, grid_of, node_of, is_virtual_node, chunk_at}
 use Rattle.clay_aloof.specs.Limits.{IsAloof}
 use Rattle.clay_aloof.specs.Repair.{HelpersFit}

@@ -12,13 +12,13 @@ use Rattle.clay_grid.proofs.LayerLaws.{IsLayer-digits_of, index_of-lt, index_of-
 use Rattle.clay_model.specs.Coupling.{node_at}
 use Rattle.clay_model.specs.Code.{AgreesWith}
 use Rattle.clay_model.proofs.Unique.{row_of, node_below}
-use Rattle.clay_scalar.specs.Points.{AreDistinct}
-use Rattle.clay_encode.proofs.Parts.{piece_fits, place_below, bytes_everywhere}
-use Rattle.clay_decode.specs.Left.{parts}
-use Rattle.clay_decode.proofs.Nodes.{long_chunk}
-use Rattle.clay_decode.proofs.Agreeing.{agrees_of}
-use Rattle.clay_repair.specs.Parts.{subchunks_at}
-use Rattle.clay_repair.proofs.Places.{subchunk_at, length-subchunks}
+use Rattle.clay_model.specs.Points.{AreDistinct}
+use Rattle.code_laws.proofs.Pieces.{piece_fits, place_below, bytes_everywhere}
+use Rattle.clay_model.specs.Left.{parts}
+use Rattle.code_laws.proofs.Nodes.{long_chunk}
+use Rattle.code_laws.proofs.Agreeing.{agrees_of}
+use Rattle.clay_model.specs.RepairParts.{subchunks_at}
+use Rattle.code_laws.proofs.Places.{subchunk_at, length-subchunks}
 use Rattle.clay_aloof.specs.Shape.{AloofShape, all_chunks, rows_of, grid_of, node_of, is_virtual_node, chunk_at}
 use Rattle.clay_aloof.specs.Limits.{IsAloof}
 use Rattle.clay_aloof.specs.Code.{coupled_value, IsCodeword}

@@ -8,10 +8,10 @@ use Rattle.clay_grid.specs.Shape.{column_count, node_count, layer_count, chunk_l
 use Rattle.clay_grid.specs.Layers.{layer_of, IsLayer}
 use Rattle.clay_grid.proofs.LayerLaws.{IsLayer-digits_of}
 use Rattle.clay_model.proofs.Unique.{row_of}
-use Rattle.clay_encode.proofs.Parts.{put_mid_before, put_mid_within, place_below}
+use Rattle.code_laws.proofs.Pieces.{put_mid_before, put_mid_within, place_below}
 use Rattle.std.proofs.lemmas.Bool.{cases_eq}
 use borrow.Rule.Slice.PartMut.{put_mid}
-use Rattle.clay_decode.specs.Partners.{ArePartners}
+use Rattle.clay_model.specs.Partners.{ArePartners}
 use Rattle.clay_aloof.specs.Shape.{AloofShape, all_chunks, rows_of, grid_of, node_of}
 use Rattle.clay_aloof.specs.Limits.{IsAloof}
 use Rattle.clay_aloof.specs.Code.{coupled_value}

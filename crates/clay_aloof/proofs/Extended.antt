@@ -17,8 +17,8 @@ use Rattle.clay_model.specs.Pairs.{AreUncoupled}
 use Rattle.clay_model.proofs.SumLaws.{equal_from_sum, sum_below_same, sum_below-xor, product_swap, all_zero}
 use Rattle.clay_model.proofs.PairLaws.{AreCoupled-uncoupled}
 use Rattle.clay_model.proofs.Unique.{score, score_of_partner, uncoupled_alone, uncoupled_paired, uncoupled_partner, uncoupled_byte, row_of, node_below}
-use Rattle.clay_scalar.specs.Erased.{erased_below}
-use Rattle.clay_decode.proofs.Nodes.{length-erased_below}
+use Rattle.clay_model.specs.Erased.{erased_below}
+use Rattle.code_laws.proofs.Nodes.{length-erased_below}
 use Rattle.clay_aloof.specs.Filled.{Fills}
 use Rattle.clay_aloof.proofs.Filled.{codes_filled}
 

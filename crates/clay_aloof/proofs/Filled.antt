@@ -13,10 +13,10 @@ use Rattle.clay_model.specs.Coupling.{node_at, uncoupled}
 use Rattle.clay_model.proofs.SumLaws.{sum_below_same}
 use Rattle.clay_model.proofs.PairLaws.{one_and_four, AreUncoupled-coupled}
 use Rattle.clay_model.proofs.Unique.{score, score_of_partner, uncoupled_alone, uncoupled_paired, row_of}
-use Rattle.clay_scalar.specs.Points.{AreDistinct, sum_over}
-use Rattle.clay_scalar.specs.Erased.{erased_below, present}
-use Rattle.clay_scalar.proofs.ErasedNodes.{erased_rise, AreDistinct-erased, sums_make_up}
-use Rattle.clay_scalar.proofs.PointSums.{AreApart, Solves, solution}
+use Rattle.clay_model.specs.Points.{AreDistinct, sum_over}
+use Rattle.clay_model.specs.Erased.{erased_below, present}
+use Rattle.code_laws.proofs.ErasedNodes.{erased_rise, AreDistinct-erased, sums_make_up}
+use Rattle.code_laws.proofs.PointSums.{AreApart, Solves, solution}
 use Rattle.clay_aloof.specs.Filled.{CodesAreFilled}
 
 -- ---- the erased nodes as points

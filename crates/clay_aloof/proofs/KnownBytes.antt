@@ -5,7 +5,7 @@ use Rattle.std.proofs.lemmas.Nat.{mod_below, div_below, div-mul-add, mod-mul-add
 use Rattle.std.proofs.lemmas.List.{get_or_past, get_or-set_same, get_or-set_other, get_or-take, get_or-drop, get_or-replicate, get_or_push, get_or_append_left}
 use Rattle.std.proofs.lemmas.List.FromFn.{get_or-map-range_with_len, length-map-range_with_len}
 use Rattle.clay_grid.specs.Shape.{Shape, node_count, virtual_count, layer_count, chunk_length}
-use Rattle.clay_encode.proofs.Parts.{place_below, piece_fits}
+use Rattle.code_laws.proofs.Pieces.{place_below, piece_fits}
 use Rattle.clay_aloof.specs.Shape.{AloofShape, all_chunks, grid_of, stripe_bytes, node_of, is_virtual_node}
 use Rattle.clay_aloof.specs.Limits.{IsAloof}
 use Rattle.clay_aloof.specs.Repair.{aloof_layers_of, part_bytes, AreParts}

@@ -6,7 +6,7 @@ use Rattle.std.proofs.lemmas.List.Edits.{get_or-between, length-between}
 use Rattle.std.proofs.lemmas.List.FromFn.{get_or-map-range_with_len, length-map-range_with_len}
 use Rattle.clay_grid.specs.Shape.{layer_count, chunk_length}
 use Rattle.clay_grid.specs.Layers.{layer_of}
-use Rattle.clay_encode.proofs.Parts.{put_mid_before, put_mid_within, piece_fits, place_below}
+use Rattle.code_laws.proofs.Pieces.{put_mid_before, put_mid_within, piece_fits, place_below}
 use borrow.Rule.Slice.PartMut.{put_mid}
 use Rattle.clay_aloof.specs.Shape.{AloofShape, all_chunks, grid_of, stripe_bytes, node_of}
 use Rattle.clay_aloof.specs.Code.{Codes}

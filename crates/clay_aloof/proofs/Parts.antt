@@ -10,10 +10,10 @@ use Rattle.clay_grid.specs.Layers.{layer_of}
 use Rattle.clay_grid.specs.Score.{GoesBefore, IsByScore}
 use Rattle.clay_grid.proofs.Rising.{Lists-filter}
 use Rattle.clay_model.specs.Coupling.{HasZeroSums}
-use Rattle.clay_encode.proofs.Parts.{piece_fits}
-use Rattle.clay_decode.specs.Partners.{ArePartners}
-use Rattle.clay_repair.specs.Parts.{subchunks_at}
-use Rattle.clay_repair.proofs.Places.{subchunk_at}
+use Rattle.code_laws.proofs.Pieces.{piece_fits}
+use Rattle.clay_model.specs.Partners.{ArePartners}
+use Rattle.clay_model.specs.RepairParts.{subchunks_at}
+use Rattle.code_laws.proofs.Places.{subchunk_at}
 use Rattle.clay_aloof.specs.Shape.{AloofShape, all_chunks, rows_of, grid_of, node_of, is_virtual_node, chunk_at}
 use Rattle.clay_aloof.specs.Limits.{IsAloof}
 use Rattle.clay_aloof.specs.Code.{coupled_value}

@@ -7,7 +7,7 @@ use Rattle.clay_grid.specs.Shape.{Shape, row_count, column_count, node_count, la
 use Rattle.clay_grid.specs.Layers.{layer_of, vertex_at, partner_of}
 use Rattle.clay_grid.proofs.LayerLaws.{get_or-digits_of, partner_vertex, partner_below, IsLayer-digits_of}
 use Rattle.clay_model.proofs.Unique.{row_of, node_below}
-use Rattle.clay_decode.specs.Partners.{ArePartners}
+use Rattle.clay_model.specs.Partners.{ArePartners}
 use Rattle.clay_aloof.specs.Partners.{stride_of, IsPlace, IsDigit, HoldsPlaces, HoldsDigits, HoldsColumns, HasTables}
 use Rattle.clay_aloof.specs.declared.partners.Place.{Place}
 use Rattle.clay_aloof.specs.declared.partners.Digit.{Digit}

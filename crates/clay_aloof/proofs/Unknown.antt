@@ -8,8 +8,8 @@ use Rattle.clay_grid.specs.Shape.{node_count, virtual_count, column_count}
 use Rattle.clay_grid.specs.Score.{count_below}
 use Rattle.clay_grid.proofs.Counting.{count_below_same, count_below_false, count_below-add, count_below_digit, count_below_one}
 use Rattle.clay_model.proofs.Unique.{row_of}
-use Rattle.clay_scalar.specs.Erased.{erased_below}
-use Rattle.clay_decode.proofs.Nodes.{length-erased_below}
+use Rattle.clay_model.specs.Erased.{erased_below}
+use Rattle.code_laws.proofs.Nodes.{length-erased_below}
 use Rattle.clay_aloof.specs.Shape.{AloofShape, all_chunks, rows_of, grid_of, node_of, chunk_at, is_virtual_node}
 use Rattle.clay_aloof.specs.Limits.{IsAloof}
 use Rattle.clay_aloof.specs.Repair.{HelpersFit}

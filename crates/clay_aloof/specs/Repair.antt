@@ -5,8 +5,8 @@ use Rattle.clay_grid.specs.Shape.{column_count}
 use Rattle.clay_grid.specs.Repair.{layers_with_digit}
 use Rattle.clay_grid.specs.Score.{count_below}
 use Rattle.clay_model.specs.Code.{AgreesWith}
-use Rattle.clay_decode.specs.Left.{parts, AreLong}
-use Rattle.clay_repair.specs.Parts.{subchunks_at}
+use Rattle.clay_model.specs.Left.{parts, AreLong}
+use Rattle.clay_model.specs.RepairParts.{subchunks_at}
 use Rattle.clay_aloof.specs.Shape.{AloofShape, all_chunks, rows_of, grid_of, node_of}
 use Rattle.clay_aloof.specs.Code.{IsCodeword}
 

@@ -1,6 +1,6 @@
 -- A worked codeword of two data chunks, three parity chunks and three helpers, with a virtual node, and a repair's parts.
 use Rattle.std.specs.Prelude.{ℕ, List, [], ◌∷◌, map}
-use Rattle.clay_repair.specs.Parts.{subchunks_at}
+use Rattle.clay_model.specs.RepairParts.{subchunks_at}
 use Rattle.clay_aloof.specs.Shape.{AloofShape}
 use Rattle.clay_aloof.specs.Repair.{aloof_layers_of}
 

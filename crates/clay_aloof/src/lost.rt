@@ -14,9 +14,8 @@ use crate::geometry::AloofGeometry;
 use crate::known::{Known, Source, piece};
 use crate::layers::{Plan, erased_points, partner_of, places_of, solved_piece, solved_values};
 use crate::partners::Partners;
-use clay_encode::zeros;
 use clay_grid::Geometry;
-use clay_kernels::{Products, cross, generator_of, halves};
+use clay_kernels::{Products, cross, generator_of, halves, zeros};
 use std::alloc::{AllocError, Global};
 
 /// The layers that a repair of a chunk reads from each helper, rising: those whose digit in the column of the chunk's node is the node's

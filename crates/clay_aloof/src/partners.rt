@@ -2,11 +2,11 @@
 ghost use Rattle.std.specs.Prelude.{◌≡◌, ◌<◌, IfOk};
 ghost use Rattle.clay_grid.specs.Shape.{column_count, node_count, layer_count};
 ghost use Rattle.clay_grid.specs.Limits.{IsGeometry};
-ghost use Rattle.clay_decode.specs.Partners.{ArePartners};
+ghost use Rattle.clay_model.specs.Partners.{ArePartners};
 ghost use Rattle.clay_aloof.specs.Partners.{IsPlace, HoldsPlaces, HoldsDigits, HoldsColumns};
 
-use clay_decode::Subchunk;
 use clay_grid::Geometry;
+use clay_model::Subchunk;
 use std::alloc::{AllocError, Global};
 use std::marker::Model;
 

@@ -2,16 +2,16 @@
 
 ghost use Rattle.std.specs.Prelude.{◌≡◌, ◌<◌, length, IfOk, IfSome, is_none, All};
 ghost use Rattle.clay_grid.specs.Shape.{chunk_count, chunk_length};
-ghost use Rattle.clay_repair.specs.Coding.{AreLeft};
-ghost use Rattle.clay_repair.specs.Parts.{AreParts};
+ghost use Rattle.clay_model.specs.Left.{AreLeft};
+ghost use Rattle.clay_model.specs.RepairParts.{AreParts};
 
 use crate::least::Least;
 use crate::words::number_at;
 use anyhow::bail;
 use clay_grid::Geometry;
 use clay_lanes::{LaneCoder, missing_count};
+use clay_model::Coder;
 use clay_par::ParCoder;
-use clay_repair::Coder;
 use std::alloc::{AllocError, Global};
 use std::thread::Threads;
 use std::time::{Clock, Duration};

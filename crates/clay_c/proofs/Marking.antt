@@ -7,8 +7,8 @@ use Rattle.clay_grid.specs.Score.{count_below}
 use Rattle.clay_grid.proofs.Counting.{count_below_same, count_below-le}
 use Rattle.clay_model.specs.Code.{AgreesWith}
 use Rattle.clay_model.proofs.SumLaws.{one_if}
-use Rattle.clay_decode.specs.Left.{parts, AreLong}
-use Rattle.clay_repair.specs.Parts.{subchunks_at}
+use Rattle.clay_model.specs.Left.{parts, AreLong}
+use Rattle.clay_model.specs.RepairParts.{subchunks_at}
 use Rattle.clay_aloof.specs.Shape.{AloofShape, all_chunks, grid_of}
 use Rattle.clay_aloof.specs.Repair.{aloof_layers_of, part_bytes, AreParts, IsRebuilt}
 use Rattle.clay_c.specs.Pieces.{piece_at}

@@ -4,7 +4,7 @@ use Rattle.std.proofs.lemmas.Bool.{cases_eq, eq-eqb, ne_eqb, true≢false}
 use Rattle.std.proofs.lemmas.List.{get_or-take, get_or-drop}
 use Rattle.clay_grid.specs.Shape.{Shape, chunk_count, chunk_length}
 use Rattle.clay_model.specs.Code.{AgreesWith}
-use Rattle.clay_decode.specs.Left.{parts, Completes}
+use Rattle.clay_model.specs.Left.{parts, Completes}
 use Rattle.clay_lanes.specs.Places.{AreFilled}
 use Rattle.clay_c.specs.Pieces.{piece_at}
 use Rattle.clay_c.specs.Calls.{left_of, Recovers}

@@ -9,8 +9,8 @@ use Rattle.std.proofs.lemmas.List.Elements.{All-push}
 use Rattle.std.proofs.lemmas.List.Sums.{length-filter}
 use Rattle.std.proofs.Math.ListN.{get_or-map}
 use Rattle.clay_grid.specs.Shape.{Shape, chunk_count, chunk_length}
-use Rattle.clay_decode.specs.Left.{parts, AreLong}
-use Rattle.clay_repair.specs.Parts.{AreParts, part_length}
+use Rattle.clay_model.specs.Left.{parts, AreLong}
+use Rattle.clay_model.specs.RepairParts.{AreParts, part_length}
 use Rattle.clay_c.specs.Pieces.{piece_at}
 use Rattle.clay_c.specs.Calls.{lost_count, left_of, place_among_others, parts_of}
 

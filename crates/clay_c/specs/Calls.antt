@@ -3,7 +3,7 @@ use Rattle.std.specs.Prelude.{◌≡◌, ◌≢◌, ℕ, ◌+◌, ◌-◌, ◌*�
 use Rattle.std.specs.List.{range_with_len}
 use Rattle.clay_grid.specs.Shape.{Shape, chunk_count, row_count, column_count, virtual_count, layer_count, chunk_length, stripe_length}
 use Rattle.clay_model.specs.Code.{IsCodeword, AgreesWith}
-use Rattle.clay_repair.specs.Parts.{part_length, repair_parts}
+use Rattle.clay_model.specs.RepairParts.{part_length, repair_parts}
 use Rattle.clay_parity.specs.Parity.{AreParity}
 use Rattle.clay_c.specs.Pieces.{piece_at, AreLaid}
 use Rattle.clay_c.specs.declared.ClayNumbers.{ClayNumbers}

@@ -4,7 +4,7 @@ use Rattle.std.specs.List.{range_with_len}
 use Rattle.clay_grid.specs.Shape.{column_count, virtual_count, layer_count, chunk_length}
 use Rattle.clay_grid.specs.Score.{count_below}
 use Rattle.clay_model.specs.Code.{AgreesWith}
-use Rattle.clay_repair.specs.Parts.{subchunks_at}
+use Rattle.clay_model.specs.RepairParts.{subchunks_at}
 use Rattle.clay_aloof.specs.Shape.{AloofShape, all_chunks, rows_of, grid_of, stripe_bytes, node_of}
 use Rattle.clay_aloof.specs.Code.{IsCodeword, Codes}
 use Rattle.clay_aloof.specs.Repair.{aloof_layers_of, part_bytes}

@@ -2,7 +2,7 @@
 ghost use Rattle.std.specs.Prelude.{◌≡◌, ◌*◌, ◌<◌, ◌≤◌, length, IfOk, OnOk, OnErr};
 ghost use Rattle.clay_grid.specs.Shape.{chunk_length};
 ghost use Rattle.clay_grid.specs.Score.{count_below};
-ghost use Rattle.clay_decode.specs.Left.{parts, AreLong};
+ghost use Rattle.clay_model.specs.Left.{parts, AreLong};
 ghost use Rattle.clay_aloof.specs.Shape.{all_chunks, grid_of, stripe_bytes};
 ghost use Rattle.clay_aloof.specs.Repair.{part_bytes};
 ghost use Rattle.clay_c.specs.Helpers.{MakesAloofParity, is_marked, MarksFit, MarkedPartsFit, marked_parts, RebuildsAloof};

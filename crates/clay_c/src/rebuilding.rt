@@ -1,8 +1,8 @@
 //! A lost chunk, written to a caller's bytes.
 ghost use Rattle.std.specs.Prelude.{◌≡◌, ◌-◌, ◌*◌, ◌<◌, length, IfOk, OnOk, OnErr};
 ghost use Rattle.clay_grid.specs.Shape.{chunk_count, chunk_length};
-ghost use Rattle.clay_decode.specs.Left.{parts, AreLong};
-ghost use Rattle.clay_repair.specs.Parts.{part_length};
+ghost use Rattle.clay_model.specs.Left.{parts, AreLong};
+ghost use Rattle.clay_model.specs.RepairParts.{part_length};
 ghost use Rattle.clay_c.specs.Calls.{place_among_others, parts_of, Rebuilds};
 
 use crate::pieces::take;

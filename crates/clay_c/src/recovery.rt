@@ -1,13 +1,13 @@
 //! Parity and missing chunks, written to a caller's bytes.
 ghost use Rattle.std.specs.Prelude.{◌≡◌, ◌*◌, ◌≤◌, length, IfOk, OnOk, OnErr};
 ghost use Rattle.clay_grid.specs.Shape.{chunk_count, chunk_length, stripe_length};
-ghost use Rattle.clay_decode.specs.Left.{parts, AreLong};
+ghost use Rattle.clay_model.specs.Left.{parts, AreLong};
 ghost use Rattle.clay_c.specs.Calls.{MakesParity, lost_count, left_of, Recovers};
 
 use crate::pieces::take;
-use clay_decode::DecodeFault;
 use clay_grid::Geometry;
 use clay_lanes::{missing_into, parity_into};
+use clay_model::DecodeFault;
 use std::alloc::{AllocError, Global};
 
 /// Writes the parity chunks of a stripe, one behind another.

@@ -9,9 +9,9 @@ use Rattle.clay_grid.specs.Score.{count_below}
 use Rattle.clay_grid.proofs.Counting.{count_below_same}
 use Rattle.clay_model.specs.Code as plain
 use Rattle.clay_model.proofs.Codewords as plain_words
-use Rattle.clay_decode.specs.Left.{Completes}
-use Rattle.clay_decode.proofs.Joined.{length-joined}
-use Rattle.clay_repair.specs.Parts.{subchunks_at}
+use Rattle.clay_model.specs.Left.{Completes}
+use Rattle.code_laws.proofs.Joined.{length-joined}
+use Rattle.clay_model.specs.RepairParts.{subchunks_at}
 use Rattle.clay_aloof.specs.Shape.{AloofShape, all_chunks, grid_of, stripe_bytes}
 use Rattle.clay_aloof.specs.Limits.{IsAloof}
 use Rattle.clay_aloof.specs.Code as aloof

@@ -12,7 +12,7 @@ use crate::Status;
 use crate::output::Output;
 use crate::play::refusal;
 use clay_gen::generate;
-use clay_repair::Coder;
+use clay_model::Coder;
 use script_text::read_script;
 use std::alloc::{AllocError, Global};
 use std::sync::Wait;

@@ -1,8 +1,8 @@
 //! The coder of a command: one type for both, so that the commands stand in the program once.
 use clay_grid::Geometry;
 use clay_lanes::LaneCoder;
+use clay_model::Coder;
 use clay_par::ParCoder;
-use clay_repair::Coder;
 use std::alloc::{AllocError, Global};
 use std::thread::Threads;
 

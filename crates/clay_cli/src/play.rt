@@ -8,7 +8,7 @@ ghost use Rattle.clay_words.specs.declared.words.Task.TheVariants.{Play};
 
 use crate::Status;
 use crate::output::Output;
-use clay_repair::Coder;
+use clay_model::Coder;
 use line_grammar::FaultKind;
 use script_text::{ScriptFault, read_script};
 use std::alloc::{AllocError, Global};

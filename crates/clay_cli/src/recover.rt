@@ -5,9 +5,9 @@ ghost use Rattle.clay_words.specs.declared.words.Task.TheVariants.{Recover};
 
 use crate::Status;
 use crate::output::Output;
-use clay_decode::CheckedFault;
 use clay_grid::Geometry;
 use clay_lanes::decode_checked;
+use clay_model::CheckedFault;
 use code_text::{EntriesFault, chunk_lines, read_chunks};
 use std::alloc::{AllocError, Global};
 

@@ -1,5 +1,1 @@
-pub mod Layer
-pub mod Vertices
-pub mod Nodes
-pub mod Agreeing
-pub mod Joined
+mod PlanLayer

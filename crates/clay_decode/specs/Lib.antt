@@ -1,3 +1,1 @@
-pub mod Left
-pub mod Partners
-pub mod Solved
+pub mod Plan

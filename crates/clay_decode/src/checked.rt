@@ -3,13 +3,13 @@ ghost use Rattle.std.specs.Prelude.{◌≡◌, ◌+◌, ◌*◌, ◌≤◌, ◌�
 ghost use Rattle.std.specs.List.{concat};
 ghost use Rattle.clay_grid.specs.Shape.{Shape, chunk_count, chunk_length, stripe_length};
 ghost use Rattle.clay_model.specs.Code.{AgreesWith};
-ghost use Rattle.clay_encode.specs.Chunks.{contents};
-ghost use Rattle.clay_decode.specs.Left.{parts, AreLong, AreTooFew, Completes, NoneCompletes};
+ghost use Rattle.clay_model.specs.Chunks.{contents};
+ghost use Rattle.clay_model.specs.Left.{parts, AreLong, AreTooFew, Completes, NoneCompletes};
 
 use crate::chunks::{missing_count, recover};
-use crate::fault::CheckedFault;
 use clay_encode::encode;
 use clay_grid::Geometry;
+use clay_model::CheckedFault;
 use std::alloc::{AllocError, Global};
 
 // The bytes of the data chunks, which come first.

@@ -2,16 +2,16 @@
 ghost use Rattle.std.specs.Prelude.{◌≡◌, ◌+◌, ◌*◌, ◌<◌, ◌≤◌, ◌↔◌, length, IfOk, IfSome, IsErrOf, All, slice_index_or, true, false, count_by, is_none, None, Some};
 ghost use Rattle.clay_grid.specs.Shape.{Shape, chunk_count, node_count, layer_count, chunk_length, node_of_chunk};
 ghost use Rattle.clay_model.specs.Code.{AgreesWith};
-ghost use Rattle.clay_encode.specs.Chunks.{contents};
-ghost use Rattle.clay_decode.specs.Left.{parts, AreLong, AreLeft, AreTooFew, IsRecoveredChunk, AreRecovered};
-ghost use Rattle.clay_decode.specs.Solved.{IsPlan, IsCoupled, AreSolved, HoldsSubchunks};
+ghost use Rattle.clay_model.specs.Chunks.{contents};
+ghost use Rattle.clay_model.specs.Left.{parts, AreLong, AreLeft, AreTooFew, IsRecoveredChunk, AreRecovered};
+ghost use Rattle.code_laws.specs.Solved.{IsCoupled, HoldsSubchunks};
+ghost use Rattle.clay_decode.specs.Plan.{IsPlan, AreSolved};
 
-use crate::fault::DecodeFault;
 use crate::layers::{partner_of, piece, solved_piece, solved_values};
 use crate::plan::{Plan, make_plan};
 use clay_encode::zeros;
 use clay_grid::Geometry;
-use clay_model::{couple, uncouple};
+use clay_model::{DecodeFault, couple, uncouple};
 use std::alloc::{AllocError, Global};
 
 // Writes subchunk `z` of an erased node.

@@ -2,38 +2,15 @@
 ghost use Rattle.std.specs.Prelude.{◌≡◌, ℕ, ◌+◌, ◌*◌, ◌/◌, ◌%◌, ◌<◌, ◌≤◌, length, IfOk, slice_index, slice_index_or, slice_set, true, false, Contains};
 ghost use Rattle.clay_grid.specs.Shape.{Shape, row_count, node_count, layer_count};
 ghost use Rattle.clay_grid.specs.Layers.{layer_of};
-ghost use Rattle.clay_decode.specs.Partners.{ArePartners};
-ghost use Rattle.clay_decode.specs.Solved.{IsPlan, IsCoupled, IsUncoupled, HoldsPresent, HoldsLayer, HasPieces, AreSolved, AreLowerSolved};
+ghost use Rattle.code_laws.specs.Solved.{IsCoupled, IsUncoupled, HoldsPresent, HoldsLayer};
+ghost use Rattle.clay_decode.specs.Plan.{IsPlan, HasPieces, AreSolved, AreLowerSolved};
 
 use crate::plan::Plan;
 use clay_encode::zeros;
 use clay_grid::Geometry;
-use clay_model::{uncouple, uncouple_from};
+use clay_model::{partner_of, uncouple, uncouple_from};
 use clay_scalar::syndromes;
 use std::alloc::{AllocError, Global};
-
-/// A subchunk, by the numbers of its node and its layer.
-#[derive(Clone, Copy)]
-pub struct Subchunk {
-    pub node: u32,
-    pub layer: u32,
-}
-
-/// The subchunk with which subchunk `z` of a node is coupled, which is that subchunk itself where it is not paired.
-pub fn partner_of(g: Geometry, node: u32, z: u32) -> Subchunk
-    requires node { node < node_count g }
-    requires layer { z < layer_count g }
-    ensures partners { ArePartners g node z result.node result.layer }
-    ensures in_grid { result.node < node_count g }
-    ensures in_layers { result.layer < layer_count g }
-{
-    let (x, y) = g.place(node);
-    let partner = g.partner(x, y, z);
-    Subchunk {
-        node: y * g.q() + partner.x,
-        layer: partner.z,
-    }
-}
 
 /// Subchunk `z` of a node that is not erased.
 pub fn piece<'a>(

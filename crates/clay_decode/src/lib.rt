@@ -4,11 +4,9 @@
 
 mod checked;
 mod chunks;
-mod fault;
 mod layers;
 mod plan;
 
 pub use checked::decode_checked;
 pub use chunks::decode;
-pub use fault::{CheckedFault, DecodeFault};
-pub use layers::{Subchunk, partner_of};
+pub use clay_model::{CheckedFault, DecodeFault};

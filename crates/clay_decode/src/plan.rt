@@ -1,9 +1,10 @@
 //! What a call of decoding works with.
 ghost use Rattle.std.specs.Prelude.{◌≡◌, ℕ, ◌<◌, ◌≤◌, length, IfOk, slice_index_or, false, count_by, is_none, replicate};
 ghost use Rattle.clay_grid.specs.Shape.{Shape, chunk_count, node_count, chunk_length};
-ghost use Rattle.clay_scalar.specs.Erased.{erased_below};
-ghost use Rattle.clay_decode.specs.Left.{AreLeft};
-ghost use Rattle.clay_decode.specs.Solved.{is_erased, IsPlan};
+ghost use Rattle.clay_model.specs.Erased.{erased_below};
+ghost use Rattle.clay_model.specs.Left.{AreLeft};
+ghost use Rattle.code_laws.specs.Solved.{is_erased};
+ghost use Rattle.clay_decode.specs.Plan.{IsPlan};
 
 use clay_grid::Geometry;
 use clay_scalar::Solver;

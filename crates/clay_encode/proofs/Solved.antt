@@ -6,10 +6,10 @@ use Rattle.clay_grid.specs.Shape.{Shape, row_count, node_count, layer_count}
 use Rattle.clay_grid.specs.Layers.{layer_of}
 use Rattle.clay_model.specs.Sums.{sum_below, weighted_sum, present_value}
 use Rattle.clay_model.proofs.SumLaws.{sum_below_same}
-use Rattle.clay_scalar.specs.Points.{byte_of, HaveSums}
-use Rattle.clay_encode.specs.Columns.{first_parity, known_value, HoldsUncoupled, last_value, IsSolved, IsLastColumn}
-use Rattle.clay_encode.proofs.Vertices.{index_of-layer_of}
-use Rattle.clay_encode.proofs.Parts.{put_mid_before, put_mid_within, place_below}
+use Rattle.clay_model.specs.Points.{byte_of, HaveSums}
+use Rattle.code_laws.specs.Columns.{first_parity, known_value, HoldsUncoupled, last_value, IsSolved, IsLastColumn}
+use Rattle.code_laws.proofs.StripeVertices.{index_of-layer_of}
+use Rattle.code_laws.proofs.Pieces.{put_mid_before, put_mid_within, place_below}
 use borrow.Rule.Slice.PartMut.{put_mid}
 
 module _ (g : Shape) (stripe : List ℕ) (n : ℕ) where

@@ -4,8 +4,8 @@ ghost use Rattle.clay_grid.specs.Shape.{row_count, layer_count, stripe_length, c
 ghost use Rattle.clay_grid.specs.Layers.{layer_of};
 ghost use Rattle.clay_grid.specs.Limits.{IsGeometry};
 ghost use Rattle.clay_model.specs.Code.{Codes};
-ghost use Rattle.clay_encode.specs.Chunks.{contents};
-ghost use Rattle.clay_encode.specs.Columns.{coupled_last, HoldsCoupled, AddsParity};
+ghost use Rattle.clay_model.specs.Chunks.{contents};
+ghost use Rattle.code_laws.specs.Columns.{coupled_last, HoldsCoupled, AddsParity};
 
 use crate::columns::{solve_last_column, zeros};
 use clay_grid::Geometry;

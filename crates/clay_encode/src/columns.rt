@@ -3,7 +3,7 @@ ghost use Rattle.std.specs.Prelude.{◌≡◌, ℕ, ◌+◌, ◌*◌, ◌^◌, �
 ghost use Rattle.clay_grid.specs.Shape.{row_count, node_count, layer_count, stripe_length};
 ghost use Rattle.clay_grid.specs.Layers.{layer_of};
 ghost use Rattle.clay_grid.specs.Limits.{IsGeometry};
-ghost use Rattle.clay_encode.specs.Columns.{data_byte, uncoupled_value, first_parity, HoldsUncoupled, IsLastColumn, IsSolved};
+ghost use Rattle.code_laws.specs.Columns.{data_byte, uncoupled_value, first_parity, HoldsUncoupled, IsLastColumn, IsSolved};
 
 use clay_grid::Geometry;
 use clay_model::uncouple;

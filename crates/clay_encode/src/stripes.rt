@@ -3,7 +3,7 @@ ghost use Rattle.std.specs.Prelude.{◌≡◌, ℕ, ◌<◌, ◌≤◌, List, le
 ghost use Rattle.std.specs.List.{concat};
 ghost use Rattle.clay_grid.specs.Shape.{Shape, stripe_length};
 ghost use Rattle.clay_model.specs.Code.{stripes_of, padded};
-ghost use Rattle.clay_encode.specs.Chunks.{contents};
+ghost use Rattle.clay_model.specs.Chunks.{contents};
 
 use clay_grid::Geometry;
 use std::alloc::{AllocError, Global};

@@ -8,8 +8,8 @@ use Rattle.clay_field.specs.Field.{product}
 use Rattle.clay_field.proofs.FieldLaws.{product_add_left, product_add_right, product_zero, one_product}
 use Rattle.clay_grid.specs.Shape.{Shape, column_count}
 use Rattle.clay_model.specs.Sums.{sum_below}
-use Rattle.clay_encode.specs.Columns.{first_parity}
-use Rattle.clay_encode.proofs.Parts.{place_below}
+use Rattle.code_laws.specs.Columns.{first_parity}
+use Rattle.code_laws.proofs.Pieces.{place_below}
 use Rattle.clay_kernels.specs.Generated.{factor_at, IsLastGenerator}
 use Rattle.clay_kernels.specs.declared.column.ColumnFactors.{ColumnFactors}
 use Rattle.clay_kernels.specs.Columns.{AddUp, IsColumn, AreColumns, AddsColumn, IsColumnForm, EndsColumn, row_byte, all_rows, both_rows}

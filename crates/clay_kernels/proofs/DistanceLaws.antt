@@ -9,9 +9,9 @@ use Rattle.clay_field.specs.Field.{product, power_of, inverse_of}
 use Rattle.clay_field.proofs.FieldLaws.{product_lt, product_comm, product_assoc, product_zero, zero_product, product_one, one_product, product_add_left, product_add_right, power_of-lt}
 use Rattle.clay_field.proofs.Inverses.{zero_factor, inverse_of-product}
 use Rattle.clay_model.proofs.SumLaws.{equal_from_sum, sum_below_same, sum_below-xor, sum_below-product, product_swap}
-use Rattle.clay_scalar.specs.Points.{AreDistinct, sum_over}
-use Rattle.clay_scalar.proofs.PointSums.{sum_at, AreApart, Solves, solution}
-use Rattle.clay_scalar.proofs.Polynomials.{sum_below-one}
+use Rattle.clay_model.specs.Points.{AreDistinct, sum_over}
+use Rattle.code_laws.proofs.PointSums.{sum_at, AreApart, Solves, solution}
+use Rattle.code_laws.proofs.Polynomials.{sum_below-one}
 use Rattle.clay_kernels.specs.Distances.{product_below, distance, distances, lagrange_factor}
 
 pub product_below-lt : (n : ℕ) (f : ℕ → ℕ) → product_below n f < 2 ^ 8

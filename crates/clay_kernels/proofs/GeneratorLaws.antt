@@ -7,7 +7,7 @@ use Rattle.clay_field.specs.Field.{product, power_of}
 use Rattle.clay_field.proofs.FieldLaws.{product_assoc, product_comm}
 use Rattle.clay_model.specs.Sums.{sum_below, weighted_sum}
 use Rattle.clay_model.proofs.SumLaws.{sum_below_same, sum_below-xor, sum_below-product, sum_below-zero}
-use Rattle.clay_scalar.specs.Points.{AreDistinct, sum_over}
+use Rattle.clay_model.specs.Points.{AreDistinct, sum_over}
 use Rattle.clay_kernels.specs.Distances.{lagrange_factor}
 use Rattle.clay_kernels.specs.Generated.{factor_at, generated, Generates}
 use Rattle.clay_kernels.proofs.DistanceLaws.{lagrange_sums}

@@ -10,7 +10,7 @@ use Rattle.clay_kernels.specs.Lanes.{AddsRows}
 use Rattle.clay_kernels.specs.Generated.{factor_at}
 use Rattle.std.proofs.lemmas.List.Edits.{get_or-between, length-between}
 use lib.Bits.{xor_zero_r}
-use Rattle.clay_encode.proofs.Parts.{put_mid_before, put_mid_within, place_below, piece_fits}
+use Rattle.code_laws.proofs.Pieces.{put_mid_before, put_mid_within, place_below, piece_fits}
 
 -- one row
 pub AddsRows-last : (len : ℕ) (factor value : ℕ → ℕ) (a b : List ℕ) → ((k : ℕ) → k < len → get_or b k 0 ≡ bit_xor (get_or a k 0) (product (factor 0) (value k)))

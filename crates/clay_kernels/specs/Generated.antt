@@ -3,8 +3,8 @@ use Rattle.std.specs.Prelude.{◌≡◌, ℕ, ◌+◌, ◌*◌, ◌<◌, List, l
 use Rattle.clay_field.specs.Field.{product, power_of}
 use Rattle.clay_model.specs.Sums.{sum_below, weighted_sum}
 use Rattle.clay_grid.specs.Shape.{Shape, node_count}
-use Rattle.clay_scalar.specs.Points.{sum_over}
-use Rattle.clay_encode.specs.Columns.{first_parity}
+use Rattle.clay_model.specs.Points.{sum_over}
+use Rattle.code_laws.specs.Columns.{first_parity}
 use Rattle.clay_kernels.specs.declared.column.ColumnFactors.{ColumnFactors}
 
 -- a matrix: how many unknown nodes it has values of, the factors of each known node, one node after another, and those of columns

@@ -1,7 +1,7 @@
 //! The factors by which known nodes' values make up those of unknown ones: products of distances between nodes, for sixteen nodes at once.
 ghost use Rattle.std.specs.Prelude.{◌≡◌, ℕ, ◌+◌, ◌*◌, ◌<◌, ◌≤◌, ◌/◌, ◌%◌, IfOk, slice_index, length, bit_xor};
 ghost use Rattle.clay_field.specs.Field.{product};
-ghost use Rattle.clay_scalar.specs.Points.{AreDistinct};
+ghost use Rattle.clay_model.specs.Points.{AreDistinct};
 ghost use Rattle.clay_kernels.specs.Distances.{distances, lagrange_factor};
 
 use clay_field::{inv, mul};

@@ -1,6 +1,6 @@
 //! The values of unknown nodes as fixed sums of those of the known nodes.
 ghost use Rattle.std.specs.Prelude.{◌≡◌, ℕ, ◌+◌, ◌*◌, ◌<◌, ◌≤◌, ◌/◌, ◌%◌, IfOk, slice_index, slice_range, length};
-ghost use Rattle.clay_scalar.specs.Points.{AreDistinct};
+ghost use Rattle.clay_model.specs.Points.{AreDistinct};
 ghost use Rattle.clay_kernels.specs.Lanes.{AddsRows};
 ghost use Rattle.clay_kernels.specs.Generated.{IsGenerator, IsGeneratorOf, factor_at};
 ghost use Rattle.clay_kernels.specs.Columns.{AreColumns};

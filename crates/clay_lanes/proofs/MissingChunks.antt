@@ -11,11 +11,11 @@ use Rattle.std.proofs.Math.Seq.{take-append_seam, drop-append_seam}
 use Rattle.clay_grid.specs.Shape.{Shape, chunk_count, layer_count, chunk_length}
 use Rattle.clay_grid.proofs.Rising.{Lists-filter}
 use Rattle.clay_model.specs.Code.{AgreesWith}
-use Rattle.clay_encode.specs.Chunks.{contents}
-use Rattle.clay_decode.specs.Left.{parts, AreLong, Completes}
-use Rattle.clay_decode.proofs.Agreeing.{agrees_of}
-use Rattle.clay_decode.proofs.Nodes.{agreeing_chunk, long_chunk}
-use Rattle.clay_repair.specs.Coding.{AreRecovered}
+use Rattle.clay_model.specs.Chunks.{contents}
+use Rattle.clay_model.specs.Left.{parts, AreLong, Completes}
+use Rattle.code_laws.proofs.Agreeing.{agrees_of}
+use Rattle.code_laws.proofs.Nodes.{agreeing_chunk, long_chunk}
+use Rattle.clay_model.specs.Left.{AreRecovered}
 use Rattle.lane_repair.specs.Pieces.{HoldsByte}
 use Rattle.clay_lanes.specs.Recovered.{missing_from, missing_of, AreMissing}
 use Rattle.clay_parity.proofs.ChunkLists.{contents_set, length-contents}

@@ -4,12 +4,12 @@ use Rattle.std.proofs.lemmas.Bool.{cases_eq, cases_lt}
 use Rattle.std.proofs.lemmas.List.{get_or-take, get_or-drop}
 use Rattle.clay_grid.specs.Shape.{Shape, row_count, layer_count}
 use Rattle.clay_grid.specs.Score.{IsByScore}
-use Rattle.clay_encode.proofs.Parts.{put_mid_before, put_mid_within, put_mid_past, place_below, piece_fits}
+use Rattle.code_laws.proofs.Pieces.{put_mid_before, put_mid_within, put_mid_past, place_below, piece_fits}
 use borrow.Rule.Slice.PartMut.{put_mid}
-use Rattle.clay_decode.specs.Left.{Completes}
-use Rattle.clay_decode.specs.Solved.{uncoupled_byte}
-use Rattle.clay_decode.proofs.Layer.{lower_earlier}
-use Rattle.clay_decode.proofs.Nodes.{IsNodeOf, agreeing_chunk, chunk_byte}
+use Rattle.clay_model.specs.Left.{Completes}
+use Rattle.code_laws.specs.Solved.{uncoupled_byte}
+use Rattle.code_laws.proofs.Layer.{lower_earlier}
+use Rattle.code_laws.proofs.Nodes.{IsNodeOf, agreeing_chunk, chunk_byte}
 use Rattle.lane_repair.specs.Pieces.{IsCoupled, IsUncoupled, HoldsRows}
 use Rattle.clay_lanes.specs.Recovered.{HoldsLayerRows, HoldsLower, AreRowsOfLayers}
 

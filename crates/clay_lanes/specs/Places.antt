@@ -2,7 +2,7 @@
 use Rattle.std.specs.Prelude.{◌≡◌, ◌≢◌, ℕ, ◌+◌, ◌*◌, ◌<◌, true, List, [], get_or, slice_index_or, is_none, Option, None, Vec}
 use Rattle.std.specs.declared.alloc.Global.{Global}
 use Rattle.clay_grid.specs.Shape.{Shape, chunk_count, layer_count, chunk_length}
-use Rattle.clay_decode.specs.Left.{Completes}
+use Rattle.clay_model.specs.Left.{Completes}
 use Rattle.clay_lanes.specs.declared.block.Block.{Block}
 
 -- byte p in the place of chunk c is that of each codeword that agrees with what is left

@@ -5,9 +5,9 @@ use Rattle.std.specs.declared.alloc.Global.{Global}
 use Rattle.clay_grid.specs.Shape.{Shape, chunk_count, node_count, layer_count, chunk_length}
 use Rattle.clay_grid.specs.Limits.{IsGeometry}
 use Rattle.clay_grid.specs.Score.{score_at, IsByScore}
-use Rattle.clay_scalar.specs.Erased.{erased_below}
-use Rattle.clay_decode.specs.Left.{AreLong, Completes}
-use Rattle.clay_decode.specs.Solved.{is_erased, uncoupled_byte}
+use Rattle.clay_model.specs.Erased.{erased_below}
+use Rattle.clay_model.specs.Left.{AreLong, Completes}
+use Rattle.code_laws.specs.Solved.{is_erased, uncoupled_byte}
 use Rattle.clay_kernels.specs.Generated.{IsGeneratorOf}
 use Rattle.lane_repair.specs.Pieces.{HoldsByte}
 use Rattle.clay_lanes.specs.declared.plan.Plan.{Plan}

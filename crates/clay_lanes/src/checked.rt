@@ -2,12 +2,12 @@
 ghost use Rattle.std.specs.Prelude.{◌≡◌, ℕ, ◌+◌, ◌≤◌, ◌<◌, ◌↔◌, [], length, take, IfOk, IsErrOf, IsTrue, slice_index_or, Err};
 ghost use Rattle.std.specs.List.{concat};
 ghost use Rattle.clay_grid.specs.Shape.{chunk_count, chunk_length};
-ghost use Rattle.clay_encode.specs.Chunks.{contents};
-ghost use Rattle.clay_decode.specs.Left.{AreLong, AreTooFew, Completes, NoneCompletes};
+ghost use Rattle.clay_model.specs.Chunks.{contents};
+ghost use Rattle.clay_model.specs.Left.{AreLong, AreTooFew, Completes, NoneCompletes};
 
 use crate::lost::{missing_count, recover};
-use clay_decode::CheckedFault;
 use clay_grid::Geometry;
+use clay_model::CheckedFault;
 use clay_parity::parity;
 use std::alloc::{AllocError, Global};
 

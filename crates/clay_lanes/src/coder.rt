@@ -1,8 +1,8 @@
 //! The fast coder of one thread.
 use crate::lost::recover;
 use clay_grid::Geometry;
+use clay_model::Coder;
 use clay_parity::encode;
-use clay_repair::Coder;
 use lane_repair::rebuild;
 use std::alloc::{AllocError, Global};
 use std::thread::Threads;

@@ -6,9 +6,9 @@ ghost use Rattle.clay_lanes.specs.Blocks.{IsBlock, rows_length, solved_length, I
 
 use crate::block::Block;
 use crate::plan::Plan;
-use clay_decode::partner_of;
 use clay_grid::Geometry;
 use clay_kernels::{add_column, column_room, end_column, uncouple, uncouple_from};
+use clay_model::partner_of;
 use lane_repair::is_column_erased;
 
 // The place of an erased node among them.

@@ -2,17 +2,17 @@
 ghost use Rattle.std.specs.Prelude.{◌≡◌, ℕ, ◌+◌, ◌*◌, ◌<◌, ◌≤◌, ◌↔◌, List, length, min, replicate, IfOk, IsErrOf, All, slice_index_or, true, false, count_by, is_none, None};
 ghost use Rattle.clay_grid.specs.Shape.{chunk_count, node_count, layer_count, chunk_length};
 ghost use Rattle.clay_model.specs.Code.{AgreesWith};
-ghost use Rattle.clay_encode.specs.Chunks.{contents};
-ghost use Rattle.clay_decode.specs.Left.{parts, AreLong, AreTooFew};
-ghost use Rattle.clay_repair.specs.Coding.{AreLeft, AreRecovered};
+ghost use Rattle.clay_model.specs.Chunks.{contents};
+ghost use Rattle.clay_model.specs.Left.{parts, AreLong, AreTooFew};
+ghost use Rattle.clay_model.specs.Left.{AreLeft, AreRecovered};
 ghost use Rattle.clay_lanes.specs.Recovered.{IsLanePlan, HoldsByteOf, KeepsBytes, HoldsLayersOf, HaveLength, missing_of, AreMissing};
 ghost use Rattle.clay_lanes.specs.Blocks.{IsBlock, rows_length, solved_length, row_bytes, solved_bytes, IsCoupledIn, HoldsLayersIn, HoldsChunkIn, KeepsBytesIn, HoldsChunksIn, KeepsChunksIn};
 
 use crate::block::Block;
 use crate::plan::{Plan, make_plan};
-use clay_decode::{DecodeFault, partner_of};
 use clay_grid::Geometry;
 use clay_kernels::{BLOCK, couple, uncouple, zeros};
+use clay_model::{DecodeFault, partner_of};
 use std::alloc::{AllocError, Global};
 
 impl<'a> Block<'a> {

@@ -1,16 +1,16 @@
 //! The missing chunks, written to their places among all chunks, which stand one behind another.
 ghost use Rattle.std.specs.Prelude.{◌≡◌, ℕ, ◌+◌, ◌*◌, ◌<◌, ◌≤◌, ◌↔◌, length, min, IsErrOf, OnOk, OnErr, slice_index_or, true, count_by, is_none, None};
 ghost use Rattle.clay_grid.specs.Shape.{chunk_count, layer_count, chunk_length};
-ghost use Rattle.clay_decode.specs.Left.{AreLong, AreTooFew};
+ghost use Rattle.clay_model.specs.Left.{AreLong, AreTooFew};
 ghost use Rattle.clay_lanes.specs.Blocks.{IsBlock, rows_length, solved_length, row_bytes, solved_bytes, HoldsLayersIn};
 ghost use Rattle.clay_lanes.specs.Places.{HoldsPlace, KeepsPlaces, AreFilled, chunks_length, HoldsPlacesIn};
 
 use crate::block::Block;
 use crate::lost::missing_count;
 use crate::plan::make_plan;
-use clay_decode::DecodeFault;
 use clay_grid::Geometry;
 use clay_kernels::{BLOCK, zeros};
+use clay_model::DecodeFault;
 use std::alloc::{AllocError, Global};
 
 impl<'a> Block<'a> {

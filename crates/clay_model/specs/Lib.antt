@@ -3,3 +3,9 @@ pub mod Pairs
 pub mod Coupling
 pub mod Code
 pub mod Worked
+pub mod Points
+pub mod Erased
+pub mod Chunks
+pub mod Left
+pub mod Partners
+pub mod RepairParts

@@ -3,11 +3,17 @@
 //! The construction is that of Vajha et al., "Clay Codes: Moulding MDS Codes to Yield an MSR Code", FAST 2018.
 #![tactic(auto)]
 
+mod coder;
 mod coupling;
+mod fault;
 mod laws;
+mod partners;
 
+pub use coder::Coder;
 pub use coupling::{couple, cross, uncouple, uncouple_from};
+pub use fault::{CheckedFault, DecodeFault};
 pub use laws::{
     codewords_are_unique, coupling_is_inverse, layers_are_numbered, stripes_hold_the_bytes,
     worked_codewords,
 };
+pub use partners::{Subchunk, partner_of};

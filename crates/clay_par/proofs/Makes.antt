@@ -3,7 +3,7 @@ use Rattle.std.proofs.Common.{◌≡◌, ℕ, zero, suc, ◌<◌, List, [], ◌�
 use Rattle.std.specs.declared.result.Result.{Result}
 use Rattle.std.specs.declared.alloc.AllocError.{AllocError}
 use Rattle.std.proofs.lemmas.List as lists
-use Rattle.clay_encode.specs.Chunks.{contents}
+use Rattle.clay_model.specs.Chunks.{contents}
 use Rattle.clay_parity.proofs.ChunkLists.{contents_at}
 
 vec_at : (vs : List (Vec ℕ Global)) (i : ℕ) → i < length vs → Vec ℕ Global

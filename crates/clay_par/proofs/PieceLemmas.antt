@@ -3,9 +3,9 @@ use Rattle.std.proofs.Common.{◌≡◌, ℕ, ◌+◌, ◌-◌, ◌*◌, ◌<◌
 use Rattle.std.proofs.lemmas.List.{length_push, get_or_push, get_or_append_left, get_or_default}
 use Rattle.clay_grid.specs.Shape.{Shape, node_count, chunk_length, node_of_chunk}
 use Rattle.clay_grid.specs.Repair.{repair_layers_of}
-use Rattle.clay_repair.specs.Parts.{HasParts, IsRebuilt}
-use Rattle.clay_repair.specs.Rebuilt.{IsReadFor, with_digit}
-use Rattle.clay_repair.proofs.Column.{node_inside, is_read}
+use Rattle.clay_model.specs.RepairParts.{HasParts, IsRebuilt}
+use Rattle.code_laws.specs.Rebuilt.{IsReadFor, with_digit}
+use Rattle.code_laws.proofs.Column.{node_inside, is_read}
 use Rattle.lane_repair.specs.Pieces.{HoldsByte}
 use Rattle.lane_repair.specs.Repaired.{IsRepairPlan}
 use Rattle.lane_repair.specs.declared.repair_plan.RepairPlan.{RepairPlan}

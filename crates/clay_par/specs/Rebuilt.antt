@@ -2,8 +2,8 @@
 use Rattle.std.specs.Prelude.{◌≡◌, ℕ, ◌+◌, ◌*◌, ◌<◌, ◌≤◌, List, length, get_or, All, Option, Vec}
 use Rattle.std.specs.declared.alloc.Global.{Global}
 use Rattle.clay_grid.specs.Shape.{Shape, row_count}
-use Rattle.clay_repair.specs.Parts.{HasParts}
-use Rattle.clay_repair.specs.Rebuilt.{IsReadFor, with_digit}
+use Rattle.clay_model.specs.RepairParts.{HasParts}
+use Rattle.code_laws.specs.Rebuilt.{IsReadFor, with_digit}
 use Rattle.lane_repair.specs.Pieces.{HoldsRows, HoldsByte}
 use Rattle.lane_repair.specs.Repaired.{column_nodes}
 use Rattle.lane_repair.specs.declared.repair_plan.RepairPlan.{RepairPlan}

@@ -3,8 +3,8 @@ use Rattle.std.specs.Prelude.{◌≡◌, ℕ, ◌+◌, ◌*◌, ◌<◌, ◌≤�
 use Rattle.std.specs.declared.alloc.Global.{Global}
 use Rattle.clay_grid.specs.Shape.{Shape, layer_count}
 use Rattle.clay_grid.specs.Score.{score_at}
-use Rattle.clay_decode.specs.Left.{Completes}
-use Rattle.clay_decode.specs.Solved.{uncoupled_byte}
+use Rattle.clay_model.specs.Left.{Completes}
+use Rattle.code_laws.specs.Solved.{uncoupled_byte}
 use Rattle.clay_lanes.specs.Recovered.{HoldsLayerRows}
 use Rattle.clay_lanes.specs.declared.plan.Plan.{Plan}
 

@@ -1,18 +1,17 @@
 //! The coder of several threads.
 ghost use Rattle.std.specs.Prelude.{◌≡◌, ◌*◌, ◌↔◌, length, OnOk, OnErr, IsErrOf};
 ghost use Rattle.clay_grid.specs.Shape.{chunk_count, chunk_length, stripe_length};
-ghost use Rattle.clay_decode.specs.Left.{AreLong, AreTooFew};
-ghost use Rattle.clay_repair.specs.Parts.{AreParts, IsRebuilt};
+ghost use Rattle.clay_model.specs.Left.{AreLong, AreTooFew};
+ghost use Rattle.clay_model.specs.RepairParts.{AreParts, IsRebuilt};
 ghost use Rattle.clay_parity.specs.Flat.{IsParity};
 ghost use Rattle.clay_lanes.specs.Places.{AreFilled};
 
 use crate::lost::{missing_into, recover};
 use crate::parity::{encode, parity_into};
 use crate::repair::{rebuild, rebuild_into};
-use clay_decode::DecodeFault;
 use clay_grid::Geometry;
 use clay_lanes::LaneCoder;
-use clay_repair::Coder;
+use clay_model::{Coder, DecodeFault};
 use std::alloc::{AllocError, Global};
 use std::thread::Threads;
 

@@ -2,9 +2,9 @@
 //! chunks.
 ghost use Rattle.std.specs.Prelude.{◌≡◌, ℕ, ◌+◌, ◌*◌, ◌/◌, ◌<◌, ◌≤◌, ◌↔◌, length, slice_index_or, None, IfOk, OnOk, OnErr, IsErrOf, All};
 ghost use Rattle.clay_grid.specs.Shape.{chunk_count, layer_count, chunk_length};
-ghost use Rattle.clay_encode.specs.Chunks.{contents};
-ghost use Rattle.clay_decode.specs.Left.{AreLong, AreTooFew};
-ghost use Rattle.clay_repair.specs.Coding.{AreLeft, AreRecovered};
+ghost use Rattle.clay_model.specs.Chunks.{contents};
+ghost use Rattle.clay_model.specs.Left.{AreLong, AreTooFew};
+ghost use Rattle.clay_model.specs.Left.{AreLeft, AreRecovered};
 ghost use Rattle.clay_lanes.specs.Recovered.{IsLanePlan, HoldsByteOf, KeepsBytes};
 ghost use Rattle.clay_lanes.specs.Places.{AreFilled};
 ghost use Rattle.clay_par.specs.Ranges.{HasRoom, SamePlace};
@@ -13,10 +13,10 @@ ghost use Rattle.clay_par.specs.Solved.{HoldsLayers, AreSolved, IsChunk, IsFille
 use crate::made::all_made;
 use crate::ranges::{Range, make_range, make_ranges};
 use crate::scores::solve_by_scores;
-use clay_decode::DecodeFault;
 use clay_grid::Geometry;
 use clay_kernels::{BLOCK, zeros};
 use clay_lanes::{Plan, couple_chunk, make_plan, missing_count, solve_layers};
+use clay_model::DecodeFault;
 use rayon::current_num_threads;
 use std::alloc::{AllocError, Global};
 use std::thread;

@@ -2,7 +2,7 @@
 ghost use Rattle.std.specs.Prelude.{◌≡◌, ℕ, ◌+◌, ◌*◌, ◌/◌, ◌<◌, ◌≤◌, length, slice_index_or, slice_range, IfOk, OnOk, OnErr, All};
 ghost use Rattle.clay_grid.specs.Shape.{row_count, layer_count, chunk_length, stripe_length};
 ghost use Rattle.clay_model.specs.Code.{Codes};
-ghost use Rattle.clay_encode.specs.Chunks.{contents};
+ghost use Rattle.clay_model.specs.Chunks.{contents};
 ghost use Rattle.clay_parity.specs.Blocks.{HoldsGroup};
 ghost use Rattle.clay_kernels.specs.Generated.{IsLastGenerator};
 ghost use Rattle.clay_parity.specs.Solved.{layer_value};

@@ -1,7 +1,7 @@
 //! The lost chunk from parts of the others, by pieces of the layers that are read, each of which is solved by itself.
 ghost use Rattle.std.specs.Prelude.{◌≡◌, ℕ, ◌+◌, ◌<◌, ◌≤◌, length, slice_index_or, IfOk, OnOk, OnErr, All};
 ghost use Rattle.clay_grid.specs.Shape.{row_count, chunk_length};
-ghost use Rattle.clay_repair.specs.Parts.{AreParts, IsRebuilt};
+ghost use Rattle.clay_model.specs.RepairParts.{AreParts, IsRebuilt};
 ghost use Rattle.lane_repair.specs.Repaired.{IsRepairPlan};
 ghost use Rattle.clay_par.specs.Rebuilt.{HasRows, IsPiece, SamePiece, AreCut, IsSolved, AreSolved, HoldsPiece, KeepsBytes};
 

@@ -4,7 +4,7 @@ use Rattle.std.proofs.lemmas.Bool.{cases_lt}
 use Rattle.std.proofs.lemmas.Nat.{mul-le, div-mul-add, mod-mul-add}
 use Rattle.std.proofs.lemmas.List.{get_or_append_left, get_or-append_right, length-append}
 use borrow.Rule.Slice.PartMut.{put_mid}
-use Rattle.clay_encode.proofs.Parts.{put_mid_before, put_mid_within, place_below}
+use Rattle.code_laws.proofs.Pieces.{put_mid_before, put_mid_within, place_below}
 use Rattle.clay_field.specs.Field.{product, quotient}
 use Rattle.clay_parity.specs.Blocks.{block_start, place_of, HoldsLayer, HoldsGroup, coupled_byte, coupled_of, piece_bytes, Appends}
 

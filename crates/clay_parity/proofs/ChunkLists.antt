@@ -2,7 +2,7 @@
 use Rattle.std.proofs.Common.{◌≡◌, ℕ, zero, suc, subst, ◌+◌, ◌*◌, ◌/◌, ◌%◌, ◌<◌, List, [], ◌∷◌, length, get_or, set, refl, sym, ap, ◌∙◌, arith, Vec, Global}
 use Rattle.std.proofs.lemmas.Nat.{mod_below, div_below}
 use Rattle.std.proofs.Math.Nat.{mul_comm, mul-add-div_right, mul-add-mod_self_right}
-use Rattle.clay_encode.specs.Chunks.{contents}
+use Rattle.clay_model.specs.Chunks.{contents}
 use Rattle.clay_parity.specs.Blocks.{HoldsGroup, coupled_of, piece_bytes, Appends}
 use Rattle.clay_parity.proofs.BlockPlaces.{group_coupled, Appends-then}
 

@@ -7,7 +7,7 @@ use Rattle.std.proofs.lemmas.List.FromFn.{get_or-map-range_with_len, length-map-
 use borrow.Rule.Slice.PartMut.{put_mid}
 use Rattle.clay_grid.specs.Shape.{Shape, row_count, layer_count, chunk_length, stripe_length}
 use Rattle.clay_grid.specs.Limits.{IsGeometry}
-use Rattle.clay_encode.proofs.Parts.{piece_fits, place_below, put_mid_before, put_mid_past, put_mid_within}
+use Rattle.code_laws.proofs.Pieces.{piece_fits, place_below, put_mid_before, put_mid_past, put_mid_within}
 use Rattle.clay_kernels.specs.Generated.{IsLastGenerator}
 use Rattle.clay_parity.specs.Solved.{layer_value}
 use Rattle.clay_parity.specs.Blocks.{coupled_of}

@@ -12,9 +12,9 @@ use Rattle.clay_grid.proofs.LayerLaws.{get_or-digits_of, length-digits_of, index
 use Rattle.clay_model.specs.Coupling.{node_at}
 use Rattle.clay_model.proofs.SumLaws.{sum_below_same}
 use Rattle.clay_model.proofs.Unique.{row_of}
-use Rattle.clay_encode.specs.Columns.{first_parity, data_byte, data_value, uncoupled_value, HoldsPieces}
-use Rattle.clay_encode.proofs.Parts.{place_below, piece_fits}
-use Rattle.clay_encode.proofs.Vertices.{index_of-layer_of, partner_layer}
+use Rattle.code_laws.specs.Columns.{first_parity, data_byte, data_value, uncoupled_value, HoldsPieces}
+use Rattle.code_laws.proofs.Pieces.{place_below, piece_fits}
+use Rattle.code_laws.proofs.StripeVertices.{index_of-layer_of, partner_layer}
 use Rattle.clay_kernels.specs.Generated.{factor_at}
 use Rattle.clay_parity.specs.Solved.{solved_value, layer_value}
 use Rattle.clay_parity.specs.Blocks.{place_of, HoldsGroup}

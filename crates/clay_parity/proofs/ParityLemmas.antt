@@ -15,12 +15,12 @@ use Rattle.clay_grid.specs.Limits.{IsGeometry}
 use Rattle.clay_grid.proofs.LayerLaws.{index_of-lt, IsLayer-digits_of, IsLayer-set, digits_of-index_of, partner_number}
 use Rattle.clay_model.specs.Sums.{sum_below, weighted_sum}
 use Rattle.clay_model.proofs.SumLaws.{sum_below_same, sum_below-zero}
-use Rattle.clay_encode.specs.Chunks.{contents}
-use Rattle.clay_encode.specs.Columns.{first_parity, uncoupled_value, known_value, last_value, IsSolved, coupled_last}
-use Rattle.clay_encode.proofs.Parts.{place_below, bytes_everywhere}
-use Rattle.clay_encode.proofs.Filled.{sum_below-add}
-use Rattle.clay_encode.proofs.Vertices.{index_of-layer_of, alone_last, paired_last}
-use Rattle.clay_encode.proofs.Assembled.{assembled}
+use Rattle.clay_model.specs.Chunks.{contents}
+use Rattle.code_laws.specs.Columns.{first_parity, uncoupled_value, known_value, last_value, IsSolved, coupled_last}
+use Rattle.code_laws.proofs.Pieces.{place_below, bytes_everywhere}
+use Rattle.code_laws.proofs.Filled.{sum_below-add}
+use Rattle.code_laws.proofs.StripeVertices.{index_of-layer_of, alone_last, paired_last}
+use Rattle.code_laws.proofs.Assembled.{assembled}
 use Rattle.clay_kernels.specs.Generated.{IsLastGenerator, factor_at}
 use Rattle.clay_parity.specs.Solved.{layer_value}
 use Rattle.clay_parity.specs.Blocks.{coupled_of, Appends}

@@ -5,8 +5,8 @@ use Rattle.std.proofs.lemmas.Nat.{mod_below, div_below, div-mul-add, mod-mul-add
 use Rattle.std.proofs.Math.Nat.{mul_comm, mul-add-div_right, mul-add-mod_self_right}
 use borrow.Rule.Slice.PartMut.{put_mid}
 use Rattle.clay_field.specs.Field.{product, quotient}
-use Rattle.clay_encode.specs.Columns.{HoldsPieces}
-use Rattle.clay_encode.proofs.Parts.{piece_fits, place_below, put_mid_before, put_mid_past, put_mid_within}
+use Rattle.code_laws.specs.Columns.{HoldsPieces}
+use Rattle.code_laws.proofs.Pieces.{piece_fits, place_below, put_mid_before, put_mid_past, put_mid_within}
 use Rattle.clay_parity.specs.Blocks.{coupled_of, Appends}
 use Rattle.clay_parity.specs.Short.{HoldsShort, short_coupled}
 use Rattle.clay_parity.proofs.BlockPlaces.{Appends-then}

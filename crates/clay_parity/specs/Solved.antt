@@ -2,7 +2,7 @@
 use Rattle.std.specs.Prelude.{ℕ, List}
 use Rattle.clay_grid.specs.Shape.{Shape}
 use Rattle.clay_grid.specs.Layers.{layer_of}
-use Rattle.clay_encode.specs.Columns.{first_parity, uncoupled_value}
+use Rattle.code_laws.specs.Columns.{first_parity, uncoupled_value}
 use Rattle.clay_kernels.specs.Generated.{generated}
 
 -- byte b of row e of the last column in layer z

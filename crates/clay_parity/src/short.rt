@@ -1,6 +1,6 @@
 //! Squares of short pieces: the subchunks of a group of layers, those of a node one behind another as in its chunk.
 ghost use Rattle.std.specs.Prelude.{◌≡◌, ℕ, ◌+◌, ◌*◌, ◌/◌, ◌%◌, ◌<◌, ◌≤◌, slice_index, length};
-ghost use Rattle.clay_encode.specs.Columns.{HoldsPieces};
+ghost use Rattle.code_laws.specs.Columns.{HoldsPieces};
 ghost use Rattle.clay_parity.specs.Short.{short_coupled};
 
 use clay_kernels::{Products, couple};

@@ -7,7 +7,7 @@ ghost use Rattle.clay_field.specs.Field.{product};
 ghost use Rattle.clay_grid.specs.Shape.{row_count, layer_count, stripe_length};
 ghost use Rattle.clay_grid.specs.Layers.{layer_of, vertex_at, partner_of};
 ghost use Rattle.clay_grid.specs.Limits.{IsGeometry};
-ghost use Rattle.clay_encode.specs.Columns.{data_byte, uncoupled_value, first_parity, HoldsPieces};
+ghost use Rattle.code_laws.specs.Columns.{data_byte, uncoupled_value, first_parity, HoldsPieces};
 
 use clay_grid::{Geometry, Vertex};
 use clay_kernels::{double, uncouple};

@@ -1,3 +1,1 @@
-pub mod Coding
-pub mod Parts
-pub mod Rebuilt
+pub mod Plan

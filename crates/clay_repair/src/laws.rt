@@ -5,7 +5,7 @@ ghost use Rattle.clay_grid.specs.Limits.{IsGeometry};
 ghost use Rattle.clay_grid.specs.Repair.{repair_layers_of};
 ghost use Rattle.clay_model.specs.Code.{IsCodeword};
 ghost use Rattle.clay_model.specs.Worked.{two_and_two, three_and_two, unpaired_chunks, virtual_chunks};
-ghost use Rattle.clay_repair.specs.Parts.{repair_parts, part_length};
+ghost use Rattle.clay_model.specs.RepairParts.{repair_parts, part_length};
 
 /// A part has a subchunk of each repair layer, in a codeword as well.
 pub fn parts_have_their_bytes()

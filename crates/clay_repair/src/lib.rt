@@ -2,13 +2,12 @@
 //! 2018), and coders: what codes the stripes of a store.
 #![tactic(auto)]
 
-mod coder;
 mod laws;
 mod lost;
 mod plain;
 mod plan;
 
-pub use coder::Coder;
+pub use clay_model::Coder;
 pub use laws::{parts_have_their_bytes, worked_repairs};
 pub use lost::rebuild;
 pub use plain::PlainCoder;

@@ -1,14 +1,14 @@
 //! The lost chunk, from parts of the others.
 ghost use Rattle.std.specs.Prelude.{◌≡◌, ◌≢◌, ℕ, ◌+◌, ◌*◌, ◌/◌, ◌<◌, ◌≤◌, length, IfOk};
 ghost use Rattle.clay_grid.specs.Shape.{row_count, node_count, node_of_chunk, chunk_length};
-ghost use Rattle.clay_repair.specs.Parts.{AreParts, IsRebuilt};
-ghost use Rattle.clay_repair.specs.Rebuilt.{IsPlan, IsReadFor, IsCoupled, IsUncoupled, HoldsOthers, HoldsColumn, HoldsSubchunk, HoldsRow, with_digit};
+ghost use Rattle.clay_model.specs.RepairParts.{AreParts, IsRebuilt};
+ghost use Rattle.code_laws.specs.Rebuilt.{IsReadFor, IsCoupled, IsUncoupled, HoldsOthers, HoldsColumn, HoldsSubchunk, HoldsRow, with_digit};
+ghost use Rattle.clay_repair.specs.Plan.{IsPlan};
 
 use crate::plan::{Plan, make_plan, place_of};
-use clay_decode::partner_of;
 use clay_encode::zeros;
 use clay_grid::Geometry;
-use clay_model::{cross, uncouple};
+use clay_model::{cross, partner_of, uncouple};
 use clay_scalar::syndromes;
 use std::alloc::{AllocError, Global};
 

@@ -1,8 +1,8 @@
 //! The coder of one thread.
-use crate::coder::Coder;
 use crate::lost::rebuild;
-use clay_decode::{DecodeFault, decode};
+use clay_decode::decode;
 use clay_grid::Geometry;
+use clay_model::{Coder, DecodeFault};
 use std::alloc::{AllocError, Global};
 use std::thread::Threads;
 

@@ -4,7 +4,7 @@ ghost use Rattle.std.specs.List.{range_with_len};
 ghost use Rattle.clay_grid.specs.Shape.{chunk_count, row_count, column_count, node_count, layer_count};
 ghost use Rattle.clay_grid.specs.Layers.{layer_of};
 ghost use Rattle.clay_grid.specs.Repair.{layers_with_digit};
-ghost use Rattle.clay_repair.specs.Rebuilt.{IsPlan};
+ghost use Rattle.clay_repair.specs.Plan.{IsPlan};
 
 use clay_grid::Geometry;
 use clay_scalar::Solver;

@@ -5,10 +5,10 @@ use Rattle.clay_field.specs.Field.{product, power_of}
 use Rattle.clay_field.proofs.FieldLaws.{product_comm, product_assoc, zero_product, one_product}
 use Rattle.clay_model.specs.Sums.{sum_below}
 use Rattle.clay_model.proofs.SumLaws.{sum_below_same, sum_below-xor, sum_below-product, sum_below-zero, product_swap}
-use Rattle.clay_scalar.specs.Points.{AreDistinct, byte_of, HaveSums, SumsTellValues}
-use Rattle.clay_scalar.specs.Lagrange.{value_at, IsInterpolation}
-use Rattle.clay_scalar.proofs.PointSums.{sum_at, AreApart, same_values, solution}
-use Rattle.clay_scalar.proofs.Polynomials.{sum_below-one}
+use Rattle.clay_model.specs.Points.{AreDistinct, byte_of, HaveSums, SumsTellValues}
+use Rattle.code_laws.specs.Lagrange.{value_at, IsInterpolation}
+use Rattle.code_laws.proofs.PointSums.{sum_at, AreApart, same_values, solution}
+use Rattle.code_laws.proofs.Polynomials.{sum_below-one}
 
 sum_below-swap : (n m : ℕ) (h : ℕ → ℕ → ℕ) → sum_below n (λ j. sum_below m (h j)) ≡ sum_below m (λ i. sum_below n (λ j. h j i))
 sum_below-swap zero m h = sym (sum_below-zero m (λ i. 0) (λ i l. refl))

@@ -8,8 +8,8 @@ use borrow.Rule.Slice.PartMut.{put_mid}
 use Rattle.clay_field.specs.Field.{product, power_of}
 use Rattle.clay_model.specs.Sums.{sum_below}
 use Rattle.clay_model.proofs.SumLaws.{sum_below_same}
-use Rattle.clay_scalar.specs.Points.{byte_of}
-use Rattle.clay_scalar.specs.Lagrange.{IsLagrange}
+use Rattle.clay_model.specs.Points.{byte_of}
+use Rattle.code_laws.specs.Lagrange.{IsLagrange}
 
 -- byte b of the part e
 pub part_byte : (xs : List ℕ) (e w b : ℕ) → b < w → get_or (take ((e + 1) * w - e * w) (drop (e * w) xs)) b 0 ≡ byte_of xs w b e

@@ -5,8 +5,8 @@ use Rattle.std.proofs.lemmas.List.{get_or_past}
 use lib.Bits.{xor_self}
 use Rattle.clay_field.specs.Field.{product}
 use Rattle.clay_field.proofs.FieldLaws.{product_comm, product_zero, zero_product, product_one}
-use Rattle.clay_scalar.specs.Lagrange.{value_at, IsLagrange}
-use Rattle.clay_scalar.proofs.Polynomials.{value_at-one, IsMultiple, value_at-multiple}
+use Rattle.code_laws.specs.Lagrange.{value_at, IsLagrange}
+use Rattle.code_laws.proofs.Polynomials.{value_at-one, IsMultiple, value_at-multiple}
 
 -- the polynomial after the factors of the first i points, of which the point own has none
 pub record HasFactors (points : List ℕ) (own i : ℕ) (polynomial : List ℕ) : Type 0 where

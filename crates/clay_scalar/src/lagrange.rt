@@ -1,8 +1,8 @@
 //! The coefficients of Lagrange polynomials over points of the field.
 ghost use Rattle.std.specs.Prelude.{◌≡◌, ℕ, ◌+◌, ◌*◌, ◌<◌, ◌≤◌, ◌∷◌, EachIndex, slice_index, length, bit_xor};
 ghost use Rattle.clay_field.specs.Field.{product};
-ghost use Rattle.clay_scalar.specs.Points.{AreDistinct};
-ghost use Rattle.clay_scalar.specs.Lagrange.{IsLagrange, AreLagrange};
+ghost use Rattle.clay_model.specs.Points.{AreDistinct};
+ghost use Rattle.code_laws.specs.Lagrange.{IsLagrange, AreLagrange};
 
 use clay_field::{inv, mul};
 

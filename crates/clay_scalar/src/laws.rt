@@ -2,8 +2,8 @@
 //! contracts are the laws.
 
 ghost use Rattle.std.specs.Prelude.{ℕ, Bool, List};
-ghost use Rattle.clay_scalar.specs.Points.{AreDistinct, SumsTellValues};
-ghost use Rattle.clay_scalar.specs.Erased.{erased_below, ErasedValuesAreSolved};
+ghost use Rattle.clay_model.specs.Points.{AreDistinct, SumsTellValues};
+ghost use Rattle.clay_model.specs.Erased.{erased_below, ErasedValuesAreSolved};
 
 /// Values at distinct points are known by as many of their weighted sums as there are points.
 pub fn solutions_are_unique()

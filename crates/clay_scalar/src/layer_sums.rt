@@ -3,7 +3,7 @@ ghost use Rattle.std.specs.Prelude.{◌≡◌, ℕ, ◌+◌, ◌*◌, ◌<◌, �
 ghost use Rattle.clay_field.specs.Field.{product, power_of};
 ghost use Rattle.clay_grid.specs.Shape.{Shape, node_count};
 ghost use Rattle.clay_model.specs.Sums.{weighted_sum, present_value};
-ghost use Rattle.clay_scalar.specs.Points.{byte_of};
+ghost use Rattle.clay_model.specs.Points.{byte_of};
 
 use clay_field::{add_scaled, mul};
 use clay_grid::Geometry;

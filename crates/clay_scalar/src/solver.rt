@@ -2,7 +2,7 @@
 ghost use Rattle.std.specs.Prelude.{◌≡◌, ℕ, ◌+◌, ◌*◌, ◌<◌, ◌≤◌, IfOk, EachIndex, slice_index, length};
 ghost use Rattle.clay_field.specs.Field.{product};
 ghost use Rattle.clay_model.specs.Sums.{sum_below};
-ghost use Rattle.clay_scalar.specs.Points.{AreDistinct, HaveSums};
+ghost use Rattle.clay_model.specs.Points.{AreDistinct, HaveSums};
 
 use crate::lagrange::write_polynomials;
 use clay_field::add_scaled;
@@ -21,7 +21,7 @@ pub struct Solver {
 
 impl Model for Solver {
     ghost use Rattle.std.specs.Prelude.{List, ℕ};
-    ghost use Rattle.clay_scalar.specs.Lagrange.{IsInterpolation};
+    ghost use Rattle.code_laws.specs.Lagrange.{IsInterpolation};
 
     ghost Value = { List ℕ };
 

@@ -4,7 +4,7 @@ use Rattle.std.proofs.lemmas.Bool.{cases_lt}
 use Rattle.std.proofs.lemmas.List.{get_or-take, length-take-le}
 use Rattle.std.proofs.lemmas.List.FromFn.{get_or-map-range_with_len, length-map-range_with_len}
 use Rattle.std.specs.List.{range_with_len}
-use Rattle.clay_encode.proofs.Parts.{put_mid_before, put_mid_within}
+use Rattle.code_laws.proofs.Pieces.{put_mid_before, put_mid_within}
 use borrow.Rule.Slice.PartMut.{put_mid}
 
 -- the byte that a period has at a place is the ramp's at this place of any block

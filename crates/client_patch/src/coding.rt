@@ -12,7 +12,7 @@ use crate::patch::PatchCall;
 use crate::stage::Stage;
 use call_steps::{Change, Need, Outcome};
 use clay_grid::Geometry;
-use clay_repair::Coder;
+use clay_model::Coder;
 use gather_parts::{PartGatherings, Progress};
 use std::alloc::{AllocError, Global};
 use std::thread::Threads;

@@ -17,7 +17,7 @@ ghost use Rattle.call_steps.specs.Ends.{point_of};
 
 use call_steps::{Act, DirectoryAnswer, Need, Outcome, ServerAnswer};
 use chunk_server::Server;
-use clay_repair::Coder;
+use clay_model::Coder;
 use client_patch::PatchCall;
 use read_ledger::Takes;
 use std::alloc::Global;

@@ -20,7 +20,7 @@ ghost use Rattle.client_read.specs.Ends.{IfServed, AreBytes};
 use crate::stage::Stage;
 use call_steps::{Act, DirectoryAct, Need, Outcome, ServerAnswer};
 use chunk_server::Server;
-use clay_repair::Coder;
+use clay_model::Coder;
 use gather_parts::{Gathered, PartGatherings};
 use read_ledger::Takes;
 use std::alloc::Global;

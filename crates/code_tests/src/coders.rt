@@ -4,8 +4,9 @@ ghost use Rattle.clay_grid.specs.Shape.{chunk_count};
 
 use clay_grid::Geometry;
 use clay_lanes::LaneCoder;
+use clay_model::Coder;
 use clay_par::ParCoder;
-use clay_repair::{Coder, PlainCoder};
+use clay_repair::PlainCoder;
 use std::alloc::Global;
 use std::process::Abort;
 use std::test::Fail;

@@ -1,12 +1,13 @@
 //! Codewords that are given back from what is left of them.
 ghost use Rattle.std.specs.Prelude.{◌≡◌, length, IfOk, IfSome};
 ghost use Rattle.clay_grid.specs.Shape.{chunk_count, chunk_length};
-ghost use Rattle.clay_decode.specs.Left.{AreLong};
+ghost use Rattle.clay_model.specs.Left.{AreLong};
 
 use crate::expect_bytes;
-use clay_decode::{CheckedFault, DecodeFault, decode, decode_checked};
+use clay_decode::{decode, decode_checked};
 use clay_encode::encode;
 use clay_grid::Geometry;
+use clay_model::{CheckedFault, DecodeFault};
 use std::alloc::{AllocError, Global};
 use std::process::Abort;
 use std::test::Fail;

@@ -1,7 +1,7 @@
 //! Stripes that are encoded, and bytes that are cut into stripes.
 ghost use Rattle.std.specs.Prelude.{◌≤◌, ◌<◌, length};
 ghost use Rattle.std.specs.List.{concat};
-ghost use Rattle.clay_encode.specs.Chunks.{contents};
+ghost use Rattle.clay_model.specs.Chunks.{contents};
 
 use crate::expect_bytes;
 use clay_encode::{encode, join, split, stripes_are_joined};

@@ -2,7 +2,7 @@
 use clay_bytes::{MemSink, MemSource, Sink, Source};
 use clay_cli::{Gate, NoGate, Status, clay_main};
 use clay_lanes::LaneCoder;
-use clay_repair::Coder;
+use clay_model::Coder;
 use std::alloc::Global;
 use std::sync::Wait;
 use std::test::Fail;

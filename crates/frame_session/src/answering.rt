@@ -3,7 +3,7 @@ ghost use Rattle.std.specs.Prelude.{◌≡◌, ◌+◌, ◌<◌, ◌^◌, length
 ghost use Rattle.clay_grid.specs.Shape.{chunk_count};
 ghost use Rattle.frame_session.specs.Serving.{AnswersAll, IsLater};
 
-use clay_repair::Coder;
+use clay_model::Coder;
 use frame_bytes::request_of;
 use session_rules::Answer;
 use session_store::SessionStore;

@@ -13,7 +13,7 @@ ghost use Rattle.frame_session.specs.Serving.{ServesFrame, IsLater, IsReady, IsB
 use crate::SessionStatus;
 use crate::answering::answer_to;
 use clay_bytes::{Sink, Source, WriteFault};
-use clay_repair::Coder;
+use clay_model::Coder;
 use frame_bytes::{Next, most_input, read_frame, write_answer};
 use session_store::SessionStore;
 use std::alloc::Global;

@@ -13,7 +13,7 @@ use crate::SessionStatus;
 use crate::serving::serve_frames;
 use crate::words::{Asked, asked_by};
 use clay_bytes::{Sink, Source};
-use clay_repair::Coder;
+use clay_model::Coder;
 use session_store::SessionStore;
 use std::alloc::Global;
 use std::thread::Threads;

@@ -12,7 +12,7 @@ ghost use Rattle.gather_parts.specs.States.{state_in, StandsIn, after_coding};
 use crate::gatherings::PartGatherings;
 use crate::parts::next_gather;
 use crate::progress::Progress;
-use clay_repair::Coder;
+use clay_model::Coder;
 use read_ledger::Takes;
 use std::alloc::{AllocError, Global};
 use std::thread::Threads;

@@ -10,10 +10,10 @@ use Rattle.clay_grid.specs.Limits.{IsGeometry}
 use Rattle.clay_grid.specs.Repair.{all_layers, repair_layers_of}
 use Rattle.clay_model.specs.Code.{Codes, HasDistinctNodes}
 use Rattle.clay_model.proofs.Codewords.{same_of_stripe, distinct_nodes}
-use Rattle.clay_encode.specs.Chunks.{contents}
-use Rattle.clay_decode.specs.Left.{parts, AreLong, AreLeft, Completes, AreRecovered}
-use Rattle.clay_repair.specs.Parts.{subchunks_at, part_length, AreParts, HasParts, IsRebuilt}
-use Rattle.clay_repair.proofs.Column.{node_inside, length-part}
+use Rattle.clay_model.specs.Chunks.{contents}
+use Rattle.clay_model.specs.Left.{parts, AreLong, AreLeft, Completes, AreRecovered}
+use Rattle.clay_model.specs.RepairParts.{subchunks_at, part_length, AreParts, HasParts, IsRebuilt}
+use Rattle.code_laws.proofs.Column.{node_inside, length-part}
 use Rattle.store_core.specs.Lists.{is_among}
 use Rattle.version_seal.specs.Chunk.{IsChunkOf}
 use Rattle.version_seal.proofs.Subchunks.{are_parts}

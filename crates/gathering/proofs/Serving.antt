@@ -8,9 +8,9 @@ use Rattle.std.proofs.lemmas.Option.{same_Some}
 use Rattle.clay_grid.specs.Shape.{Shape, chunk_count, chunk_length}
 use Rattle.clay_grid.specs.Limits.{IsGeometry}
 use Rattle.clay_grid.specs.Repair.{all_layers, repair_layers_of}
-use Rattle.clay_encode.specs.Chunks.{contents}
-use Rattle.clay_decode.specs.Left.{AreLeft, AreRecovered}
-use Rattle.clay_repair.specs.Parts.{AreParts, IsRebuilt}
+use Rattle.clay_model.specs.Chunks.{contents}
+use Rattle.clay_model.specs.Left.{AreLeft, AreRecovered}
+use Rattle.clay_model.specs.RepairParts.{AreParts, IsRebuilt}
 use Rattle.store_core.specs.Lists.{is_among}
 use Rattle.store_core.specs.GatheringParts.{layers_for}
 use Rattle.store_resume.specs.Stage.{Aim, Stage}

@@ -9,7 +9,7 @@ ghost use Rattle.gathering.specs.Made.{Appends, AppendsChunk, IsPieceOf, bytes_b
 
 use crate::gather::{Gather, empty_shelf};
 use call_steps::Need;
-use clay_repair::Coder;
+use clay_model::Coder;
 use std::alloc::{AllocError, Global};
 use std::thread::Threads;
 

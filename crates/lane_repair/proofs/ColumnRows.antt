@@ -6,9 +6,9 @@ use borrow.Rule.Slice.PartMut.{put_mid}
 use Rattle.clay_field.specs.Field.{product}
 use Rattle.clay_grid.specs.Shape.{Shape, node_count}
 use Rattle.clay_model.specs.Sums.{sum_below}
-use Rattle.clay_scalar.specs.Erased.{present}
-use Rattle.clay_encode.proofs.Parts.{put_mid_before, put_mid_within, place_below}
-use Rattle.clay_decode.specs.Solved.{uncoupled_byte}
+use Rattle.clay_model.specs.Erased.{present}
+use Rattle.code_laws.proofs.Pieces.{put_mid_before, put_mid_within, place_below}
+use Rattle.code_laws.specs.Solved.{uncoupled_byte}
 use Rattle.clay_kernels.specs.Generated.{IsGeneratorOf}
 use Rattle.clay_kernels.specs.declared.column.ColumnFactors.{ColumnFactors}
 use Rattle.clay_kernels.specs.Columns.{IsColumn, AreColumns, AddsColumn, IsColumnForm, EndsColumn}

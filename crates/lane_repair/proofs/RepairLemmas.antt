@@ -8,16 +8,16 @@ use Rattle.clay_grid.specs.Shape.{Shape, chunk_count, row_count, column_count, n
 use Rattle.clay_grid.specs.Layers.{layer_of}
 use Rattle.clay_grid.specs.Repair.{repair_layers_of}
 use Rattle.clay_model.proofs.PairLaws.{crossed}
-use Rattle.clay_scalar.specs.Erased.{erased_below}
-use Rattle.clay_decode.specs.Solved.{coupled_byte, uncoupled_byte}
-use Rattle.clay_decode.proofs.Layer.{coupled_below}
-use Rattle.clay_decode.specs.Partners.{ArePartners}
-use Rattle.clay_decode.proofs.Vertices.{alone_value, paired_value}
-use Rattle.clay_repair.specs.Parts.{HasParts, IsRebuilt}
-use Rattle.clay_repair.specs.Rebuilt.{IsReadFor, with_digit}
-use Rattle.clay_repair.specs.Rebuilt as whole
-use Rattle.clay_repair.proofs.Points.{column_erased}
-use Rattle.clay_repair.proofs.Rows.{column_below, layer_of-with_digit, with_digit-own, with_digit-back}
+use Rattle.clay_model.specs.Erased.{erased_below}
+use Rattle.code_laws.specs.Solved.{coupled_byte, uncoupled_byte}
+use Rattle.code_laws.proofs.Layer.{coupled_below}
+use Rattle.clay_model.specs.Partners.{ArePartners}
+use Rattle.code_laws.proofs.Vertices.{alone_value, paired_value}
+use Rattle.clay_model.specs.RepairParts.{HasParts, IsRebuilt}
+use Rattle.code_laws.specs.Rebuilt.{IsReadFor, with_digit}
+use Rattle.code_laws.specs.Rebuilt as whole
+use Rattle.code_laws.proofs.ColumnPoints.{column_erased}
+use Rattle.code_laws.proofs.Rows.{column_below, layer_of-with_digit, with_digit-own, with_digit-back}
 use Rattle.lane_repair.specs.Pieces.{IsCoupled, IsUncoupled, HoldsRows, HoldsByte}
 use Rattle.lane_repair.specs.Repaired.{column_nodes}
 

@@ -13,14 +13,14 @@ use Rattle.clay_grid.proofs.LayerLaws.{IsLayer-digits_of}
 use Rattle.clay_model.specs.Sums.{sum_below}
 use Rattle.clay_model.specs.Code.{IsCodeword, coupled_value}
 use Rattle.clay_model.proofs.Unique.{uncoupled_byte as uncoupled_below}
-use Rattle.clay_scalar.specs.Points.{sum_over}
-use Rattle.clay_scalar.specs.Erased.{erased_below, present}
-use Rattle.clay_scalar.proofs.ErasedNodes.{erased_values_solved}
-use Rattle.clay_encode.proofs.Parts.{put_mid_before, put_mid_within, put_mid_past, place_below}
+use Rattle.clay_model.specs.Points.{sum_over}
+use Rattle.clay_model.specs.Erased.{erased_below, present}
+use Rattle.code_laws.proofs.ErasedNodes.{erased_values_solved}
+use Rattle.code_laws.proofs.Pieces.{put_mid_before, put_mid_within, put_mid_past, place_below}
 use borrow.Rule.Slice.PartMut.{put_mid}
-use Rattle.clay_decode.specs.Solved.{uncoupled_byte}
-use Rattle.clay_decode.proofs.Layer.{coupled_below}
-use Rattle.clay_decode.proofs.Nodes.{IsNodeOf, chunk_byte}
+use Rattle.code_laws.specs.Solved.{uncoupled_byte}
+use Rattle.code_laws.proofs.Layer.{coupled_below}
+use Rattle.code_laws.proofs.Nodes.{IsNodeOf, chunk_byte}
 use Rattle.clay_kernels.specs.Lanes.{AddsRows}
 use Rattle.clay_kernels.specs.Generated.{factor_at, generated, IsGeneratorOf}
 use Rattle.lane_repair.specs.Pieces.{IsCoupled, IsUncoupled, HoldsRows, HoldsByte}

@@ -1,8 +1,8 @@
 -- What a block of bytes has of nodes and chunks, for each codeword that fits what is there.
 use Rattle.std.specs.Prelude.{◌≡◌, ℕ, ◌+◌, ◌*◌, ◌<◌, Bool, List, [], length, get_or}
 use Rattle.clay_grid.specs.Shape.{Shape}
-use Rattle.clay_scalar.specs.Erased.{present}
-use Rattle.clay_decode.specs.Solved.{coupled_byte, uncoupled_byte}
+use Rattle.clay_model.specs.Erased.{present}
+use Rattle.code_laws.specs.Solved.{coupled_byte, uncoupled_byte}
 
 -- a piece has the bytes from `at` on of node i's subchunk n, as many as len
 pub record IsCoupled (g : Shape) (fits : List (List ℕ) → Type 0) (at len i n : ℕ) (piece : List ℕ) : Type 0 where

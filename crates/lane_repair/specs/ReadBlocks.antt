@@ -1,8 +1,8 @@
 -- What holds in a block of byte positions of a layer that is read, for each codeword whose other chunks have the parts that are there.
 use Rattle.std.specs.Prelude.{ℕ, ◌+◌, ◌*◌, ◌<◌, ◌≤◌, List}
 use Rattle.clay_grid.specs.Shape.{row_count}
-use Rattle.clay_repair.specs.Parts.{AreParts, HasParts}
-use Rattle.clay_repair.specs.Rebuilt.{IsReadFor, with_digit}
+use Rattle.clay_model.specs.RepairParts.{AreParts, HasParts}
+use Rattle.code_laws.specs.Rebuilt.{IsReadFor, with_digit}
 use Rattle.lane_repair.specs.Pieces.{IsCoupled, IsUncoupled, IsPresent, HoldsColumn, HoldsRows, HoldsByte}
 use Rattle.lane_repair.specs.Repaired.{IsRepairPlan, column_nodes}
 use Rattle.lane_repair.specs.declared.read_block.ReadBlock.{ReadBlock}

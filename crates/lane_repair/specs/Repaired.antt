@@ -6,7 +6,7 @@ use Rattle.clay_grid.specs.Shape.{Shape, chunk_count, row_count, node_count, nod
 use Rattle.clay_grid.specs.Limits.{IsGeometry}
 use Rattle.clay_grid.specs.Repair.{repair_layers_of}
 use Rattle.clay_kernels.specs.Generated.{IsGeneratorOf}
-use Rattle.clay_repair.specs.Parts.{HasParts}
+use Rattle.clay_model.specs.RepairParts.{HasParts}
 use Rattle.lane_repair.specs.Pieces.{HoldsRows, HoldsByte}
 use Rattle.lane_repair.specs.declared.repair_plan.RepairPlan.{RepairPlan}
 

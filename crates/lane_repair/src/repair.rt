@@ -1,17 +1,17 @@
 //! The lost chunk, from parts of the others, a block of bytes of a layer after another.
 ghost use Rattle.std.specs.Prelude.{◌≡◌, ◌≢◌, ℕ, ◌+◌, ◌*◌, ◌/◌, ◌<◌, ◌≤◌, length, min, IfOk, OnOk, OnErr};
 ghost use Rattle.clay_grid.specs.Shape.{row_count, node_count, node_of_chunk, chunk_length};
-ghost use Rattle.clay_repair.specs.Parts.{AreParts, IsRebuilt};
-ghost use Rattle.clay_repair.specs.Rebuilt.{IsReadFor, with_digit};
+ghost use Rattle.clay_model.specs.RepairParts.{AreParts, IsRebuilt};
+ghost use Rattle.code_laws.specs.Rebuilt.{IsReadFor, with_digit};
 ghost use Rattle.lane_repair.specs.Repaired.{IsRepairPlan, HoldsColumnRows, HoldsLostByte, KeepsLostBytes};
 ghost use Rattle.lane_repair.specs.ReadBlocks.{IsReadBlock, IsCoupledIn, IsUncoupledIn, IsPresentIn, HoldsColumnIn, HoldsRowsIn, HoldsSubchunksIn, KeepsBytesIn};
 
 use crate::erased::is_column_erased;
 use crate::read_block::ReadBlock;
 use crate::repair_plan::{RepairPlan, layer_place, make_repair_plan};
-use clay_decode::partner_of;
 use clay_grid::Geometry;
 use clay_kernels::{BLOCK, add_column, column_room, cross, end_column, uncouple, zeros};
+use clay_model::partner_of;
 use std::alloc::{AllocError, Global};
 
 impl<'a> ReadBlock<'a> {

@@ -1,13 +1,13 @@
 //! Codewords recovered by the fast coder from what is left of them, and chunks that are of none.
 ghost use Rattle.std.specs.Prelude.{◌≡◌, ◌≤◌, length, IfOk, IfSome, count_by, is_none};
 ghost use Rattle.clay_grid.specs.Shape.{chunk_count, chunk_length};
-ghost use Rattle.clay_decode.specs.Left.{AreLong};
+ghost use Rattle.clay_model.specs.Left.{AreLong};
 
 use crate::encoding::{CODES, WIDTHS, expect_bytes, expect_chunks, mixed_bytes};
-use clay_decode::{CheckedFault, DecodeFault};
 use clay_grid::Geometry;
 use clay_lanes::{LaneCoder, decode, decode_checked, encode, missing, missing_into};
-use clay_repair::{Coder, PlainCoder};
+use clay_model::{CheckedFault, Coder, DecodeFault};
+use clay_repair::PlainCoder;
 use std::alloc::{AllocError, Global};
 use std::process::Abort;
 use std::test::Fail;

@@ -1,13 +1,13 @@
 //! Chunks rebuilt by the fast coder from parts of the others.
 ghost use Rattle.std.specs.Prelude.{◌≡◌, ◌<◌, length, IfOk, IfSome, is_none};
 ghost use Rattle.clay_grid.specs.Shape.{chunk_count};
-ghost use Rattle.clay_repair.specs.Parts.{AreParts};
+ghost use Rattle.clay_model.specs.RepairParts.{AreParts};
 
 use crate::coders::word_of;
 use crate::encoding::{CODES, WIDTHS, expect_bytes};
 use clay_grid::Geometry;
 use clay_lanes::LaneCoder;
-use clay_repair::Coder;
+use clay_model::Coder;
 use std::alloc::{AllocError, Global};
 use std::process::Abort;
 use std::test::Fail;

@@ -7,8 +7,9 @@ use crate::encoding::{CODES, WIDTHS, expect_bytes, expect_chunks, expect_pieces,
 use crate::rebuilding::{check_rebuild, parts_of};
 use clay_grid::Geometry;
 use clay_lanes::LaneCoder;
+use clay_model::Coder;
 use clay_par::ParCoder;
-use clay_repair::{Coder, PlainCoder};
+use clay_repair::PlainCoder;
 use std::alloc::Global;
 use std::process::Abort;
 use std::test::Fail;

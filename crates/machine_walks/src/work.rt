@@ -16,7 +16,7 @@ use crate::said::said;
 use call_machine::CallMachine;
 use call_steps::Need;
 use chunk_server::Server;
-use clay_repair::Coder;
+use clay_model::Coder;
 use std::alloc::{AllocError, Global};
 use std::thread::Threads;
 use store_map::{Call, Rebuild};

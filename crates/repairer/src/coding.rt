@@ -12,7 +12,7 @@ ghost use Rattle.repairer.specs.Standing.{stage_of};
 use crate::repair_call::RepairCall;
 use crate::stage::Stage;
 use call_steps::{Need, RepairOutcome};
-use clay_repair::Coder;
+use clay_model::Coder;
 use gathering::Gather;
 use read_ledger::Takes;
 use std::alloc::AllocError;

@@ -24,7 +24,7 @@ use call_steps::{
     Act, DirectoryAct, DirectoryAnswer, Need, RepairOutcome, ServerAct, ServerAnswer,
 };
 use chunk_server::Server;
-use clay_repair::Coder;
+use clay_model::Coder;
 use gathering::Gather;
 use read_ledger::Takes;
 use std::marker::Model;

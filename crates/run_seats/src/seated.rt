@@ -11,7 +11,7 @@ use crate::store::Store;
 use crate::turns::Turns;
 use actors::Caller;
 use call_steps::Need;
-use clay_repair::Coder;
+use clay_model::Coder;
 use std::sync::Wait;
 use std::thread::Threads;
 use store_map::Actor;

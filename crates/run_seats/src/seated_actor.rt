@@ -9,7 +9,7 @@ use crate::seated::Seated;
 use crate::seated_operator::SeatedOperator;
 use crate::seated_sweeper::SeatedSweeper;
 use crate::store::Store;
-use clay_repair::Coder;
+use clay_model::Coder;
 use std::sync::Wait;
 use std::thread::Threads;
 

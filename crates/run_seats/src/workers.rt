@@ -8,7 +8,7 @@ ghost use Rattle.run_seats.specs.Working.{AreDone, IsDone, IsWorking};
 use crate::gate::Gate;
 use crate::seated_actor::SeatedActor;
 use crate::store::Store;
-use clay_repair::Coder;
+use clay_model::Coder;
 use std::sync::Wait;
 use std::thread;
 use std::thread::Threads;

@@ -1,6 +1,7 @@
 //! A coder that counts what it is asked for.
 use clay_grid::Geometry;
-use clay_repair::{Coder, PlainCoder};
+use clay_model::Coder;
+use clay_repair::PlainCoder;
 use std::alloc::{AllocError, Global};
 use std::sync::atomic::{AtomicU64, Ordering};
 use std::thread::Threads;

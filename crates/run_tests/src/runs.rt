@@ -2,8 +2,8 @@
 ghost use Rattle.std.specs.Prelude.{IfOk};
 ghost use Rattle.store_map.specs.Naming.{IsValid};
 
+use clay_model::Coder;
 use clay_par::ParCoder;
-use clay_repair::Coder;
 use hist_check::check;
 use hist_tables::verdict_line;
 use script_text::read_script;

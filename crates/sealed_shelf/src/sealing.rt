@@ -4,7 +4,7 @@ ghost use Rattle.std.specs.Prelude.{◌≡◌, ◌+◌, ◌<◌, ◌∷◌, [], 
 ghost use Rattle.clay_grid.specs.Shape.{chunk_count};
 ghost use Rattle.version_seal.specs.Entry.{IsBaseIn};
 ghost use Rattle.version_seal.specs.Sealer.{sealer_at};
-ghost use Rattle.clay_decode.specs.Left.{AreLong};
+ghost use Rattle.clay_model.specs.Left.{AreLong};
 ghost use Rattle.sealed_shelf.specs.Small.{small_code, stripe_bytes, IsSmall, IsStampOf, IsStripeOf, IsChunkFor};
 
 use chunk_server::{Fetched, Server};

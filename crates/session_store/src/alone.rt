@@ -14,7 +14,7 @@ ghost use Rattle.session_store.specs.Running.{MayRun, HasRunTo};
 use crate::places::SessionPlaces;
 use call_machine::CallMachine;
 use call_steps::Need;
-use clay_repair::Coder;
+use clay_model::Coder;
 use read_ledger::Takes;
 use std::snapshot::Snapshot;
 use std::thread::Threads;

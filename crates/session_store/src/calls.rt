@@ -11,7 +11,7 @@ use crate::parts::Parts;
 use crate::seats::{put_seat, take};
 use crate::sweeps::sweep_all;
 use call_machine::CallMachine;
-use clay_repair::Coder;
+use clay_model::Coder;
 use session_rules::Answer;
 use std::thread::Threads;
 use store_map::Call;

@@ -16,7 +16,7 @@ use crate::scrubs::lost_chunks;
 use crate::seats::{put_seat, take};
 use crate::sweeps::sweep_all;
 use call_machine::CallMachine;
-use clay_repair::Coder;
+use clay_model::Coder;
 use read_ledger::Takes;
 use session_rules::{Answer, LostChunk};
 use std::alloc::AllocError;

@@ -11,7 +11,7 @@ use crate::answers::of_read;
 use crate::parts::Parts;
 use crate::places::SessionPlaces;
 use call_steps::Need;
-use clay_repair::Coder;
+use clay_model::Coder;
 use session_rules::Answer;
 use snapshot_view::SnapRead;
 use std::thread::Threads;

@@ -18,7 +18,7 @@ use crate::seats::{leave_seat, leave_tickets};
 use crate::snapshot_reads::snap_read;
 use crate::snapshots::{drop_open, snap, snap_drop};
 use clay_grid::Geometry;
-use clay_repair::Coder;
+use clay_model::Coder;
 use session_rules::{Answer, Request};
 use std::alloc::{AllocError, Global};
 use std::marker::Model;

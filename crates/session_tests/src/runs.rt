@@ -1,6 +1,6 @@
 //! One session over a source and a sink in memory that give and take one byte a call.
 use clay_bytes::{DripSink, DripSource};
-use clay_repair::Coder;
+use clay_model::Coder;
 use frame_session::{SessionStatus, frame_main};
 use std::alloc::{AllocError, Global};
 use std::test::Fail;

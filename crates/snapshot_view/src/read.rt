@@ -21,7 +21,7 @@ ghost use Rattle.snapshot_view.specs.ReadSteps.{need_of, stepped, coded, EndsAs}
 use crate::ends::{Ending, SnapOutcome};
 use call_steps::{Need, Seen, ServerAnswer};
 use chunk_server::Server;
-use clay_repair::Coder;
+use clay_model::Coder;
 use gather_parts::PartGatherings;
 use read_ledger::Takes;
 use std::alloc::{AllocError, Global};

@@ -15,7 +15,7 @@ use crate::ended::close;
 use crate::ending::{Left, gather, leave_workers};
 use crate::places::{leave_seats, lock_places};
 use crate::seating::{Seating, new_workers};
-use clay_repair::Coder;
+use clay_model::Coder;
 use run_seats::{Gate, Store, Worker, work_together};
 use std::alloc::{AllocError, Global};
 use std::sync::Wait;

@@ -11,7 +11,7 @@ ghost use Rattle.store_world.specs.Stored.{LeadsBy, world_of};
 
 use crate::world::World;
 use actors::Caller;
-use clay_repair::Coder;
+use clay_model::Coder;
 use std::thread::Threads;
 
 // Whether one of the callers has a step.

@@ -5,7 +5,7 @@ ghost use Rattle.version_seal.specs.Sealer.{sealer_at};
 ghost use Rattle.store_answers.specs.Played.{IsPlayed};
 
 use crate::world::World;
-use clay_repair::Coder;
+use clay_model::Coder;
 use std::alloc::{AllocError, Global};
 use std::thread::Threads;
 use store_map::Script;

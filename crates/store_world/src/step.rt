@@ -5,7 +5,7 @@ ghost use Rattle.world_steps.specs.Goes.{GoesBy};
 ghost use Rattle.store_world.specs.Stored.{world_of};
 
 use crate::world::World;
-use clay_repair::Coder;
+use clay_model::Coder;
 use std::thread::Threads;
 use store_map::Token;
 

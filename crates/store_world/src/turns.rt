@@ -11,7 +11,7 @@ ghost use Rattle.store_world.specs.Telling.{LeadsTold, steps_in};
 use crate::world::World;
 use actors::Caller;
 use actors::laws::turns_lead;
-use clay_repair::Coder;
+use clay_model::Coder;
 use client_patch::laws::bytes_of_the_map_are_padded;
 use std::thread::Threads;
 use trace_lines::Step;

@@ -7,7 +7,7 @@ ghost use Rattle.world_traces.specs.RoundTells.{client_tokens, repairer_tokens, 
 ghost use Rattle.trace_run.specs.Adds.{Adds};
 
 use crate::keep::{keep, keep_turn};
-use clay_repair::Coder;
+use clay_model::Coder;
 use std::alloc::AllocError;
 use std::thread::Threads;
 use store_map::Script;

@@ -9,7 +9,7 @@ ghost use Rattle.trace_run.specs.Adds.{TracesTo};
 ghost use Rattle.trace_run.specs.Traced.{IsTracedRun};
 
 use crate::step::step;
-use clay_repair::Coder;
+use clay_model::Coder;
 use std::alloc::{AllocError, Global};
 use std::thread::Threads;
 use store_map::Script;

@@ -8,7 +8,7 @@ ghost use Rattle.trace_run.specs.Adds.{Adds};
 
 use crate::drain::drain;
 use crate::keep::{keep, keep_turn};
-use clay_repair::Coder;
+use clay_model::Coder;
 use std::alloc::AllocError;
 use std::thread::Threads;
 use store_map::{Script, Token};

@@ -10,7 +10,7 @@ ghost use Rattle.trace_run.specs.Top.{IsAnswer, IsOfInput, IsTextOf, Owes};
 use crate::script_run::{TracedRun, trace};
 use clay_bytes::{Sink, Source};
 use clay_cli::{Output, Status, read_input, refusal, write_out};
-use clay_repair::Coder;
+use clay_model::Coder;
 use script_text::read_script;
 use std::alloc::{AllocError, Global};
 use std::thread::Threads;

@@ -2,7 +2,7 @@
 use Rattle.std.specs.Prelude.{◌≡◌, ◌≤◌, length, map, vec_capacity}
 use Rattle.std.specs.Vec.Iter.{into_iter_items}
 use Rattle.clay_grid.specs.Shape.{chunk_count}
-use Rattle.clay_encode.specs.Chunks.{contents}
+use Rattle.clay_model.specs.Chunks.{contents}
 use Rattle.store_core.specs.Placements.{skipped_from}
 use Rattle.store_core.specs.Told.{lost_in}
 use Rattle.write_course.specs.Chunks.{PlacingOf, AreChunksFrom}

@@ -1,7 +1,7 @@
 //! A version whose chunks go to their servers.
 ghost use Rattle.std.specs.Prelude.{◌≡◌, ◌<◌, ◌≤◌, ◌∷◌, ◌++◌, [], map, length, true, false, IfOk, OnErr, vec_capacity};
 ghost use Rattle.clay_grid.specs.Shape.{chunk_count};
-ghost use Rattle.clay_encode.specs.Chunks.{contents};
+ghost use Rattle.clay_model.specs.Chunks.{contents};
 ghost use Rattle.clay_model.specs.Code.{Codes};
 ghost use Rattle.store_core.specs.Told.{Told};
 ghost use Rattle.store_core.specs.Act.{ServerStep};

@@ -20,7 +20,7 @@ use crate::writing_stage::{WritingStage, prepares_or_commits, settles_or_is_done
 use call_steps::{ServerAct, ServerAnswer};
 use chunk_server::Server;
 use clay_grid::Geometry;
-use clay_repair::Coder;
+use clay_model::Coder;
 use std::alloc::{AllocError, Global};
 use std::marker::Model;
 use std::mem;

@@ -1,6 +1,6 @@
 use Rattle.std.proofs.Common.{◌≡◌, ℕ, ◌+◌, ◌-◌, ◌*◌, ◌<◌, ◌≤◌, length, sym, subst, ap, arith}
 use Rattle.clay_grid.specs.Shape.{layer_count, chunk_length}
-use Rattle.clay_encode.proofs.Parts.{piece_fits}
+use Rattle.code_laws.proofs.Pieces.{piece_fits}
 use borrow.Rule.Slice.PartMut.{put_mid}
 use Rattle.clay_aloof.specs.Shape.{grid_of, node_of}
 use Rattle.clay_aloof.specs.Solved.{HoldsSubchunks}

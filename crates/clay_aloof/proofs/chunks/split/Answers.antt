@@ -1,7 +1,7 @@
 use Rattle.std.proofs.Common.{◌+◌, ◌*◌, [], ◌∷◌, ◌++◌, slice_range, sym, ap, ◌∙◌, arith}
 use Rattle.std.proofs.lemmas.List.FromFn.{map-range_with_len_more}
-use Rattle.clay_encode.specs.Chunks.{contents}
-use Rattle.clay_encode.proofs.Lists.{contents_push}
+use Rattle.clay_model.specs.Chunks.{contents}
+use Rattle.code_laws.proofs.Lists.{contents_push}
 use Rattle.clay_aloof.proofs.chunks.split.Goals as goal
 
 pub loop-c-preserved : goal.loop-c-preserved

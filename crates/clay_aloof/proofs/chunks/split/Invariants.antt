@@ -1,5 +1,5 @@
 use Rattle.std.proofs.Common.{◌≡◌}
-use Rattle.clay_encode.specs.Chunks.{contents}
+use Rattle.clay_model.specs.Chunks.{contents}
 use Rattle.clay_aloof.specs.Encoded.{chunks_in}
 use Rattle.clay_aloof.proofs.chunks.split.Given as goal
 

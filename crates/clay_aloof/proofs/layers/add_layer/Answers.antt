@@ -1,7 +1,7 @@
 use Rattle.std.proofs.Common.{◌≡◌, ℕ, ◌+◌, ◌-◌, ◌*◌, ◌≤◌, List, ◌++◌, length, replicate, take, drop, sym, subst, ap, ◌∙◌, arith}
 use Rattle.std.proofs.lemmas.List.{take_all, length-append}
 use Rattle.std.proofs.Math.Seq.{take-append_seam}
-use Rattle.clay_encode.proofs.Parts.{written_whole}
+use Rattle.code_laws.proofs.Pieces.{written_whole}
 use Rattle.clay_aloof.specs.Solved.{HoldsLower}
 use Rattle.clay_aloof.specs.Known.{node_bytes}
 use Rattle.clay_aloof.proofs.layers.add_layer.Goals as goal

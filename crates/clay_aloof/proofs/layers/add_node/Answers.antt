@@ -1,6 +1,6 @@
 use Rattle.std.proofs.Common.{◌≡◌, ℕ, ◌+◌, ◌*◌, length, ap, ◌∙◌, arith}
 use Rattle.clay_grid.specs.Shape.{node_count}
-use Rattle.clay_encode.proofs.Parts.{piece_fits}
+use Rattle.code_laws.proofs.Pieces.{piece_fits}
 use Rattle.clay_aloof.specs.Known.{node_bytes}
 use Rattle.clay_aloof.specs.Solved.{IsUncoupled}
 use Rattle.clay_aloof.proofs.Layer.{adds_node}

@@ -1,6 +1,6 @@
 use Rattle.std.proofs.Common.{◌<◌, subst, sym}
 use Rattle.clay_grid.specs.Shape.{node_count, layer_count}
-use Rattle.clay_decode.specs.Partners.{ArePartners}
+use Rattle.clay_model.specs.Partners.{ArePartners}
 use Rattle.clay_aloof.proofs.layers.partner_of.Goals as goal
 
 pub of-requires-clause-node : goal.of-requires-clause-node

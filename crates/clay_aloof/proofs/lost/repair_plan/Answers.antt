@@ -1,9 +1,9 @@
 use Rattle.std.proofs.Common.{◌≡◌, ◌≢◌, ℕ, ◌/◌, ◌%◌, ◌<◌, ◌≤◌, length, get_or, sym, subst, ap, ◌∙◌, arith}
 use Rattle.clay_grid.specs.Shape.{node_count, row_count, layer_count}
 use Rattle.clay_grid.specs.Score.{IsByScore}
-use Rattle.clay_scalar.specs.Erased.{erased_below}
-use Rattle.clay_scalar.specs.Points.{AreDistinct}
-use Rattle.clay_scalar.proofs.ErasedNodes.{AreDistinct-erased}
+use Rattle.clay_model.specs.Erased.{erased_below}
+use Rattle.clay_model.specs.Points.{AreDistinct}
+use Rattle.code_laws.proofs.ErasedNodes.{AreDistinct-erased}
 use Rattle.clay_kernels.specs.Generated.{IsGeneratorOf}
 use Rattle.clay_aloof.specs.Shape.{rows_of, grid_of, node_of}
 use Rattle.clay_aloof.specs.Rebuilt.{kept_layers}

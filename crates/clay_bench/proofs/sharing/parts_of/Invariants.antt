@@ -1,5 +1,5 @@
 use Rattle.std.proofs.Common.{◌≡◌, ℕ, ◌<◌, eqb, length, get_or, None, is_none, IfSome, All}
-use Rattle.clay_repair.specs.Parts.{part_length}
+use Rattle.clay_model.specs.RepairParts.{part_length}
 use Rattle.clay_bench.proofs.sharing.parts_of.Given as goal
 
 abbrev pub invariant-loop-c : goal.invariant-loop-c

@@ -1,6 +1,6 @@
 use Rattle.std.proofs.Common.{◌+◌, ◌*◌, ◌<◌, ◌≤◌, eqb, cond, get_or, length, Some, None, sym, subst, ap, ◌∙◌, arith}
 use Rattle.clay_grid.specs.Score.{count_below}
-use Rattle.clay_decode.specs.Left.{parts, AreLong}
+use Rattle.clay_model.specs.Left.{parts, AreLong}
 use Rattle.clay_aloof.specs.Shape.{all_chunks}
 use Rattle.clay_c.specs.Pieces.{piece_at}
 use Rattle.clay_c.specs.Helpers.{is_marked}

@@ -1,7 +1,7 @@
 use Rattle.std.proofs.Common.{◌≡◌, eqb, cond, map, get_or, Some, None}
 use Rattle.std.specs.List.{range_with_len}
 use Rattle.clay_grid.specs.Score.{count_below}
-use Rattle.clay_decode.specs.Left.{parts, AreLong}
+use Rattle.clay_model.specs.Left.{parts, AreLong}
 use Rattle.clay_c.specs.Pieces.{piece_at}
 use Rattle.clay_c.specs.Helpers.{is_marked}
 use Rattle.clay_c.proofs.aloof.parts_taken.Given as goal

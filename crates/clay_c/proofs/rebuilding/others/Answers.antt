@@ -1,5 +1,5 @@
 use Rattle.std.proofs.Common.{eqb, cond, Some, None, sym, subst, ap, ◌∙◌}
-use Rattle.clay_decode.specs.Left.{parts, AreLong}
+use Rattle.clay_model.specs.Left.{parts, AreLong}
 use Rattle.clay_c.specs.Pieces.{piece_at}
 use Rattle.clay_c.specs.Calls.{place_among_others}
 use Rattle.clay_c.proofs.Taking.{parts_more, long_more}

@@ -1,6 +1,6 @@
 use Rattle.std.proofs.Common.{◌≡◌, eqb, cond, map, Some, None}
 use Rattle.std.specs.List.{range_with_len}
-use Rattle.clay_decode.specs.Left.{parts, AreLong}
+use Rattle.clay_model.specs.Left.{parts, AreLong}
 use Rattle.clay_c.specs.Pieces.{piece_at}
 use Rattle.clay_c.specs.Calls.{place_among_others}
 use Rattle.clay_c.proofs.rebuilding.others.Given as goal

@@ -1,7 +1,7 @@
 use Rattle.std.proofs.Common.{sym, subst, ap, ◌∙◌}
 use Rattle.clay_model.specs.Code.{AgreesWith}
-use Rattle.clay_decode.specs.Left.{parts}
-use Rattle.clay_repair.specs.Parts.{AreParts, repair_parts}
+use Rattle.clay_model.specs.Left.{parts}
+use Rattle.clay_model.specs.RepairParts.{AreParts, repair_parts}
 use Rattle.clay_c.proofs.Taking.{are_parts}
 use Rattle.clay_c.proofs.rebuilding.write_rebuilt.Goals as goal
 

@@ -1,5 +1,5 @@
 use Rattle.std.proofs.Common.{eqb, cond, get_or, Some, None, sym, subst, ap, ◌∙◌}
-use Rattle.clay_decode.specs.Left.{parts, AreLong}
+use Rattle.clay_model.specs.Left.{parts, AreLong}
 use Rattle.clay_c.specs.Pieces.{piece_at}
 use Rattle.clay_c.proofs.Taking.{parts_more, long_more}
 use Rattle.clay_c.proofs.recovery.chunks_left.Goals as goal

@@ -1,5 +1,5 @@
 use Rattle.std.proofs.Common.{◌≡◌, ◌<◌, Err, count_by, is_none, sym, subst, ap, ◌∙◌, arith}
-use Rattle.clay_decode.specs.Left.{parts}
+use Rattle.clay_model.specs.Left.{parts}
 use Rattle.clay_c.specs.Calls.{left_of, lost_count}
 use Rattle.clay_c.proofs.Taking.{length_left, gone_left, same_count}
 use Rattle.clay_c.proofs.Recovering.{recovers}

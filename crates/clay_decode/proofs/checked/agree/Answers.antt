@@ -1,8 +1,8 @@
 use Rattle.std.proofs.Common.{◌≡◌, ℕ, ◌<◌, List, [], length, get_or, None, Vec, Global, IfSome, refl, sym, subst, ap, ◌∙◌, inl, inr, arith}
 use Rattle.std.proofs.lemmas.Bool.{cases_eq, false≢true}
 use Rattle.std.proofs.lemmas.List.{get_or_read, get_or-map}
-use Rattle.clay_encode.specs.Chunks.{contents}
-use Rattle.clay_decode.proofs.Agreeing.{agrees_of, kept_of}
+use Rattle.clay_model.specs.Chunks.{contents}
+use Rattle.code_laws.proofs.Agreeing.{agrees_of, kept_of}
 use Rattle.clay_decode.proofs.checked.agree.Goals as goal
 
 -- the chunk that is read

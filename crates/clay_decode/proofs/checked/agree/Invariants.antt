@@ -1,5 +1,5 @@
 use Rattle.std.proofs.Common.{◌≡◌, ℕ, ◌<◌, [], get_or, None, IfSome}
-use Rattle.clay_encode.specs.Chunks.{contents}
+use Rattle.clay_model.specs.Chunks.{contents}
 use Rattle.clay_decode.proofs.checked.agree.Given as goal
 
 abbrev pub invariant-loop-i : goal.invariant-loop-i

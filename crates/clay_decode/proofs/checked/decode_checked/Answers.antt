@@ -4,9 +4,9 @@ use Rattle.std.proofs.lemmas.Bool.{false≢true}
 use Rattle.clay_grid.specs.Shape.{chunk_length}
 use Rattle.clay_model.specs.Code.{AgreesWith, Codes}
 use Rattle.clay_model.proofs.Codewords.{same_of_stripe, distinct_nodes}
-use Rattle.clay_encode.specs.Chunks.{contents}
-use Rattle.clay_decode.specs.Left.{parts}
-use Rattle.clay_decode.proofs.Joined.{length-joined}
+use Rattle.clay_model.specs.Chunks.{contents}
+use Rattle.clay_model.specs.Left.{parts}
+use Rattle.code_laws.proofs.Joined.{length-joined}
 use Rattle.clay_decode.proofs.checked.decode_checked.Goals as goal
 
 pub encode-requires : goal.encode-requires

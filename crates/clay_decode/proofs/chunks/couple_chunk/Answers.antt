@@ -1,9 +1,9 @@
 use Rattle.std.proofs.Common.{◌≡◌, ℕ, ◌+◌, ◌-◌, ◌*◌, ◌<◌, ◌≤◌, length, sym, subst, arith}
 use Rattle.clay_grid.specs.Shape.{layer_count}
-use Rattle.clay_encode.proofs.Parts.{piece_fits}
+use Rattle.code_laws.proofs.Pieces.{piece_fits}
 use borrow.Rule.Slice.PartMut.{put_mid}
-use Rattle.clay_decode.specs.Solved.{HoldsSubchunks}
-use Rattle.clay_decode.proofs.Layer.{subchunk_more}
+use Rattle.code_laws.specs.Solved.{HoldsSubchunks}
+use Rattle.code_laws.proofs.Layer.{subchunk_more}
 use Rattle.clay_decode.proofs.chunks.couple_chunk.Goals as goal
 
 pub loop-z-preserved : goal.loop-z-preserved

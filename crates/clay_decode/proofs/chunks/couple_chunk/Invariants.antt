@@ -1,4 +1,4 @@
-use Rattle.clay_decode.specs.Solved.{HoldsSubchunks}
+use Rattle.code_laws.specs.Solved.{HoldsSubchunks}
 use Rattle.clay_decode.proofs.chunks.couple_chunk.Given as goal
 
 abbrev pub invariant-loop-z : goal.invariant-loop-z

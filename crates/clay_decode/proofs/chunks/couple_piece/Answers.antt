@@ -1,6 +1,6 @@
 use Rattle.std.proofs.Common.{◌<◌, length, sym, ◌∙◌, arith, bit_xor}
 use Rattle.clay_field.specs.Field.{product, quotient}
-use Rattle.clay_decode.proofs.Vertices.{coupled_from_pair, coupled_from_partner}
+use Rattle.code_laws.proofs.Vertices.{coupled_from_pair, coupled_from_partner}
 use Rattle.clay_decode.proofs.chunks.couple_piece.Goals as goal
 
 pub returns-then-index : goal.returns-then-index

@@ -1,8 +1,8 @@
 use Rattle.std.proofs.Common.{◌≡◌, ◌*◌, ◌<◌, length, sym, ap, ◌∙◌, arith}
 use Rattle.std.proofs.lemmas.List.{length-replicate}
 use Rattle.clay_grid.specs.Shape.{row_count, chunk_length}
-use Rattle.clay_encode.proofs.Parts.{written_whole}
-use Rattle.clay_decode.proofs.Nodes.{node_real, same_chunk}
+use Rattle.code_laws.proofs.Pieces.{written_whole}
+use Rattle.code_laws.proofs.Nodes.{node_real, same_chunk}
 use Rattle.clay_decode.proofs.chunks.missing_chunk.Goals as goal
 
 pub returns-clause-value : goal.returns-clause-value

@@ -3,9 +3,9 @@ use Rattle.std.proofs.lemmas.Bool.{cases_eq}
 use Rattle.std.proofs.lemmas.List.{length_push, ext_get_or, get_or_push, get_or_append_left}
 use Rattle.std.proofs.lemmas.List.Elements.{All-push}
 use Rattle.clay_grid.specs.Shape.{chunk_count, chunk_length}
-use Rattle.clay_encode.specs.Chunks.{contents}
-use Rattle.clay_encode.proofs.Lists.{contents_push, more_chunks}
-use Rattle.clay_decode.proofs.Agreeing.{agrees_of}
+use Rattle.clay_model.specs.Chunks.{contents}
+use Rattle.code_laws.proofs.Lists.{contents_push, more_chunks}
+use Rattle.code_laws.proofs.Agreeing.{agrees_of}
 use Rattle.clay_decode.proofs.chunks.recover.Goals as goal
 
 -- one more chunk, which is kept too

@@ -1,8 +1,8 @@
 use Rattle.std.proofs.Common.{◌≡◌, ℕ, ◌+◌, ◌-◌, ◌*◌, ◌<◌, get_or, take, drop, Some, None, sym, ap, ◌∙◌, subst, arith}
 use Rattle.std.proofs.lemmas.List.{get_or_read}
 use Rattle.clay_grid.specs.Shape.{row_count}
-use Rattle.clay_decode.specs.Solved.{IsCoupled}
-use Rattle.clay_decode.proofs.Nodes.{node_real, held_piece}
+use Rattle.code_laws.specs.Solved.{IsCoupled}
+use Rattle.code_laws.proofs.Nodes.{node_real, held_piece}
 use Rattle.clay_decode.proofs.layers.piece.Goals as goal
 
 pub returns-in-Some-have-clause-value : goal.returns-in-Some-have-clause-value

@@ -2,11 +2,12 @@ use Rattle.std.proofs.Common.{◌≡◌, ℕ, ◌+◌, ◌-◌, ◌*◌, ◌<◌
 use Rattle.std.proofs.lemmas.Bool.{cases_eq}
 use Rattle.clay_grid.specs.Shape.{node_count, layer_count}
 use Rattle.clay_model.specs.Sums.{weighted_sum, present_value}
-use Rattle.clay_scalar.specs.Points.{byte_of, HaveSums}
-use Rattle.clay_encode.proofs.Parts.{piece_fits}
+use Rattle.clay_model.specs.Points.{byte_of, HaveSums}
+use Rattle.code_laws.proofs.Pieces.{piece_fits}
 use borrow.Rule.Slice.PartMut.{put_mid}
-use Rattle.clay_decode.specs.Solved.{HoldsPresent, HoldsLayer, HoldsLower}
-use Rattle.clay_decode.proofs.Layer.{lower_solved, every_layer, other_layer, layer_written_at, layer_kept_at}
+use Rattle.code_laws.specs.Solved.{HoldsPresent, HoldsLayer, HoldsLower}
+use Rattle.code_laws.proofs.Layer.{lower_solved, every_layer, other_layer, layer_kept_at}
+use Rattle.clay_decode.proofs.PlanLayer.{layer_written_at}
 use Rattle.clay_decode.proofs.layers.solve_layers.Goals as goal
 
 pub uncouple_layer-requires-clause-lower : goal.uncouple_layer-requires-clause-lower

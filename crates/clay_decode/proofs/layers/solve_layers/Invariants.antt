@@ -1,5 +1,5 @@
 use Rattle.std.proofs.Common.{ℕ, ◌<◌, get_or}
-use Rattle.clay_decode.specs.Solved.{HoldsLayer}
+use Rattle.code_laws.specs.Solved.{HoldsLayer}
 use Rattle.clay_decode.proofs.layers.solve_layers.Given as goal
 
 abbrev pub invariant-loop-z : goal.invariant-loop-z

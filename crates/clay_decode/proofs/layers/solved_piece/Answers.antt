@@ -1,8 +1,8 @@
 use Rattle.std.proofs.Common.{◌≡◌, ℕ, ◌+◌, ◌-◌, ◌*◌, ◌<◌, ◌≤◌, length, get_or, sym, subst, ap, ◌∙◌, arith, Contains}
 use Rattle.clay_grid.specs.Shape.{node_count, layer_count}
-use Rattle.clay_encode.proofs.Parts.{piece_fits, place_below}
-use Rattle.clay_decode.proofs.Layer.{solved_part}
-use Rattle.clay_decode.proofs.Nodes.{contains_erased}
+use Rattle.code_laws.proofs.Pieces.{piece_fits, place_below}
+use Rattle.code_laws.proofs.Layer.{solved_part}
+use Rattle.code_laws.proofs.Nodes.{contains_erased}
 use Rattle.clay_decode.proofs.layers.solved_piece.Goals as goal
 
 pub place_of-requires : goal.place_of-requires

@@ -1,10 +1,10 @@
 use Rattle.std.proofs.Common.{◌≡◌, ℕ, ◌+◌, ◌-◌, ◌*◌, ◌<◌, ◌≤◌, true, false, length, get_or, sym, subst, ap, ◌∙◌, arith}
 use Rattle.std.proofs.lemmas.List.{get_or_read}
 use Rattle.clay_grid.specs.Shape.{node_count}
-use Rattle.clay_encode.proofs.Parts.{piece_fits}
+use Rattle.code_laws.proofs.Pieces.{piece_fits}
 use borrow.Rule.Slice.PartMut.{put_mid}
-use Rattle.clay_decode.specs.Solved.{HoldsPresent}
-use Rattle.clay_decode.proofs.Layer.{present_more, present_skipped}
+use Rattle.code_laws.specs.Solved.{HoldsPresent}
+use Rattle.code_laws.proofs.Layer.{present_more, present_skipped}
 use Rattle.clay_decode.proofs.layers.uncouple_layer.Goals as goal
 use Rattle.clay_decode.proofs.layers.uncouple_layer.Goals.{then-not-index, else-not-index}
 

@@ -1,4 +1,4 @@
-use Rattle.clay_decode.specs.Solved.{HoldsPresent}
+use Rattle.code_laws.specs.Solved.{HoldsPresent}
 use Rattle.clay_decode.proofs.layers.uncouple_layer.Given as goal
 
 abbrev pub invariant-loop-node : goal.invariant-loop-node

@@ -1,5 +1,5 @@
 use Rattle.std.proofs.Common.{◌≡◌, ℕ, ◌<◌, length, get_or, false}
-use Rattle.clay_decode.specs.Solved.{is_erased}
+use Rattle.code_laws.specs.Solved.{is_erased}
 use Rattle.clay_decode.proofs.plan.erased_nodes.Given as goal
 
 abbrev pub invariant-loop-node : goal.invariant-loop-node

@@ -1,5 +1,5 @@
 use Rattle.std.proofs.Common.{◌≡◌}
-use Rattle.clay_scalar.specs.Erased.{erased_below}
+use Rattle.clay_model.specs.Erased.{erased_below}
 use Rattle.clay_decode.proofs.plan.erased_points.Given as goal
 
 abbrev pub invariant-loop-node : goal.invariant-loop-node

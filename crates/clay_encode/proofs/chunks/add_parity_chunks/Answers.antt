@@ -1,7 +1,7 @@
 use Rattle.std.proofs.Common.{◌≡◌, ◌+◌, [], ◌∷◌, ◌++◌, subst, sym, ap, ◌∙◌}
-use Rattle.clay_encode.specs.Chunks.{contents}
-use Rattle.clay_encode.specs.Columns.{AddsParity}
-use Rattle.clay_encode.proofs.Lists.{contents_push, no_parity, one_more_parity}
+use Rattle.clay_model.specs.Chunks.{contents}
+use Rattle.code_laws.specs.Columns.{AddsParity}
+use Rattle.code_laws.proofs.Lists.{contents_push, no_parity, one_more_parity}
 use Rattle.clay_encode.proofs.chunks.add_parity_chunks.Goals as goal
 
 pub loop-x-init : goal.loop-x-init

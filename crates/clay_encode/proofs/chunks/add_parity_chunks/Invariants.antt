@@ -1,5 +1,5 @@
-use Rattle.clay_encode.specs.Chunks.{contents}
-use Rattle.clay_encode.specs.Columns.{AddsParity}
+use Rattle.clay_model.specs.Chunks.{contents}
+use Rattle.code_laws.specs.Columns.{AddsParity}
 use Rattle.clay_encode.proofs.chunks.add_parity_chunks.Given as goal
 
 abbrev pub invariant-loop-x : goal.invariant-loop-x

@@ -1,4 +1,4 @@
-use Rattle.clay_encode.specs.Columns.{HoldsCoupled}
+use Rattle.code_laws.specs.Columns.{HoldsCoupled}
 use Rattle.clay_encode.proofs.chunks.couple_chunk.Given as goal
 
 abbrev pub invariant-loop-z : goal.invariant-loop-z

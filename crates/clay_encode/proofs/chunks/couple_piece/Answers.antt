@@ -2,7 +2,7 @@ use Rattle.std.proofs.Common.{◌≡◌, ◌+◌, ◌-◌, ◌*◌, ◌<◌, get
 use Rattle.clay_field.specs.Field.{product, quotient}
 use Rattle.clay_grid.specs.Shape.{row_count, column_count}
 use Rattle.clay_grid.specs.Layers.{layer_of}
-use Rattle.clay_encode.proofs.Vertices.{partner_row, partner_layer, digit_below, alone_last, paired_last}
+use Rattle.code_laws.proofs.StripeVertices.{partner_row, partner_layer, digit_below, alone_last, paired_last}
 use Rattle.clay_encode.proofs.chunks.couple_piece.Goals as goal
 
 pub last_piece-requires-clause-row : goal.last_piece-requires-clause-row

@@ -1,8 +1,8 @@
 use Rattle.std.proofs.Common.{◌≡◌, ◌+◌, ◌*◌, [], ◌∷◌, ◌++◌, length, get_or, slice_range, ap, ◌∙◌, arith}
 use Rattle.std.proofs.lemmas.List.{length_push}
 use Rattle.clay_grid.specs.Shape.{chunk_length}
-use Rattle.clay_encode.specs.Chunks.{contents}
-use Rattle.clay_encode.proofs.Lists.{contents_push, more_chunks}
+use Rattle.clay_model.specs.Chunks.{contents}
+use Rattle.code_laws.proofs.Lists.{contents_push, more_chunks}
 use Rattle.clay_encode.proofs.chunks.data_chunks.Goals as goal
 
 pub loop-c-preserved : goal.loop-c-preserved

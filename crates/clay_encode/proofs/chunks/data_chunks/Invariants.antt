@@ -1,5 +1,5 @@
 use Rattle.std.proofs.Common.{◌≡◌, ℕ, ◌+◌, ◌*◌, ◌<◌, [], length, get_or, slice_range}
-use Rattle.clay_encode.specs.Chunks.{contents}
+use Rattle.clay_model.specs.Chunks.{contents}
 use Rattle.clay_encode.proofs.chunks.data_chunks.Given as goal
 
 abbrev pub invariant-loop-c : goal.invariant-loop-c

@@ -1,8 +1,8 @@
 use Rattle.std.proofs.Common.{◌≡◌, ◌+◌, ◌<◌, [], length, get_or, ap, ◌∙◌, sym, subst, arith}
 use Rattle.clay_grid.specs.Shape.{layer_count, chunk_length}
-use Rattle.clay_encode.specs.Chunks.{contents}
-use Rattle.clay_encode.specs.Columns.{HoldsCoupled, AddsParity}
-use Rattle.clay_encode.proofs.Assembled.{assembled}
+use Rattle.clay_model.specs.Chunks.{contents}
+use Rattle.code_laws.specs.Columns.{HoldsCoupled, AddsParity}
+use Rattle.code_laws.proofs.Assembled.{assembled}
 use Rattle.clay_encode.proofs.chunks.encode.Goals as goal
 
 pub returns : goal.returns

@@ -1,6 +1,6 @@
 use Rattle.std.proofs.Common.{◌≡◌, ◌^◌, ◌<◌, get_or, length, subst, sym, arith}
-use Rattle.clay_encode.specs.Columns.{IsSolved}
-use Rattle.clay_encode.proofs.Parts.{written_whole}
+use Rattle.code_laws.specs.Columns.{IsSolved}
+use Rattle.code_laws.proofs.Pieces.{written_whole}
 use Rattle.clay_encode.proofs.columns.solve_last_column.Goals as goal
 
 pub returns-clause-bytes : goal.returns-clause-bytes

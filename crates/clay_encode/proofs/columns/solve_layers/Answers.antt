@@ -1,8 +1,8 @@
 use Rattle.std.proofs.Common.{◌≡◌, ℕ, ◌+◌, ◌-◌, ◌*◌, ◌<◌, ◌≤◌, length, subst, sym, ap, arith}
 use Rattle.clay_grid.specs.Shape.{row_count, layer_count}
-use Rattle.clay_scalar.specs.Points.{HaveSums}
-use Rattle.clay_encode.specs.Columns.{IsLastColumn, IsSolved}
-use Rattle.clay_encode.proofs.Parts.{piece_fits}
+use Rattle.clay_model.specs.Points.{HaveSums}
+use Rattle.code_laws.specs.Columns.{IsLastColumn, IsSolved}
+use Rattle.code_laws.proofs.Pieces.{piece_fits}
 use Rattle.clay_encode.proofs.Solved.{one_more_layer}
 use borrow.Rule.Slice.PartMut.{put_mid}
 use Rattle.clay_encode.proofs.columns.solve_layers.Goals as goal

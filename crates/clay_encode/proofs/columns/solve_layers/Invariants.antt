@@ -1,5 +1,5 @@
 use Rattle.std.proofs.Common.{ℕ, ◌<◌, ◌^◌, get_or}
-use Rattle.clay_encode.specs.Columns.{IsSolved}
+use Rattle.code_laws.specs.Columns.{IsSolved}
 use Rattle.clay_encode.proofs.columns.solve_layers.Given as goal
 
 abbrev pub invariant-loop-z : goal.invariant-loop-z

@@ -1,8 +1,8 @@
 use Rattle.std.proofs.Common.{◌≡◌, ℕ, ◌+◌, ◌-◌, ◌*◌, ◌<◌, ◌≤◌, length, subst, sym, ap, arith}
 use Rattle.clay_grid.specs.Shape.{node_count}
 use Rattle.clay_grid.specs.Layers.{layer_of}
-use Rattle.clay_encode.specs.Columns.{uncoupled_value, HoldsPieces}
-use Rattle.clay_encode.proofs.Parts.{piece_fits, no_pieces, one_more_piece}
+use Rattle.code_laws.specs.Columns.{uncoupled_value, HoldsPieces}
+use Rattle.code_laws.proofs.Pieces.{piece_fits, no_pieces, one_more_piece}
 use borrow.Rule.Slice.PartMut.{put_mid}
 use Rattle.clay_encode.proofs.columns.uncouple_layer.Goals as goal
 

@@ -1,4 +1,4 @@
-use Rattle.clay_encode.specs.Columns.{HoldsUncoupled}
+use Rattle.code_laws.specs.Columns.{HoldsUncoupled}
 use Rattle.clay_encode.proofs.columns.uncouple_layer.Given as goal
 
 abbrev pub invariant-loop-node : goal.invariant-loop-node

@@ -3,8 +3,8 @@ use Rattle.std.proofs.lemmas.Nat.{div-add-mod'}
 use Rattle.clay_field.specs.Field.{product}
 use Rattle.clay_grid.specs.Shape.{row_count, column_count, node_count}
 use Rattle.clay_grid.specs.Layers.{layer_of}
-use Rattle.clay_encode.specs.Columns.{data_byte}
-use Rattle.clay_encode.proofs.Vertices.{partner_row, partner_layer, digit_below, column_below, alone_value, paired_value}
+use Rattle.code_laws.specs.Columns.{data_byte}
+use Rattle.code_laws.proofs.StripeVertices.{partner_row, partner_layer, digit_below, column_below, alone_value, paired_value}
 use Rattle.clay_encode.proofs.columns.uncouple_node.Goals as goal
 
 pub overflow_add-y : goal.overflow_add-y

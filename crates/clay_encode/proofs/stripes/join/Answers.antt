@@ -1,5 +1,5 @@
 use Rattle.std.proofs.Common.{◌≡◌, ◌-◌, ◌++◌, length, min, take, ap, ◌∙◌, arith}
-use Rattle.clay_encode.proofs.Cut.{one_more_joined}
+use Rattle.code_laws.proofs.Cut.{one_more_joined}
 use Rattle.clay_encode.proofs.stripes.join.Goals as goal
 
 pub loop-stripe-preserved : goal.loop-stripe-preserved

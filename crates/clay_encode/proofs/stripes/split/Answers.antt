@@ -1,9 +1,9 @@
 use Rattle.std.proofs.Common.{◌≡◌, ◌+◌, ◌-◌, ◌<◌, length, min, take, ◌∷◌, [], ◌++◌, drop, ap, ◌∙◌, arith}
 use Rattle.clay_grid.specs.Shape.{stripe_length}
 use Rattle.clay_model.specs.Code.{stripes_of, padded}
-use Rattle.clay_encode.specs.Chunks.{contents}
-use Rattle.clay_encode.proofs.Lists.{contents_push}
-use Rattle.clay_encode.proofs.Cut.{stripe_positive, one_more_cut, all_cut}
+use Rattle.clay_model.specs.Chunks.{contents}
+use Rattle.code_laws.proofs.Lists.{contents_push}
+use Rattle.code_laws.proofs.Cut.{stripe_positive, one_more_cut, all_cut}
 use Rattle.clay_encode.proofs.stripes.split.Goals as goal
 
 pub loop-at-preserved : goal.loop-at-preserved

@@ -1,6 +1,6 @@
 use Rattle.std.proofs.Common.{length, ◌-◌, ◌≡◌, ◌++◌, drop}
 use Rattle.clay_model.specs.Code.{stripes_of}
-use Rattle.clay_encode.specs.Chunks.{contents}
+use Rattle.clay_model.specs.Chunks.{contents}
 use Rattle.clay_encode.proofs.stripes.split.Given as goal
 
 abbrev pub invariant-loop-at : goal.invariant-loop-at

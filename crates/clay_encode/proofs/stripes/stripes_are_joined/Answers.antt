@@ -1,4 +1,4 @@
-use Rattle.clay_encode.proofs.Cut.{joined_front, joined_enough}
+use Rattle.code_laws.proofs.Cut.{joined_front, joined_enough}
 use Rattle.clay_encode.proofs.stripes.stripes_are_joined.Goals as goal
 
 pub returns-clause-enough : goal.returns-clause-enough

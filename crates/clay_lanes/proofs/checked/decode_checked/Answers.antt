@@ -4,8 +4,8 @@ use Rattle.std.proofs.lemmas.Bool.{false≢true}
 use Rattle.clay_grid.specs.Shape.{chunk_length}
 use Rattle.clay_model.specs.Code.{IsCodeword, Codes}
 use Rattle.clay_model.proofs.Codewords.{same_of_stripe, distinct_nodes}
-use Rattle.clay_encode.specs.Chunks.{contents}
-use Rattle.clay_decode.proofs.Joined.{length-joined}
+use Rattle.clay_model.specs.Chunks.{contents}
+use Rattle.code_laws.proofs.Joined.{length-joined}
 use Rattle.clay_parity.specs.Parity.{data_pieces}
 use Rattle.clay_lanes.proofs.CheckedLemmas.{behind_data, same_word}
 use Rattle.clay_lanes.proofs.checked.decode_checked.Goals as goal

@@ -1,8 +1,8 @@
 use Rattle.std.proofs.Common.{◌≡◌, ◌++◌, ℕ, ◌<◌, List, [], length, get_or, take, sym, ap, ◌∙◌, arith, Vec, Global}
 use Rattle.std.specs.List.{concat}
 use Rattle.std.proofs.lemmas.List.{take_more, get_or-map, length-map}
-use Rattle.clay_encode.specs.Chunks.{contents}
-use Rattle.clay_encode.proofs.Lists.{concat_push}
+use Rattle.clay_model.specs.Chunks.{contents}
+use Rattle.code_laws.proofs.Lists.{concat_push}
 use Rattle.clay_lanes.proofs.checked.stripe_of.Goals as goal
 
 pub loop-chunk-preserved : goal.loop-chunk-preserved

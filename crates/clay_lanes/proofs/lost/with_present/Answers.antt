@@ -1,6 +1,6 @@
 use Rattle.std.proofs.Common.{◌≡◌, ℕ, ◌+◌, ◌<◌, length, get_or, None, sym, subst, ◌∙◌, arith}
 use Rattle.std.proofs.lemmas.List.{get_or_read}
-use Rattle.clay_encode.specs.Chunks.{contents}
+use Rattle.clay_model.specs.Chunks.{contents}
 use Rattle.clay_lanes.proofs.MissingChunks.{StandBefore, StandBefore-missing, StandBefore-present, all_kept}
 use Rattle.clay_lanes.proofs.lost.with_present.Goals as goal
 use Rattle.clay_lanes.proofs.lost.with_present.Goals.{in-Some+in_ok-from_slice+in_ok-insert, in_default}

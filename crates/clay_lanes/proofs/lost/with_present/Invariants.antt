@@ -1,4 +1,4 @@
-use Rattle.clay_encode.specs.Chunks.{contents}
+use Rattle.clay_model.specs.Chunks.{contents}
 use Rattle.clay_lanes.proofs.MissingChunks.{StandBefore}
 use Rattle.clay_lanes.proofs.lost.with_present.Given as goal
 

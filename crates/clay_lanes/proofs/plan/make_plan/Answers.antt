@@ -2,10 +2,10 @@ use Rattle.std.proofs.Common.{◌≡◌, ◌<◌, ◌≤◌, length, replicate, 
 use Rattle.clay_grid.specs.Shape.{node_count}
 use Rattle.clay_grid.specs.Limits.{IsGeometry}
 use Rattle.clay_grid.specs.Score.{IsByScore}
-use Rattle.clay_scalar.specs.Erased.{erased_below}
-use Rattle.clay_scalar.specs.Points.{AreDistinct}
-use Rattle.clay_scalar.proofs.ErasedNodes.{AreDistinct-erased}
-use Rattle.clay_decode.proofs.Nodes.{few_points}
+use Rattle.clay_model.specs.Erased.{erased_below}
+use Rattle.clay_model.specs.Points.{AreDistinct}
+use Rattle.code_laws.proofs.ErasedNodes.{AreDistinct-erased}
+use Rattle.code_laws.proofs.Nodes.{few_points}
 use Rattle.clay_kernels.specs.Generated.{IsGeneratorOf}
 use Rattle.clay_lanes.proofs.plan.make_plan.Goals as goal
 

@@ -2,7 +2,7 @@ use Rattle.std.proofs.Common.{◌≡◌, ℕ, ◌<◌, List, [], length, get_or,
 use Rattle.std.proofs.lemmas.List.{ext_get_or, get_or_default}
 use Rattle.rayon.proofs.ListFacts.{IfOk-then}
 use Rattle.clay_grid.specs.Shape.{chunk_count}
-use Rattle.clay_encode.specs.Chunks.{contents}
+use Rattle.clay_model.specs.Chunks.{contents}
 use Rattle.clay_parity.proofs.ChunkLists.{length-contents}
 use Rattle.clay_par.specs.Solved.{IsChunk}
 use Rattle.clay_par.proofs.Makes.{made_each, made_count}

@@ -2,7 +2,7 @@ use Rattle.std.proofs.Common.{◌≡◌, ℕ, ◌*◌, ◌/◌, ◌%◌, ◌<◌
 use Rattle.std.proofs.Math.Nat.{mul-div_cancel, mul-mod_left}
 use Rattle.std.specs.Fork.{slice_chunk}
 use Rattle.clay_grid.specs.Shape.{chunk_count, chunk_length}
-use Rattle.clay_encode.proofs.Parts.{place_below}
+use Rattle.code_laws.proofs.Pieces.{place_below}
 use Rattle.clay_par.specs.Solved.{IsFilled}
 use Rattle.clay_par.proofs.SolvedLemmas.{all_filled, some_bytes}
 use Rattle.clay_par.proofs.lost.fill_all.Goals as goal

@@ -1,6 +1,6 @@
 use Rattle.std.proofs.Common.{ℕ, ◌+◌, ◌*◌, ◌<◌, length, get_or}
 use Rattle.clay_grid.specs.Shape.{layer_count}
-use Rattle.clay_decode.specs.Left.{Completes}
+use Rattle.clay_model.specs.Left.{Completes}
 use Rattle.lane_repair.specs.Pieces.{HoldsByte}
 use Rattle.clay_par.specs.declared.ranges.Range.{Range}
 use Rattle.clay_par.proofs.lost.write_chunk.Given as goal

@@ -1,5 +1,5 @@
 use Rattle.std.proofs.Common.{◌≡◌, length, subst, sym, arith}
-use Rattle.clay_decode.specs.Left.{Completes}
+use Rattle.clay_model.specs.Left.{Completes}
 use Rattle.clay_lanes.specs.Recovered.{HoldsLayerRows}
 use Rattle.clay_par.proofs.lost.write_range.Goals as goal
 

@@ -3,7 +3,7 @@ use Rattle.std.proofs.lemmas.List.{ext_get_or}
 use Rattle.std.proofs.lemmas.List.FromFn.{get_or-map-range_with_len, length-map-range_with_len}
 use Rattle.rayon.proofs.ListFacts.{IfOk-then}
 use Rattle.clay_grid.specs.Shape.{chunk_length}
-use Rattle.clay_encode.specs.Chunks.{contents}
+use Rattle.clay_model.specs.Chunks.{contents}
 use Rattle.clay_parity.specs.Parity.{data_pieces}
 use Rattle.clay_parity.proofs.ChunkLists.{length-contents}
 use Rattle.clay_par.proofs.Makes.{made_each, made_count}

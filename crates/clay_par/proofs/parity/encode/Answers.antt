@@ -1,6 +1,6 @@
 use Rattle.std.proofs.Common.{◌++◌, subst, sym, ap, ◌∙◌}
 use Rattle.clay_model.specs.Code.{Codes}
-use Rattle.clay_encode.specs.Chunks.{contents}
+use Rattle.clay_model.specs.Chunks.{contents}
 use Rattle.clay_parity.proofs.ParityLemmas.{contents_append}
 use Rattle.clay_par.proofs.parity.encode.Goals as goal
 

@@ -1,5 +1,5 @@
 use Rattle.std.proofs.Common.{subst, ◌∙◌, arith}
-use Rattle.clay_encode.specs.Chunks.{contents}
+use Rattle.clay_model.specs.Chunks.{contents}
 use Rattle.clay_parity.proofs.ChunkLists.{length-contents}
 use Rattle.clay_par.specs.Groups.{AreRows}
 use Rattle.clay_par.proofs.Makes.{if_ok_both}

@@ -2,7 +2,7 @@ use Rattle.std.proofs.Common.{◌≡◌, ℕ, ◌*◌, ◌/◌, ◌%◌, ◌<◌
 use Rattle.std.proofs.Math.Nat.{mul-div_cancel, mul-mod_left}
 use Rattle.std.specs.Fork.{slice_chunk}
 use Rattle.clay_grid.specs.Shape.{chunk_length}
-use Rattle.clay_encode.proofs.Parts.{place_below}
+use Rattle.code_laws.proofs.Pieces.{place_below}
 use Rattle.clay_par.specs.Groups.{HoldsRow}
 use Rattle.clay_par.proofs.GroupLemmas.{rows_behind}
 use Rattle.clay_par.proofs.SolvedLemmas.{some_bytes}

@@ -2,7 +2,7 @@ use Rattle.std.proofs.Common.{◌≡◌, ℕ, List, [], ◌∷◌, ◌++◌, All
 use Rattle.std.proofs.lemmas.Bool.{cases_lt}
 use Rattle.std.proofs.lemmas.List.{get_or_read}
 use Rattle.std.proofs.lemmas.List.Elements.{All-push}
-use Rattle.clay_repair.specs.Rebuilt.{IsReadFor}
+use Rattle.code_laws.specs.Rebuilt.{IsReadFor}
 use Rattle.clay_par.specs.Rebuilt.{IsPiece, IsCovered}
 use Rattle.clay_par.specs.declared.repair.Piece.{Piece}
 use Rattle.clay_par.proofs.PieceLemmas.{layer_read, covered_more, covered_last}

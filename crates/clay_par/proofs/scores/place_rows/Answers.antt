@@ -1,6 +1,6 @@
 use Rattle.std.proofs.Common.{◌≡◌, ℕ, ◌+◌, ◌-◌, ◌*◌, ◌<◌, ◌≤◌, List, length, get_or, sym, ap, ◌∙◌, inl, inr, arith}
 use Rattle.std.proofs.lemmas.Bool.{cases_eq}
-use Rattle.clay_encode.proofs.Parts.{piece_fits}
+use Rattle.code_laws.proofs.Pieces.{piece_fits}
 use borrow.Rule.Slice.PartMut.{put_mid}
 use Rattle.clay_par.proofs.ScoreLemmas.{part_at, part_long, put_here, put_elsewhere}
 use Rattle.clay_par.proofs.scores.place_rows.Goals as goal

@@ -1,5 +1,5 @@
 use Rattle.std.proofs.Common.{List, arith}
-use Rattle.clay_decode.specs.Left.{Completes}
+use Rattle.clay_model.specs.Left.{Completes}
 use Rattle.clay_lanes.proofs.Recovery.{every_layer}
 use Rattle.clay_par.proofs.scores.solve_by_scores.Goals as goal
 

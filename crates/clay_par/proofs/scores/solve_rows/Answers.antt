@@ -1,5 +1,5 @@
 use Rattle.std.proofs.Common.{◌≡◌, ℕ, ◌+◌, ◌*◌, ◌<◌, length, get_or, sym, ap, ◌∙◌, arith}
-use Rattle.clay_encode.proofs.Parts.{place_below}
+use Rattle.code_laws.proofs.Pieces.{place_below}
 use Rattle.clay_par.proofs.ScoreLemmas.{share_of_chunk, rows_place}
 use Rattle.clay_par.proofs.scores.solve_rows.Goals as goal
 

@@ -1,8 +1,8 @@
 use Rattle.std.proofs.Common.{◌≡◌, ◌≢◌, ℕ, ◌+◌, ◌-◌, ◌*◌, ◌<◌, ◌≤◌, List, length, get_or, take, drop, sym, subst, ap, ◌∙◌, arith}
 use Rattle.clay_grid.specs.Shape.{layer_count}
-use Rattle.clay_encode.proofs.Parts.{piece_fits}
-use Rattle.clay_decode.specs.Left.{Completes}
-use Rattle.clay_decode.proofs.Layer.{other_layer}
+use Rattle.code_laws.proofs.Pieces.{piece_fits}
+use Rattle.clay_model.specs.Left.{Completes}
+use Rattle.code_laws.proofs.Layer.{other_layer}
 use Rattle.clay_lanes.specs.Recovered.{HoldsLower, AreRowsOfLayers}
 use Rattle.clay_par.proofs.Makes.{written_all}
 use Rattle.clay_par.proofs.ScoreLemmas.{part_at, part_long, run_next, run_solved}

@@ -1,7 +1,7 @@
 use Rattle.std.proofs.Common.{◌≡◌, ℕ, subst, ◌*◌, ◌<◌, [], length, get_or, set, inl, inr, sym, ap, ◌∙◌, arith}
 use Rattle.std.proofs.lemmas.Bool.{cases_eq}
 use Rattle.std.proofs.lemmas.List.{get_or-set_same, get_or-set_other}
-use Rattle.clay_encode.specs.Chunks.{contents}
+use Rattle.clay_model.specs.Chunks.{contents}
 use Rattle.clay_parity.specs.Blocks.{Appends, piece_bytes}
 use Rattle.clay_parity.proofs.ChunkLists.{contents_set, contents_at, length-contents}
 use Rattle.clay_parity.proofs.chunks.add_group.Goals as goal

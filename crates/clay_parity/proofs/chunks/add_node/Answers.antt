@@ -2,7 +2,7 @@ use Rattle.std.proofs.Common.{◌≡◌, ℕ, ◌+◌, ◌*◌, ◌<◌, ◌≤�
 use Rattle.clay_field.specs.Field.{product}
 use Rattle.clay_grid.specs.Shape.{row_count}
 use Rattle.clay_grid.specs.Layers.{layer_of}
-use Rattle.clay_encode.specs.Columns.{first_parity, data_byte, uncoupled_value}
+use Rattle.code_laws.specs.Columns.{first_parity, data_byte, uncoupled_value}
 use Rattle.clay_kernels.specs.Lanes.{AddsRows}
 use Rattle.clay_kernels.specs.Generated.{factor_at}
 use Rattle.clay_kernels.proofs.RowLemmas.{AddsRows-as, factor_count, factor_is}

@@ -1,7 +1,7 @@
 use Rattle.std.proofs.Common.{◌≡◌, ◌*◌, ◌/◌, ◌%◌, [], get_or, subst, arith}
 use Rattle.clay_grid.specs.Shape.{row_count, layer_count}
 use Rattle.clay_parity.specs.Blocks.{Appends, coupled_of}
-use Rattle.clay_encode.specs.Chunks.{contents}
+use Rattle.clay_model.specs.Chunks.{contents}
 use Rattle.clay_parity.specs.Solved.{layer_value}
 use Rattle.clay_parity.proofs.ShortLemmas.{Appends-short}
 use Rattle.clay_parity.proofs.chunks.add_short_groups.Goals as goal

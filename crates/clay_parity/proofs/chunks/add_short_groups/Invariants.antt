@@ -1,5 +1,5 @@
 use Rattle.std.proofs.Common.{ℕ, ◌*◌, ◌/◌, ◌%◌, ◌<◌, [], get_or}
-use Rattle.clay_encode.specs.Chunks.{contents}
+use Rattle.clay_model.specs.Chunks.{contents}
 use Rattle.clay_parity.specs.Blocks.{Appends, coupled_of}
 use Rattle.clay_parity.specs.Solved.{layer_value}
 use Rattle.clay_parity.proofs.chunks.add_short_groups.Given as goal

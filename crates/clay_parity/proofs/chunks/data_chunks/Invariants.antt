@@ -1,6 +1,6 @@
 use Rattle.std.proofs.Common.{◌≡◌, ◌+◌, ◌*◌, map, slice_range}
 use Rattle.std.specs.List.{range_with_len}
-use Rattle.clay_encode.specs.Chunks.{contents}
+use Rattle.clay_model.specs.Chunks.{contents}
 use Rattle.clay_parity.proofs.chunks.data_chunks.Given as goal
 
 abbrev pub invariant-loop-c : goal.invariant-loop-c

@@ -1,5 +1,5 @@
 use Rattle.std.proofs.Common.{◌≡◌, ◌+◌, ◌-◌, ◌*◌, ◌<◌, length, get_or, subst, sym, ap, ◌∙◌, arith}
-use Rattle.clay_encode.specs.Columns.{first_parity}
+use Rattle.code_laws.specs.Columns.{first_parity}
 use Rattle.clay_kernels.proofs.GeneratorLaws.{last_generates}
 use Rattle.clay_parity.proofs.chunks.last_column.Goals as goal
 

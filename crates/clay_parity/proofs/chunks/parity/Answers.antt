@@ -1,6 +1,6 @@
 use Rattle.std.proofs.Common.{◌≡◌, ◌*◌, ◌/◌, ◌%◌, [], length, get_or, subst, sym, ap, ◌∙◌, arith}
 use Rattle.clay_grid.specs.Shape.{layer_count, row_count}
-use Rattle.clay_encode.specs.Chunks.{contents}
+use Rattle.clay_model.specs.Chunks.{contents}
 use Rattle.clay_parity.specs.Solved.{layer_value}
 use Rattle.clay_parity.specs.Blocks.{Appends, coupled_of}
 use Rattle.clay_parity.specs.Parity.{AreParity}

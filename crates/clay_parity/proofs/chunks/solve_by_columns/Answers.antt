@@ -2,7 +2,7 @@ use Rattle.std.proofs.Common.{◌≡◌, ℕ, ◌+◌, ◌*◌, ◌<◌, length,
 use Rattle.clay_field.specs.Field.{product}
 use Rattle.clay_grid.specs.Layers.{layer_of}
 use Rattle.clay_model.specs.Sums.{sum_below}
-use Rattle.clay_encode.specs.Columns.{first_parity, uncoupled_value}
+use Rattle.code_laws.specs.Columns.{first_parity, uncoupled_value}
 use Rattle.clay_kernels.specs.Columns.{IsColumn}
 use Rattle.clay_kernels.proofs.ColumnLaws.{known_sum, last_columns, before_last, column_more, column_ended}
 use Rattle.clay_parity.proofs.chunks.solve_by_columns.Goals as goal

@@ -1,5 +1,5 @@
 use Rattle.std.proofs.Common.{ℕ, ◌+◌, ◌*◌, ◌/◌, ◌%◌, ◌<◌, get_or, subst, arith}
-use Rattle.clay_encode.specs.Columns.{HoldsPieces}
+use Rattle.code_laws.specs.Columns.{HoldsPieces}
 use Rattle.clay_parity.specs.Solved.{layer_value}
 use Rattle.clay_parity.proofs.GroupLaws.{transposed}
 use Rattle.clay_parity.proofs.chunks.solve_short.Goals as goal

@@ -1,8 +1,8 @@
 use Rattle.std.proofs.Common.{◌≡◌, ℕ, ◌+◌, ◌-◌, ◌*◌, ◌<◌, ◌≤◌, length, take, drop, subst, sym, ap, ◌∙◌, arith}
 use Rattle.std.proofs.lemmas.List.Edits.{length-between}
 use borrow.Rule.Slice.PartMut.{put_mid}
-use Rattle.clay_encode.specs.Columns.{HoldsPieces}
-use Rattle.clay_encode.proofs.Parts.{piece_fits, one_more_piece}
+use Rattle.code_laws.specs.Columns.{HoldsPieces}
+use Rattle.code_laws.proofs.Pieces.{piece_fits, one_more_piece}
 use Rattle.clay_parity.specs.Blocks.{coupled_byte}
 use Rattle.clay_parity.proofs.ShortLemmas.{piece_at}
 use Rattle.clay_parity.proofs.flat.write_pieces.Goals as goal

@@ -1,4 +1,4 @@
-use Rattle.clay_encode.specs.Columns.{HoldsPieces}
+use Rattle.code_laws.specs.Columns.{HoldsPieces}
 use Rattle.clay_parity.specs.Blocks.{coupled_byte}
 use Rattle.clay_parity.proofs.flat.write_pieces.Given as goal
 

@@ -1,6 +1,6 @@
 use Rattle.std.proofs.Common.{◌≡◌, ℕ, ◌+◌, ◌-◌, ◌*◌, ◌≤◌, length, get_or, ap, ◌∙◌, arith}
 use Rattle.std.proofs.lemmas.List.Edits.{get_or-between, length-between}
-use Rattle.clay_encode.proofs.Parts.{piece_fits, one_more_piece}
+use Rattle.code_laws.proofs.Pieces.{piece_fits, one_more_piece}
 use Rattle.clay_parity.proofs.ShortLemmas.{square_fits}
 use Rattle.clay_parity.proofs.short.gather.Goals as goal
 

@@ -1,5 +1,5 @@
 use Rattle.std.proofs.Common.{◌+◌, ◌*◌, get_or}
-use Rattle.clay_encode.specs.Columns.{HoldsPieces}
+use Rattle.code_laws.specs.Columns.{HoldsPieces}
 use Rattle.clay_parity.proofs.short.gather.Given as goal
 
 abbrev pub invariant-loop-d : goal.invariant-loop-d

@@ -1,5 +1,5 @@
 use Rattle.std.proofs.Common.{◌+◌, ◌*◌, ◌/◌, ◌%◌, get_or}
-use Rattle.clay_encode.specs.Columns.{HoldsPieces}
+use Rattle.code_laws.specs.Columns.{HoldsPieces}
 use Rattle.clay_parity.proofs.short.transpose.Given as goal
 
 abbrev pub invariant-loop-x : goal.invariant-loop-x

@@ -3,8 +3,8 @@ use Rattle.std.proofs.lemmas.List.Edits.{length-between}
 use Rattle.clay_grid.specs.Shape.{row_count}
 use Rattle.clay_grid.specs.Layers.{layer_of}
 use Rattle.clay_grid.proofs.LayerLaws.{partner_vertex, partner_below}
-use Rattle.clay_encode.specs.Columns.{uncoupled_value}
-use Rattle.clay_encode.proofs.Parts.{piece_fits, one_more_piece}
+use Rattle.code_laws.specs.Columns.{uncoupled_value}
+use Rattle.code_laws.proofs.Pieces.{piece_fits, one_more_piece}
 use Rattle.clay_parity.proofs.GroupLaws.{column_of_four}
 use Rattle.clay_parity.proofs.stripe.write_column.Goals as goal
 

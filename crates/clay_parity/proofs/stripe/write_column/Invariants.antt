@@ -1,6 +1,6 @@
 use Rattle.std.proofs.Common.{◌+◌, ◌*◌}
 use Rattle.clay_grid.specs.Layers.{layer_of}
-use Rattle.clay_encode.specs.Columns.{uncoupled_value, HoldsPieces}
+use Rattle.code_laws.specs.Columns.{uncoupled_value, HoldsPieces}
 use Rattle.clay_parity.proofs.stripe.write_column.Given as goal
 
 abbrev pub invariant-loop-x : goal.invariant-loop-x

@@ -2,7 +2,7 @@ use Rattle.std.proofs.Common.{◌≡◌, ℕ, ◌+◌, ◌*◌, ◌/◌, ◌%◌
 use Rattle.std.proofs.lemmas.Nat.{div-mul-add, mod-mul-add}
 use Rattle.clay_field.specs.Field.{product}
 use Rattle.clay_grid.specs.Shape.{row_count}
-use Rattle.clay_encode.specs.Columns.{data_byte, first_parity}
+use Rattle.code_laws.specs.Columns.{data_byte, first_parity}
 use Rattle.clay_parity.proofs.GroupLaws.{partner_room}
 use Rattle.clay_parity.proofs.NodeLemmas.{unpaired, with_virtual, paired}
 use Rattle.clay_parity.proofs.stripe.write_value.Goals as goal

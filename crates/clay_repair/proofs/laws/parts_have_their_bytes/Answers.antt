@@ -1,4 +1,4 @@
-use Rattle.clay_repair.proofs.Column.{node_inside, length-part, length-repair_parts}
+use Rattle.code_laws.proofs.Column.{node_inside, length-part, length-repair_parts}
 use Rattle.clay_repair.proofs.laws.parts_have_their_bytes.Goals as goal
 
 pub returns-clause-layers : goal.returns-clause-layers

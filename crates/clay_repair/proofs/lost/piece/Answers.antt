@@ -2,12 +2,12 @@ use Rattle.std.proofs.Common.{◌≡◌, ℕ, ◌+◌, ◌-◌, ◌*◌, ◌<◌
 use Rattle.std.proofs.lemmas.List.{get_or_read}
 use Rattle.clay_grid.specs.Shape.{row_count, node_count, node_of_chunk}
 use Rattle.clay_grid.specs.Repair.{repair_layers_of}
-use Rattle.clay_encode.proofs.Parts.{piece_fits}
-use Rattle.clay_decode.proofs.Nodes.{node_real, long_chunk}
-use Rattle.clay_repair.specs.Parts.{part_length}
-use Rattle.clay_repair.specs.Rebuilt.{IsCoupled}
-use Rattle.clay_repair.proofs.Places.{StandsAt}
-use Rattle.clay_repair.proofs.Column.{node_inside, stands_at, length-part, held_piece}
+use Rattle.code_laws.proofs.Pieces.{piece_fits}
+use Rattle.code_laws.proofs.Nodes.{node_real, long_chunk}
+use Rattle.clay_model.specs.RepairParts.{part_length}
+use Rattle.code_laws.specs.Rebuilt.{IsCoupled}
+use Rattle.code_laws.proofs.Places.{StandsAt}
+use Rattle.code_laws.proofs.Column.{node_inside, stands_at, length-part, held_piece}
 use Rattle.clay_repair.proofs.lost.piece.Goals as goal
 
 pub slice_bounds-result-end : goal.slice_bounds-result-end

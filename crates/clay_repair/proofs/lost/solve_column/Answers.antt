@@ -3,10 +3,10 @@ use Rattle.std.specs.List.{range_with_len}
 use Rattle.std.proofs.lemmas.List.FromFn.{length-range_with_len}
 use Rattle.clay_grid.specs.Shape.{Shape, row_count, column_count, node_count, node_of_chunk}
 use Rattle.clay_model.specs.Sums.{weighted_sum, present_value}
-use Rattle.clay_scalar.specs.Points.{byte_of, HaveSums}
-use Rattle.clay_decode.specs.Solved.{uncoupled_byte}
-use Rattle.clay_repair.proofs.Column.{node_inside, solved_column}
-use Rattle.clay_repair.proofs.Rows.{column_below}
+use Rattle.clay_model.specs.Points.{byte_of, HaveSums}
+use Rattle.code_laws.specs.Solved.{uncoupled_byte}
+use Rattle.code_laws.proofs.Column.{node_inside, solved_column}
+use Rattle.code_laws.proofs.Rows.{column_below}
 use Rattle.clay_repair.proofs.lost.solve_column.Goals as goal
 
 -- the bytes of a column

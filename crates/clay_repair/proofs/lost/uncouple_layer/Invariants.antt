@@ -1,4 +1,4 @@
-use Rattle.clay_repair.specs.Rebuilt.{HoldsOthers}
+use Rattle.code_laws.specs.Rebuilt.{HoldsOthers}
 use Rattle.clay_repair.proofs.lost.uncouple_layer.Given as goal
 
 abbrev pub invariant-loop-node : goal.invariant-loop-node

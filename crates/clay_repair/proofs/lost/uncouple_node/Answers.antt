@@ -1,8 +1,8 @@
 use Rattle.std.proofs.Common.{◌<◌, length, get_or, sym, ap, ◌∙◌, arith, bit_xor}
 use Rattle.clay_field.specs.Field.{product}
 use Rattle.clay_grid.specs.Shape.{row_count}
-use Rattle.clay_decode.proofs.Vertices.{alone_value, paired_value}
-use Rattle.clay_repair.proofs.Column.{partner_outside}
+use Rattle.code_laws.proofs.Vertices.{alone_value, paired_value}
+use Rattle.code_laws.proofs.Column.{partner_outside}
 use Rattle.clay_repair.proofs.lost.uncouple_node.Goals as goal
 
 pub piece-requires-clause-other : goal.piece-requires-clause-other

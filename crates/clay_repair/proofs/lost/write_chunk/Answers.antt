@@ -2,9 +2,9 @@ use Rattle.std.proofs.Common.{◌≡◌, ℕ, ◌<◌, length, get_or, sym, subs
 use Rattle.std.proofs.lemmas.Bool.{cases_eq}
 use Rattle.clay_grid.specs.Shape.{row_count, node_count, node_of_chunk}
 use Rattle.clay_grid.specs.Repair.{repair_layers_of}
-use Rattle.clay_repair.specs.Rebuilt.{IsReadFor, HoldsSubchunk, HoldsRow, with_digit}
-use Rattle.clay_repair.proofs.Column.{node_inside, is_read}
-use Rattle.clay_repair.proofs.Rows.{is_rebuilt}
+use Rattle.code_laws.specs.Rebuilt.{IsReadFor, HoldsSubchunk, HoldsRow, with_digit}
+use Rattle.code_laws.proofs.Column.{node_inside, is_read}
+use Rattle.code_laws.proofs.Rows.{is_rebuilt}
 use Rattle.clay_repair.proofs.lost.write_chunk.Goals as goal
 
 pub solve_column-requires-clause-read : goal.solve_column-requires-clause-read

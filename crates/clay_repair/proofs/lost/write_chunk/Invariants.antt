@@ -1,6 +1,6 @@
 use Rattle.std.proofs.Common.{ℕ, ◌<◌, get_or}
 use Rattle.clay_grid.specs.Shape.{row_count}
-use Rattle.clay_repair.specs.Rebuilt.{HoldsRow}
+use Rattle.code_laws.specs.Rebuilt.{HoldsRow}
 use Rattle.clay_repair.proofs.lost.write_chunk.Given as goal
 
 abbrev pub invariant-loop-z : goal.invariant-loop-z

@@ -2,10 +2,10 @@ use Rattle.std.proofs.Common.{◌≡◌, ℕ, ◌+◌, ◌-◌, ◌*◌, ◌<◌
 use Rattle.std.proofs.lemmas.Bool.{cases_eq}
 use Rattle.clay_grid.specs.Shape.{row_count, layer_count}
 use Rattle.clay_grid.specs.Layers.{layer_of, index_of}
-use Rattle.clay_encode.proofs.Parts.{piece_fits}
+use Rattle.code_laws.proofs.Pieces.{piece_fits}
 use borrow.Rule.Slice.PartMut.{put_mid}
-use Rattle.clay_repair.specs.Rebuilt.{HoldsSubchunk, with_digit}
-use Rattle.clay_repair.proofs.Rows.{subchunk_written, subchunk_kept}
+use Rattle.code_laws.specs.Rebuilt.{HoldsSubchunk, with_digit}
+use Rattle.code_laws.proofs.Rows.{subchunk_written, subchunk_kept}
 use Rattle.clay_repair.proofs.lost.write_row.Goals as goal
 
 pub loop-x-preserved : goal.loop-x-preserved

@@ -1,5 +1,5 @@
 use Rattle.std.proofs.Common.{ℕ}
-use Rattle.clay_repair.specs.Rebuilt.{HoldsSubchunk, HoldsRow}
+use Rattle.code_laws.specs.Rebuilt.{HoldsSubchunk, HoldsRow}
 use Rattle.clay_repair.proofs.lost.write_row.Given as goal
 
 abbrev pub invariant-loop-x : goal.invariant-loop-x

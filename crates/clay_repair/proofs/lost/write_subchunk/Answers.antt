@@ -1,8 +1,8 @@
 use Rattle.std.proofs.Common.{◌≡◌, ◌+◌, ◌*◌, ◌<◌, length, sym, ap, ◌∙◌, arith}
 use Rattle.clay_grid.specs.Shape.{row_count, node_count, node_of_chunk}
-use Rattle.clay_decode.specs.Solved.{coupled_byte}
-use Rattle.clay_repair.proofs.Column.{node_inside}
-use Rattle.clay_repair.proofs.Rows.{own_subchunk, crossed_subchunk}
+use Rattle.code_laws.specs.Solved.{coupled_byte}
+use Rattle.code_laws.proofs.Column.{node_inside}
+use Rattle.code_laws.proofs.Rows.{own_subchunk, crossed_subchunk}
 use Rattle.clay_repair.proofs.lost.write_subchunk.Goals as goal
 
 pub returns-then-x-plan : goal.returns-then-x-plan

@@ -2,7 +2,7 @@ use Rattle.std.proofs.Common.{◌≡◌, ℕ, ◌+◌, ◌<◌, length, get_or, 
 use Rattle.std.proofs.lemmas.Bool.{cases_lt}
 use Rattle.std.proofs.lemmas.Nat.{xor_lt}
 use Rattle.std.proofs.lemmas.List.{get_or-set_same, get_or-set_other, get_or-replicate, get_or_past, length-replicate, length-set}
-use Rattle.clay_scalar.proofs.Polynomials.{IsMultiple}
+use Rattle.code_laws.proofs.Polynomials.{IsMultiple}
 use Rattle.clay_scalar.proofs.Products.{HasFactors, HasFactors-start, HasFactors-own, HasFactors-more, IsFactor, IsLagrange-from_factors}
 use Rattle.clay_scalar.proofs.lagrange.write_polynomial.Goals as goal
 use Rattle.clay_scalar.proofs.lagrange.write_polynomial.Goals.{then-i-own, else-i-own}

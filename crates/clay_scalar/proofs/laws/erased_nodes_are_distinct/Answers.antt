@@ -1,4 +1,4 @@
-use Rattle.clay_scalar.proofs.ErasedNodes.{AreDistinct-erased}
+use Rattle.code_laws.proofs.ErasedNodes.{AreDistinct-erased}
 use Rattle.clay_scalar.proofs.laws.erased_nodes_are_distinct.Goals as goal
 
 pub returns : goal.returns

@@ -1,4 +1,4 @@
-use Rattle.clay_scalar.proofs.ErasedNodes.{erased_values_solved}
+use Rattle.code_laws.proofs.ErasedNodes.{erased_values_solved}
 use Rattle.clay_scalar.proofs.laws.erased_values_are_solved.Goals as goal
 
 pub returns : goal.returns

@@ -4,7 +4,7 @@ use lib.Bits.{xor_zero_r}
 use Rattle.clay_field.specs.Field.{product, power_of}
 use Rattle.clay_field.proofs.FieldLaws.{product_zero}
 use Rattle.clay_model.specs.Sums.{weighted_sum, present_value}
-use Rattle.clay_scalar.specs.Points.{byte_of}
+use Rattle.clay_model.specs.Points.{byte_of}
 use Rattle.clay_scalar.proofs.Parts.{part_byte, length_of_part}
 use Rattle.clay_scalar.proofs.layer_sums.syndromes.Goals as goal
 use Rattle.clay_scalar.proofs.layer_sums.syndromes.Goals.{then-not-missing, else-not-missing}

@@ -1,6 +1,6 @@
 use Rattle.std.proofs.Common.{◌≡◌, ℕ, ◌<◌}
 use Rattle.clay_model.specs.Sums.{weighted_sum, present_value}
-use Rattle.clay_scalar.specs.Points.{byte_of}
+use Rattle.clay_model.specs.Points.{byte_of}
 use Rattle.clay_scalar.proofs.layer_sums.syndromes.Given as goal
 
 abbrev pub invariant-loop-node : goal.invariant-loop-node

@@ -2,9 +2,9 @@ use Rattle.std.proofs.Common.{◌≡◌, ℕ, ◌+◌, ◌*◌, ◌<◌, List, l
 use Rattle.std.proofs.lemmas.Bool.{cases_eq}
 use Rattle.clay_grid.specs.Shape.{node_count, node_of_chunk}
 use Rattle.clay_grid.specs.Repair.{repair_layers_of}
-use Rattle.clay_repair.specs.Parts.{HasParts}
-use Rattle.clay_repair.specs.Rebuilt.{IsReadFor, with_digit}
-use Rattle.clay_repair.proofs.Column.{node_inside, is_read}
+use Rattle.clay_model.specs.RepairParts.{HasParts}
+use Rattle.code_laws.specs.Rebuilt.{IsReadFor, with_digit}
+use Rattle.code_laws.proofs.Column.{node_inside, is_read}
 use Rattle.lane_repair.specs.Pieces.{HoldsByte}
 use Rattle.lane_repair.proofs.RepairLemmas.{rebuilt_chunk}
 use Rattle.lane_repair.proofs.repair.write_chunk.Goals as goal

@@ -1,7 +1,7 @@
 use Rattle.std.proofs.Common.{ℕ, ◌+◌, ◌*◌, ◌<◌, get_or}
 use Rattle.clay_grid.specs.Shape.{row_count}
-use Rattle.clay_repair.specs.Parts.{HasParts}
-use Rattle.clay_repair.specs.Rebuilt.{with_digit}
+use Rattle.clay_model.specs.RepairParts.{HasParts}
+use Rattle.code_laws.specs.Rebuilt.{with_digit}
 use Rattle.lane_repair.specs.Pieces.{HoldsByte}
 use Rattle.lane_repair.proofs.repair.write_chunk.Given as goal
 

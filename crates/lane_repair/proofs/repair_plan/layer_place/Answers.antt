@@ -1,6 +1,6 @@
 use Rattle.std.proofs.Common.{◌<◌, arith}
 use Rattle.clay_grid.specs.Shape.{row_count}
-use Rattle.clay_repair.proofs.Places.{stands_with_digit}
+use Rattle.code_laws.proofs.Places.{stands_with_digit}
 use Rattle.lane_repair.proofs.repair_plan.layer_place.Goals as goal
 
 pub returns-clause-within : goal.returns-clause-within

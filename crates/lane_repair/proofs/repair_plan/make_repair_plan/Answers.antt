@@ -1,8 +1,8 @@
 use Rattle.std.proofs.Common.{◌≡◌, ◌*◌, ◌≤◌, length, sym, subst, ap, ◌∙◌, arith}
 use Rattle.std.proofs.lemmas.List.FromFn.{length-range_with_len}
 use Rattle.clay_grid.specs.Shape.{row_count}
-use Rattle.clay_scalar.specs.Points.{AreDistinct}
-use Rattle.clay_repair.proofs.Points.{AreDistinct-range}
+use Rattle.clay_model.specs.Points.{AreDistinct}
+use Rattle.code_laws.proofs.ColumnPoints.{AreDistinct-range}
 use Rattle.lane_repair.proofs.repair_plan.make_repair_plan.Goals as goal
 
 pub generator_of-requires-clause-few : goal.generator_of-requires-clause-few

@@ -1,6 +1,6 @@
 use Rattle.std.proofs.Common.{◌≡◌, length}
 use Rattle.clay_grid.specs.Shape.{chunk_length}
-use Rattle.clay_decode.specs.Left.{AreLong}
+use Rattle.clay_model.specs.Left.{AreLong}
 use Rattle.lane_tests.proofs.coders.left_of.Given as goal
 
 abbrev pub invariant-loop-c : goal.invariant-loop-c

@@ -3,7 +3,7 @@ use Rattle.std.proofs.lemmas.Bool.{cases_eq, eq-eqb, ne_eqb, true≢false}
 use Rattle.std.proofs.lemmas.List.{length_push, get_or_push, get_or_append_left}
 use Rattle.std.proofs.lemmas.List.Elements.{All-push}
 use Rattle.clay_grid.specs.Shape.{chunk_count, row_count, column_count}
-use Rattle.clay_repair.specs.Parts.{part_length}
+use Rattle.clay_model.specs.RepairParts.{part_length}
 use Rattle.lane_tests.proofs.rebuilding.parts_of.Goals as goal
 
 pub loop-c-preserved : goal.loop-c-preserved

@@ -1,6 +1,6 @@
 use Rattle.std.proofs.Common.{◌≡◌, ℕ, ◌<◌, eqb, length, get_or, None, is_none}
-use Rattle.clay_decode.specs.Left.{AreLong}
-use Rattle.clay_repair.specs.Parts.{part_length}
+use Rattle.clay_model.specs.Left.{AreLong}
+use Rattle.clay_model.specs.RepairParts.{part_length}
 use Rattle.lane_tests.proofs.rebuilding.parts_of.Given as goal
 
 abbrev pub invariant-loop-c : goal.invariant-loop-c

@@ -1,10 +1,10 @@
 use Rattle.std.proofs.Common.{◌≡◌, ℕ, ◌+◌, ◌-◌, ◌*◌, ◌<◌, ◌≤◌, List, length, sym, subst, ap, ◌∙◌, inl, inr, arith}
 use Rattle.std.proofs.lemmas.Bool.{cases_eq}
 use Rattle.clay_grid.specs.Shape.{row_count, layer_count}
-use Rattle.clay_encode.proofs.Parts.{piece_fits}
+use Rattle.code_laws.proofs.Pieces.{piece_fits}
 use borrow.Rule.Slice.PartMut.{put_mid}
-use Rattle.clay_decode.specs.Left.{Completes}
-use Rattle.clay_decode.proofs.Nodes.{node_real}
+use Rattle.clay_model.specs.Left.{Completes}
+use Rattle.code_laws.proofs.Nodes.{node_real}
 use Rattle.lane_repair.specs.Pieces.{HoldsByte}
 use Rattle.lane_repair.proofs.RowLemmas.{piece_written, byte_kept}
 use Rattle.clay_lanes.proofs.block.Block.couple_chunk.Goals as goal

@@ -1,5 +1,5 @@
 use Rattle.std.proofs.Common.{ℕ, ◌+◌, ◌*◌, ◌<◌}
-use Rattle.clay_decode.specs.Left.{Completes}
+use Rattle.clay_model.specs.Left.{Completes}
 use Rattle.lane_repair.specs.Pieces.{HoldsByte}
 use Rattle.clay_lanes.proofs.block.Block.couple_chunk.Given as goal
 

@@ -2,9 +2,9 @@ use Rattle.std.proofs.Common.{◌≡◌, ◌≢◌, ℕ, ◌+◌, ◌*◌, ◌<�
 use Rattle.std.specs.Vec.{with_items}
 use Rattle.std.proofs.lemmas.Bool.{cases_eq}
 use Rattle.clay_grid.specs.Shape.{chunk_count}
-use Rattle.clay_encode.specs.Chunks.{contents}
-use Rattle.clay_encode.proofs.Parts.{written_whole}
-use Rattle.clay_decode.specs.Left.{Completes}
+use Rattle.clay_model.specs.Chunks.{contents}
+use Rattle.code_laws.proofs.Pieces.{written_whole}
+use Rattle.clay_model.specs.Left.{Completes}
 use Rattle.lane_repair.specs.Pieces.{HoldsByte}
 use Rattle.clay_lanes.specs.Recovered.{missing_of}
 use Rattle.clay_parity.proofs.ChunkLists.{contents_at}

@@ -1,6 +1,6 @@
 use Rattle.std.proofs.Common.{◌+◌, ◌<◌, length, get_or, sym, ap, ◌∙◌, arith, bit_xor}
 use Rattle.clay_field.specs.Field.{product, quotient}
-use Rattle.clay_decode.proofs.Vertices.{alone_value, coupled_from_pair, coupled_from_partner}
+use Rattle.code_laws.proofs.Vertices.{alone_value, coupled_from_pair, coupled_from_partner}
 use Rattle.clay_lanes.proofs.block.Block.couple_piece.Goals as goal
 
 pub returns-then-index : goal.returns-then-index

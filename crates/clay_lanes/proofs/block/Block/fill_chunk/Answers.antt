@@ -2,7 +2,7 @@ use Rattle.std.proofs.Common.{◌≡◌, ℕ, ◌+◌, ◌-◌, ◌*◌, ◌<◌
 use Rattle.std.proofs.lemmas.List.{get_or_read}
 use Rattle.std.proofs.lemmas.List.Edits.{length-between}
 use Rattle.clay_grid.specs.Shape.{chunk_count, layer_count, chunk_length}
-use Rattle.clay_encode.proofs.Parts.{piece_fits, place_below}
+use Rattle.code_laws.proofs.Pieces.{piece_fits, place_below}
 use Rattle.clay_lanes.proofs.PlaceLemmas.{gone_of, place_written, places_kept}
 use Rattle.clay_lanes.proofs.block.Block.fill_chunk.Goals as goal
 

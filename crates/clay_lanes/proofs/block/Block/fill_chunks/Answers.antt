@@ -1,7 +1,7 @@
 use Rattle.std.proofs.Common.{ℕ, ◌+◌, ◌*◌, ◌<◌, get_or, is_none, None, sym, subst, ap, ◌∙◌, inl, inr, arith}
 use Rattle.std.proofs.lemmas.Bool.{cases_eq}
 use Rattle.clay_grid.specs.Shape.{chunk_count, layer_count}
-use Rattle.clay_encode.proofs.Parts.{place_below}
+use Rattle.code_laws.proofs.Pieces.{place_below}
 use Rattle.clay_lanes.specs.Places.{HoldsPlace}
 use Rattle.clay_lanes.proofs.PlaceLemmas.{places_stay, places_then}
 use Rattle.clay_lanes.proofs.block.Block.fill_chunks.Goals as goal

@@ -3,7 +3,7 @@ use Rattle.std.proofs.lemmas.Bool.{cases_lt}
 use Rattle.std.proofs.lemmas.Nat.{mul-le}
 use Rattle.std.proofs.lemmas.List.{length-take-le}
 use Rattle.clay_grid.specs.Shape.{layer_count}
-use Rattle.clay_encode.proofs.Parts.{place_below}
+use Rattle.code_laws.proofs.Pieces.{place_below}
 use Rattle.clay_lanes.specs.Places.{HoldsPlace}
 use Rattle.clay_lanes.proofs.PlaceLemmas.{places_stay, places_then}
 use Rattle.clay_lanes.proofs.block.Block.fill_parts.Goals as goal

@@ -1,8 +1,8 @@
 use Rattle.std.proofs.Common.{◌≡◌, ℕ, ◌+◌, ◌-◌, ◌*◌, ◌<◌, get_or, take, drop, Some, None, sym, ap, ◌∙◌, subst, arith}
 use Rattle.std.proofs.lemmas.List.{get_or_read}
 use Rattle.clay_grid.specs.Shape.{row_count}
-use Rattle.clay_decode.specs.Left.{Completes}
-use Rattle.clay_decode.proofs.Nodes.{node_real}
+use Rattle.clay_model.specs.Left.{Completes}
+use Rattle.code_laws.proofs.Nodes.{node_real}
 use Rattle.lane_repair.specs.Pieces.{IsCoupled}
 use Rattle.clay_lanes.proofs.Recovery.{held_piece}
 use Rattle.clay_lanes.proofs.block.Block.piece.Goals as goal

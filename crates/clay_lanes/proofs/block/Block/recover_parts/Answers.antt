@@ -1,7 +1,7 @@
 use Rattle.std.proofs.Common.{◌≡◌, ℕ, ◌+◌, ◌-◌, ◌*◌, ◌<◌, List, [], min, get_or, sym, subst, ap, ◌∙◌, inl, inr, arith}
 use Rattle.std.proofs.lemmas.Bool.{cases_lt}
-use Rattle.clay_encode.specs.Chunks.{contents}
-use Rattle.clay_decode.specs.Left.{Completes}
+use Rattle.clay_model.specs.Chunks.{contents}
+use Rattle.clay_model.specs.Left.{Completes}
 use Rattle.lane_repair.specs.Pieces.{HoldsByte}
 use Rattle.clay_lanes.proofs.block.Block.recover_parts.Goals as goal
 

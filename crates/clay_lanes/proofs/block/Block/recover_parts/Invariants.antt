@@ -1,7 +1,7 @@
 use Rattle.std.proofs.Common.{◌≡◌, ℕ, ◌+◌, ◌-◌, ◌*◌, ◌<◌, ◌≤◌, [], length, get_or}
 use Rattle.clay_grid.specs.Shape.{layer_count, chunk_length}
-use Rattle.clay_encode.specs.Chunks.{contents}
-use Rattle.clay_decode.specs.Left.{Completes}
+use Rattle.clay_model.specs.Chunks.{contents}
+use Rattle.clay_model.specs.Left.{Completes}
 use Rattle.lane_repair.specs.Pieces.{HoldsByte}
 use Rattle.clay_lanes.proofs.block.Block.recover_parts.Given as goal
 

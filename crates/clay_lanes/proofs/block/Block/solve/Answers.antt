@@ -1,10 +1,10 @@
 use Rattle.std.proofs.Common.{◌≡◌, ℕ, ◌+◌, ◌-◌, ◌*◌, ◌<◌, ◌≤◌, List, length, get_or, sym, subst, ap, ◌∙◌, inl, inr, arith}
 use Rattle.std.proofs.lemmas.Bool.{cases_eq}
 use Rattle.clay_grid.specs.Shape.{layer_count}
-use Rattle.clay_encode.proofs.Parts.{piece_fits}
+use Rattle.code_laws.proofs.Pieces.{piece_fits}
 use borrow.Rule.Slice.PartMut.{put_mid}
-use Rattle.clay_decode.specs.Left.{Completes}
-use Rattle.clay_decode.proofs.Layer.{other_layer}
+use Rattle.clay_model.specs.Left.{Completes}
+use Rattle.code_laws.proofs.Layer.{other_layer}
 use Rattle.lane_repair.specs.Pieces.{HoldsRows}
 use Rattle.clay_lanes.specs.Recovered.{HoldsLayerRows, HoldsLower}
 use Rattle.clay_lanes.proofs.Recovery.{lower_solved, every_layer, layer_written, layer_kept}

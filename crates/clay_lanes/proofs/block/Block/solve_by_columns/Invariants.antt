@@ -1,5 +1,5 @@
 use Rattle.std.proofs.Common.{◌*◌}
-use Rattle.clay_decode.specs.Left.{Completes}
+use Rattle.clay_model.specs.Left.{Completes}
 use Rattle.lane_repair.proofs.ColumnRows.{HoldsForm}
 use Rattle.clay_lanes.proofs.block.Block.solve_by_columns.Given as goal
 

@@ -1,8 +1,8 @@
 use Rattle.std.proofs.Common.{◌≡◌, ℕ, ◌+◌, ◌*◌, ◌<◌, true, false, List, length, get_or, sym, subst, ap, ◌∙◌, arith}
 use Rattle.std.proofs.lemmas.List.{get_or_read}
 use Rattle.clay_grid.specs.Shape.{node_count}
-use Rattle.clay_encode.proofs.Parts.{piece_fits}
-use Rattle.clay_decode.specs.Left.{Completes}
+use Rattle.code_laws.proofs.Pieces.{piece_fits}
+use Rattle.clay_model.specs.Left.{Completes}
 use Rattle.lane_repair.proofs.RowLemmas.{HoldsSums, sums_more, sums_skipped, rows_of_sums}
 use Rattle.clay_lanes.proofs.block.Block.solve_by_nodes.Goals as goal
 use Rattle.clay_lanes.proofs.block.Block.solve_by_nodes.Goals.{then-not-index, else-not-index}

@@ -1,6 +1,6 @@
 use Rattle.std.proofs.Common.{◌≡◌, ℕ, ◌+◌, ◌-◌, ◌*◌, ◌<◌, ◌≤◌, List, length, subst, sym, ap, ◌∙◌, arith}
-use Rattle.clay_encode.proofs.Parts.{piece_fits}
-use Rattle.clay_decode.specs.Left.{Completes}
+use Rattle.code_laws.proofs.Pieces.{piece_fits}
+use Rattle.clay_model.specs.Left.{Completes}
 use Rattle.clay_lanes.specs.Recovered.{AreRowsOfLayers}
 use Rattle.clay_lanes.proofs.Recovery.{rows_written}
 use Rattle.clay_lanes.proofs.block.Block.solve_some.Goals as goal

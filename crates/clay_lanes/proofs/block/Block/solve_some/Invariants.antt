@@ -1,4 +1,4 @@
-use Rattle.clay_decode.specs.Left.{Completes}
+use Rattle.clay_model.specs.Left.{Completes}
 use Rattle.clay_lanes.specs.Recovered.{AreRowsOfLayers}
 use Rattle.clay_lanes.proofs.block.Block.solve_some.Given as goal
 

@@ -1,8 +1,8 @@
 use Rattle.std.proofs.Common.{◌≡◌, ℕ, ◌+◌, ◌-◌, ◌*◌, ◌<◌, ◌≤◌, length, get_or, sym, subst, ap, ◌∙◌, arith, Contains}
 use Rattle.clay_grid.specs.Shape.{node_count, layer_count}
-use Rattle.clay_decode.specs.Left.{Completes}
-use Rattle.clay_decode.proofs.Nodes.{contains_erased}
-use Rattle.clay_encode.proofs.Parts.{piece_fits, place_below}
+use Rattle.clay_model.specs.Left.{Completes}
+use Rattle.code_laws.proofs.Nodes.{contains_erased}
+use Rattle.code_laws.proofs.Pieces.{piece_fits, place_below}
 use Rattle.clay_lanes.proofs.Recovery.{solved_part}
 use Rattle.clay_lanes.proofs.block.Block.solved_piece.Goals as goal
 

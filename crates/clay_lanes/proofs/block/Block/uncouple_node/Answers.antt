@@ -1,7 +1,7 @@
 use Rattle.std.proofs.Common.{◌+◌, ◌≡◌, ◌<◌, true, false, length, get_or, sym, ap, ◌∙◌, arith, bit_xor}
 use Rattle.std.proofs.lemmas.List.{get_or_read}
 use Rattle.clay_field.specs.Field.{product}
-use Rattle.clay_decode.proofs.Vertices.{lower_score, alone_value, paired_value, value_from_partner}
+use Rattle.code_laws.proofs.Vertices.{lower_score, alone_value, paired_value, value_from_partner}
 use Rattle.clay_lanes.proofs.block.Block.uncouple_node.Goals as goal
 
 pub solved_piece-theirs-requires-clause-holds : goal.solved_piece-theirs-requires-clause-holds

@@ -1,4 +1,4 @@
-use Rattle.clay_decode.specs.Left.{Completes}
+use Rattle.clay_model.specs.Left.{Completes}
 use Rattle.lane_repair.specs.Pieces.{HoldsColumn}
 use Rattle.clay_lanes.proofs.block.Block.write_column.Given as goal
 

@@ -1,6 +1,6 @@
 use Rattle.std.proofs.Common.{◌≡◌, ℕ, ◌<◌, true, false, List, length, get_or, replicate, sym, ap, ◌∙◌, arith}
 use Rattle.std.proofs.lemmas.List.{get_or_read}
-use Rattle.clay_decode.specs.Left.{Completes}
+use Rattle.clay_model.specs.Left.{Completes}
 use Rattle.lane_repair.proofs.ColumnRows.{present_there, present_gone}
 use Rattle.clay_lanes.proofs.block.Block.write_value.Goals as goal
 

@@ -1,5 +1,5 @@
 use Rattle.std.proofs.Common.{◌≡◌, ℕ, ◌+◌, ◌-◌, ◌*◌, length, take, drop, refl, sym, ap, ◌∙◌, subst, arith}
-use Rattle.clay_scalar.specs.Lagrange.{IsInterpolation}
+use Rattle.code_laws.specs.Lagrange.{IsInterpolation}
 use Rattle.clay_scalar.proofs.Interpolation.{AreCombined, HaveSums-combined}
 use Rattle.clay_scalar.proofs.Parts.{length_of_part, HasCombined-more}
 use Rattle.clay_scalar.proofs.solver.Solver.solve.Goals as goal

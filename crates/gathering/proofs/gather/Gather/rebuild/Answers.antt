@@ -1,7 +1,7 @@
 use Rattle.std.proofs.Common.{◌≡◌, ◌<◌, true, [], ◌∷◌, Some, set, sym, ap, subst, ◌∙◌}
 use Rattle.clay_grid.specs.Shape.{Shape, chunk_count}
 use Rattle.clay_grid.specs.Limits.{IsGeometry}
-use Rattle.clay_repair.specs.Parts.{AreParts, IsRebuilt}
+use Rattle.clay_model.specs.RepairParts.{AreParts, IsRebuilt}
 use Rattle.gather_course.specs.Courses.{has_bytes}
 use Rattle.gathering.specs.Parts.{Shelf}
 use Rattle.gathering.specs.Made.{AreMade}

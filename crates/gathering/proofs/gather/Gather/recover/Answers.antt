@@ -1,8 +1,8 @@
 use Rattle.std.proofs.Common.{◌≡◌, ◌≤◌, true, length, sym, subst}
 use Rattle.clay_grid.specs.Shape.{Shape}
 use Rattle.clay_grid.specs.Limits.{IsGeometry}
-use Rattle.clay_encode.specs.Chunks.{contents}
-use Rattle.clay_decode.specs.Left.{AreLeft, AreRecovered}
+use Rattle.clay_model.specs.Chunks.{contents}
+use Rattle.clay_model.specs.Left.{AreLeft, AreRecovered}
 use Rattle.gather_course.specs.Courses.{has_bytes}
 use Rattle.gathering.specs.Parts.{Shelf}
 use Rattle.gathering.specs.Made.{AreMade}

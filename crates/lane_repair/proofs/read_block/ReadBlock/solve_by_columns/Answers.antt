@@ -1,8 +1,8 @@
 use Rattle.std.proofs.Common.{◌≡◌, ℕ, ◌+◌, ◌*◌, ◌<◌, false, ◌≤◌, List, length, get_or, subst, sym, ap, ◌∙◌, arith}
 use Rattle.clay_grid.specs.Shape.{row_count, column_count, node_count, node_of_chunk}
-use Rattle.clay_repair.proofs.Column.{node_inside}
-use Rattle.clay_repair.proofs.Rows.{column_below}
-use Rattle.clay_repair.specs.Parts.{HasParts}
+use Rattle.code_laws.proofs.Column.{node_inside}
+use Rattle.code_laws.proofs.Rows.{column_below}
+use Rattle.clay_model.specs.RepairParts.{HasParts}
 use Rattle.lane_repair.specs.Repaired.{column_nodes}
 use Rattle.clay_kernels.specs.Columns.{IsColumn}
 use Rattle.lane_repair.proofs.ColumnRows.{HoldsForm, fit_columns, form_more, form_skipped, form_ended}

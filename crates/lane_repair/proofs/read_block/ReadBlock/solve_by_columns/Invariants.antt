@@ -1,5 +1,5 @@
 use Rattle.std.proofs.Common.{◌*◌}
-use Rattle.clay_repair.specs.Parts.{HasParts}
+use Rattle.clay_model.specs.RepairParts.{HasParts}
 use Rattle.lane_repair.proofs.ColumnRows.{HoldsForm}
 use Rattle.lane_repair.proofs.read_block.ReadBlock.solve_by_columns.Given as goal
 

@@ -2,11 +2,11 @@ use Rattle.std.proofs.Common.{◌≡◌, ℕ, ◌+◌, ◌*◌, ◌/◌, eqb, �
 use Rattle.std.proofs.lemmas.Bool.{eq-eqb, true≢false}
 use Rattle.std.proofs.lemmas.List.{get_or_read}
 use Rattle.clay_grid.specs.Shape.{row_count, column_count, node_count, node_of_chunk}
-use Rattle.clay_encode.proofs.Parts.{piece_fits}
-use Rattle.clay_repair.specs.Parts.{HasParts}
+use Rattle.code_laws.proofs.Pieces.{piece_fits}
+use Rattle.clay_model.specs.RepairParts.{HasParts}
 use Rattle.lane_repair.specs.Repaired.{column_nodes}
-use Rattle.clay_repair.proofs.Column.{node_inside}
-use Rattle.clay_repair.proofs.Rows.{column_below}
+use Rattle.code_laws.proofs.Column.{node_inside}
+use Rattle.code_laws.proofs.Rows.{column_below}
 use Rattle.lane_repair.proofs.RepairLemmas.{length-column_nodes, column_points_are}
 use Rattle.lane_repair.proofs.RowLemmas.{HoldsSums, sums_more, sums_skipped, rows_of_sums}
 use Rattle.lane_repair.proofs.read_block.ReadBlock.solve_by_nodes.Goals as goal

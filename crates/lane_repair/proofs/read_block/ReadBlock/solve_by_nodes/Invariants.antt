@@ -1,5 +1,5 @@
 use Rattle.std.proofs.Common.{length}
-use Rattle.clay_repair.specs.Parts.{HasParts}
+use Rattle.clay_model.specs.RepairParts.{HasParts}
 use Rattle.lane_repair.specs.Repaired.{column_nodes}
 use Rattle.lane_repair.proofs.RowLemmas.{HoldsSums}
 use Rattle.lane_repair.proofs.read_block.ReadBlock.solve_by_nodes.Given as goal

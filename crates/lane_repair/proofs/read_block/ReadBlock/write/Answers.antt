@@ -2,11 +2,11 @@ use Rattle.std.proofs.Common.{◌≡◌, ℕ, ◌+◌, ◌-◌, ◌*◌, ◌<◌
 use Rattle.std.proofs.lemmas.Bool.{cases_eq}
 use Rattle.clay_grid.specs.Shape.{row_count, layer_count, node_of_chunk}
 use Rattle.clay_grid.specs.Layers.{layer_of, index_of}
-use Rattle.clay_encode.proofs.Parts.{piece_fits}
+use Rattle.code_laws.proofs.Pieces.{piece_fits}
 use borrow.Rule.Slice.PartMut.{put_mid}
-use Rattle.clay_decode.proofs.Nodes.{node_real}
-use Rattle.clay_repair.specs.Parts.{HasParts}
-use Rattle.clay_repair.specs.Rebuilt.{with_digit}
+use Rattle.code_laws.proofs.Nodes.{node_real}
+use Rattle.clay_model.specs.RepairParts.{HasParts}
+use Rattle.code_laws.specs.Rebuilt.{with_digit}
 use Rattle.lane_repair.specs.Pieces.{HoldsByte}
 use Rattle.lane_repair.specs.Repaired.{column_nodes}
 use Rattle.lane_repair.proofs.RowLemmas.{piece_written, byte_kept}

@@ -1,6 +1,6 @@
 use Rattle.std.proofs.Common.{ℕ, ◌+◌, ◌*◌, ◌<◌}
-use Rattle.clay_repair.specs.Parts.{HasParts}
-use Rattle.clay_repair.specs.Rebuilt.{with_digit}
+use Rattle.clay_model.specs.RepairParts.{HasParts}
+use Rattle.code_laws.specs.Rebuilt.{with_digit}
 use Rattle.lane_repair.specs.Pieces.{HoldsByte}
 use Rattle.lane_repair.proofs.read_block.ReadBlock.write.Given as goal
 

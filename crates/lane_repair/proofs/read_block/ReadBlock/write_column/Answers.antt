@@ -1,7 +1,7 @@
 use Rattle.std.proofs.Common.{◌≡◌, ℕ, ◌+◌, ◌-◌, ◌*◌, List, length, take, drop, subst, ◌∙◌, arith}
 use Rattle.std.proofs.lemmas.List.Edits.{length-between}
-use Rattle.clay_encode.proofs.Parts.{piece_fits}
-use Rattle.clay_repair.specs.Parts.{HasParts}
+use Rattle.code_laws.proofs.Pieces.{piece_fits}
+use Rattle.clay_model.specs.RepairParts.{HasParts}
 use Rattle.lane_repair.proofs.ColumnRows.{one_more_value}
 use Rattle.lane_repair.proofs.read_block.ReadBlock.write_column.Goals as goal
 

@@ -1,4 +1,4 @@
-use Rattle.clay_repair.specs.Parts.{HasParts}
+use Rattle.clay_model.specs.RepairParts.{HasParts}
 use Rattle.lane_repair.specs.Pieces.{HoldsColumn}
 use Rattle.lane_repair.proofs.read_block.ReadBlock.write_column.Given as goal
 

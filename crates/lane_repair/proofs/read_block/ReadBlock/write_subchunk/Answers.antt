@@ -1,7 +1,7 @@
 use Rattle.std.proofs.Common.{◌≡◌, ◌+◌, ◌*◌, ◌<◌, length, sym, ap, ◌∙◌, arith}
 use Rattle.clay_grid.specs.Shape.{row_count, node_count, node_of_chunk}
-use Rattle.clay_decode.specs.Solved.{coupled_byte}
-use Rattle.clay_repair.proofs.Column.{node_inside}
+use Rattle.code_laws.specs.Solved.{coupled_byte}
+use Rattle.code_laws.proofs.Column.{node_inside}
 use Rattle.lane_repair.proofs.RepairLemmas.{own_piece, crossed_piece}
 use Rattle.lane_repair.proofs.read_block.ReadBlock.write_subchunk.Goals as goal
 

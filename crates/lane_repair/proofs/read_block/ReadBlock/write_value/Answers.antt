@@ -1,6 +1,6 @@
 use Rattle.std.proofs.Common.{◌≡◌, ℕ, ◌<◌, true, false, List, length, get_or, replicate, sym, ap, ◌∙◌, arith}
 use Rattle.std.proofs.lemmas.List.{get_or_read}
-use Rattle.clay_repair.specs.Parts.{HasParts}
+use Rattle.clay_model.specs.RepairParts.{HasParts}
 use Rattle.lane_repair.proofs.ColumnRows.{present_there, present_gone}
 use Rattle.lane_repair.proofs.read_block.ReadBlock.write_value.Goals as goal
 

@@ -1,6 +1,6 @@
 use Rattle.std.proofs.Common.{◌≡◌, ◌<◌, ◌+◌, min, List, map, All, sym, ap, subst, ◌∙◌, arith}
 use Rattle.clay_grid.specs.Shape.{Shape, stripe_length}
-use Rattle.clay_encode.proofs.Cut.{stripe_positive}
+use Rattle.code_laws.proofs.Cut.{stripe_positive}
 use Rattle.store_core.specs.Read.{part_of}
 use Rattle.store_resume.specs.States.{parts_state, open_state}
 use Rattle.call_steps.specs.declared.seen.Seen.{Seen}

@@ -1,7 +1,7 @@
 use Rattle.std.proofs.Common.{◌≡◌, ◌+◌, ◌<◌, length, ap, subst, sym, ◌∙◌, arith}
 use Rattle.std.proofs.lemmas.List.{length_push}
 use Rattle.clay_grid.specs.Shape.{chunk_count}
-use Rattle.clay_encode.specs.Chunks.{contents}
+use Rattle.clay_model.specs.Chunks.{contents}
 use Rattle.write_course.specs.Chunks.{PlacingOf}
 use Rattle.write_course.proofs.Placements.{skipped_few, away_counted}
 use Rattle.write_course.proofs.Kept.{chunks_next}

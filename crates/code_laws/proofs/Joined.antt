@@ -2,7 +2,7 @@
 use Rattle.std.proofs.Common.{◌≡◌, ℕ, zero, suc, ◌+◌, ◌*◌, ◌<◌, ◌≤◌, List, [], length, get_or, take, All, ap, ◌∙◌, arith, length-append}
 use Rattle.std.specs.List.{concat}
 use Rattle.std.proofs.lemmas.List.{take_more}
-use Rattle.clay_encode.proofs.Lists.{concat_push}
+use Rattle.code_laws.proofs.Lists.{concat_push}
 
 pub length-joined : (xs : List (List ℕ)) (len k : ℕ) → k ≤ length xs → All (λ x. length x ≡ len) xs → length (concat (take k xs)) ≡ k * len
 length-joined xs len zero h each = omega arith

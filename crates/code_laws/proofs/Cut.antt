@@ -7,8 +7,8 @@ use Rattle.std.proofs.lemmas.Nat.{mul-le}
 use Rattle.std.proofs.Math.Seq.{take-add}
 use Rattle.std.proofs.Math.Nat.{add-div_right, div-eq_of_lt}
 use Rattle.clay_model.proofs.Stripes.{concat-stripes_of}
-use Rattle.clay_encode.specs.Chunks.{contents}
-use Rattle.clay_encode.proofs.Lists.{concat_push}
+use Rattle.clay_model.specs.Chunks.{contents}
+use Rattle.code_laws.proofs.Lists.{concat_push}
 use Rattle.clay_grid.specs.Shape.{Shape, layer_count, chunk_length, stripe_length}
 use Rattle.clay_grid.specs.Limits.{IsGeometry}
 use Rattle.clay_model.specs.Code.{padded, stripes_below, stripes_of}

@@ -4,8 +4,8 @@ use Rattle.std.specs.List.{concat}
 use Rattle.std.proofs.lemmas.Bool.{cases_eq}
 use Rattle.std.proofs.lemmas.List.{map_push, get_or_append_left, get_or_push, length_push, append-nil, append_assoc}
 use Rattle.clay_grid.specs.Shape.{Shape, layer_count, chunk_length}
-use Rattle.clay_encode.specs.Chunks.{contents}
-use Rattle.clay_encode.specs.Columns.{HoldsCoupled, AddsParity}
+use Rattle.clay_model.specs.Chunks.{contents}
+use Rattle.code_laws.specs.Columns.{HoldsCoupled, AddsParity}
 
 pub contents_push : (vs : List (Vec ℕ Global)) (v : Vec ℕ Global) → contents (vs ++ v ∷ []) ≡ contents vs ++ v.items ∷ []
 contents_push vs v = map_push (λ (w : Vec ℕ Global). w.items) vs v

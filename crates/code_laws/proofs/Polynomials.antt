@@ -6,7 +6,7 @@ use Rattle.clay_field.specs.Field.{product, power_of}
 use Rattle.clay_field.proofs.FieldLaws.{product_assoc, product_zero, product_one, product_add_left, product_add_right}
 use Rattle.clay_model.specs.Sums.{sum_below}
 use Rattle.clay_model.proofs.SumLaws.{sum_below_same, sum_below-xor, sum_below-product, sum_below-zero, product_swap}
-use Rattle.clay_scalar.specs.Lagrange.{value_at}
+use Rattle.code_laws.specs.Lagrange.{value_at}
 
 -- a sum of which one number alone is not zero
 pub sum_below-one : (n own : ℕ) (f : ℕ → ℕ) → own < n → ((i : ℕ) → i < n → i ≢ own → f i ≡ 0) → sum_below n f ≡ f own

@@ -3,7 +3,7 @@ use Rattle.std.proofs.Common.{◌≡◌, ℕ, subst, ◌+◌, ◌-◌, ◌*◌, 
 use Rattle.std.proofs.lemmas.Bool.{cases_eq, cases_lt}
 use Rattle.std.proofs.lemmas.Nat.{mul-le}
 use Rattle.std.proofs.lemmas.List.{get_or_append_left, get_or-append_right, get_or-take, length-take-le, get_or_past, drop_all, append-nil, take_all, places}
-use Rattle.clay_encode.specs.Columns.{HoldsPieces}
+use Rattle.code_laws.specs.Columns.{HoldsPieces}
 use borrow.Rule.Slice.PartMut.{put_mid, post_of}
 
 -- what stands before a part that is written

@@ -22,18 +22,18 @@ use Rattle.clay_model.specs.Sums.{weighted_sum, present_value}
 use Rattle.clay_model.specs.Code.{IsCodeword, coupled_value}
 use Rattle.clay_model.proofs.SumLaws.{sum_below_same}
 use Rattle.clay_model.proofs.Unique.{row_of, uncoupled_byte as uncoupled_below}
-use Rattle.clay_scalar.specs.Points.{sum_over, byte_of, HaveSums}
-use Rattle.clay_scalar.specs.Erased.{erased_below, present}
-use Rattle.clay_scalar.proofs.ErasedNodes.{erased_values_solved}
-use Rattle.clay_encode.proofs.Parts.{place_below, piece_fits, put_mid_before, put_mid_within}
+use Rattle.clay_model.specs.Points.{sum_over, byte_of, HaveSums}
+use Rattle.clay_model.specs.Erased.{erased_below, present}
+use Rattle.code_laws.proofs.ErasedNodes.{erased_values_solved}
+use Rattle.code_laws.proofs.Pieces.{place_below, piece_fits, put_mid_before, put_mid_within}
 use borrow.Rule.Slice.PartMut.{put_mid}
-use Rattle.clay_decode.specs.Solved.{uncoupled_byte}
-use Rattle.clay_decode.proofs.Layer.{coupled_below}
-use Rattle.clay_decode.proofs.Nodes.{IsNodeOf, chunk_byte}
-use Rattle.clay_repair.specs.Parts.{subchunks_at, repair_parts, part_length, HasParts}
-use Rattle.clay_repair.specs.Rebuilt.{IsReadFor, IsCoupled, IsUncoupled, HoldsOthers}
-use Rattle.clay_repair.proofs.Places.{StandsAt, subchunk_at, length-subchunks}
-use Rattle.clay_repair.proofs.Points.{column_erased}
+use Rattle.code_laws.specs.Solved.{uncoupled_byte}
+use Rattle.code_laws.proofs.Layer.{coupled_below}
+use Rattle.code_laws.proofs.Nodes.{IsNodeOf, chunk_byte}
+use Rattle.clay_model.specs.RepairParts.{subchunks_at, repair_parts, part_length, HasParts}
+use Rattle.code_laws.specs.Rebuilt.{IsReadFor, IsCoupled, IsUncoupled, HoldsOthers}
+use Rattle.code_laws.proofs.Places.{StandsAt, subchunk_at, length-subchunks}
+use Rattle.code_laws.proofs.ColumnPoints.{column_erased}
 
 -- ---- the nodes and the layers that are read
 

@@ -1,15 +1,12 @@
 -- What decoding has found, whichever codeword agrees with the chunks that are there.
-use Rattle.std.specs.Prelude.{◌≡◌, ℕ, ◌+◌, ◌*◌, ◌/◌, ◌%◌, ◌<◌, ◌≤◌, Bool, false, not, ◌&&◌, List, length, get_or, replicate, Option, None, is_none, Vec}
+use Rattle.std.specs.Prelude.{◌≡◌, ℕ, ◌+◌, ◌*◌, ◌/◌, ◌%◌, ◌<◌, Bool, false, not, ◌&&◌, List, length, get_or, Option, None, is_none, Vec}
 use Rattle.std.specs.declared.alloc.Global.{Global}
-use Rattle.clay_grid.specs.Shape.{Shape, row_count, node_count, layer_count}
+use Rattle.clay_grid.specs.Shape.{Shape, row_count, layer_count}
 use Rattle.clay_grid.specs.Layers.{layer_of}
-use Rattle.clay_grid.specs.Limits.{IsGeometry}
-use Rattle.clay_grid.specs.Score.{score_at, IsByScore}
+use Rattle.clay_grid.specs.Score.{score_at}
 use Rattle.clay_model.specs.Coupling.{uncoupled}
 use Rattle.clay_model.specs.Code.{is_virtual, chunk_of_node, coupled_value}
-use Rattle.clay_scalar.specs.Erased.{erased_below}
-use Rattle.clay_decode.specs.Left.{AreLeft, Completes}
-use Rattle.clay_decode.specs.declared.plan.Plan.{Plan}
+use Rattle.clay_model.specs.Left.{Completes}
 
 -- byte b of node i in layer n
 abbrev pub coupled_byte : Shape → List (List ℕ) → ℕ → ℕ → ℕ → ℕ
@@ -22,18 +19,6 @@ uncoupled_byte g word b i n = uncoupled (row_count g) (coupled_value g word b) (
 -- whether the chunk of node i is missing
 abbrev pub is_erased : Shape → List (Option (Vec ℕ Global)) → ℕ → Bool
 is_erased g have i = not (is_virtual g i) && is_none (get_or have (chunk_of_node g i) None)
-
--- the erased nodes, their interpolation, the order of the layers, and a subchunk of zeros, for chunks of which few enough are missing
-pub record IsPlan (g : Shape) (have : List (Option (Vec ℕ Global))) (plan : Plan) : Type 0 where
-  pub geometry : IsGeometry g
-  pub left : AreLeft g have
-  pub few : length plan.points.items ≤ g.parity_count
-  pub nodes : length plan.erased.items ≡ node_count g
-  pub erased_are : (i : ℕ) → i < node_count g → get_or plan.erased.items i false ≡ is_erased g have i
-  pub points_are : plan.points.items ≡ erased_below plan.erased.items (node_count g)
-  pub solver : plan.solver ≡ plan.points.items
-  pub order : IsByScore g plan.erased.items plan.layers.items
-  pub empty : plan.zeros.items ≡ replicate g.width 0
 
 -- a piece is node i's subchunk n
 pub record IsCoupled (g : Shape) (have : List (Option (Vec ℕ Global))) (i n : ℕ) (piece : List ℕ) : Type 0 where
@@ -53,23 +38,10 @@ pub record HoldsLayer (g : Shape) (have : List (Option (Vec ℕ Global))) (point
   pub at : (word : List (List ℕ)) → Completes g have word → (e b : ℕ) → e < length points → b < g.width
       → get_or solved ((n * length points + e) * g.width + b) 0 ≡ uncoupled_byte g word b (get_or points e 0) n
 
--- a piece for each erased node in each layer
-abbrev pub HasPieces : Shape → Plan → List ℕ → Type 0
-HasPieces g plan solved = length solved ≡ layer_count g * (length plan.points.items * g.width)
-
--- each layer is solved
-pub record AreSolved (g : Shape) (have : List (Option (Vec ℕ Global))) (plan : Plan) (solved : List ℕ) : Type 0 where
-  pub len : length solved ≡ layer_count g * (length plan.points.items * g.width)
-  pub each : (n : ℕ) → n < layer_count g → HoldsLayer g have plan.points.items n solved
-
 -- the layers of a score below that of layer n are solved
 abbrev pub HoldsLower : Shape → List (Option (Vec ℕ Global)) → List Bool → List ℕ → ℕ → List ℕ → Type 0
 HoldsLower g have erased points n solved =
     (p : ℕ) → p < layer_count g → score_at g erased p < score_at g erased n → HoldsLayer g have points p solved
-
--- the layers that layer n waits for are solved
-abbrev pub AreLowerSolved : Shape → List (Option (Vec ℕ Global)) → Plan → ℕ → List ℕ → Type 0
-AreLowerSolved g have plan n solved = HoldsLower g have plan.erased.items plan.points.items n solved
 
 -- the first count pieces are the subchunks of node i
 pub record HoldsSubchunks (g : Shape) (have : List (Option (Vec ℕ Global))) (i count : ℕ) (chunk : List ℕ) : Type 0 where

@@ -3,9 +3,9 @@ ghost use Rattle.std.specs.Prelude.{◌≡◌, length, IfOk};
 ghost use Rattle.std.specs.Thread.{IsSync};
 ghost use Rattle.clay_grid.specs.Shape.{stripe_length};
 ghost use Rattle.clay_model.specs.Code.{Codes};
-ghost use Rattle.clay_encode.specs.Chunks.{contents};
-ghost use Rattle.clay_repair.specs.Coding.{AreLeft, AreRecovered};
-ghost use Rattle.clay_repair.specs.Parts.{AreParts, IsRebuilt};
+ghost use Rattle.clay_model.specs.Chunks.{contents};
+ghost use Rattle.clay_model.specs.Left.{AreLeft, AreRecovered};
+ghost use Rattle.clay_model.specs.RepairParts.{AreParts, IsRebuilt};
 
 use clay_grid::Geometry;
 use std::alloc::{AllocError, Global};

@@ -11,15 +11,14 @@ use Rattle.clay_model.specs.Sums.{weighted_sum, present_value}
 use Rattle.clay_model.specs.Code.{IsCodeword, is_virtual, chunk_of_node, coupled_value}
 use Rattle.clay_model.proofs.SumLaws.{sum_below_same}
 use Rattle.clay_model.proofs.Unique.{uncoupled_byte as uncoupled_below}
-use Rattle.clay_scalar.specs.Points.{sum_over, byte_of, HaveSums}
-use Rattle.clay_scalar.specs.Erased.{erased_below, present}
-use Rattle.clay_scalar.proofs.ErasedNodes.{erased_values_solved}
+use Rattle.clay_model.specs.Points.{sum_over, byte_of, HaveSums}
+use Rattle.clay_model.specs.Erased.{erased_below, present}
+use Rattle.code_laws.proofs.ErasedNodes.{erased_values_solved}
 use Rattle.std.proofs.lemmas.List.{get_or-take, get_or-drop}
-use Rattle.clay_encode.proofs.Parts.{put_mid_before, put_mid_within, put_mid_past, place_below, piece_fits}
+use Rattle.code_laws.proofs.Pieces.{put_mid_before, put_mid_within, put_mid_past, place_below, piece_fits}
 use borrow.Rule.Slice.PartMut.{put_mid}
-use Rattle.clay_decode.specs.Left.{Completes}
-use Rattle.clay_decode.specs.declared.plan.Plan.{Plan}
-use Rattle.clay_decode.specs.Solved.{uncoupled_byte, coupled_byte, IsPlan, IsCoupled, IsUncoupled, HoldsPresent, HoldsLayer, HoldsLower, HoldsSubchunks}
+use Rattle.clay_model.specs.Left.{Completes}
+use Rattle.code_laws.specs.Solved.{uncoupled_byte, coupled_byte, IsCoupled, IsUncoupled, HoldsPresent, HoldsLayer, HoldsLower, HoldsSubchunks}
 
 pub coupled_below : (g : Shape) (word : List (List ℕ)) → IsCodeword g word → (b i : ℕ) (z : List ℕ) → coupled_value g word b i z < 2 ^ 8
 coupled_below g word w b i z =
@@ -156,17 +155,6 @@ layer_kept g have points n k p solved ys below other width long ys_long holds =
     }
 
 -- the same at places that are equal to these
-pub layer_written_at : (g : Shape) (have : List (Option (Vec ℕ Global))) (plan : Plan) → IsPlan g have plan
-    → (n at k : ℕ) (layer sums solved ys : List ℕ) → n < layer_count g → at ≡ n * (length plan.points.items * g.width) → k ≡ length plan.points.items * g.width
-    → length solved ≡ layer_count g * (length plan.points.items * g.width) → length ys ≡ length plan.points.items * g.width
-    → HoldsPresent g have plan.erased.items n (node_count g) layer
-    → ((j b : ℕ) → j < length plan.points.items → b < g.width → byte_of sums g.width b j ≡ weighted_sum (node_count g) (present_value layer plan.erased.items g.width b) j)
-    → HaveSums plan.points.items g.width ys sums → ((p : ℕ) → get_or (put_mid at k solved ys) p 0 < 2 ^ 8) → HoldsLayer g have plan.points.items n (put_mid at k solved ys)
-layer_written_at g have plan is n at k layer sums solved ys below at_is width long ys_long holds summed have_sums bytes =
-    subst (λ a. HoldsLayer g have plan.points.items n (put_mid a k solved ys)) (sym at_is)
-    (layer_written g have plan.erased.items plan.points.items is.geometry is.few is.points_are n k layer sums solved ys below width long ys_long holds summed have_sums
-    (λ p. subst (λ a. get_or (put_mid a k solved ys) p 0 < 2 ^ 8) at_is (bytes p)))
-
 pub layer_kept_at : (g : Shape) (have : List (Option (Vec ℕ Global))) (points : List ℕ) (n at k p : ℕ) (solved ys : List ℕ) → n < layer_count g → p ≢ n → at ≡ n * (length points * g.width) → k ≡ length points * g.width
     → length solved ≡ layer_count g * (length points * g.width) → length ys ≡ length points * g.width
     → HoldsLayer g have points p solved → HoldsLayer g have points p (put_mid at k solved ys)

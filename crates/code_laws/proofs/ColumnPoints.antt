@@ -5,8 +5,8 @@ use Rattle.std.proofs.lemmas.Bool.{eq-eqb, ne_eqb, cond-true, cond-false}
 use Rattle.std.proofs.lemmas.Nat.{mod_below, div_below, div-mul-add, div-add-mod'}
 use Rattle.std.proofs.lemmas.List.FromFn.{length-range_with_len, get_or-range_with_len}
 use Rattle.clay_grid.proofs.Rising.{range_with_len_more}
-use Rattle.clay_scalar.specs.Erased.{erased_below}
-use Rattle.clay_scalar.specs.Points.{AreDistinct}
+use Rattle.clay_model.specs.Erased.{erased_below}
+use Rattle.clay_model.specs.Points.{AreDistinct}
 
 -- nodes that are there add none
 none_erased : (erased : List Bool) (n k : ℕ) → ((i : ℕ) → i < k → get_or erased (n + i) false ≡ false) → erased_below erased (n + k) ≡ erased_below erased n

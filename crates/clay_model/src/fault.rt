@@ -13,7 +13,7 @@ pub enum DecodeFault {
 
 impl From<AllocError> for DecodeFault {
     ghost use Rattle.std.specs.Prelude.{◌≡◌};
-    ghost use Rattle.clay_decode.specs.declared.fault.DecodeFault.TheVariants.{OutOfMemory};
+    ghost use Rattle.clay_model.specs.declared.fault.DecodeFault.TheVariants.{OutOfMemory};
 
     ghost from_gives = { λ _ e. e ≡ OutOfMemory };
 
@@ -35,7 +35,7 @@ pub enum CheckedFault {
 
 impl From<AllocError> for CheckedFault {
     ghost use Rattle.std.specs.Prelude.{◌≡◌};
-    ghost use Rattle.clay_decode.specs.declared.fault.CheckedFault.TheVariants.{OutOfMemory};
+    ghost use Rattle.clay_model.specs.declared.fault.CheckedFault.TheVariants.{OutOfMemory};
 
     ghost from_gives = { λ _ e. e ≡ OutOfMemory };
 

@@ -5,7 +5,7 @@ use Rattle.std.proofs.lemmas.Bool.{cases_lt}
 use Rattle.std.proofs.lemmas.List.{get_or_past}
 use Rattle.std.proofs.Math.ListN.{get_or-map}
 use Rattle.clay_model.specs.Code.{AgreesWith}
-use Rattle.clay_decode.specs.Left.{parts}
+use Rattle.clay_model.specs.Left.{parts}
 
 abbrev items : Option (Vec ℕ Global) → Option (List ℕ)
 items o = option_map (λ (v : Vec ℕ Global). v.items) o

@@ -12,7 +12,7 @@ use Rattle.clay_grid.specs.Score.{count_below}
 use Rattle.clay_grid.proofs.Counting.{count_below_same, count_below_false, count_below_true, count_below-add, count_below_digit}
 use Rattle.clay_grid.proofs.Rising.{filter_more, length-filter_range}
 use Rattle.clay_grid.proofs.LayerLaws.{get_or-digits_of}
-use Rattle.clay_repair.specs.Parts.{subchunks_at}
+use Rattle.clay_model.specs.RepairParts.{subchunks_at}
 
 -- ---- a number's place among those that pass a test
 

@@ -16,10 +16,10 @@ use Rattle.clay_grid.proofs.LayerLaws.{index_of-lt, digits_of-index_of}
 use Rattle.clay_model.specs.Sums.{sum_below, weighted_sum}
 use Rattle.clay_model.specs.Coupling.{node_at, uncoupled, HasZeroSums}
 use Rattle.clay_model.specs.Code.{is_virtual, coupled_value, Codes}
-use Rattle.clay_encode.specs.Columns.{first_parity, data_value, last_value, IsSolved, coupled_last, HoldsCoupled}
-use Rattle.clay_encode.proofs.Lists.{concat_push}
-use Rattle.clay_encode.proofs.Parts.{piece_fits, place_below, bytes_everywhere}
-use Rattle.clay_encode.proofs.Filled.{filled_sums, below_column}
+use Rattle.code_laws.specs.Columns.{first_parity, data_value, last_value, IsSolved, coupled_last, HoldsCoupled}
+use Rattle.code_laws.proofs.Lists.{concat_push}
+use Rattle.code_laws.proofs.Pieces.{piece_fits, place_below, bytes_everywhere}
+use Rattle.code_laws.proofs.Filled.{filled_sums, below_column}
 
 -- what encoding has made
 pub record IsAssembled (g : Shape) (stripe column : List ℕ) (chunks : List (List ℕ)) : Type 0 where

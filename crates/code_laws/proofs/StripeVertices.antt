@@ -8,7 +8,7 @@ use Rattle.clay_grid.specs.Layers.{layer_of, index_of, vertex_at, partner_of}
 use Rattle.clay_grid.proofs.LayerLaws.{index_of-digits_of, IsLayer-digits_of}
 use Rattle.clay_model.specs.Coupling.{node_at}
 use Rattle.clay_model.proofs.Unique.{uncoupled_alone, uncoupled_paired, row_of}
-use Rattle.clay_encode.specs.Columns.{data_byte, data_value, uncoupled_value, last_value, coupled_last}
+use Rattle.code_laws.specs.Columns.{data_byte, data_value, uncoupled_value, last_value, coupled_last}
 
 pub index_of-layer_of : (g : Shape) (n : ℕ) → 0 < row_count g → n < layer_count g → index_of (row_count g) (layer_of g n) ≡ n
 index_of-layer_of g n rows h = index_of-digits_of (row_count g) (column_count g) n rows h

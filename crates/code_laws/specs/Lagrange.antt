@@ -2,7 +2,7 @@
 use Rattle.std.specs.Prelude.{◌≡◌, ℕ, ◌*◌, ◌^◌, ◌<◌, ◌≤◌, ◌==◌, if◌then◌else◌, List, length, get_or}
 use Rattle.clay_field.specs.Field.{product, power_of}
 use Rattle.clay_model.specs.Sums.{sum_below}
-use Rattle.clay_scalar.specs.Points.{AreDistinct, byte_of}
+use Rattle.clay_model.specs.Points.{AreDistinct, byte_of}
 
 -- the value at x of the polynomial whose coefficients of the degrees below n are given
 abbrev pub value_at : ℕ → (ℕ → ℕ) → ℕ → ℕ

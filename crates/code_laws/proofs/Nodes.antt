@@ -13,9 +13,9 @@ use Rattle.clay_grid.proofs.Counting.{count_below_same, count_below_false, count
 use Rattle.clay_model.specs.Code.{is_virtual, chunk_of_node}
 use Rattle.clay_model.proofs.LayerNumbers.{coupled_value-digits_of}
 use Rattle.clay_model.proofs.Codewords.{chunks_fit}
-use Rattle.clay_scalar.specs.Erased.{erased_below}
-use Rattle.clay_decode.specs.Left.{AreLong, Completes}
-use Rattle.clay_decode.specs.Solved.{is_erased, coupled_byte, IsCoupled, HoldsSubchunks}
+use Rattle.clay_model.specs.Erased.{erased_below}
+use Rattle.clay_model.specs.Left.{AreLong, Completes}
+use Rattle.code_laws.specs.Solved.{is_erased, coupled_byte, IsCoupled, HoldsSubchunks}
 
 -- ---- the chunk of a node
 

@@ -13,9 +13,9 @@ use Rattle.clay_model.specs.Code.{IsCodeword, coupled_value}
 use Rattle.clay_model.specs.Pairs.{AreUncoupled}
 use Rattle.clay_model.proofs.Unique.{uncoupled_alone, uncoupled_paired, uncoupled_partner, row_of, score_of_partner}
 use Rattle.clay_model.proofs.PairLaws.{from_partner, AreCoupled-uncoupled}
-use Rattle.clay_decode.specs.Partners.{ArePartners}
-use Rattle.clay_decode.specs.Solved.{coupled_byte, uncoupled_byte}
-use Rattle.clay_decode.proofs.Layer.{coupled_below}
+use Rattle.clay_model.specs.Partners.{ArePartners}
+use Rattle.code_laws.specs.Solved.{coupled_byte, uncoupled_byte}
+use Rattle.code_laws.proofs.Layer.{coupled_below}
 
 module _ (g : Shape) (i n other p : ℕ) (pair : ArePartners g i n other p) where
   q : ℕ

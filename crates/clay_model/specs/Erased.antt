@@ -1,7 +1,7 @@
 -- The erased nodes of a layer, and the values that are found at them.
 use Rattle.std.specs.Prelude.{◌≡◌, ℕ, zero, suc, ◌^◌, ◌<◌, ◌≤◌, Bool, false, if◌then◌else◌, List, [], ◌∷◌, ◌++◌, length, get_or}
 use Rattle.clay_model.specs.Sums.{weighted_sum}
-use Rattle.clay_scalar.specs.Points.{sum_over}
+use Rattle.clay_model.specs.Points.{sum_over}
 
 -- the erased nodes below n, rising
 abbrev pub erased_below : List Bool → ℕ → List ℕ

@@ -4,7 +4,7 @@ use Rattle.std.specs.declared.alloc.Global.{Global}
 use Rattle.clay_grid.specs.Shape.{Shape, chunk_count, row_count, column_count, chunk_length}
 use Rattle.clay_grid.specs.Repair.{repair_layers_of}
 use Rattle.clay_model.specs.Code.{IsCodeword, AgreesWith}
-use Rattle.clay_decode.specs.Left.{parts, AreLong}
+use Rattle.clay_model.specs.Left.{parts, AreLong}
 
 -- of a chunk's bytes the subchunks at these layers, `width` bytes each, one after another
 abbrev pub subchunks_at : ℕ → List ℕ → List ℕ → List ℕ

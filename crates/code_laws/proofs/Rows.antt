@@ -11,15 +11,15 @@ use Rattle.clay_grid.proofs.LayerLaws.{IsLayer-digits_of, IsLayer-set, index_of-
 use Rattle.clay_grid.proofs.Rising.{Lists-filter}
 use Rattle.clay_model.proofs.PairLaws.{crossed}
 use Rattle.clay_model.proofs.Unique.{row_of}
-use Rattle.clay_encode.proofs.Parts.{put_mid_before, put_mid_within, put_mid_past, place_below, piece_fits}
+use Rattle.code_laws.proofs.Pieces.{put_mid_before, put_mid_within, put_mid_past, place_below, piece_fits}
 use borrow.Rule.Slice.PartMut.{put_mid}
-use Rattle.clay_decode.specs.Solved.{coupled_byte, uncoupled_byte}
-use Rattle.clay_decode.proofs.Layer.{coupled_below}
-use Rattle.clay_decode.proofs.Nodes.{node_real, chunk_byte}
-use Rattle.clay_decode.specs.Partners.{ArePartners}
-use Rattle.clay_decode.proofs.Vertices.{alone_value, paired_value}
-use Rattle.clay_repair.specs.Parts.{IsRebuilt}
-use Rattle.clay_repair.specs.Rebuilt.{IsReadFor, IsCoupled, IsUncoupled, HoldsSubchunk, HoldsRow, with_digit}
+use Rattle.code_laws.specs.Solved.{coupled_byte, uncoupled_byte}
+use Rattle.code_laws.proofs.Layer.{coupled_below}
+use Rattle.code_laws.proofs.Nodes.{node_real, chunk_byte}
+use Rattle.clay_model.specs.Partners.{ArePartners}
+use Rattle.code_laws.proofs.Vertices.{alone_value, paired_value}
+use Rattle.clay_model.specs.RepairParts.{IsRebuilt}
+use Rattle.code_laws.specs.Rebuilt.{IsReadFor, IsCoupled, IsUncoupled, HoldsSubchunk, HoldsRow, with_digit}
 
 -- ---- a layer with another digit of the lost node's column
 

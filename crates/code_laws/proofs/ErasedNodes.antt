@@ -7,9 +7,9 @@ use Rattle.clay_field.specs.Field.{product, power_of}
 use Rattle.clay_field.proofs.FieldLaws.{product_zero}
 use Rattle.clay_model.specs.Sums.{sum_below, weighted_sum}
 use Rattle.clay_model.proofs.SumLaws.{equal_from_sum, sum_below_same, sum_below-xor}
-use Rattle.clay_scalar.specs.Points.{AreDistinct, sum_over}
-use Rattle.clay_scalar.specs.Erased.{erased_below, present, ErasedValuesAreSolved}
-use Rattle.clay_scalar.proofs.PointSums.{AreApart, same_values}
+use Rattle.clay_model.specs.Points.{AreDistinct, sum_over}
+use Rattle.clay_model.specs.Erased.{erased_below, present, ErasedValuesAreSolved}
+use Rattle.code_laws.proofs.PointSums.{AreApart, same_values}
 
 erased_below-erased : (erased : List Bool) (n : ℕ) → get_or erased n false ≡ true → erased_below erased (suc n) ≡ erased_below erased n ++ n ∷ []
 erased_below-erased erased n gone = cond-true (get_or erased n false) (erased_below erased n ++ n ∷ []) (erased_below erased n) gone

@@ -1,4 +1,0 @@
-pub mod Places
-pub mod Points
-pub mod Column
-pub mod Rows

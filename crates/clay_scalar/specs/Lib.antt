@@ -1,3 +1,0 @@
-pub mod Points
-pub mod Lagrange
-pub mod Erased

@@ -1,0 +1,4 @@
+pub mod Lagrange
+pub mod Columns
+pub mod Solved
+pub mod Rebuilt
