@@ -23,8 +23,8 @@ use Rattle.call_steps.specs.Steps.{need_by, need_of}
 use Rattle.call_stands.specs.Stands.{IsFirst}
 use Rattle.call_machine.specs.Kinds.{Asked, asked_job, Machine, client_machine, machine_of, IfPatches}
 use Rattle.call_machine.specs.Calls.{MachineOf, first_call, tries_in, KnowsOldOf}
-use Rattle.world_lines.specs.Ended.{ended_of}
-use Rattle.world_lines.specs.declared.calls.EndedCall.{EndedCall}
+use Rattle.call_steps.specs.CallerCalls.{ended_of}
+use Rattle.call_steps.specs.declared.caller_calls.EndedCall.{EndedCall}
 use Rattle.world_steps.specs.ActorAfter.{Begins}
 use Rattle.actors.specs.Turns.{GoesOn}
 use Rattle.actors.specs.Callers.{PartOf, CallerOf, IsPartOf, calls_of, work_of, who_of, asked_at}

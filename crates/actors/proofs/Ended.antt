@@ -7,11 +7,11 @@ use Rattle.store_core.specs.Act.{Act}
 use Rattle.store_core.specs.Agreement.{Seat, ActorToken}
 use Rattle.version_seal.specs.Entry.{BookOf}
 use Rattle.call_steps.specs.CallOf.{CallOf, act_of, taken_of}
-use Rattle.world_lines.specs.Outcomes.{call_outcome_of}
+use Rattle.call_steps.specs.CallOutcomes.{call_outcome_of}
 use Rattle.call_machine.specs.Calls.{MachineOf}
-use Rattle.world_lines.specs.Ended.{ended_of, calling_at}
-use Rattle.world_lines.specs.declared.calls.EndedCall.{EndedCall}
-use Rattle.world_lines.specs.declared.calls.CallerCalls.{CallerCalls}
+use Rattle.call_steps.specs.CallerCalls.{ended_of, calling_at}
+use Rattle.call_steps.specs.declared.caller_calls.EndedCall.{EndedCall}
+use Rattle.call_steps.specs.declared.caller_calls.CallerCalls.{CallerCalls}
 use Rattle.world_steps.specs.World.{ActorOf, DoingOf}
 use Rattle.world_steps.specs.Known.{calling_by}
 use Rattle.world_steps.specs.ActorAfter.{actor_after}

@@ -2,13 +2,13 @@
 use Rattle.std.proofs.Common.{◌≡◌, ℕ, List, [], ◌∷◌, ◌++◌, Option, sym, ap, subst, ◌∙◌}
 use Rattle.std.proofs.lemmas.List.{map-append}
 use Rattle.store_core.specs.Act.{Act}
-use Rattle.world_lines.specs.Outcomes.{call_outcome_of}
-use Rattle.world_lines.specs.declared.outcome.CallOutcome.{CallOutcome}
-use Rattle.world_lines.specs.declared.outcome.CallOutcome.TheVariants as outcome
+use Rattle.call_steps.specs.CallOutcomes.{call_outcome_of}
+use Rattle.call_steps.specs.declared.outcome.CallOutcome.{CallOutcome}
+use Rattle.call_steps.specs.declared.outcome.CallOutcome.TheVariants as outcome
 use Rattle.call_machine.specs.Kinds.{Machine, IfReads}
 use Rattle.call_machine.specs.Ends.{IfBytesServed}
-use Rattle.world_lines.specs.declared.calls.EndedCall.{EndedCall}
-use Rattle.world_lines.specs.Served.{bytes_in}
+use Rattle.call_steps.specs.declared.caller_calls.EndedCall.{EndedCall}
+use Rattle.world_steps.specs.Served.{bytes_in}
 use Rattle.actors.specs.Owing.{AreServed}
 use Rattle.actors.specs.Inside.{served_of}
 

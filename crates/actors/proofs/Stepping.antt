@@ -20,10 +20,10 @@ use Rattle.client_patch.specs.Padded.{ArePadded}
 use Rattle.call_machine.specs.Kinds.{machine_of, IfPatches}
 use Rattle.call_machine.specs.Calls.{MachineOf, KnowsOldOf, drawn_by, owed_by}
 use Rattle.call_machine.proofs.Machines.{if_patches}
-use Rattle.world_lines.specs.Ended.{ended_of}
-use Rattle.world_lines.specs.declared.calls.EndedCall.{EndedCall}
-use Rattle.trace_lines.specs.declared.step.Step.{Step}
-use Rattle.trace_lines.specs.Steps.{IsStep}
+use Rattle.call_steps.specs.CallerCalls.{ended_of}
+use Rattle.call_steps.specs.declared.caller_calls.EndedCall.{EndedCall}
+use Rattle.call_steps.specs.declared.step.Step.{Step}
+use Rattle.world_traces.specs.StepsTold.{IsStep}
 use Rattle.world_traces.specs.TurnMade.{turn_made}
 use Rattle.world_steps.specs.World.{DoingOf}
 use Rattle.world_steps.specs.Known.{calling_of}

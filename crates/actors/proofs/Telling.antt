@@ -25,9 +25,9 @@ use Rattle.call_steps.specs.Steps.{need_of}
 use Rattle.call_stands.specs.Ready.{ready}
 use Rattle.call_stands.proofs.Needs.{needs_tell_acts}
 use Rattle.call_machine.specs.Calls.{MachineOf}
-use Rattle.trace_lines.specs.declared.step.Answer.TheVariants as answer
-use Rattle.trace_lines.specs.declared.step.Step.{Step}
-use Rattle.trace_lines.specs.Steps.{IsAnswer, IsStep}
+use Rattle.call_steps.specs.declared.step.StepAnswer.TheVariants as answer
+use Rattle.call_steps.specs.declared.step.Step.{Step}
+use Rattle.world_traces.specs.StepsTold.{IsAnswer, IsStep}
 use Rattle.world_traces.specs.TurnMade.{turn_made}
 use Rattle.world_steps.specs.World.{DoingOf}
 use Rattle.world_steps.specs.Known.{calling_of}

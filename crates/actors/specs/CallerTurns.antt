@@ -4,8 +4,8 @@ use Rattle.store_map.specs.declared.script.Script.{Script}
 use Rattle.version_seal.specs.Entry.{StampOf}
 use Rattle.chunk_server.specs.State.{ServerState}
 use Rattle.stripe_dir.specs.Sealed.{Sealed}
-use Rattle.trace_lines.specs.declared.step.Step.{Step}
-use Rattle.trace_lines.specs.Steps.{IsStep}
+use Rattle.call_steps.specs.declared.step.Step.{Step}
+use Rattle.world_traces.specs.StepsTold.{IsStep}
 use Rattle.world_traces.specs.TurnMade.{turn_made}
 use Rattle.actors.specs.Turns.{places_of}
 use Rattle.actors.specs.Turned.{MakesTurn}

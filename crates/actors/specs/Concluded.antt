@@ -6,8 +6,8 @@ use Rattle.call_steps.specs.CallOf.{act_of}
 use Rattle.call_steps.specs.Steps.{need_of}
 use Rattle.call_machine.specs.Kinds.{machine_of}
 use Rattle.call_machine.specs.Calls.{MachineOf}
-use Rattle.world_lines.specs.declared.calls.EndedCall.{EndedCall}
-use Rattle.world_lines.specs.Ended.{ended_of}
+use Rattle.call_steps.specs.declared.caller_calls.EndedCall.{EndedCall}
+use Rattle.call_steps.specs.CallerCalls.{ended_of}
 use Rattle.world_steps.specs.World.{ActorOf, steps_of}
 use Rattle.world_steps.specs.ActorAfter.{actor_after}
 use Rattle.actors.specs.Turns.{GoesOn}

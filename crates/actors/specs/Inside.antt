@@ -6,9 +6,9 @@ use Rattle.store_core.specs.Agreement.{Seat, ActorToken}
 use Rattle.version_seal.specs.Entry.{BookOf}
 use Rattle.call_steps.specs.Steps.{need_of}
 use Rattle.call_machine.specs.Calls.{MachineOf}
-use Rattle.world_lines.specs.declared.calls.EndedCall.{EndedCall}
-use Rattle.world_lines.specs.Ended.{ended_of}
-use Rattle.world_lines.specs.Served.{bytes_in}
+use Rattle.call_steps.specs.declared.caller_calls.EndedCall.{EndedCall}
+use Rattle.call_steps.specs.CallerCalls.{ended_of}
+use Rattle.world_steps.specs.Served.{bytes_in}
 use Rattle.world_steps.specs.World.{DoingOf}
 use Rattle.actors.specs.Turns.{GoesOn}
 use Rattle.actors.specs.Callers.{PartOf, CallerOf, calls_of, asked_at}

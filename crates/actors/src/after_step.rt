@@ -6,7 +6,7 @@ ghost use Rattle.call_steps.specs.CallOf.{act_of};
 ghost use Rattle.call_steps.specs.Steps.{need_of};
 ghost use Rattle.call_machine.specs.Kinds.{machine_of};
 ghost use Rattle.call_machine.specs.Calls.{MachineOf};
-ghost use Rattle.world_lines.specs.Ended.{ended_of};
+ghost use Rattle.call_steps.specs.CallerCalls.{ended_of};
 ghost use Rattle.world_steps.specs.World.{DoingOf, ActorOf};
 ghost use Rattle.world_steps.specs.ActorAfter.{actor_after};
 ghost use Rattle.actors.specs.Turns.{GoesOn};
@@ -15,9 +15,8 @@ ghost use Rattle.actors.specs.Inside.{served_of};
 ghost use Rattle.actors.specs.Concluded.{IsConcluded};
 
 use call_machine::CallMachine;
-use call_steps::Need;
+use call_steps::{EndedCall, Need};
 use stripe_dir::Seat;
-use world_lines::EndedCall;
 
 /// Takes what stands there.
 pub(crate) fn take<T>(place: &mut Option<T>) -> T

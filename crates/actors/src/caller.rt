@@ -13,7 +13,7 @@ ghost use Rattle.call_steps.specs.CallOf.{taken_of};
 ghost use Rattle.call_steps.specs.Hearing.{IsToldHere, IsToldThere};
 ghost use Rattle.call_steps.specs.Steps.{need_of, HoldsItsPass, IsServerBelow, MayMakeNext};
 ghost use Rattle.client_patch.specs.Padded.{ArePadded};
-ghost use Rattle.world_lines.specs.Ended.{calling_at};
+ghost use Rattle.call_steps.specs.CallerCalls.{calling_at};
 ghost use Rattle.world_steps.specs.World.{steps_of};
 ghost use Rattle.world_steps.specs.Known.{calling_by, calling_of};
 ghost use Rattle.world_steps.specs.Tokens.{KeepsToken, token_of};
@@ -30,7 +30,9 @@ use crate::next_call::next_call;
 use crate::part::Part;
 use crate::steps::{on_coder, step_at_directory, step_at_server};
 use call_machine::CallMachine;
-use call_steps::{Act, DirectoryAnswer, Need, ServerAnswer};
+use call_steps::{
+    Act, CallerCalls, DirectoryAnswer, EndedCall, Need, ServerAnswer, Step, StepAnswer,
+};
 use chunk_server::Server;
 use clay_model::Coder;
 use std::alloc::{AllocError, Global};
@@ -38,9 +40,7 @@ use std::marker::Model;
 use std::snapshot::Snapshot;
 use std::thread::Threads;
 use stripe_dir::{Directory, Seat};
-use trace_lines::{Answer, Step};
 use version_seal::{Book, Opening};
-use world_lines::{CallerCalls, EndedCall};
 
 /// A client or a repairer of a store, with its calls that have ended and the one in work.
 pub struct Caller<'a> {
@@ -287,11 +287,11 @@ impl<'a> Caller<'a> {
         let answer = match self.need() {
             Need::Directory => {
                 let (_last, answer) = self.on_directory(directory, book);
-                Answer::Directory(answer)
+                StepAnswer::Directory(answer)
             }
             Need::Server(server) => {
                 let (_last, answer) = self.on_server(&mut servers[server as usize]);
-                Answer::Server(answer)
+                StepAnswer::Server(answer)
             }
             _ => unreachable!(),
         };

@@ -1,8 +1,8 @@
 -- How a call of any kind ends.
 use Rattle.std.specs.Prelude.{⊤, ℕ, Vec}
 use Rattle.std.specs.declared.alloc.Global.{Global}
-use Rattle.world_lines.specs.declared.outcome.CallOutcome.{CallOutcome}
-use Rattle.world_lines.specs.declared.outcome.CallOutcome.TheVariants as ended
+use Rattle.call_steps.specs.declared.outcome.CallOutcome.{CallOutcome}
+use Rattle.call_steps.specs.declared.outcome.CallOutcome.TheVariants as ended
 
 -- of bytes that are served, where some are
 abbrev pub IfBytesServed : CallOutcome → (Vec ℕ Global → Type 0) → Type 0

@@ -13,7 +13,7 @@ ghost use Rattle.call_steps.specs.CallOf.{act_of, taken_of, HasTakenNothing};
 ghost use Rattle.call_steps.specs.Hearing.{IsToldHere, IsToldThere};
 ghost use Rattle.call_steps.specs.Steps.{need_of, IsServerBelow, LeadsTo, LeadsToAtServer, coded, HoldsItsPass};
 ghost use Rattle.call_steps.specs.Steps.{IsDueInPass, MayMakeNext, IsUndueOncePlaced};
-ghost use Rattle.world_lines.specs.Outcomes.{call_outcome_of};
+ghost use Rattle.call_steps.specs.CallOutcomes.{call_outcome_of};
 ghost use Rattle.call_steps.specs.Callers.{IsOfScript};
 ghost use Rattle.client_patch.specs.Padded.{ArePadded};
 ghost use Rattle.call_machine.specs.Kinds.{Asked, client_machine, machine_of, IfReads, IfDraws, IfPuts, IfPatches, IfRebuilds, UnlessPatches};
@@ -21,7 +21,7 @@ ghost use Rattle.call_machine.specs.Calls.{first_call, drawn_by, owed_by, KnowsO
 ghost use Rattle.call_machine.specs.Ends.{IfBytesServed};
 
 use crate::ends::{of_client, of_rebuild};
-use call_steps::{Act, DirectoryAnswer, Need, ServerAnswer};
+use call_steps::{Act, CallOutcome, DirectoryAnswer, Need, ServerAnswer};
 use chunk_server::Server;
 use clay_model::Coder;
 use client_patch::PatchCall;
@@ -35,7 +35,6 @@ use std::thread::Threads;
 use store_map::{Actor, Call, Rebuild};
 use stripe_dir::{Directory, Seat};
 use version_seal::{Book, Opening};
-use world_lines::CallOutcome;
 
 // The machine of its kind.
 enum Kind<'a> {

@@ -1,12 +1,11 @@
 //! How a call of any kind ended, from how its machine says it.
 ghost use Rattle.std.specs.Prelude.{◌≡◌, ℕ, List};
 ghost use Rattle.call_steps.specs.Outcomes.{outcome_of, repair_outcome_of};
-ghost use Rattle.world_lines.specs.Outcomes.{call_outcome_of};
+ghost use Rattle.call_steps.specs.CallOutcomes.{call_outcome_of};
 ghost use Rattle.client_read.specs.Ends.{IfServed};
 ghost use Rattle.call_machine.specs.Ends.{IfBytesServed};
 
-use call_steps::{Outcome, RepairOutcome};
-use world_lines::CallOutcome;
+use call_steps::{CallOutcome, Outcome, RepairOutcome};
 
 /// The end of a client's call.
 pub(crate) fn of_client(outcome: Outcome) -> CallOutcome

@@ -7,3 +7,5 @@ pub mod Outcomes
 pub mod Acts
 pub mod Answers
 pub mod Hearing
+pub mod CallOutcomes
+pub mod CallerCalls

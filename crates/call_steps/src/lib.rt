@@ -5,13 +5,19 @@
 
 mod act;
 mod answer;
+mod caller_calls;
 pub mod laws;
 mod need;
+mod outcome;
 mod outcomes;
 mod seen;
+mod step;
 
 pub use act::{Act, DirectoryAct, ServerAct};
 pub use answer::{DirectoryAnswer, ReplyKind, ServerAnswer};
+pub use caller_calls::{CallerCalls, EndedCall};
 pub use need::Need;
+pub use outcome::CallOutcome;
 pub use outcomes::{Change, Outcome, RepairOutcome};
 pub use seen::Seen;
+pub use step::{Step, StepAnswer};

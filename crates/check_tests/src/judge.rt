@@ -4,10 +4,9 @@ use hist_tables::verdict_line;
 use script_text::read_script;
 use std::alloc::Global;
 use std::test::Fail;
-use store_map::Script;
+use store_map::{Script, Transcript};
 use text_tables::faults::{Around, joined, parts, same};
 use transcript_read::read_transcript;
-use transcript_text::Transcript;
 
 /// Two clients that put and read, one that writes, one repairer. Server 1 is emptied once.
 pub const SCRIPT: &[u8] = b"\

@@ -9,7 +9,7 @@ use Rattle.script_text.specs.Spelling.{spelling}
 use Rattle.script_text.proofs.OneReadingLaws.{one_front, no_front_fault}
 use Rattle.script_text.proofs.OneReadingLaws as script_laws
 use Rattle.transcript_text.specs.Text.{text_of}
-use Rattle.transcript_text.specs.declared.transcript.Transcript.{Transcript}
+use Rattle.store_map.specs.declared.transcript.Transcript.{Transcript}
 use Rattle.transcript_read.specs.Fault.{IsFault}
 use Rattle.transcript_read.specs.WellFormed.{IsWellFormed}
 use Rattle.transcript_read.proofs.StuckLaws.{no_fault, one_fault, one_transcript}

@@ -18,7 +18,7 @@ use Rattle.transcript_read.specs.declared.line.Line.TheVariants as line
 use Rattle.transcript_read.proofs.CoverLaws.{fault_within}
 use Rattle.transcript_read.proofs.OrderedListLaws.{lines_within}
 use Rattle.transcript_text.specs.Text.{text_of}
-use Rattle.transcript_text.specs.declared.transcript.Transcript.{Transcript}
+use Rattle.store_map.specs.declared.transcript.Transcript.{Transcript}
 use Rattle.hist_rules.specs.Verdict.{verdict_of}
 use Rattle.hist_rules.specs.VerdictText.{verdict_line}
 use Rattle.hist_rules.specs.declared.verdict.Verdict.TheVariants.{Legal}

@@ -5,7 +5,7 @@ use Rattle.script_text.specs.FirstFault.{Spelled, IsFault}
 use Rattle.line_grammar.specs.declared.fault.FaultKind.{FaultKind}
 use Rattle.line_grammar.specs.declared.fault.FaultKind.TheVariants as fault
 use Rattle.transcript_text.specs.Text.{text_of}
-use Rattle.transcript_text.specs.declared.transcript.Transcript.{Transcript}
+use Rattle.store_map.specs.declared.transcript.Transcript.{Transcript}
 
 -- the text is that of a transcript that some run of the script shows
 pub record IsTextOf (IsShown : Script → Transcript → Type 0) (script : Script) (text : List ℕ) : Type 0 where

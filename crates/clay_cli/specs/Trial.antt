@@ -1,7 +1,7 @@
 -- What `trial` prints.
 use Rattle.std.specs.Prelude.{◌≡◌, ℕ, ◌*◌, ◌/◌, List, ◌++◌, codes, decimal}
 use Rattle.clay_gen.specs.Script.{generated}
-use Rattle.transcript_text.specs.declared.transcript.Transcript.{Transcript}
+use Rattle.store_map.specs.declared.transcript.Transcript.{Transcript}
 use Rattle.store_run.specs.Swept.{IsRunToEnd}
 
 -- how many calls and rebuilds the script has, and that its run is legal

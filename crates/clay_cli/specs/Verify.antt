@@ -8,7 +8,7 @@ use Rattle.line_grammar.specs.declared.fault.FaultKind.{FaultKind}
 use Rattle.script_text.specs.FirstFault.{IsFrontFault}
 use Rattle.script_text.specs.Spelling.{spelling}
 use Rattle.transcript_text.specs.Text.{text_of}
-use Rattle.transcript_text.specs.declared.transcript.Transcript.{Transcript}
+use Rattle.store_map.specs.declared.transcript.Transcript.{Transcript}
 use Rattle.transcript_read.specs.Fault.{IsFault}
 use Rattle.transcript_read.specs.WellFormed.{IsWellFormed}
 use Rattle.hist_rules.specs.Verdict.{verdict_of}

@@ -16,9 +16,8 @@ use hist_tables::verdict_line;
 use line_grammar::FaultKind;
 use script_text::{ScriptFault, read_front};
 use std::alloc::{AllocError, Global};
-use store_map::Script;
+use store_map::{Script, Transcript};
 use transcript_read::{TextRest, take_transcript};
-use transcript_text::Transcript;
 
 // The number of whole lines.
 fn line_count(text: &[u8]) -> usize

@@ -13,9 +13,8 @@ use std::alloc::AllocError;
 use std::sync::Wait;
 use std::test::Fail;
 use std::thread::Threads;
-use store_map::Script;
+use store_map::{Script, Transcript};
 use store_world::World;
-use transcript_text::Transcript;
 use version_seal::{Book, Sealer};
 
 // Of a stripe whose chunk 0 is lost.

@@ -5,10 +5,10 @@ use Rattle.std.specs.Option.{option_or}
 use Rattle.std.specs.List.{flat_map, list_any}
 use Rattle.std.proofs.lemmas.List.{reverse-append}
 use Rattle.std.proofs.lemmas.List.Folds.{list_any-append}
-use Rattle.transcript_text.specs.declared.cause.Triple.{Triple}
+use Rattle.store_map.specs.declared.cause.Triple.{Triple}
 use Rattle.hist_rules.specs.MissingChunk.{names_server}
 use Rattle.store_map.specs.declared.script.Script.{Script}
-use Rattle.transcript_text.specs.declared.transcript.Transcript.{Transcript}
+use Rattle.store_map.specs.declared.transcript.Transcript.{Transcript}
 use Rattle.hist_rules.specs.LostChunks.{missing_of_cause, missing_of_result, chunks_lost, lost_chunks}
 use Rattle.hist_causes.specs.Lines.{refusal_for_loss, result_for_loss}
 use Rattle.hist_rules.specs.First.{unless, first_fault}

@@ -1,8 +1,8 @@
 -- The rule on lost chunks, line by line.
 use Rattle.std.specs.Prelude.{Option}
 use Rattle.store_map.specs.declared.script.Script.{Script}
-use Rattle.transcript_text.specs.declared.line.XLine.{XLine}
-use Rattle.transcript_text.specs.declared.line.RLine.{RLine}
+use Rattle.store_map.specs.declared.line.XLine.{XLine}
+use Rattle.store_map.specs.declared.line.RLine.{RLine}
 use Rattle.hist_rules.specs.declared.verdict.Verdict.{Verdict}
 use Rattle.hist_rules.specs.First.{first_fault}
 use Rattle.hist_rules.specs.LostChunks.{missing_of_cause, missing_of_result, chunks_lost}

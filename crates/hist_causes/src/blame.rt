@@ -9,7 +9,7 @@ ghost use Rattle.hist_causes.specs.Losses.{AreDowns};
 
 use hist_rules::Verdict;
 use hist_tables::OperatorCounts;
-use transcript_text::CallName;
+use store_map::CallName;
 
 /// The fault of a call's cause, unless a test of it holds.
 pub fn blame_unless(holds: bool, call: CallName, first: u64, second: u64) -> Option<Verdict>

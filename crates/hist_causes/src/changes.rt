@@ -4,8 +4,7 @@ ghost use Rattle.hist_rules.specs.PointsRise.{points_rise};
 ghost use Rattle.hist_rules.specs.Named.{is_effect, changes_name, is_change_line, is_change_point};
 
 use hist_tables::call_of;
-use store_map::{Call, Name, Reply, Script};
-use transcript_text::{HLine, Shown, Transcript};
+use store_map::{Call, HLine, Name, Reply, Script, Shown, Transcript};
 
 fn is_effect(shown: &Shown) -> bool
     ensures { result ≡ is_effect shown.now }

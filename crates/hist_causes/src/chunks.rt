@@ -1,7 +1,7 @@
 //! Whether a call can have been unavailable, by the servers that it names.
 ghost use Rattle.std.specs.Prelude.{◌≡◌, List, [], ◌∷◌, IfOk};
 ghost use Rattle.store_map.specs.declared.script.Script.{Script};
-ghost use Rattle.transcript_text.specs.declared.cause.Triple.{Triple};
+ghost use Rattle.store_map.specs.declared.cause.Triple.{Triple};
 ghost use Rattle.hist_rules.specs.First.{first_of, first_fault_along};
 ghost use Rattle.hist_rules.specs.MissingChunk.{names_server, distinct_servers, skip_fits, away_fits, lost_later, epoch_fits, chunk_missing};
 ghost use Rattle.hist_rules.specs.LostChunks.{asks_for_chunks, may_lack_chunks, chunks_lost};
@@ -11,8 +11,7 @@ use crate::blame::{blame_unless, downs_fit};
 use hist_rules::Verdict;
 use hist_tables::{OperatorCounts, call_of};
 use std::alloc::{AllocError, Global};
-use store_map::{Call, Found, Placement, Script};
-use transcript_text::{CallName, Triple};
+use store_map::{Call, CallName, Found, Placement, Script, Triple};
 
 /// How often the operator empties each server, and makes it away.
 #[derive(Drop)]

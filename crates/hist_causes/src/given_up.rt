@@ -7,8 +7,7 @@ use crate::blame::blame_unless;
 use hist_rules::Verdict;
 use hist_tables::{ActorTable, Reaps};
 use std::alloc::{AllocError, Global};
-use store_map::Script;
-use transcript_text::{CallName, Cause, RLine, RepairResult, Transcript, XLine};
+use store_map::{CallName, Cause, RLine, RepairResult, Script, Transcript, XLine};
 
 fn is_reaped_cause(cause: &Cause) -> bool
     ensures { result ≡ is_reaped_cause cause.now }

@@ -8,8 +8,7 @@ ghost use Rattle.hist_causes.specs.Lines.{refusal_for_loss, result_for_loss};
 use crate::chunks::{Losses, chunks_lost};
 use hist_rules::Verdict;
 use std::alloc::{AllocError, Global};
-use store_map::Script;
-use transcript_text::{Cause, RLine, RepairResult, Transcript, XLine};
+use store_map::{Cause, RLine, RepairResult, Script, Transcript, XLine};
 
 // Whether a client's call can have been unavailable, where its line says so.
 fn refusal_for_loss(script: &Script, losses: &Losses, line: &XLine) -> Option<Verdict>

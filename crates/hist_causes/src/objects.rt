@@ -1,7 +1,7 @@
 //! The rule on the objects at the end: they are the map's, in order of creation.
 ghost use Rattle.std.specs.Prelude.{◌≡◌, [], ◌∷◌, IfOk};
 ghost use Rattle.transcript_text.specs.Lines.{l_line};
-ghost use Rattle.transcript_text.specs.declared.line.LLine.{LLine};
+ghost use Rattle.store_map.specs.declared.line.LLine.{LLine};
 ghost use Rattle.hist_rules.specs.TailText.{without_end, nothing};
 ghost use Rattle.hist_rules.specs.ObjectsListed.{shown_object, shown_objects, first_difference};
 ghost use Rattle.hist_rules.specs.declared.verdict.TailKind.TheVariants.{Names};
@@ -10,8 +10,7 @@ ghost use Rattle.hist_rules.specs.declared.verdict.Verdict.TheVariants.{BadTail}
 use hist_rules::{TailKind, Verdict};
 use hist_tables::{nothing, object_line};
 use std::alloc::{AllocError, Global};
-use store_map::{Name, ObjectMap};
-use transcript_text::LLine;
+use store_map::{LLine, Name, ObjectMap};
 
 // Whether the line is the object's.
 fn object_fits(

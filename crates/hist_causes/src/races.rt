@@ -10,8 +10,7 @@ use crate::blame::blame_unless;
 use crate::changes::is_change_point;
 use hist_rules::Verdict;
 use hist_tables::call_of;
-use store_map::{Call, Name, Script};
-use transcript_text::{CallName, Cause, Transcript, XLine};
+use store_map::{Call, CallName, Cause, Name, Script, Transcript, XLine};
 
 // The name of the object that the call writes, where it is a write.
 fn name_written(script: &Script, call: CallName) -> Option<&Name>

@@ -10,8 +10,7 @@ use crate::changes::is_change_point;
 use hist_rules::Verdict;
 use hist_tables::{OperatorCounts, rebuild_of};
 use std::alloc::{AllocError, Global};
-use store_map::{Rebuild, Script};
-use transcript_text::{RLine, RepairResult, Transcript};
+use store_map::{RLine, Rebuild, RepairResult, Script, Transcript};
 
 // Whether a rebuild's result names its own object, stripe and server.
 fn result_named(

@@ -1,15 +1,14 @@
 //! The rule on the servers' lines at the end: each gave what all calls took of it, and was emptied
 //! as often as the schedule says.
 ghost use Rattle.std.specs.Prelude.{◌≡◌, ◌+◌, ◌<◌, ◌≤◌, ◌^◌, get_or, sum_by, IfOk};
-ghost use Rattle.transcript_text.specs.declared.line.GLine.{GLine};
+ghost use Rattle.store_map.specs.declared.line.GLine.{GLine};
 ghost use Rattle.hist_rules.specs.TakesAddUp.{server_adds_up, takes_add_up};
 ghost use Rattle.hist_causes.specs.Losses.{AreWipes};
 
 use hist_rules::{TailKind, Verdict};
 use hist_tables::{OperatorCounts, server_line};
 use std::alloc::{AllocError, Global};
-use store_map::Script;
-use transcript_text::{GLine, TLine, Transcript};
+use store_map::{GLine, Script, TLine, Transcript};
 
 // What the call took of a server.
 fn taken_by(line: &GLine, server: u32) -> u64

@@ -6,9 +6,9 @@ use Rattle.store_map.specs.History.{map_after}
 use Rattle.store_map.specs.Limits.{size_of}
 use Rattle.store_map.specs.PlainMap.{Objects, SizedMap}
 use Rattle.store_map.specs.declared.script.Script.{Script}
-use Rattle.transcript_text.specs.declared.line.HLine.{HLine}
-use Rattle.transcript_text.specs.declared.line.LLine.{LLine}
-use Rattle.transcript_text.specs.declared.transcript.Transcript.{Transcript}
+use Rattle.store_map.specs.declared.line.HLine.{HLine}
+use Rattle.store_map.specs.declared.line.LLine.{LLine}
+use Rattle.store_map.specs.declared.transcript.Transcript.{Transcript}
 use Rattle.hist_rules.specs.declared.verdict.Verdict.{Verdict}
 use Rattle.hist_rules.specs.First.{first_of}
 use Rattle.hist_rules.specs.CallsExist.{calls_exist}

@@ -3,13 +3,13 @@ use Rattle.std.proofs.Common.{◌≡◌, List, [], ◌∷◌, ◌++◌, map, ref
 use Rattle.std.specs.Prelude.{Option}
 use Rattle.std.specs.Option.{option_or}
 use Rattle.store_map.specs.declared.script.Script.{Script}
-use Rattle.transcript_text.specs.declared.call_name.CallName.{CallName}
-use Rattle.transcript_text.specs.declared.line.HLine.{HLine}
-use Rattle.transcript_text.specs.declared.line.XLine.{XLine}
-use Rattle.transcript_text.specs.declared.line.RLine.{RLine}
-use Rattle.transcript_text.specs.declared.line.OLine.{OLine}
-use Rattle.transcript_text.specs.declared.line.GLine.{GLine}
-use Rattle.transcript_text.specs.declared.transcript.Transcript.{Transcript}
+use Rattle.store_map.specs.declared.call_name.CallName.{CallName}
+use Rattle.store_map.specs.declared.line.HLine.{HLine}
+use Rattle.store_map.specs.declared.line.XLine.{XLine}
+use Rattle.store_map.specs.declared.line.RLine.{RLine}
+use Rattle.store_map.specs.declared.line.OLine.{OLine}
+use Rattle.store_map.specs.declared.line.GLine.{GLine}
+use Rattle.store_map.specs.declared.transcript.Transcript.{Transcript}
 use Rattle.hist_rules.specs.First.{first_fault}
 use Rattle.hist_rules.specs.CallsExist.{call_exists, calls_exist}
 use Rattle.hist_rules.specs.declared.verdict.Verdict.{Verdict}

@@ -3,8 +3,8 @@ use Rattle.std.proofs.Common.{◌≡◌, ℕ, ◌+◌, ◌<◌, Bool, true, fals
 use Rattle.std.specs.Prelude.{Option, Some, cond, reverse, find}
 use Rattle.std.specs.Option.{option_map}
 use Rattle.std.specs.List.{slice_get}
-use Rattle.transcript_text.specs.declared.call_name.CallName.{CallName}
-use Rattle.transcript_text.specs.declared.line.HLine.{HLine}
+use Rattle.store_map.specs.declared.call_name.CallName.{CallName}
+use Rattle.store_map.specs.declared.line.HLine.{HLine}
 use Rattle.hist_rules.specs.Calls.{number_of, same_actor}
 use Rattle.hist_tables.specs.Tables.{value_at}
 use Rattle.hist_tables.specs.declared.actor_table.ActorTable.{ActorTable}

@@ -2,8 +2,8 @@
 use Rattle.std.proofs.Common.{◌≡◌, ℕ, ◌<◌, ◌≤◌, ◌⊎◌, Bool, true, false, List, refl, sym, ap, ◌∙◌, arith, inl, inr, subst}
 use Rattle.std.specs.Prelude.{Option, None, Some, IfSome, cond, unwrap_or}
 use Rattle.std.proofs.lemmas.Bool.{cases_lt, eqb-true, false_from_ne_true}
-use Rattle.transcript_text.specs.declared.call_name.CallName.{CallName}
-use Rattle.transcript_text.specs.declared.call_name.CallName.TheVariants.{Client, Repairer}
+use Rattle.store_map.specs.declared.call_name.CallName.{CallName}
+use Rattle.store_map.specs.declared.call_name.CallName.TheVariants.{Client, Repairer}
 use Rattle.hist_rules.specs.Calls.{with_number, same_actor, is_named}
 use Rattle.hist_rules.specs.CallsInOrder.{all_below}
 use Rattle.hist_tables.specs.Tables.{value_at, has, IsSetOf}

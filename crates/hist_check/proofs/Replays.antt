@@ -7,7 +7,7 @@ use Rattle.store_map.specs.History.{replies_from}
 use Rattle.store_map.specs.PlainMap.{Objects}
 use Rattle.store_map.specs.declared.call.Call.{Call}
 use Rattle.store_map.specs.declared.script.Script.{Script}
-use Rattle.transcript_text.specs.declared.line.HLine.{HLine}
+use Rattle.store_map.specs.declared.line.HLine.{HLine}
 use Rattle.hist_rules.specs.First.{first_fault}
 use Rattle.hist_rules.specs.RepliesMatch.{reply_matches, calls_in}
 use Rattle.hist_rules.specs.declared.verdict.Verdict.{Verdict}

@@ -1,6 +1,6 @@
 -- How far each actor's calls are known to be answered.
 use Rattle.std.specs.Prelude.{◌≡◌, true, List, IfSome}
-use Rattle.transcript_text.specs.declared.call_name.CallName.{CallName}
+use Rattle.store_map.specs.declared.call_name.CallName.{CallName}
 use Rattle.hist_rules.specs.Calls.{is_named, with_number}
 use Rattle.hist_rules.specs.CallsInOrder.{all_below}
 use Rattle.hist_tables.specs.declared.actor_table.ActorTable.{ActorTable}

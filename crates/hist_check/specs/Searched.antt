@@ -1,7 +1,7 @@
 -- What a search for an answer out of order shows of some calls, before the rest.
 use Rattle.std.specs.Prelude.{◌≡◌, List, ◌++◌, Option, None, Some}
 use Rattle.std.specs.Option.{option_or}
-use Rattle.transcript_text.specs.declared.call_name.CallName.{CallName}
+use Rattle.store_map.specs.declared.call_name.CallName.{CallName}
 use Rattle.hist_rules.specs.First.{first_fault_after}
 use Rattle.hist_rules.specs.CallsInOrder.{follows_answered, is_first_answer}
 use Rattle.hist_rules.specs.declared.verdict.Verdict.{Verdict}

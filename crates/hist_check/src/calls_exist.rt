@@ -5,8 +5,7 @@ ghost use Rattle.hist_rules.specs.CallsExist.{call_exists, calls_exist};
 
 use hist_rules::Verdict;
 use hist_tables::{NamesCall, count_calls, number_of};
-use store_map::Script;
-use transcript_text::{CallName, Transcript};
+use store_map::{CallName, Script, Transcript};
 
 fn call_exists(script: &Script, call: CallName) -> Option<Verdict>
     ensures { result ≡ call_exists script.now call }

@@ -5,7 +5,7 @@ ghost use Rattle.hist_rules.specs.Named.{answered_calls};
 ghost use Rattle.hist_tables.specs.Tables.{IsSetOf};
 
 use hist_tables::{CallSet, count_answers, with_number};
-use transcript_text::{CallName, Transcript};
+use store_map::{CallName, Transcript};
 
 /// The least number of the call's actor that isn't among the answered calls, of which the set is made.
 pub fn least_missing(transcript: &Transcript, set: &CallSet, call: CallName) -> u64

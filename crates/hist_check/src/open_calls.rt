@@ -6,8 +6,8 @@ ghost use Rattle.hist_rules.specs.Calls.{number_of, same_actor};
 ghost use Rattle.hist_rules.specs.First.{first_fault, first_fault_along};
 ghost use Rattle.hist_rules.specs.Named.{answered_calls};
 ghost use Rattle.hist_rules.specs.OneOpenCall.{is_unanswered, is_only_one, is_next_call, one_open_call};
-ghost use Rattle.transcript_text.specs.declared.call_name.CallName.{CallName};
-ghost use Rattle.transcript_text.specs.declared.transcript.Transcript.{Transcript};
+ghost use Rattle.store_map.specs.declared.call_name.CallName.{CallName};
+ghost use Rattle.store_map.specs.declared.transcript.Transcript.{Transcript};
 ghost use Rattle.hist_tables.specs.Tables.{has, IsSetOf};
 ghost use Rattle.hist_check.specs.Reached.{AreReached};
 
@@ -16,8 +16,7 @@ use crate::order::follows;
 use hist_rules::Verdict;
 use hist_tables::{ActorTable, CallSet, count_calls, number_of, unanswered_calls};
 use std::alloc::{AllocError, Global};
-use store_map::Script;
-use transcript_text::{CallName, HLine, Shown, Transcript};
+use store_map::{CallName, HLine, Script, Shown, Transcript};
 
 // Whether a line without a reply has its call among those without a reply.
 fn is_unanswered(script: &Script, unanswered: &CallSet, line: &HLine) -> Option<Verdict>

@@ -4,7 +4,7 @@ ghost use Rattle.std.specs.Prelude.{◌≡◌, ◌<◌, ◌≤◌, ◌^◌, ◌�
 ghost use Rattle.hist_rules.specs.Calls.{with_number, number_of, is_named};
 ghost use Rattle.hist_rules.specs.CallsInOrder.{follows, follows_answered, is_first_answer, calls_in_order};
 ghost use Rattle.hist_rules.specs.Named.{answered_calls};
-ghost use Rattle.transcript_text.specs.declared.call_name.CallName.{CallName};
+ghost use Rattle.store_map.specs.declared.call_name.CallName.{CallName};
 ghost use Rattle.hist_tables.specs.Tables.{has, IsSetOf};
 ghost use Rattle.hist_check.specs.Reached.{AreReached};
 ghost use Rattle.hist_check.specs.Searched.{IsSearched};
@@ -13,7 +13,7 @@ use crate::least_missing::least_missing;
 use hist_rules::Verdict;
 use hist_tables::{ActorTable, CallSet, NamesCall, number_of, with_number};
 use std::alloc::{AllocError, Global};
-use transcript_text::{CallName, Transcript};
+use store_map::{CallName, Transcript};
 
 // Whether the set has the calls of the call's actor from a number up to another.
 fn has_between(set: &CallSet, call: CallName, from: u64, to: u32) -> bool

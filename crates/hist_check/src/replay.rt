@@ -9,8 +9,7 @@ use crate::replies::{copy_shown, shows_reply};
 use hist_rules::Verdict;
 use hist_tables::call_of;
 use std::alloc::AllocError;
-use store_map::{ObjectMap, Reply, Script};
-use transcript_text::HLine;
+use store_map::{HLine, ObjectMap, Reply, Script};
 
 // Whether the line shows the map's reply.
 fn reply_matches(script: &Script, line: &HLine, reply: Reply) -> Result<Option<Verdict>, AllocError>

@@ -5,8 +5,7 @@ ghost use Rattle.hist_rules.specs.RepliesMatch.{same_reply, is_put_or_write, sho
 ghost use Rattle.hist_rules.specs.Named.{is_ok};
 
 use std::alloc::AllocError;
-use store_map::{Call, Reply};
-use transcript_text::Shown;
+use store_map::{Call, Reply, Shown};
 
 // Whether two replies are the same.
 fn same_reply(one: &Reply, other: &Reply) -> bool

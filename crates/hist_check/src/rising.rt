@@ -5,12 +5,12 @@ ghost use Rattle.std.specs.List.{slice_get};
 ghost use Rattle.hist_rules.specs.First.{first_fault_along};
 ghost use Rattle.hist_rules.specs.Calls.{number_of, same_actor};
 ghost use Rattle.hist_rules.specs.PointsRise.{line_rises};
-ghost use Rattle.transcript_text.specs.declared.line.HLine.{HLine};
+ghost use Rattle.store_map.specs.declared.line.HLine.{HLine};
 
 use hist_rules::Verdict;
 use hist_tables::{ActorTable, number_of};
 use std::alloc::{AllocError, Global};
-use transcript_text::HLine;
+use store_map::HLine;
 
 // Whether a line's point is above the point before, and its number above its client's number
 // before.

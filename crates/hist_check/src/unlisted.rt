@@ -4,12 +4,12 @@ ghost use Rattle.hist_rules.specs.First.{first_fault};
 ghost use Rattle.hist_rules.specs.Named.{listed_calls};
 ghost use Rattle.hist_rules.specs.TakesHaveCalls.{has_call, takes_have_calls};
 ghost use Rattle.hist_tables.specs.Tables.{IsSetOf};
-ghost use Rattle.transcript_text.specs.declared.transcript.Transcript.{Transcript};
+ghost use Rattle.store_map.specs.declared.transcript.Transcript.{Transcript};
 
 use hist_rules::{TailKind, Verdict};
 use hist_tables::{CallSet, call_line, nothing};
 use std::alloc::{AllocError, Global};
-use transcript_text::{CallName, GLine, Transcript};
+use store_map::{CallName, GLine, Transcript};
 
 // Whether a line says what became of a call that took subchunks.
 fn has_call(alloc: Global, listed: &CallSet, call: CallName) -> Result<Option<Verdict>, AllocError>

@@ -31,8 +31,7 @@ use hist_causes::{
 use hist_rules::Verdict;
 use hist_tables::CallSet;
 use std::alloc::{AllocError, Global};
-use store_map::{ObjectMap, Script};
-use transcript_text::Transcript;
+use store_map::{ObjectMap, Script, Transcript};
 
 // The first call that isn't the script's, or else the first line that is too low.
 fn find_wrong_line(

@@ -1,7 +1,7 @@
 -- Lines of calls that the script hasn't, or that stand out of order.
 use Rattle.std.specs.Prelude.{[], ◌∷◌, ◌++◌, codes}
 use Rattle.store_map.specs.declared.reply.Reply.TheVariants as reply
-use Rattle.transcript_text.specs.declared.call_name.CallName.TheVariants as name
+use Rattle.store_map.specs.declared.call_name.CallName.TheVariants as name
 use Rattle.store_rows.specs.RowLines.{replied, took}
 use Rattle.store_rows.specs.RowsCalls.{put_then_get}
 use Rattle.hist_rules.specs.declared.verdict.Verdict.TheVariants.{Misplaced}

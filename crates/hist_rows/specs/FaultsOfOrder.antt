@@ -1,8 +1,8 @@
 -- Answers that are left out, or come twice.
 use Rattle.std.specs.Prelude.{[], ◌∷◌, codes}
 use Rattle.store_map.specs.declared.reply.Reply.TheVariants as reply
-use Rattle.transcript_text.specs.declared.call_name.CallName.TheVariants as name
-use Rattle.transcript_text.specs.declared.cause.Cause.TheVariants as cause
+use Rattle.store_map.specs.declared.call_name.CallName.TheVariants as name
+use Rattle.store_map.specs.declared.cause.Cause.TheVariants as cause
 use Rattle.store_rows.specs.RowLines.{replied, refused, unanswered}
 use Rattle.store_rows.specs.RowsCalls.{put_then_get}
 use Rattle.store_rows.specs.RowsGivenUp.{left_after_commit}

@@ -1,7 +1,7 @@
 -- Races that weren't lost.
 use Rattle.std.specs.Prelude.{[], ◌∷◌, codes}
-use Rattle.transcript_text.specs.declared.call_name.CallName.TheVariants as name
-use Rattle.transcript_text.specs.declared.cause.Cause.TheVariants as cause
+use Rattle.store_map.specs.declared.call_name.CallName.TheVariants as name
+use Rattle.store_map.specs.declared.cause.Cause.TheVariants as cause
 use Rattle.store_rows.specs.RowLines.{refused}
 use Rattle.store_rows.specs.RowsRaces.{lost_race, race_tried_again}
 use Rattle.hist_rules.specs.declared.verdict.Verdict.TheVariants.{BadCause}

@@ -1,9 +1,9 @@
 -- Refusals whose cause can't be: missing chunks, and servers that were away.
 use Rattle.std.specs.Prelude.{[], ◌∷◌, List, codes}
-use Rattle.transcript_text.specs.declared.call_name.CallName.TheVariants as name
-use Rattle.transcript_text.specs.declared.cause.Triple.{Triple}
-use Rattle.transcript_text.specs.declared.cause.Cause.TheVariants as cause
-use Rattle.transcript_text.specs.declared.transcript.Transcript.{Transcript}
+use Rattle.store_map.specs.declared.call_name.CallName.TheVariants as name
+use Rattle.store_map.specs.declared.cause.Triple.{Triple}
+use Rattle.store_map.specs.declared.cause.Cause.TheVariants as cause
+use Rattle.store_map.specs.declared.transcript.Transcript.{Transcript}
 use Rattle.store_rows.specs.RowLines.{refused, triple}
 use Rattle.store_rows.specs.RowsManyLosses.{read_after_three_losses}
 use Rattle.hist_rules.specs.declared.verdict.Verdict.TheVariants.{BadCause}

@@ -1,8 +1,8 @@
 -- Replies and objects that aren't the plain map's.
 use Rattle.std.specs.Prelude.{[], ◌∷◌, ◌++◌, codes}
 use Rattle.store_map.specs.declared.reply.Reply.TheVariants as reply
-use Rattle.transcript_text.specs.declared.call_name.CallName.TheVariants as name
-use Rattle.transcript_text.specs.declared.shown.Shown.TheVariants as shown
+use Rattle.store_map.specs.declared.call_name.CallName.TheVariants as name
+use Rattle.store_map.specs.declared.shown.Shown.TheVariants as shown
 use Rattle.store_rows.specs.RowLines.{replied, unfinished, listed}
 use Rattle.store_rows.specs.RowsCalls.{put_then_get}
 use Rattle.hist_rules.specs.declared.verdict.TailKind.TheVariants.{Names}

@@ -1,9 +1,9 @@
 -- Calls that nobody gave up, results of rebuilds that name something else, and servers that were never away.
 use Rattle.std.specs.Prelude.{[], ◌∷◌, codes}
 use Rattle.store_map.specs.declared.actor.Token.TheVariants as token
-use Rattle.transcript_text.specs.declared.call_name.CallName.TheVariants as name
-use Rattle.transcript_text.specs.declared.cause.Cause.TheVariants as cause
-use Rattle.transcript_text.specs.declared.cause.RepairResult.TheVariants as result
+use Rattle.store_map.specs.declared.call_name.CallName.TheVariants as name
+use Rattle.store_map.specs.declared.cause.Cause.TheVariants as cause
+use Rattle.store_map.specs.declared.cause.RepairResult.TheVariants as result
 use Rattle.store_rows.specs.RowLines.{refused, repaired, triple, away}
 use Rattle.store_rows.specs.RowsCalls.{put_then_get}
 use Rattle.store_rows.specs.RowsGivenUp.{reaped_before_commit}

@@ -1,7 +1,7 @@
 -- Takes that no line tells of, and servers whose lines don't add up.
 use Rattle.std.specs.Prelude.{[], ◌∷◌, codes}
 use Rattle.store_map.specs.declared.reply.Reply.TheVariants as reply
-use Rattle.transcript_text.specs.declared.call_name.CallName.TheVariants as name
+use Rattle.store_map.specs.declared.call_name.CallName.TheVariants as name
 use Rattle.store_rows.specs.RowLines.{replied, server}
 use Rattle.store_rows.specs.RowsCalls.{put_then_get}
 use Rattle.store_rows.specs.RowsRebuilds.{superseded_rebuild}

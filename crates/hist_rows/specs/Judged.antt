@@ -1,7 +1,7 @@
 -- What is computed of a script and a transcript: the verdict, and its printed line.
 use Rattle.std.specs.Prelude.{◌≡◌, ℕ, List}
 use Rattle.store_map.specs.declared.script.Script.{Script}
-use Rattle.transcript_text.specs.declared.transcript.Transcript.{Transcript}
+use Rattle.store_map.specs.declared.transcript.Transcript.{Transcript}
 use Rattle.store_rows.specs.Rows.{Row}
 use Rattle.hist_rules.specs.declared.verdict.Verdict.{Verdict}
 use Rattle.hist_rules.specs.IsHistory.{IsHistory}

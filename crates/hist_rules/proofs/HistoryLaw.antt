@@ -1,7 +1,7 @@
 -- A transcript is legal exactly where it is a history.
 use Rattle.std.proofs.Common.{◌≡◌, ◌↔◌}
 use Rattle.store_map.specs.declared.script.Script.{Script}
-use Rattle.transcript_text.specs.declared.transcript.Transcript.{Transcript}
+use Rattle.store_map.specs.declared.transcript.Transcript.{Transcript}
 use Rattle.hist_rules.specs.declared.verdict.Verdict.TheVariants.{Legal}
 use Rattle.hist_rules.specs.Verdict.{fault_of, verdict_of}
 use Rattle.hist_rules.specs.IsHistory.{IsHistory}

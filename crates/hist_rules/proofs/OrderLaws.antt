@@ -4,11 +4,11 @@ use Rattle.std.specs.Option.{option_or}
 use Rattle.std.proofs.lemmas.Bool.Decides.{Decides-ltb, Decides-and, Decides-not}
 use Rattle.std.proofs.lemmas.List.Elements.{All-nil, All-cons, All-head, All-tail}
 use Rattle.store_map.specs.declared.script.Script.{Script}
-use Rattle.transcript_text.specs.declared.call_name.CallName.{CallName}
-use Rattle.transcript_text.specs.declared.shown.Shown.{Shown}
-use Rattle.transcript_text.specs.declared.shown.Shown.TheVariants.{Reply as Replied, Unfinished}
-use Rattle.transcript_text.specs.declared.line.HLine.{HLine}
-use Rattle.transcript_text.specs.declared.transcript.Transcript.{Transcript}
+use Rattle.store_map.specs.declared.call_name.CallName.{CallName}
+use Rattle.store_map.specs.declared.shown.Shown.{Shown}
+use Rattle.store_map.specs.declared.shown.Shown.TheVariants.{Reply as Replied, Unfinished}
+use Rattle.store_map.specs.declared.line.HLine.{HLine}
+use Rattle.store_map.specs.declared.transcript.Transcript.{Transcript}
 use Rattle.hist_rules.specs.First.{AllAlong, first_fault, first_fault_along}
 use Rattle.hist_rules.specs.Calls.{number_of, same_actor, is_named, calls_of}
 use Rattle.hist_rules.specs.Named.{listed_calls, answered_calls, is_reply}

@@ -12,10 +12,10 @@ use Rattle.store_map.specs.declared.call.Call.{Call}
 use Rattle.store_map.specs.declared.reply.Reply.{Reply}
 use Rattle.store_map.specs.declared.reply.Reply.TheVariants.{Done, Bytes, Length, NoSuch, OutRange, TooLarge}
 use Rattle.store_map.specs.declared.script.Script.{Script}
-use Rattle.transcript_text.specs.declared.shown.Shown.{Shown}
-use Rattle.transcript_text.specs.declared.shown.Shown.TheVariants.{Reply as Replied, Unfinished}
-use Rattle.transcript_text.specs.declared.line.LLine.{LLine}
-use Rattle.transcript_text.specs.declared.transcript.Transcript.{Transcript}
+use Rattle.store_map.specs.declared.shown.Shown.{Shown}
+use Rattle.store_map.specs.declared.shown.Shown.TheVariants.{Reply as Replied, Unfinished}
+use Rattle.store_map.specs.declared.line.LLine.{LLine}
+use Rattle.store_map.specs.declared.transcript.Transcript.{Transcript}
 use Rattle.transcript_text.specs.Lines.{l_line}
 use Rattle.hist_rules.specs.declared.verdict.TailKind.TheVariants.{Names}
 use Rattle.hist_rules.specs.declared.verdict.Verdict.{Verdict}

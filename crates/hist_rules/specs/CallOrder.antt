@@ -1,10 +1,10 @@
 -- The order of calls: each line's call is there, in its actor's order, answered at most once, and at most the next one has no reply.
 use Rattle.std.specs.Prelude.{ℕ, ◌≡◌, ◌<◌, List, map, ◌++◌, slice_get, All, Contains, IsFalse, IfSome, find}
 use Rattle.store_map.specs.declared.script.Script.{Script}
-use Rattle.transcript_text.specs.declared.call_name.CallName.{CallName}
-use Rattle.transcript_text.specs.declared.shown.Shown.TheVariants.{Unfinished}
-use Rattle.transcript_text.specs.declared.line.HLine.{HLine}
-use Rattle.transcript_text.specs.declared.transcript.Transcript.{Transcript}
+use Rattle.store_map.specs.declared.call_name.CallName.{CallName}
+use Rattle.store_map.specs.declared.shown.Shown.TheVariants.{Unfinished}
+use Rattle.store_map.specs.declared.line.HLine.{HLine}
+use Rattle.store_map.specs.declared.transcript.Transcript.{Transcript}
 use Rattle.hist_rules.specs.First.{AllAlong}
 use Rattle.hist_rules.specs.Calls.{number_of, with_number, same_actor, calls_of}
 use Rattle.hist_rules.specs.Named.{listed_calls, answered_calls}

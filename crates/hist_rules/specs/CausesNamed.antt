@@ -2,10 +2,10 @@
 use Rattle.std.specs.Prelude.{nat_eq, Option, None, option_and_then}
 use Rattle.store_map.specs.declared.call.Rebuild.{Rebuild}
 use Rattle.store_map.specs.declared.script.Script.{Script}
-use Rattle.transcript_text.specs.declared.call_name.CallName.{CallName}
-use Rattle.transcript_text.specs.declared.cause.RepairResult.{RepairResult}
-use Rattle.transcript_text.specs.declared.cause.RepairResult.TheVariants as result
-use Rattle.transcript_text.specs.declared.transcript.Transcript.{Transcript}
+use Rattle.store_map.specs.declared.call_name.CallName.{CallName}
+use Rattle.store_map.specs.declared.cause.RepairResult.{RepairResult}
+use Rattle.store_map.specs.declared.cause.RepairResult.TheVariants as result
+use Rattle.store_map.specs.declared.transcript.Transcript.{Transcript}
 use Rattle.hist_rules.specs.declared.verdict.Verdict.{Verdict}
 use Rattle.hist_rules.specs.declared.verdict.Verdict.TheVariants.{BadCause}
 use Rattle.hist_rules.specs.First.{unless, first_fault}

@@ -1,8 +1,8 @@
 -- A transcript in which every call came to its end.
 use Rattle.std.specs.Prelude.{ℕ, ◌-◌, ◌<◌, List, length, Option, None, Some, slice_get, IfSome, Contains}
 use Rattle.store_map.specs.declared.script.Script.{Script}
-use Rattle.transcript_text.specs.declared.call_name.CallName.TheVariants.{Client, Repairer}
-use Rattle.transcript_text.specs.declared.transcript.Transcript.{Transcript}
+use Rattle.store_map.specs.declared.call_name.CallName.TheVariants.{Client, Repairer}
+use Rattle.store_map.specs.declared.transcript.Transcript.{Transcript}
 use Rattle.hist_rules.specs.Named.{answered_calls}
 
 -- how many of an actor's calls are never left before they end: all, or all but the last

@@ -6,9 +6,9 @@ use Rattle.store_map.specs.declared.placement.Placement.TheVariants.{At, Skipped
 use Rattle.store_map.specs.declared.placement.Found.{Found}
 use Rattle.store_map.specs.declared.placement.Found.TheVariants.{Absent, Away}
 use Rattle.store_map.specs.declared.script.Script.{Script}
-use Rattle.transcript_text.specs.declared.call_name.CallName.{CallName}
-use Rattle.transcript_text.specs.declared.cause.Triple.{Triple}
-use Rattle.transcript_text.specs.declared.transcript.Transcript.{Transcript}
+use Rattle.store_map.specs.declared.call_name.CallName.{CallName}
+use Rattle.store_map.specs.declared.cause.Triple.{Triple}
+use Rattle.store_map.specs.declared.transcript.Transcript.{Transcript}
 use Rattle.hist_rules.specs.First.{AllAlong}
 use Rattle.hist_rules.specs.Counts.{wipes, downs}
 use Rattle.hist_rules.specs.LostChunks.{may_lack_chunks, unavailable_calls}

@@ -3,12 +3,12 @@ use Rattle.std.specs.Prelude.{◌≡◌, ℕ, ◌+◌, ◌<◌, ◌≤◌, List,
 use Rattle.store_map.specs.Limits.{tries_of}
 use Rattle.store_map.specs.declared.call.Rebuild.{Rebuild}
 use Rattle.store_map.specs.declared.script.Script.{Script}
-use Rattle.transcript_text.specs.declared.call_name.CallName.{CallName}
-use Rattle.transcript_text.specs.declared.cause.Cause.{Cause}
-use Rattle.transcript_text.specs.declared.cause.Cause.TheVariants as cause
-use Rattle.transcript_text.specs.declared.cause.RepairResult.{RepairResult}
-use Rattle.transcript_text.specs.declared.cause.RepairResult.TheVariants as result
-use Rattle.transcript_text.specs.declared.transcript.Transcript.{Transcript}
+use Rattle.store_map.specs.declared.call_name.CallName.{CallName}
+use Rattle.store_map.specs.declared.cause.Cause.{Cause}
+use Rattle.store_map.specs.declared.cause.Cause.TheVariants as cause
+use Rattle.store_map.specs.declared.cause.RepairResult.{RepairResult}
+use Rattle.store_map.specs.declared.cause.RepairResult.TheVariants as result
+use Rattle.store_map.specs.declared.transcript.Transcript.{Transcript}
 use Rattle.hist_rules.specs.First.{AllAlong}
 use Rattle.hist_rules.specs.Calls.{call_of, rebuild_of, same_actor}
 use Rattle.hist_rules.specs.Counts.{reaps}

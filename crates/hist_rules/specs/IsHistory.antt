@@ -1,8 +1,8 @@
 -- A transcript that can be that of a run of the script: one history of a plain map, with causes for what was refused.
 use Rattle.std.specs.Prelude.{◌≡◌, All}
 use Rattle.store_map.specs.declared.script.Script.{Script}
-use Rattle.transcript_text.specs.declared.line.TLine.{TLine}
-use Rattle.transcript_text.specs.declared.transcript.Transcript.{Transcript}
+use Rattle.store_map.specs.declared.line.TLine.{TLine}
+use Rattle.store_map.specs.declared.transcript.Transcript.{Transcript}
 use Rattle.hist_rules.specs.Counts.{wipes}
 use Rattle.hist_rules.specs.TakesAddUp.{taken_of}
 use Rattle.hist_rules.specs.CallOrder.{KeepsCallOrder}

@@ -5,10 +5,10 @@ use Rattle.store_map.specs.Limits.{tries_of}
 use Rattle.store_map.specs.declared.call.Call.{Call}
 use Rattle.store_map.specs.declared.call.Call.TheVariants.{Write}
 use Rattle.store_map.specs.declared.script.Script.{Script}
-use Rattle.transcript_text.specs.declared.call_name.CallName.{CallName}
-use Rattle.transcript_text.specs.declared.cause.Cause.{Cause}
-use Rattle.transcript_text.specs.declared.cause.Cause.TheVariants as cause
-use Rattle.transcript_text.specs.declared.transcript.Transcript.{Transcript}
+use Rattle.store_map.specs.declared.call_name.CallName.{CallName}
+use Rattle.store_map.specs.declared.cause.Cause.{Cause}
+use Rattle.store_map.specs.declared.cause.Cause.TheVariants as cause
+use Rattle.store_map.specs.declared.transcript.Transcript.{Transcript}
 use Rattle.hist_rules.specs.declared.verdict.Verdict.{Verdict}
 use Rattle.hist_rules.specs.declared.verdict.Verdict.TheVariants.{BadCause}
 use Rattle.hist_rules.specs.First.{unless, first_of, first_fault, first_fault_along}

@@ -8,9 +8,9 @@ use Rattle.store_map.specs.declared.call.Call.{Call}
 use Rattle.store_map.specs.declared.reply.Reply.{Reply}
 use Rattle.store_map.specs.declared.reply.Reply.TheVariants.{Done}
 use Rattle.store_map.specs.declared.script.Script.{Script}
-use Rattle.transcript_text.specs.declared.shown.Shown.{Shown}
-use Rattle.transcript_text.specs.declared.shown.Shown.TheVariants.{Reply as Replied, Unfinished}
-use Rattle.transcript_text.specs.declared.transcript.Transcript.{Transcript}
+use Rattle.store_map.specs.declared.shown.Shown.{Shown}
+use Rattle.store_map.specs.declared.shown.Shown.TheVariants.{Reply as Replied, Unfinished}
+use Rattle.store_map.specs.declared.transcript.Transcript.{Transcript}
 use Rattle.hist_rules.specs.Calls.{call_of}
 use Rattle.hist_rules.specs.RepliesMatch.{is_put_or_write, history_calls}
 use Rattle.hist_rules.specs.ObjectsListed.{map_lines}

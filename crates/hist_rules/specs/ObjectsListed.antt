@@ -4,8 +4,8 @@ use Rattle.store_map.specs.History.{map_after}
 use Rattle.store_map.specs.Limits.{size_of}
 use Rattle.store_map.specs.PlainMap.{Objects}
 use Rattle.store_map.specs.declared.script.Script.{Script}
-use Rattle.transcript_text.specs.declared.line.LLine.{LLine}
-use Rattle.transcript_text.specs.declared.transcript.Transcript.{Transcript}
+use Rattle.store_map.specs.declared.line.LLine.{LLine}
+use Rattle.store_map.specs.declared.transcript.Transcript.{Transcript}
 use Rattle.transcript_text.specs.Lines.{l_line}
 use Rattle.hist_rules.specs.declared.verdict.TailKind.TheVariants.{Names}
 use Rattle.hist_rules.specs.declared.verdict.Verdict.{Verdict}

@@ -1,6 +1,6 @@
 -- What the order of a history says of any two lines, near or far.
 use Rattle.std.specs.Prelude.{◌≡◌, ◌≢◌, true, false, ◌<◌, AllPairs}
-use Rattle.transcript_text.specs.declared.transcript.Transcript.{Transcript}
+use Rattle.store_map.specs.declared.transcript.Transcript.{Transcript}
 use Rattle.hist_rules.specs.Calls.{number_of, same_actor}
 use Rattle.hist_rules.specs.Named.{answered_calls}
 use Rattle.hist_rules.specs.OneOpenCall.{unanswered_calls}

@@ -2,8 +2,8 @@
 use Rattle.std.specs.Prelude.{nat_lt, List, Option, None, Some, find}
 use Rattle.std.specs.Option.{option_or}
 use Rattle.std.specs.List.{slice_get}
-use Rattle.transcript_text.specs.declared.line.HLine.{HLine}
-use Rattle.transcript_text.specs.declared.transcript.Transcript.{Transcript}
+use Rattle.store_map.specs.declared.line.HLine.{HLine}
+use Rattle.store_map.specs.declared.transcript.Transcript.{Transcript}
 use Rattle.hist_rules.specs.declared.verdict.Verdict.{Verdict}
 use Rattle.hist_rules.specs.declared.verdict.Verdict.TheVariants.{Misplaced}
 use Rattle.hist_rules.specs.First.{unless, first_fault_along}

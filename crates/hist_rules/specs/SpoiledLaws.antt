@@ -2,13 +2,13 @@
 use Rattle.std.specs.Prelude.{◌≡◌, ◌≢◌, ℕ, ◌+◌, ◌<◌, true, List, ◌++◌, map, length, Contains, IsTrue, Some, slice_get}
 use Rattle.store_map.specs.Limits.{tries_of}
 use Rattle.store_map.specs.declared.script.Script.{Script}
-use Rattle.transcript_text.specs.declared.call_name.CallName.{CallName}
-use Rattle.transcript_text.specs.declared.cause.Triple.{Triple}
-use Rattle.transcript_text.specs.declared.cause.Cause.TheVariants as cause
-use Rattle.transcript_text.specs.declared.line.HLine.{HLine}
-use Rattle.transcript_text.specs.declared.line.XLine.{XLine}
-use Rattle.transcript_text.specs.declared.line.TLine.{TLine}
-use Rattle.transcript_text.specs.declared.transcript.Transcript.{Transcript}
+use Rattle.store_map.specs.declared.call_name.CallName.{CallName}
+use Rattle.store_map.specs.declared.cause.Triple.{Triple}
+use Rattle.store_map.specs.declared.cause.Cause.TheVariants as cause
+use Rattle.store_map.specs.declared.line.HLine.{HLine}
+use Rattle.store_map.specs.declared.line.XLine.{XLine}
+use Rattle.store_map.specs.declared.line.TLine.{TLine}
+use Rattle.store_map.specs.declared.transcript.Transcript.{Transcript}
 use Rattle.hist_rules.specs.Calls.{number_of, same_actor}
 use Rattle.hist_rules.specs.Named.{listed_calls, answered_calls, is_reply}
 use Rattle.hist_rules.specs.OneOpenCall.{unanswered_calls}

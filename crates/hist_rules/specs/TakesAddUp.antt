@@ -1,8 +1,8 @@
 -- A server gave what all calls took of it, and its epoch is how often it was emptied.
 use Rattle.std.specs.Prelude.{ℕ, nat_eq, ◌&&◌, get_or, sum_by, Option}
 use Rattle.store_map.specs.declared.script.Script.{Script}
-use Rattle.transcript_text.specs.declared.line.TLine.{TLine}
-use Rattle.transcript_text.specs.declared.transcript.Transcript.{Transcript}
+use Rattle.store_map.specs.declared.line.TLine.{TLine}
+use Rattle.store_map.specs.declared.transcript.Transcript.{Transcript}
 use Rattle.transcript_text.specs.Lines.{t_line}
 use Rattle.hist_rules.specs.declared.verdict.TailKind.TheVariants.{Taken}
 use Rattle.hist_rules.specs.declared.verdict.Verdict.{Verdict}

@@ -1,7 +1,7 @@
 -- Each call that took subchunks has a line that says what became of it.
 use Rattle.std.specs.Prelude.{Option}
-use Rattle.transcript_text.specs.declared.call_name.CallName.{CallName}
-use Rattle.transcript_text.specs.declared.transcript.Transcript.{Transcript}
+use Rattle.store_map.specs.declared.call_name.CallName.{CallName}
+use Rattle.store_map.specs.declared.transcript.Transcript.{Transcript}
 use Rattle.transcript_text.specs.Lines.{o_line}
 use Rattle.hist_rules.specs.declared.verdict.TailKind.TheVariants.{Unlisted}
 use Rattle.hist_rules.specs.declared.verdict.Verdict.{Verdict}

@@ -1,7 +1,7 @@
 -- What the checker says: the fault of the first rule that is broken.
 use Rattle.std.specs.Prelude.{[], ◌∷◌, Option, unwrap_or}
 use Rattle.store_map.specs.declared.script.Script.{Script}
-use Rattle.transcript_text.specs.declared.transcript.Transcript.{Transcript}
+use Rattle.store_map.specs.declared.transcript.Transcript.{Transcript}
 use Rattle.hist_rules.specs.declared.verdict.Verdict.{Verdict}
 use Rattle.hist_rules.specs.declared.verdict.Verdict.TheVariants.{Legal}
 use Rattle.hist_rules.specs.First.{first_of}

@@ -1,6 +1,7 @@
 -- How a verdict is printed.
 use Rattle.std.specs.Prelude.{ℕ, List, ◌++◌, codes, decimal}
-use Rattle.transcript_text.specs.Words.{call_text, reply_text, shown_text}
+use Rattle.store_map.specs.CallNames.{call_text}
+use Rattle.transcript_text.specs.Words.{reply_text, shown_text}
 use Rattle.hist_rules.specs.declared.verdict.TailKind.{TailKind}
 use Rattle.hist_rules.specs.declared.verdict.TailKind.TheVariants.{Unlisted, Names, Taken}
 use Rattle.hist_rules.specs.declared.verdict.Verdict.{Verdict}

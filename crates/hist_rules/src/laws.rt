@@ -2,11 +2,11 @@
 
 ghost use Rattle.std.specs.Prelude.{◌≡◌, ◌↔◌, ℕ, List};
 ghost use Rattle.store_map.specs.declared.script.Script.{Script};
-ghost use Rattle.transcript_text.specs.declared.call_name.CallName.{CallName};
-ghost use Rattle.transcript_text.specs.declared.cause.Triple.{Triple};
-ghost use Rattle.transcript_text.specs.declared.line.XLine.{XLine};
-ghost use Rattle.transcript_text.specs.declared.line.TLine.{TLine};
-ghost use Rattle.transcript_text.specs.declared.transcript.Transcript.{Transcript};
+ghost use Rattle.store_map.specs.declared.call_name.CallName.{CallName};
+ghost use Rattle.store_map.specs.declared.cause.Triple.{Triple};
+ghost use Rattle.store_map.specs.declared.line.XLine.{XLine};
+ghost use Rattle.store_map.specs.declared.line.TLine.{TLine};
+ghost use Rattle.store_map.specs.declared.transcript.Transcript.{Transcript};
 ghost use Rattle.hist_rules.specs.declared.verdict.Verdict.TheVariants.{Legal};
 ghost use Rattle.hist_rules.specs.Verdict.{verdict_of};
 ghost use Rattle.hist_rules.specs.CallOrder.{KeepsCallOrder};

@@ -2,8 +2,8 @@
 use Rattle.std.specs.Prelude.{◌≡◌, ℕ, Bool, nat_eq, List, count_by, unwrap_or}
 use Rattle.std.specs.HashMap.{get}
 use Rattle.store_map.specs.declared.actor.Token.{Token}
-use Rattle.transcript_text.specs.declared.call_name.CallName.{CallName}
-use Rattle.transcript_text.specs.declared.call_name.CallName.TheVariants.{Client, Repairer}
+use Rattle.store_map.specs.declared.call_name.CallName.{CallName}
+use Rattle.store_map.specs.declared.call_name.CallName.TheVariants.{Client, Repairer}
 use Rattle.hist_rules.specs.Counts.{is_wipe_of, is_down_of, is_reap_of_client, is_reap_of_repairer}
 use Rattle.hist_tables.specs.declared.operator_counts.OperatorAction.{OperatorAction}
 use Rattle.hist_tables.specs.declared.operator_counts.OperatorAction.TheVariants.{Wipe, Down, ReapClient, ReapRepairer}

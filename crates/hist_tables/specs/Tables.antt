@@ -1,8 +1,8 @@
 -- What tables hold for a call or for its actor.
 use Rattle.std.specs.Prelude.{◌≡◌, ℕ, Bool, nat_eq, List, Option}
 use Rattle.std.specs.HashMap.{get}
-use Rattle.transcript_text.specs.declared.call_name.CallName.{CallName}
-use Rattle.transcript_text.specs.declared.call_name.CallName.TheVariants.{Client, Repairer}
+use Rattle.store_map.specs.declared.call_name.CallName.{CallName}
+use Rattle.store_map.specs.declared.call_name.CallName.TheVariants.{Client, Repairer}
 use Rattle.hist_rules.specs.Calls.{is_named}
 use Rattle.hist_tables.specs.Numbers.{holds}
 use Rattle.hist_tables.specs.declared.actor_table.ActorTable.{ActorTable}

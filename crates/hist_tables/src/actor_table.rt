@@ -2,11 +2,11 @@
 ghost use Rattle.std.specs.Prelude.{◌≡◌, OnOk, None, Some, if◌then◌else◌};
 ghost use Rattle.hist_rules.specs.Calls.{same_actor};
 ghost use Rattle.hist_tables.specs.Tables.{value_at};
-ghost use Rattle.transcript_text.specs.declared.call_name.CallName.{CallName};
+ghost use Rattle.store_map.specs.declared.call_name.CallName.{CallName};
 
 use std::alloc::{AllocError, Global};
 use std::collections::HashMap;
-use transcript_text::CallName;
+use store_map::CallName;
 
 /// A number for each actor that has one.
 #[derive(Drop)]

@@ -3,12 +3,12 @@ ghost use Rattle.std.specs.Prelude.{◌≡◌, ◌||◌, false, OnOk, IfOk, map,
 ghost use Rattle.hist_rules.specs.Calls.{same_call, is_named};
 ghost use Rattle.hist_rules.specs.Named.{answered_calls, listed_calls};
 ghost use Rattle.hist_tables.specs.Tables.{has, IsSetOf};
-ghost use Rattle.transcript_text.specs.declared.call_name.CallName.{CallName};
+ghost use Rattle.store_map.specs.declared.call_name.CallName.{CallName};
 
 use crate::lines::NamesCall;
 use crate::number_set::NumberSet;
 use std::alloc::{AllocError, Global};
-use transcript_text::{CallName, Transcript};
+use store_map::{CallName, Transcript};
 
 /// A set of calls, each by its actor and its number.
 #[derive(Drop)]

@@ -3,8 +3,7 @@ ghost use Rattle.std.specs.Prelude.{◌≡◌};
 ghost use Rattle.std.specs.Option.{option_copied};
 ghost use Rattle.hist_rules.specs.Calls.{number_of, with_number, same_actor, calls_of, call_of, rebuild_of};
 
-use store_map::{Call, Rebuild, Script};
-use transcript_text::CallName;
+use store_map::{Call, CallName, Rebuild, Script};
 
 /// The call's number among its actor's calls.
 pub fn number_of(call: CallName) -> u32

@@ -1,10 +1,10 @@
 //! The calls that a transcript's lines name, those without a reply, and how many are answered.
 ghost use Rattle.std.specs.Prelude.{◌≡◌, ◌++◌, ◌<◌, ◌^◌, Bool, true, false, length, map, filter, IfOk, OnOk};
-ghost use Rattle.transcript_text.specs.declared.call_name.CallName.{CallName};
+ghost use Rattle.store_map.specs.declared.call_name.CallName.{CallName};
 ghost use Rattle.hist_rules.specs.Named.{answered_calls, is_reply};
 
 use std::alloc::{AllocError, Global};
-use transcript_text::{CallName, GLine, HLine, OLine, RLine, Shown, Transcript, XLine};
+use store_map::{CallName, GLine, HLine, OLine, RLine, Shown, Transcript, XLine};
 
 /// A line that names a call.
 pub trait NamesCall {

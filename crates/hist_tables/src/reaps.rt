@@ -2,12 +2,11 @@
 ghost use Rattle.std.specs.Prelude.{◌≡◌, IfOk};
 ghost use Rattle.hist_rules.specs.Counts.{reaps};
 ghost use Rattle.hist_tables.specs.OperatorCounts.{reaps_in};
-ghost use Rattle.transcript_text.specs.declared.call_name.CallName.{CallName};
+ghost use Rattle.store_map.specs.declared.call_name.CallName.{CallName};
 
 use crate::operator_counts::{OperatorAction, OperatorCounts};
 use std::alloc::{AllocError, Global};
-use store_map::Script;
-use transcript_text::CallName;
+use store_map::{CallName, Script};
 
 /// How often the passes of each actor are given up.
 #[derive(Drop)]

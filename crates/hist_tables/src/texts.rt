@@ -3,11 +3,11 @@ ghost use Rattle.std.specs.Prelude.{◌≡◌, IfOk, OnOk};
 ghost use Rattle.std.specs.Fmt.{AppendsText};
 ghost use Rattle.transcript_text.specs.Lines.{l_line, o_line, t_line};
 ghost use Rattle.hist_rules.specs.TailText.{without_end, nothing};
-ghost use Rattle.transcript_text.specs.declared.line.TLine.{TLine};
+ghost use Rattle.store_map.specs.declared.line.TLine.{TLine};
 
 use std::alloc::{AllocError, Global};
-use store_map::ByteList;
-use transcript_text::{CallName, append};
+use store_map::{ByteList, CallName};
+use transcript_text::append;
 
 /// Where no line stands.
 pub fn nothing(alloc: Global) -> Result<ByteList, AllocError>

@@ -1,10 +1,9 @@
 //! Ends of calls in words.
 
-use call_steps::Change;
+use call_steps::{CallOutcome, Change};
 use read_ledger::Takes;
 use std::alloc::{AllocError, Global};
 use store_map::{Found, LostChunk, Placement};
-use world_lines::CallOutcome;
 
 // What was taken from each server.
 fn said_takes(alloc: Global, takes: Option<&Takes>) -> Result<String, AllocError> {

@@ -5,8 +5,8 @@ use Rattle.std.proofs.lemmas.Option.{none-some}
 use Rattle.std.specs.List.{slice_get}
 use Rattle.store_map.specs.declared.script.Script.{Script}
 use Rattle.store_core.specs.Act.{Outcome}
-use Rattle.world_lines.specs.declared.calls.CallerCalls.{CallerCalls}
-use Rattle.world_lines.specs.Served.{outcome_in, served_in}
+use Rattle.call_steps.specs.declared.caller_calls.CallerCalls.{CallerCalls}
+use Rattle.world_steps.specs.Served.{outcome_in, served_in}
 use Rattle.store_threads.specs.Owed.{WasOwed}
 use Rattle.store_threads.proofs.Owing.{owed_stay}
 use Rattle.run_steps.specs.Noted.{Noted, made_in}

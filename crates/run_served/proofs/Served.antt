@@ -17,11 +17,11 @@ use Rattle.store_merge.specs.MadeSteps.{MadeStep}
 use Rattle.store_merge.specs.Merging.{EndAs, run_of_steps}
 use Rattle.store_merge.proofs.Merged.{merges}
 use Rattle.store_merge.proofs.Sorting.{sorted}
-use Rattle.world_lines.specs.declared.calls.EndedCall.{EndedCall}
-use Rattle.world_lines.specs.declared.calls.CallerCalls.{CallerCalls}
-use Rattle.world_lines.specs.Ended.{ended_of, calling_at}
-use Rattle.world_lines.specs.Served.{outcome_in, outcome_at}
-use Rattle.world_lines.specs.Outcomes.{call_outcome_of}
+use Rattle.call_steps.specs.declared.caller_calls.EndedCall.{EndedCall}
+use Rattle.call_steps.specs.declared.caller_calls.CallerCalls.{CallerCalls}
+use Rattle.call_steps.specs.CallerCalls.{ended_of, calling_at}
+use Rattle.world_steps.specs.Served.{outcome_in, outcome_at}
+use Rattle.call_steps.specs.CallOutcomes.{call_outcome_of}
 use Rattle.store_history.proofs.ServedPoints.{runs_serve_at_pins}
 use Rattle.store_threads.specs.Owed.{directory_after}
 use Rattle.store_threads.specs.OwedLaws.{IsReply}

@@ -5,8 +5,8 @@ use mathlib.Core.List.{IsPrefix}
 use Rattle.store_map.specs.declared.script.Script.{Script}
 use Rattle.store_core.specs.Act.{Outcome}
 use Rattle.store_merge.specs.MadeSteps.{MadeStep}
-use Rattle.world_lines.specs.declared.calls.CallerCalls.{CallerCalls}
-use Rattle.world_lines.specs.Served.{outcome_in, served_in}
+use Rattle.call_steps.specs.declared.caller_calls.CallerCalls.{CallerCalls}
+use Rattle.world_steps.specs.Served.{outcome_in, served_in}
 use Rattle.store_threads.specs.Owed.{WasOwed}
 use Rattle.run_served.specs.ServedLaws.{HaveOwed}
 use Rattle.run_steps.specs.Noted.{Noted, made_in}

@@ -5,7 +5,7 @@ use Rattle.store_map.specs.Limits.{size_of}
 use Rattle.store_map.specs.Naming.{IsValid}
 use Rattle.store_map.specs.declared.actor.Token.{Token}
 use Rattle.store_map.specs.declared.script.Script.{Script}
-use Rattle.transcript_text.specs.declared.transcript.Transcript.{Transcript}
+use Rattle.store_map.specs.declared.transcript.Transcript.{Transcript}
 use Rattle.store_core.specs.Act.{Outcome}
 use Rattle.store_core.specs.ActPlace.{Place}
 use Rattle.store_core.specs.Core.{Core, first_core}
@@ -15,9 +15,9 @@ use Rattle.store_core.specs.Shown.{shown}
 use Rattle.store_merge.specs.Histories.{Histories, StandTwice, GoOn}
 use Rattle.store_merge.specs.Merging.{EndAs}
 use Rattle.chunk_server.specs.State.{ServerState}
-use Rattle.world_lines.specs.declared.calls.CallerCalls.{CallerCalls}
-use Rattle.world_lines.specs.Served.{outcome_at, bytes_at, ServedAre}
-use Rattle.world_lines.specs.Shown.{Holds}
+use Rattle.call_steps.specs.declared.caller_calls.CallerCalls.{CallerCalls}
+use Rattle.world_steps.specs.Served.{outcome_at, bytes_at, ServedAre}
+use Rattle.world_steps.specs.HeldCore.{Holds}
 use Rattle.world_steps.specs.World.{WorldOf}
 use Rattle.world_steps.specs.Known.{core_of}
 use Rattle.world_steps.specs.StandsFor.{StandsFor}

@@ -4,13 +4,13 @@ use Rattle.clay_grid.specs.Limits.{IsGeometry}
 use Rattle.clay_grid.specs.Shape.{chunk_count}
 use Rattle.store_map.specs.Naming.{IsValid}
 use Rattle.store_map.specs.declared.script.Script.{Script}
-use Rattle.transcript_text.specs.declared.transcript.Transcript.{Transcript}
+use Rattle.store_map.specs.declared.transcript.Transcript.{Transcript}
 use Rattle.store_core.specs.Server.{Server}
 use Rattle.store_core.specs.Sweep.{Sweeper}
 use Rattle.chunk_server.specs.State.{ServerState}
 use Rattle.stripe_dir.specs.Sealed.{Sealed}
-use Rattle.world_lines.specs.declared.calls.CallerCalls.{CallerCalls}
-use Rattle.world_lines.specs.Shown.{Holds}
+use Rattle.call_steps.specs.declared.caller_calls.CallerCalls.{CallerCalls}
+use Rattle.world_steps.specs.HeldCore.{Holds}
 use Rattle.world_steps.specs.Known.{core_of}
 use Rattle.store_threads.specs.Run.{IsRun}
 use Rattle.run_served.specs.ServedLaws.{HaveOwed, IsMadeOf}

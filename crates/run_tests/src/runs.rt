@@ -12,9 +12,8 @@ use std::str;
 use std::sync::Wait;
 use std::test::Fail;
 use std::thread::Threads;
-use store_map::Script;
+use store_map::{Script, Transcript};
 use store_run::{Gate, NoGate, run};
-use transcript_text::Transcript;
 
 /// In so many threads each script is run.
 pub const WORKERS: [usize; 4] = [1, 2, 4, 16];

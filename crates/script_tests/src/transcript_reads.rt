@@ -3,9 +3,10 @@ use script_text::ScriptFault;
 use std::alloc::Global;
 use std::process::Abort;
 use std::test::Fail;
+use store_map::Transcript;
 use text_tables::faults::{Around, Reader, have_faults};
 use transcript_read::read_transcript;
-use transcript_text::{Transcript, write_transcript};
+use transcript_text::write_transcript;
 
 // A line of each form, with three servers.
 const WHOLE: &[u8] = b"\

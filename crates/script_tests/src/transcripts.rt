@@ -1,12 +1,12 @@
 //! Transcripts that are written.
 use std::alloc::{AllocError, Global};
 use std::test::Fail;
-use store_map::{Found, ListOf, Name, Placement, Reply};
-use text_tables::faults::same;
-use transcript_text::{
-    CallName, Cause, GLine, HLine, LLine, OLine, RLine, RepairResult, Shown, TLine, Transcript,
-    Triple, XLine, write_transcript,
+use store_map::{
+    CallName, Cause, Found, GLine, HLine, LLine, ListOf, Name, OLine, Placement, RLine,
+    RepairResult, Reply, Shown, TLine, Transcript, Triple, XLine,
 };
+use text_tables::faults::same;
+use transcript_text::write_transcript;
 
 const TEXT: &str = "\
 H 9 c4294967295.0 ok

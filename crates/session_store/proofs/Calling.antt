@@ -44,8 +44,8 @@ use Rattle.call_machine.specs.Calls.{MachineOf, first_call, tries_in}
 use Rattle.call_machine.specs.Kinds.{Asked, Machine, machine_of, client_machine, IfReads}
 use Rattle.call_alone.specs.AtWork.{HasRun}
 use Rattle.call_alone.proofs.Running.{calls_run_alone}
-use Rattle.world_lines.specs.Outcomes.{call_outcome_of}
-use Rattle.world_lines.specs.declared.outcome.CallOutcome.{CallOutcome}
+use Rattle.call_steps.specs.CallOutcomes.{call_outcome_of}
+use Rattle.call_steps.specs.declared.outcome.CallOutcome.{CallOutcome}
 use Rattle.store_map.specs.declared.actor.Point.{Point}
 use Rattle.store_core.specs.Content.{contents_by}
 use Rattle.store_reads.specs.ReadLaws.{bytes_read}
@@ -58,7 +58,7 @@ use Rattle.call_machine.specs.Ends.{IfBytesServed}
 use Rattle.session_bytes.proofs.Maps.{bytes_are_owed}
 use Rattle.session_runs.proofs.Clients.{of_client}
 use Rattle.session_runs.proofs.Kept.{begins}
-use Rattle.world_lines.specs.declared.outcome.CallOutcome.TheVariants as ended
+use Rattle.call_steps.specs.declared.outcome.CallOutcome.TheVariants as ended
 use Rattle.store_core.specs.Lookups.{same_actor}
 use Rattle.session_rules.specs.Calls.{serve_call}
 use Rattle.session_store.specs.Answers.{AnswersCall}

@@ -30,8 +30,8 @@ use Rattle.call_machine.specs.Calls.{MachineOf, first_call, tries_in}
 use Rattle.call_machine.specs.Kinds.{Asked, Machine}
 use Rattle.call_alone.specs.AtWork.{HasRun, first_at}
 use Rattle.call_alone.proofs.Running.{calls_run_alone}
-use Rattle.world_lines.specs.Outcomes.{call_outcome_of}
-use Rattle.world_lines.specs.declared.outcome.CallOutcome.{CallOutcome}
+use Rattle.call_steps.specs.CallOutcomes.{call_outcome_of}
+use Rattle.call_steps.specs.declared.outcome.CallOutcome.{CallOutcome}
 use Rattle.session_store.specs.declared.parts.Parts.{Parts}
 use Rattle.session_store.specs.declared.places.SessionPlaces.{SessionPlaces}
 use Rattle.session_store.specs.Places.{seen_in}

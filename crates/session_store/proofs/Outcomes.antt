@@ -18,9 +18,9 @@ use Rattle.session_rules.specs.Placing.{after_call}
 use Rattle.session_rules.specs.declared.answer.Answer.{Answer}
 use Rattle.session_rules.specs.declared.answer.Missing.{Missing}
 use Rattle.session_laws.specs.Outcomes.{lost_as, replied_at, outcome_at}
-use Rattle.world_lines.specs.Outcomes.{call_outcome_of}
-use Rattle.world_lines.specs.declared.outcome.CallOutcome.{CallOutcome}
-use Rattle.world_lines.specs.declared.outcome.CallOutcome.TheVariants as ended
+use Rattle.call_steps.specs.CallOutcomes.{call_outcome_of}
+use Rattle.call_steps.specs.declared.outcome.CallOutcome.{CallOutcome}
+use Rattle.call_steps.specs.declared.outcome.CallOutcome.TheVariants as ended
 use Rattle.session_store.specs.Answers.{placed_epoch, found_epoch, missing_in, AnswersCall, EndsCall}
 
 -- ---- a call of the map is replied, or its bytes are unavailable

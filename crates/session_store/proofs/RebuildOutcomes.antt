@@ -12,9 +12,9 @@ use Rattle.session_rules.specs.declared.answer.Answer.{Answer}
 use Rattle.session_rules.specs.declared.answer.Missing.{Missing}
 use Rattle.session_laws.specs.Outcomes.{lost_as}
 use Rattle.session_laws.specs.Rebuilds.{rebuilt_as}
-use Rattle.world_lines.specs.Outcomes.{call_outcome_of}
-use Rattle.world_lines.specs.declared.outcome.CallOutcome.{CallOutcome}
-use Rattle.world_lines.specs.declared.outcome.CallOutcome.TheVariants as ended
+use Rattle.call_steps.specs.CallOutcomes.{call_outcome_of}
+use Rattle.call_steps.specs.declared.outcome.CallOutcome.{CallOutcome}
+use Rattle.call_steps.specs.declared.outcome.CallOutcome.TheVariants as ended
 use Rattle.session_store.specs.Answers.{AnswersRebuild, EndsRebuild}
 use Rattle.session_store.proofs.Outcomes.{same_missing}
 

@@ -35,9 +35,9 @@ use Rattle.call_machine.specs.Calls.{MachineOf, first_call, tries_in}
 use Rattle.call_machine.specs.Kinds.{Asked, Machine}
 use Rattle.call_alone.specs.AtWork.{HasRun}
 use Rattle.call_alone.proofs.Running.{calls_run_alone}
-use Rattle.world_lines.specs.Outcomes.{call_outcome_of}
-use Rattle.world_lines.specs.declared.outcome.CallOutcome.{CallOutcome}
-use Rattle.world_lines.specs.declared.outcome.CallOutcome.TheVariants as ended
+use Rattle.call_steps.specs.CallOutcomes.{call_outcome_of}
+use Rattle.call_steps.specs.declared.outcome.CallOutcome.{CallOutcome}
+use Rattle.call_steps.specs.declared.outcome.CallOutcome.TheVariants as ended
 use Rattle.store_core.specs.Lookups.{same_actor}
 use Rattle.session_rules.specs.Rebuilds.{rebuild}
 use Rattle.session_store.specs.Answers.{AnswersRebuild, EndsRebuild}

@@ -10,8 +10,8 @@ use Rattle.session_rules.specs.declared.answer.Missing.{Missing}
 use Rattle.session_rules.specs.declared.answer.Answer.{Answer}
 use Rattle.snapshot_view.specs.declared.ends.SnapOutcome.{SnapOutcome}
 use Rattle.snapshot_view.specs.declared.ends.SnapOutcome.TheVariants as read
-use Rattle.world_lines.specs.declared.outcome.CallOutcome.{CallOutcome}
-use Rattle.world_lines.specs.declared.outcome.CallOutcome.TheVariants as ended
+use Rattle.call_steps.specs.declared.outcome.CallOutcome.{CallOutcome}
+use Rattle.call_steps.specs.declared.outcome.CallOutcome.TheVariants as ended
 
 -- the count that a placement tells, and that why a chunk isn't given tells
 abbrev pub placed_epoch : Placement → ℕ

@@ -7,19 +7,18 @@ ghost use Rattle.call_steps.specs.CallOf.{act_of, taken_of};
 ghost use Rattle.call_steps.specs.Steps.{need_of};
 ghost use Rattle.call_machine.specs.Ends.{IfBytesServed};
 ghost use Rattle.call_machine.specs.Kinds.{machine_of, IfReads};
-ghost use Rattle.world_lines.specs.Outcomes.{call_outcome_of};
+ghost use Rattle.call_steps.specs.CallOutcomes.{call_outcome_of};
 ghost use Rattle.session_store.specs.Stepping.{GoesOn, HasPlace, IsCoded, MayStep, HasStepped};
 ghost use Rattle.session_store.specs.Running.{MayRun, HasRunTo};
 
 use crate::places::SessionPlaces;
 use call_machine::CallMachine;
-use call_steps::Need;
+use call_steps::{CallOutcome, Need};
 use clay_model::Coder;
 use read_ledger::Takes;
 use std::snapshot::Snapshot;
 use std::thread::Threads;
 use stripe_dir::Seat;
-use world_lines::CallOutcome;
 
 // The coding before the call's next step, if one is due.
 fn code<R: Threads + Sync, C: Coder>(rt: &R, coder: &C, call: &mut CallMachine)

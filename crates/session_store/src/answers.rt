@@ -2,11 +2,11 @@
 ghost use Rattle.std.specs.Prelude.{◌≡◌, map, IfOk};
 ghost use Rattle.session_store.specs.Answers.{missing_in, IsUnavailable, AnswersCall, AnswersRebuild, AnswersRead, EndsCall, EndsRebuild};
 
+use call_steps::CallOutcome;
 use session_rules::{Answer, Missing};
 use snapshot_view::SnapOutcome;
 use std::alloc::{AllocError, Global};
 use store_map::{Found, ListOf, LostChunk, Placement, Reply};
-use world_lines::CallOutcome;
 
 // A server without its chunk, in numbers alone.
 fn missing_of(lost: &LostChunk) -> Missing

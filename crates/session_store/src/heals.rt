@@ -5,7 +5,7 @@ ghost use Rattle.session_laws.specs.Heals.{rebuild_of};
 ghost use Rattle.session_rules.specs.declared.request.Request.{Request};
 ghost use Rattle.session_store.specs.LostStripes.{healable, StandTogether};
 ghost use Rattle.session_store.specs.Healing.{added_low, added_if, is_rebuilt, MayHeal, HasHealedOne, AreOfServers, HasHealed, HealsWith, HealsLost};
-ghost use Rattle.world_lines.specs.Outcomes.{call_outcome_of};
+ghost use Rattle.call_steps.specs.CallOutcomes.{call_outcome_of};
 ghost use Rattle.session_store.specs.Inside.{store_of};
 ghost use Rattle.session_store.specs.Kept.{MayServe, ServesRequest};
 
@@ -16,13 +16,13 @@ use crate::scrubs::lost_chunks;
 use crate::seats::{put_seat, take};
 use crate::sweeps::sweep_all;
 use call_machine::CallMachine;
+use call_steps::CallOutcome;
 use clay_model::Coder;
 use read_ledger::Takes;
 use session_rules::{Answer, LostChunk};
 use std::alloc::AllocError;
 use std::thread::Threads;
 use store_map::{ListOf, Rebuild};
-use world_lines::CallOutcome;
 
 // Counts come to the rest. A count stays at the last value of 64 bits.
 fn add_counts(taken: &mut [u64], takes: &Takes)

@@ -3,10 +3,10 @@ use Rattle.std.proofs.Common.{List, [], ◌∷◌, Option, None, Some, IfSome, A
 use Rattle.std.proofs.lemmas.List.Elements.{All-nil, All-cons, All-head, All-tail}
 use Rattle.store_map.specs.declared.call.Rebuild.{Rebuild}
 use Rattle.store_map.specs.declared.script.Script.{Script}
-use Rattle.transcript_text.specs.declared.cause.RepairResult.{RepairResult}
-use Rattle.transcript_text.specs.declared.cause.RepairResult.TheVariants as result
-use Rattle.transcript_text.specs.declared.line.RLine.{RLine}
-use Rattle.transcript_text.specs.declared.transcript.Transcript.{Transcript}
+use Rattle.store_map.specs.declared.cause.RepairResult.{RepairResult}
+use Rattle.store_map.specs.declared.cause.RepairResult.TheVariants as result
+use Rattle.store_map.specs.declared.line.RLine.{RLine}
+use Rattle.store_map.specs.declared.transcript.Transcript.{Transcript}
 use Rattle.hist_rules.specs.Calls.{rebuild_of}
 use Rattle.hist_rules.proofs.HistoryLaw.{legal_is_history}
 use Rattle.hist_rules.specs.GivenUpOrLost.{NamesOwn}

@@ -10,9 +10,9 @@ use Rattle.store_map.specs.Limits.{tries_of}
 use Rattle.store_map.specs.declared.actor.Actor.{Actor}
 use Rattle.store_map.specs.declared.actor.Actor.TheVariants as actor
 use Rattle.store_map.specs.declared.script.Script.{Script}
-use Rattle.transcript_text.specs.declared.call_name.CallName.{CallName}
-use Rattle.transcript_text.specs.declared.call_name.CallName.TheVariants as name
-use Rattle.transcript_text.specs.declared.line.GLine.{GLine}
+use Rattle.store_map.specs.declared.call_name.CallName.{CallName}
+use Rattle.store_map.specs.declared.call_name.CallName.TheVariants as name
+use Rattle.store_map.specs.declared.line.GLine.{GLine}
 use Rattle.hist_rules.specs.Calls.{same_call}
 use Rattle.store_core.specs.Core.{Core}
 use Rattle.store_core.specs.NextAct.{Job}

@@ -2,7 +2,7 @@
 use Rattle.std.specs.Prelude.{◌≡◌, ℕ, ◌↔◌, List, length, Contains}
 use Rattle.std.specs.Bool.{Decides}
 use Rattle.store_map.specs.declared.script.Script.{Script}
-use Rattle.transcript_text.specs.declared.call_name.CallName.{CallName}
+use Rattle.store_map.specs.declared.call_name.CallName.{CallName}
 use Rattle.store_core.specs.Told.{Told}
 use Rattle.store_calls.specs.CauseLaws.{changes_of}
 use Rattle.store_in_time.specs.Trace.{Made}

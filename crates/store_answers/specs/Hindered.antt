@@ -1,7 +1,7 @@
 -- Worked calls that lack one thing alone that the law of answers asks for.
 use Rattle.std.specs.Prelude.{◌≡◌, true, List, [], Contains}
-use Rattle.transcript_text.specs.declared.call_name.CallName.{CallName}
-use Rattle.transcript_text.specs.declared.transcript.Transcript.{Transcript}
+use Rattle.store_map.specs.declared.call_name.CallName.{CallName}
+use Rattle.store_map.specs.declared.transcript.Transcript.{Transcript}
 use Rattle.store_core.specs.Shown.{shown_of}
 use Rattle.store_core.specs.Step.{Shortage}
 use Rattle.store_rows.specs.Rows.{Row}

@@ -5,7 +5,7 @@ use Rattle.store_map.specs.Limits.{tries_of}
 use Rattle.store_map.specs.Naming.{IsValid}
 use Rattle.store_map.specs.declared.actor.Token.{Token}
 use Rattle.store_map.specs.declared.script.Script.{Script}
-use Rattle.transcript_text.specs.declared.call_name.CallName.{CallName}
+use Rattle.store_map.specs.declared.call_name.CallName.{CallName}
 use Rattle.store_core.specs.NextAct.{Job}
 use Rattle.store_core.specs.Step.{Shortage}
 use Rattle.store_core.specs.Told.{Told}

@@ -2,7 +2,7 @@
 use Rattle.std.specs.Prelude.{◌≡◌, ℕ, ◌≤◌, ◌&&◌, nat_eq, List, count_by, Some}
 use Rattle.store_map.specs.Limits.{size_of, tries_of}
 use Rattle.store_map.specs.declared.script.Script.{Script}
-use Rattle.transcript_text.specs.declared.call_name.CallName.{CallName}
+use Rattle.store_map.specs.declared.call_name.CallName.{CallName}
 use Rattle.store_core.specs.Act.{Act, Outcome}
 use Rattle.store_core.specs.Bounds.{step_bound}
 use Rattle.store_core.specs.Lookups.{same_actor}

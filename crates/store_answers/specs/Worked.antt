@@ -1,8 +1,8 @@
 -- Worked calls that are over and that nothing hindered, and worked calls that took no more than they had to.
 use Rattle.std.specs.Prelude.{◌≡◌, ℕ, List, [], Some, Contains}
 use Rattle.store_map.specs.declared.call.Call.{Call}
-use Rattle.transcript_text.specs.declared.call_name.CallName.{CallName}
-use Rattle.transcript_text.specs.declared.cause.RepairResult.TheVariants as result
+use Rattle.store_map.specs.declared.call_name.CallName.{CallName}
+use Rattle.store_map.specs.declared.cause.RepairResult.TheVariants as result
 use Rattle.hist_rules.specs.Calls.{call_of}
 use Rattle.store_core.specs.Note.{note_of}
 use Rattle.store_rows.specs.Rows.{Row, Shows}

@@ -2,7 +2,7 @@
 
 ghost use Rattle.std.specs.Prelude.{false, [], ◌∷◌, codes};
 ghost use Rattle.store_map.specs.declared.call.Call.TheVariants.{ReadAt};
-ghost use Rattle.transcript_text.specs.declared.call_name.CallName.TheVariants.{Client, Repairer};
+ghost use Rattle.store_map.specs.declared.call_name.CallName.TheVariants.{Client, Repairer};
 ghost use Rattle.store_rows.specs.RowsCalls.{put_then_get, each_refusal};
 ghost use Rattle.store_rows.specs.RowsManyLosses.{read_after_two_losses, read_after_three_losses};
 ghost use Rattle.store_rows.specs.RowsAway.{refused_put};

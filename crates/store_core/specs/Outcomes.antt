@@ -1,10 +1,10 @@
 -- How an outcome without a reply, and a rebuild's, is shown.
 use Rattle.std.specs.Prelude.{map, Option, None, Some}
-use Rattle.transcript_text.specs.declared.cause.Triple.{Triple}
-use Rattle.transcript_text.specs.declared.cause.Cause.{Cause}
-use Rattle.transcript_text.specs.declared.cause.Cause.TheVariants as cause
-use Rattle.transcript_text.specs.declared.cause.RepairResult.{RepairResult}
-use Rattle.transcript_text.specs.declared.cause.RepairResult.TheVariants as result
+use Rattle.store_map.specs.declared.cause.Triple.{Triple}
+use Rattle.store_map.specs.declared.cause.Cause.{Cause}
+use Rattle.store_map.specs.declared.cause.Cause.TheVariants as cause
+use Rattle.store_map.specs.declared.cause.RepairResult.{RepairResult}
+use Rattle.store_map.specs.declared.cause.RepairResult.TheVariants as result
 use Rattle.store_core.specs.Told.{Lost}
 use Rattle.store_core.specs.Act.{Outcome}
 

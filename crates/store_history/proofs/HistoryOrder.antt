@@ -13,10 +13,10 @@ use Rattle.store_map.specs.declared.reply.Reply.{Reply}
 use Rattle.store_map.specs.declared.actor.Token.{Token}
 use Rattle.store_map.specs.declared.script.ClientPart.{ClientPart}
 use Rattle.store_map.specs.declared.script.Script.{Script}
-use Rattle.transcript_text.specs.declared.call_name.CallName.{CallName}
-use Rattle.transcript_text.specs.declared.call_name.CallName.TheVariants as name
-use Rattle.transcript_text.specs.declared.shown.Shown.{Shown}
-use Rattle.transcript_text.specs.declared.line.HLine.{HLine}
+use Rattle.store_map.specs.declared.call_name.CallName.{CallName}
+use Rattle.store_map.specs.declared.call_name.CallName.TheVariants as name
+use Rattle.store_map.specs.declared.shown.Shown.{Shown}
+use Rattle.store_map.specs.declared.line.HLine.{HLine}
 use Rattle.store_core.specs.Core.{Core}
 use Rattle.store_core.specs.Directory.{Event, Point}
 use Rattle.store_core.specs.History.{call_of, answered_in, applied, shown_at, name_of, line_of, history_from, history_of}

@@ -7,9 +7,9 @@ use Rattle.store_map.specs.Limits.{size_of}
 use Rattle.store_map.specs.PlainMap.{Objects}
 use Rattle.store_map.specs.declared.reply.Reply.{Reply}
 use Rattle.store_map.specs.declared.script.Script.{Script}
-use Rattle.transcript_text.specs.declared.call_name.CallName.{CallName}
-use Rattle.transcript_text.specs.declared.shown.Shown.{Shown}
-use Rattle.transcript_text.specs.declared.line.HLine.{HLine}
+use Rattle.store_map.specs.declared.call_name.CallName.{CallName}
+use Rattle.store_map.specs.declared.shown.Shown.{Shown}
+use Rattle.store_map.specs.declared.line.HLine.{HLine}
 use Rattle.hist_rules.specs.Named.{is_reply}
 use Rattle.store_sound.proofs.SoundLists.{contains_at}
 use Rattle.store_core.specs.Core.{Core}

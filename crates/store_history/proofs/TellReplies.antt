@@ -8,9 +8,9 @@ use Rattle.store_map.specs.PlainMap.{Objects, apply}
 use Rattle.store_map.specs.declared.call.Call.{Call}
 use Rattle.store_map.specs.declared.reply.Reply.{Reply}
 use Rattle.store_map.specs.declared.script.Script.{Script}
-use Rattle.transcript_text.specs.declared.shown.Shown.{Shown}
-use Rattle.transcript_text.specs.declared.line.HLine.{HLine}
-use Rattle.transcript_text.specs.declared.line.LLine.{LLine}
+use Rattle.store_map.specs.declared.shown.Shown.{Shown}
+use Rattle.store_map.specs.declared.line.HLine.{HLine}
+use Rattle.store_map.specs.declared.line.LLine.{LLine}
 use Rattle.hist_rules.specs.Calls.{call_of}
 use Rattle.hist_rules.specs.MapReplies.{ShowsReply}
 

@@ -5,7 +5,7 @@ use Rattle.store_map.specs.Naming.{IsValid}
 use Rattle.store_map.specs.declared.actor.Token.{Token}
 use Rattle.store_map.specs.declared.actor.Token.TheVariants as token
 use Rattle.store_map.specs.declared.script.Script.{Script}
-use Rattle.transcript_text.specs.declared.transcript.Transcript.{Transcript}
+use Rattle.store_map.specs.declared.transcript.Transcript.{Transcript}
 use Rattle.store_core.specs.Schedule.{run_core}
 use Rattle.store_core.specs.Shown.{shown}
 use Rattle.store_core.specs.Step.{Shortage}

@@ -10,11 +10,11 @@ use Rattle.store_map.specs.declared.actor.Actor.TheVariants as actor
 use Rattle.store_map.specs.declared.actor.Token.{Token}
 use Rattle.store_map.specs.declared.placement.Placement.TheVariants as placement
 use Rattle.store_map.specs.declared.script.Script.{Script}
-use Rattle.transcript_text.specs.declared.call_name.CallName.{CallName}
-use Rattle.transcript_text.specs.declared.call_name.CallName.TheVariants as name
-use Rattle.transcript_text.specs.declared.cause.Triple.{Triple}
-use Rattle.transcript_text.specs.declared.line.XLine.{XLine}
-use Rattle.transcript_text.specs.declared.line.RLine.{RLine}
+use Rattle.store_map.specs.declared.call_name.CallName.{CallName}
+use Rattle.store_map.specs.declared.call_name.CallName.TheVariants as name
+use Rattle.store_map.specs.declared.cause.Triple.{Triple}
+use Rattle.store_map.specs.declared.line.XLine.{XLine}
+use Rattle.store_map.specs.declared.line.RLine.{RLine}
 use Rattle.store_core.specs.Act.{Act, DirectoryStep, Outcome}
 use Rattle.store_core.specs.Core.{Core, first_core}
 use Rattle.store_core.specs.Directory.{Directory}

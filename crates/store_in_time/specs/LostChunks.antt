@@ -5,8 +5,8 @@ use Rattle.store_map.specs.declared.placement.Found.{Found}
 use Rattle.store_map.specs.declared.placement.Found.TheVariants as found
 use Rattle.store_map.specs.declared.placement.Placement.{Placement}
 use Rattle.store_map.specs.declared.placement.Placement.TheVariants as placement
-use Rattle.transcript_text.specs.declared.call_name.CallName.{CallName}
-use Rattle.transcript_text.specs.declared.cause.Triple.{Triple}
+use Rattle.store_map.specs.declared.call_name.CallName.{CallName}
+use Rattle.store_map.specs.declared.cause.Triple.{Triple}
 use Rattle.store_core.specs.Act.{Act, ServerStep}
 use Rattle.store_core.specs.Told.{Told, Seen}
 use Rattle.store_in_time.specs.Trace.{Made}

@@ -1,15 +1,15 @@
 -- Points in time: in the order of calls, and what a refusal names of points came while its call ran.
 use Rattle.std.specs.Prelude.{◌≡◌, ℕ, ◌<◌, List, ◌++◌, Some, All, Contains, ⊤}
 use Rattle.store_map.specs.declared.actor.Actor.{Actor}
-use Rattle.transcript_text.specs.declared.call_name.CallName.{CallName}
-use Rattle.transcript_text.specs.declared.cause.Cause.{Cause}
-use Rattle.transcript_text.specs.declared.cause.Cause.TheVariants as cause
-use Rattle.transcript_text.specs.declared.cause.RepairResult.{RepairResult}
-use Rattle.transcript_text.specs.declared.cause.RepairResult.TheVariants as result
-use Rattle.transcript_text.specs.declared.line.HLine.{HLine}
-use Rattle.transcript_text.specs.declared.line.XLine.{XLine}
-use Rattle.transcript_text.specs.declared.line.RLine.{RLine}
-use Rattle.transcript_text.specs.declared.transcript.Transcript.{Transcript}
+use Rattle.store_map.specs.declared.call_name.CallName.{CallName}
+use Rattle.store_map.specs.declared.cause.Cause.{Cause}
+use Rattle.store_map.specs.declared.cause.Cause.TheVariants as cause
+use Rattle.store_map.specs.declared.cause.RepairResult.{RepairResult}
+use Rattle.store_map.specs.declared.cause.RepairResult.TheVariants as result
+use Rattle.store_map.specs.declared.line.HLine.{HLine}
+use Rattle.store_map.specs.declared.line.XLine.{XLine}
+use Rattle.store_map.specs.declared.line.RLine.{RLine}
+use Rattle.store_map.specs.declared.transcript.Transcript.{Transcript}
 use Rattle.store_core.specs.Act.{Act, DirectoryStep}
 use Rattle.store_core.specs.History.{name_of}
 use Rattle.store_core.specs.PlaceLaws.{new_point}

@@ -7,3 +7,5 @@ pub mod Naming
 pub mod WorkedRows
 pub mod Laws
 pub mod LimitRows
+pub mod CallNames
+pub mod Triples

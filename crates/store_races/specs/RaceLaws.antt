@@ -2,9 +2,9 @@
 use Rattle.std.specs.Prelude.{All, IfSome, IsTrue, ⊤}
 use Rattle.store_map.specs.declared.call.Rebuild.{Rebuild}
 use Rattle.store_map.specs.declared.script.Script.{Script}
-use Rattle.transcript_text.specs.declared.cause.RepairResult.{RepairResult}
-use Rattle.transcript_text.specs.declared.cause.RepairResult.TheVariants as result
-use Rattle.transcript_text.specs.declared.transcript.Transcript.{Transcript}
+use Rattle.store_map.specs.declared.cause.RepairResult.{RepairResult}
+use Rattle.store_map.specs.declared.cause.RepairResult.TheVariants as result
+use Rattle.store_map.specs.declared.transcript.Transcript.{Transcript}
 use Rattle.hist_rules.specs.Calls.{rebuild_of}
 use Rattle.hist_rules.specs.Named.{is_change_point}
 use Rattle.hist_rules.specs.GivenUpOrLost.{LostRaces}

@@ -4,7 +4,7 @@ use Rattle.store_map.specs.declared.actor.Token.{Token}
 use Rattle.store_map.specs.declared.call.Call.TheVariants as call
 use Rattle.store_map.specs.declared.content.Content.TheVariants as content
 use Rattle.store_map.specs.declared.script.Script.{Script}
-use Rattle.transcript_text.specs.declared.transcript.Transcript.{Transcript}
+use Rattle.store_map.specs.declared.transcript.Transcript.{Transcript}
 use Rattle.store_core.specs.Shown.{shown_of}
 
 -- a script and its transcript

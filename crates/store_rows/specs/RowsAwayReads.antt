@@ -5,9 +5,9 @@ use Rattle.store_map.specs.declared.call.Call.TheVariants as call
 use Rattle.store_map.specs.declared.content.Content.TheVariants as content
 use Rattle.store_map.specs.declared.placement.Placement.TheVariants as placement
 use Rattle.store_map.specs.declared.reply.Reply.TheVariants as reply
-use Rattle.transcript_text.specs.declared.call_name.CallName.TheVariants as name
-use Rattle.transcript_text.specs.declared.cause.Cause.TheVariants as cause
-use Rattle.transcript_text.specs.declared.cause.RepairResult.TheVariants as result
+use Rattle.store_map.specs.declared.call_name.CallName.TheVariants as name
+use Rattle.store_map.specs.declared.cause.Cause.TheVariants as cause
+use Rattle.store_map.specs.declared.cause.RepairResult.TheVariants as result
 use Rattle.store_rows.specs.Rows.{Row, object_bytes, no_lines}
 use Rattle.store_rows.specs.RowLines.{replied, refused, repaired, listed, server, triple, away}
 use Rattle.store_rows.specs.RowsAway.{away_script, bytes_with}

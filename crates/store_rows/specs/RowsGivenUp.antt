@@ -4,8 +4,8 @@ use Rattle.store_map.specs.declared.call.Call.TheVariants as call
 use Rattle.store_map.specs.declared.content.Content.TheVariants as content
 use Rattle.store_map.specs.declared.reply.Reply.TheVariants as reply
 use Rattle.store_map.specs.declared.actor.Token.TheVariants as token
-use Rattle.transcript_text.specs.declared.call_name.CallName.TheVariants as name
-use Rattle.transcript_text.specs.declared.cause.Cause.TheVariants as cause
+use Rattle.store_map.specs.declared.call_name.CallName.TheVariants as name
+use Rattle.store_map.specs.declared.cause.Cause.TheVariants as cause
 use Rattle.store_rows.specs.Rows.{Row, small_script, no_lines}
 use Rattle.store_rows.specs.RowLines.{replied, unfinished, refused, unanswered, listed, took, server}
 

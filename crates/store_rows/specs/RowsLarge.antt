@@ -8,8 +8,8 @@ use Rattle.store_map.specs.declared.reply.Reply.TheVariants as reply
 use Rattle.store_map.specs.declared.actor.Token.TheVariants as token
 use Rattle.store_map.specs.declared.script.ClientPart.{ClientPart}
 use Rattle.store_map.specs.declared.script.RepairPart.{RepairPart}
-use Rattle.transcript_text.specs.declared.call_name.CallName.TheVariants as name
-use Rattle.transcript_text.specs.declared.cause.RepairResult.TheVariants as result
+use Rattle.store_map.specs.declared.call_name.CallName.TheVariants as name
+use Rattle.store_map.specs.declared.cause.RepairResult.TheVariants as result
 use Rattle.store_rows.specs.Rows.{Row, small_script, no_lines}
 use Rattle.store_rows.specs.RowLines.{replied, repaired, listed, took, server}
 

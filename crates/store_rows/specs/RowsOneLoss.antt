@@ -4,7 +4,7 @@ use Rattle.store_map.specs.declared.call.Call.TheVariants as call
 use Rattle.store_map.specs.declared.content.Content.TheVariants as content
 use Rattle.store_map.specs.declared.reply.Reply.TheVariants as reply
 use Rattle.store_map.specs.declared.actor.Token.TheVariants as token
-use Rattle.transcript_text.specs.declared.call_name.CallName.TheVariants as name
+use Rattle.store_map.specs.declared.call_name.CallName.TheVariants as name
 use Rattle.store_rows.specs.Rows.{Row, small_script, object_bytes, put_and_get, no_lines}
 use Rattle.store_rows.specs.RowLines.{replied, listed, took, server}
 

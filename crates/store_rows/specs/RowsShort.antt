@@ -1,8 +1,8 @@
 -- Rows: memory is wanting.
 use Rattle.std.specs.Prelude.{◌≡◌, true, false, [], ◌∷◌, ◌++◌, replicate, List}
 use Rattle.store_map.specs.declared.reply.Reply.TheVariants as reply
-use Rattle.transcript_text.specs.declared.call_name.CallName.TheVariants as name
-use Rattle.transcript_text.specs.declared.cause.Cause.TheVariants as cause
+use Rattle.store_map.specs.declared.call_name.CallName.TheVariants as name
+use Rattle.store_map.specs.declared.cause.Cause.TheVariants as cause
 use Rattle.store_core.specs.Step.{Shortage}
 use Rattle.store_core.specs.Shown.{shown_of}
 use Rattle.store_rows.specs.Rows.{Row, no_lines}

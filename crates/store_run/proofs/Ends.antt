@@ -17,10 +17,10 @@ use Rattle.chunk_server.specs.Core.{core_of}
 use Rattle.chunk_server.specs.State.{ServerState}
 use Rattle.stripe_dir.specs.Sealed.{Sealed}
 use Rattle.sweeper.specs.Sweeps.{SweeperOf}
-use Rattle.world_lines.specs.Ended.{calling_at, ended_of}
-use Rattle.world_lines.specs.Served.{outcome_in, served_in}
-use Rattle.world_lines.specs.declared.calls.CallerCalls.{CallerCalls}
-use Rattle.world_lines.specs.declared.calls.EndedCall.{EndedCall}
+use Rattle.call_steps.specs.CallerCalls.{calling_at, ended_of}
+use Rattle.world_steps.specs.Served.{outcome_in, served_in}
+use Rattle.call_steps.specs.declared.caller_calls.CallerCalls.{CallerCalls}
+use Rattle.call_steps.specs.declared.caller_calls.EndedCall.{EndedCall}
 use Rattle.world_steps.specs.Known.{calling_by, calling_of}
 use Rattle.world_steps.specs.World.{DoingOf}
 use Rattle.actors.specs.Callers.{PartOf, who_of}

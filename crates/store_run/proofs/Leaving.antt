@@ -5,7 +5,7 @@ use Rattle.std.proofs.lemmas.List.{append-nil, append_assoc, length-map, length_
 use Rattle.std.proofs.lemmas.Option.{none-some}
 use Rattle.store_map.specs.declared.script.Script.{Script}
 use Rattle.store_merge.specs.MadeSteps.{MadeStep}
-use Rattle.world_lines.specs.declared.calls.CallerCalls.{CallerCalls}
+use Rattle.call_steps.specs.declared.caller_calls.CallerCalls.{CallerCalls}
 use Rattle.sweeper.specs.Sweeps.{SweeperOf}
 use Rattle.turn_lock.specs.TurnState.{TurnState}
 use Rattle.run_steps.specs.Noted.{Noted}

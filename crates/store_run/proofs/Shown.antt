@@ -10,7 +10,7 @@ use Rattle.store_map.specs.Naming.{IsValid}
 use Rattle.store_map.specs.declared.script.ClientPart.{ClientPart}
 use Rattle.store_map.specs.declared.script.RepairPart.{RepairPart}
 use Rattle.store_map.specs.declared.script.Script.{Script}
-use Rattle.transcript_text.specs.declared.transcript.Transcript.{Transcript}
+use Rattle.store_map.specs.declared.transcript.Transcript.{Transcript}
 use Rattle.store_core.specs.Core.{Core, sweeper_has_step}
 use Rattle.store_core.specs.History.{call_of}
 use Rattle.store_core.specs.Lookups.{first_garbage}
@@ -36,10 +36,10 @@ use Rattle.store_threads.proofs.Runs.{history, threaded_runs_are_runs}
 use Rattle.dir_parts.proofs.Entries.{slice_get-map}
 use Rattle.chunk_server.specs.Core.{core_of as server_core}
 use Rattle.lock_turns.proofs.Lists.{at_place}
-use Rattle.world_lines.specs.Ended.{HaveNames, calling_at, counts_of, ended_of}
-use Rattle.world_lines.specs.Served.{ServedAre}
-use Rattle.world_lines.specs.Shown.{Holds}
-use Rattle.world_lines.specs.declared.calls.CallerCalls.{CallerCalls}
+use Rattle.call_steps.specs.CallerCalls.{HaveNames, calling_at, counts_of, ended_of}
+use Rattle.world_steps.specs.Served.{ServedAre}
+use Rattle.world_steps.specs.HeldCore.{Holds}
+use Rattle.call_steps.specs.declared.caller_calls.CallerCalls.{CallerCalls}
 use Rattle.world_steps.specs.Known.{calling_by, calling_of, core_of}
 use Rattle.world_steps.specs.StandsFor.{AllStand, StandsFor}
 use Rattle.world_steps.specs.World.{ActorOf, DoingOf, WorldOf}

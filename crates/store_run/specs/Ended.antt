@@ -10,8 +10,8 @@ use Rattle.store_core.specs.Sweep.{is_busy}
 use Rattle.chunk_server.specs.Core.{core_of}
 use Rattle.chunk_server.specs.State.{ServerState}
 use Rattle.world_steps.specs.Known.{calling_of}
-use Rattle.world_lines.specs.Ended.{calling_at}
-use Rattle.world_lines.specs.declared.calls.CallerCalls.{CallerCalls}
+use Rattle.call_steps.specs.CallerCalls.{calling_at}
+use Rattle.call_steps.specs.declared.caller_calls.CallerCalls.{CallerCalls}
 use Rattle.run_lists.specs.Ended.{AllHaveEnded, CallerOf, PlacesStand}
 use Rattle.run_lists.specs.Logs.{Logs}
 use Rattle.run_served.specs.SeenOwed.{OwedBySeen}

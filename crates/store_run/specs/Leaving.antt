@@ -5,8 +5,8 @@ use Rattle.clay_grid.specs.Shape.{chunk_count}
 use Rattle.store_map.specs.declared.actor.Actor.{Actor}
 use Rattle.store_map.specs.declared.actor.Actor.TheVariants as actor
 use Rattle.store_map.specs.declared.script.Script.{Script}
-use Rattle.world_lines.specs.Ended.{calling_at}
-use Rattle.world_lines.specs.declared.calls.CallerCalls.{CallerCalls}
+use Rattle.call_steps.specs.CallerCalls.{calling_at}
+use Rattle.call_steps.specs.declared.caller_calls.CallerCalls.{CallerCalls}
 use Rattle.world_steps.specs.Known.{calling_by}
 use Rattle.actors.specs.Callers.{CallerOf}
 use Rattle.actors.specs.Inside.{served_of}

@@ -11,6 +11,7 @@ ghost use Rattle.store_run.specs.Ended.{IsEnded};
 ghost use Rattle.store_run.specs.Left.{HasLeft};
 
 use crate::ending::Left;
+use call_steps::CallerCalls;
 use chunk_server::Server;
 use lock_rows::take_out_each;
 use lock_turns::take_out;
@@ -20,7 +21,6 @@ use std::sync::Wait;
 use stripe_dir::Directory;
 use sweeper::Sweeper;
 use turn_lock::{Historied, Lock, Turn};
-use world_lines::CallerCalls;
 
 /// The directory and the servers, the sweeper, and the calls of the clients and of the repairers.
 pub(crate) struct Ended {

@@ -9,6 +9,7 @@ ghost use Rattle.store_run.specs.Dealt.{turns_of};
 ghost use Rattle.store_run.specs.Leaving.{AreAllOver, CallerLeaves, HasLeftOf, IsNextOf, Leaves};
 ghost use Rattle.store_run.specs.Left.{HasLeft, turns_in};
 
+use call_steps::CallerCalls;
 use lock_rows::take_spread;
 use lock_turns::take_last;
 use run_seats::{
@@ -19,7 +20,6 @@ use std::alloc::{AllocError, Global};
 use store_map::{Actor, Script};
 use sweeper::Sweeper;
 use turn_lock::Turn;
-use world_lines::CallerCalls;
 
 /// What the actors leave, in the order of their numbers: the calls of the clients and of the repairers, the
 /// sweeper, the turns at the directory, and a row of turns of each, one at each server.

@@ -6,7 +6,7 @@ ghost use Rattle.store_run.specs.Swept.{IsRunToEnd};
 
 use crate::ended::Ended;
 use std::alloc::{AllocError, Global};
-use transcript_text::Transcript;
+use store_map::Transcript;
 use world_lines::make_transcript;
 
 impl Ended {

@@ -20,9 +20,8 @@ use run_seats::{Gate, Store, Worker, work_together};
 use std::alloc::{AllocError, Global};
 use std::sync::Wait;
 use std::thread::Threads;
-use store_map::Script;
+use store_map::{Script, Transcript};
 use stripe_dir::Seat;
-use transcript_text::Transcript;
 use version_seal::{Book, Sealer};
 
 // All actors of the store's script, dealt to so many workers.

@@ -13,10 +13,10 @@ use Rattle.store_map.specs.declared.actor.Actor.TheVariants as actor
 use Rattle.store_map.specs.declared.actor.Token.{Token}
 use Rattle.store_map.specs.declared.actor.Token.TheVariants as token
 use Rattle.store_map.specs.declared.script.Script.{Script}
-use Rattle.transcript_text.specs.declared.call_name.CallName.{CallName}
-use Rattle.transcript_text.specs.declared.call_name.CallName.TheVariants as name
-use Rattle.transcript_text.specs.declared.line.GLine.{GLine}
-use Rattle.transcript_text.specs.declared.line.TLine.{TLine}
+use Rattle.store_map.specs.declared.call_name.CallName.{CallName}
+use Rattle.store_map.specs.declared.call_name.CallName.TheVariants as name
+use Rattle.store_map.specs.declared.line.GLine.{GLine}
+use Rattle.store_map.specs.declared.line.TLine.{TLine}
 use Rattle.store_core.specs.Act.{Act, DirectoryStep, ServerStep}
 use Rattle.store_core.specs.Core.{Core, first_core}
 use Rattle.store_core.specs.Lists.{change_at}
@@ -39,7 +39,7 @@ use Rattle.store_runs.proofs.RunsSound.{RunKeeps}
 use Rattle.store_runs.proofs.Scripts.{replicated}
 use Rattle.hist_rules.specs.Counts.{is_wipe_of}
 use Rattle.store_history.proofs.Naming.{wipes}
-use Rattle.transcript_text.specs.declared.transcript.Transcript.{Transcript}
+use Rattle.store_map.specs.declared.transcript.Transcript.{Transcript}
 use Rattle.store_history.proofs.ActorLines.{each_changed}
 use Rattle.store_history.proofs.AtWork.{AtWork, client_at, repairer_at, first, act, after, proper}
 use Rattle.store_takes.proofs.Given.{Was, WipesNot, act_matches, sums_match}

@@ -5,7 +5,7 @@ use Rattle.clay_grid.specs.Shape.{chunk_count}
 use Rattle.store_map.specs.Naming.{IsValid}
 use Rattle.store_map.specs.declared.actor.Token.{Token}
 use Rattle.store_map.specs.declared.script.Script.{Script}
-use Rattle.transcript_text.specs.declared.transcript.Transcript.{Transcript}
+use Rattle.store_map.specs.declared.transcript.Transcript.{Transcript}
 use Rattle.hist_rules.specs.Finished.{Finished}
 use Rattle.store_core.specs.Work.{client_work, repairer_work}
 use Rattle.hist_rules.specs.FoundMissing.{FoundMissing}

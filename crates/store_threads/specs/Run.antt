@@ -1,7 +1,7 @@
 -- What a threaded run of a script shows, as a whole.
 use Rattle.std.specs.Prelude.{◌≡◌, List, [], All}
 use Rattle.store_map.specs.declared.script.Script.{Script}
-use Rattle.transcript_text.specs.declared.transcript.Transcript.{Transcript}
+use Rattle.store_map.specs.declared.transcript.Transcript.{Transcript}
 use Rattle.hist_rules.specs.Finished.{Finished}
 use Rattle.store_core.specs.Core.{Core}
 use Rattle.store_core.specs.Schedule.{run_core}

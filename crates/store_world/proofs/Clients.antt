@@ -23,7 +23,7 @@ use Rattle.world_steps.specs.Goes.{Leads}
 use Rattle.world_steps.proofs.Few.{worlds_make_few_steps}
 use Rattle.world_traces.specs.TurnMade.{turn_made}
 use Rattle.world_traces.proofs.Turns.{clients_tell}
-use Rattle.trace_lines.specs.declared.step.Step.{Step}
+use Rattle.call_steps.specs.declared.step.Step.{Step}
 use Rattle.actors.specs.Turns.{AreServers, places_of}
 use Rattle.actors.specs.Turned.{MakesTurn, Leads as ActorLeads, with_places}
 use Rattle.actors.specs.LeadLaws.{AllTurnsLead}

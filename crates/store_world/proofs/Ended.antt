@@ -7,10 +7,10 @@ use Rattle.clay_grid.specs.Shape.{chunk_count}
 use Rattle.store_map.specs.Limits.{size_of}
 use Rattle.store_core.specs.History.{call_of}
 use Rattle.store_core.specs.Work.{Ended, Calling}
-use Rattle.world_lines.specs.Ended.{ended_of, calling_at, counts_of, HaveNames}
-use Rattle.world_lines.specs.Served.{ServedAre}
-use Rattle.world_lines.specs.Shown.{Holds}
-use Rattle.world_lines.specs.declared.calls.CallerCalls.{CallerCalls}
+use Rattle.call_steps.specs.CallerCalls.{ended_of, calling_at, counts_of, HaveNames}
+use Rattle.world_steps.specs.Served.{ServedAre}
+use Rattle.world_steps.specs.HeldCore.{Holds}
+use Rattle.call_steps.specs.declared.caller_calls.CallerCalls.{CallerCalls}
 use Rattle.world_steps.specs.World.{DoingOf}
 use Rattle.world_steps.specs.Known.{calling_by, calling_of, core_of}
 use Rattle.actors.specs.Callers.{CallerOf}

@@ -24,9 +24,9 @@ use Rattle.call_steps.specs.declared.need.Need.TheVariants as need
 use Rattle.call_steps.specs.Acts.{act_by, server_act}
 use Rattle.call_steps.specs.Answers.{directory_answer, server_told}
 use Rattle.sweeper.specs.Sweeps.{need_at, told_at_directory_by, told_at_server_by}
-use Rattle.trace_lines.specs.declared.step.Answer.TheVariants as answer
-use Rattle.trace_lines.specs.declared.step.Step.{Step}
-use Rattle.trace_lines.specs.Steps.{IsStep}
+use Rattle.call_steps.specs.declared.step.StepAnswer.TheVariants as answer
+use Rattle.call_steps.specs.declared.step.Step.{Step}
+use Rattle.world_traces.specs.StepsTold.{IsStep}
 use Rattle.world_steps.specs.World.{ActorOf}
 use Rattle.world_steps.specs.Goes.{Leads}
 use Rattle.world_traces.specs.Telling.{TellsOf}

@@ -2,8 +2,8 @@
 use Rattle.std.specs.Prelude.{◌≡◌, ℕ, List, length, Some}
 use Rattle.std.specs.List.{slice_get}
 use Rattle.clay_grid.specs.Shape.{chunk_count}
-use Rattle.world_lines.specs.Ended.{calling_at}
-use Rattle.world_lines.specs.declared.calls.CallerCalls.{CallerCalls}
+use Rattle.call_steps.specs.CallerCalls.{calling_at}
+use Rattle.call_steps.specs.declared.caller_calls.CallerCalls.{CallerCalls}
 use Rattle.world_steps.specs.Known.{calling_by}
 use Rattle.actors.specs.Callers.{CallerOf}
 use Rattle.actors.specs.Inside.{served_of}

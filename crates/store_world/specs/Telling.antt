@@ -11,10 +11,10 @@ use Rattle.call_steps.specs.declared.act.DirectoryAct.TheVariants as there
 use Rattle.call_steps.specs.declared.act.ServerAct.{ServerAct}
 use Rattle.call_steps.specs.declared.answer.DirectoryAnswer.TheVariants as said
 use Rattle.call_steps.specs.declared.answer.ServerAnswer.TheVariants as done
-use Rattle.trace_lines.specs.declared.step.Answer.{Answer}
-use Rattle.trace_lines.specs.declared.step.Answer.TheVariants as answer
-use Rattle.trace_lines.specs.declared.step.Step.{Step}
-use Rattle.trace_lines.specs.Steps.{AreSteps}
+use Rattle.call_steps.specs.declared.step.StepAnswer.{StepAnswer}
+use Rattle.call_steps.specs.declared.step.StepAnswer.TheVariants as answer
+use Rattle.call_steps.specs.declared.step.Step.{Step}
+use Rattle.world_traces.specs.StepsTold.{AreSteps}
 use Rattle.world_traces.specs.Telling.{LeadsTelling}
 use Rattle.store_world.specs.Stored.{StoredWorld, world_of}
 
@@ -30,7 +30,7 @@ steps_in None = []
 steps_in (Some step) = step ∷ []
 
 -- a step of an actor without calls
-abbrev pub act_told : Actor → Act → Answer → Step
+abbrev pub act_told : Actor → Act → StepAnswer → Step
 act_told who act answer = record { who = who; number = 0; short = false; act = act; answer = answer }
 
 -- the operator's, at a server, and where a pass is given up

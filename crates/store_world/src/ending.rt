@@ -8,9 +8,10 @@ ghost use Rattle.store_world.specs.Stored.{world_of};
 use crate::beginning::leave_callers;
 use crate::world::World;
 use actors::Caller;
+use call_steps::CallerCalls;
 use std::alloc::{AllocError, Global};
-use transcript_text::Transcript;
-use world_lines::{CallerCalls, make_transcript};
+use store_map::Transcript;
+use world_lines::make_transcript;
 
 // The callers' calls, in their order.
 fn calls_of(alloc: Global, mut callers: Vec<Caller>) -> Result<Vec<CallerCalls>, AllocError>

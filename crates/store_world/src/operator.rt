@@ -8,9 +8,8 @@ ghost use Rattle.store_world.specs.Telling.{LeadsTold, server_act_told, reap_tol
 
 use crate::telling::step_of;
 use crate::world::World;
-use call_steps::{Act, DirectoryAct, DirectoryAnswer, ServerAct, ServerAnswer};
+use call_steps::{Act, DirectoryAct, DirectoryAnswer, ServerAct, ServerAnswer, Step, StepAnswer};
 use store_map::{Actor, Point};
-use trace_lines::{Answer, Step};
 
 // The operator's step at the server, which answers nothing.
 fn step_at_server(server: u32, act: ServerAct) -> Step
@@ -19,7 +18,7 @@ fn step_at_server(server: u32, act: ServerAct) -> Step
     step_of(
         Actor::Operator,
         Act::Server(server, act),
-        Answer::Server(ServerAnswer::Made),
+        StepAnswer::Server(ServerAnswer::Made),
     )
 }
 
@@ -30,7 +29,7 @@ fn step_of_reap(reaped: Actor, at: Option<Point>) -> Step
     step_of(
         Actor::Operator,
         Act::Directory(DirectoryAct::Reap(reaped)),
-        Answer::Directory(DirectoryAnswer::GivenUp(at)),
+        StepAnswer::Directory(DirectoryAnswer::GivenUp(at)),
     )
 }
 

@@ -8,8 +8,7 @@ use crate::world::World;
 use clay_model::Coder;
 use std::alloc::{AllocError, Global};
 use std::thread::Threads;
-use store_map::Script;
-use transcript_text::Transcript;
+use store_map::{Script, Transcript};
 use version_seal::{Book, Sealer};
 
 // The run over the book of the script's versions.

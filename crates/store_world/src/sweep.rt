@@ -9,9 +9,8 @@ ghost use Rattle.store_world.specs.Telling.{LeadsTold};
 
 use crate::telling::step_of;
 use crate::world::World;
-use call_steps::Need;
+use call_steps::{Need, Step, StepAnswer};
 use store_map::Actor;
-use trace_lines::{Answer, Step};
 
 impl<'a> World<'a> {
     /// The sweeper's turn, and the step that it made.
@@ -25,11 +24,11 @@ impl<'a> World<'a> {
         match self.sweeper.need() {
             Need::Directory => {
                 let answer = self.sweeper.on_directory(&mut self.directory);
-                step_of(Actor::Sweeper, act, Answer::Directory(answer))
+                step_of(Actor::Sweeper, act, StepAnswer::Directory(answer))
             }
             Need::Server(server) => {
                 let answer = self.sweeper.on_server(&mut self.servers[server as usize]);
-                step_of(Actor::Sweeper, act, Answer::Server(answer))
+                step_of(Actor::Sweeper, act, StepAnswer::Server(answer))
             }
             Need::Coder | Need::Finished => unreachable!(),
         }

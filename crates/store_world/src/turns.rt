@@ -11,10 +11,10 @@ ghost use Rattle.store_world.specs.Telling.{LeadsTold, steps_in};
 use crate::world::World;
 use actors::Caller;
 use actors::laws::turns_lead;
+use call_steps::Step;
 use clay_model::Coder;
 use client_patch::laws::bytes_of_the_map_are_padded;
 use std::thread::Threads;
-use trace_lines::Step;
 
 // Whether there is such a caller and it has a step.
 fn has_step(callers: &[Caller], i: u32) -> bool

@@ -6,9 +6,9 @@ use Rattle.call_steps.specs.declared.answer.DirectoryAnswer.{DirectoryAnswer}
 use Rattle.call_steps.specs.declared.answer.DirectoryAnswer.TheVariants as there
 use Rattle.call_steps.specs.declared.answer.ServerAnswer.{ServerAnswer}
 use Rattle.call_steps.specs.declared.answer.ServerAnswer.TheVariants as here
-use Rattle.transcript_text.specs.Triples.{placement_text, found_text}
-use Rattle.trace_lines.specs.declared.step.Answer.{Answer}
-use Rattle.trace_lines.specs.declared.step.Answer.TheVariants as answer
+use Rattle.store_map.specs.Triples.{placement_text, found_text}
+use Rattle.call_steps.specs.declared.step.StepAnswer.{StepAnswer}
+use Rattle.call_steps.specs.declared.step.StepAnswer.TheVariants as answer
 
 -- REPLY: the first word of a transcript's, and a length with its number
 abbrev pub reply_kind_text : ReplyKind → List ℕ
@@ -55,6 +55,6 @@ server_answer_text here.Made = codes "made"
 server_answer_text here.Short = codes "short"
 
 -- ANSWER
-abbrev pub answer_text : Answer → List ℕ
+abbrev pub answer_text : StepAnswer → List ℕ
 answer_text (answer.Directory told) = directory_answer_text told
 answer_text (answer.Server told) = server_answer_text told

@@ -1,4 +1,3 @@
-pub mod Steps
 pub mod Words
 pub mod Answers
 pub mod Lines

@@ -8,8 +8,8 @@ use Rattle.call_steps.specs.declared.act.DirectoryAct.{DirectoryAct}
 use Rattle.call_steps.specs.declared.act.DirectoryAct.TheVariants as there
 use Rattle.call_steps.specs.declared.act.ServerAct.{ServerAct}
 use Rattle.call_steps.specs.declared.act.ServerAct.TheVariants as here
-use Rattle.transcript_text.specs.declared.call_name.CallName.TheVariants as name
-use Rattle.transcript_text.specs.Words.{call_text}
+use Rattle.store_map.specs.declared.call_name.CallName.TheVariants as name
+use Rattle.store_map.specs.CallNames.{call_text}
 
 -- cI, rI, s or o
 abbrev pub actor_text : Actor → List ℕ

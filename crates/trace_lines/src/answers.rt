@@ -1,21 +1,20 @@
 //! What a step is answered, in words.
 ghost use Rattle.std.specs.Prelude.{◌≡◌, ◌++◌, OnOk, codes};
-ghost use Rattle.transcript_text.specs.Triples.{placement_text, found_text};
+ghost use Rattle.store_map.specs.Triples.{placement_text, found_text};
 ghost use Rattle.trace_lines.specs.Answers.{reply_kind_text, directory_answer_text, server_answer_text, answer_text};
 
-use crate::step::Answer;
-use call_steps::{DirectoryAnswer, ReplyKind, ServerAnswer};
+use call_steps::{DirectoryAnswer, ReplyKind, ServerAnswer, StepAnswer};
 use std::alloc::AllocError;
 use store_map::{Found, Placement};
 use transcript_text::append;
 
 /// Appends the answer's words.
-pub fn append_answer(out: &mut Vec<u8>, answer: Answer) -> Result<(), AllocError>
+pub fn append_answer(out: &mut Vec<u8>, answer: StepAnswer) -> Result<(), AllocError>
     ensures { OnOk result (out.new.items ≡ out.old.items ++ answer_text answer) }
 {
     match answer {
-        Answer::Directory(told) => append_directory_answer(out, told),
-        Answer::Server(told) => append_server_answer(out, told),
+        StepAnswer::Directory(told) => append_directory_answer(out, told),
+        StepAnswer::Server(told) => append_server_answer(out, told),
     }
 }
 

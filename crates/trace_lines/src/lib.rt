@@ -2,11 +2,9 @@
 #![tactic(auto)]
 
 mod answers;
-mod step;
 mod words;
 mod worked;
 mod write;
 
-pub use step::{Answer, Step};
 pub use worked::worked_steps;
 pub use write::{append_step, append_steps};

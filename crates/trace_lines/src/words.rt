@@ -4,8 +4,8 @@ ghost use Rattle.trace_lines.specs.Words.{actor_text, caller_text, shortage_text
 
 use call_steps::{Act, DirectoryAct, ServerAct};
 use std::alloc::AllocError;
-use store_map::Actor;
-use transcript_text::{CallName, append};
+use store_map::{Actor, CallName};
+use transcript_text::append;
 
 /// Appends the actor's call of this number.
 pub fn append_caller(out: &mut Vec<u8>, who: Actor, number: u32) -> Result<(), AllocError>

@@ -4,8 +4,8 @@ ghost use Rattle.trace_lines.specs.Lines.{step_start, step_end, step_line, lines
 ghost use Rattle.trace_lines.specs.Words.{caller_text, shortage_text};
 
 use crate::answers::append_answer;
-use crate::step::Step;
 use crate::words::{append_act, append_caller, append_shortage};
+use call_steps::Step;
 use std::alloc::AllocError;
 use transcript_text::append;
 

@@ -4,7 +4,7 @@ use Rattle.clay_grid.specs.Limits.{IsGeometry}
 use Rattle.store_map.specs.Naming.{IsValid}
 use Rattle.store_map.specs.declared.actor.Token.{Token}
 use Rattle.store_map.specs.declared.script.Script.{Script}
-use Rattle.transcript_text.specs.declared.transcript.Transcript.{Transcript}
+use Rattle.store_map.specs.declared.transcript.Transcript.{Transcript}
 use Rattle.store_core.specs.Shown.{shown, shown_of}
 use Rattle.store_core.specs.Step.{Shortage}
 use Rattle.store_in_time.specs.Trace.{Made}
@@ -12,8 +12,8 @@ use Rattle.store_in_time.specs.Steps.{run_trace}
 use Rattle.store_answers.proofs.Ample.{ample_runs_are_one}
 use Rattle.store_answers.proofs.Plays.{runs_are_faithful, runs_are_played}
 use Rattle.store_answers.proofs.Shows.{runs_show_histories}
-use Rattle.trace_lines.specs.declared.step.Step.{Step}
-use Rattle.trace_lines.specs.Steps.{AreSteps}
+use Rattle.call_steps.specs.declared.step.Step.{Step}
+use Rattle.world_traces.specs.StepsTold.{AreSteps}
 use Rattle.world_steps.specs.World.{WorldOf}
 use Rattle.world_steps.specs.Known.{core_of}
 use Rattle.world_steps.specs.Goes.{IsReachedBy}

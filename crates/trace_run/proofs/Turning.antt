@@ -5,7 +5,7 @@ use Rattle.store_map.specs.declared.script.Script.{Script}
 use Rattle.store_core.specs.Core.{sweeper_has_step}
 use Rattle.store_in_time.specs.Trace.{Made}
 use Rattle.store_in_time.specs.Steps.{sweep_token}
-use Rattle.trace_lines.specs.declared.step.Step.{Step}
+use Rattle.call_steps.specs.declared.step.Step.{Step}
 use Rattle.world_steps.specs.World.{WorldOf}
 use Rattle.world_steps.specs.Known.{core_of}
 use Rattle.world_traces.specs.Telling.{LeadsTelling}

@@ -4,8 +4,8 @@ use Rattle.store_map.specs.declared.actor.Token.{Token}
 use Rattle.store_map.specs.declared.script.Script.{Script}
 use Rattle.store_core.specs.Step.{Shortage}
 use Rattle.store_in_time.specs.Trace.{Made}
-use Rattle.trace_lines.specs.declared.step.Step.{Step}
-use Rattle.trace_lines.specs.Steps.{AreSteps}
+use Rattle.call_steps.specs.declared.step.Step.{Step}
+use Rattle.world_traces.specs.StepsTold.{AreSteps}
 use Rattle.world_steps.specs.World.{WorldOf}
 use Rattle.world_traces.specs.Traced.{IsTracedBy}
 

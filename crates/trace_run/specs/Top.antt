@@ -3,8 +3,8 @@ use Rattle.std.specs.Prelude.{◌≡◌, ◌⊎◌, ℕ, List, ◌++◌}
 use Rattle.store_map.specs.declared.script.Script.{Script}
 use Rattle.script_text.specs.FirstFault.{Spelled}
 use Rattle.transcript_text.specs.Text.{text_of}
-use Rattle.transcript_text.specs.declared.transcript.Transcript.{Transcript}
-use Rattle.trace_lines.specs.declared.step.Step.{Step}
+use Rattle.store_map.specs.declared.transcript.Transcript.{Transcript}
+use Rattle.call_steps.specs.declared.step.Step.{Step}
 use Rattle.trace_lines.specs.Lines.{lines_of}
 use Rattle.clay_cli.specs.Play.{IsFaulty}
 use Rattle.clay_cli.specs.declared.status.Status.{Status}

@@ -8,12 +8,12 @@ ghost use Rattle.world_traces.specs.Traced.{GoesTelling, IsTraced};
 ghost use Rattle.trace_run.specs.Adds.{Adds};
 
 use crate::rounds::round;
+use call_steps::Step;
 use clay_model::Coder;
 use std::alloc::AllocError;
 use std::thread::Threads;
 use store_map::Script;
 use store_world::World;
-use trace_lines::Step;
 
 /// All take turns until nobody has a step. That the script is valid, and that some run of it comes to the
 /// world, bounds the rounds.

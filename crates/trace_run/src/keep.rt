@@ -2,8 +2,8 @@
 ghost use Rattle.std.specs.Prelude.{◌≡◌, ◌++◌, ◌∷◌, [], OnOk};
 ghost use Rattle.store_world.specs.Telling.{steps_in};
 
+use call_steps::Step;
 use std::alloc::AllocError;
-use trace_lines::Step;
 
 /// A step that was made.
 pub(crate) fn keep(steps: &mut Vec<Step>, step: Step) -> Result<(), AllocError>

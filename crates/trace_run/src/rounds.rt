@@ -7,12 +7,12 @@ ghost use Rattle.world_traces.specs.RoundTells.{client_tokens, repairer_tokens, 
 ghost use Rattle.trace_run.specs.Adds.{Adds};
 
 use crate::keep::{keep, keep_turn};
+use call_steps::Step;
 use clay_model::Coder;
 use std::alloc::AllocError;
 use std::thread::Threads;
 use store_map::Script;
 use store_world::World;
-use trace_lines::Step;
 
 // The turns of the first so many clients.
 fn client_turns<R: Threads + Sync, C: Coder>(

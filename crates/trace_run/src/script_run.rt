@@ -9,13 +9,12 @@ ghost use Rattle.trace_run.specs.Adds.{TracesTo};
 ghost use Rattle.trace_run.specs.Traced.{IsTracedRun};
 
 use crate::step::step;
+use call_steps::Step;
 use clay_model::Coder;
 use std::alloc::{AllocError, Global};
 use std::thread::Threads;
-use store_map::Script;
+use store_map::{Script, Transcript};
 use store_world::World;
-use trace_lines::Step;
-use transcript_text::Transcript;
 use version_seal::{Book, Sealer};
 
 /// A run's steps, in their order, and its transcript.

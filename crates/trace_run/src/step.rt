@@ -8,12 +8,12 @@ ghost use Rattle.trace_run.specs.Adds.{Adds};
 
 use crate::drain::drain;
 use crate::keep::{keep, keep_turn};
+use call_steps::Step;
 use clay_model::Coder;
 use std::alloc::AllocError;
 use std::thread::Threads;
 use store_map::{Script, Token};
 use store_world::World;
-use trace_lines::Step;
 
 /// The steps of a token that names the script's own.
 pub(crate) fn step<R: Threads + Sync, C: Coder>(

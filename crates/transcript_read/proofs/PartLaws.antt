@@ -13,11 +13,11 @@ use Rattle.line_grammar.specs.Lines.{Lacks}
 use Rattle.line_grammar.specs.Numbers.{number_word, IsNumberWord}
 use Rattle.line_grammar.proofs.LineLaws.{same_parts, never_parted, Lacks-append}
 use Rattle.line_grammar.proofs.NumberLaws.{IsDigits, IsDigits-number_word, number_word_is, number_word-value, number_word_injective, number_lacks}
-use Rattle.transcript_text.specs.Triples.{placement_text, found_text, triple_text}
-use Rattle.transcript_text.specs.Words.{call_text}
-use Rattle.transcript_text.specs.declared.call_name.CallName.{CallName}
-use Rattle.transcript_text.specs.declared.call_name.CallName.TheVariants.{Client, Repairer}
-use Rattle.transcript_text.specs.declared.cause.Triple.{Triple}
+use Rattle.store_map.specs.Triples.{placement_text, found_text, triple_text}
+use Rattle.store_map.specs.CallNames.{call_text}
+use Rattle.store_map.specs.declared.call_name.CallName.{CallName}
+use Rattle.store_map.specs.declared.call_name.CallName.TheVariants.{Client, Repairer}
+use Rattle.store_map.specs.declared.cause.Triple.{Triple}
 use Rattle.transcript_read.specs.Forms.{IsClient, IsRepairer}
 use Rattle.transcript_read.specs.Reads.{Reads, Refuses}
 use Rattle.transcript_read.specs.Values.{IsLong, IsShort, IsCallName, IsPlacement, IsFound, IsTriple}

@@ -15,16 +15,17 @@ use Rattle.line_grammar.proofs.DigitLaws.{lower-encode}
 use Rattle.line_grammar.proofs.LineLaws.{same_parts, Lacks-append, Lacks-literal, Lacks-from_test}
 use Rattle.std.proofs.lemmas.List.Elements.{All-head, All-tail}
 use Rattle.std.proofs.lemmas.List.Sums.{list_all-from_AllPass}
-use Rattle.transcript_text.specs.Triples.{placement_text, found_text, triple_text}
-use Rattle.transcript_text.specs.Words.{call_text, missing_text, shown_text, cause_text, result_text, unavailable_text}
-use Rattle.transcript_text.specs.declared.call_name.CallName.{CallName}
-use Rattle.transcript_text.specs.declared.cause.Triple.{Triple}
-use Rattle.transcript_text.specs.declared.cause.Cause.{Cause}
-use Rattle.transcript_text.specs.declared.cause.Cause.TheVariants as cause
-use Rattle.transcript_text.specs.declared.cause.RepairResult.{RepairResult}
-use Rattle.transcript_text.specs.declared.cause.RepairResult.TheVariants as repair
-use Rattle.transcript_text.specs.declared.shown.Shown.{Shown}
-use Rattle.transcript_text.specs.declared.shown.Shown.TheVariants as shown
+use Rattle.store_map.specs.Triples.{placement_text, found_text, triple_text}
+use Rattle.store_map.specs.CallNames.{call_text}
+use Rattle.transcript_text.specs.Words.{missing_text, shown_text, cause_text, result_text, unavailable_text}
+use Rattle.store_map.specs.declared.call_name.CallName.{CallName}
+use Rattle.store_map.specs.declared.cause.Triple.{Triple}
+use Rattle.store_map.specs.declared.cause.Cause.{Cause}
+use Rattle.store_map.specs.declared.cause.Cause.TheVariants as cause
+use Rattle.store_map.specs.declared.cause.RepairResult.{RepairResult}
+use Rattle.store_map.specs.declared.cause.RepairResult.TheVariants as repair
+use Rattle.store_map.specs.declared.shown.Shown.{Shown}
+use Rattle.store_map.specs.declared.shown.Shown.TheVariants as shown
 use Rattle.transcript_read.specs.Bodies.{line_body}
 use Rattle.transcript_read.specs.Forms.{IsLine}
 use Rattle.transcript_read.specs.Values.{IsLong, IsPlacement, IsFound, IsTriple, IsShown}

@@ -7,14 +7,14 @@ use Rattle.line_grammar.specs.Lines.{Lacks}
 use Rattle.line_grammar.specs.declared.fault.FaultKind.{FaultKind}
 use Rattle.line_grammar.proofs.LineLaws.{same_parts, never_parted}
 use Rattle.transcript_text.specs.Text.{text_of}
-use Rattle.transcript_text.specs.declared.line.HLine.{HLine}
-use Rattle.transcript_text.specs.declared.line.XLine.{XLine}
-use Rattle.transcript_text.specs.declared.line.RLine.{RLine}
-use Rattle.transcript_text.specs.declared.line.OLine.{OLine}
-use Rattle.transcript_text.specs.declared.line.LLine.{LLine}
-use Rattle.transcript_text.specs.declared.line.GLine.{GLine}
-use Rattle.transcript_text.specs.declared.line.TLine.{TLine}
-use Rattle.transcript_text.specs.declared.transcript.Transcript.{Transcript}
+use Rattle.store_map.specs.declared.line.HLine.{HLine}
+use Rattle.store_map.specs.declared.line.XLine.{XLine}
+use Rattle.store_map.specs.declared.line.RLine.{RLine}
+use Rattle.store_map.specs.declared.line.OLine.{OLine}
+use Rattle.store_map.specs.declared.line.LLine.{LLine}
+use Rattle.store_map.specs.declared.line.GLine.{GLine}
+use Rattle.store_map.specs.declared.line.TLine.{TLine}
+use Rattle.store_map.specs.declared.transcript.Transcript.{Transcript}
 use Rattle.transcript_read.specs.Bodies.{line_body, line_text}
 use Rattle.transcript_read.specs.Fault.{RestFault, IsFault}
 use Rattle.transcript_read.specs.Forms.{IsLine}

@@ -5,7 +5,7 @@ use Rattle.line_grammar.specs.Lines.{Lacks}
 use Rattle.line_grammar.specs.declared.fault.FaultKind.{FaultKind}
 use Rattle.line_grammar.specs.declared.fault.FaultKind.TheVariants.{Syntax, MissingEnd}
 use Rattle.transcript_text.specs.Text.{text_of}
-use Rattle.transcript_text.specs.declared.transcript.Transcript.{Transcript}
+use Rattle.store_map.specs.declared.transcript.Transcript.{Transcript}
 use Rattle.transcript_read.specs.Bodies.{line_body, line_text}
 use Rattle.transcript_read.specs.Forms.{IsLine}
 use Rattle.transcript_read.specs.Order.{Follows, rank}

@@ -2,7 +2,7 @@
 use Rattle.std.specs.Prelude.{◌≡◌, ◌≢◌, ℕ, ◌+◌, ◌≤◌, List, length}
 use Rattle.line_grammar.specs.declared.fault.FaultKind.{FaultKind}
 use Rattle.transcript_text.specs.Text.{text_of}
-use Rattle.transcript_text.specs.declared.transcript.Transcript.{Transcript}
+use Rattle.store_map.specs.declared.transcript.Transcript.{Transcript}
 use Rattle.transcript_read.specs.Fault.{IsFault}
 use Rattle.transcript_read.specs.WellFormed.{IsWellFormed}
 

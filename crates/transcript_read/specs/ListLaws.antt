@@ -2,7 +2,7 @@
 use Rattle.std.specs.Prelude.{◌≡◌, ℕ, ◌<◌, ◌≤◌, length, map, All}
 use Rattle.std.specs.List.{AllPairs, range_with_len}
 use Rattle.transcript_text.specs.Text.{text_of}
-use Rattle.transcript_text.specs.declared.transcript.Transcript.{Transcript}
+use Rattle.store_map.specs.declared.transcript.Transcript.{Transcript}
 use Rattle.transcript_read.specs.Forms.{IsClient}
 use Rattle.transcript_read.specs.WellFormed.{IsWellFormed, lines_of}
 

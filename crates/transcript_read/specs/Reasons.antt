@@ -2,11 +2,11 @@
 use Rattle.std.specs.Prelude.{◌≢◌, ℕ, List, [], ◌++◌, ⊤, All, codes, decimal}
 use Rattle.std.specs.List.{flat_map}
 use Rattle.transcript_text.specs.Words.{missing_text}
-use Rattle.transcript_text.specs.declared.cause.Triple.{Triple}
-use Rattle.transcript_text.specs.declared.cause.Cause.{Cause}
-use Rattle.transcript_text.specs.declared.cause.Cause.TheVariants as cause
-use Rattle.transcript_text.specs.declared.cause.RepairResult.{RepairResult}
-use Rattle.transcript_text.specs.declared.cause.RepairResult.TheVariants as repair
+use Rattle.store_map.specs.declared.cause.Triple.{Triple}
+use Rattle.store_map.specs.declared.cause.Cause.{Cause}
+use Rattle.store_map.specs.declared.cause.Cause.TheVariants as cause
+use Rattle.store_map.specs.declared.cause.RepairResult.{RepairResult}
+use Rattle.store_map.specs.declared.cause.RepairResult.TheVariants as repair
 use Rattle.transcript_read.specs.Values.{IsLong, IsTriple}
 
 -- a stripe and its missing servers, of which at least one is listed

@@ -9,9 +9,8 @@ use crate::field::{Field, Unread, behind, first_field};
 use crate::list::{cut_word, read_list};
 use line_grammar::is_text;
 use std::alloc::Global;
-use store_map::Name;
-use transcript_text::{
-    CallName, Cause, GLine, HLine, LLine, OLine, RLine, RepairResult, Shown, TLine, XLine,
+use store_map::{
+    CallName, Cause, GLine, HLine, LLine, Name, OLine, RLine, RepairResult, Shown, TLine, XLine,
 };
 
 /// A line of a transcript.

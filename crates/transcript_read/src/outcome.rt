@@ -8,8 +8,7 @@ use crate::field::{Field, Unread, behind, first_field};
 use crate::list::read_list;
 use line_grammar::is_text;
 use std::alloc::Global;
-use store_map::ListOf;
-use transcript_text::{Cause, RepairResult, Triple};
+use store_map::{Cause, ListOf, RepairResult, Triple};
 
 // The stripe and the servers that `unavailable stripe` and this text spell.
 fn read_lost(alloc: Global, text: &[u8]) -> Result<(u64, ListOf<Triple>), Unread>

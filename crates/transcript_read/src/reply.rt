@@ -9,8 +9,7 @@ ghost use Rattle.transcript_read.specs.Reads.{Reads};
 use crate::field::{Field, Unread, behind};
 use line_grammar::{are_lower_digits, is_text, read_digits};
 use std::alloc::Global;
-use store_map::{ByteList, ListOf, Name, NameFault, Reply};
-use transcript_text::Shown;
+use store_map::{ByteList, ListOf, Name, NameFault, Reply, Shown};
 
 // The bytes that pairs of hexadecimal digits spell.
 fn read_bytes(alloc: Global, digits: &[u8]) -> Result<ByteList, Unread>

@@ -11,7 +11,7 @@ use crate::rest::TextRest;
 use line_grammar::{FaultKind, split_at_first};
 use script_text::ScriptFault;
 use std::alloc::Global;
-use transcript_text::Transcript;
+use store_map::Transcript;
 
 /// The transcript with lines of so many servers whose text the bytes are. Otherwise the fault is
 /// the first faulty line's. It takes time and memory in proportion to the bytes.

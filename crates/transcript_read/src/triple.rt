@@ -1,15 +1,14 @@
 //! Servers that lacked their chunk, races, and names of calls as fields of lines.
 ghost use Rattle.std.specs.Prelude.{◌++◌, codes, decimal};
-ghost use Rattle.transcript_text.specs.Triples.{placement_text, found_text, triple_text};
-ghost use Rattle.transcript_text.specs.Words.{call_text};
+ghost use Rattle.store_map.specs.Triples.{placement_text, found_text, triple_text};
+ghost use Rattle.store_map.specs.CallNames.{call_text};
 ghost use Rattle.transcript_read.specs.Values.{IsCallName, IsPlacement, IsFound, IsTriple};
 ghost use Rattle.transcript_read.specs.Reasons.{IsPair, pair_text};
 ghost use Rattle.transcript_read.specs.Reads.{Reads};
 
 use crate::field::{Field, Unread, behind, first_field};
 use std::alloc::Global;
-use store_map::{Found, Placement};
-use transcript_text::{CallName, Triple};
+use store_map::{CallName, Found, Placement, Triple};
 
 impl Field for Placement {
     ghost IsValue = { IsPlacement };

@@ -1,4 +1,3 @@
-pub mod Triples
 pub mod Words
 pub mod Lines
 pub mod Text

@@ -1,14 +1,15 @@
 -- The lines of a transcript. Each ends with one line feed.
 use Rattle.std.specs.Prelude.{ℕ, List, ◌++◌, codes, decimal}
 use Rattle.std.specs.List.{flat_map}
-use Rattle.transcript_text.specs.declared.line.HLine.{HLine}
-use Rattle.transcript_text.specs.declared.line.XLine.{XLine}
-use Rattle.transcript_text.specs.declared.line.RLine.{RLine}
-use Rattle.transcript_text.specs.declared.line.OLine.{OLine}
-use Rattle.transcript_text.specs.declared.line.LLine.{LLine}
-use Rattle.transcript_text.specs.declared.line.GLine.{GLine}
-use Rattle.transcript_text.specs.declared.line.TLine.{TLine}
-use Rattle.transcript_text.specs.Words.{call_text, shown_text, cause_text, result_text}
+use Rattle.store_map.specs.declared.line.HLine.{HLine}
+use Rattle.store_map.specs.declared.line.XLine.{XLine}
+use Rattle.store_map.specs.declared.line.RLine.{RLine}
+use Rattle.store_map.specs.declared.line.OLine.{OLine}
+use Rattle.store_map.specs.declared.line.LLine.{LLine}
+use Rattle.store_map.specs.declared.line.GLine.{GLine}
+use Rattle.store_map.specs.declared.line.TLine.{TLine}
+use Rattle.store_map.specs.CallNames.{call_text}
+use Rattle.transcript_text.specs.Words.{shown_text, cause_text, result_text}
 
 -- H P CALL REPLY
 abbrev pub h_line : HLine → List ℕ

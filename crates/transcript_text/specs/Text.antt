@@ -1,7 +1,7 @@
 -- The text of a whole transcript.
 use Rattle.std.specs.Prelude.{ℕ, List, ◌++◌, codes}
 use Rattle.std.specs.List.{flat_map}
-use Rattle.transcript_text.specs.declared.transcript.Transcript.{Transcript}
+use Rattle.store_map.specs.declared.transcript.Transcript.{Transcript}
 use Rattle.transcript_text.specs.Lines.{h_line, x_line, r_line, o_line, l_line, g_line, t_line}
 
 -- the lines kind by kind, and a last line `end`

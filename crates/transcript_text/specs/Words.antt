@@ -4,21 +4,14 @@ use Rattle.std.specs.List.{flat_map}
 use Rattle.hex.specs.Hex.{encode_lower}
 use Rattle.store_map.specs.declared.reply.Reply.{Reply}
 use Rattle.store_map.specs.declared.reply.Reply.TheVariants.{Done, Bytes, Length, NoSuch as AbsentReply, OutRange, TooLarge}
-use Rattle.transcript_text.specs.declared.call_name.CallName.{CallName}
-use Rattle.transcript_text.specs.declared.call_name.CallName.TheVariants.{Client, Repairer}
-use Rattle.transcript_text.specs.declared.cause.Triple.{Triple}
-use Rattle.transcript_text.specs.declared.cause.Cause.{Cause}
-use Rattle.transcript_text.specs.declared.cause.Cause.TheVariants.{Unavailable, Contended, Reaped, NoMemory}
-use Rattle.transcript_text.specs.declared.cause.RepairResult.{RepairResult}
-use Rattle.transcript_text.specs.declared.cause.RepairResult.TheVariants.{Rebuilt, Here, Away as RepairAway, NoSuch, Superseded, Unavailable as RepairUnavailable, Reaped as RepairReaped, NoMemory as RepairNoMemory}
-use Rattle.transcript_text.specs.declared.shown.Shown.{Shown}
-use Rattle.transcript_text.specs.declared.shown.Shown.TheVariants.{Reply as Replied, Unfinished}
-use Rattle.transcript_text.specs.Triples.{triple_text}
-
--- cI.N or rI.N
-abbrev pub call_text : CallName → List ℕ
-call_text (Client actor number) = codes "c" ++ decimal actor ++ codes "." ++ decimal number
-call_text (Repairer actor number) = codes "r" ++ decimal actor ++ codes "." ++ decimal number
+use Rattle.store_map.specs.declared.cause.Triple.{Triple}
+use Rattle.store_map.specs.declared.cause.Cause.{Cause}
+use Rattle.store_map.specs.declared.cause.Cause.TheVariants.{Unavailable, Contended, Reaped, NoMemory}
+use Rattle.store_map.specs.declared.cause.RepairResult.{RepairResult}
+use Rattle.store_map.specs.declared.cause.RepairResult.TheVariants.{Rebuilt, Here, Away as RepairAway, NoSuch, Superseded, Unavailable as RepairUnavailable, Reaped as RepairReaped, NoMemory as RepairNoMemory}
+use Rattle.store_map.specs.declared.shown.Shown.{Shown}
+use Rattle.store_map.specs.declared.shown.Shown.TheVariants.{Reply as Replied, Unfinished}
+use Rattle.store_map.specs.Triples.{triple_text}
 
 -- a reply of the map
 abbrev pub reply_text : Reply → List ℕ

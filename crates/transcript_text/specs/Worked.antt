@@ -3,11 +3,11 @@ use Rattle.std.specs.Prelude.{ℕ, List, [], ◌∷◌, ◌++◌, codes}
 use Rattle.store_map.specs.declared.placement.Placement.TheVariants.{At, Skipped}
 use Rattle.store_map.specs.declared.placement.Found.TheVariants.{Absent, Away}
 use Rattle.store_map.specs.declared.reply.Reply.TheVariants.{Done, Bytes}
-use Rattle.transcript_text.specs.declared.call_name.CallName.TheVariants.{Client, Repairer}
-use Rattle.transcript_text.specs.declared.cause.Cause.TheVariants.{Unavailable, Contended}
-use Rattle.transcript_text.specs.declared.cause.RepairResult.TheVariants.{Superseded}
-use Rattle.transcript_text.specs.declared.shown.Shown.TheVariants.{Reply, Unfinished}
-use Rattle.transcript_text.specs.declared.transcript.Transcript.{Transcript}
+use Rattle.store_map.specs.declared.call_name.CallName.TheVariants.{Client, Repairer}
+use Rattle.store_map.specs.declared.cause.Cause.TheVariants.{Unavailable, Contended}
+use Rattle.store_map.specs.declared.cause.RepairResult.TheVariants.{Superseded}
+use Rattle.store_map.specs.declared.shown.Shown.TheVariants.{Reply, Unfinished}
+use Rattle.store_map.specs.declared.transcript.Transcript.{Transcript}
 
 -- an object of eight bytes is put and read again
 abbrev pub put_then_get : Transcript

@@ -2,19 +2,13 @@
 //! in which all of it is written.
 #![tactic(auto)]
 
-mod call_name;
-mod cause;
 mod digits;
-mod line;
-mod shown;
-mod transcript;
 mod worked;
 mod write;
 
-pub use call_name::CallName;
-pub use cause::{Cause, RepairResult, Triple};
-pub use line::{GLine, HLine, LLine, OLine, RLine, TLine, XLine};
-pub use shown::Shown;
-pub use transcript::Transcript;
+pub use store_map::{
+    CallName, Cause, GLine, HLine, LLine, OLine, RLine, RepairResult, Shown, TLine, Transcript,
+    Triple, XLine,
+};
 pub use worked::worked_texts;
 pub use write::{append, append_reply, append_shown, write_transcript};

@@ -3,19 +3,18 @@ ghost use Rattle.std.specs.Prelude.{◌≡◌, ◌++◌, IfOk, OnOk, List, ℕ};
 ghost use Rattle.std.specs.List.{flat_map};
 ghost use Rattle.std.specs.Fmt.{AppendsText};
 ghost use Rattle.transcript_text.specs.Words.{contended_text, missing_text, reply_text, shown_text, unavailable_text, cause_text, result_text};
-ghost use Rattle.transcript_text.specs.Triples.{triple_text};
+ghost use Rattle.store_map.specs.Triples.{triple_text};
 ghost use Rattle.transcript_text.specs.Lines.{h_line, x_line, r_line, o_line, l_line, g_line, t_line};
 ghost use Rattle.transcript_text.specs.Text.{text_of};
 
-use crate::cause::{Cause, RepairResult, Triple};
 use crate::digits::append_digits;
-use crate::line::{GLine, HLine, LLine, OLine, RLine, TLine, XLine};
-use crate::shown::Shown;
-use crate::transcript::Transcript;
 use std::alloc::{AllocError, Global};
 use std::fmt::Display;
 use std::io::Write;
-use store_map::Reply;
+use store_map::{
+    Cause, GLine, HLine, LLine, OLine, RLine, RepairResult, Reply, Shown, TLine, Transcript,
+    Triple, XLine,
+};
 
 // The room that a line takes beside its digits: mostly more than it needs, so that the text doesn't grow on its way.
 const WORDS: usize = 64;

@@ -1,7 +1,7 @@
 -- The line of a call that has begun.
 use Rattle.std.proofs.Common.{◌≡◌, ℕ, List, [], ◌∷◌, ◌++◌, length, nat_lt, if◌then◌else◌, ap, ◌∙◌}
-use Rattle.transcript_text.specs.declared.call_name.CallName.{CallName}
-use Rattle.transcript_text.specs.declared.line.OLine.{OLine}
+use Rattle.store_map.specs.declared.call_name.CallName.{CallName}
+use Rattle.store_map.specs.declared.line.OLine.{OLine}
 use Rattle.store_core.specs.Work.{Calling}
 use Rattle.store_core.specs.Shown.{unanswered_line}
 

@@ -2,7 +2,7 @@
 use Rattle.std.proofs.Common.{◌≡◌, ℕ, List, [], map, sym, ap, ◌∙◌}
 use Rattle.store_map.specs.Limits.{size_of}
 use Rattle.store_map.specs.declared.script.Script.{Script}
-use Rattle.transcript_text.specs.declared.transcript.Transcript.{Transcript}
+use Rattle.store_map.specs.declared.transcript.Transcript.{Transcript}
 use Rattle.store_core.specs.Calls.{Calls}
 use Rattle.store_core.specs.Core.{Core}
 use Rattle.store_core.specs.Directory.{Directory}
@@ -10,11 +10,11 @@ use Rattle.store_core.specs.History.{call_of, history_from}
 use Rattle.store_core.specs.Shown.{shown}
 use Rattle.chunk_server.specs.State.{ServerState}
 use Rattle.chunk_server.specs.Core.{core_of}
-use Rattle.world_lines.specs.declared.calls.CallerCalls.{CallerCalls}
-use Rattle.world_lines.specs.Ended.{calling_at}
+use Rattle.call_steps.specs.declared.caller_calls.CallerCalls.{CallerCalls}
+use Rattle.call_steps.specs.CallerCalls.{calling_at}
 use Rattle.world_lines.specs.Lists.{refused_lines, repair_lines, unanswered_lines, object_lines, all_take_lines, server_lines, answered_by}
-use Rattle.world_lines.specs.Served.{ServedAre}
-use Rattle.world_lines.specs.Shown.{Holds}
+use Rattle.world_steps.specs.Served.{ServedAre}
+use Rattle.world_steps.specs.HeldCore.{Holds}
 
 module _ (d : Directory) (servers : List ServerState) (clients : List CallerCalls) (repairers : List CallerCalls) where
   -- each list is the one of the parts

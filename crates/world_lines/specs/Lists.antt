@@ -3,13 +3,13 @@ use Rattle.std.specs.Prelude.{ℕ, Bool, false, List, ◌++◌, length, map, opt
 use Rattle.std.specs.List.{slice_get, enumerate_from}
 use Rattle.store_map.specs.declared.actor.Actor.{Actor}
 use Rattle.store_map.specs.declared.actor.Actor.TheVariants as actor
-use Rattle.transcript_text.specs.declared.call_name.CallName.TheVariants as name
-use Rattle.transcript_text.specs.declared.line.XLine.{XLine}
-use Rattle.transcript_text.specs.declared.line.RLine.{RLine}
-use Rattle.transcript_text.specs.declared.line.OLine.{OLine}
-use Rattle.transcript_text.specs.declared.line.GLine.{GLine}
-use Rattle.transcript_text.specs.declared.line.LLine.{LLine}
-use Rattle.transcript_text.specs.declared.line.TLine.{TLine}
+use Rattle.store_map.specs.declared.call_name.CallName.TheVariants as name
+use Rattle.store_map.specs.declared.line.XLine.{XLine}
+use Rattle.store_map.specs.declared.line.RLine.{RLine}
+use Rattle.store_map.specs.declared.line.OLine.{OLine}
+use Rattle.store_map.specs.declared.line.GLine.{GLine}
+use Rattle.store_map.specs.declared.line.LLine.{LLine}
+use Rattle.store_map.specs.declared.line.TLine.{TLine}
 use Rattle.store_core.specs.Directory.{Object}
 use Rattle.store_core.specs.Server.{Server}
 use Rattle.store_core.specs.Work.{Calling}

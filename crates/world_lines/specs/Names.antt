@@ -1,7 +1,7 @@
 -- The names of calls by whose they are.
 use Rattle.std.specs.Prelude.{ℕ}
-use Rattle.transcript_text.specs.declared.call_name.CallName.{CallName}
-use Rattle.transcript_text.specs.declared.call_name.CallName.TheVariants as name
+use Rattle.store_map.specs.declared.call_name.CallName.{CallName}
+use Rattle.store_map.specs.declared.call_name.CallName.TheVariants as name
 use Rattle.world_lines.specs.declared.role.Role.{Role}
 use Rattle.world_lines.specs.declared.role.Role.TheVariants as role
 

@@ -3,14 +3,14 @@ use Rattle.std.specs.Prelude.{◌≡◌, ◌⊎◌, ℕ, Bool, true, false, List
 use Rattle.store_map.specs.declared.actor.Actor.{Actor}
 use Rattle.store_map.specs.declared.actor.Actor.TheVariants as actor
 use Rattle.store_map.specs.declared.reply.Reply.TheVariants as reply
-use Rattle.transcript_text.specs.declared.shown.Shown.{Shown}
-use Rattle.transcript_text.specs.declared.shown.Shown.TheVariants as shown
+use Rattle.store_map.specs.declared.shown.Shown.{Shown}
+use Rattle.store_map.specs.declared.shown.Shown.TheVariants as shown
 use Rattle.store_core.specs.Directory.{Event}
 use Rattle.dir_parts.specs.Events.{event_in}
 use Rattle.dir_parts.specs.declared.history.PointEntry.{PointEntry}
-use Rattle.world_lines.specs.declared.calls.EndedCall.{EndedCall}
-use Rattle.world_lines.specs.declared.calls.CallerCalls.{CallerCalls}
-use Rattle.world_lines.specs.Served.{outcome_in, served_in, ended_at, answered_at, bytes_of}
+use Rattle.call_steps.specs.declared.caller_calls.EndedCall.{EndedCall}
+use Rattle.call_steps.specs.declared.caller_calls.CallerCalls.{CallerCalls}
+use Rattle.world_steps.specs.Served.{outcome_in, served_in, ended_at, answered_at, bytes_of}
 
 -- what a point shows by its event, by whether its call was answered, and by the bytes that it was served
 abbrev pub shown_by : Event → Bool → Option (List ℕ) → Option Shown

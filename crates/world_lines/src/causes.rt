@@ -2,13 +2,11 @@
 ghost use Rattle.std.specs.Prelude.{◌≡◌, map, Some, IfOk};
 ghost use Rattle.store_core.specs.Outcomes.{triple_of, cause_of, result_of};
 ghost use Rattle.store_core.specs.Told.{lost_in};
-ghost use Rattle.world_lines.specs.Outcomes.{call_outcome_of};
+ghost use Rattle.call_steps.specs.CallOutcomes.{call_outcome_of};
 
-use crate::outcome::CallOutcome;
-use call_steps::Change;
+use call_steps::{CallOutcome, Change};
 use std::alloc::{AllocError, Global};
-use store_map::{ListOf, LostChunk};
-use transcript_text::{Cause, RepairResult, Triple};
+use store_map::{Cause, ListOf, LostChunk, RepairResult, Triple};
 
 fn triples(alloc: Global, missing: &[LostChunk]) -> Result<ListOf<Triple>, AllocError>
     ensures { IfOk result (λ triples. triples ≡ map triple_of (map lost_in missing.now)) }

@@ -5,18 +5,17 @@ ghost use Rattle.store_core.specs.Calls.{Calls};
 ghost use Rattle.store_core.specs.Directory.{Event as CoreEvent};
 ghost use Rattle.store_core.specs.History.{name_of, line_of, history_from};
 ghost use Rattle.dir_parts.specs.Events.{event_in};
-ghost use Rattle.world_lines.specs.Ended.{callings_at};
+ghost use Rattle.call_steps.specs.CallerCalls.{callings_at};
 ghost use Rattle.world_lines.specs.Lists.{answered_by};
-ghost use Rattle.world_lines.specs.Served.{ServedAre};
+ghost use Rattle.world_steps.specs.Served.{ServedAre};
 ghost use Rattle.world_lines.specs.Taken.{shown_call, KeepsEachCall, IsPinnedCall};
 
-use crate::calls::CallerCalls;
 use crate::served::{is_answered, take_served};
+use call_steps::CallerCalls;
 use dir_parts::{Event, PointEntry};
 use std::alloc::{AllocError, Global};
-use store_map::{Actor, ListOf, Reply};
+use store_map::{Actor, CallName, HLine, ListOf, Reply, Shown};
 use stripe_dir::Directory;
-use transcript_text::{CallName, HLine, Shown};
 
 // How a call is named; the sweeper and the operator have none.
 fn name_of(actor: Actor, number: u32) -> Option<CallName>

@@ -1,11 +1,9 @@
 //! The lines of a transcript, list by list, from what a world holds when its run is over.
 #![tactic(auto)]
 
-mod calls;
 mod causes;
 mod history;
 pub mod laws;
-mod outcome;
 mod refused;
 mod role;
 mod served;
@@ -14,9 +12,7 @@ mod takes;
 mod transcript;
 mod unanswered;
 
-pub use calls::{CallerCalls, EndedCall};
 pub use history::history_lines;
-pub use outcome::CallOutcome;
 pub use refused::{refused_lines, repair_lines};
 pub use stored::{object_lines, server_lines};
 pub use takes::take_lines;

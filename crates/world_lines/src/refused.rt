@@ -1,18 +1,16 @@
 //! The `X` lines of calls that were refused, and the `R` lines of rebuilds.
 ghost use Rattle.std.specs.Prelude.{◌≡◌, ℕ, ◌^◌, ◌<◌, ◌++◌, length, IfOk, OnOk};
-ghost use Rattle.transcript_text.specs.declared.call_name.CallName.TheVariants as name;
+ghost use Rattle.store_map.specs.declared.call_name.CallName.TheVariants as name;
 ghost use Rattle.store_core.specs.Outcomes.{cause_of, result_of};
 ghost use Rattle.store_core.specs.Shown.{lines_of_ended, refused_line, repair_line};
-ghost use Rattle.world_lines.specs.Outcomes.{call_outcome_of};
-ghost use Rattle.world_lines.specs.Ended.{calling_at, counts_of, HaveNames, callings_at};
+ghost use Rattle.call_steps.specs.CallOutcomes.{call_outcome_of};
+ghost use Rattle.call_steps.specs.CallerCalls.{calling_at, counts_of, HaveNames, callings_at};
 ghost use Rattle.world_lines.specs.Lists.{refused_lines, repair_lines};
 
-use crate::calls::CallerCalls;
 use crate::causes::{cause_of, result_of};
-use crate::outcome::CallOutcome;
+use call_steps::{CallOutcome, CallerCalls};
 use std::alloc::{AllocError, Global};
-use store_map::ListOf;
-use transcript_text::{CallName, RLine, XLine};
+use store_map::{CallName, ListOf, RLine, XLine};
 
 // The line of a client's call, if it was refused.
 fn push_refused(

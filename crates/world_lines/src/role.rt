@@ -2,7 +2,7 @@
 ghost use Rattle.std.specs.Prelude.{◌≡◌};
 ghost use Rattle.world_lines.specs.Names.{name_by};
 
-use transcript_text::CallName;
+use store_map::CallName;
 
 /// Whose calls they are: a script's clients' or its repairers'.
 #[derive(Clone, Copy, PartialEq, Eq)]

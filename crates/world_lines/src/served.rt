@@ -1,12 +1,11 @@
 //! Whether a client's call was answered, and the bytes that it was served.
 ghost use Rattle.std.specs.Prelude.{◌≡◌, ℕ, slice_get, option_map};
 ghost use Rattle.store_core.specs.History.{is_answered};
-ghost use Rattle.world_lines.specs.Outcomes.{call_outcome_of};
-ghost use Rattle.world_lines.specs.Served.{bytes_in, served_in, answered_at, outcome_at, bytes_at};
+ghost use Rattle.call_steps.specs.CallOutcomes.{call_outcome_of};
+ghost use Rattle.world_steps.specs.Served.{bytes_in, served_in, answered_at, outcome_at, bytes_at};
 ghost use Rattle.world_lines.specs.Taken.{KeepsCall, KeepsEachCall};
 
-use crate::calls::{CallerCalls, EndedCall};
-use crate::outcome::CallOutcome;
+use call_steps::{CallOutcome, CallerCalls, EndedCall};
 use std::alloc::Global;
 use std::mem;
 use store_map::{Actor, ByteList, ListOf};

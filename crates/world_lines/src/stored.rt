@@ -5,9 +5,8 @@ ghost use Rattle.world_lines.specs.Lists.{object_lines, server_lines};
 
 use chunk_server::Server;
 use std::alloc::{AllocError, Global};
-use store_map::ListOf;
+use store_map::{LLine, ListOf, TLine};
 use stripe_dir::Directory;
-use transcript_text::{LLine, TLine};
 
 /// The lines of the objects, in order of creation.
 pub fn object_lines(alloc: Global, directory: &Directory) -> Result<ListOf<LLine>, AllocError>

@@ -1,16 +1,15 @@
 //! The `G` lines: what each call took.
 ghost use Rattle.std.specs.Prelude.{◌≡◌, ℕ, ◌^◌, ◌<◌, ◌++◌, length, replicate, unwrap_or, IfOk, OnOk};
 ghost use Rattle.store_core.specs.Shown.{lines_of_ended, lines_of_actors, take_line, take_lines};
-ghost use Rattle.world_lines.specs.Ended.{calling_at, counts_of, HaveNames, callings_at};
+ghost use Rattle.call_steps.specs.CallerCalls.{calling_at, counts_of, HaveNames, callings_at};
 ghost use Rattle.world_lines.specs.Names.{name_by};
 ghost use Rattle.world_lines.specs.Lists.{all_take_lines};
 
-use crate::calls::CallerCalls;
 use crate::role::Role;
+use call_steps::CallerCalls;
 use read_ledger::Takes;
 use std::alloc::{AllocError, Global};
-use store_map::ListOf;
-use transcript_text::{CallName, GLine};
+use store_map::{CallName, GLine, ListOf};
 
 // The line of a call, if it took anything.
 fn push_takes(

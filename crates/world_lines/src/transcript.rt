@@ -5,20 +5,20 @@ ghost use Rattle.store_map.specs.declared.script.Script.{Script};
 ghost use Rattle.store_core.specs.Core.{Core};
 ghost use Rattle.store_core.specs.History.{call_of};
 ghost use Rattle.store_core.specs.Shown.{shown};
-ghost use Rattle.world_lines.specs.Ended.{counts_of, HaveNames};
-ghost use Rattle.world_lines.specs.Served.{ServedAre};
-ghost use Rattle.world_lines.specs.Shown.{Holds};
+ghost use Rattle.call_steps.specs.CallerCalls.{counts_of, HaveNames};
+ghost use Rattle.world_steps.specs.Served.{ServedAre};
+ghost use Rattle.world_steps.specs.HeldCore.{Holds};
 
-use crate::calls::CallerCalls;
 use crate::history::history_lines;
 use crate::refused::{refused_lines, repair_lines};
 use crate::stored::{object_lines, server_lines};
 use crate::takes::take_lines;
 use crate::unanswered::unanswered_lines;
+use call_steps::CallerCalls;
 use chunk_server::Server;
 use std::alloc::{AllocError, Global};
+use store_map::Transcript;
 use stripe_dir::Directory;
-use transcript_text::Transcript;
 
 /// The transcript of a script's run that is over, from the directory, the servers in their order, and the
 /// actors' calls. The bytes that calls were served are moved into it.

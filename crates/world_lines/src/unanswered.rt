@@ -1,15 +1,14 @@
 //! The `O` lines: calls that have made a step and have no outcome.
 ghost use Rattle.std.specs.Prelude.{◌≡◌, ℕ, ◌++◌, nat_lt, [], ◌∷◌, if◌then◌else◌, IfOk, OnOk};
 ghost use Rattle.store_core.specs.Shown.{lines_of_actors, unanswered_line};
-ghost use Rattle.world_lines.specs.Ended.{counts_of, HaveNames, callings_at};
+ghost use Rattle.call_steps.specs.CallerCalls.{counts_of, HaveNames, callings_at};
 ghost use Rattle.world_lines.specs.Names.{name_by};
 ghost use Rattle.world_lines.specs.Lists.{unanswered_lines};
 
-use crate::calls::CallerCalls;
 use crate::role::Role;
+use call_steps::CallerCalls;
 use std::alloc::{AllocError, Global};
-use store_map::ListOf;
-use transcript_text::{CallName, OLine};
+use store_map::{CallName, ListOf, OLine};
 
 // The line of the call that has made so many steps, if it made one.
 fn push_begun(lines: &mut ListOf<OLine>, call: CallName, steps: u64) -> Result<(), AllocError>

@@ -16,10 +16,10 @@ use Rattle.store_runs.proofs.DirectoryInvariants.{StepsKeep, Held, runs_hold}
 use Rattle.store_contents.specs.Contents.{HasBytes}
 use Rattle.store_contents.specs.ContentLaws.{StepsKeepBytes}
 use Rattle.store_contents.proofs.ContentSteps.{steps_keep_bytes}
-use Rattle.world_lines.specs.declared.calls.CallerCalls.{CallerCalls}
-use Rattle.world_lines.specs.declared.calls.EndedCall.{EndedCall}
-use Rattle.world_lines.specs.Ended.{ended_of}
-use Rattle.world_lines.specs.Served.{outcome_in, served_in, owed_at}
+use Rattle.call_steps.specs.declared.caller_calls.CallerCalls.{CallerCalls}
+use Rattle.call_steps.specs.declared.caller_calls.EndedCall.{EndedCall}
+use Rattle.call_steps.specs.CallerCalls.{ended_of}
+use Rattle.world_steps.specs.Served.{outcome_in, served_in, owed_at}
 use Rattle.world_steps.specs.StandsFor.{StandsFor}
 use Rattle.world_steps.specs.World.{DoingOf}
 use Rattle.world_steps.proofs.Runs.{runs_reach}

@@ -15,10 +15,10 @@ use Rattle.world_steps.specs.World.{DoingOf, ActorOf}
 use Rattle.world_steps.specs.Known.{calling_by, calling_of}
 use Rattle.world_steps.specs.StandsFor.{AllStand, StandsFor}
 use Rattle.world_steps.proofs.Runs.{runs_reach}
-use Rattle.world_lines.specs.declared.calls.EndedCall.{EndedCall}
-use Rattle.world_lines.specs.declared.calls.CallerCalls.{CallerCalls}
-use Rattle.world_lines.specs.Ended.{ended_of, calling_at}
-use Rattle.world_lines.specs.Served.{outcome_in, outcome_at}
+use Rattle.call_steps.specs.declared.caller_calls.EndedCall.{EndedCall}
+use Rattle.call_steps.specs.declared.caller_calls.CallerCalls.{CallerCalls}
+use Rattle.call_steps.specs.CallerCalls.{ended_of, calling_at}
+use Rattle.world_steps.specs.Served.{outcome_in, outcome_at}
 use Rattle.world_owes.specs.WorldPins.{WorldsServeAtPins}
 use Rattle.store_history.proofs.ServedPoints.{runs_serve_at_pins}
 

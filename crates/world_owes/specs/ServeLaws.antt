@@ -18,9 +18,9 @@ use Rattle.version_seal.specs.Entry.{BookOf}
 use Rattle.chunk_server.specs.State.{ServerState}
 use Rattle.stripe_dir.specs.Sealed.{Sealed}
 use Rattle.sweeper.specs.Sweeps.{SweeperOf, stepped_at_directory}
-use Rattle.world_lines.specs.declared.calls.CallerCalls.{CallerCalls}
-use Rattle.world_lines.specs.Ended.{ended_of}
-use Rattle.world_lines.specs.Served.{outcome_at, bytes_at, owed_at}
+use Rattle.call_steps.specs.declared.caller_calls.CallerCalls.{CallerCalls}
+use Rattle.call_steps.specs.CallerCalls.{ended_of}
+use Rattle.world_steps.specs.Served.{outcome_at, bytes_at, owed_at}
 use Rattle.world_steps.specs.World.{ActorOf}
 use Rattle.world_steps.specs.Tokens.{KeepsToken}
 use Rattle.actors.specs.Callers.{PartOf, CallerOf, first_caller}

@@ -12,10 +12,10 @@ use Rattle.chunk_server.specs.State.{ServerState}
 use Rattle.world_steps.specs.World.{WorldOf}
 use Rattle.world_steps.specs.Known.{core_of}
 use Rattle.world_steps.specs.Goes.{IsReached}
-use Rattle.world_lines.specs.declared.calls.CallerCalls.{CallerCalls}
-use Rattle.world_lines.specs.declared.calls.CallerCalls.{CallerCalls}
-use Rattle.world_lines.specs.Served.{outcome_at}
-use Rattle.world_lines.specs.Shown.{Holds}
+use Rattle.call_steps.specs.declared.caller_calls.CallerCalls.{CallerCalls}
+use Rattle.call_steps.specs.declared.caller_calls.CallerCalls.{CallerCalls}
+use Rattle.world_steps.specs.Served.{outcome_at}
+use Rattle.world_steps.specs.HeldCore.{Holds}
 
 -- a client's answered call with a pinned point was served at that point
 abbrev pub ListsServeAtPins : List Point → List CallerCalls → Type 0

@@ -16,3 +16,5 @@ pub mod Goes
 pub mod Drains
 pub mod Few
 pub mod SweepsLeft
+pub mod Served
+pub mod HeldCore

@@ -5,3 +5,4 @@ pub mod PlaceTells
 pub mod Traced
 pub mod RoundTells
 pub mod DrainTells
+pub mod StepsTold

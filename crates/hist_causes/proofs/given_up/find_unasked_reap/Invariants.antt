@@ -1,6 +1,6 @@
 use Rattle.std.proofs.Common.{◌≡◌, take, drop}
 use Rattle.std.specs.Prelude.{reverse, unwrap_or, count_by}
-use Rattle.transcript_text.specs.declared.call_name.CallName.{CallName}
+use Rattle.store_map.specs.declared.call_name.CallName.{CallName}
 use Rattle.hist_rules.specs.Calls.{same_actor}
 use Rattle.hist_rules.specs.First.{first_fault_after, first_fault_along}
 use Rattle.hist_rules.specs.GivenUp.{is_reaped}

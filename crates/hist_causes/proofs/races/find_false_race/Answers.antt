@@ -1,10 +1,10 @@
 use Rattle.std.proofs.Common.{sym, ap, ◌∙◌, Option}
-use Rattle.transcript_text.specs.declared.line.XLine.{XLine}
+use Rattle.store_map.specs.declared.line.XLine.{XLine}
 use Rattle.hist_rules.specs.declared.verdict.Verdict.{Verdict}
 use Rattle.hist_rules.specs.First.{first_fault}
 use Rattle.hist_rules.specs.LostRaces.{cause_of_races}
 use Rattle.store_map.specs.declared.script.Script.{Script}
-use Rattle.transcript_text.specs.declared.transcript.Transcript.{Transcript}
+use Rattle.store_map.specs.declared.transcript.Transcript.{Transcript}
 use Rattle.hist_tables.proofs.Faults.{item_fits, item_found, no_fault}
 use Rattle.hist_causes.proofs.races.find_false_race.Goals as goal
 

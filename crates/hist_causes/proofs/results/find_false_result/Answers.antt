@@ -1,12 +1,12 @@
 use Rattle.std.proofs.Common.{sym, ap, ◌∙◌, Option}
 use Rattle.std.specs.Prelude.{option_and_then}
 use Rattle.hist_rules.specs.Calls.{rebuild_of}
-use Rattle.transcript_text.specs.declared.line.RLine.{RLine}
+use Rattle.store_map.specs.declared.line.RLine.{RLine}
 use Rattle.hist_rules.specs.declared.verdict.Verdict.{Verdict}
 use Rattle.hist_rules.specs.First.{first_fault}
 use Rattle.hist_rules.specs.CausesNamed.{result_named}
 use Rattle.store_map.specs.declared.script.Script.{Script}
-use Rattle.transcript_text.specs.declared.transcript.Transcript.{Transcript}
+use Rattle.store_map.specs.declared.transcript.Transcript.{Transcript}
 use Rattle.hist_tables.proofs.Faults.{item_fits, item_found, no_fault}
 use Rattle.hist_causes.proofs.results.find_false_result.Goals as goal
 

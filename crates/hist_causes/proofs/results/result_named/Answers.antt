@@ -1,5 +1,5 @@
 use Rattle.std.proofs.Common.{ℕ, sym, ap, ◌∙◌}
-use Rattle.transcript_text.specs.declared.cause.RepairResult.{RepairResult}
+use Rattle.store_map.specs.declared.cause.RepairResult.{RepairResult}
 use Rattle.hist_rules.specs.First.{unless}
 use Rattle.hist_rules.specs.Counts.{downs}
 use Rattle.hist_rules.specs.MissingChunk.{is_told_downs}

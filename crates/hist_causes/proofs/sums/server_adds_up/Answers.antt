@@ -1,7 +1,7 @@
 use Rattle.std.proofs.Common.{◌≡◌, false, nat_eq, get_or, sum_by, ap, ◌∙◌}
 use Rattle.std.specs.Prelude.{◌&&◌}
 use Rattle.std.proofs.lemmas.Bool.{ne_eqb, and_left, and_right}
-use Rattle.transcript_text.specs.declared.line.GLine.{GLine}
+use Rattle.store_map.specs.declared.line.GLine.{GLine}
 use Rattle.hist_rules.specs.Counts.{wipes}
 use Rattle.hist_causes.proofs.WrongSums.{sum_differs}
 use Rattle.hist_causes.proofs.sums.server_adds_up.Goals as goal

@@ -1,5 +1,5 @@
 use Rattle.std.proofs.Common.{◌≡◌, ◌-◌, ◌*◌, ◌^◌, ◌≤◌, take, get_or, sum_by}
-use Rattle.transcript_text.specs.declared.line.GLine.{GLine}
+use Rattle.store_map.specs.declared.line.GLine.{GLine}
 use Rattle.hist_causes.proofs.sums.taken_of.Given as goal
 
 abbrev pub invariant-loop-line : goal.invariant-loop-line

@@ -1,7 +1,7 @@
 use Rattle.std.proofs.Common.{◌≡◌, take, drop}
 use Rattle.std.specs.Prelude.{reverse, find}
 use Rattle.std.specs.Option.{option_or, option_map}
-use Rattle.transcript_text.specs.declared.call_name.CallName.{CallName}
+use Rattle.store_map.specs.declared.call_name.CallName.{CallName}
 use Rattle.hist_rules.specs.Calls.{number_of, same_actor}
 use Rattle.hist_rules.specs.Named.{answered_calls}
 use Rattle.hist_rules.specs.First.{first_fault_after, first_fault_along}

@@ -1,5 +1,5 @@
 use Rattle.std.proofs.Common.{List, drop}
-use Rattle.transcript_text.specs.declared.call_name.CallName.{CallName}
+use Rattle.store_map.specs.declared.call_name.CallName.{CallName}
 use Rattle.hist_rules.specs.Named.{answered_calls}
 use Rattle.hist_tables.specs.Tables.{IsSetOf}
 use Rattle.hist_tables.proofs.Names.{passing}

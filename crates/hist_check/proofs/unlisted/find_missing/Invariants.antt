@@ -1,5 +1,5 @@
 use Rattle.std.proofs.Common.{◌≡◌, drop}
-use Rattle.transcript_text.specs.declared.transcript.Transcript.{Transcript}
+use Rattle.store_map.specs.declared.transcript.Transcript.{Transcript}
 use Rattle.hist_rules.specs.First.{first_fault}
 use Rattle.hist_rules.specs.Named.{listed_calls}
 use Rattle.hist_rules.specs.TakesHaveCalls.{has_call}

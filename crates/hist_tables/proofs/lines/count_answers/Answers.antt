@@ -1,6 +1,6 @@
 use Rattle.std.proofs.Common.{◌≡◌, ℕ, ◌+◌, List, length, length-append, map, sym, ap, ap₂, ◌∙◌, filter}
 use Rattle.std.proofs.lemmas.List.{length-map}
-use Rattle.transcript_text.specs.declared.line.HLine.{HLine}
+use Rattle.store_map.specs.declared.line.HLine.{HLine}
 use Rattle.hist_rules.specs.Named.{is_reply}
 use Rattle.hist_tables.proofs.Names.{count_parts}
 use Rattle.hist_tables.proofs.lines.count_answers.Goals as goal

@@ -1,7 +1,7 @@
 use Rattle.std.proofs.Common.{refl}
 use Rattle.clay_grid.specs.Layers.{digits_of}
-use Rattle.transcript_text.specs.declared.call_name.CallName.{CallName}
-use Rattle.transcript_text.specs.declared.call_name.CallName.TheVariants.{Client}
+use Rattle.store_map.specs.declared.call_name.CallName.{CallName}
+use Rattle.store_map.specs.declared.call_name.CallName.TheVariants.{Client}
 use Rattle.store_rows.specs.Rows.{Row}
 use Rattle.store_rows.specs.RowsCalls.{put_then_get}
 use Rattle.store_rows.specs.RowsManyLosses.{read_after_two_losses}

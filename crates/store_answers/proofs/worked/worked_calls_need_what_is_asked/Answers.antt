@@ -1,6 +1,6 @@
 use Rattle.std.proofs.Common.{refl}
 use Rattle.clay_grid.specs.Layers.{digits_of}
-use Rattle.transcript_text.specs.declared.call_name.CallName.TheVariants.{Client}
+use Rattle.store_map.specs.declared.call_name.CallName.TheVariants.{Client}
 use Rattle.store_rows.specs.RowsManyLosses.{read_after_three_losses}
 use Rattle.store_rows.specs.RowsAway.{refused_put}
 use Rattle.store_rows.specs.RowsRaces.{lost_race}

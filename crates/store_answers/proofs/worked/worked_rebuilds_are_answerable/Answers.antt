@@ -1,7 +1,7 @@
 use Rattle.std.proofs.Common.{refl}
 use Rattle.clay_grid.specs.Layers.{digits_of}
-use Rattle.transcript_text.specs.declared.call_name.CallName.{CallName}
-use Rattle.transcript_text.specs.declared.call_name.CallName.TheVariants.{Repairer}
+use Rattle.store_map.specs.declared.call_name.CallName.{CallName}
+use Rattle.store_map.specs.declared.call_name.CallName.TheVariants.{Repairer}
 use Rattle.store_rows.specs.RowsRebuilds.{rebuilt_then_here}
 use Rattle.store_answers.specs.Facts.{facts_of}
 use Rattle.store_answers.specs.FactsLaw.{AreFactsOf}

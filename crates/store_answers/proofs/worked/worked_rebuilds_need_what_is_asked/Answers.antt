@@ -1,6 +1,6 @@
 use Rattle.std.proofs.Common.{refl}
 use Rattle.clay_grid.specs.Layers.{digits_of}
-use Rattle.transcript_text.specs.declared.call_name.CallName.TheVariants.{Repairer}
+use Rattle.store_map.specs.declared.call_name.CallName.TheVariants.{Repairer}
 use Rattle.store_rows.specs.RowsCalls.{each_refusal}
 use Rattle.store_rows.specs.RowsRebuilds.{superseded_rebuild}
 use Rattle.store_rows.specs.RowsAwayReads.{rebuild_of_an_away_server}

@@ -5,8 +5,8 @@ use Rattle.clay_grid.specs.Layers.{digits_of}
 use Rattle.store_map.specs.declared.call.Call.TheVariants.{ReadAt}
 use Rattle.store_map.specs.declared.placement.Placement.{Placement}
 use Rattle.store_map.specs.declared.placement.Placement.TheVariants.{At}
-use Rattle.transcript_text.specs.declared.call_name.CallName.TheVariants.{Client, Repairer}
-use Rattle.transcript_text.specs.declared.cause.RepairResult.TheVariants.{Rebuilt}
+use Rattle.store_map.specs.declared.call_name.CallName.TheVariants.{Client, Repairer}
+use Rattle.store_map.specs.declared.cause.RepairResult.TheVariants.{Rebuilt}
 use Rattle.store_core.specs.Note.{note_of}
 use Rattle.store_core.specs.Read.{parts_of}
 use Rattle.store_core.specs.Told.{Told, Seen}

@@ -1,5 +1,5 @@
 use Rattle.std.proofs.Common.{◌≡◌, ◌≤◌, ℕ, length, drop, slice_get, Some, vec_capacity}
-use Rattle.world_lines.specs.declared.calls.CallerCalls.{CallerCalls}
+use Rattle.call_steps.specs.declared.caller_calls.CallerCalls.{CallerCalls}
 use Rattle.store_world.specs.Ending.{IsCallsOf}
 use Rattle.store_world.proofs.ending.calls_of.Given as goal
 

@@ -3,7 +3,7 @@ use Rattle.std.proofs.lemmas.List.{take_all, take_more}
 use Rattle.store_map.specs.declared.actor.Token.{Token}
 use Rattle.store_map.specs.declared.actor.Token.TheVariants as token
 use Rattle.store_map.specs.declared.script.Script.{Script}
-use Rattle.trace_lines.specs.declared.step.Step.{Step}
+use Rattle.call_steps.specs.declared.step.Step.{Step}
 use Rattle.world_traces.specs.Traced.{GoesTelling}
 use Rattle.store_world.specs.Stored.{world_of}
 use Rattle.trace_run.specs.Adds.{Adds, TracesTo}

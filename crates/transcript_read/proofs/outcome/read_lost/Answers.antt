@@ -1,6 +1,6 @@
 use Rattle.std.proofs.Common.{arith, sym, ap, drop, ◌∙◌}
 use Rattle.std.specs.Prelude.{decimal}
-use Rattle.transcript_text.specs.Triples.{triple_text}
+use Rattle.store_map.specs.Triples.{triple_text}
 use Rattle.transcript_text.specs.Words.{missing_text}
 use Rattle.transcript_read.specs.Reasons.{IsLost, lost_text}
 use Rattle.transcript_read.proofs.ListLaws.{listed, listed_some}

@@ -1,7 +1,7 @@
 use Rattle.std.proofs.Common.{◌≡◌, ◌++◌, take}
 use Rattle.std.specs.Prelude.{codes}
 use Rattle.std.specs.List.{flat_map}
-use Rattle.transcript_text.specs.Triples.{triple_text}
+use Rattle.store_map.specs.Triples.{triple_text}
 use Rattle.transcript_text.proofs.write.append_missing.Given as goal
 
 abbrev pub invariant-loop-triple : goal.invariant-loop-triple

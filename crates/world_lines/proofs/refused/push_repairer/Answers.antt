@@ -1,7 +1,7 @@
-use Rattle.transcript_text.specs.declared.call_name.CallName.TheVariants as name
+use Rattle.store_map.specs.declared.call_name.CallName.TheVariants as name
 use Rattle.store_core.specs.Outcomes.{result_of}
 use Rattle.store_core.specs.Shown.{repair_line}
-use Rattle.world_lines.specs.Ended.{ended_of}
+use Rattle.call_steps.specs.CallerCalls.{ended_of}
 use Rattle.world_lines.proofs.Numbered.{lines_more_of}
 use Rattle.world_lines.proofs.refused.push_repairer.Goals as goal
 

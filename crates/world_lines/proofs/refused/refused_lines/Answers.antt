@@ -1,8 +1,8 @@
 use Rattle.std.proofs.Common.{[], length}
-use Rattle.transcript_text.specs.declared.call_name.CallName.TheVariants as name
+use Rattle.store_map.specs.declared.call_name.CallName.TheVariants as name
 use Rattle.store_core.specs.Outcomes.{cause_of}
 use Rattle.store_core.specs.Shown.{lines_of_ended, refused_line}
-use Rattle.world_lines.specs.Ended.{calling_at}
+use Rattle.call_steps.specs.CallerCalls.{calling_at}
 use Rattle.world_lines.proofs.Numbered.{lines_more, names_at}
 use Rattle.world_lines.proofs.refused.refused_lines.Goals as goal
 

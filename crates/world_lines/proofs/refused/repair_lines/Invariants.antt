@@ -1,8 +1,8 @@
 use Rattle.std.proofs.Common.{◌≡◌, ℕ, ◌++◌, [], take}
-use Rattle.transcript_text.specs.declared.call_name.CallName.TheVariants as name
+use Rattle.store_map.specs.declared.call_name.CallName.TheVariants as name
 use Rattle.store_core.specs.Outcomes.{result_of}
 use Rattle.store_core.specs.Shown.{lines_of_ended, repair_line}
-use Rattle.world_lines.specs.Ended.{calling_at}
+use Rattle.call_steps.specs.CallerCalls.{calling_at}
 use Rattle.world_lines.proofs.Numbered.{lines_of}
 use Rattle.world_lines.proofs.refused.repair_lines.Given as goal
 

@@ -1,7 +1,7 @@
 use Rattle.std.proofs.Common.{ℕ, ◌≤◌, List, length, map, Bor, ap, sym, ◌∙◌, arith}
 use Rattle.std.proofs.lemmas.List.{take_all}
 use Rattle.store_core.specs.Directory.{Object}
-use Rattle.transcript_text.specs.declared.line.LLine.{LLine}
+use Rattle.store_map.specs.declared.line.LLine.{LLine}
 use Rattle.dir_parts.specs.Parts.{Held, object_of}
 use Rattle.world_lines.specs.Lists.{object_lines}
 use Rattle.world_lines.proofs.Numbered.{map_twice}

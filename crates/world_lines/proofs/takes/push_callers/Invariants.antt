@@ -1,6 +1,6 @@
 use Rattle.std.proofs.Common.{◌≡◌, ℕ, ◌++◌, take}
 use Rattle.store_core.specs.Shown.{take_lines}
-use Rattle.world_lines.specs.Ended.{calling_at}
+use Rattle.call_steps.specs.CallerCalls.{calling_at}
 use Rattle.world_lines.specs.Names.{name_by}
 use Rattle.world_lines.proofs.Numbered.{lines_of}
 use Rattle.world_lines.proofs.takes.push_callers.Given as goal

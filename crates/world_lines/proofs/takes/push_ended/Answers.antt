@@ -1,7 +1,7 @@
 use Rattle.std.proofs.Common.{ℕ, ◌++◌, replicate, unwrap_or, ap, ◌∙◌}
-use Rattle.transcript_text.specs.declared.call_name.CallName.{CallName}
+use Rattle.store_map.specs.declared.call_name.CallName.{CallName}
 use Rattle.store_core.specs.Shown.{take_line}
-use Rattle.world_lines.specs.Ended.{ended_of}
+use Rattle.call_steps.specs.CallerCalls.{ended_of}
 use Rattle.world_lines.specs.Names.{name_by}
 use Rattle.world_lines.proofs.Numbered.{lines_more_of}
 use Rattle.world_lines.proofs.takes.push_ended.Goals as goal

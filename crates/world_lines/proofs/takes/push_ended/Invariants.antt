@@ -1,6 +1,6 @@
 use Rattle.std.proofs.Common.{◌≡◌, ℕ, ◌++◌, take}
 use Rattle.store_core.specs.Shown.{take_line}
-use Rattle.world_lines.specs.Ended.{ended_of}
+use Rattle.call_steps.specs.CallerCalls.{ended_of}
 use Rattle.world_lines.specs.Names.{name_by}
 use Rattle.world_lines.proofs.Numbered.{lines_of}
 use Rattle.world_lines.proofs.takes.push_ended.Given as goal

@@ -1,7 +1,7 @@
 use Rattle.std.proofs.Common.{◌++◌, map, ap, ◌∙◌}
-use Rattle.transcript_text.specs.declared.call_name.CallName.TheVariants as name
+use Rattle.store_map.specs.declared.call_name.CallName.TheVariants as name
 use Rattle.store_core.specs.Shown.{lines_of_actors, take_lines}
-use Rattle.world_lines.specs.Ended.{calling_at}
+use Rattle.call_steps.specs.CallerCalls.{calling_at}
 use Rattle.world_lines.proofs.takes.take_lines.Goals as goal
 
 pub returns : goal.returns

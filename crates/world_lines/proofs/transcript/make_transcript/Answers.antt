@@ -1,5 +1,5 @@
 use Rattle.std.proofs.Common.{map, ap, ◌∙◌}
-use Rattle.world_lines.specs.Ended.{calling_at}
+use Rattle.call_steps.specs.CallerCalls.{calling_at}
 use Rattle.world_lines.specs.Lists.{refused_lines, unanswered_lines, all_take_lines}
 use Rattle.world_lines.proofs.Together.{shown_together}
 use Rattle.world_lines.proofs.transcript.make_transcript.Goals as goal

@@ -1,9 +1,9 @@
 use Rattle.std.proofs.Common.{◌≡◌, ◌∙◌, sym, subst, ap, List, [], ◌∷◌, ◌++◌, if◌then◌else◌, nat_lt, length, Fits, w32, arith}
 use Rattle.std.proofs.Math.Facts.{Fits-of_lt}
 use Rattle.std.proofs.lemmas.List.{length-map}
-use Rattle.transcript_text.specs.declared.call_name.CallName.{CallName}
+use Rattle.store_map.specs.declared.call_name.CallName.{CallName}
 use Rattle.store_core.specs.Shown.{unanswered_line}
-use Rattle.world_lines.specs.Ended.{calling_at, ended_of}
+use Rattle.call_steps.specs.CallerCalls.{calling_at, ended_of}
 use Rattle.world_lines.specs.Names.{name_by}
 use Rattle.world_lines.proofs.Numbered.{lines_more, names_at}
 use Rattle.world_lines.proofs.Begun.{begun}

@@ -1,5 +1,5 @@
 use Rattle.std.proofs.Common.{◌≡◌, take}
-use Rattle.transcript_text.specs.declared.call_name.CallName.{CallName}
+use Rattle.store_map.specs.declared.call_name.CallName.{CallName}
 use Rattle.hist_rules.specs.Calls.{is_named}
 use Rattle.hist_tables.specs.Tables.{has}
 use Rattle.hist_tables.proofs.call_set.CallSet.from_calls.Given as goal

@@ -1,6 +1,6 @@
 use Rattle.std.proofs.Common.{◌≡◌, drop}
 use Rattle.std.specs.Prelude.{◌||◌}
-use Rattle.transcript_text.specs.declared.call_name.CallName.{CallName}
+use Rattle.store_map.specs.declared.call_name.CallName.{CallName}
 use Rattle.hist_rules.specs.Calls.{is_named}
 use Rattle.hist_tables.specs.Tables.{has}
 use Rattle.hist_tables.proofs.Names.{passing}

@@ -1,9 +1,9 @@
 use Rattle.std.proofs.Common.{◌≤◌, ◌^◌, List, length, is_some, sym, ap, subst}
 use Rattle.std.proofs.lemmas.Result.{IfOk-weaker}
-use Rattle.transcript_text.specs.declared.transcript.Transcript.{Transcript}
+use Rattle.store_map.specs.declared.transcript.Transcript.{Transcript}
 use Rattle.chunk_server.specs.State.{ServerState}
-use Rattle.world_lines.specs.Ended.{HaveNames, counts_of}
-use Rattle.world_lines.specs.declared.calls.CallerCalls.{CallerCalls}
+use Rattle.call_steps.specs.CallerCalls.{HaveNames, counts_of}
+use Rattle.call_steps.specs.declared.caller_calls.CallerCalls.{CallerCalls}
 use Rattle.run_served.specs.ServedLaws.{IsMadeOf}
 use Rattle.store_run.specs.Ended.{IsEnded}
 use Rattle.store_run.specs.Swept.{IsRunToEnd}

@@ -5,10 +5,10 @@ use Rattle.store_core.specs.History.{call_of}
 use Rattle.store_core.specs.Shown.{shown}
 use Rattle.version_seal.specs.Entry.{BookOf}
 use Rattle.chunk_server.specs.State.{ServerState}
-use Rattle.world_lines.specs.Ended.{counts_of, HaveNames}
-use Rattle.world_lines.specs.Served.{ServedAre}
-use Rattle.world_lines.specs.Shown.{Holds}
-use Rattle.world_lines.specs.declared.calls.CallerCalls.{CallerCalls}
+use Rattle.call_steps.specs.CallerCalls.{counts_of, HaveNames}
+use Rattle.world_steps.specs.Served.{ServedAre}
+use Rattle.world_steps.specs.HeldCore.{Holds}
+use Rattle.call_steps.specs.declared.caller_calls.CallerCalls.{CallerCalls}
 use Rattle.world_steps.specs.Known.{core_of}
 use Rattle.store_world.specs.Stored.{StoredWorld, world_of}
 use Rattle.store_world.specs.Inside.{stored_in}

@@ -5,7 +5,7 @@ use Rattle.store_core.specs.Schedule.{step_core}
 use Rattle.world_steps.proofs.PlaceLaws.{operator_makes_actions}
 use Rattle.world_steps.specs.Goes.{Leads}
 use Rattle.world_traces.proofs.Places.{operator_tells}
-use Rattle.trace_lines.specs.declared.step.Step.{Step}
+use Rattle.call_steps.specs.declared.step.Step.{Step}
 use Rattle.store_world.specs.Stored.{StoredWorld, world_of}
 use Rattle.store_world.specs.Telling.{LeadsTold}
 use Rattle.store_world.specs.Inside.{stored_in}

@@ -1,4 +1,4 @@
-use Rattle.transcript_text.specs.Triples.{found_text}
+use Rattle.store_map.specs.Triples.{found_text}
 use Rattle.transcript_read.specs.Values.{IsFound}
 use Rattle.transcript_read.proofs.PartLaws.{away_unread, unread_by}
 use Rattle.transcript_read.proofs.triple.FoundField.read.Goals as goal

@@ -1,4 +1,4 @@
-use Rattle.transcript_text.specs.Triples.{placement_text}
+use Rattle.store_map.specs.Triples.{placement_text}
 use Rattle.transcript_read.specs.Values.{IsPlacement}
 use Rattle.transcript_read.proofs.PartLaws.{skipped_unread, unread_by}
 use Rattle.transcript_read.proofs.triple.PlacementField.read.Goals as goal

@@ -1,6 +1,6 @@
 use Rattle.std.proofs.Common.{arith, ◌++◌, ◌∷◌, ◌∙◌}
 use Rattle.std.specs.Prelude.{decimal}
-use Rattle.transcript_text.specs.Triples.{placement_text, found_text, triple_text}
+use Rattle.store_map.specs.Triples.{placement_text, found_text, triple_text}
 use Rattle.transcript_read.specs.Values.{IsTriple}
 use Rattle.transcript_read.proofs.PartLaws.{long_lacks, placement_lacks, behind_field, triple_parts, unread_by}
 use Rattle.transcript_read.proofs.triple.TripleField.read.Goals as goal

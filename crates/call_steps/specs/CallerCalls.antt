@@ -1,9 +1,9 @@
 -- A caller's calls at the end of a run, as the store's definitions say them.
 use Rattle.std.specs.Prelude.{ℕ, ◌^◌, ◌≤◌, ◌<◌, List, [], length, map, replicate, unwrap_or, All}
 use Rattle.store_core.specs.Work.{Ended, Calling}
-use Rattle.world_lines.specs.Outcomes.{call_outcome_of}
-use Rattle.world_lines.specs.declared.calls.EndedCall.{EndedCall}
-use Rattle.world_lines.specs.declared.calls.CallerCalls.{CallerCalls}
+use Rattle.call_steps.specs.CallOutcomes.{call_outcome_of}
+use Rattle.call_steps.specs.declared.caller_calls.EndedCall.{EndedCall}
+use Rattle.call_steps.specs.declared.caller_calls.CallerCalls.{CallerCalls}
 
 -- a call that has ended, where there are so many servers
 abbrev pub ended_of : ℕ → EndedCall → Ended

@@ -1,6 +1,6 @@
 //! A transcript as values: a list of lines for each kind.
 use crate::line::{GLine, HLine, LLine, OLine, RLine, TLine, XLine};
-use store_map::ListOf;
+use crate::list_of::ListOf;
 
 /// The lines of a run, kind by kind in the order in which they are written.
 #[derive(Debug, Drop)]

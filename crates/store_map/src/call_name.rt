@@ -1,6 +1,6 @@
 //! The names of calls in lines.
 ghost use Rattle.std.specs.Prelude.{Some};
-ghost use Rattle.transcript_text.specs.Words.{call_text};
+ghost use Rattle.store_map.specs.CallNames.{call_text};
 
 use std::fmt;
 

@@ -1,8 +1,9 @@
 //! The lines of a transcript, each kind with its values.
 use crate::call_name::CallName;
 use crate::cause::{Cause, RepairResult};
+use crate::list_of::ListOf;
+use crate::name::Name;
 use crate::shown::Shown;
-use store_map::{ListOf, Name};
 
 /// `H P CALL REPLY`: at point P the client's call stands with this reply.
 #[derive(Debug, Drop)]

@@ -1,10 +1,11 @@
 //! A step that was made, told without lists.
-use call_steps::{Act, DirectoryAnswer, ServerAnswer};
+use crate::act::Act;
+use crate::answer::{DirectoryAnswer, ServerAnswer};
 use store_map::Actor;
 
 /// What a step was answered: by the directory, or by the server that it was made at.
 #[derive(Clone, Copy, PartialEq, Eq, Debug)]
-pub enum Answer {
+pub enum StepAnswer {
     Directory(DirectoryAnswer),
     Server(ServerAnswer),
 }
@@ -18,5 +19,5 @@ pub struct Step {
     /// Whether memory was wanting in the coding before it.
     pub short: bool,
     pub act: Act,
-    pub answer: Answer,
+    pub answer: StepAnswer,
 }

@@ -2,8 +2,8 @@
 use Rattle.std.specs.Prelude.{map}
 use Rattle.store_core.specs.Act.{Outcome as CoreOutcome}
 use Rattle.store_core.specs.Told.{lost_in}
-use Rattle.world_lines.specs.declared.outcome.CallOutcome.{CallOutcome}
-use Rattle.world_lines.specs.declared.outcome.CallOutcome.TheVariants as ended
+use Rattle.call_steps.specs.declared.outcome.CallOutcome.{CallOutcome}
+use Rattle.call_steps.specs.declared.outcome.CallOutcome.TheVariants as ended
 
 -- a call of any actor
 abbrev pub call_outcome_of : CallOutcome → CoreOutcome

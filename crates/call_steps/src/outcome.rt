@@ -1,5 +1,5 @@
 //! How a call ended.
-use call_steps::Change;
+use crate::outcomes::Change;
 use store_map::{LostChunk, Point, Reply};
 
 /// How a call of any actor ended: a client's, or a repairer's rebuild.

@@ -1,5 +1,5 @@
 //! What the history shows of a call: its reply, or that it is open.
-use store_map::Reply;
+use crate::reply::Reply;
 
 /// What a line of the history shows of a call.
 #[derive(Debug, Drop)]

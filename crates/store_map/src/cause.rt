@@ -1,9 +1,10 @@
 //! Causes of refusals, results of rebuilds, and the servers without their chunk that both list.
 ghost use Rattle.std.specs.Prelude.{Some};
-ghost use Rattle.transcript_text.specs.Triples.{placement_text, found_text, triple_text};
+ghost use Rattle.store_map.specs.Triples.{placement_text, found_text, triple_text};
 
+use crate::list_of::ListOf;
+use crate::placement::{Found, Placement};
 use std::fmt;
-use store_map::{Found, ListOf, Placement};
 
 /// A server that lacked its chunk of a stripe: what it answered when the chunk was to be placed,
 /// and what it answered when it was asked. Printed `J/P/F`.

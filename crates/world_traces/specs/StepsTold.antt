@@ -4,12 +4,12 @@ use Rattle.store_core.specs.Told.{Told}
 use Rattle.store_in_time.specs.Trace.{Made}
 use Rattle.call_steps.specs.Acts.{act_by}
 use Rattle.call_steps.specs.Answers.{directory_answer, server_told}
-use Rattle.trace_lines.specs.declared.step.Answer.{Answer}
-use Rattle.trace_lines.specs.declared.step.Answer.TheVariants as answer
-use Rattle.trace_lines.specs.declared.step.Step.{Step}
+use Rattle.call_steps.specs.declared.step.StepAnswer.{StepAnswer}
+use Rattle.call_steps.specs.declared.step.StepAnswer.TheVariants as answer
+use Rattle.call_steps.specs.declared.step.Step.{Step}
 
 -- an answer is this one, without the lists that it has
-abbrev pub IsAnswer : Answer → Told → Type 0
+abbrev pub IsAnswer : StepAnswer → Told → Type 0
 IsAnswer (answer.Directory told) of = directory_answer of ≡ Some told
 IsAnswer (answer.Server told) of = server_told told ≡ of
 

@@ -10,11 +10,11 @@ use Rattle.store_core.specs.Calls.{Calls}
 use Rattle.store_core.specs.Directory.{Event, Point}
 use Rattle.store_core.specs.History.{applied, is_answered}
 use Rattle.store_lengths.specs.MapAfter.{map_by}
-use Rattle.world_lines.specs.Outcomes.{call_outcome_of}
-use Rattle.world_lines.specs.declared.outcome.CallOutcome.{CallOutcome}
-use Rattle.world_lines.specs.declared.outcome.CallOutcome.TheVariants as outcome
-use Rattle.world_lines.specs.declared.calls.EndedCall.{EndedCall}
-use Rattle.world_lines.specs.declared.calls.CallerCalls.{CallerCalls}
+use Rattle.call_steps.specs.CallOutcomes.{call_outcome_of}
+use Rattle.call_steps.specs.declared.outcome.CallOutcome.{CallOutcome}
+use Rattle.call_steps.specs.declared.outcome.CallOutcome.TheVariants as outcome
+use Rattle.call_steps.specs.declared.caller_calls.EndedCall.{EndedCall}
+use Rattle.call_steps.specs.declared.caller_calls.CallerCalls.{CallerCalls}
 
 -- the bytes of an outcome that has some
 abbrev pub bytes_in : CallOutcome → Option (List ℕ)

@@ -4,7 +4,7 @@ use Rattle.store_map.specs.declared.placement.Placement.{Placement}
 use Rattle.store_map.specs.declared.placement.Placement.TheVariants.{At, Skipped}
 use Rattle.store_map.specs.declared.placement.Found.{Found}
 use Rattle.store_map.specs.declared.placement.Found.TheVariants.{Absent, Away}
-use Rattle.transcript_text.specs.declared.cause.Triple.{Triple}
+use Rattle.store_map.specs.declared.cause.Triple.{Triple}
 
 -- P: the epoch at which a chunk was placed, or how often its server had been made away that took none
 abbrev pub placement_text : Placement → List ℕ
