@@ -1,6 +1,5 @@
 //! What the checker prints of a script and a transcript.
-use hist_check::check;
-use hist_tables::verdict_line;
+use hist_check::{check, verdict_line};
 use script_text::read_script;
 use std::alloc::Global;
 use std::test::Fail;

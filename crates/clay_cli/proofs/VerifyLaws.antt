@@ -20,7 +20,7 @@ use Rattle.transcript_read.proofs.OrderedListLaws.{lines_within}
 use Rattle.transcript_text.specs.Text.{text_of}
 use Rattle.store_map.specs.declared.transcript.Transcript.{Transcript}
 use Rattle.hist_rules.specs.Verdict.{verdict_of}
-use Rattle.hist_rules.specs.VerdictText.{verdict_line}
+use Rattle.hist_check.specs.VerdictText.{verdict_line}
 use Rattle.hist_rules.specs.declared.verdict.Verdict.TheVariants.{Legal}
 use Rattle.clay_cli.specs.Play.{kind_text, refusal_line}
 use Rattle.clay_cli.specs.Verify.{line_count}

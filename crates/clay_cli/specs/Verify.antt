@@ -12,7 +12,7 @@ use Rattle.store_map.specs.declared.transcript.Transcript.{Transcript}
 use Rattle.transcript_read.specs.Fault.{IsFault}
 use Rattle.transcript_read.specs.WellFormed.{IsWellFormed}
 use Rattle.hist_rules.specs.Verdict.{verdict_of}
-use Rattle.hist_rules.specs.VerdictText.{verdict_line}
+use Rattle.hist_check.specs.VerdictText.{verdict_line}
 use Rattle.hist_rules.specs.declared.verdict.Verdict.TheVariants.{Legal}
 use Rattle.clay_cli.specs.Play.{kind_text, refusal_line}
 

@@ -4,11 +4,8 @@ use Rattle.std.specs.Prelude.{slice_get}
 use Rattle.std.proofs.lemmas.List.{drop_more, drop_all, drop-map}
 use Rattle.std.proofs.lemmas.Option.{slice_get_within, get_or_from_slice_get}
 use Rattle.store_map.specs.declared.line.LLine.{LLine}
-use Rattle.transcript_text.specs.Lines.{l_line}
 use Rattle.hist_rules.specs.declared.verdict.Verdict.{Verdict}
-use Rattle.hist_rules.specs.declared.verdict.Verdict.TheVariants.{BadTail}
-use Rattle.hist_rules.specs.declared.verdict.TailKind.TheVariants.{Names}
-use Rattle.hist_rules.specs.TailText.{without_end, nothing}
+use Rattle.hist_rules.specs.declared.verdict.Verdict.TheVariants.{BadObject}
 use Rattle.hist_rules.specs.ObjectsListed.{same_line, first_difference}
 use Rattle.hist_causes.proofs.Ors.{not_none}
 
@@ -42,7 +39,7 @@ stopped false fault found rest e = e
 
 module _ (objects : List Object) (lines : List LLine) (i : ℕ) (whole : Option Verdict) (so_far : first_difference (drop i (map line_of objects)) (drop i lines) ≡ whole) where
   module _ (line : LLine) (within : i < length lines) (is : line ≡ get_or lines i line) where
-    pub line_superfluous : length objects ≤ i → Some (BadTail Names nothing (without_end (l_line line))) ≡ whole
+    pub line_superfluous : length objects ≤ i → Some (BadObject None (Some line)) ≡ whole
     line_superfluous past =
         sym (ap (λ (wanted : List LLine). first_difference wanted (drop i lines)) (wanted_past objects i past) ∙ ap (first_difference []) (read_first lines i line within is)) ∙ so_far
 
@@ -63,7 +60,7 @@ module _ (objects : List Object) (lines : List LLine) (i : ℕ) (whole : Option 
 
   module _ (past : length lines ≤ i) where
     pub object_unlisted : (object : Object) (n : ℕ) → n ≡ i → slice_get objects n ≡ Some object → (fault : Verdict)
-        → fault ≡ BadTail Names (without_end (l_line (line_of object))) nothing → Some fault ≡ whole
+        → fault ≡ BadObject (Some (line_of object)) None → Some fault ≡ whole
     object_unlisted object n here got fault is =
         ap (λ (found : Verdict). Some found) is
         ∙ sym (ap (λ (wanted : List LLine). first_difference wanted (drop i lines)) (wanted_first objects i object (ap (slice_get objects) (sym here) ∙ got))

@@ -1,62 +1,59 @@
 //! The rule on the objects at the end: they are the map's, in order of creation.
-ghost use Rattle.std.specs.Prelude.{◌≡◌, [], ◌∷◌, IfOk};
-ghost use Rattle.transcript_text.specs.Lines.{l_line};
+ghost use Rattle.std.specs.Prelude.{◌≡◌, [], ◌∷◌, None, Some, IfOk};
 ghost use Rattle.store_map.specs.declared.line.LLine.{LLine};
-ghost use Rattle.hist_rules.specs.TailText.{without_end, nothing};
 ghost use Rattle.hist_rules.specs.ObjectsListed.{shown_object, shown_objects, first_difference};
-ghost use Rattle.hist_rules.specs.declared.verdict.TailKind.TheVariants.{Names};
-ghost use Rattle.hist_rules.specs.declared.verdict.Verdict.TheVariants.{BadTail};
+ghost use Rattle.hist_rules.specs.declared.verdict.Verdict.TheVariants.{BadObject};
 
-use hist_rules::{TailKind, Verdict};
-use hist_tables::{nothing, object_line};
-use std::alloc::{AllocError, Global};
+use hist_rules::Verdict;
+use std::alloc::AllocError;
 use store_map::{LLine, Name, ObjectMap};
 
+// The line of an object with this name and so many bytes.
+fn object_line(name: &Name, length: u64) -> Result<LLine, AllocError>
+    ensures { IfOk result (λ line. line ≡ record { name = name.now; length = length }) }
+{
+    Ok(LLine {
+        name: name.copy()?,
+        length,
+    })
+}
+
 // Whether the line is the object's.
-fn object_fits(
-    alloc: Global,
-    name: &Name,
-    bytes: &[u8],
-    line: &LLine,
-) -> Result<Option<Verdict>, AllocError>
+fn object_fits(name: &Name, bytes: &[u8], line: &LLine) -> Result<Option<Verdict>, AllocError>
     ensures { IfOk result (λ found. found ≡ first_difference (shown_object name.now bytes.now ∷ []) (line.now ∷ [])) }
 {
     let count = bytes.len() as u64;
     if *name == line.name && count == line.length {
         return Ok(None);
     }
-    Ok(Some(Verdict::BadTail {
-        kind: TailKind::Names,
-        expected: object_line(alloc, name.as_bytes(), count)?,
-        got: object_line(alloc, line.name.as_bytes(), line.length)?,
+    Ok(Some(Verdict::BadObject {
+        expected: Some(object_line(name, count)?),
+        got: Some(object_line(&line.name, line.length)?),
     }))
 }
 
 // The fault of a line where the map has no more objects.
-fn superfluous_line(alloc: Global, line: &LLine) -> Result<Verdict, AllocError>
-    ensures { IfOk result (λ fault. fault ≡ BadTail Names nothing (without_end (l_line line.now))) }
+fn superfluous_line(line: &LLine) -> Result<Verdict, AllocError>
+    ensures { IfOk result (λ fault. fault ≡ BadObject None (Some line.now)) }
 {
-    Ok(Verdict::BadTail {
-        kind: TailKind::Names,
-        expected: nothing(alloc)?,
-        got: object_line(alloc, line.name.as_bytes(), line.length)?,
+    Ok(Verdict::BadObject {
+        expected: None,
+        got: Some(object_line(&line.name, line.length)?),
     })
 }
 
 // The fault of an object that has no line.
-fn unlisted_object(alloc: Global, name: &Name, bytes: &[u8]) -> Result<Verdict, AllocError>
-    ensures { IfOk result (λ fault. fault ≡ BadTail Names (without_end (l_line (shown_object name.now bytes.now))) nothing) }
+fn unlisted_object(name: &Name, bytes: &[u8]) -> Result<Verdict, AllocError>
+    ensures { IfOk result (λ fault. fault ≡ BadObject (Some (shown_object name.now bytes.now)) None) }
 {
-    Ok(Verdict::BadTail {
-        kind: TailKind::Names,
-        expected: object_line(alloc, name.as_bytes(), bytes.len() as u64)?,
-        got: nothing(alloc)?,
+    Ok(Verdict::BadObject {
+        expected: Some(object_line(name, bytes.len() as u64)?),
+        got: None,
     })
 }
 
 /// The fault of the first place at which the lines aren't those of the map's objects.
 pub fn find_wrong_object(
-    alloc: Global,
     objects: &ObjectMap,
     lines: &[LLine],
 ) -> Result<Option<Verdict>, AllocError>
@@ -64,14 +61,14 @@ pub fn find_wrong_object(
 {
     for (place, line) in lines.iter().enumerate() {
         let Some((name, bytes)) = objects.at(place) else {
-            return Ok(Some(superfluous_line(alloc, line)?));
+            return Ok(Some(superfluous_line(line)?));
         };
-        if let Some(fault) = object_fits(alloc, name, bytes, line)? {
+        if let Some(fault) = object_fits(name, bytes, line)? {
             return Ok(Some(fault));
         }
     }
     match objects.at(lines.len()) {
-        Some((name, bytes)) => Ok(Some(unlisted_object(alloc, name, bytes)?)),
+        Some((name, bytes)) => Ok(Some(unlisted_object(name, bytes)?)),
         None => Ok(None),
     }
 }

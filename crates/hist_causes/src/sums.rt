@@ -5,8 +5,8 @@ ghost use Rattle.store_map.specs.declared.line.GLine.{GLine};
 ghost use Rattle.hist_rules.specs.TakesAddUp.{server_adds_up, takes_add_up};
 ghost use Rattle.hist_causes.specs.Losses.{AreWipes};
 
-use hist_rules::{TailKind, Verdict};
-use hist_tables::{OperatorCounts, server_line};
+use hist_rules::Verdict;
+use hist_tables::OperatorCounts;
 use std::alloc::{AllocError, Global};
 use store_map::{GLine, Script, TLine, Transcript};
 
@@ -37,28 +37,38 @@ fn taken_of(lines: &[GLine], server: u32) -> u128
     sum
 }
 
+fn copy_line(line: &TLine) -> TLine
+    ensures { result ≡ line.now }
+{
+    TLine {
+        server: line.server,
+        taken: line.taken,
+        held: line.held,
+        epoch: line.epoch,
+    }
+}
+
 // Whether a server gave what all calls took of it, and was emptied so often.
 fn server_adds_up(
-    alloc: Global,
     script: &Script,
     transcript: &Transcript,
     counted: &OperatorCounts,
     line: &TLine,
-) -> Result<Option<Verdict>, AllocError>
+) -> Option<Verdict>
     requires wipes { AreWipes script.now counted.now }
-    ensures { IfOk result (λ found. found ≡ server_adds_up script.now transcript.now line.now) }
+    ensures { result ≡ server_adds_up script.now transcript.now line.now }
 {
     let taken = taken_of(transcript.takes.as_slice(), line.server);
     let epoch = counted.of(u64::from(line.server));
     let printed = u128::from(line.taken);
     if printed == taken && line.epoch == epoch {
-        return Ok(None);
+        return None;
     }
-    Ok(Some(Verdict::BadTail {
-        kind: TailKind::Taken,
-        expected: server_line(alloc, line.server, taken, line.held, epoch)?,
-        got: server_line(alloc, line.server, printed, line.held, line.epoch)?,
-    }))
+    Some(Verdict::BadSums {
+        taken,
+        epoch,
+        got: copy_line(line),
+    })
 }
 
 /// The fault of the first server whose line is wrong. Each line of takes has one number for each
@@ -73,7 +83,7 @@ pub fn find_wrong_sum(
     let counted = OperatorCounts::wipes(alloc, script)?;
     let lines = transcript.servers.as_slice();
     for line in lines {
-        if let Some(fault) = server_adds_up(alloc, script, transcript, &counted, line)? {
+        if let Some(fault) = server_adds_up(script, transcript, &counted, line) {
             return Ok(Some(fault));
         }
     }

@@ -7,3 +7,4 @@ pub mod Rules
 pub mod Groups
 pub mod Searches
 pub mod Made
+pub mod Tails

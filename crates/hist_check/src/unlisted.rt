@@ -6,39 +6,32 @@ ghost use Rattle.hist_rules.specs.TakesHaveCalls.{has_call, takes_have_calls};
 ghost use Rattle.hist_tables.specs.Tables.{IsSetOf};
 ghost use Rattle.store_map.specs.declared.transcript.Transcript.{Transcript};
 
-use hist_rules::{TailKind, Verdict};
-use hist_tables::{CallSet, call_line, nothing};
+use hist_rules::Verdict;
+use hist_tables::CallSet;
 use std::alloc::{AllocError, Global};
 use store_map::{CallName, GLine, Transcript};
 
 // Whether a line says what became of a call that took subchunks.
-fn has_call(alloc: Global, listed: &CallSet, call: CallName) -> Result<Option<Verdict>, AllocError>
-    ensures { (t : Transcript) → IsSetOf listed.now (listed_calls t) → IfOk result (λ found. found ≡ has_call t call) }
+fn has_call(listed: &CallSet, call: CallName) -> Option<Verdict>
+    ensures { (t : Transcript) → IsSetOf listed.now (listed_calls t) → result ≡ has_call t call }
 {
     if listed.contains(call) {
-        return Ok(None);
+        None
+    } else {
+        Some(Verdict::Unlisted { call })
     }
-    Ok(Some(Verdict::BadTail {
-        kind: TailKind::Unlisted,
-        expected: call_line(alloc, call)?,
-        got: nothing(alloc)?,
-    }))
 }
 
 // The first of the lines whose call isn't among those listed.
-fn find_missing(
-    alloc: Global,
-    listed: &CallSet,
-    lines: &[GLine],
-) -> Result<Option<Verdict>, AllocError>
-    ensures { (t : Transcript) → IsSetOf listed.now (listed_calls t) → IfOk result (λ found. found ≡ first_fault (λ line. has_call t line.call) lines.now) }
+fn find_missing(listed: &CallSet, lines: &[GLine]) -> Option<Verdict>
+    ensures { (t : Transcript) → IsSetOf listed.now (listed_calls t) → result ≡ first_fault (λ line. has_call t line.call) lines.now }
 {
     for line in lines {
-        if let Some(fault) = has_call(alloc, listed, line.call)? {
-            return Ok(Some(fault));
+        if let Some(fault) = has_call(listed, line.call) {
+            return Some(fault);
         }
     }
-    Ok(None)
+    None
 }
 
 /// The first call that took subchunks and has no line.
@@ -46,5 +39,5 @@ pub fn find_unlisted(alloc: Global, transcript: &Transcript) -> Result<Option<Ve
     ensures { IfOk result (λ found. found ≡ takes_have_calls transcript.now) }
 {
     let listed = CallSet::of_listed(alloc, transcript)?;
-    find_missing(alloc, &listed, transcript.takes.as_slice())
+    Ok(find_missing(&listed, transcript.takes.as_slice()))
 }

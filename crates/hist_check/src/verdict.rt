@@ -99,7 +99,7 @@ fn find_wrong_end(
     if let Some(fault) = find_unlisted(alloc, transcript)? {
         return Ok(Some(fault));
     }
-    if let Some(fault) = find_wrong_object(alloc, map, transcript.objects.as_slice())? {
+    if let Some(fault) = find_wrong_object(map, transcript.objects.as_slice())? {
         return Ok(Some(fault));
     }
     find_wrong_sum(alloc, script, transcript)

@@ -1,12 +1,11 @@
 -- Replies and objects that aren't the plain map's.
-use Rattle.std.specs.Prelude.{[], ◌∷◌, ◌++◌, codes}
+use Rattle.std.specs.Prelude.{[], ◌∷◌, ◌++◌, None, Some, codes}
 use Rattle.store_map.specs.declared.reply.Reply.TheVariants as reply
 use Rattle.store_map.specs.declared.call_name.CallName.TheVariants as name
 use Rattle.store_map.specs.declared.shown.Shown.TheVariants as shown
 use Rattle.store_rows.specs.RowLines.{replied, unfinished, listed}
 use Rattle.store_rows.specs.RowsCalls.{put_then_get}
-use Rattle.hist_rules.specs.declared.verdict.TailKind.TheVariants.{Names}
-use Rattle.hist_rules.specs.declared.verdict.Verdict.TheVariants.{Differs, BadTail}
+use Rattle.hist_rules.specs.declared.verdict.Verdict.TheVariants.{Differs, BadObject}
 use Rattle.hist_rows.specs.Judged.{Faulty}
 
 -- a read that shows another byte than was put
@@ -35,7 +34,7 @@ object_left_out =
     record {
       script = put_then_get.script;
       transcript = record put_then_get.transcript { objects = [] };
-      verdict = BadTail Names (codes "L a 8") (codes "-");
+      verdict = BadObject (Some (listed (codes "a") 8)) None;
       line = codes "tail list expected L a 8 got -\n";
     }
 
@@ -45,7 +44,7 @@ object_longer =
     record {
       script = put_then_get.script;
       transcript = record put_then_get.transcript { objects = listed (codes "a") 9 ∷ [] };
-      verdict = BadTail Names (codes "L a 8") (codes "L a 9");
+      verdict = BadObject (Some (listed (codes "a") 8)) (Some (listed (codes "a") 9));
       line = codes "tail list expected L a 8 got L a 9\n";
     }
 
@@ -55,6 +54,6 @@ object_too_many =
     record {
       script = put_then_get.script;
       transcript = record put_then_get.transcript { objects = put_then_get.transcript.objects ++ listed (codes "b") 0 ∷ [] };
-      verdict = BadTail Names (codes "-") (codes "L b 0");
+      verdict = BadObject None (Some (listed (codes "b") 0));
       line = codes "tail list expected - got L b 0\n";
     }

@@ -5,8 +5,7 @@ use Rattle.store_map.specs.declared.call_name.CallName.TheVariants as name
 use Rattle.store_rows.specs.RowLines.{replied, server}
 use Rattle.store_rows.specs.RowsCalls.{put_then_get}
 use Rattle.store_rows.specs.RowsRebuilds.{superseded_rebuild}
-use Rattle.hist_rules.specs.declared.verdict.TailKind.TheVariants.{Unlisted, Taken}
-use Rattle.hist_rules.specs.declared.verdict.Verdict.TheVariants.{BadTail}
+use Rattle.hist_rules.specs.declared.verdict.Verdict.TheVariants.{Unlisted, BadSums}
 use Rattle.hist_rows.specs.Judged.{Faulty}
 
 -- a read whose reply is left out, though it took subchunks
@@ -15,7 +14,7 @@ read_left_out =
     record {
       script = put_then_get.script;
       transcript = record put_then_get.transcript { history = replied 0 (name.Client 0 0) reply.Done ∷ [] };
-      verdict = BadTail Unlisted (codes "O c0.1") (codes "-");
+      verdict = Unlisted (name.Client 0 1);
       line = codes "tail open expected O c0.1 got -\n";
     }
 
@@ -25,7 +24,7 @@ rebuild_left_out =
     record {
       script = superseded_rebuild.script;
       transcript = record superseded_rebuild.transcript { repairs = [] };
-      verdict = BadTail Unlisted (codes "O r0.0") (codes "-");
+      verdict = Unlisted (name.Repairer 0 0);
       line = codes "tail open expected O r0.0 got -\n";
     }
 
@@ -35,7 +34,7 @@ given_to_nobody =
     record {
       script = put_then_get.script;
       transcript = record put_then_get.transcript { servers = server 0 5 1 0 ∷ server 1 4 1 0 ∷ server 2 0 1 0 ∷ server 3 0 1 0 ∷ [] };
-      verdict = BadTail Taken (codes "T 0 4 1 0") (codes "T 0 5 1 0");
+      verdict = BadSums 4 0 (server 0 5 1 0);
       line = codes "tail taken expected T 0 4 1 0 got T 0 5 1 0\n";
     }
 
@@ -45,7 +44,7 @@ epoch_too_high =
     record {
       script = put_then_get.script;
       transcript = record put_then_get.transcript { servers = server 0 4 1 0 ∷ server 1 4 1 1 ∷ server 2 0 1 0 ∷ server 3 0 1 0 ∷ [] };
-      verdict = BadTail Taken (codes "T 1 4 1 0") (codes "T 1 4 1 1");
+      verdict = BadSums 4 0 (server 1 4 1 1);
       line = codes "tail taken expected T 1 4 1 0 got T 1 4 1 1\n";
     }
 
@@ -55,6 +54,6 @@ takes_left_out =
     record {
       script = put_then_get.script;
       transcript = record put_then_get.transcript { takes = [] };
-      verdict = BadTail Taken (codes "T 0 0 1 0") (codes "T 0 4 1 0");
+      verdict = BadSums 0 0 (server 0 4 1 0);
       line = codes "tail taken expected T 0 0 1 0 got T 0 4 1 0\n";
     }

@@ -6,7 +6,7 @@ use Rattle.store_rows.specs.Rows.{Row}
 use Rattle.hist_rules.specs.declared.verdict.Verdict.{Verdict}
 use Rattle.hist_rules.specs.IsHistory.{IsHistory}
 use Rattle.hist_rules.specs.Verdict.{verdict_of}
-use Rattle.hist_rules.specs.VerdictText.{verdict_line}
+use Rattle.hist_check.specs.VerdictText.{verdict_line}
 
 -- a transcript that is none of the script's, with the fault that is found and its line
 pub record Faulty : Type 0 where

@@ -16,15 +16,12 @@ use Rattle.store_map.specs.declared.shown.Shown.{Shown}
 use Rattle.store_map.specs.declared.shown.Shown.TheVariants.{Reply as Replied, Unfinished}
 use Rattle.store_map.specs.declared.line.LLine.{LLine}
 use Rattle.store_map.specs.declared.transcript.Transcript.{Transcript}
-use Rattle.transcript_text.specs.Lines.{l_line}
-use Rattle.hist_rules.specs.declared.verdict.TailKind.TheVariants.{Names}
 use Rattle.hist_rules.specs.declared.verdict.Verdict.{Verdict}
-use Rattle.hist_rules.specs.declared.verdict.Verdict.TheVariants.{BadTail}
+use Rattle.hist_rules.specs.declared.verdict.Verdict.TheVariants.{BadObject}
 use Rattle.hist_rules.specs.Calls.{call_of}
 use Rattle.hist_rules.specs.Named.{is_ok}
 use Rattle.hist_rules.specs.RepliesMatch.{same_reply, is_put_or_write, shows_reply, reply_matches, history_calls, replies_match}
 use Rattle.hist_rules.specs.ObjectsListed.{map_lines, same_line, first_difference, objects_listed}
-use Rattle.hist_rules.specs.TailText.{without_end}
 use Rattle.hist_rules.specs.MapReplies.{ShowsReply}
 use Rattle.hist_rules.proofs.Judges.{Judges, is_fault, unless_judges, like_judges, each_judges}
 
@@ -93,7 +90,7 @@ difference_judges (line ∷ lines) [] = record { none = λ e. is_fault e; clear 
 difference_judges (want ∷ wants) (line ∷ lines) = by (difference_judges wants lines) (same_line want line) refl
   where
     by : Judges (first_difference wants lines) (lines ≡ wants) → (b : Bool) → same_line want line ≡ b
-        → Judges (cond {A = Option Verdict} b (first_difference wants lines) (Some (BadTail Names (without_end (l_line want)) (without_end (l_line line))))) (line ∷ lines ≡ want ∷ wants)
+        → Judges (cond {A = Option Verdict} b (first_difference wants lines) (Some (BadObject (Some want) (Some line)))) (line ∷ lines ≡ want ∷ wants)
     by others true e =
         like_judges (first_difference wants lines) (λ h. λ i. (same_line_decides want line).0 e i ∷ h i) (λ h. ap rest h) others
     by others false e =

@@ -12,12 +12,10 @@ pub mod LostChunks
 pub mod LostRaces
 pub mod GivenUp
 pub mod CausesNamed
-pub mod TailText
 pub mod TakesHaveCalls
 pub mod ObjectsListed
 pub mod TakesAddUp
 pub mod Verdict
-pub mod VerdictText
 pub mod CallOrder
 pub mod MapReplies
 pub mod FoundMissing

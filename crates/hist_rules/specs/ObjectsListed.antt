@@ -6,12 +6,9 @@ use Rattle.store_map.specs.PlainMap.{Objects}
 use Rattle.store_map.specs.declared.script.Script.{Script}
 use Rattle.store_map.specs.declared.line.LLine.{LLine}
 use Rattle.store_map.specs.declared.transcript.Transcript.{Transcript}
-use Rattle.transcript_text.specs.Lines.{l_line}
-use Rattle.hist_rules.specs.declared.verdict.TailKind.TheVariants.{Names}
 use Rattle.hist_rules.specs.declared.verdict.Verdict.{Verdict}
-use Rattle.hist_rules.specs.declared.verdict.Verdict.TheVariants.{BadTail}
+use Rattle.hist_rules.specs.declared.verdict.Verdict.TheVariants.{BadObject}
 use Rattle.hist_rules.specs.RepliesMatch.{history_calls}
-use Rattle.hist_rules.specs.TailText.{without_end, nothing}
 
 -- the line of an object with this name and these bytes
 abbrev pub shown_object : List ℕ → List ℕ → LLine
@@ -31,11 +28,11 @@ same_line one other = bytes_eq one.name other.name && nat_eq one.length other.le
 -- the first place at which two lists differ; the fault tells the line of each
 abbrev pub first_difference : List LLine → List LLine → Option Verdict
 first_difference [] [] = None
-first_difference [] (printed ∷ others) = Some (BadTail Names nothing (without_end (l_line printed)))
-first_difference (wanted ∷ others) [] = Some (BadTail Names (without_end (l_line wanted)) nothing)
+first_difference [] (printed ∷ others) = Some (BadObject None (Some printed))
+first_difference (wanted ∷ others) [] = Some (BadObject (Some wanted) None)
 first_difference (wanted ∷ wanteds) (printed ∷ others) =
     if same_line wanted printed then first_difference wanteds others
-    else Some (BadTail Names (without_end (l_line wanted)) (without_end (l_line printed)))
+    else Some (BadObject (Some wanted) (Some printed))
 
 -- the first object that is missing, or other, or too many
 abbrev pub objects_listed : Script → Transcript → Option Verdict

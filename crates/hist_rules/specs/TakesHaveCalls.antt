@@ -2,18 +2,15 @@
 use Rattle.std.specs.Prelude.{Option}
 use Rattle.store_map.specs.declared.call_name.CallName.{CallName}
 use Rattle.store_map.specs.declared.transcript.Transcript.{Transcript}
-use Rattle.transcript_text.specs.Lines.{o_line}
-use Rattle.hist_rules.specs.declared.verdict.TailKind.TheVariants.{Unlisted}
 use Rattle.hist_rules.specs.declared.verdict.Verdict.{Verdict}
-use Rattle.hist_rules.specs.declared.verdict.Verdict.TheVariants.{BadTail}
+use Rattle.hist_rules.specs.declared.verdict.Verdict.TheVariants.{Unlisted}
 use Rattle.hist_rules.specs.First.{unless, first_fault}
 use Rattle.hist_rules.specs.Calls.{is_named}
 use Rattle.hist_rules.specs.Named.{listed_calls}
-use Rattle.hist_rules.specs.TailText.{without_end, nothing}
 
--- the fault tells the line of a call without a reply, which doesn't stand there
+-- the fault tells the call that no line names
 abbrev pub has_call : Transcript → CallName → Option Verdict
-has_call t call = unless (is_named call (listed_calls t)) (BadTail Unlisted (without_end (o_line (record { call = call }))) nothing)
+has_call t call = unless (is_named call (listed_calls t)) (Unlisted call)
 
 -- the first call that took subchunks and has no line
 abbrev pub takes_have_calls : Transcript → Option Verdict

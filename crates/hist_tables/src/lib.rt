@@ -1,6 +1,5 @@
 //! What the checker's rules look up: the calls that lines name, sets of calls, numbers by actor,
-//! how often the operator does something, the texts of lines at the end of a transcript, and the line
-//! in which a verdict is printed.
+//! and how often the operator does something.
 #![tactic(auto)]
 
 mod actor_table;
@@ -10,8 +9,6 @@ mod lines;
 mod number_set;
 mod operator_counts;
 mod reaps;
-mod texts;
-mod verdict_text;
 
 pub use actor_table::ActorTable;
 pub use call_set::CallSet;
@@ -19,5 +16,3 @@ pub use calls::{call_of, count_calls, number_of, rebuild_of, with_number};
 pub use lines::{NamesCall, count_answers, unanswered_calls};
 pub use operator_counts::OperatorCounts;
 pub use reaps::Reaps;
-pub use texts::{call_line, nothing, object_line, server_line};
-pub use verdict_text::verdict_line;

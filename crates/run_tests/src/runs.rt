@@ -4,8 +4,7 @@ ghost use Rattle.store_map.specs.Naming.{IsValid};
 
 use clay_model::Coder;
 use clay_par::ParCoder;
-use hist_check::check;
-use hist_tables::verdict_line;
+use hist_check::{check, verdict_line};
 use script_text::read_script;
 use std::alloc::Global;
 use std::str;

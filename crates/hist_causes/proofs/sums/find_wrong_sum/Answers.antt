@@ -8,13 +8,13 @@ pub returns-in-Some : goal.returns-in-Some
 returns-in-Some c =
     let r = server_adds_up c.args.script.now c.args.transcript.now in
     line_found r c.as_slice-lines.result.now c.loop-line.line-index _ (first_fault r c.as_slice-lines.result.now)
-    c.in-Some.fault c.loop-line.invariant c.loop-line-test.true (sym c.in_ok-fault.ensures ∙ c.in-Some.is) ∙ ap (first_fault r) c.as_slice-lines.ensures
+    c.in-Some.fault c.loop-line.invariant c.loop-line-test.true (sym c.in-Some.ensures) ∙ ap (first_fault r) c.as_slice-lines.ensures
 
 pub loop-line-preserved : goal.loop-line-preserved
 loop-line-preserved c =
     let r = server_adds_up c.args.script.now c.args.transcript.now in
     line_fits r c.as_slice-lines.result.now c.loop-line.line-index _ (first_fault r c.as_slice-lines.result.now)
-    c.loop-line.invariant c.loop-line-test.true (sym c.in_ok-fault.ensures ∙ c.in_default.is)
+    c.loop-line.invariant c.loop-line-test.true (sym c.in_default.ensures)
 
 pub returns : goal.returns
 returns c =

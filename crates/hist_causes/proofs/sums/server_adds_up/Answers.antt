@@ -19,8 +19,8 @@ returns c =
       | else-printed-taken-via-then-printed-taken+else-line-epoch w ↦ and_right (nat_eq printed taken) (nat_eq line.epoch epoch) (ne_eqb line.epoch epoch w.if-line-epoch.false)
       | else-printed-taken-via-else-printed-taken w ↦ and_left (nat_eq printed taken) (nat_eq line.epoch epoch) (ne_eqb printed taken w.if-printed-taken.false)
     ] in
-    sum_differs script c.args.transcript.now line printed taken epoch _ _
+    sum_differs script c.args.transcript.now line c.copy_line.result printed taken epoch
     c.from-printed.ensures
     (c.taken_of-taken.ensures ∙ ap (sum_by (λ (takes : GLine). get_or takes.takes line.server 0)) c.as_slice.ensures)
     (c.of-epoch.ensures ∙ c.requires.wipes c.from.result ∙ ap (wipes script) c.from.ensures)
-    c.in_ok-server_line.ensures c.in_ok-server_line-2.ensures fails
+    c.copy_line.ensures fails

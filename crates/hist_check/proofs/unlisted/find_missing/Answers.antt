@@ -1,4 +1,4 @@
-use Rattle.std.proofs.Common.{sym, ◌∙◌}
+use Rattle.std.proofs.Common.{sym}
 use Rattle.hist_rules.specs.First.{first_fault}
 use Rattle.hist_rules.specs.TakesHaveCalls.{has_call}
 use Rattle.hist_tables.proofs.Faults.{item_fits, item_found, no_fault}
@@ -7,12 +7,12 @@ use Rattle.hist_check.proofs.unlisted.find_missing.Goals as goal
 pub returns-in-Some : goal.returns-in-Some
 returns-in-Some c = λ t whole.
     item_found (λ line. has_call t line.call) c.args.lines.now c.loop-line.line-index c.line-item.result (first_fault (λ line. has_call t line.call) c.args.lines.now) c.in-Some.fault
-    (c.loop-line.invariant t whole) c.loop-line-test.true c.line-item.is (sym (c.in_ok-fault.ensures t whole) ∙ c.in-Some.is)
+    (c.loop-line.invariant t whole) c.loop-line-test.true c.line-item.is (sym (c.in-Some.ensures t whole))
 
 pub loop-line-preserved : goal.loop-line-preserved
 loop-line-preserved c = λ t whole.
     item_fits (λ line. has_call t line.call) c.args.lines.now c.loop-line.line-index c.line-item.result (first_fault (λ line. has_call t line.call) c.args.lines.now)
-    (c.loop-line.invariant t whole) c.loop-line-test.true c.line-item.is (sym (c.in_ok-fault.ensures t whole) ∙ c.in_default.is)
+    (c.loop-line.invariant t whole) c.loop-line-test.true c.line-item.is (sym (c.in_default.ensures t whole))
 
 pub returns : goal.returns
 returns c = λ t whole.
