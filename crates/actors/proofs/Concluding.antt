@@ -8,8 +8,8 @@ use Rattle.store_resume.specs.State.{State}
 use Rattle.store_resume.specs.StateActs.{act_at}
 use Rattle.call_steps.specs.CallOf.{CallOf, act_of, taken_of}
 use Rattle.call_steps.specs.Steps.{need_by, need_of}
-use Rattle.world_steps.specs.World.{DoingOf, ActorOf, steps_of}
-use Rattle.world_steps.specs.ActorAfter.{actor_after_by, actor_after}
+use Rattle.world_laws.specs.World.{DoingOf, ActorOf, steps_of}
+use Rattle.world_laws.specs.ActorAfter.{actor_after_by, actor_after}
 use Rattle.call_steps.specs.declared.need.Need.{Need}
 use Rattle.call_steps.specs.declared.need.Need.TheVariants as need
 use Rattle.call_machine.specs.Kinds.{Machine}

@@ -12,9 +12,9 @@ use Rattle.call_machine.specs.Calls.{MachineOf}
 use Rattle.call_steps.specs.CallerCalls.{ended_of, calling_at}
 use Rattle.call_steps.specs.declared.caller_calls.EndedCall.{EndedCall}
 use Rattle.call_steps.specs.declared.caller_calls.CallerCalls.{CallerCalls}
-use Rattle.world_steps.specs.World.{ActorOf, DoingOf}
-use Rattle.world_steps.specs.Known.{calling_by}
-use Rattle.world_steps.specs.ActorAfter.{actor_after}
+use Rattle.world_laws.specs.World.{ActorOf, DoingOf}
+use Rattle.world_laws.specs.Known.{calling_by}
+use Rattle.world_laws.specs.ActorAfter.{actor_after}
 use Rattle.actors.specs.Callers.{PartOf, CallerOf}
 use Rattle.actors.specs.Inside.{caller_by, IsInWork}
 use Rattle.actors.proofs.Concluding.{ended_after, taken_back}

@@ -13,12 +13,12 @@ use Rattle.call_steps.specs.declared.need.Need.TheVariants as need
 use Rattle.call_steps.specs.CallOf.{CallOf}
 use Rattle.call_steps.specs.Steps.{need_of, stepped_at_directory, stepped_at_server}
 use Rattle.call_stands.specs.Ready.{ready, shortage_of}
-use Rattle.world_steps.specs.World.{ActorOf, WorldOf, with_directory, with_server}
-use Rattle.world_steps.specs.ActorAfter.{actor_after}
-use Rattle.world_steps.specs.Leads.{LeadsWorld}
-use Rattle.world_steps.specs.Tokens.{TokensAgree}
-use Rattle.world_steps.specs.TurnLaws.{MakesTurns}
-use Rattle.world_steps.specs.TokenLaws.{TurnsAgree}
+use Rattle.world_laws.specs.World.{ActorOf, WorldOf, with_directory, with_server}
+use Rattle.world_laws.specs.ActorAfter.{actor_after}
+use Rattle.world_laws.specs.Leads.{LeadsWorld}
+use Rattle.world_laws.specs.Tokens.{TokensAgree}
+use Rattle.world_laws.specs.TurnLaws.{MakesTurns}
+use Rattle.world_laws.specs.TokenLaws.{TurnsAgree}
 use Rattle.actors.specs.Turns.{IsMadeAt, IsMadeAtDirectory, IsMadeAtServer}
 use Rattle.actors.specs.Turned.{MakesTurn, Leads, places_in, with_places}
 

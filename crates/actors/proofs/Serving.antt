@@ -8,7 +8,7 @@ use Rattle.call_steps.specs.declared.outcome.CallOutcome.TheVariants as outcome
 use Rattle.call_machine.specs.Kinds.{Machine, IfReads}
 use Rattle.call_machine.specs.Ends.{IfBytesServed}
 use Rattle.call_steps.specs.declared.caller_calls.EndedCall.{EndedCall}
-use Rattle.world_steps.specs.Served.{bytes_in}
+use Rattle.world_laws.specs.Served.{bytes_in}
 use Rattle.actors.specs.Owing.{AreServed}
 use Rattle.actors.specs.Inside.{served_of}
 

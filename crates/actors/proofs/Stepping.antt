@@ -23,12 +23,12 @@ use Rattle.call_machine.proofs.Machines.{if_patches}
 use Rattle.call_steps.specs.CallerCalls.{ended_of}
 use Rattle.call_steps.specs.declared.caller_calls.EndedCall.{EndedCall}
 use Rattle.call_steps.specs.declared.step.Step.{Step}
-use Rattle.world_traces.specs.StepsTold.{IsStep}
-use Rattle.world_traces.specs.TurnMade.{turn_made}
-use Rattle.world_steps.specs.World.{DoingOf}
-use Rattle.world_steps.specs.Known.{calling_of}
-use Rattle.world_steps.specs.ActorAfter.{actor_after_by}
-use Rattle.world_steps.specs.Tokens.{token_of}
+use Rattle.world_laws.specs.StepsTold.{IsStep}
+use Rattle.world_laws.specs.TurnMade.{turn_made}
+use Rattle.world_laws.specs.World.{DoingOf}
+use Rattle.world_laws.specs.Known.{calling_of}
+use Rattle.world_laws.specs.ActorAfter.{actor_after_by}
+use Rattle.world_laws.specs.Tokens.{token_of}
 use Rattle.actors.specs.Turns.{IsMadeAt, IsSameCall, GoesOn, places_of}
 use Rattle.actors.specs.Callers.{PartOf, CallerOf, IsOfScript, Knows, IsPaddedFor, work_of, who_of, asked_at}
 use Rattle.actors.specs.Owing.{left_by}

@@ -27,12 +27,12 @@ use Rattle.call_stands.proofs.Needs.{needs_tell_acts}
 use Rattle.call_machine.specs.Calls.{MachineOf}
 use Rattle.call_steps.specs.declared.step.StepAnswer.TheVariants as answer
 use Rattle.call_steps.specs.declared.step.Step.{Step}
-use Rattle.world_traces.specs.StepsTold.{IsAnswer, IsStep}
-use Rattle.world_traces.specs.TurnMade.{turn_made}
-use Rattle.world_steps.specs.World.{DoingOf}
-use Rattle.world_steps.specs.Known.{calling_of}
-use Rattle.world_steps.specs.ActorAfter.{IsCallBefore}
-use Rattle.world_steps.specs.Tokens.{AreNumbered, token_of}
+use Rattle.world_laws.specs.StepsTold.{IsAnswer, IsStep}
+use Rattle.world_laws.specs.TurnMade.{turn_made}
+use Rattle.world_laws.specs.World.{DoingOf}
+use Rattle.world_laws.specs.Known.{calling_of}
+use Rattle.world_laws.specs.ActorAfter.{IsCallBefore}
+use Rattle.world_laws.specs.Tokens.{AreNumbered, token_of}
 use Rattle.actors.specs.Turns.{places_of}
 use Rattle.actors.specs.Callers.{CallerOf, IsOfScript, work_of, who_of}
 use Rattle.actors.specs.Steps.{IsReadyIn, MadeAtDirectory, MadeAtServer, MakesStep}

@@ -8,7 +8,7 @@ use Rattle.version_seal.specs.Entry.{BookOf}
 use Rattle.call_steps.specs.Callers.{IsOfScript}
 use Rattle.call_machine.specs.Kinds.{Asked, client_machine, IfPatches, IfDraws}
 use Rattle.call_machine.specs.Calls.{MachineOf, first_call}
-use Rattle.world_steps.specs.Tokens.{token_of, AreNumbered}
+use Rattle.world_laws.specs.Tokens.{token_of, AreNumbered}
 use Rattle.actors.specs.Callers.{PartOf, CallerOf, calls_of, who_of, asked_at, IsPartOf}
 
 -- what may be asked under this number by the actor at this place: a client's call is tried, and is the script's where it may draw; a rebuild is of a server that is there

@@ -5,8 +5,8 @@ use Rattle.version_seal.specs.Entry.{StampOf}
 use Rattle.chunk_server.specs.State.{ServerState}
 use Rattle.stripe_dir.specs.Sealed.{Sealed}
 use Rattle.call_steps.specs.declared.step.Step.{Step}
-use Rattle.world_traces.specs.StepsTold.{IsStep}
-use Rattle.world_traces.specs.TurnMade.{turn_made}
+use Rattle.world_laws.specs.StepsTold.{IsStep}
+use Rattle.world_laws.specs.TurnMade.{turn_made}
 use Rattle.actors.specs.Turns.{places_of}
 use Rattle.actors.specs.Turned.{MakesTurn}
 use Rattle.actors.specs.Callers.{CallerOf, work_of, who_of}

@@ -15,8 +15,8 @@ use Rattle.stripe_dir.specs.Sealed.{Sealed}
 use Rattle.client_patch.specs.Padded.{ArePadded}
 use Rattle.call_machine.specs.Kinds.{Asked, machine_of, IfPatches}
 use Rattle.call_machine.specs.Calls.{MachineOf, KnowsOldOf}
-use Rattle.world_steps.specs.World.{ActorOf}
-use Rattle.world_steps.specs.FirstWorld.{new_actor}
+use Rattle.world_laws.specs.World.{ActorOf}
+use Rattle.world_laws.specs.FirstWorld.{new_actor}
 
 -- the calls that it makes: those of a client, or the rebuilds of a repairer
 pub data PartOf : Type 0 where

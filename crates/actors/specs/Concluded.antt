@@ -8,8 +8,8 @@ use Rattle.call_machine.specs.Kinds.{machine_of}
 use Rattle.call_machine.specs.Calls.{MachineOf}
 use Rattle.call_steps.specs.declared.caller_calls.EndedCall.{EndedCall}
 use Rattle.call_steps.specs.CallerCalls.{ended_of}
-use Rattle.world_steps.specs.World.{ActorOf, steps_of}
-use Rattle.world_steps.specs.ActorAfter.{actor_after}
+use Rattle.world_laws.specs.World.{ActorOf, steps_of}
+use Rattle.world_laws.specs.ActorAfter.{actor_after}
 use Rattle.actors.specs.Turns.{GoesOn}
 use Rattle.actors.specs.Owing.{AreServed, left_by}
 use Rattle.actors.specs.Inside.{doing_by, served_of, HasEither}

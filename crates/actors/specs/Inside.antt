@@ -8,8 +8,8 @@ use Rattle.call_steps.specs.Steps.{need_of}
 use Rattle.call_machine.specs.Calls.{MachineOf}
 use Rattle.call_steps.specs.declared.caller_calls.EndedCall.{EndedCall}
 use Rattle.call_steps.specs.CallerCalls.{ended_of}
-use Rattle.world_steps.specs.Served.{bytes_in}
-use Rattle.world_steps.specs.World.{DoingOf}
+use Rattle.world_laws.specs.Served.{bytes_in}
+use Rattle.world_laws.specs.World.{DoingOf}
 use Rattle.actors.specs.Turns.{GoesOn}
 use Rattle.actors.specs.Callers.{PartOf, CallerOf, calls_of, asked_at}
 use Rattle.actors.specs.declared.part.Part.{Part}

@@ -7,8 +7,8 @@ use Rattle.store_core.specs.Step.{Places}
 use Rattle.store_core.specs.Run.{client_step, repairer_step}
 use Rattle.store_core.specs.Work.{Work, client_work, repairer_work}
 use Rattle.call_stands.specs.Ready.{shortage_of}
-use Rattle.world_steps.specs.World.{ActorOf, WorldOf, with_client, with_repairer}
-use Rattle.world_steps.specs.Tokens.{TokensAgree}
+use Rattle.world_laws.specs.World.{ActorOf, WorldOf, with_client, with_repairer}
+use Rattle.world_laws.specs.Tokens.{TokensAgree}
 use Rattle.actors.specs.Turned.{MakesTurn, Leads, places_in, with_places}
 
 -- where the directory agrees with the tickets of all actors, a client's turn is its step, and a repairer's is its own; it uses up one shortage, of its coding and its step

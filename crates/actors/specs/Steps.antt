@@ -13,9 +13,9 @@ use Rattle.call_stands.specs.Ready.{ready}
 use Rattle.client_patch.specs.Padded.{ArePadded}
 use Rattle.call_machine.specs.Kinds.{machine_of, IfPatches}
 use Rattle.call_machine.specs.Calls.{MachineOf, drawn_by, owed_by, KnowsOldOf}
-use Rattle.world_steps.specs.World.{DoingOf, steps_of}
-use Rattle.world_steps.specs.ActorAfter.{IsCallBefore, actor_after}
-use Rattle.world_steps.specs.Tokens.{token_of}
+use Rattle.world_laws.specs.World.{DoingOf, steps_of}
+use Rattle.world_laws.specs.ActorAfter.{IsCallBefore, actor_after}
+use Rattle.world_laws.specs.Tokens.{token_of}
 use Rattle.actors.specs.Turns.{HasPlace, GoesOn}
 use Rattle.actors.specs.Callers.{CallerOf, IsOfScript, Knows, work_of, asked_at}
 use Rattle.actors.specs.Owing.{AreServed, left_by, owed_now}

@@ -8,10 +8,10 @@ use Rattle.store_core.specs.Run.{Run}
 use Rattle.store_core.specs.Work.{Work}
 use Rattle.call_steps.specs.CallOf.{CallOf}
 use Rattle.call_steps.specs.Steps.{HoldsItsPass}
-use Rattle.world_steps.specs.World.{ActorOf, WorldOf}
-use Rattle.world_steps.specs.ActorAfter.{HasTurn, actor_after}
-use Rattle.world_steps.specs.Leads.{LeadsWorld}
-use Rattle.world_steps.specs.Tokens.{TokensAgree}
+use Rattle.world_laws.specs.World.{ActorOf, WorldOf}
+use Rattle.world_laws.specs.ActorAfter.{HasTurn, actor_after}
+use Rattle.world_laws.specs.Leads.{LeadsWorld}
+use Rattle.world_laws.specs.Tokens.{TokensAgree}
 use Rattle.actors.specs.Turns.{IsTurn}
 
 -- an actor that makes a turn in the call that it has or begins

@@ -8,7 +8,7 @@ use Rattle.store_core.specs.Read.{parts_of}
 use Rattle.store_core.specs.Server.{Server, at_server}
 use Rattle.store_core.specs.Told.{Told, Seen}
 use Rattle.store_core.specs.Tokens.{actor_of}
-use Rattle.store_reads.specs.PinLaws.{IsReading}
+use Rattle.content_laws.specs.PinLaws.{IsReading}
 use Rattle.store_resume.specs.State.{State}
 use Rattle.store_resume.specs.StateActs.{act_at}
 use Rattle.stripe_dir.specs.Sealed.{Sealed}

@@ -9,8 +9,8 @@ use Rattle.store_core.specs.AtDirectory.{at_directory}
 use Rattle.store_core.specs.Sound.{IsSound}
 use Rattle.store_core.specs.Agreement.{ActorToken, Agrees}
 use Rattle.store_core.specs.Tokens.{actor_of, after_pass_step}
-use Rattle.store_sound.specs.AgreementLaws.{GoesOn as TokenGoesOn}
-use Rattle.store_sound.proofs.OwnSteps.{agreement_goes_on}
+use Rattle.run_laws.specs.AgreementLaws.{GoesOn as TokenGoesOn}
+use Rattle.run_laws.proofs.OwnSteps.{agreement_goes_on}
 use Rattle.call_steps.specs.TokenAfter.{token_after, MayMake}
 use Rattle.call_steps.specs.CallOf.{CallOf, act_of}
 use Rattle.call_steps.specs.Steps.{at_directory_by}

@@ -19,9 +19,9 @@ use Rattle.store_core.specs.Commit.{is_overtaken, commit}
 use Rattle.store_core.specs.AtDirectory.{unless_reaped, on_pass, take_garbage, reap, reap_pass, made_at_directory, unless_short, at_directory}
 use Rattle.store_core.specs.Server.{Server, gives, install, made_at_server, server_unless_short, at_server}
 use Rattle.store_core.specs.Bounds.{touched_count}
-use Rattle.store_calls.specs.CallLeft.{pin_bound}
-use Rattle.store_calls.specs.Answers.{Answers}
-use Rattle.store_calls.specs.AnswersByKind.{MayWrite}
+use Rattle.run_laws.specs.CallLeft.{pin_bound}
+use Rattle.run_laws.specs.Answers.{Answers}
+use Rattle.run_laws.specs.AnswersByKind.{MayWrite}
 use Rattle.store_resume.specs.FitLaws.{IsCommit, Fits}
 use Rattle.store_resume.proofs.Fits.{answers_fit}
 use Rattle.store_resume.proofs.States.{LeadsOn}

@@ -9,7 +9,7 @@ use Rattle.store_core.specs.Sound.{IsSound}
 use Rattle.store_core.specs.Agreement.{ActorToken, Agrees}
 use Rattle.store_core.specs.Tokens.{actor_of}
 use Rattle.store_core.specs.Server.{Server}
-use Rattle.store_sound.specs.AgreementLaws.{GoesOn as TokenGoesOn}
+use Rattle.run_laws.specs.AgreementLaws.{GoesOn as TokenGoesOn}
 use Rattle.call_steps.specs.TokenAfter.{token_after, MayMake}
 use Rattle.call_steps.specs.CallOf.{CallOf, act_of}
 use Rattle.call_steps.specs.Steps.{stepped_at_directory, stepped_at_server, HoldsItsPass}

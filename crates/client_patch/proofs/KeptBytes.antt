@@ -11,8 +11,8 @@ use Rattle.clay_model.specs.Code.{padded}
 use Rattle.store_map.specs.Limits.{stripes_met}
 use Rattle.store_core.specs.Directory.{Pin}
 use Rattle.store_core.specs.Look.{keeps_old}
-use Rattle.store_sound.proofs.SoundLists.{in_filter, filtered}
-use Rattle.store_contents.proofs.Laid.{met_low, met_high, Found, found_pin}
+use Rattle.run_laws.proofs.SoundLists.{in_filter, filtered}
+use Rattle.content_laws.proofs.Laid.{met_low, met_high, Found, found_pin}
 use Rattle.version_seal.specs.Entry.{StampOf, old_bytes}
 use Rattle.stripe_dir.specs.Sealed.{base_stamp}
 use Rattle.gathering.specs.Made.{bytes_between}

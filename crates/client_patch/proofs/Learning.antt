@@ -19,8 +19,8 @@ use Rattle.store_core.specs.Looks.{accept, answer}
 use Rattle.store_core.specs.Lookups.{find_object}
 use Rattle.store_core.specs.Sound.{IsSound}
 use Rattle.store_core.specs.SoundPasses.{Stands}
-use Rattle.store_sound.proofs.SoundLists.{at_all, found_at}
-use Rattle.store_sound.proofs.SoundStripes.{pins_within}
+use Rattle.run_laws.proofs.SoundLists.{at_all, found_at}
+use Rattle.run_laws.proofs.SoundStripes.{pins_within}
 use Rattle.version_seal.specs.Entry.{BookOf, StampOf, old_bytes}
 use Rattle.dir_parts.specs.Parts.{object_or_new}
 use Rattle.call_steps.specs.declared.seen.Seen.{Seen}

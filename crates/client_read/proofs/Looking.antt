@@ -16,8 +16,8 @@ use Rattle.store_core.specs.Directory.{Directory}
 use Rattle.store_core.specs.AtDirectory.{at_directory}
 use Rattle.store_core.specs.Agreement.{ActorToken}
 use Rattle.store_core.specs.Tokens.{actor_of}
-use Rattle.store_calls.specs.AnswersByKind.{FitsKind}
-use Rattle.store_calls.proofs.PlaceKinds.{places_answer_by_kind}
+use Rattle.run_laws.specs.AnswersByKind.{FitsKind}
+use Rattle.run_laws.proofs.PlaceKinds.{places_answer_by_kind}
 use Rattle.store_resume.specs.State.{State}
 use Rattle.store_resume.specs.States.{open_state}
 use Rattle.store_resume.specs.LookAfter.{start_after}

@@ -12,7 +12,7 @@ use Rattle.store_core.specs.Server.{Server}
 use Rattle.store_core.specs.Lookups.{same_actor}
 use Rattle.store_core.specs.Agreement.{Seat, AgreesWithSeat, ActorToken, Agrees}
 use Rattle.store_core.specs.Tokens.{actor_of}
-use Rattle.store_sound.proofs.OwnSteps.{agreement_goes_on}
+use Rattle.run_laws.proofs.OwnSteps.{agreement_goes_on}
 use Rattle.version_seal.specs.Entry.{BookOf, StampOf}
 use Rattle.chunk_server.specs.State.{ServerState}
 use Rattle.chunk_server.specs.Core.{core_of}

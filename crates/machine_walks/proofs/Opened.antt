@@ -8,7 +8,7 @@ use Rattle.clay_grid.specs.Shape.{Shape, stripe_length}
 use Rattle.store_map.specs.declared.actor.Actor.TheVariants as actor
 use Rattle.store_core.specs.Directory.{Directory, new_directory}
 use Rattle.store_core.specs.Agreement.{Seat, AgreesWithSeat}
-use Rattle.store_sound.proofs.OwnSteps.{agreement_goes_on}
+use Rattle.run_laws.proofs.OwnSteps.{agreement_goes_on}
 use Rattle.version_seal.specs.Entry.{BookOf, StampOf}
 use Rattle.chunk_server.specs.State.{ServerState, empty_server}
 use Rattle.stripe_dir.specs.Sealed.{Sealed}

@@ -7,7 +7,7 @@ use Rattle.store_core.specs.Directory.{Directory}
 use Rattle.store_core.specs.Lookups.{same_actor}
 use Rattle.store_core.specs.Agreement.{ActorToken, Agrees}
 use Rattle.store_core.specs.Tokens.{actor_of}
-use Rattle.store_sound.proofs.OwnSteps.{agreement_goes_on}
+use Rattle.run_laws.proofs.OwnSteps.{agreement_goes_on}
 use Rattle.sweeper.specs.Sweeps.{SweeperOf, act_of, at_directory_by, stepped_at_directory}
 
 by_act : (act : Act) (w : SweeperOf) (d : Directory) (token : ActorToken) → same_actor actor.Operator (actor_of token) ≡ false → Agrees d token → Agrees (at_directory_by act actor.Operator 0 w d).0 token

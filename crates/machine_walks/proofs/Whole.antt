@@ -14,7 +14,7 @@ use Rattle.store_core.specs.Act.{Act, DirectoryStep}
 use Rattle.store_core.specs.AtDirectory.{at_directory}
 use Rattle.store_core.specs.Directory.{Pass}
 use Rattle.store_core.specs.Agreement.{ActorToken}
-use Rattle.store_sound.proofs.SoundLists.{at_all}
+use Rattle.run_laws.proofs.SoundLists.{at_all}
 use Rattle.dir_parts.specs.TableSteps.{base_version}
 use Rattle.version_seal.specs.Entry.{BookOf, StampOf, RequestOf, old_bytes, call_written}
 use Rattle.stripe_dir.specs.Sealed.{Sealed, base_stamp, drawn_stamp, stamps_touched}

@@ -5,7 +5,7 @@ use Rattle.std.proofs.lemmas.Option.{same_Some, none-some}
 use Rattle.clay_grid.specs.Shape.{stripe_length}
 use Rattle.clay_model.specs.Code.{padded}
 use Rattle.store_core.specs.Directory.{Object}
-use Rattle.store_sound.proofs.SoundLists.{at_all}
+use Rattle.run_laws.proofs.SoundLists.{at_all}
 use Rattle.version_seal.specs.Entry.{StampOf}
 use Rattle.stripe_dir.specs.Sealed.{Sealed}
 use Rattle.client_patch.specs.Padded.{IsPadded, ItsArePadded, ArePadded}

@@ -12,19 +12,19 @@ use Rattle.call_steps.specs.declared.need.Need.TheVariants as need
 use Rattle.call_steps.specs.CallOf.{CallOf}
 use Rattle.call_steps.specs.Steps.{need_of, HoldsItsPass, MayMakeNext}
 use Rattle.call_machine.specs.Calls.{MachineOf, drawn_by}
-use Rattle.world_steps.specs.Tokens.{first_token, token_of}
+use Rattle.world_laws.specs.Tokens.{first_token, token_of}
 use Rattle.actors.specs.Callers.{CallerOf, Knows}
 use Rattle.actors.specs.Steps.{MadeAtDirectory, MakesStep}
 use Rattle.turn_lock.specs.History.{Among, GoesOn, entries_of}
-use Rattle.run_steps.specs.Entries.{next_moment}
-use Rattle.run_steps.specs.Looks.{IsLookOfScript}
-use Rattle.run_steps.specs.Noted.{Noted, IsCaller, made_in, tokens_after}
-use Rattle.run_steps.specs.Numbers.{Counts, IsTurnOf}
-use Rattle.run_steps.specs.AtDirectory.{StandsAtDirectory}
-use Rattle.run_steps.specs.CallEntries.{directory_entry}
-use Rattle.run_steps.proofs.DirectoryAdding.{stamps_more}
-use Rattle.run_steps.proofs.DirectoryGiving.{token_seen, given_stands, given_made}
-use Rattle.run_steps.proofs.Most.{keeps_most}
+use Rattle.place_laws.specs.Entries.{next_moment}
+use Rattle.place_laws.specs.Looks.{IsLookOfScript}
+use Rattle.place_laws.specs.Noted.{Noted, IsCaller, made_in, tokens_after}
+use Rattle.place_laws.specs.Numbers.{Counts, IsTurnOf}
+use Rattle.place_laws.specs.AtDirectory.{StandsAtDirectory}
+use Rattle.place_laws.specs.CallEntries.{directory_entry}
+use Rattle.place_laws.proofs.DirectoryAdding.{stamps_more}
+use Rattle.place_laws.proofs.DirectoryGiving.{token_seen, given_stands, given_made}
+use Rattle.place_laws.proofs.Most.{keeps_most}
 use Rattle.run_seats.specs.Before.{IsInCall, IsBeforeDirectory}
 use Rattle.run_seats.specs.Seen.{seen_there}
 use Rattle.run_seats.specs.Stepped.{entry_at_directory, HasSteppedAtDirectory}

@@ -8,7 +8,7 @@ use Rattle.store_map.specs.declared.script.Script.{Script}
 use Rattle.store_core.specs.Act.{Act}
 use Rattle.store_core.specs.ActPlace.{Place}
 use Rattle.store_core.specs.Work.{Work}
-use Rattle.store_merge.specs.MadeSteps.{MadeStep}
+use Rattle.thread_laws.specs.MadeSteps.{MadeStep}
 use Rattle.version_seal.specs.Entry.{BookOf}
 use Rattle.stripe_dir.specs.Sealed.{Sealed}
 use Rattle.call_steps.specs.declared.need.Need.TheVariants as need
@@ -18,20 +18,20 @@ use Rattle.call_machine.specs.Calls.{MachineOf}
 use Rattle.call_machine.specs.Kinds.{Asked, machine_of}
 use Rattle.call_owes.specs.Owes.{OwesBy}
 use Rattle.call_owes.proofs.Owing.{keeps_owing}
-use Rattle.store_threads.specs.Owed.{WasOwed}
-use Rattle.world_steps.specs.World.{ActorOf}
-use Rattle.world_steps.specs.ActorAfter.{actor_after, actor_after_by}
+use Rattle.thread_laws.specs.Owed.{WasOwed}
+use Rattle.world_laws.specs.World.{ActorOf}
+use Rattle.world_laws.specs.ActorAfter.{actor_after, actor_after_by}
 use Rattle.actors.specs.Callers.{CallerOf, Knows, work_of}
 use Rattle.actors.specs.Owing.{AreServed}
 use Rattle.actors.specs.Steps.{Concludes, IsReady, in_work}
 use Rattle.turn_lock.specs.TurnState.{TurnState}
-use Rattle.run_steps.specs.HasMade.{HasMadeAtServer, HasMadeAtDirectory}
-use Rattle.run_steps.specs.Noted.{Noted, made_in}
-use Rattle.run_steps.specs.Numbers.{IsTurnOf}
-use Rattle.run_lists.specs.Logs.{Logs, counts_of, own_at}
-use Rattle.run_lists.specs.Measure.{left_at, bound_of}
-use Rattle.run_lists.specs.Stepped.{CallsOn, with_log, with_notes}
-use Rattle.run_lists.proofs.Placing.{callers_go_on_at_servers, callers_go_on_at_directory}
+use Rattle.place_laws.specs.HasMade.{HasMadeAtServer, HasMadeAtDirectory}
+use Rattle.place_laws.specs.Noted.{Noted, made_in}
+use Rattle.place_laws.specs.Numbers.{IsTurnOf}
+use Rattle.place_laws.specs.Logs.{Logs, counts_of, own_at}
+use Rattle.place_laws.specs.Measure.{left_at, bound_of}
+use Rattle.place_laws.specs.Stepped.{CallsOn, with_log, with_notes}
+use Rattle.place_laws.proofs.Placing.{callers_go_on_at_servers, callers_go_on_at_directory}
 use Rattle.run_seats.specs.Fixed.{max_in}
 use Rattle.run_seats.specs.Owing.{OwesBySteps}
 use Rattle.run_seats.specs.Places.{HasTurns, last_by, seen_by}

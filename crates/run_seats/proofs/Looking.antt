@@ -22,7 +22,7 @@ use Rattle.store_resume.specs.State.{Sequel, State}
 use Rattle.store_resume.specs.StateActs.{act_at, parts_act, sequel_act, stage_act, start_act}
 use Rattle.call_steps.specs.CallOf.{CallOf, act_of}
 use Rattle.actors.specs.Callers.{PartOf, StandsIn, who_of, work_of}
-use Rattle.run_steps.specs.Looks.{IsLookOfScript, IsOfItsCall}
+use Rattle.place_laws.specs.Looks.{IsLookOfScript, IsOfItsCall}
 
 -- ---- the looks of a job are of its note, and a rebuild makes none
 abbrev IsClients : Kind → Type 0

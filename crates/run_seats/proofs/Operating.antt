@@ -4,8 +4,8 @@ use Rattle.std.proofs.lemmas.Option.{same_Some}
 use Rattle.store_map.specs.declared.actor.Actor.TheVariants as actor
 use Rattle.store_map.specs.declared.actor.Token.{Token}
 use Rattle.store_core.specs.Act.{Act}
-use Rattle.store_merge.specs.Lines.{operator_act}
-use Rattle.run_steps.specs.Numbers.{IsTurnOf}
+use Rattle.thread_laws.specs.Lines.{operator_act}
+use Rattle.place_laws.specs.Numbers.{IsTurnOf}
 use Rattle.run_seats.specs.Fixed.{counts_of, counts_there}
 use Rattle.run_seats.specs.Plain.{IsLineAtServer, IsLineAtDirectory, line_step}
 use Rattle.run_seats.specs.declared.server_box.ServerIdentity.{ServerIdentity}

@@ -11,17 +11,17 @@ use Rattle.store_map.specs.declared.actor.Token.TheVariants as token
 use Rattle.store_map.specs.declared.script.Script.{Script}
 use Rattle.store_core.specs.Act.{Act, DirectoryStep}
 use Rattle.store_core.specs.ActPlace.{Place}
-use Rattle.store_merge.specs.Lines.{operator_act}
-use Rattle.store_merge.specs.MadeSteps.{MadeStep}
-use Rattle.store_merge.specs.Threaded.{is_line, lines_of}
+use Rattle.thread_laws.specs.Lines.{operator_act}
+use Rattle.thread_laws.specs.MadeSteps.{MadeStep}
+use Rattle.thread_laws.specs.Threaded.{is_line, lines_of}
 use Rattle.turn_lock.specs.TurnState.{TurnState}
-use Rattle.run_steps.specs.Noted.{Noted}
-use Rattle.run_steps.specs.Numbers.{IsTurnOf}
-use Rattle.run_lists.specs.Callers.{IsOperating}
-use Rattle.run_lists.specs.Logs.{Logs, counts_of, log_of, own_at}
-use Rattle.run_lists.specs.Plain.{HasAddedAtServer, HasAddedAtDirectory}
-use Rattle.run_lists.specs.Stepped.{with_log}
-use Rattle.run_lists.proofs.Plain.{operating_goes_on}
+use Rattle.place_laws.specs.Noted.{Noted}
+use Rattle.place_laws.specs.Numbers.{IsTurnOf}
+use Rattle.place_laws.specs.Callers.{IsOperating}
+use Rattle.place_laws.specs.Logs.{Logs, counts_of, log_of, own_at}
+use Rattle.place_laws.specs.Plain.{HasAddedAtServer, HasAddedAtDirectory}
+use Rattle.place_laws.specs.Stepped.{with_log}
+use Rattle.place_laws.proofs.Plain.{operating_goes_on}
 use Rattle.run_seats.specs.Places.{HasTurns, directory_of, last_by, seen_by, server_of}
 use Rattle.run_seats.specs.Plain.{HasOperatedAtServer, IsLineAtServer, IsLineAtDirectory, IsOfServer, line_step}
 use Rattle.run_seats.specs.SeatedPlain.{MayOperate, OperatesOn}

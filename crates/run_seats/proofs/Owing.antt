@@ -11,8 +11,8 @@ use Rattle.store_core.specs.History.{call_of}
 use Rattle.store_core.specs.NextAct.{Job, job_of, rebuild_job}
 use Rattle.store_core.specs.Tokens.{actor_of}
 use Rattle.store_core.specs.Work.{Ended}
-use Rattle.store_merge.specs.AtPlaces.{after_all, directory_act, directory_next, DirectoryAnswers}
-use Rattle.store_merge.specs.MadeSteps.{MadeStep}
+use Rattle.thread_laws.specs.AtPlaces.{after_all, directory_act, directory_next, DirectoryAnswers}
+use Rattle.thread_laws.specs.MadeSteps.{MadeStep}
 use Rattle.store_resume.specs.State.{CallState, State}
 use Rattle.version_seal.specs.Entry.{BookOf}
 use Rattle.stripe_dir.specs.Stamped.{HaveContents}
@@ -25,17 +25,17 @@ use Rattle.call_machine.specs.Calls.{MachineOf, drawn_by}
 use Rattle.call_owes.specs.Owes.{OwesBy}
 use Rattle.call_owes.specs.Pinned.{pinned_at, point_served}
 use Rattle.call_owes.proofs.Owing.{at_coder_owes, at_end_owes, owing_stays}
-use Rattle.store_threads.specs.Owed.{WasOwed}
-use Rattle.store_threads.proofs.Owing.{owed_stay}
-use Rattle.world_steps.specs.World.{DoingOf, steps_of}
-use Rattle.world_steps.specs.ActorAfter.{IsCallBefore, actor_after, actor_after_by}
+use Rattle.thread_laws.specs.Owed.{WasOwed}
+use Rattle.thread_laws.proofs.Owing.{owed_stay}
+use Rattle.world_laws.specs.World.{DoingOf, steps_of}
+use Rattle.world_laws.specs.ActorAfter.{IsCallBefore, actor_after, actor_after_by}
 use Rattle.actors.specs.Callers.{PartOf, CallerOf, IsOfScript, asked_at, work_of}
 use Rattle.actors.specs.Owing.{AreServed, left_by, owed_now}
 use Rattle.actors.specs.Steps.{IsCallOf, IsCodedCall}
-use Rattle.run_steps.specs.CallEntries.{directory_tells, made_by}
-use Rattle.run_steps.specs.Noted.{Noted, made_in}
-use Rattle.run_served.specs.StepOwes.{IsAfter}
-use Rattle.run_served.proofs.Stepping.{steps_keep_owing}
+use Rattle.place_laws.specs.CallEntries.{directory_tells, made_by}
+use Rattle.place_laws.specs.Noted.{Noted, made_in}
+use Rattle.place_laws.specs.StepOwes.{IsAfter}
+use Rattle.place_laws.proofs.Stepping.{steps_keep_owing}
 use Rattle.run_seats.specs.Owing.{OwesInWork, OwesBySteps}
 use Rattle.run_seats.specs.Stepped.{WasThere}
 

@@ -4,14 +4,14 @@ use Rattle.std.proofs.lemmas.List.{length-map}
 use Rattle.std.proofs.lemmas.Option.{none-some, same_Some}
 use Rattle.atomic_table.specs.Seated.{TableId}
 use Rattle.clay_grid.specs.Shape.{chunk_count}
-use Rattle.store_merge.specs.MadeSteps.{MadeStep}
+use Rattle.thread_laws.specs.MadeSteps.{MadeStep}
 use Rattle.dir_parts.proofs.Entries.{map-set, slice_get-map}
 use Rattle.turn_lock.specs.History.{Among}
 use Rattle.turn_lock.specs.TurnState.{TurnState}
-use Rattle.run_steps.specs.Noted.{Noted}
+use Rattle.place_laws.specs.Noted.{Noted}
 use Rattle.lock_turns.specs.Dealt.{IsTurnAt}
-use Rattle.run_lists.specs.Logs.{log_of}
-use Rattle.run_lists.specs.Stepped.{with_log}
+use Rattle.place_laws.specs.Logs.{log_of}
+use Rattle.place_laws.specs.Stepped.{with_log}
 use Rattle.run_seats.specs.Places.{HasTurns, seen_by, server_of, directory_of}
 use Rattle.run_seats.specs.Turns.{IsFree}
 use Rattle.run_seats.specs.declared.server_box.ServerIdentity.{ServerIdentity}

@@ -11,21 +11,21 @@ use Rattle.store_core.specs.Directory.{Directory}
 use Rattle.store_core.specs.History.{call_of}
 use Rattle.store_core.specs.Server.{Server, at_server}
 use Rattle.store_core.specs.Sound.{IsSound}
-use Rattle.store_contents.specs.Contents.{HasBytes}
-use Rattle.store_contents.proofs.ContentSteps.{steps_keep_bytes}
-use Rattle.store_merge.specs.MadeSteps.{MadeStep}
+use Rattle.content_laws.specs.Contents.{HasBytes}
+use Rattle.content_laws.proofs.ContentSteps.{steps_keep_bytes}
+use Rattle.thread_laws.specs.MadeSteps.{MadeStep}
 use Rattle.stripe_dir.specs.Sealed.{Sealed}
 use Rattle.turn_lock.specs.History.{Among, GoesOn, entries_of}
-use Rattle.run_steps.specs.AtDirectory.{StandsAtDirectory}
-use Rattle.run_steps.specs.AtServer.{StandsAtServer}
-use Rattle.run_steps.specs.Entries.{steps_in, next_moment}
-use Rattle.run_steps.specs.Noted.{Noted, IsCaller, made_in}
-use Rattle.run_steps.specs.Numbers.{Counts, IsTurnOf}
-use Rattle.run_steps.proofs.Adding.{moment_above, moment_after}
-use Rattle.run_steps.proofs.DirectoryAdding.{directories_stand_on}
-use Rattle.run_steps.proofs.Own.{one_more, prefix_more}
-use Rattle.run_steps.proofs.ServerAdding.{servers_stand_on}
-use Rattle.run_lists.specs.Plain.{HasAddedAtServer, HasAddedAtDirectory}
+use Rattle.place_laws.specs.AtDirectory.{StandsAtDirectory}
+use Rattle.place_laws.specs.AtServer.{StandsAtServer}
+use Rattle.place_laws.specs.Entries.{steps_in, next_moment}
+use Rattle.place_laws.specs.Noted.{Noted, IsCaller, made_in}
+use Rattle.place_laws.specs.Numbers.{Counts, IsTurnOf}
+use Rattle.place_laws.proofs.Adding.{moment_above, moment_after}
+use Rattle.place_laws.proofs.DirectoryAdding.{directories_stand_on}
+use Rattle.place_laws.proofs.Own.{one_more, prefix_more}
+use Rattle.place_laws.proofs.ServerAdding.{servers_stand_on}
+use Rattle.place_laws.specs.Plain.{HasAddedAtServer, HasAddedAtDirectory}
 use Rattle.run_seats.specs.Plain.{plain_at_server, plain_at_directory}
 
 -- ---- at a server

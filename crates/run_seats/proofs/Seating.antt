@@ -10,7 +10,7 @@ use Rattle.store_core.specs.ActPlace.{Place}
 use Rattle.store_core.specs.NextAct.{Job, job_of, rebuild_job}
 use Rattle.store_core.specs.Tokens.{actor_of}
 use Rattle.store_core.specs.Work.{Ended, Work}
-use Rattle.store_merge.specs.MadeSteps.{MadeStep}
+use Rattle.thread_laws.specs.MadeSteps.{MadeStep}
 use Rattle.version_seal.specs.Entry.{BookOf}
 use Rattle.dir_parts.proofs.Entries.{slice_get-map}
 use Rattle.stripe_dir.specs.Sealed.{Sealed}
@@ -18,27 +18,27 @@ use Rattle.call_steps.specs.declared.need.Need.TheVariants as need
 use Rattle.call_steps.specs.CallOf.{CallOf}
 use Rattle.call_steps.specs.Steps.{need_of, coded, HoldsItsPass, MayMakeNext}
 use Rattle.call_machine.specs.Calls.{MachineOf}
-use Rattle.world_steps.specs.World.{DoingOf, steps_of}
-use Rattle.world_steps.specs.Known.{calling_by}
-use Rattle.world_steps.specs.ActorAfter.{IsCallBefore}
-use Rattle.world_steps.specs.Tokens.{first_token, token_of}
-use Rattle.world_steps.proofs.Few.{has_left}
-use Rattle.world_steps.proofs.Turns.{Ready, ready_for}
+use Rattle.world_laws.specs.World.{DoingOf, steps_of}
+use Rattle.world_laws.specs.Known.{calling_by}
+use Rattle.world_laws.specs.ActorAfter.{IsCallBefore}
+use Rattle.world_laws.specs.Tokens.{first_token, token_of}
+use Rattle.world_laws.proofs.Few.{has_left}
+use Rattle.world_laws.proofs.Turns.{Ready, ready_for}
 use Rattle.actors.specs.Beginning.{MayGoOn}
 use Rattle.actors.specs.Callers.{PartOf, CallerOf, IsOfScript, Knows, StandsIn, calls_of, who_of, work_of}
 use Rattle.actors.specs.Steps.{IsAmpleFirst, IsReady, in_work}
 use Rattle.turn_lock.specs.TurnState.{TurnState}
-use Rattle.run_steps.specs.Looks.{IsLookOfScript}
-use Rattle.run_steps.specs.Noted.{IsCaller}
-use Rattle.run_steps.specs.Numbers.{IsTurnOf}
-use Rattle.run_steps.proofs.DirectoryAdding.{token_of_actor}
-use Rattle.run_lists.specs.Callers.{HeardLast}
-use Rattle.run_lists.specs.Calling.{KnowsItself}
-use Rattle.run_lists.specs.Logs.{counts_of, own_at}
-use Rattle.run_lists.specs.Room.{IsWorkOf, HasRoom}
-use Rattle.run_lists.specs.Stepped.{IsReady as IsReadyFor}
-use Rattle.run_lists.proofs.Calling.{calls_know_themselves}
-use Rattle.run_lists.proofs.Room.{actors_have_room}
+use Rattle.place_laws.specs.Looks.{IsLookOfScript}
+use Rattle.place_laws.specs.Noted.{IsCaller}
+use Rattle.place_laws.specs.Numbers.{IsTurnOf}
+use Rattle.place_laws.proofs.DirectoryAdding.{token_of_actor}
+use Rattle.place_laws.specs.Callers.{HeardLast}
+use Rattle.place_laws.specs.Calling.{KnowsItself}
+use Rattle.place_laws.specs.Logs.{counts_of, own_at}
+use Rattle.place_laws.specs.Room.{IsWorkOf, HasRoom}
+use Rattle.place_laws.specs.Stepped.{IsReady as IsReadyFor}
+use Rattle.place_laws.proofs.Calling.{calls_know_themselves}
+use Rattle.place_laws.proofs.Room.{actors_have_room}
 use Rattle.run_seats.specs.Before.{IsInCall, IsBeforeServer, IsBeforeDirectory}
 use Rattle.run_seats.specs.Places.{seen_by, server_of, directory_of}
 use Rattle.run_seats.specs.Seated.{MayStep}

@@ -2,7 +2,7 @@
 use Rattle.std.proofs.Common.{◌≡◌, ℕ, List, [], ◌∷◌, ◌++◌, Option, None, Some, refl, sym, ap, subst}
 use Rattle.store_core.specs.Server.{Server}
 use Rattle.store_core.specs.Tokens.{actor_of}
-use Rattle.store_merge.specs.MadeSteps.{MadeStep}
+use Rattle.thread_laws.specs.MadeSteps.{MadeStep}
 use Rattle.chunk_server.specs.Core.{core_of}
 use Rattle.chunk_server.specs.State.{ServerState}
 use Rattle.stripe_dir.specs.Sealed.{Sealed}
@@ -13,9 +13,9 @@ use Rattle.call_machine.specs.Calls.{MachineOf}
 use Rattle.actors.specs.Callers.{CallerOf, Knows}
 use Rattle.actors.specs.Steps.{MadeAtServer, MakesStep}
 use Rattle.turn_lock.specs.History.{Among, GoesOn}
-use Rattle.run_steps.specs.Numbers.{Counts, IsTurnOf}
-use Rattle.run_steps.specs.AtServer.{StandsAtServer}
-use Rattle.run_steps.proofs.ServerGiving.{given_stands, given_made}
+use Rattle.place_laws.specs.Numbers.{Counts, IsTurnOf}
+use Rattle.place_laws.specs.AtServer.{StandsAtServer}
+use Rattle.place_laws.proofs.ServerGiving.{given_stands, given_made}
 use Rattle.run_seats.specs.Stepped.{entry_at_server, HasSteppedAtServer}
 
 -- the entry is under the number

@@ -6,18 +6,18 @@ use Rattle.store_map.specs.declared.script.Script.{Script}
 use Rattle.store_core.specs.Act.{Act, ServerStep}
 use Rattle.store_core.specs.ActPlace.{place_of}
 use Rattle.store_core.specs.Sweep.{next_sweep, after_sweep}
-use Rattle.store_merge.specs.MadeSteps.{MadeStep}
+use Rattle.thread_laws.specs.MadeSteps.{MadeStep}
 use Rattle.call_steps.specs.declared.need.Need.TheVariants as need
 use Rattle.call_stands.proofs.Needs.{server_in}
 use Rattle.sweeper.specs.Sweeps.{SweeperOf, act_of, heard, need_at, need_of}
 use Rattle.turn_lock.specs.TurnState.{TurnState}
-use Rattle.run_steps.specs.Noted.{Noted}
-use Rattle.run_steps.specs.Numbers.{IsTurnOf}
-use Rattle.run_lists.specs.Callers.{IsSweeping}
-use Rattle.run_lists.specs.Logs.{Logs, counts_of, log_of, own_at}
-use Rattle.run_lists.specs.Plain.{HasAddedAtServer}
-use Rattle.run_lists.specs.Stepped.{with_log, with_notes}
-use Rattle.run_lists.proofs.Plain.{sweeping_goes_on}
+use Rattle.place_laws.specs.Noted.{Noted}
+use Rattle.place_laws.specs.Numbers.{IsTurnOf}
+use Rattle.place_laws.specs.Callers.{IsSweeping}
+use Rattle.place_laws.specs.Logs.{Logs, counts_of, log_of, own_at}
+use Rattle.place_laws.specs.Plain.{HasAddedAtServer}
+use Rattle.place_laws.specs.Stepped.{with_log, with_notes}
+use Rattle.place_laws.proofs.Plain.{sweeping_goes_on}
 use Rattle.run_seats.specs.Places.{HasTurns, directory_of, last_by, seen_by, server_of}
 use Rattle.run_seats.specs.Plain.{HasSweptAtServer, HasSweptAtDirectory, IsSweepAtServer, IsSweepAtDirectory}
 use Rattle.run_seats.specs.SeatedPlain.{IsSweeper, SweepsOn}

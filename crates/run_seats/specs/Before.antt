@@ -5,14 +5,14 @@ use Rattle.store_core.specs.Tokens.{actor_of}
 use Rattle.call_steps.specs.declared.need.Need.TheVariants as need
 use Rattle.call_steps.specs.Steps.{need_of, HoldsItsPass, MayMakeNext}
 use Rattle.call_machine.specs.Calls.{MachineOf}
-use Rattle.world_steps.specs.Tokens.{first_token}
-use Rattle.world_steps.specs.World.{steps_of}
+use Rattle.world_laws.specs.Tokens.{first_token}
+use Rattle.world_laws.specs.World.{steps_of}
 use Rattle.actors.specs.Callers.{CallerOf, Knows}
 use Rattle.actors.specs.Steps.{in_work}
 use Rattle.turn_lock.specs.History.{entries_of}
-use Rattle.run_steps.specs.Looks.{IsLookOfScript}
-use Rattle.run_steps.specs.Noted.{Noted, IsCaller, made_in, tokens_after}
-use Rattle.run_steps.specs.Numbers.{IsTurnOf}
+use Rattle.place_laws.specs.Looks.{IsLookOfScript}
+use Rattle.place_laws.specs.Noted.{Noted, IsCaller, made_in, tokens_after}
+use Rattle.place_laws.specs.Numbers.{IsTurnOf}
 use Rattle.run_seats.specs.Fixed.{counts_of, counts_there}
 use Rattle.run_seats.specs.Seen.{seen_there}
 use Rattle.run_seats.specs.declared.server_box.ServerIdentity.{ServerIdentity}

@@ -1,11 +1,11 @@
 -- What never changes about a place, as its turns tell it, and what its box stands for.
 use Rattle.std.specs.Prelude.{ℕ, List, Option, None, Some}
-use Rattle.store_merge.specs.MadeSteps.{MadeStep}
+use Rattle.thread_laws.specs.MadeSteps.{MadeStep}
 use Rattle.chunk_server.specs.Core.{core_of}
-use Rattle.run_steps.specs.AtDirectory.{StandsAtDirectory}
-use Rattle.run_steps.specs.AtServer.{StandsAtServer}
-use Rattle.run_steps.specs.Noted.{Noted}
-use Rattle.run_steps.specs.Numbers.{Counts}
+use Rattle.place_laws.specs.AtDirectory.{StandsAtDirectory}
+use Rattle.place_laws.specs.AtServer.{StandsAtServer}
+use Rattle.place_laws.specs.Noted.{Noted}
+use Rattle.place_laws.specs.Numbers.{Counts}
 use Rattle.run_seats.specs.declared.server_box.ServerBox.{ServerBox}
 use Rattle.run_seats.specs.declared.server_box.ServerIdentity.{ServerIdentity}
 use Rattle.run_seats.specs.declared.directory_box.DirectoryBox.{DirectoryBox}

@@ -3,12 +3,12 @@ use Rattle.std.specs.Prelude.{◌≡◌, ⊤, ℕ, List, length, Option, Some, o
 use Rattle.std.specs.List.{slice_get}
 use Rattle.store_map.specs.declared.script.Script.{Script}
 use Rattle.store_core.specs.Act.{Outcome}
-use Rattle.store_merge.specs.MadeSteps.{MadeStep}
+use Rattle.thread_laws.specs.MadeSteps.{MadeStep}
 use Rattle.call_steps.specs.CallOf.{CallOf}
 use Rattle.call_machine.specs.Calls.{MachineOf}
 use Rattle.call_owes.specs.Owes.{OwesBy}
-use Rattle.store_threads.specs.Owed.{WasOwed}
-use Rattle.world_steps.specs.World.{DoingOf}
+use Rattle.thread_laws.specs.Owed.{WasOwed}
+use Rattle.world_laws.specs.World.{DoingOf}
 use Rattle.actors.specs.Callers.{PartOf, CallerOf, asked_at}
 
 -- a call in work with this value, which is the part's call of this number and owes the bytes of its pins

@@ -7,12 +7,12 @@ use Rattle.clay_grid.specs.Shape.{chunk_count}
 use Rattle.store_map.specs.Limits.{size_of}
 use Rattle.store_map.specs.Naming.{IsValid}
 use Rattle.store_map.specs.declared.script.Script.{Script}
-use Rattle.store_merge.specs.MadeSteps.{MadeStep}
+use Rattle.thread_laws.specs.MadeSteps.{MadeStep}
 use Rattle.version_seal.specs.Entry.{BookOf}
 use Rattle.turn_lock.specs.TurnState.{TurnState}
 use Rattle.lock_turns.specs.Dealt.{IsTurnAt}
-use Rattle.run_lists.specs.Logs.{Logs}
-use Rattle.run_lists.specs.Stepped.{last_own}
+use Rattle.place_laws.specs.Logs.{Logs}
+use Rattle.place_laws.specs.Stepped.{last_own}
 use Rattle.run_seats.specs.declared.directory_box.DirectoryIdentity.{DirectoryIdentity}
 use Rattle.run_seats.specs.declared.server_box.ServerIdentity.{ServerIdentity}
 use Rattle.run_seats.specs.declared.store.Store.{Store}

@@ -6,16 +6,16 @@ use Rattle.store_map.specs.declared.actor.Token.{Token}
 use Rattle.store_map.specs.declared.actor.Token.TheVariants as token
 use Rattle.store_core.specs.Act.{Act, DirectoryStep, ServerStep}
 use Rattle.store_core.specs.Server.{Server}
-use Rattle.store_merge.specs.Lines.{operator_act}
-use Rattle.store_merge.specs.MadeSteps.{MadeStep}
+use Rattle.thread_laws.specs.Lines.{operator_act}
+use Rattle.thread_laws.specs.MadeSteps.{MadeStep}
 use Rattle.stripe_dir.specs.Sealed.{Sealed}
 use Rattle.call_steps.specs.declared.need.Need.TheVariants as need
 use Rattle.sweeper.specs.Sweeps.{SweeperOf, act_of, heard, need_of}
-use Rattle.run_steps.specs.CallEntries.{server_tells, directory_tells}
-use Rattle.run_steps.specs.Entries.{steps_in, next_moment}
-use Rattle.run_steps.specs.Noted.{Noted, made_in}
-use Rattle.run_steps.specs.Numbers.{IsTurnOf}
-use Rattle.run_lists.specs.Plain.{plain_step, HasAddedAtServer, HasAddedAtDirectory}
+use Rattle.place_laws.specs.CallEntries.{server_tells, directory_tells}
+use Rattle.place_laws.specs.Entries.{steps_in, next_moment}
+use Rattle.place_laws.specs.Noted.{Noted, made_in}
+use Rattle.place_laws.specs.Numbers.{IsTurnOf}
+use Rattle.place_laws.specs.Plain.{plain_step, HasAddedAtServer, HasAddedAtDirectory}
 use Rattle.run_seats.specs.Fixed.{counts_of, counts_there}
 use Rattle.run_seats.specs.declared.server_box.ServerIdentity.{ServerIdentity}
 use Rattle.run_seats.specs.declared.directory_box.DirectoryIdentity.{DirectoryIdentity}

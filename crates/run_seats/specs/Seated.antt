@@ -4,13 +4,13 @@ use Rattle.store_map.specs.Limits.{tries_of}
 use Rattle.store_map.specs.declared.actor.Actor.TheVariants as actor
 use Rattle.store_map.specs.declared.script.Script.{Script}
 use Rattle.store_core.specs.Work.{has_step}
-use Rattle.world_steps.specs.Known.{calling_of}
+use Rattle.world_laws.specs.Known.{calling_of}
 use Rattle.actors.specs.Callers.{Knows, StandsIn, who_of, work_of}
-use Rattle.run_steps.specs.Noted.{made_in}
-use Rattle.run_steps.specs.Numbers.{IsTurnOf}
-use Rattle.run_lists.specs.Callers.{IsCalling}
-use Rattle.run_lists.specs.Logs.{counts_of, own_at}
-use Rattle.run_lists.specs.Measure.{left_at, bound_of}
+use Rattle.place_laws.specs.Noted.{made_in}
+use Rattle.place_laws.specs.Numbers.{IsTurnOf}
+use Rattle.place_laws.specs.Callers.{IsCalling}
+use Rattle.place_laws.specs.Logs.{counts_of, own_at}
+use Rattle.place_laws.specs.Measure.{left_at, bound_of}
 use Rattle.run_seats.specs.Owing.{OwesBySteps}
 use Rattle.run_seats.specs.Places.{IsStore, HasTurns, seen_by}
 use Rattle.run_seats.specs.Seen.{seen_there}

@@ -1,6 +1,6 @@
 //! The directory behind a lock.
 ghost use Rattle.std.specs.Prelude.{◌≡◌};
-ghost use Rattle.run_steps.specs.AtDirectory.{StandsAtDirectory};
+ghost use Rattle.place_laws.specs.AtDirectory.{StandsAtDirectory};
 
 use std::marker::Model;
 use stripe_dir::Directory;
@@ -13,8 +13,8 @@ pub struct DirectoryNote {
 }
 
 impl Model for DirectoryNote {
-    ghost use Rattle.run_steps.specs.Noted.{Noted};
-    ghost use Rattle.run_steps.specs.SomeStep.{some_note};
+    ghost use Rattle.place_laws.specs.Noted.{Noted};
+    ghost use Rattle.place_laws.specs.SomeStep.{some_note};
 
     ghost Value = { Noted };
 

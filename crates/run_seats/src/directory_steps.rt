@@ -1,6 +1,6 @@
 //! Steps of callers at the directory.
 ghost use Rattle.std.specs.Prelude.{◌≡◌, ◌∷◌, ◌++◌, [], ℕ};
-ghost use Rattle.run_steps.specs.Noted.{Noted};
+ghost use Rattle.place_laws.specs.Noted.{Noted};
 ghost use Rattle.run_seats.specs.Before.{IsBeforeDirectory};
 ghost use Rattle.run_seats.specs.Turns.{IsFree, IsHolding, gave};
 ghost use Rattle.run_seats.specs.Fixed.{DirectoryStands, directory_identity, max_in};

@@ -1,6 +1,6 @@
 //! The operator with its turns at all places of a store.
 ghost use Rattle.std.specs.Prelude.{◌≡◌, ℕ, true};
-ghost use Rattle.store_merge.specs.Threaded.{is_line};
+ghost use Rattle.thread_laws.specs.Threaded.{is_line};
 ghost use Rattle.run_seats.specs.Places.{IsStore, last_by};
 ghost use Rattle.run_seats.specs.SeatedPlain.{IsOperator, IsTarget, MayOperate, OperatesOn, line_left};
 

@@ -1,7 +1,7 @@
 //! A chunk server behind a lock.
 ghost use Rattle.std.specs.Prelude.{◌≡◌};
 ghost use Rattle.chunk_server.specs.Core.{core_of};
-ghost use Rattle.run_steps.specs.AtServer.{StandsAtServer};
+ghost use Rattle.place_laws.specs.AtServer.{StandsAtServer};
 
 use chunk_server::Server;
 use std::marker::Model;
@@ -14,8 +14,8 @@ pub struct StepNote {
 }
 
 impl Model for StepNote {
-    ghost use Rattle.store_merge.specs.MadeSteps.{MadeStep};
-    ghost use Rattle.run_steps.specs.SomeStep.{some_step};
+    ghost use Rattle.thread_laws.specs.MadeSteps.{MadeStep};
+    ghost use Rattle.place_laws.specs.SomeStep.{some_step};
 
     ghost Value = { MadeStep };
 

@@ -1,6 +1,6 @@
 //! Steps of callers at a server.
 ghost use Rattle.std.specs.Prelude.{◌≡◌, ◌∷◌, ◌++◌, [], ℕ};
-ghost use Rattle.store_merge.specs.MadeSteps.{MadeStep};
+ghost use Rattle.thread_laws.specs.MadeSteps.{MadeStep};
 ghost use Rattle.run_seats.specs.Before.{IsBeforeServer};
 ghost use Rattle.run_seats.specs.Turns.{IsFree, IsHolding, gave};
 ghost use Rattle.run_seats.specs.Fixed.{ServerStands, server_identity};

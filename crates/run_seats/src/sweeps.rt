@@ -1,7 +1,7 @@
 //! Steps of the sweeper.
 ghost use Rattle.std.specs.Prelude.{◌≡◌, ◌∷◌, ◌++◌, [], ℕ};
-ghost use Rattle.store_merge.specs.MadeSteps.{MadeStep};
-ghost use Rattle.run_steps.specs.Noted.{Noted};
+ghost use Rattle.thread_laws.specs.MadeSteps.{MadeStep};
+ghost use Rattle.place_laws.specs.Noted.{Noted};
 ghost use Rattle.run_seats.specs.Turns.{IsFree, IsHolding, gave};
 ghost use Rattle.run_seats.specs.Fixed.{DirectoryStands, ServerStands, directory_identity, server_identity};
 ghost use Rattle.run_seats.specs.Plain.{IsSweepAtServer, IsSweepAtDirectory, HasSweptAtServer, HasSweptAtDirectory};

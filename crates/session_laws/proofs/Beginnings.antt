@@ -9,7 +9,7 @@ use Rattle.store_core.specs.Lists.{is_among}
 use Rattle.store_core.specs.Directory.{Event, Point}
 use Rattle.store_core.specs.Lookups.{same_actor}
 use Rattle.store_core.specs.Server.{Server, new_server}
-use Rattle.store_sound.proofs.SoundSteps.{steps_keep_sound}
+use Rattle.run_laws.proofs.SoundSteps.{steps_keep_sound}
 use Rattle.session_rules.specs.State.{first_state}
 use Rattle.session_laws.specs.Seen.{IsSeenAs, IsOfSnapshot, IsAtRest, IsQuiet}
 use Rattle.session_laws.specs.Beginnings.{new_places, BeginningsAreSeen}

@@ -23,7 +23,7 @@ use Rattle.store_core.specs.Read.{read_start, read_end, part_of, parts_of}
 use Rattle.store_core.specs.Conditions.{MayBegin, IsOfClient}
 use Rattle.store_core.specs.Step.{Places}
 use Rattle.store_core.specs.Sound.{IsSound}
-use Rattle.store_sound.proofs.SoundSteps.{steps_keep_sound}
+use Rattle.run_laws.proofs.SoundSteps.{steps_keep_sound}
 use Rattle.store_resume.specs.State.{Sequel, State, first_state}
 use Rattle.store_resume.specs.States.{open_parts, open_call}
 use Rattle.store_resume.specs.StateActs.{act_of_state}

@@ -23,9 +23,9 @@ use Rattle.store_core.specs.Looks.{look_by}
 use Rattle.store_core.specs.Conditions.{MayBegin, IsOfClient}
 use Rattle.store_core.specs.Step.{Places}
 use Rattle.store_core.specs.Sound.{HasItsVersions}
-use Rattle.store_sound.proofs.SoundLists.{is_in}
-use Rattle.store_sound.proofs.SoundStripes.{pins_within}
-use Rattle.store_sound.proofs.Passes.{found_has}
+use Rattle.run_laws.proofs.SoundLists.{is_in}
+use Rattle.run_laws.proofs.SoundStripes.{pins_within}
+use Rattle.run_laws.proofs.Passes.{found_has}
 use Rattle.session_rules.specs.State.{State as Session}
 use Rattle.session_rules.specs.declared.answer.Answer.{Answer}
 use Rattle.session_rules.specs.Gathered.{first_unavailable}

@@ -25,8 +25,8 @@ use Rattle.store_core.specs.Server.{Server, install}
 use Rattle.store_core.specs.Step.{Places, at_server_there}
 use Rattle.store_core.specs.Sound.{IsSound, HasItsVersions}
 use Rattle.store_core.specs.SoundPasses.{Stands}
-use Rattle.store_sound.proofs.SoundLists.{at_all, among}
-use Rattle.store_sound.proofs.SoundSteps.{steps_keep_sound}
+use Rattle.run_laws.proofs.SoundLists.{at_all, among}
+use Rattle.run_laws.proofs.SoundSteps.{steps_keep_sound}
 use Rattle.store_resume.specs.State.{Sequel, State, first_state}
 use Rattle.store_resume.specs.Stage.{Aim, Asking, Stage}
 use Rattle.store_resume.specs.States.{open_call}
@@ -400,7 +400,7 @@ module _ (tries : ℕ) (stands : List ℕ) (p : Places) (s : Session) (who : Act
       its : HasItsVersions d object
       its =
           let has : IfSome (find_object call.name d.objects) (HasItsVersions d) =
-          Rattle.store_sound.proofs.Passes.found_has (HasItsVersions d) (λ (object : Object). Rattle.std.proofs.Common.bytes_eq call.name object.name) d.objects h.sound.objects in
+          Rattle.run_laws.proofs.Passes.found_has (HasItsVersions d) (λ (object : Object). Rattle.std.proofs.Common.bytes_eq call.name object.name) d.objects h.sound.objects in
           subst (λ f. IfSome f (HasItsVersions d)) e has
 
       inside : nat_lt call.stripe (length numbers.0) ≡ true → Served (rebuild g call.stripe call.server s (numbers_of call.name s.numbers))

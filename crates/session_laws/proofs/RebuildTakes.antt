@@ -19,7 +19,7 @@ use Rattle.store_core.specs.Look.{pin_of, seen_at}
 use Rattle.store_core.specs.Conditions.{MayBegin, IsOfRepairer}
 use Rattle.store_core.specs.Step.{Places}
 use Rattle.store_core.specs.Sound.{HasItsVersions}
-use Rattle.store_sound.proofs.Passes.{found_has}
+use Rattle.run_laws.proofs.Passes.{found_has}
 use Rattle.store_resume.specs.State.{Sequel, first_state}
 use Rattle.store_resume.specs.Stage.{Aim, Stage}
 use Rattle.store_resume.specs.Stages.{first_stage}

@@ -33,7 +33,7 @@ use Rattle.store_core.specs.Read.{parts_of}
 use Rattle.store_core.specs.Write.{old_parts}
 use Rattle.store_core.specs.Server.{Server, at_server, hold, install}
 use Rattle.store_core.specs.Step.{Shortage, Places, at_server_there}
-use Rattle.store_sound.proofs.SoundLists.{at_all}
+use Rattle.run_laws.proofs.SoundLists.{at_all}
 use Rattle.store_resume.specs.Stage.{Aim, Asking, Stage}
 use Rattle.store_resume.specs.StageAfter.{stage_after, server_asked, step_asked}
 use Rattle.store_resume.specs.Stages.{first_stage}

@@ -37,8 +37,8 @@ use Rattle.store_core.specs.Placements.{IsRow, skipped_count}
 use Rattle.store_core.specs.Server.{Server}
 use Rattle.store_core.specs.Step.{Places}
 use Rattle.store_core.specs.Sound.{IsSound}
-use Rattle.store_sound.proofs.SoundSteps.{steps_keep_sound}
-use Rattle.store_lengths.proofs.LengthProofs.{content_count, length-overwrite}
+use Rattle.run_laws.proofs.SoundSteps.{steps_keep_sound}
+use Rattle.content_laws.proofs.LengthProofs.{content_count, length-overwrite}
 use Rattle.store_resume.specs.State.{Sequel, State, first_state}
 use Rattle.store_resume.specs.States.{parts_state, open_parts, open_state, open_call, prepare_all_state, settle_state}
 use Rattle.store_resume.specs.StateActs.{act_of_state}

@@ -21,9 +21,9 @@ use Rattle.store_core.specs.Look.{stripes_between, keeps_old}
 use Rattle.store_core.specs.Conditions.{MayBegin, IsOfClient}
 use Rattle.store_core.specs.Step.{Places}
 use Rattle.store_core.specs.Sound.{HasItsVersions}
-use Rattle.store_sound.proofs.SoundLists.{is_in}
-use Rattle.store_sound.proofs.SoundStripes.{pins_within}
-use Rattle.store_sound.proofs.Passes.{found_has}
+use Rattle.run_laws.proofs.SoundLists.{is_in}
+use Rattle.run_laws.proofs.SoundStripes.{pins_within}
+use Rattle.run_laws.proofs.Passes.{found_has}
 use Rattle.session_rules.specs.State.{State as Session}
 use Rattle.session_rules.specs.Calls.{serve_call, is_refusal}
 use Rattle.session_laws.specs.Seen.{version_of, IsSeenAs}

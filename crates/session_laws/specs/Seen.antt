@@ -11,7 +11,7 @@ use Rattle.store_core.specs.Lookups.{first_garbage}
 use Rattle.store_core.specs.Look.{placed_of}
 use Rattle.store_core.specs.Step.{Places}
 use Rattle.store_core.specs.Sound.{IsSound, lengths_of}
-use Rattle.store_lengths.specs.LengthLaws.{lengths_seen}
+use Rattle.content_laws.specs.LengthLaws.{lengths_seen}
 use Rattle.session_rules.specs.State.{Stripe, Numbering, Snapshot, State, chunk_at}
 
 -- the version that stands for a stripe's number, by a list of them

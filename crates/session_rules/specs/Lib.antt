@@ -17,3 +17,4 @@ pub mod RowsCalls
 pub mod RowsRebuilds
 pub mod RowsSnapshots
 pub mod RowsFrames
+pub mod BesideSnapshots

@@ -5,6 +5,7 @@ mod answer;
 mod ending;
 mod request;
 pub mod rows;
+pub mod snapshot_rows;
 
 pub use answer::{Answer, LostChunk, Missing};
 pub use ending::Ending;

@@ -7,8 +7,8 @@ use Rattle.store_map.specs.Limits.{stripes_met}
 use Rattle.store_core.specs.Bounds.{touched_count, read_count, bound_by, step_bound}
 use Rattle.store_core.specs.NextAct.{Job}
 use Rattle.store_core.specs.Note.{Note, Kind}
-use Rattle.store_calls.specs.CallLeft.{call_left}
-use Rattle.store_calls.proofs.Steps.{steps_fall}
+use Rattle.run_laws.specs.CallLeft.{call_left}
+use Rattle.run_laws.proofs.Steps.{steps_fall}
 
 div_few : (s x : ℕ) → 0 < s → x / s ≤ x
 div_few s x some = div-le_of_le-mul s {m = x} {n = x} (let more : x * 1 ≤ x * s = mul-le-mul_left x (omega (arith, some)) in let y : ℕ = x * s in omega (arith, more))

@@ -34,11 +34,11 @@ use Rattle.session_rules.specs.declared.request.Request.{Request}
 use Rattle.session_laws.specs.Alone.{AtWork}
 use Rattle.session_laws.specs.Outcomes.{outcome_at}
 use Rattle.session_laws.specs.Wants.{wanting_steps}
-use Rattle.session_runs.specs.Between.{seats_after, IsBetween}
-use Rattle.session_runs.specs.Serving.{AreSweptTo}
-use Rattle.session_runs.specs.Answering.{RunsTo, IsAnswered}
-use Rattle.session_runs.proofs.CallsAnswered.{calls_are_answered}
-use Rattle.session_runs.proofs.Answers.{call_next, call_snapshot}
+use Rattle.session_laws.specs.Between.{seats_after, IsBetween}
+use Rattle.session_laws.specs.Serving.{AreSweptTo}
+use Rattle.session_laws.specs.Answering.{RunsTo, IsAnswered}
+use Rattle.session_laws.proofs.CallsAnswered.{calls_are_answered}
+use Rattle.session_laws.proofs.Answers.{call_next, call_snapshot}
 use Rattle.call_steps.specs.CallOf.{tries_by, act_of}
 use Rattle.call_machine.specs.Calls.{MachineOf, first_call, tries_in}
 use Rattle.call_machine.specs.Kinds.{Asked, Machine, machine_of, client_machine, IfReads}
@@ -48,16 +48,16 @@ use Rattle.call_steps.specs.CallOutcomes.{call_outcome_of}
 use Rattle.call_steps.specs.declared.outcome.CallOutcome.{CallOutcome}
 use Rattle.store_map.specs.declared.actor.Point.{Point}
 use Rattle.store_core.specs.Content.{contents_by}
-use Rattle.store_reads.specs.ReadLaws.{bytes_read}
+use Rattle.content_laws.specs.ReadLaws.{bytes_read}
 use Rattle.client_read.specs.Owed.{contents_of}
 use Rattle.call_owes.specs.Owes.{OwesBy}
 use Rattle.call_owes.specs.OwesLaws.{AreAmong}
 use Rattle.call_owes.proofs.Owing.{at_end_owes}
 use Rattle.call_owes.proofs.Stamped.{contents_read}
 use Rattle.call_machine.specs.Ends.{IfBytesServed}
-use Rattle.session_bytes.proofs.Maps.{bytes_are_owed}
-use Rattle.session_runs.proofs.Clients.{of_client}
-use Rattle.session_runs.proofs.Kept.{begins}
+use Rattle.session_laws.proofs.Maps.{bytes_are_owed}
+use Rattle.session_laws.proofs.Clients.{of_client}
+use Rattle.session_laws.proofs.RunKept.{begins}
 use Rattle.call_steps.specs.declared.outcome.CallOutcome.TheVariants as ended
 use Rattle.store_core.specs.Lookups.{same_actor}
 use Rattle.session_rules.specs.Calls.{serve_call}

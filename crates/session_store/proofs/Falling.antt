@@ -20,17 +20,17 @@ use Rattle.store_core.specs.Tell.{tell}
 use Rattle.store_core.specs.Told.{Told}
 use Rattle.store_core.specs.Tokens.{actor_of}
 use Rattle.store_core.specs.Work.{Ended, Calling}
-use Rattle.store_calls.specs.AnswerLaws.{is_of_call}
-use Rattle.store_calls.specs.Answers.{Answers}
-use Rattle.store_calls.specs.CallLeft.{pin_bound, call_left}
-use Rattle.store_calls.specs.StepLaws.{HasTarget}
-use Rattle.store_calls.proofs.PlaceAnswers.{places_answer}
-use Rattle.store_calls.proofs.Steps.{steps_fall}
-use Rattle.store_sound.proofs.Passes.{held}
-use Rattle.store_runs.proofs.ActAnswers.{note_if, FitPlaces, act_answered}
-use Rattle.store_runs.proofs.Phases.{directory_phase, has_pass}
-use Rattle.store_runs.proofs.Proper.{ProperStep, IsProper, HasTry, acts_proper}
-use Rattle.store_runs.proofs.ShortObjects.{sound_short}
+use Rattle.run_laws.specs.AnswerLaws.{is_of_call}
+use Rattle.run_laws.specs.Answers.{Answers}
+use Rattle.run_laws.specs.CallLeft.{pin_bound, call_left}
+use Rattle.run_laws.specs.StepLaws.{HasTarget}
+use Rattle.run_laws.proofs.PlaceAnswers.{places_answer}
+use Rattle.run_laws.proofs.Steps.{steps_fall}
+use Rattle.run_laws.proofs.Passes.{held}
+use Rattle.run_laws.proofs.ActAnswers.{note_if, FitPlaces, act_answered}
+use Rattle.run_laws.proofs.Phases.{directory_phase, has_pass}
+use Rattle.run_laws.proofs.Proper.{ProperStep, IsProper, HasTry, acts_proper}
+use Rattle.run_laws.proofs.ShortObjects.{sound_short}
 use Rattle.store_resume.specs.State.{CallState}
 use Rattle.store_resume.specs.States.{open_call}
 use Rattle.store_resume.specs.CallAfter.{state_of}

@@ -17,7 +17,7 @@ use Rattle.store_core.specs.Lookups.{same_actor}
 use Rattle.store_core.specs.Server.{new_server}
 use Rattle.store_core.specs.Step.{Places as CorePlaces}
 use Rattle.store_core.specs.Tokens.{actor_of}
-use Rattle.store_sound.proofs.OwnSteps.{agreement_goes_on}
+use Rattle.run_laws.proofs.OwnSteps.{agreement_goes_on}
 use Rattle.version_seal.specs.Entry.{BookOf}
 use Rattle.chunk_server.specs.Core.{core_of}
 use Rattle.chunk_server.specs.State.{ServerState, empty_server}
@@ -27,9 +27,9 @@ use Rattle.stripe_dir.specs.Stamped.{HaveContents}
 use Rattle.stripe_dir.proofs.StampSteps.{stamps_keep_contents}
 use Rattle.session_rules.specs.State.{first_state}
 use Rattle.session_laws.specs.Beginnings.{new_places}
-use Rattle.session_runs.specs.Between.{IsBetween}
-use Rattle.session_runs.specs.Readers.{AreReaders}
-use Rattle.session_runs.proofs.Runs.{beginnings_are_between}
+use Rattle.session_laws.specs.Between.{IsBetween}
+use Rattle.session_laws.specs.Readers.{AreReaders}
+use Rattle.session_laws.proofs.Runs.{beginnings_are_between}
 use Rattle.snapshot_view.specs.Tickets.{MayGet}
 use Rattle.session_store.specs.declared.parts.Parts.{Parts}
 use Rattle.session_store.specs.Beginning.{AreNew, IsFirst, reader_tickets}

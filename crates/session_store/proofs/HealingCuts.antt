@@ -23,16 +23,16 @@ use Rattle.session_rules.specs.declared.request.Request.{Request}
 use Rattle.session_laws.specs.Alone.{AtWork, steps, EndsAs}
 use Rattle.session_laws.specs.Heals.{rebuild_of, AreRebuilt, healed_by}
 use Rattle.session_laws.specs.Scrubs.{lost_at}
-use Rattle.session_runs.specs.Seats.{MayBeginFrom, ran, HasEnded}
-use Rattle.session_runs.specs.Serving.{AreSweptTo}
-use Rattle.session_runs.specs.Between.{IsBetween}
-use Rattle.session_runs.specs.Answering.{RunsTo, IsAnswered, AreMadeAnew, IsCutOff}
-use Rattle.session_runs.proofs.Answers.{healed_snapshot}
-use Rattle.session_runs.proofs.Doomed.{rebuild_ends_either}
-use Rattle.session_runs.proofs.Ends.{same_ends, same_rebuilt}
-use Rattle.session_runs.proofs.HealsAnswered.{rebuilt_of, heals_are_answered}
-use Rattle.session_runs.proofs.Kept.{rebuilds_seat}
-use Rattle.session_runs.proofs.Repairs.{has_parity, healed}
+use Rattle.session_laws.specs.Seats.{MayBeginFrom, ran, HasEnded}
+use Rattle.session_laws.specs.Serving.{AreSweptTo}
+use Rattle.session_laws.specs.Between.{IsBetween}
+use Rattle.session_laws.specs.Answering.{RunsTo, IsAnswered, AreMadeAnew, IsCutOff}
+use Rattle.session_laws.proofs.Answers.{healed_snapshot}
+use Rattle.session_laws.proofs.Doomed.{rebuild_ends_either}
+use Rattle.session_laws.proofs.Ends.{same_ends, same_rebuilt}
+use Rattle.session_laws.proofs.HealsAnswered.{rebuilt_of, heals_are_answered}
+use Rattle.session_laws.proofs.RunKept.{rebuilds_seat}
+use Rattle.session_laws.proofs.Repairs.{has_parity, healed}
 use Rattle.call_steps.specs.CallOf.{tries_by}
 use Rattle.session_store.specs.declared.parts.Parts.{Parts}
 use Rattle.session_store.specs.Inside.{store_of}

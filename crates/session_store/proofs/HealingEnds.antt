@@ -21,11 +21,11 @@ use Rattle.session_rules.specs.declared.answer.LostChunk.{LostChunk}
 use Rattle.session_rules.specs.declared.request.Request.{Request}
 use Rattle.session_laws.specs.Heals.{rebuild_of}
 use Rattle.session_laws.specs.Scrubs.{lost_at}
-use Rattle.session_runs.specs.Between.{IsBetween}
-use Rattle.session_runs.specs.Answering.{IsAnswered, AreTakenAnew}
-use Rattle.session_runs.proofs.Answers.{healed_snapshot}
-use Rattle.session_runs.proofs.HealsAnswered.{heals_are_made}
-use Rattle.session_runs.proofs.HealsTaken.{heals_take_anew}
+use Rattle.session_laws.specs.Between.{IsBetween}
+use Rattle.session_laws.specs.Answering.{IsAnswered, AreTakenAnew}
+use Rattle.session_laws.proofs.Answers.{healed_snapshot}
+use Rattle.session_laws.proofs.HealsAnswered.{heals_are_made}
+use Rattle.session_laws.proofs.HealsTaken.{heals_take_anew}
 use Rattle.call_steps.specs.CallOf.{tries_by}
 use Rattle.session_store.specs.declared.parts.Parts.{Parts}
 use Rattle.session_store.specs.declared.places.SessionPlaces.{SessionPlaces}

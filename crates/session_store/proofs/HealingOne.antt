@@ -23,8 +23,8 @@ use Rattle.version_seal.specs.Entry.{BookOf}
 use Rattle.dir_parts.proofs.TableSteps.{length-change_at}
 use Rattle.session_laws.specs.Alone.{AtWork}
 use Rattle.session_laws.specs.Wants.{after_coding, wanting_step}
-use Rattle.session_runs.specs.Seats.{ran, HasEnded}
-use Rattle.session_runs.specs.Answering.{took}
+use Rattle.session_laws.specs.Seats.{ran, HasEnded}
+use Rattle.session_laws.specs.Answering.{took}
 use Rattle.call_steps.specs.CallOf.{tries_by, act_of, taken_of}
 use Rattle.call_machine.specs.Calls.{MachineOf, first_call, tries_in}
 use Rattle.call_machine.specs.Kinds.{Asked, Machine}

@@ -13,7 +13,7 @@ use Rattle.session_rules.specs.Heals.{servers, lost_chunks, number_of, to_heal}
 use Rattle.session_rules.specs.declared.answer.LostChunk.{LostChunk}
 use Rattle.session_laws.proofs.LostChunks.{IsLost, lost_all}
 use Rattle.session_laws.proofs.Pairs.{every_weaker}
-use Rattle.store_sound.proofs.SoundHistory.{same_name}
+use Rattle.run_laws.proofs.SoundHistory.{same_name}
 use Rattle.session_store.specs.LostStripes.{is_beside, beside, healable}
 
 -- ---- how many of a list pass a test

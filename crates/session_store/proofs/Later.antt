@@ -7,7 +7,7 @@ use Rattle.store_core.specs.Told.{Told}
 use Rattle.store_core.specs.Note.{Kind}
 use Rattle.store_core.specs.Act.{Act}
 use Rattle.store_core.specs.NextAct.{Job}
-use Rattle.store_reads.specs.PinLaws.{IsReading}
+use Rattle.content_laws.specs.PinLaws.{IsReading}
 use Rattle.store_resume.specs.State.{State}
 use Rattle.store_resume.specs.LookAfter.{start_after}
 use Rattle.store_resume.specs.CallLaws.{next_call_from}

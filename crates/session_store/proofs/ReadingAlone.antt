@@ -14,11 +14,11 @@ use Rattle.store_core.specs.Read.{part_of}
 use Rattle.store_core.specs.Server.{Server, at_server}
 use Rattle.store_core.specs.Step.{Shortage, Places as CorePlaces}
 use Rattle.store_core.specs.Told.{Told}
-use Rattle.store_calls.specs.CallLeft.{call_left}
-use Rattle.store_calls.specs.StepLaws.{HasTarget}
-use Rattle.store_calls.specs.StepsLeft.{ending_left}
-use Rattle.store_calls.specs.GatheringLeft.{gathering_left}
-use Rattle.store_calls.proofs.GatheringFalls.{gathering_start}
+use Rattle.run_laws.specs.CallLeft.{call_left}
+use Rattle.run_laws.specs.StepLaws.{HasTarget}
+use Rattle.run_laws.specs.StepsLeft.{ending_left}
+use Rattle.run_laws.specs.GatheringLeft.{gathering_left}
+use Rattle.run_laws.proofs.GatheringFalls.{gathering_start}
 use Rattle.store_resume.specs.State.{Sequel, State, CallState}
 use Rattle.store_resume.specs.States.{open_parts}
 use Rattle.store_resume.specs.StateActs.{act_of_state}
@@ -44,8 +44,8 @@ use Rattle.snapshot_view.specs.declared.ends.Ending.TheVariants as ending
 use Rattle.snapshot_view.proofs.Needs.{asks_by, due_by}
 use Rattle.session_laws.specs.Alone.{AtWork}
 use Rattle.session_laws.specs.Wants.{may_code}
-use Rattle.session_runs.specs.Reading.{reading, reading_by, reading_step, reading_steps}
-use Rattle.session_runs.proofs.ReadingSteps.{IsGathering, opened_gathers}
+use Rattle.session_laws.specs.Reading.{reading, reading_by, reading_step, reading_steps}
+use Rattle.session_laws.proofs.ReadingSteps.{IsGathering, opened_gathers}
 use Rattle.stripe_dir.specs.Sealed.{Sealed}
 use Rattle.session_store.specs.declared.places.SessionPlaces.{SessionPlaces}
 use Rattle.session_store.specs.Places.{AreServers, AreSame, seen_in}

@@ -30,8 +30,8 @@ use Rattle.store_map.specs.Limits.{stripes_met}
 use Rattle.session_rules.specs.Gathered.{Range}
 use Rattle.session_rules.specs.State.{Chunk, Numbering, Snapshot}
 use Rattle.session_laws.specs.Seen.{version_of}
-use Rattle.session_runs.specs.Readers.{pin_at, tickets_of}
-use Rattle.session_runs.specs.Snapshots.{reader_of, pins_by, kept_stripe}
+use Rattle.session_laws.specs.Readers.{pin_at, tickets_of}
+use Rattle.session_laws.specs.Snapshots.{reader_of, pins_by, kept_stripe}
 use Rattle.session_store.specs.Standing.{placed_in}
 
 -- ---- lists

@@ -37,8 +37,8 @@ use Rattle.session_store.proofs.ReadingKept.{Tied, tied, gathered_same}
 use Rattle.store_core.specs.Gathering.{Part}
 use Rattle.store_core.specs.Agreement.{Agrees}
 use Rattle.std.specs.List.{AllByRecursion}
-use Rattle.session_runs.specs.Readers.{tickets_of, kept_numbers}
-use Rattle.session_runs.specs.Snapshots.{reader_of, kept_stripe}
+use Rattle.session_laws.specs.Readers.{tickets_of, kept_numbers}
+use Rattle.session_laws.specs.Snapshots.{reader_of, kept_stripe}
 use Rattle.session_rules.specs.State.{Numbering}
 use Rattle.session_store.specs.Standing.{placed_in}
 use Rattle.store_map.specs.declared.placement.Placement.TheVariants as placement
@@ -48,8 +48,8 @@ use Rattle.store_core.specs.Told.{Lost, lost_in}
 use Rattle.store_core.specs.Note.{note_of}
 use Rattle.store_map.specs.declared.call.Call.TheVariants as call
 use Rattle.store_map.proofs.LimitLaws.{stripes_met-start}
-use Rattle.store_contents.proofs.Bytes.{count_stripes}
-use Rattle.store_sound.proofs.SoundStripes.{pins_within}
+use Rattle.content_laws.proofs.Bytes.{count_stripes}
+use Rattle.run_laws.proofs.SoundStripes.{pins_within}
 use Rattle.store_resume.specs.State.{State as CallAt}
 use Rattle.snapshot_view.specs.ReadSteps.{EndsAs}
 use Rattle.snapshot_view.specs.declared.ends.Ending.{Ending}
@@ -64,11 +64,11 @@ use Rattle.session_rules.specs.Shortages.{IsServed}
 use Rattle.session_rules.specs.Snapshots.{reply_unless, snap_read}
 use Rattle.session_rules.specs.State.{numbers_of}
 use Rattle.session_laws.specs.Alone.{AtWork}
-use Rattle.session_runs.specs.Between.{IsBetween}
-use Rattle.session_runs.specs.Answering.{ReadsTo, IsAnswered}
-use Rattle.session_runs.specs.Reading.{begun, reading_steps}
-use Rattle.session_runs.specs.Snapshots.{kept_parts, gathered_as}
-use Rattle.session_runs.proofs.KeptReadsServed.{snap_reads_are_answered}
+use Rattle.session_laws.specs.Between.{IsBetween}
+use Rattle.session_laws.specs.Answering.{ReadsTo, IsAnswered}
+use Rattle.session_laws.specs.Reading.{begun, reading_steps}
+use Rattle.session_laws.specs.Snapshots.{kept_parts, gathered_as}
+use Rattle.session_laws.proofs.KeptReadsServed.{snap_reads_are_answered}
 use Rattle.session_store.specs.declared.places.SessionPlaces.{SessionPlaces}
 use Rattle.session_store.specs.Places.{AreServers, seen_in as places_seen}
 use Rattle.session_store.specs.Stored.{StoreOf, places_in}

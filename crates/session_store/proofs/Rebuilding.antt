@@ -24,12 +24,12 @@ use Rattle.session_rules.specs.declared.request.Request.{Request}
 use Rattle.session_laws.specs.Alone.{AtWork}
 use Rattle.session_laws.specs.Rebuilds.{rebuilt_as}
 use Rattle.session_laws.specs.Wants.{wanting_steps}
-use Rattle.session_runs.specs.Between.{seats_after, IsBetween}
-use Rattle.session_runs.specs.Serving.{AreSweptTo}
-use Rattle.session_runs.specs.Answering.{RunsTo, IsAnswered}
-use Rattle.session_runs.proofs.RebuildsAnswered.{rebuilds_are_answered}
-use Rattle.session_runs.proofs.Answers.{rebuild_next, rebuild_snapshot}
-use Rattle.session_runs.proofs.Repairs.{has_parity}
+use Rattle.session_laws.specs.Between.{seats_after, IsBetween}
+use Rattle.session_laws.specs.Serving.{AreSweptTo}
+use Rattle.session_laws.specs.Answering.{RunsTo, IsAnswered}
+use Rattle.session_laws.proofs.RebuildsAnswered.{rebuilds_are_answered}
+use Rattle.session_laws.proofs.Answers.{rebuild_next, rebuild_snapshot}
+use Rattle.session_laws.proofs.Repairs.{has_parity}
 use Rattle.call_steps.specs.CallOf.{act_of}
 use Rattle.call_machine.specs.Calls.{MachineOf, first_call, tries_in}
 use Rattle.call_machine.specs.Kinds.{Asked, Machine}

@@ -19,16 +19,16 @@ use Rattle.store_core.specs.Server.{Server, at_server}
 use Rattle.store_core.specs.Step.{Shortage, Places as CorePlaces}
 use Rattle.store_core.specs.Told.{Seen, Told}
 use Rattle.store_core.specs.Tokens.{actor_of, after_look, after_pass_step}
-use Rattle.store_sound.proofs.OwnSteps.{agreement_goes_on, steps_may_be_made}
-use Rattle.store_sound.proofs.Passes.{passes_move, passes_stay}
-use Rattle.store_sound.proofs.Beside.{self_actor}
-use Rattle.store_contents.proofs.ContentSteps.{steps_keep_bytes}
-use Rattle.store_contents.proofs.MoreCalls.{steps_keep_drawn}
+use Rattle.run_laws.proofs.OwnSteps.{agreement_goes_on, steps_may_be_made}
+use Rattle.run_laws.proofs.Passes.{passes_move, passes_stay}
+use Rattle.run_laws.proofs.Beside.{self_actor}
+use Rattle.content_laws.proofs.ContentSteps.{steps_keep_bytes}
+use Rattle.content_laws.proofs.MoreCalls.{steps_keep_drawn}
 use Rattle.dir_parts.proofs.Entries.{slice_get-map, map-set}
 use Rattle.store_resume.specs.State.{State, CallState}
-use Rattle.store_calls.specs.StepLaws.{HasTarget}
-use Rattle.store_contents.specs.Contents.{HasBytes}
-use Rattle.store_contents.specs.MoreCalls.{AreDrawnBy}
+use Rattle.run_laws.specs.StepLaws.{HasTarget}
+use Rattle.content_laws.specs.Contents.{HasBytes}
+use Rattle.content_laws.specs.MoreCalls.{AreDrawnBy}
 use Rattle.store_resume.specs.StateActs.{start_act, act_at}
 use Rattle.version_seal.specs.Entry.{BookOf}
 use Rattle.chunk_server.specs.Core.{core_of}
@@ -48,8 +48,8 @@ use Rattle.call_owes.specs.Pinned.{pinned_at}
 use Rattle.call_owes.proofs.Acts.{IsLater}
 use Rattle.call_owes.proofs.Owing.{at_coder_owes, keeps_owing}
 use Rattle.client_read.specs.Owed.{contents_of}
-use Rattle.store_calls.specs.Answers.{Answers}
-use Rattle.store_calls.specs.CallLeft.{pin_bound, call_left}
+use Rattle.run_laws.specs.Answers.{Answers}
+use Rattle.run_laws.specs.CallLeft.{pin_bound, call_left}
 use Rattle.store_core.specs.Bounds.{touched_count}
 use Rattle.store_core.specs.Read.{parts_of}
 use Rattle.store_resume.specs.FitLaws.{Fits}
@@ -61,7 +61,7 @@ use Rattle.call_machine.proofs.Knowing.{first_calls_know}
 use Rattle.session_store.specs.CallBytes.{IsKnownBy, KnowsBytes}
 use Rattle.session_store.specs.Stepping.{IsCoded, MayStep, AtTheDirectory, AtAServer, HasStepped}
 use Rattle.session_store.specs.Running.{MayRun, LookOwes, OthersAgree, RunsOn, IsLow, left_of}
-use Rattle.store_reads.specs.PinLaws.{IsReading}
+use Rattle.content_laws.specs.PinLaws.{IsReading}
 use Rattle.session_store.proofs.Lists.{got}
 use Rattle.session_store.proofs.Taking.{took_from, taken_more, taken_here}
 use Rattle.session_store.proofs.Running.{contents_kept}

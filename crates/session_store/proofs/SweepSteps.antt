@@ -20,7 +20,7 @@ use Rattle.call_stands.proofs.Needs.{is_directory, is_server, server_in}
 use Rattle.session_laws.specs.Alone.{Sweeping, sweep, sweeps}
 use Rattle.sweeper.specs.Sweeps.{SweeperOf, new_sweeper, act_of, at_directory_by, at_server_by, heard, need_at, need_of, stepped_at_directory, stepped_at_server}
 use Rattle.store_core.specs.Agreement.{Agrees}
-use Rattle.store_sound.proofs.OwnSteps.{agreement_goes_on}
+use Rattle.run_laws.proofs.OwnSteps.{agreement_goes_on}
 use Rattle.version_seal.specs.Entry.{BookOf}
 use Rattle.store_core.specs.Calls.{Calls}
 use Rattle.stripe_dir.specs.Sealed.{Sealed}
@@ -28,8 +28,8 @@ use Rattle.stripe_dir.specs.Stamped.{HaveContents}
 use Rattle.stripe_dir.proofs.StampSteps.{stamps_keep_contents}
 use Rattle.session_store.specs.declared.places.SessionPlaces.{SessionPlaces}
 use Rattle.session_store.specs.Places.{AreServers, ArePlaces, seen_in}
-use Rattle.world_steps.specs.SweepsLeft.{sweeps_left}
-use Rattle.world_steps.proofs.SweepsLeft.{sweeps_fall}
+use Rattle.world_laws.specs.SweepsLeft.{sweeps_left}
+use Rattle.world_laws.proofs.SweepsLeft.{sweeps_fall}
 use Rattle.session_store.specs.Sweeping.{StillAgrees, KeepsStamps, MaySweep, IsSweptBy, HasSwept, Sweeps, has_sweep, sweeps_left_in}
 use Rattle.session_store.proofs.Lists.{got, servers_set, step_at}
 

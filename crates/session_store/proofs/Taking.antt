@@ -12,7 +12,7 @@ use Rattle.store_resume.specs.State.{CallState}
 use Rattle.store_resume.specs.StateActs.{act_of_state}
 use Rattle.session_laws.specs.Alone.{AtWork}
 use Rattle.session_laws.specs.Wants.{after_coding, wanting_step, wanting_steps}
-use Rattle.session_runs.specs.Answering.{took}
+use Rattle.session_laws.specs.Answering.{took}
 use Rattle.call_steps.specs.CallOf.{CallOf, act_of}
 use Rattle.call_alone.specs.AtWork.{HasRun, first_at}
 

@@ -8,7 +8,7 @@ use Rattle.std.proofs.lemmas.List.Elements.{filter-append, filter_agree}
 use Rattle.std.proofs.lemmas.List.Folds.{length-prefix_len}
 use Rattle.std.proofs.lemmas.List.Sums.{prefix_len-drop_yes, prefix_len-drop_no, prefix_len-drop_all, prefix_len-le-length}
 use Rattle.std.proofs.lemmas.Option.{none-some, same_Some}
-use Rattle.store_sound.proofs.SoundHistory.{same_name}
+use Rattle.run_laws.proofs.SoundHistory.{same_name}
 use Rattle.store_map.specs.declared.call.Rebuild.{Rebuild as RebuildCall}
 use Rattle.session_rules.specs.declared.answer.LostChunk.{LostChunk}
 use Rattle.session_laws.specs.Heals.{rebuild_of}

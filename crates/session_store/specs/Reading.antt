@@ -9,7 +9,7 @@ use Rattle.store_core.specs.Read.{part_of}
 use Rattle.store_core.specs.Server.{Server}
 use Rattle.store_core.specs.Step.{Shortage}
 use Rattle.store_core.specs.Told.{Seen, Told}
-use Rattle.store_calls.specs.CallLeft.{call_left}
+use Rattle.run_laws.specs.CallLeft.{call_left}
 use Rattle.store_resume.specs.State.{Sequel, State}
 use Rattle.store_resume.specs.States.{open_parts, open_call}
 use Rattle.store_resume.specs.CallAfter.{state_of}
@@ -25,7 +25,7 @@ use Rattle.snapshot_view.specs.ReadSteps.{need_of, coded}
 use Rattle.snapshot_view.specs.declared.ends.Ending.{Ending}
 use Rattle.snapshot_view.specs.declared.ends.Ending.TheVariants as ending
 use Rattle.session_laws.specs.Alone.{AtWork}
-use Rattle.session_runs.specs.Reading.{reading_steps}
+use Rattle.session_laws.specs.Reading.{reading_steps}
 use Rattle.session_store.specs.declared.places.SessionPlaces.{SessionPlaces}
 use Rattle.session_store.specs.Places.{ArePlaces, AreSame, seen_in}
 

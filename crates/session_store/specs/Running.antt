@@ -11,8 +11,8 @@ use Rattle.store_core.specs.Read.{parts_of}
 use Rattle.store_core.specs.Step.{Shortage}
 use Rattle.store_core.specs.Told.{Told, Seen}
 use Rattle.store_core.specs.Tokens.{actor_of}
-use Rattle.store_calls.specs.CallLeft.{call_left}
-use Rattle.store_calls.specs.StepLaws.{HasTarget}
+use Rattle.run_laws.specs.CallLeft.{call_left}
+use Rattle.run_laws.specs.StepLaws.{HasTarget}
 use Rattle.store_resume.specs.State.{State}
 use Rattle.store_resume.specs.States.{open_call}
 use Rattle.store_resume.specs.CallAfter.{state_of}
@@ -21,8 +21,8 @@ use Rattle.call_machine.specs.Calls.{MachineOf, KnowsOldOf, first_call}
 use Rattle.call_owes.specs.Owes.{OwesBy}
 use Rattle.call_owes.specs.OwesLaws.{AreAmong}
 use Rattle.call_alone.specs.AtWork.{HasRun, first_at}
-use Rattle.session_runs.specs.Answering.{took}
-use Rattle.store_reads.specs.PinLaws.{IsReading}
+use Rattle.session_laws.specs.Answering.{took}
+use Rattle.content_laws.specs.PinLaws.{IsReading}
 use Rattle.session_store.specs.declared.places.SessionPlaces.{SessionPlaces}
 use Rattle.session_store.specs.Places.{ArePlaces, AreSame, seen_in}
 use Rattle.session_store.specs.CallBytes.{KnowsBytes}

@@ -9,11 +9,11 @@ use Rattle.store_core.specs.Lookups.{same_actor, first_garbage}
 use Rattle.store_core.specs.Sweep.{Sweeper, is_busy}
 use Rattle.store_core.specs.Tokens.{actor_of}
 use Rattle.session_laws.specs.Alone.{sweep, sweeps}
-use Rattle.session_runs.specs.Serving.{AreSweptTo}
+use Rattle.session_laws.specs.Serving.{AreSweptTo}
 use Rattle.stripe_dir.specs.Sealed.{Sealed}
 use Rattle.stripe_dir.specs.Stamped.{HaveContents}
 use Rattle.sweeper.specs.Sweeps.{SweeperOf}
-use Rattle.world_steps.specs.SweepsLeft.{sweeps_left}
+use Rattle.world_laws.specs.SweepsLeft.{sweeps_left}
 use Rattle.session_store.specs.declared.places.SessionPlaces.{SessionPlaces}
 use Rattle.session_store.specs.Places.{ArePlaces, AreSame, seen_in}
 

@@ -11,8 +11,8 @@ use Rattle.store_core.specs.Tokens.{actor_of}
 use Rattle.store_core.specs.Note.{Note}
 use Rattle.store_core.specs.Act.{DirectoryStep}
 use Rattle.store_core.specs.AtDirectory.{at_directory}
-use Rattle.store_sound.proofs.Beside.{other_way}
-use Rattle.store_sound.proofs.BesideSteps.{others_agree}
+use Rattle.run_laws.proofs.Beside.{other_way}
+use Rattle.run_laws.proofs.BesideSteps.{others_agree}
 use Rattle.snapshot_view.specs.Tickets.{AreApart, AgreesWithAll}
 
 -- the actors at two places differ

@@ -8,7 +8,7 @@ use Rattle.store_core.specs.Lookups.{same_actor}
 use Rattle.store_core.specs.AtDirectory.{at_directory}
 use Rattle.store_core.specs.Agreement.{ActorToken, Agrees}
 use Rattle.store_core.specs.Tokens.{actor_of}
-use Rattle.store_sound.proofs.BesideSteps.{others_agree}
+use Rattle.run_laws.proofs.BesideSteps.{others_agree}
 use Rattle.snapshot_view.specs.Tickets.{AreOfSame, OthersAgree}
 
 all_one : (P : Actor → Type 0) (who : Actor) → P who → All P (who ∷ [])

@@ -7,9 +7,9 @@ use Rattle.clay_grid.specs.Shape.{Shape, stripe_length}
 use Rattle.clay_model.specs.Code.{stripes_of}
 use Rattle.store_map.specs.Limits.{stripes_met}
 use Rattle.store_core.specs.Note.{Note, Kind}
-use Rattle.store_contents.proofs.Bytes.{stripe_at, stripes_below_at, count_stripes}
-use Rattle.store_reads.proofs.Ranges.{range_of, part_at, parts_are}
-use Rattle.store_sound.proofs.SoundStripes.{pins_within}
+use Rattle.content_laws.proofs.Bytes.{stripe_at, stripes_below_at, count_stripes}
+use Rattle.content_laws.proofs.Ranges.{range_of, part_at, parts_are}
+use Rattle.run_laws.proofs.SoundStripes.{pins_within}
 use Rattle.store_map.proofs.LimitLaws.{stripes_met-start}
 use Rattle.call_steps.specs.declared.seen.Seen.{Seen}
 use Rattle.gather_parts.specs.Wanted.{wanted_of, bytes_of}

@@ -15,7 +15,7 @@ use Rattle.store_core.specs.PassSteps.{end_pass}
 use Rattle.store_core.specs.AtDirectory.{at_directory, on_pass, unless_reaped}
 use Rattle.store_core.specs.Agreement.{ActorToken, Agrees}
 use Rattle.store_core.specs.Tokens.{actor_of}
-use Rattle.store_sound.proofs.Beside.{self_actor}
+use Rattle.run_laws.proofs.Beside.{self_actor}
 use Rattle.snapshot_view.specs.Tickets.{passes_in, MayGet, IsInCall, AreApart}
 use Rattle.snapshot_view.specs.Releasing.{Released, end_one, end_all, no_end}
 

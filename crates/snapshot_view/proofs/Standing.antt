@@ -17,16 +17,16 @@ use Rattle.store_core.specs.Look.{seen_at, stripes_between}
 use Rattle.store_core.specs.Lengths.{length_in}
 use Rattle.store_core.specs.Sound.{IsSound, HasItsVersions}
 use Rattle.store_core.specs.Calls.{Calls}
-use Rattle.store_sound.proofs.SoundLists.{at_all, found_at}
-use Rattle.store_sound.proofs.SoundHistory.{same_name, self_name}
-use Rattle.store_sound.proofs.SoundObjects.{length_found}
-use Rattle.store_lengths.specs.MapAfter.{map_by}
-use Rattle.store_lengths.proofs.LengthProofs.{length_of_found}
-use Rattle.store_lengths.proofs.Replayed.{replayed}
-use Rattle.store_contents.specs.Contents.{HasBytes}
-use Rattle.store_contents.proofs.Maps.{entry_of, at, map_same, stored_found, cut_found}
-use Rattle.store_contents.proofs.KeptDraw.{map_map}
-use Rattle.store_contents.proofs.Laid.{zero_div}
+use Rattle.run_laws.proofs.SoundLists.{at_all, found_at}
+use Rattle.run_laws.proofs.SoundHistory.{same_name, self_name}
+use Rattle.run_laws.proofs.SoundObjects.{length_found}
+use Rattle.content_laws.specs.MapAfter.{map_by}
+use Rattle.content_laws.proofs.LengthProofs.{length_of_found}
+use Rattle.content_laws.proofs.Replayed.{replayed}
+use Rattle.content_laws.specs.Contents.{HasBytes}
+use Rattle.content_laws.proofs.Maps.{entry_of, at, map_same, stored_found, cut_found}
+use Rattle.content_laws.proofs.KeptDraw.{map_map}
+use Rattle.content_laws.proofs.Laid.{zero_div}
 use Rattle.version_seal.specs.Entry.{BookOf, StampOf}
 use Rattle.call_steps.specs.declared.seen.Seen.{Seen}
 use Rattle.stripe_dir.specs.Answers.{seen_in}

@@ -12,8 +12,8 @@ use Rattle.store_core.specs.Lookups.{same_actor, is_live, is_pinned}
 use Rattle.store_core.specs.AtDirectory.{at_directory}
 use Rattle.store_core.specs.Agreement.{ActorToken, Agrees}
 use Rattle.store_core.specs.Tokens.{actor_of}
-use Rattle.store_sound.proofs.SoundLists.{found_at}
-use Rattle.store_sound.proofs.BesideSteps.{others_agree}
+use Rattle.run_laws.proofs.SoundLists.{found_at}
+use Rattle.run_laws.proofs.BesideSteps.{others_agree}
 use Rattle.stripe_dir.specs.Installed.{IsLiveIn}
 use Rattle.snapshot_view.specs.Tickets.{AgreesWithAll, pins_of}
 use Rattle.snapshot_view.specs.Laws.{SnapshotsStay}

@@ -10,9 +10,9 @@ use Rattle.store_core.specs.Read.{parts_of, next_read, next_single}
 use Rattle.store_core.specs.Rebuild.{placing, installing, confirming, rebuilding, next_rebuild}
 use Rattle.store_core.specs.NextAct.{Job, next_by, next_act}
 use Rattle.store_core.specs.Tell.{tell}
-use Rattle.store_calls.specs.Answers.{Answers}
-use Rattle.store_calls.specs.AnswersByKind.{MayWrite}
-use Rattle.store_calls.specs.ToldInSteps.{IsToldNext, AreToldSince}
+use Rattle.run_laws.specs.Answers.{Answers}
+use Rattle.run_laws.specs.AnswersByKind.{MayWrite}
+use Rattle.run_laws.specs.ToldInSteps.{IsToldNext, AreToldSince}
 use Rattle.store_resume.specs.FitLaws.{IsCommit, Fits, AreFit, AnswersFit}
 
 -- ---- calls that commit are puts and writes

@@ -16,7 +16,7 @@ use Rattle.store_resume.specs.CallAfter.{call_after_from, call_after, state_of}
 use Rattle.store_resume.specs.StateActs.{sequel_act, stage_act, parts_act, start_act, act_at, act_of_state}
 use Rattle.store_resume.specs.FitLaws.{IsCommit, AreFit}
 use Rattle.store_resume.specs.CallLaws.{next_call_from, next_call, StatesResume, CallsResume}
-use Rattle.store_calls.specs.AnswersByKind.{MayWrite}
+use Rattle.run_laws.specs.AnswersByKind.{MayWrite}
 use Rattle.store_resume.proofs.Acts.{acts_resume}
 use Rattle.store_resume.proofs.Opened.{IsAnswer, state_at, opened_goes}
 use Rattle.store_resume.proofs.Cuts.{by_kind}

@@ -6,8 +6,8 @@ use Rattle.store_core.specs.Note.{Kind}
 use Rattle.store_core.specs.Act.{Act, DirectoryStep}
 use Rattle.store_core.specs.NextAct.{Job, next_act}
 use Rattle.store_core.specs.Tell.{tell}
-use Rattle.store_calls.specs.AnswersByKind.{MayWrite}
-use Rattle.store_calls.specs.ToldInSteps.{IsToldNext, AreTold}
+use Rattle.run_laws.specs.AnswersByKind.{MayWrite}
+use Rattle.run_laws.specs.ToldInSteps.{IsToldNext, AreTold}
 
 -- the commit of a put or a write
 abbrev pub IsCommit : Act → Type 0

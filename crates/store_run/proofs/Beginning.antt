@@ -9,26 +9,26 @@ use Rattle.store_map.specs.declared.script.Script.{Script}
 use Rattle.store_core.specs.Act.{Outcome}
 use Rattle.store_core.specs.ActPlace.{Place}
 use Rattle.store_core.specs.Work.{Work, new_calling}
-use Rattle.store_merge.specs.AtPlaces.{after_all}
-use Rattle.store_merge.specs.ByActors.{calling_next}
-use Rattle.store_merge.specs.MadeSteps.{MadeStep}
-use Rattle.store_merge.specs.OwnSteps.{own_steps}
-use Rattle.store_merge.specs.Threaded.{lines_of}
+use Rattle.thread_laws.specs.AtPlaces.{after_all}
+use Rattle.thread_laws.specs.ByActors.{calling_next}
+use Rattle.thread_laws.specs.MadeSteps.{MadeStep}
+use Rattle.thread_laws.specs.OwnSteps.{own_steps}
+use Rattle.thread_laws.specs.Threaded.{lines_of}
 use Rattle.stripe_dir.specs.Seats.{first_seat}
 use Rattle.sweeper.specs.Sweeps.{new_sweeper}
 use Rattle.actors.specs.Callers.{PartOf, StandsIn, first_caller, who_of, work_of}
 use Rattle.turn_lock.specs.History.{entries_of}
 use Rattle.turn_lock.specs.TurnState.{TurnState}
-use Rattle.run_steps.specs.Entries.{steps_in}
-use Rattle.run_steps.specs.Noted.{Noted, made_in}
-use Rattle.run_steps.specs.Numbers.{IsTurnOf}
-use Rattle.run_lists.specs.Begin.{ActorsBegin}
-use Rattle.run_lists.specs.Callers.{IsOperating}
-use Rattle.run_lists.specs.Logs.{counts_of, log_of, own_at}
-use Rattle.run_lists.specs.Measure.{bound_of, left_of}
-use Rattle.run_lists.proofs.Falling.{begun_left}
-use Rattle.run_lists.proofs.Lists.{own_empty}
-use Rattle.run_lists.proofs.Plain.{all_begin}
+use Rattle.place_laws.specs.Entries.{steps_in}
+use Rattle.place_laws.specs.Noted.{Noted, made_in}
+use Rattle.place_laws.specs.Numbers.{IsTurnOf}
+use Rattle.place_laws.specs.Begin.{ActorsBegin}
+use Rattle.place_laws.specs.Callers.{IsOperating}
+use Rattle.place_laws.specs.Logs.{counts_of, log_of, own_at}
+use Rattle.place_laws.specs.Measure.{bound_of, left_of}
+use Rattle.place_laws.proofs.Falling.{begun_left}
+use Rattle.place_laws.proofs.Lists.{own_empty}
+use Rattle.place_laws.proofs.Plain.{all_begin}
 use Rattle.store_run.specs.First.{AreNew}
 use Rattle.run_seats.specs.Owing.{OwesBySteps}
 use Rattle.run_seats.specs.Places.{seen_by}

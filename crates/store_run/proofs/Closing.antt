@@ -1,18 +1,18 @@
 -- All turns at a store's locks are back, and the places come out of their boxes.
 use Rattle.std.proofs.Common.{◌≡◌, ℕ, ◌<◌, List, length, map, slice_get, Some, refl, sym, ap, subst, ◌∙◌, arith}
 use Rattle.std.proofs.lemmas.List.{length-map}
-use Rattle.store_merge.specs.MadeSteps.{MadeStep}
-use Rattle.store_runs.proofs.Scripts.{Mapped, mapped}
+use Rattle.thread_laws.specs.MadeSteps.{MadeStep}
+use Rattle.run_laws.proofs.Scripts.{Mapped, mapped}
 use Rattle.chunk_server.specs.State.{ServerState}
 use Rattle.turn_lock.specs.TurnState.{TurnState}
 use Rattle.lock_turns.specs.Dealt.{IsTurnAt}
 use Rattle.lock_turns.specs.Joined.{AreAll, IsWhole}
 use Rattle.lock_rows.specs.Out.{AreOut, AreRows, IsOut}
 use Rattle.lock_rows.specs.Piles.{items_of}
-use Rattle.run_steps.specs.AtDirectory.{StandsAtDirectory}
-use Rattle.run_steps.specs.AtServer.{StandsAtServer}
+use Rattle.place_laws.specs.AtDirectory.{StandsAtDirectory}
+use Rattle.place_laws.specs.AtServer.{StandsAtServer}
 use Rattle.chunk_server.specs.Core.{core_of}
-use Rattle.run_steps.specs.Noted.{Noted}
+use Rattle.place_laws.specs.Noted.{Noted}
 use Rattle.run_seats.specs.Fixed.{DirectoryStands, ServerStands, counts_of, counts_there, directory_identity, server_identity}
 use Rattle.run_seats.specs.Places.{HasTurns, IsStore, directory_of, server_of}
 use Rattle.run_seats.specs.SeatedActors.{IsSeatedActor, number_of}

@@ -10,32 +10,32 @@ use Rattle.store_map.specs.declared.actor.Token.{Token}
 use Rattle.store_map.specs.declared.script.Script.{Script}
 use Rattle.store_core.specs.Server.{Server}
 use Rattle.store_core.specs.Work.{Calling, Ended as EndedWork, Work, client_work, repairer_work}
-use Rattle.store_merge.specs.MadeSteps.{MadeStep}
-use Rattle.store_runs.proofs.Scripts.{Mapped, mapped}
+use Rattle.thread_laws.specs.MadeSteps.{MadeStep}
+use Rattle.run_laws.proofs.Scripts.{Mapped, mapped}
 use Rattle.version_seal.specs.Entry.{BookOf}
 use Rattle.chunk_server.specs.Core.{core_of}
 use Rattle.chunk_server.specs.State.{ServerState}
 use Rattle.stripe_dir.specs.Sealed.{Sealed}
 use Rattle.sweeper.specs.Sweeps.{SweeperOf}
 use Rattle.call_steps.specs.CallerCalls.{calling_at, ended_of}
-use Rattle.world_steps.specs.Served.{outcome_in, served_in}
+use Rattle.world_laws.specs.Served.{outcome_in, served_in}
 use Rattle.call_steps.specs.declared.caller_calls.CallerCalls.{CallerCalls}
 use Rattle.call_steps.specs.declared.caller_calls.EndedCall.{EndedCall}
-use Rattle.world_steps.specs.Known.{calling_by, calling_of}
-use Rattle.world_steps.specs.World.{DoingOf}
+use Rattle.world_laws.specs.Known.{calling_by, calling_of}
+use Rattle.world_laws.specs.World.{DoingOf}
 use Rattle.actors.specs.Callers.{PartOf, who_of}
 use Rattle.actors.specs.Inside.{served_of}
 use Rattle.lock_turns.proofs.Lists.{at_place}
 use Rattle.lock_rows.specs.Out.{HasOwnAt}
 use Rattle.lock_rows.specs.Piles.{items_of}
-use Rattle.run_steps.specs.AtServer.{StandsAtServer}
-use Rattle.run_steps.specs.Noted.{made_in}
-use Rattle.run_steps.specs.Numbers.{actor_at}
-use Rattle.run_lists.specs.Callers.{IsOperating, IsSweeping}
-use Rattle.run_lists.specs.Ended.{AllHaveEnded, CallerOf, HasEnded, PlacesStand}
-use Rattle.run_lists.specs.Logs.{HasSeenOwn, Logs, counts_of, log_of, own_at}
-use Rattle.run_lists.proofs.Turns.{client_turn, operator_turn}
-use Rattle.run_served.specs.SeenOwed.{OwedBySeen}
+use Rattle.place_laws.specs.AtServer.{StandsAtServer}
+use Rattle.place_laws.specs.Noted.{made_in}
+use Rattle.place_laws.specs.Numbers.{actor_at}
+use Rattle.place_laws.specs.Callers.{IsOperating, IsSweeping}
+use Rattle.place_laws.specs.Ended.{AllHaveEnded, CallerOf, HasEnded, PlacesStand}
+use Rattle.place_laws.specs.Logs.{HasSeenOwn, Logs, counts_of, log_of, own_at}
+use Rattle.place_laws.proofs.Turns.{client_turn, operator_turn}
+use Rattle.place_laws.specs.SeenOwed.{OwedBySeen}
 use Rattle.run_seats.specs.Owing.{OwesBySteps}
 use Rattle.run_seats.specs.Places.{IsStore, seen_by}
 use Rattle.run_seats.specs.Seated.{IsSeated}

@@ -19,7 +19,7 @@ use Rattle.store_core.specs.Sweep.{Sweeper, after_sweep, next_sweep}
 use Rattle.store_core.specs.Told.{Told}
 use Rattle.store_core.specs.Work.{Work, client_work, repairer_work}
 use Rattle.store_core.proofs.Places.{length-change_at, slice_get-change_at}
-use Rattle.store_merge.specs.MadeSteps.{MadeStep}
+use Rattle.thread_laws.specs.MadeSteps.{MadeStep}
 use Rattle.chunk_server.specs.Core.{core_of}
 use Rattle.chunk_server.specs.State.{ServerState}
 use Rattle.dir_parts.proofs.Entries.{slice_get-map}
@@ -31,20 +31,20 @@ use Rattle.sweeper.specs.Sweeps.{SweeperOf, act_of, at_directory_by, heard, need
 use Rattle.turn_lock.specs.History.{Among, GoesOn}
 use Rattle.turn_lock.proofs.Lists.{among_one, entries_of-with_entry, prefix_after, prefix_self, prefix_trans}
 use Rattle.lock_turns.proofs.Lists.{each_changed, map_set}
-use Rattle.world_steps.specs.SweepsLeft.{sweeps_left}
-use Rattle.world_steps.proofs.SweepsLeft.{sweeps_fall}
-use Rattle.run_steps.specs.AtServer.{StandsAtServer}
-use Rattle.run_steps.specs.Noted.{Noted}
-use Rattle.run_steps.specs.Numbers.{IsTurnOf}
-use Rattle.run_lists.specs.Callers.{IsSweeping}
-use Rattle.run_lists.specs.Ended.{AllHaveEnded, CallerOf, HasEnded, PlacesStand}
-use Rattle.run_lists.specs.Logs.{Logs, counts_of, log_of, own_at}
-use Rattle.run_lists.specs.Plain.{HasAddedAtServer}
-use Rattle.run_lists.specs.Stepped.{last_own, with_log, with_notes}
-use Rattle.run_lists.proofs.Others.{others_add_nothing}
-use Rattle.run_lists.proofs.Placing.{changed_get}
-use Rattle.run_lists.proofs.Plain.{sweeping_goes_on}
-use Rattle.run_lists.proofs.Turns.{sweeper_turn}
+use Rattle.world_laws.specs.SweepsLeft.{sweeps_left}
+use Rattle.world_laws.proofs.SweepsLeft.{sweeps_fall}
+use Rattle.place_laws.specs.AtServer.{StandsAtServer}
+use Rattle.place_laws.specs.Noted.{Noted}
+use Rattle.place_laws.specs.Numbers.{IsTurnOf}
+use Rattle.place_laws.specs.Callers.{IsSweeping}
+use Rattle.place_laws.specs.Ended.{AllHaveEnded, CallerOf, HasEnded, PlacesStand}
+use Rattle.place_laws.specs.Logs.{Logs, counts_of, log_of, own_at}
+use Rattle.place_laws.specs.Plain.{HasAddedAtServer}
+use Rattle.place_laws.specs.Stepped.{last_own, with_log, with_notes}
+use Rattle.place_laws.proofs.Others.{others_add_nothing}
+use Rattle.place_laws.proofs.Placing.{changed_get}
+use Rattle.place_laws.proofs.Plain.{sweeping_goes_on}
+use Rattle.place_laws.proofs.Turns.{sweeper_turn}
 use Rattle.run_seats.specs.Plain.{HasSweptAtDirectory, HasSweptAtServer, plain_at_directory, plain_at_server}
 use Rattle.run_seats.proofs.Sweeping.{sweep_stands, sweep_stands_there, sweep_stepped, sweep_stepped_there}
 use Rattle.store_run.specs.Ended.{IsEnded, has_sweep}

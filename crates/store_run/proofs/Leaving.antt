@@ -4,14 +4,14 @@ use Rattle.std.specs.Global.{Global}
 use Rattle.std.proofs.lemmas.List.{append-nil, append_assoc, length-map, length_push, map-append, reverse-append, reverse-reverse}
 use Rattle.std.proofs.lemmas.Option.{none-some}
 use Rattle.store_map.specs.declared.script.Script.{Script}
-use Rattle.store_merge.specs.MadeSteps.{MadeStep}
+use Rattle.thread_laws.specs.MadeSteps.{MadeStep}
 use Rattle.call_steps.specs.declared.caller_calls.CallerCalls.{CallerCalls}
 use Rattle.sweeper.specs.Sweeps.{SweeperOf}
 use Rattle.turn_lock.specs.TurnState.{TurnState}
-use Rattle.run_steps.specs.Noted.{Noted}
+use Rattle.place_laws.specs.Noted.{Noted}
 use Rattle.lock_turns.proofs.Lists.{at_end, each_pushed, front}
 use Rattle.lock_rows.specs.Piles.{items_of}
-use Rattle.run_lists.specs.Logs.{counts_of}
+use Rattle.place_laws.specs.Logs.{counts_of}
 use Rattle.run_seats.specs.Seated.{IsSeated}
 use Rattle.run_seats.specs.SeatedActors.{IsSeatedActor, number_of}
 use Rattle.run_seats.specs.SeatedPlain.{IsOperator, IsSweeper}

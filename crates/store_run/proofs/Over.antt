@@ -9,13 +9,13 @@ use Rattle.store_map.specs.declared.script.Script.{Script}
 use Rattle.store_core.specs.NextAct.{job_of, rebuild_job}
 use Rattle.store_core.specs.Work.{Work, client_work, has_step, repairer_work}
 use Rattle.dir_parts.proofs.Entries.{slice_get-map}
-use Rattle.world_steps.specs.Known.{calling_of}
+use Rattle.world_laws.specs.Known.{calling_of}
 use Rattle.actors.specs.Callers.{PartOf, StandsIn, who_of, work_of}
-use Rattle.run_steps.specs.Numbers.{actor_at}
-use Rattle.run_lists.specs.Callers.{IsCalling}
-use Rattle.run_lists.specs.Ended.{CallerOf, HasEnded}
-use Rattle.run_lists.specs.Logs.{Logs, HasSeenOwn, counts_of, own_at}
-use Rattle.run_lists.proofs.Numbers.{clients_come_first, repairers_follow}
+use Rattle.place_laws.specs.Numbers.{actor_at}
+use Rattle.place_laws.specs.Callers.{IsCalling}
+use Rattle.place_laws.specs.Ended.{CallerOf, HasEnded}
+use Rattle.place_laws.specs.Logs.{Logs, HasSeenOwn, counts_of, own_at}
+use Rattle.place_laws.proofs.Numbers.{clients_come_first, repairers_follow}
 use Rattle.run_seats.specs.Places.{seen_by}
 use Rattle.run_seats.specs.Seated.{IsSeated, seated_has}
 use Rattle.run_seats.specs.declared.seated.Seated.{Seated}

@@ -3,16 +3,16 @@ use Rattle.std.proofs.Common.{◌≡◌, ℕ, ◌<◌, List, length, map, slice_
 use Rattle.std.proofs.lemmas.List.{length-map}
 use Rattle.std.proofs.lemmas.Option.{same_Some, slice_get_within}
 use Rattle.dir_parts.proofs.Entries.{slice_get-map}
-use Rattle.store_merge.specs.MadeSteps.{MadeStep}
+use Rattle.thread_laws.specs.MadeSteps.{MadeStep}
 use Rattle.turn_lock.specs.History.{entries_of}
 use Rattle.turn_lock.specs.TurnState.{TurnState}
 use Rattle.lock_turns.specs.Joined.{HasOwn}
 use Rattle.lock_turns.proofs.Lists.{at_place}
 use Rattle.lock_rows.specs.Out.{HasOwnAt}
 use Rattle.lock_rows.specs.Piles.{items_of}
-use Rattle.run_steps.specs.Noted.{Noted}
-use Rattle.run_lists.specs.Logs.{HasSeenOwn, Logs}
-use Rattle.run_lists.proofs.Seen.{histories_have_all}
+use Rattle.place_laws.specs.Noted.{Noted}
+use Rattle.place_laws.specs.Logs.{HasSeenOwn, Logs}
+use Rattle.place_laws.proofs.Seen.{histories_have_all}
 use Rattle.run_seats.specs.Places.{seen_by}
 use Rattle.run_seats.specs.declared.directory_box.DirectoryIdentity.{DirectoryIdentity}
 use Rattle.run_seats.specs.declared.seated_actor.SeatedActor.{SeatedActor}

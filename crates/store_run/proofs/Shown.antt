@@ -20,39 +20,39 @@ use Rattle.store_core.specs.Server.{Server}
 use Rattle.store_core.specs.Shown.{shown}
 use Rattle.store_core.specs.Sweep.{is_busy}
 use Rattle.store_core.specs.Work.{Calling, Ended as EndedCore, Work, client_work, repairer_work}
-use Rattle.store_runs.proofs.Runs.{CanRun}
-use Rattle.store_runs.proofs.Scripts.{Mapped, can_run, mapped}
-use Rattle.store_history.proofs.Induction.{run_has}
-use Rattle.store_history.proofs.NamedCalls.{AllCalls, AllInWork, calls_kept, first_calls}
-use Rattle.store_answers.specs.Faithful.{IsFaithful}
-use Rattle.store_answers.proofs.Ample.{ample_runs_are_one}
-use Rattle.store_answers.proofs.Plays.{runs_are_faithful}
-use Rattle.store_merge.specs.Histories.{Histories}
-use Rattle.store_merge.specs.Threaded.{IsThreadedRun, lines_of}
-use Rattle.store_merge.proofs.Showing.{shows_core}
-use Rattle.store_threads.specs.Ended.{HaveEnded, RanApart}
-use Rattle.store_threads.specs.Run.{IsRun, steps_of}
-use Rattle.store_threads.proofs.Runs.{history, threaded_runs_are_runs}
+use Rattle.run_laws.proofs.Runs.{CanRun}
+use Rattle.run_laws.proofs.Scripts.{Mapped, can_run, mapped}
+use Rattle.history_laws.proofs.Induction.{run_has}
+use Rattle.history_laws.proofs.NamedCalls.{AllCalls, AllInWork, calls_kept, first_calls}
+use Rattle.transcript_laws.specs.Faithful.{IsFaithful}
+use Rattle.transcript_laws.proofs.Ample.{ample_runs_are_one}
+use Rattle.transcript_laws.proofs.Plays.{runs_are_faithful}
+use Rattle.thread_laws.specs.Histories.{Histories}
+use Rattle.thread_laws.specs.Threaded.{IsThreadedRun, lines_of}
+use Rattle.thread_laws.proofs.Showing.{shows_core}
+use Rattle.thread_laws.specs.Ended.{HaveEnded, RanApart}
+use Rattle.thread_laws.specs.Run.{IsRun, steps_of}
+use Rattle.thread_laws.proofs.Runs.{history, threaded_runs_are_runs}
 use Rattle.dir_parts.proofs.Entries.{slice_get-map}
 use Rattle.chunk_server.specs.Core.{core_of as server_core}
 use Rattle.lock_turns.proofs.Lists.{at_place}
 use Rattle.call_steps.specs.CallerCalls.{HaveNames, calling_at, counts_of, ended_of}
-use Rattle.world_steps.specs.Served.{ServedAre}
-use Rattle.world_steps.specs.HeldCore.{Holds}
+use Rattle.world_laws.specs.Served.{ServedAre}
+use Rattle.world_laws.specs.HeldCore.{Holds}
 use Rattle.call_steps.specs.declared.caller_calls.CallerCalls.{CallerCalls}
-use Rattle.world_steps.specs.Known.{calling_by, calling_of, core_of}
-use Rattle.world_steps.specs.StandsFor.{AllStand, StandsFor}
-use Rattle.world_steps.specs.World.{ActorOf, DoingOf, WorldOf}
-use Rattle.world_steps.proofs.Actors.{Found, found}
-use Rattle.world_steps.proofs.Shows.{worlds_show}
+use Rattle.world_laws.specs.Known.{calling_by, calling_of, core_of}
+use Rattle.world_laws.specs.StandsFor.{AllStand, StandsFor}
+use Rattle.world_laws.specs.World.{ActorOf, DoingOf, WorldOf}
+use Rattle.world_laws.proofs.Actors.{Found, found}
+use Rattle.world_laws.proofs.Shows.{worlds_show}
 use Rattle.actors.specs.Callers.{PartOf, work_of}
-use Rattle.run_lists.specs.EndLaws.{end_of, world_of}
-use Rattle.run_lists.specs.Ended.{CallerOf}
-use Rattle.run_lists.specs.Logs.{run_lists}
-use Rattle.run_lists.proofs.Ending.{actors_end_runs}
-use Rattle.run_served.specs.ServedLaws.{IsMadeOf}
-use Rattle.run_served.proofs.SeenOwed.{all_served_stay_owed}
-use Rattle.run_served.proofs.Served.{owed_are_served}
+use Rattle.place_laws.specs.EndLaws.{end_of, world_of}
+use Rattle.place_laws.specs.Ended.{CallerOf}
+use Rattle.place_laws.specs.Logs.{run_lists}
+use Rattle.place_laws.proofs.Ending.{actors_end_runs}
+use Rattle.place_laws.specs.ServedLaws.{IsMadeOf}
+use Rattle.place_laws.proofs.SeenOwed.{all_served_stay_owed}
+use Rattle.place_laws.proofs.Served.{owed_are_served}
 use Rattle.store_run.specs.Ended.{AreCallsOf, IsEnded, has_sweep}
 use Rattle.store_run.specs.Swept.{IsRunToEnd}
 use Rattle.store_run.specs.declared.ended.Ended.{Ended}

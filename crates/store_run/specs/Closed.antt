@@ -2,17 +2,17 @@
 use Rattle.std.specs.Prelude.{◌≡◌, ℕ, List, length, Some}
 use Rattle.std.specs.List.{slice_get}
 use Rattle.store_map.specs.Limits.{size_of}
-use Rattle.store_merge.specs.MadeSteps.{MadeStep}
+use Rattle.thread_laws.specs.MadeSteps.{MadeStep}
 use Rattle.chunk_server.specs.Core.{core_of}
 use Rattle.chunk_server.specs.State.{ServerState}
 use Rattle.stripe_dir.specs.Sealed.{Sealed}
 use Rattle.turn_lock.specs.TurnState.{TurnState}
 use Rattle.lock_turns.specs.Joined.{IsWhole}
 use Rattle.lock_rows.specs.Out.{HasOwnAt}
-use Rattle.run_steps.specs.AtDirectory.{StandsAtDirectory}
-use Rattle.run_steps.specs.AtServer.{StandsAtServer}
-use Rattle.run_steps.specs.Noted.{Noted}
-use Rattle.run_lists.specs.Logs.{counts_of}
+use Rattle.place_laws.specs.AtDirectory.{StandsAtDirectory}
+use Rattle.place_laws.specs.AtServer.{StandsAtServer}
+use Rattle.place_laws.specs.Noted.{Noted}
+use Rattle.place_laws.specs.Logs.{counts_of}
 use Rattle.run_seats.specs.declared.directory_box.DirectoryIdentity.{DirectoryIdentity}
 use Rattle.run_seats.specs.declared.server_box.ServerIdentity.{ServerIdentity}
 use Rattle.run_seats.specs.declared.store.Store.{Store}

@@ -9,12 +9,12 @@ use Rattle.store_core.specs.Lookups.{first_garbage}
 use Rattle.store_core.specs.Sweep.{is_busy}
 use Rattle.chunk_server.specs.Core.{core_of}
 use Rattle.chunk_server.specs.State.{ServerState}
-use Rattle.world_steps.specs.Known.{calling_of}
+use Rattle.world_laws.specs.Known.{calling_of}
 use Rattle.call_steps.specs.CallerCalls.{calling_at}
 use Rattle.call_steps.specs.declared.caller_calls.CallerCalls.{CallerCalls}
-use Rattle.run_lists.specs.Ended.{AllHaveEnded, CallerOf, PlacesStand}
-use Rattle.run_lists.specs.Logs.{Logs}
-use Rattle.run_served.specs.SeenOwed.{OwedBySeen}
+use Rattle.place_laws.specs.Ended.{AllHaveEnded, CallerOf, PlacesStand}
+use Rattle.place_laws.specs.Logs.{Logs}
+use Rattle.place_laws.specs.SeenOwed.{OwedBySeen}
 use Rattle.store_run.specs.declared.ended.Ended.{Ended}
 
 -- these calls are those of the callers

@@ -1,7 +1,7 @@
 -- Turns before the first step.
 use Rattle.std.specs.Prelude.{◌≡◌, ℕ, [], Some}
 use Rattle.std.specs.List.{slice_get}
-use Rattle.store_merge.specs.MadeSteps.{MadeStep}
+use Rattle.thread_laws.specs.MadeSteps.{MadeStep}
 use Rattle.turn_lock.specs.TurnState.{TurnState}
 use Rattle.run_seats.specs.Places.{HasTurns}
 use Rattle.run_seats.specs.declared.server_box.ServerIdentity.{ServerIdentity}

@@ -1,7 +1,7 @@
 -- The steps of the last sweep.
 use Rattle.std.specs.Prelude.{ℕ}
 use Rattle.store_map.specs.declared.script.Script.{Script}
-use Rattle.world_steps.specs.SweepsLeft.{sweeps_left}
+use Rattle.world_laws.specs.SweepsLeft.{sweeps_left}
 use Rattle.store_run.specs.declared.ended.Ended.{Ended}
 
 -- how many of them the sweeper has left

@@ -7,7 +7,7 @@ use Rattle.store_map.specs.declared.actor.Actor.TheVariants as actor
 use Rattle.store_map.specs.declared.script.Script.{Script}
 use Rattle.call_steps.specs.CallerCalls.{calling_at}
 use Rattle.call_steps.specs.declared.caller_calls.CallerCalls.{CallerCalls}
-use Rattle.world_steps.specs.Known.{calling_by}
+use Rattle.world_laws.specs.Known.{calling_by}
 use Rattle.actors.specs.Callers.{CallerOf}
 use Rattle.actors.specs.Inside.{served_of}
 use Rattle.lock_rows.specs.Piles.{items_of}

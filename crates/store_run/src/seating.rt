@@ -1,11 +1,11 @@
 //! Actors before their first step, dealt to workers.
 ghost use Rattle.std.specs.Prelude.{◌≡◌, ◌+◌, [], length, IfOk, OnOk};
-ghost use Rattle.store_merge.specs.Threaded.{is_line, lines_of};
+ghost use Rattle.thread_laws.specs.Threaded.{is_line, lines_of};
 ghost use Rattle.stripe_dir.specs.Seats.{first_seats};
 ghost use Rattle.actors.specs.Callers.{StandsIn, who_of};
 ghost use Rattle.actors.specs.Inside.{part_by};
-ghost use Rattle.run_steps.specs.Numbers.{IsTurnOf};
-ghost use Rattle.run_lists.specs.Logs.{counts_of};
+ghost use Rattle.place_laws.specs.Numbers.{IsTurnOf};
+ghost use Rattle.place_laws.specs.Logs.{counts_of};
 ghost use Rattle.run_seats.specs.declared.store.Store.{Store as StoreOf};
 ghost use Rattle.store_map.specs.declared.actor.Actor.TheVariants as who;
 ghost use Rattle.store_run.specs.Crew.{IsCrew};

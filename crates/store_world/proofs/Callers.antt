@@ -5,10 +5,10 @@ use Rattle.store_map.specs.declared.script.Script.{Script}
 use Rattle.store_core.specs.NextAct.{job_of, rebuild_job}
 use Rattle.store_core.specs.Work.{Ended, has_step}
 use Rattle.version_seal.specs.Entry.{BookOf}
-use Rattle.world_steps.specs.World.{DoingOf, steps_of}
-use Rattle.world_steps.specs.Known.{calling_by, calling_of}
-use Rattle.world_steps.specs.Tokens.{KeepsToken}
-use Rattle.world_steps.proofs.Few.{has_left}
+use Rattle.world_laws.specs.World.{DoingOf, steps_of}
+use Rattle.world_laws.specs.Known.{calling_by, calling_of}
+use Rattle.world_laws.specs.Tokens.{KeepsToken}
+use Rattle.world_laws.proofs.Few.{has_left}
 use Rattle.actors.specs.Turns.{AreServers}
 use Rattle.actors.specs.Callers.{PartOf, CallerOf, IsOfScript, IsPartOf, Knows, StandsIn, calls_of, who_of, work_of}
 use Rattle.store_world.specs.Having.{caller_has}

@@ -15,14 +15,14 @@ use Rattle.dir_parts.proofs.Entries.{map-set, slice_get-map}
 use Rattle.stripe_dir.specs.Sealed.{Sealed}
 use Rattle.call_stands.specs.Ready.{shortage_of}
 use Rattle.stripe_dir.specs.Stamped.{HaveContents}
-use Rattle.world_steps.specs.World.{ActorOf, WorldOf, with_client}
-use Rattle.world_steps.specs.Known.{calling_of}
-use Rattle.world_steps.specs.Tokens.{KeepsToken}
-use Rattle.world_steps.proofs.TurnLaws.{clients_make_turns}
-use Rattle.world_steps.specs.Goes.{Leads}
-use Rattle.world_steps.proofs.Few.{worlds_make_few_steps}
-use Rattle.world_traces.specs.TurnMade.{turn_made}
-use Rattle.world_traces.proofs.Turns.{clients_tell}
+use Rattle.world_laws.specs.World.{ActorOf, WorldOf, with_client}
+use Rattle.world_laws.specs.Known.{calling_of}
+use Rattle.world_laws.specs.Tokens.{KeepsToken}
+use Rattle.world_laws.proofs.TurnLaws.{clients_make_turns}
+use Rattle.world_laws.specs.Goes.{Leads}
+use Rattle.world_laws.proofs.Few.{worlds_make_few_steps}
+use Rattle.world_laws.specs.TurnMade.{turn_made}
+use Rattle.world_laws.proofs.TraceTurns.{clients_tell}
 use Rattle.call_steps.specs.declared.step.Step.{Step}
 use Rattle.actors.specs.Turns.{AreServers, places_of}
 use Rattle.actors.specs.Turned.{MakesTurn, Leads as ActorLeads, with_places}

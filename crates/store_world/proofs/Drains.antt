@@ -3,10 +3,10 @@ use Rattle.std.proofs.Common.{◌≡◌, ℕ, ◌+◌, ◌-◌, ◌^◌, ◌<◌
 use Rattle.store_map.specs.declared.actor.Token.TheVariants as token
 use Rattle.store_map.specs.declared.script.Script.{Script}
 use Rattle.store_core.specs.Schedule.{is_unfinished, round}
-use Rattle.world_steps.specs.Known.{core_of}
-use Rattle.world_steps.specs.Goes.{Leads, GoesBy}
-use Rattle.world_steps.specs.Drains.{GoesByRounds}
-use Rattle.world_steps.proofs.Drains.{drains_of_valid_scripts_go}
+use Rattle.world_laws.specs.Known.{core_of}
+use Rattle.world_laws.specs.Goes.{Leads, GoesBy}
+use Rattle.world_laws.specs.Drains.{GoesByRounds}
+use Rattle.world_laws.proofs.Drains.{drains_of_valid_scripts_go}
 use Rattle.store_world.specs.Stored.{StoredWorld, world_of}
 use Rattle.store_world.specs.Kept.{IsWorld}
 

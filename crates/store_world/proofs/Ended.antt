@@ -8,11 +8,11 @@ use Rattle.store_map.specs.Limits.{size_of}
 use Rattle.store_core.specs.History.{call_of}
 use Rattle.store_core.specs.Work.{Ended, Calling}
 use Rattle.call_steps.specs.CallerCalls.{ended_of, calling_at, counts_of, HaveNames}
-use Rattle.world_steps.specs.Served.{ServedAre}
-use Rattle.world_steps.specs.HeldCore.{Holds}
+use Rattle.world_laws.specs.Served.{ServedAre}
+use Rattle.world_laws.specs.HeldCore.{Holds}
 use Rattle.call_steps.specs.declared.caller_calls.CallerCalls.{CallerCalls}
-use Rattle.world_steps.specs.World.{DoingOf}
-use Rattle.world_steps.specs.Known.{calling_by, calling_of, core_of}
+use Rattle.world_laws.specs.World.{DoingOf}
+use Rattle.world_laws.specs.Known.{calling_by, calling_of, core_of}
 use Rattle.actors.specs.Callers.{CallerOf}
 use Rattle.world_owes.specs.ServeLaws.{HasCalls}
 use Rattle.world_owes.proofs.Serving.{served_is_owed}

@@ -9,13 +9,13 @@ use Rattle.store_core.specs.Core.{Core}
 use Rattle.store_core.specs.NextAct.{job_of, rebuild_job}
 use Rattle.store_core.specs.Schedule.{run_core}
 use Rattle.store_core.specs.Work.{Ended, client_work, repairer_work}
-use Rattle.store_runs.proofs.Runs.{CanRun}
-use Rattle.store_runs.proofs.Scripts.{can_run}
-use Rattle.store_history.proofs.Induction.{run_has}
-use Rattle.store_history.proofs.NamedCalls.{AllCalls, calls_kept, first_calls}
-use Rattle.world_steps.specs.StandsFor.{StandsFor}
-use Rattle.world_steps.proofs.Actors.{Found, found}
-use Rattle.world_steps.proofs.Runs.{runs_reach}
+use Rattle.run_laws.proofs.Runs.{CanRun}
+use Rattle.run_laws.proofs.Scripts.{can_run}
+use Rattle.history_laws.proofs.Induction.{run_has}
+use Rattle.history_laws.proofs.NamedCalls.{AllCalls, calls_kept, first_calls}
+use Rattle.world_laws.specs.StandsFor.{StandsFor}
+use Rattle.world_laws.proofs.Actors.{Found, found}
+use Rattle.world_laws.proofs.Runs.{runs_reach}
 use Rattle.actors.specs.Callers.{PartOf, CallerOf, StandsIn, work_of}
 use Rattle.store_world.specs.Stored.{StoredWorld, world_of}
 use Rattle.store_world.specs.Kept.{IsWorld}

@@ -20,12 +20,12 @@ use Rattle.chunk_server.specs.Core.{core_of}
 use Rattle.stripe_dir.specs.Sealed.{Sealed}
 use Rattle.stripe_dir.specs.Seats.{client_seat, repairer_seat}
 use Rattle.sweeper.specs.Sweeps.{SweeperOf, new_sweeper}
-use Rattle.world_steps.specs.World.{ActorOf}
-use Rattle.world_steps.specs.FirstWorld.{IsFirstWorld, IsNew, new_actor}
-use Rattle.world_steps.specs.Tokens.{TokensAgree, first_token}
-use Rattle.world_steps.proofs.Agreed.{first_tokens_agree}
-use Rattle.world_steps.specs.Goes.{IsReachedBy}
-use Rattle.world_steps.proofs.Goes.{worlds_go_on}
+use Rattle.world_laws.specs.World.{ActorOf}
+use Rattle.world_laws.specs.FirstWorld.{IsFirstWorld, IsNew, new_actor}
+use Rattle.world_laws.specs.Tokens.{TokensAgree, first_token}
+use Rattle.world_laws.proofs.Agreed.{first_tokens_agree}
+use Rattle.world_laws.specs.Goes.{IsReachedBy}
+use Rattle.world_laws.proofs.Goes.{worlds_go_on}
 use Rattle.actors.specs.Turns.{AreServers}
 use Rattle.actors.specs.Callers.{PartOf, CallerOf, Knows, StandsIn, first_caller}
 use Rattle.world_owes.specs.Serving.{ServesItsPins}

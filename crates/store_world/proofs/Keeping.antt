@@ -7,10 +7,10 @@ use Rattle.version_seal.specs.Entry.{BookOf, StampOf}
 use Rattle.chunk_server.specs.State.{ServerState}
 use Rattle.stripe_dir.specs.Sealed.{Sealed}
 use Rattle.sweeper.specs.Sweeps.{SweeperOf}
-use Rattle.world_steps.specs.World.{WorldOf}
-use Rattle.world_steps.specs.Tokens.{TokensAgree}
-use Rattle.world_steps.specs.Goes.{Leads}
-use Rattle.world_steps.proofs.Goes.{worlds_go_on}
+use Rattle.world_laws.specs.World.{WorldOf}
+use Rattle.world_laws.specs.Tokens.{TokensAgree}
+use Rattle.world_laws.specs.Goes.{Leads}
+use Rattle.world_laws.proofs.Goes.{worlds_go_on}
 use Rattle.actors.specs.Turns.{AreServers}
 use Rattle.actors.specs.Callers.{CallerOf}
 use Rattle.world_owes.specs.ServeLaws.{HasMorePoints}

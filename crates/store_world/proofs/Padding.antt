@@ -4,13 +4,13 @@ use Rattle.store_map.specs.declared.script.Script.{Script}
 use Rattle.store_core.specs.History.{call_of}
 use Rattle.store_core.specs.Schedule.{run_core}
 use Rattle.store_core.specs.Sound.{IsSound}
-use Rattle.store_contents.specs.Contents.{HasBytes}
-use Rattle.store_reads.specs.RunContents.{RunsStandForTheMap}
-use Rattle.store_reads.proofs.RunBytes.{all_runs_stand_for_the_map}
+use Rattle.content_laws.specs.Contents.{HasBytes}
+use Rattle.content_laws.specs.RunContents.{RunsStandForTheMap}
+use Rattle.content_laws.proofs.RunBytes.{all_runs_stand_for_the_map}
 use Rattle.stripe_dir.specs.Stamped.{HaveContents, HasStamps}
 use Rattle.client_patch.specs.Padded.{ArePadded, BytesOfTheMapArePadded}
-use Rattle.world_steps.specs.StandsFor.{StandsFor}
-use Rattle.world_steps.proofs.Runs.{runs_reach}
+use Rattle.world_laws.specs.StandsFor.{StandsFor}
+use Rattle.world_laws.proofs.Runs.{runs_reach}
 use Rattle.store_world.specs.Stored.{StoredWorld, world_of}
 use Rattle.store_world.specs.Kept.{IsWorld}
 

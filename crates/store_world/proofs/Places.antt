@@ -19,7 +19,7 @@ use Rattle.store_core.specs.Told.{Told}
 use Rattle.chunk_server.specs.State.{ServerState}
 use Rattle.chunk_server.specs.Core.{core_of}
 use Rattle.dir_parts.proofs.Entries.{map-set, slice_get-map}
-use Rattle.store_in_time.specs.Trace.{act_made}
+use Rattle.transcript_laws.specs.Trace.{act_made}
 use Rattle.call_steps.specs.declared.act.Act.{Act as ActTold}
 use Rattle.call_steps.specs.declared.answer.DirectoryAnswer.{DirectoryAnswer}
 use Rattle.call_steps.specs.declared.answer.ServerAnswer.{ServerAnswer}
@@ -29,19 +29,19 @@ use Rattle.call_steps.specs.Answers.{directory_answer, server_told}
 use Rattle.call_steps.specs.declared.step.StepAnswer.TheVariants as answer
 use Rattle.stripe_dir.specs.Sealed.{Sealed}
 use Rattle.sweeper.specs.Sweeps.{SweeperOf, act_of, need_at, need_of, stepped_at_directory, stepped_at_server, told_at_directory, told_at_server}
-use Rattle.world_steps.specs.World.{WorldOf, with_directory, with_server, with_sweeper}
-use Rattle.world_steps.specs.Leads.{LeadsWorld}
-use Rattle.world_steps.specs.StandsFor.{StandsFor}
-use Rattle.world_steps.specs.Tokens.{TokensAgree}
-use Rattle.world_steps.specs.PlaceLaws.{ActsAtServer, Reaps}
-use Rattle.world_steps.specs.WayLaws.{IsPlace}
-use Rattle.world_steps.proofs.Agreed.{worlds_stay_agreed}
-use Rattle.world_steps.proofs.PlaceLaws.{sweeper_makes_turns}
-use Rattle.world_steps.proofs.Runs.{runs_reach}
-use Rattle.world_steps.specs.Goes.{Leads}
-use Rattle.world_traces.specs.Telling.{TellsOf}
-use Rattle.world_traces.specs.TurnMade.{places_of}
-use Rattle.world_traces.proofs.Places.{sweeper_tells}
+use Rattle.world_laws.specs.World.{WorldOf, with_directory, with_server, with_sweeper}
+use Rattle.world_laws.specs.Leads.{LeadsWorld}
+use Rattle.world_laws.specs.StandsFor.{StandsFor}
+use Rattle.world_laws.specs.Tokens.{TokensAgree}
+use Rattle.world_laws.specs.PlaceLaws.{ActsAtServer, Reaps}
+use Rattle.world_laws.specs.WayLaws.{IsPlace}
+use Rattle.world_laws.proofs.Agreed.{worlds_stay_agreed}
+use Rattle.world_laws.proofs.PlaceLaws.{sweeper_makes_turns}
+use Rattle.world_laws.proofs.Runs.{runs_reach}
+use Rattle.world_laws.specs.Goes.{Leads}
+use Rattle.world_laws.specs.Telling.{TellsOf}
+use Rattle.world_laws.specs.TurnMade.{places_of}
+use Rattle.world_laws.proofs.Places.{sweeper_tells}
 use Rattle.world_owes.specs.ServeLaws.{HasMorePoints}
 use Rattle.world_owes.proofs.Grow.{histories_grow}
 use Rattle.store_world.specs.Stored.{StoredWorld, world_of}

@@ -6,12 +6,12 @@ use Rattle.store_map.specs.declared.actor.Token.{Token}
 use Rattle.store_map.specs.declared.script.Script.{Script}
 use Rattle.store_map.specs.declared.transcript.Transcript.{Transcript}
 use Rattle.store_core.specs.Shown.{shown}
-use Rattle.store_answers.specs.Played.{IsPlayed}
-use Rattle.store_answers.proofs.Plays.{runs_are_played}
-use Rattle.world_steps.specs.World.{WorldOf}
-use Rattle.world_steps.specs.Known.{core_of}
-use Rattle.world_steps.proofs.Shows.{worlds_show}
-use Rattle.world_steps.specs.Goes.{IsReachedBy, GoesBy, IsReachedAfter}
+use Rattle.transcript_laws.specs.Played.{IsPlayed}
+use Rattle.transcript_laws.proofs.Plays.{runs_are_played}
+use Rattle.world_laws.specs.World.{WorldOf}
+use Rattle.world_laws.specs.Known.{core_of}
+use Rattle.world_laws.proofs.Shows.{worlds_show}
+use Rattle.world_laws.specs.Goes.{IsReachedBy, GoesBy, IsReachedAfter}
 
 module _ (script : Script) where
   -- one token more

@@ -13,14 +13,14 @@ use Rattle.chunk_server.specs.Core.{core_of}
 use Rattle.dir_parts.proofs.Entries.{map-set, slice_get-map}
 use Rattle.stripe_dir.specs.Sealed.{Sealed}
 use Rattle.call_stands.specs.Ready.{shortage_of}
-use Rattle.world_steps.specs.World.{ActorOf, WorldOf, with_repairer}
-use Rattle.world_steps.specs.Known.{calling_of}
-use Rattle.world_steps.specs.Tokens.{KeepsToken}
-use Rattle.world_steps.proofs.TurnLaws.{repairers_make_turns}
-use Rattle.world_steps.specs.Goes.{Leads}
-use Rattle.world_steps.proofs.Few.{worlds_make_few_steps}
-use Rattle.world_traces.specs.TurnMade.{turn_made}
-use Rattle.world_traces.proofs.Turns.{repairers_tell}
+use Rattle.world_laws.specs.World.{ActorOf, WorldOf, with_repairer}
+use Rattle.world_laws.specs.Known.{calling_of}
+use Rattle.world_laws.specs.Tokens.{KeepsToken}
+use Rattle.world_laws.proofs.TurnLaws.{repairers_make_turns}
+use Rattle.world_laws.specs.Goes.{Leads}
+use Rattle.world_laws.proofs.Few.{worlds_make_few_steps}
+use Rattle.world_laws.specs.TurnMade.{turn_made}
+use Rattle.world_laws.proofs.TraceTurns.{repairers_tell}
 use Rattle.call_steps.specs.declared.step.Step.{Step}
 use Rattle.actors.specs.Turns.{AreServers, places_of}
 use Rattle.actors.specs.Turned.{MakesTurn, Leads as ActorLeads, with_places}

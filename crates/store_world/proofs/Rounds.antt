@@ -9,11 +9,11 @@ use Rattle.store_core.specs.Run.{client_step, repairer_step, sweeper_step}
 use Rattle.store_core.specs.Schedule.{is_unfinished, round}
 use Rattle.store_core.specs.Work.{client_work, repairer_work, has_step, any_has_step}
 use Rattle.version_seal.specs.Entry.{BookOf}
-use Rattle.world_steps.specs.World.{WorldOf}
-use Rattle.world_steps.specs.Known.{calling_of, core_of}
-use Rattle.world_steps.specs.RoundLaws.{client_turns, repairer_turns, sweep_turn}
-use Rattle.world_steps.proofs.Rounds.{rounds_are_rounds}
-use Rattle.world_steps.specs.Goes.{Leads}
+use Rattle.world_laws.specs.World.{WorldOf}
+use Rattle.world_laws.specs.Known.{calling_of, core_of}
+use Rattle.world_laws.specs.RoundLaws.{client_turns, repairer_turns, sweep_turn}
+use Rattle.world_laws.proofs.Rounds.{rounds_are_rounds}
+use Rattle.world_laws.specs.Goes.{Leads}
 use Rattle.actors.specs.Callers.{PartOf, CallerOf, StandsIn, work_of}
 use Rattle.store_world.specs.Stored.{StoredWorld, world_of}
 use Rattle.store_world.specs.Kept.{IsWorld, IsClientAt, IsRepairerAt}

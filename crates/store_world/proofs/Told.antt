@@ -14,7 +14,7 @@ use Rattle.store_core.specs.Server.{Server, at_server}
 use Rattle.store_core.specs.Step.{Shortage, Places, at_places, at_server_there}
 use Rattle.store_core.specs.Told.{Told}
 use Rattle.store_core.specs.Work.{Work}
-use Rattle.store_in_time.specs.Trace.{Made, act_made}
+use Rattle.transcript_laws.specs.Trace.{Made, act_made}
 use Rattle.call_steps.specs.declared.act.Act.{Act as ActTold}
 use Rattle.call_steps.specs.declared.answer.DirectoryAnswer.{DirectoryAnswer}
 use Rattle.call_steps.specs.declared.answer.DirectoryAnswer.TheVariants as said
@@ -26,11 +26,11 @@ use Rattle.call_steps.specs.Answers.{directory_answer, server_told}
 use Rattle.sweeper.specs.Sweeps.{need_at, told_at_directory_by, told_at_server_by}
 use Rattle.call_steps.specs.declared.step.StepAnswer.TheVariants as answer
 use Rattle.call_steps.specs.declared.step.Step.{Step}
-use Rattle.world_traces.specs.StepsTold.{IsStep}
-use Rattle.world_steps.specs.World.{ActorOf}
-use Rattle.world_steps.specs.Goes.{Leads}
-use Rattle.world_traces.specs.Telling.{TellsOf}
-use Rattle.world_traces.specs.TurnMade.{turn_made}
+use Rattle.world_laws.specs.StepsTold.{IsStep}
+use Rattle.world_laws.specs.World.{ActorOf}
+use Rattle.world_laws.specs.Goes.{Leads}
+use Rattle.world_laws.specs.Telling.{TellsOf}
+use Rattle.world_laws.specs.TurnMade.{turn_made}
 use Rattle.actors.specs.Turned.{MakesTurn}
 use Rattle.store_world.specs.Stored.{StoredWorld, world_of}
 use Rattle.store_world.specs.Telling.{LeadsTold, act_told, server_act_told, reap_told}

@@ -4,7 +4,7 @@ use Rattle.std.specs.List.{slice_get}
 use Rattle.clay_grid.specs.Shape.{chunk_count}
 use Rattle.call_steps.specs.CallerCalls.{calling_at}
 use Rattle.call_steps.specs.declared.caller_calls.CallerCalls.{CallerCalls}
-use Rattle.world_steps.specs.Known.{calling_by}
+use Rattle.world_laws.specs.Known.{calling_by}
 use Rattle.actors.specs.Callers.{CallerOf}
 use Rattle.actors.specs.Inside.{served_of}
 

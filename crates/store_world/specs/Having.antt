@@ -3,7 +3,7 @@ use Rattle.std.specs.Prelude.{◌≡◌, ℕ, Bool, List, Some}
 use Rattle.std.specs.List.{slice_get, list_any}
 use Rattle.store_map.specs.declared.script.Script.{Script}
 use Rattle.store_core.specs.Work.{has_step}
-use Rattle.world_steps.specs.Known.{calling_of}
+use Rattle.world_laws.specs.Known.{calling_of}
 use Rattle.actors.specs.Callers.{CallerOf, work_of}
 
 -- a caller has one, and one of some callers

@@ -9,8 +9,8 @@ use Rattle.store_map.specs.declared.script.RepairPart.{RepairPart}
 use Rattle.store_map.specs.declared.script.Script.{Script}
 use Rattle.version_seal.specs.Entry.{BookOf}
 use Rattle.stripe_dir.specs.Sealed.{Sealed}
-use Rattle.world_steps.specs.Tokens.{TokensAgree}
-use Rattle.world_steps.specs.Goes.{IsReached}
+use Rattle.world_laws.specs.Tokens.{TokensAgree}
+use Rattle.world_laws.specs.Goes.{IsReached}
 use Rattle.actors.specs.Turns.{AreServers}
 use Rattle.actors.specs.Callers.{PartOf, CallerOf, StandsIn, Knows}
 use Rattle.world_owes.specs.Serving.{ServesItsPins}

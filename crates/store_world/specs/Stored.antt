@@ -7,8 +7,8 @@ use Rattle.chunk_server.specs.Core.{core_of}
 use Rattle.stripe_dir.specs.Sealed.{Sealed}
 use Rattle.sweeper.specs.Sweeps.{SweeperOf}
 use Rattle.store_core.specs.Run.{Run}
-use Rattle.world_steps.specs.World.{WorldOf}
-use Rattle.world_steps.specs.Goes.{Leads}
+use Rattle.world_laws.specs.World.{WorldOf}
+use Rattle.world_laws.specs.Goes.{Leads}
 use Rattle.actors.specs.Callers.{CallerOf}
 
 -- its script and the book of it, the directory with its stamps, the servers with their chunks, the actors and the sweeper

@@ -2,7 +2,7 @@
 use Rattle.std.specs.Prelude.{ℕ, List, [], ◌∷◌, Option, None, Some, false}
 use Rattle.store_map.specs.declared.actor.Actor.{Actor}
 use Rattle.store_map.specs.declared.actor.Token.{Token}
-use Rattle.store_in_time.specs.Trace.{Made}
+use Rattle.transcript_laws.specs.Trace.{Made}
 use Rattle.store_map.specs.declared.actor.Actor.TheVariants as actor
 use Rattle.store_map.specs.declared.actor.Point.{Point}
 use Rattle.call_steps.specs.declared.act.Act.{Act}
@@ -14,8 +14,8 @@ use Rattle.call_steps.specs.declared.answer.ServerAnswer.TheVariants as done
 use Rattle.call_steps.specs.declared.step.StepAnswer.{StepAnswer}
 use Rattle.call_steps.specs.declared.step.StepAnswer.TheVariants as answer
 use Rattle.call_steps.specs.declared.step.Step.{Step}
-use Rattle.world_traces.specs.StepsTold.{AreSteps}
-use Rattle.world_traces.specs.Telling.{LeadsTelling}
+use Rattle.world_laws.specs.StepsTold.{AreSteps}
+use Rattle.world_laws.specs.Telling.{LeadsTelling}
 use Rattle.store_world.specs.Stored.{StoredWorld, world_of}
 
 -- a token leads from the one world to the other, and these are the steps that it makes

@@ -6,7 +6,7 @@ ghost use Rattle.store_map.specs.Naming.{IsValid};
 ghost use Rattle.stripe_dir.specs.Seats.{client_seat, repairer_seat};
 ghost use Rattle.version_seal.specs.Sealer.{sealer_at};
 ghost use Rattle.chunk_server.specs.State.{empty_server};
-ghost use Rattle.world_steps.specs.Goes.{IsReachedBy};
+ghost use Rattle.world_laws.specs.Goes.{IsReachedBy};
 ghost use Rattle.store_world.specs.First.{AreFirstClients, AreFirstRepairers, BeginWith, seats_of, first_directory, first_servers};
 ghost use Rattle.store_world.specs.Stored.{world_of};
 

@@ -3,9 +3,9 @@ ghost use Rattle.std.specs.Prelude.{◌≡◌, ◌∷◌, []};
 ghost use Rattle.store_map.specs.declared.script.Script.{Script};
 ghost use Rattle.store_map.specs.declared.actor.Token.{Token};
 ghost use Rattle.store_core.specs.Schedule.{is_unfinished, round};
-ghost use Rattle.world_steps.specs.Known.{core_of};
-ghost use Rattle.world_steps.specs.RoundLaws.{client_turns, repairer_turns};
-ghost use Rattle.world_steps.specs.Goes.{GoesBy};
+ghost use Rattle.world_laws.specs.Known.{core_of};
+ghost use Rattle.world_laws.specs.RoundLaws.{client_turns, repairer_turns};
+ghost use Rattle.world_laws.specs.Goes.{GoesBy};
 ghost use Rattle.store_world.specs.Having.{some_caller_has, AreOfCode};
 ghost use Rattle.store_world.specs.Stored.{LeadsBy, world_of};
 

@@ -1,7 +1,7 @@
 //! The end of a run: its transcript.
 ghost use Rattle.std.specs.Prelude.{◌≡◌, IfOk};
 ghost use Rattle.store_core.specs.Shown.{shown};
-ghost use Rattle.world_steps.specs.Known.{core_of};
+ghost use Rattle.world_laws.specs.Known.{core_of};
 ghost use Rattle.store_world.specs.Ending.{AreCallsOf};
 ghost use Rattle.store_world.specs.Stored.{world_of};
 

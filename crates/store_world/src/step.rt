@@ -1,7 +1,7 @@
 //! One token's step.
 ghost use Rattle.std.specs.Prelude.{◌≡◌, ◌∷◌, []};
 ghost use Rattle.store_map.specs.Naming.{NamesPart};
-ghost use Rattle.world_steps.specs.Goes.{GoesBy};
+ghost use Rattle.world_laws.specs.Goes.{GoesBy};
 ghost use Rattle.store_world.specs.Stored.{world_of};
 
 use crate::world::World;

@@ -3,7 +3,7 @@ ghost use Rattle.std.specs.Prelude.{◌≡◌, [], ◌∷◌};
 ghost use Rattle.store_map.specs.declared.actor.Token.{Token};
 ghost use Rattle.store_core.specs.Core.{sweeper_has_step};
 ghost use Rattle.store_core.specs.Run.{sweeper_step};
-ghost use Rattle.world_steps.specs.Known.{core_of};
+ghost use Rattle.world_laws.specs.Known.{core_of};
 ghost use Rattle.store_world.specs.Stored.{LeadsBy, world_of};
 ghost use Rattle.store_world.specs.Telling.{LeadsTold};
 

@@ -8,8 +8,8 @@ use Rattle.store_core.specs.AtDirectory.{at_directory}
 use Rattle.store_core.specs.Sound.{IsSound}
 use Rattle.store_core.specs.Agreement.{Seat, HeldPass, ActorToken, Agrees}
 use Rattle.store_core.specs.Tokens.{actor_of, after_look, after_pass_step}
-use Rattle.store_sound.specs.AgreementLaws.{GoesOn}
-use Rattle.store_sound.proofs.OwnSteps.{agreement_goes_on}
+use Rattle.run_laws.specs.AgreementLaws.{GoesOn}
+use Rattle.run_laws.proofs.OwnSteps.{agreement_goes_on}
 use Rattle.call_steps.specs.TokenAfter.{token_after, MayMake}
 
 -- by what the step comes to

@@ -16,7 +16,7 @@ use Rattle.store_core.specs.Read.{read_end_by}
 use Rattle.store_core.specs.AtDirectory.{at_directory}
 use Rattle.store_core.specs.Sound.{HasItsVersions, IsSound}
 use Rattle.store_core.specs.SoundPasses.{Stands}
-use Rattle.store_sound.proofs.SoundStripes.{pins_within}
+use Rattle.run_laws.proofs.SoundStripes.{pins_within}
 use Rattle.dir_parts.specs.Parts.{object_or_new}
 use Rattle.dir_parts.specs.Passes.{kind_in}
 use Rattle.dir_parts.specs.declared.passes.Kind.{Kind as PartKind}

@@ -6,7 +6,7 @@ use Rattle.store_map.specs.declared.script.Script.{Script}
 use Rattle.store_core.specs.Content.{contents_by}
 use Rattle.store_core.specs.Directory.{Object, Pass}
 use Rattle.store_core.specs.History.{call_of}
-use Rattle.store_sound.proofs.SoundSteps.{steps_keep_sound}
+use Rattle.run_laws.proofs.SoundSteps.{steps_keep_sound}
 use Rattle.dir_parts.specs.Counts.{pins_by, points_due, objects_due}
 use Rattle.version_seal.specs.Entry.{StampOf}
 use Rattle.stripe_dir.specs.ItsStripes.{AreFrom, IsOfItsStripes, IsWhole}

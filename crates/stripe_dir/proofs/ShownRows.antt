@@ -18,7 +18,7 @@ use Rattle.store_core.specs.Placements.{IsRow}
 use Rattle.store_core.specs.AtDirectory.{at_directory}
 use Rattle.store_core.specs.Sound.{IsSound, IsPlaced}
 use Rattle.store_core.specs.SoundPasses.{Stands}
-use Rattle.store_sound.proofs.SoundLists.{at_all}
+use Rattle.run_laws.proofs.SoundLists.{at_all}
 use Rattle.version_seal.specs.Entry.{StampOf}
 use Rattle.dir_parts.specs.Parts.{object_or_new}
 use Rattle.stripe_dir.specs.Answers.{seen_in, told_look, told_repair_look, told_or_short}

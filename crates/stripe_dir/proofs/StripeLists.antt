@@ -14,7 +14,7 @@ use Rattle.store_core.specs.Lookups.{same_actor, find_object}
 use Rattle.store_core.specs.Look.{pin_of, seen_at, remove_object}
 use Rattle.store_core.specs.Commit.{put_object}
 use Rattle.store_core.specs.Sound.{HasItsVersions, IsSound}
-use Rattle.store_sound.proofs.Passes.{found_has}
+use Rattle.run_laws.proofs.Passes.{found_has}
 use Rattle.dir_parts.specs.Parts.{object_or_new}
 use Rattle.stripe_dir.specs.ItsStripes.{IsOfStripe, AreFrom, IsOfItsStripes}
 

@@ -27,14 +27,14 @@ use Rattle.store_core.specs.Lengths.{length_in, apply_length}
 use Rattle.store_core.specs.Replay.{lengths_after}
 use Rattle.store_core.specs.SoundPasses.{Stands, HasBase, IsRight, HasVersions}
 use Rattle.store_core.specs.Sound.{HasItsVersions, IsSound, lengths_of}
-use Rattle.store_sound.proofs.Passes.{found_has}
-use Rattle.store_sound.proofs.SoundHistory.{replied, same_reply, ok_accepted, Last, last_of}
-use Rattle.store_sound.proofs.SoundParts.{RightThere}
-use Rattle.store_sound.proofs.SoundClose.{IsHeld, held_pass, one_pass}
-use Rattle.store_sound.proofs.SoundObjects.{length_found}
-use Rattle.store_sound.proofs.SoundStripes.{pins_within, first_fits}
-use Rattle.store_contents.proofs.VersionsMove.{Draws, versions_move}
-use Rattle.store_contents.proofs.Grows.{origins}
+use Rattle.run_laws.proofs.Passes.{found_has}
+use Rattle.run_laws.proofs.SoundHistory.{replied, same_reply, ok_accepted, Last, last_of}
+use Rattle.run_laws.proofs.SoundParts.{RightThere}
+use Rattle.run_laws.proofs.SoundClose.{IsHeld, held_pass, one_pass}
+use Rattle.run_laws.proofs.SoundObjects.{length_found}
+use Rattle.run_laws.proofs.SoundStripes.{pins_within, first_fits}
+use Rattle.content_laws.proofs.VersionsMove.{Draws, versions_move}
+use Rattle.content_laws.proofs.Grows.{origins}
 use Rattle.dir_parts.specs.Parts.{object_or_new}
 use Rattle.stripe_dir.specs.ItsStripes.{IsOfStripe, AreFrom, IsOfItsStripes, AreOwn, stripes_in}
 use Rattle.stripe_dir.proofs.StripeLists.{ObjectFits, count_there, removed_fits, put_fits, old_fits, written_fits, pins_fit, begun_fits, closed_fit, reaped_fit, whole_fits}

@@ -3,12 +3,12 @@ use Rattle.std.proofs.Common.{◌≡◌, List, [], ◌∷◌, ◌++◌, sym, ap,
 use Rattle.std.specs.Prelude.{Result, Ok, Err, OnOk}
 use Rattle.store_map.specs.declared.actor.Token.{Token}
 use Rattle.store_map.specs.declared.script.Script.{Script}
-use Rattle.store_in_time.specs.Trace.{Made}
+use Rattle.transcript_laws.specs.Trace.{Made}
 use Rattle.call_steps.specs.declared.step.Step.{Step}
-use Rattle.world_traces.specs.StepsTold.{AreSteps}
-use Rattle.world_traces.specs.Telling.{LeadsTelling}
-use Rattle.world_traces.specs.Traced.{GoesTelling}
-use Rattle.world_traces.proofs.Traces.{traces_go_on}
+use Rattle.world_laws.specs.StepsTold.{AreSteps}
+use Rattle.world_laws.specs.Telling.{LeadsTelling}
+use Rattle.world_laws.specs.Traced.{GoesTelling}
+use Rattle.world_laws.proofs.Traces.{traces_go_on}
 use Rattle.store_world.specs.Stored.{StoredWorld, world_of}
 use Rattle.store_world.specs.Telling.{LeadsTold}
 use Rattle.trace_run.specs.Adds.{Adds}

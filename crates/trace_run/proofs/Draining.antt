@@ -6,12 +6,12 @@ use Rattle.store_map.specs.declared.actor.Token.TheVariants as token
 use Rattle.store_map.specs.declared.script.Script.{Script}
 use Rattle.store_core.specs.Schedule.{is_unfinished}
 use Rattle.call_steps.specs.declared.step.Step.{Step}
-use Rattle.world_steps.specs.World.{WorldOf}
-use Rattle.world_steps.specs.Known.{core_of}
-use Rattle.world_traces.specs.Traced.{GoesTelling, IsTraced}
-use Rattle.world_traces.specs.RoundTells.{RoundTells}
-use Rattle.world_traces.specs.DrainTells.{GoesTellingByRounds}
-use Rattle.world_traces.proofs.Drains.{drains_of_valid_scripts_tell}
+use Rattle.world_laws.specs.World.{WorldOf}
+use Rattle.world_laws.specs.Known.{core_of}
+use Rattle.world_laws.specs.Traced.{GoesTelling, IsTraced}
+use Rattle.world_laws.specs.RoundTells.{RoundTells}
+use Rattle.world_laws.specs.DrainTells.{GoesTellingByRounds}
+use Rattle.world_laws.proofs.TraceDrains.{drains_of_valid_scripts_tell}
 use Rattle.store_world.specs.Stored.{StoredWorld, world_of}
 use Rattle.trace_run.specs.Adds.{Adds}
 use Rattle.trace_run.proofs.Adding.{adds_none, adds_as, adds_on}

@@ -7,19 +7,19 @@ use Rattle.store_map.specs.declared.script.Script.{Script}
 use Rattle.store_map.specs.declared.transcript.Transcript.{Transcript}
 use Rattle.store_core.specs.Shown.{shown, shown_of}
 use Rattle.store_core.specs.Step.{Shortage}
-use Rattle.store_in_time.specs.Trace.{Made}
-use Rattle.store_in_time.specs.Steps.{run_trace}
-use Rattle.store_answers.proofs.Ample.{ample_runs_are_one}
-use Rattle.store_answers.proofs.Plays.{runs_are_faithful, runs_are_played}
-use Rattle.store_answers.proofs.Shows.{runs_show_histories}
+use Rattle.transcript_laws.specs.Trace.{Made}
+use Rattle.transcript_laws.specs.Steps.{run_trace}
+use Rattle.transcript_laws.proofs.Ample.{ample_runs_are_one}
+use Rattle.transcript_laws.proofs.Plays.{runs_are_faithful, runs_are_played}
+use Rattle.transcript_laws.proofs.Shows.{runs_show_histories}
 use Rattle.call_steps.specs.declared.step.Step.{Step}
-use Rattle.world_traces.specs.StepsTold.{AreSteps}
-use Rattle.world_steps.specs.World.{WorldOf}
-use Rattle.world_steps.specs.Known.{core_of}
-use Rattle.world_steps.specs.Goes.{IsReachedBy}
-use Rattle.world_steps.proofs.Shows.{worlds_show}
-use Rattle.world_traces.specs.Traced.{IsTraced, IsTracedAfter, GoesTelling}
-use Rattle.world_traces.proofs.Traces.{traces_go_on}
+use Rattle.world_laws.specs.StepsTold.{AreSteps}
+use Rattle.world_laws.specs.World.{WorldOf}
+use Rattle.world_laws.specs.Known.{core_of}
+use Rattle.world_laws.specs.Goes.{IsReachedBy}
+use Rattle.world_laws.proofs.Shows.{worlds_show}
+use Rattle.world_laws.specs.Traced.{IsTraced, IsTracedAfter, GoesTelling}
+use Rattle.world_laws.proofs.Traces.{traces_go_on}
 use Rattle.trace_run.specs.Adds.{Adds, TracesTo}
 use Rattle.trace_run.specs.Traced.{IsTracedRun}
 use Rattle.trace_run.proofs.Adding.{all_are}

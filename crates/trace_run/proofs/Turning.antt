@@ -3,15 +3,15 @@ use Rattle.std.proofs.Common.{◌≡◌, ℕ, ◌+◌, Bool, true, false, List, 
 use Rattle.store_map.specs.declared.actor.Token.TheVariants as token
 use Rattle.store_map.specs.declared.script.Script.{Script}
 use Rattle.store_core.specs.Core.{sweeper_has_step}
-use Rattle.store_in_time.specs.Trace.{Made}
-use Rattle.store_in_time.specs.Steps.{sweep_token}
+use Rattle.transcript_laws.specs.Trace.{Made}
+use Rattle.transcript_laws.specs.Steps.{sweep_token}
 use Rattle.call_steps.specs.declared.step.Step.{Step}
-use Rattle.world_steps.specs.World.{WorldOf}
-use Rattle.world_steps.specs.Known.{core_of}
-use Rattle.world_traces.specs.Telling.{LeadsTelling}
-use Rattle.world_traces.specs.RoundTells.{client_tokens, repairer_tokens, RoundTells}
-use Rattle.world_traces.proofs.Parts.{tokens_tell_on}
-use Rattle.world_traces.proofs.Rounds.{rounds_tell}
+use Rattle.world_laws.specs.World.{WorldOf}
+use Rattle.world_laws.specs.Known.{core_of}
+use Rattle.world_laws.specs.Telling.{LeadsTelling}
+use Rattle.world_laws.specs.RoundTells.{client_tokens, repairer_tokens, RoundTells}
+use Rattle.world_laws.proofs.TraceParts.{tokens_tell_on}
+use Rattle.world_laws.proofs.TraceRounds.{rounds_tell}
 use Rattle.store_world.specs.Stored.{StoredWorld, world_of}
 use Rattle.store_world.specs.Telling.{LeadsTold}
 use Rattle.trace_run.specs.Adds.{Adds}

@@ -3,11 +3,11 @@ use Rattle.std.specs.Prelude.{◌≡◌, List, ◌++◌}
 use Rattle.store_map.specs.declared.actor.Token.{Token}
 use Rattle.store_map.specs.declared.script.Script.{Script}
 use Rattle.store_core.specs.Step.{Shortage}
-use Rattle.store_in_time.specs.Trace.{Made}
+use Rattle.transcript_laws.specs.Trace.{Made}
 use Rattle.call_steps.specs.declared.step.Step.{Step}
-use Rattle.world_traces.specs.StepsTold.{AreSteps}
-use Rattle.world_steps.specs.World.{WorldOf}
-use Rattle.world_traces.specs.Traced.{IsTracedBy}
+use Rattle.world_laws.specs.StepsTold.{AreSteps}
+use Rattle.world_laws.specs.World.{WorldOf}
+use Rattle.world_laws.specs.Traced.{IsTracedBy}
 
 -- the steps now are those before and more, of which this is true
 pub record Adds (Tells : List Made → Type 0) (steps now : List Step) : Type 0 where

@@ -2,10 +2,10 @@
 use Rattle.std.specs.Prelude.{List}
 use Rattle.store_map.specs.declared.script.Script.{Script}
 use Rattle.store_map.specs.declared.transcript.Transcript.{Transcript}
-use Rattle.store_in_time.specs.Steps.{run_trace}
-use Rattle.store_answers.specs.Played.{IsPlayed}
+use Rattle.transcript_laws.specs.Steps.{run_trace}
+use Rattle.transcript_laws.specs.Played.{IsPlayed}
 use Rattle.call_steps.specs.declared.step.Step.{Step}
-use Rattle.world_traces.specs.StepsTold.{AreSteps}
+use Rattle.world_laws.specs.StepsTold.{AreSteps}
 
 -- the transcript is one that a run of the script shows, and the steps are that run's trace: of the same wants of memory
 pub record IsTracedRun (script : Script) (steps : List Step) (t : Transcript) : Type 0 where

@@ -4,7 +4,7 @@ ghost use Rattle.clay_grid.specs.Limits.{IsGeometry};
 ghost use Rattle.store_map.specs.Naming.{IsValid};
 ghost use Rattle.store_map.specs.declared.actor.Token.{Token};
 ghost use Rattle.store_world.specs.Stored.{world_of};
-ghost use Rattle.world_traces.specs.Traced.{GoesTelling, IsTraced};
+ghost use Rattle.world_laws.specs.Traced.{GoesTelling, IsTraced};
 ghost use Rattle.trace_run.specs.Adds.{Adds};
 
 use crate::rounds::round;

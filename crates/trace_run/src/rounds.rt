@@ -2,8 +2,8 @@
 ghost use Rattle.std.specs.Prelude.{◌≡◌, OnOk};
 ghost use Rattle.store_map.specs.Naming.{IsValid};
 ghost use Rattle.store_world.specs.Stored.{world_of};
-ghost use Rattle.world_traces.specs.Telling.{LeadsTelling};
-ghost use Rattle.world_traces.specs.RoundTells.{client_tokens, repairer_tokens, RoundTells};
+ghost use Rattle.world_laws.specs.Telling.{LeadsTelling};
+ghost use Rattle.world_laws.specs.RoundTells.{client_tokens, repairer_tokens, RoundTells};
 ghost use Rattle.trace_run.specs.Adds.{Adds};
 
 use crate::keep::{keep, keep_turn};

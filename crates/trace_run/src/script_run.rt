@@ -3,7 +3,7 @@ ghost use Rattle.std.specs.Prelude.{◌≡◌, [], Some, IfOk};
 ghost use Rattle.clay_grid.specs.Limits.{IsGeometry};
 ghost use Rattle.store_map.specs.Naming.{IsValid};
 ghost use Rattle.version_seal.specs.Sealer.{sealer_at};
-ghost use Rattle.world_steps.specs.Goes.{IsReachedBy};
+ghost use Rattle.world_laws.specs.Goes.{IsReachedBy};
 ghost use Rattle.store_world.specs.Stored.{world_of};
 ghost use Rattle.trace_run.specs.Adds.{TracesTo};
 ghost use Rattle.trace_run.specs.Traced.{IsTracedRun};

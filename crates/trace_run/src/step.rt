@@ -3,7 +3,7 @@ ghost use Rattle.std.specs.Prelude.{◌≡◌, ◌∷◌, [], OnOk};
 ghost use Rattle.clay_grid.specs.Limits.{IsGeometry};
 ghost use Rattle.store_map.specs.Naming.{IsValid, NamesPart};
 ghost use Rattle.store_world.specs.Stored.{world_of};
-ghost use Rattle.world_traces.specs.Traced.{GoesTelling, IsTraced};
+ghost use Rattle.world_laws.specs.Traced.{GoesTelling, IsTraced};
 ghost use Rattle.trace_run.specs.Adds.{Adds};
 
 use crate::drain::drain;

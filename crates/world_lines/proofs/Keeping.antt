@@ -9,7 +9,7 @@ use Rattle.call_steps.specs.declared.outcome.CallOutcome.{CallOutcome}
 use Rattle.call_steps.specs.declared.outcome.CallOutcome.TheVariants as outcome
 use Rattle.call_steps.specs.declared.caller_calls.EndedCall.{EndedCall}
 use Rattle.call_steps.specs.declared.caller_calls.CallerCalls.{CallerCalls}
-use Rattle.world_steps.specs.Served.{bytes_in, outcome_in, served_in, ended_at}
+use Rattle.world_laws.specs.Served.{bytes_in, outcome_in, served_in, ended_at}
 use Rattle.world_lines.specs.Taken.{KeepsCall}
 
 -- one item of a list is set: another is as it was, and this one is the new one

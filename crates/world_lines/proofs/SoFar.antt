@@ -15,7 +15,7 @@ use Rattle.store_core.specs.Act.{Outcome as CoreOutcome}
 use Rattle.store_core.specs.Calls.{Calls}
 use Rattle.store_core.specs.Directory.{Event, Point}
 use Rattle.store_core.specs.History.{applied, is_answered, is_answer, shown_at, name_of, line_of, history_from}
-use Rattle.store_lengths.specs.MapAfter.{map_by}
+use Rattle.content_laws.specs.MapAfter.{map_by}
 use Rattle.call_steps.specs.declared.outcome.CallOutcome.{CallOutcome}
 use Rattle.call_steps.specs.declared.outcome.CallOutcome.TheVariants as outcome
 use Rattle.call_steps.specs.CallOutcomes.{call_outcome_of}
@@ -23,7 +23,7 @@ use Rattle.call_steps.specs.declared.caller_calls.EndedCall.{EndedCall}
 use Rattle.call_steps.specs.declared.caller_calls.CallerCalls.{CallerCalls}
 use Rattle.call_steps.specs.CallerCalls.{ended_of, calling_at}
 use Rattle.world_lines.specs.Lists.{answered_by}
-use Rattle.world_steps.specs.Served.{bytes_in, ended_at, outcome_in, served_in, outcome_at, bytes_at, bytes_of, is_reply, answered_at, ServedAre}
+use Rattle.world_laws.specs.Served.{bytes_in, ended_at, outcome_in, served_in, outcome_at, bytes_at, bytes_of, is_reply, answered_at, ServedAre}
 use Rattle.world_lines.specs.Taken.{shown_by, KeepsCall}
 
 -- ---- one point more

@@ -13,8 +13,8 @@ use Rattle.chunk_server.specs.Core.{core_of}
 use Rattle.call_steps.specs.declared.caller_calls.CallerCalls.{CallerCalls}
 use Rattle.call_steps.specs.CallerCalls.{calling_at}
 use Rattle.world_lines.specs.Lists.{refused_lines, repair_lines, unanswered_lines, object_lines, all_take_lines, server_lines, answered_by}
-use Rattle.world_steps.specs.Served.{ServedAre}
-use Rattle.world_steps.specs.HeldCore.{Holds}
+use Rattle.world_laws.specs.Served.{ServedAre}
+use Rattle.world_laws.specs.HeldCore.{Holds}
 
 module _ (d : Directory) (servers : List ServerState) (clients : List CallerCalls) (repairers : List CallerCalls) where
   -- each list is the one of the parts

@@ -10,7 +10,7 @@ use Rattle.dir_parts.specs.Events.{event_in}
 use Rattle.dir_parts.specs.declared.history.PointEntry.{PointEntry}
 use Rattle.call_steps.specs.declared.caller_calls.EndedCall.{EndedCall}
 use Rattle.call_steps.specs.declared.caller_calls.CallerCalls.{CallerCalls}
-use Rattle.world_steps.specs.Served.{outcome_in, served_in, ended_at, answered_at, bytes_of}
+use Rattle.world_laws.specs.Served.{outcome_in, served_in, ended_at, answered_at, bytes_of}
 
 -- what a point shows by its event, by whether its call was answered, and by the bytes that it was served
 abbrev pub shown_by : Event → Bool → Option (List ℕ) → Option Shown

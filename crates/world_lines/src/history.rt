@@ -7,7 +7,7 @@ ghost use Rattle.store_core.specs.History.{name_of, line_of, history_from};
 ghost use Rattle.dir_parts.specs.Events.{event_in};
 ghost use Rattle.call_steps.specs.CallerCalls.{callings_at};
 ghost use Rattle.world_lines.specs.Lists.{answered_by};
-ghost use Rattle.world_steps.specs.Served.{ServedAre};
+ghost use Rattle.world_laws.specs.Served.{ServedAre};
 ghost use Rattle.world_lines.specs.Taken.{shown_call, KeepsEachCall, IsPinnedCall};
 
 use crate::served::{is_answered, take_served};

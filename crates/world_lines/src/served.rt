@@ -2,7 +2,7 @@
 ghost use Rattle.std.specs.Prelude.{◌≡◌, ℕ, slice_get, option_map};
 ghost use Rattle.store_core.specs.History.{is_answered};
 ghost use Rattle.call_steps.specs.CallOutcomes.{call_outcome_of};
-ghost use Rattle.world_steps.specs.Served.{bytes_in, served_in, answered_at, outcome_at, bytes_at};
+ghost use Rattle.world_laws.specs.Served.{bytes_in, served_in, answered_at, outcome_at, bytes_at};
 ghost use Rattle.world_lines.specs.Taken.{KeepsCall, KeepsEachCall};
 
 use call_steps::{CallOutcome, CallerCalls, EndedCall};

@@ -6,8 +6,8 @@ ghost use Rattle.store_core.specs.Core.{Core};
 ghost use Rattle.store_core.specs.History.{call_of};
 ghost use Rattle.store_core.specs.Shown.{shown};
 ghost use Rattle.call_steps.specs.CallerCalls.{counts_of, HaveNames};
-ghost use Rattle.world_steps.specs.Served.{ServedAre};
-ghost use Rattle.world_steps.specs.HeldCore.{Holds};
+ghost use Rattle.world_laws.specs.Served.{ServedAre};
+ghost use Rattle.world_laws.specs.HeldCore.{Holds};
 
 use crate::history::history_lines;
 use crate::refused::{refused_lines, repair_lines};

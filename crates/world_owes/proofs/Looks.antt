@@ -20,10 +20,10 @@ use Rattle.store_core.specs.Read.{parts_of}
 use Rattle.store_map.specs.declared.call.Call.{Call}
 use Rattle.store_core.specs.Told.{Told, Seen}
 use Rattle.store_core.specs.Tokens.{actor_of}
-use Rattle.store_lengths.specs.MapAfter.{map_by}
-use Rattle.store_reads.specs.PinLaws.{IsReading}
-use Rattle.store_reads.specs.ReadLaws.{bytes_read}
-use Rattle.store_reads.proofs.OwedBytes.{looks_owe_their_pins}
+use Rattle.content_laws.specs.MapAfter.{map_by}
+use Rattle.content_laws.specs.PinLaws.{IsReading}
+use Rattle.content_laws.specs.ReadLaws.{bytes_read}
+use Rattle.content_laws.proofs.OwedBytes.{looks_owe_their_pins}
 use Rattle.store_resume.specs.State.{State}
 use Rattle.store_resume.specs.StateActs.{act_at}
 use Rattle.stripe_dir.specs.Sealed.{Sealed}

@@ -13,11 +13,11 @@ use Rattle.store_core.specs.Lookups.{same_actor}
 use Rattle.store_core.specs.NextAct.{job_of}
 use Rattle.store_core.specs.Note.{Note}
 use Rattle.store_core.specs.Tokens.{actor_of}
-use Rattle.store_runs.proofs.CallActs.{IsOfClients}
+use Rattle.run_laws.proofs.CallActs.{IsOfClients}
 use Rattle.call_steps.specs.CallOf.{CallOf}
 use Rattle.call_steps.specs.TokenAfter.{IfInCall}
 use Rattle.call_steps.specs.Steps.{HoldsItsPass}
-use Rattle.world_steps.specs.Tokens.{IsUsedBelow}
+use Rattle.world_laws.specs.Tokens.{IsUsedBelow}
 
 may_begin : (d : Directory) (seat : Seat) (number : ℕ) → AgreesWithSeat d seat → seat.unused ≤ number → MayBegin d seat.actor number
 may_begin d seat number agrees unused =

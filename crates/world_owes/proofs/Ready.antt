@@ -17,9 +17,9 @@ use Rattle.call_stands.specs.Ready.{ready}
 use Rattle.store_core.specs.Told.{Told}
 use Rattle.call_machine.specs.Kinds.{Asked, asked_job, Machine, machine_of, IfReads}
 use Rattle.call_machine.specs.Calls.{MachineOf}
-use Rattle.world_steps.specs.World.{DoingOf}
-use Rattle.world_steps.specs.ActorAfter.{IsCallBefore}
-use Rattle.world_steps.specs.Tokens.{IsUsedBelow, token_of, AreNumbered}
+use Rattle.world_laws.specs.World.{DoingOf}
+use Rattle.world_laws.specs.ActorAfter.{IsCallBefore}
+use Rattle.world_laws.specs.Tokens.{IsUsedBelow, token_of, AreNumbered}
 use Rattle.actors.specs.Callers.{PartOf, asked_at, work_of}
 use Rattle.actors.proofs.Begins.{job_at}
 use Rattle.actors.specs.Owing.{owed_now}

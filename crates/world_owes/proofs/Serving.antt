@@ -11,18 +11,18 @@ use Rattle.store_core.specs.History.{call_of}
 use Rattle.store_core.specs.Schedule.{run_core}
 use Rattle.store_core.specs.Sound.{IsSound}
 use Rattle.store_core.specs.Work.{Ended}
-use Rattle.store_runs.proofs.Scripts.{can_run}
-use Rattle.store_runs.proofs.DirectoryInvariants.{StepsKeep, Held, runs_hold}
-use Rattle.store_contents.specs.Contents.{HasBytes}
-use Rattle.store_contents.specs.ContentLaws.{StepsKeepBytes}
-use Rattle.store_contents.proofs.ContentSteps.{steps_keep_bytes}
+use Rattle.run_laws.proofs.Scripts.{can_run}
+use Rattle.run_laws.proofs.DirectoryInvariants.{StepsKeep, Held, runs_hold}
+use Rattle.content_laws.specs.Contents.{HasBytes}
+use Rattle.content_laws.specs.ContentLaws.{StepsKeepBytes}
+use Rattle.content_laws.proofs.ContentSteps.{steps_keep_bytes}
 use Rattle.call_steps.specs.declared.caller_calls.CallerCalls.{CallerCalls}
 use Rattle.call_steps.specs.declared.caller_calls.EndedCall.{EndedCall}
 use Rattle.call_steps.specs.CallerCalls.{ended_of}
-use Rattle.world_steps.specs.Served.{outcome_in, served_in, owed_at}
-use Rattle.world_steps.specs.StandsFor.{StandsFor}
-use Rattle.world_steps.specs.World.{DoingOf}
-use Rattle.world_steps.proofs.Runs.{runs_reach}
+use Rattle.world_laws.specs.Served.{outcome_in, served_in, owed_at}
+use Rattle.world_laws.specs.StandsFor.{StandsFor}
+use Rattle.world_laws.specs.World.{DoingOf}
+use Rattle.world_laws.proofs.Runs.{runs_reach}
 use Rattle.actors.specs.Callers.{CallerOf}
 use Rattle.actors.specs.Inside.{served_of}
 use Rattle.call_owes.specs.Pinned.{pinned_at}

@@ -12,7 +12,7 @@ use Rattle.store_core.specs.NextAct.{Job}
 use Rattle.store_core.specs.Note.{Kind}
 use Rattle.store_core.specs.Told.{Told}
 use Rattle.store_core.specs.Tokens.{actor_of}
-use Rattle.store_lengths.specs.MapAfter.{map_by}
+use Rattle.content_laws.specs.MapAfter.{map_by}
 use Rattle.store_resume.specs.State.{State}
 use Rattle.store_resume.specs.CallLaws.{next_call_from}
 use Rattle.call_steps.specs.CallOf.{CallOf, state_told}

@@ -15,9 +15,9 @@ use Rattle.call_steps.specs.Steps.{need_of}
 use Rattle.call_stands.specs.Ready.{ready}
 use Rattle.call_machine.specs.Kinds.{Machine, machine_of, IfReads}
 use Rattle.call_machine.specs.Calls.{MachineOf}
-use Rattle.world_steps.specs.World.{ActorOf, DoingOf, steps_of}
-use Rattle.world_steps.specs.ActorAfter.{IsCallBefore, actor_after_by}
-use Rattle.world_steps.specs.Tokens.{KeepsToken}
+use Rattle.world_laws.specs.World.{ActorOf, DoingOf, steps_of}
+use Rattle.world_laws.specs.ActorAfter.{IsCallBefore, actor_after_by}
+use Rattle.world_laws.specs.Tokens.{KeepsToken}
 use Rattle.actors.specs.Callers.{PartOf, CallerOf, asked_at, who_of, work_of}
 use Rattle.actors.specs.Owing.{AreServed, left_by, owed_now}
 use Rattle.actors.specs.CallerTurns.{MakesCallerTurn}

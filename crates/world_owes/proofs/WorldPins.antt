@@ -11,16 +11,16 @@ use Rattle.store_core.specs.Directory.{Directory}
 use Rattle.store_core.specs.History.{is_answered}
 use Rattle.store_core.specs.Schedule.{run_core}
 use Rattle.store_core.specs.Work.{Ended, Work, Calling, client_work}
-use Rattle.world_steps.specs.World.{DoingOf, ActorOf}
-use Rattle.world_steps.specs.Known.{calling_by, calling_of}
-use Rattle.world_steps.specs.StandsFor.{AllStand, StandsFor}
-use Rattle.world_steps.proofs.Runs.{runs_reach}
+use Rattle.world_laws.specs.World.{DoingOf, ActorOf}
+use Rattle.world_laws.specs.Known.{calling_by, calling_of}
+use Rattle.world_laws.specs.StandsFor.{AllStand, StandsFor}
+use Rattle.world_laws.proofs.Runs.{runs_reach}
 use Rattle.call_steps.specs.declared.caller_calls.EndedCall.{EndedCall}
 use Rattle.call_steps.specs.declared.caller_calls.CallerCalls.{CallerCalls}
 use Rattle.call_steps.specs.CallerCalls.{ended_of, calling_at}
-use Rattle.world_steps.specs.Served.{outcome_in, outcome_at}
+use Rattle.world_laws.specs.Served.{outcome_in, outcome_at}
 use Rattle.world_owes.specs.WorldPins.{WorldsServeAtPins}
-use Rattle.store_history.proofs.ServedPoints.{runs_serve_at_pins}
+use Rattle.history_laws.proofs.ServedPoints.{runs_serve_at_pins}
 
 -- ---- a call that has ended, by its actor and number
 abbrev ended_in : List Calling → ℕ → ℕ → Option Ended

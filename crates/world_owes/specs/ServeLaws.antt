@@ -20,9 +20,9 @@ use Rattle.stripe_dir.specs.Sealed.{Sealed}
 use Rattle.sweeper.specs.Sweeps.{SweeperOf, stepped_at_directory}
 use Rattle.call_steps.specs.declared.caller_calls.CallerCalls.{CallerCalls}
 use Rattle.call_steps.specs.CallerCalls.{ended_of}
-use Rattle.world_steps.specs.Served.{outcome_at, bytes_at, owed_at}
-use Rattle.world_steps.specs.World.{ActorOf}
-use Rattle.world_steps.specs.Tokens.{KeepsToken}
+use Rattle.world_laws.specs.Served.{outcome_at, bytes_at, owed_at}
+use Rattle.world_laws.specs.World.{ActorOf}
+use Rattle.world_laws.specs.Tokens.{KeepsToken}
 use Rattle.actors.specs.Callers.{PartOf, CallerOf, first_caller}
 use Rattle.actors.specs.CallerTurns.{MakesCallerTurn}
 use Rattle.actors.specs.Inside.{served_of}

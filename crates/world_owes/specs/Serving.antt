@@ -11,8 +11,8 @@ use Rattle.store_core.specs.History.{call_of}
 use Rattle.call_steps.specs.CallOf.{CallOf}
 use Rattle.call_machine.specs.Kinds.{Asked, asked_job, Machine, machine_of, IfReads}
 use Rattle.call_machine.specs.Calls.{MachineOf}
-use Rattle.world_steps.specs.Served.{owed_at}
-use Rattle.world_steps.specs.World.{DoingOf}
+use Rattle.world_laws.specs.Served.{owed_at}
+use Rattle.world_laws.specs.World.{DoingOf}
 use Rattle.actors.specs.Callers.{CallerOf}
 use Rattle.call_owes.specs.Pinned.{pinned_at}
 use Rattle.world_owes.specs.Looked.{HasLooked}

@@ -10,9 +10,9 @@ use Rattle.store_core.specs.History.{call_of}
 use Rattle.chunk_server.specs.State.{ServerState}
 use Rattle.stripe_dir.specs.Sealed.{Sealed}
 use Rattle.stripe_dir.specs.Stamped.{HaveContents}
-use Rattle.world_steps.specs.World.{WorldOf}
-use Rattle.world_steps.specs.Tokens.{KeepsToken}
-use Rattle.world_steps.specs.Goes.{IsReached}
+use Rattle.world_laws.specs.World.{WorldOf}
+use Rattle.world_laws.specs.Tokens.{KeepsToken}
+use Rattle.world_laws.specs.Goes.{IsReached}
 use Rattle.actors.specs.Callers.{PartOf, CallerOf}
 use Rattle.actors.specs.CallerTurns.{MakesCallerTurn}
 use Rattle.world_owes.specs.OfMap.{IsOfMap}

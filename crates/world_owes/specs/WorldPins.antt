@@ -9,13 +9,13 @@ use Rattle.store_core.specs.Act.{Outcome as CoreOutcome}
 use Rattle.store_core.specs.Directory.{Event, Point, Directory}
 use Rattle.store_core.specs.History.{is_answered}
 use Rattle.chunk_server.specs.State.{ServerState}
-use Rattle.world_steps.specs.World.{WorldOf}
-use Rattle.world_steps.specs.Known.{core_of}
-use Rattle.world_steps.specs.Goes.{IsReached}
+use Rattle.world_laws.specs.World.{WorldOf}
+use Rattle.world_laws.specs.Known.{core_of}
+use Rattle.world_laws.specs.Goes.{IsReached}
 use Rattle.call_steps.specs.declared.caller_calls.CallerCalls.{CallerCalls}
 use Rattle.call_steps.specs.declared.caller_calls.CallerCalls.{CallerCalls}
-use Rattle.world_steps.specs.Served.{outcome_at}
-use Rattle.world_steps.specs.HeldCore.{Holds}
+use Rattle.world_laws.specs.Served.{outcome_at}
+use Rattle.world_laws.specs.HeldCore.{Holds}
 
 -- a client's answered call with a pinned point was served at that point
 abbrev pub ListsServeAtPins : List Point → List CallerCalls → Type 0

@@ -1,8 +1,8 @@
 use Rattle.store_map.specs.declared.actor.Actor.TheVariants as actor
 use Rattle.store_core.specs.Run.{client_step, repairer_step}
-use Rattle.world_steps.specs.World.{with_client, with_repairer}
-use Rattle.world_steps.proofs.Agreed.{worlds_stay_agreed}
-use Rattle.world_steps.proofs.TurnLaws.{clients_make_turns, repairers_make_turns}
+use Rattle.world_laws.specs.World.{with_client, with_repairer}
+use Rattle.world_laws.proofs.Agreed.{worlds_stay_agreed}
+use Rattle.world_laws.proofs.TurnLaws.{clients_make_turns, repairers_make_turns}
 use Rattle.actors.proofs.Leading.{turn_leads}
 use Rattle.actors.proofs.laws.turns_lead.Goals as goal
 

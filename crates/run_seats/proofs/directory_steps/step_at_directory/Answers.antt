@@ -5,9 +5,9 @@ use Rattle.actors.specs.Callers.{CallerOf}
 use Rattle.actors.specs.Steps.{MadeAtDirectory}
 use Rattle.actors.proofs.Stepping.{padded_for}
 use Rattle.turn_lock.specs.TurnState.{TurnState}
-use Rattle.run_steps.specs.Noted.{Noted}
-use Rattle.run_steps.specs.Numbers.{Counts}
-use Rattle.run_steps.specs.AtDirectory.{StandsAtDirectory}
+use Rattle.place_laws.specs.Noted.{Noted}
+use Rattle.place_laws.specs.Numbers.{Counts}
+use Rattle.place_laws.specs.AtDirectory.{StandsAtDirectory}
 use Rattle.run_seats.specs.Fixed.{directory_identity, max_in}
 use Rattle.run_seats.specs.Stepped.{entry_at_directory, HasSteppedAtDirectory}
 use Rattle.run_seats.proofs.Fits.{call_is, fits_there, needs_there, work_is}

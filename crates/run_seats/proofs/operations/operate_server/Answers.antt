@@ -3,11 +3,11 @@ use Rattle.store_map.specs.declared.actor.Actor.TheVariants as actor
 use Rattle.store_core.specs.Act.{Act}
 use Rattle.store_core.specs.Server.{Server}
 use Rattle.store_core.specs.Told.{Told}
-use Rattle.store_merge.specs.MadeSteps.{MadeStep}
+use Rattle.thread_laws.specs.MadeSteps.{MadeStep}
 use Rattle.chunk_server.specs.Core.{core_of}
 use Rattle.turn_lock.specs.TurnState.{TurnState}
-use Rattle.run_steps.specs.AtServer.{StandsAtServer}
-use Rattle.run_steps.specs.Numbers.{Counts}
+use Rattle.place_laws.specs.AtServer.{StandsAtServer}
+use Rattle.place_laws.specs.Numbers.{Counts}
 use Rattle.run_seats.specs.Fixed.{server_identity}
 use Rattle.run_seats.specs.Plain.{plain_at_server, line_step}
 use Rattle.run_seats.proofs.Holding.{holding}

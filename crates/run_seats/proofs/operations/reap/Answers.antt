@@ -4,9 +4,9 @@ use Rattle.store_core.specs.Act.{Act, DirectoryStep}
 use Rattle.store_core.specs.Directory.{Directory}
 use Rattle.store_core.specs.Told.{Told}
 use Rattle.turn_lock.specs.TurnState.{TurnState}
-use Rattle.run_steps.specs.AtDirectory.{StandsAtDirectory}
-use Rattle.run_steps.specs.Noted.{Noted}
-use Rattle.run_steps.specs.Numbers.{Counts}
+use Rattle.place_laws.specs.AtDirectory.{StandsAtDirectory}
+use Rattle.place_laws.specs.Noted.{Noted}
+use Rattle.place_laws.specs.Numbers.{Counts}
 use Rattle.run_seats.specs.Fixed.{directory_identity}
 use Rattle.run_seats.specs.Plain.{plain_at_directory}
 use Rattle.run_seats.proofs.Holding.{holding}

@@ -1,12 +1,12 @@
 use Rattle.std.proofs.Common.{◌≡◌, ◌∷◌, ◌++◌, [], ℕ, sym, ap, subst, ◌∙◌}
-use Rattle.store_merge.specs.MadeSteps.{MadeStep}
+use Rattle.thread_laws.specs.MadeSteps.{MadeStep}
 use Rattle.chunk_server.specs.Core.{core_of}
 use Rattle.call_machine.specs.Calls.{MachineOf}
 use Rattle.actors.specs.Callers.{CallerOf}
 use Rattle.actors.specs.Steps.{MadeAtServer}
 use Rattle.turn_lock.specs.TurnState.{TurnState}
-use Rattle.run_steps.specs.Numbers.{Counts}
-use Rattle.run_steps.specs.AtServer.{StandsAtServer}
+use Rattle.place_laws.specs.Numbers.{Counts}
+use Rattle.place_laws.specs.AtServer.{StandsAtServer}
 use Rattle.run_seats.specs.Stepped.{entry_at_server}
 use Rattle.run_seats.specs.Fixed.{server_identity}
 use Rattle.run_seats.proofs.Fits.{call_is, fits, needs_here, work_is}

@@ -1,5 +1,5 @@
 use Rattle.std.proofs.Common.{◌≡◌, filter, take}
-use Rattle.store_merge.specs.Threaded.{is_line}
+use Rattle.thread_laws.specs.Threaded.{is_line}
 use Rattle.store_run.proofs.seating.operator_lines.Given as goal
 
 -- the lines among the tokens so far

@@ -4,8 +4,8 @@ use Rattle.store_map.specs.declared.actor.Token.{Token}
 use Rattle.store_map.specs.declared.actor.Token.TheVariants as token
 use Rattle.store_map.specs.declared.script.Script.{Script}
 use Rattle.store_core.specs.Shown.{shown}
-use Rattle.world_steps.specs.Known.{core_of}
-use Rattle.world_steps.specs.Goes.{IsReachedBy, GoesBy}
+use Rattle.world_laws.specs.Known.{core_of}
+use Rattle.world_laws.specs.Goes.{IsReachedBy, GoesBy}
 use Rattle.store_world.specs.Stored.{world_of}
 use Rattle.store_world.proofs.Playing.{next_reached, is_played}
 use Rattle.store_world.proofs.Results.{on_ok}

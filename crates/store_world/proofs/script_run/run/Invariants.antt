@@ -1,5 +1,5 @@
 use Rattle.std.proofs.Common.{◌≡◌, take}
-use Rattle.world_steps.specs.Goes.{IsReachedBy}
+use Rattle.world_laws.specs.Goes.{IsReachedBy}
 use Rattle.store_world.specs.Stored.{world_of}
 use Rattle.store_world.proofs.script_run.run.Given as goal
 

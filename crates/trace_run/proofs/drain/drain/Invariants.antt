@@ -1,6 +1,6 @@
 use Rattle.std.proofs.Common.{◌≡◌}
 use Rattle.store_world.specs.Stored.{world_of}
-use Rattle.world_traces.specs.DrainTells.{GoesTellingByRounds}
+use Rattle.world_laws.specs.DrainTells.{GoesTellingByRounds}
 use Rattle.trace_run.specs.Adds.{Adds}
 use Rattle.trace_run.proofs.drain.drain.Given as goal
 

@@ -1,7 +1,7 @@
 use Rattle.std.proofs.Common.{◌≡◌}
 use Rattle.store_world.specs.Stored.{world_of}
-use Rattle.world_traces.specs.Telling.{LeadsTelling}
-use Rattle.world_traces.specs.RoundTells.{repairer_tokens}
+use Rattle.world_laws.specs.Telling.{LeadsTelling}
+use Rattle.world_laws.specs.RoundTells.{repairer_tokens}
 use Rattle.trace_run.specs.Adds.{Adds}
 use Rattle.trace_run.proofs.rounds.repairer_turns.Given as goal
 

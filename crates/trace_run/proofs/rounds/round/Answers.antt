@@ -1,6 +1,6 @@
 use Rattle.std.proofs.Common.{◌≡◌, ◌∷◌, ◌++◌, [], sym, ◌∙◌}
 use Rattle.store_world.specs.Stored.{world_of}
-use Rattle.world_traces.specs.RoundTells.{RoundTells}
+use Rattle.world_laws.specs.RoundTells.{RoundTells}
 use Rattle.trace_run.specs.Adds.{Adds}
 use Rattle.trace_run.proofs.Adding.{on_ok}
 use Rattle.trace_run.proofs.Turning.{round_swept, round_unswept}

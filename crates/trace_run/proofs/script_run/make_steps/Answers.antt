@@ -4,7 +4,7 @@ use Rattle.store_map.specs.declared.actor.Token.{Token}
 use Rattle.store_map.specs.declared.actor.Token.TheVariants as token
 use Rattle.store_map.specs.declared.script.Script.{Script}
 use Rattle.call_steps.specs.declared.step.Step.{Step}
-use Rattle.world_traces.specs.Traced.{GoesTelling}
+use Rattle.world_laws.specs.Traced.{GoesTelling}
 use Rattle.store_world.specs.Stored.{world_of}
 use Rattle.trace_run.specs.Adds.{Adds, TracesTo}
 use Rattle.trace_run.proofs.Tracing.{first_traced, traced_more, traced_to}

@@ -1,6 +1,6 @@
 use Rattle.std.proofs.Common.{◌≡◌, take}
 use Rattle.store_world.specs.Stored.{world_of}
-use Rattle.world_traces.specs.Traced.{IsTraced}
+use Rattle.world_laws.specs.Traced.{IsTraced}
 use Rattle.trace_run.specs.Adds.{TracesTo}
 use Rattle.trace_run.proofs.script_run.make_steps.Given as goal
 

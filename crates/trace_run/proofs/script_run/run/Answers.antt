@@ -1,7 +1,7 @@
 use Rattle.std.proofs.Common.{◌≡◌, subst, ◌∙◌}
 use Rattle.store_map.specs.declared.script.Script.{Script}
 use Rattle.store_core.specs.Shown.{shown}
-use Rattle.world_steps.specs.Known.{core_of}
+use Rattle.world_laws.specs.Known.{core_of}
 use Rattle.store_world.specs.Stored.{StoredWorld, world_of}
 use Rattle.trace_run.proofs.Tracing.{run_is_traced}
 use Rattle.trace_run.proofs.script_run.run.Goals as goal

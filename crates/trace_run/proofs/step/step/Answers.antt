@@ -2,7 +2,7 @@ use Rattle.std.proofs.Common.{[], ◌∷◌, sym, subst}
 use Rattle.std.specs.Prelude.{OnOk}
 use Rattle.store_map.specs.declared.actor.Token.{Token}
 use Rattle.store_map.specs.declared.actor.Token.TheVariants as token
-use Rattle.world_traces.specs.Traced.{GoesTelling}
+use Rattle.world_laws.specs.Traced.{GoesTelling}
 use Rattle.store_world.specs.Stored.{world_of}
 use Rattle.store_world.specs.Telling.{steps_in}
 use Rattle.trace_run.specs.Adds.{Adds}

@@ -1,6 +1,6 @@
 use Rattle.std.proofs.Common.{ℕ}
 use Rattle.store_core.specs.Calls.{Calls}
-use Rattle.world_steps.specs.Served.{ServedAre}
+use Rattle.world_laws.specs.Served.{ServedAre}
 use Rattle.world_lines.proofs.SoFar.{SoFar}
 use Rattle.world_lines.proofs.history.history_lines.Given as goal
 

@@ -1,5 +1,5 @@
 use Rattle.world_lines.proofs.SoFar.{unfinished_shown, done_shown}
-use Rattle.world_steps.specs.Served.{bytes_of}
+use Rattle.world_laws.specs.Served.{bytes_of}
 use Rattle.world_lines.proofs.history.shown_done.Goals as goal
 
 pub returns-then-is_answered : goal.returns-then-is_answered

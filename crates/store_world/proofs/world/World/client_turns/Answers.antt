@@ -1,7 +1,7 @@
 use Rattle.std.proofs.Common.{refl, subst, ◌∙◌}
 use Rattle.store_map.specs.declared.script.Script.{Script}
 use Rattle.store_core.specs.Run.{client_step}
-use Rattle.world_steps.specs.Goes.{Leads}
+use Rattle.world_laws.specs.Goes.{Leads}
 use Rattle.store_world.specs.Stored.{world_of}
 use Rattle.store_world.proofs.Rounds.{no_clients, one_client_more}
 use Rattle.store_world.proofs.world.World.client_turns.Goals as goal

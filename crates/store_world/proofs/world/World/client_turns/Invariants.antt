@@ -1,6 +1,6 @@
 use Rattle.std.proofs.Common.{◌≡◌}
-use Rattle.world_steps.specs.RoundLaws.{client_turns}
-use Rattle.world_steps.specs.Goes.{Leads}
+use Rattle.world_laws.specs.RoundLaws.{client_turns}
+use Rattle.world_laws.specs.Goes.{Leads}
 use Rattle.store_world.specs.Stored.{world_of}
 use Rattle.store_world.proofs.world.World.client_turns.Given as goal
 

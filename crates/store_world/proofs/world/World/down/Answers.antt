@@ -5,9 +5,9 @@ use Rattle.store_core.specs.Act.{ServerStep}
 use Rattle.store_core.specs.Schedule.{step_core}
 use Rattle.store_core.specs.Told.{Told}
 use Rattle.chunk_server.specs.State.{ServerState}
-use Rattle.world_steps.proofs.PlaceLaws.{operator_makes_actions}
-use Rattle.world_steps.specs.Goes.{Leads}
-use Rattle.world_traces.proofs.Places.{operator_tells}
+use Rattle.world_laws.proofs.PlaceLaws.{operator_makes_actions}
+use Rattle.world_laws.specs.Goes.{Leads}
+use Rattle.world_laws.proofs.Places.{operator_tells}
 use Rattle.call_steps.specs.declared.step.Step.{Step}
 use Rattle.store_world.specs.Stored.{StoredWorld, world_of}
 use Rattle.store_world.specs.Telling.{LeadsTold}

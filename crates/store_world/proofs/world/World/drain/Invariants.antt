@@ -1,5 +1,5 @@
 use Rattle.std.proofs.Common.{◌≡◌}
-use Rattle.world_steps.specs.Drains.{GoesByRounds}
+use Rattle.world_laws.specs.Drains.{GoesByRounds}
 use Rattle.store_world.specs.Stored.{world_of}
 use Rattle.store_world.proofs.world.World.drain.Given as goal
 

@@ -6,10 +6,10 @@ use Rattle.store_core.specs.Shown.{shown}
 use Rattle.version_seal.specs.Entry.{BookOf}
 use Rattle.chunk_server.specs.State.{ServerState}
 use Rattle.call_steps.specs.CallerCalls.{counts_of, HaveNames}
-use Rattle.world_steps.specs.Served.{ServedAre}
-use Rattle.world_steps.specs.HeldCore.{Holds}
+use Rattle.world_laws.specs.Served.{ServedAre}
+use Rattle.world_laws.specs.HeldCore.{Holds}
 use Rattle.call_steps.specs.declared.caller_calls.CallerCalls.{CallerCalls}
-use Rattle.world_steps.specs.Known.{core_of}
+use Rattle.world_laws.specs.Known.{core_of}
 use Rattle.store_world.specs.Stored.{StoredWorld, world_of}
 use Rattle.store_world.specs.Inside.{stored_in}
 use Rattle.store_world.proofs.Ended.{are_held, are_served, clients_have_names, repairers_have_names}

@@ -1,7 +1,7 @@
 use Rattle.std.proofs.Common.{◌≡◌, true, List, subst}
 use Rattle.store_core.specs.Core.{sweeper_has_step}
 use Rattle.store_core.specs.Schedule.{is_unfinished}
-use Rattle.world_steps.specs.Known.{core_of}
+use Rattle.world_laws.specs.Known.{core_of}
 use Rattle.actors.specs.Callers.{CallerOf}
 use Rattle.store_world.specs.Stored.{StoredWorld, world_of}
 use Rattle.store_world.specs.Inside.{stored_in}

@@ -2,9 +2,9 @@ use Rattle.std.proofs.Common.{[], ◌∷◌, refl, sym, subst}
 use Rattle.store_map.specs.declared.actor.Actor.TheVariants as actor
 use Rattle.store_map.specs.declared.actor.Token.TheVariants as token
 use Rattle.store_core.specs.Schedule.{step_core}
-use Rattle.world_steps.proofs.PlaceLaws.{operator_makes_actions}
-use Rattle.world_steps.specs.Goes.{Leads}
-use Rattle.world_traces.proofs.Places.{operator_tells}
+use Rattle.world_laws.proofs.PlaceLaws.{operator_makes_actions}
+use Rattle.world_laws.specs.Goes.{Leads}
+use Rattle.world_laws.proofs.Places.{operator_tells}
 use Rattle.call_steps.specs.declared.step.Step.{Step}
 use Rattle.store_world.specs.Stored.{StoredWorld, world_of}
 use Rattle.store_world.specs.Telling.{LeadsTold}

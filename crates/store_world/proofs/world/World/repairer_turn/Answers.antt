@@ -1,7 +1,7 @@
 use Rattle.std.proofs.Common.{◌≡◌, [], ◌∷◌, set, slice_get, Some, subst}
 use Rattle.store_map.specs.declared.actor.Token.TheVariants as token
 use Rattle.store_core.specs.Run.{repairer_step}
-use Rattle.world_steps.specs.Goes.{Leads}
+use Rattle.world_laws.specs.Goes.{Leads}
 use Rattle.store_world.specs.Stored.{StoredWorld, world_of}
 use Rattle.store_world.specs.Telling.{LeadsTold}
 use Rattle.store_world.specs.Inside.{stored_in}

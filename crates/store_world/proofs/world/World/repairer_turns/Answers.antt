@@ -1,7 +1,7 @@
 use Rattle.std.proofs.Common.{refl, subst, ◌∙◌}
 use Rattle.store_map.specs.declared.script.Script.{Script}
 use Rattle.store_core.specs.Run.{repairer_step}
-use Rattle.world_steps.specs.Goes.{Leads}
+use Rattle.world_laws.specs.Goes.{Leads}
 use Rattle.store_world.specs.Stored.{world_of}
 use Rattle.store_world.proofs.Rounds.{no_repairers, one_repairer_more}
 use Rattle.store_world.proofs.world.World.repairer_turns.Goals as goal

@@ -2,9 +2,9 @@ use Rattle.std.proofs.Common.{false, true, ◌≡◌, length, ap, sym, subst, �
 use Rattle.store_map.specs.declared.script.Script.{Script}
 use Rattle.store_core.specs.Core.{sweeper_has_step}
 use Rattle.store_core.specs.Run.{sweeper_step}
-use Rattle.world_steps.specs.Known.{core_of}
-use Rattle.world_steps.specs.RoundLaws.{repairer_turns}
-use Rattle.world_steps.specs.Goes.{Leads}
+use Rattle.world_laws.specs.Known.{core_of}
+use Rattle.world_laws.specs.RoundLaws.{repairer_turns}
+use Rattle.world_laws.specs.Goes.{Leads}
 use Rattle.store_world.specs.Stored.{StoredWorld, world_of}
 use Rattle.store_world.proofs.Rounds.{whole_round, sweep_made, no_sweep}
 use Rattle.store_world.proofs.world.World.round.Goals as goal

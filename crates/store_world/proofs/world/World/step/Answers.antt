@@ -1,8 +1,8 @@
 use Rattle.std.proofs.Common.{[], ◌∷◌, sym, subst}
 use Rattle.store_map.specs.declared.actor.Token.{Token}
 use Rattle.store_map.specs.declared.actor.Token.TheVariants as token
-use Rattle.world_steps.specs.Goes.{GoesBy}
-use Rattle.world_steps.proofs.Goes.{worlds_go_on}
+use Rattle.world_laws.specs.Goes.{GoesBy}
+use Rattle.world_laws.proofs.Goes.{worlds_go_on}
 use Rattle.store_world.specs.Stored.{world_of}
 use Rattle.store_world.proofs.world.World.step.Goals as goal
 

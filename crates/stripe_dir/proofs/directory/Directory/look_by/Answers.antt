@@ -10,7 +10,7 @@ use Rattle.stripe_dir.specs.Begun.{begins_pass}
 use Rattle.store_core.specs.Lookups.{find_object}
 use Rattle.store_core.specs.Looks.{look, accept}
 use Rattle.stripe_dir.specs.ItsStripes.{IsWhole}
-use Rattle.store_sound.proofs.OwnSteps.{steps_may_be_made}
+use Rattle.run_laws.proofs.OwnSteps.{steps_may_be_made}
 use Rattle.dir_parts.specs.Events.{reply_in}
 use Rattle.dir_parts.specs.Passes.{kind_in}
 use Rattle.dir_parts.specs.Parts.{object_or_new}

@@ -9,7 +9,7 @@ use Rattle.store_core.specs.Looks.{look_repair}
 use Rattle.store_core.specs.Agreement.{Seat}
 use Rattle.stripe_dir.specs.ItsStripes.{IsWhole}
 use Rattle.store_core.specs.SoundPasses.{Stands}
-use Rattle.store_sound.proofs.OwnSteps.{steps_may_be_made}
+use Rattle.run_laws.proofs.OwnSteps.{steps_may_be_made}
 use Rattle.dir_parts.specs.Parts.{object_or_new}
 use Rattle.stripe_dir.specs.Begun.{begun_in}
 use Rattle.stripe_dir.specs.Kept.{directory_in}

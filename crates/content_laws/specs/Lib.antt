@@ -1,0 +1,10 @@
+pub mod MapAfter
+pub mod LengthLaws
+pub mod ReplayLaws
+pub mod Contents
+pub mod ContentLaws
+pub mod StripeLaws
+pub mod MoreCalls
+pub mod ReadLaws
+pub mod PinLaws
+pub mod RunContents

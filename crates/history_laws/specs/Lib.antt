@@ -1,0 +1,13 @@
+pub mod HistoryLaws
+pub mod HasPoints
+pub mod ServedPoints
+pub mod TakesOfCalls
+pub mod LeastTakes
+pub mod TakesLaws
+pub mod StandsFor
+pub mod CommitDrops
+pub mod DropLaws
+pub mod RaceLaws
+pub mod KeptChunks
+pub mod FoundMissing
+pub mod OwnResults

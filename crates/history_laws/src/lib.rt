@@ -1,0 +1,7 @@
+//! What runs show of replies, order, takes, races and losses. No code.
+#![tactic(auto)]
+
+pub mod history;
+pub mod losses;
+pub mod races;
+pub mod takes;

@@ -1,0 +1,23 @@
+//! The laws, as functions that do nothing.
+ghost use Rattle.place_laws.specs.AtServer.{ServersStandOn, NumbersAreActors};
+ghost use Rattle.place_laws.specs.AtDirectory.{DirectoriesStandOn, NumbersAreActorsThere};
+
+/// A server after a step stands for its history with the step.
+pub fn servers_stand_on()
+    ensures { ServersStandOn }
+{}
+
+/// In a server's history the steps of an actor are the entries of its number.
+pub fn numbers_are_actors()
+    ensures { NumbersAreActors }
+{}
+
+/// The directory after a step stands for its history with the step.
+pub fn directories_stand_on()
+    ensures { DirectoriesStandOn }
+{}
+
+/// In the directory's history the steps of an actor are the entries of its number.
+pub fn numbers_are_actors_there()
+    ensures { NumbersAreActorsThere }
+{}

@@ -1,4 +1,0 @@
-pub mod Served
-pub mod Stepping
-pub mod SeenOwed
-pub mod Shown

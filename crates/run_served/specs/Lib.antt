@@ -1,4 +1,0 @@
-pub mod ServedLaws
-pub mod StepOwes
-pub mod SeenOwed
-pub mod ShowLaws

@@ -1,9 +1,0 @@
-pub mod Numbers
-pub mod Entries
-pub mod AtServer
-pub mod SomeStep
-pub mod Noted
-pub mod AtDirectory
-pub mod CallEntries
-pub mod HasMade
-pub mod Looks

@@ -1,9 +1,0 @@
-pub mod Seats
-pub mod Readers
-pub mod Between
-pub mod Reading
-pub mod Snapshots
-pub mod Serving
-pub mod Runs
-pub mod Answering
-pub mod AnsweredRuns

@@ -1,5 +1,0 @@
-use Rattle.store_calls.proofs.StepOutcomes.{memory_was_wanting}
-use Rattle.store_calls.proofs.laws.memory_is_blamed_only_where_it_was_wanting.Goals as goal
-
-pub returns : goal.returns
-returns c = memory_was_wanting

@@ -1,4 +1,0 @@
-pub mod Contents
-pub mod ContentLaws
-pub mod StripeLaws
-pub mod MoreCalls

@@ -1,9 +1,0 @@
-pub mod Trace
-pub mod Steps
-pub mod Moments
-pub mod PointsInTime
-pub mod LostChunks
-pub mod LossesInTime
-pub mod InTimeLaws
-pub mod LineCauses
-pub mod Held

@@ -1,2 +1,0 @@
-pub mod LengthProofs
-pub mod Replayed

@@ -1,3 +1,0 @@
-pub mod MapAfter
-pub mod LengthLaws
-pub mod ReplayLaws

@@ -1,4 +1,0 @@
-//! That the map by names and lengths, which the store's definitions replay, is the plain map.
-#![tactic(auto)]
-
-pub mod laws;

@@ -1,3 +1,0 @@
-pub mod KeptChunks
-pub mod FoundMissing
-pub mod OwnResults

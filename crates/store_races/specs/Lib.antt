@@ -1,4 +1,0 @@
-pub mod StandsFor
-pub mod CommitDrops
-pub mod DropLaws
-pub mod RaceLaws

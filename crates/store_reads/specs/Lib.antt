@@ -1,3 +1,0 @@
-pub mod ReadLaws
-pub mod PinLaws
-pub mod RunContents

@@ -1,3 +1,0 @@
-pub mod SoundLaws
-pub mod AgreementLaws
-pub mod DrawnLaws

@@ -1,3 +1,0 @@
-pub mod TakesOfCalls
-pub mod LeastTakes
-pub mod TakesLaws

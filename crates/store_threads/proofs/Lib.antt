@@ -1,9 +1,0 @@
-pub mod Lines
-pub mod Carried
-pub mod Endings
-pub mod Runs
-pub mod Worked
-pub mod Growing
-pub mod Reaching
-pub mod Looking
-pub mod Owing

@@ -1,0 +1,5 @@
+//! A world makes the runs of the definitions, and what each of its turns adds to a run's trace. No code.
+#![tactic(auto)]
+
+pub mod steps;
+pub mod traces;
