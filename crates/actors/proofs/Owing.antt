@@ -9,7 +9,7 @@ use Rattle.stripe_dir.specs.Sealed.{Sealed}
 use Rattle.call_steps.specs.declared.need.Need.TheVariants as need
 use Rattle.call_steps.specs.CallOf.{CallOf, act_of}
 use Rattle.call_steps.specs.Steps.{need_of}
-use Rattle.call_stands.proofs.Needs.{needs_tell_acts}
+use Rattle.call_laws.proofs.Needs.{needs_tell_acts}
 use Rattle.client_read.specs.Owed.{owed_by as read_by}
 use Rattle.write_course.specs.Draws.{stamps_by}
 use Rattle.call_machine.specs.Kinds.{Asked, Machine, client_machine, machine_of}

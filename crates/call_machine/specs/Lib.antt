@@ -2,3 +2,6 @@ pub mod Kinds
 pub mod Calls
 pub mod Inside
 pub mod Ends
+pub mod Pinned
+pub mod Owes
+pub mod OwesLaws

@@ -4,5 +4,6 @@
 mod call_machine;
 mod ends;
 pub mod laws;
+pub mod owing;
 
 pub use call_machine::CallMachine;

@@ -2,6 +2,10 @@
 #![tactic(auto)]
 
 #[cfg(test)]
+mod answers;
+#[cfg(test)]
+mod inputs;
+#[cfg(test)]
 mod judge;
 #[cfg(test)]
 mod legal;
@@ -9,5 +13,9 @@ mod legal;
 mod order;
 #[cfg(test)]
 mod refusals;
+#[cfg(test)]
+mod requests;
+#[cfg(test)]
+mod tables;
 #[cfg(test)]
 mod tails;

@@ -8,8 +8,8 @@ ghost use Rattle.chunk_server.specs.Valid.{IsFor};
 ghost use Rattle.clay_bench.specs.Puts.{IsEmptyPut};
 
 use crate::rack::VERSIONS;
-use clay_encode::encode;
 use clay_grid::Geometry;
+use clay_parity::encode;
 use std::alloc::Global;
 use store_map::{Actor, Call, Content, Name};
 use version_seal::{Book, Request, SealedChunk, Sealer, Stamp};

@@ -5,7 +5,7 @@ ghost use Rattle.dir_walks.specs.Small.{small_code, stripe_bytes, IsStripeStamp}
 
 use crate::opening::small_geometry;
 use chunk_server::Server;
-use clay_encode::encode;
+use clay_parity::encode;
 use std::alloc::Global;
 use std::marker::Model;
 use std::test::Fail;

@@ -6,3 +6,8 @@ pub mod InputLemmas
 pub mod FieldLemmas
 pub mod WriteLemmas
 pub mod LengthLemmas
+pub mod Numbers
+pub mod Cuts
+pub mod Sent
+pub mod Taken
+pub mod Endings

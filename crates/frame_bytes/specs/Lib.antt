@@ -5,3 +5,6 @@ pub mod Inputs
 pub mod Requests
 pub mod Writing
 pub mod Heard
+pub mod Cuts
+pub mod Sent
+pub mod Endings

@@ -5,6 +5,7 @@ mod block;
 mod fault;
 mod fields;
 mod filling;
+pub mod frames;
 pub mod laws;
 mod lengths;
 mod reading;

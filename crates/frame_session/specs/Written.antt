@@ -8,7 +8,7 @@ use Rattle.session_rules.specs.declared.answer.Answer.{Answer}
 use Rattle.session_rules.specs.declared.ending.Ending.{Ending}
 use Rattle.session_rules.specs.Replies.{answer_bytes}
 use Rattle.session_rules.specs.Session.{written_as, session_of, AreAnswered}
-use Rattle.frame_laws.specs.Cuts.{IsCut}
+use Rattle.frame_bytes.specs.Cuts.{IsCut}
 use Rattle.frame_session.specs.Session.{IsSession}
 
 -- what is written as the answers of a session within its limits is cut into them, each a frame

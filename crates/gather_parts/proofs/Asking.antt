@@ -6,7 +6,7 @@ use Rattle.store_resume.specs.Stage.{Aim, Stage}
 use Rattle.call_steps.specs.declared.act.Act.TheVariants as act
 use Rattle.call_steps.specs.declared.act.DirectoryAct.TheVariants as there
 use Rattle.call_steps.specs.declared.act.ServerAct.{ServerAct}
-use Rattle.gather_course.specs.Courses.{has_bytes}
+use Rattle.gathering.specs.Courses.{has_bytes}
 use Rattle.gathering.specs.Gathers.{question_at}
 use Rattle.gather_parts.specs.Doing.{act_at_stage}
 

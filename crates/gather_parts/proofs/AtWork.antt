@@ -7,7 +7,7 @@ use Rattle.store_resume.specs.Stage.{Stage}
 use Rattle.store_resume.specs.StageAfter.{step_asked}
 use Rattle.version_seal.specs.Entry.{BookOf}
 use Rattle.gathering.specs.Gathers.{GatherOf, heard, taking, stepped_at, stepped as gather_stepped}
-use Rattle.gather_course.specs.Courses.{server_of}
+use Rattle.gathering.specs.Courses.{server_of}
 use Rattle.gather_parts.specs.Wanted.{bytes_of}
 use Rattle.gather_parts.specs.Gatherings.{GatheringsOf, range_bytes, owed}
 use Rattle.gather_parts.specs.Steps.{stepped_by, stepped}

@@ -8,7 +8,7 @@ use Rattle.store_resume.specs.Stage.{Aim, Asking, Stage, seen_of}
 use Rattle.store_resume.specs.StageAfter.{server_asked}
 use Rattle.call_steps.specs.declared.act.ServerAct.{ServerAct}
 use Rattle.call_steps.specs.declared.act.ServerAct.TheVariants as here
-use Rattle.gather_course.specs.Courses.{server_at, is_look}
+use Rattle.gathering.specs.Courses.{server_at, is_look}
 use Rattle.gathering.specs.Gathers.{question_at}
 
 module _ (g : Shape) (aim : Aim) (version : Version) (is : version.0 ≡ (seen_of aim).version) (server : ℕ) where

@@ -12,7 +12,7 @@ use Rattle.store_core.specs.GatheringParts.{chunks_in_range}
 use Rattle.store_resume.specs.Stage.{Aim, Asking, Stage}
 use Rattle.store_resume.specs.StageAfter.{next_stage, wanted_layers}
 use Rattle.version_seal.specs.Entry.{StampOf}
-use Rattle.gather_course.specs.Courses.{CourseOf, new_course, IsAskingStage, server_at, server_of, gone_after, after_answer, is_look, is_fetch, layers_at, layers_asked}
+use Rattle.gathering.specs.Courses.{CourseOf, new_course, IsAskingStage, server_at, server_of, gone_after, after_answer, is_look, is_fetch, layers_at, layers_asked}
 use Rattle.gathering.specs.Parts.{Shelf, IsPart, ArePartsOf, AreNone, helping_layers}
 use Rattle.gathering.specs.Kept.{Keeps}
 use Rattle.gathering.specs.Made.{IsWithin}

@@ -9,3 +9,13 @@ pub mod Making
 pub mod Serving
 pub mod Taking
 pub mod Asking
+pub mod Nexts
+pub mod Moves
+pub mod Heard
+pub mod Keeping
+pub mod Missed
+pub mod CourseKept
+pub mod MissingOnes
+pub mod Layered
+pub mod Begins
+pub mod BeginsRange

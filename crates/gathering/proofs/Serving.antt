@@ -17,8 +17,8 @@ use Rattle.store_resume.specs.Stage.{Aim, Stage}
 use Rattle.store_resume.specs.StageAfter.{wanted_layers}
 use Rattle.version_seal.specs.Entry.{StampOf}
 use Rattle.version_seal.specs.Chunk.{IsChunkOf, subchunks_at}
-use Rattle.gather_course.specs.Aims.{target_of, IfRange}
-use Rattle.gather_course.specs.Courses.{CourseOf, has_bytes}
+use Rattle.gathering.specs.Aims.{target_of, IfRange}
+use Rattle.gathering.specs.Courses.{CourseOf, has_bytes}
 use Rattle.gathering.specs.Parts.{Shelf, ArePartsOf, HaveCome, AllHaveCome, is_there, helping_layers}
 use Rattle.gathering.specs.Servers.{wanted_servers, TargetIsGone}
 use Rattle.gathering.specs.Kept.{CanMake, HasParts, Keeps}

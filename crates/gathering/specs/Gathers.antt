@@ -8,7 +8,7 @@ use Rattle.store_resume.specs.Stage.{Aim, Stage}
 use Rattle.store_resume.specs.StageAfter.{server_asked, step_asked}
 use Rattle.version_seal.specs.Entry.{StampOf}
 use Rattle.version_seal.specs.Sealed.{PartOf}
-use Rattle.gather_course.specs.Courses.{CourseOf, new_course, server_of, layers_asked, has_bytes, after_answer}
+use Rattle.gathering.specs.Courses.{CourseOf, new_course, server_of, layers_asked, has_bytes, after_answer}
 use Rattle.gathering.specs.Parts.{Shelf, IsPart}
 use Rattle.gathering.specs.Made.{AreMade, Gives}
 use Rattle.call_steps.specs.declared.need.Need.{Need}

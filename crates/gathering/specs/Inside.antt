@@ -3,7 +3,7 @@ use Rattle.std.specs.Prelude.{◌≡◌}
 use Rattle.store_resume.specs.Stage.{seen_of}
 use Rattle.store_resume.specs.StageAfter.{wanted_layers}
 use Rattle.version_seal.specs.Entry.{StampOf}
-use Rattle.gather_course.specs.Courses.{CourseOf}
+use Rattle.gathering.specs.Courses.{CourseOf}
 use Rattle.gathering.specs.Parts.{Shelf, ArePartsOf, helping_layers}
 use Rattle.gathering.specs.Kept.{Keeps}
 use Rattle.gathering.specs.Made.{IsWithin}

@@ -4,3 +4,10 @@ pub mod Kept
 pub mod Gathers
 pub mod Made
 pub mod Inside
+pub mod CourseServers
+pub mod Positions
+pub mod Reaching
+pub mod Hearing
+pub mod Courses
+pub mod Aims
+pub mod CourseInside

@@ -1,8 +1,8 @@
 //! The bytes of a gathering that has all its parts.
 ghost use Rattle.std.specs.Prelude.{◌≡◌, ◌<◌, ◌≤◌, ◌++◌, true, false, [], ◌∷◌, None, Some, IfOk, OnOk, length, map, get_or};
 ghost use Rattle.clay_grid.specs.Shape.{chunk_count};
-ghost use Rattle.gather_course.specs.Aims.{target_of};
-ghost use Rattle.gather_course.specs.Courses.{has_bytes};
+ghost use Rattle.gathering.specs.Aims.{target_of};
+ghost use Rattle.gathering.specs.Courses.{has_bytes};
 ghost use Rattle.gathering.specs.Parts.{is_there};
 ghost use Rattle.gathering.specs.Gathers.{AreItsMade, GivesItsBytes};
 ghost use Rattle.gathering.specs.Made.{Appends, AppendsChunk, IsPieceOf, bytes_between};

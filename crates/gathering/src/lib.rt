@@ -3,7 +3,14 @@
 #![tactic(auto)]
 
 mod coding;
+mod course;
+mod ending;
 mod gather;
 pub mod laws;
+mod layers;
+mod position;
+mod servers;
 
+pub use course::Course;
+pub use ending::Ending;
 pub use gather::Gather;

@@ -8,3 +8,11 @@ pub mod Groups
 pub mod Searches
 pub mod Made
 pub mod Tails
+pub mod Ors
+pub mod Places
+pub mod Reaped
+pub mod Differences
+pub mod WrongSums
+pub mod Names
+pub mod Faults
+pub mod Rows

@@ -1,3 +1,8 @@
 pub mod Reached
 pub mod Searched
 pub mod VerdictText
+pub mod Losses
+pub mod Lines
+pub mod Numbers
+pub mod Tables
+pub mod OperatorCounts

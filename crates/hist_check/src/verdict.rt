@@ -18,18 +18,20 @@ ghost use Rattle.hist_rules.specs.ObjectsListed.{objects_listed};
 ghost use Rattle.hist_rules.specs.TakesAddUp.{takes_add_up};
 ghost use Rattle.hist_rules.specs.Verdict.{fault_of, verdict_of};
 
+use crate::call_set::CallSet;
 use crate::calls_exist::find_made_up;
+use crate::given_up::find_false_reap;
+use crate::losses::find_false_loss;
+use crate::objects::find_wrong_object;
 use crate::open_calls::find_wrong_open;
 use crate::order::find_wrong_answer;
+use crate::races::find_false_race;
 use crate::replay::replay;
+use crate::results::find_false_result;
 use crate::rising::find_fall;
+use crate::sums::find_wrong_sum;
 use crate::unlisted::find_unlisted;
-use hist_causes::{
-    find_false_loss, find_false_race, find_false_reap, find_false_result, find_wrong_object,
-    find_wrong_sum,
-};
 use hist_rules::Verdict;
-use hist_tables::CallSet;
 use std::alloc::{AllocError, Global};
 use store_map::{ObjectMap, Script, Transcript};
 

@@ -3,9 +3,9 @@ use Rattle.std.specs.Prelude.{[], ◌∷◌, codes}
 use Rattle.store_map.specs.declared.reply.Reply.TheVariants as reply
 use Rattle.store_map.specs.declared.call_name.CallName.TheVariants as name
 use Rattle.store_map.specs.declared.cause.Cause.TheVariants as cause
-use Rattle.store_rows.specs.RowLines.{replied, refused, unanswered}
-use Rattle.store_rows.specs.RowsCalls.{put_then_get}
-use Rattle.store_rows.specs.RowsGivenUp.{left_after_commit}
+use Rattle.store_core.specs.RowLines.{replied, refused, unanswered}
+use Rattle.store_core.specs.RowsCalls.{put_then_get}
+use Rattle.store_core.specs.RowsGivenUp.{left_after_commit}
 use Rattle.hist_rules.specs.declared.verdict.Verdict.TheVariants.{Misplaced}
 use Rattle.hist_rows.specs.Judged.{Faulty}
 

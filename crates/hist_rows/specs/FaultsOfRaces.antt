@@ -2,8 +2,8 @@
 use Rattle.std.specs.Prelude.{[], ◌∷◌, codes}
 use Rattle.store_map.specs.declared.call_name.CallName.TheVariants as name
 use Rattle.store_map.specs.declared.cause.Cause.TheVariants as cause
-use Rattle.store_rows.specs.RowLines.{refused}
-use Rattle.store_rows.specs.RowsRaces.{lost_race, race_tried_again}
+use Rattle.store_core.specs.RowLines.{refused}
+use Rattle.store_core.specs.RowsRaces.{lost_race, race_tried_again}
 use Rattle.hist_rules.specs.declared.verdict.Verdict.TheVariants.{BadCause}
 use Rattle.hist_rows.specs.Judged.{Faulty}
 

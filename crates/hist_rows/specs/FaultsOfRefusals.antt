@@ -4,8 +4,8 @@ use Rattle.store_map.specs.declared.call_name.CallName.TheVariants as name
 use Rattle.store_map.specs.declared.cause.Triple.{Triple}
 use Rattle.store_map.specs.declared.cause.Cause.TheVariants as cause
 use Rattle.store_map.specs.declared.transcript.Transcript.{Transcript}
-use Rattle.store_rows.specs.RowLines.{refused, triple}
-use Rattle.store_rows.specs.RowsManyLosses.{read_after_three_losses}
+use Rattle.store_core.specs.RowLines.{refused, triple}
+use Rattle.store_core.specs.RowsManyLosses.{read_after_three_losses}
 use Rattle.hist_rules.specs.declared.verdict.Verdict.TheVariants.{BadCause}
 use Rattle.hist_rows.specs.Judged.{Faulty}
 

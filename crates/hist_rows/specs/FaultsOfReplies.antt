@@ -3,8 +3,8 @@ use Rattle.std.specs.Prelude.{[], ◌∷◌, ◌++◌, None, Some, codes}
 use Rattle.store_map.specs.declared.reply.Reply.TheVariants as reply
 use Rattle.store_map.specs.declared.call_name.CallName.TheVariants as name
 use Rattle.store_map.specs.declared.shown.Shown.TheVariants as shown
-use Rattle.store_rows.specs.RowLines.{replied, unfinished, listed}
-use Rattle.store_rows.specs.RowsCalls.{put_then_get}
+use Rattle.store_core.specs.RowLines.{replied, unfinished, listed}
+use Rattle.store_core.specs.RowsCalls.{put_then_get}
 use Rattle.hist_rules.specs.declared.verdict.Verdict.TheVariants.{Differs, BadObject}
 use Rattle.hist_rows.specs.Judged.{Faulty}
 

@@ -4,11 +4,11 @@ use Rattle.store_map.specs.declared.actor.Token.TheVariants as token
 use Rattle.store_map.specs.declared.call_name.CallName.TheVariants as name
 use Rattle.store_map.specs.declared.cause.Cause.TheVariants as cause
 use Rattle.store_map.specs.declared.cause.RepairResult.TheVariants as result
-use Rattle.store_rows.specs.RowLines.{refused, repaired, triple, away}
-use Rattle.store_rows.specs.RowsCalls.{put_then_get}
-use Rattle.store_rows.specs.RowsGivenUp.{reaped_before_commit}
-use Rattle.store_rows.specs.RowsRebuilds.{superseded_rebuild}
-use Rattle.store_rows.specs.RowsAwayReads.{away_twice_and_emptied, rebuild_of_an_away_server}
+use Rattle.store_core.specs.RowLines.{refused, repaired, triple, away}
+use Rattle.store_core.specs.RowsCalls.{put_then_get}
+use Rattle.store_core.specs.RowsGivenUp.{reaped_before_commit}
+use Rattle.store_core.specs.RowsRebuilds.{superseded_rebuild}
+use Rattle.store_core.specs.RowsAwayReads.{away_twice_and_emptied, rebuild_of_an_away_server}
 use Rattle.store_map.specs.declared.placement.Placement.TheVariants as placement
 use Rattle.hist_rules.specs.declared.verdict.Verdict.TheVariants.{BadCause}
 use Rattle.hist_rows.specs.Judged.{Faulty}

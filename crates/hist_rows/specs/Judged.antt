@@ -2,7 +2,7 @@
 use Rattle.std.specs.Prelude.{◌≡◌, ℕ, List}
 use Rattle.store_map.specs.declared.script.Script.{Script}
 use Rattle.store_map.specs.declared.transcript.Transcript.{Transcript}
-use Rattle.store_rows.specs.Rows.{Row}
+use Rattle.store_core.specs.Rows.{Row}
 use Rattle.hist_rules.specs.declared.verdict.Verdict.{Verdict}
 use Rattle.hist_rules.specs.IsHistory.{IsHistory}
 use Rattle.hist_rules.specs.Verdict.{verdict_of}

@@ -1,17 +1,17 @@
 //! The store's worked transcripts are histories of their scripts.
 
 ghost use Rattle.hist_rows.specs.Judged.{ShowsHistory};
-ghost use Rattle.store_rows.specs.RowsCalls.{put_then_get, empty_object, each_refusal};
-ghost use Rattle.store_rows.specs.RowsOneLoss.{read_after_one_loss, loss_before_prepare, loss_after_prepare, loss_before_old_bytes};
-ghost use Rattle.store_rows.specs.RowsManyLosses.{read_after_two_losses, read_after_three_losses, one_of_three_lost, three_of_three_lost};
-ghost use Rattle.store_rows.specs.RowsRaces.{read_of_a_replaced_version, lost_race, race_tried_again};
-ghost use Rattle.store_rows.specs.RowsGivenUp.{left_before_commit, left_after_commit, reaped_before_commit, strays_of_a_reaped_put};
-ghost use Rattle.store_rows.specs.RowsRebuilds.{superseded_rebuild, rebuilt_then_here};
-ghost use Rattle.store_rows.specs.RowsRebuildLosses.{loss_while_looking, loss_while_fetching};
-ghost use Rattle.store_rows.specs.RowsAway.{skipped_by_a_put, refused_put};
-ghost use Rattle.store_rows.specs.RowsAwayReads.{away_and_emptied, away_twice_and_emptied, rebuild_of_an_away_server};
-ghost use Rattle.store_rows.specs.RowsShort.{put_without_memory};
-ghost use Rattle.store_rows.specs.RowsLarge.{many_actors, no_calls};
+ghost use Rattle.store_core.specs.RowsCalls.{put_then_get, empty_object, each_refusal};
+ghost use Rattle.store_core.specs.RowsOneLoss.{read_after_one_loss, loss_before_prepare, loss_after_prepare, loss_before_old_bytes};
+ghost use Rattle.store_core.specs.RowsManyLosses.{read_after_two_losses, read_after_three_losses, one_of_three_lost, three_of_three_lost};
+ghost use Rattle.store_core.specs.RowsRaces.{read_of_a_replaced_version, lost_race, race_tried_again};
+ghost use Rattle.store_core.specs.RowsGivenUp.{left_before_commit, left_after_commit, reaped_before_commit, strays_of_a_reaped_put};
+ghost use Rattle.store_core.specs.RowsRebuilds.{superseded_rebuild, rebuilt_then_here};
+ghost use Rattle.store_core.specs.RowsRebuildLosses.{loss_while_looking, loss_while_fetching};
+ghost use Rattle.store_core.specs.RowsAway.{skipped_by_a_put, refused_put};
+ghost use Rattle.store_core.specs.RowsAwayReads.{away_and_emptied, away_twice_and_emptied, rebuild_of_an_away_server};
+ghost use Rattle.store_core.specs.RowsShort.{put_without_memory};
+ghost use Rattle.store_core.specs.RowsLarge.{many_actors, no_calls};
 
 /// Calls without losses, the last one without memory.
 pub fn histories_of_calls()

@@ -4,7 +4,13 @@
 #[cfg(test)]
 mod coders;
 #[cfg(test)]
+mod columns;
+#[cfg(test)]
+mod coupling;
+#[cfg(test)]
 mod encoding;
+#[cfg(test)]
+mod kernels;
 #[cfg(test)]
 mod rebuilding;
 #[cfg(test)]

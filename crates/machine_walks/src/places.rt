@@ -11,7 +11,7 @@ use crate::waiting::Waiting;
 use crate::work::InWork;
 use call_steps::Need;
 use chunk_server::Server;
-use clay_repair::PlainCoder;
+use clay_lanes::LaneCoder;
 use std::alloc::{AllocError, Global};
 use std::marker::Model;
 use std::thread::Threads;
@@ -153,7 +153,7 @@ impl<'a> Places<'a> {
         ensures others { Keeps (actor_of (call_of work.old).token) self.old self.new }
         ensures actor { actor_of (call_of work.new).token ≡ actor_of (call_of work.old).token }
     {
-        work.on_coder(rt, &PlainCoder);
+        work.on_coder(rt, &LaneCoder);
         self.step(work);
     }
 }

@@ -26,9 +26,9 @@ use Rattle.call_steps.specs.declared.need.Need.TheVariants as need
 use Rattle.call_steps.specs.TokenAfter.{MayMake, IfInCall}
 use Rattle.call_steps.specs.CallOf.{CallOf, act_of}
 use Rattle.call_steps.specs.Steps.{need_of, HoldsItsPass, MayMakeNext}
-use Rattle.call_stands.specs.Stands.{Stands}
-use Rattle.call_stands.proofs.Acts.{acts_now}
-use Rattle.call_stands.proofs.Needs.{needs_tell_acts}
+use Rattle.call_laws.specs.Stands.{Stands}
+use Rattle.call_laws.proofs.Acts.{acts_now}
+use Rattle.call_laws.proofs.Needs.{needs_tell_acts}
 use Rattle.place_laws.specs.CallEntries.{server_tells, directory_tells}
 use Rattle.place_laws.specs.HasMade.{AnswersAsActor}
 

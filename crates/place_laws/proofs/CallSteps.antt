@@ -11,7 +11,7 @@ use Rattle.thread_laws.specs.AtPlaces.{directory_next, DirectoryAnswers, server_
 use Rattle.call_steps.specs.declared.need.Need.TheVariants as need
 use Rattle.call_steps.specs.CallOf.{CallOf, act_of, heard}
 use Rattle.call_steps.specs.Steps.{need_of, at_directory_by, stepped_at_directory, at_server_by, stepped_at_server}
-use Rattle.call_stands.proofs.Needs.{needs_tell_acts}
+use Rattle.call_laws.proofs.Needs.{needs_tell_acts}
 use Rattle.place_laws.specs.Noted.{token_by}
 use Rattle.place_laws.specs.CallEntries.{made_by, server_tells, directory_tells}
 

@@ -22,11 +22,11 @@ use Rattle.run_laws.proofs.Steps.{steps_fall}
 use Rattle.run_laws.proofs.Groups.{drop_here}
 use Rattle.call_steps.specs.CallOf.{CallOf, act_of, heard}
 use Rattle.call_steps.specs.Steps.{coded}
-use Rattle.call_stands.specs.After.{StandsAfterBy, StandsAfter}
-use Rattle.call_stands.specs.Ready.{actor_coded}
-use Rattle.call_stands.specs.Stands.{Stands}
-use Rattle.call_stands.proofs.Acts.{acts_now}
-use Rattle.call_stands.proofs.Codings.{acts_stand}
+use Rattle.call_laws.specs.After.{StandsAfterBy, StandsAfter}
+use Rattle.call_laws.specs.Ready.{actor_coded}
+use Rattle.call_laws.specs.Stands.{Stands}
+use Rattle.call_laws.proofs.Acts.{acts_now}
+use Rattle.call_laws.proofs.Codings.{acts_stand}
 use Rattle.place_laws.specs.CallEntries.{made_by}
 use Rattle.place_laws.specs.HasMade.{HearsAsActor, AnswersAsActor}
 use Rattle.place_laws.specs.Noted.{token_by, tokens_after}

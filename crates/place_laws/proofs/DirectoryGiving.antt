@@ -19,7 +19,7 @@ use Rattle.stripe_dir.specs.Sealed.{Sealed}
 use Rattle.call_steps.specs.TokenAfter.{MayMake}
 use Rattle.call_steps.specs.CallOf.{CallOf, act_of}
 use Rattle.call_steps.specs.Steps.{need_of, at_directory_by, stepped_at_directory, HoldsItsPass, MayMakeNext}
-use Rattle.call_stands.proofs.Needs.{needs_tell_acts}
+use Rattle.call_laws.proofs.Needs.{needs_tell_acts}
 use Rattle.turn_lock.specs.History.{Among, entries_of, GoesOn}
 use Rattle.place_laws.specs.Numbers.{Counts, IsTurnOf}
 use Rattle.place_laws.specs.Entries.{next_moment}

@@ -15,13 +15,13 @@ use Rattle.call_steps.specs.declared.need.Need.TheVariants as need
 use Rattle.call_steps.specs.TokenAfter.{token_after}
 use Rattle.call_steps.specs.CallOf.{CallOf, act_of, heard}
 use Rattle.call_steps.specs.Steps.{need_of, at_directory_by, stepped_at_directory, at_server_by, stepped_at_server, HoldsItsPass}
-use Rattle.call_stands.specs.After.{StandsAfter}
-use Rattle.call_stands.specs.StandLaws.{HasPassOfItsKind}
-use Rattle.call_stands.proofs.Acts.{acts_now}
-use Rattle.call_stands.proofs.Fitting.{leading_fits, server_leads, directory_fits}
-use Rattle.call_stands.proofs.Hears.{hears}
-use Rattle.call_stands.proofs.Needs.{needs_tell_acts}
-use Rattle.call_stands.proofs.Tokens.{passes_are_of_calls}
+use Rattle.call_laws.specs.After.{StandsAfter}
+use Rattle.call_laws.specs.StandLaws.{HasPassOfItsKind}
+use Rattle.call_laws.proofs.Acts.{acts_now}
+use Rattle.call_laws.proofs.Fitting.{leading_fits, server_leads, directory_fits}
+use Rattle.call_laws.proofs.Hears.{hears}
+use Rattle.call_laws.proofs.Needs.{needs_tell_acts}
+use Rattle.call_laws.proofs.Tokens.{passes_are_of_calls}
 use Rattle.place_laws.specs.CallEntries.{server_tells, directory_tells}
 use Rattle.place_laws.specs.HasMade.{HearsAsActor}
 

@@ -12,7 +12,7 @@ use Rattle.store_core.proofs.Places.{slice_get-change_at}
 use Rattle.thread_laws.specs.MadeSteps.{MadeStep, acts_at, is_at}
 use Rattle.thread_laws.specs.ByActors.{IsAtAPlace}
 use Rattle.call_steps.specs.CallOf.{act_of, heard}
-use Rattle.call_stands.proofs.Needs.{needs_tell_acts}
+use Rattle.call_laws.proofs.Needs.{needs_tell_acts}
 use Rattle.turn_lock.specs.History.{entries_of}
 use Rattle.place_laws.specs.Entries.{steps_in}
 use Rattle.place_laws.specs.Noted.{Noted, made_in, token_by}

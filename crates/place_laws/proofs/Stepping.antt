@@ -17,9 +17,9 @@ use Rattle.version_seal.specs.Entry.{StampOf}
 use Rattle.stripe_dir.specs.Sealed.{Sealed}
 use Rattle.call_steps.specs.CallOf.{act_of}
 use Rattle.call_machine.specs.Calls.{MachineOf}
-use Rattle.call_owes.specs.OwesLaws.{LookIsOwed}
-use Rattle.call_owes.proofs.Owing.{keeps_owing, owing_stays}
-use Rattle.call_owes.proofs.Stamped.{contents_read}
+use Rattle.call_machine.specs.OwesLaws.{LookIsOwed}
+use Rattle.call_machine.proofs.Owing.{keeps_owing, owing_stays}
+use Rattle.call_machine.proofs.Stamped.{contents_read}
 use Rattle.thread_laws.specs.Owed.{directory_after, IsLook, WasOwed}
 use Rattle.thread_laws.proofs.Owing.{owed_stay, looks_are_owed}
 use Rattle.place_laws.specs.StepOwes.{IsAfter, IsItsStep, StepsKeepOwing}

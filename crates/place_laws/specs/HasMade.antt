@@ -13,8 +13,8 @@ use Rattle.run_laws.specs.StepLaws.{HasTarget}
 use Rattle.thread_laws.specs.MadeSteps.{MadeStep}
 use Rattle.version_seal.specs.Entry.{StampOf}
 use Rattle.call_steps.specs.CallOf.{CallOf, act_of, heard}
-use Rattle.call_stands.specs.Stands.{Stands}
-use Rattle.call_stands.specs.After.{StandsAfter}
+use Rattle.call_laws.specs.Stands.{Stands}
+use Rattle.call_laws.specs.After.{StandsAfter}
 use Rattle.turn_lock.specs.History.{entries_of}
 use Rattle.place_laws.specs.CallEntries.{made_by}
 use Rattle.place_laws.specs.Noted.{Noted, token_by}

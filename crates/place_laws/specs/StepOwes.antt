@@ -12,7 +12,7 @@ use Rattle.call_steps.specs.declared.need.Need.TheVariants as need
 use Rattle.call_steps.specs.CallOf.{CallOf, act_of}
 use Rattle.call_steps.specs.Steps.{stepped_at_directory, need_of}
 use Rattle.call_machine.specs.Calls.{MachineOf, owed_by}
-use Rattle.call_owes.specs.Owes.{OwesBy}
+use Rattle.call_machine.specs.Owes.{OwesBy}
 use Rattle.thread_laws.specs.Owed.{directory_after, WasOwed}
 
 -- a directory after some steps, whose stamps have the contents of the script's calls

@@ -12,7 +12,7 @@ use Rattle.thread_laws.specs.OwnSteps.{own_steps}
 use Rattle.call_steps.specs.declared.need.Need.TheVariants as need
 use Rattle.call_steps.specs.CallOf.{CallOf}
 use Rattle.call_steps.specs.Steps.{need_of}
-use Rattle.call_stands.specs.Ready.{ready}
+use Rattle.call_laws.specs.Ready.{ready}
 use Rattle.place_laws.specs.HasMade.{HasMadeAtServer, HasMadeAtDirectory}
 use Rattle.place_laws.specs.Entries.{last_of}
 use Rattle.place_laws.specs.Noted.{Noted}

@@ -8,7 +8,7 @@ use Rattle.store_resume.specs.Stage.{Aim, Stage as CoreStage}
 use Rattle.store_resume.specs.State.{State}
 use Rattle.store_resume.specs.StateActs.{act_at}
 use Rattle.version_seal.specs.Sealed.{ChunkOf}
-use Rattle.gather_course.specs.Courses.{IsAskingStage}
+use Rattle.gathering.specs.Courses.{IsAskingStage}
 use Rattle.gathering.specs.Gathers.{GatherOf, question_at}
 use Rattle.call_steps.specs.declared.act.Act.{Act}
 use Rattle.call_steps.specs.declared.act.Act.TheVariants as act

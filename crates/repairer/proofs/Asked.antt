@@ -7,7 +7,7 @@ use Rattle.store_core.specs.Note.{note_of_rebuild}
 use Rattle.store_core.specs.Server.{Server}
 use Rattle.store_resume.specs.Stage.{Aim, Stage as CoreStage}
 use Rattle.store_resume.specs.StateActs.{act_at}
-use Rattle.gather_course.specs.Courses.{IsAskingStage}
+use Rattle.gathering.specs.Courses.{IsAskingStage}
 use Rattle.call_steps.specs.declared.need.Need.TheVariants as need
 use Rattle.gathering.specs.Gathers.{GatherOf, stepped, told_at, told_by}
 use Rattle.call_steps.specs.CallOf.{CallOf, act_of, tries_by}

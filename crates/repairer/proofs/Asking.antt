@@ -13,8 +13,8 @@ use Rattle.store_resume.specs.StageAfter.{stage_after, server_asked, step_asked}
 use Rattle.store_resume.specs.States.{open_state}
 use Rattle.version_seal.specs.Entry.{BookOf, StampOf}
 use Rattle.call_steps.specs.declared.seen.Seen.{Seen}
-use Rattle.gather_course.specs.Aims.{ending_at}
-use Rattle.gather_course.specs.Courses.{IsAskingStage, has_bytes, server_at, server_of}
+use Rattle.gathering.specs.Aims.{ending_at}
+use Rattle.gathering.specs.Courses.{IsAskingStage, has_bytes, server_at, server_of}
 use Rattle.gathering.specs.Gathers.{GatherOf, taking, stepped_at, stepped, need_by}
 use Rattle.gathering.proofs.Taking.{takes_follow}
 use Rattle.call_steps.specs.CallOf.{CallOf}

@@ -6,13 +6,13 @@ use Rattle.store_resume.specs.Stage.{Aim}
 use Rattle.version_seal.specs.Entry.{BookOf}
 use Rattle.call_steps.specs.declared.seen.Seen.{Seen}
 use Rattle.stripe_dir.specs.Answers.{seen_in}
-use Rattle.gather_course.specs.Courses.{IsAskingStage}
+use Rattle.gathering.specs.Courses.{IsAskingStage}
 use Rattle.gathering.specs.Gathers.{GatherOf, new_gather}
 use Rattle.repairer.specs.Standing.{seen_at, course_at, gathered_state, stage_of}
 use Rattle.repairer.specs.Inside.{takes_at, call_in}
 use Rattle.clay_grid.specs.Shape.{Shape}
 use Rattle.version_seal.specs.Chunk.{IsChunkOf}
-use Rattle.gather_course.specs.Aims.{target_of}
+use Rattle.gathering.specs.Aims.{target_of}
 use Rattle.gathering.specs.Made.{Gives}
 use Rattle.call_steps.specs.declared.need.Need.TheVariants as need
 use Rattle.call_steps.specs.CallOf.{CallOf, act_of}

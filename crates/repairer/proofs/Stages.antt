@@ -4,7 +4,7 @@ use Rattle.store_core.specs.Act.{Act}
 use Rattle.store_core.specs.Told.{Seen as CoreSeen}
 use Rattle.store_resume.specs.Stage.{Stage as CoreStage}
 use Rattle.call_steps.specs.declared.need.Need.TheVariants as need
-use Rattle.gather_course.specs.Courses.{IsAskingStage}
+use Rattle.gathering.specs.Courses.{IsAskingStage}
 use Rattle.gathering.specs.Gathers.{GatherOf}
 use Rattle.call_steps.specs.CallOf.{CallOf}
 use Rattle.call_steps.specs.Steps.{need_by}

@@ -7,7 +7,7 @@ use Rattle.store_core.specs.Agreement.{ActorToken}
 use Rattle.version_seal.specs.Entry.{BookOf}
 use Rattle.version_seal.specs.Sealed.{ChunkOf}
 use Rattle.call_steps.specs.declared.seen.Seen.{Seen}
-use Rattle.gather_course.specs.Courses.{IsAskingStage}
+use Rattle.gathering.specs.Courses.{IsAskingStage}
 use Rattle.call_steps.specs.declared.need.Need.TheVariants as need
 use Rattle.gathering.specs.Gathers.{GatherOf, need_of}
 use Rattle.repairer.specs.Parts.{MayStart, IsPinned, IsGatherOf, IsChunkFor}

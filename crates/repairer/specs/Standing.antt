@@ -8,7 +8,7 @@ use Rattle.store_resume.specs.State.{Sequel, State}
 use Rattle.store_resume.specs.States.{stage_state}
 use Rattle.call_steps.specs.declared.seen.Seen.{Seen}
 use Rattle.stripe_dir.specs.Answers.{seen_in}
-use Rattle.gather_course.specs.Courses.{CourseOf, new_course}
+use Rattle.gathering.specs.Courses.{CourseOf, new_course}
 use Rattle.gathering.specs.Gathers.{GatherOf}
 use Rattle.repairer.specs.declared.stage.Stage.{Stage}
 use Rattle.repairer.specs.declared.stage.Stage.TheVariants as stage

@@ -3,7 +3,7 @@ ghost use Rattle.std.specs.Prelude.{◌≡◌, List, Some, if◌then◌else◌};
 ghost use Rattle.store_core.specs.Gathering.{Part};
 ghost use Rattle.store_resume.specs.State.{Sequel, State};
 ghost use Rattle.store_resume.specs.States.{stage_state};
-ghost use Rattle.gather_course.specs.Aims.{ending_at};
+ghost use Rattle.gathering.specs.Aims.{ending_at};
 ghost use Rattle.chunk_server.specs.Core.{core_of};
 ghost use Rattle.chunk_server.specs.State.{IsSame};
 ghost use Rattle.call_steps.specs.Outcomes.{repair_outcome_of};
@@ -15,8 +15,7 @@ use crate::repair_call::RepairCall;
 use crate::stage::Stage;
 use call_steps::{Need, RepairOutcome, ServerAnswer};
 use chunk_server::{Installed, Server};
-use gather_course::Ending;
-use gathering::Gather;
+use gathering::{Ending, Gather};
 
 // How a call ends whose gathering has ended without its bytes.
 fn outcome_of(ending: Ending, gather: Gather) -> RepairOutcome

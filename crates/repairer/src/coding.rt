@@ -5,7 +5,7 @@ ghost use Rattle.store_resume.specs.Stage.{Aim};
 ghost use Rattle.stripe_dir.specs.Answers.{seen_in};
 ghost use Rattle.gathering.specs.Gathers.{new_gather, need_of as need_of_gather};
 ghost use Rattle.call_steps.specs.Steps.{need_of, coded};
-ghost use Rattle.gather_course.specs.Aims.{target_of};
+ghost use Rattle.gathering.specs.Aims.{target_of};
 ghost use Rattle.repairer.specs.Parts.{IsPinned, IsChunkMade};
 ghost use Rattle.repairer.specs.Standing.{stage_of};
 

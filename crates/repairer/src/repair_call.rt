@@ -15,7 +15,7 @@ ghost use Rattle.call_steps.specs.Hearing.{IsToldHere, IsToldThere};
 ghost use Rattle.call_steps.specs.Outcomes.{repair_outcome_of};
 ghost use Rattle.repairer.specs.Calls.{new_call};
 ghost use Rattle.call_steps.specs.CallOf.{taken_of};
-ghost use Rattle.gather_course.specs.Courses.{IsAskingStage};
+ghost use Rattle.gathering.specs.Courses.{IsAskingStage};
 ghost use Rattle.repairer.specs.Acting.{AsksAs, install_act};
 ghost use Rattle.repairer.specs.Inside.{takes_at};
 

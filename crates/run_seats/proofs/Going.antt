@@ -16,8 +16,8 @@ use Rattle.call_steps.specs.CallOf.{CallOf, act_of}
 use Rattle.call_steps.specs.Steps.{need_of, stepped_at_server}
 use Rattle.call_machine.specs.Calls.{MachineOf}
 use Rattle.call_machine.specs.Kinds.{Asked, machine_of}
-use Rattle.call_owes.specs.Owes.{OwesBy}
-use Rattle.call_owes.proofs.Owing.{keeps_owing}
+use Rattle.call_machine.specs.Owes.{OwesBy}
+use Rattle.call_machine.proofs.Owing.{keeps_owing}
 use Rattle.thread_laws.specs.Owed.{WasOwed}
 use Rattle.world_laws.specs.World.{ActorOf}
 use Rattle.world_laws.specs.ActorAfter.{actor_after, actor_after_by}

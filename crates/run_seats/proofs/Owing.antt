@@ -19,12 +19,12 @@ use Rattle.stripe_dir.specs.Stamped.{HaveContents}
 use Rattle.call_steps.specs.declared.need.Need.TheVariants as need
 use Rattle.call_steps.specs.CallOf.{CallOf, act_of}
 use Rattle.call_steps.specs.Steps.{coded, need_of}
-use Rattle.call_stands.proofs.Needs.{needs_tell_acts}
+use Rattle.call_laws.proofs.Needs.{needs_tell_acts}
 use Rattle.call_machine.specs.Kinds.{Asked, Machine, asked_job, machine_of, IfReads}
 use Rattle.call_machine.specs.Calls.{MachineOf, drawn_by}
-use Rattle.call_owes.specs.Owes.{OwesBy}
-use Rattle.call_owes.specs.Pinned.{pinned_at, point_served}
-use Rattle.call_owes.proofs.Owing.{at_coder_owes, at_end_owes, owing_stays}
+use Rattle.call_machine.specs.Owes.{OwesBy}
+use Rattle.call_machine.specs.Pinned.{pinned_at, point_served}
+use Rattle.call_machine.proofs.Owing.{at_coder_owes, at_end_owes, owing_stays}
 use Rattle.thread_laws.specs.Owed.{WasOwed}
 use Rattle.thread_laws.proofs.Owing.{owed_stay}
 use Rattle.world_laws.specs.World.{DoingOf, steps_of}

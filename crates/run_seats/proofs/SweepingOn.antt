@@ -8,7 +8,7 @@ use Rattle.store_core.specs.ActPlace.{place_of}
 use Rattle.store_core.specs.Sweep.{next_sweep, after_sweep}
 use Rattle.thread_laws.specs.MadeSteps.{MadeStep}
 use Rattle.call_steps.specs.declared.need.Need.TheVariants as need
-use Rattle.call_stands.proofs.Needs.{server_in}
+use Rattle.call_laws.proofs.Needs.{server_in}
 use Rattle.sweeper.specs.Sweeps.{SweeperOf, act_of, heard, need_at, need_of}
 use Rattle.turn_lock.specs.TurnState.{TurnState}
 use Rattle.place_laws.specs.Noted.{Noted}

@@ -6,7 +6,7 @@ use Rattle.store_core.specs.Act.{Outcome}
 use Rattle.thread_laws.specs.MadeSteps.{MadeStep}
 use Rattle.call_steps.specs.CallOf.{CallOf}
 use Rattle.call_machine.specs.Calls.{MachineOf}
-use Rattle.call_owes.specs.Owes.{OwesBy}
+use Rattle.call_machine.specs.Owes.{OwesBy}
 use Rattle.thread_laws.specs.Owed.{WasOwed}
 use Rattle.world_laws.specs.World.{DoingOf}
 use Rattle.actors.specs.Callers.{PartOf, CallerOf, asked_at}

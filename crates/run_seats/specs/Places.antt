@@ -10,7 +10,7 @@ use Rattle.store_map.specs.declared.script.Script.{Script}
 use Rattle.thread_laws.specs.MadeSteps.{MadeStep}
 use Rattle.version_seal.specs.Entry.{BookOf}
 use Rattle.turn_lock.specs.TurnState.{TurnState}
-use Rattle.lock_turns.specs.Dealt.{IsTurnAt}
+use Rattle.turn_lock.specs.Dealt.{IsTurnAt}
 use Rattle.place_laws.specs.Logs.{Logs}
 use Rattle.place_laws.specs.Stepped.{last_own}
 use Rattle.run_seats.specs.declared.directory_box.DirectoryIdentity.{DirectoryIdentity}

@@ -7,12 +7,26 @@ mod coders;
 #[cfg(test)]
 mod counted;
 #[cfg(test)]
+mod faults;
+#[cfg(test)]
 mod generated;
 #[cfg(test)]
 mod meeting;
 #[cfg(test)]
 mod meetings;
 #[cfg(test)]
+mod rows;
+#[cfg(test)]
 mod runs;
 #[cfg(test)]
 mod scripts;
+#[cfg(test)]
+mod session_coders;
+#[cfg(test)]
+mod session_counted;
+#[cfg(test)]
+mod session_runs;
+#[cfg(test)]
+mod snapshots;
+#[cfg(test)]
+mod words;

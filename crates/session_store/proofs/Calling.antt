@@ -42,18 +42,18 @@ use Rattle.session_laws.proofs.Answers.{call_next, call_snapshot}
 use Rattle.call_steps.specs.CallOf.{tries_by, act_of}
 use Rattle.call_machine.specs.Calls.{MachineOf, first_call, tries_in}
 use Rattle.call_machine.specs.Kinds.{Asked, Machine, machine_of, client_machine, IfReads}
-use Rattle.call_alone.specs.AtWork.{HasRun}
-use Rattle.call_alone.proofs.Running.{calls_run_alone}
+use Rattle.session_store.specs.AtWork.{HasRun}
+use Rattle.session_store.proofs.AloneRunning.{calls_run_alone}
 use Rattle.call_steps.specs.CallOutcomes.{call_outcome_of}
 use Rattle.call_steps.specs.declared.outcome.CallOutcome.{CallOutcome}
 use Rattle.store_map.specs.declared.actor.Point.{Point}
 use Rattle.store_core.specs.Content.{contents_by}
 use Rattle.content_laws.specs.ReadLaws.{bytes_read}
 use Rattle.client_read.specs.Owed.{contents_of}
-use Rattle.call_owes.specs.Owes.{OwesBy}
-use Rattle.call_owes.specs.OwesLaws.{AreAmong}
-use Rattle.call_owes.proofs.Owing.{at_end_owes}
-use Rattle.call_owes.proofs.Stamped.{contents_read}
+use Rattle.call_machine.specs.Owes.{OwesBy}
+use Rattle.call_machine.specs.OwesLaws.{AreAmong}
+use Rattle.call_machine.proofs.Owing.{at_end_owes}
+use Rattle.call_machine.proofs.Stamped.{contents_read}
 use Rattle.call_machine.specs.Ends.{IfBytesServed}
 use Rattle.session_laws.proofs.Maps.{bytes_are_owed}
 use Rattle.session_laws.proofs.Clients.{of_client}

@@ -40,12 +40,12 @@ use Rattle.store_resume.proofs.States.{states_resume}
 use Rattle.call_steps.specs.TokenAfter.{MayMake, IfInCall}
 use Rattle.call_steps.specs.CallOf.{CallOf, act_of}
 use Rattle.call_steps.specs.Steps.{HoldsItsPass, IsDueInPass, MayMakeNext}
-use Rattle.call_stands.specs.Ready.{ready, actor_coded}
-use Rattle.call_stands.specs.Stands.{Stands}
-use Rattle.call_stands.proofs.Acts.{acts_now}
-use Rattle.call_stands.proofs.Codings.{acts_stand}
-use Rattle.call_stands.proofs.Fitting.{leading_fits, server_leads, directory_fits}
-use Rattle.call_stands.proofs.Tokens.{passes_are_of_calls}
+use Rattle.call_laws.specs.Ready.{ready, actor_coded}
+use Rattle.call_laws.specs.Stands.{Stands}
+use Rattle.call_laws.proofs.Acts.{acts_now}
+use Rattle.call_laws.proofs.Codings.{acts_stand}
+use Rattle.call_laws.proofs.Fitting.{leading_fits, server_leads, directory_fits}
+use Rattle.call_laws.proofs.Tokens.{passes_are_of_calls}
 
 -- an actor that was told this in its call with a number
 abbrev pub telling : ℕ → List Told → List ℕ → Calling

@@ -18,7 +18,7 @@ use Rattle.session_store.specs.declared.places.SessionPlaces.{SessionPlaces}
 use Rattle.session_laws.specs.Seats.{ran, HasEnded}
 use Rattle.session_laws.specs.Answering.{took}
 use Rattle.call_steps.specs.CallOf.{tries_by, taken_of}
-use Rattle.call_alone.specs.AtWork.{first_at}
+use Rattle.session_store.specs.AtWork.{first_at}
 use Rattle.session_store.specs.declared.parts.Parts.{Parts}
 use Rattle.session_store.specs.Places.{seen_in}
 use Rattle.session_store.specs.Healing.{MayHeal, KeepsOthers, is_rebuilt, added_low, added_if, HasHealedOne, AreMade, HasMade, IsCutOffAt, HasHealed, AreOfServers, HealsWith}

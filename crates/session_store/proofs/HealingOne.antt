@@ -28,8 +28,8 @@ use Rattle.session_laws.specs.Answering.{took}
 use Rattle.call_steps.specs.CallOf.{tries_by, act_of, taken_of}
 use Rattle.call_machine.specs.Calls.{MachineOf, first_call, tries_in}
 use Rattle.call_machine.specs.Kinds.{Asked, Machine}
-use Rattle.call_alone.specs.AtWork.{HasRun, first_at}
-use Rattle.call_alone.proofs.Running.{calls_run_alone}
+use Rattle.session_store.specs.AtWork.{HasRun, first_at}
+use Rattle.session_store.proofs.AloneRunning.{calls_run_alone}
 use Rattle.call_steps.specs.CallOutcomes.{call_outcome_of}
 use Rattle.call_steps.specs.declared.outcome.CallOutcome.{CallOutcome}
 use Rattle.session_store.specs.declared.parts.Parts.{Parts}

@@ -13,7 +13,7 @@ use Rattle.session_laws.specs.Takes.{added}
 use Rattle.session_laws.specs.Seats.{ran}
 use Rattle.session_laws.specs.Answering.{took, AreMadeAnew, AreTakenAnew}
 use Rattle.call_steps.specs.CallOf.{taken_of}
-use Rattle.call_alone.specs.AtWork.{first_at}
+use Rattle.session_store.specs.AtWork.{first_at}
 use Rattle.session_store.specs.Healing.{low, added_low, added_if, AreMade}
 use Rattle.session_store.proofs.HealingOne.{took_length}
 

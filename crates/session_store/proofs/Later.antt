@@ -12,8 +12,8 @@ use Rattle.store_resume.specs.State.{State}
 use Rattle.store_resume.specs.LookAfter.{start_after}
 use Rattle.store_resume.specs.CallLaws.{next_call_from}
 use Rattle.store_resume.specs.FitLaws.{Fits}
-use Rattle.call_owes.proofs.Walks.{IsByPoint, settle, open_kept, read_told, later_told}
-use Rattle.call_owes.proofs.Acts.{IsLater}
+use Rattle.call_machine.proofs.Walks.{IsByPoint, settle, open_kept, read_told, later_told}
+use Rattle.call_machine.proofs.Acts.{IsLater}
 
 -- whatever its pins
 abbrev Any : Option ℕ → Type 0

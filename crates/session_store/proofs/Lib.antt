@@ -40,3 +40,4 @@ mod SnapsDropped
 mod ReadingAlone
 mod ReadingServed
 mod ReadingKept
+pub mod AloneRunning

@@ -15,7 +15,7 @@ use Rattle.store_resume.specs.Stage.{Aim, Stage}
 use Rattle.store_resume.specs.Stages.{first_stage}
 use Rattle.store_resume.specs.State.{Sequel, State}
 use Rattle.store_resume.specs.StateActs.{sequel_act, stage_act, parts_act, start_act, act_at}
-use Rattle.call_owes.proofs.Acts.{IsLater, start_or_later}
+use Rattle.call_machine.proofs.Acts.{IsLater, start_or_later}
 use Rattle.content_laws.specs.PinLaws.{IsReading}
 
 abbrev pub is_look : Act → Bool

@@ -31,7 +31,7 @@ use Rattle.call_steps.specs.declared.need.Need.{Need}
 use Rattle.call_steps.specs.declared.need.Need.TheVariants as need
 use Rattle.call_steps.specs.CallOf.{CallOf, act_of}
 use Rattle.call_steps.specs.Steps.{at_server_by, stepped_at_server}
-use Rattle.call_stands.proofs.Needs.{needs_tell_acts}
+use Rattle.call_laws.proofs.Needs.{needs_tell_acts}
 use Rattle.gather_parts.specs.declared.progress.Progress.TheVariants as progress
 use Rattle.gather_parts.specs.Progress.{progress_of, is_due, need_at}
 use Rattle.gather_parts.specs.States.{state_in, StandsIn, moved}

@@ -33,8 +33,8 @@ use Rattle.session_laws.proofs.Repairs.{has_parity}
 use Rattle.call_steps.specs.CallOf.{act_of}
 use Rattle.call_machine.specs.Calls.{MachineOf, first_call, tries_in}
 use Rattle.call_machine.specs.Kinds.{Asked, Machine}
-use Rattle.call_alone.specs.AtWork.{HasRun}
-use Rattle.call_alone.proofs.Running.{calls_run_alone}
+use Rattle.session_store.specs.AtWork.{HasRun}
+use Rattle.session_store.proofs.AloneRunning.{calls_run_alone}
 use Rattle.call_steps.specs.CallOutcomes.{call_outcome_of}
 use Rattle.call_steps.specs.declared.outcome.CallOutcome.{CallOutcome}
 use Rattle.call_steps.specs.declared.outcome.CallOutcome.TheVariants as ended

@@ -39,22 +39,22 @@ use Rattle.call_steps.specs.declared.need.Need.TheVariants as need
 use Rattle.call_steps.specs.TokenAfter.{token_after, MayMake, IfInCall}
 use Rattle.call_steps.specs.CallOf.{CallOf, act_of}
 use Rattle.call_steps.specs.Steps.{need_of, coded as coded_call, at_directory_by, at_server_by, HoldsItsPass, IsDueInPass, MayMakeNext, IsUndueOncePlaced}
-use Rattle.call_stands.proofs.Needs.{needs_tell_acts, ends_stay}
+use Rattle.call_laws.proofs.Needs.{needs_tell_acts, ends_stay}
 use Rattle.call_machine.specs.Calls.{MachineOf, KnowsOldOf}
 use Rattle.call_machine.specs.Kinds.{Asked, asked_job, Machine, machine_of, IfRebuilds}
-use Rattle.call_owes.specs.Owes.{OwesBy}
-use Rattle.call_owes.specs.OwesLaws.{AreAmong, LookIsOwed}
-use Rattle.call_owes.specs.Pinned.{pinned_at}
-use Rattle.call_owes.proofs.Acts.{IsLater}
-use Rattle.call_owes.proofs.Owing.{at_coder_owes, keeps_owing}
+use Rattle.call_machine.specs.Owes.{OwesBy}
+use Rattle.call_machine.specs.OwesLaws.{AreAmong, LookIsOwed}
+use Rattle.call_machine.specs.Pinned.{pinned_at}
+use Rattle.call_machine.proofs.Acts.{IsLater}
+use Rattle.call_machine.proofs.Owing.{at_coder_owes, keeps_owing}
 use Rattle.client_read.specs.Owed.{contents_of}
 use Rattle.run_laws.specs.Answers.{Answers}
 use Rattle.run_laws.specs.CallLeft.{pin_bound, call_left}
 use Rattle.store_core.specs.Bounds.{touched_count}
 use Rattle.store_core.specs.Read.{parts_of}
 use Rattle.store_resume.specs.FitLaws.{Fits}
-use Rattle.call_alone.specs.AtWork.{IsOf, HasRun}
-use Rattle.call_alone.proofs.Running.{calls_run_alone}
+use Rattle.session_store.specs.AtWork.{IsOf, HasRun}
+use Rattle.session_store.proofs.AloneRunning.{calls_run_alone}
 use Rattle.session_store.specs.declared.places.SessionPlaces.{SessionPlaces}
 use Rattle.session_store.specs.Places.{seen_in}
 use Rattle.call_machine.proofs.Knowing.{first_calls_know}

@@ -14,7 +14,7 @@ use Rattle.session_laws.specs.Alone.{AtWork}
 use Rattle.session_laws.specs.Wants.{after_coding, wanting_step, wanting_steps}
 use Rattle.session_laws.specs.Answering.{took}
 use Rattle.call_steps.specs.CallOf.{CallOf, act_of}
-use Rattle.call_alone.specs.AtWork.{HasRun, first_at}
+use Rattle.session_store.specs.AtWork.{HasRun, first_at}
 
 module _ (g : Shape) (tries : ℕ) (who : Actor) (number : ℕ) (job : Job) where
   -- what a step takes comes behind what those before took

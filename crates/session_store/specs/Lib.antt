@@ -13,3 +13,5 @@ pub mod Inside
 pub mod LostStripes
 pub mod Healing
 pub mod Reading
+pub mod AtWork
+pub mod Laws

@@ -18,9 +18,9 @@ use Rattle.store_resume.specs.States.{open_call}
 use Rattle.store_resume.specs.CallAfter.{state_of}
 use Rattle.client_read.specs.Owed.{contents_of}
 use Rattle.call_machine.specs.Calls.{MachineOf, KnowsOldOf, first_call}
-use Rattle.call_owes.specs.Owes.{OwesBy}
-use Rattle.call_owes.specs.OwesLaws.{AreAmong}
-use Rattle.call_alone.specs.AtWork.{HasRun, first_at}
+use Rattle.call_machine.specs.Owes.{OwesBy}
+use Rattle.call_machine.specs.OwesLaws.{AreAmong}
+use Rattle.session_store.specs.AtWork.{HasRun, first_at}
 use Rattle.session_laws.specs.Answering.{took}
 use Rattle.content_laws.specs.PinLaws.{IsReading}
 use Rattle.session_store.specs.declared.places.SessionPlaces.{SessionPlaces}

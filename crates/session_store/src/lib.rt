@@ -11,6 +11,7 @@ mod lost_stripes;
 mod parts;
 mod places;
 mod rebuilds;
+pub mod running_alone;
 mod scrubs;
 mod seats;
 mod snapshot_reads;

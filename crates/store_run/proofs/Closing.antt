@@ -5,10 +5,10 @@ use Rattle.thread_laws.specs.MadeSteps.{MadeStep}
 use Rattle.run_laws.proofs.Scripts.{Mapped, mapped}
 use Rattle.chunk_server.specs.State.{ServerState}
 use Rattle.turn_lock.specs.TurnState.{TurnState}
-use Rattle.lock_turns.specs.Dealt.{IsTurnAt}
-use Rattle.lock_turns.specs.Joined.{AreAll, IsWhole}
-use Rattle.lock_rows.specs.Out.{AreOut, AreRows, IsOut}
-use Rattle.lock_rows.specs.Piles.{items_of}
+use Rattle.turn_lock.specs.Dealt.{IsTurnAt}
+use Rattle.turn_lock.specs.Joined.{AreAll, IsWhole}
+use Rattle.turn_lock.specs.Out.{AreOut, AreRows, IsOut}
+use Rattle.turn_lock.specs.Piles.{items_of}
 use Rattle.place_laws.specs.AtDirectory.{StandsAtDirectory}
 use Rattle.place_laws.specs.AtServer.{StandsAtServer}
 use Rattle.chunk_server.specs.Core.{core_of}

@@ -8,9 +8,9 @@ use Rattle.std.proofs.lemmas.List.Folds.{list_any_at}
 use Rattle.std.proofs.lemmas.List.FromFn.{get_or-range_with_len, length-range_with_len}
 use Rattle.std.proofs.lemmas.Option.{get_or_from_slice_get, same_Some, slice_get_within}
 use Rattle.dir_parts.proofs.Entries.{slice_get-map}
-use Rattle.lock_turns.proofs.Lists.{at_place}
-use Rattle.lock_rows.specs.Numbered.{AreAllSpread, AreSpread, IsOn}
-use Rattle.lock_rows.specs.Piles.{items_of}
+use Rattle.turn_lock.proofs.JoinedLists.{at_place}
+use Rattle.turn_lock.specs.Numbered.{AreAllSpread, AreSpread, IsOn}
+use Rattle.turn_lock.specs.Piles.{items_of}
 use Rattle.run_seats.specs.SeatedActors.{IsSeatedActor, actor_has, number_of, some_has}
 use Rattle.run_seats.specs.declared.seated_actor.SeatedActor.{SeatedActor}
 use Rattle.run_seats.specs.declared.store.Store.{Store}

@@ -4,9 +4,9 @@ use Rattle.std.proofs.lemmas.List.{length-map}
 use Rattle.std.proofs.lemmas.List.Elements.{All-map, All-nil, All-push, All-set, All-weaker}
 use Rattle.std.proofs.lemmas.Option.{get_or_from_slice_get, same_Some, slice_get-get_or, slice_get_within}
 use Rattle.dir_parts.proofs.Entries.{slice_get-map}
-use Rattle.lock_turns.proofs.Lists.{at_place, map_set}
-use Rattle.lock_rows.specs.Numbered.{AreSpread, falling}
-use Rattle.lock_rows.proofs.Spreading.{spread_begins, spread_goes_on}
+use Rattle.turn_lock.proofs.JoinedLists.{at_place, map_set}
+use Rattle.turn_lock.specs.Numbered.{AreSpread, falling}
+use Rattle.turn_lock.proofs.Spreading.{spread_begins, spread_goes_on}
 use Rattle.run_seats.specs.SeatedActors.{IsSeatedActor, number_of, some_has}
 use Rattle.run_seats.specs.Working.{AreDone}
 use Rattle.run_seats.specs.declared.seated_actor.SeatedActor.{SeatedActor}

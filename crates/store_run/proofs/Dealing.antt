@@ -4,10 +4,10 @@ use Rattle.std.proofs.lemmas.Option.{slice_get_within}
 use Rattle.atomic_table.specs.Seated.{TableId}
 use Rattle.thread_laws.specs.MadeSteps.{MadeStep}
 use Rattle.turn_lock.specs.TurnState.{TurnState, new_turn}
-use Rattle.lock_turns.proofs.Dealing.{turn_first, turn_taken, turns_left}
-use Rattle.lock_turns.proofs.Lists.{at_place}
-use Rattle.lock_rows.specs.Piles.{items_of}
-use Rattle.lock_rows.specs.Rows.{ArePiles, DealOf, IsNewRow}
+use Rattle.turn_lock.proofs.Dealing.{turn_first, turn_taken, turns_left}
+use Rattle.turn_lock.proofs.JoinedLists.{at_place}
+use Rattle.turn_lock.specs.Piles.{items_of}
+use Rattle.turn_lock.specs.Rows.{ArePiles, DealOf, IsNewRow}
 use Rattle.place_laws.specs.Noted.{Noted}
 use Rattle.run_seats.specs.Places.{IsStore, directory_of, server_of}
 use Rattle.run_seats.specs.declared.directory_box.DirectoryIdentity.{DirectoryIdentity}

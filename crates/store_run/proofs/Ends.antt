@@ -25,9 +25,9 @@ use Rattle.world_laws.specs.Known.{calling_by, calling_of}
 use Rattle.world_laws.specs.World.{DoingOf}
 use Rattle.actors.specs.Callers.{PartOf, who_of}
 use Rattle.actors.specs.Inside.{served_of}
-use Rattle.lock_turns.proofs.Lists.{at_place}
-use Rattle.lock_rows.specs.Out.{HasOwnAt}
-use Rattle.lock_rows.specs.Piles.{items_of}
+use Rattle.turn_lock.proofs.JoinedLists.{at_place}
+use Rattle.turn_lock.specs.Out.{HasOwnAt}
+use Rattle.turn_lock.specs.Piles.{items_of}
 use Rattle.place_laws.specs.AtServer.{StandsAtServer}
 use Rattle.place_laws.specs.Noted.{made_in}
 use Rattle.place_laws.specs.Numbers.{actor_at}

@@ -26,11 +26,11 @@ use Rattle.dir_parts.proofs.Entries.{slice_get-map}
 use Rattle.version_seal.specs.Entry.{BookOf}
 use Rattle.stripe_dir.specs.Sealed.{Sealed}
 use Rattle.call_steps.specs.declared.need.Need.TheVariants as need
-use Rattle.call_stands.proofs.Needs.{server_in}
+use Rattle.call_laws.proofs.Needs.{server_in}
 use Rattle.sweeper.specs.Sweeps.{SweeperOf, act_of, at_directory_by, heard, need_at, need_of, stepped_at_directory, stepped_at_server}
 use Rattle.turn_lock.specs.History.{Among, GoesOn}
 use Rattle.turn_lock.proofs.Lists.{among_one, entries_of-with_entry, prefix_after, prefix_self, prefix_trans}
-use Rattle.lock_turns.proofs.Lists.{each_changed, map_set}
+use Rattle.turn_lock.proofs.JoinedLists.{each_changed, map_set}
 use Rattle.world_laws.specs.SweepsLeft.{sweeps_left}
 use Rattle.world_laws.proofs.SweepsLeft.{sweeps_fall}
 use Rattle.place_laws.specs.AtServer.{StandsAtServer}

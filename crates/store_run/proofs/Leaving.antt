@@ -9,8 +9,8 @@ use Rattle.call_steps.specs.declared.caller_calls.CallerCalls.{CallerCalls}
 use Rattle.sweeper.specs.Sweeps.{SweeperOf}
 use Rattle.turn_lock.specs.TurnState.{TurnState}
 use Rattle.place_laws.specs.Noted.{Noted}
-use Rattle.lock_turns.proofs.Lists.{at_end, each_pushed, front}
-use Rattle.lock_rows.specs.Piles.{items_of}
+use Rattle.turn_lock.proofs.JoinedLists.{at_end, each_pushed, front}
+use Rattle.turn_lock.specs.Piles.{items_of}
 use Rattle.place_laws.specs.Logs.{counts_of}
 use Rattle.run_seats.specs.Seated.{IsSeated}
 use Rattle.run_seats.specs.SeatedActors.{IsSeatedActor, number_of}

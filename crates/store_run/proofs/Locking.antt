@@ -5,11 +5,11 @@ use Rattle.std.proofs.lemmas.Option.{none-some, same_Some, slice_get_within}
 use Rattle.std.specs.Global.{Global}
 use Rattle.atomic_table.specs.Seated.{TableId}
 use Rattle.turn_lock.specs.TurnState.{TurnState}
-use Rattle.lock_turns.specs.Dealt.{AreTurns}
-use Rattle.lock_turns.proofs.Lists.{at_end, each_pushed}
-use Rattle.lock_rows.specs.Piles.{items_of}
-use Rattle.lock_rows.specs.Rows.{ArePiles}
-use Rattle.lock_rows.proofs.Lists.{before_last}
+use Rattle.turn_lock.specs.Dealt.{AreTurns}
+use Rattle.turn_lock.proofs.JoinedLists.{at_end, each_pushed}
+use Rattle.turn_lock.specs.Piles.{items_of}
+use Rattle.turn_lock.specs.Rows.{ArePiles}
+use Rattle.turn_lock.proofs.RowLists.{before_last}
 
 module _ {F E : Type 0} (identity : ℕ → F) (locks : List TableId) (count : ℕ) (piles : List (List (TurnState F E))) (lock : TableId) (pile : List (TurnState F E))
     (are : ArePiles identity locks count piles) (new : AreTurns lock (identity (length locks)) count pile) where

@@ -6,10 +6,10 @@ use Rattle.dir_parts.proofs.Entries.{slice_get-map}
 use Rattle.thread_laws.specs.MadeSteps.{MadeStep}
 use Rattle.turn_lock.specs.History.{entries_of}
 use Rattle.turn_lock.specs.TurnState.{TurnState}
-use Rattle.lock_turns.specs.Joined.{HasOwn}
-use Rattle.lock_turns.proofs.Lists.{at_place}
-use Rattle.lock_rows.specs.Out.{HasOwnAt}
-use Rattle.lock_rows.specs.Piles.{items_of}
+use Rattle.turn_lock.specs.Joined.{HasOwn}
+use Rattle.turn_lock.proofs.JoinedLists.{at_place}
+use Rattle.turn_lock.specs.Out.{HasOwnAt}
+use Rattle.turn_lock.specs.Piles.{items_of}
 use Rattle.place_laws.specs.Noted.{Noted}
 use Rattle.place_laws.specs.Logs.{HasSeenOwn, Logs}
 use Rattle.place_laws.proofs.Seen.{histories_have_all}

@@ -35,7 +35,7 @@ use Rattle.thread_laws.specs.Run.{IsRun, steps_of}
 use Rattle.thread_laws.proofs.Runs.{history, threaded_runs_are_runs}
 use Rattle.dir_parts.proofs.Entries.{slice_get-map}
 use Rattle.chunk_server.specs.Core.{core_of as server_core}
-use Rattle.lock_turns.proofs.Lists.{at_place}
+use Rattle.turn_lock.proofs.JoinedLists.{at_place}
 use Rattle.call_steps.specs.CallerCalls.{HaveNames, calling_at, counts_of, ended_of}
 use Rattle.world_laws.specs.Served.{ServedAre}
 use Rattle.world_laws.specs.HeldCore.{Holds}

@@ -7,8 +7,8 @@ use Rattle.chunk_server.specs.Core.{core_of}
 use Rattle.chunk_server.specs.State.{ServerState}
 use Rattle.stripe_dir.specs.Sealed.{Sealed}
 use Rattle.turn_lock.specs.TurnState.{TurnState}
-use Rattle.lock_turns.specs.Joined.{IsWhole}
-use Rattle.lock_rows.specs.Out.{HasOwnAt}
+use Rattle.turn_lock.specs.Joined.{IsWhole}
+use Rattle.turn_lock.specs.Out.{HasOwnAt}
 use Rattle.place_laws.specs.AtDirectory.{StandsAtDirectory}
 use Rattle.place_laws.specs.AtServer.{StandsAtServer}
 use Rattle.place_laws.specs.Noted.{Noted}

@@ -1,6 +1,6 @@
 -- Actors dealt to workers by their numbers.
 use Rattle.std.specs.Prelude.{◌≡◌, ℕ, false, All, List, map}
-use Rattle.lock_rows.specs.Numbered.{AreSpread}
+use Rattle.turn_lock.specs.Numbered.{AreSpread}
 use Rattle.run_seats.specs.SeatedActors.{IsSeatedActor, number_of, some_has}
 use Rattle.run_seats.specs.declared.seated_actor.SeatedActor.{SeatedActor}
 use Rattle.run_seats.specs.declared.store.Store.{Store}

@@ -7,9 +7,9 @@ use Rattle.store_map.specs.declared.script.Script.{Script}
 use Rattle.thread_laws.specs.MadeSteps.{MadeStep}
 use Rattle.version_seal.specs.Entry.{BookOf}
 use Rattle.turn_lock.specs.TurnState.{TurnState}
-use Rattle.lock_turns.specs.Dealt.{AreTurns}
-use Rattle.lock_rows.specs.Piles.{items_of}
-use Rattle.lock_rows.specs.Rows.{ArePiles}
+use Rattle.turn_lock.specs.Dealt.{AreTurns}
+use Rattle.turn_lock.specs.Piles.{items_of}
+use Rattle.turn_lock.specs.Rows.{ArePiles}
 use Rattle.run_seats.specs.Places.{directory_of, server_for, server_of}
 use Rattle.run_seats.specs.declared.server_box.ServerIdentity.{ServerIdentity}
 use Rattle.run_seats.specs.declared.store.Store.{Store}

@@ -7,7 +7,7 @@ use Rattle.call_steps.specs.declared.caller_calls.CallerCalls.{CallerCalls}
 use Rattle.world_laws.specs.Known.{calling_by}
 use Rattle.sweeper.specs.Sweeps.{SweeperOf}
 use Rattle.actors.specs.Inside.{served_of}
-use Rattle.lock_rows.specs.Piles.{items_of}
+use Rattle.turn_lock.specs.Piles.{items_of}
 use Rattle.run_seats.specs.SeatedActors.{IsSeatedActor, actor_has, number_of}
 use Rattle.run_seats.specs.declared.seated.Seated.{Seated}
 use Rattle.run_seats.specs.declared.seated_actor.SeatedActor.{SeatedActor}

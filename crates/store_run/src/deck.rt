@@ -4,11 +4,9 @@ ghost use Rattle.run_seats.specs.Places.{IsStore};
 ghost use Rattle.store_run.specs.Dealt.{IsDeck};
 ghost use Rattle.store_run.specs.First.{AreNew};
 
-use lock_rows::deal_row;
-use lock_turns::take_last;
 use run_seats::{DirectoryBox, ServerBox, Store, Turns};
 use std::alloc::{AllocError, Global};
-use turn_lock::Turn;
+use turn_lock::{Turn, deal_row, take_last};
 
 /// The turns at the directory and at each server, those of the least numbers at each.
 #[derive(Drop)]

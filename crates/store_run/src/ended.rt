@@ -1,8 +1,8 @@
 //! The places of a run whose actors have no step left, taken out of their locks.
 ghost use Rattle.std.specs.Prelude.{◌≡◌, ℕ, List, IfOk, map};
-ghost use Rattle.lock_turns.specs.Joined.{AreAll, IsWhole};
-ghost use Rattle.lock_rows.specs.Out.{AreRows};
-ghost use Rattle.lock_rows.specs.Piles.{items_of};
+ghost use Rattle.turn_lock.specs.Joined.{AreAll, IsWhole};
+ghost use Rattle.turn_lock.specs.Out.{AreRows};
+ghost use Rattle.turn_lock.specs.Piles.{items_of};
 ghost use Rattle.run_seats.specs.Places.{IsStore, directory_of, server_of};
 ghost use Rattle.run_seats.specs.declared.directory_box.DirectoryIdentity.{DirectoryIdentity};
 ghost use Rattle.run_seats.specs.declared.server_box.ServerIdentity.{ServerIdentity};
@@ -13,14 +13,12 @@ ghost use Rattle.store_run.specs.Left.{HasLeft};
 use crate::ending::Left;
 use call_steps::CallerCalls;
 use chunk_server::Server;
-use lock_rows::take_out_each;
-use lock_turns::take_out;
 use run_seats::{DirectoryBox, ServerBox, Store};
 use std::alloc::{AllocError, Global};
 use std::sync::Wait;
 use stripe_dir::Directory;
 use sweeper::Sweeper;
-use turn_lock::{Historied, Lock, Turn};
+use turn_lock::{Historied, Lock, Turn, take_out, take_out_each};
 
 /// The directory and the servers, the sweeper, and the calls of the clients and of the repairers.
 pub(crate) struct Ended {

@@ -1,6 +1,6 @@
 //! What the actors of a run leave that have no step left.
 ghost use Rattle.std.specs.Prelude.{◌≡◌, ◌+◌, ◌<◌, ◌∷◌, ◌++◌, [], List, length, IfOk};
-ghost use Rattle.lock_rows.specs.Piles.{items_of};
+ghost use Rattle.turn_lock.specs.Piles.{items_of};
 ghost use Rattle.run_seats.specs.Places.{IsStore};
 ghost use Rattle.run_seats.specs.declared.seated_actor.SeatedActor.{SeatedActor as ActorSeated};
 ghost use Rattle.run_seats.specs.declared.store.Store.{Store as StoreOf};
@@ -10,8 +10,6 @@ ghost use Rattle.store_run.specs.Leaving.{AreAllOver, CallerLeaves, HasLeftOf, I
 ghost use Rattle.store_run.specs.Left.{HasLeft, turns_in};
 
 use call_steps::CallerCalls;
-use lock_rows::take_spread;
-use lock_turns::take_last;
 use run_seats::{
     DirectoryBox, Seated, SeatedActor, SeatedOperator, SeatedSweeper, ServerBox, Store, Turns,
     Worker,
@@ -19,7 +17,7 @@ use run_seats::{
 use std::alloc::{AllocError, Global};
 use store_map::{Actor, Script};
 use sweeper::Sweeper;
-use turn_lock::Turn;
+use turn_lock::{Turn, take_last, take_spread};
 
 /// What the actors leave, in the order of their numbers: the calls of the clients and of the repairers, the
 /// sweeper, the turns at the directory, and a row of turns of each, one at each server.

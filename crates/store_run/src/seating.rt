@@ -14,12 +14,12 @@ ghost use Rattle.store_run.specs.Seated.{IsSeatedFrom, IsSeating};
 
 use crate::deck::Deck;
 use actors::{Caller, Part};
-use lock_turns::take_last;
 use run_seats::{Seated, SeatedActor, SeatedOperator, SeatedSweeper, Store, Worker};
 use std::alloc::{AllocError, Global};
 use store_map::{Actor, Script, Token};
 use stripe_dir::Seat;
 use sweeper::Sweeper;
+use turn_lock::take_last;
 
 // Whether a token is a line of the operator.
 fn is_line(token: Token) -> bool

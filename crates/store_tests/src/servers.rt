@@ -1,9 +1,9 @@
 //! Tests of the chunk server. Each runs over a borrowed shelf, so that little is alive at each of its steps, and one function
 //! makes the shelves, so that it is proved once.
 use crate::holds;
+use crate::sealing::small_geometry;
+use crate::shelf::Shelf;
 use chunk_server::{Fetched, Installed, Presence, Server};
-use sealed_shelf::sealing::small_geometry;
-use sealed_shelf::shelf::Shelf;
 use std::alloc::Global;
 use std::test::Fail;
 use store_map::{Found, Placement, Version};

@@ -1,14 +1,14 @@
 //! Tests of sealed versions.
 ghost use Rattle.std.specs.Prelude.{◌≡◌, None, Some, IfOk, IsTrue};
-ghost use Rattle.sealed_shelf.specs.Small.{IsSmall, IsStampOf};
+ghost use Rattle.store_tests.specs.Small.{IsSmall, IsStampOf};
 ghost use Rattle.store_map.specs.declared.actor.Actor.TheVariants.{Client};
 ghost use Rattle.store_core.specs.History.{call_of};
 ghost use Rattle.version_seal.specs.Entry.{is_writing};
 ghost use Rattle.version_seal.specs.Sealer.{sealer_at};
 
 use crate::holds;
+use crate::sealing::{fetched, gathered, part, small_geometry, stamp, stamp_over, stripe};
 use clay_decode::decode;
-use sealed_shelf::sealing::{fetched, gathered, part, small_geometry, stamp, stamp_over, stripe};
 use std::alloc::Global;
 use std::test::Fail;
 use std::thread;

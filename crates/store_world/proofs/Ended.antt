@@ -14,9 +14,9 @@ use Rattle.call_steps.specs.declared.caller_calls.CallerCalls.{CallerCalls}
 use Rattle.world_laws.specs.World.{DoingOf}
 use Rattle.world_laws.specs.Known.{calling_by, calling_of, core_of}
 use Rattle.actors.specs.Callers.{CallerOf}
-use Rattle.world_owes.specs.ServeLaws.{HasCalls}
-use Rattle.world_owes.proofs.Serving.{served_is_owed}
-use Rattle.world_owes.proofs.WorldPins.{worlds_serve_at_pins}
+use Rattle.store_world.specs.ServeLaws.{HasCalls}
+use Rattle.store_world.proofs.Serving.{served_is_owed}
+use Rattle.store_world.proofs.WorldPins.{worlds_serve_at_pins}
 use Rattle.store_world.specs.Ending.{IsCallsOf, AreCallsOf}
 use Rattle.store_world.specs.Stored.{StoredWorld, world_of}
 use Rattle.store_world.specs.Kept.{IsWorld}

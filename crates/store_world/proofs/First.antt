@@ -28,8 +28,8 @@ use Rattle.world_laws.specs.Goes.{IsReachedBy}
 use Rattle.world_laws.proofs.Goes.{worlds_go_on}
 use Rattle.actors.specs.Turns.{AreServers}
 use Rattle.actors.specs.Callers.{PartOf, CallerOf, Knows, StandsIn, first_caller}
-use Rattle.world_owes.specs.Serving.{ServesItsPins}
-use Rattle.world_owes.proofs.Serving.{clients_go_on_serving}
+use Rattle.store_world.specs.Serving.{ServesItsPins}
+use Rattle.store_world.proofs.Serving.{clients_go_on_serving}
 use Rattle.store_world.specs.First.{IsFirstClient, AreFirstClients, IsFirstRepairer, AreFirstRepairers, BeginWith, seats_of, first_directory, first_servers}
 use Rattle.store_world.specs.Stored.{StoredWorld, world_of}
 use Rattle.store_world.specs.Kept.{IsCallerAt, IsClientAt, IsRepairerAt, IsWorld}

@@ -13,8 +13,8 @@ use Rattle.world_laws.specs.Goes.{Leads}
 use Rattle.world_laws.proofs.Goes.{worlds_go_on}
 use Rattle.actors.specs.Turns.{AreServers}
 use Rattle.actors.specs.Callers.{CallerOf}
-use Rattle.world_owes.specs.ServeLaws.{HasMorePoints}
-use Rattle.world_owes.proofs.Serving.{clients_go_on_serving}
+use Rattle.store_world.specs.ServeLaws.{HasMorePoints}
+use Rattle.store_world.proofs.Serving.{clients_go_on_serving}
 use Rattle.store_world.specs.Stored.{StoredWorld, world_of}
 use Rattle.store_world.specs.Kept.{IsCallerAt, IsClientAt, AreClients, IsRepairerAt, AreRepairers, IsWorld}
 use Rattle.store_world.proofs.Knowing.{knows_more}

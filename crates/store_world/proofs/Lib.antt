@@ -15,3 +15,14 @@ pub mod Results
 pub mod Few
 pub mod Ended
 pub mod Playing
+pub mod Looked
+pub mod Grow
+pub mod OwesLists
+pub mod Opening
+pub mod Steps
+pub mod Looks
+pub mod Made
+pub mod Ready
+pub mod Turns
+pub mod Serving
+pub mod WorldPins

@@ -42,8 +42,8 @@ use Rattle.world_laws.specs.Goes.{Leads}
 use Rattle.world_laws.specs.Telling.{TellsOf}
 use Rattle.world_laws.specs.TurnMade.{places_of}
 use Rattle.world_laws.proofs.Places.{sweeper_tells}
-use Rattle.world_owes.specs.ServeLaws.{HasMorePoints}
-use Rattle.world_owes.proofs.Grow.{histories_grow}
+use Rattle.store_world.specs.ServeLaws.{HasMorePoints}
+use Rattle.store_world.proofs.Grow.{histories_grow}
 use Rattle.store_world.specs.Stored.{StoredWorld, world_of}
 use Rattle.store_world.specs.Telling.{LeadsTold, act_told, server_act_told, reap_told}
 use Rattle.store_world.specs.Kept.{IsWorld}

@@ -12,7 +12,7 @@ use Rattle.chunk_server.specs.State.{ServerState}
 use Rattle.chunk_server.specs.Core.{core_of}
 use Rattle.dir_parts.proofs.Entries.{map-set, slice_get-map}
 use Rattle.stripe_dir.specs.Sealed.{Sealed}
-use Rattle.call_stands.specs.Ready.{shortage_of}
+use Rattle.call_laws.specs.Ready.{shortage_of}
 use Rattle.world_laws.specs.World.{ActorOf, WorldOf, with_repairer}
 use Rattle.world_laws.specs.Known.{calling_of}
 use Rattle.world_laws.specs.Tokens.{KeepsToken}
@@ -27,9 +27,9 @@ use Rattle.actors.specs.Turned.{MakesTurn, Leads as ActorLeads, with_places}
 use Rattle.actors.specs.LeadLaws.{AllTurnsLead}
 use Rattle.actors.specs.Callers.{PartOf, CallerOf, StandsIn, Knows, who_of, work_of}
 use Rattle.actors.specs.CallerTurns.{MakesCallerTurn, TellsCallerTurn, HasMore}
-use Rattle.world_owes.specs.ServeLaws.{HasMorePoints}
-use Rattle.world_owes.proofs.Grow.{histories_grow}
-use Rattle.world_owes.proofs.Serving.{clients_go_on_serving}
+use Rattle.store_world.specs.ServeLaws.{HasMorePoints}
+use Rattle.store_world.proofs.Grow.{histories_grow}
+use Rattle.store_world.proofs.Serving.{clients_go_on_serving}
 use Rattle.store_world.specs.Having.{caller_has}
 use Rattle.store_world.specs.Stored.{StoredWorld, world_of}
 use Rattle.store_world.specs.Telling.{LeadsTold}

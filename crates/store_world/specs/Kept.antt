@@ -13,7 +13,7 @@ use Rattle.world_laws.specs.Tokens.{TokensAgree}
 use Rattle.world_laws.specs.Goes.{IsReached}
 use Rattle.actors.specs.Turns.{AreServers}
 use Rattle.actors.specs.Callers.{PartOf, CallerOf, StandsIn, Knows}
-use Rattle.world_owes.specs.Serving.{ServesItsPins}
+use Rattle.store_world.specs.Serving.{ServesItsPins}
 use Rattle.store_world.specs.Stored.{StoredWorld, world_of}
 
 -- a caller at its place of the script, of the book, which knows by the directory's stamps what it keeps

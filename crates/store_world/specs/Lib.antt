@@ -5,3 +5,9 @@ pub mod Telling
 pub mod Having
 pub mod First
 pub mod Ending
+pub mod Looked
+pub mod Serving
+pub mod OfMap
+pub mod ServeLaws
+pub mod WorldLaws
+pub mod WorldPins

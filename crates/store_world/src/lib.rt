@@ -7,6 +7,7 @@ mod drain;
 mod ending;
 mod operator;
 mod script_run;
+pub mod serving;
 mod step;
 mod sweep;
 mod telling;

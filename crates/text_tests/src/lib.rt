@@ -3,6 +3,8 @@
 
 #[cfg(test)]
 mod plain_map;
+#[cfg(test)]
+mod streams;
 
 #[cfg(test)]
 use std::test::Fail;

@@ -4,7 +4,7 @@ use Rattle.store_map.specs.declared.call_name.CallName.{CallName}
 use Rattle.store_map.specs.declared.transcript.Transcript.{Transcript}
 use Rattle.store_core.specs.Shown.{shown_of}
 use Rattle.store_core.specs.Step.{Shortage}
-use Rattle.store_rows.specs.Rows.{Row}
+use Rattle.store_core.specs.Rows.{Row}
 use Rattle.transcript_laws.specs.Steps.{run_trace}
 use Rattle.transcript_laws.specs.Answered.{HasResult, IsDone}
 use Rattle.transcript_laws.specs.Facts.{Facts, facts_of}

@@ -5,7 +5,7 @@ use Rattle.store_map.specs.declared.call_name.CallName.{CallName}
 use Rattle.store_map.specs.declared.cause.RepairResult.TheVariants as result
 use Rattle.hist_rules.specs.Calls.{call_of}
 use Rattle.store_core.specs.Note.{note_of}
-use Rattle.store_rows.specs.Rows.{Row, Shows}
+use Rattle.store_core.specs.Rows.{Row, Shows}
 use Rattle.transcript_laws.specs.Steps.{run_trace}
 use Rattle.transcript_laws.specs.Trace.{Made}
 use Rattle.history_laws.specs.LeastTakes.{TookLeast, TookRange}

@@ -2,3 +2,9 @@ pub mod History
 pub mod TurnState
 pub mod Rule
 pub mod Steps
+pub mod Dealt
+pub mod Joined
+pub mod Numbered
+pub mod Out
+pub mod Piles
+pub mod Rows

@@ -16,9 +16,9 @@ use Rattle.run_laws.specs.ShortageLaws.{may_turn}
 use Rattle.transcript_laws.specs.Trace.{Made, call_made, job_made, made_if, made_by}
 use Rattle.call_steps.specs.CallOf.{CallOf, act_of}
 use Rattle.call_steps.specs.Steps.{IsDueInPass}
-use Rattle.call_stands.specs.Stands.{Stands}
-use Rattle.call_stands.specs.Ready.{ready, shortage_of}
-use Rattle.call_stands.proofs.Codings.{acts_stand}
+use Rattle.call_laws.specs.Stands.{Stands}
+use Rattle.call_laws.specs.Ready.{ready, shortage_of}
+use Rattle.call_laws.proofs.Codings.{acts_stand}
 use Rattle.world_laws.specs.World.{ActorOf, WorldOf}
 use Rattle.world_laws.specs.Known.{calling_of}
 use Rattle.world_laws.specs.StandsFor.{AllStand, StandsFor}

@@ -5,7 +5,7 @@ use Rattle.store_core.specs.Act.{Act}
 use Rattle.store_core.specs.Step.{Places, at_places}
 use Rattle.transcript_laws.specs.Trace.{Made}
 use Rattle.call_steps.specs.CallOf.{CallOf, act_of}
-use Rattle.call_stands.specs.Ready.{ready}
+use Rattle.call_laws.specs.Ready.{ready}
 use Rattle.world_laws.specs.World.{WorldOf}
 
 -- of its call before it, with a coding first if one is due; whether memory was wanting in the coding and in the step

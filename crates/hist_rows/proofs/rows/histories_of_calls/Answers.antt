@@ -1,6 +1,6 @@
 use Rattle.std.proofs.Common.{refl}
-use Rattle.store_rows.specs.RowsCalls.{put_then_get, empty_object, each_refusal}
-use Rattle.store_rows.specs.RowsShort.{put_without_memory}
+use Rattle.store_core.specs.RowsCalls.{put_then_get, empty_object, each_refusal}
+use Rattle.store_core.specs.RowsShort.{put_without_memory}
 use Rattle.hist_rules.proofs.HistoryLaw.{legal_is_history}
 use Rattle.hist_rows.proofs.rows.histories_of_calls.Goals as goal
 

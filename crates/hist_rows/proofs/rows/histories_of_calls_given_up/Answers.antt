@@ -1,5 +1,5 @@
 use Rattle.std.proofs.Common.{refl}
-use Rattle.store_rows.specs.RowsGivenUp.{left_before_commit, left_after_commit, reaped_before_commit, strays_of_a_reaped_put}
+use Rattle.store_core.specs.RowsGivenUp.{left_before_commit, left_after_commit, reaped_before_commit, strays_of_a_reaped_put}
 use Rattle.hist_rules.proofs.HistoryLaw.{legal_is_history}
 use Rattle.hist_rows.proofs.rows.histories_of_calls_given_up.Goals as goal
 

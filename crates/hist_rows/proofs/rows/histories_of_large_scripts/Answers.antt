@@ -1,5 +1,5 @@
 use Rattle.std.proofs.Common.{refl}
-use Rattle.store_rows.specs.RowsLarge.{many_actors, no_calls}
+use Rattle.store_core.specs.RowsLarge.{many_actors, no_calls}
 use Rattle.hist_rules.proofs.HistoryLaw.{legal_is_history}
 use Rattle.hist_rows.proofs.rows.histories_of_large_scripts.Goals as goal
 

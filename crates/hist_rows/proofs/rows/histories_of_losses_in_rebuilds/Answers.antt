@@ -1,5 +1,5 @@
 use Rattle.std.proofs.Common.{refl}
-use Rattle.store_rows.specs.RowsRebuildLosses.{loss_while_looking, loss_while_fetching}
+use Rattle.store_core.specs.RowsRebuildLosses.{loss_while_looking, loss_while_fetching}
 use Rattle.hist_rules.proofs.HistoryLaw.{legal_is_history}
 use Rattle.hist_rows.proofs.rows.histories_of_losses_in_rebuilds.Goals as goal
 

@@ -1,5 +1,5 @@
 use Rattle.std.proofs.Common.{refl}
-use Rattle.store_rows.specs.RowsManyLosses.{read_after_two_losses, read_after_three_losses, one_of_three_lost, three_of_three_lost}
+use Rattle.store_core.specs.RowsManyLosses.{read_after_two_losses, read_after_three_losses, one_of_three_lost, three_of_three_lost}
 use Rattle.hist_rules.proofs.HistoryLaw.{legal_is_history}
 use Rattle.hist_rows.proofs.rows.histories_of_many_losses.Goals as goal
 

@@ -1,5 +1,5 @@
 use Rattle.std.proofs.Common.{refl}
-use Rattle.store_rows.specs.RowsRaces.{read_of_a_replaced_version, lost_race, race_tried_again}
+use Rattle.store_core.specs.RowsRaces.{read_of_a_replaced_version, lost_race, race_tried_again}
 use Rattle.hist_rules.proofs.HistoryLaw.{legal_is_history}
 use Rattle.hist_rows.proofs.rows.histories_of_races.Goals as goal
 

@@ -1,5 +1,5 @@
 use Rattle.std.proofs.Common.{refl}
-use Rattle.store_rows.specs.RowsRebuilds.{superseded_rebuild, rebuilt_then_here}
+use Rattle.store_core.specs.RowsRebuilds.{superseded_rebuild, rebuilt_then_here}
 use Rattle.hist_rules.proofs.HistoryLaw.{legal_is_history}
 use Rattle.hist_rows.proofs.rows.histories_of_rebuilds.Goals as goal
 

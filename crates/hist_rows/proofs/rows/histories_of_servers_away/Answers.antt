@@ -1,6 +1,6 @@
 use Rattle.std.proofs.Common.{refl}
-use Rattle.store_rows.specs.RowsAway.{skipped_by_a_put, refused_put}
-use Rattle.store_rows.specs.RowsAwayReads.{away_and_emptied, away_twice_and_emptied, rebuild_of_an_away_server}
+use Rattle.store_core.specs.RowsAway.{skipped_by_a_put, refused_put}
+use Rattle.store_core.specs.RowsAwayReads.{away_and_emptied, away_twice_and_emptied, rebuild_of_an_away_server}
 use Rattle.hist_rules.proofs.HistoryLaw.{legal_is_history}
 use Rattle.hist_rows.proofs.rows.histories_of_servers_away.Goals as goal
 

@@ -1,6 +1,6 @@
 use Rattle.std.proofs.Common.{◌≡◌, length, map, ap}
 use Rattle.std.proofs.lemmas.Result.{IfOk-weaker}
-use Rattle.lock_rows.specs.Piles.{items_of}
+use Rattle.turn_lock.specs.Piles.{items_of}
 use Rattle.run_seats.specs.declared.server_box.ServerBox.{ServerBox}
 use Rattle.store_run.specs.Closed.{AreServersOut}
 use Rattle.store_run.proofs.Closing.{servers_out}

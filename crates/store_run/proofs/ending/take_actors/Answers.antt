@@ -1,7 +1,7 @@
 use Rattle.std.proofs.Common.{rules, ◌≡◌, ℕ, ◌+◌, map, IfOk, sym, subst}
 use Rattle.std.specs.List.{range_with_len}
-use Rattle.lock_rows.specs.Numbered.{AreAllSpread}
-use Rattle.lock_rows.specs.Piles.{items_of}
+use Rattle.turn_lock.specs.Numbered.{AreAllSpread}
+use Rattle.turn_lock.specs.Piles.{items_of}
 use Rattle.run_seats.specs.SeatedActors.{number_of}
 use Rattle.store_run.specs.Dealt.{turns_of}
 use Rattle.store_run.proofs.Collecting.{all_back, all_spread}

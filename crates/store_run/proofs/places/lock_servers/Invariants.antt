@@ -1,6 +1,6 @@
 use Rattle.std.proofs.Common.{◌≡◌, ◌≤◌, length, vec_capacity}
-use Rattle.lock_rows.specs.Piles.{items_of}
-use Rattle.lock_rows.specs.Rows.{ArePiles}
+use Rattle.turn_lock.specs.Piles.{items_of}
+use Rattle.turn_lock.specs.Rows.{ArePiles}
 use Rattle.run_seats.specs.Places.{server_for}
 use Rattle.store_run.specs.Dealt.{turns_of}
 use Rattle.store_run.proofs.places.lock_servers.Given as goal

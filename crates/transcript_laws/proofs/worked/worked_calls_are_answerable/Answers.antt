@@ -2,9 +2,9 @@ use Rattle.std.proofs.Common.{refl}
 use Rattle.clay_grid.specs.Layers.{digits_of}
 use Rattle.store_map.specs.declared.call_name.CallName.{CallName}
 use Rattle.store_map.specs.declared.call_name.CallName.TheVariants.{Client}
-use Rattle.store_rows.specs.Rows.{Row}
-use Rattle.store_rows.specs.RowsCalls.{put_then_get}
-use Rattle.store_rows.specs.RowsManyLosses.{read_after_two_losses}
+use Rattle.store_core.specs.Rows.{Row}
+use Rattle.store_core.specs.RowsCalls.{put_then_get}
+use Rattle.store_core.specs.RowsManyLosses.{read_after_two_losses}
 use Rattle.transcript_laws.specs.Facts.{facts_of}
 use Rattle.transcript_laws.specs.FactsLaw.{AreFactsOf}
 use Rattle.transcript_laws.specs.Worked.{row_trace}

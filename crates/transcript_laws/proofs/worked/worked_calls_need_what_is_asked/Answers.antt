@@ -1,11 +1,11 @@
 use Rattle.std.proofs.Common.{refl}
 use Rattle.clay_grid.specs.Layers.{digits_of}
 use Rattle.store_map.specs.declared.call_name.CallName.TheVariants.{Client}
-use Rattle.store_rows.specs.RowsManyLosses.{read_after_three_losses}
-use Rattle.store_rows.specs.RowsAway.{refused_put}
-use Rattle.store_rows.specs.RowsRaces.{lost_race}
-use Rattle.store_rows.specs.RowsShort.{put_without_memory}
-use Rattle.store_rows.specs.RowsGivenUp.{reaped_before_commit, left_before_commit}
+use Rattle.store_core.specs.RowsManyLosses.{read_after_three_losses}
+use Rattle.store_core.specs.RowsAway.{refused_put}
+use Rattle.store_core.specs.RowsRaces.{lost_race}
+use Rattle.store_core.specs.RowsShort.{put_without_memory}
+use Rattle.store_core.specs.RowsGivenUp.{reaped_before_commit, left_before_commit}
 use Rattle.transcript_laws.proofs.FirstLines.{refused_first, left_first}
 use Rattle.transcript_laws.proofs.worked.worked_calls_need_what_is_asked.Goals as goal
 

@@ -2,7 +2,7 @@ use Rattle.std.proofs.Common.{refl}
 use Rattle.clay_grid.specs.Layers.{digits_of}
 use Rattle.store_map.specs.declared.call_name.CallName.{CallName}
 use Rattle.store_map.specs.declared.call_name.CallName.TheVariants.{Repairer}
-use Rattle.store_rows.specs.RowsRebuilds.{rebuilt_then_here}
+use Rattle.store_core.specs.RowsRebuilds.{rebuilt_then_here}
 use Rattle.transcript_laws.specs.Facts.{facts_of}
 use Rattle.transcript_laws.specs.FactsLaw.{AreFactsOf}
 use Rattle.transcript_laws.specs.Worked.{row_trace}

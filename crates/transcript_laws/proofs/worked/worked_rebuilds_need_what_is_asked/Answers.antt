@@ -1,9 +1,9 @@
 use Rattle.std.proofs.Common.{refl}
 use Rattle.clay_grid.specs.Layers.{digits_of}
 use Rattle.store_map.specs.declared.call_name.CallName.TheVariants.{Repairer}
-use Rattle.store_rows.specs.RowsCalls.{each_refusal}
-use Rattle.store_rows.specs.RowsRebuilds.{superseded_rebuild}
-use Rattle.store_rows.specs.RowsAwayReads.{rebuild_of_an_away_server}
+use Rattle.store_core.specs.RowsCalls.{each_refusal}
+use Rattle.store_core.specs.RowsRebuilds.{superseded_rebuild}
+use Rattle.store_core.specs.RowsAwayReads.{rebuild_of_an_away_server}
 use Rattle.transcript_laws.proofs.FirstLines.{result_first}
 use Rattle.transcript_laws.proofs.worked.worked_rebuilds_need_what_is_asked.Goals as goal
 

@@ -11,8 +11,8 @@ use Rattle.store_core.specs.Note.{note_of}
 use Rattle.store_core.specs.Read.{parts_of}
 use Rattle.store_core.specs.Told.{Told, Seen}
 use Rattle.run_laws.proofs.SoundLists.{contains_at}
-use Rattle.store_rows.specs.RowsCalls.{each_refusal}
-use Rattle.store_rows.specs.RowsRebuilds.{rebuilt_then_here}
+use Rattle.store_core.specs.RowsCalls.{each_refusal}
+use Rattle.store_core.specs.RowsRebuilds.{rebuilt_then_here}
 use Rattle.history_laws.specs.LeastTakes.{TookRange}
 use Rattle.history_laws.specs.TakesOfCalls.{subchunks_met}
 use Rattle.transcript_laws.specs.Over.{answers_to}

@@ -1,7 +1,7 @@
 use Rattle.std.proofs.Common.{◌≡◌, ◌-◌, ◌*◌, ℕ, ap, subst, ◌∙◌}
 use Rattle.clay_grid.specs.Shape.{chunk_length}
 use Rattle.store_core.specs.Gathering.{Part}
-use Rattle.gather_course.specs.Aims.{IfRange}
+use Rattle.gathering.specs.Aims.{IfRange}
 use Rattle.gathering.specs.Made.{IsPieceOf}
 use Rattle.gathering.specs.Gathers.{GatherOf}
 use Rattle.gathering.proofs.Serving.{piece_is, chunk_appends, on_ok}

@@ -1,7 +1,7 @@
 use Rattle.std.proofs.Common.{◌≡◌, ◌+◌, ◌-◌, ◌%◌, ◌<◌, ◌≤◌, ℕ, true, List, ◌++◌, length, sym, ap, subst, ◌∙◌}
 use Rattle.clay_grid.specs.Shape.{Shape}
 use Rattle.clay_grid.specs.Limits.{IsGeometry}
-use Rattle.gather_course.specs.Courses.{has_bytes}
+use Rattle.gathering.specs.Courses.{has_bytes}
 use Rattle.gathering.specs.Made.{AreMade, Appends, IsPieceOf, bytes_between}
 use Rattle.gathering.specs.Gathers.{GatherOf}
 use Rattle.gathering.proofs.Serving.{all_parts, read_some, read_none, is_server, whole_fits, whole_appends, own_layers, part_appends, not_nowhere, on_ok}

@@ -1,6 +1,6 @@
 use Rattle.std.proofs.Common.{◌≡◌, ◌<◌, false, Some, sym, subst}
 use Rattle.clay_grid.specs.Shape.{chunk_count}
-use Rattle.gather_course.specs.Courses.{server_of, is_look, is_fetch, layers_asked}
+use Rattle.gathering.specs.Courses.{server_of, is_look, is_fetch, layers_asked}
 use Rattle.gathering.specs.Gathers.{GatherOf}
 use Rattle.gathering.specs.Parts.{IsPart}
 use Rattle.gathering.proofs.Gathered.{after_helper}

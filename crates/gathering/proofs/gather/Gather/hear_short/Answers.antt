@@ -1,5 +1,5 @@
 use Rattle.std.proofs.Common.{sym, subst}
-use Rattle.gather_course.specs.Courses.{IsAskingStage}
+use Rattle.gathering.specs.Courses.{IsAskingStage}
 use Rattle.gathering.specs.Gathers.{GatherOf}
 use Rattle.gathering.proofs.Gathered.{after_short}
 use Rattle.gathering.proofs.gather.Gather.hear_short.Goals as goal

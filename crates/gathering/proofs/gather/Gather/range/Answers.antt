@@ -1,6 +1,6 @@
 use Rattle.std.proofs.Common.{sym, subst, ◌∙◌}
 use Rattle.store_core.specs.Gathering.{Part}
-use Rattle.gather_course.specs.Courses.{CourseOf}
+use Rattle.gathering.specs.Courses.{CourseOf}
 use Rattle.gathering.specs.Inside.{IsGather}
 use Rattle.gathering.proofs.Fetched.{some_chunk, some_bytes}
 use Rattle.gathering.proofs.Gathered.{range_begins}

@@ -2,7 +2,7 @@ use Rattle.std.proofs.Common.{◌≡◌, ◌<◌, true, [], ◌∷◌, Some, set
 use Rattle.clay_grid.specs.Shape.{Shape, chunk_count}
 use Rattle.clay_grid.specs.Limits.{IsGeometry}
 use Rattle.clay_model.specs.RepairParts.{AreParts, IsRebuilt}
-use Rattle.gather_course.specs.Courses.{has_bytes}
+use Rattle.gathering.specs.Courses.{has_bytes}
 use Rattle.gathering.specs.Parts.{Shelf}
 use Rattle.gathering.specs.Made.{AreMade}
 use Rattle.gathering.specs.Gathers.{GatherOf}

@@ -3,7 +3,7 @@ use Rattle.clay_grid.specs.Shape.{Shape}
 use Rattle.clay_grid.specs.Limits.{IsGeometry}
 use Rattle.clay_model.specs.Chunks.{contents}
 use Rattle.clay_model.specs.Left.{AreLeft, AreRecovered}
-use Rattle.gather_course.specs.Courses.{has_bytes}
+use Rattle.gathering.specs.Courses.{has_bytes}
 use Rattle.gathering.specs.Parts.{Shelf}
 use Rattle.gathering.specs.Made.{AreMade}
 use Rattle.gathering.specs.Gathers.{GatherOf}

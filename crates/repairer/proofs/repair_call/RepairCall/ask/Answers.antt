@@ -3,8 +3,8 @@ use Rattle.store_resume.specs.Stage.{Aim}
 use Rattle.store_resume.specs.State.{Sequel, State}
 use Rattle.store_resume.specs.States.{stage_state}
 use Rattle.chunk_server.specs.Core.{core_of}
-use Rattle.gather_course.specs.Courses.{CourseOf, has_bytes}
-use Rattle.gather_course.specs.Aims.{ending_at}
+use Rattle.gathering.specs.Courses.{CourseOf, has_bytes}
+use Rattle.gathering.specs.Aims.{ending_at}
 use Rattle.gathering.specs.Gathers.{stepped, told_by}
 use Rattle.call_steps.specs.Outcomes.{repair_outcome_of}
 use Rattle.repairer.specs.declared.stage.Stage.TheVariants as stage

@@ -1,5 +1,5 @@
 use Rattle.std.proofs.Common.{false, Some, refl, sym, ap, subst, ◌∙◌}
-use Rattle.gather_course.specs.Aims.{target_of}
+use Rattle.gathering.specs.Aims.{target_of}
 use Rattle.gathering.specs.Gathers.{GatherOf}
 use Rattle.repairer.specs.declared.stage.Stage.{Stage}
 use Rattle.repairer.specs.declared.stage.Stage.TheVariants as stage

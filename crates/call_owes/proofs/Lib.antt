@@ -1,6 +1,0 @@
-pub mod Walks
-pub mod Moves
-pub mod Acts
-pub mod Shorts
-pub mod Stamped
-pub mod Owing

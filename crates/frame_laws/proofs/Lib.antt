@@ -1,5 +1,0 @@
-pub mod Numbers
-pub mod Cuts
-pub mod Sent
-pub mod Taken
-pub mod Endings

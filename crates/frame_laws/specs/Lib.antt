@@ -1,3 +1,0 @@
-pub mod Cuts
-pub mod Sent
-pub mod Endings

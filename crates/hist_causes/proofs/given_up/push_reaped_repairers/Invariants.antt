@@ -1,6 +1,0 @@
-use Rattle.std.proofs.Common.{◌≡◌, ◌++◌, take, map, filter}
-use Rattle.hist_rules.specs.GivenUp.{is_reaped_result}
-use Rattle.hist_causes.proofs.given_up.push_reaped_repairers.Given as goal
-
-abbrev pub invariant-loop-line : goal.invariant-loop-line
-invariant-loop-line l = l.calls.items ≡ l.initial.calls.items ++ map (λ line. line.call) (filter (λ line. is_reaped_result line.result) (take l.line-index l.lines))

@@ -1,4 +1,0 @@
-use Rattle.lock_rows.proofs.taking_out.take_at.Given as goal
-
-abbrev pub ghost-take_out : goal.ghost-take_out
-ghost-take_out g a = g.identity

@@ -1,4 +1,0 @@
-pub mod Numbered
-pub mod Out
-pub mod Piles
-pub mod Rows

@@ -1,0 +1,105 @@
+//! Worked sessions.
+use crate::session_runs::{Failing, NOTHING, WORDS, run_with};
+use clay_repair::PlainCoder;
+use hex::FromHexError;
+use std::alloc::Global;
+use std::str;
+use std::test::Fail;
+use std::thread::Threads;
+
+// The bytes that a text of digits spells, which blanks may part for the reader.
+fn bytes_of(alloc: Global, text: &[u8]) -> Result<Vec<u8>, Fail> {
+    let mut digits = Vec::new(alloc);
+    for byte in text {
+        if *byte != b' ' {
+            digits.push(*byte)?;
+        }
+    }
+    match hex::decode(alloc, &digits) {
+        Ok(bytes) => Ok(bytes),
+        Err(FromHexError::OutOfMemory) => Err(Fail::from("out of memory")),
+        Err(_) => Err(Fail::from("no digits")),
+    }
+}
+
+// The part of a row before its first `>`, and what stands behind that.
+fn parts(row: &[u8]) -> Result<(&[u8], &[u8]), Fail> {
+    let at = row
+        .iter()
+        .position(|byte| *byte == b'>')
+        .ok_or("a row without what is wanted")?;
+    Ok((&row[..at], &row[at + 1..]))
+}
+
+// Holds a session against what is wanted: its exit status, and what it writes.
+fn ends_so<R: Threads + Sync + AllocGlobal>(
+    rt: &R,
+    input: &[u8],
+    failing: Failing,
+    status: &[u8],
+    output: &[u8],
+) -> Result<(), Fail> {
+    let ran = run_with(rt, WORDS, input, failing, &PlainCoder)?;
+    let wanted: u8 = str::from_utf8(status)?.parse()?;
+    if ran.status.number() == wanted && ran.written.as_slice() == output {
+        return Ok(());
+    }
+    Err(Fail::from("another end"))
+}
+
+/// Holds a row, an input, its exit status and what is written for it, parted by `>`, against the session
+/// in which these calls fail.
+pub fn row_holds<R: Threads + Sync + AllocGlobal>(
+    rt: &R,
+    row: &[u8],
+    failing: Failing,
+) -> Result<(), Fail> {
+    let alloc = rt.alloc();
+    let (input, rest) = parts(row)?;
+    let (status, output) = parts(rest)?;
+    let input = bytes_of(alloc, input)?;
+    let output = bytes_of(alloc, output)?;
+    ends_so(rt, &input, failing, status, &output)
+}
+
+/// Holds each row of a table, parted by `;`; there are so many.
+pub fn rows_hold<R: Threads + Sync + AllocGlobal>(
+    rt: &R,
+    rows: usize,
+    table: &[u8],
+) -> Result<(), Fail> {
+    let mut held: usize = 0;
+    for row in table.split(|byte| *byte == b';') {
+        row_holds(rt, row, NOTHING)?;
+        held = held.saturating_add(1);
+    }
+    if held != rows {
+        return Err(Fail::from("not so many rows"));
+    }
+    Ok(())
+}
+
+const ROWS: &[u8] = b"\
+0000000b0101610100000000000000\
+>0>0000000100\
+;0000000b0101610100000000000000 00000003020161\
+>0>0000000100 00000009010100000000000000\
+;0000000b0101610100000000000000 00000003020161 000000050700000000 000000050700000001 000000050700000002 00000003020161\
+>0>0000000100 00000009010100000000000000 0000000100 0000000100 0000000100 00000042060000000003000000000000000000000000000000000000000100000001000000000000000000000000000000010000000200000000000000000000000000000001\
+;000000\
+>11>\
+;00000000\
+>10>\
+;0000000b0101610100000000000000 0000000109 0000000b0101610200000000000000 0000000b0a01610000000000000008 000000010b 0000000b0a01610000000000000008\
+>0>0000000100 0000000100 0000000100 00000009010100000000000000 0000000100 000000010c\
+;0000000b0101610100000000000000 000000050700000000 000000050700000001 000000010c\
+>0>0000000100 0000000100 0000000100 000000190f000000020161000000000000000001610000000000000001\
+;0000000b0101610100000000000000 000000050700000000 000000050700000001 000000010c 000000010d\
+>0>0000000100 0000000100 0000000100 000000190f000000020161000000000000000001610000000000000001 000000291000000000000000020000000000000002000000000000000000000000000000060000000000000006\
+;0000000b0101610100000000000000 000000050700000000 0000000b0801610000000000000000 0000000b0801610000000000000000\
+>0>0000000100 0000000100 000000010a 000000010b";
+
+#[test]
+fn sessions_are_served(rt: HostRuntime) -> Result<(), Fail> {
+    rows_hold(&rt, 9, ROWS)
+}

@@ -1,0 +1,134 @@
+//! A chunk server beside the book of its versions.
+
+ghost use Rattle.std.specs.Prelude.{◌≡◌, ◌<◌, ◌∷◌, [], All, IfOk};
+ghost use Rattle.store_tests.specs.Small.{IsSmall};
+
+use crate::sealing::{chunk, stamps};
+use chunk_server::{Fetched, Installed, Server};
+use std::alloc::{AllocError, Global};
+use std::marker::Model;
+use std::test::Fail;
+use store_map::{Placement, Version};
+use version_seal::{Book, SealedChunk, Sealer, Stamp};
+
+/// Server 1 of a small code, and versions of one stripe.
+#[derive(Drop)]
+pub struct Shelf<'a> {
+    book: &'a Book,
+    stamps: Vec<Stamp>,
+    server: Server,
+}
+
+impl<'a> Model for Shelf<'a> {
+    ghost use Rattle.store_tests.specs.Shelf.{ShelfOf};
+
+    ghost Value = { ShelfOf };
+
+    ghost use Rattle.store_tests.specs.Inside.{shelf_in, IsShelfIn};
+
+    ghost view = { shelf_in };
+
+    ghost invariant = { IsShelfIn };
+}
+
+impl<'a> Shelf<'a> {
+    ghost use Rattle.chunk_server.specs.Valid.{IsFor};
+    ghost use Rattle.store_tests.specs.Small.{small_code};
+
+    /// With ten versions of the stripe.
+    pub fn new(alloc: Global, book: &'a Book, sealer: Sealer) -> Result<Shelf<'a>, Fail>
+        requires book { IsSmall book.now }
+        requires sealer { sealer.home ≡ book.now.home }
+    {
+        Ok(Shelf {
+            book,
+            stamps: stamps(alloc, book, sealer, 10)?,
+            server: Server::new(alloc, 1, book.opening()),
+        })
+    }
+
+    pub fn server(&self) -> &Server {
+        &self.server
+    }
+
+    // The server's chunk of a version.
+    fn sealed(&self, alloc: Global, version: u64) -> Result<SealedChunk, Fail>
+        ensures { IfOk result (IsFor self.now.book.home 1 small_code) }
+    {
+        match self.stamps.get(version as usize) {
+            Some(stamp) => chunk(alloc, self.book, stamp, 1),
+            None => Err(AllocError)?,
+        }
+    }
+
+    // Two of them.
+    fn sealed_twice(&self, alloc: Global, version: u64) -> Result<(SealedChunk, SealedChunk), Fail>
+        ensures { IfOk result (λ pair. IsFor self.now.book.home 1 small_code pair.0
+            × IsFor self.now.book.home 1 small_code pair.1) }
+    {
+        Ok((self.sealed(alloc, version)?, self.sealed(alloc, version)?))
+    }
+
+    fn place(&mut self, chunk: SealedChunk) -> Result<Placement, Fail>
+        requires { IsFor self.old.book.home 1 small_code chunk }
+        ensures { self.new.book ≡ self.old.book }
+    {
+        Ok(self.server.prepare(chunk)?)
+    }
+
+    fn add(&mut self, chunk: SealedChunk) -> Result<Installed, Fail>
+        requires { IsFor self.old.book.home 1 small_code chunk }
+    {
+        Ok(self.server.install(chunk)?)
+    }
+
+    /// Prepares a version.
+    pub fn prepare(&mut self, alloc: Global, version: u64) -> Result<Placement, Fail> {
+        let chunk = self.sealed(alloc, version)?;
+        self.place(chunk)
+    }
+
+    /// Installs a version.
+    pub fn install(&mut self, alloc: Global, version: u64) -> Result<Installed, Fail> {
+        let chunk = self.sealed(alloc, version)?;
+        self.add(chunk)
+    }
+
+    /// Prepares a version, and installs it too.
+    pub fn prepare_and_install(
+        &mut self,
+        alloc: Global,
+        version: u64,
+    ) -> Result<(Placement, Installed), Fail> {
+        let (first, again) = self.sealed_twice(alloc, version)?;
+        let placement = self.place(first)?;
+        Ok((placement, self.add(again)?))
+    }
+
+    pub fn settle(&mut self, version: u64) {
+        self.server.settle(Version(version));
+    }
+
+    pub fn discard(&mut self, version: u64) {
+        self.server.discard(Version(version));
+    }
+
+    pub fn wipe(&mut self) {
+        self.server.wipe();
+    }
+
+    pub fn down(&mut self) {
+        self.server.down();
+    }
+
+    pub fn up(&mut self) {
+        self.server.up();
+    }
+
+    /// Fetches the layers that there are.
+    pub fn fetch(&mut self, version: u64, layers: &[u32]) -> Result<Fetched, Fail>
+        requires { All (λ layer. layer < 4) layers.now }
+    {
+        Ok(self.server.fetch(Version(version), layers)?)
+    }
+}
