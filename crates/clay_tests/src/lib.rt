@@ -26,6 +26,8 @@ mod generate;
 #[cfg(test)]
 mod losses;
 #[cfg(test)]
+mod piped;
+#[cfg(test)]
 mod play;
 #[cfg(test)]
 mod races;

@@ -1,0 +1,188 @@
+//! What `play` and `run` print for the scripts of the examples, put behind its script, is legal to `verify`.
+use command_runs::Status;
+use command_runs::lines::unfolded;
+use command_runs::runs::run;
+use command_runs::tables::answers;
+use std::sync::Wait;
+use std::test::Fail;
+use std::thread::Threads;
+
+// The scripts of the examples, parted by `|`.
+const EXAMPLES: &[u8] = b"\
+clay 1
+code 4 2 1
+client
+put words hex:436c617920636f64657320726570616972207769746820666577206279746573
+get words
+read words 0 4
+read words 8 6
+schedule
+c 0*15
+wipe 1
+drain
+end
+|clay 1
+code 2 2 1
+client
+put note hex:7265642062616c6c
+leave 6
+put note hex:62696720626f6f6b
+client
+get note
+schedule
+c 0*17
+c 1*4
+reap c 0
+drain
+end
+|clay 1
+code 2 2 1
+tries 1
+client
+put note hex:7265642062616c6c
+write note 0 hex:626967
+client
+write note 4 hex:626f6f6b
+get note
+schedule
+c 0*12
+c 1
+drain
+end
+|clay 1
+code 2 2 1
+client
+put a hex:0100000000000000
+get a
+schedule
+drain
+end
+|clay 1
+code 2 2 1
+tries 2
+client
+put note hex:7265642062616c6c
+write note 0 hex:626967
+client
+write note 4 hex:626f6f6b
+get note
+schedule
+c 0*12
+c 1
+drain
+end
+|clay 1
+code 4 2 16
+size 600
+tries 2
+client
+put log ramp:00:200
+write log 200 fill:aa:4
+write log 700 hex:00
+write log 100 ramp:00:501
+read log 196 100
+read log 205 1
+stat log
+delete log
+get log
+schedule
+drain
+end
+|clay 1
+code 8 4 1
+client
+put words ramp:00:512
+repairer
+rebuild words 0 5*2
+rebuild words 0 11
+schedule
+c 0*27
+wipe 5
+r 0*27
+wipe 5
+wipe 11
+drain
+end
+|clay 1
+code 4 2 16
+client
+put b hex:ff
+put a hex:00
+get c
+put b hex:0102
+get b
+schedule
+drain
+end
+|clay 2
+code 2 2 1
+client
+put note hex:7265642062616c6c
+get note
+put note hex:62696720626f6f6b
+repairer
+rebuild note 0 0*2
+schedule
+down 0
+c 0*20
+r 0*3
+up 0
+r 0*11
+down 1
+down 2
+down 3
+drain
+end
+|clay 1
+code 2 2 1
+client
+put a ramp:00:8
+put a fill:ff:12
+client
+get a
+read a 2 4
+schedule
+drain
+end
+";
+
+// Whether the command of the words ends with Done on the script, and `verify` finds the script with what it printed legal.
+fn is_found_legal<R: Threads + Wait + Sync + AllocGlobal>(
+    rt: &R,
+    words: &[&str],
+    script: &[u8],
+) -> Result<bool, Fail> {
+    let mut piped = unfolded(rt.alloc(), script)?;
+    let ran = run(rt, words, &piped)?;
+    piped.extend_from_slice(&ran.written)?;
+    let legal = answers(rt, &["verify"], &piped, Status::Done, b"legal\n")?;
+    Ok(legal && ran.status == Status::Done)
+}
+
+// Holds so of each of the examples' scripts.
+fn all_are_found_legal<R: Threads + Wait + Sync + AllocGlobal>(
+    rt: &R,
+    words: &[&str],
+) -> Result<(), Fail> {
+    let mut held: usize = 0;
+    for script in EXAMPLES.split(|byte| *byte == b'|') {
+        if !is_found_legal(rt, words, script)? {
+            return Err(Fail::new(format_args!("script {held} isn't found legal")));
+        }
+        held = held.saturating_add(1);
+    }
+    if held != 10 {
+        return Err(Fail::from("not so many scripts"));
+    }
+    Ok(())
+}
+
+#[test]
+fn what_play_prints_is_legal(rt: HostRuntime) -> Result<(), Fail> {
+    all_are_found_legal(&rt, &["play"])
+}
+
+#[test]
+fn what_run_prints_is_legal(rt: HostRuntime) -> Result<(), Fail> {
+    all_are_found_legal(&rt, &["run", "3"])
+}
