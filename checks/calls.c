@@ -1,5 +1,5 @@
 /* Calls of the library for C with right and wrong numbers and lengths, in several threads at once: each ends as it should, writes
- * nothing where it isn't CLAY_DONE, and gives what the same call gave alone. bench/library builds and runs it.
+ * nothing where it isn't CLAY_DONE, and gives what the same call gave alone. checks/library builds and runs it.
  *
  *     calls THREADS ROUNDS START      ends with 0 where all calls ended so */
 #include <clay.h>
