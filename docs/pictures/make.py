@@ -1,7 +1,8 @@
 #!/usr/bin/env python3
-"""Draws the pictures of docs/CLAY-CODES.md from the numbers of a code: grid.svg and repair.svg, beside this file. `bench/traffic` draws traffic.svg.
+"""Draws pictures beside this file: grid.svg and repair.svg of docs/CLAY-CODES.md from the numbers of a code, layers.svg of
+docs/ARCHITECTURE.md from crates.txt. `bench/traffic` draws traffic.svg.
 
-Each number in them is computed here from K and M by the definitions of docs/ARCHITECTURE.md, "The code in a paragraph".
+Each number of a code is computed here from K and M by the definitions of docs/ARCHITECTURE.md, "The code in a paragraph".
 `make.py --check` writes nothing, and fails where a picture isn't what it would draw.
 """
 import os
@@ -183,9 +184,49 @@ def draw_repair():
     return picture
 
 
+def layers():
+    """The layers of crates.txt, lowest first: each one's name, what it holds, and its crates."""
+    found = []
+    with open(os.path.join(HERE, '../../crates.txt')) as lines:
+        for line in list(lines)[1:]:
+            if line.startswith('# '):
+                name, _, holds = line[2:].strip().partition(': ')
+                found.append((name, holds, []))
+            elif ':' in line:
+                found[-1][2].append(line.split(':')[0].split()[0])
+    return found
+
+
+def wrapped(words, size, room):
+    """Words in lines that stay within the room."""
+    lines = ['']
+    for word in words:
+        longer = f'{lines[-1]} {word}'.strip()
+        if widest(longer, size, 'normal') <= room:
+            lines[-1] = longer
+        else:
+            lines.append(word)
+    return lines
+
+
+def draw_layers():
+    drawn = [(name, holds, wrapped(crates, 12, 590)) for name, holds, crates in reversed(layers())]
+    high = [46 + 17 * len(lines) for _, _, lines in drawn]
+    picture = Picture(800, 70 + sum(high) + 8 * len(high), 'The layers: a crate names none of a box above its own')
+    top = 58
+    for (name, holds, lines), height in zip(drawn, high):
+        picture.box(24, top, 752, height, PALE if name.startswith('tests') else LIGHT_BLUE, 'none', 6)
+        picture.text(36, top + 24, name, 15, weight='bold')
+        picture.text(176, top + 22, holds or 'of all layers', 13, fill=GREY)
+        for number, line in enumerate(lines):
+            picture.text(176, top + 44 + 17 * number, line, 12)
+        top += height + 8
+    return picture
+
+
 def main():
     is_check = sys.argv[1:] == ['--check']
-    for name, draw in [('grid.svg', draw_grid), ('repair.svg', draw_repair)]:
+    for name, draw in [('grid.svg', draw_grid), ('repair.svg', draw_repair), ('layers.svg', draw_layers)]:
         draw().save(name, is_check)
 
 

@@ -1,4 +1,4 @@
-//! Puts of which one may want memory: the others are done. `bench/allocations dir_tests` runs them with
+//! Puts of which one may want memory: the others are done. `checks/allocations dir_tests` runs them with
 //! each allocation refused in turn.
 
 use dir_walks::caller::Step;
