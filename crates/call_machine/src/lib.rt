@@ -4,6 +4,6 @@
 mod call_machine;
 mod ends;
 pub mod laws;
-pub mod owing;
+pub mod laws_of_owing;
 
 pub use call_machine::CallMachine;

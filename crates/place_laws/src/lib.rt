@@ -1,6 +1,6 @@
 //! What a place under a lock stands for, and the run that the turns at all places make. No code.
 #![tactic(auto)]
 
-pub mod lists;
-pub mod served;
-pub mod steps;
+pub mod laws_of_lists;
+pub mod laws_of_places;
+pub mod laws_of_serving;

@@ -23,6 +23,6 @@ pub mod Steps
 pub mod Looks
 pub mod Made
 pub mod Ready
-pub mod Turns
+pub mod OwesTurns
 pub mod Serving
 pub mod WorldPins

@@ -32,7 +32,7 @@ use Rattle.store_world.specs.WorldLaws.{WorldsAreOfMap, WorldsKeepServing}
 use Rattle.store_world.proofs.OwesLists.{none_some}
 use Rattle.call_machine.proofs.Owing.{if_some}
 use Rattle.store_world.proofs.Steps.{reply_stays, owes_stay}
-use Rattle.store_world.proofs.Turns.{turns_serve}
+use Rattle.store_world.proofs.OwesTurns.{turns_serve}
 use Rattle.call_machine.specs.Calls.{MachineOf}
 
 -- ---- first, and as others go on

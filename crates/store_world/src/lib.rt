@@ -5,9 +5,9 @@
 mod beginning;
 mod drain;
 mod ending;
+pub mod laws_of_serving;
 mod operator;
 mod script_run;
-pub mod serving;
 mod step;
 mod sweep;
 mod telling;

@@ -1,5 +1,0 @@
-use Rattle.frame_bytes.proofs.Cuts.{cuts_are_the_only_ones as law}
-use Rattle.frame_bytes.proofs.frames.cuts_are_the_only_ones.Goals as goal
-
-pub returns : goal.returns
-returns c = law

@@ -1,5 +1,0 @@
-use Rattle.frame_bytes.proofs.Cuts.{inputs_are_cut as law}
-use Rattle.frame_bytes.proofs.frames.inputs_are_cut.Goals as goal
-
-pub returns : goal.returns
-returns c = law

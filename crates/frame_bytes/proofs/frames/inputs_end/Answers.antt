@@ -1,5 +1,0 @@
-use Rattle.frame_bytes.proofs.Endings.{inputs_end as law}
-use Rattle.frame_bytes.proofs.frames.inputs_end.Goals as goal
-
-pub returns : goal.returns
-returns c = law

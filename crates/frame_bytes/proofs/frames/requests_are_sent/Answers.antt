@@ -1,5 +1,0 @@
-use Rattle.frame_bytes.proofs.Taken.{requests_are_sent as law}
-use Rattle.frame_bytes.proofs.frames.requests_are_sent.Goals as goal
-
-pub returns : goal.returns
-returns c = law

@@ -1,5 +1,0 @@
-use Rattle.history_laws.proofs.Finishing.{runs_finish}
-use Rattle.history_laws.proofs.history.runs_finish.Goals as goal
-
-pub returns : goal.returns
-returns c = runs_finish

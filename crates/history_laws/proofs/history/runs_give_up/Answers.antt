@@ -1,5 +1,0 @@
-use Rattle.history_laws.proofs.GivenUpLines.{runs_give_up}
-use Rattle.history_laws.proofs.history.runs_give_up.Goals as goal
-
-pub returns : goal.returns
-returns c = runs_give_up

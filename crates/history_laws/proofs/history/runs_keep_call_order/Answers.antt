@@ -1,5 +1,0 @@
-use Rattle.history_laws.proofs.OrderRuns.{runs_keep_call_order}
-use Rattle.history_laws.proofs.history.runs_keep_call_order.Goals as goal
-
-pub returns : goal.returns
-returns c = runs_keep_call_order

@@ -1,5 +1,0 @@
-use Rattle.history_laws.proofs.FoundLines.{runs_find_missing}
-use Rattle.history_laws.proofs.losses.runs_find_missing.Goals as goal
-
-pub returns : goal.returns
-returns c = runs_find_missing

@@ -1,5 +1,0 @@
-use Rattle.history_laws.proofs.LossesKept.{runs_keep_chunks}
-use Rattle.history_laws.proofs.losses.runs_keep_chunks.Goals as goal
-
-pub returns : goal.returns
-returns c = runs_keep_chunks

@@ -1,5 +1,0 @@
-use Rattle.history_laws.proofs.Drops.{commits_drop}
-use Rattle.history_laws.proofs.races.commits_drop_what_they_replace.Goals as goal
-
-pub returns : goal.returns
-returns c = commits_drop

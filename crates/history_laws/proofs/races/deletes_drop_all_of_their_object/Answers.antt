@@ -1,5 +1,0 @@
-use Rattle.history_laws.proofs.Drops.{deletes_drop}
-use Rattle.history_laws.proofs.races.deletes_drop_all_of_their_object.Goals as goal
-
-pub returns : goal.returns
-returns c = deletes_drop

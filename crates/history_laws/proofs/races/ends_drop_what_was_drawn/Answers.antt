@@ -1,5 +1,0 @@
-use Rattle.history_laws.proofs.Drops.{ends_drop}
-use Rattle.history_laws.proofs.races.ends_drop_what_was_drawn.Goals as goal
-
-pub returns : goal.returns
-returns c = ends_drop

@@ -1,5 +1,0 @@
-use Rattle.history_laws.proofs.RaceLines.{runs_lose_races}
-use Rattle.history_laws.proofs.races.runs_lose_races.Goals as goal
-
-pub returns : goal.returns
-returns c = runs_lose_races

@@ -1,5 +1,0 @@
-use Rattle.history_laws.proofs.RaceLines.{runs_name_changes}
-use Rattle.history_laws.proofs.races.runs_name_changes.Goals as goal
-
-pub returns : goal.returns
-returns c = runs_name_changes

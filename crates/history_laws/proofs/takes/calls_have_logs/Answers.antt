@@ -1,5 +1,0 @@
-use Rattle.history_laws.proofs.LogRuns.{calls_have_logs}
-use Rattle.history_laws.proofs.takes.calls_have_logs.Goals as goal
-
-pub returns : goal.returns
-returns c = calls_have_logs

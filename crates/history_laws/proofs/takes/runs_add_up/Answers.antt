@@ -1,5 +1,0 @@
-use Rattle.history_laws.proofs.ColumnRuns.{runs_add_up}
-use Rattle.history_laws.proofs.takes.runs_add_up.Goals as goal
-
-pub returns : goal.returns
-returns c = runs_add_up

@@ -1,5 +1,0 @@
-use Rattle.run_laws.proofs.Asks.{asks_few_times}
-use Rattle.run_laws.proofs.calls.calls_ask_few_times.Goals as goal
-
-pub returns : goal.returns
-returns c = asks_few_times

@@ -1,5 +1,0 @@
-use Rattle.run_laws.proofs.Cuts.{cuts_change_no_act}
-use Rattle.run_laws.proofs.calls.cuts_change_no_act.Goals as goal
-
-pub returns : goal.returns
-returns c = cuts_change_no_act

@@ -1,5 +1,0 @@
-use Rattle.run_laws.proofs.Given.{gatherings_are_given}
-use Rattle.run_laws.proofs.calls.gatherings_are_given_enough.Goals as goal
-
-pub returns : goal.returns
-returns c = gatherings_are_given

@@ -1,5 +1,0 @@
-use Rattle.run_laws.proofs.PlaceKinds.{places_answer_by_kind}
-use Rattle.run_laws.proofs.calls.places_answer_by_kind.Goals as goal
-
-pub returns : goal.returns
-returns c = places_answer_by_kind

@@ -1,5 +1,0 @@
-use Rattle.run_laws.proofs.Steps.{steps_fall}
-use Rattle.run_laws.proofs.calls.steps_left_fall.Goals as goal
-
-pub returns : goal.returns
-returns c = steps_fall

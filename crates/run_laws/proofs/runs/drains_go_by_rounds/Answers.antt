@@ -1,5 +1,0 @@
-use Rattle.run_laws.proofs.Rounds.{drains_go_by_rounds as law}
-use Rattle.run_laws.proofs.runs.drains_go_by_rounds.Goals as goal
-
-pub returns : goal.returns
-returns c = law

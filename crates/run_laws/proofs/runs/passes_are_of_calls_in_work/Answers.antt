@@ -1,5 +1,0 @@
-use Rattle.run_laws.proofs.PassesInWork.{passes_are_of_calls}
-use Rattle.run_laws.proofs.runs.passes_are_of_calls_in_work.Goals as goal
-
-pub returns : goal.returns
-returns c = passes_are_of_calls

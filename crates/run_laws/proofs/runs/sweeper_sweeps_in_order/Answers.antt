@@ -1,5 +1,0 @@
-use Rattle.run_laws.proofs.Sweeps.{sweeps_in_order}
-use Rattle.run_laws.proofs.runs.sweeper_sweeps_in_order.Goals as goal
-
-pub returns : goal.returns
-returns c = sweeps_in_order

@@ -1,5 +1,0 @@
-use Rattle.run_laws.proofs.OwnSteps.{agreement_goes_on as law}
-use Rattle.run_laws.proofs.soundness.agreement_goes_on.Goals as goal
-
-pub returns : goal.returns
-returns c = law

@@ -1,5 +1,0 @@
-use Rattle.run_laws.proofs.SoundSteps.{steps_keep_sound}
-use Rattle.run_laws.proofs.soundness.steps_keep_a_directory_sound.Goals as goal
-
-pub returns : goal.returns
-returns c = steps_keep_sound

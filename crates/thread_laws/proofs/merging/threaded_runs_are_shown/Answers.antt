@@ -1,5 +1,0 @@
-use Rattle.thread_laws.proofs.Showing.{shows}
-use Rattle.thread_laws.proofs.merging.threaded_runs_are_shown.Goals as goal
-
-pub returns : goal.returns
-returns c = shows

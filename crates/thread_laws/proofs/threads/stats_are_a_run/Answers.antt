@@ -1,5 +1,0 @@
-use Rattle.thread_laws.proofs.Worked.{stats_are_a_run}
-use Rattle.thread_laws.proofs.threads.stats_are_a_run.Goals as goal
-
-pub returns : goal.returns
-returns c = stats_are_a_run

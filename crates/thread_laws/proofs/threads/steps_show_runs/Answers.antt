@@ -1,5 +1,0 @@
-use Rattle.thread_laws.proofs.Runs.{steps_show_runs}
-use Rattle.thread_laws.proofs.threads.steps_show_runs.Goals as goal
-
-pub returns : goal.returns
-returns c = steps_show_runs

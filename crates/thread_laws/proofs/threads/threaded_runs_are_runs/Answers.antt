@@ -1,5 +1,0 @@
-use Rattle.thread_laws.proofs.Runs.{threaded_runs_are_runs}
-use Rattle.thread_laws.proofs.threads.threaded_runs_are_runs.Goals as goal
-
-pub returns : goal.returns
-returns c = threaded_runs_are_runs

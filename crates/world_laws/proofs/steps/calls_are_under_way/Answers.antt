@@ -1,5 +1,0 @@
-use Rattle.world_laws.proofs.UnderWay.{calls_are_under_way as law}
-use Rattle.world_laws.proofs.steps.calls_are_under_way.Goals as goal
-
-pub returns : goal.returns
-returns c = law

@@ -1,5 +1,0 @@
-use Rattle.world_laws.proofs.Drains.{drains_of_valid_scripts_go}
-use Rattle.world_laws.proofs.steps.drains_go.Goals as goal
-
-pub returns : goal.returns
-returns c = drains_of_valid_scripts_go

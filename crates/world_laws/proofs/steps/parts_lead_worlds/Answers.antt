@@ -1,5 +1,0 @@
-use Rattle.world_laws.proofs.Parts.{parts_lead_worlds as law}
-use Rattle.world_laws.proofs.steps.parts_lead_worlds.Goals as goal
-
-pub returns : goal.returns
-returns c = law

@@ -1,5 +1,0 @@
-use Rattle.world_laws.proofs.SweepsLeft.{sweeps_fall}
-use Rattle.world_laws.proofs.steps.sweeps_fall.Goals as goal
-
-pub returns : goal.returns
-returns c = sweeps_fall

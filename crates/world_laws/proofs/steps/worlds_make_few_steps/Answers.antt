@@ -1,5 +1,0 @@
-use Rattle.world_laws.proofs.Few.{worlds_make_few_steps}
-use Rattle.world_laws.proofs.steps.worlds_make_few_steps.Goals as goal
-
-pub returns : goal.returns
-returns c = worlds_make_few_steps

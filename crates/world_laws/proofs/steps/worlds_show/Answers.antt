@@ -1,5 +1,0 @@
-use Rattle.world_laws.proofs.Shows.{worlds_show as law}
-use Rattle.world_laws.proofs.steps.worlds_show.Goals as goal
-
-pub returns : goal.returns
-returns c = law

@@ -1,5 +1,0 @@
-use Rattle.world_laws.proofs.TraceDrains.{drains_of_valid_scripts_tell as law}
-use Rattle.world_laws.proofs.traces.drains_tell.Goals as goal
-
-pub returns : goal.returns
-returns c = law

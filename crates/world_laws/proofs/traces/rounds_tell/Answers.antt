@@ -1,5 +1,0 @@
-use Rattle.world_laws.proofs.TraceRounds.{rounds_tell as law}
-use Rattle.world_laws.proofs.traces.rounds_tell.Goals as goal
-
-pub returns : goal.returns
-returns c = law

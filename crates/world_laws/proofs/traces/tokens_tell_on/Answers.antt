@@ -1,5 +1,0 @@
-use Rattle.world_laws.proofs.TraceParts.{tokens_tell_on as law}
-use Rattle.world_laws.proofs.traces.tokens_tell_on.Goals as goal
-
-pub returns : goal.returns
-returns c script = law script

@@ -1,5 +1,0 @@
-use Rattle.world_laws.proofs.Traces.{traces_go_on as law}
-use Rattle.world_laws.proofs.traces.traces_go_on.Goals as goal
-
-pub returns : goal.returns
-returns c script = law script

@@ -1,8 +1,0 @@
-use Rattle.world_laws.proofs.TraceTurns.{clients_tell, repairers_tell}
-use Rattle.world_laws.proofs.traces.turns_tell.Goals as goal
-
-pub returns-clause-clients : goal.returns-clause-clients
-returns-clause-clients c = clients_tell
-
-pub returns-clause-repairers : goal.returns-clause-repairers
-returns-clause-repairers c = repairers_tell
