@@ -16,13 +16,19 @@ use Rattle.form_laws.proofs.Whole.{runs_are_well_formed}
 
 pub are_read_back : AreReadBack
 are_read_back script other t u here there same =
-    let parts : (other ≡ script) × (text_of u ≡ text_of t) = one_front other script (text_of u) (text_of t) there.values there.valid here.values here.valid same in
-    (parts.0, one_transcript (chunk_count script.geometry) u t (subst (λ (s : Script). IsWellFormed (chunk_count s.geometry) u) parts.0 there.form) here.form parts.1)
+    let parts : (other ≡ script) × (text_of u ≡ text_of t) =
+    one_front other script (text_of u) (text_of t) there.values there.valid here.values here.valid same in (
+      parts.0,
+      one_transcript (chunk_count script.geometry) u t
+          (subst (λ (s : Script). IsWellFormed (chunk_count s.geometry) u) parts.0 there.form) here.form parts.1,
+    )
 
 pub shown_are_read_legal : ShownAreReadLegal
 shown_are_read_legal script other shortages u values valid there same =
     let back : (other ≡ script) × (u ≡ shown_of script shortages) =
-    are_read_back script other (shown_of script shortages) u (record { values = values; valid = valid; form = runs_are_well_formed script shortages values valid }) there same in (
+    are_read_back script other (shown_of script shortages) u
+    (record { values = values; valid = valid; form = runs_are_well_formed script shortages values valid }) there same in (
       back.1,
-      subst (λ (s : Script). verdict_of s u ≡ Legal) (sym back.0) (subst (λ (v : Transcript). verdict_of script v ≡ Legal) (sym back.1) (runs_are_legal script shortages values.geometry valid)),
+      subst (λ (s : Script). verdict_of s u ≡ Legal) (sym back.0)
+          (subst (λ (v : Transcript). verdict_of script v ≡ Legal) (sym back.1) (runs_are_legal script shortages values.geometry valid)),
     )

@@ -98,30 +98,38 @@ module _ (n : ℕ) (few : n ≤ 24) where
       by (inl less) =
           let row : Placement = get_or seen.placed lost.server (placement.At 0) in
           let placed : Happened looked.before (PlacesChunk lost.server seen.version (get_or seen.placed lost.server (placement.At 0))) =
-          looked.is.2 lost.server (get_or seen.placed lost.server (placement.At 0)) (slice_get-get_or seen.placed lost.server (placement.At 0) less) in
+          looked.is.2 lost.server (get_or seen.placed lost.server (placement.At 0))
+          (slice_get-get_or seen.placed lost.server (placement.At 0) less) in
           placed_long lost.server placed.before (get_or seen.placed lost.server (placement.At 0)) placed.is.3
       by (inr past) = subst IsPlacement (sym (get_or_past seen.placed lost.server (placement.At 0) past)) (omega arith)
 
-  skipped_form : (trace : List Made) (call : CallName) (version : ℕ) (lost : Triple) → lost.server < n → WasSkipped trace call version lost → IsTriple lost
+  skipped_form : (trace : List Made) (call : CallName) (version : ℕ) (lost : Triple) → lost.server < n → WasSkipped trace call version lost
+      → IsTriple lost
   skipped_form trace call version lost low h =
       let told : ℕ = h.0 in
       let long : IsLong h.0 = placed_long lost.server h.3.before (placement.Skipped h.0) h.3.is.1.3 in
       (omega (arith, low, few), subst IsPlacement (sym h.1) long, subst IsFound (sym h.2) long)
 
   -- servers of the code
-  missing_servers : (script : Script) → chunk_count script.geometry ≡ n → (before missing : List Triple) → AllAfter (IsMissing script) before missing → All (λ (triple : Triple). triple.server < n) missing
+  missing_servers : (script : Script) → chunk_count script.geometry ≡ n → (before missing : List Triple) → AllAfter (IsMissing script) before missing
+      → All (λ (triple : Triple). triple.server < n) missing
   missing_servers script same before [] h = All-nil (λ (triple : Triple). triple.server < n)
   missing_servers script same before (triple ∷ missing) h =
-      All-cons (λ (triple : Triple). triple.server < n) triple missing (let low : triple.server < chunk_count script.geometry = h.0.server in omega (arith, low, same)) (missing_servers script same (triple ∷ before) missing h.1)
+      All-cons (λ (triple : Triple). triple.server < n) triple missing
+      (let low : triple.server < chunk_count script.geometry = h.0.server in omega (arith, low, same))
+      (missing_servers script same (triple ∷ before) missing h.1)
 
   both_all : {X : Type 0} (P Q R : X → Type 0) → ((x : X) → P x → Q x → R x) → (xs : List X) → All P xs → All Q xs → All R xs
   both_all P Q R f xs p q i d less = f (get_or xs i d) (p i d less) (q i d less)
 
-  missing_form : (trace : List Made) (call : CallName) (stripe : ℕ) (missing : List Triple) → WereMissing trace call stripe missing → All (λ (triple : Triple). triple.server < n) missing → All IsTriple missing
+  missing_form : (trace : List Made) (call : CallName) (stripe : ℕ) (missing : List Triple) → WereMissing trace call stripe missing
+      → All (λ (triple : Triple). triple.server < n) missing → All IsTriple missing
   missing_form trace call stripe missing (inl (seen, of, all)) servers =
-      both_all (λ (triple : Triple). triple.server < n) (WasLost trace call seen) IsTriple (λ triple low lost. lost_form trace call seen triple low lost) missing servers all
+      both_all (λ (triple : Triple). triple.server < n) (WasLost trace call seen) IsTriple
+      (λ triple low lost. lost_form trace call seen triple low lost) missing servers all
   missing_form trace call stripe missing (inr (version, all)) servers =
-      both_all (λ (triple : Triple). triple.server < n) (WasSkipped trace call version) IsTriple (λ triple low lost. skipped_form trace call version triple low lost) missing servers all
+      both_all (λ (triple : Triple). triple.server < n) (WasSkipped trace call version) IsTriple
+      (λ triple low lost. skipped_form trace call version triple low lost) missing servers all
 
   some_missing : (script : Script) (missing : List Triple) → length missing ≡ script.geometry.parity_count + 1 → missing ≢ []
   some_missing script missing count none = let empty : length missing ≡ 0 = ap (λ (l : List Triple). length l) none in omega (arith, count, empty)
@@ -141,20 +149,28 @@ either : (a b : Bool) (P : Type 0) → (a ≡ true) ⊎ (b ≡ true) → (a ≡ 
 either a b P (inl x) f g = f x
 either a b P (inr y) f g = g y
 
-any_point : (test : HLine → Bool) (point : ℕ) (lines : List HLine) → All (λ (line : HLine). IsLong line.point) lines → list_any (λ line. nat_eq line.point point && test line) lines ≡ true → IsLong point
+any_point : (test : HLine → Bool) (point : ℕ) (lines : List HLine) → All (λ (line : HLine). IsLong line.point) lines
+    → list_any (λ line. nat_eq line.point point && test line) lines ≡ true → IsLong point
 any_point test point [] h e = absurd (true≢false (sym e))
 any_point test point (line ∷ lines) h e =
-    either (nat_eq line.point point && test line) (list_any (λ l. nat_eq l.point point && test l) lines) (IsLong point) (or_cases (nat_eq line.point point && test line) (list_any (λ l. nat_eq l.point point && test l) lines) e)
-    (λ here. subst IsLong (eqb-true line.point point (and_parts (nat_eq line.point point) (test line) here).0) (All-head (λ (l : HLine). IsLong l.point) line lines h))
+    either (nat_eq line.point point && test line) (list_any (λ l. nat_eq l.point point && test l) lines) (IsLong point)
+    (or_cases (nat_eq line.point point && test line) (list_any (λ l. nat_eq l.point point && test l) lines) e)
+    (λ here. subst IsLong (eqb-true line.point point (and_parts (nat_eq line.point point) (test line) here).0)
+    (All-head (λ (l : HLine). IsLong l.point) line lines h))
     (any_point test point lines (All-tail (λ (l : HLine). IsLong l.point) line lines h))
 
 module _ (script : Script) (t : Transcript) (points : All (λ (line : HLine). IsLong line.point) t.history) where
   pairs_form : (name : List ℕ) (before pairs : List (ℕ × ℕ)) → AllAfter (IsRace script t name) before pairs → All IsPair pairs
   pairs_form name before [] h = All-nil IsPair
   pairs_form name before (pair ∷ pairs) h =
-      All-cons IsPair pair pairs (any_point (is_change_line script name) pair.0 t.history points h.0.looked_at, any_point (is_change_line script name) pair.1 t.history points h.0.newer) (pairs_form name (pair ∷ before) pairs h.1)
+      All-cons IsPair pair pairs (
+        any_point (is_change_line script name) pair.0 t.history points h.0.looked_at,
+        any_point
+            (is_change_line script name) pair.1 t.history points h.0.newer,
+      ) (pairs_form name (pair ∷ before) pairs h.1)
 
-  contended_form : (pairs : List (ℕ × ℕ)) → 1 ≤ tries_of script → (name : Option (List ℕ)) → IsLoser script t pairs name → All IsPair pairs × (pairs ≢ [])
+  contended_form : (pairs : List (ℕ × ℕ)) → 1 ≤ tries_of script → (name : Option (List ℕ)) → IsLoser script t pairs name
+      → All IsPair pairs × (pairs ≢ [])
   contended_form pairs tried None h = absurd h
   contended_form pairs tried (Some name) h = (
     pairs_form name [] pairs h.races,
@@ -173,14 +189,16 @@ abbrev stripe_of : RepairResult → ℕ
 stripe_of (result.Unavailable stripe missing) = stripe
 stripe_of r = 0
 
-cause_stripe : (outcome : Outcome) (c : Cause) → cause_of outcome ≡ Some c → ((stripe : ℕ) (missing : List Lost) → outcome ≡ Outcome.Unavailable stripe missing → IsLong stripe) → IsLong (stripe_in c)
+cause_stripe : (outcome : Outcome) (c : Cause) → cause_of outcome ≡ Some c
+    → ((stripe : ℕ) (missing : List Lost) → outcome ≡ Outcome.Unavailable stripe missing → IsLong stripe) → IsLong (stripe_in c)
 cause_stripe (Outcome.Unavailable stripe missing) c e f = subst (λ x. IsLong (stripe_in x)) (same_Some _ c e) (f stripe missing refl)
 cause_stripe (Outcome.Contended pairs) c e f = subst (λ x. IsLong (stripe_in x)) (same_Some _ c e) (omega arith)
 cause_stripe (Outcome.Reaped point) c e f = subst (λ x. IsLong (stripe_in x)) (same_Some _ c e) (omega arith)
 cause_stripe Outcome.NoMemory c e f = subst (λ x. IsLong (stripe_in x)) (same_Some _ c e) (omega arith)
 cause_stripe outcome c e f = absurd (none-some c e)
 
-result_stripe : (outcome : Outcome) (r : RepairResult) → result_of outcome ≡ Some r → ((stripe : ℕ) (missing : List Lost) → outcome ≡ Outcome.Unavailable stripe missing → IsLong stripe) → IsLong (stripe_of r)
+result_stripe : (outcome : Outcome) (r : RepairResult) → result_of outcome ≡ Some r
+    → ((stripe : ℕ) (missing : List Lost) → outcome ≡ Outcome.Unavailable stripe missing → IsLong stripe) → IsLong (stripe_of r)
 result_stripe (Outcome.Unavailable stripe missing) r e f = subst (λ x. IsLong (stripe_of x)) (same_Some _ r e) (f stripe missing refl)
 result_stripe Outcome.Rebuilt r e f = subst (λ x. IsLong (stripe_of x)) (same_Some _ r e) (omega arith)
 result_stripe Outcome.Here r e f = subst (λ x. IsLong (stripe_of x)) (same_Some _ r e) (omega arith)
@@ -200,10 +218,12 @@ told_if_small : (b : Bool) (made : Made) (rest : List Told) → TellsSmall made.
 told_if_small true made rest here all = told_by_small made.short made.answer rest here all
 told_if_small false made rest here all = all
 
-told_small : (who : Actor) (number : ℕ) (trace : List Made) → All (λ (made : Made). TellsSmall made.answer) trace → All TellsSmall (told_to who number trace)
+told_small : (who : Actor) (number : ℕ) (trace : List Made) → All (λ (made : Made). TellsSmall made.answer) trace
+    → All TellsSmall (told_to who number trace)
 told_small who number [] h = All-nil TellsSmall
 told_small who number (made ∷ trace) h =
-    told_if_small (same_actor who made.who && nat_eq number made.number) made (told_to who number trace) (All-head (λ (m : Made). TellsSmall m.answer) made trace h)
+    told_if_small (same_actor who made.who && nat_eq number made.number) made (told_to who number trace)
+    (All-head (λ (m : Made). TellsSmall m.answer) made trace h)
     (told_small who number trace (All-tail (λ (m : Made). TellsSmall m.answer) made trace h))
 
 tells_small : (looked : Told) (told : List Told) → Tells (λ answer. answer ≡ looked) told → All TellsSmall told → TellsSmall looked
@@ -215,16 +235,20 @@ abbrev OfSmall : Part → Type 0
 OfSmall part = IsSmallSeen part.seen
 
 gathers_small : (kind : Kind) (g : Shape) (note : Note) (looked : Told) → TellsSmall looked → All OfSmall (gathers kind g note looked)
-gathers_small Kind.Get g note (Told.Pinned point length_now stripes) h = All-map OfSmall (part_of g (read_start note) (read_end note length_now)) stripes h
-gathers_small Kind.ReadAt g note (Told.Pinned point length_now stripes) h = All-map OfSmall (part_of g (read_start note) (read_end note length_now)) stripes h
+gathers_small Kind.Get g note (Told.Pinned point length_now stripes) h =
+    All-map OfSmall (part_of g (read_start note) (read_end note length_now)) stripes h
+gathers_small Kind.ReadAt g note (Told.Pinned point length_now stripes) h =
+    All-map OfSmall (part_of g (read_start note) (read_end note length_now)) stripes h
 gathers_small Kind.Write g note (Told.Ready base length_now stripes) h = All-map OfSmall (old_part g length_now) stripes h
 gathers_small kind g note looked h = All-nil OfSmall
 
 module _ (g : Shape) (job : Job) (small : IsSmall job.note) (stripe : ℕ) (missing : List Lost) (told : List Told) where
-  part_lost : (looked : Told) → TellsSmall looked → (before after : List Part) (part : Part) → gathers job.note.kind g job.note looked ≡ before ++ part ∷ after → part.seen.stripe ≡ stripe → IsLong stripe
+  part_lost : (looked : Told) → TellsSmall looked → (before after : List Part) (part : Part)
+      → gathers job.note.kind g job.note looked ≡ before ++ part ∷ after → part.seen.stripe ≡ stripe → IsLong stripe
   part_lost looked h before after part split of =
       subst IsLong of
-      (All-head OfSmall part after (all_right OfSmall before (part ∷ after) (subst (All OfSmall) split (gathers_small job.note.kind g job.note looked h))))
+      (All-head OfSmall part after (all_right OfSmall before (part ∷ after)
+      (subst (All OfSmall) split (gathers_small job.note.kind g job.note looked h))))
 
   lost_stripe : (looked : Told) → TellsSmall looked → IsLost g job looked stripe missing told → IsLong stripe
   lost_stripe (Told.PinnedStripe seen) h lost = subst IsLong lost.of_stripe h
@@ -238,16 +262,20 @@ module _ (g : Shape) (job : Job) (small : IsSmall job.note) (stripe : ℕ) (miss
 
 -- ---- of one call
 module _ (script : Script) (values : IsScript script) (trace : List Made) (answers : All (λ (made : Made). TellsSmall made.answer) trace) (call : CallName) where
-  told_stripe : (job : Job) → IsSmall job.note → (stripe : ℕ) (missing : List Lost) → ToldOfLoss script.geometry job stripe missing (told_to (caller_of call) (number_of call) trace) → IsLong stripe
+  told_stripe : (job : Job) → IsSmall job.note → (stripe : ℕ) (missing : List Lost)
+      → ToldOfLoss script.geometry job stripe missing (told_to (caller_of call) (number_of call) trace) → IsLong stripe
   told_stripe job small stripe missing told =
-      let all : All TellsSmall (told.front ++ (told.told ++ told.since)) = subst (All TellsSmall) told.answers_are (told_small (caller_of call) (number_of call) trace answers) in
-      lost_stripe script.geometry job small stripe missing told.told told.looked (tells_small told.looked told.front told.look (all_left TellsSmall told.front (told.told ++ told.since) all)) told.lost
+      let all : All TellsSmall (told.front ++ (told.told ++ told.since)) =
+      subst (All TellsSmall) told.answers_are (told_small (caller_of call) (number_of call) trace answers) in
+      lost_stripe script.geometry job small stripe missing told.told told.looked
+      (tells_small told.looked told.front told.look (all_left TellsSmall told.front (told.told ++ told.since) all)) told.lost
 
   pub refused_stripe : (c : Cause) → WasCaused script trace call (λ outcome. cause_of outcome ≡ Some c) → IsLong (stripe_in c)
   refused_stripe c h =
       cause_stripe h.outcome c h.shows
       (λ stripe missing is.
-      let so : HasCauseInSteps script.geometry (tries_of script) h.job (Outcome.Unavailable stripe missing) (told_to (caller_of call) (number_of call) trace) =
+      let so : HasCauseInSteps script.geometry (tries_of script) h.job (Outcome.Unavailable stripe missing)
+      (told_to (caller_of call) (number_of call) trace) =
       subst (λ o. HasCauseInSteps script.geometry (tries_of script) h.job o (told_to (caller_of call) (number_of call) trace)) is h.caused in
       told_stripe h.job (job_small script values call h.job h.is_call) stripe missing so.1)
 
@@ -255,34 +283,43 @@ module _ (script : Script) (values : IsScript script) (trace : List Made) (answe
   repair_stripe r h =
       result_stripe h.outcome r h.shows
       (λ stripe missing is.
-      let so : HasCauseInSteps script.geometry (tries_of script) h.job (Outcome.Unavailable stripe missing) (told_to (caller_of call) (number_of call) trace) =
+      let so : HasCauseInSteps script.geometry (tries_of script) h.job (Outcome.Unavailable stripe missing)
+      (told_to (caller_of call) (number_of call) trace) =
       subst (λ o. HasCauseInSteps script.geometry (tries_of script) h.job o (told_to (caller_of call) (number_of call) trace)) is h.caused in
       told_stripe h.job (job_small script values call h.job h.is_call) stripe missing so.1)
 
   -- ---- causes and results
-  module _ (few : chunk_count script.geometry ≤ 24) (tried : 1 ≤ tries_of script) (t : Transcript) (points : All (λ (line : HLine). IsLong line.point) t.history) (count : ℕ) (low : count < 2 ^ 64)
+  module _ (few : chunk_count script.geometry ≤ 24) (tried : 1 ≤ tries_of script) (t : Transcript)
+      (points : All (λ (line : HLine). IsLong line.point) t.history) (count : ℕ) (low : count < 2 ^ 64)
       (known : All (λ (made : Made). Known count made.answer) trace) where
-    lost_list : (stripe : ℕ) (missing : List Triple) → IsLong stripe → LacksChunks script call missing → WereMissing trace call stripe missing → IsLong stripe × All IsTriple missing × (missing ≢ [])
+    lost_list : (stripe : ℕ) (missing : List Triple) → IsLong stripe → LacksChunks script call missing → WereMissing trace call stripe missing
+        → IsLong stripe × All IsTriple missing × (missing ≢ [])
     lost_list stripe missing long lacks were = (
       long,
-      missing_form (chunk_count script.geometry) few trace call stripe missing were (missing_servers (chunk_count script.geometry) few script refl [] missing lacks.servers),
+      missing_form (chunk_count script.geometry) few trace call stripe missing were
+          (missing_servers (chunk_count script.geometry) few script refl [] missing lacks.servers),
       some_missing (chunk_count script.geometry) few script missing lacks.count,
     )
 
     abbrev Lacks : CallName × List Triple → Type 0
     Lacks entry = LacksChunks script entry.0 entry.1
 
-    pub cause_form : (c : Cause) → WasCaused script trace call (λ outcome. cause_of outcome ≡ Some c) → NamesLosses trace call c → NamesPoints trace call c → LostRace script t call c → All Lacks (missing_of_cause call c) → IsCause c
-    cause_form (cause.Unavailable stripe missing) caused losses named race lacks = lost_list stripe missing (refused_stripe (cause.Unavailable stripe missing) caused) (All-head Lacks (call, missing) [] lacks) losses
-    cause_form (cause.Contended pairs) caused losses named race lacks = contended_form script t points pairs tried (option_and_then written_name (call_of script call)) race
+    pub cause_form : (c : Cause) → WasCaused script trace call (λ outcome. cause_of outcome ≡ Some c) → NamesLosses trace call c
+        → NamesPoints trace call c → LostRace script t call c → All Lacks (missing_of_cause call c) → IsCause c
+    cause_form (cause.Unavailable stripe missing) caused losses named race lacks =
+        lost_list stripe missing (refused_stripe (cause.Unavailable stripe missing) caused) (All-head Lacks (call, missing) [] lacks) losses
+    cause_form (cause.Contended pairs) caused losses named race lacks =
+        contended_form script t points pairs tried (option_and_then written_name (call_of script call)) race
     cause_form (cause.Reaped at) caused losses named race lacks = within_long trace count low known call _ at named
     cause_form cause.NoMemory caused losses named race lacks = tt
 
     away_long : (told : ℕ) → WasAway trace call told → IsLong told
     away_long told h = subst IsLong (sym h.is.1.3) (saturated_long _)
 
-    pub result_form : (r : RepairResult) → WasCaused script trace call (λ outcome. result_of outcome ≡ Some r) → ResultNamesLosses trace call r → ResultNamesPoints trace call r → All Lacks (missing_of_result call r) → IsResult r
-    result_form (result.Unavailable stripe missing) caused losses named lacks = lost_list stripe missing (repair_stripe (result.Unavailable stripe missing) caused) (All-head Lacks (call, missing) [] lacks) losses
+    pub result_form : (r : RepairResult) → WasCaused script trace call (λ outcome. result_of outcome ≡ Some r) → ResultNamesLosses trace call r
+        → ResultNamesPoints trace call r → All Lacks (missing_of_result call r) → IsResult r
+    result_form (result.Unavailable stripe missing) caused losses named lacks =
+        lost_list stripe missing (repair_stripe (result.Unavailable stripe missing) caused) (All-head Lacks (call, missing) [] lacks) losses
     result_form (result.Away told) caused losses named lacks = away_long told losses
     result_form (result.Superseded newer) caused losses named lacks = within_long trace count low known call _ newer named
     result_form (result.Reaped at) caused losses named lacks = within_long trace count low known call _ at named

@@ -28,7 +28,8 @@ module _ (script : Script) (geometry : IsGeometry script.geometry) (valid : IsVa
       (actors_most (steps_of script) 2199023255552 (client_work script) (first_core script).clients
       (λ i work calling is_work is_calling.
       fresh work (chunk_count script.geometry) 2199023255552 calling
-      (replicated (length script.clients) i (new_calling (chunk_count script.geometry)) calling is_calling) (client_steps_most script geometry valid can.some i 0 work is_work)))
+      (replicated (length script.clients) i (new_calling (chunk_count script.geometry)) calling is_calling)
+      (client_steps_most script geometry valid can.some i 0 work is_work)))
       (mul-le-mul_right 2199023255552 (client_count script geometry valid))
 
   repairer_steps : group_steps script (repairer_work script) (first_core script).repairers ≤ 16 * 307200
@@ -37,14 +38,17 @@ module _ (script : Script) (geometry : IsGeometry script.geometry) (valid : IsVa
       (actors_most (steps_of script) 307200 (repairer_work script) (first_core script).repairers
       (λ i work calling is_work is_calling.
       fresh work (chunk_count script.geometry) 307200 calling
-      (replicated (length script.repairers) i (new_calling (chunk_count script.geometry)) calling is_calling) (repairer_steps_most script geometry valid i 0 work is_work)))
+      (replicated (length script.repairers) i (new_calling (chunk_count script.geometry)) calling is_calling)
+      (repairer_steps_most script geometry valid i 0 work is_work)))
       (mul-le-mul_right 307200 (repairer_count script geometry valid))
 
   sum_few : (a b : ℕ) → a ≤ 64 * 2199023255552 → b ≤ 16 * 307200 → a + b ≤ 140737493270528
   sum_few a b one two = omega (arith, one, two)
 
   -- of all of them
-  pub few_steps : group_steps script (client_work script) (first_core script).clients + group_steps script (repairer_work script) (first_core script).repairers ≤ 140737493270528
+  pub few_steps : group_steps script (client_work script) (first_core script).clients + group_steps script (repairer_work script)
+      (first_core script).repairers ≤ 140737493270528
   few_steps =
-      sum_few (group_steps script (client_work script) (first_core script).clients) (group_steps script (repairer_work script) (first_core script).repairers) client_steps
+      sum_few (group_steps script (client_work script) (first_core script).clients)
+      (group_steps script (repairer_work script) (first_core script).repairers) client_steps
       repairer_steps

@@ -50,25 +50,34 @@ rebuild_small : (c : Rebuild) → IsRebuild c → IsSmall (rebuild_job c).note
 rebuild_small c h = record { offset = h.1; length = omega arith }
 
 module _ (script : Script) (values : IsScript script) where
-  pub client_job_small : (i number : ℕ) (work : Work) (job : Job) → slice_get (client_work script) i ≡ Some work → slice_get work.jobs number ≡ Some job → IsSmall job.note
+  pub client_job_small : (i number : ℕ) (work : Work) (job : Job) → slice_get (client_work script) i ≡ Some work
+      → slice_get work.jobs number ≡ Some job → IsSmall job.note
   client_job_small i number work job is_work is_job =
       let part : Mapped (λ (part : ClientPart). record { jobs = map job_of part.calls; leave = part.leave }) script.clients i work =
       mapped (λ (part : ClientPart). record { jobs = map job_of part.calls; leave = part.leave }) script.clients i work is_work in
       let jobs : map job_of part.source.calls ≡ work.jobs = ap (λ (w : Work). w.jobs) part.is_image in
-      let one : Mapped job_of part.source.calls number job = mapped job_of part.source.calls number job (ap (λ (js : List Job). slice_get js number) jobs ∙ is_job) in
-      let all : All IsCallValue part.source.calls × IfSome part.source.leave IsNumber = at_all (λ (p : ClientPart). All IsCallValue p.calls × IfSome p.leave IsNumber) script.clients i part.source values.clients part.found in
-      subst (λ (j : Job). IsSmall j.note) one.is_image (call_small one.source (at_all IsCallValue part.source.calls number one.source all.0 one.found))
+      let one : Mapped job_of part.source.calls number job =
+      mapped job_of part.source.calls number job (ap (λ (js : List Job). slice_get js number) jobs ∙ is_job) in
+      let all : All IsCallValue part.source.calls × IfSome part.source.leave IsNumber =
+      at_all (λ (p : ClientPart). All IsCallValue p.calls × IfSome p.leave IsNumber) script.clients i part.source values.clients part.found in
+      subst (λ (j : Job). IsSmall j.note) one.is_image
+      (call_small one.source (at_all IsCallValue part.source.calls number one.source all.0 one.found))
 
-  pub repairer_job_small : (i number : ℕ) (work : Work) (job : Job) → slice_get (repairer_work script) i ≡ Some work → slice_get work.jobs number ≡ Some job → IsSmall job.note
+  pub repairer_job_small : (i number : ℕ) (work : Work) (job : Job) → slice_get (repairer_work script) i ≡ Some work
+      → slice_get work.jobs number ≡ Some job → IsSmall job.note
   repairer_job_small i number work job is_work is_job =
       let part : Mapped (λ (part : RepairPart). record { jobs = map rebuild_job part.calls; leave = part.leave }) script.repairers i work =
       mapped (λ (part : RepairPart). record { jobs = map rebuild_job part.calls; leave = part.leave }) script.repairers i work is_work in
       let jobs : map rebuild_job part.source.calls ≡ work.jobs = ap (λ (w : Work). w.jobs) part.is_image in
-      let one : Mapped rebuild_job part.source.calls number job = mapped rebuild_job part.source.calls number job (ap (λ (js : List Job). slice_get js number) jobs ∙ is_job) in
-      let all : All IsRebuild part.source.calls × IfSome part.source.leave IsNumber = at_all (λ (p : RepairPart). All IsRebuild p.calls × IfSome p.leave IsNumber) script.repairers i part.source values.repairers part.found in
-      subst (λ (j : Job). IsSmall j.note) one.is_image (rebuild_small one.source (at_all IsRebuild part.source.calls number one.source all.0 one.found))
+      let one : Mapped rebuild_job part.source.calls number job =
+      mapped rebuild_job part.source.calls number job (ap (λ (js : List Job). slice_get js number) jobs ∙ is_job) in
+      let all : All IsRebuild part.source.calls × IfSome part.source.leave IsNumber =
+      at_all (λ (p : RepairPart). All IsRebuild p.calls × IfSome p.leave IsNumber) script.repairers i part.source values.repairers part.found in
+      subst (λ (j : Job). IsSmall j.note) one.is_image
+      (rebuild_small one.source (at_all IsRebuild part.source.calls number one.source all.0 one.found))
 
-  job_in : (works : List Work) (small : (i number : ℕ) (work : Work) (job : Job) → slice_get works i ≡ Some work → slice_get work.jobs number ≡ Some job → IsSmall job.note) (i number : ℕ) (found : Option Work) → slice_get works i ≡ found
+  job_in : (works : List Work) (small : (i number : ℕ) (work : Work) (job : Job) → slice_get works i ≡ Some work
+      → slice_get work.jobs number ≡ Some job → IsSmall job.note) (i number : ℕ) (found : Option Work) → slice_get works i ≡ found
       → (job : Job) → option_and_then (λ (work : Work). slice_get work.jobs number) found ≡ Some job → IsSmall job.note
   job_in works small i number None e job is_job = absurd (none-some job is_job)
   job_in works small i number (Some work) e job is_job = small i number work job e is_job
@@ -88,11 +97,13 @@ module _ (script : Script) (values : IsScript script) where
   call_there (name.Repairer i number) client is = absurd (true≢false (sym client))
   call_there (name.Client i number) client is = by (slice_get script.clients i) refl is
     where
-      by : (found : Option ClientPart) → slice_get script.clients i ≡ found → number < option_map_or (λ (part : ClientPart). length part.calls) found 0 → CallThere (name.Client i number)
+      by : (found : Option ClientPart) → slice_get script.clients i ≡ found
+          → number < option_map_or (λ (part : ClientPart). length part.calls) found 0 → CallThere (name.Client i number)
       by None e low = absurd (omega (arith, low))
       by (Some part) e low =
           let one : (c : Call) × (slice_get part.calls number ≡ Some c) = inside part.calls number low in
-          let all : All IsCallValue part.calls × IfSome part.leave IsNumber = at_all (λ (p : ClientPart). All IsCallValue p.calls × IfSome p.leave IsNumber) script.clients i part values.clients e in
+          let all : All IsCallValue part.calls × IfSome part.leave IsNumber =
+          at_all (λ (p : ClientPart). All IsCallValue p.calls × IfSome p.leave IsNumber) script.clients i part values.clients e in
           record {
             call = one.0;
             is_call = ap (option_and_then (λ (p : ClientPart). slice_get p.calls number)) e ∙ one.1;
@@ -103,24 +114,30 @@ module _ (script : Script) (values : IsScript script) where
   pub job_there : (c : CallName) → IsCall script c → (job : Job) × (job_of_call script c ≡ Some job)
   job_there (name.Client i number) is = there (slice_get script.clients i) refl is
     where
-      there : (found : Option ClientPart) → slice_get script.clients i ≡ found → number < option_map_or (λ (part : ClientPart). length part.calls) found 0 → (job : Job) × (job_of_call script (name.Client i number) ≡ Some job)
+      there : (found : Option ClientPart) → slice_get script.clients i ≡ found
+          → number < option_map_or (λ (part : ClientPart). length part.calls) found 0
+          → (job : Job) × (job_of_call script (name.Client i number) ≡ Some job)
       there None e low = absurd (omega (arith, low))
       there (Some part) e low =
           let one : (c : Call) × (slice_get part.calls number ≡ Some c) = inside part.calls number low in (
             job_of one.0,
             ap (option_and_then (λ (work : Work). slice_get work.jobs number))
-                (slice_get-map (λ (p : ClientPart). record { jobs = map job_of p.calls; leave = p.leave }) script.clients i ∙ ap (option_map (λ (p : ClientPart). record { jobs = map job_of p.calls; leave = p.leave })) e)
+                (slice_get-map (λ (p : ClientPart). record { jobs = map job_of p.calls; leave = p.leave }) script.clients i ∙ ap
+                (option_map (λ (p : ClientPart). record { jobs = map job_of p.calls; leave = p.leave })) e)
                 ∙ slice_get-map job_of part.calls number ∙ ap (option_map job_of) one.1,
           )
   job_there (name.Repairer i number) is = there (slice_get script.repairers i) refl is
     where
-      there : (found : Option RepairPart) → slice_get script.repairers i ≡ found → number < option_map_or (λ (part : RepairPart). length part.calls) found 0 → (job : Job) × (job_of_call script (name.Repairer i number) ≡ Some job)
+      there : (found : Option RepairPart) → slice_get script.repairers i ≡ found
+          → number < option_map_or (λ (part : RepairPart). length part.calls) found 0
+          → (job : Job) × (job_of_call script (name.Repairer i number) ≡ Some job)
       there None e low = absurd (omega (arith, low))
       there (Some part) e low =
           let one : (c : Rebuild) × (slice_get part.calls number ≡ Some c) = inside part.calls number low in (
             rebuild_job one.0,
             ap (option_and_then (λ (work : Work). slice_get work.jobs number))
-                (slice_get-map (λ (p : RepairPart). record { jobs = map rebuild_job p.calls; leave = p.leave }) script.repairers i ∙ ap (option_map (λ (p : RepairPart). record { jobs = map rebuild_job p.calls; leave = p.leave })) e)
+                (slice_get-map (λ (p : RepairPart). record { jobs = map rebuild_job p.calls; leave = p.leave }) script.repairers i ∙ ap
+                (option_map (λ (p : RepairPart). record { jobs = map rebuild_job p.calls; leave = p.leave })) e)
                 ∙ slice_get-map rebuild_job part.calls number ∙ ap (option_map rebuild_job) one.1,
           )
 
@@ -128,7 +145,8 @@ module _ (script : Script) (values : IsScript script) where
 pub named_short : (script : Script) → IsValid script → (c : CallName) → IsCall script c → IsCallName c
 named_short script valid (name.Client i number) is = by (slice_get script.clients i) refl is
   where
-    by : (found : Option ClientPart) → slice_get script.clients i ≡ found → number < option_map_or (λ (part : ClientPart). length part.calls) found 0 → IsCallName (name.Client i number)
+    by : (found : Option ClientPart) → slice_get script.clients i ≡ found → number < option_map_or (λ (part : ClientPart). length part.calls) found 0
+        → IsCallName (name.Client i number)
     by None e low = absurd (omega (arith, low))
     by (Some part) e low =
         let here : i < length script.clients = slice_get_within script.clients i part e in
@@ -137,10 +155,12 @@ named_short script valid (name.Client i number) is = by (slice_get script.client
         (omega (arith, here, most), omega (arith, low, few))
 named_short script valid (name.Repairer i number) is = by (slice_get script.repairers i) refl is
   where
-    by : (found : Option RepairPart) → slice_get script.repairers i ≡ found → number < option_map_or (λ (part : RepairPart). length part.calls) found 0 → IsCallName (name.Repairer i number)
+    by : (found : Option RepairPart) → slice_get script.repairers i ≡ found
+        → number < option_map_or (λ (part : RepairPart). length part.calls) found 0 → IsCallName (name.Repairer i number)
     by None e low = absurd (omega (arith, low))
     by (Some part) e low =
         let here : i < length script.repairers = slice_get_within script.repairers i part e in
         let most : length script.repairers ≤ 16 = valid.limits.repairers in
-        let few : length part.calls ≤ 4096 = at_all (λ (p : RepairPart). length p.calls ≤ 4096) script.repairers i part valid.limits.repairer_calls e in
+        let few : length part.calls ≤ 4096 =
+        at_all (λ (p : RepairPart). length p.calls ≤ 4096) script.repairers i part valid.limits.repairer_calls e in
         (omega (arith, here, most), omega (arith, low, few))

@@ -41,17 +41,20 @@ raised_long layers count = omega arith
 changed_long : (j layers : ℕ) (takes : List ℕ) → All IsLong takes → All IsLong (change_at j (raised_by layers) takes)
 changed_long j layers [] h = All-nil IsLong
 changed_long zero layers (x ∷ xs) h = All-cons IsLong (raised_by layers x) xs (raised_long layers x) (All-tail IsLong x xs h)
-changed_long (suc j) layers (x ∷ xs) h = All-cons IsLong x (change_at j (raised_by layers) xs) (All-head IsLong x xs h) (changed_long j layers xs (All-tail IsLong x xs h))
+changed_long (suc j) layers (x ∷ xs) h =
+    All-cons IsLong x (change_at j (raised_by layers) xs) (All-head IsLong x xs h) (changed_long j layers xs (All-tail IsLong x xs h))
 
 from_kept : (n : ℕ) (act : Act) (answer : Told) (takes : List ℕ) → AreTakes n takes → AreTakes n (take_from act answer takes)
 from_kept n (Act.AtServer server step) (Told.Given layers) takes h =
     record { count = length-change_at server (raised_by layers) takes ∙ h.count; long = changed_long server layers takes h.long }
 from_kept n act answer takes h = h
 
-since_kept : (n : ℕ) (g : Shape) (tries : ℕ) (job : Job) (told : List Told) (takes : List ℕ) (answers : List Told) → AreTakes n takes → AreTakes n (taken_since g tries job told takes answers)
+since_kept : (n : ℕ) (g : Shape) (tries : ℕ) (job : Job) (told : List Told) (takes : List ℕ) (answers : List Told) → AreTakes n takes
+    → AreTakes n (taken_since g tries job told takes answers)
 since_kept n g tries job told takes [] h = h
 since_kept n g tries job told takes (answer ∷ more) h =
-    since_kept n g tries job (tell g job told answer) (take_from (next_act g tries job told) answer takes) more (from_kept n (next_act g tries job told) answer takes h)
+    since_kept n g tries job (tell g job told answer) (take_from (next_act g tries job told) answer takes) more
+    (from_kept n (next_act g tries job told) answer takes h)
 
 taken_are : (g : Shape) (tries : ℕ) (job : Job) (answers : List Told) → AreTakes (chunk_count g) (taken_by g tries job answers)
 taken_are g tries job answers =
@@ -66,7 +69,8 @@ record IsTake (n : ℕ) (line : GLine) : Type 0 where
 line_is : (n : ℕ) (call : CallName) (takes : List ℕ) → AreTakes n takes → All (IsTake n) (take_line call takes)
 line_is n call takes are =
     cond_both {A = List GLine} (list_any (nat_lt 0) takes) (record { call = call; takes = takes } ∷ []) [] (All (IsTake n))
-    (λ e. All-cons (IsTake n) (record { call = call; takes = takes }) [] (record { takes = are; some = e }) (All-nil (IsTake n))) (λ e. All-nil (IsTake n))
+    (λ e. All-cons (IsTake n) (record { call = call; takes = takes }) [] (record { takes = are; some = e }) (All-nil (IsTake n)))
+    (λ e. All-nil (IsTake n))
 
 self : (call : CallName) → same_call call call ≡ true
 self (name.Client i number) = and_from (nat_eq i i) (nat_eq number number) (eq-eqb i i refl) (eq-eqb number number refl)
@@ -76,11 +80,17 @@ module _ (script : Script) (trace : List Made) (t : Transcript) (least : TakesLe
   take_is : (line : GLine) → Contains t.takes line → (job : Job) → job_of_call script line.call ≡ Some job → IsTake (chunk_count script.geometry) line
   take_is line has job is_job =
       let taken : List ℕ = taken_by script.geometry (tries_of script) job (answers_to line.call trace) in
-      let same : lines_of_takes t line.call ≡ take_line line.call (taken_by script.geometry (tries_of script) job (answers_to line.call trace)) = least.given line.call job is_job in
-      let among : Contains (lines_of_takes t line.call) line = filtered (λ (other : GLine). same_call line.call other.call) t.takes line (self line.call) has in
-      All-contains (IsTake (chunk_count script.geometry)) (take_line line.call (taken_by script.geometry (tries_of script) job (answers_to line.call trace))) line
-      (line_is (chunk_count script.geometry) line.call (taken_by script.geometry (tries_of script) job (answers_to line.call trace)) (taken_are script.geometry (tries_of script) job (answers_to line.call trace)))
+      let same : lines_of_takes t line.call ≡ take_line line.call (taken_by script.geometry (tries_of script) job (answers_to line.call trace)) =
+      least.given line.call job is_job in
+      let among : Contains (lines_of_takes t line.call) line =
+      filtered (λ (other : GLine). same_call line.call other.call) t.takes line (self line.call) has in
+      All-contains (IsTake (chunk_count script.geometry))
+      (take_line line.call (taken_by script.geometry (tries_of script) job (answers_to line.call trace))) line
+      (line_is (chunk_count script.geometry) line.call (taken_by script.geometry (tries_of script) job (answers_to line.call trace))
+      (taken_are script.geometry (tries_of script) job (answers_to line.call trace)))
       (subst (λ (lines : List GLine). Contains lines line) same among)
 
-  pub take_form : (line : GLine) → Contains t.takes line → (job : Job) → job_of_call script line.call ≡ Some job → All IsLong line.takes × (length line.takes ≡ chunk_count script.geometry) × (list_any is_above_zero line.takes ≡ true)
-  take_form line has job is_job = let is : IsTake (chunk_count script.geometry) line = take_is line has job is_job in (is.takes.long, is.takes.count, is.some)
+  pub take_form : (line : GLine) → Contains t.takes line → (job : Job) → job_of_call script line.call ≡ Some job
+      → All IsLong line.takes × (length line.takes ≡ chunk_count script.geometry) × (list_any is_above_zero line.takes ≡ true)
+  take_form line has job is_job =
+      let is : IsTake (chunk_count script.geometry) line = take_is line has job is_job in (is.takes.long, is.takes.count, is.some)

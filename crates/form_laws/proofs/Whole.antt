@@ -71,18 +71,24 @@ own_below place most low None s = All-nil (Below most)
 own_below place most low (Some call) None = All-nil (Below most)
 own_below place most low (Some call) (Some s) = All-cons (Below most) (record { point = place; call = call; reply = s }) [] low (All-nil (Below most))
 
-history_below : (max : ℕ) (calls : Calls) (answered : Actor → ℕ → Bool) (place : ℕ) (objects : Objects) (points : List Point) → All (Below (place + length points)) (history_from max calls answered place objects points)
+history_below : (max : ℕ) (calls : Calls) (answered : Actor → ℕ → Bool) (place : ℕ) (objects : Objects) (points : List Point)
+    → All (Below (place + length points)) (history_from max calls answered place objects points)
 history_below max calls answered place objects [] = All-nil (Below (place + 0))
 history_below max calls answered place objects (point ∷ points) =
     let after : Objects × Reply = applied max objects point.event (calls point.actor point.number) in
-    All-append (Below (place + length (point ∷ points))) (line_of place (name_of point.actor point.number) (shown_at point.event (answered point.actor point.number) after.1)) (history_from max calls answered (place + 1) after.0 points)
-    (own_below place (place + length (point ∷ points)) (omega arith) (name_of point.actor point.number) (shown_at point.event (answered point.actor point.number) after.1))
-    (All-weaker (Below (place + 1 + length points)) (Below (place + length (point ∷ points))) (λ line h. omega (arith, h)) (history_from max calls answered (place + 1) after.0 points)
+    All-append (Below (place + length (point ∷ points)))
+    (line_of place (name_of point.actor point.number) (shown_at point.event (answered point.actor point.number) after.1))
+    (history_from max calls answered (place + 1) after.0 points)
+    (own_below place (place + length (point ∷ points)) (omega arith) (name_of point.actor point.number)
+    (shown_at point.event (answered point.actor point.number) after.1))
+    (All-weaker (Below (place + 1 + length points)) (Below (place + length (point ∷ points))) (λ line h. omega (arith, h))
+    (history_from max calls answered (place + 1) after.0 points)
     (history_below max calls answered (place + 1) after.0 points))
 
 -- ---- servers
 abbrev lines_from : ℕ → List Server → List TLine
-lines_from k all = map (λ entry. record { server = entry.0; taken = entry.1.taken; held = length entry.1.held; epoch = entry.1.epoch }) (enumerate_from k all)
+lines_from k all = map (λ entry. record { server = entry.0; taken = entry.1.taken; held = length entry.1.held; epoch = entry.1.epoch })
+    (enumerate_from k all)
 
 abbrev IsFewAt : Server → Type 0
 IsFewAt s = IsCounted s × (length s.held < 2 ^ 64)
@@ -93,7 +99,8 @@ servers_form k (s ∷ all) low h =
     let few : IsFewAt s = All-head IsFewAt s all h in
     let taken : s.taken ≤ 2 ^ 64 - 1 = few.0.taken in
     let epoch : s.epoch ≤ 2 ^ 64 - 1 = few.0.epoch in
-    All-cons IsServerLine (record { server = k; taken = s.taken; held = length s.held; epoch = s.epoch }) (lines_from (k + 1) all) (omega (arith, low), omega (arith, taken), few.1, omega (arith, epoch))
+    All-cons IsServerLine (record { server = k; taken = s.taken; held = length s.held; epoch = s.epoch }) (lines_from (k + 1) all)
+    (omega (arith, low), omega (arith, taken), few.1, omega (arith, epoch))
     (servers_form (k + 1) all (omega (arith, low)) (All-tail IsFewAt s all h))
 
 numbered_from : (k : ℕ) (all : List Server) → Numbered k (lines_from k all)
@@ -107,7 +114,8 @@ count_from k (s ∷ all) = ap suc (count_from (k + 1) all)
 -- ---- lists
 flat_all : {X Y : Type 0} (P : Y → Type 0) (f : X → List Y) (xs : List X) → All P (flat_map f xs) → All (λ x. All P (f x)) xs
 flat_all P f [] h = All-nil (λ x. All P (f x))
-flat_all P f (x ∷ xs) h = All-cons (λ y. All P (f y)) x xs (all_left P (f x) (flat_map f xs) h) (flat_all P f xs (all_right P (f x) (flat_map f xs) h))
+flat_all P f (x ∷ xs) h = All-cons (λ y. All P (f y)) x xs (all_left P (f x) (flat_map f xs) h)
+    (flat_all P f xs (all_right P (f x) (flat_map f xs) h))
 
 client_is : (call : CallName) → is_client call ≡ true → IsClient call
 client_is (name.Client i number) e = tt
@@ -148,7 +156,8 @@ module _ (script : Script) (values : IsScript script) (valid : IsValid script) (
   points_long : All (λ (line : HLine). IsLong line.point) t.history
   points_long =
       let low : length core.directory.points < 2 ^ 64 = few.points in
-      All-weaker (Below (0 + length core.directory.points)) (λ (line : HLine). IsLong line.point) (λ line h. omega (arith, h, low)) t.history (history_below (size_of script) _ _ 0 [] core.directory.points)
+      All-weaker (Below (0 + length core.directory.points)) (λ (line : HLine). IsLong line.point) (λ line h. omega (arith, h, low)) t.history
+      (history_below (size_of script) _ _ 0 [] core.directory.points)
 
   answers : All (λ (made : Made). TellsSmall made.answer) trace
   answers = answers_small script values valid can shortages tokens
@@ -160,24 +169,37 @@ module _ (script : Script) (values : IsScript script) (valid : IsValid script) (
     -- ---- the history
     there : All (IsThere (size_of script) small script) t.history
     there i d less =
-        let one : CallThere script values (get_or t.history i d).call = call_there script values (get_or t.history i d).call (faithful.clients i d less) (order.calls i d less) in
+        let one : CallThere script values (get_or t.history i d).call =
+        call_there script values (get_or t.history i d).call (faithful.clients i d less) (order.calls i d less) in
         record { call = one.call; is_call = one.is_call; value = one.value }
 
     replies : All (λ (line : HLine). IsShown line.reply) t.history
-    replies = replies_form (size_of script) small script t.history [] there (All-nil (IsObject (size_of script) small)) faithful.history.replies.replies
+    replies = replies_form (size_of script) small script t.history [] there
+        (All-nil (IsObject (size_of script) small)) faithful.history.replies.replies
 
     history_form : All IsHistoryLine t.history
-    history_form i d less = (points_long i d less, named_short script valid (get_or t.history i d).call (order.calls i d less), client_is (get_or t.history i d).call (faithful.clients i d less), replies i d less)
+    history_form i d less = (
+      points_long i d less,
+      named_short script valid (get_or t.history i d).call (order.calls i d less),
+      client_is
+          (get_or t.history i d).call (faithful.clients i d less),
+      replies i d less,
+    )
 
     objects_form : All IsObjectLine t.objects
     objects_form =
         let calls : List Call = history_calls script t in
         let kept : All (IsObject (size_of script) small) (apply_all (size_of script) (history_calls script t) []) =
-        all_kept (size_of script) small (history_calls script t) (calls_are (size_of script) small script t.history there) [] (All-nil (IsObject (size_of script) small)) in
+        all_kept (size_of script) small (history_calls script t) (calls_are (size_of script) small script t.history there) []
+        (All-nil (IsObject (size_of script) small)) in
         subst (All IsObjectLine) (sym faithful.history.replies.objects)
         (All-map IsObjectLine (λ object. shown_object object.0 object.1) (apply_all (size_of script) (history_calls script t) [])
         (All-weaker (IsObject (size_of script) small) (λ object. IsObjectLine (shown_object object.0 object.1))
-        (λ object is. (is.name, let low : length object.1 ≤ size_of script = is.held.few in let most : size_of script ≤ 1048576 = small in omega (arith, low, most))) (apply_all (size_of script) (history_calls script t) []) kept))
+        (λ object is. (
+          is.name,
+          let low : length object.1 ≤ size_of script = is.held.few in let most : size_of script ≤ 1048576 =
+              small in omega (arith, low, most),
+        )) (apply_all (size_of script) (history_calls script t) []) kept))
 
     -- ---- refusals and results
     abbrev Lacks : CallName × List Triple → Type 0
@@ -186,18 +208,21 @@ module _ (script : Script) (values : IsScript script) (valid : IsValid script) (
     refused_lacks : All (λ (line : XLine). All Lacks (missing_of_cause line.call line.cause)) t.refused
     refused_lacks =
         flat_all Lacks (λ (line : XLine). missing_of_cause line.call line.cause) t.refused
-        (all_left Lacks (flat_map (λ (line : XLine). missing_of_cause line.call line.cause) t.refused) (flat_map (λ (line : RLine). missing_of_result line.call line.result) t.repairs) faithful.history.missing)
+        (all_left Lacks (flat_map (λ (line : XLine). missing_of_cause line.call line.cause) t.refused)
+        (flat_map (λ (line : RLine). missing_of_result line.call line.result) t.repairs) faithful.history.missing)
 
     repairs_lack : All (λ (line : RLine). All Lacks (missing_of_result line.call line.result)) t.repairs
     repairs_lack =
         flat_all Lacks (λ (line : RLine). missing_of_result line.call line.result) t.repairs
-        (all_right Lacks (flat_map (λ (line : XLine). missing_of_cause line.call line.cause) t.refused) (flat_map (λ (line : RLine). missing_of_result line.call line.result) t.repairs) faithful.history.missing)
+        (all_right Lacks (flat_map (λ (line : XLine). missing_of_cause line.call line.cause) t.refused)
+        (flat_map (λ (line : RLine). missing_of_result line.call line.result) t.repairs) faithful.history.missing)
 
     refused_form : All IsRefusedLine t.refused
     refused_form i d less = (
       named_short script valid (get_or t.refused i d).call (others.refused i d less),
       subst IsClient (sym (refused_of script core i d less).2) tt,
-      cause_form script values trace answers (get_or t.refused i d).call few_servers can.tried t points_long (length core.directory.points) few.points known (get_or t.refused i d).cause (faithful.causes.refused i d less)
+      cause_form script values trace answers (get_or t.refused i d).call few_servers can.tried t points_long
+          (length core.directory.points) few.points known (get_or t.refused i d).cause (faithful.causes.refused i d less)
           (faithful.losses.refused i d less) (faithful.points.refused i d less) (faithful.history.races i d less) (refused_lacks i d less),
     )
 
@@ -205,7 +230,8 @@ module _ (script : Script) (values : IsScript script) (valid : IsValid script) (
     repairs_form i d less = (
       named_short script valid (get_or t.repairs i d).call (others.repairs i d less),
       subst IsRepairer (sym (repairs_of script core i d less).2) tt,
-      result_form script values trace answers (get_or t.repairs i d).call few_servers can.tried t points_long (length core.directory.points) few.points known (get_or t.repairs i d).result (faithful.causes.repairs i d less)
+      result_form script values trace answers (get_or t.repairs i d).call few_servers can.tried t points_long
+          (length core.directory.points) few.points known (get_or t.repairs i d).result (faithful.causes.repairs i d less)
           (faithful.losses.repairs i d less) (faithful.points.repairs i d less) (repairs_lack i d less),
     )
 
@@ -214,8 +240,10 @@ module _ (script : Script) (values : IsScript script) (valid : IsValid script) (
 
     takes_form : All (IsTakesLine (chunk_count script.geometry)) t.takes
     takes_form i d less =
-        let job : (job : Job) × (job_of_call script (get_or t.takes i d).call ≡ Some job) = job_there script values (get_or t.takes i d).call (others.takes i d less) in
-        let form : All IsLong (get_or t.takes i d).takes × (length (get_or t.takes i d).takes ≡ chunk_count script.geometry) × _ = take_form script trace t faithful.takes (get_or t.takes i d) (Contains-get_or t.takes i d less) job.0 job.1 in
+        let job : (job : Job) × (job_of_call script (get_or t.takes i d).call ≡ Some job) =
+        job_there script values (get_or t.takes i d).call (others.takes i d less) in
+        let form : All IsLong (get_or t.takes i d).takes × (length (get_or t.takes i d).takes ≡ chunk_count script.geometry) × _ =
+        take_form script trace t faithful.takes (get_or t.takes i d) (Contains-get_or t.takes i d less) job.0 job.1 in
         (named_short script valid (get_or t.takes i d).call (others.takes i d less), form.0, form.1, form.2)
 
     -- ---- servers
@@ -223,7 +251,9 @@ module _ (script : Script) (values : IsScript script) (valid : IsValid script) (
     count = (end_known script values.geometry valid shortages tokens).kept.keeps.servers
 
     all_servers : All IsServerLine t.servers
-    all_servers = servers_form 0 core.servers (let same : length core.servers ≡ chunk_count script.geometry = count in let most : chunk_count script.geometry ≤ 24 = few_servers in omega (arith, same, most)) few.servers
+    all_servers = servers_form 0 core.servers
+        (let same : length core.servers ≡ chunk_count script.geometry = count in let most : chunk_count script.geometry ≤ 24 =
+        few_servers in omega (arith, same, most)) few.servers
 
     pub whole : IsWellFormed (chunk_count script.geometry) t
     whole =
@@ -258,13 +288,16 @@ schedule_lines script valid =
 pub played_are_well_formed : PlayedAreWellFormed
 played_are_well_formed script t values valid played =
     subst (IsWellFormed (chunk_count script.geometry)) (sym played.shows)
-    (faithful_runs_are_well_formed script played.shortages values valid script.schedule (schedule_lines script valid) (subst (IsFaithful script (run_trace script played.shortages script.schedule)) played.shows played.faithful))
+    (faithful_runs_are_well_formed script played.shortages values valid script.schedule (schedule_lines script valid)
+    (subst (IsFaithful script (run_trace script played.shortages script.schedule)) played.shows played.faithful))
 
 pub runs_are_well_formed : RunsAreWellFormed
-runs_are_well_formed script shortages values valid = played_are_well_formed script (shown_of script shortages) values valid (runs_are_played script shortages values.geometry valid)
+runs_are_well_formed script shortages values valid =
+    played_are_well_formed script (shown_of script shortages) values valid (runs_are_played script shortages values.geometry valid)
 
 pub threaded_are_well_formed : ThreadedAreWellFormed
 threaded_are_well_formed script t values valid run =
     subst (IsWellFormed (chunk_count script.geometry)) (sym run.run.shows)
-    (faithful_runs_are_well_formed script run.run.shortages values valid run.run.tokens (subst (λ (lines : List Token). length lines < 2 ^ 32) (sym run.run.lines) (schedule_lines script valid))
+    (faithful_runs_are_well_formed script run.run.shortages values valid run.run.tokens
+    (subst (λ (lines : List Token). length lines < 2 ^ 32) (sym run.run.lines) (schedule_lines script valid))
     (subst (IsFaithful script (run_trace script run.run.shortages run.run.tokens)) run.run.shows run.faithful))

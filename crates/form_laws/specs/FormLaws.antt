@@ -21,7 +21,7 @@ use Rattle.thread_laws.specs.Run.{IsRun}
 abbrev pub HasFewLines : List Token → Type 0
 HasFewLines tokens = length (filter is_line tokens) < 2 ^ 32
 
--- of every valid script of names, bytes and numbers that texts can have, whatever was wanting of memory: by whatever tokens, what a run shows that is faithful to it is a transcript of as many servers
+-- what a run by such tokens shows, whatever was wanting of memory, is well formed where it is faithful to the run
 abbrev pub FaithfulRunsAreWellFormed : Type 0
 FaithfulRunsAreWellFormed =
     (script : Script) (shortages : List Shortage) → IsScript script → IsValid script → (tokens : List Token) → HasFewLines tokens →

@@ -24,7 +24,7 @@ mod HeldLines
 pub mod CausedLines
 pub mod Shows
 mod ListsTold
-mod MoreSteps
+mod StepsCounted
 mod TakesTraced
 pub mod Overs
 mod TakesShown

@@ -1,5 +1,5 @@
 -- A call that is over by the trace has ended in the core, so what is shown has a reply, a refusal or a result of it.
-use Rattle.std.proofs.Common.{◌≡◌, ◌⊎◌, inl, inr, ℕ, ◌<◌, ◌≤◌, Bool, true, false, List, [], ◌++◌, length, map, filter, Contains, Option, None, Some, option_and_then, refl, sym, ap, subst, ◌∙◌, arith, true≢false}
+use Rattle.std.proofs.Common.{◌≡◌, ◌⊎◌, inl, inr, ℕ, ◌<◌, ◌≤◌, Bool, true, false, List, [], ◌++◌, length, map, filter, Contains, Option, None, Some, IfSome, option_and_then, refl, sym, ap, subst, ◌∙◌, arith, true≢false}
 use Rattle.std.specs.Bool.{⊤}
 use Rattle.std.proofs.lemmas.Bool.{cases_order}
 use Rattle.std.proofs.lemmas.List.{length-map}
@@ -30,13 +30,12 @@ use Rattle.store_core.specs.Core.{Core}
 use Rattle.store_core.specs.NextAct.{Job, job_of, rebuild_job, next_act}
 use Rattle.store_core.specs.Schedule.{run_core}
 use Rattle.store_core.specs.Shown.{shown}
-use Rattle.store_core.specs.Told.{Told}
 use Rattle.store_core.specs.Work.{Ended, Work, Calling, client_work, repairer_work}
-use Rattle.run_laws.specs.GatherLaws.{Tells}
-use Rattle.run_laws.specs.StepLaws.{HasTarget}
 use Rattle.run_laws.specs.ToldInSteps.{act_after}
+use Rattle.run_laws.specs.DrainLaws.{KeepsBound, KeepBounds}
 use Rattle.run_laws.proofs.ActAnswers.{IsGoing}
 use Rattle.run_laws.proofs.ActorSteps.{is_looking}
+use Rattle.run_laws.proofs.Drains.{drains_end}
 use Rattle.run_laws.proofs.Phases.{Phase, phase_of}
 use Rattle.run_laws.proofs.Scripts.{can_run}
 use Rattle.history_laws.proofs.AtWork.{client_at, repairer_at}
@@ -49,11 +48,11 @@ use Rattle.transcript_laws.specs.Steps.{run_trace}
 use Rattle.transcript_laws.specs.Trace.{Made}
 use Rattle.transcript_laws.proofs.CausedCalls.{CauseThen, ToldSo}
 use Rattle.transcript_laws.proofs.CausedLines.{CausesSoFar, all_causes}
-use Rattle.transcript_laws.specs.Over.{answers_to, steps_made, IsOver, MadeAllSteps}
+use Rattle.transcript_laws.specs.Over.{IsOver, MadeAllSteps}
 use Rattle.transcript_laws.specs.Answered.{IsAnswered, IsRefused as WasRefused, HasResult}
 use Rattle.transcript_laws.specs.PlayedLaws.{RunsTellEnds, EnoughStepsEndCalls}
-use Rattle.transcript_laws.proofs.ListsTold.{told_in, of_mapped}
-use Rattle.transcript_laws.proofs.MoreSteps.{below_bound, some_bound, steps_answered}
+use Rattle.transcript_laws.proofs.ListsTold.{of_mapped}
+use Rattle.transcript_laws.proofs.StepsCounted.{some_bound, count_of, StepsThen, StepsSoFar, all_steps}
 
 -- ---- a call that is in work, or that has not begun, isn't over
 -- whether a phase is the last
@@ -83,23 +82,31 @@ module _ (g : Shape) (most tries : ℕ) (tried : 1 ≤ tries) (who : Actor) (job
       by (inr (inr high)) =
           absurd (not_first (next_act g tries job []) (is_looking job.note.kind g tries job tried) outcome (sym (ap (act_after g tries job) (h.later number high)) ∙ e))
 
-  -- nor has it made all its steps
-  enough_ended : (target : (job : Job) → slice_get jobs (length c.ended) ≡ Some job → HasTarget g job) → (number : ℕ) (job : Job) → slice_get jobs number ≡ Some job
-      → (Tells (λ answer. answer ≡ Told.Short) (told_to who number trace) → ⊥) → step_bound g most tries job.note ≤ length (told_to who number trace) → number < length c.ended
-  enough_ended target number job is_job ample enough = by (cases_order number (length c.ended))
+-- nor has it made all its steps
+module _ (script : Script) (who : Actor) (work : Work) (c : Calling) (trace : List Made) (steps : StepsThen trace who c) (bounded : KeepsBound script work c) where
+  enough_ended : (number : ℕ) (job : Job) → slice_get work.jobs number ≡ Some job → step_bound script.geometry (size_of script) (tries_of script) job.note ≤ count_of who number trace → number < length c.ended
+  enough_ended number job is_job enough = by (cases_order number (length c.ended))
     where
       by : (number ≡ length c.ended) ⊎ ((number < length c.ended) ⊎ (length c.ended < number)) → number < length c.ended
       by (inl same) =
-          let is : slice_get jobs (length c.ended) ≡ Some job = subst (λ n. slice_get jobs n ≡ Some job) same is_job in
-          let below : length (told_to who (length c.ended) trace) < step_bound g most tries job.note =
-          below_bound g most tries job (target job is) (told_to who (length c.ended) trace) c.told (h.in_work job is) (going job is) (subst (λ n. Tells (λ answer. answer ≡ Told.Short) (told_to who n trace) → ⊥) same ample) in
-          let all : step_bound g most tries job.note ≤ length (told_to who (length c.ended) trace) = subst (λ n. step_bound g most tries job.note ≤ length (told_to who n trace)) same enough in
-          absurd (omega (arith, below, all))
+          let is : slice_get work.jobs (length c.ended) ≡ Some job = subst (λ n. slice_get work.jobs n ≡ Some job) same is_job in
+          let below : c.steps < step_bound script.geometry (size_of script) (tries_of script) job.note =
+          subst (λ (o : Option Job). IfSome o (λ j. c.steps < step_bound script.geometry (size_of script) (tries_of script) j.note)) is bounded in
+          let made : count_of who (length c.ended) trace ≡ c.steps = steps.in_work in
+          let all : step_bound script.geometry (size_of script) (tries_of script) job.note ≤ count_of who (length c.ended) trace =
+          subst (λ n. step_bound script.geometry (size_of script) (tries_of script) job.note ≤ count_of who n trace) same enough in
+          absurd (omega (arith, below, made, all))
       by (inr (inl low)) = low
       by (inr (inr high)) =
-          let some : 1 ≤ step_bound g most tries job.note = some_bound job.note.kind (chunk_count g) tries (touched_count g job.note) (read_count job.note.kind g most job.note) in
-          let none : length (told_to who number trace) ≡ 0 = ap length (h.later number high) in
+          let some : 1 ≤ step_bound script.geometry (size_of script) (tries_of script) job.note =
+          some_bound job.note.kind (chunk_count script.geometry) (tries_of script) (touched_count script.geometry job.note) (read_count job.note.kind script.geometry (size_of script) job.note) in
+          let none : count_of who number trace ≡ 0 = steps.later number high in
           absurd (omega (arith, some, none, enough))
+
+-- what holds of an actor's work and call, where both are there
+both_there : (P : Work → Calling → Type 0) (w : Option Work) (c : Option Calling) (work : Work) (calling : Calling) → IfSome w (λ x. IfSome c (P x)) → w ≡ Some work → c ≡ Some calling → P work calling
+both_there P w c work calling h is_work is_calling =
+    subst (λ (o : Option Calling). IfSome o (P work)) is_calling (subst (λ (o : Option Work). IfSome o (λ x. IfSome c (P x))) is_work h)
 
 -- ---- by actors
 -- the job that a name is of
@@ -165,23 +172,18 @@ module _ (script : Script) (core : Core) (known : EndKnown script core) (trace :
       (repairer_going i p.work p.calling p.is_work p.is_calling) number over.0 p.is_job over.2.0 over.2.1)
 
   -- so has one that made all its steps
-  enough_below : (call : CallName) → (Contains (answers_to call trace) Told.Short → ⊥) → MadeAllSteps script trace call → number_of call < ended_count core call
-  enough_below (name.Client i number) ample all =
-      let p : Place (client_work script) core.clients i number all.0 = client_place i number all.0 all.1 in
-      let made : step_bound script.geometry (size_of script) (tries_of script) all.0.note ≤ steps_made (name.Client i number) trace = all.2 in
-      let told : steps_made (name.Client i number) trace ≤ length (told_to (actor.Client i) number trace) = steps_answered (actor.Client i) number trace in
-      subst (λ o. number < ended_of o) (sym p.is_calling)
-      (enough_ended g (size_of script) (tries_of script) known.can.tried (actor.Client i) p.work.jobs p.calling trace (has.clients i p.calling p.is_calling p.work p.is_work)
-      (client_going i p.work p.calling p.is_work p.is_calling) (λ j is. known.can.clients.targets i p.work p.is_work (length p.calling.ended) j is) number all.0 p.is_job
-      (λ h. ample (told_in (told_to (actor.Client i) number trace) Told.Short h)) (omega (arith, made, told)))
-  enough_below (name.Repairer i number) ample all =
-      let p : Place (repairer_work script) core.repairers i number all.0 = repairer_place i number all.0 all.1 in
-      let made : step_bound script.geometry (size_of script) (tries_of script) all.0.note ≤ steps_made (name.Repairer i number) trace = all.2 in
-      let told : steps_made (name.Repairer i number) trace ≤ length (told_to (actor.Repairer i) number trace) = steps_answered (actor.Repairer i) number trace in
-      subst (λ o. number < ended_of o) (sym p.is_calling)
-      (enough_ended g (size_of script) (tries_of script) known.can.tried (actor.Repairer i) p.work.jobs p.calling trace (has.repairers i p.calling p.is_calling p.work p.is_work)
-      (repairer_going i p.work p.calling p.is_work p.is_calling) (λ j is. known.can.repairers.targets i p.work p.is_work (length p.calling.ended) j is) number all.0 p.is_job
-      (λ h. ample (told_in (told_to (actor.Repairer i) number trace) Told.Short h)) (omega (arith, made, told)))
+  module _ (steps : StepsSoFar script trace core) (bounds : KeepBounds script core.clients core.repairers) where
+    enough_below : (call : CallName) → MadeAllSteps script trace call → number_of call < ended_count core call
+    enough_below (name.Client i number) all =
+        let p : Place (client_work script) core.clients i number all.0 = client_place i number all.0 all.1 in
+        subst (λ o. number < ended_of o) (sym p.is_calling)
+        (enough_ended script (actor.Client i) p.work p.calling trace (steps.clients i p.calling p.is_calling)
+        (both_there (KeepsBound script) (slice_get (client_work script) i) (slice_get core.clients i) p.work p.calling (bounds.clients i) p.is_work p.is_calling) number all.0 p.is_job all.2)
+    enough_below (name.Repairer i number) all =
+        let p : Place (repairer_work script) core.repairers i number all.0 = repairer_place i number all.0 all.1 in
+        subst (λ o. number < ended_of o) (sym p.is_calling)
+        (enough_ended script (actor.Repairer i) p.work p.calling trace (steps.repairers i p.calling p.is_calling)
+        (both_there (KeepsBound script) (slice_get (repairer_work script) i) (slice_get core.repairers i) p.work p.calling (bounds.repairers i) p.is_work p.is_calling) number all.0 p.is_job all.2)
 
   -- and a call that has ended is over
   pub below_over : (call : CallName) → number_of call < ended_count core call → IsOver script trace call
@@ -289,9 +291,11 @@ runs_tell_ends script shortages geometry valid tokens =
     }
 
 pub enough_steps_end_calls : EnoughStepsEndCalls
-enough_steps_end_calls script shortages geometry valid tokens call ample all =
+enough_steps_end_calls script shortages geometry valid tokens call all =
     let core : Core = run_core script shortages tokens in
     let trace : List Made = run_trace script shortages tokens in
     let known : EndKnown script core = end_known script geometry valid shortages tokens in
     let has : CausesSoFar script trace core = all_causes script (can_run script geometry valid) shortages tokens in
-    below_over script core known trace has call (enough_below script core known trace has call ample all)
+    let steps : StepsSoFar script trace core = all_steps script (can_run script geometry valid) shortages tokens in
+    let bounds : KeepBounds script core.clients core.repairers = (drains_end script shortages geometry valid).bounds tokens in
+    below_over script core known trace has call (enough_below script core known trace has steps bounds call all)

@@ -1,9 +1,8 @@
 -- A transcript that is faithful to the steps of a run.
-use Rattle.std.specs.Prelude.{◌≡◌, List, Contains}
+use Rattle.std.specs.Prelude.{◌≡◌, List}
 use Rattle.store_map.specs.declared.script.Script.{Script}
 use Rattle.store_map.specs.declared.call_name.CallName.{CallName}
 use Rattle.store_map.specs.declared.transcript.Transcript.{Transcript}
-use Rattle.store_core.specs.Told.{Told}
 use Rattle.hist_rules.specs.declared.verdict.Verdict.TheVariants.{Legal}
 use Rattle.hist_rules.specs.IsHistory.{IsHistory}
 use Rattle.hist_rules.specs.LineLaws.{IsOfClients}
@@ -12,7 +11,7 @@ use Rattle.transcript_laws.specs.LineCauses.{LinesAreCaused}
 use Rattle.transcript_laws.specs.LossesInTime.{HasLossesInTime}
 use Rattle.transcript_laws.specs.PointsInTime.{HasPointsInTime}
 use Rattle.transcript_laws.specs.Trace.{Made}
-use Rattle.transcript_laws.specs.Over.{answers_to, IsOver, MadeAllSteps}
+use Rattle.transcript_laws.specs.Over.{IsOver, MadeAllSteps}
 use Rattle.transcript_laws.specs.Takes.{TakesLeast}
 use Rattle.transcript_laws.specs.Answered.{TellsEnds, AnswersTheUnhindered}
 
@@ -32,8 +31,8 @@ pub record IsFaithful (script : Script) (steps : List Made) (t : Transcript) : T
   pub causes : LinesAreCaused script steps t
   -- each call that was over, and no other, is answered, refused or has its result
   pub ends : TellsEnds script steps t
-  -- and a call is over that has made all the steps that such a call makes at most, where memory was wanting in none of them
-  pub enough : (call : CallName) → ¬ Contains (answers_to call steps) Told.Short → MadeAllSteps script steps call → IsOver script steps call
+  -- and a call is over that has made all the steps that such a call makes at most
+  pub enough : (call : CallName) → MadeAllSteps script steps call → IsOver script steps call
   -- and a call that nothing hindered is answered
   pub answers : AnswersTheUnhindered script steps t
   -- what calls took is what their answers gave them: a rebuild that is rebuilt and found its chunk alone missing took exactly one part in as many as the grid has rows of each other chunk, and a get or a read that has its bytes and found none missing just the subchunks that have them

@@ -1,5 +1,5 @@
 -- Calls that nothing hinders are answered in every run, and what a run shows is as a whole what it should be.
-use Rattle.std.specs.Prelude.{List, Contains}
+use Rattle.std.specs.Prelude.{List}
 use Rattle.clay_grid.specs.Limits.{IsGeometry}
 use Rattle.store_map.specs.Naming.{IsValid}
 use Rattle.store_map.specs.declared.actor.Token.{Token}
@@ -8,9 +8,8 @@ use Rattle.store_map.specs.declared.call_name.CallName.{CallName}
 use Rattle.store_core.specs.Schedule.{run_core}
 use Rattle.store_core.specs.Shown.{shown, shown_of}
 use Rattle.store_core.specs.Step.{Shortage}
-use Rattle.store_core.specs.Told.{Told}
 use Rattle.transcript_laws.specs.Steps.{run_trace}
-use Rattle.transcript_laws.specs.Over.{answers_to, IsOver, MadeAllSteps}
+use Rattle.transcript_laws.specs.Over.{IsOver, MadeAllSteps}
 use Rattle.transcript_laws.specs.Answered.{TellsEnds, AnswersTheUnhindered}
 use Rattle.transcript_laws.specs.Played.{IsPlayed}
 
@@ -20,11 +19,11 @@ RunsTellEnds =
     (script : Script) (shortages : List Shortage) → IsGeometry script.geometry → IsValid script → (tokens : List Token) →
     TellsEnds script (run_trace script shortages tokens) (shown script (run_core script shortages tokens))
 
--- each call is over that has made all the steps that such a call makes at most, where memory was ample
+-- each call is over that has made all the steps that such a call makes at most, whatever was wanting of memory
 abbrev pub EnoughStepsEndCalls : Type 0
 EnoughStepsEndCalls =
     (script : Script) (shortages : List Shortage) → IsGeometry script.geometry → IsValid script → (tokens : List Token) → (call : CallName) →
-    ¬ Contains (answers_to call (run_trace script shortages tokens)) Told.Short → MadeAllSteps script (run_trace script shortages tokens) call → IsOver script (run_trace script shortages tokens) call
+    MadeAllSteps script (run_trace script shortages tokens) call → IsOver script (run_trace script shortages tokens) call
 
 -- and each call that nothing hinders is answered
 abbrev pub RunsAnswer : Type 0

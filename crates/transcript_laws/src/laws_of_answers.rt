@@ -29,7 +29,7 @@ pub fn runs_tell_ends()
     ensures { RunsTellEnds }
 {}
 
-/// A call is over that has made all the steps that such a call makes at most, where memory was ample.
+/// A call is over that has made all the steps that such a call makes at most, whatever was wanting of memory.
 pub fn enough_steps_end_calls()
     ensures { EnoughStepsEndCalls }
 {}
