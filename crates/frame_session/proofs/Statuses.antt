@@ -50,11 +50,6 @@ no_ending fault ending same = true-false (sym (ends ending) ∙ ap is_ending (sy
 pub no_ending_by : (status : SessionStatus) (ending : Ending) → is_ending status ≡ false → status ≡ status_of ending → ⊥
 no_ending_by status ending is same = true-false (sym (ends ending) ∙ ap is_ending (sym same) ∙ is)
 
-abbrev is_fault_of_frame : SessionStatus → Bool
-is_fault_of_frame SessionStatus.ReadFault = true
-is_fault_of_frame SessionStatus.OutOfMemory = true
-is_fault_of_frame _ = false
-
 pub memory_fault : (fault : FrameFault) → status_of_fault fault ≡ SessionStatus.OutOfMemory → fault ≡ FrameFault.OutOfMemory
 memory_fault FrameFault.OutOfMemory same = refl
 memory_fault FrameFault.ReadFault same = absurd (true-false (ap is_read same))
@@ -73,7 +68,3 @@ read_fault FrameFault.OutOfMemory same = absurd (true-false (ap is_memory same))
 
 pub of_fault : (fault one : FrameFault) → fault ≡ one → status_of_fault fault ≡ status_of_fault one
 of_fault fault one same = ap status_of_fault same
-
-pub no_write_fault : (fault : FrameFault) → status_of_fault fault ≡ SessionStatus.WriteFault → ⊥
-no_write_fault FrameFault.ReadFault same = true-false (ap is_fault_of_frame same)
-no_write_fault FrameFault.OutOfMemory same = true-false (ap is_fault_of_frame same)
