@@ -1,4 +1,3 @@
 pub mod Adds
 pub mod Traced
 pub mod Top
-pub mod Serves
