@@ -326,11 +326,20 @@ class Pool:
     def scrub(self, command="pg deep-scrub", only=None):
         """Has each group scrubbed, or one only; those of the pool that are inconsistent then."""
         stamps = {group.pgid: group.scrubbed for group in self.groups() if only in (None, group.pgid)}
-        for pgid in stamps:
-            self.cluster.manage(command, pgid=pgid)
+        asked_at = 0
 
         def is_done(group):
             is_at_rest = group.state.startswith("active+clean") and "scrubbing" not in group.state and "repair" not in group.state
             return is_at_rest and group.scrubbed != stamps.get(group.pgid)
-        self.wait_all(is_done, command)
+
+        def are_done():
+            nonlocal asked_at
+            left = [group.pgid for group in self.groups() if not is_done(group)]
+            if left and time.monotonic() > asked_at + 15:
+                # again, since a request is lost where the manager takes another osd for the leader
+                for pgid in stamps.keys() & left:
+                    self.cluster.manage(command, pgid=pgid)
+                asked_at = time.monotonic()
+            return not left
+        self.cluster.wait(are_done, f"{self.name}: {command}")
         return [group.pgid for group in self.groups() if "inconsistent" in group.state]
