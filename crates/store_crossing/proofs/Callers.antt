@@ -7,7 +7,7 @@ use denote.Param.SendFields.{declared_send}
 use Rattle.std.proofs.Crossing.{crosses, send, Vec-send}
 use Rattle.stripe_dir.specs.contracts.tokens.Seat as seat
 use Rattle.call_machine.specs.contracts.call_machine.CallMachine as machine
-use Rattle.world_lines.specs.contracts.calls.EndedCall as ended
+use Rattle.call_steps.specs.contracts.caller_calls.EndedCall as ended
 use Rattle.sweeper.specs.contracts.sweeper.Sweeper as sweeper
 use Rattle.actors.specs.contracts.part.Part as part
 use Rattle.actors.specs.contracts.caller.Caller.TheInside as inside
