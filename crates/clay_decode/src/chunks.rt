@@ -7,11 +7,11 @@ ghost use Rattle.clay_model.specs.Left.{parts, AreLong, AreLeft, AreTooFew, IsRe
 ghost use Rattle.code_laws.specs.Solved.{IsCoupled, HoldsSubchunks};
 ghost use Rattle.clay_decode.specs.Plan.{IsPlan, AreSolved};
 
-use crate::layers::{partner_of, piece, solved_piece, solved_values};
+use crate::layers::{piece, solved_piece, solved_values};
 use crate::plan::{Plan, make_plan};
 use clay_encode::zeros;
 use clay_grid::Geometry;
-use clay_model::{DecodeFault, couple, uncouple};
+use clay_model::{DecodeFault, couple, partner_of, uncouple};
 use std::alloc::{AllocError, Global};
 
 // Writes subchunk `z` of an erased node.
