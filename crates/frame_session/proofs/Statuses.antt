@@ -68,3 +68,14 @@ read_fault FrameFault.OutOfMemory same = absurd (true-false (ap is_memory same))
 
 pub of_fault : (fault one : FrameFault) → fault ≡ one → status_of_fault fault ≡ status_of_fault one
 of_fault fault one same = ap status_of_fault same
+
+-- whether a status is that of a frame that wasn't had
+abbrev is_fault_of_frame : SessionStatus → Bool
+is_fault_of_frame SessionStatus.ReadFault = true
+is_fault_of_frame SessionStatus.OutOfMemory = true
+is_fault_of_frame _ = false
+
+-- it is none of a failed write
+pub no_write_fault : (fault : FrameFault) → status_of_fault fault ≡ SessionStatus.WriteFault → ⊥
+no_write_fault FrameFault.ReadFault same = true-false (ap is_fault_of_frame same)
+no_write_fault FrameFault.OutOfMemory same = true-false (ap is_fault_of_frame same)

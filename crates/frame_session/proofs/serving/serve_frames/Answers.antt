@@ -5,7 +5,7 @@ use Rattle.frame_bytes.specs.Next.{IsNext, IsServed}
 use Rattle.frame_session.specs.declared.status.SessionStatus.{SessionStatus}
 use Rattle.frame_session.specs.Status.{status_of, status_of_fault}
 use Rattle.frame_session.proofs.Going.{Going, begins, goes_further, is_cut, is_session, is_given_up, is_wanting}
-use Rattle.frame_session.proofs.Statuses.{same_ending, no_ending, no_ending_by, memory_fault}
+use Rattle.frame_session.proofs.Statuses.{same_ending, no_ending, no_ending_by, memory_fault, no_write_fault}
 use Rattle.frame_session.proofs.serving.serve_frames.Goals as goal
 
 pub frames-init : goal.frames-init
@@ -74,3 +74,9 @@ frames-preserved g c =
       read_steady = grind (arith, common_steps);
       write_steady = c.in-Ok-serve_frame.ensures.steady ∙ c.frames.invariant.write_steady;
     }
+
+pub returns-in-Err-clause-cut_off : goal.returns-in-Err-clause-cut_off
+returns-in-Err-clause-cut_off g c = λ same. absurd (no_write_fault c.in-Err.fault (sym c.of_fault.ensures ∙ same))
+
+pub returns-in-End-clause-cut_off : goal.returns-in-End-clause-cut_off
+returns-in-End-clause-cut_off g c = λ same. absurd (no_ending_by SessionStatus.WriteFault c.in-End.ending refl (sym same ∙ c.of_ending.ensures))
