@@ -13,6 +13,3 @@ pub mod Places
 pub mod Reaped
 pub mod Differences
 pub mod WrongSums
-pub mod Names
-pub mod Faults
-pub mod Rows

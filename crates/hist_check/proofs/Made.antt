@@ -13,7 +13,7 @@ use Rattle.store_map.specs.declared.transcript.Transcript.{Transcript}
 use Rattle.hist_rules.specs.First.{first_fault}
 use Rattle.hist_rules.specs.CallsExist.{call_exists, calls_exist}
 use Rattle.hist_rules.specs.declared.verdict.Verdict.{Verdict}
-use Rattle.hist_check.proofs.Faults.{first_fault-append}
+use Rattle.hist_tables.proofs.Faults.{first_fault-append}
 
 -- a rule on calls, over the lines that name them
 over_lines : {Line : Type 0} (rule : CallName → Option Verdict) (call : Line → CallName) (lines : List Line) → first_fault rule (map call lines) ≡ first_fault (λ line. rule (call line)) lines

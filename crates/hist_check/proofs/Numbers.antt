@@ -6,9 +6,9 @@ use Rattle.std.specs.List.{slice_get}
 use Rattle.store_map.specs.declared.call_name.CallName.{CallName}
 use Rattle.store_map.specs.declared.line.HLine.{HLine}
 use Rattle.hist_rules.specs.Calls.{number_of, same_actor}
-use Rattle.hist_check.specs.Tables.{value_at}
-use Rattle.hist_check.specs.declared.actor_table.ActorTable.{ActorTable}
-use Rattle.hist_check.proofs.Faults.{before_more}
+use Rattle.hist_tables.specs.Tables.{value_at}
+use Rattle.hist_tables.specs.declared.actor_table.ActorTable.{ActorTable}
+use Rattle.hist_tables.proofs.Faults.{before_more}
 
 -- one line more, which is read as an item
 item_more : {Line : Type 0} (lines : List Line) (i : ℕ) (item : Line) → i < length lines → item ≡ get_or lines i item → reverse (take (i + 1) lines) ≡ item ∷ reverse (take i lines)

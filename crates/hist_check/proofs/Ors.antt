@@ -13,7 +13,7 @@ use Rattle.hist_rules.specs.LostChunks.{missing_of_cause, missing_of_result, chu
 use Rattle.hist_check.specs.Lines.{refusal_for_loss, result_for_loss}
 use Rattle.hist_rules.specs.First.{unless, first_fault}
 use Rattle.hist_rules.specs.declared.verdict.Verdict.{Verdict}
-use Rattle.hist_check.proofs.Faults.{first_fault-append}
+use Rattle.hist_tables.proofs.Faults.{first_fault-append}
 
 pub or_none : (found : Option Verdict) → option_or found None ≡ found
 or_none None = refl

@@ -6,8 +6,8 @@ use Rattle.store_map.specs.declared.call_name.CallName.{CallName}
 use Rattle.store_map.specs.declared.call_name.CallName.TheVariants.{Client, Repairer}
 use Rattle.hist_rules.specs.Calls.{with_number, same_actor, is_named}
 use Rattle.hist_rules.specs.CallsInOrder.{all_below}
-use Rattle.hist_check.specs.Tables.{value_at, has, IsSetOf}
-use Rattle.hist_check.specs.declared.actor_table.ActorTable.{ActorTable}
+use Rattle.hist_tables.specs.Tables.{value_at, has, IsSetOf}
+use Rattle.hist_tables.specs.declared.actor_table.ActorTable.{ActorTable}
 use Rattle.hist_check.specs.Reached.{AreReached}
 use Rattle.hist_check.proofs.Below.{below_all, below_each}
 

@@ -14,9 +14,9 @@ use Rattle.hist_rules.specs.Calls.{same_actor, same_call, is_named}
 use Rattle.hist_rules.specs.CallsInOrder.{follows_answered, is_first_answer}
 use Rattle.hist_rules.specs.Named.{answered_calls, is_reply}
 use Rattle.hist_rules.specs.OneOpenCall.{is_only_one, is_next_call, is_unanswered, unanswered_calls, one_open_call}
-use Rattle.hist_check.specs.Tables.{has, IsSetOf}
-use Rattle.hist_check.specs.declared.call_set.CallSet.{CallSet}
-use Rattle.hist_check.proofs.Faults.{before_more, or_first, or_second}
+use Rattle.hist_tables.specs.Tables.{has, IsSetOf}
+use Rattle.hist_tables.specs.declared.call_set.CallSet.{CallSet}
+use Rattle.hist_tables.proofs.Faults.{before_more, or_first, or_second}
 
 -- a call without a reply, after the ones before it
 abbrev pub open_fault : List CallName → List CallName → CallName → Option Verdict

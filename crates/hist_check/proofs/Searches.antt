@@ -12,10 +12,10 @@ use Rattle.hist_rules.specs.declared.verdict.Verdict.{Verdict}
 use Rattle.hist_rules.specs.First.{first_fault_after}
 use Rattle.hist_rules.specs.Calls.{same_call, is_named}
 use Rattle.hist_rules.specs.CallsInOrder.{follows_answered, is_first_answer}
-use Rattle.hist_check.specs.Tables.{has, IsSetOf}
-use Rattle.hist_check.specs.declared.call_set.CallSet.{CallSet}
-use Rattle.hist_check.proofs.Faults.{or_first, or_second}
-use Rattle.hist_check.proofs.Names.{all_pass, answers_of, passing, passing_more, passing_on, passing_end}
+use Rattle.hist_tables.specs.Tables.{has, IsSetOf}
+use Rattle.hist_tables.specs.declared.call_set.CallSet.{CallSet}
+use Rattle.hist_tables.proofs.Faults.{or_first, or_second}
+use Rattle.hist_tables.proofs.Names.{all_pass, answers_of, passing, passing_more, passing_on, passing_end}
 use Rattle.hist_check.specs.Searched.{answer_fault, IsSearched}
 
 -- what is found from some calls on, after earlier ones

@@ -3,6 +3,3 @@ pub mod Searched
 pub mod VerdictText
 pub mod Losses
 pub mod Lines
-pub mod Numbers
-pub mod Tables
-pub mod OperatorCounts

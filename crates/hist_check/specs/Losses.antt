@@ -2,8 +2,8 @@
 use Rattle.std.specs.Prelude.{◌≡◌, ℕ}
 use Rattle.store_map.specs.declared.script.Script.{Script}
 use Rattle.hist_rules.specs.Counts.{wipes, downs}
-use Rattle.hist_check.specs.OperatorCounts.{count_in}
-use Rattle.hist_check.specs.declared.operator_counts.OperatorCounts.{OperatorCounts}
+use Rattle.hist_tables.specs.OperatorCounts.{count_in}
+use Rattle.hist_tables.specs.declared.operator_counts.OperatorCounts.{OperatorCounts}
 use Rattle.hist_check.specs.declared.chunks.Losses.{Losses}
 
 -- how often each server is emptied

@@ -3,8 +3,8 @@ use Rattle.std.specs.Prelude.{◌≡◌, true, List, IfSome}
 use Rattle.store_map.specs.declared.call_name.CallName.{CallName}
 use Rattle.hist_rules.specs.Calls.{is_named, with_number}
 use Rattle.hist_rules.specs.CallsInOrder.{all_below}
-use Rattle.hist_check.specs.declared.actor_table.ActorTable.{ActorTable}
-use Rattle.hist_check.specs.Tables.{value_at}
+use Rattle.hist_tables.specs.declared.actor_table.ActorTable.{ActorTable}
+use Rattle.hist_tables.specs.Tables.{value_at}
 
 -- all calls of an actor below its number are among the calls
 abbrev pub AreReached : List CallName → ActorTable → Type 0

@@ -5,8 +5,8 @@ use Rattle.store_map.specs.declared.call_name.CallName.{CallName}
 use Rattle.hist_rules.specs.First.{first_fault_after}
 use Rattle.hist_rules.specs.CallsInOrder.{follows_answered, is_first_answer}
 use Rattle.hist_rules.specs.declared.verdict.Verdict.{Verdict}
-use Rattle.hist_check.specs.Tables.{IsSetOf}
-use Rattle.hist_check.specs.declared.call_set.CallSet.{CallSet}
+use Rattle.hist_tables.specs.Tables.{IsSetOf}
+use Rattle.hist_tables.specs.declared.call_set.CallSet.{CallSet}
 
 -- an answer, after the ones before it
 abbrev pub answer_fault : List CallName → List CallName → CallName → Option Verdict

@@ -3,9 +3,8 @@ ghost use Rattle.std.specs.Prelude.{◌≡◌};
 ghost use Rattle.hist_rules.specs.First.{first_fault};
 ghost use Rattle.hist_rules.specs.CallsExist.{call_exists, calls_exist};
 
-use crate::calls::{count_calls, number_of};
-use crate::lines::NamesCall;
 use hist_rules::Verdict;
+use hist_tables::{NamesCall, count_calls, number_of};
 use store_map::{CallName, Script, Transcript};
 
 fn call_exists(script: &Script, call: CallName) -> Option<Verdict>

@@ -3,7 +3,7 @@ ghost use Rattle.std.specs.Prelude.{◌≡◌, None};
 ghost use Rattle.hist_rules.specs.PointsRise.{points_rise};
 ghost use Rattle.hist_rules.specs.Named.{is_effect, changes_name, is_change_line, is_change_point};
 
-use crate::calls::call_of;
+use hist_tables::call_of;
 use store_map::{Call, HLine, Name, Reply, Script, Shown, Transcript};
 
 fn is_effect(shown: &Shown) -> bool

@@ -8,9 +8,8 @@ ghost use Rattle.hist_rules.specs.LostChunks.{asks_for_chunks, may_lack_chunks, 
 ghost use Rattle.hist_check.specs.Losses.{AreLosses};
 
 use crate::blame::{blame_unless, downs_fit};
-use crate::calls::call_of;
-use crate::operator_counts::OperatorCounts;
 use hist_rules::Verdict;
+use hist_tables::{OperatorCounts, call_of};
 use std::alloc::{AllocError, Global};
 use store_map::{Call, CallName, Found, Placement, Script, Triple};
 

@@ -2,11 +2,9 @@
 ghost use Rattle.std.specs.Prelude.{◌≡◌, ◌<◌, ◌^◌, length};
 ghost use Rattle.hist_rules.specs.CallsInOrder.{least_missing};
 ghost use Rattle.hist_rules.specs.Named.{answered_calls};
-ghost use Rattle.hist_check.specs.Tables.{IsSetOf};
+ghost use Rattle.hist_tables.specs.Tables.{IsSetOf};
 
-use crate::call_set::CallSet;
-use crate::calls::with_number;
-use crate::lines::count_answers;
+use hist_tables::{CallSet, count_answers, with_number};
 use store_map::{CallName, Transcript};
 
 /// The least number of the call's actor that isn't among the answered calls, of which the set is made.

@@ -8,16 +8,13 @@ ghost use Rattle.hist_rules.specs.Named.{answered_calls};
 ghost use Rattle.hist_rules.specs.OneOpenCall.{is_unanswered, is_only_one, is_next_call, one_open_call};
 ghost use Rattle.store_map.specs.declared.call_name.CallName.{CallName};
 ghost use Rattle.store_map.specs.declared.transcript.Transcript.{Transcript};
-ghost use Rattle.hist_check.specs.Tables.{has, IsSetOf};
+ghost use Rattle.hist_tables.specs.Tables.{has, IsSetOf};
 ghost use Rattle.hist_check.specs.Reached.{AreReached};
 
-use crate::actor_table::ActorTable;
-use crate::call_set::CallSet;
-use crate::calls::{count_calls, number_of};
 use crate::least_missing::least_missing;
-use crate::lines::unanswered_calls;
 use crate::order::follows;
 use hist_rules::Verdict;
+use hist_tables::{ActorTable, CallSet, count_calls, number_of, unanswered_calls};
 use std::alloc::{AllocError, Global};
 use store_map::{CallName, HLine, Script, Shown, Transcript};
 

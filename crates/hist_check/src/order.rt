@@ -5,16 +5,13 @@ ghost use Rattle.hist_rules.specs.Calls.{with_number, number_of, is_named};
 ghost use Rattle.hist_rules.specs.CallsInOrder.{follows, follows_answered, is_first_answer, calls_in_order};
 ghost use Rattle.hist_rules.specs.Named.{answered_calls};
 ghost use Rattle.store_map.specs.declared.call_name.CallName.{CallName};
-ghost use Rattle.hist_check.specs.Tables.{has, IsSetOf};
+ghost use Rattle.hist_tables.specs.Tables.{has, IsSetOf};
 ghost use Rattle.hist_check.specs.Reached.{AreReached};
 ghost use Rattle.hist_check.specs.Searched.{IsSearched};
 
-use crate::actor_table::ActorTable;
-use crate::call_set::CallSet;
-use crate::calls::{number_of, with_number};
 use crate::least_missing::least_missing;
-use crate::lines::NamesCall;
 use hist_rules::Verdict;
+use hist_tables::{ActorTable, CallSet, NamesCall, number_of, with_number};
 use std::alloc::{AllocError, Global};
 use store_map::{CallName, Transcript};
 

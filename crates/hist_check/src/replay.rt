@@ -5,9 +5,9 @@ ghost use Rattle.store_map.specs.History.{replies_from, apply_all};
 ghost use Rattle.hist_rules.specs.First.{first_fault};
 ghost use Rattle.hist_rules.specs.RepliesMatch.{reply_matches, calls_in};
 
-use crate::calls::call_of;
 use crate::replies::{copy_shown, shows_reply};
 use hist_rules::Verdict;
+use hist_tables::call_of;
 use std::alloc::AllocError;
 use store_map::{HLine, ObjectMap, Reply, Script};
 

@@ -6,10 +6,9 @@ ghost use Rattle.hist_rules.specs.CausesNamed.{result_named, causes_named};
 ghost use Rattle.hist_check.specs.Losses.{AreDowns};
 
 use crate::blame::{blame_unless, downs_fit};
-use crate::calls::rebuild_of;
 use crate::changes::is_change_point;
-use crate::operator_counts::OperatorCounts;
 use hist_rules::Verdict;
+use hist_tables::{OperatorCounts, rebuild_of};
 use std::alloc::{AllocError, Global};
 use store_map::{RLine, Rebuild, RepairResult, Script, Transcript};
 

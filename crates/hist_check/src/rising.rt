@@ -7,9 +7,8 @@ ghost use Rattle.hist_rules.specs.Calls.{number_of, same_actor};
 ghost use Rattle.hist_rules.specs.PointsRise.{line_rises};
 ghost use Rattle.store_map.specs.declared.line.HLine.{HLine};
 
-use crate::actor_table::ActorTable;
-use crate::calls::number_of;
 use hist_rules::Verdict;
+use hist_tables::{ActorTable, number_of};
 use std::alloc::{AllocError, Global};
 use store_map::HLine;
 

@@ -5,8 +5,8 @@ ghost use Rattle.store_map.specs.declared.line.GLine.{GLine};
 ghost use Rattle.hist_rules.specs.TakesAddUp.{server_adds_up, takes_add_up};
 ghost use Rattle.hist_check.specs.Losses.{AreWipes};
 
-use crate::operator_counts::OperatorCounts;
 use hist_rules::Verdict;
+use hist_tables::OperatorCounts;
 use std::alloc::{AllocError, Global};
 use store_map::{GLine, Script, TLine, Transcript};
 

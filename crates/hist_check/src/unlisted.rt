@@ -3,11 +3,11 @@ ghost use Rattle.std.specs.Prelude.{◌≡◌, IfOk};
 ghost use Rattle.hist_rules.specs.First.{first_fault};
 ghost use Rattle.hist_rules.specs.Named.{listed_calls};
 ghost use Rattle.hist_rules.specs.TakesHaveCalls.{has_call, takes_have_calls};
-ghost use Rattle.hist_check.specs.Tables.{IsSetOf};
+ghost use Rattle.hist_tables.specs.Tables.{IsSetOf};
 ghost use Rattle.store_map.specs.declared.transcript.Transcript.{Transcript};
 
-use crate::call_set::CallSet;
 use hist_rules::Verdict;
+use hist_tables::CallSet;
 use std::alloc::{AllocError, Global};
 use store_map::{CallName, GLine, Transcript};
 

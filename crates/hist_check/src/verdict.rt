@@ -18,7 +18,6 @@ ghost use Rattle.hist_rules.specs.ObjectsListed.{objects_listed};
 ghost use Rattle.hist_rules.specs.TakesAddUp.{takes_add_up};
 ghost use Rattle.hist_rules.specs.Verdict.{fault_of, verdict_of};
 
-use crate::call_set::CallSet;
 use crate::calls_exist::find_made_up;
 use crate::given_up::find_false_reap;
 use crate::losses::find_false_loss;
@@ -32,6 +31,7 @@ use crate::rising::find_fall;
 use crate::sums::find_wrong_sum;
 use crate::unlisted::find_unlisted;
 use hist_rules::Verdict;
+use hist_tables::CallSet;
 use std::alloc::{AllocError, Global};
 use store_map::{ObjectMap, Script, Transcript};
 

@@ -1,7 +1,7 @@
 use Rattle.std.proofs.Common.{sym, ap, ◌∙◌}
 use Rattle.hist_rules.specs.CallsExist.{call_exists}
 use Rattle.hist_rules.specs.First.{first_fault}
-use Rattle.hist_check.proofs.Faults.{item_fits, item_found, no_fault}
+use Rattle.hist_tables.proofs.Faults.{item_fits, item_found, no_fault}
 use Rattle.hist_check.proofs.calls_exist.find_unknown_call.Goals as goal
 
 pub returns-in-Some : goal.returns-in-Some

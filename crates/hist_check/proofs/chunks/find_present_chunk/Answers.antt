@@ -1,7 +1,7 @@
 use Rattle.std.proofs.Common.{sym, ◌∙◌, take}
 use Rattle.hist_rules.specs.First.{first_fault_along}
 use Rattle.hist_rules.specs.MissingChunk.{chunk_missing}
-use Rattle.hist_check.proofs.Faults.{after_fits, after_found}
+use Rattle.hist_tables.proofs.Faults.{after_fits, after_found}
 use Rattle.hist_check.proofs.Ors.{named_before}
 use Rattle.hist_check.proofs.chunks.find_present_chunk.Goals as goal
 

@@ -3,8 +3,8 @@ use Rattle.std.specs.Prelude.{reverse, count_by, unwrap_or}
 use Rattle.hist_rules.specs.Calls.{same_actor}
 use Rattle.hist_rules.specs.First.{first_fault_along}
 use Rattle.hist_rules.specs.GivenUp.{is_reaped}
-use Rattle.hist_check.specs.Tables.{value_at}
-use Rattle.hist_check.proofs.Faults.{after_fits, before_more}
+use Rattle.hist_tables.specs.Tables.{value_at}
+use Rattle.hist_tables.proofs.Faults.{after_fits, before_more}
 use Rattle.hist_check.proofs.Reaped.{counted_more, reaped_by}
 use Rattle.hist_check.proofs.given_up.find_unasked_reap.Goals as goal
 

@@ -4,7 +4,7 @@ use Rattle.store_map.specs.declared.call_name.CallName.{CallName}
 use Rattle.hist_rules.specs.Calls.{same_actor}
 use Rattle.hist_rules.specs.First.{first_fault_after, first_fault_along}
 use Rattle.hist_rules.specs.GivenUp.{is_reaped}
-use Rattle.hist_check.specs.Tables.{value_at}
+use Rattle.hist_tables.specs.Tables.{value_at}
 use Rattle.hist_check.proofs.given_up.find_unasked_reap.Given as goal
 
 abbrev pub invariant-loop-call : goal.invariant-loop-call

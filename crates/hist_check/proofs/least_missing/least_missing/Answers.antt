@@ -1,7 +1,7 @@
 use Rattle.std.proofs.Common.{length, sym, ap, ◌∙◌, arith, inl, inr}
 use Rattle.hist_rules.specs.Calls.{with_number, is_named}
 use Rattle.hist_rules.specs.Named.{answered_calls}
-use Rattle.hist_check.specs.Tables.{has}
+use Rattle.hist_tables.specs.Tables.{has}
 use Rattle.hist_check.proofs.Below.{prefix_at}
 use Rattle.hist_check.proofs.least_missing.least_missing.Goals as goal
 

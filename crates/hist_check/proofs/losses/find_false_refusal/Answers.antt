@@ -1,6 +1,6 @@
 use Rattle.std.proofs.Common.{sym}
 use Rattle.hist_rules.specs.First.{first_fault}
-use Rattle.hist_check.proofs.Faults.{item_fits, item_found, no_fault}
+use Rattle.hist_tables.proofs.Faults.{item_fits, item_found, no_fault}
 use Rattle.hist_check.specs.Lines.{refusal_for_loss}
 use Rattle.hist_check.proofs.losses.find_false_refusal.Goals as goal
 

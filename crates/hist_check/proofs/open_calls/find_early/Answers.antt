@@ -3,7 +3,7 @@ use Rattle.std.specs.Prelude.{reverse, find}
 use Rattle.hist_rules.specs.Calls.{same_actor}
 use Rattle.hist_rules.specs.Named.{answered_calls}
 use Rattle.hist_rules.specs.First.{first_fault_along}
-use Rattle.hist_check.proofs.Faults.{after_fits, after_found, none_after, or_first, or_second}
+use Rattle.hist_tables.proofs.Faults.{after_fits, after_found, none_after, or_first, or_second}
 use Rattle.hist_check.proofs.Numbers.{numbers_put}
 use Rattle.hist_check.proofs.Rules.{open_fault}
 use Rattle.std.proofs.lemmas.List.{get_or_default}

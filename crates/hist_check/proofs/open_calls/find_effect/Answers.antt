@@ -1,7 +1,7 @@
 use Rattle.std.proofs.Common.{sym}
 use Rattle.hist_rules.specs.First.{first_fault}
 use Rattle.hist_rules.specs.OneOpenCall.{is_unanswered}
-use Rattle.hist_check.proofs.Faults.{item_fits, item_found, no_fault}
+use Rattle.hist_tables.proofs.Faults.{item_fits, item_found, no_fault}
 use Rattle.hist_check.proofs.open_calls.find_effect.Goals as goal
 
 pub returns-in-Some : goal.returns-in-Some

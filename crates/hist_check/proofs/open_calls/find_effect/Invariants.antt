@@ -2,7 +2,7 @@ use Rattle.std.proofs.Common.{◌≡◌, map, drop}
 use Rattle.store_map.specs.declared.transcript.Transcript.{Transcript}
 use Rattle.hist_rules.specs.First.{first_fault}
 use Rattle.hist_rules.specs.OneOpenCall.{is_unanswered}
-use Rattle.hist_check.specs.Tables.{IsSetOf}
+use Rattle.hist_tables.specs.Tables.{IsSetOf}
 use Rattle.hist_check.proofs.open_calls.find_effect.Given as goal
 
 abbrev pub invariant-loop-line : goal.invariant-loop-line

@@ -3,8 +3,8 @@ use Rattle.std.specs.Prelude.{◌||◌, None, Some}
 use Rattle.hist_rules.specs.Calls.{same_call}
 use Rattle.hist_rules.specs.CallsInOrder.{follows_answered, is_first_answer}
 use Rattle.hist_rules.specs.Named.{answered_calls}
-use Rattle.hist_check.specs.Tables.{has}
-use Rattle.hist_check.proofs.Faults.{or_first, or_second}
+use Rattle.hist_tables.specs.Tables.{has}
+use Rattle.hist_tables.proofs.Faults.{or_first, or_second}
 use Rattle.hist_check.specs.Searched.{answer_fault}
 use Rattle.hist_check.proofs.Searches.{all_searched, answer_right, answer_wrong, passed_over}
 use Rattle.hist_check.proofs.order.find_disorder.Goals as goal

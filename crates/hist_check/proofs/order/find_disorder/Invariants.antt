@@ -1,8 +1,8 @@
 use Rattle.std.proofs.Common.{List, drop}
 use Rattle.store_map.specs.declared.call_name.CallName.{CallName}
 use Rattle.hist_rules.specs.Named.{answered_calls}
-use Rattle.hist_check.specs.Tables.{IsSetOf}
-use Rattle.hist_check.proofs.Names.{passing}
+use Rattle.hist_tables.specs.Tables.{IsSetOf}
+use Rattle.hist_tables.proofs.Names.{passing}
 use Rattle.hist_check.specs.Reached.{AreReached}
 use Rattle.hist_check.proofs.Searches.{IsAt}
 use Rattle.hist_check.proofs.order.find_disorder.Given as goal

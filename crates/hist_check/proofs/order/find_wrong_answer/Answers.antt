@@ -1,6 +1,6 @@
 use Rattle.std.proofs.Common.{◌≡◌, [], ◌++◌, true, refl, ap, ◌∙◌}
 use Rattle.hist_rules.specs.Named.{answered_calls, is_reply}
-use Rattle.hist_check.proofs.Names.{passing}
+use Rattle.hist_tables.proofs.Names.{passing}
 use Rattle.hist_check.proofs.Searches.{finally_found, found_after, kinds_of_answers, order_first, order_second}
 use Rattle.hist_check.proofs.order.find_wrong_answer.Goals as goal
 

@@ -2,7 +2,7 @@ use Rattle.std.proofs.Common.{◌≡◌, ℕ, ◌≤◌, true, true≢false, ref
 use Rattle.std.specs.Prelude.{Option, unwrap_or}
 use Rattle.hist_rules.specs.Calls.{number_of}
 use Rattle.hist_rules.specs.Named.{answered_calls}
-use Rattle.hist_check.specs.Tables.{value_at}
+use Rattle.hist_tables.specs.Tables.{value_at}
 use Rattle.hist_check.proofs.Reach.{reaches, reached_at, reached_before, reached_on, not_reached, reached_more}
 use Rattle.hist_check.proofs.order.follows.Goals as goal
 

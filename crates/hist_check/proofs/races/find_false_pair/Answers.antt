@@ -2,7 +2,7 @@ use Rattle.std.proofs.Common.{sym, ap}
 use Rattle.std.specs.Prelude.{slice_get}
 use Rattle.hist_rules.specs.First.{first_fault_along}
 use Rattle.hist_rules.specs.LostRaces.{race_lost}
-use Rattle.hist_check.proofs.Faults.{after_fits, after_found, none_after, before_more}
+use Rattle.hist_tables.proofs.Faults.{after_fits, after_found, none_after, before_more}
 use Rattle.hist_check.proofs.races.find_false_pair.Goals as goal
 
 pub returns-in-Some : goal.returns-in-Some

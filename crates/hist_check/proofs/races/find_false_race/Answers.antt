@@ -5,7 +5,7 @@ use Rattle.hist_rules.specs.First.{first_fault}
 use Rattle.hist_rules.specs.LostRaces.{cause_of_races}
 use Rattle.store_map.specs.declared.script.Script.{Script}
 use Rattle.store_map.specs.declared.transcript.Transcript.{Transcript}
-use Rattle.hist_check.proofs.Faults.{item_fits, item_found, no_fault}
+use Rattle.hist_tables.proofs.Faults.{item_fits, item_found, no_fault}
 use Rattle.hist_check.proofs.races.find_false_race.Goals as goal
 
 abbrev rule : Script → Transcript → XLine → Option Verdict

@@ -7,7 +7,7 @@ use Rattle.hist_rules.specs.First.{first_fault}
 use Rattle.hist_rules.specs.CausesNamed.{result_named}
 use Rattle.store_map.specs.declared.script.Script.{Script}
 use Rattle.store_map.specs.declared.transcript.Transcript.{Transcript}
-use Rattle.hist_check.proofs.Faults.{item_fits, item_found, no_fault}
+use Rattle.hist_tables.proofs.Faults.{item_fits, item_found, no_fault}
 use Rattle.hist_check.proofs.results.find_false_result.Goals as goal
 
 abbrev rule : Script → Transcript → RLine → Option Verdict

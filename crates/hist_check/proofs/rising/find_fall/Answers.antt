@@ -2,7 +2,7 @@ use Rattle.std.proofs.Common.{◌∙◌, sym, take}
 use Rattle.std.specs.Prelude.{reverse}
 use Rattle.hist_rules.specs.First.{first_fault_along}
 use Rattle.hist_rules.specs.PointsRise.{line_rises}
-use Rattle.hist_check.proofs.Faults.{after_item_fits, after_item_found, none_after}
+use Rattle.hist_tables.proofs.Faults.{after_item_fits, after_item_found, none_after}
 use Rattle.hist_check.proofs.Numbers.{point_more, numbers_more}
 use Rattle.hist_check.proofs.rising.find_fall.Goals as goal
 

@@ -6,7 +6,7 @@ use Rattle.store_map.specs.declared.call_name.CallName.{CallName}
 use Rattle.hist_rules.specs.Calls.{number_of, same_actor}
 use Rattle.hist_rules.specs.First.{first_fault_after, first_fault_along}
 use Rattle.hist_rules.specs.PointsRise.{line_rises}
-use Rattle.hist_check.specs.Tables.{value_at}
+use Rattle.hist_tables.specs.Tables.{value_at}
 use Rattle.hist_check.proofs.rising.find_fall.Given as goal
 
 abbrev pub invariant-loop-line : goal.invariant-loop-line

@@ -1,7 +1,7 @@
 use Rattle.std.proofs.Common.{sym, ap, ◌∙◌}
 use Rattle.hist_rules.specs.First.{first_fault}
 use Rattle.hist_rules.specs.TakesAddUp.{server_adds_up}
-use Rattle.hist_check.proofs.Faults.{line_fits, line_found, no_fault}
+use Rattle.hist_tables.proofs.Faults.{line_fits, line_found, no_fault}
 use Rattle.hist_check.proofs.sums.find_wrong_sum.Goals as goal
 
 pub returns-in-Some : goal.returns-in-Some

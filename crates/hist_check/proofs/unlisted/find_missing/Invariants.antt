@@ -3,7 +3,7 @@ use Rattle.store_map.specs.declared.transcript.Transcript.{Transcript}
 use Rattle.hist_rules.specs.First.{first_fault}
 use Rattle.hist_rules.specs.Named.{listed_calls}
 use Rattle.hist_rules.specs.TakesHaveCalls.{has_call}
-use Rattle.hist_check.specs.Tables.{IsSetOf}
+use Rattle.hist_tables.specs.Tables.{IsSetOf}
 use Rattle.hist_check.proofs.unlisted.find_missing.Given as goal
 
 abbrev pub invariant-loop-line : goal.invariant-loop-line

@@ -1,0 +1,18 @@
+//! What the checker's rules look up: the calls that lines name, sets of calls, numbers by actor,
+//! and how often the operator does something.
+#![tactic(auto)]
+
+mod actor_table;
+mod call_set;
+mod calls;
+mod lines;
+mod number_set;
+mod operator_counts;
+mod reaps;
+
+pub use actor_table::ActorTable;
+pub use call_set::CallSet;
+pub use calls::{call_of, count_calls, number_of, rebuild_of, with_number};
+pub use lines::{NamesCall, count_answers, unanswered_calls};
+pub use operator_counts::OperatorCounts;
+pub use reaps::Reaps;
