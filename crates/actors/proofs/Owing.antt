@@ -10,10 +10,8 @@ use Rattle.call_steps.specs.declared.need.Need.TheVariants as need
 use Rattle.call_steps.specs.CallOf.{CallOf, act_of}
 use Rattle.call_steps.specs.Steps.{need_of}
 use Rattle.call_laws.proofs.Needs.{needs_tell_acts}
-use Rattle.client_read.specs.Owed.{owed_by as read_by}
-use Rattle.write_course.specs.Draws.{stamps_by}
 use Rattle.call_machine.specs.Kinds.{Asked, Machine, client_machine, machine_of}
-use Rattle.call_machine.specs.Calls.{MachineOf, drawn_in, drawn_for, drawn_by, owed_in, owed_by}
+use Rattle.call_machine.specs.Calls.{read_by, stamps_by, MachineOf, drawn_in, drawn_for, drawn_by, owed_in, owed_by}
 
 -- a coding that is due says whether memory was wanting
 pub owed_coded : {P : Type 0} (c : CallOf) (coding : Bool) → need_of c ≡ need.Coder → (coding ≡ false → P) → (c.due && coding) ≡ false → P

@@ -16,9 +16,8 @@ use Rattle.call_steps.specs.declared.need.Need.{Need}
 use Rattle.call_steps.specs.declared.need.Need.TheVariants as need
 use Rattle.call_steps.specs.CallOf.{CallOf, act_of}
 use Rattle.call_steps.specs.Steps.{need_of, at_server_by, coded}
-use Rattle.client_patch.specs.Padded.{ArePadded}
 use Rattle.call_machine.specs.Kinds.{machine_of, IfPatches}
-use Rattle.call_machine.specs.Calls.{MachineOf, KnowsOldOf, drawn_by, owed_by}
+use Rattle.call_machine.specs.Calls.{ArePadded, MachineOf, KnowsOldOf, drawn_by, owed_by}
 use Rattle.call_machine.proofs.Machines.{if_patches}
 use Rattle.call_steps.specs.CallerCalls.{ended_of}
 use Rattle.call_steps.specs.declared.caller_calls.EndedCall.{EndedCall}

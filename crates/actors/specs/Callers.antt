@@ -12,9 +12,8 @@ use Rattle.store_core.specs.Agreement.{Seat, ActorToken}
 use Rattle.store_core.specs.Work.{Work}
 use Rattle.version_seal.specs.Entry.{BookOf}
 use Rattle.stripe_dir.specs.Sealed.{Sealed}
-use Rattle.client_patch.specs.Padded.{ArePadded}
 use Rattle.call_machine.specs.Kinds.{Asked, machine_of, IfPatches}
-use Rattle.call_machine.specs.Calls.{MachineOf, KnowsOldOf}
+use Rattle.call_machine.specs.Calls.{ArePadded, MachineOf, KnowsOldOf}
 use Rattle.world_laws.specs.World.{ActorOf}
 use Rattle.world_laws.specs.FirstWorld.{new_actor}
 

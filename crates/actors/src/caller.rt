@@ -12,7 +12,7 @@ ghost use Rattle.call_steps.specs.Acts.{act_now};
 ghost use Rattle.call_steps.specs.CallOf.{taken_of};
 ghost use Rattle.call_steps.specs.Hearing.{IsToldHere, IsToldThere};
 ghost use Rattle.call_steps.specs.Steps.{need_of, HoldsItsPass, IsServerBelow, MayMakeNext};
-ghost use Rattle.client_patch.specs.Padded.{ArePadded};
+ghost use Rattle.call_machine.specs.Calls.{ArePadded};
 ghost use Rattle.call_steps.specs.CallerCalls.{calling_at};
 ghost use Rattle.world_laws.specs.World.{steps_of};
 ghost use Rattle.world_laws.specs.Known.{calling_by, calling_of};

@@ -3,7 +3,7 @@ use Rattle.std.proofs.Common.{◌≡◌, ℕ, replicate, None, refl, sym, ap, su
 use Rattle.store_map.specs.declared.call.Call.{Call}
 use Rattle.stripe_dir.specs.Sealed.{Sealed}
 use Rattle.call_steps.specs.CallOf.{taken_of}
-use Rattle.gather_parts.proofs.Counts.{none_taken}
+use Rattle.call_steps.proofs.Counts.{none_taken}
 use Rattle.client_put.specs.Puts.{PutOf}
 use Rattle.client_patch.specs.Patches.{PatchOf}
 use Rattle.client_patch.specs.Known.{KnowsOld}

@@ -7,9 +7,11 @@ use Rattle.store_resume.specs.State.{first_state}
 use Rattle.version_seal.specs.Entry.{BookOf, StampOf}
 use Rattle.stripe_dir.specs.Sealed.{Sealed}
 use Rattle.call_steps.specs.CallOf.{CallOf, tries_by}
-use Rattle.write_course.specs.Draws.{stamps_drawn}
 use Rattle.client_read.specs.Owed.{owed_after}
-use Rattle.client_patch.specs.Patches.{PatchOf}
+pub use Rattle.client_read.specs.Owed.{owed_by as read_by}
+use Rattle.client_patch.specs.Patches.{PatchOf, stamps_drawn}
+pub use Rattle.client_patch.specs.Patches.{stamps_by}
+pub use Rattle.client_patch.specs.Padded.{ArePadded}
 use Rattle.client_patch.specs.Known.{KnowsOld}
 use Rattle.call_machine.specs.Kinds.{Asked, asked_job, Machine, client_machine, machine_of, IfPatches}
 

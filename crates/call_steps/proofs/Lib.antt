@@ -1,3 +1,4 @@
 pub mod Making
 pub mod Telling
 pub mod Tickets
+pub mod Counts

@@ -15,12 +15,11 @@ use Rattle.store_resume.specs.State.{Sequel, State}
 use Rattle.store_resume.specs.States.{stage_state, open_parts}
 use Rattle.store_resume.specs.StateActs.{act_at}
 use Rattle.store_resume.specs.CallLaws.{next_call}
-use Rattle.gathering.specs.Gathers.{GatherOf}
 use Rattle.call_steps.specs.declared.need.Need.TheVariants as need
 use Rattle.call_steps.specs.Steps.{need_by, need_of, stepped_at_directory}
 use Rattle.call_steps.specs.TokenAfter.{token_after, IsSeated}
 use Rattle.gather_parts.specs.Wanted.{Wanted, parts_of}
-use Rattle.gather_parts.specs.Gatherings.{GatheringsOf}
+use Rattle.gather_parts.specs.Gatherings.{GatherOf, GatheringsOf}
 use Rattle.gather_parts.specs.declared.progress.Progress.TheVariants as progress
 use Rattle.gather_parts.specs.Progress.{progress_at, progress_by, progress_of, is_due_at, is_due}
 use Rattle.gather_parts.specs.States.{state_by as gathering_state, state_in}

@@ -9,11 +9,10 @@ use Rattle.store_resume.specs.Stages.{first_stage}
 use Rattle.store_resume.specs.State.{Sequel, State}
 use Rattle.store_resume.specs.States.{stage_state, open_parts}
 use Rattle.store_resume.specs.StateActs.{act_at}
-use Rattle.gathering.specs.Gathers.{GatherOf}
 use Rattle.call_steps.specs.declared.need.Need.TheVariants as need
 use Rattle.call_steps.specs.Steps.{need_by}
 use Rattle.gather_parts.specs.Wanted.{Wanted, parts_of}
-use Rattle.gather_parts.specs.Gatherings.{GatheringsOf}
+use Rattle.gather_parts.specs.Gatherings.{GatherOf, GatheringsOf}
 use Rattle.gather_parts.specs.Progress.{progress_at, progress_by, progress_of, is_due_at, is_due}
 use Rattle.gather_parts.specs.States.{state_by, state_in}
 use Rattle.call_steps.specs.Ends.{point_ended, point_of}

@@ -15,7 +15,7 @@ use Rattle.run_laws.proofs.SoundLists.{in_filter, filtered}
 use Rattle.content_laws.proofs.Laid.{met_low, met_high, Found, found_pin}
 use Rattle.version_seal.specs.Entry.{StampOf, old_bytes}
 use Rattle.stripe_dir.specs.Sealed.{base_stamp}
-use Rattle.gathering.specs.Made.{bytes_between}
+use Rattle.gather_parts.specs.Gatherings.{bytes_between}
 use Rattle.client_patch.specs.Padded.{IsPadded}
 use Rattle.client_patch.specs.Kept.{kept_count, kept_from, old_in}
 

@@ -30,7 +30,7 @@ use Rattle.stripe_dir.specs.Sealed.{Sealed, base_stamp}
 use Rattle.stripe_dir.specs.Stamped.{HasStamps}
 use Rattle.stripe_dir.proofs.Stamps.{stamps_count}
 use Rattle.stripe_dir.proofs.Lookings.{look_refused, look_accepted, old_count, pins_stand}
-use Rattle.gathering.specs.Made.{bytes_between}
+use Rattle.gather_parts.specs.Gatherings.{bytes_between}
 use Rattle.gather_parts.specs.Wanted.{wanted_of, bytes_of}
 use Rattle.client_patch.specs.Padded.{IsPadded, ItsArePadded, ArePadded}
 use Rattle.client_patch.specs.Kept.{old_in}

@@ -8,6 +8,7 @@ use Rattle.store_core.specs.NextAct.{job_of}
 use Rattle.store_resume.specs.State.{first_state}
 use Rattle.version_seal.specs.Entry.{BookOf}
 use Rattle.call_steps.specs.CallOf.{CallOf}
+pub use Rattle.write_course.specs.Draws.{stamps_of_draw, stamps_by, stamps_drawn, stamps_after}
 
 -- the call in work, what it writes, and of a write its object's size at the last look and the old bytes that it keeps
 pub record PatchOf : Type 0 where

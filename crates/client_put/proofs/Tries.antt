@@ -16,7 +16,7 @@ use Rattle.call_steps.specs.CallOf.{CallOf, tries_by, act_of}
 use Rattle.call_steps.specs.Steps.{at_directory_by, stepped_at_directory, at_server_by, stepped_at_server, coded, need_by, need_of, HoldsItsPass, IsDueInPass, MayMakeNext}
 use Rattle.call_steps.specs.Acts.{act_by, act_now}
 use Rattle.call_steps.specs.Hearing.{told_there_by, told_there, told_here_by, told_here}
-use Rattle.write_course.specs.Draws.{stamps_of_draw, stamps_by, stamps_drawn}
+use Rattle.client_patch.specs.Patches.{stamps_of_draw, stamps_by, stamps_drawn}
 use Rattle.client_put.specs.Inside.{by_script}
 
 acts_alike : (g : Shape) (s t : ℕ) (job : Job) (pairs : List (ℕ × ℕ)) (at : State) → job.note.kind ≡ Kind.Put → act_at g s job pairs at ≡ act_at g t job pairs at

@@ -11,7 +11,7 @@ ghost use Rattle.call_steps.specs.Hearing.{IsToldHere, IsToldThere};
 ghost use Rattle.call_steps.specs.Steps.{IsServerBelow, LeadsTo, LeadsToAtServer, coded, need_of, HoldsItsPass, IsDueInPass, MayMakeNext};
 ghost use Rattle.call_steps.specs.Outcomes.{outcome_of};
 ghost use Rattle.client_put.specs.Puts.{is_put, first_put};
-ghost use Rattle.write_course.specs.Draws.{stamps_after};
+ghost use Rattle.client_patch.specs.Patches.{stamps_after};
 ghost use Rattle.call_steps.specs.Callers.{IsClient, IsOfScript};
 ghost use Rattle.call_steps.specs.Ends.{point_of};
 

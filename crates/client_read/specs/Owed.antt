@@ -11,7 +11,7 @@ use Rattle.store_core.specs.Tokens.{actor_of}
 use Rattle.store_core.specs.AtDirectory.{at_directory}
 use Rattle.version_seal.specs.Entry.{StampOf}
 use Rattle.stripe_dir.specs.Sealed.{Sealed}
-use Rattle.gathering.specs.Made.{bytes_between}
+use Rattle.gather_parts.specs.Gatherings.{bytes_between}
 use Rattle.call_steps.specs.CallOf.{CallOf, act_of}
 
 -- the content of a version, if it has a stamp

@@ -3,8 +3,8 @@ use Rattle.std.specs.Prelude.{ℕ, List, [], ◌++◌, replicate, Option, None, 
 use Rattle.clay_grid.specs.Shape.{chunk_count}
 use Rattle.store_resume.specs.Stage.{Aim}
 use Rattle.version_seal.specs.Entry.{BookOf}
-use Rattle.gathering.specs.Made.{bytes_between}
-use Rattle.gathering.specs.Gathers.{GatherOf}
+pub use Rattle.gathering.specs.Made.{bytes_between}
+pub use Rattle.gathering.specs.Gathers.{GatherOf}
 use Rattle.gather_parts.specs.Wanted.{Wanted, bytes_of}
 
 -- the book of the versions, the gathering that is at work, the parts after it, the bytes of those before it, and what the call took from each server

@@ -32,7 +32,7 @@ pub enum Gathered {
 
 impl PartGatherings {
     /// What the call took, or none where it took nothing.
-    #[tactic(auto, using(crate::proofs::Counts::none_taken))]
+    #[tactic(auto, using(call_steps::proofs::Counts::none_taken))]
     pub fn takes(&self) -> Option<&Takes>
         ensures { option_map (λ takes. takes.now) result ≡ taken_of self.now.takes }
     {
@@ -77,7 +77,7 @@ impl PartGatherings {
     }
 }
 
-#[tactic(auto, using(crate::proofs::Counts::none_taken))]
+#[tactic(auto, using(call_steps::proofs::Counts::none_taken))]
 fn taken(takes: Option<Takes>) -> Option<Takes>
     ensures { (g : Shape) → result ≡ taken_of (takes_in g takes) }
 {

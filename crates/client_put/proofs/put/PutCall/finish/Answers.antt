@@ -4,7 +4,7 @@ use Rattle.store_resume.specs.State.{State}
 use Rattle.call_steps.specs.CallOf.{taken_of}
 use Rattle.call_steps.specs.Outcomes.{outcome_of}
 use Rattle.call_steps.specs.Steps.{need_of}
-use Rattle.gather_parts.proofs.Counts.{none_taken}
+use Rattle.call_steps.proofs.Counts.{none_taken}
 use Rattle.client_put.specs.Puts.{PutOf}
 use Rattle.client_put.proofs.Tries.{needs_so}
 use Rattle.client_put.proofs.put.PutCall.finish.Goals as goal

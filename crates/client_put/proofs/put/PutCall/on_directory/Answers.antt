@@ -4,7 +4,7 @@ use Rattle.call_steps.specs.CallOf.{CallOf}
 use Rattle.call_steps.specs.Steps.{need_of, stepped_at_directory}
 use Rattle.call_steps.specs.Answers.{directory_answer}
 use Rattle.call_steps.specs.Hearing.{told_there}
-use Rattle.write_course.specs.Draws.{stamps_drawn}
+use Rattle.client_patch.specs.Patches.{stamps_drawn}
 use Rattle.client_patch.proofs.OfWrites.{not_both}
 use Rattle.client_put.specs.Puts.{PutOf}
 use Rattle.client_put.specs.Inside.{by_script}
