@@ -1,7 +1,9 @@
 //! The objects that a snapshot keeps.
-ghost use Rattle.std.specs.Prelude.{◌≡◌, ◌≤◌, IfOk, slice_get};
+ghost use Rattle.std.specs.Prelude.{◌≡◌, ◌≤◌, [], map, IfOk, slice_get};
 ghost use Rattle.std.specs.Option.{option_map};
 ghost use Rattle.snapshot_view.specs.Snapshots.{find_kept};
+ghost use Rattle.stripe_dir.specs.Answers.{seen_in};
+ghost use Rattle.snapshot_view.specs.InTime.{HasFound};
 ghost use Rattle.snapshot_view.specs.Inside.{IsOfBook};
 ghost use Rattle.snapshot_view.specs.Reads.{RepliesFor, Gathers};
 
@@ -67,6 +69,7 @@ impl Kept {
         ensures reply { IfOk result (RepliesFor opening.geometry self.now offset length) }
         ensures gathers { IfOk result (λ read. offset ≤ self.now.size → Gathers opening.geometry self.now offset length read) }
         ensures book { IfOk result (λ read. read.gatherings.book ≡ opening) }
+        ensures found { IfOk result (HasFound (map seen_in self.now.stripes) []) }
     {
         let start = u64::from(offset);
         if self.size < start {

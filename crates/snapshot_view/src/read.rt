@@ -1,8 +1,9 @@
 //! Reads of a snapshot.
-ghost use Rattle.std.specs.Prelude.{◌≡◌, ◌≢◌, Bool, map, All, None, Some, OnOk, is_err};
+ghost use Rattle.std.specs.Prelude.{◌≡◌, ◌≢◌, Bool, List, [], ◌∷◌, ◌++◌, map, All, None, Some, OnOk, is_err};
 ghost use Rattle.std.specs.Option.{option_map};
 ghost use Rattle.clay_grid.specs.Shape.{chunk_count};
 ghost use Rattle.store_core.specs.Read.{part_of};
+ghost use Rattle.store_core.specs.Told.{Seen as CoreSeen};
 ghost use Rattle.store_resume.specs.State.{Sequel};
 ghost use Rattle.store_resume.specs.States.{parts_state, open_state};
 ghost use Rattle.chunk_server.specs.Core.{core_of};
@@ -15,6 +16,7 @@ ghost use Rattle.stripe_dir.specs.Answers.{seen_in};
 ghost use Rattle.gather_parts.specs.Wanted.{wanted_of, IsPinned};
 ghost use Rattle.gather_parts.specs.Gatherings.{new_gatherings, begun};
 ghost use Rattle.gather_parts.specs.States.{state_in, StandsIn, moved};
+ghost use Rattle.snapshot_view.specs.InTime.{Asked, asked_at, HasFound, NamesFound};
 ghost use Rattle.snapshot_view.specs.Reads.{reply_of};
 ghost use Rattle.snapshot_view.specs.ReadSteps.{need_of, stepped, coded, EndsAs};
 
@@ -109,6 +111,8 @@ impl SnapRead {
             (core_of s.new, moved c self.new.gatherings after due (is_err result)) ≡ stepped_at_server (is_err result) due c (core_of s.old) }
         ensures told { (c : CallOf) (after : Sequel) → StandsIn c self.old.gatherings after →
             told_by_server result ≡ told_here (is_err result) c (core_of s.old) }
+        ensures found { (stripes : List CoreSeen) (asked : List Asked) → HasFound stripes asked self.old →
+            HasFound stripes (asked ++ asked_at self.old s.old.number (core_of s.old) ∷ []) self.new }
     {
         self.gatherings.on_server(s)
     }
@@ -126,6 +130,7 @@ impl SnapRead {
         ensures book { self.new.gatherings.book ≡ self.old.gatherings.book }
         ensures reply { OnOk result (reply_of self.new ≡ reply_of self.old) }
         ensures state { OnOk result ((after : Sequel) → state_in self.new.gatherings after ≡ state_in self.old.gatherings after) }
+        ensures found { (stripes : List CoreSeen) (asked : List Asked) → HasFound stripes asked self.old → HasFound stripes asked self.new }
     {
         match self.gatherings.on_coder(rt, coder) {
             Ok(()) => Ok(()),
@@ -143,10 +148,12 @@ impl SnapRead {
         self.gatherings.takes()
     }
 
-    /// How it ended, and what it has taken, or none where it has taken nothing.
+    /// How it ended, and what it has taken, or none where it has taken nothing. Each server that it names
+    /// as missing told it so at one of its steps, with its count at that moment.
     pub fn finish(self) -> (SnapOutcome, Option<Takes>)
         requires { need_of self ≡ Need.Finished }
         ensures outcome { EndsAs self result.0 }
+        ensures found { (stripes : List CoreSeen) (asked : List Asked) → HasFound stripes asked self → NamesFound stripes asked result.0 }
         ensures takes { result.1 ≡ taken_of self.gatherings.takes }
     {
         let SnapRead { gatherings, ended } = self;

@@ -1,5 +1,7 @@
 //! Snapshots, and reads of them.
-ghost use Rattle.std.specs.Prelude.{◌≡◌, ◌≤◌, Some, length, IfOk};
+ghost use Rattle.std.specs.Prelude.{◌≡◌, ◌≤◌, [], map, Some, length, IfOk};
+ghost use Rattle.stripe_dir.specs.Answers.{seen_in};
+ghost use Rattle.snapshot_view.specs.InTime.{HasFound};
 ghost use Rattle.snapshot_view.specs.Snapshots.{KeptOf, find_kept};
 ghost use Rattle.snapshot_view.specs.Reads.{RepliesAs, Gathers};
 
@@ -52,6 +54,8 @@ impl Snapshot {
         ensures gathers { IfOk result (λ read. (kept : KeptOf) → find_kept name.now self.now.objects ≡ Some kept → offset ≤ kept.size
             → Gathers self.now.book.geometry kept offset length read) }
         ensures book { IfOk result (λ read. read.gatherings.book ≡ self.now.book) }
+        ensures found { IfOk result (λ read. (kept : KeptOf) → find_kept name.now self.now.objects ≡ Some kept
+            → HasFound (map seen_in kept.stripes) [] read) }
     {
         match find(&self.objects, name) {
             Some(kept) => kept.read(self.alloc, self.opening.copy(), offset, length),

@@ -2,9 +2,11 @@ use Rattle.std.proofs.Common.{◌≡◌, ap, subst, ◌∙◌}
 use Rattle.call_steps.specs.CallOf.{taken_of}
 use Rattle.call_steps.specs.declared.need.Need.TheVariants as need
 use Rattle.gather_parts.specs.Progress.{progress_of, need_at}
+use Rattle.snapshot_view.specs.InTime.{HasFound, NamesFound}
 use Rattle.snapshot_view.specs.Reads.{ReadOf}
 use Rattle.snapshot_view.specs.ReadSteps.{need_by, need_of, EndsAs}
 use Rattle.snapshot_view.specs.ReadInside.{read_in}
+use Rattle.snapshot_view.proofs.InTime.{names_found}
 use Rattle.snapshot_view.proofs.Needs.{over_by}
 use Rattle.snapshot_view.proofs.read.SnapRead.finish.Goals as goal
 
@@ -12,6 +14,9 @@ pub returns-in-Some : goal.returns-in-Some
 returns-in-Some c = record {
   outcome = subst (λ (r : ReadOf). EndsAs r c.of_ended.result) c.self.view_is (c.of_ended.ensures (read_in c.self.inside) c.in-Some.is);
   takes = c.into_takes.ensures ∙ ap (λ (r : ReadOf). taken_of r.gatherings.takes) c.self.view_is;
+  found = λ stripes asked.
+      subst (λ (r : ReadOf). HasFound stripes asked r → NamesFound stripes asked c.of_ended.result) c.self.view_is
+      (names_found stripes asked (read_in c.self.inside) c.of_ended.result (c.of_ended.ensures (read_in c.self.inside) c.in-Some.is));
 }
 
 pub finish-gathered-requires : goal.finish-gathered-requires
@@ -25,4 +30,8 @@ returns-in-None c = record {
   outcome = subst (λ (r : ReadOf). EndsAs r c.of_gathered.result) c.self.view_is
       (c.of_gathered.ensures (read_in c.self.inside) c.in-None.is c.finish-gathered.ensures.state c.finish-gathered.ensures.bytes);
   takes = c.finish-gathered.ensures.takes ∙ ap (λ (r : ReadOf). taken_of r.gatherings.takes) c.self.view_is;
+  found = λ stripes asked.
+      subst (λ (r : ReadOf). HasFound stripes asked r → NamesFound stripes asked c.of_gathered.result) c.self.view_is
+      (names_found stripes asked (read_in c.self.inside) c.of_gathered.result
+      (c.of_gathered.ensures (read_in c.self.inside) c.in-None.is c.finish-gathered.ensures.state c.finish-gathered.ensures.bytes));
 }

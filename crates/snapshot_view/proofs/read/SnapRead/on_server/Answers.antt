@@ -1,11 +1,13 @@
-use Rattle.std.proofs.Common.{is_err, sym, ap, subst, ◌∙◌}
+use Rattle.std.proofs.Common.{is_err, ◌∷◌, [], ◌++◌, sym, ap, subst, ◌∙◌}
 use Rattle.store_core.specs.Server.{Server}
 use Rattle.chunk_server.specs.Core.{core_of}
 use Rattle.gather_parts.specs.Gatherings.{GatheringsOf}
 use Rattle.gather_parts.specs.Progress.{progress_of}
 use Rattle.gather_parts.specs.States.{StandsIn}
+use Rattle.snapshot_view.specs.InTime.{asked_at, HasFound}
 use Rattle.snapshot_view.specs.Reads.{ReadOf, reply_by, reply_of}
 use Rattle.snapshot_view.specs.ReadSteps.{need_of, stepped}
+use Rattle.snapshot_view.proofs.InTime.{reads_find_in_time}
 use Rattle.snapshot_view.proofs.Needs.{asks_by}
 use Rattle.snapshot_view.proofs.read.SnapRead.on_server.Goals as goal
 
@@ -35,3 +37,8 @@ returns-clause-call c = λ call after due stands.
 pub returns-clause-told : goal.returns-clause-told
 returns-clause-told c = λ call after stands.
     c.on_server.ensures.told call after (subst (λ (r : ReadOf). StandsIn call r.gatherings after) (sym c.self.view_is) stands)
+
+pub returns-clause-found : goal.returns-clause-found
+returns-clause-found c = λ stripes asked has.
+    subst (λ (after : Server × ReadOf). HasFound stripes (asked ++ asked_at c.args.self.now c.args.s.now.number (core_of c.args.s.now) ∷ []) after.1) (sym (returns-clause-step c))
+    (reads_find_in_time stripes asked c.args.self.now c.args.s.now.number (is_err c.on_server.result) (core_of c.args.s.now) c.requires.need has)
