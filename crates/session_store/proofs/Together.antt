@@ -1,5 +1,6 @@
 -- A walk over lost chunks by their stripes, where those of one stripe stand together.
 use Rattle.std.proofs.Common.{◌≡◌, ℕ, zero, suc, ◌+◌, ◌-◌, ◌<◌, ◌≤◌, Bool, true, false, cond, ◌&&◌, nat_eq, nat_le, bytes_eq, List, [], ◌∷◌, ◌++◌, length, map, filter, take, drop, get_or, slice_get, Some, refl, sym, ap, subst, ◌∙◌, arith}
+use Rattle.std.specs.Bool.{⊤}
 use Rattle.std.specs.List.{AllByRecursion, prefix_len}
 use Rattle.std.proofs.Math.Seq.{take-add}
 use Rattle.std.proofs.lemmas.Bool.{true≢false, eqb-true, eq-eqb, le-leb, lt-leb}
@@ -12,7 +13,7 @@ use Rattle.run_laws.proofs.SoundHistory.{same_name}
 use Rattle.store_map.specs.declared.call.Rebuild.{Rebuild as RebuildCall}
 use Rattle.session_rules.specs.declared.answer.LostChunk.{LostChunk}
 use Rattle.session_laws.specs.Heals.{rebuild_of}
-use Rattle.session_laws.proofs.Pairs.{every_append, every_weaker, same_bytes}
+use Rattle.session_laws.proofs.Pairs.{every_append, every_kept, every_weaker, same_bytes}
 use Rattle.session_store.specs.LostStripes.{is_beside, beside, AreFirst, StandTogether}
 use Rattle.session_store.proofs.Lists.{got}
 use Rattle.session_store.proofs.HealingStripes.{count_append}
@@ -50,6 +51,39 @@ AreOthers done rest = AllByRecursion (λ chunk. beside rest chunk ≡ 0) done
 suc_of : (n : ℕ) → 1 + n ≡ suc n
 suc_of n = omega arith
 
+-- ---- the chunks of a chunk's stripe are a list's first ones
+-- the same, along the list
+abbrev AreAhead : LostChunk → List LostChunk → Type 0
+AreAhead chunk [] = ⊤
+AreAhead chunk (other ∷ lost) = cond (is_beside chunk other) (AreAhead chunk lost) (beside lost chunk ≡ 0)
+
+kept_passes : (chunk other : LostChunk) (kept rest : List LostChunk) → AllByRecursion (λ c. is_beside chunk c ≡ true) kept → kept ≡ other ∷ rest → is_beside chunk other ≡ true
+kept_passes chunk other kept rest all is = (subst (λ l. AllByRecursion (λ c. is_beside chunk c ≡ true) l) is all).0
+
+none_of_stripe : (chunk other : LostChunk) (lost kept : List LostChunk) → AllByRecursion (λ c. is_beside chunk c ≡ true) kept → is_beside chunk other ≡ false → kept ≡ take (length kept) (other ∷ lost) → length kept ≡ 0
+none_of_stripe chunk other lost [] all apart first = refl
+none_of_stripe chunk other lost (c ∷ kept) all apart first = absurd (true≢false (sym (kept_passes chunk other (c ∷ kept) (take (length kept) lost) all first) ∙ apart))
+
+ahead_of : (chunk : LostChunk) (lost : List LostChunk) → AreFirst chunk lost → AreAhead chunk lost
+ahead_of chunk [] first = tt
+ahead_of chunk (other ∷ lost) first = by (is_beside chunk other) refl first (ahead_of chunk lost)
+  where
+    by : (b : Bool) → is_beside chunk other ≡ b → cond b (other ∷ filter (is_beside chunk) lost) (filter (is_beside chunk) lost) ≡ take (length (cond b (other ∷ filter (is_beside chunk) lost) (filter (is_beside chunk) lost))) (other ∷ lost) → (AreFirst chunk lost → AreAhead chunk lost) → cond b (AreAhead chunk lost) (beside lost chunk ≡ 0)
+    by true is first rest = rest (ap (drop 1) first)
+    by false is first rest = none_of_stripe chunk other lost (filter (is_beside chunk) lost) (every_kept (is_beside chunk) lost) is first
+
+empty_if : (l : List LostChunk) → length l ≡ 0 → l ≡ []
+empty_if [] none = refl
+empty_if (c ∷ l) none = absurd (omega (arith, none))
+
+first_if : (chunk : LostChunk) (lost : List LostChunk) → AreAhead chunk lost → AreFirst chunk lost
+first_if chunk [] ahead = refl
+first_if chunk (other ∷ lost) ahead = by (is_beside chunk other) ahead (first_if chunk lost)
+  where
+    by : (b : Bool) → cond b (AreAhead chunk lost) (beside lost chunk ≡ 0) → (AreAhead chunk lost → AreFirst chunk lost) → cond b (other ∷ filter (is_beside chunk) lost) (filter (is_beside chunk) lost) ≡ take (length (cond b (other ∷ filter (is_beside chunk) lost) (filter (is_beside chunk) lost))) (other ∷ lost)
+    by true ahead rest = ap (λ l. other ∷ l) (rest ahead)
+    by false none rest = empty_if (filter (is_beside chunk) lost) none ∙ ap (λ n. take n (other ∷ lost)) (sym none)
+
 -- ---- the chunks of the first stripe of a list
 module _ (first : LostChunk) where
   abbrev here : List LostChunk → ℕ
@@ -64,11 +98,11 @@ module _ (first : LostChunk) where
       by true is rest = subst (λ n. AllByRecursion (λ chunk. is_beside first chunk ≡ true) (take n (chunk ∷ lost))) (sym (suc_of (here lost))) (is, rest)
       by false is rest = tt
 
-  none_behind : (lost : List LostChunk) → AreFirst first lost → beside (drop (here lost) lost) first ≡ 0
+  none_behind : (lost : List LostChunk) → AreAhead first lost → beside (drop (here lost) lost) first ≡ 0
   none_behind [] are = refl
   none_behind (chunk ∷ lost) are = by (is_beside first chunk) refl are (none_behind lost)
     where
-      by : (b : Bool) → is_beside first chunk ≡ b → cond b (AreFirst first lost) (beside lost first ≡ 0) → (AreFirst first lost → beside (drop (here lost) lost) first ≡ 0) → beside (drop (cond b (1 + here lost) 0) (chunk ∷ lost)) first ≡ 0
+      by : (b : Bool) → is_beside first chunk ≡ b → cond b (AreAhead first lost) (beside lost first ≡ 0) → (AreAhead first lost → beside (drop (here lost) lost) first ≡ 0) → beside (drop (cond b (1 + here lost) 0) (chunk ∷ lost)) first ≡ 0
       by true is are rest = subst (λ n. beside (drop n (chunk ∷ lost)) first ≡ 0) (sym (suc_of (here lost))) (rest are)
       by false is none rest = ap (λ b. length (cond b (chunk ∷ filter (is_beside first) lost) (filter (is_beside first) lost))) is ∙ none
 
@@ -162,8 +196,8 @@ module _ (lost : List LostChunk) (most start : ℕ) (first : LostChunk) (togethe
   none_later : beside later first ≡ 0
   none_later =
       none_behind first (drop start lost)
-      (subst (λ l. AreFirst first l) (sym is)
-      (subst (λ b. cond b (AreFirst first rest) (beside rest first ≡ 0)) (sym (beside_itself first)) (subst StandTogether is (together_behind start lost together)).0))
+      (subst (λ l. AreAhead first l) (sym is)
+      (subst (λ b. cond b (AreAhead first rest) (beside rest first ≡ 0)) (sym (beside_itself first)) (ahead_of first rest (subst StandTogether is (together_behind start lost together)).0)))
 
   all_here : AllByRecursion (λ chunk. is_beside first chunk ≡ true) stripe
   all_here = all_beside first (drop start lost)
@@ -243,33 +277,33 @@ module _ (lost : List LostChunk) (start : ℕ) (chunk : LostChunk) (less : start
         omega (arith, less, from, over, so_far, none, few, left, same)
 
 -- ---- lists that stand one behind the other
-none_first : (chunk : LostChunk) (lost : List LostChunk) → beside lost chunk ≡ 0 → AreFirst chunk lost
+none_first : (chunk : LostChunk) (lost : List LostChunk) → beside lost chunk ≡ 0 → AreAhead chunk lost
 none_first chunk [] none = tt
 none_first chunk (other ∷ lost) none = by (is_beside chunk other) none
   where
-    by : (b : Bool) → length (cond b (other ∷ filter (is_beside chunk) lost) (filter (is_beside chunk) lost)) ≡ 0 → cond b (AreFirst chunk lost) (beside lost chunk ≡ 0)
+    by : (b : Bool) → length (cond b (other ∷ filter (is_beside chunk) lost) (filter (is_beside chunk) lost)) ≡ 0 → cond b (AreAhead chunk lost) (beside lost chunk ≡ 0)
     by true e = absurd (omega (arith, e))
     by false e = e
 
-first_append : (chunk : LostChunk) (xs ys : List LostChunk) → AreFirst chunk xs → beside ys chunk ≡ 0 → AreFirst chunk (xs ++ ys)
+first_append : (chunk : LostChunk) (xs ys : List LostChunk) → AreAhead chunk xs → beside ys chunk ≡ 0 → AreAhead chunk (xs ++ ys)
 first_append chunk [] ys are none = none_first chunk ys none
 first_append chunk (x ∷ xs) ys are none = by (is_beside chunk x) are (λ behind. first_append chunk xs ys behind none)
   where
-    by : (b : Bool) → cond b (AreFirst chunk xs) (beside xs chunk ≡ 0) → (AreFirst chunk xs → AreFirst chunk (xs ++ ys)) → cond b (AreFirst chunk (xs ++ ys)) (beside (xs ++ ys) chunk ≡ 0)
+    by : (b : Bool) → cond b (AreAhead chunk xs) (beside xs chunk ≡ 0) → (AreAhead chunk xs → AreAhead chunk (xs ++ ys)) → cond b (AreAhead chunk (xs ++ ys)) (beside (xs ++ ys) chunk ≡ 0)
     by true behind rest = rest behind
     by false none_too rest = let both = count_append (is_beside chunk) xs ys in omega (arith, both, none, none_too)
 
 pub together_append : (xs ys : List LostChunk) → StandTogether xs → StandTogether ys → AreOthers xs ys → StandTogether (xs ++ ys)
 together_append [] ys first second others = second
-together_append (x ∷ xs) ys first second others = (first_append x xs ys first.0 others.0, together_append xs ys first.1 second others.1)
+together_append (x ∷ xs) ys first second others = (first_if x (xs ++ ys) (first_append x xs ys (ahead_of x xs first.0) others.0), together_append xs ys first.1 second others.1)
 
 -- chunks of one stripe
 pub together_stripe : (name : List ℕ) (number : ℕ) (servers : List ℕ) → StandTogether (map (λ server. record { name = name; stripe = number; server = server }) servers)
 together_stripe name number [] = tt
-together_stripe name number (server ∷ servers) = (all_first servers, together_stripe name number servers)
+together_stripe name number (server ∷ servers) = (first_if (record { name = name; stripe = number; server = server }) (map (λ server. record { name = name; stripe = number; server = server }) servers) (all_first servers), together_stripe name number servers)
   where
-    all_first : (others : List ℕ) → AreFirst (record { name = name; stripe = number; server = server }) (map (λ server. record { name = name; stripe = number; server = server }) others)
+    all_first : (others : List ℕ) → AreAhead (record { name = name; stripe = number; server = server }) (map (λ server. record { name = name; stripe = number; server = server }) others)
     all_first [] = tt
     all_first (other ∷ others) =
-        subst (λ b. cond b (AreFirst (record { name = name; stripe = number; server = server }) (map (λ server. record { name = name; stripe = number; server = server }) others)) (beside (map (λ server. record { name = name; stripe = number; server = server }) others) (record { name = name; stripe = number; server = server }) ≡ 0))
+        subst (λ b. cond b (AreAhead (record { name = name; stripe = number; server = server }) (map (λ server. record { name = name; stripe = number; server = server }) others)) (beside (map (λ server. record { name = name; stripe = number; server = server }) others) (record { name = name; stripe = number; server = server }) ≡ 0))
         (sym (beside_itself (record { name = name; stripe = number; server = server }))) (all_first others)

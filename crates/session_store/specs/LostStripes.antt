@@ -1,5 +1,5 @@
 -- Lost chunks by their stripes.
-use Rattle.std.specs.Prelude.{◌≡◌, ⊤, ℕ, Bool, ◌&&◌, cond, nat_eq, nat_le, bytes_eq, List, [], ◌∷◌, length, filter}
+use Rattle.std.specs.Prelude.{◌≡◌, ⊤, ℕ, Bool, ◌&&◌, nat_eq, nat_le, bytes_eq, List, [], ◌∷◌, length, filter, take}
 use Rattle.session_rules.specs.declared.answer.LostChunk.{LostChunk}
 
 -- another lost chunk is of the same stripe
@@ -16,8 +16,7 @@ healable most lost = filter (λ chunk. nat_le (beside lost chunk) most) lost
 
 -- the chunks of a list that are of a chunk's stripe are its first ones
 abbrev pub AreFirst : LostChunk → List LostChunk → Type 0
-AreFirst chunk [] = ⊤
-AreFirst chunk (other ∷ lost) = cond (is_beside chunk other) (AreFirst chunk lost) (beside lost chunk ≡ 0)
+AreFirst chunk lost = filter (is_beside chunk) lost ≡ take (beside lost chunk) lost
 
 -- those of one stripe stand together
 abbrev pub StandTogether : List LostChunk → Type 0
