@@ -98,17 +98,13 @@ module _ (calls : Calls) (g : Shape) (max tries : ℕ) (some : 0 < stripe_length
     cut_off Request.Scrub may now (same, there) =
         subst (λ (now : State). Goes seats s Request.Scrub (now, Answer.NoMemory) after) (sym same)
         (inr (refl, refl), (stands, subst (λ (q : Places). IsBetween calls g max seats stands q s) (sym there) h))
-    cut_off (Request.Lose server) may now (same, there) =
-        subst (λ (now : State). Goes seats s (Request.Lose server) (now, Answer.NoMemory) after) (sym same)
-        (inr (refl, refl), (stands, subst (λ (q : Places). IsBetween calls g max seats stands q s) (sym there) h))
+    cut_off (Request.Lose server) may now cut = absurd cut
     cut_off Request.Snap may now (same, cut) =
         subst (λ (now : State). Goes seats s Request.Snap (now, Answer.NoMemory) after) (sym same) (inr (refl, refl), (stands, snap_cut calls g max tries seats stands p s some h may after cut))
     cut_off (Request.SnapRead name offset count) may now (same, cut) =
         subst (λ (now : State). Goes seats s (Request.SnapRead name offset count) (now, Answer.NoMemory) after) (sym same)
         (inr (refl, refl), (stands, read_cut calls g max tries seats stands p s some h name offset count after s.snapshot cut))
-    cut_off Request.SnapDrop may now (same, there) =
-        subst (λ (now : State). Goes seats s Request.SnapDrop (now, Answer.NoMemory) after) (sym same)
-        (inr (refl, refl), (stands, subst (λ (q : Places). IsBetween calls g max seats stands q s) (sym there) h))
+    cut_off Request.SnapDrop may now cut = absurd cut
 
     goes : (request : Request) → MayBeAsked calls g seats s request → (served : State × Answer) → IsAnsweredBy calls g max tries seats s request p served after → Goes seats s request served after
     goes request may served (inl (same, made)) =

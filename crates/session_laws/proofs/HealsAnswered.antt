@@ -1,5 +1,5 @@
 -- A heal that is cut off for want of memory.
-use Rattle.std.proofs.Common.{◌≡◌, ◌⊎◌, ℕ, zero, suc, ◌+◌, ◌<◌, false, List, [], ◌∷◌, length, take, slice_get, Some, true, refl, sym, ap, subst, ◌∙◌, inl, inr, arith, ne_eqb}
+use Rattle.std.proofs.Common.{◌≡◌, ◌⊎◌, ℕ, zero, suc, ◌+◌, ◌<◌, ◌≤◌, false, List, [], ◌∷◌, length, take, slice_get, Some, true, refl, sym, ap, subst, ◌∙◌, inl, inr, arith, ne_eqb}
 use Rattle.std.specs.List.{AllByRecursion}
 use Rattle.std.proofs.lemmas.List.{length-take-le}
 use Rattle.std.proofs.lemmas.Option.{none-some, same_Some}
@@ -47,6 +47,11 @@ place_below [] n x e = absurd (none-some x e)
 place_below (y ∷ xs) zero x e = omega arith
 place_below (y ∷ xs) (suc n) x e = let less : n < length xs = place_below xs n x e in omega (arith, less)
 
+-- none, or fewer than all, are at most all
+at_most : (all made : ℕ) → (made ≡ 0) ⊎ (made < all) → made ≤ all
+at_most all made (inl none) = omega (arith, none)
+at_most all made (inr less) = omega (arith, less)
+
 -- nor is it after all sweeps
 swept_next : (g : Shape) (max : ℕ) (stands : List ℕ) (p : Places) (s : State) (n : ℕ) → AreSwept g max stands p s → AreSwept g max stands p (record s { next = n })
 swept_next g max stands p s n swept = record {
@@ -93,7 +98,7 @@ module _ (calls : Calls) (g : Shape) (max tries : ℕ) (seats : Seats) (stands :
   made_so = healed_by g cut.made s
 
   so_many : length (take cut.made (to_heal g s)) ≡ cut.made
-  so_many = length-take-le cut.made (to_heal g s) cut.some
+  so_many = length-take-le cut.made (to_heal g s) (at_most (length (to_heal g s)) cut.made cut.few)
 
   between_left : IsBetween calls g max seats stands cut.left made_so
   between_left =
@@ -109,9 +114,9 @@ module _ (calls : Calls) (g : Shape) (max tries : ℕ) (seats : Seats) (stands :
       refl,
       record {
         made = cut.made;
-        some = cut.some;
+        few = cut.few;
         state = refl;
-        used = (omega (arith, so_many), omega (arith, so_many), omega (arith, so_many, cut.some));
+        used = (omega (arith, so_many), omega (arith, so_many), omega (arith, so_many, at_most (length (to_heal g s)) cut.made cut.few));
         lasts = λ _. cut.lasts;
       },
     ),
@@ -171,7 +176,7 @@ module _ (calls : Calls) (g : Shape) (max tries : ℕ) (seats : Seats) (stands :
         refl,
         record {
           made = cut.made;
-          some = cut.some;
+          few = cut.few;
           state = refl;
           used = (omega arith, omega arith, omega (arith, within));
           lasts = λ _. cut.lasts;

@@ -38,7 +38,7 @@ IsReadCut g readers name offset count (Some kept) before after =
     × (after ≡ (reading_steps g shortages (begun g (kept_parts g readers before.directory kept name offset count) before)).places)
 
 -- a request for which memory was wanting, and the state that it leaves: its call ended so, a heal was cut off, the passes of a snapshot's looks were
--- ended again, a read of a snapshot was cut off, or nothing was done
+-- ended again, a read of a snapshot was cut off, or nothing was done; a loss and the drop of a snapshot allocate nothing
 abbrev pub IsCutBy : Shape → ℕ → Seats → State → Request → Places → State → Places → Type 0
 IsCutBy g tries seats s (Request.OfMap call) before now after =
     (now ≡ s) × RunsTo g tries (actor.Client seats.client) seats.calls (job_of call) before Outcome.NoMemory after
@@ -47,11 +47,11 @@ IsCutBy g tries seats s (Request.Rebuild name stripe server) before now after =
     (now ≡ s) × RunsTo g tries (actor.Repairer seats.repairer) seats.rebuilds (rebuild_job call) before Outcome.NoMemory after
 IsCutBy g tries seats s Request.Heal before now after = IsCutOff g tries seats s before now after
 IsCutBy g tries seats s Request.Scrub before now after = (now ≡ s) × (after ≡ before)
-IsCutBy g tries seats s (Request.Lose server) before now after = (now ≡ s) × (after ≡ before)
+IsCutBy g tries seats s (Request.Lose server) before now after = ⊥
 IsCutBy g tries seats s Request.Snap before now after = (now ≡ s) × IsSnapCut seats s (snap s.snapshot s).1 before after
 IsCutBy g tries seats s (Request.SnapRead name offset count) before now after =
     (now ≡ s) × IsReadCut g seats.readers name offset count s.snapshot before after
-IsCutBy g tries seats s Request.SnapDrop before now after = (now ≡ s) × (after ≡ before)
+IsCutBy g tries seats s Request.SnapDrop before now after = ⊥
 
 -- a request is served with ample memory, or memory was wanting; the state after it, and the answer
 abbrev pub IsAnsweredBy : Calls → Shape → ℕ → ℕ → Seats → State → Request → Places → State × Answer → Places → Type 0

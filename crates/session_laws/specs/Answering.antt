@@ -1,5 +1,5 @@
 -- Requests in which memory may be wanting: each is served as the session answers, or is answered that memory was wanting.
-use Rattle.std.specs.Prelude.{◌≡◌, ◌⊎◌, ℕ, ◌+◌, ◌≤◌, ◌<◌, List, [], ◌∷◌, length, take, replicate, Some, IsTrue}
+use Rattle.std.specs.Prelude.{◌≡◌, ◌⊎◌, ℕ, ◌+◌, ◌<◌, List, [], ◌∷◌, length, take, replicate, Some, IsTrue}
 use Rattle.std.specs.List.{slice_get}
 use Rattle.clay_grid.specs.Shape.{Shape, chunk_count, stripe_length}
 use Rattle.clay_grid.specs.Limits.{IsGeometry}
@@ -72,12 +72,12 @@ AreMadeAnew g tries who number (chunk ∷ chunks) before after =
     (shortages : List Shortage) × HasEnded g tries who number (rebuild_job (rebuild_of chunk)) shortages before Outcome.Rebuilt
     × AreMadeAnew g tries who (number + 1) chunks (ran g tries who number (rebuild_job (rebuild_of chunk)) shortages before).places after
 
--- a heal is cut off, and leaves this state: the first so many chunks were made anew, and perhaps the next one's rebuild ended for want of memory, and
+-- a heal is cut off, and leaves this state: none of its chunks or the first few and not all were made anew, and perhaps the next one's rebuild ended for want of memory, and
 -- has used its number
 pub record IsCutOff (g : Shape) (tries : ℕ) (seats : Seats) (s : State) (before : Places) (now : State) (after : Places) : Type 0 where
   pub lasts : IsTrue (numbers_last g s)
   pub made : ℕ
-  pub some : made ≤ length (to_heal g s)
+  pub few : (made ≡ 0) ⊎ (made < length (to_heal g s))
   pub left : Places
   pub rebuilt : AreMadeAnew g tries (actor.Repairer seats.healer) s.next (take made (to_heal g s)) before left
   pub last :

@@ -209,7 +209,7 @@ module _ (parts : Parts) (is : IsStore (store_of parts)) (lost : List LostChunk)
     cut_off = record {
       lasts = numbers_last_so parts is lost are s at few;
       made = made;
-      some = (let less : made < length its = within in omega (arith, less));
+      few = inr within;
       left = between;
       rebuilt = made_so;
       last = inr (chunk, found.1, runs_to, refl);

@@ -54,7 +54,7 @@ heal_wanting old is =
       refl,
       record {
         made = 0;
-        some = omega arith;
+        few = inl refl;
         state = refl;
         used = (omega arith, omega arith, omega arith);
         lasts = λ later. absurd (omega (arith, later));

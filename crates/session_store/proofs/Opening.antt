@@ -44,7 +44,7 @@ module _ (old : StoreOf) (is : IsStore old) where
 
   -- a store whose snapshot is dropped after it passed over a number
   pub later : IsStore (one_more old)
-  later = (left_served old is Request.SnapDrop Answer.NoMemory (λ s at. inr (refl, refl))).kept
+  later = (left_served old is Request.Scrub Answer.NoMemory (λ s at. inr (refl, refl))).kept
 
   pub then_dropped : (now : StoreOf) → ServesAll Request.SnapDrop (one_more old) (Answer.Replied Reply.Done) now → now ≡ dropped_one (one_more old) now → IsStore now → ServesRequest Request.SnapDrop old (Answer.Replied Reply.Done) now
   then_dropped now serves same kept = record { serves = λ s at. serves s (stands_more old is s at); same = same; kept = kept }

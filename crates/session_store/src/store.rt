@@ -56,8 +56,9 @@ impl SessionStore {
     }
 
     /// Serves a request; a server that it names is one that there is. A store serves fewer than 2^32.
-    /// Where memory is wanting it is answered so, and the state stays, but at a heal, which may have made
-    /// some chunks anew.
+    /// Where an allocation fails it is answered so, and the state stays; a heal may then have made some
+    /// chunks anew, but not all. A loss and the drop of a snapshot allocate nothing, and are never
+    /// answered so.
     pub fn serve<R: Threads + Sync, C: Coder>(
         &mut self,
         rt: &R,
