@@ -218,6 +218,7 @@ impl History {
     pub fn counting(alloc: Global) -> History
         ensures points { result.points ≡ [] }
         ensures names { result.names ≡ [] }
+        ensures keeps { result.keeps ≡ false }
     {
         History {
             told: ToldPoints::new(),
