@@ -88,7 +88,7 @@ not_itself n t below =
     ]
 
 module _ (g : Shape) (seen : Seen) where
-  count_others : (asked : List ℕ) → length (servers_but g seen asked) ≡ count_below (chunk_count g) (λ i. not (is_among i asked))
+  pub count_others : (asked : List ℕ) → length (servers_but g seen asked) ≡ count_below (chunk_count g) (λ i. not (is_among i asked))
   count_others asked = length-filter_range (λ i. not (is_among i asked)) (chunk_count g)
 
   at_most_all : (asked : List ℕ) → length (servers_but g seen asked) ≤ chunk_count g
@@ -97,7 +97,7 @@ module _ (g : Shape) (seen : Seen) where
       let h : count_below (chunk_count g) (λ i. not (is_among i asked)) ≤ chunk_count g = count_below-le (chunk_count g) (λ i. not (is_among i asked)) in
       omega (arith, e, h)
 
-  all_but_one : (target : ℕ) → target < chunk_count g → length (servers_but g seen (target ∷ [])) + 1 ≤ chunk_count g
+  pub all_but_one : (target : ℕ) → target < chunk_count g → length (servers_but g seen (target ∷ [])) + 1 ≤ chunk_count g
   all_but_one target below =
       let e : length (servers_but g seen (target ∷ [])) ≡ count_below (chunk_count g) (λ i. not (is_among i (target ∷ []))) = count_others (target ∷ []) in
       let h : count_below (chunk_count g) (λ i. not (is_among i (target ∷ []))) + 1 ≤ chunk_count g = not_itself (chunk_count g) target below in

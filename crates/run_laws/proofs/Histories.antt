@@ -128,6 +128,7 @@ IsPast (Act.AtDirectory (DirectoryStep.Commit placed)) = Unit {0}
 IsPast (Act.AtDirectory (DirectoryStep.Repaired server epoch)) = Unit {0}
 IsPast (Act.AtServer server (ServerStep.Install version)) = Unit {0}
 IsPast (Act.Finish (Outcome.Served point)) = Unit {0}
+IsPast (Act.Finish Outcome.Rebuilt) = Unit {0}
 IsPast _ = ⊥
 
 no_question : (server : ℕ) (step : ServerStep) → IsQuestion step → IsPast (Act.AtServer server step) → ⊥
@@ -212,6 +213,8 @@ module _ (g : Shape) (seen : Seen) (target : ℕ) where
     pub is : told ≡ gathered ++ rest
     pub comes_to : gather_chunk g seen target gathered ≡ Gathering.HasBytes []
     pub act : rebuilding g seen target told ≡ confirming seen target rest
+    pub front : List (Act × Told)
+    pub steps : steps_by (rebuilding g seen target) told ≡ front ++ steps_by (confirming seen target) rest
 
   first_chunk : (told : List Told) → AreCalm told → rebuilding g seen target told ≡ act_of seen.stripe (confirming seen target) (gather_chunk g seen target told)
   first_chunk [] calm = refl
@@ -230,7 +233,21 @@ module _ (g : Shape) (seen : Seen) (target : ℕ) where
         is = has.is;
         comes_to = has.comes_to;
         act = first_chunk told calm ∙ ap (act_of seen.stripe (confirming seen target)) e;
+        front = steps_by (rebuilding g seen target) has.front;
+        steps =
+            ap (steps_by (rebuilding g seen target)) has.is
+            ∙ steps_append (rebuilding g seen target) has.front later
+            ∙ ap (λ s. steps_by (rebuilding g seen target) has.front ++ s)
+            (steps_same (λ more. rebuilding g seen target (has.front ++ more)) (confirming seen target) later (calm_rest has.front later (subst AreCalm has.is calm)) (goes has));
       }
+    where
+      goes : (has : Gathers (gather_chunk g seen target) (chunk_grows g seen target) later told) → (more : List Told) → AreCalm more
+          → rebuilding g seen target (has.front ++ more) ≡ confirming seen target more
+      goes has more k =
+          first_chunk (has.front ++ more) (calm_append has.front more (calm_front has.front later (subst AreCalm has.is calm)) k)
+          ∙ ap (act_of seen.stripe (confirming seen target))
+          (subst (λ (now : Gathering). GrowsBy more now (gather_chunk g seen target (has.front ++ more))) has.comes_to
+          (grows_by (gather_chunk g seen target) (chunk_grows g seen target) more has.front))
   made_by told calm (Gathering.TooMany missing later) e so past = absurd (ending_never (Outcome.Unavailable seen.stripe missing) (λ k. k) later past)
   made_by told calm (Gathering.AtTarget later) e so past = absurd (ending_never Outcome.Here (λ k. k) later past)
   made_by told calm (Gathering.TargetAway downs later) e so past = absurd (ending_never (Outcome.Away downs) (λ k. k) later past)

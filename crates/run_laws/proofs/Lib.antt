@@ -61,6 +61,7 @@ pub mod Stages
 pub mod Replies
 pub mod Draws
 pub mod Orders
+pub mod RebuildSteps
 pub mod Sweeps
 pub mod Phases
 pub mod AskedServers

@@ -162,6 +162,46 @@ module _ (g : Shape) (seen : Seen) (target : ℕ) where
   confirming_placed server epoch (Told.Reaped point ∷ told) e = absurd (subst IsRepaired (sym e) tt)
   confirming_placed server epoch (_ ∷ told) e = absurd (ending_none Outcome.NoMemory (λ k. k) told (Act.AtDirectory (DirectoryStep.Repaired server epoch)) e tt)
 
+-- ---- a rebuild that is done
+IsRebuilt : Act → Type 0
+IsRebuilt (Act.Finish Outcome.Rebuilt) = Unit {0}
+IsRebuilt _ = ⊥
+
+rebuilt_past : (act : Act) → IsRebuilt act → IsPast act
+unfolding IsRebuilt
+rebuilt_past (Act.Finish Outcome.Rebuilt) h = tt
+rebuilt_past act h = absurd h
+
+ending_unmade : (outcome : Outcome) → (IsPast (Act.Finish outcome) → ⊥) → (told : List Told) → IsRebuilt (ending outcome told) → ⊥
+ending_unmade outcome never told h = ending_never outcome never told (rebuilt_past (ending outcome told) h)
+
+module _ (seen : Seen) (target : ℕ) where
+  placing_done : (epoch : ℕ) (told : List Told) → AllGo (steps_by (placing target epoch) told) → IsRebuilt (placing target epoch told) → told ≡ Told.Ended ∷ []
+  unfolding IsRebuilt
+  placing_done epoch [] go h = absurd h
+  placing_done epoch (Told.Ended ∷ []) go h = refl
+  placing_done epoch (Told.Ended ∷ answer ∷ more) go h = absurd go.1.0
+  placing_done epoch (Told.Reaped point ∷ told) go h = absurd h
+  placing_done epoch (_ ∷ told) go h = absurd (ending_unmade Outcome.NoMemory (λ k. k) told h)
+
+  installing_done : (told : List Told) → AllGo (steps_by (installing seen target) told) → IsRebuilt (installing seen target told) → (epoch : ℕ) × (told ≡ Told.Placed epoch ∷ Told.Ended ∷ [])
+  unfolding IsRebuilt
+  installing_done [] go h = absurd h
+  installing_done (Told.Placed epoch ∷ told) go h = (epoch, ap (λ l. Told.Placed epoch ∷ l) (placing_done epoch told go.1 h))
+  installing_done (Told.AlreadyThere ∷ told) go h = absurd (ending_unmade Outcome.Here (λ k. k) told h)
+  installing_done (Told.Away downs ∷ told) go h = absurd (ending_unmade (Outcome.Away downs) (λ k. k) told h)
+  installing_done (_ ∷ told) go h = absurd (ending_unmade Outcome.NoMemory (λ k. k) told h)
+
+  confirming_done : (told : List Told) → AllGo (steps_by (confirming seen target) told) → IsRebuilt (confirming seen target told) → (epoch : ℕ) × (told ≡ Told.Current ∷ Told.Placed epoch ∷ Told.Ended ∷ [])
+  unfolding IsRebuilt
+  confirming_done [] go h = absurd h
+  confirming_done (Told.Current ∷ told) go h =
+      let last : (epoch : ℕ) × (told ≡ Told.Placed epoch ∷ Told.Ended ∷ []) = installing_done told go.1 h in
+      (last.0, ap (λ l. Told.Current ∷ l) last.1)
+  confirming_done (Told.Superseded newer ∷ told) go h = absurd h
+  confirming_done (Told.Reaped point ∷ told) go h = absurd h
+  confirming_done (_ ∷ told) go h = absurd (ending_unmade Outcome.NoMemory (λ k. k) told h)
+
 module _ (g : Shape) (job : Job) where
   rebuild_installs : (server version : ℕ) (since : List Told) → AreCalm since → next_rebuild g job.note job.target since ≡ Act.AtServer server (ServerStep.Install version)
       → (server ≡ job.target) × ConfirmedInOrder g job version since []
@@ -199,6 +239,27 @@ module _ (g : Shape) (job : Job) where
         },
       )
   rebuild_placed server epoch (_ ∷ since) calm e = absurd (subst IsPast (sym e) tt)
+
+  rebuild_done : (since : List Told) → AreCalm since → AllGo (steps_by (next_rebuild g job.note job.target) since) → next_rebuild g job.note job.target since ≡ Act.Finish Outcome.Rebuilt
+      → (version : ℕ) × (epoch : ℕ) × ConfirmedInOrder g job version since (Told.Placed epoch ∷ Told.Ended ∷ [])
+  unfolding IsRebuilt
+  rebuild_done [] calm go e = absurd (subst IsPast (sym e) tt)
+  rebuild_done (Told.NoSuch ∷ since) calm go e = absurd (subst IsPast (sym e) tt)
+  rebuild_done (Told.PinnedStripe seen ∷ since) calm go e =
+      let m : Made g seen job.target since = made g seen job.target since calm.1 (subst IsPast (sym e) tt) in
+      let last : (epoch : ℕ) × (m.rest ≡ Told.Current ∷ Told.Placed epoch ∷ Told.Ended ∷ []) =
+      confirming_done seen job.target m.rest (go_past m.front (steps_by (confirming seen job.target) m.rest) (subst AllGo m.steps go.1)) (subst IsRebuilt (sym (sym m.act ∙ e)) tt) in (
+        seen.version,
+        last.0,
+        record {
+          seen = seen;
+          gathered = m.gathered;
+          answers_are = ap (λ l. Told.PinnedStripe seen ∷ l) (m.is ∙ ap (λ l. m.gathered ++ l) last.1);
+          comes_to = m.comes_to;
+          of_version = refl;
+        },
+      )
+  rebuild_done (_ ∷ since) calm go e = absurd (subst IsPast (sym e) tt)
 
 -- ---- an answer of the map
 abbrev reply_told : Act → Told
@@ -324,6 +385,12 @@ module _ (g : Shape) (tries : ℕ) (job : Job) where
   repairs kind (Stage.Again pairs) before known since h = absurd (trying_no_repair g tries job.note pairs since h)
   repairs kind (Stage.Settling at versions) before known since h = absurd (settling_no_repair at (places_of (chunk_count g) versions) since h)
 
+  -- a rebuild has one stage
+  first_alone : (stage : Stage) (before : List (Act × Told)) → Known g tries job Kind.Rebuild stage before → (stage ≡ Stage.First) × (before ≡ [])
+  first_alone Stage.First before known = (refl, known)
+  first_alone (Stage.Again pairs) before known = absurd (rebuild_is_no_write known)
+  first_alone (Stage.Settling at versions) before known = absurd known.writes
+
   module _ (point : ℕ) (given : Reply) where
     abbrev reply_act : Act
     reply_act = Act.Finish (Outcome.Answered point given)
@@ -423,6 +490,18 @@ module _ (g : Shape) (max tries : ℕ) (job : Job) (answers : List Told) (are_to
         rebuild_placed g job server epoch r.since r.calm (facts.2 (Act.AtDirectory (DirectoryStep.Repaired server epoch)) here) in
         (facts.0, all.0, all.1, subst (λ l. ConfirmedInOrder g job all.1 l (Told.Placed epoch ∷ [])) (all_since facts.1) all.2)
 
+    rebuilt : act_after g tries job answers ≡ Act.Finish Outcome.Rebuilt
+        → (job.note.kind ≡ Kind.Rebuild) × (version : ℕ) × (epoch : ℕ) × ConfirmedInOrder g job version answers (Told.Placed epoch ∷ Told.Ended ∷ [])
+    rebuilt e =
+        let kind : job.note.kind ≡ Kind.Rebuild = (outcomes_in_steps g max tries job).kinds kept Outcome.Rebuilt e in
+        let first : (r.stage ≡ Stage.First) × (r.before ≡ []) = first_alone g tries job r.stage r.before (subst (λ k. Known g tries job k r.stage r.before) kind r.known) in
+        let next : stage_act g tries job job.note.kind r.stage ≡ next_rebuild g job.note job.target =
+        ap (λ k. stage_act g tries job k r.stage) kind ∙ ap (stage_act g tries job Kind.Rebuild) first.0 in
+        let all : (version : ℕ) × (epoch : ℕ) × ConfirmedInOrder g job version r.since (Told.Placed epoch ∷ Told.Ended ∷ []) =
+        rebuild_done g job r.since r.calm (subst (λ (f : List Told → Act). AllGo (steps_by f r.since)) next going_since)
+        (sym (ap (λ (f : List Told → Act). f r.since) next) ∙ sym now_is ∙ e) in
+        (kind, all.0, all.1, subst (λ l. ConfirmedInOrder g job all.0 l (Told.Placed all.1 ∷ Told.Ended ∷ [])) (all_since first.1) all.2)
+
     answered : (point : ℕ) (given : Reply) → act_after g tries job answers ≡ Act.Finish (Outcome.Answered point given)
         → AnsweredByLook job point given history ⊎ ((given ≡ reply.Done) × SettledInOrder g point history)
     answered point given e =
@@ -436,6 +515,7 @@ calls_keep_order g max tries job =
       served = λ answers point told e. served g max tries job answers told (ran_all g max tries job answers told) point e;
       installs = λ answers server version told e. installs g max tries job answers told (ran_all g max tries job answers told) server version e;
       says_placed = λ answers server epoch told e. says_placed g max tries job answers told (ran_all g max tries job answers told) server epoch e;
+      rebuilt = λ answers told e. rebuilt g max tries job answers told (ran_all g max tries job answers told) e;
       draws = λ answers told e.
           looked g tries job (fold (tell g job) [] answers) (steps_since g tries job [] answers) (ran_all g max tries job answers told) e;
       commits = λ answers placed told e.

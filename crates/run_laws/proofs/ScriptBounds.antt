@@ -8,7 +8,7 @@ use Rattle.std.proofs.Math.Nat.{le_trans, mul-le-mul_right, add-mul-div_left, di
 use Rattle.std.proofs.lemmas.Nat.{le-div, mul-le}
 use Rattle.std.specs.List.{slice_get}
 use Rattle.clay_grid.specs.Limits.{IsGeometry}
-use Rattle.clay_grid.specs.Shape.{Shape, chunk_count, node_count, stripe_length}
+use Rattle.clay_grid.specs.Shape.{Shape, chunk_count, stripe_length}
 use Rattle.store_map.specs.Content.{content_length}
 use Rattle.store_map.specs.Limits.{size_of, tries_of, stripes_met, data_length}
 use Rattle.store_map.specs.Naming.{IsValid}
@@ -24,7 +24,6 @@ use Rattle.store_core.specs.Note.{note_of}
 use Rattle.store_core.specs.Work.{Work, Calling, client_work, repairer_work}
 use Rattle.run_laws.proofs.SoundLists.{at_all}
 use Rattle.run_laws.proofs.Groups.{sum_below}
-use Rattle.run_laws.proofs.Runs.{CanRun}
 use Rattle.run_laws.proofs.Scripts.{Mapped, mapped}
 
 -- ---- stripes met are no more than bytes

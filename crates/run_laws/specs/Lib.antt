@@ -25,6 +25,7 @@ pub mod WriteOrders
 pub mod OrderLaws
 pub mod CutLaws
 pub mod GivenLaws
+pub mod RebuildSteps
 pub mod SweepLaws
 pub mod RunLaws
 pub mod DrainLaws

@@ -27,6 +27,10 @@ pub record CallsKeepOrder (g : Shape) (max tries : ℕ) (job : Job) : Type 0 whe
       (answers : List Told) (server epoch : ℕ) → AreTold g max tries job answers →
       act_after g tries job answers ≡ Act.AtDirectory (DirectoryStep.Repaired server epoch) →
       (job.note.kind ≡ Kind.Rebuild) × (server ≡ job.target) × (version : ℕ) × ConfirmedInOrder g job version answers (Told.Placed epoch ∷ [])
+  -- a rebuild that is done confirmed its version, and was told that its chunk was placed and that its pass ended
+  pub rebuilt :
+      (answers : List Told) → AreTold g max tries job answers → act_after g tries job answers ≡ Act.Finish Outcome.Rebuilt →
+      (job.note.kind ≡ Kind.Rebuild) × (version : ℕ) × (epoch : ℕ) × ConfirmedInOrder g job version answers (Told.Placed epoch ∷ Told.Ended ∷ [])
   -- it draws after its look, a write when it has the old bytes that it keeps
   pub draws :
       (answers : List Told) → AreTold g max tries job answers → act_after g tries job answers ≡ Act.AtDirectory DirectoryStep.Draw →

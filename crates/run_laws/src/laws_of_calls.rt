@@ -16,6 +16,7 @@ ghost use Rattle.run_laws.specs.CauseLaws.{OutcomesHaveCauses};
 ghost use Rattle.run_laws.specs.CutLaws.{CutsChangeNoAct};
 ghost use Rattle.run_laws.specs.GatherLaws.{GatheringsEnd};
 ghost use Rattle.run_laws.specs.GivenLaws.{GatheringsAreGiven};
+ghost use Rattle.run_laws.specs.RebuildSteps.{RebuildsMakeSteps};
 
 /// A gathering names servers as missing exactly when one more than there are parity chunks have
 /// told it so: the servers that it asked and that answered so, with the epochs that they answered, in
@@ -94,6 +95,13 @@ pub fn calls_end_with_causes_step_by_step()
 /// told, in that order; after a commit a call is answered only when it has made a settle for each.
 pub fn calls_keep_order()
     ensures { (g : Shape) (max tries : ℕ) (job : Job) → CallsKeepOrder g max tries job }
+{}
+
+/// A rebuild that was told of no missing chunk but its target's, and that placed it, makes 2n + 3 steps with
+/// n servers: its look, a question to each server, a fetch from each but its target, the confirm, the
+/// install, and the step that tells where the chunk was placed.
+pub fn rebuilds_make_steps()
+    ensures { (g : Shape) (max tries : ℕ) (job : Job) → RebuildsMakeSteps g max tries job }
 {}
 
 /// Which answers end a call, and with which outcome: a look's reply, a commit, a reap, a version that
