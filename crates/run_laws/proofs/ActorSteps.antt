@@ -1,5 +1,5 @@
 -- A step of an actor in its call keeps the call's bound and its pass, and leaves fewer steps ahead.
-use Rattle.std.proofs.Common.{◌≡◌, ℕ, ◌+◌, ◌-◌, ◌<◌, ◌≤◌, Bool, true, false, cond, List, [], ◌∷◌, length, drop, sum_by, Option, None, Some, option_map, is_some, IsTrue, refl, sym, ap, subst, ◌∙◌, arith, true≢false, length-append, drop-drop}
+use Rattle.std.proofs.Common.{◌≡◌, ℕ, ◌+◌, ◌-◌, ◌<◌, ◌≤◌, Bool, true, false, cond, List, [], ◌∷◌, length, drop, sum_by, Option, None, Some, option_map, is_some, IsTrue, refl, sym, ap, subst, ◌∙◌, arith, true≢false, length-append, drop-drop, ◌⊎◌, inl, inr}
 use Rattle.std.proofs.lemmas.Bool.{and_parts, lt-ltb}
 use Rattle.std.proofs.lemmas.Option.{none-some}
 use Rattle.std.proofs.lemmas.List.Sums.{sum_by-cons}
@@ -22,6 +22,7 @@ use Rattle.store_core.specs.Work.{Calling}
 use Rattle.store_core.specs.PlaceLaws.{new_versions}
 use Rattle.run_laws.specs.StepLaws.{HasTarget}
 use Rattle.run_laws.proofs.Steps.{steps_fall}
+use Rattle.run_laws.proofs.PinnedSteps.{KeepsPinned, pinned_step}
 use Rattle.run_laws.proofs.Phases.{Phase, phase_of, directory_phase, server_phase, has_pass, pass_after, rank, rank_moves, moves}
 use Rattle.run_laws.proofs.CallMoves.{changes, call_moves}
 use Rattle.run_laws.proofs.Proper.{IsWriting, IsProper, tries_by, HasTry, acts_proper}
@@ -102,6 +103,7 @@ same_pass (Act.Finish outcome) = refl
 
 -- ---- want of memory that is told before a step
 pub record ToldFirst (g : Shape) (most tries : ℕ) (job : Job) (who : Actor) (told now : List Told) (d : Directory) : Type 0 where
+  pub from : (now ≡ told) ⊎ (now ≡ tell g job told Told.Short)
   pub stands : Stands g tries job who now d
   pub steps : call_left g most tries job now ≤ call_left g most tries job told
   pub draws : draws_told g tries job now ≤ draws_told g tries job told
@@ -121,6 +123,7 @@ module _ (g : Shape) (most tries : ℕ) (job : Job) (target : HasTarget g job) (
       let fewer : draws_told g tries job (tell g job told Told.Short) + 0 ≤ draws_told g tries job told =
       draws_fall g tries job told Told.Short moved (λ h. absurd (omega (arith, low, h))) (draws_none job.note.kind (touched_count g job.note)) in
       record {
+        from = inr refl;
         stands =
             record {
               pass = stands.pass ∙ ap (λ b. note_if b job.note) (sym same);
@@ -133,8 +136,8 @@ module _ (g : Shape) (most tries : ℕ) (job : Job) (target : HasTarget g job) (
   -- so it is whether memory was wanting or not
   pub first_told : (coding has : Bool) → is_in_pass (next_act g tries job told) ≡ has → ToldFirst g most tries job who told (told_first coding has g job told) d
   first_told true true e = short_told e
-  first_told true false e = record { stands = stands; steps = omega arith; draws = omega arith }
-  first_told false has e = record { stands = stands; steps = omega arith; draws = omega arith }
+  first_told true false e = record { from = inl refl; stands = stands; steps = omega arith; draws = omega arith }
+  first_told false has e = record { from = inl refl; stands = stands; steps = omega arith; draws = omega arith }
 
 -- ---- what the answer to an act brings
 writing_fits : (kind : Kind) (count touched : ℕ) → IsWriting kind → count ≤ touched → DrawsFit kind count touched
@@ -253,6 +256,7 @@ begins g tries job who d some none =
 pub record InWork (g : Shape) (most tries : ℕ) (job : Job) (who : Actor) (calling : Calling) (d : Directory) : Type 0 where
   pub fresh : calling.steps ≡ 0 → calling.told ≡ []
   pub bound : call_left g most tries job calling.told + calling.steps ≤ step_bound g most tries job.note
+  pub pinned : KeepsPinned g most tries job calling.told calling.steps
   pub stands : Stands g tries job who calling.told d
 
 module _ (g : Shape) (most tries : ℕ) where
@@ -338,7 +342,12 @@ module _ (g : Shape) (most tries : ℕ) (some : 0 < stripe_length g) (tried : 1 
         record {
           kept =
               subst (λ l. CallKept g most tries who l middle after.directory) (sym ahead)
-              (record { fresh = λ none. absurd (omega (arith, none)); bound = omega (arith, bound, short, falls); stands = record { pass = brings.pass; going = going } });
+              (record {
+                fresh = λ none. absurd (omega (arith, none));
+                bound = omega (arith, bound, short, falls);
+                pinned = pinned_step g most tries job calling.told first answer calling.steps first_is.from work.bound first_is.steps brings.steps work.pinned;
+                stands = record { pass = brings.pass; going = going };
+              });
           steps =
               subst (λ l. steps_ahead g most tries l now < steps_ahead g most tries l calling.told) (sym ahead) (omega (arith, short, falls));
           draws =
@@ -361,6 +370,7 @@ module _ (g : Shape) (most tries : ℕ) (some : 0 < stripe_length g) (tried : 1 
           bound =
               subst (λ (l : List Told). call_left g most tries next l + calling_now.steps ≤ step_bound g most tries next.note) (sym begun)
               (let e : calling_now.steps ≡ 0 = none_made in omega (arith, bound, e));
+          pinned = subst (λ (l : List Told). KeepsPinned g most tries next l calling_now.steps) (sym begun) (λ reads count e. absurd (none-some count e));
           stands = subst (λ (l : List Told). Stands g tries next who l after.directory) (sym begun) (begins g tries next who after.directory tried free);
         }
 

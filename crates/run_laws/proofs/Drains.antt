@@ -1,5 +1,5 @@
 -- A drain ends: each round lowers the measure of what may yet be done, or finds nobody with a step.
-use Rattle.std.proofs.Common.{◌≡◌, ℕ, zero, suc, ◌+◌, ◌<◌, ◌≤◌, Bool, true, false, ◌||◌, List, [], ◌∷◌, ◌++◌, length, drop, map, fold, Option, None, Some, IfSome, refl, sym, subst, ◌∙◌, inl, inr, ◌⊎◌, arith, true≢false}
+use Rattle.std.proofs.Common.{◌≡◌, ℕ, zero, suc, ◌+◌, ◌<◌, ◌≤◌, Bool, true, false, ◌||◌, List, [], ◌∷◌, ◌++◌, length, map, fold, Option, None, Some, IfSome, refl, sym, subst, ◌∙◌, inl, inr, ◌⊎◌, arith, true≢false}
 use Rattle.std.proofs.lemmas.Bool.{cases_eq}
 use Rattle.std.proofs.lemmas.List.{length-map}
 use Rattle.std.proofs.lemmas.Option.{slice_get_within}
@@ -17,7 +17,7 @@ use Rattle.store_core.specs.Act.{Act, DirectoryStep, ServerStep}
 use Rattle.store_core.specs.Bounds.{step_bound}
 use Rattle.run_laws.specs.CallLeft.{call_left}
 use Rattle.store_core.specs.Core.{first_core, sweeper_has_step}
-use Rattle.run_laws.specs.DrainLaws.{KeepsBound, RunsAreBounded, DrainsEnd}
+use Rattle.run_laws.specs.DrainLaws.{KeepsBound, KeepsPinnedBound, pinned_bound, RunsAreBounded, DrainsEnd}
 use Rattle.run_laws.specs.RunLaws.{StaysSound, RunsStaySound}
 use Rattle.store_core.specs.Directory.{Directory}
 use Rattle.store_core.specs.NextAct.{Job, job_of, rebuild_job}
@@ -26,7 +26,7 @@ use Rattle.store_core.specs.Schedule.{is_unfinished, sweep_if, round, drain_by, 
 use Rattle.store_core.specs.Step.{Shortage}
 use Rattle.store_core.specs.Work.{Work, Calling, client_work, repairer_work, any_has_step}
 use Rattle.run_laws.proofs.ActorSteps.{InWork, CallKept}
-use Rattle.run_laws.specs.StepLaws.{HasTarget}
+use Rattle.run_laws.proofs.PinnedSteps.{less_than_pinned}
 use Rattle.run_laws.proofs.StillToMake.{has_step_left}
 use Rattle.run_laws.proofs.Groups.{IsGroup, GroupKept, IsIdle, none_has_step, drop_here}
 use Rattle.run_laws.proofs.RunsSound.{RunKeeps, client_kept, repairer_kept, sweeper_kept, operator_kept, first_kept}
@@ -243,24 +243,40 @@ module _ (script : Script) (shortages : List Shortage) (can : CanRun script) whe
   sound_after tokens = (run_state tokens start (first_kept script can)).sound
 
   -- ---- bounds
-  group_bounds : (who_of : ℕ → Actor) (works : List Work) (callings : List Calling) (d : Directory) → IsGroup script who_of works → GroupKept script who_of works callings d
-      → (i : ℕ) → IfSome (slice_get works i) (λ work. IfSome (slice_get callings i) (KeepsBound script work))
-  group_bounds who_of works callings d group kept i =
-      if_found (λ (work : Work). IfSome (slice_get callings i) (KeepsBound script work)) (slice_get works i) (λ work is_work.
-      if_found (KeepsBound script work) (slice_get callings i) (λ calling is_calling.
-      if_found (λ (job : Job). calling.steps < step_bound script.geometry (size_of script) (tries_of script) job.note) (slice_get work.jobs (length calling.ended)) (λ job is_job.
-      one_bound who_of d i work calling job is_job (group.targets i work is_work (length calling.ended) job is_job) (kept i work calling is_work is_calling))))
-    where
-      one_bound : (who_of : ℕ → Actor) (d : Directory) (i : ℕ) (work : Work) (calling : Calling) (job : Job) → slice_get work.jobs (length calling.ended) ≡ Some job
-          → HasTarget script.geometry job → CallKept script.geometry (size_of script) (tries_of script) (who_of i) (drop (length calling.ended) work.jobs) calling d
-          → calling.steps < step_bound script.geometry (size_of script) (tries_of script) job.note
-      one_bound who_of d i work calling job is_job target kept =
-          let in_work : InWork script.geometry (size_of script) (tries_of script) job (who_of i) calling d =
-          subst (λ (l : List Job). CallKept script.geometry (size_of script) (tries_of script) (who_of i) l calling d) (drop_here work.jobs (length calling.ended) job is_job) kept in
-          let bound : call_left script.geometry (size_of script) (tries_of script) job calling.told + calling.steps ≤ step_bound script.geometry (size_of script) (tries_of script) job.note = in_work.bound in
-          let left : 0 < call_left script.geometry (size_of script) (tries_of script) job calling.told =
-          has_step_left script.geometry (size_of script) (tries_of script) job target calling.told in_work.stands.going in
-          omega (arith, bound, left)
+  -- a call in work, and that it has a step left
+  in_work : (who_of : ℕ → Actor) (works : List Work) (callings : List Calling) (d : Directory) → IsGroup script who_of works → GroupKept script who_of works callings d
+      → (i : ℕ) (work : Work) (calling : Calling) (job : Job) → slice_get works i ≡ Some work → slice_get callings i ≡ Some calling → slice_get work.jobs (length calling.ended) ≡ Some job
+      → InWork script.geometry (size_of script) (tries_of script) job (who_of i) calling d × (0 < call_left script.geometry (size_of script) (tries_of script) job calling.told)
+  in_work who_of works callings d group kept i work calling job is_work is_calling is_job =
+      let at : InWork script.geometry (size_of script) (tries_of script) job (who_of i) calling d =
+      subst (λ (l : List Job). CallKept script.geometry (size_of script) (tries_of script) (who_of i) l calling d) (drop_here work.jobs (length calling.ended) job is_job) (kept i work calling is_work is_calling) in
+      (at, has_step_left script.geometry (size_of script) (tries_of script) job (group.targets i work is_work (length calling.ended) job is_job) calling.told at.stands.going)
+
+  module _ (who_of : ℕ → Actor) (works : List Work) (callings : List Calling) (d : Directory) (group : IsGroup script who_of works) (kept : GroupKept script who_of works callings d) where
+    -- of the calls in work, all that holds of each
+    of_calls : (Holds : Job → Calling → Type 0)
+        → ((who : Actor) (job : Job) (calling : Calling) → InWork script.geometry (size_of script) (tries_of script) job who calling d
+        → 0 < call_left script.geometry (size_of script) (tries_of script) job calling.told → Holds job calling)
+        → (i : ℕ) → IfSome (slice_get works i) (λ work. IfSome (slice_get callings i) (λ calling. IfSome (slice_get work.jobs (length calling.ended)) (λ job. Holds job calling)))
+    of_calls Holds each i =
+        if_found (λ (work : Work). IfSome (slice_get callings i) (λ calling. IfSome (slice_get work.jobs (length calling.ended)) (λ job. Holds job calling))) (slice_get works i) (λ work is_work.
+        if_found (λ (calling : Calling). IfSome (slice_get work.jobs (length calling.ended)) (λ job. Holds job calling)) (slice_get callings i) (λ calling is_calling.
+        if_found (λ (job : Job). Holds job calling) (slice_get work.jobs (length calling.ended)) (λ job is_job.
+        let at : InWork script.geometry (size_of script) (tries_of script) job (who_of i) calling d × (0 < call_left script.geometry (size_of script) (tries_of script) job calling.told) =
+        in_work who_of works callings d group kept i work calling job is_work is_calling is_job in
+        each (who_of i) job calling at.0 at.1)))
+
+    group_bounds : (i : ℕ) → IfSome (slice_get works i) (λ work. IfSome (slice_get callings i) (KeepsBound script work))
+    group_bounds =
+        of_calls (λ job calling. calling.steps < step_bound script.geometry (size_of script) (tries_of script) job.note)
+        (λ who job calling at left.
+        let bound : call_left script.geometry (size_of script) (tries_of script) job calling.told + calling.steps ≤ step_bound script.geometry (size_of script) (tries_of script) job.note = at.bound in
+        omega (arith, bound, left))
+
+    group_pinned : (i : ℕ) → IfSome (slice_get works i) (λ work. IfSome (slice_get callings i) (KeepsPinnedBound script work))
+    group_pinned =
+        of_calls (λ job calling. calling.steps < pinned_bound script.geometry (tries_of script) job.note calling.told)
+        (λ who job calling at left. less_than_pinned script.geometry (size_of script) (tries_of script) job calling.told calling.steps at.bound left at.pinned)
 
   -- the runs of such a script are bounded
   pub bounded : RunsAreBounded script shortages
@@ -273,6 +289,8 @@ module _ (script : Script) (shortages : List Shortage) (can : CanRun script) whe
               repairer_count = state.keeps.repairer_count;
               clients = group_bounds actor.Client (client_work script) (run_core script shortages tokens).clients (run_core script shortages tokens).directory can.clients state.keeps.clients;
               repairers = group_bounds actor.Repairer (repairer_work script) (run_core script shortages tokens).repairers (run_core script shortages tokens).directory can.repairers state.keeps.repairers;
+              clients_pinned = group_pinned actor.Client (client_work script) (run_core script shortages tokens).clients (run_core script shortages tokens).directory can.clients state.keeps.clients;
+              repairers_pinned = group_pinned actor.Repairer (repairer_work script) (run_core script shortages tokens).repairers (run_core script shortages tokens).directory can.repairers state.keeps.repairers;
             };
         drained = λ tokens.
             let run : Run = run_tokens script tokens start in

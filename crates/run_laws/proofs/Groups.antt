@@ -155,7 +155,7 @@ module _ (script : Script) (who_of : ℕ → Actor) (works : List Work) where
       → CallKept script.geometry (size_of script) (tries_of script) who jobs calling before → CallKept script.geometry (size_of script) (tries_of script) who jobs calling after
   held_kept who [] calling before after same h = same ∙ h
   held_kept who (job ∷ later) calling before after same h =
-      record { fresh = h.fresh; bound = h.bound; stands = record { pass = same ∙ h.stands.pass; going = h.stands.going } }
+      record { fresh = h.fresh; bound = h.bound; pinned = h.pinned; stands = record { pass = same ∙ h.stands.pass; going = h.stands.going } }
 
   -- actors are told apart by their numbers, and have jobs that can be done
   pub record IsGroup : Type 0 where

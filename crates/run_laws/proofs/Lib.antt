@@ -74,6 +74,7 @@ pub mod ActAnswers
 pub mod ActKinds
 pub mod DrawsAhead
 pub mod PlaceMoves
+pub mod PinnedSteps
 pub mod ActorSteps
 pub mod Groups
 pub mod Runs

@@ -143,7 +143,12 @@ module _ (script : Script) (tried : 1 ≤ tries_of script) where
   new_kept who (job ∷ later) =
       let bound : call_left script.geometry (size_of script) (tries_of script) job [] ≤ step_bound script.geometry (size_of script) (tries_of script) job.note =
       (steps_fall script.geometry (size_of script) (tries_of script) job).first in
-      record { fresh = λ _. refl; bound = omega (arith, bound); stands = begins script.geometry (tries_of script) job who (first_core script).directory tried refl }
+      record {
+        fresh = λ _. refl;
+        bound = omega (arith, bound);
+        pinned = λ reads count e. absurd (none-some count e);
+        stands = begins script.geometry (tries_of script) job who (first_core script).directory tried refl;
+      }
 
   all_new : (who_of : ℕ → Actor) (works : List Work) (count : ℕ) → GroupKept script who_of works (replicate count fresh) (first_core script).directory
   all_new who_of works count i work calling is_work is_calling =

@@ -25,18 +25,20 @@ use Rattle.store_map.specs.declared.transcript.Transcript.{Transcript}
 use Rattle.hist_rules.specs.Calls.{number_of}
 use Rattle.hist_rules.specs.Named.{is_reply, answered_calls}
 use Rattle.store_core.specs.Act.{Act, Outcome}
-use Rattle.store_core.specs.Bounds.{step_bound, touched_count, read_count}
+use Rattle.store_core.specs.Bounds.{touched_count}
 use Rattle.store_core.specs.Core.{Core}
 use Rattle.store_core.specs.NextAct.{Job, job_of, rebuild_job, next_act}
 use Rattle.store_core.specs.Schedule.{run_core}
 use Rattle.store_core.specs.Shown.{shown}
+use Rattle.store_core.specs.Told.{Told}
 use Rattle.store_core.specs.Work.{Ended, Work, Calling, client_work, repairer_work}
 use Rattle.run_laws.specs.ToldInSteps.{act_after}
-use Rattle.run_laws.specs.DrainLaws.{KeepsBound, KeepBounds}
+use Rattle.run_laws.specs.DrainLaws.{pinned_count, pinned_bound, KeepsPinnedBound, KeepBounds}
 use Rattle.run_laws.proofs.ActAnswers.{IsGoing}
 use Rattle.run_laws.proofs.ActorSteps.{is_looking}
 use Rattle.run_laws.proofs.Drains.{drains_end}
 use Rattle.run_laws.proofs.Phases.{Phase, phase_of}
+use Rattle.run_laws.proofs.PinnedSteps.{few_pinned, bound_rises, less_most}
 use Rattle.run_laws.proofs.Scripts.{can_run}
 use Rattle.history_laws.proofs.AtWork.{client_at, repairer_at}
 use Rattle.history_laws.proofs.NamedCalls.{inside}
@@ -83,23 +85,37 @@ module _ (g : Shape) (most tries : ℕ) (tried : 1 ≤ tries) (who : Actor) (job
           absurd (not_first (next_act g tries job []) (is_looking job.note.kind g tries job tried) outcome (sym (ap (act_after g tries job) (h.later number high)) ∙ e))
 
 -- nor has it made all its steps
-module _ (script : Script) (who : Actor) (work : Work) (c : Calling) (trace : List Made) (steps : StepsThen trace who c) (bounded : KeepsBound script work c) where
-  enough_ended : (number : ℕ) (job : Job) → slice_get work.jobs number ≡ Some job → step_bound script.geometry (size_of script) (tries_of script) job.note ≤ count_of who number trace → number < length c.ended
+module _ (script : Script) (who : Actor) (work : Work) (c : Calling) (trace : List Made) (steps : StepsThen trace who c) (bounded : KeepsPinnedBound script work c)
+    (h : CauseThen script.geometry (size_of script) (tries_of script) trace who work.jobs c) where
+  -- the call in work pinned no more stripes than it was told
+  in_work_less : (job : Job) → slice_get work.jobs (length c.ended) ≡ Some job
+      → c.steps < pinned_bound script.geometry (tries_of script) job.note (told_to who (length c.ended) trace)
+  in_work_less job is =
+      let answers : List Told = told_to who (length c.ended) trace in
+      let so : ToldSo script.geometry (size_of script) (tries_of script) job answers c.told = h.in_work job is in
+      let below : c.steps < pinned_bound script.geometry (tries_of script) job.note c.told =
+      subst (λ (o : Option Job). IfSome o (λ j. c.steps < pinned_bound script.geometry (tries_of script) j.note c.told)) is bounded in
+      let few : pinned_count c.told ≤ pinned_count answers = subst (λ l. pinned_count l ≤ pinned_count answers) so.kept (few_pinned script.geometry job answers) in
+      let most : pinned_bound script.geometry (tries_of script) job.note c.told ≤ pinned_bound script.geometry (tries_of script) job.note answers =
+      bound_rises job.note.kind (chunk_count script.geometry) (tries_of script) (touched_count script.geometry job.note) (pinned_count c.told) (pinned_count answers) few in
+      less_most c.steps (pinned_bound script.geometry (tries_of script) job.note c.told) (pinned_bound script.geometry (tries_of script) job.note answers) below most
+
+  enough_ended : (number : ℕ) (job : Job) → slice_get work.jobs number ≡ Some job
+      → pinned_bound script.geometry (tries_of script) job.note (told_to who number trace) ≤ count_of who number trace → number < length c.ended
   enough_ended number job is_job enough = by (cases_order number (length c.ended))
     where
       by : (number ≡ length c.ended) ⊎ ((number < length c.ended) ⊎ (length c.ended < number)) → number < length c.ended
       by (inl same) =
-          let is : slice_get work.jobs (length c.ended) ≡ Some job = subst (λ n. slice_get work.jobs n ≡ Some job) same is_job in
-          let below : c.steps < step_bound script.geometry (size_of script) (tries_of script) job.note =
-          subst (λ (o : Option Job). IfSome o (λ j. c.steps < step_bound script.geometry (size_of script) (tries_of script) j.note)) is bounded in
+          let below : c.steps < pinned_bound script.geometry (tries_of script) job.note (told_to who (length c.ended) trace) =
+          in_work_less job (subst (λ n. slice_get work.jobs n ≡ Some job) same is_job) in
           let made : count_of who (length c.ended) trace ≡ c.steps = steps.in_work in
-          let all : step_bound script.geometry (size_of script) (tries_of script) job.note ≤ count_of who (length c.ended) trace =
-          subst (λ n. step_bound script.geometry (size_of script) (tries_of script) job.note ≤ count_of who n trace) same enough in
+          let all : pinned_bound script.geometry (tries_of script) job.note (told_to who (length c.ended) trace) ≤ count_of who (length c.ended) trace =
+          subst (λ n. pinned_bound script.geometry (tries_of script) job.note (told_to who n trace) ≤ count_of who n trace) same enough in
           absurd (omega (arith, below, made, all))
       by (inr (inl low)) = low
       by (inr (inr high)) =
-          let some : 1 ≤ step_bound script.geometry (size_of script) (tries_of script) job.note =
-          some_bound job.note.kind (chunk_count script.geometry) (tries_of script) (touched_count script.geometry job.note) (read_count job.note.kind script.geometry (size_of script) job.note) in
+          let some : 1 ≤ pinned_bound script.geometry (tries_of script) job.note (told_to who number trace) =
+          some_bound job.note.kind (chunk_count script.geometry) (tries_of script) (touched_count script.geometry job.note) (pinned_count (told_to who number trace)) in
           let none : count_of who number trace ≡ 0 = steps.later number high in
           absurd (omega (arith, some, none, enough))
 
@@ -178,12 +194,14 @@ module _ (script : Script) (core : Core) (known : EndKnown script core) (trace :
         let p : Place (client_work script) core.clients i number all.0 = client_place i number all.0 all.1 in
         subst (λ o. number < ended_of o) (sym p.is_calling)
         (enough_ended script (actor.Client i) p.work p.calling trace (steps.clients i p.calling p.is_calling)
-        (both_there (KeepsBound script) (slice_get (client_work script) i) (slice_get core.clients i) p.work p.calling (bounds.clients i) p.is_work p.is_calling) number all.0 p.is_job all.2)
+        (both_there (KeepsPinnedBound script) (slice_get (client_work script) i) (slice_get core.clients i) p.work p.calling (bounds.clients_pinned i) p.is_work p.is_calling)
+        (has.clients i p.calling p.is_calling p.work p.is_work) number all.0 p.is_job all.2)
     enough_below (name.Repairer i number) all =
         let p : Place (repairer_work script) core.repairers i number all.0 = repairer_place i number all.0 all.1 in
         subst (λ o. number < ended_of o) (sym p.is_calling)
         (enough_ended script (actor.Repairer i) p.work p.calling trace (steps.repairers i p.calling p.is_calling)
-        (both_there (KeepsBound script) (slice_get (repairer_work script) i) (slice_get core.repairers i) p.work p.calling (bounds.repairers i) p.is_work p.is_calling) number all.0 p.is_job all.2)
+        (both_there (KeepsPinnedBound script) (slice_get (repairer_work script) i) (slice_get core.repairers i) p.work p.calling (bounds.repairers_pinned i) p.is_work p.is_calling)
+        (has.repairers i p.calling p.is_calling p.work p.is_work) number all.0 p.is_job all.2)
 
   -- and a call that has ended is over
   pub below_over : (call : CallName) → number_of call < ended_count core call → IsOver script trace call

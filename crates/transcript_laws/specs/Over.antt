@@ -1,13 +1,13 @@
 -- When a call is over, by the steps of a run.
 use Rattle.std.specs.Prelude.{◌≡◌, ℕ, ◌≤◌, ◌&&◌, nat_eq, List, count_by, Some}
-use Rattle.store_map.specs.Limits.{size_of, tries_of}
+use Rattle.store_map.specs.Limits.{tries_of}
 use Rattle.store_map.specs.declared.script.Script.{Script}
 use Rattle.store_map.specs.declared.call_name.CallName.{CallName}
 use Rattle.store_core.specs.Act.{Act, Outcome}
-use Rattle.store_core.specs.Bounds.{step_bound}
 use Rattle.store_core.specs.Lookups.{same_actor}
 use Rattle.store_core.specs.NextAct.{Job}
 use Rattle.store_core.specs.Told.{Told}
+use Rattle.run_laws.specs.DrainLaws.{pinned_bound}
 use Rattle.run_laws.specs.ToldInSteps.{act_after}
 use Rattle.transcript_laws.specs.LineCauses.{told_to, caller_of, number_of, job_of_call}
 use Rattle.transcript_laws.specs.Trace.{Made}
@@ -25,7 +25,7 @@ IsOver script trace call =
 abbrev pub steps_made : CallName → List Made → ℕ
 steps_made call trace = count_by (λ (made : Made). same_actor (caller_of call) made.who && nat_eq (number_of call) made.number) trace
 
--- it made as many as such a call makes at most
+-- it made as many as such a call makes at most, a get or a read of as many stripes as it pinned
 abbrev pub MadeAllSteps : Script → List Made → CallName → Type 0
 MadeAllSteps script trace call =
-    (job : Job) × (job_of_call script call ≡ Some job) × (step_bound script.geometry (size_of script) (tries_of script) job.note ≤ steps_made call trace)
+    (job : Job) × (job_of_call script call ≡ Some job) × (pinned_bound script.geometry (tries_of script) job.note (answers_to call trace) ≤ steps_made call trace)

@@ -29,7 +29,8 @@ pub fn runs_tell_ends()
     ensures { RunsTellEnds }
 {}
 
-/// A call is over that has made all the steps that such a call makes at most, whatever was wanting of memory.
+/// A call is over that has made all the steps that such a call makes at most, whether or not allocations
+/// failed. A get's or a read's bound counts the stripes that it pinned.
 pub fn enough_steps_end_calls()
     ensures { EnoughStepsEndCalls }
 {}
