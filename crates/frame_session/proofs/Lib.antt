@@ -2,6 +2,7 @@ mod Asked
 mod Bounded
 mod Progress
 mod Going
+mod GoingHeard
 mod WordLaws
 mod Statuses
 mod Tops

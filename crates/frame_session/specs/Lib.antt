@@ -4,3 +4,5 @@ pub mod Session
 pub mod Fits
 pub mod Serving
 pub mod Written
+pub mod Heard
+pub mod Serves

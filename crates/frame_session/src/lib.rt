@@ -9,6 +9,6 @@ mod status;
 mod top;
 mod words;
 
-pub use program::run;
+pub use program::{run, serve};
 pub use status::SessionStatus;
 pub use top::frame_main;

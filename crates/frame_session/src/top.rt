@@ -1,11 +1,12 @@
 //! The top call: from words, a source and a sink to a status.
-ghost use Rattle.std.specs.Prelude.{◌≡◌, ◌⊎◌, ◌≤◌, map, string_bytes};
-ghost use Rattle.clay_bytes.specs.Stream.{Rises};
+ghost use Rattle.std.specs.Prelude.{◌≡◌, ◌⊎◌, ◌≤◌, List, ℕ, map, string_bytes};
+ghost use Rattle.clay_bytes.specs.Stream.{Rises, HandsOut};
 ghost use Rattle.clay_grid.specs.Limits.{IsGeometry};
 ghost use Rattle.session_rules.specs.Input.{input_of};
 ghost use Rattle.session_rules.specs.declared.ending.Ending.{Ending};
 ghost use Rattle.frame_session.specs.Status.{status_of};
 ghost use Rattle.frame_session.specs.Words.{AskNothing, IfAsked};
+ghost use Rattle.frame_session.specs.Heard.{IsSessionOf, IsGivenUpAt, IsWantingAt, IsCutAt};
 ghost use Rattle.frame_session.specs.Session.{WhereTold, IsSession, IsGivenUp, IsWanting, IsCutShort};
 
 use crate::SessionStatus;
@@ -31,6 +32,18 @@ fn serve_session<R: Threads + Sync, S: Source, K: Sink, C: Coder>(
 ) -> SessionStatus
     requires geometry { IsGeometry asked.geometry }
     requires max { asked.max ≤ 1048576 }
+    ensures session_heard { (ending : Ending) → result ≡ status_of ending → (got : List ℕ)
+        × HandsOut (S.given source.old) (S.left source.old) got (S.given source.new) (S.left source.new)
+        × IsSessionOf asked.geometry asked.max got (S.ended source.new) ending (K.accepted sink.old) (K.accepted sink.new) }
+    ensures given_up_heard { result ≡ SessionStatus.ReadFault → (got : List ℕ)
+        × HandsOut (S.given source.old) (S.left source.old) got (S.given source.new) (S.left source.new)
+        × IsGivenUpAt asked.geometry asked.max got (K.accepted sink.old) (K.accepted sink.new) }
+    ensures wanting_heard { result ≡ SessionStatus.OutOfMemory → (got : List ℕ)
+        × HandsOut (S.given source.old) (S.left source.old) got (S.given source.new) (S.left source.new)
+        × IsWantingAt asked.geometry asked.max got (K.accepted sink.old) (K.accepted sink.new) }
+    ensures cut_off_heard { result ≡ SessionStatus.WriteFault → (got : List ℕ)
+        × HandsOut (S.given source.old) (S.left source.old) got (S.given source.new) (S.left source.new)
+        × IsCutAt asked.geometry asked.max got (K.accepted sink.old) (K.accepted sink.new) }
     ensures session { (ending : Ending) → result ≡ status_of ending → WhereTold (S.left source.old) (λ input.
         IsSession asked.geometry asked.max input ending (S.left source.new) (K.written sink.old) (K.written sink.new)) }
     ensures given_up { result ≡ SessionStatus.ReadFault → WhereTold (S.left source.old) (λ input.
@@ -77,6 +90,28 @@ pub fn frame_main<R: Threads + Sync, S: Source, K: Sink, C: Coder>(
     // Words that are no session's, and no others, are refused.
     ensures usage { AskNothing (map string_bytes words.now) → (result ≡ SessionStatus.Usage) × (source.new ≡ source.old) × (sink.new ≡ sink.old) }
     ensures usage_only { result ≡ SessionStatus.Usage → AskNothing (map string_bytes words.now) }
+
+    // What the source handed out in this call and what the sink took in it are known of each source and sink, by their own answers.
+    // To the ending of each input that begins with what was handed out: the answers to all its frames were taken, in order.
+    ensures session_heard { IfAsked (map string_bytes words.now) (λ g max. (ending : Ending) → result ≡ status_of ending → (got : List ℕ)
+        × HandsOut (S.given source.old) (S.left source.old) got (S.given source.new) (S.left source.new)
+        × IsSessionOf g max got (S.ended source.new) ending (K.accepted sink.old) (K.accepted sink.new)) }
+
+    // A read failed, memory was wanting outside a request, or a write failed.
+    ensures given_up_heard { IfAsked (map string_bytes words.now) (λ g max. result ≡ SessionStatus.ReadFault → (got : List ℕ)
+        × HandsOut (S.given source.old) (S.left source.old) got (S.given source.new) (S.left source.new)
+        × IsGivenUpAt g max got (K.accepted sink.old) (K.accepted sink.new)) }
+    ensures wanting_heard { IfAsked (map string_bytes words.now) (λ g max. result ≡ SessionStatus.OutOfMemory → (got : List ℕ)
+        × HandsOut (S.given source.old) (S.left source.old) got (S.given source.new) (S.left source.new)
+        × IsWantingAt g max got (K.accepted sink.old) (K.accepted sink.new)) }
+    ensures cut_off_heard { IfAsked (map string_bytes words.now) (λ g max. result ≡ SessionStatus.WriteFault → (got : List ℕ)
+        × HandsOut (S.given source.old) (S.left source.old) got (S.given source.new) (S.left source.new)
+        × IsCutAt g max got (K.accepted sink.old) (K.accepted sink.new)) }
+
+    // Where no count rose the session comes to an ending, or memory was wanting outside a request.
+    ensures complete_heard { IfAsked (map string_bytes words.now) (λ g max.
+        (Rises (S.faults source.old) (S.faults source.new) → ⊥) → (Rises (K.faults sink.old) (K.faults sink.new) → ⊥) →
+        ((ending : Ending) × (result ≡ status_of ending)) ⊎ (result ≡ SessionStatus.OutOfMemory)) }
 
     // To the ending of its input: the answers to all frames that stand before it are written, in order, as frames, and what stands
     // behind what was read for it is left.
