@@ -1,12 +1,12 @@
 //! A coder that counts what it is asked for.
 use clay_grid::Geometry;
-use clay_lanes::LaneCoder;
 use clay_model::Coder;
+use clay_repair::PlainCoder;
 use std::alloc::{AllocError, Global};
 use std::sync::atomic::{AtomicU64, Ordering};
 use std::thread::Threads;
 
-/// Hands each call on to `LaneCoder`. It counts the encodes, and the rebuilds of chunk 0 of the stripe
+/// Hands each call on to `PlainCoder`. It counts the encodes, and the rebuilds of chunk 0 of the stripe
 /// 01 00 00 00 00 00 00 00 in the code of 2 and 2 chunks, from the parts of that stripe's repair layers.
 #[derive(Drop)]
 pub struct CountingCoder {
@@ -59,7 +59,7 @@ impl Coder for CountingCoder {
         stripe: &[u8],
     ) -> Result<Vec<Vec<u8>>, AllocError> {
         self.encodes.fetch_add(1, Ordering::SeqCst);
-        LaneCoder.encode(rt, alloc, g, stripe)
+        PlainCoder.encode(rt, alloc, g, stripe)
     }
 
     fn recover<R: Threads + Sync>(
@@ -69,7 +69,7 @@ impl Coder for CountingCoder {
         g: Geometry,
         have: &[Option<Vec<u8>>],
     ) -> Result<Vec<Vec<u8>>, AllocError> {
-        LaneCoder.recover(rt, alloc, g, have)
+        PlainCoder.recover(rt, alloc, g, have)
     }
 
     fn rebuild<R: Threads + Sync>(
@@ -83,6 +83,6 @@ impl Coder for CountingCoder {
         if are_parts_of_the_stripe(lost, parts) {
             self.rebuilds.fetch_add(1, Ordering::SeqCst);
         }
-        LaneCoder.rebuild(rt, alloc, g, lost, parts)
+        PlainCoder.rebuild(rt, alloc, g, lost, parts)
     }
 }

@@ -42,6 +42,19 @@ fn generated_script(rt: HostRuntime) -> Result<(), Fail> {
 }
 
 #[test]
+fn a_script_drawn_from_zero_begins_with_a_stat(rt: HostRuntime) -> Result<(), Fail> {
+    let Ran { status, written } = run(&rt, &["gen", "0", "1"], b"")?;
+    assert_eq!(rt; status, Status::Done);
+    for (at, line) in written.split(|byte| *byte == b'\n').enumerate() {
+        if at == 4 {
+            assert_eq!(rt; line, b"stat b".as_slice());
+            return Ok(());
+        }
+    }
+    Err(Fail::from("fewer than five lines"))
+}
+
+#[test]
 fn generated_script_that_cannot_be_written(rt: HostRuntime) -> Result<(), Fail> {
     let words = ["gen", "10007", "1"];
     assert!(rt; fails(&rt, &words, b"", &[], &[0], Status::WriteFault)?);

@@ -48,6 +48,28 @@ T 1 0 0 1
 T 2 0 0 1
 T 3 0 1 0
 end
+|a get after two losses decodes its bytes>
+clay 1
+code 2 2 1
+client
+put a hex:0100000000000000
+get a
+schedule
+c 0*11
+wipe 0
+wipe 1
+drain
+end
+>
+H 0 c0.0 ok
+H 1 c0.1 bytes hex:0100000000000000
+L a 8
+G c0.1 0 0 4 4
+T 0 0 0 1
+T 1 0 0 1
+T 2 4 1 0
+T 3 4 1 0
+end
 ";
 
 // Rebuilds of one chunk.
@@ -112,7 +134,7 @@ end
 
 #[test]
 fn reads_after_losses(rt: HostRuntime) -> Result<(), Fail> {
-    all_print(&rt, Status::Done, 2, READS)
+    all_print(&rt, Status::Done, 3, READS)
 }
 
 #[test]

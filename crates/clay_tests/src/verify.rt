@@ -1,7 +1,8 @@
 //! The command `verify`.
 use command_runs::Status;
+use command_runs::lines::unfolded;
 use command_runs::scripts::PUT_THEN_GET;
-use command_runs::tables::{Around, all_answer, all_answer_within};
+use command_runs::tables::{Around, all_answer, all_answer_within, answers};
 use std::test::Fail;
 
 const TAIL: &[u8] = b"G c0.1 4 4 0 0\nT 0 4 1 0\nT 1 4 1 0\nT 2 0 1 0\nT 3 0 1 0\nend\n";
@@ -25,6 +26,45 @@ fn verdicts(rt: HostRuntime) -> Result<(), Fail> {
     };
     all_answer_within(&rt, &["verify"], around, Status::Done, 1, LEGAL)?;
     all_answer_within(&rt, &["verify"], around, Status::NotLegal, 4, NOT_LEGAL)
+}
+
+// A get after three losses, and a transcript of it in which server 2 tells its loss of another epoch: the chunk was placed in epoch 0.
+const ANOTHER_EPOCH: &[u8] = b"\
+clay 1
+code 2 2 1
+client
+put a hex:0100000000000000
+get a
+schedule
+c 0*11
+wipe 0
+wipe 1
+wipe 2
+drain
+end
+H 0 c0.0 ok
+X c0.1 unavailable stripe 0 missing 0/0/1 1/0/1 2/1/1
+L a 8
+T 0 0 0 1
+T 1 0 0 1
+T 2 0 0 1
+T 3 0 1 0
+end
+";
+
+#[test]
+fn a_loss_of_another_epoch_is_no_cause(rt: HostRuntime) -> Result<(), Fail> {
+    let piped = unfolded(rt.alloc(), ANOTHER_EPOCH)?;
+    assert!(rt;
+        answers(
+            &rt,
+            &["verify"],
+            &piped,
+            Status::NotLegal,
+            b"cause c0.1 1 1\n"
+        )?
+    );
+    Ok(())
 }
 
 /// Texts behind the script that are no transcripts, with what is said of them.
