@@ -1,5 +1,5 @@
 /* A preloaded library that refuses one allocation of a program, the one whose number REFUSE_AT says, counted from 1. At the program's end
- * it writes to the file that REFUSE_LOG names how many were asked for. Built by bench/allocations. */
+ * it writes to the file that REFUSE_LOG names how many were asked for. Built by checks/allocations. */
 #define _GNU_SOURCE
 #include <dlfcn.h>
 #include <errno.h>
