@@ -3,3 +3,4 @@ pub mod Turning
 pub mod Draining
 pub mod Tracing
 pub mod Statuses
+pub mod ServesLemmas

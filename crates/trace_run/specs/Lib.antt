@@ -1,3 +1,4 @@
 pub mod Adds
 pub mod Traced
 pub mod Top
+pub mod Serves

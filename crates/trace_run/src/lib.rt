@@ -9,6 +9,6 @@ mod script_run;
 mod step;
 mod top;
 
-pub use program::run;
+pub use program::{run, serve};
 pub use script_run::{TracedRun, trace};
 pub use top::trace_main;
