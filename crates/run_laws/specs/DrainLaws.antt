@@ -25,11 +25,11 @@ abbrev pub pinned_count : List Told → ℕ
 pinned_count (Told.Pinned point length_now stripes ∷ told) = length stripes
 pinned_count _ = 0
 
--- the steps of a call at most, where a get or a read reads the stripes that it pinned and no others
+-- the steps of a call at most; of a get or a read by the stripes that it pinned
 abbrev pub pinned_bound : Shape → ℕ → Note → List Told → ℕ
 pinned_bound g tries note told = bound_by note.kind (chunk_count g) tries (touched_count g note) (pinned_count told)
 
--- so has it made fewer than that
+-- the call that an actor has in work has made fewer than those
 abbrev pub KeepsPinnedBound : Script → Work → Calling → Type 0
 KeepsPinnedBound script work calling =
     IfSome (slice_get work.jobs (length calling.ended)) (λ job. calling.steps < pinned_bound script.geometry (tries_of script) job.note calling.told)
