@@ -1,14 +1,13 @@
 -- Objects stay within a session's limits, and answers fit into frames.
-use Rattle.std.proofs.Common.{◌≡◌, ◌⊎◌, ℕ, zero, suc, ◌+◌, ◌*◌, ◌^◌, ◌<◌, ◌≤◌, get_or, nat_le, nat_lt, not, Bool, true, false, ◌&&◌, List, [], ◌∷◌, ◌++◌, length, take, drop, map, flat_map, filter, find, fold, zip, replicate, bytes_eq, Option, None, Some, option_map, IsTrue, refl, sym, ap, subst, ◌∙◌, inl, inr, arith, if◌then◌else◌}
+use Rattle.std.proofs.Common.{◌≡◌, ℕ, zero, suc, ◌+◌, ◌*◌, ◌≤◌, get_or, nat_le, nat_lt, Bool, true, false, ◌&&◌, List, [], ◌∷◌, ◌++◌, length, take, drop, map, flat_map, fold, zip, replicate, bytes_eq, Option, None, Some, option_map, IsTrue, refl, sym, ap, subst, ◌∙◌, inl, inr, arith, if◌then◌else◌}
 use Rattle.std.specs.Prelude.{⊤}
 use Rattle.std.specs.List.{AllByRecursion, enumerate_from, list_all}
 use Rattle.std.proofs.lemmas.Bool.{le-leb, leb-true, ltb-false, and_parts}
-use Rattle.std.proofs.lemmas.Option.{same_Some, none-some}
 use Rattle.std.proofs.lemmas.List.{length-append, length-take, length-drop, length-map, length-replicate}
 use Rattle.byteorder.specs.Endian.{big_bytes}
 use Rattle.clay_grid.specs.Shape.{Shape, chunk_count}
 use Rattle.clay_grid.specs.Limits.{IsGeometry}
-use Rattle.store_map.specs.Name.{IsName, is_name, is_name_byte}
+use Rattle.store_map.specs.Name.{IsName, is_name_byte}
 use Rattle.store_map.specs.Content.{content_bytes, content_length, overwrite}
 use Rattle.store_map.specs.PlainMap.{Objects, bytes_of, put, delete, put_sized, write_at, read_at, get_all, length_of, delete_found, apply}
 use Rattle.store_map.specs.declared.call.Call.{Call}
@@ -24,17 +23,16 @@ use Rattle.session_rules.specs.declared.answer.Missing.{Missing}
 use Rattle.session_rules.specs.declared.answer.LostChunk.{LostChunk}
 use Rattle.session_rules.specs.Replies.{missing_bytes, lost_bytes, most_listed, answer_bytes}
 use Rattle.session_rules.specs.Input.{is_frame_length, most_frame}
-use Rattle.session_rules.specs.Gathered.{Range, holds, lacking, is_beyond_repair, asked_first, named, is_unavailable, unavailable, ranges_between}
-use Rattle.session_rules.specs.Calls.{name_in, gathered_by, is_refusal, unless_unavailable, serve_by}
+use Rattle.session_rules.specs.Gathered.{Range, holds, lacking, is_beyond_repair, asked_first, named, unavailable}
+use Rattle.session_rules.specs.Calls.{name_in, is_refusal, unless_unavailable, serve_by}
 use Rattle.session_rules.specs.Placing.{numbers_after, after_call}
-use Rattle.session_rules.specs.Rebuilds.{place_anew, rebuild_one, rebuild}
-use Rattle.session_rules.specs.Heals.{servers, lost_chunks, to_heal, takes_of, number_of, heal_one, heal_all, numbers_last, heal}
+use Rattle.session_rules.specs.Rebuilds.{place_anew, rebuild}
+use Rattle.session_rules.specs.Heals.{lost_chunks, to_heal, takes_of, number_of, heal_one, heal_all, numbers_last, heal}
 use Rattle.session_rules.specs.Snapshots.{most_objects, snap, reply_unless, snap_read, snap_drop}
 use Rattle.session_rules.specs.Serve.{serve}
-use Rattle.session_rules.specs.Shortages.{IsCutHeal, Leaves, IsServed}
+use Rattle.session_rules.specs.Shortages.{Leaves, IsServed}
 use Rattle.session_rules.specs.Requests.{request_of}
 use Rattle.session_rules.specs.Session.{IsAnswered, AreAnswered}
-use Rattle.frame_bytes.specs.Writing.{IsWritable}
 use Rattle.frame_session.specs.Fits.{AreShort, IsShortSnapshot, AreNamed, IsBounded, IsFitting, AnswersFit}
 use Rattle.frame_session.proofs.Asked.{IsSound, request_sound}
 
@@ -445,11 +443,11 @@ module _ (g : Shape) (max : ℕ) (geometry : IsGeometry g) (most : max ≤ 10485
 
   leaves_bounded : (request : Request) (s after : State) → Leaves g request s after → IsBounded max s → IsBounded max after
   leaves_bounded (Request.OfMap call) s after same bounded = subst (IsBounded max) (sym same) bounded
-  leaves_bounded (Request.Lose server) s after same bounded = subst (IsBounded max) (sym same) bounded
+  leaves_bounded (Request.Lose server) s after none bounded = absurd none
   leaves_bounded (Request.Rebuild name stripe server) s after same bounded = subst (IsBounded max) (sym same) bounded
   leaves_bounded Request.Snap s after same bounded = subst (IsBounded max) (sym same) bounded
   leaves_bounded (Request.SnapRead name offset count) s after same bounded = subst (IsBounded max) (sym same) bounded
-  leaves_bounded Request.SnapDrop s after same bounded = subst (IsBounded max) (sym same) bounded
+  leaves_bounded Request.SnapDrop s after none bounded = absurd none
   leaves_bounded Request.Scrub s after same bounded = subst (IsBounded max) (sym same) bounded
   leaves_bounded Request.Heal s after cut bounded =
       let healed : Heals (heal_all g (take cut.made (to_heal g s)) s) = heal_all_keeps (take cut.made (to_heal g s)) s bounded in

@@ -1,5 +1,5 @@
 -- A store that serves a session, and how far the session has come.
-use Rattle.std.proofs.Common.{◌≡◌, ℕ, ◌+◌, ◌-◌, ◌^◌, ◌<◌, ◌≤◌, List, length, Option, None, Some, Result, Ok, Err, IsTrue, OnOk, OnErr, refl, sym, ap, subst, ◌∙◌, inr, arith}
+use Rattle.std.proofs.Common.{◌≡◌, ℕ, ◌+◌, ◌-◌, ◌≤◌, List, length, Option, None, Some, Result, Ok, Err, OnOk, OnErr, refl, sym, ap, subst, ◌∙◌, inr, arith}
 use Rattle.clay_bytes.specs.Stream.{Gains, IsPrefixWritten}
 use Rattle.clay_grid.specs.Shape.{Shape, chunk_count}
 use Rattle.clay_grid.specs.Limits.{IsGeometry}
@@ -11,11 +11,10 @@ use Rattle.session_rules.specs.Input.{most_input, framed}
 use Rattle.session_rules.specs.Requests.{request_of}
 use Rattle.session_rules.specs.Replies.{answer_bytes}
 use Rattle.session_rules.specs.Session.{IsAnswered}
-use Rattle.session_rules.specs.Shortages.{IsServed as IsServedAs, Leaves}
-use Rattle.session_rules.specs.Heals.{to_heal, heal_all}
+use Rattle.session_rules.specs.Shortages.{Leaves}
 use Rattle.frame_bytes.specs.declared.reading.Next.{Next}
-use Rattle.frame_bytes.specs.Next.{IsNext, IsServed, StopsWithin, StopsAtLength}
-use Rattle.frame_bytes.specs.Requests.{IsNamed}
+use Rattle.frame_bytes.specs.Next.{IsNext, StopsWithin, StopsAtLength}
+use Rattle.frame_bytes.specs.Requests.{HasName, IsNamed}
 use Rattle.frame_bytes.specs.Writing.{IsWritable}
 use Rattle.session_store.specs.Stored.{StoreOf}
 use Rattle.session_store.specs.Standing.{StandsAt}
@@ -27,21 +26,12 @@ use Rattle.frame_session.proofs.Bounded.{Keeps, answered_keeps, first_bounded}
 use Rattle.frame_session.proofs.Progress.{HasServed, nothing_served, next_served, ended, stopped, stopped_at_length, cut}
 
 -- ---- the answer to a frame
-leaves_same : (g : Shape) (request : Request) (s : State) → Leaves g request s s
-leaves_same g (Request.OfMap call) s = refl
-leaves_same g (Request.Lose server) s = refl
-leaves_same g (Request.Rebuild name stripe server) s = refl
-leaves_same g Request.Snap s = refl
-leaves_same g (Request.SnapRead name offset count) s = refl
-leaves_same g Request.SnapDrop s = refl
-leaves_same g Request.Scrub s = refl
-leaves_same g Request.Heal s = record {
-  made = 0;
-  some = omega arith;
-  state = refl;
-  used = (omega arith, omega arith, omega arith);
-  lasts = λ less. absurd (omega (arith, less));
-}
+-- where memory was wanting for a request's name nothing changed
+leaves_same : (g : Shape) (request : Request) (s : State) → HasName request → Leaves g request s s
+leaves_same g (Request.OfMap call) s named = refl
+leaves_same g (Request.Rebuild name stripe server) s named = refl
+leaves_same g (Request.SnapRead name offset count) s named = refl
+leaves_same g request s named = absurd named
 
 answered_as : (g : Shape) (max : ℕ) (found is : Option Request) (s : State) (served : State × Answer) → found ≡ is → IsAnswered g max is s served →
     IsAnswered g max found s served
@@ -69,14 +59,14 @@ none_answered frame store is before stands = record {
   stands = stands;
 }
 
--- memory was wanting for the request
-pub wanting_answered : (frame : List ℕ) (request : Request) (store : StoreOf) → request_of (chunk_count store.geometry) frame ≡ Some request →
+-- memory was wanting for the request's name
+pub wanting_answered : (frame : List ℕ) (request : Request) (store : StoreOf) → request_of (chunk_count store.geometry) frame ≡ Some request → HasName request →
     AnswersAll frame store Answer.NoMemory store
-wanting_answered frame request store is before stands = record {
+wanting_answered frame request store is named before stands = record {
   after = before;
   answered =
       answered_as store.geometry store.max (request_of (chunk_count store.geometry) frame) (Some request) before (before, Answer.NoMemory) is
-      (inr (refl, leaves_same store.geometry request before));
+      (inr (refl, leaves_same store.geometry request before named));
   stands = stands;
 }
 
@@ -221,4 +211,4 @@ any_wanting frame servers store named same = by (request_of servers frame) refl 
   where
     by : (found : Option Request) → request_of servers frame ≡ found → IsNamed found → AnswersAll frame store Answer.NoMemory store
     by None is none = absurd none
-    by (Some request) is named = wanting_answered frame request store (ap (λ n. request_of n frame) (sym same) ∙ is)
+    by (Some request) is named = wanting_answered frame request store (ap (λ n. request_of n frame) (sym same) ∙ is) named

@@ -1,5 +1,5 @@
 -- How far a session has come in its input.
-use Rattle.std.proofs.Common.{◌≡◌, ◌⊎◌, ℕ, zero, suc, ◌+◌, ◌-◌, ◌<◌, ◌≤◌, nat_lt, Bool, true, false, List, [], ◌∷◌, ◌++◌, length, take, drop, flat_map, Option, None, Some, Result, Ok, Err, IsTrue, OnOk, OnErr, refl, sym, ap, subst, ◌∙◌, append_assoc, append-nil, inl, inr, arith, if◌then◌else◌}
+use Rattle.std.proofs.Common.{◌≡◌, ℕ, ◌+◌, ◌-◌, ◌≤◌, nat_lt, Bool, true, false, List, [], ◌∷◌, ◌++◌, length, take, drop, flat_map, Option, None, Some, refl, sym, ap, subst, ◌∙◌, append_assoc, append-nil, inl, inr, arith, if◌then◌else◌}
 use Rattle.std.proofs.Math.Seq.{drop-append-add}
 use Rattle.std.proofs.lemmas.List.{length-append, length-take-le, take-append-drop, drop_at}
 use Rattle.std.proofs.lemmas.Grind.{flat_map-append}
@@ -18,7 +18,7 @@ use Rattle.frame_bytes.specs.declared.reading.Next.{Next}
 use Rattle.frame_bytes.specs.Next.{next_of, read_to_end, IsNext, IsPart, StopsWithin, StopsAtLength}
 use Rattle.frame_bytes.specs.Inputs.{rest_of, from_next, part_ending}
 use Rattle.frame_bytes.proofs.InputLemmas.{inputs_are_read}
-use Rattle.frame_session.specs.Session.{read_to, AreServed, IsSession, IsWithin, IsGivenUp, IsAtLength, IsWanting, IsCutShort}
+use Rattle.frame_session.specs.Session.{read_to, AreServed, IsSession, IsWithin, IsGivenUp, IsWanting, IsCutShort}
 
 -- whole frames were read, and so many bytes more are served: whatever follows, they stand first
 pub record HasRead (input : List ℕ) (room : ℕ) (left : Option (List ℕ)) (frames : List (List ℕ)) : Type 0 where

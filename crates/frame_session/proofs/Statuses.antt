@@ -1,5 +1,5 @@
 -- Which status stands for what.
-use Rattle.std.proofs.Common.{◌≡◌, Bool, true, false, refl, sym, ap, subst, ◌∙◌}
+use Rattle.std.proofs.Common.{◌≡◌, Bool, true, false, refl, sym, ap, ◌∙◌}
 use Rattle.std.proofs.lemmas.Bool.{false≢true}
 use Rattle.session_rules.specs.declared.ending.Ending.{Ending}
 use Rattle.frame_bytes.specs.declared.fault.FrameFault.{FrameFault}

@@ -1,5 +1,5 @@
 -- What a whole call owes, of what its session owes.
-use Rattle.std.proofs.Common.{◌≡◌, ◌⊎◌, ℕ, List, Option, Some, refl, sym, ap, subst, ◌∙◌, inl, inr}
+use Rattle.std.proofs.Common.{◌≡◌, ◌⊎◌, ℕ, List, Option, refl, sym, ap, subst, inl, inr}
 use Rattle.clay_grid.specs.Shape.{Shape}
 use Rattle.session_rules.specs.declared.ending.Ending.{Ending}
 use Rattle.session_rules.specs.Input.{input_of}

@@ -1,8 +1,8 @@
 -- Words that ask for no session, or for one.
-use Rattle.std.proofs.Common.{◌≡◌, ℕ, ◌<◌, ◌≤◌, ◌^◌, List, [], ◌∷◌, get_or, length, map, Option, decimal, refl, sym, ap, subst, ◌∙◌, arith}
+use Rattle.std.proofs.Common.{◌≡◌, ℕ, ◌<◌, ◌≤◌, List, [], ◌∷◌, get_or, length, map, Option, decimal, sym, ap, subst, ◌∙◌, arith}
 use Rattle.std.proofs.lemmas.Fmt.{decimal_injective}
 use Rattle.clay_grid.specs.Shape.{Shape, shape_of}
-use Rattle.clay_grid.specs.Limits.{IsWithinLimits, IsGeometry}
+use Rattle.clay_grid.specs.Limits.{IsWithinLimits}
 use Rattle.clay_grid.proofs.LimitLaws.{IsGeometry-limits}
 use Rattle.frame_session.specs.declared.words.Asked.{Asked}
 use Rattle.frame_session.specs.Words.{AreWords, AskNothing, IsAskedBy}
