@@ -188,7 +188,7 @@ places_more layers places i hi inside apart before =
     }
 
 -- the entry of a chunk's node, and of a virtual node
-entry_of : (a : AloofShape) (c : ℕ) (o : Option ℕ) → IsEntry a (node_of a c) o → o ≡ Some c
+pub entry_of : (a : AloofShape) (c : ℕ) (o : Option ℕ) → IsEntry a (node_of a c) o → o ≡ Some c
 entry_of a c None between =
     absurd (true≢false (sym (middle_node (virtual_count (grid_of a)) a.data_count (node_of a c) between.0 between.1) ∙ (node_real a c (node_of a c) refl).real))
 entry_of a c (Some d) is = ap Some (sym (node_real a d (node_of a c) is.1).chunk ∙ (node_real a c (node_of a c) refl).chunk)
@@ -203,7 +203,7 @@ entries_more a chunks o n long each new i h =
           subst (IsEntry a i) (sym (get_or_append_left chunks (o ∷ []) None i (subst (λ l. i < l) (sym long) below))) (each i below)
     ]
 
-no_entry : (a : AloofShape) (i : ℕ) (o : Option ℕ) → is_virtual_node a i ≡ true → IsEntry a i o → o ≡ None
+pub no_entry : (a : AloofShape) (i : ℕ) (o : Option ℕ) → is_virtual_node a i ≡ true → IsEntry a i o → o ≡ None
 no_entry a i None virtual is = refl
 no_entry a i (Some c) virtual is = absurd (true≢false (sym virtual ∙ (node_real a c i is.1).real))
 

@@ -20,3 +20,4 @@ pub mod Worked
 pub mod Faults
 pub mod KnownBytes
 pub mod Tables
+pub mod Recovering

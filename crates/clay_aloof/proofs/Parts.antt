@@ -160,7 +160,7 @@ known_value a lost have known word aloof put fits i n b hi hn given there hb =
           ∙ sym (coupled_real a word c i n b rows hn (record { real = real; chunk = refl }))
     ]
 
-fewer_sums : (q t m k : ℕ) (c : ℕ → List ℕ → ℕ) → k ≤ m → HasZeroSums q t m c → HasZeroSums q t k c
+pub fewer_sums : (q t m k : ℕ) (c : ℕ → List ℕ → ℕ) → k ≤ m → HasZeroSums q t m c → HasZeroSums q t k c
 fewer_sums q t m k c few sums z layer j hj = sums z layer j (omega arith)
 
 pub word_fits : (a : AloofShape) (lost : ℕ) (have : List (Option (Vec ℕ Global))) (plan : Plan) (known : List ℕ) (word : List (List ℕ)) → IsRepairPlan a lost have plan → ArePut a lost have (all_chunks a) known

@@ -5,7 +5,7 @@ use Rattle.std.specs.declared.alloc.Global.{Global}
 use Rattle.clay_grid.specs.Shape.{Shape, node_count, layer_count, chunk_length}
 use Rattle.clay_aloof.specs.declared.known.Known.{Known}
 use Rattle.clay_aloof.specs.declared.known.Source.{Source}
-use Rattle.clay_aloof.specs.declared.known.Source.TheVariants.{Stripe, Parts}
+use Rattle.clay_aloof.specs.declared.known.Source.TheVariants.{Whole, Parts}
 
 -- byte b of the subchunk at a place of a chunk's bytes
 abbrev pub part_byte : ℕ → Option (Vec ℕ Global) → ℕ → ℕ → ℕ
@@ -13,7 +13,7 @@ part_byte width None place b = 0
 part_byte width (Some v) place b = get_or v.items (place * width + b) 0
 
 abbrev pub source_byte : Shape → Source → ℕ → ℕ → ℕ → ℕ
-source_byte g (Stripe stripe) c place b = get_or stripe.now (c * chunk_length g + (place * g.width + b)) 0
+source_byte g (Whole bytes) c place b = get_or bytes.now (c * chunk_length g + (place * g.width + b)) 0
 source_byte g (Parts parts) c place b = part_byte g.width (get_or parts.now c None) place b
 
 abbrev pub entry_byte : Shape → Known → Option ℕ → ℕ → ℕ → ℕ
@@ -34,7 +34,7 @@ node_bytes g known = map (byte_at g known) (range_with_len 0 (node_count g * chu
 
 -- the subchunk at a place of chunk c is there, where the chunk is
 abbrev pub HasRoom : Shape → Source → ℕ → ℕ → Type 0
-HasRoom g (Stripe stripe) c place = c * chunk_length g + (place * g.width + g.width) ≤ length stripe.now
+HasRoom g (Whole bytes) c place = c * chunk_length g + (place * g.width + g.width) ≤ length bytes.now
 HasRoom g (Parts parts) c place = (c < length parts.now) × IfSome (get_or parts.now c None) (λ v. place * g.width + g.width ≤ length v.items)
 
 pub record IsKnown (g : Shape) (known : Known) : Type 0 where

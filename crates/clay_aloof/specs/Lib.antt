@@ -10,3 +10,4 @@ pub mod Rebuilt
 pub mod Worked
 pub mod Known
 pub mod Partners
+pub mod Recovered

@@ -8,8 +8,8 @@ use clay_grid::Geometry;
 /// Where chunks stand of which something is known.
 #[derive(Clone, Copy)]
 pub enum Source<'a> {
-    /// A stripe: whole data chunks, one behind another.
-    Stripe(&'a [u8]),
+    /// Whole chunks, one behind another: the data chunks, or all.
+    Whole(&'a [u8]),
     /// Of each chunk that is there the subchunks of some layers.
     Parts(&'a [Option<Vec<u8>>]),
 }
@@ -41,9 +41,9 @@ pub fn piece<'a>(g: Geometry, known: &'a Known<'a>, node: u32, z: u32) -> &'a [u
         return &known.zeros;
     };
     match known.source {
-        Source::Stripe(stripe) => {
+        Source::Whole(bytes) => {
             let start = chunk as usize * g.chunk_len() as usize + at;
-            &stripe[start..start + w]
+            &bytes[start..start + w]
         }
         Source::Parts(parts) => match &parts[chunk as usize] {
             Some(bytes) => &bytes[at..at + w],

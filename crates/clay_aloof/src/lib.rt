@@ -10,6 +10,7 @@ mod laws;
 mod layers;
 mod lost;
 mod partners;
+mod recovery;
 
 pub use chunks::{encode, parity_into};
 pub use fault::BadAloof;
@@ -19,3 +20,4 @@ pub use laws::{
     worked_codeword,
 };
 pub use lost::{aloof_layers, helpers_fit, rebuild, rebuild_into};
+pub use recovery::recover_into;

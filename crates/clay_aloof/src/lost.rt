@@ -102,8 +102,8 @@ fn column_is_there(g: AloofGeometry, lost: u32, parts: &[Option<Vec<u8>>]) -> bo
     true
 }
 
-// The chunk of a node, or `None` for a virtual node.
-fn chunk_of(g: AloofGeometry, node: u32) -> Option<u32>
+/// The chunk of a node, or `None` for a virtual node.
+pub fn chunk_of(g: AloofGeometry, node: u32) -> Option<u32>
     requires { node < node_count (grid_of g) }
     ensures { MatchOption result (IsBetween g node) (λ c. (c < all_chunks g) × (node_of g c ≡ node)) }
 {
@@ -218,8 +218,8 @@ fn repair_plan(
     })
 }
 
-// For each node the chunk that stands for it.
-fn chunks_of_nodes(alloc: Global, g: AloofGeometry) -> Result<Vec<Option<u32>>, AllocError>
+/// For each node the chunk that stands for it.
+pub fn chunks_of_nodes(alloc: Global, g: AloofGeometry) -> Result<Vec<Option<u32>>, AllocError>
     ensures len { IfOk result (λ v. length v.items ≡ node_count (grid_of g)) }
     ensures value { IfOk result (λ v. (i : ℕ) → i < node_count (grid_of g) → IsEntry g i (slice_index_or v.items i None)) }
 {

@@ -22,11 +22,11 @@ slice_bounds-result-end c =
     let there : c.args.z < length known.places.items = subst (λ n. c.args.z < n) (sym c.requires.known.layers) c.requires.layer in
     let entry : get_or known.chunks.items c.args.node None ≡ Some chunk = sym (get_or_read known.chunks.items c.args.node c.index-2.result.now inside c.index-2.ensures None) ∙ c.in-Some.is in
     let place : c.index.result.now ≡ get_or known.places.items c.args.z 0 = get_or_read known.places.items c.args.z c.index.result.now there c.index.ensures 0 in
-    let room : chunk * chunk_length g + (get_or known.places.items c.args.z 0 * g.width + g.width) ≤ length c.in-Stripe.stripe.now =
-    subst (λ s. HasRoom g s chunk (get_or known.places.items c.args.z 0)) c.in-Stripe.is (c.requires.known.room c.args.node c.args.z chunk c.requires.node c.requires.layer entry) in
+    let room : chunk * chunk_length g + (get_or known.places.items c.args.z 0 * g.width + g.width) ≤ length c.in-Whole.bytes.now =
+    subst (λ s. HasRoom g s chunk (get_or known.places.items c.args.z 0)) c.in-Whole.is (c.requires.known.room c.args.node c.args.z chunk c.requires.node c.requires.layer entry) in
     let same : chunk * c.chunk_len.result + c.index.result.now * c.w-w.result + c.w-w.result ≡ chunk * chunk_length g + get_or known.places.items c.args.z 0 * g.width + g.width =
     λ k. chunk * c.chunk_len.ensures.value k + place k * c.w-w.ensures.value k + c.w-w.ensures.value k in
-    let ends : chunk * c.chunk_len.result + c.index.result.now * c.w-w.result + c.w-w.result ≤ length c.in-Stripe.stripe.now = omega (arith, same, room) in
+    let ends : chunk * c.chunk_len.result + c.index.result.now * c.w-w.result + c.w-w.result ≤ length c.in-Whole.bytes.now = omega (arith, same, room) in
     ends
 
 pub bounds-parts-chunk : goal.bounds-parts-chunk
@@ -58,8 +58,8 @@ slice_bounds-result-end-in-Some-parts c =
     subst (λ l. c.index.result.now * c.w-w.result + c.w-w.result ≤ length l) (sym c.deref-in-Some-parts.ensures.value) (omega (arith, same, fits)) in
     ends
 
-pub returns-in-Stripe-clause-bytes : goal.returns-in-Stripe-clause-bytes
-returns-in-Stripe-clause-bytes c =
+pub returns-in-Whole-clause-bytes : goal.returns-in-Whole-clause-bytes
+returns-in-Whole-clause-bytes c =
     let g = c.args.g in
     let known = c.args.known.now in
     let chunk : ℕ = c.in-Some.chunk in
@@ -69,8 +69,8 @@ returns-in-Stripe-clause-bytes c =
     let place : c.index.result.now ≡ get_or known.places.items c.args.z 0 = get_or_read known.places.items c.args.z c.index.result.now there c.index.ensures 0 in
     let start : ℕ = chunk * c.chunk_len.result + c.index.result.now * c.w-w.result in
     let width : start + c.w-w.result - start ≡ g.width = omega (arith, c.w-w.ensures.value) in
-    stripe_piece g known c.args.node c.args.z c.requires.node c.requires.layer chunk start (start + c.w-w.result - start) c.in-Stripe.stripe.now entry
-    (λ p b. ap (λ s. source_byte g s chunk p b) c.in-Stripe.is)
+    stripe_piece g known c.args.node c.args.z c.requires.node c.requires.layer chunk start (start + c.w-w.result - start) c.in-Whole.bytes.now entry
+    (λ p b. ap (λ s. source_byte g s chunk p b) c.in-Whole.is)
     (λ k. chunk * c.chunk_len.ensures.value k + place k * c.w-w.ensures.value k) width
 
 pub returns-in-Some-parts-clause-bytes : goal.returns-in-Some-parts-clause-bytes
