@@ -149,8 +149,46 @@ static void mark(uint64_t *state, const struct clay_numbers *g, uint32_t k, uint
     }
 }
 
-/* A stripe's parity chunks of a code with fewer helpers, which are those of clay_parity where all others help; then one chunk rebuilt, by
- * helpers and with lengths that may be wrong. */
+/* Up to m chunks, or more, recovered with lengths that may be wrong, as clay_recover does it where all others help. Where just m are
+ * missing, any bytes of the others are those of a codeword. */
+static void recovered(uint64_t *state, const struct clay_numbers *g, uint32_t k, uint32_t m, uint32_t d, uint32_t w, const uint8_t *word) {
+    size_t len = g->chunk_len, all = g->chunks * len, given = beside(state, all), flags = beside(state, g->chunks);
+    uint8_t present[MOST], *have = made(given), *whole = made(all), *before = made(given);
+    memcpy(whole, word, all);
+    uint32_t lost = 0;
+    for (uint32_t c = 0; c < g->chunks; c++) {
+        present[c] = drawn(state) % 4 ? 1 + drawn(state) % 255 : 0;
+        lost += !present[c];
+        if (!present[c])
+            memset(whole + c * len, 0xa5, len);
+    }
+    memset(have, 0, given);
+    memcpy(have, whole, given < all ? given : all);
+    memcpy(before, have, given);
+    uint32_t status = clay_recover_with_helpers(k, m, d, w, present, flags > MOST ? 0 : flags, have, given);
+    int is_right = flags == g->chunks && given == all;
+    hold(status == (!is_right ? CLAY_BAD_LENGTH : lost > m ? CLAY_TOO_FEW : CLAY_DONE), "clay_recover_with_helpers", k, m, d, status);
+    hold(memcmp(have, status == CLAY_DONE ? word : before, given) == 0, "what clay_recover_with_helpers wrote", k, m, d, status);
+    if (d == k + m - 1 && lost <= m) {
+        hold(clay_recover(k, m, w, present, g->chunks, whole, all) == CLAY_DONE, "clay_recover", k, m, w, 0);
+        hold(status != CLAY_DONE || memcmp(have, whole, all) == 0, "chunks with all others", k, m, d, status);
+    }
+    if (lost == m) {
+        uint8_t *parity = made(m * len);
+        for (size_t i = 0; i < all; i++)
+            whole[i] = (uint8_t)drawn(state);
+        hold(clay_recover_with_helpers(k, m, d, w, present, g->chunks, whole, all) == CLAY_DONE, "clay_recover_with_helpers", k, m, d, 0);
+        hold(clay_parity_with_helpers(k, m, d, w, whole, k * len, parity, m * len) == CLAY_DONE, "clay_parity_with_helpers", k, m, d, 0);
+        hold(memcmp(parity, whole + k * len, m * len) == 0, "chunks of any others", k, m, d, 0);
+        free(parity);
+    }
+    free(before);
+    free(whole);
+    free(have);
+}
+
+/* A stripe's parity chunks of a code with fewer helpers, which are those of clay_parity where all others help; then some chunks recovered,
+ * and one rebuilt, by helpers and with lengths that may be wrong. */
 static void fewer(uint64_t *state) {
     uint32_t at = drawn(state) % (sizeof CODES / sizeof *CODES), k = CODES[at].k, m = CODES[at].m, w = CODES[at].w;
     uint32_t d = k + drawn(state) % (m + 1);
@@ -183,6 +221,7 @@ static void fewer(uint64_t *state) {
         hold(memcmp(out, word + g.stripe_len, m * len) == 0, "parity chunks with all others", k, m, d, 0);
     }
     free(out);
+    recovered(state, &g, k, m, d, w, word);
 
     uint32_t gone = drawn(state) % (g.chunks + 1), read = g.layers / g.rows, *layers = made(read * sizeof *layers);
     size_t room = beside(state, read);

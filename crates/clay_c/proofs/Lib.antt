@@ -2,3 +2,4 @@ pub mod Laying
 pub mod Taking
 pub mod Recovering
 pub mod Marking
+pub mod Missing

@@ -2,3 +2,4 @@ pub mod Status
 pub mod Pieces
 pub mod Calls
 pub mod Helpers
+pub mod Missing

@@ -1,14 +1,16 @@
-//! Parity chunks and a lost chunk of a code with fewer helpers, written to a caller's bytes.
-ghost use Rattle.std.specs.Prelude.{◌≡◌, ◌*◌, ◌<◌, ◌≤◌, length, IfOk, OnOk, OnErr};
+//! Parity chunks, missing chunks and a lost chunk of a code with fewer helpers, written to a caller's bytes.
+ghost use Rattle.std.specs.Prelude.{◌≡◌, ℕ, ◌*◌, ◌<◌, ◌≤◌, length, slice_index, slice_index_or, eqb, false, IfOk, OnOk, OnErr};
 ghost use Rattle.clay_grid.specs.Shape.{chunk_length};
 ghost use Rattle.clay_grid.specs.Score.{count_below};
 ghost use Rattle.clay_model.specs.Left.{parts, AreLong};
 ghost use Rattle.clay_aloof.specs.Shape.{all_chunks, grid_of, stripe_bytes};
 ghost use Rattle.clay_aloof.specs.Repair.{part_bytes};
 ghost use Rattle.clay_c.specs.Helpers.{MakesAloofParity, is_marked, MarksFit, MarkedPartsFit, marked_parts, RebuildsAloof};
+ghost use Rattle.clay_c.specs.Missing.{AloofChunksFit, RecoversAloof};
+ghost use Rattle.clay_c.specs.Calls.{lost_count};
 
 use crate::pieces::take;
-use clay_aloof::{AloofGeometry, parity_into, rebuild_into};
+use clay_aloof::{AloofGeometry, parity_into, rebuild_into, recover_into};
 use std::alloc::{AllocError, Global};
 
 /// Writes the parity chunks of a stripe, one behind another.
@@ -24,6 +26,35 @@ pub fn write_parity(
     ensures kept { OnErr result (parity.new ≡ parity.old) }
 {
     parity_into(alloc, g, stripe, parity)?;
+    Ok(())
+}
+
+// For each chunk, whether it is missing.
+fn missing_marks(alloc: Global, present: &[u8]) -> Result<Vec<bool>, AllocError>
+    ensures len { IfOk result (λ v. length v.items ≡ length present.now) }
+    ensures value { IfOk result (λ v. (c : ℕ) → c < length present.now → slice_index_or v.items c false ≡ eqb (slice_index present.now c) 0) }
+{
+    let mut missing = Vec::with_capacity(alloc, present.len())?;
+    for mark in present {
+        missing.push(*mark == 0)?;
+    }
+    Ok(missing)
+}
+
+/// Writes the missing ones of all chunks, which stand one behind another, from the others.
+pub fn write_missing(
+    alloc: Global,
+    g: AloofGeometry,
+    present: &[u8],
+    chunks: &mut [u8],
+) -> Result<(), AllocError>
+    requires lengths { AloofChunksFit g present.now chunks.old }
+    requires few { lost_count present.now ≤ g.parity_count }
+    ensures written { OnOk result (RecoversAloof g present.now chunks.old chunks.new) }
+    ensures kept { OnErr result (chunks.new ≡ chunks.old) }
+{
+    let missing = missing_marks(alloc, present)?;
+    recover_into(alloc, g, &missing, chunks)?;
     Ok(())
 }
 

@@ -3,13 +3,18 @@ ghost use Rattle.std.specs.Prelude.{◌≡◌, ◌≢◌, ◌+◌, ◌<◌, ◌�
 ghost use Rattle.clay_aloof.specs.Shape.{aloof_of};
 ghost use Rattle.clay_aloof.specs.Limits.{IsAloof};
 ghost use Rattle.clay_aloof.specs.Repair.{aloof_layers_of};
-ghost use Rattle.clay_c.specs.Status.{done, bad_geometry, bad_length, bad_chunk, out_of_memory, bad_helpers, EndsByLength, EndsByChunk};
+ghost use Rattle.clay_c.specs.Status.{done, bad_geometry, bad_length, bad_chunk, out_of_memory, bad_helpers, too_few, EndsByLength, EndsByChunk};
 ghost use Rattle.clay_c.specs.Helpers.{HasAloofNumbers, AloofLayersFit, AloofParityFits, MakesAloofParity, MarksFit, MarkedPartsFit, RebuildsAloof};
+ghost use Rattle.clay_c.specs.Missing.{AloofChunksFit, RecoversAloof};
+ghost use Rattle.clay_c.specs.Calls.{lost_count};
 
 use crate::ClayNumbers;
-use crate::aloof::{write_parity, write_rebuilt};
+use crate::aloof::{write_missing, write_parity, write_rebuilt};
 use crate::marks::marks_fit;
-use crate::status::{BAD_CHUNK, BAD_GEOMETRY, BAD_HELPERS, BAD_LENGTH, DONE, OUT_OF_MEMORY};
+use crate::recovery::missing_count;
+use crate::status::{
+    BAD_CHUNK, BAD_GEOMETRY, BAD_HELPERS, BAD_LENGTH, DONE, OUT_OF_MEMORY, TOO_FEW,
+};
 use clay_aloof::{AloofGeometry, aloof_layers};
 use std::alloc::Global;
 
@@ -80,6 +85,42 @@ pub extern "C" fn clay_parity_with_helpers(
         return BAD_LENGTH;
     }
     match write_parity(alloc, g, stripe, parity) {
+        Ok(()) => DONE,
+        Err(_) => OUT_OF_MEMORY,
+    }
+}
+
+/// Writes the missing ones of all chunks, which stand one behind another, and leaves the others as they are. `present` has a byte for each
+/// chunk, 0 where it is missing.
+///
+/// Ends with `BAD_GEOMETRY`, `BAD_LENGTH`, `TOO_FEW` or `OUT_OF_MEMORY` otherwise, tested in this order.
+#[unsafe(no_mangle)]
+pub extern "C" fn clay_recover_with_helpers(
+    alloc: Global,
+    k: u32,
+    m: u32,
+    d: u32,
+    w: u32,
+    present: &[u8],
+    chunks: &mut [u8],
+) -> u32
+    ensures geometry { (result ≡ bad_geometry) ↔ (IsAloof (aloof_of k m d w) → ⊥) }
+    ensures length { (result ≡ bad_length) ↔ (IsAloof (aloof_of k m d w) × (AloofChunksFit (aloof_of k m d w) present.now chunks.old → ⊥)) }
+    ensures few { (result ≡ too_few) ↔ (IsAloof (aloof_of k m d w) × AloofChunksFit (aloof_of k m d w) present.now chunks.old × (m < lost_count present.now)) }
+    ensures other { result ≢ bad_geometry → result ≢ bad_length → result ≢ too_few → result ≢ done → result ≡ out_of_memory }
+    ensures recovered { result ≡ done → RecoversAloof (aloof_of k m d w) present.now chunks.old chunks.new }
+    ensures kept { result ≢ done → chunks.new ≡ chunks.old }
+{
+    let Some(g) = geometry(k, m, d, w) else {
+        return BAD_GEOMETRY;
+    };
+    if present.len() != g.n() as usize || chunks.len() != g.n() as usize * g.chunk_len() as usize {
+        return BAD_LENGTH;
+    }
+    if missing_count(present) > g.m() as usize {
+        return TOO_FEW;
+    }
+    match write_missing(alloc, g, present, chunks) {
         Ok(()) => DONE,
         Err(_) => OUT_OF_MEMORY,
     }

@@ -23,7 +23,7 @@ use crate::status::{BAD_CHUNK, BAD_GEOMETRY, BAD_LENGTH, DONE, OUT_OF_MEMORY, TO
 use clay_grid::Geometry;
 pub use helpers::{
     clay_geometry_with_helpers, clay_parity_with_helpers, clay_rebuild_with_helpers,
-    clay_repair_layers_with_helpers,
+    clay_recover_with_helpers, clay_repair_layers_with_helpers,
 };
 use std::alloc::Global;
 
