@@ -1,6 +1,5 @@
 pub mod Cover
 pub mod GroupLemmas
 pub mod Makes
-pub mod PieceLemmas
 pub mod ScoreLemmas
 pub mod SolvedLemmas

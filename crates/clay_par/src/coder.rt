@@ -2,13 +2,11 @@
 ghost use Rattle.std.specs.Prelude.{◌≡◌, ◌*◌, ◌↔◌, length, OnOk, OnErr, IsErrOf};
 ghost use Rattle.clay_grid.specs.Shape.{chunk_count, chunk_length, stripe_length};
 ghost use Rattle.clay_model.specs.Left.{AreLong, AreTooFew};
-ghost use Rattle.clay_model.specs.RepairParts.{AreParts, IsRebuilt};
 ghost use Rattle.clay_parity.specs.Flat.{IsParity};
 ghost use Rattle.clay_lanes.specs.Places.{AreFilled};
 
 use crate::lost::{missing_into, recover};
 use crate::parity::{encode, parity_into};
-use crate::repair::{rebuild, rebuild_into};
 use clay_grid::Geometry;
 use clay_lanes::LaneCoder;
 use clay_model::{Coder, DecodeFault};
@@ -20,10 +18,8 @@ const ENCODED_BY_THREADS: u32 = 1_000_000;
 
 const RECOVERED_BY_THREADS: u32 = 8_000_000;
 
-const REBUILT_BY_THREADS: u32 = 16_000_000;
-
-/// Codes in as many threads as there are processors where the stripe is large enough, else as the fast coder in the thread of its caller.
-/// Its chunks are those of `PlainCoder`.
+/// Encodes and recovers in as many threads as there are processors where the stripe is large enough, else as the fast coder in the thread of
+/// its caller, in which it always rebuilds. Its chunks are those of `PlainCoder`.
 #[derive(Clone, Copy, Debug, PartialEq, Eq)]
 pub struct ParCoder;
 
@@ -64,11 +60,7 @@ impl Coder for ParCoder {
         lost: u32,
         parts: &[Option<Vec<u8>>],
     ) -> Result<Vec<u8>, AllocError> {
-        if g.stripe_len() < REBUILT_BY_THREADS {
-            LaneCoder.rebuild(rt, alloc, g, lost, parts)
-        } else {
-            rebuild(rt, alloc, g, lost, parts)
-        }
+        LaneCoder.rebuild(rt, alloc, g, lost, parts)
     }
 }
 
@@ -119,32 +111,6 @@ impl ParCoder {
             clay_lanes::missing_into(alloc, g, have, chunks)
         } else {
             missing_into(rt, alloc, g, have, chunks)
-        }
-    }
-
-    /// Writes the lost chunk of the codeword whose other chunks have these parts, where one does.
-    ///
-    /// `parts` has an entry for each chunk: `None` for the lost one, and for each other one its subchunks of the repair layers in rising
-    /// order. Where no codeword has these parts, some bytes are written. What `chunk` held before doesn't matter, and it stays as it is
-    /// where memory is wanting.
-    pub fn rebuild_into<R: Threads + Sync>(
-        &self,
-        rt: &R,
-        alloc: Global,
-        g: Geometry,
-        lost: u32,
-        parts: &[Option<Vec<u8>>],
-        chunk: &mut [u8],
-    ) -> Result<(), AllocError>
-        requires parts { AreParts g lost parts.now }
-        requires chunk { length chunk.old ≡ chunk_length g }
-        ensures rebuilt { OnOk result (IsRebuilt g lost parts.now chunk.new) }
-        ensures kept { OnErr result (chunk.new ≡ chunk.old) }
-    {
-        if g.stripe_len() < REBUILT_BY_THREADS {
-            clay_lanes::rebuild_into(alloc, g, lost, parts, chunk)
-        } else {
-            rebuild_into(rt, alloc, g, lost, parts, chunk)
         }
     }
 }

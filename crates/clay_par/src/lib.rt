@@ -1,5 +1,4 @@
-//! Coding in several threads: groups of layers, layers of one score, pieces of layers, or ranges of byte positions, each coded as the fast
-//! coder does. No clause says that two threads ran, nor how the work was cut: the answers are those of one thread.
+//! Coding in several threads: groups of layers, layers of one score, or ranges of byte positions, each coded as the fast coder does. No clause says that two threads ran, nor how the work was cut: the answers are those of one thread.
 #![tactic(auto)]
 
 mod coder;
@@ -7,7 +6,6 @@ mod lost;
 mod made;
 mod parity;
 mod ranges;
-mod repair;
 mod scores;
 
 pub use coder::ParCoder;

@@ -1,4 +1,4 @@
-//! The fast coders beside the plain one, for many codes, widths and losses.
+//! The fast coders beside the plain one, for many codes, widths and losses. All of it is tests: without them the crate is empty.
 #![tactic(auto)]
 
 #[cfg(test)]

@@ -46,7 +46,7 @@ fn unless_lost(part: Vec<u8>, lost: bool) -> Option<Vec<u8>>
 }
 
 // What a repair of a lost chunk reads of the others.
-pub fn parts_of(
+fn parts_of(
     rt: &impl Abort,
     alloc: Global,
     g: Geometry,

@@ -1,10 +1,10 @@
 //! The coder of several threads beside the other two, also for stripes that threads share.
-ghost use Rattle.std.specs.Prelude.{◌≡◌, ◌<◌, length};
-ghost use Rattle.clay_grid.specs.Shape.{chunk_count, stripe_length};
+ghost use Rattle.std.specs.Prelude.{◌≡◌, length};
+ghost use Rattle.clay_grid.specs.Shape.{stripe_length};
 
 use crate::coders::{expect_places, gone_count, left_of};
-use crate::encoding::{CODES, WIDTHS, expect_bytes, expect_chunks, expect_pieces, mixed_bytes};
-use crate::rebuilding::{check_rebuild, parts_of};
+use crate::encoding::{CODES, WIDTHS, expect_chunks, expect_pieces, mixed_bytes};
+use crate::rebuilding::check_rebuild;
 use clay_grid::Geometry;
 use clay_lanes::LaneCoder;
 use clay_model::Coder;
@@ -46,24 +46,6 @@ fn check_missing_into<R: Abort + Threads + Sync>(
     let mut bytes = vec![in alloc; 0xa5u8; g.n() as usize * len]?;
     ParCoder.missing_into(rt, alloc, g, &have, &mut bytes)?;
     expect_places(rt, &bytes, len, &have, word);
-    Ok(())
-}
-
-// Writes a chunk by the coder of several threads from the parts of the others.
-fn check_rebuild_into<R: Abort + Threads + Sync>(
-    rt: &R,
-    alloc: Global,
-    g: Geometry,
-    word: &[Vec<u8>],
-    lost: u32,
-) -> Result<(), Fail>
-    requires { lost < chunk_count g }
-{
-    let parts = parts_of(rt, alloc, g, word, lost)?;
-    assert!(rt; word.len() == g.n() as usize);
-    let mut chunk = vec![in alloc; 0xa5u8; g.chunk_len() as usize]?;
-    ParCoder.rebuild_into(rt, alloc, g, lost, &parts, &mut chunk)?;
-    expect_bytes(rt, &chunk, &word[lost as usize]);
     Ok(())
 }
 
@@ -148,7 +130,7 @@ fn check_coder<R: Abort + Threads + Sync, C: Coder>(
     check_rebuild(rt, alloc, coder, g, word, g.n() - 1)
 }
 
-// Writes missing chunks and a lost one to their places: none, the first column, and as many of both kinds.
+// Writes missing chunks to their places: none, the first column, and as many of both kinds.
 fn check_places<R: Abort + Threads + Sync>(
     rt: &R,
     alloc: Global,
@@ -159,9 +141,7 @@ fn check_places<R: Abort + Threads + Sync>(
     assert!(rt; g.n() < 32);
     check_missing_into(rt, alloc, g, word, 0)?;
     check_missing_into(rt, alloc, g, word, (1u32 << g.m()) - 1)?;
-    check_missing_into(rt, alloc, g, word, most)?;
-    check_rebuild_into(rt, alloc, g, word, 0)?;
-    check_rebuild_into(rt, alloc, g, word, g.n() - 1)
+    check_missing_into(rt, alloc, g, word, most)
 }
 
 // Codes some stripe by each coder.
@@ -183,7 +163,7 @@ fn coders_agree(rt: HostRuntime) -> Result<(), Fail> {
     Ok(())
 }
 
-// Codes a stripe that threads share: all of these are encoded and recovered by several, the longest rebuilt.
+// Codes a stripe that threads share: each of these is encoded and recovered by several.
 fn check_shared<R: Abort + Threads + Sync>(rt: &R, alloc: Global, g: Geometry) -> Result<(), Fail> {
     let word = word_of(rt, alloc, g)?;
     let most = mixed_loss(rt, g);
