@@ -1,5 +1,8 @@
 -- What threads made, taken out of the results.
-use Rattle.std.proofs.Common.{◌≡◌, ℕ, zero, suc, ◌<◌, List, [], ◌∷◌, ◌++◌, map, length, get_or, take, drop, IfOk, Ok, Err, Vec, Global, sym, subst, ap, ◌∙◌, arith}
+use Rattle.std.proofs.Common.{◌≡◌, ℕ, zero, suc, ◌+◌, ◌<◌, List, [], ◌∷◌, ◌++◌, map, length, get_or, take, drop, IfOk, Ok, Err, Vec, Global, sym, subst, ap, ◌∙◌, arith}
+use Rattle.std.specs.List.{AllZip, range_with_len}
+use Rattle.std.proofs.lemmas.List.FromFn.{get_or-range_with_len, length-range_with_len}
+use Rattle.std.proofs.lemmas.Slice.Zip.{AllZip-long}
 use Rattle.std.specs.declared.result.Result.{Result}
 use Rattle.std.specs.declared.alloc.AllocError.{AllocError}
 use Rattle.std.proofs.lemmas.List as lists
@@ -35,3 +38,22 @@ written_all len xs ys whole long =
 pub if_ok_both : {A E : Type 0} (r : Result A E) (P Q R : A → Type 0) → IfOk r P → IfOk r Q → ((v : A) → P v → Q v → R v) → IfOk r R
 if_ok_both (Ok v) P Q R p q h = h v p q
 if_ok_both (Err e) P Q R p q h = tt
+
+zip_at : {Y : Type 0} (R : ℕ → Y → Type 0) (xs : List ℕ) (ys : List Y) (i : ℕ) (d : Y) → AllZip R xs ys → i < length xs → R (get_or xs i 0) (get_or ys i d)
+zip_at R [] ys i d h below = absurd (omega (arith, below))
+zip_at R (x ∷ xs) [] i d h below = absurd h
+zip_at R (x ∷ xs) (y ∷ ys) zero d h below = h.0
+zip_at R (x ∷ xs) (y ∷ ys) (suc i) d h below = zip_at R xs ys i d h.1 (omega (arith, below))
+
+-- what a chain over the numbers below n gives for each of them
+pub given_at : {Y : Type 0} (R : ℕ → Y → Type 0) (n : ℕ) (xs : List ℕ) (ys : List Y) (i : ℕ) (d : Y) → xs ≡ range_with_len 0 n → AllZip R xs ys → i < n → R i (get_or ys i d)
+given_at R n xs ys i d is h below =
+    let long : length xs ≡ n = ap length is ∙ length-range_with_len 0 n in
+    let entry : get_or xs i 0 ≡ i = ap (λ l. get_or l i 0) is ∙ get_or-range_with_len 0 n i 0 below ∙ zero_more i in
+    subst (λ v. R v (get_or ys i d)) entry (zip_at R xs ys i d h (subst (λ m. i < m) (sym long) below))
+  where
+    zero_more : (i : ℕ) → 0 + i ≡ i
+    zero_more i = omega arith
+
+pub given_count : {Y : Type 0} (R : ℕ → Y → Type 0) (n : ℕ) (xs : List ℕ) (ys : List Y) → xs ≡ range_with_len 0 n → AllZip R xs ys → length ys ≡ n
+given_count R n xs ys is h = AllZip-long R xs ys h ∙ ap length is ∙ length-range_with_len 0 n

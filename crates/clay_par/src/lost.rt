@@ -17,9 +17,8 @@ use clay_grid::Geometry;
 use clay_kernels::{BLOCK, zeros};
 use clay_lanes::{Plan, couple_chunk, make_plan, missing_count, solve_layers};
 use clay_model::DecodeFault;
-use rayon::current_num_threads;
+use rayon::prelude::*;
 use std::alloc::{AllocError, Global};
-use std::thread;
 use std::thread::Threads;
 
 // Writes the erased nodes' uncoupled values in a range. Where no chunk is missing there are none.
@@ -56,8 +55,7 @@ fn solve_all<R: Threads + Sync>(
     ensures places { (i : ℕ) (d : _) → i < length ranges.old → SamePlace (slice_index_or ranges.old i d) (slice_index_or ranges.new i d) }
     ensures solved { All (HoldsLayers g have.now plan.now) ranges.new }
 {
-    let threads = current_num_threads(rt);
-    thread::for_each_mut(rt, ranges, threads, &|_, range| solve(g, have, plan, range));
+    par_for_each_mut(rt, ranges, |_, range| solve(g, have, plan, range));
 }
 
 // Writes the bytes of a missing chunk that lie in a range.
@@ -167,12 +165,16 @@ fn each_chunk<R: Threads + Sync>(
     ensures each { IfOk result (λ chunks. (c : ℕ) (d : _) → c < chunk_count g →
         IfOk (slice_index_or chunks.items c d) (λ chunk. IsChunk g have.now c chunk.items)) }
 {
-    thread::map_indices(
-        rt,
-        alloc,
-        g.n() as usize,
-        &|c| chunk(alloc, g, have, plan, ranges, c),
-    )
+    (0..g.n() as usize)
+        .into_par_iter()
+        .with_min_len(1)
+        .map(
+            |c: usize| -> Result<Vec<u8>, AllocError>
+                requires { IsLanePlan g have.now plan.now × AreSolved g have.now plan.now ranges.now × (c < chunk_count g) }
+                ensures { IfOk result (λ v. IsChunk g have.entry.now c v.items) }
+            { chunk(alloc, g, have, plan, ranges, c) },
+        )
+        .collect(rt, alloc)
 }
 
 // All chunks, from the values in the ranges.
@@ -324,11 +326,11 @@ fn fill_all<R: Threads + Sync>(
     ensures { AreFilled g have.now chunks.old chunks.new }
 {
     let len = g.chunk_len() as usize;
-    thread::for_each_chunk_mut(
+    par_chunks_mut_for_each(
         rt,
         chunks,
         len,
-        &|start: usize, chunk: &mut [u8]|
+        |start: usize, chunk: &mut [u8]|
             requires { IsLanePlan g have.now plan.now × AreSolved g have.now plan.now ranges.now × (start < chunk_count g * chunk_length g) × (length chunk.old ≡ chunk_length g) }
             ensures { IsFilled g have.entry.now (start / chunk_length g) chunk.old chunk.new }
         { fill_at(g, have, plan, ranges, start, chunk) },

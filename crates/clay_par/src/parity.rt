@@ -14,9 +14,8 @@ use crate::made::all_made;
 use clay_grid::Geometry;
 use clay_kernels::{BLOCK, Generator, fifths, zeros};
 use clay_parity::{last_column, solve_group, write_pieces};
-use rayon::current_num_threads;
+use rayon::prelude::*;
 use std::alloc::{AllocError, Global};
-use std::thread;
 use std::thread::Threads;
 
 /// A group of layers that differ in the last digit alone: the last column's uncoupled values in them, and room for a block of one node's.
@@ -92,13 +91,7 @@ fn solve_all<R: Threads + Sync>(
         HoldsGroup g.parity_count g.width (slice_index_or groups.old i d).number g.parity_count
         (layer_value g generator.now.each stripe.now) (slice_index_or groups.new i d).solved.items }
 {
-    let threads = current_num_threads(rt);
-    thread::for_each_mut(
-        rt,
-        groups,
-        threads,
-        &|_, group| solve(g, generator, stripe, group),
-    );
+    par_for_each_mut(rt, groups, |_, group| solve(g, generator, stripe, group));
 }
 
 // The groups of all layers, with the last column's uncoupled values.
@@ -161,12 +154,16 @@ fn each_row<R: Threads + Sync>(
     ensures each { IfOk result (λ rows. (x : ℕ) (d : _) → x < row_count g →
         IfOk (slice_index_or rows.items x d) (λ chunk. IsRow g groups.now x chunk.items)) }
 {
-    thread::map_indices(
-        rt,
-        alloc,
-        g.q() as usize,
-        &|row| parity_chunk(alloc, g, groups, row),
-    )
+    (0..g.q() as usize)
+        .into_par_iter()
+        .with_min_len(1)
+        .map(
+            |row: usize| -> Result<Vec<u8>, AllocError>
+                requires { AreWhole g groups.now × (row < row_count g) }
+                ensures { IfOk result (λ chunk. IsRow g groups.entry.now row chunk.items) }
+            { parity_chunk(alloc, g, groups, row) },
+        )
+        .collect(rt, alloc)
 }
 
 // The parity chunks, by rising row, from the values of all groups.
@@ -215,11 +212,11 @@ fn write_rows<R: Threads + Sync>(rt: &R, g: Geometry, groups: &[Group], chunks: 
     ensures { (value : ℕ → ℕ → ℕ → ℕ) → HoldGroups g value groups.now → HoldsGroups g value (layer_count g / row_count g) chunks.new }
 {
     let len = g.chunk_len() as usize;
-    thread::for_each_chunk_mut(
+    par_chunks_mut_for_each(
         rt,
         chunks,
         len,
-        &|start: usize, chunk: &mut [u8]|
+        |start: usize, chunk: &mut [u8]|
             requires { AreWhole g groups.now × (start < g.parity_count * chunk_length g) × (length chunk.old ≡ chunk_length g) }
             ensures { HoldsRow g groups.entry.now (start / chunk_length g) chunk.new }
         { write_row_at(g, groups, start, chunk) },
@@ -271,12 +268,16 @@ fn each_piece<R: Threads + Sync>(
     ensures each { IfOk result (λ pieces. (c : ℕ) (d : _) → c < g.data_count →
         IfOk (slice_index_or pieces.items c d) (λ v. v.items ≡ slice_range stripe.now (c * chunk_length g) ((c + 1) * chunk_length g))) }
 {
-    thread::map_indices(
-        rt,
-        alloc,
-        g.k() as usize,
-        &|chunk| data_chunk(alloc, g, stripe, chunk),
-    )
+    (0..g.k() as usize)
+        .into_par_iter()
+        .with_min_len(1)
+        .map(
+            |c: usize| -> Result<Vec<u8>, AllocError>
+                requires { (length stripe.now ≡ stripe_length g) × (c < g.data_count) }
+                ensures { IfOk result (λ v. v.items ≡ slice_range stripe.entry.now (c * chunk_length g) ((c + 1) * chunk_length g)) }
+            { data_chunk(alloc, g, stripe, c) },
+        )
+        .collect(rt, alloc)
 }
 
 // The chunks that are pieces of the stripe.

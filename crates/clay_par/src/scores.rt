@@ -9,8 +9,8 @@ use clay_grid::Geometry;
 use clay_kernels::zeros;
 use clay_lanes::{Plan, solve_some_layers};
 use rayon::current_num_threads;
+use rayon::prelude::*;
 use std::alloc::{AllocError, Global};
-use std::thread;
 use std::thread::Threads;
 
 /// How many bytes of the nodes are worth a thread.
@@ -82,11 +82,11 @@ fn solve_rows<R: Threads + Sync>(
     ensures { AreRowsOfLayersFor g have.now plan.now at len layers.now rows.new }
 {
     let size = share_count(rt, g, len, layers.len()) * (plan.points.len() * len);
-    thread::for_each_chunk_mut(
+    par_chunks_mut_for_each(
         rt,
         rows,
         size,
-        &|start: usize, share: &mut [u8]|
+        |start: usize, share: &mut [u8]|
             requires { IsLanePlan g have.now plan.now × (at + len ≤ g.width) × (len ≤ 4096) × (0 < length plan.now.points.items * len) × (length solved.now ≡ layer_count g * (length plan.now.points.items * len)) × AreNextOf g have.now plan.now at len layers.now solved.now × IsShare (length plan.now.points.items * len) layers.now start (length share.old) }
             ensures { (o : ℕ) → o < length share.old → IsRowByte g have.entry.now plan.entry.now at len layers.entry.now (start + o) (slice_index_or share.new o 0) }
         { solve_share(g, have, plan, at, len, solved, layers, start, share) },

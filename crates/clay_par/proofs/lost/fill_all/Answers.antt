@@ -7,12 +7,12 @@ use Rattle.clay_par.specs.Solved.{IsFilled}
 use Rattle.clay_par.proofs.SolvedLemmas.{all_filled, some_bytes}
 use Rattle.clay_par.proofs.lost.fill_all.Goals as goal
 
-pub for_each_chunk_mut-requires-clause-size : goal.for_each_chunk_mut-requires-clause-size
-for_each_chunk_mut-requires-clause-size g c κs within =
+pub par_chunks_mut_for_each-requires-clause-size : goal.par_chunks_mut_for_each-requires-clause-size
+par_chunks_mut_for_each-requires-clause-size g c κs within =
     subst (λ n. 0 < n) (sym c.chunk_len-len.ensures.value) (some_bytes c.args.g c.chunk_len-len.ensures.geometry)
 
-pub for_each_chunk_mut-requires-clause-accepts : goal.for_each_chunk_mut-requires-clause-accepts
-for_each_chunk_mut-requires-clause-accepts g c κs within = λ start p is.
+pub par_chunks_mut_for_each-requires-clause-accepts : goal.par_chunks_mut_for_each-requires-clause-accepts
+par_chunks_mut_for_each-requires-clause-accepts g c κs within = λ start p is.
     let shape = c.args.g in
     let size = c.chunk_len-len.ensures.value in
     let even : length c.args.chunks.now % c.chunk_len-len.result ≡ 0 = (λ i. (c.requires.chunks_len ∙ ap (λ n. chunk_count shape * n) (sym size)) i % c.chunk_len-len.result) ∙ mul-mod_left (chunk_count shape) c.chunk_len-len.result in
@@ -26,11 +26,11 @@ returns g c =
     let have = c.args.have.now in
     let len : ℕ = chunk_length shape in
     let old = c.args.chunks.now in
-    let new = c.for_each_chunk_mut.new.s in
+    let new = c.par_chunks_mut_for_each.new.s in
     let size = c.chunk_len-len.ensures.value in
     let some = some_bytes shape c.chunk_len-len.ensures.geometry in
     all_filled shape have old new (λ x hx.
-    let k = c.for_each_chunk_mut.ensures.chunks x
+    let k = c.par_chunks_mut_for_each.ensures.chunks x
     (subst (λ n. x * n < length old) (sym size) (let below = place_below x (chunk_count shape) len 0 hx some in omega (arith, below, c.requires.chunks_len))) in
     let number : ℕ = x * c.chunk_len-len.result / len in
     let here : IsFilled shape have number (slice_chunk old c.chunk_len-len.result x) (slice_chunk new c.chunk_len-len.result x) =

@@ -8,12 +8,12 @@ use Rattle.clay_par.proofs.GroupLemmas.{rows_behind}
 use Rattle.clay_par.proofs.SolvedLemmas.{some_bytes}
 use Rattle.clay_par.proofs.parity.write_rows.Goals as goal
 
-pub for_each_chunk_mut-requires-clause-size : goal.for_each_chunk_mut-requires-clause-size
-for_each_chunk_mut-requires-clause-size g c κs within =
+pub par_chunks_mut_for_each-requires-clause-size : goal.par_chunks_mut_for_each-requires-clause-size
+par_chunks_mut_for_each-requires-clause-size g c κs within =
     subst (λ n. 0 < n) (sym c.chunk_len-len.ensures.value) (some_bytes c.args.g c.chunk_len-len.ensures.geometry)
 
-pub for_each_chunk_mut-requires-clause-accepts : goal.for_each_chunk_mut-requires-clause-accepts
-for_each_chunk_mut-requires-clause-accepts g c κs within = λ start p is.
+pub par_chunks_mut_for_each-requires-clause-accepts : goal.par_chunks_mut_for_each-requires-clause-accepts
+par_chunks_mut_for_each-requires-clause-accepts g c κs within = λ start p is.
     let shape = c.args.g in
     let size = c.chunk_len-len.ensures.value in
     let even : length c.args.chunks.now % c.chunk_len-len.result ≡ 0 = (λ i. (c.requires.chunks ∙ ap (λ n. shape.parity_count * n) (sym size)) i % c.chunk_len-len.result) ∙ mul-mod_left shape.parity_count c.chunk_len-len.result in
@@ -25,11 +25,11 @@ pub returns : goal.returns
 returns g c =
     let shape = c.args.g in
     let len : ℕ = chunk_length shape in
-    let new = c.for_each_chunk_mut.new.s in
+    let new = c.par_chunks_mut_for_each.new.s in
     let size = c.chunk_len-len.ensures.value in
     let some = some_bytes shape c.chunk_len-len.ensures.geometry in
     rows_behind shape c.chunk_len-len.ensures.geometry c.args.groups.now new (λ x hx.
-    let k = c.for_each_chunk_mut.ensures.chunks x
+    let k = c.par_chunks_mut_for_each.ensures.chunks x
     (subst (λ n. x * n < length c.args.chunks.now) (sym size) (let below = place_below x shape.parity_count len 0 hx some in omega (arith, below, c.requires.chunks))) in
     let here : HoldsRow shape c.args.groups.now (x * c.chunk_len-len.result / len) (slice_chunk new c.chunk_len-len.result x) = subst (HoldsRow shape c.args.groups.now (x * c.chunk_len-len.result / len)) k.left k.call in
     subst (λ n. HoldsRow shape c.args.groups.now n (slice_chunk new len x)) (mul-div_cancel x some)

@@ -1,10 +1,9 @@
-use Rattle.std.proofs.Common.{◌≡◌, ℕ, ◌+◌, ◌*◌, ◌<◌, length, get_or, sym, ap, ◌∙◌, arith}
-use Rattle.code_laws.proofs.Pieces.{place_below}
+use Rattle.std.proofs.Common.{◌≡◌, ℕ, ◌+◌, ◌*◌, ◌<◌, length, sym, ap, ◌∙◌, arith}
 use Rattle.clay_par.proofs.ScoreLemmas.{share_of_chunk, rows_place}
 use Rattle.clay_par.proofs.scores.solve_rows.Goals as goal
 
-pub for_each_chunk_mut-requires-clause-accepts : goal.for_each_chunk_mut-requires-clause-accepts
-for_each_chunk_mut-requires-clause-accepts g c κs within = λ start p is.
+pub par_chunks_mut_for_each-requires-clause-accepts : goal.par_chunks_mut_for_each-requires-clause-accepts
+par_chunks_mut_for_each-requires-clause-accepts g c κs within = λ start p is.
     let plan = c.args.plan.now in
     let part : ℕ = length plan.points.items * c.args.len in
     let points : c.len.result ≡ length plan.points.items = omega (arith, c.len.ensures, plan.points.ok.0) in
@@ -26,6 +25,6 @@ returns g c = record {
       let points = c.args.plan.now.points.items in
       let p : ℕ = (i * length points + e) * c.args.len + b in
       let below : p < length c.args.rows.now = rows_place (length c.args.layers.now) (length points) c.args.len i e b (length c.args.rows.now) hi he hb c.requires.rows_len in
-      let k = (c.for_each_chunk_mut.ensures.by_index p 0 below).1 in
+      let k = (c.par_chunks_mut_for_each.ensures.by_index p 0 below).1 in
       sym k.new_element ∙ (k.call k.offset k.offset_in_chunk).value word fit i e b hi he hb k.start_plus_offset;
 }
