@@ -1,0 +1,3 @@
+pub mod PieceLaws
+pub mod PieceLists
+pub mod Determining

@@ -1,0 +1,2 @@
+pub mod LostLayers
+pub mod Determined
