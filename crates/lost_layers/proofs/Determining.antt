@@ -1,12 +1,12 @@
 -- Two codewords with the same pieces have the same layers of the lost chunk.
-use Rattle.std.proofs.Common.{◌≡◌, ◌≢◌, ℕ, zero, suc, subst, ◌+◌, ◌-◌, ◌*◌, ◌/◌, ◌%◌, ◌^◌, ◌<◌, ◌≤◌, Bool, true, false, cond, not, ◌&&◌, eqb, ltb, List, [], length, get_or, take, drop, refl, sym, ap, ◌∙◌, inl, inr, arith, bit_xor, length-drop}
-use Rattle.std.proofs.lemmas.Bool.{cases_eq, cases_lt, cases_Bool, eq-eqb, ne_eqb, eqb-true, eqb-false, ltb-true, ltb-false, le-ltb, lt-ltb, true≢false, cond-true, cond-false, and_from, and_parts, not-true, not_from_false}
+use Rattle.std.proofs.Common.{◌≡◌, ◌≢◌, ℕ, zero, suc, subst, ◌+◌, ◌-◌, ◌*◌, ◌/◌, ◌%◌, ◌^◌, ◌<◌, ◌≤◌, Bool, true, false, not, eqb, ltb, List, [], length, get_or, drop, refl, sym, ap, ◌∙◌, inl, inr, arith, bit_xor, length-drop}
+use Rattle.std.proofs.lemmas.Bool.{cases_eq, cases_Bool, eq-eqb, ne_eqb, ltb-true, ltb-false, le-ltb, lt-ltb, cond-true, cond-false, and_from, and_parts, not-true, not_from_false}
 use Rattle.std.proofs.lemmas.Nat.{mod_below, div_below, div-add-mod', xor_lt}
 use Rattle.std.proofs.lemmas.List.{ext_get_or, get_or-take, get_or-drop, length-take-le}
 use lib.Bits.{xor_self}
 use Rattle.clay_field.specs.Field.{product, power_of, quotient}
 use Rattle.clay_field.proofs.FieldLaws.{product_add_right}
-use Rattle.clay_grid.specs.Shape.{Shape, chunk_count, row_count, column_count, node_count, layer_count, chunk_length, node_of_chunk}
+use Rattle.clay_grid.specs.Shape.{Shape, chunk_count, row_count, column_count, node_count, layer_count}
 use Rattle.clay_grid.specs.Layers.{layer_of}
 use Rattle.clay_grid.specs.Limits.{IsGeometry}
 use Rattle.clay_grid.specs.Score.{count_below}
@@ -22,15 +22,16 @@ use Rattle.code_laws.proofs.Column.{node_inside}
 use Rattle.code_laws.proofs.Pieces.{place_below}
 use Rattle.code_laws.proofs.Nodes.{node_real, chunk_byte}
 use Rattle.code_laws.proofs.Vertices.{alone_value, paired_value, coupled_from_partner}
-use Rattle.lost_layers.specs.LostLayers.{IsLostRun, is_wanted, layer_with, partner_node, partner_layer, lost_node, lost_column, is_unpaired, is_solved, is_unknown, is_piece, lost_pieces_of}
+use Rattle.lost_layers.specs.LostLayers.{IsLostRun, is_wanted, layer_with, partner_node, partner_layer, lost_node, lost_column, is_unpaired, is_solved, is_unknown}
+use Rattle.lost_layers.specs.LostPieces.{is_piece, lost_pieces_of}
 use Rattle.lost_layers.specs.Determined.{bytes_of_pieces, bytes_of_run, PiecesDetermine}
 use Rattle.lost_layers.specs.declared.run.LostRun.{LostRun}
-use Rattle.lost_layers.proofs.PieceLaws.{some_rows, digit_below, layer_with-below, layer_with-own, digit-layer_with, layer_with-twice, column_of, are_partners, partner_column, partner_inside, partner_below, partner_node_back, partner_layer_back, own_piece, partner_piece, mate_piece, unknown_few}
-use Rattle.lost_layers.proofs.PieceLists.{StandsAt, each_read, piece_byte, HasChunk, chunk_of_real}
+use Rattle.lost_layers.proofs.PieceLaws.{some_rows, digit_below, layer_with-own, digit-layer_with, layer_with-twice, column_of, are_partners, partner_inside, partner_below, partner_node_back, partner_layer_back, own_piece, partner_piece, mate_piece, unknown_few}
+use Rattle.lost_layers.proofs.PieceLists.{each_read, piece_byte, HasChunk, chunk_of_real}
 
 -- ---- solved layers
 
-count_below_some : (n d : ℕ) (f : ℕ → Bool) → d < n → f d ≡ true → 0 < count_below n f
+pub count_below_some : (n d : ℕ) (f : ℕ → Bool) → d < n → f d ≡ true → 0 < count_below n f
 count_below_some zero d f h passes = absurd (omega arith)
 count_below_some (suc n) d f h passes =
     elim (cases_eq d n) [

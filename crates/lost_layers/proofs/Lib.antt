@@ -1,3 +1,4 @@
 pub mod PieceLaws
 pub mod PieceLists
+pub mod PieceSteps
 pub mod Determining

@@ -1,10 +1,10 @@
 -- Which subchunks are pieces, and how many nodes a layer leaves unknown.
-use Rattle.std.proofs.Common.{◌≡◌, ◌≢◌, ℕ, zero, suc, subst, ◌+◌, ◌-◌, ◌*◌, ◌/◌, ◌%◌, ◌<◌, ◌≤◌, Bool, true, false, cond, not, ◌&&◌, ◌||◌, eqb, ltb, List, length, get_or, set, refl, sym, ap, ◌∙◌, inl, inr, arith}
-use Rattle.std.proofs.lemmas.Bool.{cases_eq, cases_Bool, eq-eqb, ne_eqb, true≢false, cond-true, cond-false, cond_both, and_from, or_left, or_right, not_from_false, not_from_true, eqb-true}
+use Rattle.std.proofs.Common.{◌≡◌, ◌≢◌, ℕ, zero, suc, subst, ◌+◌, ◌-◌, ◌*◌, ◌/◌, ◌%◌, ◌<◌, ◌≤◌, Bool, true, false, cond, not, ◌&&◌, ◌||◌, eqb, length, get_or, set, refl, sym, ap, ◌∙◌, inl, inr, arith}
+use Rattle.std.proofs.lemmas.Bool.{cases_eq, cases_Bool, eq-eqb, ne_eqb, true≢false, cond-true, cond-false, cond_both, and_from, or_left, or_right, not_from_false, eqb-true}
 use Rattle.std.proofs.lemmas.Nat.{mod_below, div_below, div-mul-add, mod-mul-add, div-add-mod'}
 use Rattle.std.proofs.lemmas.List.{set-set, set-get_or, get_or-set_same}
 use Rattle.std.proofs.Math.Nat.{mul_comm, mod-eq_of_lt}
-use Rattle.clay_grid.specs.Shape.{Shape, chunk_count, row_count, column_count, node_count, layer_count}
+use Rattle.clay_grid.specs.Shape.{Shape, row_count, column_count, node_count, layer_count}
 use Rattle.clay_grid.specs.Layers.{layer_of, index_of, IsLayer}
 use Rattle.clay_grid.specs.Limits.{IsGeometry}
 use Rattle.clay_grid.specs.Score.{count_below}
@@ -13,8 +13,8 @@ use Rattle.clay_grid.proofs.LayerLaws.{IsLayer-digits_of, IsLayer-set, index_of-
 use Rattle.clay_model.proofs.SumLaws.{one_if}
 use Rattle.clay_model.proofs.Unique.{row_of, node_below}
 use Rattle.clay_model.specs.Partners.{ArePartners}
-use Rattle.code_laws.proofs.Column.{node_inside}
-use Rattle.lost_layers.specs.LostLayers.{IsLostRun, is_wanted, layer_with, partner_node, partner_layer, lost_node, lost_column, is_unpaired, is_solved, unpaired_node, further_node, is_unknown, is_made, is_piece}
+use Rattle.lost_layers.specs.LostLayers.{is_wanted, layer_with, partner_node, partner_layer, lost_node, lost_column, is_unpaired, is_solved, unpaired_node, further_node, is_unknown}
+use Rattle.lost_layers.specs.LostPieces.{is_made, is_piece}
 use Rattle.lost_layers.specs.declared.run.LostRun.{LostRun}
 
 -- ---- a layer with another digit

@@ -1,30 +1,27 @@
 -- The list of the pieces, and a word's bytes of them.
-use Rattle.std.proofs.Common.{◌≡◌, ℕ, subst, ◌+◌, ◌-◌, ◌*◌, ◌/◌, ◌%◌, ◌<◌, ◌≤◌, Bool, true, false, cond, not, ◌&&◌, nat_lt, List, [], ◌∷◌, ◌++◌, length, get_or, take, drop, map, filter, flat_map, refl, sym, ap, ◌∙◌, inl, inr, arith, length-append, length-drop, zero, suc}
+use Rattle.std.proofs.Common.{◌≡◌, ℕ, subst, ◌+◌, ◌-◌, ◌*◌, ◌<◌, ◌≤◌, true, false, not, ◌&&◌, nat_lt, List, [], ◌∷◌, ◌++◌, length, get_or, take, drop, map, flat_map, sym, ap, ◌∙◌, inl, inr, arith, length-append, length-drop, zero, suc}
 use Rattle.std.specs.List.{range_with_len}
 use Rattle.std.proofs.lemmas.Bool.{cases_lt, lt-ltb, le-ltb, cond-true, cond-false, true≢false}
 use Rattle.std.proofs.lemmas.List.{get_or-map, length-map, get_or_append_left, get_or-append-add, get_or-take, get_or-drop, length-take-le}
 use Rattle.std.proofs.lemmas.List.Concat.{get_or-flat_map}
 use Rattle.std.proofs.lemmas.List.Folds.{length-flat_map-take}
 use Rattle.std.proofs.lemmas.List.FromFn.{length-range_with_len, get_or-range_with_len}
-use Rattle.clay_grid.specs.Shape.{Shape, chunk_count, row_count, column_count, node_count, virtual_count, layer_count, chunk_length, node_of_chunk}
+use Rattle.clay_grid.specs.Shape.{Shape, chunk_count, node_count, virtual_count, layer_count, node_of_chunk}
 use Rattle.clay_grid.specs.Limits.{IsGeometry}
 use Rattle.clay_grid.proofs.Rising.{Lists-filter}
 use Rattle.clay_model.specs.Code.{IsCodeword, is_virtual, chunk_of_node}
 use Rattle.code_laws.proofs.Pieces.{piece_fits}
-use Rattle.lost_layers.specs.LostLayers.{is_piece, lost_layers_of, lost_pieces_of}
+use Rattle.lost_layers.specs.LostPieces.{is_piece, piece_at, lost_layers_of, lost_pieces_of}
 use Rattle.lost_layers.specs.Determined.{bytes_of_pieces}
 use Rattle.lost_layers.specs.declared.run.LostRun.{LostRun}
 use Rattle.lost_layers.specs.declared.run.LostPiece.{LostPiece}
-
-abbrev pub piece_of : ℕ → ℕ → LostPiece
-piece_of c n = record { chunk = c; layer = n }
 
 -- ---- what is in the list
 
 -- a list has an element at a place
 pub record StandsAt (pieces : List LostPiece) (p c n : ℕ) : Type 0 where
   pub within : p < length pieces
-  pub is : get_or pieces p (piece_of 0 0) ≡ piece_of c n
+  pub is : get_or pieces p (piece_at 0 0) ≡ piece_at c n
 
 -- a subchunk that is read
 pub record IsRead (g : Shape) (run : LostRun) (piece : LostPiece) : Type 0 where
@@ -45,9 +42,9 @@ flat_map_only P f (x ∷ xs) d each s h =
           (flat_map_only P f xs d (λ i r hi hr. each (suc i) r (omega arith) hr) (s - length (f x)) (omega (arith, whole)))
     ]
 
-pub only_read : (g : Shape) (run : LostRun) (p : ℕ) → p < length (lost_pieces_of g run) → IsRead g run (get_or (lost_pieces_of g run) p (piece_of 0 0))
+pub only_read : (g : Shape) (run : LostRun) (p : ℕ) → p < length (lost_pieces_of g run) → IsRead g run (get_or (lost_pieces_of g run) p (piece_at 0 0))
 only_read g run p h =
-    flat_map_only (IsRead g run) (λ c. map (λ n. piece_of c n) (lost_layers_of g run c)) (range_with_len 0 (chunk_count g)) (piece_of 0 0)
+    flat_map_only (IsRead g run) (λ c. map (piece_at c) (lost_layers_of g run c)) (range_with_len 0 (chunk_count g)) (piece_at 0 0)
     (λ i r hi hr.
     let within : i < chunk_count g = subst (λ v. i < v) (length-range_with_len 0 (chunk_count g)) hi in
     let first : get_or (range_with_len 0 (chunk_count g)) i 0 ≡ 0 + i = get_or-range_with_len 0 (chunk_count g) i 0 within in
@@ -55,12 +52,12 @@ only_read g run p h =
     one (get_or (range_with_len 0 (chunk_count g)) i 0) i r (first ∙ none) within hr)
     p h
   where
-    one : (c i r : ℕ) → c ≡ i → i < chunk_count g → r < length (map (λ n. piece_of c n) (lost_layers_of g run c)) → IsRead g run (get_or (map (λ n. piece_of c n) (lost_layers_of g run c)) r (piece_of 0 0))
+    one : (c i r : ℕ) → c ≡ i → i < chunk_count g → r < length (map (piece_at c) (lost_layers_of g run c)) → IsRead g run (get_or (map (piece_at c) (lost_layers_of g run c)) r (piece_at 0 0))
     one c i r same within hr =
         let layers : List ℕ = lost_layers_of g run c in
-        let inside : r < length layers = subst (λ v. r < v) (length-map layers (λ n. piece_of c n)) hr in
+        let inside : r < length layers = subst (λ v. r < v) (length-map layers (piece_at c)) hr in
         let found = (Lists-filter (is_piece g run (node_of_chunk g c)) (layer_count g)).only r inside in
-        subst (IsRead g run) (sym (get_or-map (λ n. piece_of c n) layers r 0 (piece_of 0 0) inside)) (record {
+        subst (IsRead g run) (sym (get_or-map (piece_at c) layers r 0 (piece_at 0 0) inside)) (record {
           chunk = subst (λ v. v < chunk_count g) (sym same) within;
           layer = found.0;
           read = found.1;
@@ -68,7 +65,7 @@ only_read g run p h =
 
 pub each_read : (g : Shape) (run : LostRun) (c n : ℕ) → c < chunk_count g → n < layer_count g → is_piece g run (node_of_chunk g c) n ≡ true → (p : ℕ) × StandsAt (lost_pieces_of g run) p c n
 each_read g run c n hc hn read =
-    let f : ℕ → List LostPiece = λ c. map (λ n. piece_of c n) (lost_layers_of g run c) in
+    let f : ℕ → List LostPiece = λ c. map (piece_at c) (lost_layers_of g run c) in
     let chunks : List ℕ = range_with_len 0 (chunk_count g) in
     let within : c < length chunks = subst (λ v. c < v) (sym (length-range_with_len 0 (chunk_count g))) hc in
     let first : get_or chunks c 0 ≡ 0 + c = get_or-range_with_len 0 (chunk_count g) c 0 hc in
@@ -78,17 +75,17 @@ each_read g run c n hc hn read =
     let j : ℕ = found.0 in
     let here : j < length (lost_layers_of g run c) = found.1 in
     let is : get_or (lost_layers_of g run c) j 0 ≡ n = found.2 in
-    let mapped : j < length (f c) = subst (λ v. j < v) (sym (length-map (lost_layers_of g run c) (λ n. piece_of c n))) here in
+    let mapped : j < length (f c) = subst (λ v. j < v) (sym (length-map (lost_layers_of g run c) (piece_at c))) here in
     let there : j < length (f (get_or chunks c 0)) = subst (λ v. j < length (f v)) (sym at) mapped in
     let room = length-flat_map-take f chunks c 0 within in (
       length (flat_map f (take c chunks)) + j,
       record {
         within = omega (arith, room, there);
         is =
-            get_or-flat_map f chunks c j 0 (piece_of 0 0) within there
-            ∙ ap (λ v. get_or (f v) j (piece_of 0 0)) at
-            ∙ get_or-map (λ n. piece_of c n) (lost_layers_of g run c) j 0 (piece_of 0 0) here
-            ∙ ap (piece_of c) is;
+            get_or-flat_map f chunks c j 0 (piece_at 0 0) within there
+            ∙ ap (λ v. get_or (f v) j (piece_at 0 0)) at
+            ∙ get_or-map (piece_at c) (lost_layers_of g run c) j 0 (piece_at 0 0) here
+            ∙ ap (piece_at c) is;
       },
     )
 
@@ -113,7 +110,7 @@ pub piece_byte : (g : Shape) (run : LostRun) (word : List (List ℕ)) → IsCode
     → get_or (bytes_of_pieces g word (lost_pieces_of g run)) (p * g.width + b) 0 ≡ get_or (get_or word c []) (n * g.width + b) 0
 piece_byte g run word w p c n b stands hb =
     let f : LostPiece → List ℕ = λ p. take g.width (drop (p.layer * g.width) (get_or word p.chunk [])) in
-    flat_map_at g.width f (lost_pieces_of g run) p b (piece_of 0 0) (λ i h. long (get_or (lost_pieces_of g run) i (piece_of 0 0)) (only_read g run i h)) stands.within hb
+    flat_map_at g.width f (lost_pieces_of g run) p b (piece_at 0 0) (λ i h. long (get_or (lost_pieces_of g run) i (piece_at 0 0)) (only_read g run i h)) stands.within hb
     ∙ ap (λ q. get_or (f q) b 0) stands.is
     ∙ get_or-take g.width (drop (n * g.width) (get_or word c [])) b 0 hb
     ∙ get_or-drop (n * g.width) (get_or word c []) b 0

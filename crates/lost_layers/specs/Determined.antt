@@ -2,7 +2,7 @@
 use Rattle.std.specs.Prelude.{◌≡◌, ℕ, ◌-◌, ◌*◌, List, [], flat_map, get_or, take, drop}
 use Rattle.clay_grid.specs.Shape.{Shape}
 use Rattle.clay_model.specs.Code.{IsCodeword}
-use Rattle.lost_layers.specs.LostLayers.{lost_pieces_of}
+use Rattle.lost_layers.specs.LostPieces.{lost_pieces_of}
 use Rattle.lost_layers.specs.declared.run.LostRun.{LostRun}
 use Rattle.lost_layers.specs.declared.run.LostPiece.{LostPiece}
 

@@ -1,2 +1,5 @@
 pub mod LostLayers
+pub mod LostPieces
 pub mod Determined
+pub mod Refused
+pub mod Placing

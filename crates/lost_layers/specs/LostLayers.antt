@@ -1,12 +1,9 @@
 -- Which subchunks of the other chunks determine a run of a lost chunk's layers.
-use Rattle.std.specs.Prelude.{ℕ, suc, ◌+◌, ◌-◌, ◌*◌, ◌/◌, ◌%◌, ◌<◌, ◌≤◌, Bool, not, ◌&&◌, ◌||◌, nat_eq, nat_lt, if◌then◌else◌, List, get_or, set, map, filter, flat_map}
-use Rattle.std.specs.List.{range_with_len}
+use Rattle.std.specs.Prelude.{ℕ, suc, ◌+◌, ◌-◌, ◌*◌, ◌/◌, ◌%◌, ◌<◌, ◌≤◌, Bool, not, ◌&&◌, ◌||◌, nat_eq, nat_lt, if◌then◌else◌, get_or, set}
 use Rattle.clay_grid.specs.Shape.{Shape, chunk_count, row_count, column_count, layer_count, node_of_chunk}
 use Rattle.clay_grid.specs.Layers.{layer_of, index_of}
-use Rattle.clay_grid.specs.Repair.{all_layers}
 use Rattle.clay_grid.specs.Score.{count_below}
 use Rattle.lost_layers.specs.declared.run.LostRun.{LostRun}
-use Rattle.lost_layers.specs.declared.run.LostPiece.{LostPiece}
 
 -- a chunk's layers, which may be none
 pub record IsLostRun (g : Shape) (run : LostRun) : Type 0 where
@@ -63,23 +60,3 @@ abbrev pub is_unknown : Shape → LostRun → ℕ → ℕ → Bool
 is_unknown g run n i =
     if is_unpaired g run n then nat_eq (i / row_count g) (lost_column g run)
     else ((nat_eq (i / row_count g) (column_count g - 1) && not (nat_eq i (unpaired_node g (column_count g - 1) n))) || nat_eq i (further_node g run n))
-
--- node i's value in layer n is made of its subchunk there and that one's partner
-abbrev pub is_made : Shape → LostRun → ℕ → ℕ → Bool
-is_made g run i n = is_solved g run n && not (is_unknown g run n i)
-
--- node i's subchunk n is read: its node's value in its layer is made of it, or its partner's is, or its partner is wanted
-abbrev pub is_piece : Shape → LostRun → ℕ → ℕ → Bool
-is_piece g run i n =
-    not (nat_eq i (lost_node g run))
-    && (is_made g run i n || is_made g run (partner_node g i n) (partner_layer g i n)
-    || (nat_eq (partner_node g i n) (lost_node g run) && is_wanted run (partner_layer g i n)))
-
--- the layers that are read of a chunk, rising
-abbrev pub lost_layers_of : Shape → LostRun → ℕ → List ℕ
-lost_layers_of g run chunk = filter (is_piece g run (node_of_chunk g chunk)) (all_layers g)
-
--- the pieces: all that is read, chunk by chunk
-abbrev pub lost_pieces_of : Shape → LostRun → List LostPiece
-lost_pieces_of g run =
-    flat_map (λ c. map (λ n. record { chunk = c; layer = n }) (lost_layers_of g run c)) (range_with_len 0 (chunk_count g))

@@ -1,8 +1,13 @@
-//! Layers of a lost chunk from as few subchunks of the others as are known to determine them, while all others are there.
+//! Layers of a lost chunk from few subchunks of the others, while all others are there.
 #![tactic(auto)]
 
+mod fault;
 mod laws;
+mod pieces;
+mod placed;
 mod run;
 
+pub use fault::LostFault;
 pub use laws::pieces_determine_runs;
+pub use pieces::{lost_count, lost_pieces};
 pub use run::{LostPiece, LostRun};

@@ -1,0 +1,102 @@
+//! The pieces of a run, and how many there are.
+ghost use Rattle.std.specs.Prelude.{◌≡◌, ℕ, ◌+◌, ◌<◌, ◌≤◌, ◌++◌, map, length, IfOk, IfErr, OnOk};
+ghost use Rattle.clay_grid.specs.Shape.{chunk_count, layer_count};
+ghost use Rattle.lost_layers.specs.LostLayers.{IsLostRun};
+ghost use Rattle.lost_layers.specs.LostPieces.{lost_layers_of, lost_pieces_of, piece_at};
+ghost use Rattle.lost_layers.specs.Refused.{IsRefused};
+ghost use Rattle.lost_layers.specs.Placing.{IsPlaced};
+
+use crate::fault::LostFault;
+use crate::placed::Placed;
+use crate::run::{LostPiece, LostRun};
+use clay_grid::Geometry;
+use std::alloc::{AllocError, Global};
+
+// The run with its place, if it is one of the code's.
+fn checked(g: Geometry, run: LostRun) -> Result<Placed, LostFault>
+    ensures placed { IfOk result (λ placed. IsPlaced placed × (placed.g ≡ g) × (placed.run ≡ run)) }
+    ensures refused { IfErr result (λ fault. IsRefused g run fault) }
+{
+    if run.lost >= g.n() {
+        return Err(LostFault::NoSuchChunk);
+    }
+    if run.to < run.from || run.to > g.alpha() {
+        return Err(LostFault::NoSuchLayers);
+    }
+    Ok(Placed::new(g, run))
+}
+
+// How many subchunks of a chunk are read.
+fn count_of_chunk(placed: &Placed, chunk: u32) -> u32
+    requires placed { IsPlaced placed.now }
+    requires chunk { chunk < chunk_count placed.now.g }
+    ensures count { result ≡ length (lost_layers_of placed.now.g placed.now.run chunk) }
+    ensures within { result ≤ layer_count placed.now.g }
+{
+    let node = placed.g.node_of_chunk(chunk);
+    let mut count = 0;
+    for layer in 0..placed.g.alpha() {
+        count += u32::from(placed.is_piece(node, layer));
+    }
+    count
+}
+
+// How many subchunks are read.
+fn count_of_all(placed: &Placed) -> u32
+    requires { IsPlaced placed.now }
+    ensures { result ≡ length (lost_pieces_of placed.now.g placed.now.run) }
+{
+    let mut count = 0;
+    for chunk in 0..placed.g.n() {
+        count += count_of_chunk(placed, chunk);
+    }
+    count
+}
+
+// Appends the subchunks of a chunk that are read.
+fn push_chunk(placed: &Placed, chunk: u32, pieces: &mut Vec<LostPiece>) -> Result<(), AllocError>
+    requires placed { IsPlaced placed.now }
+    requires chunk { chunk < chunk_count placed.now.g }
+    ensures { OnOk result (pieces.new.items
+        ≡ pieces.old.items ++ map (piece_at chunk) (lost_layers_of placed.now.g placed.now.run chunk)) }
+{
+    let node = placed.g.node_of_chunk(chunk);
+    for layer in 0..placed.g.alpha() {
+        if placed.is_piece(node, layer) {
+            pieces.push(LostPiece { chunk, layer })?;
+        }
+    }
+    Ok(())
+}
+
+// The subchunks that are read.
+fn list_of_all(alloc: Global, placed: &Placed) -> Result<Vec<LostPiece>, AllocError>
+    requires { IsPlaced placed.now }
+    ensures { IfOk result (λ pieces. pieces.items ≡ lost_pieces_of placed.now.g placed.now.run) }
+{
+    let mut pieces = Vec::with_capacity(alloc, count_of_all(placed) as usize)?;
+    for chunk in 0..placed.g.n() {
+        push_chunk(placed, chunk, &mut pieces)?;
+    }
+    Ok(pieces)
+}
+
+/// The subchunks from which `read_lost` makes the layers of the run, while all other chunks are there: by rising chunk, and of a chunk by rising
+/// layer.
+pub fn lost_pieces(alloc: Global, g: Geometry, run: LostRun) -> Result<Vec<LostPiece>, LostFault>
+    ensures pieces { IfOk result (λ pieces. IsLostRun g run × (pieces.items ≡ lost_pieces_of g run)) }
+    ensures refused { IfErr result (λ fault. IsRefused g run fault) }
+{
+    let placed = checked(g, run)?;
+    let pieces = list_of_all(alloc, &placed)?;
+    Ok(pieces)
+}
+
+/// How many subchunks `lost_pieces` lists.
+pub fn lost_count(g: Geometry, run: LostRun) -> Result<u32, LostFault>
+    ensures count { IfOk result (λ count. IsLostRun g run × (count ≡ length (lost_pieces_of g run))) }
+    ensures refused { IfErr result (λ fault. IsRefused g run fault) }
+{
+    let placed = checked(g, run)?;
+    Ok(count_of_all(&placed))
+}
