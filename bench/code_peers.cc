@@ -23,13 +23,11 @@
 #include <sstream>
 #include <string>
 #include <vector>
-#include <dlfcn.h>
 #include <malloc.h>
 
-#include "ceph_plugin.h"
 #include <clay.h>
 #include <isa-l.h>
-#include <rados/librados.h>
+#include <registry.h>
 
 using std::function;
 using std::make_shared;
@@ -133,39 +131,6 @@ static void measure(vector<Operation> &operations, int rounds, double slice) {
 }
 
 // ---- Ceph
-
-namespace ceph {
-ErasureCodePluginRegistry ErasureCodePluginRegistry::singleton;
-
-int ErasureCodePluginRegistry::add(const string &name, ErasureCodePlugin *plugin) {
-  return plugins.emplace(name, plugin).second ? 0 : -EEXIST;
-}
-
-int ErasureCodePluginRegistry::factory(const string &name, const string &directory, ErasureCodeProfile &profile,
-                                       ErasureCodeInterfaceRef *made, std::ostream *error) {
-  if (!plugins.count(name)) {
-    string path = directory + "/libec_" + name + ".so", own_name = name, own_directory = directory;
-    void *library = dlopen(path.c_str(), RTLD_NOW);
-    expect(library, path + " can't be loaded");
-    auto start = (int (*)(char *, char *))dlsym(library, "__erasure_code_init");
-    expect(start && start(&own_name[0], &own_directory[0]) == 0, path + " can't be started");
-  }
-  return plugins.at(name)->factory(directory, profile, made, error);
-}
-
-namespace common {
-class CephContext;
-}
-namespace global {
-extern common::CephContext *g_ceph_context;
-}
-} // namespace ceph
-
-static void start_ceph() {
-  rados_t cluster;
-  expect(rados_create(&cluster, nullptr) == 0, "Ceph's library can't be started");
-  ceph::global::g_ceph_context = (ceph::common::CephContext *)rados_cct(cluster);
-}
 
 // The plugin for a code, with a stripe and its chunks. Subchunks of fewer than 32 bytes it codes as of 32, and so is its stripe longer.
 struct CephCode {
@@ -454,7 +419,7 @@ int main(int count, char **words) {
   mallopt(M_MMAP_THRESHOLD, 1 << 30);
   mallopt(M_TRIM_THRESHOLD, INT32_MAX);
   mallopt(M_TOP_PAD, 64 << 20);
-  start_ceph();
+  expect(start_ceph(), "Ceph's library can't be started");
   for (int i = 4; i < count; i++) {
     Code code = code_named(words[i]);
     vector<Operation> operations;

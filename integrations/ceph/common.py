@@ -21,7 +21,7 @@ def end_by_signals(seconds):
     signal.alarm(seconds)
 
 
-def run(*words, seconds=120, **more):
+def run(*words, seconds=900, **more):
     """A program's standard output, with bytes for its standard input as `input`."""
     try:
         done = subprocess.run(words, stdout=subprocess.PIPE, stderr=subprocess.PIPE, timeout=seconds, check=False, **more)
@@ -54,10 +54,10 @@ def libraries():
 
 
 def build_driver(program):
-    """Builds drive.cc. Plugins find the registry in it (-rdynamic)."""
+    """Builds drive.cc with the registry in it, which plugins find there (-rdynamic)."""
     ceph = libraries() / "ceph"
-    run("g++", "-std=c++17", "-O2", "-g", "-Wall", "-Wextra", "-Werror", HERE / "drive.cc", "-o", program, "-rdynamic",
-        f"-L{ceph}", "-l:libceph-common.so.2", f"-Wl,-rpath,{ceph}", "-lrados", "-ldl", seconds=600)
+    run("g++", "-std=c++17", "-O2", "-g", "-Wall", "-Wextra", "-Werror", HERE / "drive.cc", HERE / "registry.cc", "-o", program, "-rdynamic",
+        f"-L{ceph}", "-l:libceph-common.so.2", f"-Wl,-rpath,{ceph}", "-lrados", "-ldl")
 
 
 def link_plugins(folder, plugin):

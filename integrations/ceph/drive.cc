@@ -13,12 +13,10 @@
 #include <iostream>
 #include <random>
 #include <sstream>
-#include <dlfcn.h>
 #include <malloc.h>
 #include <sys/resource.h>
 
-#include "erasure_code.h"
-#include <rados/librados.h>
+#include "registry.h"
 
 using ceph::bufferlist;
 using ceph::Chunks;
@@ -42,40 +40,7 @@ static void expect_same(const bufferlist &got, const bufferlist &wanted, const s
   expect(got.contents_equal(wanted), what + ": the bytes are wrong");
 }
 
-// ---- The registry, which stands in for that of an osd
-
-namespace ceph {
-
-ErasureCodePluginRegistry ErasureCodePluginRegistry::singleton;
-static std::map<string, ErasureCodePlugin *> plugins;
-
-int ErasureCodePluginRegistry::add(const string &name, ErasureCodePlugin *plugin) { return plugins.emplace(name, plugin).second ? 0 : -EEXIST; }
-
-static void load(const string &name, const string &directory) {
-  string path = directory + "/libec_" + name + ".so", own_name = name, own_directory = directory;
-  void *library = dlopen(path.c_str(), RTLD_NOW);
-  if (!library) end_with(path + ": " + dlerror());
-  auto start = reinterpret_cast<int (*)(char *, char *)>(dlsym(library, "__erasure_code_init"));
-  expect(start && start(own_name.data(), own_directory.data()) == 0, path + " can't be started");
-}
-
-int ErasureCodePluginRegistry::factory(const string &name, const string &directory, ErasureCodeProfile &profile, ErasureCodeInterfaceRef *code,
-                                       std::ostream *why) {
-  if (!plugins.count(name)) load(name, directory);
-  int error = plugins.at(name)->factory(directory, profile, code, why);
-  if (!error) expect((*code)->get_profile() == profile, "the profile of " + name + " isn't the one that was told back"); // an osd refuses such
-  return error;
-}
-
-// Ceph's own plugins write their log by it.
-namespace common {
-class CephContext;
-}
-namespace global {
-extern common::CephContext *g_ceph_context;
-}
-
-} // namespace ceph
+// ---- Codes
 
 static int make(ErasureCodeProfile profile, const string &directory, Code *code, string *cause) {
   std::ostringstream why;
@@ -515,9 +480,7 @@ int main(int count, char **words) {
   // memory once taken is kept, so that no call's time is that of fresh pages
   mallopt(M_MMAP_THRESHOLD, 1 << 30);
   mallopt(M_TRIM_THRESHOLD, INT32_MAX);
-  rados_t cluster;
-  expect(rados_create(&cluster, nullptr) == 0, "Ceph's library can't be started");
-  ceph::global::g_ceph_context = reinterpret_cast<ceph::common::CephContext *>(rados_cct(cluster));
+  expect(start_ceph(), "Ceph's library can't be started");
   string verb = count > 2 ? words[1] : "", directory = count > 2 ? words[2] : "";
   auto number = [&](int i) { return i < count ? atoi(words[i]) : 1; };
   if (verb == "losses" && count >= 6) losses(directory, number(3), number(4), number(5), number(6));
