@@ -2,6 +2,8 @@
 
 Each daemon is a child of this process, is ended by its process id, and is killed by the kernel where this process dies. The folder with all
 that they write goes at the end. Needs Debian's Ceph 16.2 and python3-rados."""
+import contextlib
+import errno
 import json
 import os
 import pathlib
@@ -49,8 +51,8 @@ osd_crush_chooseleaf_type = 0
 [client]
 admin_socket =
 log_file =
-rados_osd_op_timeout = 120
-rados_mon_op_timeout = 60
+rados_osd_op_timeout = 900
+rados_mon_op_timeout = 300
 [osd]
 osd_objectstore = bluestore
 bluestore_block_size = 4294967296
@@ -63,6 +65,7 @@ osd_op_num_shards = 2
 osd_op_num_threads_per_shard = 1
 osd_fast_shutdown_notify_mon = true
 osd_heartbeat_interval = 1
+osd_op_thread_suicide_timeout = 1800
 bluestore_debug_inject_read_err = true
 osd_max_backfills = 2
 osd_recovery_max_active = 4
@@ -78,7 +81,19 @@ mgr_data = {folder}/mgr
 mgr_initial_modules =
 [mon]
 mon_data = {folder}/mon
+mon_mgr_beacon_grace = 600
 """
+
+# Seconds that may pass until something holds: much, since the machine may be busy with other work.
+PATIENCE = 900
+
+
+class Refused(Failed):
+    """A command that a daemon answered with an error."""
+
+    def __init__(self, status, message):
+        super().__init__(message)
+        self.status = abs(status)
 
 
 class Cluster:
@@ -90,6 +105,7 @@ class Cluster:
         self.rados = None
         self.folder = None
         self.revived = None  # a list of osds that ended by themselves and were started again; None where none may end
+        self.memory = {}  # the greatest memory of each daemon so far, in bytes
 
     def __enter__(self):
         self.folder = pathlib.Path(tempfile.mkdtemp(prefix="ceph-", dir=os.environ.get("TMPDIR", "/var/tmp")))
@@ -127,7 +143,7 @@ class Cluster:
         run("ceph-mon", "-c", self.conf, "-i", "a", "--mkfs", "--monmap", monmap)
         self.begin("mon.a", "ceph-mon", "-f", "-c", self.conf, "-i", "a")
         self.rados = rados.Rados(conffile=str(self.conf))
-        self.rados.connect(timeout=60)
+        self.rados.connect(timeout=PATIENCE)
         self.begin("mgr.x", "ceph-mgr", "-f", "-c", self.conf, "-i", "x")
 
     # ---- Daemons
@@ -148,11 +164,23 @@ class Cluster:
         self.wait(lambda: set(osds) <= self.up(), f"start of osds {osds}")
 
     def stop(self, *osds):
+        self.look_at_memory()
         for osd in osds:
             self.daemons[f"osd.{osd}"].terminate()
         for osd in osds:
-            self.daemons.pop(f"osd.{osd}").wait(60)
+            self.wait_ended(osd)
+        # where the monitor was too busy to hear it of the osd itself
+        self.command("osd down", ids=list(map(str, osds)))
         self.wait(lambda: not set(osds) & self.up(), f"stop of osds {osds}")
+
+    def wait_ended(self, osd):
+        """Waits for an osd to end; its status."""
+        try:
+            status = self.daemons[f"osd.{osd}"].wait(PATIENCE)
+        except subprocess.TimeoutExpired:
+            raise Failed(f"osd {osd} runs on") from None
+        del self.daemons[f"osd.{osd}"]
+        return status
 
     def make(self, *osds):
         """Makes osds and starts them: without data where they were there."""
@@ -165,6 +193,13 @@ class Cluster:
             self.command("osd new", uuid=new, id=osd)
             run("ceph-osd", "-c", self.conf, "-i", str(osd), "--mkfs", "--osd-uuid", new, "--osd-data", data)
         self.start(*osds)
+
+    def look_at_memory(self):
+        for name, daemon in self.daemons.items():
+            with contextlib.suppress(OSError), open(f"/proc/{daemon.pid}/status", encoding="ascii") as status:
+                lines = dict(line.split(":", 1) for line in status)
+                peak = int(lines.get("VmHWM", "0 kB").split()[0]) * 1024
+                self.memory[name] = max(self.memory.get(name, 0), peak)
 
     def data_of(self, osd):
         return self.folder / f"osd{osd}"
@@ -180,7 +215,7 @@ class Cluster:
             daemon.terminate()
         for daemon in daemons:
             try:
-                daemon.wait(10)
+                daemon.wait(30)
             except subprocess.TimeoutExpired:
                 daemon.kill()
                 daemon.wait()
@@ -207,25 +242,25 @@ class Cluster:
     @staticmethod
     def answer(send, prefix, arguments):
         text = json.dumps({"prefix": prefix, "format": "json", **arguments})
-        status, output, error = send(text, b"", 60)
+        status, output, error = send(text, b"", 300)
         if status:
-            raise Failed(f"{text}: {status} {error}")
+            raise Refused(status, f"{text}: {status} {error}")
         try:
             return json.loads(output) if output else None
         except ValueError:
             return output
 
-    def wait(self, holds, what, seconds=240):
-        end = time.monotonic() + seconds
+    def wait(self, holds, what):
+        end = time.monotonic() + PATIENCE
         while not holds():
             self.look_for_ended(what)
             if time.monotonic() > end:
-                raise Failed(f"no {what} in {seconds} s")
+                raise Failed(f"no {what} in {PATIENCE} s")
             time.sleep(0.2)
 
     def look_for_ended(self, what):
         ended = [name for name, daemon in self.daemons.items() if daemon.poll() is not None]
-        if ended and self.revived is None:
+        if ended and (self.revived is None or not all(name.startswith("osd.") for name in ended)):
             raise Failed(f"while waiting for {what}: {', '.join(ended)} ended")
         for name in ended:
             osd = int(name.removeprefix("osd."))
@@ -338,8 +373,16 @@ class Pool:
             if left and time.monotonic() > asked_at + 15:
                 # again, since a request is lost where the manager takes another osd for the leader
                 for pgid in stamps.keys() & left:
-                    self.cluster.manage(command, pgid=pgid)
+                    self.ask_for(command, pgid)
                 asked_at = time.monotonic()
             return not left
         self.cluster.wait(are_done, f"{self.name}: {command}")
         return [group.pgid for group in self.groups() if "inconsistent" in group.state]
+
+    def ask_for(self, command, pgid):
+        """Has the manager ask for a scrub. Where it doesn't see the group's osds yet nothing is asked."""
+        try:
+            self.cluster.manage(command, pgid=pgid)
+        except Refused as refused:
+            if refused.status != errno.EAGAIN:
+                raise
