@@ -461,19 +461,46 @@ static void add_rows(const string &plugin, Code code, unsigned unit, vector<Row>
                    }, {}});
 }
 
+// The median, the least and the greatest.
+static string told(vector<double> numbers, int digits) {
+  std::sort(numbers.begin(), numbers.end());
+  char text[80];
+  snprintf(text, sizeof text, "%.*f (%.*f..%.*f)", digits, numbers[numbers.size() / 2], digits, numbers.front(), digits, numbers.back());
+  return text;
+}
+
+// How many times as fast as another row's a call is: in the same round, since a busy machine has fast rounds and slow ones.
+static string told_beside(const Row &row, const Row &other) {
+  vector<double> ratios;
+  for (size_t round = 0; round < row.times.size(); round++) ratios.push_back(row.bytes / row.times[round] / (other.bytes / other.times[round]));
+  return told(ratios, 2) + " times " + other.plugin;
+}
+
+static void show(const vector<Row *> &rows) {
+  for (Row *row : rows) {
+    vector<double> speeds;
+    for (double time : row->times) speeds.push_back(row->bytes / time / 1e9);
+    printf("  %-16s %-18s %-21s", row->what.c_str(), row->plugin.c_str(), told(speeds, 3).c_str());
+    for (Row *other : rows)
+      if (row == rows.back() && other != row) printf("  %s", told_beside(*row, *other).c_str());
+    puts("");
+  }
+}
+
 static void speed(const string &directory, int k, int m, unsigned unit, const vector<string> &plugins) {
   vector<Row> rows;
   for (auto &plugin : plugins) add_rows(plugin, code_of(plugin, directory, k, m), unit, &rows);
-  for (int round = 0; round < 7; round++)
-    for (auto &row : rows) row.times.push_back(seconds_of(row.call));
-  printf("%d+%d, chunks of %u bytes, GB/s (least..greatest of 7 rounds)\n", k, m, unit);
-  for (auto &what : timed)
-    for (auto &row : rows) {
-      if (row.what != what) continue;
-      std::sort(row.times.begin(), row.times.end());
-      auto speed_at = [&row](size_t round) { return row.bytes / row.times[round] / 1e9; };
-      printf("  %-16s %-18s %7.3f (%.3f..%.3f)\n", what.c_str(), row.plugin.c_str(), speed_at(3), speed_at(6), speed_at(0));
-    }
+  vector<vector<Row *>> kinds;
+  for (auto &what : timed) {
+    kinds.emplace_back();
+    for (auto &row : rows)
+      if (row.what == what) kinds.back().push_back(&row);
+  }
+  for (int round = 0; round < 9; round++)
+    for (auto &kind : kinds)
+      for (Row *row : kind) row->times.push_back(seconds_of(row->call));
+  printf("%d+%d, chunks of %u bytes, GB/s, the median (least..greatest) of 9 rounds; the last plugin beside the others in the same round\n", k, m, unit);
+  for (auto &kind : kinds) show(kind);
 }
 
 int main(int count, char **words) {
