@@ -133,6 +133,7 @@ module _ (store : Store) (seated : Seated) (may : MayStep store seated) (mid aft
           };
           same = number;
           falls = goes_now.falls;
+          one_more = refl;
         })
 
   -- ---- after a step at the directory

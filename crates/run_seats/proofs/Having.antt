@@ -4,13 +4,13 @@ use Rattle.std.proofs.lemmas.List.Folds.{list_any_at, list_any_none}
 use Rattle.std.specs.List.{list_any}
 
 -- what stands at a place within a list is what is read there, whatever is read past its end
-read_within : {X : Type 0} (xs : List X) (i : ℕ) (d e : X) → i < length xs → get_or xs i d ≡ get_or xs i e
+pub read_within : {X : Type 0} (xs : List X) (i : ℕ) (d e : X) → i < length xs → get_or xs i d ≡ get_or xs i e
 read_within [] i d e low = absurd (omega (arith, low))
 read_within (x ∷ xs) zero d e low = refl
 read_within (x ∷ xs) (suc i) d e low = read_within xs i d e (omega (arith, low))
 
 -- a number below the next one is below this one, or it is this one
-below_or_same : (i m : ℕ) → i < m + 1 → (i < m) ⊎ (i ≡ m)
+pub below_or_same : (i m : ℕ) → i < m + 1 → (i < m) ⊎ (i ≡ m)
 below_or_same zero zero low = inr refl
 below_or_same zero (suc m) low = inl (omega arith)
 below_or_same (suc i) zero low = absurd (omega (arith, low))

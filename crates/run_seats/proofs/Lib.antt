@@ -15,4 +15,5 @@ pub mod OperatingOn
 pub mod Going
 pub mod Acting
 pub mod Having
+pub mod Falling
 pub mod Crossing

@@ -1,5 +1,5 @@
 -- The seated operator before and after its step.
-use Rattle.std.proofs.Common.{◌≡◌, ℕ, ◌+◌, ◌<◌, true, All, List, ◌∷◌, drop, get_or, length, set, Option, None, Some, refl, sym, ap, subst, ◌∙◌, ltb-true}
+use Rattle.std.proofs.Common.{◌≡◌, ℕ, ◌+◌, ◌-◌, ◌<◌, true, All, List, ◌∷◌, drop, get_or, length, set, Option, None, Some, refl, sym, ap, subst, ◌∙◌, ltb-true, arith}
 use Rattle.std.proofs.lemmas.List.{drop_more}
 use Rattle.std.proofs.lemmas.List.Elements.{All-filter, All-get_or, filter_passes}
 use Rattle.clay_grid.specs.Shape.{chunk_count}
@@ -51,6 +51,10 @@ operated_there : (j number last : ℕ) (seen now : List (ℕ × MadeStep)) (line
     → HasAddedAtServer number last seen now actor.Operator (Act.AtServer j (line_step line))
 operated_there j number last seen now line acts made =
     subst (λ (k : ℕ). HasAddedAtServer number last seen now actor.Operator (Act.AtServer k (line_step line))) (ap server_in (sym made.acts ∙ acts)) made.added
+
+-- a line more is made of them
+fewer : (after before lines all : ℕ) → after ≡ before + 1 → lines ≡ all → before < lines → all - after < all - before
+fewer after before lines all more same less = omega (arith, more, same, less)
 
 module _ (store : Store) (seated : SeatedOperator) (may : MayOperate store seated) (line : Token) (next : line ≡ get_or seated.lines.items seated.made line) where
   abbrev script : Script
@@ -108,6 +112,7 @@ module _ (store : Store) (seated : SeatedOperator) (may : MayOperate store seate
           };
           same = number;
           one_more = one_more;
+          falls = fewer now.made seated.made (length seated.lines.items) (length (lines_of script)) one_more (ap length may.seated_is.lines) less_lines;
         }
 
   module _ (last : ℕ) (last_is : last ≡ last_by store seated.turns) where

@@ -1,5 +1,5 @@
 -- The seated sweeper before and after its step.
-use Rattle.std.proofs.Common.{◌≡◌, ℕ, ◌<◌, List, get_or, length, set, Some, refl, sym, ap, subst, ◌∙◌}
+use Rattle.std.proofs.Common.{◌≡◌, ℕ, ◌+◌, ◌-◌, ◌^◌, ◌<◌, min, List, get_or, length, set, Some, refl, sym, ap, subst, ◌∙◌}
 use Rattle.clay_grid.specs.Shape.{chunk_count}
 use Rattle.store_map.specs.declared.actor.Actor.TheVariants as actor
 use Rattle.store_map.specs.declared.script.Script.{Script}
@@ -57,7 +57,7 @@ module _ (store : Store) (seated : SeatedSweeper) (is : IsSweeper store seated) 
 
   -- ---- with other turns
   module _ (now : SeatedSweeper) (turns : HasTurns store now.turns) (number : now.turns.number ≡ seated.turns.number) (count : now.sweeper.servers ≡ seated.sweeper.servers)
-      (sweeping : IsSweeping script (own_at seated.turns.number (seen_by now.turns)) now.sweeper.at) where
+      (sweeping : IsSweeping script (own_at seated.turns.number (seen_by now.turns)) now.sweeper.at) (one_more : now.steps ≡ min (seated.steps + 1) (2 ^ 64 - 1)) where
     sweeps_on : SweepsOn store seated now
     sweeps_on =
         record {
@@ -68,16 +68,18 @@ module _ (store : Store) (seated : SeatedSweeper) (is : IsSweeper store seated) 
             sweeping = subst (λ (n : ℕ). IsSweeping script (own_at n (seen_by now.turns)) now.sweeper.at) (sym number) sweeping;
           };
           same = number;
+          one_more = one_more;
         }
 
   -- ---- after a step at the directory
-  pub swept_on_directory : (turn : TurnState DirectoryIdentity Noted) (after : SweeperOf) (steps : ℕ) → turn ≡ record seated.turns.directory { seen = turn.seen }
+  pub swept_on_directory : (turn : TurnState DirectoryIdentity Noted) (after : SweeperOf) (steps : ℕ) → steps ≡ min (seated.steps + 1) (2 ^ 64 - 1) → turn ≡ record seated.turns.directory { seen = turn.seen }
       → HasSweptAtDirectory seated.turns.number last seated.turns.directory.seen turn.seen seated.sweeper after → SweepsOn store seated (record { sweeper = after; steps = steps; turns = record seated.turns { directory = turn } })
-  swept_on_directory turn after steps same swept =
+  swept_on_directory turn after steps one_more same swept =
       sweeps_on (record { sweeper = after; steps = steps; turns = record seated.turns { directory = turn } }) (turns_there store seated.turns turn is.turns same) refl (ap (λ (x : SweeperOf). x.servers) swept_now.hears)
       (subst (λ (x : SweeperOf). IsSweeping script (own_at seated.turns.number (with_notes turn.seen (seen_by seated.turns))) x.at) (sym swept_now.hears)
       (subst (λ (n : ℕ). IsSweeping script (own_at seated.turns.number (with_notes turn.seen (seen_by seated.turns))) (after_sweep n seated.sweeper.at swept_now.added.answer)) (sym is.servers)
       ((sweeping_goes_on script seated.turns.number (seen_by seated.turns) seated.sweeper.at is.sweeping).at_directory swept_now.step turn.seen (next_is (Act.AtDirectory swept_now.step) swept_now.acts) swept_now.added)))
+      one_more
     where
       swept_now : HasSweptAtDirectory seated.turns.number (last_by store seated.turns) seated.turns.directory.seen turn.seen seated.sweeper after
       swept_now = subst (λ (k : ℕ). HasSweptAtDirectory seated.turns.number k seated.turns.directory.seen turn.seen seated.sweeper after) last_is swept
@@ -100,10 +102,10 @@ module _ (store : Store) (seated : SeatedSweeper) (is : IsSweeper store seated) 
         ((sweeping_goes_on script seated.turns.number (seen_by seated.turns) seated.sweeper.at is.sweeping).at_server j swept_now.step turn.seen (count_seen store seated.turns is.turns)
         (subst (λ (n : ℕ). j < n) is.turns.count less) (next_is (Act.AtServer j swept_now.step) swept_now.acts) swept_now.added))
 
-    pub swept_on_server : SweepsOn store seated now
-    swept_on_server =
+    pub swept_on_server : now.steps ≡ min (seated.steps + 1) (2 ^ 64 - 1) → SweepsOn store seated now
+    swept_on_server one_more =
         sweeps_on now (turns_here seated.turns now.turns j turn before kept items less read store is.turns same) (ap (λ (x : Turns). x.number) kept) (ap (λ (x : SweeperOf). x.servers) swept_now.hears)
-        (subst (λ (logs : Logs). IsSweeping script (own_at seated.turns.number logs) now.sweeper.at) (sym (seen_here seated.turns now.turns j turn before kept items less read)) sweeping_here)
+        (subst (λ (logs : Logs). IsSweeping script (own_at seated.turns.number logs) now.sweeper.at) (sym (seen_here seated.turns now.turns j turn before kept items less read)) sweeping_here) one_more
 
   -- ---- before the step
   pub may_sweep_directory : need_of seated.sweeper ≡ need.Directory → IsSweepAtDirectory seated.turns.directory.fixed seated.turns.number seated.sweeper

@@ -23,6 +23,11 @@ abbrev pub max_in : Option DirectoryIdentity → ℕ
 max_in None = 0
 max_in (Some identity) = identity.max
 
+-- the number of the server with this fixed part
+abbrev pub server_in : Option ServerIdentity → ℕ
+server_in None = 0
+server_in (Some identity) = identity.number
+
 -- what never changes about a server in its box
 abbrev pub server_identity : ServerBox → ServerIdentity
 server_identity held = record { number = held.server.number; opening = held.server.book; clients = held.clients; repairers = held.repairers }

@@ -9,4 +9,6 @@ pub mod Places
 pub mod Seated
 pub mod SeatedPlain
 pub mod SeatedActors
+pub mod Falling
+pub mod Telling
 pub mod Working

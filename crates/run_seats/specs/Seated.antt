@@ -44,8 +44,9 @@ pub record MayStep (store : Store) (seated : Seated) : Type 0 where
   pub seated_is : IsSeated store seated
   pub has : seated_has store.script.now seated ≡ true
 
--- after a step it has fewer left
+-- after a step it has fewer left, and has counted it
 pub record StepsOn (store : Store) (before after : Seated) : Type 0 where
   pub seated_is : IsSeated store after
   pub same : after.turns.number ≡ before.turns.number
   pub falls : left_by store after < left_by store before
+  pub one_more : after.steps ≡ before.steps + 1

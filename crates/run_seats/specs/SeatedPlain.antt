@@ -1,5 +1,5 @@
 -- The sweeper and the operator, each with its turns at all places of a store.
-use Rattle.std.specs.Prelude.{◌≡◌, ◌+◌, Bool, true, length, drop, nat_lt, Some}
+use Rattle.std.specs.Prelude.{◌≡◌, ℕ, ◌+◌, ◌-◌, ◌^◌, ◌<◌, Bool, true, length, drop, min, nat_lt, Some}
 use Rattle.clay_grid.specs.Shape.{chunk_count}
 use Rattle.store_map.specs.declared.actor.Actor.TheVariants as actor
 use Rattle.store_map.specs.declared.actor.Token.{Token}
@@ -29,10 +29,11 @@ pub record MaySweep (store : Store) (seated : SeatedSweeper) : Type 0 where
   pub store_is : IsStore store
   pub seated_is : IsSweeper store seated
 
--- after its step it is there as before
+-- after its step it is there as before, and has counted it
 pub record SweepsOn (store : Store) (before after : SeatedSweeper) : Type 0 where
   pub seated_is : IsSweeper store after
   pub same : after.turns.number ≡ before.turns.number
+  pub one_more : after.steps ≡ min (before.steps + 1) (2 ^ 64 - 1)
 
 -- the operator with the lines of the script, whose own entries at all places are the steps of those that it has made
 pub record IsOperator (store : Store) (seated : SeatedOperator) : Type 0 where
@@ -45,17 +46,22 @@ pub record IsOperator (store : Store) (seated : SeatedOperator) : Type 0 where
 abbrev pub line_left : SeatedOperator → Bool
 line_left seated = nat_lt seated.made (length seated.lines.items)
 
+-- how many it has left
+abbrev pub lines_left : Store → SeatedOperator → ℕ
+lines_left store seated = length (lines_of store.script.now) - seated.made
+
 -- it has one, at a store
 pub record MayOperate (store : Store) (seated : SeatedOperator) : Type 0 where
   pub store_is : IsStore store
   pub seated_is : IsOperator store seated
   pub has : line_left seated ≡ true
 
--- it has made one line more
+-- it has made one line more, and has fewer left
 pub record OperatesOn (store : Store) (before after : SeatedOperator) : Type 0 where
   pub seated_is : IsOperator store after
   pub same : after.turns.number ≡ before.turns.number
   pub one_more : after.made ≡ before.made + 1
+  pub falls : lines_left store after < lines_left store before
 
 -- where a line is made
 abbrev pub IsTarget : Token → Target → Type 0

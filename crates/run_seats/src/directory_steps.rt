@@ -1,6 +1,7 @@
 //! Steps of callers at the directory.
 ghost use Rattle.std.specs.Prelude.{◌≡◌, ◌∷◌, ◌++◌, [], ℕ};
 ghost use Rattle.place_laws.specs.Noted.{Noted};
+ghost use Rattle.run_seats.specs.declared.gate.Place.TheVariants as place;
 ghost use Rattle.run_seats.specs.Before.{IsBeforeDirectory};
 ghost use Rattle.run_seats.specs.Turns.{IsFree, IsHolding, gave};
 ghost use Rattle.run_seats.specs.Fixed.{DirectoryStands, directory_identity, max_in};
@@ -51,6 +52,7 @@ pub(crate) fn step_at_directory<R: Wait, G: Gate>(
     requires book { book.now ≡ caller.old.book }
     ensures turn { turn.new ≡ record turn.old { seen = turn.new.seen } }
     ensures step { HasSteppedAtDirectory stepper.number last (max_in turn.old.fixed) turn.old.seen turn.new.seen caller.old caller.new }
+    ensures told { G.was_told gate.now stepper.actor stepper.steps place.Directory }
 {
     let mut held = lock.take(rt, turn);
     held.directory.keeps();

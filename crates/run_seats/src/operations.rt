@@ -9,8 +9,9 @@ ghost use Rattle.chunk_server.specs.Core.{core_of};
 ghost use Rattle.chunk_server.specs.State.{IsSame};
 ghost use Rattle.place_laws.specs.Plain.{HasAddedAtDirectory};
 ghost use Rattle.place_laws.specs.Noted.{Noted};
+ghost use Rattle.run_seats.specs.declared.gate.Place.TheVariants as place;
 ghost use Rattle.run_seats.specs.Turns.{IsFree, IsHolding, gave};
-ghost use Rattle.run_seats.specs.Fixed.{DirectoryStands, ServerStands, directory_identity, server_identity};
+ghost use Rattle.run_seats.specs.Fixed.{DirectoryStands, ServerStands, directory_identity, server_identity, server_in};
 ghost use Rattle.run_seats.specs.Plain.{IsLineAtServer, IsLineAtDirectory, IsOfServer, HasOperatedAtServer, line_step};
 
 use crate::directory_box::DirectoryBox;
@@ -86,6 +87,7 @@ pub(crate) fn operate_server<R: Wait, G: Gate>(
     requires before { IsLineAtServer turn.old.fixed stepper.number line }
     ensures turn { turn.new ≡ record turn.old { seen = turn.new.seen } }
     ensures step { HasOperatedAtServer stepper.number last turn.old.seen turn.new.seen line }
+    ensures told { G.was_told gate.now stepper.actor stepper.steps (place.Server (server_in turn.old.fixed)) }
 {
     let mut held = lock.take(rt, turn);
     let before = Snapshot::of(&held);
@@ -113,6 +115,7 @@ pub(crate) fn reap<R: Wait, G: Gate>(
     requires before { IsLineAtDirectory turn.old.fixed stepper.number }
     ensures turn { turn.new ≡ record turn.old { seen = turn.new.seen } }
     ensures step { HasAddedAtDirectory stepper.number last turn.old.seen turn.new.seen CoreActor.Operator (Act.AtDirectory (DirectoryStep.Reap reaped)) }
+    ensures told { G.was_told gate.now stepper.actor stepper.steps place.Directory }
 {
     let mut held = lock.take(rt, turn);
     held.directory.keeps();

@@ -1,7 +1,8 @@
 //! A caller with its turns at all places of a store.
-ghost use Rattle.std.specs.Prelude.{◌≡◌, ℕ};
+ghost use Rattle.std.specs.Prelude.{◌≡◌, ◌<◌, ℕ, true, false};
+ghost use Rattle.run_seats.specs.Telling.{IsTold};
 ghost use Rattle.run_seats.specs.Places.{IsStore, last_by};
-ghost use Rattle.run_seats.specs.Seated.{IsSeated, MayStep, StepsOn};
+ghost use Rattle.run_seats.specs.Seated.{IsSeated, MayStep, StepsOn, left_by, seated_has};
 
 use crate::directory_steps::step_at_directory;
 use crate::gate::Gate;
@@ -50,7 +51,8 @@ impl<'a> Seated<'a> {
         ghost last: { ℕ }
         requires last { last ≡ last_by store.now self.old.turns }
         requires may { MayStep store.now self.old }
-        ensures { StepsOn store.now self.old self.new }
+        ensures steps { StepsOn store.now self.old self.new }
+        ensures told { IsTold (G.was_told gate.now) self.old.actor self.old.steps }
     {
         self.caller.ready(rt, coder, self.place);
         let stepper = self.stepper();
@@ -87,7 +89,8 @@ impl<'a> Seated<'a> {
         store: &Store,
     )
         requires { MayStep store.now self.old }
-        ensures { StepsOn store.now self.old self.new }
+        ensures steps { StepsOn store.now self.old self.new }
+        ensures told { IsTold (G.was_told gate.now) self.old.actor self.old.steps }
     {
         self.turn_after(rt, coder, gate, store);
     }
@@ -104,6 +107,9 @@ impl<'a> Seated<'a> {
         requires seated { IsSeated store.now self.old }
         ensures seated { IsSeated store.now self.new }
         ensures number { self.new.turns.number ≡ self.old.turns.number }
+        ensures falls { seated_has store.now.script.now self.old ≡ true → left_by store.now self.new < left_by store.now self.old }
+        ensures over { seated_has store.now.script.now self.old ≡ false → left_by store.now self.new ≡ left_by store.now self.old }
+        ensures told { seated_has store.now.script.now self.old ≡ true → IsTold (G.was_told gate.now) self.old.actor self.old.steps }
     {
         if !self.caller.has_step() {
             return;

@@ -1,6 +1,8 @@
 //! An actor of any kind with its turns at all places of a store.
-ghost use Rattle.std.specs.Prelude.{◌≡◌};
+ghost use Rattle.std.specs.Prelude.{◌≡◌, ◌<◌, true, false};
 ghost use Rattle.store_map.specs.declared.script.Script.{Script as StoreScript};
+ghost use Rattle.run_seats.specs.Falling.{steps_left};
+ghost use Rattle.run_seats.specs.Telling.{IsToldOf};
 ghost use Rattle.run_seats.specs.Places.{IsStore};
 ghost use Rattle.run_seats.specs.SeatedActors.{IsOfCode, IsSeatedActor, actor_has, number_of};
 
@@ -45,6 +47,9 @@ impl<'a> SeatedActor<'a> {
         requires seated { IsSeatedActor store.now self.old }
         ensures seated { IsSeatedActor store.now self.new }
         ensures number { number_of self.new ≡ number_of self.old }
+        ensures falls { actor_has store.now.script.now self.old ≡ true → steps_left store.now self.new < steps_left store.now self.old }
+        ensures over { actor_has store.now.script.now self.old ≡ false → steps_left store.now self.new ≡ steps_left store.now self.old }
+        ensures told { IsToldOf (G.was_told gate.now) store.now.script.now self.old }
     {
         match self {
             SeatedActor::Caller(seated) => seated.visit(rt, coder, gate, store),

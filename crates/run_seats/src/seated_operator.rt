@@ -1,8 +1,10 @@
 //! The operator with its turns at all places of a store.
-ghost use Rattle.std.specs.Prelude.{◌≡◌, ℕ, true};
+ghost use Rattle.std.specs.Prelude.{◌≡◌, ◌<◌, ℕ, true, false};
 ghost use Rattle.thread_laws.specs.Threaded.{is_line};
+ghost use Rattle.store_map.specs.declared.actor.Actor.TheVariants as actor;
+ghost use Rattle.run_seats.specs.Telling.{IsTold};
 ghost use Rattle.run_seats.specs.Places.{IsStore, last_by};
-ghost use Rattle.run_seats.specs.SeatedPlain.{IsOperator, IsTarget, MayOperate, OperatesOn, line_left};
+ghost use Rattle.run_seats.specs.SeatedPlain.{IsOperator, IsTarget, MayOperate, OperatesOn, line_left, lines_left};
 
 use crate::gate::Gate;
 use crate::operations::{operate_server, reap};
@@ -55,7 +57,8 @@ impl SeatedOperator {
         ghost last: { ℕ }
         requires last { last ≡ last_by store.now self.old.turns }
         requires may { MayOperate store.now self.old }
-        ensures { OperatesOn store.now self.old self.new }
+        ensures steps { OperatesOn store.now self.old self.new }
+        ensures told { IsTold (G.was_told gate.now) actor.Operator self.old.made }
     {
         let line = self.lines[self.made];
         let stepper = Stepper {
@@ -87,7 +90,8 @@ impl SeatedOperator {
     /// The step of its next line.
     pub fn turn<R: Wait, G: Gate>(&mut self, rt: &R, gate: &G, store: &Store)
         requires { MayOperate store.now self.old }
-        ensures { OperatesOn store.now self.old self.new }
+        ensures steps { OperatesOn store.now self.old self.new }
+        ensures told { IsTold (G.was_told gate.now) actor.Operator self.old.made }
     {
         self.turn_after(rt, gate, store);
     }
@@ -98,6 +102,9 @@ impl SeatedOperator {
         requires seated { IsOperator store.now self.old }
         ensures seated { IsOperator store.now self.new }
         ensures number { self.new.turns.number ≡ self.old.turns.number }
+        ensures falls { line_left self.old ≡ true → lines_left store.now self.new < lines_left store.now self.old }
+        ensures over { line_left self.old ≡ false → lines_left store.now self.new ≡ lines_left store.now self.old }
+        ensures told { line_left self.old ≡ true → IsTold (G.was_told gate.now) actor.Operator self.old.made }
     {
         if !self.has_line() {
             return;

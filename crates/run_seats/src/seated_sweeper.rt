@@ -1,5 +1,7 @@
 //! The sweeper with its turns at all places of a store.
 ghost use Rattle.std.specs.Prelude.{◌≡◌, ℕ};
+ghost use Rattle.store_map.specs.declared.actor.Actor.TheVariants as actor;
+ghost use Rattle.run_seats.specs.Telling.{IsTold};
 ghost use Rattle.run_seats.specs.Places.{last_by};
 ghost use Rattle.run_seats.specs.SeatedPlain.{MaySweep, SweepsOn};
 
@@ -27,14 +29,16 @@ impl SeatedSweeper {
         ghost last: { ℕ }
         requires last { last ≡ last_by store.now self.old.turns }
         requires may { MaySweep store.now self.old }
-        ensures { SweepsOn store.now self.old self.new }
+        ensures steps { SweepsOn store.now self.old self.new }
+        ensures told { IsTold (G.was_told gate.now) actor.Sweeper self.old.steps }
     {
         let stepper = Stepper {
             actor: Actor::Sweeper,
             number: self.turns.number,
             steps: self.steps,
         };
-        self.steps = self.steps.saturating_add(1);
+        let steps = self.steps.saturating_add(1);
+        self.steps = steps;
         match self.sweeper.need() {
             Need::Directory => sweep_directory(
                 rt,
@@ -59,7 +63,8 @@ impl SeatedSweeper {
     /// Its step, at the place that it needs.
     pub fn turn<R: Wait, G: Gate>(&mut self, rt: &R, gate: &G, store: &Store)
         requires { MaySweep store.now self.old }
-        ensures { SweepsOn store.now self.old self.new }
+        ensures steps { SweepsOn store.now self.old self.new }
+        ensures told { IsTold (G.was_told gate.now) actor.Sweeper self.old.steps }
     {
         self.turn_after(rt, gate, store);
     }

@@ -1,9 +1,10 @@
 //! Steps of callers at a server.
 ghost use Rattle.std.specs.Prelude.{◌≡◌, ◌∷◌, ◌++◌, [], ℕ};
 ghost use Rattle.thread_laws.specs.MadeSteps.{MadeStep};
+ghost use Rattle.run_seats.specs.declared.gate.Place.TheVariants as place;
 ghost use Rattle.run_seats.specs.Before.{IsBeforeServer};
 ghost use Rattle.run_seats.specs.Turns.{IsFree, IsHolding, gave};
-ghost use Rattle.run_seats.specs.Fixed.{ServerStands, server_identity};
+ghost use Rattle.run_seats.specs.Fixed.{ServerStands, server_identity, server_in};
 ghost use Rattle.run_seats.specs.Stepped.{HasSteppedAtServer};
 
 use crate::gate::{Gate, Place};
@@ -48,6 +49,7 @@ pub(crate) fn step_at_server<R: Wait, G: Gate>(
     requires before { IsBeforeServer turn.old.fixed stepper.number caller.old }
     ensures turn { turn.new ≡ record turn.old { seen = turn.new.seen } }
     ensures step { HasSteppedAtServer stepper.number last turn.old.seen turn.new.seen caller.old caller.new }
+    ensures told { G.was_told gate.now stepper.actor stepper.steps (place.Server (server_in turn.old.fixed)) }
 {
     let mut held = lock.take(rt, turn);
     let before = Snapshot::of(&held);

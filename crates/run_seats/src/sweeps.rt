@@ -2,8 +2,9 @@
 ghost use Rattle.std.specs.Prelude.{◌≡◌, ◌∷◌, ◌++◌, [], ℕ};
 ghost use Rattle.thread_laws.specs.MadeSteps.{MadeStep};
 ghost use Rattle.place_laws.specs.Noted.{Noted};
+ghost use Rattle.run_seats.specs.declared.gate.Place.TheVariants as place;
 ghost use Rattle.run_seats.specs.Turns.{IsFree, IsHolding, gave};
-ghost use Rattle.run_seats.specs.Fixed.{DirectoryStands, ServerStands, directory_identity, server_identity};
+ghost use Rattle.run_seats.specs.Fixed.{DirectoryStands, ServerStands, directory_identity, server_identity, server_in};
 ghost use Rattle.run_seats.specs.Plain.{IsSweepAtServer, IsSweepAtDirectory, HasSweptAtServer, HasSweptAtDirectory};
 
 use crate::directory_box::DirectoryBox;
@@ -64,6 +65,7 @@ pub(crate) fn sweep_server<R: Wait, G: Gate>(
     requires before { IsSweepAtServer turn.old.fixed stepper.number sweeper.old }
     ensures turn { turn.new ≡ record turn.old { seen = turn.new.seen } }
     ensures step { HasSweptAtServer stepper.number last turn.old.seen turn.new.seen sweeper.old sweeper.new }
+    ensures told { G.was_told gate.now stepper.actor stepper.steps (place.Server (server_in turn.old.fixed)) }
 {
     let mut held = lock.take(rt, turn);
     let before = Snapshot::of(&held);
@@ -92,6 +94,7 @@ pub(crate) fn sweep_directory<R: Wait, G: Gate>(
     requires before { IsSweepAtDirectory turn.old.fixed stepper.number sweeper.old }
     ensures turn { turn.new ≡ record turn.old { seen = turn.new.seen } }
     ensures step { HasSweptAtDirectory stepper.number last turn.old.seen turn.new.seen sweeper.old sweeper.new }
+    ensures told { G.was_told gate.now stepper.actor stepper.steps place.Directory }
 {
     let mut held = lock.take(rt, turn);
     held.directory.keeps();

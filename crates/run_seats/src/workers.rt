@@ -1,6 +1,7 @@
 //! Workers: each makes the steps of its actors, until none of them has one.
-ghost use Rattle.std.specs.Prelude.{◌≡◌, ◌<◌, All, map};
+ghost use Rattle.std.specs.Prelude.{◌≡◌, ◌<◌, true, All, map};
 ghost use Rattle.store_map.specs.declared.script.Script.{Script as StoreScript};
+ghost use Rattle.run_seats.specs.Falling.{all_left};
 ghost use Rattle.run_seats.specs.Places.{IsStore};
 ghost use Rattle.run_seats.specs.SeatedActors.{AreOfCode, IsSeatedActor, number_of, some_has};
 ghost use Rattle.run_seats.specs.Working.{AreDone, IsDone, IsWorking};
@@ -30,7 +31,7 @@ fn some_has_step(actors: &[SeatedActor]) -> bool
     false
 }
 
-// A step of each actor that has one.
+// A step of each actor that has one. Where one has, they have fewer left in all.
 fn round<R: Threads + Wait + Sync, C: Coder, G: Gate>(
     rt: &R,
     coder: &C,
@@ -42,6 +43,7 @@ fn round<R: Threads + Wait + Sync, C: Coder, G: Gate>(
     requires seated { All (IsSeatedActor store.now) actors.old.items }
     ensures seated { All (IsSeatedActor store.now) actors.new.items }
     ensures numbers { map number_of actors.new.items ≡ map number_of actors.old.items }
+    ensures falls { some_has store.now.script.now actors.old.items ≡ true → all_left store.now actors.new.items < all_left store.now actors.old.items }
 {
     for place in 0..actors.len() {
         actors[place].visit(rt, coder, gate, store);

@@ -8,13 +8,14 @@ use Rattle.chunk_server.specs.Core.{core_of}
 use Rattle.turn_lock.specs.TurnState.{TurnState}
 use Rattle.place_laws.specs.AtServer.{StandsAtServer}
 use Rattle.place_laws.specs.Numbers.{Counts}
-use Rattle.run_seats.specs.Fixed.{server_identity}
+use Rattle.run_seats.specs.Fixed.{server_identity, server_in}
 use Rattle.run_seats.specs.Plain.{plain_at_server, line_step}
 use Rattle.run_seats.proofs.Holding.{holding}
 use Rattle.run_seats.proofs.Operating.{line_fits}
 use Rattle.run_seats.proofs.PlainSteps.{plain_stands, plain_added}
 use Rattle.run_seats.specs.declared.server_box.ServerBox.{ServerBox}
 use Rattle.run_seats.specs.declared.server_box.ServerIdentity.{ServerIdentity}
+use Rattle.run_seats.specs.declared.gate.Place.TheVariants as place
 use Rattle.run_seats.proofs.operations.operate_server.Goals as goal
 
 pub operate-requires : goal.operate-requires
@@ -54,3 +55,7 @@ returns-clause-step g c =
           (ap (λ (t : TurnState ServerIdentity MadeStep). t.seen) c.give_server.ensures
           ∙ (λ i. log ++ plain_at_server n actor.Operator (Act.AtServer (c.of-before.ensures i).server.number step) (core_of (c.of-before.ensures i).server) log g.last ∷ []));
     }
+
+pub returns-clause-told : goal.returns-clause-told
+returns-clause-told g c =
+    subst (λ (n : ℕ). g.G.Gate.was_told c.args.gate.now c.args.stepper.actor c.args.stepper.steps (place.Server n)) (c.number.ensures ∙ ap server_in c.take-held.ensures.fixed) c.pass.ensures

@@ -8,12 +8,13 @@ use Rattle.turn_lock.specs.TurnState.{TurnState}
 use Rattle.place_laws.specs.Numbers.{Counts}
 use Rattle.place_laws.specs.AtServer.{StandsAtServer}
 use Rattle.run_seats.specs.Stepped.{entry_at_server}
-use Rattle.run_seats.specs.Fixed.{server_identity}
+use Rattle.run_seats.specs.Fixed.{server_identity, server_in}
 use Rattle.run_seats.proofs.Fits.{call_is, fits, needs_here, work_is}
 use Rattle.run_seats.proofs.Holding.{holding}
 use Rattle.run_seats.proofs.ServerSteps.{caller_stands, caller_stepped, number_is}
 use Rattle.run_seats.specs.declared.server_box.ServerBox.{ServerBox}
 use Rattle.run_seats.specs.declared.server_box.ServerIdentity.{ServerIdentity}
+use Rattle.run_seats.specs.declared.gate.Place.TheVariants as place
 use Rattle.run_seats.proofs.server_steps.step_at_server.Goals as goal
 
 pub on_server-left-requires-clause-need : goal.on_server-left-requires-clause-need
@@ -68,3 +69,7 @@ returns-clause-step g c =
     (ap (λ (t : TurnState ServerIdentity MadeStep). t.seen) c.give_step.ensures
     ∙ (λ i. log ++ entry_at_server n (c.of-stood.ensures i).work left (core_of (c.of-before.ensures i).server) log g.last ∷ []))
     m c.on_server-left.ensures.knows
+
+pub returns-clause-told : goal.returns-clause-told
+returns-clause-told g c =
+    subst (λ (n : ℕ). g.G.Gate.was_told c.args.gate.now c.args.stepper.actor c.args.stepper.steps (place.Server n)) (c.number.ensures ∙ ap server_in c.take-held.ensures.fixed) c.pass.ensures

@@ -6,12 +6,13 @@ use Rattle.sweeper.specs.Sweeps.{SweeperOf, act_of}
 use Rattle.turn_lock.specs.TurnState.{TurnState}
 use Rattle.place_laws.specs.AtServer.{StandsAtServer}
 use Rattle.place_laws.specs.Numbers.{Counts}
-use Rattle.run_seats.specs.Fixed.{server_identity}
+use Rattle.run_seats.specs.Fixed.{server_identity, server_in}
 use Rattle.run_seats.specs.Plain.{plain_at_server}
 use Rattle.run_seats.proofs.Holding.{holding}
 use Rattle.run_seats.proofs.Sweeping.{sweep_fits, sweep_stands, sweep_stepped}
 use Rattle.run_seats.specs.declared.server_box.ServerBox.{ServerBox}
 use Rattle.run_seats.specs.declared.server_box.ServerIdentity.{ServerIdentity}
+use Rattle.run_seats.specs.declared.gate.Place.TheVariants as place
 use Rattle.run_seats.proofs.sweeps.sweep_server.Goals as goal
 
 pub on_server-requires : goal.on_server-requires
@@ -48,3 +49,7 @@ returns-clause-step g c =
     c.requires.1.1.0.number c.take-held.ensures.seen
     (ap (λ (t : TurnState ServerIdentity MadeStep). t.seen) c.give_server.ensures
     ∙ (λ i. log ++ plain_at_server n actor.Sweeper (act_of (c.of-stood.ensures i)) (core_of (c.of-before.ensures i).server) log g.last ∷ []))
+
+pub returns-clause-told : goal.returns-clause-told
+returns-clause-told g c =
+    subst (λ (n : ℕ). g.G.Gate.was_told c.args.gate.now c.args.stepper.actor c.args.stepper.steps (place.Server n)) (c.number.ensures ∙ ap server_in c.take-held.ensures.fixed) c.pass.ensures

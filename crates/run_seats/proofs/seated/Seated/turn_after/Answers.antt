@@ -2,9 +2,11 @@ use Rattle.std.proofs.Common.{◌≡◌, ℕ, ◌<◌, Some, refl, sym, ap, subs
 use Rattle.std.specs.List.{slice_get}
 use Rattle.clay_grid.specs.Shape.{chunk_count}
 use Rattle.run_seats.specs.Before.{IsBeforeServer, IsBeforeDirectory}
-use Rattle.run_seats.specs.Fixed.{max_in}
+use Rattle.run_seats.specs.Fixed.{max_in, server_in}
 use Rattle.run_seats.specs.Places.{directory_of, server_of}
 use Rattle.run_seats.specs.Stepped.{HasSteppedAtServer, HasSteppedAtDirectory}
+use Rattle.run_seats.specs.declared.gate.Place.TheVariants as place
+use Rattle.run_seats.specs.declared.stepper.Stepper.{Stepper}
 use Rattle.run_seats.proofs.Going.{below_all, count_fits, directory_stepped, server_stepped}
 use Rattle.run_seats.proofs.Placing.{free_of, got}
 use Rattle.run_seats.proofs.Seating.{before_directory, before_server, may_go_on}
@@ -57,8 +59,8 @@ step_at_server-requires g c κs within =
       ),
     )
 
-pub returns-in-Directory : goal.returns-in-Directory
-returns-in-Directory g c =
+pub returns-in-Directory-clause-steps : goal.returns-in-Directory-clause-steps
+returns-in-Directory-clause-steps g c =
     let may = c.requires.1.1.1.1.1 in
     let seated = c.args.self.now in
     let after = c.step_at_directory.new.caller in
@@ -67,8 +69,8 @@ returns-in-Directory g c =
     directory_stepped c.args.store.now seated may c.ready.new.self after c.ready.ensures.ready.ready g.last c.requires.1.1.1.1.0 turn c.step_at_directory.ensures.turn
     (subst (λ (n : ℕ). HasSteppedAtDirectory n g.last (max_in seated.turns.directory.fixed) seated.turns.directory.seen turn.seen c.ready.new.self after) number c.step_at_directory.ensures.step) c.in-Directory.ensures.need c.need.ensures.its
 
-pub returns-in-Server : goal.returns-in-Server
-returns-in-Server g c =
+pub returns-in-Server-clause-steps : goal.returns-in-Server-clause-steps
+returns-in-Server-clause-steps g c =
     let may = c.requires.1.1.1.1.1 in
     let store = c.args.store.now in
     let seated = c.args.self.now in
@@ -81,3 +83,14 @@ returns-in-Server g c =
     server_stepped store seated may c.ready.new.self after c.ready.ensures.ready.ready g.last c.requires.1.1.1.1.0 j turn before _ refl refl refl
     (subst (λ (n : ℕ). j < n) (sym may.seated_is.turns.count) below) c.index_mut.ensures.value c.step_at_server.ensures.turn
     (subst (λ (n : ℕ). HasSteppedAtServer n g.last before.seen turn.seen c.ready.new.self after) number c.step_at_server.ensures.step) c.in-Server.ensures.need c.ready.ensures.knows
+
+pub returns-in-Directory-clause-told : goal.returns-in-Directory-clause-told
+returns-in-Directory-clause-told g c =
+    let P : Stepper → Type 0 = λ s. g.G.Gate.was_told c.args.gate.now s.actor s.steps place.Directory in
+    record { at = place.Directory; told = subst P c.stepper-stepper.ensures c.step_at_directory.ensures.told }
+
+pub returns-in-Server-clause-told : goal.returns-in-Server-clause-told
+returns-in-Server-clause-told g c =
+    let at = place.Server (server_in c.index_mut.result.now.fixed) in
+    let P : Stepper → Type 0 = λ s. g.G.Gate.was_told c.args.gate.now s.actor s.steps at in
+    record { at = at; told = subst P c.stepper-stepper.ensures c.step_at_server.ensures.told }

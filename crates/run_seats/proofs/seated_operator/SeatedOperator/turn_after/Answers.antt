@@ -2,6 +2,8 @@ use Rattle.std.proofs.Common.{◌≡◌, ℕ, ◌<◌, Some, refl, sym, subst, �
 use Rattle.std.specs.List.{slice_get}
 use Rattle.clay_grid.specs.Shape.{chunk_count}
 use Rattle.run_seats.specs.Places.{directory_of, server_of}
+use Rattle.run_seats.specs.Fixed.{server_in}
+use Rattle.run_seats.specs.declared.gate.Place.TheVariants as place
 use Rattle.run_seats.proofs.OperatingOn.{line_below, line_is, may_operate_server, may_reap, operated_on_directory, operated_on_server}
 use Rattle.run_seats.proofs.Placing.{free_of, got}
 use Rattle.run_seats.proofs.seated_operator.SeatedOperator.turn_after.Goals as goal
@@ -57,13 +59,13 @@ operate_server-requires g c κs within =
       ),
     )
 
-pub returns-in-Pass : goal.returns-in-Pass
-returns-in-Pass g c =
+pub returns-in-Pass-clause-steps : goal.returns-in-Pass-clause-steps
+returns-in-Pass-clause-steps g c =
     let may = c.requires.1.1.1 in
     operated_on_directory c.args.store.now c.args.self.now may c.index-line.result.now c.index-line.ensures g.last c.requires.1.1.0 c.in-Pass.actor c.reap.new.turn c.in-Pass.ensures c.reap.ensures.turn c.reap.ensures.step
 
-pub returns-in-Server : goal.returns-in-Server
-returns-in-Server g c =
+pub returns-in-Server-clause-steps : goal.returns-in-Server-clause-steps
+returns-in-Server-clause-steps g c =
     let may = c.requires.1.1.1 in
     let store = c.args.store.now in
     let seated = c.args.self.now in
@@ -71,3 +73,9 @@ returns-in-Server g c =
     let below : j < chunk_count store.script.now.geometry = line_below store seated may c.index-line.result.now c.index-line.ensures j c.in-Server.ensures in
     operated_on_server store seated may c.index-line.result.now c.index-line.ensures g.last c.requires.1.1.0 j c.operate_server.new.turn c.index_mut.result.now _ refl refl
     (subst (λ (n : ℕ). j < n) (sym may.seated_is.turns.count) below) c.index_mut.ensures.value c.operate_server.ensures.turn c.operate_server.ensures.step c.in-Server.ensures.1 refl refl
+
+pub returns-in-Pass-clause-told : goal.returns-in-Pass-clause-told
+returns-in-Pass-clause-told g c = record { at = place.Directory; told = c.reap.ensures.told }
+
+pub returns-in-Server-clause-told : goal.returns-in-Server-clause-told
+returns-in-Server-clause-told g c = record { at = place.Server (server_in c.index_mut.result.now.fixed); told = c.operate_server.ensures.told }
