@@ -5,7 +5,7 @@ use denote.Enum.Declared as enum
 use denote.Struct.Declared as struct
 use denote.Param.Send.{IsSend, IsSync, sendable, struct_send, recorded_send, enum_send, shr_sync}
 use denote.Param.SendFields.{declared_send, declared_sync}
-use Rattle.std.proofs.Crossing.{Vec-send, Vec-sync}
+use Rattle.std.proofs.Crossing.{crosses, Vec-send, Vec-sync}
 use Rattle.std.specs.contracts.vec.Vec as vec
 use Rattle.std.specs.contracts.alloc.Global as heap
 use Rattle.std.specs.contracts.impls.GlobalAllocator.TheImpl.{ghosts}
@@ -30,6 +30,7 @@ use Rattle.run_seats.specs.contracts.seated.Seated as seated
 use Rattle.run_seats.specs.contracts.seated_actor.SeatedActor as actor
 use Rattle.run_seats.specs.contracts.seated_operator.SeatedOperator as operator
 use Rattle.run_seats.specs.contracts.seated_sweeper.SeatedSweeper as sweeper
+use Rattle.run_seats.specs.contracts.shift.Shifts as shifts
 use Rattle.run_seats.specs.contracts.store.Store as store
 use Rattle.run_seats.specs.contracts.turns.Turns as turns
 use Rattle.run_seats.specs.contracts.workers.Worker as worker
@@ -60,6 +61,9 @@ server_locks_sync = Vec-sync (lock.the_row server_box.the_row server_fixed.the_r
 
 pub store_sync : (ν : NamedLft) → IsSync (store.the_row ν)
 store_sync ν = declared_sync (store.the_type ν) (shr_sync _ _ _ script_sync, (directory_lock_sync, (server_locks_sync, (shr_sync _ _ _ book_sync, tt))))
+
+pub shifts_sync : IsSync shifts.the_row
+shifts_sync = declared_sync shifts.the_type (search sendable, (search crosses, (search crosses, tt)))
 
 token_send : IsSend token.the_row
 token_send = search sendable depth 20

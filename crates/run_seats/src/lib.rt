@@ -12,6 +12,7 @@ mod seated_operator;
 mod seated_sweeper;
 mod server_box;
 mod server_steps;
+mod shift;
 mod stepper;
 mod store;
 mod sweeps;

@@ -1,5 +1,6 @@
-//! Workers: each makes the steps of its actors, until none of them has one.
-ghost use Rattle.std.specs.Prelude.{◌≡◌, ◌<◌, true, All, map};
+//! Workers: each makes the steps of its actors, until none of them has one. The sweeper's worker goes on while
+//! another worker has such an actor.
+ghost use Rattle.std.specs.Prelude.{◌≡◌, ◌<◌, true, false, All, map};
 ghost use Rattle.store_map.specs.declared.script.Script.{Script as StoreScript};
 ghost use Rattle.run_seats.specs.Falling.{all_left};
 ghost use Rattle.run_seats.specs.Places.{IsStore};
@@ -8,6 +9,7 @@ ghost use Rattle.run_seats.specs.Working.{AreDone, IsDone, IsWorking};
 
 use crate::gate::Gate;
 use crate::seated_actor::SeatedActor;
+use crate::shift::{Shift, Shifts};
 use crate::store::Store;
 use clay_model::Coder;
 use std::sync::Wait;
@@ -50,24 +52,76 @@ fn round<R: Threads + Wait + Sync, C: Coder, G: Gate>(
     }
 }
 
-// The actors of a worker take turns until none of them has a step.
+// Whether the sweeper is one of the actors.
+fn has_sweeper(actors: &[SeatedActor]) -> bool {
+    for actor in actors {
+        if let SeatedActor::Sweeper(_) = actor {
+            return true;
+        }
+    }
+    false
+}
+
+// Whether a worker with these actors may end: none of them has a step, and with the sweeper no worker is at work.
+fn may_end(actors: &[SeatedActor], shift: &mut Shift) -> bool
+    ensures { (script : StoreScript) → AreOfCode script actors.now → result ≡ true → some_has script actors.now ≡ false }
+{
+    if some_has_step(actors) {
+        return false;
+    }
+    shift.end();
+    if !has_sweeper(actors) || shift.is_over() {
+        return true;
+    }
+    thread::yield_now();
+    false
+}
+
+// The actors of a worker take turns until it may end.
 fn work<R: Threads + Wait + Sync, C: Coder, G: Gate>(
     rt: &R,
     coder: &C,
     gate: &G,
     store: &Store,
     worker: &mut Worker,
+    shift: Shift,
 )
     requires { IsWorking store.now worker.old }
     ensures { IsDone store.now worker.old worker.new }
 {
+    let mut shift = shift;
     for _ in rt.forever() {
-        if !some_has_step(&worker.actors) {
+        if may_end(&worker.actors, &mut shift) {
             return;
         }
         round(rt, coder, gate, store, &mut worker.actors);
     }
     unreachable!()
+}
+
+// The workers make the steps of their actors, each in a shift of these.
+fn work_in_shifts<R: Threads + Wait + Sync, C: Coder + Sync, G: Gate + Sync>(
+    rt: &R,
+    coder: &C,
+    gate: &G,
+    store: &Store,
+    workers: &mut [Worker],
+    threads: usize,
+    shifts: &Shifts,
+)
+    requires some { 0 < threads }
+    requires working { All (IsWorking store.now) workers.old }
+    ensures { AreDone store.now workers.old workers.new }
+{
+    thread::for_each_mut(
+        rt,
+        workers,
+        threads,
+        &|_, worker|
+            requires { IsWorking store.now worker.old }
+            ensures { IsDone store.entry.now worker.old worker.new }
+        { work(rt, coder, gate, store, worker, Shift::begin(shifts)) },
+    );
 }
 
 /// The workers make the steps of their actors, in at most so many threads.
@@ -83,13 +137,6 @@ pub fn work_together<R: Threads + Wait + Sync, C: Coder + Sync, G: Gate + Sync>(
     requires working { All (IsWorking store.now) workers.old }
     ensures { AreDone store.now workers.old workers.new }
 {
-    thread::for_each_mut(
-        rt,
-        workers,
-        threads,
-        &|_, worker|
-            requires { IsWorking store.now worker.old }
-            ensures { IsDone store.entry.now worker.old worker.new }
-        { work(rt, coder, gate, store, worker) },
-    );
+    let shifts = Shifts::new(workers.len() as u64);
+    work_in_shifts(rt, coder, gate, store, workers, threads, &shifts);
 }

@@ -1,5 +1,6 @@
 //! Tests of whole runs in threads, of what no clause says: that threads are inside the locks of two servers at
-//! once, that a run asks the coder that it was given, and that the checker finds the transcripts of its runs legal.
+//! once, that the sweeper sweeps while clients have steps, that a run asks the coder that it was given, and that the
+//! checker finds the transcripts of its runs legal.
 #![tactic(auto)]
 
 #[cfg(test)]
@@ -28,5 +29,7 @@ mod session_counted;
 mod session_runs;
 #[cfg(test)]
 mod snapshots;
+#[cfg(test)]
+mod sweeps;
 #[cfg(test)]
 mod words;

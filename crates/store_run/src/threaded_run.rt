@@ -1,5 +1,5 @@
 //! A whole run in threads.
-ghost use Rattle.std.specs.Prelude.{◌≡◌, ◌<◌, Some, IfOk, length};
+ghost use Rattle.std.specs.Prelude.{◌≡◌, ◌+◌, ◌<◌, ◌≤◌, Some, IfOk, length};
 ghost use Rattle.store_map.specs.Naming.{IsValid};
 ghost use Rattle.store_map.specs.declared.script.Script.{Script as StoreScript};
 ghost use Rattle.version_seal.specs.Sealer.{sealer_at};
@@ -23,6 +23,23 @@ use std::thread::Threads;
 use store_map::{Script, Transcript};
 use stripe_dir::Seat;
 use version_seal::{Book, Sealer};
+
+// How many workers have actors: no more than there are clients and repairers, so that the sweeper and the operator
+// have one of these beside them.
+fn crew_size(script: &Script, workers: usize) -> usize
+    requires valid { IsValid script.now }
+    requires some { 0 < workers }
+    ensures some { 0 < result }
+    ensures all { workers ≤ length script.now.clients + length script.now.repairers → result ≡ workers }
+    ensures fewer { 0 < length script.now.clients + length script.now.repairers → length script.now.clients + length script.now.repairers ≤ workers
+        → result ≡ length script.now.clients + length script.now.repairers }
+{
+    let callers = script.clients.len() + script.repairers.len();
+    if workers <= callers {
+        return workers;
+    }
+    if callers == 0 { 1 } else { callers }
+}
 
 // All actors of the store's script, dealt to so many workers.
 fn make_crew<'a>(
@@ -129,7 +146,8 @@ fn run_over<R: Threads + Wait + Sync, C: Coder + Sync, G: Gate + Sync>(
     ensures { IfOk result (IsRunToEnd script.now) }
 {
     let (store, deck, seats) = lock_places(alloc, script, book, sealer)?;
-    let shown = match make_crew(alloc, &store, deck, seats, workers) {
+    let count = crew_size(script, workers);
+    let shown = match make_crew(alloc, &store, deck, seats, count) {
         Ok(crew) => run_crew(rt, alloc, &store, crew, coder, gate),
         Err(e) => Err(e),
     };
@@ -143,9 +161,11 @@ fn run_over<R: Threads + Wait + Sync, C: Coder + Sync, G: Gate + Sync>(
 }
 
 /// The transcript of a run of the script, whose clients and repairers, with the sweeper and the operator
-/// beside them, make their steps in so many threads, at a directory and servers of its own, with chunks
-/// that the coder makes. The gate is told of each step. In the end the sweeper makes its steps alone, until
-/// nothing is garbage. An error is want of memory before the first step or after the last one.
+/// beside them, make their steps in so many threads, or in fewer where there are fewer clients and repairers, at a
+/// directory and servers of its own, with chunks that the coder makes. The gate is told of each of these steps. The
+/// sweeper makes a step beside each round of the worker that it is with, and goes on until no worker has an actor with
+/// a step. In the end it makes its steps alone, until nothing is garbage. An error is allocation failure before the
+/// first step or after the last one.
 pub fn run<R: Threads + Wait + Sync, C: Coder + Sync, G: Gate + Sync>(
     rt: &R,
     alloc: Global,
