@@ -1,0 +1,13 @@
+//! Files as shares: the format of a share file, byte by byte, and the reader and the writer of its header.
+//! The definitions stand in `specs/`: `Shares` says what a share file is.
+#![tactic(auto)]
+
+mod fault;
+mod header;
+mod laws;
+#[cfg(test)]
+mod tests;
+
+pub use fault::BadHeader;
+pub use header::{HEADER_LEN, ShareHeader, read_header};
+pub use laws::{headers_are_read_back, shares_are_determined};
