@@ -1,6 +1,6 @@
-use Rattle.std.proofs.Common.{◌≡◌, ◌≤◌, length, take, arith}
+use Rattle.std.proofs.Common.{◌≡◌, ◌≤◌, length, take, sym, arith}
 use Rattle.std.proofs.lemmas.List.{length-take-le}
 use Rattle.share_format.proofs.header.check.Goals as goal
 
 pub slice_bounds-told-end : goal.slice_bounds-told-end
-slice_bounds-told-end c = length-take-le 56 c.args.bytes.now (omega (arith, c.requires))
+slice_bounds-told-end c = sym (length-take-le 56 c.args.bytes.now (omega (arith, c.requires)))
