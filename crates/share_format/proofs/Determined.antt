@@ -7,7 +7,7 @@ use Rattle.clay_aloof.proofs.Unique.{same_of_stripe}
 use Rattle.share_format.specs.Cut.{file_stripes, AreCodewords}
 use Rattle.share_format.specs.Shares.{share_with, chunks_at, IsShare}
 
-same_words : (a : AloofShape) (file : List ℕ) (words others : List (List (List ℕ))) → IsAloof a
+pub same_words : (a : AloofShape) (file : List ℕ) (words others : List (List (List ℕ))) → IsAloof a
     → AreCodewords a file words → AreCodewords a file others → words ≡ others
 same_words a file words others aloof one two =
     ext_get_or [] words others (one.count ∙ sym two.count)

@@ -1,12 +1,14 @@
 -- What a mend reads of each helper's share file, and what it writes.
-use Rattle.std.specs.Prelude.{◌≡◌, ℕ, ◌+◌, ◌*◌, ◌<◌, nat_eq, List, [], ◌∷◌, map, length, get_or, Option, Vec, if◌then◌else◌}
+use Rattle.std.specs.Prelude.{◌≡◌, ℕ, ◌+◌, ◌*◌, ◌<◌, nat_eq, List, [], ◌∷◌, ◌++◌, map, take, drop, length, get_or, Option, Vec, if◌then◌else◌}
 use Rattle.std.specs.List.{flat_map, range_with_len}
 use Rattle.std.specs.declared.alloc.Global.{Global}
+use Rattle.clay_model.specs.RepairParts.{subchunks_at}
 use Rattle.clay_aloof.specs.Shape.{AloofShape}
 use Rattle.clay_aloof.specs.Repair.{aloof_layers_of, HasParts, IsRebuilt}
 use Rattle.share_format.specs.Cut.{stripe_count}
-use Rattle.share_format.specs.Blocks.{page_of, rounded, chunk_start}
-use Rattle.share_format.specs.Shares.{block_start}
+use Rattle.share_format.specs.Blocks.{page_of, rounded, aligned, table_of, chunk_start}
+use Rattle.share_format.specs.Header.{header_bytes}
+use Rattle.share_format.specs.Shares.{header_of, block_start}
 
 -- the bytes of a file from a place on
 pub record Range : Type 0 where
@@ -37,6 +39,16 @@ block_ranges a lost i =
 abbrev pub mend_ranges : AloofShape → ℕ → ℕ → List Range
 mend_ranges a lost size =
     joined (range_of 0 (rounded (page_of a) 64) ∷ flat_map (block_ranges a lost) (range_with_len 0 (stripe_count a size)))
+
+-- the bytes of a file in some ranges
+abbrev pub bytes_in : List Range → List ℕ → List ℕ
+bytes_in ranges bytes = flat_map (λ range. take range.size (drop range.start bytes)) ranges
+
+-- what a mend reads of a share with these chunks: the header, and of each block the table and the chunk's part
+abbrev pub mend_bytes : AloofShape → ℕ → List ℕ → ℕ → List (List ℕ) → List ℕ
+mend_bytes a lost file number chunks =
+    aligned a (header_bytes (header_of a file number))
+    ++ flat_map (λ chunk. aligned a (table_of a chunk) ++ subchunks_at a.width chunk (aloof_layers_of a lost)) chunks
 
 -- a stripe's chunk is rebuilt from parts of the helpers' chunks
 pub record IsMendedFrom (a : AloofShape) (lost : ℕ) (word : List (List ℕ)) (chunk : List ℕ) : Type 0 where

@@ -26,6 +26,12 @@ pub record IsShare (a : AloofShape) (file : List ℕ) (number : ℕ) (bytes : Li
   pub numbered : number < all_chunks a
   pub value : bytes ≡ share_with a file number (chunks_at number words)
 
+-- two files have one share file of this number
+pub record HaveEqualShare (a : AloofShape) (file other : List ℕ) (number : ℕ) : Type 0 where
+  pub bytes : List ℕ
+  pub one : IsShare a file number bytes
+  pub two : IsShare a other number bytes
+
 -- where stripe i's block begins
 abbrev pub block_start : AloofShape → ℕ → ℕ
 block_start a i = rounded (page_of a) 64 + i * block_length a

@@ -10,4 +10,7 @@ mod tests;
 
 pub use fault::BadHeader;
 pub use header::{HEADER_LEN, ShareHeader, read_header};
-pub use laws::{headers_are_read_back, shares_are_determined};
+pub use laws::{
+    files_are_determined, headers_are_read_back, mends_are_shares, shares_are_determined,
+    shares_have_length,
+};
