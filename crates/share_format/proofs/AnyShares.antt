@@ -1,5 +1,5 @@
 -- As many shares as there are data chunks determine the file.
-use Rattle.std.proofs.Common.{◌≡◌, ℕ, zero, suc, ◌+◌, ◌-◌, ◌*◌, ◌/◌, ◌%◌, ◌^◌, ◌<◌, ◌≤◌, Bool, true, false, cond, List, [], ◌++◌, length, get_or, take, drop, map, replicate, refl, sym, ap, subst, ◌∙◌, inl, inr, arith}
+use Rattle.std.proofs.Common.{◌≡◌, ℕ, zero, suc, ◌+◌, ◌-◌, ◌*◌, ◌/◌, ◌%◌, ◌^◌, ◌<◌, ◌≤◌, Bool, false, cond, List, [], ◌++◌, length, get_or, take, drop, map, replicate, refl, sym, ap, subst, ◌∙◌, inl, inr, arith}
 use Rattle.std.proofs.lemmas.Bool.{cases_Bool}
 use Rattle.std.proofs.lemmas.List as lists
 use Rattle.std.proofs.lemmas.List.{ext_get_or, length-map}
@@ -10,7 +10,6 @@ use Rattle.clay_grid.specs.Score.{count_below}
 use Rattle.clay_model.proofs.Stripes.{length-stripes_below, concat-stripes_below}
 use Rattle.clay_aloof.specs.Shape.{AloofShape, all_chunks, stripe_bytes}
 use Rattle.clay_aloof.specs.Limits.{IsAloof}
-use Rattle.clay_aloof.specs.Code.{AgreesBut}
 use Rattle.clay_aloof.proofs.Unique.{same_codewords}
 use Rattle.share_format.specs.Cut.{stripe_count, file_stripes, AreCodewords}
 use Rattle.share_format.specs.Blocks.{block_length, chunk_start}
@@ -39,8 +38,8 @@ file_of_words a file words aloof coded =
     let stripes : map (stripe_in a) words ≡ file_stripes a file =
     ext_get_or [] (map (stripe_in a) words) (file_stripes a file) (length-map words (stripe_in a) ∙ coded.count ∙ sym (length-stripes_below s n file))
     (λ i less.
-        let within : i < length words = subst (λ k. i < k) (length-map words (stripe_in a)) less in
-        lists.get_or-map (stripe_in a) words i [] [] within ∙ (coded.codes i within).joined) in
+    let within : i < length words = subst (λ k. i < k) (length-map words (stripe_in a)) less in
+    lists.get_or-map (stripe_in a) words i [] [] within ∙ (coded.codes i within).joined) in
     let whole : concat (map (stripe_in a) words) ≡ file ++ replicate (n * s - length file) 0 =
     ap concat stripes ∙ concat-stripes_below s n file (enough (length file) s (stripe_some a aloof)) in
     ap (take (length file)) whole ∙ take_front (length file) file (replicate (n * s - length file) 0) refl
@@ -99,10 +98,10 @@ module _ (a : AloofShape) (erased : ℕ → Bool) (file other : List ℕ) (aloof
   same_all : first.one.words ≡ first.two.words
   same_all =
       ext_get_or [] first.one.words first.two.words counts (λ i less.
-          let other_less : i < length first.two.words = subst (λ n. i < n) counts less in
-          same_codewords a erased (get_or first.one.words i []) (get_or first.two.words i []) aloof (first.one.coded.codes i less).codeword
-          (first.two.coded.codes i other_less).codeword
-          (record { few = few; same = λ c within kept. same_chunk i c less other_less within kept }))
+      let other_less : i < length first.two.words = subst (λ n. i < n) counts less in
+      same_codewords a erased (get_or first.one.words i []) (get_or first.two.words i []) aloof (first.one.coded.codes i less).codeword
+      (first.two.coded.codes i other_less).codeword
+      (record { few = few; same = λ c within kept. same_chunk i c less other_less within kept }))
 
   pub same_files : file ≡ other
   same_files =

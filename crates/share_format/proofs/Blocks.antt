@@ -1,7 +1,7 @@
 -- The blocks in a share file.
-use Rattle.std.proofs.Common.{◌≡◌, ℕ, ◌+◌, ◌*◌, ◌^◌, ◌<◌, ◌≤◌, List, [], ◌++◌, length, get_or, take, drop, map, refl, sym, ap, subst, ◌∙◌, arith, length-append}
+use Rattle.std.proofs.Common.{◌≡◌, ℕ, ◌+◌, ◌*◌, ◌^◌, ◌<◌, ◌≤◌, List, [], length, get_or, take, drop, sym, ap, subst, ◌∙◌, arith, length-append}
 use Rattle.std.proofs.lemmas.List as lists
-use Rattle.std.proofs.lemmas.List.{drop-drop, length-map}
+use Rattle.std.proofs.lemmas.List.{length-map}
 use Rattle.std.specs.List.{flat_map}
 use Rattle.byteorder.specs.Endian.{little_number}
 use Rattle.byteorder.specs.Numbers.{little_number-reads_back}
@@ -18,7 +18,7 @@ abbrev pub AreChunks : AloofShape → List (List ℕ) → Type 0
 AreChunks a chunks = (i : ℕ) → i < length chunks → length (get_or chunks i []) ≡ chunk_length (grid_of a)
 
 module _ (a : AloofShape) (file : List ℕ) (number : ℕ) (chunks : List (List ℕ)) where
-  length_padded : length (aligned a (header_bytes (header_of a file number))) ≡ rounded (page_of a) 64
+  pub length_padded : length (aligned a (header_bytes (header_of a file number))) ≡ rounded (page_of a) 64
   length_padded =
       length_aligned a (header_bytes (header_of a file number)) ∙ ap (rounded (page_of a)) (length_header (header_of a file number))
 

@@ -1,5 +1,5 @@
 -- A file has one share file of each number.
-use Rattle.std.proofs.Common.{◌≡◌, ℕ, ◌<◌, List, [], length, get_or, sym, ap, ◌∙◌, subst}
+use Rattle.std.proofs.Common.{◌≡◌, ℕ, ◌<◌, List, [], get_or, sym, ap, ◌∙◌, subst}
 use Rattle.std.proofs.lemmas.List.{ext_get_or}
 use Rattle.clay_aloof.specs.Shape.{AloofShape}
 use Rattle.clay_aloof.specs.Limits.{IsAloof}

@@ -1,5 +1,5 @@
 -- What is read from the bytes of a header.
-use Rattle.std.proofs.Common.{◌≡◌, ℕ, zero, suc, ◌+◌, ◌-◌, ◌*◌, ◌/◌, ◌%◌, ◌^◌, min, ◌<◌, ◌≤◌, List, [], ◌∷◌, ◌++◌, get_or, take, drop, refl, sym, ap, ◌∙◌, subst, arith}
+use Rattle.std.proofs.Common.{◌≡◌, ℕ, zero, suc, ◌+◌, ◌-◌, ◌*◌, ◌/◌, ◌%◌, ◌^◌, min, ◌<◌, ◌≤◌, List, [], ◌∷◌, ◌++◌, get_or, take, drop, sym, ap, ◌∙◌, subst, arith}
 use Rattle.std.proofs.lemmas.Nat.{mod_below, mul-le, div-mul-add, div-add-mod'}
 use Rattle.std.proofs.Math.Nat.{div-le_of_le-mul, add-mul}
 use Rattle.std.specs.Int.{div_ceil}
@@ -9,7 +9,7 @@ use Rattle.byteorder.specs.Numbers.{little_number-reads_back}
 use Rattle.crc64.specs.Remainder.{checksum_of}
 use Rattle.crc64.proofs.Degrees.{checksum_below}
 use Rattle.clay_grid.specs.Shape.{layer_count, chunk_length}
-use Rattle.clay_aloof.specs.Shape.{AloofShape, aloof_of, all_chunks, rows_of, grid_of, stripe_bytes}
+use Rattle.clay_aloof.specs.Shape.{AloofShape, aloof_of, all_chunks, grid_of, stripe_bytes}
 use Rattle.clay_aloof.specs.Limits.{IsAloof, IsFirstFault as IsCodeFault}
 use Rattle.clay_aloof.proofs.Faults.{fault_outside}
 use Rattle.share_format.specs.Cut.{stripe_count}

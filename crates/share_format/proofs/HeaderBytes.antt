@@ -1,13 +1,13 @@
 -- The numbers in the bytes of a header, written again.
-use Rattle.std.proofs.Common.{◌≡◌, ℕ, zero, suc, ◌+◌, ◌-◌, ◌<◌, ◌≤◌, List, [], ◌∷◌, ◌++◌, length, get_or, take, drop, refl, sym, ap, ◌∙◌, subst, arith}
-use Rattle.std.proofs.lemmas.List.{append_assoc, take-append-drop, length-take-le, take_all, length-drop, get_or-take, get_or-drop, drop-drop}
+use Rattle.std.proofs.Common.{◌≡◌, ℕ, zero, suc, ◌+◌, ◌-◌, ◌<◌, ◌≤◌, List, [], ◌∷◌, ◌++◌, length, get_or, take, drop, sym, ap, ◌∙◌, subst, arith}
+use Rattle.std.proofs.lemmas.List.{append_assoc, take-append-drop, length-take-le, length-drop, get_or-drop, drop-drop}
 use Rattle.std.proofs.Math.Seq.{take-add}
 use Rattle.std.proofs.lemmas.Nat.{le_bytes_4, le_bytes_8}
 use Rattle.byteorder.specs.Endian.{little_bytes, little_number}
 use Rattle.byteorder.specs.Numbers.{little_from-append}
 use Rattle.crc64.specs.Remainder.{checksum_of}
 use Rattle.share_format.specs.Cut.{stripe_count}
-use Rattle.share_format.specs.Header.{magic, version, Header, told_bytes, header_bytes, header_in, stripes_in, IsIntact}
+use Rattle.share_format.specs.Header.{Header, told_bytes, header_bytes, header_in, stripes_in, IsIntact}
 
 abbrev pub AreBytes : List ℕ → Type 0
 AreBytes bytes = (i : ℕ) → get_or bytes i 0 < 256
@@ -22,10 +22,10 @@ four = record { again = λ bytes long small. le_bytes_4 bytes (little_number 4 b
 eight : IsWrittenAgain 8
 eight = record { again = λ bytes long small. le_bytes_8 bytes (little_number 8 bytes) long small (omega arith) }
 
-drop_small : (n : ℕ) (bytes : List ℕ) → AreBytes bytes → AreBytes (drop n bytes)
+pub drop_small : (n : ℕ) (bytes : List ℕ) → AreBytes bytes → AreBytes (drop n bytes)
 drop_small n bytes small i = subst (λ v. v < 256) (sym (get_or-drop n bytes i 0)) (small (n + i))
 
-take_small : (n : ℕ) (bytes : List ℕ) → AreBytes bytes → AreBytes (take n bytes)
+pub take_small : (n : ℕ) (bytes : List ℕ) → AreBytes bytes → AreBytes (take n bytes)
 take_small zero bytes small i = omega arith
 take_small (suc n) [] small i = omega arith
 take_small (suc n) (byte ∷ bytes) small zero = small 0

@@ -6,3 +6,5 @@ pub mod Lengths
 pub mod Blocks
 pub mod AnyShares
 pub mod Mended
+pub mod Ranges
+pub mod Found

@@ -25,7 +25,7 @@ before range (next ∷ rest) =
     if nat_eq (range.start + range.size) next.start then range_of range.start (range.size + next.size) ∷ rest else range ∷ next ∷ rest
 
 -- ranges in a row, neighbours as one
-pub joined : List Range → List Range
+abbrev pub joined : List Range → List Range
 joined [] = []
 joined (range ∷ ranges) = before range (joined ranges)
 

@@ -57,7 +57,8 @@ fn put_u32(bytes: &mut Vec<u8>, number: u32) -> Result<(), AllocError>
     bytes.extend_from_slice(&piece)
 }
 
-fn put_u64(bytes: &mut Vec<u8>, number: u64) -> Result<(), AllocError>
+/// Puts a number behind some bytes, its lowest byte first.
+pub fn put_u64(bytes: &mut Vec<u8>, number: u64) -> Result<(), AllocError>
     ensures { OnOk result (bytes.new.items ≡ bytes.old.items ++ little_bytes 8 number) }
 {
     let mut piece = [0u8; 8];

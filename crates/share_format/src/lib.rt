@@ -9,8 +9,8 @@ mod laws;
 mod tests;
 
 pub use fault::BadHeader;
-pub use header::{HEADER_LEN, ShareHeader, read_header};
+pub use header::{HEADER_LEN, ShareHeader, put_u64, read_header};
 pub use laws::{
-    files_are_determined, headers_are_read_back, mends_are_shares, shares_are_determined,
-    shares_have_length,
+    files_are_determined, headers_are_read_back, mends_are_shares, mends_read_parts, rot_is_found,
+    shares_are_determined, shares_have_length,
 };

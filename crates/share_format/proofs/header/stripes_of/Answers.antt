@@ -1,4 +1,4 @@
-use Rattle.std.proofs.Common.{◌≡◌, ◌≤◌, sym, ap, ◌∙◌, subst}
+use Rattle.std.proofs.Common.{◌≤◌, sym, ap, ◌∙◌, subst}
 use Rattle.std.specs.Int.{div_ceil}
 use Rattle.clay_aloof.specs.Shape.{stripe_bytes}
 use Rattle.share_format.proofs.HeaderBack.{stripe_some, ceil_is}
