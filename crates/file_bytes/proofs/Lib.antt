@@ -1,0 +1,3 @@
+pub mod PlaceLemmas
+pub mod LaidLemmas
+pub mod MemoryLemmas

@@ -1,0 +1,16 @@
+-- A file in memory.
+use Rattle.std.specs.Prelude.{ℕ, Option, List}
+use Rattle.file_bytes.specs.Places.{Placed}
+
+-- its bytes, how many it has room for, how many a call moves at most, the number of the call that fails, how many calls were made and failed,
+-- and what was handed out, told and taken
+pub record MemState : Type 0 where
+  pub bytes : List ℕ
+  pub room : ℕ
+  pub most : ℕ
+  pub failing : Option ℕ
+  pub calls : ℕ
+  pub faults : ℕ
+  pub given : List Placed
+  pub ends : List ℕ
+  pub put : List Placed
