@@ -2,7 +2,7 @@
 use Rattle.std.proofs.Common.{◌≡◌, ◌≤◌, ◌<◌, ◌+◌, ◌-◌, ◌⊎◌, inl, inr, ℕ, List, [], ◌∷◌, ◌++◌, length, take, drop, replicate, refl, sym, ◌∙◌, ap, arith, append-nil, length-append, length-take, length-drop}
 use Rattle.std.proofs.Math.Seq.{drop-append-add}
 use Rattle.std.proofs.lemmas.List.{append_assoc, take_at, take_all, drop_all, drop-append-le, length-replicate, drop-drop}
-use Rattle.file_bytes.specs.Places.{Placed, placed, placed_from}
+use Rattle.file_bytes.specs.Places.{Placed, placed_from}
 use Rattle.file_bytes.specs.Laid.{front, laid_at, laid_over, laid}
 
 front_long : (at : ℕ) (file : List ℕ) → length (front at file) ≡ at

@@ -6,7 +6,6 @@ use Rattle.std.proofs.lemmas.List.{length-take-le, take-append-le, append_assoc,
 use Rattle.clay_bytes.proofs.StreamLemmas.{take-slice}
 use Rattle.std.proofs.lemmas.List.Elements.{All-head, All-tail, All-same, All-drop}
 use Rattle.std.proofs.lemmas.Option.{slice_get_within, get_or_from_slice_get}
-use Rattle.std.proofs.lemmas.Grind.{common_steps}
 use borrow.Rule.Slice.PartMut.{put_mid, post_of}
 use Rattle.file_bytes.specs.Places.{Placed, placed, placed_from, ends_after}
 use Rattle.file_bytes.specs.Logs.{numbers_of, placed_of}

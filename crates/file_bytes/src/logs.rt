@@ -1,5 +1,5 @@
 //! What was handed out and taken at which positions, for contracts alone: when it runs nothing of it is kept.
-ghost use Rattle.std.specs.Prelude.{◌≡◌, ◌∷◌, ◌++◌, [], take};
+ghost use Rattle.std.specs.Prelude.{◌≡◌, ◌++◌, [], take};
 ghost use Rattle.file_bytes.specs.Places.{placed_from, ends_after};
 ghost use Rattle.file_bytes.specs.Logs.{numbers_of};
 

@@ -1,5 +1,5 @@
 //! Open files of std at positions. This is the trusted edge: what the system gives and takes is known only as far as they say.
-ghost use Rattle.std.specs.Prelude.{◌≡◌, ◌≤◌, ◌<◌, ◌++◌, [], length, take, IfOk};
+ghost use Rattle.std.specs.Prelude.{◌≡◌, ◌≤◌, ◌<◌, [], length, IfOk};
 
 use crate::logs::{EndLog, PlaceLog};
 use crate::{SinkAt, SourceAt};

@@ -1,4 +1,4 @@
-use Rattle.std.proofs.Common.{◌≡◌, ◌≤◌, ◌-◌, ◌+◌, ◌++◌, ◌∙◌, ap, ℕ, arith, length, replicate, vec_len}
+use Rattle.std.proofs.Common.{◌≡◌, ◌-◌, ◌+◌, ◌++◌, ◌∙◌, ap, ℕ, arith, length, replicate, vec_len}
 use Rattle.std.proofs.lemmas.Grind.{common_steps}
 use Rattle.file_bytes.proofs.MemoryLemmas.{zeros_more}
 use Rattle.file_bytes.proofs.memory.fill_up.Goals as goal

@@ -1,4 +1,4 @@
-use Rattle.std.proofs.Common.{◌≡◌, ◌<◌, ◌-◌, ◌∙◌, length, arith}
+use Rattle.std.proofs.Common.{◌<◌, ◌∙◌, arith}
 use Rattle.file_bytes.proofs.PlaceLemmas.{more_within, more_given, none_ended, shown_row, full_row}
 use Rattle.file_bytes.proofs.stream.read_exact_at.Goals as goal
 

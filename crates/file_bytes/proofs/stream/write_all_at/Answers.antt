@@ -1,4 +1,4 @@
-use Rattle.std.proofs.Common.{◌≡◌, ◌<◌, ◌-◌, ◌∙◌, length, arith, length-drop}
+use Rattle.std.proofs.Common.{◌∙◌, arith, length-drop}
 use Rattle.file_bytes.proofs.PlaceLemmas.{more_put, full_row}
 use Rattle.file_bytes.proofs.LaidLemmas.{laid_row}
 use Rattle.file_bytes.proofs.stream.write_all_at.Goals as goal
