@@ -1,4 +1,8 @@
 -- The missing chunks in their places, between those that are there.
+-- What a call copies out of a caller's bytes is just the list that its clause names (parts have ≡ left_of ..), so a codeword that agrees
+-- with those bytes agrees with the copies by one substitution. The missing chunks that aren't written yet are a suffix of their list
+-- (Wait). The exported calls are tests over geometry, whose None is IsGeometry → ⊥, and one call of a function with the tests as its
+-- conditions: they need no proof files.
 use Rattle.std.proofs.Common.{◌≡◌, ◌≢◌, ℕ, ◌+◌, ◌-◌, ◌*◌, ◌<◌, true, false, List, get_or, drop, None, is_none, Option, Vec, Global, sym, subst, ap, ◌∙◌, inl, inr, arith}
 use Rattle.std.proofs.lemmas.Bool.{cases_eq, eq-eqb, ne_eqb, true≢false}
 use Rattle.std.proofs.lemmas.List.{get_or-take, get_or-drop}

@@ -1,4 +1,7 @@
 -- Drawn scripts are valid.
+-- Each draw is one equation on value and state, so a loop's invariant is that the list is drawn so far and the state the one behind it.
+-- Validity is proved of the definition: what holds of the six kinds of call holds of each drawn one, and sums are bounded by their
+-- lengths.
 use Rattle.std.proofs.Common.{◌≡◌, ℕ, zero, suc, ◌+◌, ◌-◌, ◌*◌, ◌/◌, ◌<◌, ◌≤◌, Bool, true, false, List, [], ◌∷◌, ◌++◌, length, length-append, refl, sym, ap, subst, ◌∙◌, arith, inl}
 use Rattle.std.specs.Prelude.{All, Result, Ok, Err, IfOk, IfSome, None, sum_by, if◌then◌else◌, nat_lt, nat_eq}
 use Rattle.std.proofs.Math.Nat.{le_trans, div-lt_iff_lt-mul, lt-div-mul-add, div-le_of_le-mul}

@@ -1,4 +1,11 @@
 -- Values that a fixed matrix gives have the sums of the values that they are made from.
+-- A known node's factor in an unknown one's value is the product of its distances from the other unknown nodes, over that of the unknown
+-- node's own (lagrange_factor). Values whose sums are a node's powers exist (solution). With each point's distances from all points but
+-- one they have the node's powers times its own such distances as sums, by an induction on the points (weighed_sums; one distance more is
+-- shifted_sums). By then the terms of all other points are zero, so the values are these quotients (lagrange_sums), without a
+-- polynomial's coefficients. Sums are linear, so whatever the known values are, the values that the matrix makes of them have their sums
+-- (Generates). In decoding, values with the sums of the present ones are those of any codeword that agrees (erased_values_solved), so no
+-- step after the matrix speaks of sums.
 use Rattle.std.proofs.Common.{◌≡◌, ℕ, zero, suc, ◌+◌, ◌*◌, ◌/◌, ◌%◌, ◌^◌, ◌<◌, ◌≤◌, List, length, get_or, refl, inl, inr, subst, sym, ap, ◌∙◌, arith, bit_xor}
 use Rattle.std.proofs.lemmas.Nat.{mod_below, div_below, mul-add-lt, div-mul-add, mod-mul-add}
 use Rattle.std.proofs.lemmas.Bool.{cases_lt}

@@ -1,4 +1,6 @@
 -- Rows that are added to, one after another.
+-- AddsRows speaks of functions, not of lists, so that a kernel's clause becomes a node's by AddsRows-as. The invariant over nodes is a
+-- partial sum of the matrix product, with 0 at unknown nodes (HoldsSums).
 use Rattle.std.proofs.Common.{◌≡◌, ℕ, zero, suc, subst, ◌+◌, ◌-◌, ◌*◌, ◌<◌, ◌≤◌, List, ◌++◌, length, get_or, take, drop, slice_range, inl, inr, sym, ap, ◌∙◌, arith, rules, bit_xor}
 use Rattle.std.proofs.lemmas.Bool.{cases_lt}
 use Rattle.std.proofs.lemmas.Nat.{mul-le}

@@ -1,4 +1,7 @@
 -- Two codes that agree at all but m nodes agree.
+-- Values that are nonzero at no more than M nodes and whose first M weighted sums are zero are zero: an induction on the last node with
+-- (i + n) f(i) in place of f(i). Codewords follow by an induction on the score of layers, and then for chunks, counting past the virtual
+-- nodes. No polynomials are used.
 use Rattle.std.proofs.Common.{◌≡◌, ◌≢◌, ℕ, zero, suc, subst, ◌*◌, ◌/◌, ◌%◌, ◌^◌, ◌<◌, ◌≤◌, Bool, true, false, List, length, get_or, set, refl, sym, ap, ◌∙◌, inl, inr, arith, lit<, bit_xor, get_or-set_same, get_or-set_other}
 use Rattle.std.proofs.lemmas.Bool.{cases_eq, cases_Bool, eq-eqb, ne_eqb}
 use Rattle.std.proofs.lemmas.Nat.{xor_lt, mod_below, div_below, mul-add-lt, div-mul-add, mod-mul-add, div-add-mod'}

@@ -1,4 +1,6 @@
 -- The groups' values make the parity chunks.
+-- "For whatever values the groups hold, the chunk has their coupled bytes" (IsRow, a quantifier inside ensures) saves arguments that no
+-- code needs.
 use Rattle.std.proofs.Common.{◌≡◌, ℕ, ◌+◌, ◌*◌, ◌/◌, ◌^◌, ◌<◌, List, [], length, get_or, drop, subst, sym, ap, ◌∙◌, arith}
 use Rattle.std.specs.Fork.{slice_chunk}
 use Rattle.std.proofs.lemmas.List.{get_or-take, get_or-drop}

@@ -1,4 +1,8 @@
 -- Runs of layers of one score, and shares of their rows.
+-- Where layers are shared, a run of layers of one score comes behind all lower ones (HoldsFirst), its rows are made apart, each for its
+-- layer, and then go to their places (place_rows). Where positions are, some range has each position (IsCovered, a record with the range
+-- and its number), and threads keep places (SamePlace); so a chunk is right byte by byte, with no word on the order of ranges or whether
+-- they overlap.
 use Rattle.std.proofs.Common.{◌≡◌, ◌≢◌, ℕ, ◌+◌, ◌-◌, ◌*◌, ◌/◌, ◌%◌, ◌<◌, ◌≤◌, min, List, length, get_or, take, drop, Option, Vec, Global, sym, subst, ap, ◌∙◌, inl, inr, arith}
 use Rattle.std.proofs.lemmas.Bool.{cases_lt}
 use Rattle.std.proofs.lemmas.Nat.{mul-le, div-add-mod'}

@@ -1,4 +1,8 @@
 -- Clap takes the words that are spelled, and holds each under its name.
+-- Clap's definitions walk over the words; unfolding of its top level on the literals of the grammar with refl, and one lemma a level
+-- below (Levels, Walks, Stops), give that spelled words are met (spelled_taken). Of a number's word it is needed alone that its first
+-- byte is no hyphen. Rattle.clap.specs.declared.builder.Command.TheViews.{out-Command} is the name of a command's fields. That words ask
+-- for one command: the command is computed from them (digits_value of each number), so there is a case a command and none a pair.
 use Rattle.std.proofs.Common.{◌≡◌, List, [], ◌∷◌, length, refl, sym, subst, ap, ◌∙◌}
 use Rattle.std.specs.Prelude.{Bool, true, false, ◌&&◌, Option, Some, find, is_some, option_map}
 use Rattle.std.specs.List.{AllByRecursion, list_all}

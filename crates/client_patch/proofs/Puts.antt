@@ -1,4 +1,7 @@
 -- A put: it keeps no old bytes, takes nothing, and is told of no change.
+-- A put's call stands on the machine of writes. It pins no stripe, so the old bytes under its own are zeros (old_of_nothing) and it
+-- stands at its draw once it is told to go on; it is told of no change (overtaken_writes), so it takes no room for one. How often it
+-- would be tried changes none of its acts (acts_alike), so its view says what the book's script says of every call.
 use Rattle.std.proofs.Common.{◌≡◌, ℕ, zero, suc, ◌+◌, ◌-◌, ◌/◌, ◌<◌, true, false, cond, ◌⊎◌, List, [], length, take, drop, replicate, All, Option, None, Some, unwrap_or, refl, sym, ap, subst, ◌∙◌, inl, inr, arith}
 use Rattle.clay_grid.specs.Shape.{Shape, chunk_count, stripe_length}
 use Rattle.clay_model.specs.Code.{padded}

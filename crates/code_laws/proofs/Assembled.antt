@@ -1,4 +1,6 @@
 -- The data chunks and the coupled last column are the codeword of the stripe.
+-- All partners of a vertex outside the last column stay in its column, so all their uncoupled values come from the stripe. The solved
+-- values of the last column, coupled, uncouple to themselves again; so the sums of the chunks are those that were solved for.
 use Rattle.std.proofs.Common.{◌≡◌, ℕ, zero, suc, subst, ◌+◌, ◌-◌, ◌*◌, ◌/◌, ◌%◌, ◌^◌, ◌<◌, ◌≤◌, cond, not, nat_lt, ◌&&◌, eqb, List, [], ◌++◌, length, get_or, set, take, drop, slice_range, sym, ap, ◌∙◌, inl, inr, arith, lit<, bit_xor}
 use Rattle.std.specs.List.{concat}
 use Rattle.std.proofs.lemmas.Bool.{cases_lt, cond-true, cond-false, cond_both, lt-ltb, le-ltb}

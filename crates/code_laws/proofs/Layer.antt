@@ -1,4 +1,7 @@
 -- The step of one layer: what is solved from the sums of the present values is what any codeword that agrees has at the erased nodes.
+-- The invariant over the layers is that for every codeword that agrees, the layers done hold its uncoupled values. So the answer is that
+-- codeword, wherever there is one, with no argument that it is the only one. The partner's layer of a lower score is among those done,
+-- since layers come by rising score. The checked form encodes the answer's stripe and compares.
 use Rattle.std.proofs.Common.{◌≡◌, ◌≢◌, ℕ, subst, ◌+◌, ◌*◌, ◌/◌, ◌%◌, ◌^◌, ◌<◌, ◌≤◌, ◌⊎◌, Bool, true, false, List, length, get_or, Option, Vec, Global, sym, ap, ◌∙◌, inl, inr, arith, lit<, [], take, drop}
 use Rattle.std.proofs.lemmas.Bool.{cases_eq, cases_lt, cases_Bool, cond-true, cond-false, cond_both, true≢false}
 use Rattle.clay_field.specs.Field.{product, power_of}

@@ -1,4 +1,6 @@
 -- Weighted sums over distinct points: which values have them, and that only one does.
+-- Values with any weighted sums exist (an induction on the points), and the coefficients times the sums of such values give the values
+-- back at each point (picked). So solve needs no argument about square matrices.
 use Rattle.std.proofs.Common.{◌≡◌, ◌≢◌, ℕ, zero, suc, ◌^◌, ◌<◌, cond, refl, sym, ap, ◌∙◌, inl, inr, arith, lit<, eqb, bit_xor}
 use Rattle.std.proofs.lemmas.Bool.{cases_eq, cond-true, cond-false, cond_both, eq-eqb, ne_eqb}
 use Rattle.std.proofs.lemmas.Nat.{xor_comm, xor_lt}

@@ -1,4 +1,9 @@
 -- The entries in the order of their births.
+-- The view sorts the entries by insertion (by_birth). Two ascending lists of which the same predicates hold are one list (ascending_same:
+-- the predicates "not before x" and "born with x, so x" settle the heads), so neither counts nor places come up, and entries that change
+-- places have one order. A removal is then "the gone one before what is left", whatever the place that the last entry took; a changed
+-- value and an appended one go by recursions of their own on the sorted list (ordered_changed, ordered_added), and the lemmas on lists of
+-- objects serve the sorted entries unchanged.
 use Rattle.std.proofs.Common.{◌≡◌, ℕ, zero, suc, ◌+◌, ◌<◌, ◌≤◌, Bool, true, false, cond, not, List, [], ◌∷◌, ◌++◌, length, get_or, map, bytes_eq, nat_lt, nat_eq, position, IsPermutation, Option, None, Some, IfSome, slice_get, All, true≢false, refl, sym, ap, subst, ◌∙◌, arith}
 use Rattle.std.specs.Bool.{⊤}
 use Rattle.std.specs.List.{AllByRecursion, IsDistinct, position_or_len}

@@ -1,4 +1,6 @@
 -- From what is left to ask to the next position.
+-- One relation for each function of positions, over all lists of missing servers (GoesToLook, Hears), and most methods of Course are one
+-- assignment; five functions have a written answer, the tactics find the rest.
 use Rattle.std.proofs.Common.{◌≡◌, ℕ, zero, suc, ◌+◌, ◌-◌, ◌<◌, ◌≤◌, List, [], ◌∷◌, length, map, filter, not, take, drop, get_or, refl, sym, ap, ◌∙◌, Option, None, Some, arith}
 use Rattle.clay_grid.specs.Shape.{Shape, chunk_count}
 use Rattle.store_core.specs.Told.{Seen, Lost}

@@ -1,4 +1,8 @@
 -- What has come by the time that a stage is reached.
+-- What has come is said by stage alone (Keeps), so the lemmas follow the stage functions one by one (keeps_make, keeps_look) and no
+-- position is looked into; the tactics find the step at the server from chunk_server's clause core. A part's layers are consecutive, but
+-- no lemma says so: from layer z on, take (to - z * width) of what the layers give is that of the chunk (an induction on the layers
+-- left), which gives both the room and the bytes.
 use Rattle.std.proofs.Common.{◌≡◌, ℕ, zero, suc, ◌+◌, ◌≤◌, nat_lt, true, false, cond, ◌||◌, List, [], ◌∷◌, length, map, get_or, count_by, None, is_some, refl, sym, ap, subst, ◌∙◌, arith}
 use Rattle.std.proofs.lemmas.Bool.{true≢false, cond_both, eq-eqb}
 use Rattle.std.proofs.lemmas.List.Sums.{sum_by-cons}

@@ -1,4 +1,9 @@
 -- The first of some tests' faults.
+-- The rule on lost chunks over both kinds of lines is first_fault of appended and flat-mapped lists (Ors.lost_by_lines), so each loop is
+-- the plain one over lines. Points rise, so a test that fails at every other place is that of the place (only_at), and std's
+-- partition_point gives the place. A sum's range: a helper of one addition whose parameter is the u64, and the loop's invariant sum ≤
+-- index * (2 ^ 64 - 1). Helpers over the schedule's counts speak of every script whose counts the tables are, so they need no script at
+-- run time.
 use Rattle.std.specs.Prelude.{◌||◌, nat_eq, reverse}
 use Rattle.std.proofs.Common.{◌≡◌, ℕ, Bool, true, false, List, [], ◌∷◌, refl, sym, ap, ◌∙◌, Option, None, Some, is_some, true≢false}
 use Rattle.std.specs.Option.{option_or}

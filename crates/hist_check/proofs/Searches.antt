@@ -1,4 +1,10 @@
 -- A search for an answer out of order, from line to line and from one kind of lines to the next.
+-- Each rule is first_fault of a list, or first_fault_along where it sees the lines before. A loop's invariant is that the rule over what
+-- is left (drop i, beside reverse (take i) for the lines before) comes to the rule over all; three lemmas a kind (Faults: it fits, it is
+-- found, there is none) serve every loop. A set stands for a list by its look-ups (IsSetOf), so no order and no permutation comes up. How
+-- far an actor's answers are known to be there is kept (AreReached), so each number is looked up once; least_missing runs for a fault
+-- alone. The replay keeps two places, lines looked at and replies given, since a line without a call in the script has no reply. The
+-- rules in a row are lists of tests (found_at, last_decides, found_behind).
 use Rattle.std.proofs.Common.{◌≡◌, ℕ, ◌+◌, ◌<◌, ◌≤◌, Bool, true, false, List, [], ◌∷◌, ◌++◌, length, get_or, drop, sym, ap, ap₂, ◌∙◌, append_assoc, append-nil}
 use Rattle.std.specs.Prelude.{Option, None, Some, Result, Ok, Err, IfOk, ◌||◌}
 use Rattle.std.specs.Option.{option_or}

@@ -1,4 +1,6 @@
 -- What a test of the checker says: it has no fault just where a fact holds.
+-- Each rule is a test with Judges test P: no fault exactly where P holds. So Legal is IsHistory by one lemma a rule, without a word on
+-- the order of rules.
 use Rattle.std.proofs.Common.{◌≡◌, ◌≢◌, Bool, true, false, List, [], ◌∷◌, Option, None, Some, is_some, IfSome, All, refl, sym, ap, ◌∙◌, true≢false}
 use Rattle.std.specs.Bool.{Decides, ⊤}
 use Rattle.std.specs.Option.{option_or, unwrap_or}

@@ -1,4 +1,10 @@
 -- The laws on which versions are dropped.
+-- The k-th drawn version gets the k-th row by a recursion on both lists, with "no number stands twice" as a function on places (IsOnce),
+-- not as AllPairs. "A stripe that is written" by a byte in it: the two directions to "from the first one on, as many as the bytes meet"
+-- are within and byte_of. A law that ends by the answer tells answers apart by small tests (is_done, reaped_at), abbrevs, since a
+-- definition doesn't unfold elsewhere. Lists for contracts alone are lists of numbers: a codec is how a value is written and how it is
+-- read back, with what comes behind it (Codec); that what is written is read back is proved once for numbers, pairs and lists, so each
+-- step's clause is an equation of lists of values.
 use Rattle.std.proofs.Common.{◌≡◌, ℕ, ◌<◌, Bool, true, false, List, [], length, slice_get, Option, None, Some, option_map, unwrap_or, Contains, refl, sym, ap, subst, ◌∙◌}
 use Rattle.std.proofs.lemmas.Bool.{true≢false, false≢true, cond_both}
 use Rattle.std.proofs.lemmas.Option.{none-some}

@@ -1,4 +1,10 @@
 -- What every step of a run keeps holds at its end, also after drains.
+-- One induction over steps (Induction.KeptBySteps: what each of seven kinds of step keeps holds at the end of a run, also after drains),
+-- used once a law: points are of calls of the script and replay to the map's replies; a pass that was reaped is told of once; a client's
+-- point with a reply is of an answered call, a commit's of one that is answered or only settles from then on (what it was told is its
+-- versions, its commit and settles); each call that has ended has its line, so the answered calls of an actor are its first ones; takes
+-- are sums that saturate on both sides, and a call takes at most 2^10 subchunks in each of at most 2^29 steps; told races are changes of
+-- the object, since a write's base is the last change when it looks and its commit is told the last change then.
 use Rattle.std.proofs.Common.{◌≡◌, ℕ, zero, suc, ◌+◌, Bool, true, false, List, [], ◌∷◌, ◌++◌, length, fold, Option, None, Some, refl, sym, subst}
 use Rattle.std.proofs.lemmas.List.{append_assoc, append-nil}
 use Rattle.std.specs.List.{range_with_len, slice_get}

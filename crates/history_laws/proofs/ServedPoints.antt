@@ -1,4 +1,6 @@
 -- In a sound directory a call has one point that is no reap; so a pinned one is the one that the call was told.
+-- Soundness says that a call has at most one point that is no reap, and an answered call was told a point; so the pinned point of an
+-- answered call is that one, and its event says that it was served. No line of the history is looked at.
 use Rattle.std.proofs.Common.{◌≡◌, ◌≢◌, ◌⊎◌, inl, inr, ℕ, ◌<◌, true, true≢false, List, get_or, Some, AllPairs, IsTrue, sym, ap, subst, ◌∙◌}
 use Rattle.std.proofs.lemmas.Bool.{cases_order}
 use Rattle.std.proofs.lemmas.Option.{same_Some, slice_get_within, get_or_from_slice_get}

@@ -1,4 +1,7 @@
 -- The lost node's column and its chunk, block by block.
+-- The same invariant as decoding, over the repair layers alone. The solved column's values are the lost node's subchunk of that layer, or
+-- cross to its subchunks of the layers that differ in the lost column's digit; that each layer is one of these is arithmetic on digits. A
+-- write keeps HoldsSubchunk for every layer, also for the one that is written, so no layer need be shown different from another.
 use Rattle.std.proofs.Common.{◌≡◌, ◌≢◌, ℕ, subst, ◌+◌, ◌*◌, ◌/◌, ◌%◌, ◌<◌, ◌≤◌, Bool, false, eqb, List, [], length, get_or, set, take, drop, Option, Vec, Global, refl, sym, ap, ◌∙◌, arith, bit_xor}
 use Rattle.std.proofs.lemmas.Nat.{mod_below, div_below, div-mul-add, mod-mul-add, div-add-mod', mul-add-lt}
 use Rattle.std.proofs.lemmas.List.{ext_get_or, get_or-take, get_or-drop}

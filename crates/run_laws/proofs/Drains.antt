@@ -1,4 +1,13 @@
 -- A drain ends: each round lowers the measure of what may yet be done, or finds nobody with a step.
+-- Worked rows are computed by the definitions alone (store_core): scripts as records, their transcripts by refl. Laws go by recursion on
+-- what was told, one lemma a stage; where several laws say what comes after an act, one relation is carried through all stages once
+-- (GoesOn, Phases with CallMoves), and each law is a short case analysis of it. That a drain ends is a measure of the core (steps that
+-- calls have left, and for each version that isn't swept or may yet be drawn the sweeper's steps) that falls at each step, with the
+-- invariant that the directory has an actor's pass exactly where the call's next act wants it. That the directory stays sound goes step
+-- by step (run_laws), each step in parts that keep it sound: first a pass is closed or marked, then versions change, then a point comes;
+-- and over runs (run_laws) by an invariant of each actor, tied to the rank of its next act. What a step leaves of an actor that doesn't
+-- make it is one record (its pass, its points, the points at which objects are changed), and all of that actor's agreement follows from
+-- it. A further invariant of runs is an instance of one induction over tokens and rounds (Invariants).
 use Rattle.std.proofs.Common.{◌≡◌, ℕ, zero, suc, ◌+◌, ◌<◌, ◌≤◌, Bool, true, false, ◌||◌, List, [], ◌∷◌, ◌++◌, length, map, fold, Option, None, Some, IfSome, refl, sym, subst, ◌∙◌, inl, inr, ◌⊎◌, arith, true≢false}
 use Rattle.std.proofs.lemmas.Bool.{cases_eq}
 use Rattle.std.proofs.lemmas.List.{length-map}

@@ -1,4 +1,7 @@
 -- What the reader's steps show, line by line.
+-- What stands before a line is a place in the grammar and the script so far; the reader's invariant is that its lines are spelled. A
+-- line's spelling has no LF and its words no space, so the first LF ends the first line and the first space its first word: each step of
+-- the reader is then an equation on the text, and a script has one spelling.
 use Rattle.std.proofs.Common.{◌≡◌, ℕ, ◌+◌, ◌*◌, ◌<◌, ◌≤◌, false, List, [], ◌∷◌, ◌++◌, length, Option, None, Some, Ok, Err, refl, sym, ap, ◌∙◌, arith, subst, length-append, inl, inr}
 use Rattle.std.specs.Prelude.{codes, IsSome, is_some, IfSome, ◌⊎◌}
 use Rattle.std.proofs.lemmas.List.Elements.{All-same}

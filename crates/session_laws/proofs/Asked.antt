@@ -1,4 +1,15 @@
 -- How servers are asked for one pinned version, whatever is gathered of it: those that lack their chunks end the gathering once they are too many.
+-- A run is the steps of one call from places that are seen as a state. What comes after is handed in (Next stage to), so no two runs are
+-- composed; asking servers is one walk for any aim (Asked), and what it leaves are places that differ in takes, of which all is known by
+-- one lemma (kept_seen), so the rest of a run starts there anew. What a commit leaves is said once for puts and writes (Committed): a
+-- list of numbers, a list of versions, and that each number is a new one or one of an object. That no chunk is listed twice is a relation
+-- along a list by recursion (Pairs), with lemmas for map, filter, take and flat_map; two chunks of one number are of one stripe by
+-- StandsOnce. A law over every run in which memory may be wanting is one case analysis over the call's state (Fits), with a second part
+-- for a call that has committed (IsOver): what a state knows is the least that its next step needs, so most cases are tt. A heal is the
+-- rebuild's law along a list, with what stays true of the chunks that are left. Lost chunks go by stripes: where those of one stripe
+-- stand together (a recursion along the list), a run's length is how many there are of its stripe, since none before and none behind is
+-- of it. One walk over a call's states serves every property that is one of the point of its pins (IsByPoint): which pins are owed, and
+-- that it has looked.
 use Rattle.std.proofs.Common.{◌≡◌, ℕ, zero, suc, ◌+◌, ◌<◌, ◌≤◌, true, false, not, List, [], ◌∷◌, ◌++◌, length, map, get_or, take, filter, refl, sym, ap, subst, ◌∙◌, arith}
 use Rattle.std.proofs.lemmas.Bool.{or_left, or_right, eq-eqb, and_parts}
 use Rattle.clay_grid.specs.Shape.{Shape, chunk_count}

@@ -1,4 +1,10 @@
 -- The readers' tickets and what the snapshot keeps, where other actors go on.
+-- What each step of an actor keeps is kept by its calls, rebuilds and sweeps (IsReachedBy, for every property of the directory), so one
+-- record (Held: the readers' tickets, and what the pinned versions stand for) goes through every request by one lemma (holds_after). That
+-- nobody else has a pass needs no walk: another's seat stays by agreement, with a bound of its numbers found among the points
+-- (unused_of), and the caller's own seat is known at its end. Looks and ends are inductions along readers and objects at once. A read of
+-- a snapshot is the steps of a get after its look; the walk of gatherings serves it unchanged, for an actor without a pass, and stops
+-- where the pass would end (from_steps).
 use Rattle.std.proofs.Common.{◌≡◌, ℕ, ◌+◌, ◌<◌, nat_eq, Bool, true, false, ◌||◌, List, [], ◌∷◌, ◌++◌, length, map, get_or, IsTrue, Option, None, Some, refl, sym, ap, subst, subst₂, ◌∙◌, arith, length-append}
 use Rattle.std.specs.List.{AllByRecursion, IsDistinct, enumerate_from}
 use Rattle.std.proofs.lemmas.Bool.{true≢false, or_left, or_right}

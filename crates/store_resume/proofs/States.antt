@@ -1,4 +1,8 @@
 -- The state after one answer more.
+-- One function resume says what the definitions say of further answers from a state on; each state's lemma is resume at (answer ∷ told) ≡
+-- resume (state after) told, so the law is one induction. A gathering in one entry (Gathered) leads to the state that all its answers
+-- lead to, because the gathering's law says what it comes to; states are compared opened, since a part may have its bytes without a
+-- question.
 use Rattle.std.proofs.Common.{◌≡◌, ℕ, Bool, true, false, cond, nat_lt, List, [], ◌∷◌, ◌++◌, length, map, filter, fold, refl, sym, ap, subst, ◌∙◌}
 use Rattle.clay_grid.specs.Shape.{Shape, chunk_count}
 use Rattle.store_core.specs.Lists.{places_of}

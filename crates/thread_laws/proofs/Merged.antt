@@ -1,4 +1,8 @@
 -- The law of merging, by one induction on the list in order.
+-- No commuting of steps: of two lists with the same steps of each actor, of which one doesn't fall and one rises strictly, the one is the
+-- other, so each place's list is its part of the ordered list; then one induction on that list, each part seen through a filter: the head
+-- is the head of its place's and of its actor's list, so step_core of its token makes it, and all other parts stay. The stable sort is
+-- such a list.
 use Rattle.std.proofs.Common.{◌≡◌, ◌≢◌, ℕ, zero, suc, Bool, true, false, cond, nat_eq, List, [], ◌∷◌, map, filter, Option, None, Some, option_map, refl, sym, ap, subst, ◌∙◌, eq-eqb, eqb-true, true≢false}
 use Rattle.std.specs.List.{slice_get}
 use Rattle.store_map.specs.declared.script.Script.{Script}

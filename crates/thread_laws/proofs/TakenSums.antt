@@ -1,4 +1,7 @@
 -- What a place's list took is what the lists of all actors took there.
+-- Counts up to 2^64 - 1 by c ≡ min total (2 ^ 64 - 1) as the invariant with total unbounded; omega closes each step. A sum doesn't see
+-- the sort (sum_by_moment), so the place's list and the actors' lists have one sum. Of a call that runs alone they are those at its
+-- bytes: one that has its bytes takes no more, and one that is over stays so (taken_once), so no run to the end is made again.
 use Rattle.std.proofs.Common.{◌≡◌, ℕ, zero, suc, ◌+◌, ◌-◌, ◌^◌, ◌<◌, min, Bool, true, false, nat_lt, if◌then◌else◌, List, [], ◌∷◌, ◌++◌, length, filter, refl, sym, ap, subst, ◌∙◌, arith}
 use Rattle.std.proofs.lemmas.List.Sums.{sum_by-cons, sum_by-append}
 use Rattle.std.proofs.lemmas.List.Elements.{filter-append}

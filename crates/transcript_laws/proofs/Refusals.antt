@@ -1,4 +1,8 @@
 -- A call that nothing hindered isn't refused, by what is known of each refusal: its cause, and what it names of servers.
+-- A refusal names one server more than there are parity chunks, all different, and each told its call so at a moment of the trace, so a
+-- bound on servers that did excludes the line; the other causes are in what was told. That each step of a call is its next act is one
+-- induction beside that on causes. A call at its bound of steps is over, since one more answer would be one too many. A rebuild is proved
+-- to prepare nothing, so its law has no premise on that.
 use Rattle.std.proofs.Common.{◌≡◌, ◌≢◌, inl, inr, ℕ, ◌+◌, ◌<◌, ◌≤◌, Bool, true, false, List, [], ◌∷◌, length, map, Contains, All, AllPairs, Some, sym, ap, subst, ◌∙◌, arith, true≢false}
 use Rattle.std.specs.Bool.{⊤}
 use Rattle.std.proofs.lemmas.List.{length-map}

@@ -1,4 +1,7 @@
 -- What each step keeps of the trace so far and the core holds at the end of a run.
+-- A drain is its rounds' tokens, so a trace is one fold over tokens and every law an induction over steps (drains_are_steps). What a
+-- run's core knows of a call is tied to what the trace's steps told it, so an outcome's causes, which speak of a told list, become
+-- moments of the trace. An invariant of moments only grows: what happened before a moment has happened at its end (Happened through ++).
 use Rattle.std.proofs.Common.{◌≡◌, ℕ, Bool, true, false, List, [], ◌∷◌, ◌++◌, length, Option, None, Some, refl, sym, subst}
 use Rattle.std.proofs.lemmas.List.{append_assoc, append-nil}
 use Rattle.std.specs.List.{slice_get}

@@ -1,4 +1,7 @@
 -- A text read line by line up to its line `end`.
+-- One trait, Field, has the values of a part and their spelling; reading up to a separator and reading a list of values are proved once
+-- for all fields. A text has one reading since two lines' texts differ before their first line feed, and the lists of a transcript are
+-- picked out of its lines again.
 use Rattle.std.proofs.Common.{◌≡◌, ◌≢◌, ℕ, ◌+◌, ◌≤◌, List, [], ◌∷◌, ◌++◌, length, length-append, refl, sym, ap, ◌∙◌, subst, arith, inl, inr}
 use Rattle.std.specs.List.{flat_map}
 use Rattle.script_text.specs.FirstFault.{OrMemory}

@@ -1,4 +1,6 @@
 -- Each step keeps the rule.
+-- The rule is kept by each kind of step on the word: one lemma a step (Keeps), over one lemma for a step that changes one seat's view
+-- (moved). The longer of two lists seen is found by comparing lengths, since both begin the history.
 use Rattle.std.proofs.Common.{◌≡◌, ℕ, zero, suc, ◌+◌, ◌<◌, ◌≤◌, ◌==◌, ◌≢◌, ◌⊎◌, eqb, true, false, List, [], ◌∷◌, ◌++◌, length, get_or, set, refl, ap, sym, ◌∙◌, subst, inl, inr, ⊎_elim, arith, length-set, get_or-set_same, Option, Some}
 use mathlib.Core.List.{IsPrefix}
 use mathlib.Core.Logic.{dite}

@@ -1,4 +1,7 @@
 -- Drains of a world that tokens reach.
+-- Each turn in a drain is a token's step, so "some tokens reach the world" holds at every call inside; the drain's own token is composed
+-- outside (GoesByRounds). A stand-in crate, whose struct's Model has the invariant ⊥, let the world be proved word for word over
+-- contracts of a crate that was still being written.
 use Rattle.std.proofs.Common.{◌≡◌, ℕ, ◌+◌, ◌-◌, ◌^◌, ◌<◌, true, false, List, [], ◌∷◌, ◌++◌, sym, subst, append_assoc, append-nil}
 use Rattle.clay_grid.specs.Limits.{IsGeometry}
 use Rattle.store_map.specs.Naming.{IsValid}
