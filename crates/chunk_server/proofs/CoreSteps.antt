@@ -1,6 +1,6 @@
 -- Each step is the core's.
--- Is an ordered map seen as a list of chunks in rising order of versions; each call's new record and answer are one equation, and its
--- step of the definitions follows from that equation by a lemma on lists.
+-- A chunk server is an ordered map seen as a list of chunks in rising order of versions; each call's new record and answer are one
+-- equation, and its step of the definitions follows from that equation by a lemma on lists.
 use Rattle.std.proofs.Common.{◌≡◌, ℕ, Bool, true, false, cond, ◌&&◌, not, List, length, Option, None, Some, is_some, refl, ap, ◌∙◌}
 use Rattle.store_core.specs.Told.{Told}
 use Rattle.store_core.specs.Act.{ServerStep}

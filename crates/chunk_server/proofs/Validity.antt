@@ -1,6 +1,6 @@
 -- What every server keeps is kept.
--- Keeps the proofs of the plain one: the chunk stands where its bytes stood, and validity says of each held chunk that it is the server's
--- own (IsOwn over single fields, so that no step owes it anew).
+-- A server over sealed chunks keeps the proofs of one over bytes: the chunk stands where its bytes stood, and validity says of each held
+-- chunk that it is the server's own (IsOwn over single fields, so that no step owes it anew).
 use Rattle.std.proofs.Common.{◌≡◌, ℕ, false, cond, nat_eq, nat_lt, not, List, [], ◌∷◌, All, refl, sym, subst}
 use Rattle.std.proofs.lemmas.Bool.{cond_both}
 use Rattle.std.proofs.lemmas.List.Elements.{All-nil, All-cons, All-head, All-tail, All-filter}

@@ -1,5 +1,5 @@
 -- The numbers of the missing chunks, and the missing chunks and the others put together.
--- The present ones are inserted at their numbers; the invariant is "the first c chunks, then the missing ones from c on".
+-- The present chunks are inserted at their numbers; the invariant is "the first c chunks, then the missing ones from c on".
 use Rattle.std.proofs.Common.{◌≡◌, ◌≢◌, ℕ, suc, subst, ◌+◌, ◌-◌, ◌*◌, ◌/◌, ◌%◌, ◌<◌, ◌≤◌, true, false, cond, List, [], ◌∷◌, ◌++◌, length, get_or, set, take, drop, map, Option, Some, None, is_none, Vec, Global, All, IfSome, inl, inr, refl, sym, ap, ◌∙◌, arith, append_assoc}
 use Rattle.std.specs.List.{insert}
 use Rattle.std.proofs.lemmas.Bool.{true≢false, cases_eq}

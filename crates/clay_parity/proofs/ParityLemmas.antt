@@ -1,6 +1,6 @@
 -- The bytes that are appended to the parity chunks are those of the stripe's codeword.
--- , with the rows of a group in one buffer, so chunks are filled in order and never cleared; a list that tabulates the solved values
--- stands for the column that the plain encoder keeps, so its theorem (assembled) serves unchanged.
+-- Encoding appends (Appends), with the rows of a group in one buffer, so chunks are filled in order and never cleared; a list that
+-- tabulates the solved values stands for the column that the plain encoder keeps, so its theorem (assembled) serves unchanged.
 use Rattle.std.proofs.Common.{◌≡◌, ℕ, zero, suc, subst, ◌+◌, ◌-◌, ◌*◌, ◌/◌, ◌%◌, ◌^◌, ◌<◌, ◌≤◌, List, [], ◌∷◌, ◌++◌, length, get_or, set, take, drop, slice_range, map, inl, inr, refl, sym, ap, ◌∙◌, arith, lit<, bit_xor, Vec, Global}
 use Rattle.std.specs.List.{range_with_len}
 use Rattle.std.proofs.lemmas.Bool.{cases_eq, cond-true, cond-false, lt-ltb, le-ltb, eq-eqb, ne_eqb}

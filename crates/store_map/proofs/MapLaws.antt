@@ -1,6 +1,7 @@
 -- The laws of the plain map.
--- Is a recursion on the list of names and bytes; ObjectMap keeps an indexmap whose order is that list's. That a call leaves the map is
--- one case analysis with both maps in it (CallMaps: before its point, after it); a rebuild is the instance in which they are the same.
+-- The plain map is a recursion on the list of names and bytes; ObjectMap keeps an indexmap whose order is that list's. That a call leaves
+-- the map is one case analysis with both maps in it (CallMaps: before its point, after it); a rebuild is the instance in which they are
+-- the same.
 use Rattle.std.proofs.Common.{◌≡◌, ◌≢◌, ℕ, ◌+◌, ◌%◌, ◌≤◌, Bool, true, false, cond, List, [], ◌∷◌, ◌++◌, length, take, drop, Option, None, Some, bytes_eq, nat_lt, refl, sym, ap, subst, ◌∙◌, arith, length-append, length-drop}
 use Rattle.std.proofs.lemmas.Bool.{false_from_ne_true, cond-true, cond-false, ltb-false}
 use Rattle.std.proofs.lemmas.Cmp.{nat_list_eq_equiv}
