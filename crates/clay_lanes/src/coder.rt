@@ -7,7 +7,7 @@ use lane_repair::rebuild;
 use std::alloc::{AllocError, Global};
 use std::thread::Threads;
 
-/// Codes in the thread of its caller, sixteen bytes at a time. Its chunks are those of `PlainCoder`.
+/// Codes in the thread of its caller, by products 32 and 16 bytes at a time. Its chunks are those of `PlainCoder`.
 #[derive(Clone, Copy, Debug, PartialEq, Eq)]
 pub struct LaneCoder;
 

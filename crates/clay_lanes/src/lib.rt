@@ -1,4 +1,4 @@
-//! Fast coding of one thread: the unknown nodes' values by a fixed matrix of the scalar code, and products sixteen bytes at a time.
+//! Fast coding of one thread: the unknown nodes' values by a fixed matrix of the scalar code, and products 32 and 16 bytes at a time.
 #![tactic(auto)]
 
 mod block;

@@ -81,7 +81,7 @@ fn list_of_all(alloc: Global, placed: &Placed) -> Result<Vec<LostPiece>, AllocEr
     Ok(pieces)
 }
 
-/// The subchunks from which `read_lost` makes the layers of the run, while all other chunks are there: by rising chunk, and of a chunk by rising
+/// The subchunks that determine the layers of the run, while all other chunks are there: by rising chunk, and of a chunk by rising
 /// layer.
 pub fn lost_pieces(alloc: Global, g: Geometry, run: LostRun) -> Result<Vec<LostPiece>, LostFault>
     ensures pieces { IfOk result (λ pieces. IsLostRun g run × (pieces.items ≡ lost_pieces_of g run)) }
