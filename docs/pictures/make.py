@@ -212,7 +212,7 @@ def wrapped(words, size, room):
 def draw_layers():
     drawn = [(name, holds, wrapped(crates, 12, 590)) for name, holds, crates in reversed(layers())]
     high = [46 + 17 * len(lines) for _, _, lines in drawn]
-    picture = Picture(800, 70 + sum(high) + 8 * len(high), 'The layers: a crate names none of a box above its own')
+    picture = Picture(800, 70 + sum(high) + 8 * len(high), 'The tiers: a crate names none of a box above its own')
     top = 58
     for (name, holds, lines), height in zip(drawn, high):
         picture.box(24, top, 752, height, PALE if name.startswith('tests') else LIGHT_BLUE, 'none', 6)
