@@ -79,11 +79,38 @@ bool have_length(const std::map<int, bufferlist> &chunks, size_t len) {
   return std::all_of(chunks.begin(), chunks.end(), [len](auto &chunk) { return chunk.second.length() == len; });
 }
 
+// A byte for each of `count` chunks: 1 where the map has it.
+vector<uint8_t> marks_of(const std::map<int, bufferlist> &chunks, size_t count) {
+  vector<uint8_t> marks(count, 0);
+  for (auto &[chunk, list] : chunks) marks.at(chunk) = 1;
+  return marks;
+}
+
 } // namespace
 
-int Coder::set(uint32_t data, uint32_t parity) {
-  k = data, m = parity;
-  return error_of(clay_geometry(k, m, 1, &numbers));
+int Coder::set(uint32_t data, uint32_t parity, uint32_t helpers) {
+  k = data, m = parity, d = helpers;
+  return error_of(clay_geometry_with_helpers(k, m, d, 1, &numbers));
+}
+
+// Where all others help, the calls without a number of helpers write the same chunks in less time.
+
+int Coder::call_parity(uint32_t w, bufferptr &stripe, bufferptr &parity) const {
+  uint8_t *from = bytes_of(stripe), *to = bytes_of(parity);
+  return error_of(all_help() ? clay_parity(k, m, w, from, stripe.length(), to, parity.length())
+                             : clay_parity_with_helpers(k, m, d, w, from, stripe.length(), to, parity.length()));
+}
+
+int Coder::call_recover(uint32_t w, const Bytes &present, bufferptr &chunks) const {
+  uint8_t *all = bytes_of(chunks);
+  return error_of(all_help() ? clay_recover(k, m, w, present.data(), present.size(), all, chunks.length())
+                             : clay_recover_with_helpers(k, m, d, w, present.data(), present.size(), all, chunks.length()));
+}
+
+int Coder::call_rebuild(uint32_t w, unsigned lost, const Bytes &helpers, bufferptr &parts, bufferptr &chunk) const {
+  uint8_t *from = bytes_of(parts), *to = bytes_of(chunk);
+  return error_of(all_help() ? clay_rebuild(k, m, w, lost, from, parts.length(), to, chunk.length())
+                             : clay_rebuild_with_helpers(k, m, d, w, lost, helpers.data(), helpers.size(), from, parts.length(), to, chunk.length()));
 }
 
 // The length of each of `count` subchunks that have `len` bytes together; 0 where there is none.
@@ -93,7 +120,7 @@ size_t Coder::longest_subchunk() const { return std::min(longest_chunk / numbers
 
 int Coder::repair_layers(unsigned lost, vector<uint32_t> *layers) const {
   vector<uint32_t> read(numbers.layers / numbers.rows);
-  int error = error_of(clay_repair_layers(k, m, 1, lost, read.data(), read.size()));
+  int error = error_of(clay_repair_layers_with_helpers(k, m, d, 1, lost, read.data(), read.size()));
   if (!error) layers->swap(read);
   return error;
 }
@@ -105,7 +132,7 @@ int Coder::parity(bufferlist *stripe, bufferlist *parity) const {
   bufferptr made = room(m * numbers.layers * width);
   for (const Share &share : shares_of(width, longest_subchunk())) {
     bufferptr from = share_of(*stripe, share), to = target_of(made, share);
-    int error = error_of(clay_parity(k, m, share.len, bytes_of(from), from.length(), bytes_of(to), to.length()));
+    int error = call_parity(share.len, from, to);
     if (error) return error;
     if (!share.is_whole()) scatter(bytes_of(to), share, made);
   }
@@ -118,14 +145,13 @@ int Coder::recover(const Chunks &present, Chunks *missing) const {
   if (present.size() < k) return -EIO;
   size_t chunk_len = present.begin()->second.length(), width = subchunk_len(chunk_len, numbers.layers);
   if (!width || !have_length(present, chunk_len)) return -EINVAL;
-  vector<uint8_t> is_present(numbers.chunks, 0);
-  for (auto &[chunk, list] : present) is_present.at(chunk) = 1;
+  Bytes is_present = marks_of(present, numbers.chunks);
   std::map<int, bufferptr> made;
   for (const Share &share : shares_of(width, longest_subchunk())) {
     size_t len = numbers.layers * share.len;
     bufferptr all = room(numbers.chunks * len);
     for (auto &[chunk, list] : present) gather(list, share, bytes_of(all) + chunk * len);
-    int error = error_of(clay_recover(k, m, share.len, is_present.data(), is_present.size(), bytes_of(all), all.length()));
+    int error = call_recover(share.len, is_present, all);
     if (error) return error;
     for (unsigned chunk = 0; chunk < numbers.chunks; chunk++) {
       if (is_present[chunk]) continue;
@@ -141,16 +167,17 @@ int Coder::recover(const Chunks &present, Chunks *missing) const {
 
 // The call takes all parts in one buffer, so each is copied once.
 int Coder::rebuild(unsigned lost, const Chunks &parts, bufferlist *chunk) const {
-  if (parts.size() + 1 != numbers.chunks || parts.count(lost)) return -EIO;
+  if (parts.size() != d || parts.count(lost)) return -EIO;
   size_t len = parts.begin()->second.length(), width = subchunk_len(len, numbers.layers / numbers.rows);
   if (!width || !have_length(parts, len)) return -EINVAL;
+  Bytes helpers = marks_of(parts, numbers.chunks);
   bufferptr made = room(numbers.layers * width);
   for (const Share &share : shares_of(width, longest_subchunk())) {
     size_t share_len = len / width * share.len;
     bufferptr from = room(parts.size() * share_len), to = target_of(made, share);
     uint8_t *next = bytes_of(from);
     for (auto &[number, part] : parts) gather(part, share, next), next += share_len;
-    int error = error_of(clay_rebuild(k, m, share.len, lost, bytes_of(from), from.length(), bytes_of(to), to.length()));
+    int error = call_rebuild(share.len, lost, helpers, from, to);
     if (error) return error;
     if (!share.is_whole()) scatter(bytes_of(to), share, made);
   }

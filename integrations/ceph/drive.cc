@@ -1,6 +1,6 @@
 // Calls erasure code plugins as an osd does, in one process. `check` and `speed` build it.
-//   drive losses PLUGINS K M UNIT [EACH]      each set of up to M + 1 lost chunks, or each EACHth
-//   drive refusals PLUGINS                    profiles that are refused, by their causes
+//   drive losses PLUGINS K M UNIT [EACH [D]]  each lost chunk, and each set of up to M + 1 of them, or each EACHth; a repair has D helpers
+//   drive refusals PLUGINS                    profiles that are refused, by their causes, and some that aren't
 //   drive failures PLUGINS                    calls of the library that fail (failing_library.cc), and memory that is short
 //   drive speed PLUGINS K M UNIT PLUGIN..     encoding, decoding and repair, by alternating slices of time
 // PLUGINS is a folder of libec_*.so, UNIT a chunk's length. Ends with 1 and a line where something isn't as it should be.
@@ -21,6 +21,7 @@
 using ceph::bufferlist;
 using ceph::Chunks;
 using ceph::ErasureCodeProfile;
+using ceph::Runs;
 using ceph::SubChunks;
 using std::set;
 using std::string;
@@ -49,10 +50,11 @@ static int make(ErasureCodeProfile profile, const string &directory, Code *code,
   return error;
 }
 
-static Code code_of(const string &plugin, const string &directory, int k, int m) {
+static Code code_of(const string &plugin, const string &directory, int k, int m, int d = 0) {
   ErasureCodeProfile profile = {{"plugin", plugin}, {"k", std::to_string(k)}, {"m", std::to_string(m)}};
+  if (d) profile["d"] = std::to_string(d);
   if (plugin == "jerasure" || plugin == "isa") profile["technique"] = "reed_sol_van";
-  if (plugin == "clay") profile["scalar_mds"] = "isa";
+  if (plugin == "clay") profile["scalar_mds"] = m > 4 ? "jerasure" : "isa"; // ISA-L's has at most 4 parity chunks
   Code code;
   string cause;
   int error = make(profile, directory, &code, &cause);
@@ -128,6 +130,7 @@ static vector<set<int>> sets_of(int n, int most) {
 struct Stripe {
   Code code;
   int k, m, n, layers;
+  int d, rows; // helpers of a repair, and rows of the grid: a helper gives one in `rows` of its subchunks
   unsigned chunk_len;
   set<int> all;
   bufferlist in;
@@ -135,8 +138,21 @@ struct Stripe {
 
   Stripe(Code code, unsigned unit, int pieces)
       : code(code), k(code->get_data_chunk_count()), m(code->get_coding_chunk_count()), n(k + m), layers(code->get_sub_chunk_count()),
-        chunk_len(code->get_chunk_size(unit * k)), all(first(n)), in(random_list(size_t(chunk_len) * k, pieces, pieces)) {
+        d(helper_count(code->get_profile(), n)), rows(d - k + 1), chunk_len(code->get_chunk_size(unit * k)), all(first(n)),
+        in(random_list(size_t(chunk_len) * k, pieces, pieces)) {
     expect(code->encode(all, in, &chunks) == 0 && numbers(chunks) == all, "encode");
+  }
+
+  static int helper_count(const ErasureCodeProfile &profile, int n) { return profile.count("d") ? std::stoi(profile.at("d")) : n - 1; }
+
+  // The other chunks of a chunk's column, by clay.h.
+  set<int> column(int chunk) const {
+    int virtual_nodes = (rows - n % rows) % rows;
+    auto column_of = [&](int i) { return (i < k ? i : i + virtual_nodes) / rows; };
+    set<int> others;
+    for (int i : all)
+      if (i != chunk && column_of(i) == column_of(chunk)) others.insert(i);
+    return others;
   }
 
   static set<int> numbers(const Chunks &chunks) {
@@ -197,20 +213,25 @@ static SubChunks plan_of(const Stripe &s, const set<int> &want, const set<int> &
   return plan;
 }
 
-// The subchunks that a plan reads: of each other chunk one in m where one chunk alone is lost, else k whole chunks.
-static void check_plan(const Stripe &s, const set<int> &lost, const SubChunks &plan) {
-  bool is_repair = lost.size() == 1;
-  int read = 0;
-  for (auto &[chunk, runs] : plan)
-    for (auto &[begin, count] : runs) read += count;
-  expect(plan.size() == unsigned(is_repair ? s.n - 1 : s.k), "a plan of other chunks");
-  expect(read == (is_repair ? (s.n - 1) * s.layers / s.m : s.k * s.layers), "a plan of other subchunks");
+// Whether a plan is one of parts, of the helpers of a repair of a lost chunk. It is one of k whole chunks otherwise.
+static bool is_of_parts(const Stripe &s, int lost, const SubChunks &plan) {
+  set<int> read;
+  for (auto &[chunk, runs] : plan) read.insert(chunk);
+  bool has_parts = plan.begin()->second != Runs{{0, s.layers}};
+  for (auto &[chunk, runs] : plan) {
+    int count = 0;
+    for (auto &[begin, of_run] : runs) count += of_run;
+    expect(count == (has_parts ? s.layers / s.rows : s.layers), "a plan of other subchunks");
+  }
+  expect(plan.size() == unsigned(has_parts ? s.d : s.k), "a plan of other chunks");
+  expect(!has_parts || without(s.column(lost), read).empty(), "a plan without the lost chunk's column");
+  return has_parts;
 }
 
 static void check_loss(const Stripe &s, const set<int> &lost) {
   set<int> left = without(s.all, lost);
   SubChunks plan = plan_of(s, lost, left, 0);
-  check_plan(s, lost, plan);
+  expect(is_of_parts(s, *lost.begin(), plan) == (lost.size() == 1), "a plan of parts where one chunk is lost, else not");
   Chunks made, every, given = only(s.chunks, left), places = s.places(lost);
   expect(s.code->decode(lost, parts_of(s.chunks, plan, s.chunk_len / s.layers), &made, s.chunk_len) == 0, "decode by plan");
   expect(Stripe::numbers(made) == lost, "decode by plan: other chunks");
@@ -224,14 +245,44 @@ static void check_loss(const Stripe &s, const set<int> &lost) {
   check_all(s, places, "decode_chunks");
 }
 
-// One chunk is wanted of several that are lost: whole chunks are read, since helpers are away.
-static void check_one_of(const Stripe &s, const set<int> &lost) {
+// One chunk is wanted of several that are lost. Whether it is made of parts: where enough others and its column are there, and not always where
+// more than two are lost.
+static bool check_one_of(const Stripe &s, const set<int> &lost) {
   int wanted = *lost.rbegin();
-  SubChunks plan = plan_of(s, {wanted}, without(s.all, lost), 0);
-  expect(plan.size() == unsigned(s.k), "a plan for one of several");
+  set<int> left = without(s.all, lost);
+  SubChunks plan = plan_of(s, {wanted}, left, 0);
+  bool may_be = int(left.size()) >= s.d && without(s.column(wanted), left).empty(), is = is_of_parts(s, wanted, plan);
+  expect(is ? may_be : !may_be || lost.size() > 2, "a plan for one of several");
   Chunks made;
   expect(s.code->decode({wanted}, parts_of(s.chunks, plan, s.chunk_len / s.layers), &made, s.chunk_len) == 0, "decode of one of several");
   expect_same(made.at(wanted), s.chunks.at(wanted), "decode of one of several");
+  return is;
+}
+
+// Where one chunk is lost, the plan is that of Ceph's clay, which has the same grid. Ceph's is one of whole chunks where the column has virtual
+// nodes, and it takes them for chunks that aren't there.
+static void check_like_clay(const Stripe &s, Code clay) {
+  expect(clay->get_sub_chunk_count() == s.layers, "the subchunks aren't as many as of Ceph's clay");
+  for (int lost : s.all) {
+    SubChunks plan = plan_of(s, {lost}, without(s.all, {lost}), 0), other;
+    expect(clay->minimum_to_decode({lost}, without(s.all, {lost}), &other) == 0, "minimum_to_decode of Ceph's clay");
+    expect(plan == other || other.begin()->second == Runs{{0, s.layers}}, "a plan that isn't that of Ceph's clay");
+  }
+}
+
+// Where `rows` helpers can't be read, fewer than k parts are left. Ceph 16.2 then asks for a new plan and reads whole what that has besides. Were
+// it a plan of parts, their first bytes would be handed over as parts.
+static void check_read_errors(const Stripe &s) {
+  for (int lost : s.all) {
+    SubChunks plan = plan_of(s, {lost}, without(s.all, {lost}), 0);
+    set<int> read;
+    for (auto &[chunk, runs] : plan) read.insert(chunk);
+    vector<int> helpers(read.begin(), read.end());
+    for (size_t at = 0; s.rows < s.m && at + s.rows <= helpers.size(); at++) {
+      set<int> failed(helpers.begin() + at, helpers.begin() + at + s.rows);
+      expect(!is_of_parts(s, lost, plan_of(s, {lost}, without(without(s.all, {lost}), failed), 0)), "a plan of parts after read errors");
+    }
+  }
 }
 
 static void check_too_many(const Stripe &s, const set<int> &lost) {
@@ -249,17 +300,24 @@ static void check_too_many(const Stripe &s, const set<int> &lost) {
 static void check_wrong_parts(const Stripe &s) {
   SubChunks plan = plan_of(s, {0}, without(s.all, {0}), 0);
   const Chunks parts = parts_of(s.chunks, plan, s.chunk_len / s.layers);
+  int last = parts.rbegin()->first;
   vector<Chunks> wrong(4, parts);
-  wrong[0].erase(s.n - 1);
+  wrong[0].erase(last);
   wrong[1].at(1).append("x", 1);
   wrong[2].at(1) = s.chunks.at(1);
   for (auto &[chunk, list] : wrong[3]) list.splice(0, s.chunk_len / s.layers);
+  if (s.d < s.n - 1) { // a helper too many, and one in the place of one of the lost chunk's column
+    wrong.resize(6, parts);
+    wrong[4][last + 1] = wrong[5][last + 1] = parts.at(last);
+    wrong[5].erase(*s.column(0).begin());
+  }
   for (size_t i = 0; i < wrong.size(); i++) {
     Chunks made;
     expect(s.code->decode({0}, wrong[i], &made, s.chunk_len) == -EINVAL && made.empty(), "wrong parts " + std::to_string(i));
   }
-  Chunks made;
-  expect(s.code->decode({0, 1}, only(parts, without(s.all, {0, 1})), &made, s.chunk_len) == -EINVAL && made.empty(), "parts for two");
+  Chunks made, fewer = parts;
+  fewer.erase(1);
+  expect(s.code->decode({0, 1}, fewer, &made, s.chunk_len) == -EINVAL && made.empty(), "parts for two");
   expect(s.code->decode({1}, parts, &made, s.chunk_len) == -EINVAL && made.empty(), "a part that is there");
 }
 
@@ -290,29 +348,33 @@ static void check_odd_length(const Stripe &s, unsigned len) {
   for (unsigned at = len; at < back.length(); at++) expect(back[at] == 0, "the padding isn't zeros");
 }
 
-static void losses(const string &directory, int k, int m, unsigned unit, size_t each) {
-  Code code = code_of("hijpswol", directory, k, m);
+static void losses(const string &directory, int k, int m, unsigned unit, size_t each, int d) {
+  Code code = code_of("hijpswol", directory, k, m, d), clay = code_of("clay", directory, k, m, d);
   expect(code->get_chunk_count() == unsigned(k + m) && code->get_data_chunk_count() == unsigned(k), "counts");
   expect(code->get_coding_chunk_count() == unsigned(m) && code->get_chunk_mapping().empty(), "counts");
-  int decoded = 0, refused = 0;
+  int decoded = 0, refused = 0, of_parts = 0;
   vector<set<int>> sets = sets_of(k + m, m + 1);
   for (int pieces : {1, 3, k}) {
     Stripe s(code, unit, pieces);
     check_encoding(s);
     check_shared(s);
+    check_like_clay(s, clay);
+    check_read_errors(s);
     check_wrong_parts(s);
     check_wrong_calls(s);
-    for (size_t i = 0; i < sets.size(); i += each) {
+    for (size_t i = 0; i < sets.size(); i++) {
+      if (i % each != 0 && sets[i].size() > 1) continue;
       bool is_much = sets[i].size() > unsigned(m);
       is_much ? check_too_many(s, sets[i]) : check_loss(s, sets[i]);
-      if (!is_much && sets[i].size() > 1) check_one_of(s, sets[i]);
+      if (!is_much && sets[i].size() > 1) of_parts += check_one_of(s, sets[i]);
       (is_much ? refused : decoded)++;
     }
   }
   Stripe s(code, unit, 1);
   for (unsigned len : {1u, 17u, s.chunk_len * k - 1, s.chunk_len * k + 1}) check_odd_length(s, len);
-  printf("%d+%d, chunks of %u bytes, %d subchunks, inputs in 1, 3 and %d pieces: %d sets of lost chunks decoded, %d refused\n", k, m, s.chunk_len, s.layers,
-         k, decoded / 3, refused / 3);
+  printf("%d+%d, %d helpers, chunks of %u bytes, %d subchunks, inputs in 1, 3 and %d pieces: %d sets of lost chunks decoded, %d refused; of %d sets "
+         "of several one chunk was made of parts\n",
+         k, m, s.d, s.chunk_len, s.layers, k, decoded / 3, refused / 3, of_parts / 3);
 }
 
 // ---- Refusals and failures
@@ -331,11 +393,13 @@ static void refusals(const string &directory) {
       {{{"k", "-4"}}, "k=-4 isn't a number of at most four digits"},
       {{{"m", "10000"}}, "m=10000 isn't a number of at most four digits"},
       {{{"d", "5x"}}, "d=5x isn't a number of at most four digits"},
-      {{{"k", "20"}, {"m", "4"}}, "k=20 with m=4 makes more than 1024 subchunks"},
-      {{{"k", "9999"}}, "k=9999 with m=2 makes more than 1024 subchunks"},
-      {{{"k", "8"}, {"m", "4"}, {"d", "10"}}, "d=10 is fewer helpers than k+m-1=11: the library doesn't recover such a code yet"},
-      {{{"k", "8"}, {"m", "4"}, {"d", "9"}}, "d=9 is fewer helpers than k+m-1=11: the library doesn't recover such a code yet"},
-      {{{"k", "5"}, {"m", "3"}, {"d", "6"}}, "d=6 is fewer helpers than k+m-1=7: the library doesn't recover such a code yet"},
+      {{{"k", "20"}, {"m", "4"}}, "k=20 with m=4 and d=23 makes more than 1024 subchunks"},
+      {{{"k", "9999"}}, "k=9999 with m=2 and d=10000 makes more than 1024 subchunks"},
+      {{{"k", "18"}, {"m", "4"}, {"d", "19"}}, "k=18 with m=4 and d=19 makes more than 1024 subchunks"},
+      {{{"k", "14"}, {"m", "6"}}, "k=14 with m=6 and d=19 makes more than 1024 subchunks"},
+      {{{"k", "8"}, {"m", "4"}, {"d", "8"}}, "d=8 helpers of a repair are impossible: more than k and at most k+m-1=11"},
+      {{{"k", "8"}, {"m", "4"}, {"d", "12"}}, "d=12 helpers of a repair are impossible: more than k and at most k+m-1=11"},
+      {{{"k", "8"}, {"m", "4"}, {"d", "0"}}, "d=0 helpers of a repair are impossible: more than k and at most k+m-1=11"},
       {{{"d", "4"}}, "d=4 helpers of a repair are impossible: more than k and at most k+m-1=5"},
       {{{"d", "6"}}, "d=6 helpers of a repair are impossible: more than k and at most k+m-1=5"},
       {{{"mapping", "_DD"}}, "mapping isn't supported: chunk i is shard i"},
@@ -357,16 +421,31 @@ static void refusals(const string &directory) {
   printf("%zu profiles refused, each with its cause\n", all.size());
 }
 
+// Profiles with helpers, and the subchunks of a chunk.
+static void acceptances(const string &directory) {
+  struct {
+    int k, m, d, layers;
+  } all[] = {{4, 2, 5, 8}, {4, 2, 0, 8}, {8, 4, 11, 64}, {8, 4, 10, 81}, {8, 4, 9, 64}, {5, 3, 6, 16}, {10, 4, 11, 128}, {14, 6, 15, 1024}, {2, 8, 3, 32}};
+  for (auto [k, m, d, layers] : all) {
+    Code code = code_of("hijpswol", directory, k, m, d);
+    string name = std::to_string(k) + "+" + std::to_string(m) + ", d=" + std::to_string(d);
+    expect(code->get_profile().at("d") == std::to_string(d ? d : k + m - 1), name + ": the profile has another d");
+    expect(code->get_sub_chunk_count() == layers, name + ": other subchunks");
+    expect(code->get_chunk_size(1) == unsigned(layers) && code->get_chunk_size(k * layers + 1) == unsigned(2 * layers), name + ": other chunks");
+  }
+  printf("%zu profiles accepted, with their subchunks\n", std::size(all));
+}
+
 // Each call of the library fails with each status, and no function of the plugin hands on what it wrote.
 static void check_failure(const Stripe &s, const string &call, int status) {
   setenv("CLAY_FAILS", (call + " " + std::to_string(status)).c_str(), 1);
   int error = status == 5 ? -ENOMEM : status == 4 ? -EIO : -EINVAL;
   Chunks made, given = only(s.chunks, without(s.all, {0})), places = s.places({0, s.n - 1}), before = places;
   bufferlist data;
-  if (call == "clay_parity") {
+  if (call.rfind("clay_parity", 0) == 0) {
     expect(s.code->encode(s.all, s.in, &made) == error, "encode though the library failed");
     expect(s.code->encode_chunks(s.all, &places) == error, "encode_chunks though the library failed");
-  } else if (call == "clay_recover") {
+  } else if (call.rfind("clay_recover", 0) == 0) {
     expect(s.code->decode({0}, given, &made, 0) == error, "decode though the library failed");
     expect(s.code->decode_concat(given, &data) == error, "decode_concat though the library failed");
     expect(s.code->decode_chunks({0}, given, &places) == error, "decode_chunks though the library failed");
@@ -396,14 +475,16 @@ static void check_short_memory(const Stripe &s) {
 }
 
 static void failures(const string &directory) {
-  Code code = code_of("hijpswol", directory, 4, 2);
-  Stripe s(code, 4096, 1);
-  for (auto call : {"clay_parity", "clay_recover", "clay_rebuild"})
-    for (int status : {1, 2, 3, 4, 5, 6, 77}) check_failure(s, call, status);
-  Stripe after(code, 4096, 1);
-  check_loss(after, {0});
-  check_short_memory(s);
-  puts("3 calls of the library that fail, each with 7 statuses, and short memory: errors, no bytes");
+  for (auto [d, name] : {std::pair(5, ""), std::pair(4, "_with_helpers")}) {
+    Code code = code_of("hijpswol", directory, 3, 3, d);
+    Stripe s(code, 4096, 1);
+    for (string call : {"clay_parity", "clay_recover", "clay_rebuild"})
+      for (int status : {1, 2, 3, 4, 5, 6, 77}) check_failure(s, call + name, status);
+    Stripe after(code, 4096, 1);
+    check_loss(after, {0});
+    check_short_memory(s);
+  }
+  puts("6 calls of the library that fail, each with 7 statuses, and short memory: errors, no bytes");
 }
 
 // ---- Speed
@@ -510,8 +591,8 @@ int main(int count, char **words) {
   expect(start_ceph(), "Ceph's library can't be started");
   string verb = count > 2 ? words[1] : "", directory = count > 2 ? words[2] : "";
   auto number = [&](int i) { return i < count ? atoi(words[i]) : 1; };
-  if (verb == "losses" && count >= 6) losses(directory, number(3), number(4), number(5), number(6));
-  else if (verb == "refusals") refusals(directory);
+  if (verb == "losses" && count >= 6) losses(directory, number(3), number(4), number(5), number(6), count > 7 ? number(7) : 0);
+  else if (verb == "refusals") refusals(directory), acceptances(directory);
   else if (verb == "failures") failures(directory);
   else if (verb == "speed" && count > 6) speed(directory, number(3), number(4), number(5), vector<string>(words + 6, words + count));
   else end_with("drive losses|refusals|failures|speed PLUGINS ..");

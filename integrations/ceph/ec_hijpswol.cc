@@ -43,7 +43,10 @@ int refuse(ostream *why, const string &cause) {
 // Reads the number that the profile has by a name. Where it has none, `otherwise` is put there, so that the profile tells what is used.
 int read_number(ErasureCodeProfile &profile, const string &name, unsigned otherwise, unsigned *number, ostream *why) {
   string &text = profile[name];
-  if (text.empty()) text = std::to_string(otherwise);
+  if (text.empty()) {
+    text = std::to_string(*number = otherwise);
+    return 0;
+  }
   bool is_short = text.size() <= 4, has_digits = text.find_first_not_of("0123456789") == string::npos;
   if (!is_short || !has_digits) return refuse(why, name + "=" + text + " isn't a number of at most four digits");
   *number = std::stoul(text);
@@ -78,12 +81,19 @@ Runs runs_of(const vector<uint32_t> &layers) {
   return runs;
 }
 
+// What a repair of a chunk reads.
+struct Repair {
+  vector<int> column; // the other chunks of its column: each must help
+  vector<int> others; // of these those are taken that are there, by rising number
+  Runs runs;          // of each helper
+};
+
 class ErasureCode : public ceph::ErasureCodeInterface {
   const string directory; // where Ceph's plugins lie
   ErasureCodeProfile profile;
   Coder coder;
   unsigned k = 0, m = 0, n = 0, layers = 0;
-  vector<Runs> repairs;           // for each chunk: what its repair reads of each other one
+  vector<Repair> repairs;         // of each chunk
   vector<int> mapping;            // empty: chunk i is Ceph's chunk i
   ErasureCodeInterfaceRef placer; // Ceph's own jerasure of the same k and m: it makes the rules of placement
 
@@ -172,18 +182,20 @@ private:
     if (error) return error;
     if (k < 2) return refuse(why, "k=" + std::to_string(k) + ", and 2 is the least");
     if (m < 2 || m > 8) return refuse(why, "m=" + std::to_string(m) + ", and 2 to 8 are possible");
-    if (coder.set(k, m)) return refuse(why, "k=" + std::to_string(k) + " with m=" + std::to_string(m) + " makes more than 1024 subchunks");
-    n = coder.chunk_count(), layers = coder.layer_count();
-    error = read_number(given, "d", n - 1, &d, why);
+    error = read_number(given, "d", k + m - 1, &d, why);
+    if (!error) error = check_helpers(d, why);
+    if (!error) error = check_mapping(given, why);
     if (error) return error;
-    return check_helpers(d, why) || check_mapping(given, why) ? -EINVAL : 0;
+    string told = "k=" + std::to_string(k) + " with m=" + std::to_string(m) + " and d=" + std::to_string(d);
+    if (coder.set(k, m, d)) return refuse(why, told + " makes more than 1024 subchunks");
+    n = coder.chunk_count(), layers = coder.layer_count();
+    return 0;
   }
 
   int check_helpers(unsigned d, ostream *why) const {
-    string told = "d=" + std::to_string(d), all = "k+m-1=" + std::to_string(n - 1);
-    if (d == n - 1) return 0;
-    if (d <= k || d >= n) return refuse(why, told + " helpers of a repair are impossible: more than k and at most " + all);
-    return refuse(why, told + " is fewer helpers than " + all + ": the library doesn't recover such a code yet");
+    if (d > k && d < k + m) return 0;
+    string all = "k+m-1=" + std::to_string(k + m - 1);
+    return refuse(why, "d=" + std::to_string(d) + " helpers of a repair are impossible: more than k and at most " + all);
   }
 
   static int check_mapping(const ErasureCodeProfile &given, ostream *why) {
@@ -195,9 +207,22 @@ private:
       vector<uint32_t> read;
       int error = coder.repair_layers(lost, &read);
       if (error) return error;
-      repairs.push_back(runs_of(read));
+      repairs.push_back(repair_of(lost));
+      repairs.back().runs = runs_of(read);
     }
     return 0;
+  }
+
+  // Where `rows` helpers can't be read, fewer than k are left. Ceph 16.2 then asks for a new plan and reads whole what that has besides. Were
+  // it a plan of parts, their first bytes would be handed over as parts, and wrong bytes made of them. So, other than with Ceph's clay, only
+  // `rows - 1` chunks more than are taken may help: after so many errors no plan of parts is left.
+  Repair repair_of(unsigned lost) const {
+    Repair repair;
+    for (unsigned chunk = 0; chunk < n; chunk++)
+      if (chunk != lost) (coder.column_of(chunk) == coder.column_of(lost) ? repair.column : repair.others).push_back(chunk);
+    size_t most = coder.helper_count() - repair.column.size() + coder.row_count() - 1;
+    if (repair.others.size() > most) repair.others.resize(most);
+    return repair;
   }
 
   static void copy_crush(const ErasureCodeProfile &from, ErasureCodeProfile &to) {
@@ -218,17 +243,22 @@ private:
 
   bool are_chunks(const set<int> &numbers) const { return numbers.empty() || (*numbers.begin() >= 0 && *numbers.rbegin() < int(n)); }
 
-  // Whether parts serve: one chunk is wanted, and all others are there.
-  bool is_repair(const set<int> &want, const set<int> &available) const {
-    return want.size() == 1 && available.size() + 1 == n && !available.count(*want.begin());
+  // The helpers of a repair by parts, in Ceph's clay's choice; none where chunks have to be read whole.
+  set<int> helpers_of(const set<int> &want, const set<int> &available) const {
+    if (want.size() != 1 || available.count(*want.begin())) return {};
+    const Repair &repair = repairs[*want.begin()];
+    set<int> helpers(repair.column.begin(), repair.column.end());
+    if (!includes(available, helpers)) return {};
+    for (int chunk : repair.others)
+      if (helpers.size() < coder.helper_count() && available.count(chunk)) helpers.insert(chunk);
+    return helpers.size() == coder.helper_count() ? helpers : set<int>();
   }
 
   int plan(const set<int> &want, const set<int> &available, SubChunks *minimum) const {
     if (!are_chunks(want) || !are_chunks(available)) return -EINVAL;
-    if (is_repair(want, available)) {
-      for (int chunk : available) (*minimum)[chunk] = repairs[*want.begin()];
-      return 0;
-    }
+    set<int> helpers = helpers_of(want, available);
+    for (int chunk : helpers) (*minimum)[chunk] = repairs[*want.begin()].runs;
+    if (!helpers.empty()) return 0;
     set<int> read;
     std::set_intersection(want.begin(), want.end(), available.begin(), available.end(), std::inserter(read, read.end()));
     if (read.size() < want.size()) {
@@ -274,13 +304,13 @@ private:
 
   // ---- Decoding
 
-  // Of parts it makes a chunk, where they are those of a plan. Parts of fewer chunks, which Ceph 16.2 hands over after a read error, are
+  // Of parts it makes a chunk, where they are those of a plan. Parts of fewer helpers, which Ceph 16.2 hands over after a read error, are
   // refused: they are no chunks, and bytes made of them would be wrong.
   int decode_wanted(const set<int> &want, const Chunks &chunks, Chunks *decoded, int chunk_size) const {
     set<int> available = numbers_of(chunks);
     if (!are_chunks(want) || !are_chunks(available)) return -EINVAL;
     if (chunk_size > 0 && !have_length(chunks, chunk_size)) {
-      if (!is_repair(want, available) || !have_length(chunks, coder.part_len(chunk_size))) return -EINVAL;
+      if (helpers_of(want, available) != available || !have_length(chunks, coder.part_len(chunk_size))) return -EINVAL;
       return repair(*want.begin(), chunks, decoded, chunk_size);
     }
     Chunks missing;
