@@ -7,7 +7,7 @@
 // for repair.
 //
 // - Ceph: a call of the plugin on buffers that are there. It hands present chunks on without a copy, and takes new ones for what it makes.
-// - With fewer helpers encoding and repair are timed: the library has no decoding of that code.
+// - With fewer helpers encoding and repair are timed, not recovery.
 // - ISA-L: a call on buffers that are there; the matrix of a decoding and its tables are made anew in each, as for new losses.
 // - "call" is a whole call of libclay_c.a. Its buffers are the caller's: in decoding and repair it copies the chunks or parts that it reads
 //   into memory of its own.
