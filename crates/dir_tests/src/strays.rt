@@ -1,8 +1,11 @@
-//! The chunks of a put that was given up and whose versions were swept come to their servers all the same.
+//! Chunks of a put that was given up come to their servers after its version was swept. A scrub lists
+//! them as strays, and they are dropped.
 
-ghost use Rattle.std.specs.Prelude.{◌≡◌};
+ghost use Rattle.std.specs.Prelude.{◌≡◌, IsTrue};
 ghost use Rattle.dir_walks.specs.Small.{small_code, IsStripeStamp};
+ghost use Rattle.store_scrub.specs.Lost.{ArePresent};
 
+use chunk_server::Server;
 use dir_walks::opening::small_geometry;
 use dir_walks::rows::hold;
 use dir_walks::shelf::Shelf;
@@ -11,24 +14,8 @@ use dir_walks::stripe::drawn_stripe;
 use std::alloc::Global;
 use std::test::Fail;
 use store_map::{Placement, Version};
+use store_scrub::{Report, drop_strays, scrub};
 use version_seal::{Book, Stamp};
-
-// The shelf holds a chunk of version 0 and no other.
-fn holds(shelf: &Shelf) -> Result<(), Fail> {
-    let server = shelf.server();
-    let held = server.stamp_at(0).map(|stamp| stamp.version());
-    if server.held() == 1 && held == Some(Version(0)) {
-        return Ok(());
-    }
-    Err(Fail::from("not what is to be held"))
-}
-
-fn all_hold(shelves: &[Shelf]) -> Result<(), Fail> {
-    for shelf in shelves {
-        holds(shelf)?;
-    }
-    Ok(())
-}
 
 // The operator gives the put up, and the sweeper takes its version.
 const GIVEN_UP: &str = "\
@@ -46,48 +33,99 @@ first commit > reaped 0
 points > 1
 take > nothing";
 
-// Its chunks come then.
-fn prepared(alloc: Global, shelves: &mut [Shelf]) -> Result<(), Fail> {
-    for shelf in shelves.iter_mut() {
-        if shelf.prepare(alloc)? != Placement::At(0) {
-            return Err(Fail::from("not placed"));
-        }
+// Its chunk comes.
+fn prepare(alloc: Global, shelf: &mut Shelf) -> Result<(), Fail> {
+    if shelf.prepare(alloc)? == Placement::At(0) {
+        return Ok(());
     }
-    Ok(())
+    Err(Fail::from("not placed"))
 }
 
-// The servers of the stamp's stripe.
-fn shelves(alloc: Global, book: &Book, stamp: &Stamp) -> Result<Vec<Shelf>, Fail>
+// The servers of the stamp's stripe but the first.
+fn other_shelves(alloc: Global, book: &Book, stamp: &Stamp) -> Result<Vec<Shelf>, Fail>
     requires { IsStripeStamp book.now stamp.now }
 {
-    let mut shelves = Vec::with_capacity(alloc, 4)?;
-    for number in 0..4 {
+    let mut shelves = Vec::with_capacity(alloc, 3)?;
+    for number in 1..4 {
         shelves.push(Shelf::new(alloc, book, number, stamp))?;
     }
     Ok(shelves)
 }
 
-fn strays(alloc: Global, book: &Book, store: &mut Store<'_>) -> Result<(), Fail>
+// The put is given up after its first chunk came, and the others come once its version was swept.
+fn leave_strays(alloc: Global, book: &Book, store: &mut Store<'_>) -> Result<Vec<Server>, Fail>
     requires book { store.old.book ≡ book.now }
     requires code { book.now.geometry ≡ small_code }
 {
     let stamp = drawn_stripe(alloc, store)?;
-    let mut shelves = shelves(alloc, book, &stamp)?;
+    let mut first = Shelf::new(alloc, book, 0, &stamp);
+    let mut others = other_shelves(alloc, book, &stamp)?;
+    prepare(alloc, &mut first)?;
     hold(alloc, store, 2, GIVEN_UP)?;
-    for shelf in &mut shelves {
+    first.discard(Version(0));
+    for shelf in &mut others {
         shelf.discard(Version(0));
     }
     hold(alloc, store, 2, SWEPT)?;
-    prepared(alloc, &mut shelves)?;
+    for shelf in &mut others {
+        prepare(alloc, shelf)?;
+    }
     hold(alloc, store, 3, ENDED)?;
-    all_hold(&shelves)
+    servers_of(alloc, first, others)
+}
+
+fn servers_of(alloc: Global, first: Shelf, others: Vec<Shelf>) -> Result<Vec<Server>, Fail> {
+    let mut servers = Vec::with_capacity(alloc, 4)?;
+    servers.push(first.into_server())?;
+    for shelf in others {
+        servers.push(shelf.into_server())?;
+    }
+    Ok(servers)
+}
+
+fn are_present(servers: &[Server]) -> bool
+    ensures { IsTrue result → ArePresent servers.now }
+{
+    servers.iter().all(|server| !server.away())
+}
+
+// The report lists strays of version 0 at these servers and no others, and no lost chunk.
+fn are_at(report: &Report, servers: &[u32]) -> Result<(), Fail> {
+    if !report.lost.is_empty() || report.strays.len() != servers.len() {
+        return Err(Fail::from("not what is to be listed"));
+    }
+    for (stray, server) in report.strays.iter().zip(servers) {
+        if stray.server != *server || stray.stamp.version() != Version(0) {
+            return Err(Fail::from("another stray"));
+        }
+    }
+    Ok(())
+}
+
+fn scrubbed(alloc: Global, store: &Store<'_>, servers: &[Server]) -> Result<Report, Fail> {
+    let directory = store.directory();
+    if servers.len() != directory.geometry().n() as usize || !are_present(servers) {
+        return Err(Fail::from("not the servers of the directory"));
+    }
+    Ok(scrub(alloc, directory, servers)?)
+}
+
+fn strays_go(alloc: Global, book: &Book, store: &mut Store<'_>) -> Result<(), Fail>
+    requires book { store.old.book ≡ book.now }
+    requires code { book.now.geometry ≡ small_code }
+{
+    let mut servers = leave_strays(alloc, book, store)?;
+    let report = scrubbed(alloc, store, &servers)?;
+    are_at(&report, &[1, 2, 3])?;
+    drop_strays(&mut servers, &report);
+    are_at(&scrubbed(alloc, store, &servers)?, &[])
 }
 
 #[test]
-fn chunks_of_a_swept_version(rt: HostRuntime) -> Result<(), Fail> {
+fn strays_of_a_swept_version(rt: HostRuntime) -> Result<(), Fail> {
     let (book, sealer) = Book::free(rt.alloc(), small_geometry()?)?;
     let mut store = Store::open(rt.alloc(), &book, sealer, 64)?;
-    let walked = strays(rt.alloc(), &book, &mut store);
+    let walked = strays_go(rt.alloc(), &book, &mut store);
     store.leave();
     walked
 }

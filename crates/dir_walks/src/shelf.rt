@@ -56,6 +56,11 @@ impl Shelf {
         &self.server
     }
 
+    pub fn into_server(self) -> Server {
+        let Shelf { server, stamp: _ } = self;
+        server
+    }
+
     // Its chunk.
     fn chunk(&self, alloc: Global) -> Result<SealedChunk, Fail>
         ensures { IfOk result (IsFor self.now.server.book.home self.now.server.number small_code) }
