@@ -228,6 +228,13 @@ impl History {
         }
     }
 
+    /// Whether the points are kept, so that they can be read.
+    pub fn keeps_points(&self) -> bool
+        ensures { result ≡ self.now.keeps }
+    {
+        self.kept.is_some()
+    }
+
     /// How many points there are.
     pub fn len(&self) -> usize
         ensures { result ≡ length self.now.points }

@@ -40,14 +40,7 @@ fn new_places(
     let (book, sealer) = Book::free(alloc, geometry)?;
     let servers = new_servers(alloc, &book, geometry.n())?;
     let opening = book.opening();
-    let (directory, seats) = Directory::counting_points(
-        alloc,
-        opening,
-        sealer,
-        max,
-        READERS + 1,
-        2,
-    )?;
+    let (directory, seats) = Directory::new(alloc, opening, sealer, max, READERS + 1, 2)?;
     directory.keeps();
     let places = SessionPlaces {
         book,

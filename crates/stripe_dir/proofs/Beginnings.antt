@@ -123,7 +123,7 @@ module _ (a : Inside) (kept : IsKept a) (objects : Shelf) (desk : Desk) (history
   kept_roomy =
       record {
         stripes = kept.stripes;
-        keeps = λ script. roomy.keeps ∙ kept.keeps script;
+        keeps = roomy.keeps ∙ kept.keeps;
         desk = roomy.stripe ∙ kept.desk;
         whole = subst IsWhole (sym same_directory) kept.whole;
         counted = kept.counted;
@@ -140,7 +140,7 @@ module _ (a : Inside) (kept : IsKept a) (objects : Shelf) (desk : Desk) (history
   kept_pointed shelf table book whole more left names keeps pins same shelf_room =
       record {
         stripes = kept.stripes;
-        keeps = λ script. keeps ∙ roomy.keeps ∙ kept.keeps script;
+        keeps = keeps ∙ roomy.keeps ∙ kept.keeps;
         desk = roomy.stripe ∙ kept.desk;
         whole = whole;
         counted = ap length pins ∙ kept.counted ∙ sym (same_count a.versions.listed table.listed same);
@@ -161,7 +161,7 @@ module _ (a : Inside) (kept : IsKept a) (objects : Shelf) (desk : Desk) (history
   kept_begun table now book n live whole passes stripe listed pins within more left names keeps named more_objects =
       record {
         stripes = kept.stripes;
-        keeps = λ script. keeps ∙ roomy.keeps ∙ kept.keeps script;
+        keeps = keeps ∙ roomy.keeps ∙ kept.keeps;
         desk = stripe ∙ roomy.stripe ∙ kept.desk;
         whole = whole;
         counted = ap length pins ∙ length-pinned n.pinned a.versions.pins ∙ kept.counted ∙ sym (ap length listed);

@@ -1,5 +1,5 @@
 -- What a draw leaves.
-use Rattle.std.proofs.Common.{◌≡◌, ℕ, ◌+◌, ◌-◌, ◌/◌, Bool, true, false, cond, ◌&&◌, List, [], ◌++◌, length, get_or, map, replicate, find, sum_by, if◌then◌else◌, Option, None, Some, All, Contains, refl, sym, ap, subst, ◌∙◌, arith, length-append, is_some, IsTrue}
+use Rattle.std.proofs.Common.{◌≡◌, ℕ, ◌+◌, ◌-◌, ◌/◌, Bool, true, false, cond, ◌&&◌, List, [], ◌++◌, length, get_or, map, replicate, find, sum_by, if◌then◌else◌, Option, None, Some, All, Contains, refl, sym, ap, subst, ◌∙◌, arith, length-append, is_some}
 use Rattle.std.proofs.lemmas.List.{length-map, length-replicate}
 use Rattle.std.proofs.lemmas.List.FromFn.{length-range_with_len}
 use Rattle.std.specs.List.{range_with_len}
@@ -64,7 +64,7 @@ kept_undrawn a kept table stamps listed pins same =
       named = rest.named;
       points_room = rest.points_room;
       objects_room = rest.objects_room;
-      keeps = λ script. kept.keeps (subst (λ (l : StampList). IsTrue (is_some l.book.script)) same script);
+      keeps = kept.keeps ∙ sym (ap (λ (l : StampList). is_some l.book.script) same);
     }
 
 module _ (a : Inside) (kept : IsKept a) (who : Actor) (p : Pass) (found : find (λ pass. same_actor who pass.actor) a.passes.listed ≡ Some p) (live : p.reaped ≡ None) (stripe : ℕ) (stripe_is : stripe ≡ stripe_length a.geometry) where
@@ -113,7 +113,7 @@ module _ (a : Inside) (kept : IsKept a) (who : Actor) (p : Pass) (found : find (
     kept_drawn stamps request added same_stripe pins may =
         record {
           stripes = kept.stripes;
-          keeps = λ script. kept.keeps (subst (λ (l : StampList). IsTrue (is_some l.book.script)) added script);
+          keeps = kept.keeps ∙ sym (ap (λ (l : StampList). is_some l.book.script) added);
           desk = same_stripe ∙ kept.desk;
           whole = subst IsWhole (sym (ap (λ r. r.0) (draw_step 0))) (keeps_whole who 0 DirectoryStep.Draw (directory_in a) kept.stripes kept.whole may);
           counted = omega (

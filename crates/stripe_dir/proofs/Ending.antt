@@ -186,7 +186,7 @@ module _ (a : Inside) (kept : IsKept a) (who : Actor) (p : Pass) (desk : Desk) (
       let also : one_if (may_append p.note.kind && is_live p.reaped) ≡ one_if (may_append p.note.kind) = ap (λ (r : Option ℕ). one_if (may_append p.note.kind && is_live r)) live ∙ with_true (may_append p.note.kind) in
       record {
         stripes = kept.stripes;
-        keeps = λ script. keeps ∙ kept.keeps script;
+        keeps = keeps ∙ kept.keeps;
         desk = gone.stripe ∙ kept.desk;
         whole = whole;
         counted = ap length pins ∙ length-unpinned p.pinned a.versions.pins ∙ kept.counted ∙ sym (same_count a.versions.listed table.listed same);

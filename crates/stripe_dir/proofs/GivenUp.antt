@@ -110,7 +110,7 @@ module _ (a : Inside) (kept : IsKept a) (who : Actor) (p : Pass) (found : find (
     kept_given_up stripe pins names keeps room =
         record {
           stripes = kept.stripes;
-          keeps = λ script. keeps ∙ kept.keeps script;
+          keeps = keeps ∙ kept.keeps;
           desk = stripe ∙ kept.desk;
           whole = subst IsWhole (sym (ap (λ r. r.0) (reap_step actor.Operator 0))) (keeps_whole actor.Operator 0 (DirectoryStep.Reap who) (directory_in a) kept.stripes kept.whole tt);
           counted = ap length pins ∙ length-unpinned p.pinned a.versions.pins ∙ kept.counted ∙ sym (ap length listed ∙ length-set_standing Standing.Superseded p.drawn a.versions.listed);

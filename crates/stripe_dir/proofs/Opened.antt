@@ -1,5 +1,5 @@
 -- What a directory begins with.
-use Rattle.std.proofs.Common.{◌≡◌, ◌<◌, true, List, [], length, get_or, map, Option, None, Some, is_some, IfSome, IsTrue, All, Contains, refl, sym, ap, subst, ◌∙◌, arith}
+use Rattle.std.proofs.Common.{◌≡◌, ◌<◌, List, [], length, get_or, map, Option, None, Some, IfSome, All, Contains, refl, sym, ap, subst, ◌∙◌, arith}
 use Rattle.std.proofs.lemmas.List.Elements.{All-nil}
 use Rattle.clay_grid.specs.Shape.{stripe_length}
 use Rattle.store_map.specs.declared.script.Script.{Script}
@@ -9,6 +9,7 @@ use Rattle.store_core.specs.History.{call_of}
 use Rattle.run_laws.proofs.SoundSteps.{steps_keep_sound}
 use Rattle.dir_parts.specs.Counts.{pins_by, points_due, objects_due}
 use Rattle.version_seal.specs.Entry.{StampOf}
+use Rattle.stripe_dir.specs.Sealed.{keeps_points}
 use Rattle.stripe_dir.specs.ItsStripes.{AreFrom, IsOfItsStripes, IsWhole}
 use Rattle.stripe_dir.specs.Stamped.{AreOf, told_by_stamp, told_by_version, HaveContents, HasStamps}
 use Rattle.stripe_dir.specs.Kept.{directory_in, sealed_in, IsKept}
@@ -22,7 +23,7 @@ pub record IsEmpty (a : Inside) : Type 0 where
   pub passes : a.passes.listed ≡ []
   pub points : a.history.points ≡ []
   pub stamps : a.stamps.listed ≡ []
-  pub keeps : IsTrue (is_some a.stamps.book.script) → a.history.keeps ≡ true
+  pub keeps : a.history.keeps ≡ keeps_points (sealed_in a)
 
 module _ (a : Inside) (empty : IsEmpty a) (code : a.stamps.book.geometry ≡ a.geometry) where
   first_whole : IsWhole (directory_in a)

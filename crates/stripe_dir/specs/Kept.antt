@@ -1,9 +1,9 @@
 -- A directory by its fields, and what it keeps.
-use Rattle.std.specs.Prelude.{◌≡◌, ℕ, ◌<◌, ◌≤◌, true, length, get_or, is_some, IsTrue, All, Contains}
+use Rattle.std.specs.Prelude.{◌≡◌, ℕ, ◌<◌, ◌≤◌, length, get_or, All, Contains}
 use Rattle.clay_grid.specs.Shape.{stripe_length}
 use Rattle.store_core.specs.Directory.{Directory}
 use Rattle.dir_parts.specs.Counts.{pins_by, points_due, objects_due}
-use Rattle.stripe_dir.specs.Sealed.{Sealed}
+use Rattle.stripe_dir.specs.Sealed.{Sealed, keeps_points}
 use Rattle.stripe_dir.specs.ItsStripes.{IsWhole}
 use Rattle.stripe_dir.specs.Stamped.{HasStamps}
 use Rattle.stripe_dir.specs.declared.directory.Directory.TheInside.{Inside}
@@ -22,7 +22,7 @@ directory_in a =
 abbrev pub sealed_in : Inside → Sealed
 sealed_in a = record { core = directory_in a; book = a.stamps.book; stamps = a.stamps.listed }
 
--- the lists are sound, the stamps are those of the versions, the counts are those of the passes, there is room for what passes may still add, and with a script the points are kept when it runs
+-- the lists are sound, the stamps are those of the versions, the counts are those of the passes, there is room for what passes may still add, and the points are kept where the book has a script, and nowhere else
 pub record IsKept (a : Inside) : Type 0 where
   pub stripes : 0 < stripe_length a.geometry
   pub desk : a.passes.stripe_len ≡ stripe_length a.geometry
@@ -33,4 +33,4 @@ pub record IsKept (a : Inside) : Type 0 where
   pub named : All (λ pass. Contains a.history.names pass.note.name) a.passes.listed
   pub points_room : points_due a.passes.listed ≤ a.history.room
   pub objects_room : objects_due a.passes.listed ≤ a.objects.room
-  pub keeps : IsTrue (is_some a.stamps.book.script) → a.history.keeps ≡ true
+  pub keeps : a.history.keeps ≡ keeps_points (sealed_in a)

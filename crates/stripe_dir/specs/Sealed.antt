@@ -1,5 +1,5 @@
 -- A directory with a stamp for each of its versions.
-use Rattle.std.specs.Prelude.{ℕ, ◌+◌, List, [], length, map, Option, option_and_then, IfSome, IsTrue}
+use Rattle.std.specs.Prelude.{ℕ, ◌+◌, Bool, List, [], length, map, Option, is_some, option_and_then, IfSome, IsTrue}
 use Rattle.std.specs.List.{range_with_len, slice_get}
 use Rattle.store_core.specs.Directory.{Pin, Pass, Directory, new_directory}
 use Rattle.version_seal.specs.Entry.{BookOf, StampOf, RequestOf, stamp_over, call_written, is_writing, IsRequestIn}
@@ -11,6 +11,10 @@ pub record Sealed : Type 0 where
   pub core : Directory
   pub book : BookOf
   pub stamps : List StampOf
+
+-- the points are kept when it runs, so that they can be read: where the book has a script, whose transcript is made of them
+abbrev pub keeps_points : Sealed → Bool
+keeps_points s = is_some s.book.script
 
 -- a directory without objects, of a book's versions
 abbrev pub new_sealed : BookOf → ℕ → Sealed

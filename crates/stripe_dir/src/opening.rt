@@ -1,11 +1,11 @@
 //! A new directory with its actors' seats, and what it tells of its objects, points and stamps.
-ghost use Rattle.std.specs.Prelude.{◌≡◌, ◌+◌, ◌≤◌, ◌<◌, ◌++◌, [], true, None, is_some, vec_len, vec_capacity, map, length, option_map, slice_get, IfOk, IsTrue};
+ghost use Rattle.std.specs.Prelude.{◌≡◌, ◌+◌, ◌≤◌, ◌<◌, ◌++◌, [], None, is_some, vec_len, vec_capacity, map, length, option_map, slice_get, IfOk, IsTrue};
 ghost use Rattle.std.specs.List.{range_with_len};
 ghost use Rattle.clay_grid.specs.Shape.{stripe_length};
 ghost use Rattle.dir_parts.specs.PointLog.{told_of, told_at};
 ghost use Rattle.dir_parts.specs.Parts.{object_of};
 ghost use Rattle.version_seal.specs.Sealer.{sealer_at};
-ghost use Rattle.stripe_dir.specs.Sealed.{new_sealed};
+ghost use Rattle.stripe_dir.specs.Sealed.{new_sealed, keeps_points};
 ghost use Rattle.stripe_dir.specs.Seats.{client_seat, repairer_seat, first_seats};
 ghost use Rattle.stripe_dir.specs.ItsStripes.{IsWhole};
 ghost use Rattle.stripe_dir.specs.Stamped.{HasStamps};
@@ -59,10 +59,23 @@ fn add_repairers(seats: &mut Vec<Seat>, count: u32)
     }
 }
 
+// The history of a book's directory, without points. They are kept where the book has a script.
+fn history_for(alloc: Global, opening: &Opening) -> History
+    ensures points { result.points ≡ [] }
+    ensures keeps { result.keeps ≡ is_some opening.now.script }
+{
+    if opening.has_script() {
+        return History::new(alloc);
+    }
+    History::counting(alloc)
+}
+
 impl Directory {
     /// A directory without objects, of a book's versions, which it alone seals, whose objects may have
-    /// `max` bytes each, and the seats of its clients, then of its repairers. It keeps every point of
-    /// its history; where the book has a script they can be read (`point_at`).
+    /// `max` bytes each, and the seats of its clients, then of its repairers. Where the book has a
+    /// script it keeps every point of its history, for the transcript is made of them (`point_at`).
+    /// Without one it counts them: of a call that was served stay its object's name, once, and the
+    /// stamps of what it drew.
     pub fn new(
         alloc: Global,
         opening: Opening,
@@ -76,27 +89,7 @@ impl Directory {
         ensures seats { IfOk result (λ made. made.1.items ≡ first_seats clients repairers) }
     {
         let seats = seats(alloc, clients, repairers)?;
-        let directory = Directory::with_history(alloc, opening, sealer, max, History::new(alloc));
-        Ok((directory, seats))
-    }
-
-    /// The same for a book without a script. Its points are counted and not kept: of a call that was
-    /// served stay its object's name, once, and the stamps of what it drew.
-    pub fn counting_points(
-        alloc: Global,
-        opening: Opening,
-        sealer: Sealer,
-        max: u32,
-        clients: u32,
-        repairers: u32,
-    ) -> Result<(Directory, Vec<Seat>), AllocError>
-        requires sealer { sealer ≡ sealer_at opening 0 }
-        requires free { opening.script ≡ None }
-        ensures directory { IfOk result (λ made. made.0 ≡ new_sealed opening max) }
-        ensures seats { IfOk result (λ made. made.1.items ≡ first_seats clients repairers) }
-    {
-        let seats = seats(alloc, clients, repairers)?;
-        let history = History::counting(alloc);
+        let history = history_for(alloc, &opening);
         let directory = Directory::with_history(alloc, opening, sealer, max, history);
         Ok((directory, seats))
     }
@@ -111,7 +104,7 @@ impl Directory {
     ) -> Directory
         requires sealer { sealer ≡ sealer_at opening 0 }
         requires points { history.points ≡ [] }
-        requires keeps { IsTrue (is_some opening.script) → history.keeps ≡ true }
+        requires keeps { history.keeps ≡ is_some opening.script }
         ensures { result ≡ new_sealed opening max }
     {
         let geometry = opening.geometry();
@@ -156,10 +149,17 @@ impl Directory {
         self.history.len()
     }
 
-    /// The point of the history with this number, where the directory's book has a script: without one
-    /// the points needn't be kept.
+    /// Whether the points are kept, so that they can be read (`point_at`): where the book has a script,
+    /// and nowhere else.
+    pub fn keeps_points(&self) -> bool
+        ensures { result ≡ keeps_points self.now }
+    {
+        self.history.keeps_points()
+    }
+
+    /// The point of the history with this number, where the directory keeps its points.
     pub fn point_at(&self, point: usize) -> Option<PointEntry>
-        requires { IsTrue (is_some self.now.book.script) }
+        requires { IsTrue (keeps_points self.now) }
         ensures { option_map told_of result ≡ told_at self.now.core.points point }
     {
         self.history.get(point)

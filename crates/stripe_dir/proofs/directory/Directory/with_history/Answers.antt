@@ -1,4 +1,4 @@
-use Rattle.std.proofs.Common.{◌<◌, is_some, IsTrue, ap, sym, subst, ◌∙◌, arith, mul-pos}
+use Rattle.std.proofs.Common.{◌<◌, is_some, ap, sym, ◌∙◌, arith, mul-pos}
 use Rattle.clay_grid.specs.Shape.{Shape, layer_count, chunk_length, stripe_length}
 use Rattle.clay_grid.specs.Limits.{IsGeometry}
 use Rattle.dir_parts.specs.OpenPass.{Desk}
@@ -22,6 +22,6 @@ invariant_of-result c =
       passes = ap (λ (desk : Desk). desk.listed) c.new-3.ensures;
       points = c.requires.points;
       stamps = ap (λ (l : StampList). l.listed) c.new-4.ensures;
-      keeps = λ script. c.requires.keeps (subst (λ (l : StampList). IsTrue (is_some l.book.script)) c.new-4.ensures script);
+      keeps = c.requires.keeps ∙ sym (ap (λ (l : StampList). is_some l.book.script) c.new-4.ensures);
     })
     (ap (λ (l : StampList). l.book.geometry) c.new-4.ensures ∙ sym c.geometry-geometry.ensures) (some_bytes c.geometry-geometry.result c.stripe_len-stripe_len.ensures.geometry) (ap (λ (desk : Desk). desk.stripe_len) c.new-3.ensures ∙ c.stripe_len-stripe_len.ensures.value)
