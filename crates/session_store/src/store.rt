@@ -1,5 +1,5 @@
 //! The store of a session.
-ghost use Rattle.std.specs.Prelude.{◌≡◌, ◌+◌, ◌<◌, ◌^◌, None, IfOk};
+ghost use Rattle.std.specs.Prelude.{◌≡◌, ◌+◌, ◌<◌, ◌^◌, false, None, IfOk};
 ghost use Rattle.clay_grid.specs.Shape.{chunk_count};
 ghost use Rattle.session_rules.specs.State.{first_state};
 ghost use Rattle.session_store.specs.Standing.{StandsAt};
@@ -53,6 +53,14 @@ impl SessionStore {
     {
         let parts = new_parts(alloc, geometry, max)?;
         Ok(SessionStore { parts })
+    }
+
+    /// Whether its directory keeps the points of its history. It doesn't: of the calls that it served a
+    /// store keeps for ever each object's name, once, and the stamps of what they drew.
+    pub fn keeps_points(&self) -> bool
+        ensures { result ≡ false }
+    {
+        self.parts.places.directory.keeps_points()
     }
 
     /// Serves a request; a server that it names is one that there is. A store serves fewer than 2^32.
