@@ -173,7 +173,7 @@ mate_piece g run z rows inside below wanted apart =
 -- ---- how many nodes are unknown
 
 -- four tests, of which two pass no oftener at any number
-count_below_pairs : (n : ℕ) (a b c d : ℕ → Bool) → ((i : ℕ) → i < n → cond (a i) 1 0 + cond (b i) 1 0 ≤ cond (c i) 1 0 + cond (d i) 1 0)
+pub count_below_pairs : (n : ℕ) (a b c d : ℕ → Bool) → ((i : ℕ) → i < n → cond (a i) 1 0 + cond (b i) 1 0 ≤ cond (c i) 1 0 + cond (d i) 1 0)
     → count_below n a + count_below n b ≤ count_below n c + count_below n d
 count_below_pairs zero a b c d each = omega arith
 count_below_pairs (suc n) a b c d each =
@@ -181,10 +181,10 @@ count_below_pairs (suc n) a b c d each =
     let last = each n (omega arith) in
     omega (arith, rest, last)
 
-count_below_point : (n d : ℕ) → d < n → count_below n (λ i. eqb d i) ≡ 1
+pub count_below_point : (n d : ℕ) → d < n → count_below n (λ i. eqb d i) ≡ 1
 count_below_point n d h = count_below_one n d (λ i. true) h
 
-count_below_at_most : (n d : ℕ) → count_below n (λ i. eqb d i) ≤ 1
+pub count_below_at_most : (n d : ℕ) → count_below n (λ i. eqb d i) ≤ 1
 count_below_at_most zero d = omega arith
 count_below_at_most (suc n) d =
     elim (cases_eq d n) [
@@ -215,14 +215,14 @@ one_moved false true spare h = absurd (true≢false (sym (h refl)))
 one_moved false false true h = omega arith
 one_moved false false false h = omega arith
 
-eqb_turned : (a b : ℕ) → eqb a b ≡ eqb b a
+pub eqb_turned : (a b : ℕ) → eqb a b ≡ eqb b a
 eqb_turned a b = elim (cases_eq a b) [
   | inl same ↦ eq-eqb a b same ∙ sym (eq-eqb b a (sym same))
   | inr other ↦ ne_eqb a b other ∙ sym (ne_eqb b a (λ e. other (sym e)))
 ]
 
 -- the nodes of a column
-column_count_is : (q t y : ℕ) → 0 < q → y < t → count_below (q * t) (λ i. eqb (i / q) y) ≡ q
+pub column_count_is : (q t y : ℕ) → 0 < q → y < t → count_below (q * t) (λ i. eqb (i / q) y) ≡ q
 column_count_is q t y rows h =
     let whole : q * t ≡ 1 * (t * q) = omega arith in
     let once : 1 * q ≡ q = omega arith in

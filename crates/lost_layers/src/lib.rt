@@ -6,8 +6,10 @@ mod laws;
 mod pieces;
 mod placed;
 mod run;
+#[cfg(test)]
+mod tests;
 
 pub use fault::LostFault;
-pub use laws::pieces_determine_runs;
+pub use laws::{pieces_determine_runs, pieces_of_one_layer, reads_stay_within_repairs};
 pub use pieces::{lost_count, lost_pieces};
 pub use run::{LostPiece, LostRun};

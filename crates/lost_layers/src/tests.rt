@@ -1,0 +1,54 @@
+//! Pieces of some runs. The numbers are those of a planner in C that shares nothing with this crate.
+use crate::{LostFault, LostPiece, LostRun, lost_count, lost_pieces};
+use clay_grid::Geometry;
+use std::test::Fail;
+
+/// k, m, the lost chunk, from, to; how many subchunks are read
+const COUNTS: [[u32; 6]; 7] = [
+    [2, 2, 1, 1, 2, 3],
+    [2, 2, 0, 0, 4, 6],
+    [3, 2, 4, 6, 7, 4],
+    [8, 4, 5, 17, 18, 14],
+    [8, 4, 5, 0, 64, 176],
+    [16, 4, 19, 1000, 1001, 28],
+    [10, 4, 0, 200, 201, 16],
+];
+
+#[test]
+fn counts(rt: HostRuntime) -> Result<(), Fail> {
+    for [k, m, lost, from, to, count] in COUNTS {
+        let g = Geometry::new(k, m, 1)?;
+        let run = LostRun { lost, from, to };
+        assert!(rt; lost_count(g, run)? == count);
+        assert!(rt; lost_pieces(rt.alloc(), g, run)?.len() == count as usize);
+    }
+    Ok(())
+}
+
+#[test]
+fn pieces_of_one_layer(rt: HostRuntime) -> Result<(), Fail> {
+    let g = Geometry::new(2, 2, 1)?;
+    let run = LostRun {
+        lost: 1,
+        from: 1,
+        to: 2,
+    };
+    let pieces = lost_pieces(rt.alloc(), g, run)?;
+    let places = [(0, 1), (0, 3), (3, 1)];
+    assert!(rt; pieces.len() == places.len());
+    for (piece, (chunk, layer)) in pieces.iter().zip(places) {
+        assert!(rt; *piece == LostPiece { chunk, layer });
+    }
+    Ok(())
+}
+
+#[test]
+fn refusals(rt: HostRuntime) -> Result<(), Fail> {
+    let g = Geometry::new(2, 2, 1)?;
+    let refused = |lost, from, to| lost_count(g, LostRun { lost, from, to }).err();
+    assert!(rt; refused(4, 0, 1) == Some(LostFault::NoSuchChunk));
+    assert!(rt; refused(3, 1, 0) == Some(LostFault::NoSuchLayers));
+    assert!(rt; refused(3, 0, 5) == Some(LostFault::NoSuchLayers));
+    assert!(rt; refused(3, 4, 4) == None);
+    Ok(())
+}
