@@ -110,11 +110,11 @@ module _ (g : Shape) (run : LostRun) (rows : 0 < row_count g) (solved : (n : ℕ
         (ap (λ y. get_or (layer_of g n) y 0) (sym column) ∙ sym (partner_row g rows i n h) ∙ ap (λ j. j % row_count g) same);
   })
 
-many_unpaired : (g : Shape) (run : LostRun) → run.to ≢ suc run.from → (n : ℕ) → is_solved g run n ≡ true → is_unpaired g run n ≡ true
+pub many_unpaired : (g : Shape) (run : LostRun) → run.to ≢ suc run.from → (n : ℕ) → is_solved g run n ≡ true → is_unpaired g run n ≡ true
 many_unpaired g run many n solved =
     (and_parts (is_unpaired g run n) _ (sym (cond-false (eqb run.to (suc run.from)) (eqb n run.from) _ (ne_eqb run.to (suc run.from) many)) ∙ solved)).0
 
-lone_layer : (g : Shape) (run : LostRun) → run.to ≡ suc run.from → (n : ℕ) → is_solved g run n ≡ true → n ≡ run.from
+pub lone_layer : (g : Shape) (run : LostRun) → run.to ≡ suc run.from → (n : ℕ) → is_solved g run n ≡ true → n ≡ run.from
 lone_layer g run lone n solved = eqb-true n run.from (sym (cond-true (eqb run.to (suc run.from)) (eqb n run.from) _ (eq-eqb run.to (suc run.from) lone)) ∙ solved)
 
 -- what is read for one layer differs from it at most in the digit of its node's column

@@ -3,9 +3,9 @@ use Rattle.std.specs.Prelude.{◌≡◌, ◌%◌}
 use Rattle.clay_grid.specs.Shape.{row_count}
 use Rattle.clay_grid.specs.Limits.{IsGeometry}
 use Rattle.lost_layers.specs.LostLayers.{IsLostRun, lost_node, lost_column}
-use Rattle.lost_layers.specs.declared.placed.Placed.{Placed}
+use Rattle.lost_layers.specs.declared.placed.PlacedRun.{PlacedRun}
 
-pub record IsPlaced (placed : Placed) : Type 0 where
+pub record IsPlaced (placed : PlacedRun) : Type 0 where
   pub geometry : IsGeometry placed.g
   pub run : IsLostRun placed.g placed.run
   pub node : placed.node ≡ lost_node placed.g placed.run

@@ -7,13 +7,13 @@ ghost use Rattle.lost_layers.specs.Refused.{IsRefused};
 ghost use Rattle.lost_layers.specs.Placing.{IsPlaced};
 
 use crate::fault::LostFault;
-use crate::placed::Placed;
+use crate::placed::PlacedRun;
 use crate::run::{LostPiece, LostRun};
 use clay_grid::Geometry;
 use std::alloc::{AllocError, Global};
 
 // The run with its place, if it is one of the code's.
-fn checked(g: Geometry, run: LostRun) -> Result<Placed, LostFault>
+fn checked(g: Geometry, run: LostRun) -> Result<PlacedRun, LostFault>
     ensures placed { IfOk result (λ placed. IsPlaced placed × (placed.g ≡ g) × (placed.run ≡ run)) }
     ensures refused { IfErr result (λ fault. IsRefused g run fault) }
 {
@@ -23,11 +23,11 @@ fn checked(g: Geometry, run: LostRun) -> Result<Placed, LostFault>
     if run.to < run.from || run.to > g.alpha() {
         return Err(LostFault::NoSuchLayers);
     }
-    Ok(Placed::new(g, run))
+    Ok(PlacedRun::new(g, run))
 }
 
 // How many subchunks of a chunk are read.
-fn count_of_chunk(placed: &Placed, chunk: u32) -> u32
+fn count_of_chunk(placed: &PlacedRun, chunk: u32) -> u32
     requires placed { IsPlaced placed.now }
     requires chunk { chunk < chunk_count placed.now.g }
     ensures count { result ≡ length (lost_layers_of placed.now.g placed.now.run chunk) }
@@ -42,7 +42,7 @@ fn count_of_chunk(placed: &Placed, chunk: u32) -> u32
 }
 
 // How many subchunks are read.
-fn count_of_all(placed: &Placed) -> u32
+fn count_of_all(placed: &PlacedRun) -> u32
     requires { IsPlaced placed.now }
     ensures { result ≡ length (lost_pieces_of placed.now.g placed.now.run) }
 {
@@ -54,7 +54,7 @@ fn count_of_all(placed: &Placed) -> u32
 }
 
 // Appends the subchunks of a chunk that are read.
-fn push_chunk(placed: &Placed, chunk: u32, pieces: &mut Vec<LostPiece>) -> Result<(), AllocError>
+fn push_chunk(placed: &PlacedRun, chunk: u32, pieces: &mut Vec<LostPiece>) -> Result<(), AllocError>
     requires placed { IsPlaced placed.now }
     requires chunk { chunk < chunk_count placed.now.g }
     ensures { OnOk result (pieces.new.items
@@ -70,7 +70,7 @@ fn push_chunk(placed: &Placed, chunk: u32, pieces: &mut Vec<LostPiece>) -> Resul
 }
 
 // The subchunks that are read.
-fn list_of_all(alloc: Global, placed: &Placed) -> Result<Vec<LostPiece>, AllocError>
+fn list_of_all(alloc: Global, placed: &PlacedRun) -> Result<Vec<LostPiece>, AllocError>
     requires { IsPlaced placed.now }
     ensures { IfOk result (λ pieces. pieces.items ≡ lost_pieces_of placed.now.g placed.now.run) }
 {

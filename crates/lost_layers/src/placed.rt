@@ -12,16 +12,17 @@ use clay_model::{Subchunk, partner_of};
 
 /// A run, with the place of the lost chunk's node.
 #[derive(Clone, Copy)]
-pub(crate) struct Placed {
-    pub(crate) g: Geometry,
-    pub(crate) run: LostRun,
-    pub(crate) node: u32,
-    pub(crate) row: u32,
-    pub(crate) column: u32,
+pub struct PlacedRun {
+    pub g: Geometry,
+    pub run: LostRun,
+    pub node: u32,
+    pub row: u32,
+    pub column: u32,
 }
 
-impl Placed {
-    pub(crate) fn new(g: Geometry, run: LostRun) -> Placed
+impl PlacedRun {
+    /// A run of the code, with its place.
+    pub fn new(g: Geometry, run: LostRun) -> PlacedRun
         requires { IsLostRun g run }
         ensures placed { IsPlaced result }
         ensures geometry { result.g ≡ g }
@@ -29,7 +30,7 @@ impl Placed {
     {
         let node = g.node_of_chunk(run.lost);
         let (row, column) = g.place(node);
-        Placed {
+        PlacedRun {
             g,
             run,
             node,
@@ -69,8 +70,8 @@ impl Placed {
         false
     }
 
-    // Whether the uncoupled values of the layer are solved for.
-    pub(crate) fn is_solved(&self, layer: u32) -> bool
+    /// Whether the uncoupled values of the layer are solved for.
+    pub fn is_solved(&self, layer: u32) -> bool
         requires placed { IsPlaced self.now }
         requires layer { layer < layer_count self.now.g }
         ensures { result ≡ is_solved self.now.g self.now.run layer }
@@ -93,8 +94,8 @@ impl Placed {
         if self.g.digit(layer, 0) == 0 { 1 } else { 0 }
     }
 
-    // Whether the node's value in the layer is one of those that the others' sums tell.
-    pub(crate) fn is_unknown(&self, layer: u32, node: u32) -> bool
+    /// Whether the node's value in the layer is one of those that the others' sums tell.
+    pub fn is_unknown(&self, layer: u32, node: u32) -> bool
         requires placed { IsPlaced self.now }
         requires layer { layer < layer_count self.now.g }
         requires node { node < node_count self.now.g }

@@ -1,6 +1,6 @@
 use Rattle.std.proofs.Common.{sym, ◌∙◌}
 use Rattle.lost_layers.proofs.PieceSteps.{partner_serves, partner_layer_is}
-use Rattle.lost_layers.proofs.placed.Placed.is_piece.Goals as goal
+use Rattle.lost_layers.proofs.placed.PlacedRun.is_piece.Goals as goal
 
 pub returns-else-is_made : goal.returns-else-is_made
 returns-else-is_made c =

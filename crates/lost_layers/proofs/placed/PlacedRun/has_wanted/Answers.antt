@@ -4,7 +4,7 @@ use Rattle.clay_grid.specs.Shape.{row_count}
 use Rattle.clay_grid.specs.Score.{count_below}
 use Rattle.lost_layers.specs.LostLayers.{is_wanted, layer_with, lost_column}
 use Rattle.lost_layers.proofs.Determining.{count_below_some}
-use Rattle.lost_layers.proofs.placed.Placed.has_wanted.Goals as goal
+use Rattle.lost_layers.proofs.placed.PlacedRun.has_wanted.Goals as goal
 
 pub returns-then-is_wanted : goal.returns-then-is_wanted
 returns-then-is_wanted c =
