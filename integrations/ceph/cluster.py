@@ -201,6 +201,11 @@ class Cluster:
                 peak = int(lines.get("VmHWM", "0 kB").split()[0]) * 1024
                 self.memory[name] = max(self.memory.get(name, 0), peak)
 
+    def read_from_disk(self, osd):
+        """The bytes that an osd read from its disk since it was started, as the kernel counts; none of a tmpfs."""
+        with open(f"/proc/{self.daemons[f'osd.{osd}'].pid}/io", encoding="ascii") as io:
+            return int(dict(line.split(": ") for line in io.read().splitlines())["read_bytes"])
+
     def data_of(self, osd):
         return self.folder / f"osd{osd}"
 
