@@ -1,8 +1,7 @@
 /* Reads a stripe of 4 data chunks, 512 bytes, gives it 2 parity chunks, loses one chunk and rebuilds it, loses two and recovers them, and
- * writes the six chunks in hexadecimal digits, a line each. Built at the repository's top, where KIT is the folder of the Rattle kit, by
+ * writes the six chunks in hexadecimal digits, a line each. Built at the repository's top, where the library is installed (library/Makefile), by
  *
- *     (cd crates/clay_c && rt lib)
- *     gcc -Iinclude examples/lost_chunk.c crates/clay_c/out/libclay_c.a KIT/c/liblibc_c.a -o lost_chunk */
+ *     gcc $(pkg-config --cflags clay) examples/lost_chunk.c $(pkg-config --libs clay) -o lost_chunk */
 #include <clay.h>
 #include <stdio.h>
 #include <stdlib.h>

@@ -4,10 +4,7 @@ writes the six chunks in hexadecimal digits, a line each.
 
     lost_chunk.py LIBRARY < STRIPE
 
-LIBRARY is a shared library, linked at the repository's top, where KIT is the folder of the Rattle kit, by
-
-    (cd crates/clay_c && rt lib)
-    gcc -shared -o libclay.so -Wl,--whole-archive crates/clay_c/out/libclay_c.a -Wl,--no-whole-archive KIT/c/liblibc_c.a
+LIBRARY is the shared library that library/Makefile makes, as /usr/local/lib/libclay.so.
 """
 import ctypes
 import sys
