@@ -4,6 +4,7 @@ pub mod Own
 pub mod DirectoryAdding
 pub mod Tokens
 pub mod CallSteps
+pub mod Operated
 pub mod Answering
 pub mod Most
 pub mod ServerGiving

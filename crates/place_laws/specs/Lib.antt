@@ -11,6 +11,7 @@ pub mod Logs
 pub mod Listed
 pub mod Measure
 pub mod Callers
+pub mod Operated
 pub mod Ended
 pub mod EndLaws
 pub mod Stepped

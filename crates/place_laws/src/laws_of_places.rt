@@ -1,6 +1,7 @@
 //! The laws, as functions that do nothing.
 ghost use Rattle.place_laws.specs.AtServer.{ServersStandOn, NumbersAreActors};
 ghost use Rattle.place_laws.specs.AtDirectory.{DirectoriesStandOn, NumbersAreActorsThere};
+ghost use Rattle.place_laws.specs.Operated.{LinesAreNext};
 
 /// A server after a step stands for its history with the step.
 pub fn servers_stand_on()
@@ -20,4 +21,9 @@ pub fn directories_stand_on()
 /// In the directory's history the steps of an actor are the entries of its number.
 pub fn numbers_are_actors_there()
     ensures { NumbersAreActorsThere }
+{}
+
+/// An operator that has a line left makes it next at the line's place.
+pub fn lines_are_next()
+    ensures { LinesAreNext }
 {}

@@ -1,4 +1,5 @@
 pub mod Holding
+pub mod Operated
 pub mod PlainSteps
 pub mod Sweeping
 pub mod Operating

@@ -1,5 +1,5 @@
 -- The seated operator before and after its step.
-use Rattle.std.proofs.Common.{◌≡◌, ℕ, ◌+◌, ◌-◌, ◌<◌, true, All, List, ◌∷◌, drop, get_or, length, set, Option, None, Some, refl, sym, ap, subst, ◌∙◌, ltb-true, arith}
+use Rattle.std.proofs.Common.{IfSome, eq-eqb, slice_get, ◌≡◌, ℕ, ◌+◌, ◌-◌, ◌<◌, true, All, List, ◌∷◌, drop, get_or, length, set, Option, None, Some, refl, sym, ap, subst, ◌∙◌, ltb-true, arith}
 use Rattle.std.proofs.lemmas.List.{drop_more}
 use Rattle.std.proofs.lemmas.List.Elements.{All-filter, All-get_or, filter_passes}
 use Rattle.clay_grid.specs.Shape.{chunk_count}
@@ -12,7 +12,7 @@ use Rattle.store_map.specs.declared.script.Script.{Script}
 use Rattle.store_core.specs.Act.{Act, DirectoryStep}
 use Rattle.store_core.specs.ActPlace.{Place}
 use Rattle.thread_laws.specs.Lines.{operator_act}
-use Rattle.thread_laws.specs.MadeSteps.{MadeStep}
+use Rattle.thread_laws.specs.MadeSteps.{MadeStep, acts_at}
 use Rattle.thread_laws.specs.Threaded.{is_line, lines_of}
 use Rattle.turn_lock.specs.TurnState.{TurnState}
 use Rattle.place_laws.specs.Noted.{Noted}
@@ -21,6 +21,10 @@ use Rattle.place_laws.specs.Callers.{IsOperating}
 use Rattle.place_laws.specs.Logs.{Logs, counts_of, log_of, own_at}
 use Rattle.place_laws.specs.Plain.{HasAddedAtServer, HasAddedAtDirectory}
 use Rattle.place_laws.specs.Stepped.{with_log}
+use Rattle.turn_lock.specs.History.{entries_of}
+use Rattle.place_laws.specs.Entries.{steps_in}
+use Rattle.place_laws.specs.Operated.{IsNextThere}
+use Rattle.place_laws.proofs.Operated.{lines_are_next}
 use Rattle.place_laws.proofs.Plain.{operating_goes_on}
 use Rattle.run_seats.specs.Places.{HasTurns, directory_of, last_by, seen_by, server_of}
 use Rattle.run_seats.specs.Plain.{HasOperatedAtServer, IsLineAtServer, IsLineAtDirectory, IsOfServer, line_step}
@@ -30,7 +34,7 @@ use Rattle.run_seats.specs.declared.directory_box.DirectoryIdentity.{DirectoryId
 use Rattle.run_seats.specs.declared.seated_operator.SeatedOperator.{SeatedOperator}
 use Rattle.run_seats.specs.declared.store.Store.{Store}
 use Rattle.run_seats.specs.declared.turns.Turns.{Turns}
-use Rattle.run_seats.proofs.Placing.{count_seen, log_here, seen_here, turns_here, turns_there}
+use Rattle.run_seats.proofs.Placing.{count_seen, log_at, log_here, seen_here, turns_here, turns_there}
 
 -- ---- the server of a line
 abbrev server_in : Option Act → ℕ
@@ -88,12 +92,34 @@ module _ (store : Store) (seated : SeatedOperator) (may : MayOperate store seate
       subst (IsOperating script own) (drop_more seated.lines.items seated.made line less_lines ∙ ap (λ (x : Token). x ∷ left) (sym next)) may.seated_is.operating
 
   -- ---- before the step
-  pub may_operate_server : (j : ℕ) (turn : TurnState ServerIdentity MadeStep) → turn.fixed ≡ Some (server_of store j) → IsOfServer line × (operator_act line ≡ Some (Act.AtServer j (line_step line)))
-      → IsLineAtServer turn.fixed seated.turns.number line
-  may_operate_server j turn fixed there = record { identity = server_of store j; is = fixed; of_server = there.0; acts = there.1; turn = may.seated_is.turn }
+  -- the line is the next one at its place
+  next_line : (place : Place) (act : Act) → operator_act line ≡ Some act → acts_at place act ≡ true → IfSome store.book.now.script (λ (s : Script). IsNextThere s place (own place) act)
+  next_line place act acts there =
+      subst (λ (o : Option Script). IfSome o (λ (s : Script). IsNextThere s place (own place) act)) (sym may.store_is.written) (lines_are_next script own line left place act operating acts there)
 
-  pub may_reap : IsLineAtDirectory seated.turns.directory.fixed seated.turns.number
-  may_reap = record { identity = directory_of store; is = may.seated_is.turns.directory.fixed; turn = may.seated_is.turn }
+  pub may_operate_server : (j : ℕ) (turn : TurnState ServerIdentity MadeStep) → slice_get seated.turns.servers.items j ≡ Some turn → turn.fixed ≡ Some (server_of store j)
+      → IsOfServer line × (operator_act line ≡ Some (Act.AtServer j (line_step line))) → IsLineAtServer turn.fixed seated.turns.number turn.seen line
+  may_operate_server j turn at fixed there =
+      record {
+        identity = server_of store j;
+        is = fixed;
+        of_server = there.0;
+        acts = there.1;
+        turn = may.seated_is.turn;
+        next =
+            subst
+            (λ (l : List (ℕ × MadeStep)). IfSome store.book.now.script (λ (s : Script). IsNextThere s (Place.Server j) (steps_in (entries_of seated.turns.number l)) (Act.AtServer j (line_step line))))
+            (log_at seated.turns j turn at) (next_line (Place.Server j) (Act.AtServer j (line_step line)) there.1 (eq-eqb j j refl));
+      }
+
+  pub may_reap : (who : Actor) → operator_act line ≡ Some (Act.AtDirectory (DirectoryStep.Reap who)) → IsLineAtDirectory seated.turns.directory.fixed seated.turns.number seated.turns.directory.seen who
+  may_reap who acts =
+      record {
+        identity = directory_of store;
+        is = may.seated_is.turns.directory.fixed;
+        turn = may.seated_is.turn;
+        next = next_line Place.Directory (Act.AtDirectory (DirectoryStep.Reap who)) acts refl;
+      }
 
   -- ---- with other turns
   module _ (now : SeatedOperator) (turns : HasTurns store now.turns) (number : now.turns.number ≡ seated.turns.number) (lines : now.lines.items ≡ seated.lines.items) (one_more : now.made ≡ seated.made + 1)

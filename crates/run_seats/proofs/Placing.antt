@@ -102,6 +102,10 @@ module _ (turns now : Turns) (j : ℕ) (turn before : TurnState ServerIdentity M
           servers = λ k l other f e. subst (λ (n : ℕ). IsTurnAt l (server_of store k) n other) (sym (ap (λ (x : Turns). x.number) kept)) (each_turn k other e l f);
         }
 
+-- the history that the turn at a server has seen
+pub log_at : (turns : Turns) (j : ℕ) (turn : TurnState ServerIdentity MadeStep) → slice_get turns.servers.items j ≡ Some turn → log_of (seen_by turns) j ≡ turn.seen
+log_at turns j turn there = ap (λ (o : Option (List (ℕ × MadeStep))). unwrap_or o []) (slice_get-map (λ (t : TurnState ServerIdentity MadeStep). t.seen) turns.servers.items j turn there)
+
 -- as many histories as there are servers
 pub count_seen : (store : Store) (turns : Turns) → HasTurns store turns → length (seen_by turns).servers ≡ chunk_count store.script.now.geometry
 count_seen store turns has = length-map turns.servers.items (λ (t : TurnState ServerIdentity MadeStep). t.seen) ∙ has.count

@@ -165,6 +165,9 @@ module _ (store : Store) (seated : Seated) (may : MayStep store seated) where
       its_turn : IsTurnOf (counts_of script) seated.turns.number (actor_of r.now.call.token)
       its_turn = subst (IsTurnOf (counts_of script) seated.turns.number) (sym knows_itself.whose) may.seated_is.turn
 
+      its_calls : IsCaller (actor_of r.now.call.token)
+      its_calls = subst IsCaller (sym (knows_itself.whose ∙ may.seated_is.whose)) (callers a.part seated.place)
+
       -- before a step at a server
       pub before_server : (j : ℕ) (turn : TurnState ServerIdentity MadeStep) → turn.fixed ≡ Some (server_of store j) → IfSome mid.work (λ c. need.Server j ≡ need_of c.call)
           → IsBeforeServer turn.fixed seated.turns.number mid
@@ -177,6 +180,7 @@ module _ (store : Store) (seated : Seated) (may : MayStep store seated) where
             work = in_call;
             needs = sym (of_ready (λ x c. need.Server j ≡ need_of c.call) needs);
             turn = its_turn;
+            calls = its_calls;
           }
 
       looks : IsLookOfScript r.now.call
@@ -203,7 +207,7 @@ module _ (store : Store) (seated : Seated) (may : MayStep store seated) where
             work = in_call;
             needs = sym (of_ready (λ x c. need.Directory ≡ need_of c.call) needs);
             turn = its_turn;
-            calls = subst IsCaller (sym (knows_itself.whose ∙ may.seated_is.whose)) (callers a.part seated.place);
+            calls = its_calls;
             token = knows_itself.token;
             may = of_ready (λ x c. MayMakeNext c.call) may_make;
             pass = of_ready (λ x c. HoldsItsPass c.call) pass;

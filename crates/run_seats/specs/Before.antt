@@ -33,6 +33,7 @@ pub record IsBeforeServer (fixed : Option ServerIdentity) (number : ℕ) (a : Ca
   pub work : IsInCall call a
   pub needs : need_of call.call ≡ need.Server identity.number
   pub turn : IsTurnOf (counts_of identity) number (actor_of call.call.token)
+  pub calls : IsCaller (actor_of call.call.token)
 
 -- a caller whose call needs the directory with this fixed part, where it has seen this history: its ticket is the one that its own entries lead to, the next step may be made, a look is of the script's call,
 -- and it knows the old bytes that it keeps by the stamps of that history

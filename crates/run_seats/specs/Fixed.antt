@@ -1,11 +1,14 @@
 -- What never changes about a place, as its turns tell it, and what its box stands for.
 use Rattle.std.specs.Prelude.{ℕ, List, Option, None, Some}
+use Rattle.store_core.specs.ActPlace.{Place}
 use Rattle.thread_laws.specs.MadeSteps.{MadeStep}
 use Rattle.chunk_server.specs.Core.{core_of}
 use Rattle.place_laws.specs.AtDirectory.{StandsAtDirectory}
 use Rattle.place_laws.specs.AtServer.{StandsAtServer}
-use Rattle.place_laws.specs.Noted.{Noted}
+use Rattle.place_laws.specs.Entries.{steps_in}
+use Rattle.place_laws.specs.Noted.{Noted, made_in}
 use Rattle.place_laws.specs.Numbers.{Counts}
+use Rattle.place_laws.specs.Operated.{IsOperated}
 use Rattle.run_seats.specs.declared.server_box.ServerBox.{ServerBox}
 use Rattle.run_seats.specs.declared.server_box.ServerIdentity.{ServerIdentity}
 use Rattle.run_seats.specs.declared.directory_box.DirectoryBox.{DirectoryBox}
@@ -36,10 +39,13 @@ server_identity held = record { number = held.server.number; opening = held.serv
 abbrev pub directory_identity : DirectoryBox → DirectoryIdentity
 directory_identity held = record { opening = held.directory.book; max = held.max; clients = held.clients; repairers = held.repairers }
 
--- a server in its box stands for the steps of a history
+-- a server in its box stands for the steps of a history, of which the operator's are the first of the script's lines there
 abbrev pub ServerStands : ServerBox → List (ℕ × MadeStep) → Type 0
-ServerStands held log = StandsAtServer (counts_of (server_identity held)) held.server.number (core_of held.server) log
+ServerStands held log =
+    StandsAtServer (counts_of (server_identity held)) held.server.number (core_of held.server) log
+    × IsOperated held.server.book.script (Place.Server held.server.number) (steps_in log)
 
 -- so does the directory
 abbrev pub DirectoryStands : DirectoryBox → List (ℕ × Noted) → Type 0
-DirectoryStands held log = StandsAtDirectory (counts_there (directory_identity held)) held.max held.directory log
+DirectoryStands held log =
+    StandsAtDirectory (counts_there (directory_identity held)) held.max held.directory log × IsOperated held.directory.book.script Place.Directory (made_in log)

@@ -1,20 +1,23 @@
 -- Steps of the sweeper and the operator, who have no call.
-use Rattle.std.specs.Prelude.{◌≡◌, ⊤, ℕ, false, List, [], Option, Some}
+use Rattle.std.specs.Prelude.{◌≡◌, ⊤, ℕ, false, List, [], Option, Some, IfSome}
 use Rattle.store_map.specs.declared.actor.Actor.{Actor}
 use Rattle.store_map.specs.declared.actor.Actor.TheVariants as actor
 use Rattle.store_map.specs.declared.actor.Token.{Token}
 use Rattle.store_map.specs.declared.actor.Token.TheVariants as token
 use Rattle.store_core.specs.Act.{Act, DirectoryStep, ServerStep}
+use Rattle.store_core.specs.ActPlace.{Place}
 use Rattle.store_core.specs.Server.{Server}
 use Rattle.thread_laws.specs.Lines.{operator_act}
 use Rattle.thread_laws.specs.MadeSteps.{MadeStep}
 use Rattle.stripe_dir.specs.Sealed.{Sealed}
 use Rattle.call_steps.specs.declared.need.Need.TheVariants as need
 use Rattle.sweeper.specs.Sweeps.{SweeperOf, act_of, heard, need_of}
+use Rattle.turn_lock.specs.History.{entries_of}
 use Rattle.place_laws.specs.CallEntries.{server_tells, directory_tells}
 use Rattle.place_laws.specs.Entries.{steps_in, next_moment}
 use Rattle.place_laws.specs.Noted.{Noted, made_in}
 use Rattle.place_laws.specs.Numbers.{IsTurnOf}
+use Rattle.place_laws.specs.Operated.{IsNextThere}
 use Rattle.place_laws.specs.Plain.{plain_step, HasAddedAtServer, HasAddedAtDirectory}
 use Rattle.run_seats.specs.Fixed.{counts_of, counts_there}
 use Rattle.run_seats.specs.declared.server_box.ServerIdentity.{ServerIdentity}
@@ -69,19 +72,25 @@ line_step (token.Down server) = ServerStep.Down
 line_step (token.Up server) = ServerStep.Up
 line_step line = ServerStep.Wipe
 
--- a line of the operator is of the server with this fixed part
-pub record IsLineAtServer (fixed : Option ServerIdentity) (number : ℕ) (line : Token) : Type 0 where
+-- a line of the operator is of the server with this fixed part, and its next one there after what it has seen of its own
+pub record IsLineAtServer (fixed : Option ServerIdentity) (number : ℕ) (seen : List (ℕ × MadeStep)) (line : Token) : Type 0 where
   pub identity : ServerIdentity
   pub is : fixed ≡ Some identity
   pub of_server : IsOfServer line
   pub acts : operator_act line ≡ Some (Act.AtServer identity.number (line_step line))
   pub turn : IsTurnOf (counts_of identity) number actor.Operator
+  pub next :
+      IfSome identity.opening.script
+      (λ script. IsNextThere script (Place.Server identity.number) (steps_in (entries_of number seen)) (Act.AtServer identity.number (line_step line)))
 
--- or of the directory
-pub record IsLineAtDirectory (fixed : Option DirectoryIdentity) (number : ℕ) : Type 0 where
+-- or a reap of this actor is its next one at the directory
+pub record IsLineAtDirectory (fixed : Option DirectoryIdentity) (number : ℕ) (seen : List (ℕ × Noted)) (reaped : Actor) : Type 0 where
   pub identity : DirectoryIdentity
   pub is : fixed ≡ Some identity
   pub turn : IsTurnOf (counts_there identity) number actor.Operator
+  pub next :
+      IfSome identity.opening.script
+      (λ script. IsNextThere script Place.Directory (made_in (entries_of number seen)) (Act.AtDirectory (DirectoryStep.Reap reaped)))
 
 -- after the line's step there is an entry more of the operator
 pub record HasOperatedAtServer (number last : ℕ) (seen now : List (ℕ × MadeStep)) (line : Token) : Type 0 where

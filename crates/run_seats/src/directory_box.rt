@@ -1,6 +1,9 @@
 //! The directory behind a lock.
 ghost use Rattle.std.specs.Prelude.{◌≡◌};
+ghost use Rattle.store_core.specs.ActPlace.{Place};
 ghost use Rattle.place_laws.specs.AtDirectory.{StandsAtDirectory};
+ghost use Rattle.place_laws.specs.Noted.{made_in};
+ghost use Rattle.place_laws.specs.Operated.{IsOperated};
 
 use std::marker::Model;
 use stripe_dir::Directory;
@@ -48,5 +51,6 @@ impl Historied for DirectoryBox {
 
     ghost fixed_part = { λ b. record { opening = b.directory.book; max = b.max; clients = b.clients; repairers = b.repairers } };
 
-    ghost stands_for = { λ b log. StandsAtDirectory (record { clients = b.clients; repairers = b.repairers }) b.max b.directory log };
+    ghost stands_for = { λ b log. StandsAtDirectory (record { clients = b.clients; repairers = b.repairers }) b.max b.directory log
+        × IsOperated b.directory.book.script Place.Directory (made_in log) };
 }

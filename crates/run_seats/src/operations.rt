@@ -84,7 +84,7 @@ pub(crate) fn operate_server<R: Wait, G: Gate>(
 )
     ghost last: { ℕ }
     requires turn { IsFree lock.now stepper.number turn.old }
-    requires before { IsLineAtServer turn.old.fixed stepper.number line }
+    requires before { IsLineAtServer turn.old.fixed stepper.number turn.old.seen line }
     ensures turn { turn.new ≡ record turn.old { seen = turn.new.seen } }
     ensures step { HasOperatedAtServer stepper.number last turn.old.seen turn.new.seen line }
     ensures told { G.was_told gate.now stepper.actor stepper.steps (place.Server (server_in turn.old.fixed)) }
@@ -112,7 +112,7 @@ pub(crate) fn reap<R: Wait, G: Gate>(
 )
     ghost last: { ℕ }
     requires turn { IsFree lock.now stepper.number turn.old }
-    requires before { IsLineAtDirectory turn.old.fixed stepper.number }
+    requires before { IsLineAtDirectory turn.old.fixed stepper.number turn.old.seen reaped }
     ensures turn { turn.new ≡ record turn.old { seen = turn.new.seen } }
     ensures step { HasAddedAtDirectory stepper.number last turn.old.seen turn.new.seen CoreActor.Operator (Act.AtDirectory (DirectoryStep.Reap reaped)) }
     ensures told { G.was_told gate.now stepper.actor stepper.steps place.Directory }

@@ -1,7 +1,10 @@
 //! A chunk server behind a lock.
 ghost use Rattle.std.specs.Prelude.{◌≡◌};
 ghost use Rattle.chunk_server.specs.Core.{core_of};
+ghost use Rattle.store_core.specs.ActPlace.{Place};
 ghost use Rattle.place_laws.specs.AtServer.{StandsAtServer};
+ghost use Rattle.place_laws.specs.Entries.{steps_in};
+ghost use Rattle.place_laws.specs.Operated.{IsOperated};
 
 use chunk_server::Server;
 use std::marker::Model;
@@ -48,5 +51,6 @@ impl Historied for ServerBox {
 
     ghost fixed_part = { λ b. record { number = b.server.number; opening = b.server.book; clients = b.clients; repairers = b.repairers } };
 
-    ghost stands_for = { λ b log. StandsAtServer (record { clients = b.clients; repairers = b.repairers }) b.server.number (core_of b.server) log };
+    ghost stands_for = { λ b log. StandsAtServer (record { clients = b.clients; repairers = b.repairers }) b.server.number (core_of b.server) log
+        × IsOperated b.server.book.script (Place.Server b.server.number) (steps_in log) };
 }

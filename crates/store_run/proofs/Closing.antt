@@ -86,7 +86,7 @@ directory_out store identity turns held log of fixed stands whole =
     record {
       log = log;
       book = ap (λ (i : DirectoryIdentity). i.opening) same;
-      stands = subst (λ (i : DirectoryIdentity). StandsAtDirectory (counts_there i) i.max held.directory log) same stands;
+      stands = subst (λ (i : DirectoryIdentity). StandsAtDirectory (counts_there i) i.max held.directory log) same stands.0;
       whole = whole;
     }
   where
@@ -100,7 +100,7 @@ module _ (store : Store) (identity : ℕ → ServerIdentity) (rows : List (List 
         number_is = number_is;
         stands =
             subst (λ (n : ℕ). StandsAtServer (counts_of (server_of store j)) n (core_of held.server) log) number_is
-            (subst (λ (i : ServerIdentity). StandsAtServer (counts_of i) held.server.number (core_of held.server) log) same out.stands_is);
+            (subst (λ (i : ServerIdentity). StandsAtServer (counts_of i) held.server.number (core_of held.server) log) same out.stands_is.0);
         own = out.own;
       }
     where

@@ -5,6 +5,7 @@ pub mod Collecting
 pub mod Crews
 pub mod Dealing
 pub mod Ends
+pub mod FirstPlaces
 pub mod LastSweep
 pub mod Leaving
 pub mod Locking

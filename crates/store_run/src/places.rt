@@ -56,8 +56,9 @@ fn lock_server(
     requires valid { IsValid script.now }
     ensures { IfOk result (λ made. AreTurns made.0 (server_for script.now book.now number) (turns_of script.now) made.1.items) }
 {
+    let server = Server::new(alloc, number, book.opening());
     let held = ServerBox {
-        server: Server::new(alloc, number, book.opening()),
+        server,
         clients: script.clients.len() as u32,
         repairers: script.repairers.len() as u32,
     };

@@ -1,16 +1,19 @@
 use Rattle.std.proofs.Common.{◌≡◌, ◌∷◌, ◌++◌, [], ℕ, sym, ap, subst, ◌∙◌}
 use Rattle.thread_laws.specs.MadeSteps.{MadeStep}
 use Rattle.chunk_server.specs.Core.{core_of}
+use Rattle.store_core.specs.ActPlace.{Place}
 use Rattle.call_machine.specs.Calls.{MachineOf}
 use Rattle.actors.specs.Callers.{CallerOf}
 use Rattle.actors.specs.Steps.{MadeAtServer}
 use Rattle.turn_lock.specs.TurnState.{TurnState}
 use Rattle.place_laws.specs.Numbers.{Counts}
 use Rattle.place_laws.specs.AtServer.{StandsAtServer}
+use Rattle.place_laws.proofs.Operated.{others_at_server}
 use Rattle.run_seats.specs.Stepped.{entry_at_server}
 use Rattle.run_seats.specs.Fixed.{server_identity, server_in}
 use Rattle.run_seats.proofs.Fits.{call_is, fits, needs_here, work_is}
 use Rattle.run_seats.proofs.Holding.{holding}
+use Rattle.run_seats.proofs.Operated.{call_at_server, same_operated}
 use Rattle.run_seats.proofs.ServerSteps.{caller_stands, caller_stepped, number_is}
 use Rattle.run_seats.specs.declared.server_box.ServerBox.{ServerBox}
 use Rattle.run_seats.specs.declared.server_box.ServerIdentity.{ServerIdentity}
@@ -44,13 +47,20 @@ give_step-requires g c =
     number_is c.args.stepper.number c.of-stood.result.value.work c.on_server-left.result.0.value (core_of c.of-before.result.value.server) c.take-held.new.turn.seen g.last in (
       holding c.args.lock.now c.args.stepper.number _ (server_identity c.take-held.result) _ c.args.turn.now c.take-held.new.turn c.requires.1.1.0 c.take-held.ensures.turn c.take-held.ensures.fixed
           (λ i. record { number = c.on_server-left.ensures.same.number i; opening = c.on_server-left.ensures.same.book i; clients = c.take-held.result.clients; repairers = c.take-held.result.repairers }) number,
-      subst (λ (number : ℕ). StandsAtServer of number (core_of s) (log ++ entry_at_server n c.of-stood.result.value.work left (core_of c.of-before.result.value.server) log g.last ∷ []))
-          (sym c.on_server-left.ensures.same.number)
-          (subst (λ (b : ServerBox). StandsAtServer of held.server.number (core_of s) (log ++ entry_at_server n c.of-stood.result.value.work left (core_of b.server) log g.last ∷ []))
-          (sym c.of-before.ensures)
-          (subst (λ (a : CallerOf). StandsAtServer of held.server.number (core_of s) (log ++ entry_at_server n a.work left (core_of held.server) log g.last ∷ []))
-          (sym c.of-stood.ensures)
-          (caller_stands n g.last c.args.caller.now before.call left (work_is before.call c.args.caller.now before.work) held.server s made h.needs log of c.take-held.ensures.stands h.turn))),
+      (
+        subst (λ (number : ℕ). StandsAtServer of number (core_of s) (log ++ entry_at_server n c.of-stood.result.value.work left (core_of c.of-before.result.value.server) log g.last ∷ []))
+            (sym c.on_server-left.ensures.same.number)
+            (subst (λ (b : ServerBox). StandsAtServer of held.server.number (core_of s) (log ++ entry_at_server n c.of-stood.result.value.work left (core_of b.server) log g.last ∷ []))
+            (sym c.of-before.ensures)
+            (subst (λ (a : CallerOf). StandsAtServer of held.server.number (core_of s) (log ++ entry_at_server n a.work left (core_of held.server) log g.last ∷ []))
+            (sym c.of-stood.ensures)
+            (caller_stands n g.last c.args.caller.now before.call left (work_is before.call c.args.caller.now before.work) held.server s made h.needs log of c.take-held.ensures.stands.0 h.turn))),
+        same_operated held.server.book s.book held.server.number s.number _ c.on_server-left.ensures.same.book c.on_server-left.ensures.same.number
+            (others_at_server held.server.book.script (Place.Server held.server.number) log _
+            (call_at_server n c.of-stood.result.value.work before.call left (core_of c.of-before.result.value.server) log g.last
+            (ap (λ (a : CallerOf). a.work) c.of-stood.ensures ∙ work_is before.call c.args.caller.now before.work) before.calls)
+            c.take-held.ensures.stands.1),
+      ),
     )
 
 pub returns-clause-step : goal.returns-clause-step

@@ -1,10 +1,14 @@
 use Rattle.std.proofs.Common.{◌∷◌, ◌++◌, [], refl, sym, ap, subst, ◌∙◌}
 use Rattle.store_map.specs.declared.actor.Actor.TheVariants as actor
+use Rattle.store_core.specs.ActPlace.{Place}
+use Rattle.version_seal.specs.Entry.{BookOf}
 use Rattle.sweeper.specs.Sweeps.{SweeperOf, act_of}
 use Rattle.turn_lock.specs.TurnState.{TurnState}
 use Rattle.place_laws.specs.AtDirectory.{StandsAtDirectory}
-use Rattle.place_laws.specs.Noted.{Noted}
+use Rattle.place_laws.specs.Noted.{Noted, made_in}
 use Rattle.place_laws.specs.Numbers.{Counts}
+use Rattle.place_laws.specs.Operated.{IsOperated}
+use Rattle.place_laws.proofs.Operated.{others_at_directory, sweeps_plain}
 use Rattle.run_seats.specs.Fixed.{directory_identity}
 use Rattle.run_seats.specs.Plain.{plain_at_directory}
 use Rattle.run_seats.proofs.Holding.{holding}
@@ -27,12 +31,19 @@ give_directory-requires g c =
     let turn = sweep_turn _ c.args.turn.now.fixed n s c.take-held.ensures.fixed c.requires.1.1.1 in (
       holding c.args.lock.now c.args.stepper.number _ (directory_identity c.take-held.result) _ c.args.turn.now c.take-held.new.turn c.requires.1.1.0 c.take-held.ensures.turn c.take-held.ensures.fixed
           (λ i. record { opening = c.on_directory.ensures.book i; max = c.take-held.result.max; clients = c.take-held.result.clients; repairers = c.take-held.result.repairers }) refl,
-      subst (λ (b : DirectoryBox). StandsAtDirectory of held.max now (log ++ plain_at_directory n actor.Sweeper (act_of c.of-stood.result.value) b.directory log g.last ∷ []))
-          (sym c.of-before.ensures)
-          (subst (λ (x : SweeperOf). StandsAtDirectory of held.max now (log ++ plain_at_directory n actor.Sweeper (act_of x) held.directory log g.last ∷ []))
-          (sym c.of-stood.ensures)
-          (sweep_stands_there n g.last s c.on_directory.new.self c.requires.1.1.1.needs held.directory now (c.on_directory.ensures.step actor.Sweeper 0) log of held.max c.keeps.ensures.bytes c.keeps.ensures.whole.sound
-          c.on_directory.ensures.book c.on_directory.ensures.stamps c.take-held.ensures.stands turn)),
+      (
+        subst (λ (b : DirectoryBox). StandsAtDirectory of held.max now (log ++ plain_at_directory n actor.Sweeper (act_of c.of-stood.result.value) b.directory log g.last ∷ []))
+            (sym c.of-before.ensures)
+            (subst (λ (x : SweeperOf). StandsAtDirectory of held.max now (log ++ plain_at_directory n actor.Sweeper (act_of x) held.directory log g.last ∷ []))
+            (sym c.of-stood.ensures)
+            (sweep_stands_there n g.last s c.on_directory.new.self c.requires.1.1.1.needs held.directory now (c.on_directory.ensures.step actor.Sweeper 0) log of held.max c.keeps.ensures.bytes c.keeps.ensures.whole.sound
+            c.on_directory.ensures.book c.on_directory.ensures.stamps c.take-held.ensures.stands.0 turn)),
+        subst
+            (λ (b : BookOf). IsOperated b.script Place.Directory (made_in (log ++ plain_at_directory n actor.Sweeper (act_of c.of-stood.result.value) c.of-before.result.value.directory log g.last ∷ [])))
+            (sym c.on_directory.ensures.book)
+            (others_at_directory held.directory.book.script Place.Directory log (plain_at_directory n actor.Sweeper (act_of c.of-stood.result.value) c.of-before.result.value.directory log g.last)
+            (sweeps_plain c.of-stood.result.value.servers c.of-stood.result.value.at, refl) c.take-held.ensures.stands.1),
+      ),
     )
 
 pub returns-clause-step : goal.returns-clause-step

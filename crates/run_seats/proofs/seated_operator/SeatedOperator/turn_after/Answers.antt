@@ -33,7 +33,7 @@ reap-requires g c κs within =
         search,
         (
           free_of store.directory (directory_of store) seated.turns.number seated.turns.number seated.turns.directory may.seated_is.turns.directory refl,
-          may_reap store seated may c.index-line.result.now c.index-line.ensures,
+          may_reap store seated may c.index-line.result.now c.index-line.ensures c.in-Pass.actor c.in-Pass.ensures,
         ),
       ),
     )
@@ -54,7 +54,7 @@ operate_server-requires g c κs within =
         search,
         (
           free_of c.index.result.now (server_of store j) seated.turns.number seated.turns.number c.index_mut.result.now at refl,
-          may_operate_server store seated may c.index-line.result.now c.index-line.ensures j c.index_mut.result.now at.fixed c.in-Server.ensures,
+          may_operate_server store seated may c.index-line.result.now c.index-line.ensures j c.index_mut.result.now turn at.fixed c.in-Server.ensures,
         ),
       ),
     )
