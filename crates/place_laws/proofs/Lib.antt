@@ -5,6 +5,7 @@ pub mod DirectoryAdding
 pub mod Tokens
 pub mod CallSteps
 pub mod Operated
+pub mod Epochs
 pub mod Answering
 pub mod Most
 pub mod ServerGiving

@@ -12,6 +12,7 @@ pub mod Listed
 pub mod Measure
 pub mod Callers
 pub mod Operated
+pub mod Epochs
 pub mod Ended
 pub mod EndLaws
 pub mod Stepped

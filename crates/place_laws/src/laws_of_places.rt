@@ -1,6 +1,7 @@
 //! The laws, as functions that do nothing.
 ghost use Rattle.place_laws.specs.AtServer.{ServersStandOn, NumbersAreActors};
 ghost use Rattle.place_laws.specs.AtDirectory.{DirectoriesStandOn, NumbersAreActorsThere};
+ghost use Rattle.place_laws.specs.Epochs.{EpochsAreWipes};
 ghost use Rattle.place_laws.specs.Operated.{LinesAreNext};
 
 /// A server after a step stands for its history with the step.
@@ -26,4 +27,9 @@ pub fn numbers_are_actors_there()
 /// An operator that has a line left makes it next at the line's place.
 pub fn lines_are_next()
     ensures { LinesAreNext }
+{}
+
+/// A server was emptied at most as often as the script says.
+pub fn epochs_are_wipes()
+    ensures { EpochsAreWipes }
 {}
