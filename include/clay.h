@@ -62,7 +62,7 @@ uint32_t clay_recover(uint32_t k, uint32_t m, uint32_t w, const uint8_t *present
 uint32_t clay_repair_layers(uint32_t k, uint32_t m, uint32_t w, uint32_t lost, uint32_t *layers, size_t layers_len);
 
 /* Writes chunk `lost` from the parts of all others, which stand one behind another by rising number of their chunks. The part of a chunk
- * is its subchunks of those layers, one behind another. That the parts are of one codeword isn't tested.
+ * is its subchunks of those layers, one behind another. The parts are read where they stand. That they are of one codeword isn't tested.
  * parts_len: (n - 1) * part_len. chunk_len: as clay_geometry tells.
  * CLAY_DONE, CLAY_BAD_GEOMETRY, CLAY_BAD_LENGTH, CLAY_BAD_CHUNK, CLAY_OUT_OF_MEMORY. */
 uint32_t clay_rebuild(uint32_t k, uint32_t m, uint32_t w, uint32_t lost, const uint8_t *parts, size_t parts_len, uint8_t *chunk, size_t chunk_len);

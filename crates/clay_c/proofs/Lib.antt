@@ -3,3 +3,4 @@ pub mod Taking
 pub mod Recovering
 pub mod Marking
 pub mod Missing
+pub mod Shown

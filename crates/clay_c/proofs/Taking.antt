@@ -2,7 +2,7 @@
 use Rattle.std.proofs.Common.{◌≡◌, ◌≢◌, ℕ, suc, ◌+◌, ◌<◌, Bool, true, false, cond, eqb, List, [], ◌∷◌, ◌++◌, map, length, get_or, count_by, filter, Option, Some, None, is_none, IfSome, Vec, Global, refl, sym, ap, ◌∙◌, arith}
 use Rattle.std.specs.Option.{option_map}
 use Rattle.std.specs.List.{range_with_len}
-use Rattle.std.proofs.lemmas.Bool.{eq-eqb, ne_eqb}
+use Rattle.std.proofs.lemmas.Bool.{ne_eqb}
 use Rattle.std.proofs.lemmas.List.{map_push, length-map}
 use Rattle.std.proofs.lemmas.List.FromFn.{length-map-range_with_len, get_or-map-range_with_len, map-range_with_len_more}
 use Rattle.std.proofs.lemmas.List.Elements.{All-push}
@@ -10,9 +10,8 @@ use Rattle.std.proofs.lemmas.List.Sums.{length-filter}
 use Rattle.std.proofs.Math.ListN.{get_or-map}
 use Rattle.clay_grid.specs.Shape.{Shape, chunk_count, chunk_length}
 use Rattle.clay_model.specs.Left.{parts, AreLong}
-use Rattle.clay_model.specs.RepairParts.{AreParts, part_length}
 use Rattle.clay_c.specs.Pieces.{piece_at}
-use Rattle.clay_c.specs.Calls.{lost_count, left_of, place_among_others, parts_of}
+use Rattle.clay_c.specs.Calls.{lost_count, left_of}
 
 abbrev items : Option (Vec ℕ Global) → Option (List ℕ)
 items o = option_map (λ (v : Vec ℕ Global). v.items) o
@@ -83,15 +82,3 @@ left_at g present chunks c h there =
     let f : ℕ → Option (List ℕ) = λ k. cond (eqb (get_or present k 0) 0) None (Some (piece_at (chunk_length g) chunks k)) in
     get_or-map-range_with_len f 0 (chunk_count g) c c None h (omega arith)
     ∙ ap (λ b. cond b None (Some (piece_at (chunk_length g) chunks c))) (ne_eqb (get_or present c 0) 0 there)
-
-pub are_parts : (g : Shape) (lost : ℕ) (bytes : List ℕ) (have : List (Option (Vec ℕ Global))) → lost < chunk_count g → parts have ≡ parts_of g lost bytes → AreLong (part_length g) have → AreParts g lost have
-are_parts g lost bytes have inside is long =
-    let piece : ℕ → List ℕ = λ c. piece_at (part_length g) bytes (place_among_others lost c) in
-    let test : ℕ → Bool = λ c. eqb c lost in
-    record {
-      chunk = inside;
-      count = length_of (λ c. cond (test c) None (Some (piece c))) have (chunk_count g) is;
-      none = none_of (get_or have lost None) (gone test piece have (chunk_count g) lost is inside ∙ eq-eqb lost lost refl);
-      others = λ c h other. gone test piece have (chunk_count g) c is h ∙ ne_eqb c lost other;
-      lengths = long;
-    }

@@ -23,3 +23,13 @@ pub fn take(
     let start = place * len;
     Ok(Some(Vec::from_slice(alloc, &bytes[start..start + len])?))
 }
+
+/// Where a piece starts, or none where it is gone.
+pub fn start_unless(gone: bool, start: usize) -> Option<usize>
+    ensures { result ≡ cond gone None (Some start) }
+{
+    if gone {
+        return None;
+    }
+    Some(start)
+}

@@ -1,13 +1,13 @@
 //! A lost chunk, written to a caller's bytes.
-ghost use Rattle.std.specs.Prelude.{◌≡◌, ◌-◌, ◌*◌, ◌<◌, length, IfOk, OnOk, OnErr};
+ghost use Rattle.std.specs.Prelude.{◌≡◌, ◌-◌, ◌*◌, ◌<◌, eqb, length, IfOk, OnOk, OnErr};
 ghost use Rattle.clay_grid.specs.Shape.{chunk_count, chunk_length};
-ghost use Rattle.clay_model.specs.Left.{parts, AreLong};
 ghost use Rattle.clay_model.specs.RepairParts.{part_length};
-ghost use Rattle.clay_c.specs.Calls.{place_among_others, parts_of, Rebuilds};
+ghost use Rattle.clay_c.specs.Calls.{place_among_others, Rebuilds};
+ghost use Rattle.clay_c.specs.Pieces.{starts_of};
 
-use crate::pieces::take;
+use crate::pieces::start_unless;
 use clay_grid::Geometry;
-use clay_lanes::rebuild_into;
+use clay_lanes::{ChunkView, rebuild_into};
 use std::alloc::{AllocError, Global};
 
 /// The bytes of a part, which has the repair layers alone.
@@ -25,24 +25,25 @@ fn place_among_others(lost: u32, c: u32) -> usize
     place as usize
 }
 
-// Copies of the parts of all but the lost chunk.
-fn others(
-    alloc: Global,
-    g: Geometry,
-    lost: u32,
-    bytes: &[u8],
-) -> Result<Vec<Option<Vec<u8>>>, AllocError>
-    requires chunk { lost < chunk_count g }
-    requires bytes { length bytes.now ≡ (chunk_count g - 1) * part_length g }
-    ensures parts { IfOk result (λ have. parts have.items ≡ parts_of g lost bytes.now) }
-    ensures lengths { IfOk result (λ have. AreLong (part_length g) have.items) }
+// Where the part of a chunk starts.
+fn part_start(lost: u32, c: u32, len: u32) -> usize
+    ensures { result ≡ place_among_others lost c * len }
 {
-    let len = part_len(g) as usize;
-    let mut have = Vec::with_capacity(alloc, g.n() as usize)?;
+    let start = place_among_others(lost, c) * len as usize;
+    start
+}
+
+// Where the part of each chunk but the lost one starts.
+fn part_starts(alloc: Global, g: Geometry, lost: u32) -> Result<Vec<Option<usize>>, AllocError>
+    ensures { IfOk result (λ starts. starts.items ≡ starts_of (λ c. eqb c lost) (place_among_others lost) (part_length g) (chunk_count g)) }
+{
+    let len = part_len(g);
+    let mut starts = Vec::with_capacity(alloc, g.n() as usize)?;
     for c in 0..g.n() {
-        have.push(take(alloc, bytes, len, place_among_others(lost, c), c == lost)?)?;
+        let start = part_start(lost, c, len);
+        starts.push(start_unless(c == lost, start))?;
     }
-    Ok(have)
+    Ok(starts)
 }
 
 /// Writes the lost chunk, from the parts of the others by rising number, one behind another.
@@ -59,7 +60,12 @@ pub fn write_rebuilt(
     ensures written { OnOk result (Rebuilds g lost bytes.now chunk.new) }
     ensures kept { OnErr result (chunk.new ≡ chunk.old) }
 {
-    let have = others(alloc, g, lost, bytes)?;
-    rebuild_into(alloc, g, lost, &have, chunk)?;
+    let starts = part_starts(alloc, g, lost)?;
+    let parts = ChunkView::Laid {
+        bytes,
+        starts: &starts,
+        len: part_len(g) as usize,
+    };
+    rebuild_into(alloc, g, lost, parts, chunk)?;
     Ok(())
 }

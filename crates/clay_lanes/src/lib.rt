@@ -12,9 +12,7 @@ mod plan;
 pub use checked::decode_checked;
 pub use clay_parity::{Prepared, encode, parity, parity_into};
 pub use coder::LaneCoder;
-pub use lane_repair::{
-    RepairPlan, make_repair_plan, rebuild, rebuild_into, solve_column, write_block,
-};
+pub use lane_repair::{ChunkView, rebuild, rebuild_into};
 pub use layers::{solve_layers, solve_some_layers};
 pub use lost::{couple_chunk, decode, missing, missing_count};
 pub use places::missing_into;

@@ -1,3 +1,4 @@
 pub mod RowLemmas
 pub mod ColumnRows
 pub mod RepairLemmas
+pub mod ViewLemmas

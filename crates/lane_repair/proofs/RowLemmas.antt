@@ -1,5 +1,5 @@
 -- The rows of a block of bytes, which the factors make of the present nodes' values, and the bytes of a chunk.
--- A piece is right for every word that fits (fits : List (List ℕ) → Type 0, which is Completes in decoding and HasParts in repair): one
+-- A piece is right for every word that fits (fits : List (List ℕ) → Type 0, which is Completes in decoding and FitsPieces in repair): one
 -- set of lemmas serves both. A byte of a chunk is right (HoldsByte fits c chunk p) by its place alone: a write keeps it at every place,
 -- also where it writes, since what it writes is right. So blocks need no argument that places differ, and no order of writes.
 use Rattle.std.proofs.Common.{◌≡◌, ℕ, zero, suc, subst, ◌+◌, ◌-◌, ◌*◌, ◌/◌, ◌%◌, ◌^◌, ◌<◌, ◌≤◌, Bool, true, false, List, [], length, get_or, replicate, sym, ap, ◌∙◌, inl, inr, arith, lit<, bit_xor}

@@ -1,3 +1,4 @@
 pub mod Pieces
+pub mod Views
 pub mod Repaired
 pub mod ReadBlocks

@@ -1,13 +1,10 @@
 -- What a call of repair works with.
-use Rattle.std.specs.Prelude.{◌≡◌, ℕ, ◌*◌, ◌/◌, ◌%◌, ◌<◌, eqb, false, List, get_or, length, replicate, Option, Vec}
+use Rattle.std.specs.Prelude.{◌≡◌, ℕ, ◌*◌, ◌/◌, ◌%◌, ◌<◌, eqb, false, List, get_or, length, replicate}
 use Rattle.std.specs.List.{range_with_len}
-use Rattle.std.specs.declared.alloc.Global.{Global}
 use Rattle.clay_grid.specs.Shape.{Shape, chunk_count, row_count, node_count, node_of_chunk}
 use Rattle.clay_grid.specs.Limits.{IsGeometry}
 use Rattle.clay_grid.specs.Repair.{repair_layers_of}
 use Rattle.clay_kernels.specs.Generated.{IsGeneratorOf}
-use Rattle.clay_model.specs.RepairParts.{HasParts}
-use Rattle.lane_repair.specs.Pieces.{HoldsRows, HoldsByte}
 use Rattle.lane_repair.specs.declared.repair_plan.RepairPlan.{RepairPlan}
 
 -- the nodes of a column, rising
@@ -26,15 +23,3 @@ pub record IsRepairPlan (g : Shape) (plan : RepairPlan) : Type 0 where
   pub layers : plan.layers.items ≡ repair_layers_of g plan.lost
   pub empty : plan.zeros.items ≡ replicate g.width 0
   pub halves : plan.halves ≡ 0x8E
-
--- a row for each node of the lost node's column: its uncoupled value in layer z, for each codeword whose other chunks have these parts
-abbrev pub HoldsColumnRows : Shape → RepairPlan → List (Option (Vec ℕ Global)) → ℕ → ℕ → ℕ → List ℕ → Type 0
-HoldsColumnRows g plan parts at len z rows = HoldsRows g (λ word. HasParts g plan.lost parts word) at len (column_nodes g plan.column) z rows
-
--- byte p of a chunk is that of the lost chunk, for such codewords
-abbrev pub HoldsLostByte : Shape → RepairPlan → List (Option (Vec ℕ Global)) → List ℕ → ℕ → Type 0
-HoldsLostByte g plan parts chunk p = HoldsByte (λ word. HasParts g plan.lost parts word) plan.lost chunk p
-
--- each byte that was right is right
-abbrev pub KeepsLostBytes : Shape → RepairPlan → List (Option (Vec ℕ Global)) → List ℕ → List ℕ → Type 0
-KeepsLostBytes g plan parts old new = (p : ℕ) → HoldsLostByte g plan parts old p → HoldsLostByte g plan parts new p

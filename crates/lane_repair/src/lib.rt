@@ -6,7 +6,8 @@ mod erased;
 mod read_block;
 mod repair;
 mod repair_plan;
+mod view;
 
 pub use erased::is_column_erased;
-pub use repair::{rebuild, rebuild_into, solve_column, write_block};
-pub use repair_plan::{RepairPlan, make_repair_plan};
+pub use repair::{rebuild, rebuild_into};
+pub use view::ChunkView;

@@ -1,6 +1,7 @@
 //! A block of byte positions of a layer that is read in a repair.
 
 use crate::repair_plan::RepairPlan;
+use crate::view::ChunkView;
 use clay_grid::Geometry;
 
 /// What is read of layer `z` at `len` byte positions of each subchunk, from `at` on.
@@ -8,7 +9,7 @@ use clay_grid::Geometry;
 pub(crate) struct ReadBlock<'a> {
     pub(crate) g: Geometry,
     /// The subchunks that are read of the chunks other than the lost one.
-    pub(crate) parts: &'a [Option<Vec<u8>>],
+    pub(crate) parts: ChunkView<'a>,
     /// The plan for the lost one.
     pub(crate) plan: &'a RepairPlan,
     pub(crate) z: u32,

@@ -3,14 +3,16 @@ ghost use Rattle.std.specs.Prelude.{◌≡◌, ◌≢◌, ℕ, ◌+◌, ◌*◌,
 ghost use Rattle.clay_grid.specs.Shape.{row_count, node_count, node_of_chunk, chunk_length};
 ghost use Rattle.clay_model.specs.RepairParts.{AreParts, IsRebuilt};
 ghost use Rattle.code_laws.specs.Rebuilt.{IsReadFor, with_digit};
-ghost use Rattle.lane_repair.specs.Repaired.{IsRepairPlan, HoldsColumnRows, HoldsLostByte, KeepsLostBytes};
+ghost use Rattle.lane_repair.specs.Repaired.{IsRepairPlan};
+ghost use Rattle.lane_repair.specs.Views.{pieces_of, HasRoom, ArePieces, IsRebuiltFrom};
 ghost use Rattle.lane_repair.specs.ReadBlocks.{IsReadBlock, IsCoupledIn, IsUncoupledIn, IsPresentIn, HoldsColumnIn, HoldsRowsIn, HoldsSubchunksIn, KeepsBytesIn};
 
 use crate::erased::is_column_erased;
 use crate::read_block::ReadBlock;
 use crate::repair_plan::{RepairPlan, layer_place, make_repair_plan};
+use crate::view::ChunkView;
 use clay_grid::Geometry;
-use clay_kernels::{BLOCK, add_column, column_room, cross, end_column, uncouple, zeros};
+use clay_kernels::{BLOCK, add_column, cross, end_column, uncouple, zeros};
 use clay_model::partner_of;
 use std::alloc::{AllocError, Global};
 
@@ -27,7 +29,7 @@ impl<'a> ReadBlock<'a> {
         let start = layer_place(self.g, self.plan.column, z) as usize * self.g.w() as usize
             + self.at;
         match self.g.chunk_of_node(node) {
-            Some(chunk) => match &self.parts[chunk as usize] {
+            Some(chunk) => match self.parts.get(chunk as usize) {
                 Some(bytes) => &bytes[start..start + self.len],
                 None => &self.plan.zeros[..self.len],
             },
@@ -200,72 +202,10 @@ impl<'a> ReadBlock<'a> {
     }
 }
 
-/// Writes the uncoupled values of the lost node's column in the bytes from `at` on of layer `z`, a row for each node.
-pub fn solve_column(
-    g: Geometry,
-    parts: &[Option<Vec<u8>>],
-    plan: &RepairPlan,
-    z: u32,
-    at: usize,
-    values: &mut [u8],
-    rows: &mut [u8],
-)
-    requires plan { IsRepairPlan g plan.now }
-    requires parts { AreParts g plan.now.lost parts.now }
-    requires read { IsReadFor g plan.now.lost z }
-    requires within { at + length values.old ≤ g.width }
-    requires rows_len { length rows.old ≡ row_count g * length values.old }
-    ensures { HoldsColumnRows g plan.now parts.now at (length values.old) z rows.new }
-{
-    let block = ReadBlock {
-        g,
-        parts,
-        plan,
-        z,
-        at,
-        len: values.len(),
-    };
-    let mut column = column_room();
-    block.solve(values, &mut column, rows);
-}
-
-/// Writes the bytes from `at` on of the lost chunk's subchunks in the layers that differ from layer `z` at most in the digit of its column.
-pub fn write_block(
-    g: Geometry,
-    parts: &[Option<Vec<u8>>],
-    plan: &RepairPlan,
-    z: u32,
-    at: usize,
-    len: usize,
-    rows: &[u8],
-    chunk: &mut [u8],
-)
-    requires plan { IsRepairPlan g plan.now }
-    requires parts { AreParts g plan.now.lost parts.now }
-    requires read { IsReadFor g plan.now.lost z }
-    requires within { at + len ≤ g.width }
-    requires rows_len { length rows.now ≡ row_count g * len }
-    requires rows { HoldsColumnRows g plan.now parts.now at len z rows.now }
-    requires chunk_len { length chunk.old ≡ chunk_length g }
-    ensures written { (x b : ℕ) → x < row_count g → b < len →
-        HoldsLostByte g plan.now parts.now chunk.new (with_digit g plan.now.lost z x * g.width + (at + b)) }
-    ensures kept { KeepsLostBytes g plan.now parts.now chunk.old chunk.new }
-{
-    let block = ReadBlock {
-        g,
-        parts,
-        plan,
-        z,
-        at,
-        len,
-    };
-    block.write(rows, chunk);
-}
-
 // Writes the lost chunk, with room for a block: of one node's values, of four nodes', and of its column's.
 fn write_chunk(
     g: Geometry,
-    parts: &[Option<Vec<u8>>],
+    parts: ChunkView<'_>,
     plan: &RepairPlan,
     values: &mut [u8],
     column: &mut [u8],
@@ -273,11 +213,12 @@ fn write_chunk(
     chunk: &mut [u8],
 )
     requires plan { IsRepairPlan g plan.now }
-    requires parts { AreParts g plan.now.lost parts.now }
+    requires parts { ArePieces g plan.now.lost (pieces_of parts) }
+    requires room { HasRoom parts }
     requires values_len { length values.old ≡ min g.width 4096 }
     requires rows_len { length rows.old ≡ row_count g * min g.width 4096 }
     requires chunk_len { length chunk.old ≡ chunk_length g }
-    ensures { IsRebuilt g plan.now.lost parts.now chunk.new }
+    ensures { IsRebuiltFrom g plan.now.lost (pieces_of parts.entry) chunk.new }
 {
     for z in &plan.layers {
         let layer = ReadBlock {
@@ -294,19 +235,19 @@ fn write_chunk(
 
 /// Writes the lost chunk of the codeword whose other chunks have these parts, where one does.
 ///
-/// `parts` has an entry for each chunk: `None` for the lost one, and for each other one its subchunks of the repair layers in rising
-/// order. Where no codeword has these parts, some bytes are written. What `chunk` held before doesn't matter, and it stays as it is where
-/// memory is wanting.
+/// `parts` has each other chunk's subchunks of the repair layers in rising order, which are read where they stand. Where no codeword has
+/// these parts, some bytes are written. What `chunk` held before doesn't matter, and it stays as it is where memory is wanting.
 pub fn rebuild_into(
     alloc: Global,
     g: Geometry,
     lost: u32,
-    parts: &[Option<Vec<u8>>],
+    parts: ChunkView<'_>,
     chunk: &mut [u8],
 ) -> Result<(), AllocError>
-    requires parts { AreParts g lost parts.now }
+    requires parts { ArePieces g lost (pieces_of parts) }
+    requires room { HasRoom parts }
     requires chunk { length chunk.old ≡ chunk_length g }
-    ensures rebuilt { OnOk result (IsRebuilt g lost parts.now chunk.new) }
+    ensures rebuilt { OnOk result (IsRebuiltFrom g lost (pieces_of parts.entry) chunk.new) }
     ensures kept { OnErr result (chunk.new ≡ chunk.old) }
 {
     let plan = make_repair_plan(alloc, g, lost)?;
@@ -318,7 +259,24 @@ pub fn rebuild_into(
     Ok(())
 }
 
-/// The lost chunk, as `rebuild_into` writes it.
+// The same from parts that are vectors.
+fn rebuild_apart(
+    alloc: Global,
+    g: Geometry,
+    lost: u32,
+    parts: &[Option<Vec<u8>>],
+    chunk: &mut [u8],
+) -> Result<(), AllocError>
+    requires parts { AreParts g lost parts.now }
+    requires chunk { length chunk.old ≡ chunk_length g }
+    ensures rebuilt { OnOk result (IsRebuilt g lost parts.now chunk.new) }
+    ensures kept { OnErr result (chunk.new ≡ chunk.old) }
+{
+    rebuild_into(alloc, g, lost, ChunkView::Apart(parts), chunk)?;
+    Ok(())
+}
+
+/// The lost chunk, as `rebuild_into` writes it. `parts` has an entry for each chunk, `None` for the lost one.
 pub fn rebuild(
     alloc: Global,
     g: Geometry,
@@ -329,6 +287,6 @@ pub fn rebuild(
     ensures { IfOk result (λ chunk. IsRebuilt g lost parts.now chunk.items) }
 {
     let mut chunk = zeros(alloc, g.chunk_len() as usize)?;
-    rebuild_into(alloc, g, lost, parts, &mut chunk)?;
+    rebuild_apart(alloc, g, lost, parts, &mut chunk)?;
     Ok(chunk)
 }

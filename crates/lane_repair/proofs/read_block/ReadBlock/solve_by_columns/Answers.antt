@@ -2,12 +2,12 @@ use Rattle.std.proofs.Common.{◌≡◌, ℕ, ◌+◌, ◌*◌, ◌<◌, false, 
 use Rattle.clay_grid.specs.Shape.{row_count, column_count, node_count, node_of_chunk}
 use Rattle.code_laws.proofs.Column.{node_inside}
 use Rattle.code_laws.proofs.Rows.{column_below}
-use Rattle.clay_model.specs.RepairParts.{HasParts}
 use Rattle.lane_repair.specs.Repaired.{column_nodes}
 use Rattle.clay_kernels.specs.Columns.{IsColumn}
 use Rattle.lane_repair.proofs.ColumnRows.{HoldsForm, fit_columns, form_more, form_skipped, form_ended}
 use Rattle.lane_repair.proofs.RepairLemmas.{length-column_nodes, column_points_are}
 use Rattle.lane_repair.proofs.RowLemmas.{rows_of_sums}
+use Rattle.lane_repair.specs.Views.{FitsPieces, pieces_of}
 use Rattle.lane_repair.proofs.read_block.ReadBlock.solve_by_columns.Goals as goal
 use Rattle.lane_repair.proofs.read_block.ReadBlock.solve_by_columns.Goals.{then-not-is_column_erased, else-not-is_column_erased}
 
@@ -15,7 +15,7 @@ pub loop-y-preserved : goal.loop-y-preserved
 loop-y-preserved c =
     let g = c.args.self.now.g in
     let plan = c.args.self.now.plan.now in
-    let fits : List (List ℕ) → Type 0 = λ word. HasParts g plan.lost c.args.self.now.parts.now word in
+    let fits : List (List ℕ) → Type 0 = λ word. FitsPieces g plan.lost (pieces_of c.args.self.now.parts) word in
     let gen = plan.generator in
     let len : ℕ = c.args.self.now.len in
     let y = c.loop-y.y in
@@ -40,7 +40,7 @@ pub returns : goal.returns
 returns c =
     let g = c.args.self.now.g in
     let plan = c.args.self.now.plan.now in
-    let fits : List (List ℕ) → Type 0 = λ word. HasParts g plan.lost c.args.self.now.parts.now word in
+    let fits : List (List ℕ) → Type 0 = λ word. FitsPieces g plan.lost (pieces_of c.args.self.now.parts) word in
     let gen = plan.generator in
     let erased = plan.erased.items in
     let points = column_nodes g plan.column in

@@ -3,12 +3,12 @@ use Rattle.std.proofs.lemmas.Bool.{eq-eqb, true≢false}
 use Rattle.std.proofs.lemmas.List.{get_or_read}
 use Rattle.clay_grid.specs.Shape.{row_count, column_count, node_count, node_of_chunk}
 use Rattle.code_laws.proofs.Pieces.{piece_fits}
-use Rattle.clay_model.specs.RepairParts.{HasParts}
 use Rattle.lane_repair.specs.Repaired.{column_nodes}
 use Rattle.code_laws.proofs.Column.{node_inside}
 use Rattle.code_laws.proofs.Rows.{column_below}
 use Rattle.lane_repair.proofs.RepairLemmas.{length-column_nodes, column_points_are}
 use Rattle.lane_repair.proofs.RowLemmas.{HoldsSums, sums_more, sums_skipped, rows_of_sums}
+use Rattle.lane_repair.specs.Views.{FitsPieces, pieces_of}
 use Rattle.lane_repair.proofs.read_block.ReadBlock.solve_by_nodes.Goals as goal
 use Rattle.lane_repair.proofs.read_block.ReadBlock.solve_by_nodes.Goals.{then-not-index, else-not-index}
 
@@ -26,7 +26,7 @@ pub loop-node-preserved : goal.loop-node-preserved
 loop-node-preserved c =
     let g = c.args.self.now.g in
     let plan = c.args.self.now.plan.now in
-    let fits : List (List ℕ) → Type 0 = λ word. HasParts g plan.lost c.args.self.now.parts.now word in
+    let fits : List (List ℕ) → Type 0 = λ word. FitsPieces g plan.lost (pieces_of c.args.self.now.parts) word in
     let at : ℕ = c.args.self.now.at in
     let len : ℕ = c.args.self.now.len in
     let z : ℕ = c.args.self.now.z in
@@ -53,7 +53,7 @@ pub returns : goal.returns
 returns c =
     let g = c.args.self.now.g in
     let plan = c.args.self.now.plan.now in
-    let fits : List (List ℕ) → Type 0 = λ word. HasParts g plan.lost c.args.self.now.parts.now word in
+    let fits : List (List ℕ) → Type 0 = λ word. FitsPieces g plan.lost (pieces_of c.args.self.now.parts) word in
     let geometry = c.requires.block.planned.geometry in
     let len : ℕ = c.args.self.now.len in
     let points = column_nodes g plan.column in

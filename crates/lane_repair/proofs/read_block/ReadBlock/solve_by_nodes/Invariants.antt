@@ -1,9 +1,8 @@
-use Rattle.std.proofs.Common.{length}
-use Rattle.clay_model.specs.RepairParts.{HasParts}
 use Rattle.lane_repair.specs.Repaired.{column_nodes}
 use Rattle.lane_repair.proofs.RowLemmas.{HoldsSums}
+use Rattle.lane_repair.specs.Views.{FitsPieces, pieces_of}
 use Rattle.lane_repair.proofs.read_block.ReadBlock.solve_by_nodes.Given as goal
 
 abbrev pub invariant-loop-node : goal.invariant-loop-node
 invariant-loop-node l =
-    HoldsSums l.self.g (λ word. HasParts l.self.g l.self.plan.now.lost l.self.parts.now word) l.self.at (l.self.len) l.self.plan.now.erased.items (column_nodes l.self.g l.self.plan.now.column) l.self.plan.now.generator.each l.self.z l.node l.rows
+    HoldsSums l.self.g (λ word. FitsPieces l.self.g l.self.plan.now.lost (pieces_of l.self.parts) word) l.self.at (l.self.len) l.self.plan.now.erased.items (column_nodes l.self.g l.self.plan.now.column) l.self.plan.now.generator.each l.self.z l.node l.rows

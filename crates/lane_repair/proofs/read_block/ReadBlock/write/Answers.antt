@@ -5,12 +5,12 @@ use Rattle.clay_grid.specs.Layers.{layer_of, index_of}
 use Rattle.code_laws.proofs.Pieces.{piece_fits}
 use borrow.Rule.Slice.PartMut.{put_mid}
 use Rattle.code_laws.proofs.Nodes.{node_real}
-use Rattle.clay_model.specs.RepairParts.{HasParts}
 use Rattle.code_laws.specs.Rebuilt.{with_digit}
 use Rattle.lane_repair.specs.Pieces.{HoldsByte}
 use Rattle.lane_repair.specs.Repaired.{column_nodes}
 use Rattle.lane_repair.proofs.RowLemmas.{piece_written, byte_kept}
 use Rattle.lane_repair.proofs.RepairLemmas.{row_piece, length-column_nodes, column_node_at}
+use Rattle.lane_repair.specs.Views.{FitsPieces, pieces_of}
 use Rattle.lane_repair.proofs.read_block.ReadBlock.write.Goals as goal
 
 pub write_subchunk-requires-clause-own : goal.write_subchunk-requires-clause-own
@@ -21,7 +21,7 @@ write_subchunk-requires-clause-own c =
     let from : ℕ = x * c.args.self.now.len in
     let hx : x < row_count g = omega (arith, c.loop-x-test.true, c.q-x-end.ensures.value) in
     let width : from + c.args.self.now.len - from ≡ c.args.self.now.len = omega arith in
-    row_piece g (λ word. HasParts g plan.lost c.args.self.now.parts.now word) c.args.self.now.at c.args.self.now.len (column_nodes g plan.column) c.args.self.now.z c.args.rows.now x (plan.column * row_count g + x) from (from + c.args.self.now.len - from)
+    row_piece g (λ word. FitsPieces g plan.lost (pieces_of c.args.self.now.parts) word) c.args.self.now.at c.args.self.now.len (column_nodes g plan.column) c.args.self.now.z c.args.rows.now x (plan.column * row_count g + x) from (from + c.args.self.now.len - from)
     c.requires.rows (omega (arith, hx, length-column_nodes g plan.column)) (column_node_at g plan.column x hx) refl width
 
 pub loop-x-preserved : goal.loop-x-preserved
@@ -30,7 +30,7 @@ loop-x-preserved c =
     let plan = c.args.self.now.plan.now in
     let at : ℕ = c.args.self.now.at in
     let len : ℕ = c.args.self.now.len in
-    let fits : List (List ℕ) → Type 0 = λ word. HasParts g plan.lost c.args.self.now.parts.now word in
+    let fits : List (List ℕ) → Type 0 = λ word. FitsPieces g plan.lost (pieces_of c.args.self.now.parts) word in
     let x : ℕ = c.loop-x.x in
     let n : ℕ = with_digit g plan.lost c.args.self.now.z x in
     let node : ℕ = node_of_chunk g plan.lost in

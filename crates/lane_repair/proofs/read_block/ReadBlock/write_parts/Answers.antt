@@ -1,8 +1,8 @@
-use Rattle.std.proofs.Common.{◌≡◌, ℕ, ◌+◌, ◌-◌, ◌*◌, ◌<◌, List, subst, inl, inr, arith}
+use Rattle.std.proofs.Common.{◌≡◌, ℕ, ◌+◌, ◌-◌, ◌*◌, List, subst, inl, inr, arith}
 use Rattle.std.proofs.lemmas.Bool.{cases_lt}
-use Rattle.clay_model.specs.RepairParts.{HasParts}
 use Rattle.code_laws.specs.Rebuilt.{with_digit}
 use Rattle.lane_repair.specs.Pieces.{HoldsByte}
+use Rattle.lane_repair.specs.Views.{FitsPieces, pieces_of}
 use Rattle.lane_repair.proofs.read_block.ReadBlock.write_parts.Goals as goal
 
 pub loop-from-preserved : goal.loop-from-preserved
@@ -10,7 +10,7 @@ loop-from-preserved c =
     let block = c.args.self.now in
     let g = block.g in
     let lost : ℕ = block.plan.now.lost in
-    let fits : List (List ℕ) → Type 0 = λ word. HasParts g lost block.parts.now word in
+    let fits : List (List ℕ) → Type 0 = λ word. FitsPieces g lost (pieces_of block.parts) word in
     let from : ℕ = c.loop-from.from in
     let found = c.write.ensures in
     record {

@@ -1,14 +1,14 @@
 use Rattle.std.proofs.Common.{◌≡◌, ℕ, ◌<◌, true, false, List, length, get_or, replicate, sym, ap, ◌∙◌, arith}
 use Rattle.std.proofs.lemmas.List.{get_or_read}
-use Rattle.clay_model.specs.RepairParts.{HasParts}
 use Rattle.lane_repair.proofs.ColumnRows.{present_there, present_gone}
+use Rattle.lane_repair.specs.Views.{FitsPieces, pieces_of}
 use Rattle.lane_repair.proofs.read_block.ReadBlock.write_value.Goals as goal
 
 pub returns-then-index : goal.returns-then-index
 returns-then-index c =
     let g = c.args.self.now.g in
     let plan = c.args.self.now.plan.now in
-    let fits : List (List ℕ) → Type 0 = λ word. HasParts g plan.lost c.args.self.now.parts.now word in
+    let fits : List (List ℕ) → Type 0 = λ word. FitsPieces g plan.lost (pieces_of c.args.self.now.parts) word in
     let erased = plan.erased.items in
     let within : c.args.node < length erased = omega (arith, c.requires.node, c.requires.block.planned.nodes) in
     let gone : get_or erased c.args.node false ≡ true = sym (get_or_read erased c.args.node c.index.result.now within c.index.ensures false) ∙ c.if-index.true in
@@ -18,7 +18,7 @@ pub returns-else-index : goal.returns-else-index
 returns-else-index c =
     let g = c.args.self.now.g in
     let plan = c.args.self.now.plan.now in
-    let fits : List (List ℕ) → Type 0 = λ word. HasParts g plan.lost c.args.self.now.parts.now word in
+    let fits : List (List ℕ) → Type 0 = λ word. FitsPieces g plan.lost (pieces_of c.args.self.now.parts) word in
     let erased = plan.erased.items in
     let within : c.args.node < length erased = omega (arith, c.requires.node, c.requires.block.planned.nodes) in
     let here : get_or erased c.args.node false ≡ false = sym (get_or_read erased c.args.node c.index.result.now within c.index.ensures false) ∙ c.if-index.false in
