@@ -1,0 +1,9 @@
+use Rattle.std.proofs.Common.{take, ap, ◌∙◌}
+use Rattle.share_blocks.proofs.Joining.{all_joined}
+use Rattle.share_blocks.proofs.join.joined_all.Goals as goal
+
+pub returns : goal.returns
+returns c =
+    let chunks = c.in_ok-chunks.chunks.items in
+    all_joined c.args.g c.args.blocks.now chunks c.truncate.new.self.items c.in_ok-chunks.ensures.chunks
+    (c.truncate.ensures.items ∙ ap (λ n. take n chunks) c.stripe_len.ensures.value)
