@@ -1,0 +1,124 @@
+//! What a run is read with.
+ghost use Rattle.std.specs.Prelude.{◌≡◌, ℕ, ◌*◌, ◌<◌, ◌≤◌, length, IfOk, IfErr, slice_index_or, true, false};
+ghost use Rattle.clay_grid.specs.Shape.{chunk_count, node_count, layer_count};
+ghost use Rattle.clay_model.specs.Erased.{erased_below};
+ghost use Rattle.lost_layers.specs.LostLayers.{is_wanted, is_solved, is_unknown};
+ghost use Rattle.lost_layers.specs.Placing.{IsPlaced};
+ghost use Rattle.lost_layers.specs.Refused.{IsRefused};
+ghost use Rattle.lost_read.specs.Plan.{AreSubchunks, HasPlaces, IsReadPlan};
+
+use clay_grid::Geometry;
+use clay_kernels::{Generator, Products, generator_of, halves, zeros};
+use clay_model::partner_of;
+use lost_layers::{LostFault, LostPiece, PlacedRun, lost_pieces};
+use std::alloc::{AllocError, Global};
+
+/// What a run is read with.
+#[derive(Drop)]
+pub(crate) struct ReadPlan {
+    pub(crate) placed: PlacedRun,
+    /// For each subchunk, chunk by chunk, its place among the pieces, and 0 where it is none of them.
+    pub(crate) places: Vec<usize>,
+    /// For each node, whether its value is solved for in the layers that are solved.
+    pub(crate) erased: Vec<bool>,
+    /// These nodes, rising.
+    pub(crate) points: Vec<u8>,
+    /// The factors of every node in the values of these nodes.
+    pub(crate) generator: Generator,
+    /// A subchunk of a virtual node.
+    pub(crate) zeros: Vec<u8>,
+    /// The products of the inverse of 2.
+    pub(crate) halves: Products,
+}
+
+// Writes the place of each piece.
+fn write_places(g: Geometry, pieces: &[LostPiece], places: &mut [usize])
+    requires subchunks { AreSubchunks g pieces.now }
+    requires places_len { length places.old ≡ chunk_count g * layer_count g }
+    ensures { HasPlaces g pieces.now (length pieces.now) places.new }
+{
+    for (at, piece) in pieces.iter().enumerate() {
+        places[(piece.chunk * g.alpha() + piece.layer) as usize] = at;
+    }
+}
+
+// For each subchunk its place among the pieces.
+fn places_of(alloc: Global, g: Geometry, pieces: &[LostPiece]) -> Result<Vec<usize>, AllocError>
+    requires { AreSubchunks g pieces.now }
+    ensures len { IfOk result (λ v. length v.items ≡ chunk_count g * layer_count g) }
+    ensures places { IfOk result (λ v. HasPlaces g pieces.now (length pieces.now) v.items) }
+{
+    let mut places = vec![in alloc; 0usize; (g.n() * g.alpha()) as usize]?;
+    write_places(g, pieces, &mut places);
+    Ok(places)
+}
+
+// A layer that is solved for a wanted one.
+fn layer_for(placed: &PlacedRun, z: u32) -> u32
+    requires placed { IsPlaced placed.now }
+    requires layer { z < layer_count placed.now.g }
+    requires wanted { is_wanted placed.now.run z ≡ true }
+    ensures solved { is_solved placed.now.g placed.now.run result ≡ true }
+    ensures within { result < layer_count placed.now.g }
+{
+    if placed.is_solved(z) {
+        return z;
+    }
+    partner_of(placed.g, placed.node, z).layer
+}
+
+// For each node, whether its value in the layer is solved for.
+fn erased_nodes(alloc: Global, placed: &PlacedRun, layer: u32) -> Result<Vec<bool>, AllocError>
+    requires placed { IsPlaced placed.now }
+    requires layer { layer < layer_count placed.now.g }
+    ensures len { IfOk result (λ v. length v.items ≡ node_count placed.now.g) }
+    ensures value { IfOk result (λ v. (i : ℕ) → i < node_count placed.now.g →
+        slice_index_or v.items i false ≡ is_unknown placed.now.g placed.now.run layer i) }
+{
+    let mut erased = Vec::with_capacity(alloc, placed.g.nodes() as usize)?;
+    for node in 0..placed.g.nodes() {
+        erased.push(placed.is_unknown(layer, node))?;
+    }
+    Ok(erased)
+}
+
+// The numbers of the erased nodes, rising.
+fn erased_points(alloc: Global, erased: &[bool]) -> Result<Vec<u8>, AllocError>
+    requires { length erased.now ≤ 256 }
+    ensures { IfOk result (λ v. v.items ≡ erased_below erased.now (length erased.now)) }
+{
+    let mut points = Vec::new(alloc);
+    for (node, missing) in erased.iter().enumerate() {
+        if *missing {
+            points.push(node as u8)?;
+        }
+    }
+    Ok(points)
+}
+
+impl ReadPlan {
+    /// The plan for a run that isn't empty.
+    pub(crate) fn new(alloc: Global, placed: PlacedRun) -> Result<ReadPlan, LostFault>
+        requires placed { IsPlaced placed }
+        requires some { placed.run.from < placed.run.to }
+        ensures plan { IfOk result (λ plan. IsReadPlan plan × (plan.placed ≡ placed)) }
+        ensures refused { IfErr result (λ fault. IsRefused placed.g placed.run fault) }
+    {
+        let g = placed.g;
+        let pieces = lost_pieces(alloc, g, placed.run)?;
+        let places = places_of(alloc, g, &pieces)?;
+        let erased = erased_nodes(alloc, &placed, layer_for(&placed, placed.run.from))?;
+        let points = erased_points(alloc, &erased)?;
+        let generator = generator_of(alloc, g, &points)?;
+        let zeros = zeros(alloc, g.w() as usize)?;
+        Ok(ReadPlan {
+            placed,
+            places,
+            erased,
+            points,
+            generator,
+            zeros,
+            halves: halves(),
+        })
+    }
+}

@@ -1,0 +1,77 @@
+//! Layers of a lost chunk from the pieces.
+ghost use Rattle.std.specs.Prelude.{◌≡◌, ◌↔◌, length, map, All, IfOk, IfErr, OnOk, OnErr, IsTrue};
+ghost use Rattle.lost_layers.specs.Placing.{IsPlaced};
+ghost use Rattle.lost_read.specs.Read.{AreLong, IsReadable, IsReadFrom};
+ghost use Rattle.lost_read.specs.Refused.{IsReadRefused};
+
+use crate::fault::ReadFault;
+use crate::plan::ReadPlan;
+use crate::reading::Reading;
+use clay_grid::Geometry;
+use clay_kernels::zeros;
+use lost_layers::{LostRun, PlacedRun, lost_count};
+use std::alloc::Global;
+
+// Whether each piece has so many bytes.
+fn are_long(len: usize, pieces: &[&[u8]]) -> bool
+    ensures { IsTrue result ↔ All (λ piece. length piece.now ≡ len) pieces.now }
+{
+    pieces.iter().all(|piece| piece.len() == len)
+}
+
+// Whether each piece is as long as a subchunk.
+fn are_subchunks(g: Geometry, pieces: &[&[u8]]) -> bool
+    ensures { IsTrue result ↔ AreLong g.width (map (λ piece. piece.now) pieces.now) }
+{
+    are_long(g.w() as usize, pieces)
+}
+
+// The run with its place, where these are its pieces and there is room for it.
+fn checked(g: Geometry, run: LostRun, pieces: &[&[u8]], room: usize) -> Result<PlacedRun, ReadFault>
+    ensures placed { IfOk result (λ placed. IsPlaced placed × (placed.g ≡ g) × (placed.run ≡ run)) }
+    ensures readable { IfOk result (λ placed. IsReadable g run (map (λ piece. piece.now) pieces.now) room) }
+    ensures refused { IfErr result (λ fault. IsReadRefused g run (map (λ piece. piece.now) pieces.now) room fault) }
+{
+    let count = lost_count(g, run)?;
+    if pieces.len() != count as usize {
+        return Err(ReadFault::PieceCount);
+    }
+    if !are_subchunks(g, pieces) {
+        return Err(ReadFault::PieceLength);
+    }
+    if room != ((run.to - run.from) * g.w()) as usize {
+        return Err(ReadFault::Room);
+    }
+    Ok(PlacedRun::new(g, run))
+}
+
+/// Writes the layers of the run: the bytes of the lost chunk of the codeword that has these pieces, where one does.
+///
+/// `pieces` has the bytes of each subchunk that `lost_pieces` lists, in its order, and `out` has room for the run. Where no codeword has
+/// these pieces, some bytes are written.
+pub fn read_lost(
+    alloc: Global,
+    g: Geometry,
+    run: LostRun,
+    pieces: &[&[u8]],
+    out: &mut [u8],
+) -> Result<(), ReadFault>
+    ensures readable { OnOk result (IsReadable g run (map (λ piece. piece.now) pieces.now) (length out.old)) }
+    ensures read { OnOk result (IsReadFrom g run (map (λ piece. piece.now) pieces.now) out.new) }
+    ensures refused { IfErr result (λ fault. IsReadRefused g run (map (λ piece. piece.now) pieces.now) (length out.old) fault) }
+    ensures kept { OnErr result (out.new ≡ out.old) }
+{
+    let placed = checked(g, run, pieces, out.len())?;
+    if run.from == run.to {
+        return Ok(());
+    }
+    let plan = ReadPlan::new(alloc, placed)?;
+    let mut value = zeros(alloc, g.w() as usize)?;
+    let mut sum = zeros(alloc, g.w() as usize)?;
+    let reading = Reading {
+        plan: &plan,
+        pieces,
+    };
+    reading.write_run(&mut value, &mut sum, out);
+    Ok(())
+}
