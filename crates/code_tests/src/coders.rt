@@ -1,4 +1,4 @@
-//! The coders, over one codeword.
+//! The coders, over two codewords.
 ghost use Rattle.std.specs.Prelude.{◌<◌};
 ghost use Rattle.clay_grid.specs.Shape.{chunk_count};
 
@@ -13,38 +13,34 @@ use std::test::Fail;
 use std::thread::Threads;
 
 /// a codeword of two data chunks of four bytes and two parity chunks
-const WORD: [u8; 16] = [
+type Word = [u8; 16];
+
+const OF_FIRST_CHUNK: Word = [1, 0, 0, 0, 0, 0, 0, 0, 0x03, 0xa6, 0, 0, 0x53, 0, 0, 0];
+
+const OF_SECOND_CHUNK: Word = [
     0, 0, 0, 0, 1, 0, 0, 0, 0x02, 0xf5, 0x06, 0x51, 0xf4, 0, 0xa6, 0,
 ];
 
-fn expect_word(rt: &impl Abort, chunks: &[Vec<u8>]) {
+fn expect_word(rt: &impl Abort, chunks: &[Vec<u8>], word: &Word) {
     assert_eq!(rt; chunks.len(), 4);
     for (c, chunk) in chunks.iter().enumerate() {
-        assert_eq!(rt; chunk.as_slice(), &WORD[4 * c..4 * c + 4]);
+        assert_eq!(rt; chunk.as_slice(), &word[4 * c..4 * c + 4]);
     }
 }
 
-fn check_stripe<R: Threads + Sync + Abort, C: Coder>(
-    rt: &R,
-    alloc: Global,
-    coder: &C,
-) -> Result<(), Fail> {
-    let g = Geometry::new(2, 2, 1)?;
-    expect_word(rt, &coder.encode(rt, alloc, g, &WORD[..8])?);
-    Ok(())
-}
-
-// Recovers a chunk of either kind.
+// Encodes the data chunks, and recovers a chunk of either kind.
 fn check_word<R: Threads + Sync + Abort, C: Coder>(
     rt: &R,
     alloc: Global,
     coder: &C,
+    word: &Word,
 ) -> Result<(), Fail> {
     let g = Geometry::new(2, 2, 1)?;
-    let data = Vec::from_slice(alloc, &WORD[4..8])?;
-    let parity = Vec::from_slice(alloc, &WORD[12..])?;
+    expect_word(rt, &coder.encode(rt, alloc, g, &word[..8])?, word);
+    let data = Vec::from_slice(alloc, &word[4..8])?;
+    let parity = Vec::from_slice(alloc, &word[12..])?;
     let have = [None, Some(data), None, Some(parity)];
-    expect_word(rt, &coder.recover(rt, alloc, g, &have)?);
+    expect_word(rt, &coder.recover(rt, alloc, g, &have)?, word);
     Ok(())
 }
 
@@ -103,8 +99,8 @@ fn check_coder<R: Threads + Sync + Abort, C: Coder>(
     alloc: Global,
     coder: &C,
 ) -> Result<(), Fail> {
-    check_stripe(rt, alloc, coder)?;
-    check_word(rt, alloc, coder)?;
+    check_word(rt, alloc, coder, &OF_FIRST_CHUNK)?;
+    check_word(rt, alloc, coder, &OF_SECOND_CHUNK)?;
     check_data_chunk(rt, alloc, coder)?;
     check_parity_chunk(rt, alloc, coder)
 }
