@@ -305,7 +305,8 @@ private:
   // ---- Decoding
 
   // Of parts it makes a chunk, where they are those of a plan. Others are refused: they are no chunks, and bytes made of them would be wrong.
-  // After a read error Ceph 16.2 cuts the parts of `rows` stripes as one chunk, which can't be seen here. It sees then that its chunk is too short.
+  // After a read error Ceph 16.2 cuts the parts of `rows` stripes as one chunk, which can't be seen here. It sees it itself, by the length of
+  // what it then has.
   int decode_wanted(const set<int> &want, const Chunks &chunks, Chunks *decoded, int chunk_size) const {
     set<int> available = numbers_of(chunks);
     if (!are_chunks(want) || !are_chunks(available)) return -EINVAL;
