@@ -1,2 +1,4 @@
 pub mod Written
 pub mod Refused
+pub mod Cut
+pub mod Found

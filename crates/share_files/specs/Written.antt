@@ -1,9 +1,11 @@
 -- What stands in share files that are being written.
-use Rattle.std.specs.Prelude.{◌≡◌, ℕ, ◌*◌, List, [], ◌∷◌, ◌++◌, length, drop}
+use Rattle.std.specs.Prelude.{◌≡◌, ℕ, ◌*◌, ◌<◌, ◌≤◌, List, [], ◌∷◌, ◌++◌, length, drop, get_or}
 use Rattle.std.specs.List.{flat_map}
 use Rattle.crc64.specs.Remainder.{checksum_of}
+use Rattle.clay_bytes.specs.Stream.{Rises}
 use Rattle.clay_grid.specs.Shape.{chunk_length}
-use Rattle.clay_aloof.specs.Shape.{AloofShape, grid_of}
+use Rattle.clay_aloof.specs.Shape.{AloofShape, all_chunks, grid_of}
+use Rattle.clay_aloof.specs.Code.{Codes}
 use Rattle.share_format.specs.Blocks.{page_of, rounded, block_of, block_length}
 use Rattle.share_format.specs.Shares.{share_with}
 
@@ -21,3 +23,19 @@ pub record GainsBlock (a : AloofShape) (stripe : ℕ) (block old new : List ℕ)
 pub record GainsHeader (a : AloofShape) (size checksum number : ℕ) (old new : List ℕ) : Type 0 where
   pub whole : (file : List ℕ) (chunks : List (List ℕ)) → length file ≡ size → checksum_of file ≡ checksum → HasBlocks a chunks old →
       new ≡ share_with a file number chunks
+
+-- the first so many of some files have changed, each as its number says, and the others are as they were
+pub record AreChanged (Change : ℕ → List ℕ → List ℕ → Type 0) (count : ℕ) (olds news : List (List ℕ)) : Type 0 where
+  pub changed : (c : ℕ) → c < count → Change c (get_or olds c []) (get_or news c [])
+  pub others : (c : ℕ) → count ≤ c → get_or news c [] ≡ get_or olds c []
+
+-- each of the shares' files gains its block of a stripe
+pub record GainStripe (a : AloofShape) (number : ℕ) (stripe : List ℕ) (olds news : List (List ℕ)) : Type 0 where
+  pub word : List (List ℕ)
+  pub codes : Codes a stripe word
+  pub gain : (c : ℕ) → c < all_chunks a → GainsBlock a number (block_of a (get_or word c [])) (get_or olds c []) (get_or news c [])
+
+-- the count of one of these rose
+pub record OneRises (olds news : List ℕ) : Type 0 where
+  pub place : ℕ
+  pub rises : Rises (get_or olds place 0) (get_or news place 0)

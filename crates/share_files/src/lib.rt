@@ -1,12 +1,18 @@
-//! The parts of share files written and read at their places.
+//! Files cut into shares, and joined from them.
 #![tactic(auto)]
 
+mod cutting;
+mod filling;
+mod finding;
 mod places;
 mod reading;
+mod shares;
 #[cfg(test)]
 mod tests;
 mod writing;
 
+pub use cutting::{CutFault, cut};
+pub use finding::{BlockFault, find_block, first_rotten};
 pub use places::{block_len, block_place, chunk_place, header_room};
 pub use reading::{HeaderRefusal, read_block, read_share_header};
 pub use writing::{PutFault, write_block, write_header};

@@ -1,0 +1,11 @@
+use Rattle.std.proofs.Common.{◌≡◌, ℕ, ◌<◌, List}
+use Rattle.file_bytes.specs.Places.{Shows}
+use Rattle.share_format.specs.Blocks.{IsBlock}
+use Rattle.share_files.specs.Found.{block_in}
+use Rattle.share_files.proofs.finding.first_rotten.Given as goal
+
+abbrev pub invariant-loop-stripe : goal.invariant-loop-stripe
+invariant-loop-stripe g l = record {
+  whole : (file : List ℕ) → Shows file (g.S.SourceAt.given l.source) (g.S.SourceAt.ends l.source) → (i : ℕ) → i < l.stripe → IsBlock l.geometry (block_in l.geometry i file);
+  steady : g.S.SourceAt.faults l.source ≡ g.S.SourceAt.faults l.fn.source;
+}

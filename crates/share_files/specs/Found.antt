@@ -1,0 +1,21 @@
+-- The blocks that are found in a share's file.
+use Rattle.std.specs.Prelude.{◌≡◌, ℕ, ◌<◌, List, take, drop, Option, Some, None, Vec}
+use Rattle.std.specs.declared.alloc.Global.{Global}
+use Rattle.clay_aloof.specs.Shape.{AloofShape}
+use Rattle.share_format.specs.Blocks.{block_length, IsBlock}
+use Rattle.share_format.specs.Shares.{block_start}
+
+-- what a file has in the place of stripe i's block
+abbrev pub block_in : AloofShape → ℕ → List ℕ → List ℕ
+block_in a i file = take (block_length a) (drop (block_start a i) file)
+
+-- these bytes are found to be a block, or to be none
+abbrev pub IsFound : AloofShape → List ℕ → Option (Vec ℕ Global) → Type 0
+IsFound a bytes None = ¬ IsBlock a bytes
+IsFound a bytes (Some block) = (block.items ≡ bytes) × IsBlock a bytes
+
+-- each of the first so many stripes has its block in the file, or this is the first that has not
+abbrev pub IsFirstRotten : AloofShape → ℕ → List ℕ → Option ℕ → Type 0
+IsFirstRotten a count file None = (i : ℕ) → i < count → IsBlock a (block_in a i file)
+IsFirstRotten a count file (Some rotten) =
+    (rotten < count) × ¬ IsBlock a (block_in a rotten file) × ((i : ℕ) → i < rotten → IsBlock a (block_in a i file))

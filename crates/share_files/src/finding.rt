@@ -1,0 +1,91 @@
+//! The blocks of a share that are whole.
+ghost use Rattle.std.specs.Prelude.{◌≡◌, ◌+◌, ◌^◌, ◌≤◌, ◌<◌, ℕ, List, length, IfOk, IsErrOf};
+ghost use Rattle.clay_bytes.specs.Stream.{Rises};
+ghost use Rattle.file_bytes.specs.Places.{Shows};
+ghost use Rattle.share_format.specs.Blocks.{block_length};
+ghost use Rattle.share_format.specs.Shares.{block_start};
+ghost use Rattle.share_files.specs.Found.{block_in, IsFound, IsFirstRotten};
+ghost use Rattle.share_files.specs.declared.finding.BlockFault.TheVariants.{OutOfMemory};
+
+use crate::places::block_len;
+use crate::reading::read_block;
+use clay_aloof::AloofGeometry;
+use crc64::Crc64;
+use file_bytes::{ReadFault, SourceAt};
+use share_blocks::is_block;
+use std::alloc::{AllocError, Global};
+use thiserror::Error;
+
+/// Why it can't be said whether a share has a block.
+#[derive(Clone, Copy, Debug, PartialEq, Eq, Error)]
+pub enum BlockFault {
+    #[error("a read failed")]
+    ReadFault,
+    #[error("out of memory")]
+    OutOfMemory,
+}
+
+impl From<AllocError> for BlockFault {
+    ghost from_gives = { λ _ e. e ≡ OutOfMemory };
+
+    fn from(_: AllocError) -> Self {
+        BlockFault::OutOfMemory
+    }
+}
+
+fn make_block_room(alloc: Global, len: usize) -> Result<Vec<u8>, AllocError>
+    ensures { IfOk result (λ block. length block.items ≡ len) }
+{
+    vec![in alloc; 0u8; len]
+}
+
+/// The block of a stripe, read from a share: none where the bytes in its place are no block, or the share ends before.
+pub fn find_block<S: SourceAt>(
+    alloc: Global,
+    crc: &Crc64,
+    source: &mut S,
+    geometry: AloofGeometry,
+    stripe: u64,
+) -> Result<Option<Vec<u8>>, BlockFault>
+    requires place { block_start geometry stripe + block_length geometry < 2 ^ 64 }
+    // Whatever file the source shows, its block is found or missed as it is.
+    ensures found { (file : List ℕ) → Shows file (S.given source.new) (S.ends source.new) → IfOk result (IsFound geometry (block_in geometry stripe file)) }
+    // It is a file that the source showed before.
+    ensures shown { (file : List ℕ) → Shows file (S.given source.new) (S.ends source.new) → Shows file (S.given source.old) (S.ends source.old) }
+    ensures cause { IsErrOf result BlockFault.ReadFault → Rises (S.faults source.old) (S.faults source.new) }
+    ensures steady { (IsErrOf result BlockFault.ReadFault → ⊥) → S.faults source.new ≡ S.faults source.old }
+    ensures count { S.faults source.old ≤ S.faults source.new }
+{
+    let len = block_len(geometry);
+    let mut block = make_block_room(alloc, len as usize)?;
+    match read_block(source, geometry, stripe, &mut block) {
+        Ok(()) => {}
+        Err(ReadFault::Failed) => return Err(BlockFault::ReadFault),
+        Err(ReadFault::Ended) => return Ok(None),
+    }
+    let whole = is_block(alloc, geometry, crc, &block)?;
+    if whole { Ok(Some(block)) } else { Ok(None) }
+}
+
+/// The first of so many stripes whose block isn't whole in a share.
+pub fn first_rotten<S: SourceAt>(
+    alloc: Global,
+    crc: &Crc64,
+    source: &mut S,
+    geometry: AloofGeometry,
+    stripes: u64,
+) -> Result<Option<u64>, BlockFault>
+    requires { block_start geometry stripes < 2 ^ 64 }
+    ensures rotten { (file : List ℕ) → Shows file (S.given source.new) (S.ends source.new) → IfOk result (IsFirstRotten geometry stripes file) }
+    ensures cause { IsErrOf result BlockFault.ReadFault → Rises (S.faults source.old) (S.faults source.new) }
+    ensures steady { (IsErrOf result BlockFault.ReadFault → ⊥) → S.faults source.new ≡ S.faults source.old }
+{
+    for stripe in 0..stripes {
+        match find_block(alloc, crc, source, geometry, stripe) {
+            Ok(Some(_block)) => {}
+            Ok(None) => return Ok(Some(stripe)),
+            Err(fault) => return Err(fault),
+        }
+    }
+    Ok(None)
+}
