@@ -4,7 +4,7 @@ use clay_par::ParCoder;
 use command_runs::runs::{Ran, fails, run_by};
 use command_runs::scripts::{PUT_THEN_GET, TRANSCRIPT};
 use command_runs::tables::answers;
-use command_runs::{Gate, Place, Status};
+use command_runs::{Gate, NoGate, Place, Status};
 use std::sync::Wait;
 use std::sync::atomic::{AtomicU64, Ordering};
 use std::test::Fail;
@@ -34,6 +34,41 @@ fn one_client_leaves_no_choice(rt: HostRuntime) -> Result<(), Fail> {
     assert!(rt; answers(&rt, &["run", "1"], PUT_THEN_GET, Status::Done, TRANSCRIPT)?);
     assert!(rt; answers(&rt, &["run", "4"], PUT_THEN_GET, Status::Done, TRANSCRIPT)?);
     assert!(rt; answers(&rt, &["run", "16"], PUT_THEN_GET, Status::Done, TRANSCRIPT)?);
+    Ok(())
+}
+
+// One stripe of 32,000 bytes, of which the last two are read.
+const LONG_SUBCHUNKS: &[u8] = b"\
+clay 1
+code 4 2 1000
+client
+put a ramp:00:32000
+read a 31998 2
+schedule
+drain
+end
+";
+
+const ITS_TRANSCRIPT: &[u8] = b"\
+H 0 c0.0 ok
+H 1 c0.1 bytes hex:feff
+L a 32000
+G c0.1 0 0 0 1 0 0
+T 0 0 1 0
+T 1 0 1 0
+T 2 0 1 0
+T 3 1 1 0
+T 4 0 1 0
+T 5 0 1 0
+end
+";
+
+#[test]
+fn long_subchunks_are_stored_by_threads(rt: HostRuntime) -> Result<(), Fail> {
+    let words = ["run", "4"];
+    let ran = run_by(&rt, &words, LONG_SUBCHUNKS, &[], &[], &NoGate, &ParCoder)?;
+    assert_eq!(rt; ran.status, Status::Done);
+    assert_eq!(rt; ran.written.as_slice(), ITS_TRANSCRIPT);
     Ok(())
 }
 

@@ -10,7 +10,7 @@ use clay_lanes::LaneCoder;
 use clay_model::Coder;
 use clay_par::ParCoder;
 use clay_repair::PlainCoder;
-use std::alloc::Global;
+use std::alloc::{AllocError, Global};
 use std::process::Abort;
 use std::test::Fail;
 use std::thread::Threads;
@@ -161,6 +161,32 @@ fn coders_agree(rt: HostRuntime) -> Result<(), Fail> {
         }
     }
     Ok(())
+}
+
+// Bytes that count.
+fn counted_bytes(alloc: Global, count: u32) -> Result<Vec<u8>, AllocError> {
+    let mut bytes = Vec::with_capacity(alloc, count as usize)?;
+    for i in 0..count {
+        bytes.push((i % 256) as u8)?;
+    }
+    Ok(bytes)
+}
+
+fn check_counted<R: Abort + Threads + Sync>(
+    rt: &R,
+    alloc: Global,
+    g: Geometry,
+) -> Result<(), Fail> {
+    let stripe = counted_bytes(alloc, g.stripe_len())?;
+    assert!(rt; stripe.len() == g.stripe_len() as usize);
+    let word = encoded(rt, alloc, g, &stripe)?;
+    check_coder(rt, alloc, &LaneCoder, g, &word)?;
+    check_coder(rt, alloc, &ParCoder, g, &word)
+}
+
+#[test]
+fn bytes_that_count_are_coded_alike(rt: HostRuntime) -> Result<(), Fail> {
+    check_counted(&rt, rt.alloc(), Geometry::new(4, 2, 1000)?)
 }
 
 // Codes a stripe that threads share: each of these is encoded and recovered by several.
