@@ -1,4 +1,4 @@
-//! The commands `run` and `trial`. That clients work at once, and that transcripts of runs are legal, is tested below the program
+//! The commands `run` and `trial`. That transcripts of runs are legal is tested below the program
 //! (`run_tests`).
 use clay_par::ParCoder;
 use command_runs::runs::{Ran, fails, run_by};

@@ -26,6 +26,10 @@ mod generate;
 #[cfg(test)]
 mod losses;
 #[cfg(test)]
+mod meeting;
+#[cfg(test)]
+mod meetings;
+#[cfg(test)]
 mod piped;
 #[cfg(test)]
 mod play;

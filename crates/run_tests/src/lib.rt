@@ -1,6 +1,5 @@
-//! Tests of whole runs in threads, of what no clause says: that threads are inside the locks of two servers at
-//! once, that the sweeper sweeps while clients have steps, that a run asks the coder that it was given, and that the
-//! checker finds the transcripts of its runs legal.
+//! Tests of whole runs in threads, of what no clause says: that the sweeper sweeps while clients have steps, that a run asks
+//! the coder that it was given, and that the checker finds the transcripts of its runs legal.
 #![tactic(auto)]
 
 #[cfg(test)]
@@ -11,10 +10,6 @@ mod counted;
 mod faults;
 #[cfg(test)]
 mod generated;
-#[cfg(test)]
-mod meeting;
-#[cfg(test)]
-mod meetings;
 #[cfg(test)]
 mod rows;
 #[cfg(test)]

@@ -1,8 +1,8 @@
 //! A gate that holds two clients inside the locks of two servers until both are there.
+use command_runs::{Gate, Place};
 use std::sync::atomic::{AtomicBool, AtomicU64, Ordering};
 use std::thread;
 use store_map::Actor;
-use store_run::{Gate, Place};
 
 // How often a client that is held looks for the other one before the gate gives up.
 const TURNS: u32 = 10_000_000;
