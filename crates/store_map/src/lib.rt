@@ -7,6 +7,7 @@ mod call;
 mod call_name;
 mod cause;
 mod content;
+mod copies;
 pub mod laws;
 mod limits;
 mod line;

@@ -79,6 +79,11 @@ impl<T> ListOf<T> {
         self.items.is_empty()
     }
 
+    /// Where the list has its memory.
+    pub(crate) fn allocator(&self) -> Global {
+        *self.items.allocator()
+    }
+
     pub fn push(&mut self, item: T) -> Result<(), AllocError>
     where
         T: Drop,
