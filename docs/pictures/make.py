@@ -2,7 +2,7 @@
 """Draws pictures beside this file: grid.svg and repair.svg of docs/CLAY-CODES.md from the numbers of a code, layers.svg of
 docs/ARCHITECTURE.md from crates.txt. `bench/traffic` draws traffic.svg.
 
-Each number of a code is computed here from K and M by the definitions of docs/ARCHITECTURE.md, "The code in a paragraph".
+Each number of a code is computed here from K and M as docs/CLAY-CODES.md defines it.
 `make.py --check` writes nothing, and fails where a picture isn't what it would draw.
 """
 import os
