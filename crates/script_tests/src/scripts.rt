@@ -1,6 +1,6 @@
 //! Scripts that are read, and written again.
 use line_grammar::read_number;
-use script_text::read_script;
+use script_text::{read_script, write_script};
 use std::alloc::Global;
 use std::process::Abort;
 use std::test::Fail;
@@ -55,6 +55,21 @@ fn writes_larger_data(rt: HostRuntime) -> Result<(), Fail> {
     let text = realistic(rt.alloc())?;
     assert_eq!(rt; text.len(), 1084);
     writes_back(&rt, &text)
+}
+
+// A copy is written as the script that was read.
+fn copies_back(alloc: Global, text: &[u8]) -> Result<(), Fail> {
+    let script = script_of(read_script(alloc, text))?;
+    let copy = script.copy()?;
+    same(&write_script(alloc, &copy)?, text)
+}
+
+#[test]
+fn copies_what_it_reads(rt: HostRuntime) -> Result<(), Fail> {
+    for text in WRITTEN.split(|byte| *byte == b'|') {
+        copies_back(rt.alloc(), text)?;
+    }
+    copies_back(rt.alloc(), &realistic(rt.alloc())?)
 }
 
 // The script of larger data.
