@@ -1,5 +1,5 @@
 //! The pieces of a run, and how many there are.
-ghost use Rattle.std.specs.Prelude.{◌≡◌, ℕ, ◌+◌, ◌<◌, ◌≤◌, ◌++◌, map, length, IfOk, IfErr, OnOk};
+ghost use Rattle.std.specs.Prelude.{◌≡◌, ℕ, ◌+◌, ◌*◌, ◌<◌, ◌≤◌, ◌++◌, map, length, IfOk, IfErr, OnOk};
 ghost use Rattle.clay_grid.specs.Shape.{chunk_count, layer_count};
 ghost use Rattle.lost_layers.specs.LostLayers.{IsLostRun};
 ghost use Rattle.lost_layers.specs.LostPieces.{lost_layers_of, lost_pieces_of, piece_at};
@@ -41,10 +41,11 @@ fn count_of_chunk(placed: &PlacedRun, chunk: u32) -> u32
     count
 }
 
-// How many subchunks are read.
-fn count_of_all(placed: &PlacedRun) -> u32
+/// How many subchunks are read for a run of the code.
+pub fn count_of_run(placed: &PlacedRun) -> u32
     requires { IsPlaced placed.now }
-    ensures { result ≡ length (lost_pieces_of placed.now.g placed.now.run) }
+    ensures count { result ≡ length (lost_pieces_of placed.now.g placed.now.run) }
+    ensures within { result ≤ chunk_count placed.now.g * 1024 }
 {
     let mut count = 0;
     for chunk in 0..placed.g.n() {
@@ -69,12 +70,12 @@ fn push_chunk(placed: &PlacedRun, chunk: u32, pieces: &mut Vec<LostPiece>) -> Re
     Ok(())
 }
 
-// The subchunks that are read.
-fn list_of_all(alloc: Global, placed: &PlacedRun) -> Result<Vec<LostPiece>, AllocError>
+/// The subchunks that are read for a run of the code, as `lost_pieces` lists them.
+pub fn pieces_of_run(alloc: Global, placed: &PlacedRun) -> Result<Vec<LostPiece>, AllocError>
     requires { IsPlaced placed.now }
     ensures { IfOk result (λ pieces. pieces.items ≡ lost_pieces_of placed.now.g placed.now.run) }
 {
-    let mut pieces = Vec::with_capacity(alloc, count_of_all(placed) as usize)?;
+    let mut pieces = Vec::new(alloc);
     for chunk in 0..placed.g.n() {
         push_chunk(placed, chunk, &mut pieces)?;
     }
@@ -88,7 +89,7 @@ pub fn lost_pieces(alloc: Global, g: Geometry, run: LostRun) -> Result<Vec<LostP
     ensures refused { IfErr result (λ fault. IsRefused g run fault) }
 {
     let placed = checked(g, run)?;
-    let pieces = list_of_all(alloc, &placed)?;
+    let pieces = pieces_of_run(alloc, &placed)?;
     Ok(pieces)
 }
 
@@ -98,5 +99,5 @@ pub fn lost_count(g: Geometry, run: LostRun) -> Result<u32, LostFault>
     ensures refused { IfErr result (λ fault. IsRefused g run fault) }
 {
     let placed = checked(g, run)?;
-    Ok(count_of_all(&placed))
+    Ok(count_of_run(&placed))
 }

@@ -11,7 +11,8 @@ pub struct LostRun {
     pub to: u32,
 }
 
-/// A subchunk of a chunk that is there.
+/// A subchunk of a chunk that is there, as C sees it too.
+#[repr(C)]
 #[derive(Clone, Copy, Debug, PartialEq, Eq)]
 pub struct LostPiece {
     pub chunk: u32,

@@ -3,7 +3,7 @@ use Rattle.std.proofs.lemmas.List.{length-map}
 use Rattle.clay_grid.specs.Shape.{layer_count}
 use Rattle.lost_layers.specs.LostPieces.{lost_layers_of, pieces_of_chunk, piece_at}
 use Rattle.lost_layers.proofs.PieceSteps.{length-chunk_more}
-use Rattle.lost_layers.proofs.pieces.count_of_all.Goals as goal
+use Rattle.lost_layers.proofs.pieces.count_of_run.Goals as goal
 
 pub loop-chunk-preserved : goal.loop-chunk-preserved
 loop-chunk-preserved c =

@@ -1,7 +1,7 @@
 use Rattle.std.proofs.Common.{◌≡◌, ◌≤◌, ◌*◌, length, flat_map}
 use Rattle.std.specs.List.{range_with_len}
 use Rattle.lost_layers.specs.LostPieces.{pieces_of_chunk}
-use Rattle.lost_layers.proofs.pieces.count_of_all.Given as goal
+use Rattle.lost_layers.proofs.pieces.count_of_run.Given as goal
 
 abbrev pub invariant-loop-chunk : goal.invariant-loop-chunk
 invariant-loop-chunk l =

@@ -1,7 +1,7 @@
 use Rattle.std.proofs.Common.{ℕ, ◌++◌, sym, ap, ◌∙◌}
 use Rattle.lost_layers.specs.LostPieces.{pieces_of_chunk}
 use Rattle.lost_layers.proofs.PieceSteps.{chunk_more}
-use Rattle.lost_layers.proofs.pieces.list_of_all.Goals as goal
+use Rattle.lost_layers.proofs.pieces.pieces_of_run.Goals as goal
 
 pub loop-chunk-preserved : goal.loop-chunk-preserved
 loop-chunk-preserved c =
