@@ -7,4 +7,4 @@ mod read;
 mod reading;
 
 pub use fault::ReadFault;
-pub use read::read_lost;
+pub use read::{read_lost, read_pieces};

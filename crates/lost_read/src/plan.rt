@@ -1,16 +1,15 @@
 //! What a run is read with.
-ghost use Rattle.std.specs.Prelude.{◌≡◌, ℕ, ◌*◌, ◌<◌, ◌≤◌, length, IfOk, IfErr, slice_index_or, true, false};
+ghost use Rattle.std.specs.Prelude.{◌≡◌, ℕ, ◌*◌, ◌<◌, ◌≤◌, length, IfOk, slice_index_or, true, false};
 ghost use Rattle.clay_grid.specs.Shape.{chunk_count, node_count, layer_count};
 ghost use Rattle.clay_model.specs.Erased.{erased_below};
 ghost use Rattle.lost_layers.specs.LostLayers.{is_wanted, is_solved, is_unknown};
 ghost use Rattle.lost_layers.specs.Placing.{IsPlaced};
-ghost use Rattle.lost_layers.specs.Refused.{IsRefused};
 ghost use Rattle.lost_read.specs.Plan.{AreSubchunks, HasPlaces, IsReadPlan};
 
 use clay_grid::Geometry;
 use clay_kernels::{Generator, Products, generator_of, halves, zeros};
 use clay_model::partner_of;
-use lost_layers::{LostFault, LostPiece, PlacedRun, lost_pieces};
+use lost_layers::{LostPiece, PlacedRun, pieces_of_run};
 use std::alloc::{AllocError, Global};
 
 /// What a run is read with.
@@ -98,14 +97,13 @@ fn erased_points(alloc: Global, erased: &[bool]) -> Result<Vec<u8>, AllocError>
 
 impl ReadPlan {
     /// The plan for a run that isn't empty.
-    pub(crate) fn new(alloc: Global, placed: PlacedRun) -> Result<ReadPlan, LostFault>
+    pub(crate) fn new(alloc: Global, placed: PlacedRun) -> Result<ReadPlan, AllocError>
         requires placed { IsPlaced placed }
         requires some { placed.run.from < placed.run.to }
-        ensures plan { IfOk result (λ plan. IsReadPlan plan × (plan.placed ≡ placed)) }
-        ensures refused { IfErr result (λ fault. IsRefused placed.g placed.run fault) }
+        ensures { IfOk result (λ plan. IsReadPlan plan × (plan.placed ≡ placed)) }
     {
         let g = placed.g;
-        let pieces = lost_pieces(alloc, g, placed.run)?;
+        let pieces = pieces_of_run(alloc, &placed)?;
         let places = places_of(alloc, g, &pieces)?;
         let erased = erased_nodes(alloc, &placed, layer_for(&placed, placed.run.from))?;
         let points = erased_points(alloc, &erased)?;

@@ -10,7 +10,7 @@ use crate::reading::Reading;
 use clay_grid::Geometry;
 use clay_kernels::zeros;
 use lost_layers::{LostRun, PlacedRun, lost_count};
-use std::alloc::Global;
+use std::alloc::{AllocError, Global};
 
 // Whether each piece has so many bytes.
 fn are_long(len: usize, pieces: &[&[u8]]) -> bool
@@ -45,10 +45,36 @@ fn checked(g: Geometry, run: LostRun, pieces: &[&[u8]], room: usize) -> Result<P
     Ok(PlacedRun::new(g, run))
 }
 
-/// Writes the layers of the run: the bytes of the lost chunk of the codeword that has these pieces, where one does.
+/// Writes the layers of a run of the code: the bytes of the lost chunk of the codeword that has these pieces, where one does.
 ///
-/// `pieces` has the bytes of each subchunk that `lost_pieces` lists, in its order, and `out` has room for the run. Where no codeword has
-/// these pieces, some bytes are written.
+/// `pieces` has the bytes of each subchunk that `pieces_of_run` lists, in its order. Where no codeword has these pieces, some bytes are
+/// written.
+pub fn read_pieces(
+    alloc: Global,
+    placed: &PlacedRun,
+    pieces: &[&[u8]],
+    out: &mut [u8],
+) -> Result<(), AllocError>
+    requires placed { IsPlaced placed.now }
+    requires readable { IsReadable placed.now.g placed.now.run (map (λ piece. piece.now) pieces.now) (length out.old) }
+    ensures read { OnOk result (IsReadFrom placed.now.g placed.now.run (map (λ piece. piece.now) pieces.now) out.new) }
+    ensures kept { OnErr result (out.new ≡ out.old) }
+{
+    if placed.run.from == placed.run.to {
+        return Ok(());
+    }
+    let plan = ReadPlan::new(alloc, *placed)?;
+    let mut value = zeros(alloc, placed.g.w() as usize)?;
+    let mut sum = zeros(alloc, placed.g.w() as usize)?;
+    let reading = Reading {
+        plan: &plan,
+        pieces,
+    };
+    reading.write_run(&mut value, &mut sum, out);
+    Ok(())
+}
+
+/// Writes the layers of a run, as `read_pieces` does, if it is one of the code's, these are its pieces and there is room for it.
 pub fn read_lost(
     alloc: Global,
     g: Geometry,
@@ -62,16 +88,6 @@ pub fn read_lost(
     ensures kept { OnErr result (out.new ≡ out.old) }
 {
     let placed = checked(g, run, pieces, out.len())?;
-    if run.from == run.to {
-        return Ok(());
-    }
-    let plan = ReadPlan::new(alloc, placed)?;
-    let mut value = zeros(alloc, g.w() as usize)?;
-    let mut sum = zeros(alloc, g.w() as usize)?;
-    let reading = Reading {
-        plan: &plan,
-        pieces,
-    };
-    reading.write_run(&mut value, &mut sum, out);
+    read_pieces(alloc, &placed, pieces, out)?;
     Ok(())
 }

@@ -12,7 +12,7 @@ use Rattle.lost_read.proofs.plan.ReadPlan.new.Goals as goal
 pub places_of-requires : goal.places_of-requires
 places_of-requires c =
     let placed = c.args.placed in
-    subst (AreSubchunks placed.g) (sym (c.deref.ensures.value ∙ c.in_ok-pieces.ensures.pieces.1)) (are_subchunks placed.g placed.run)
+    subst (AreSubchunks placed.g) (sym (c.deref.ensures.value ∙ c.in_ok-pieces.ensures)) (are_subchunks placed.g placed.run)
 
 at_most_eight : (n m : ℕ) → n ≤ m → m ≤ 8 → n ≤ 8
 at_most_eight n m h l = omega arith
@@ -36,14 +36,14 @@ generator_of-requires-clause-distinct c =
     c.in_ok-points.ensures ∙ (λ k. erased_below (c.deref-2.ensures.value k) (length (c.deref-2.ensures.value k))) ∙ ap (erased_below nodes) c.in_ok-erased.ensures.len in
     subst AreDistinct (sym (c.deref-3.ensures.value ∙ points_are)) (AreDistinct-erased nodes (node_count placed.g))
 
-pub returns-clause-plan : goal.returns-clause-plan
-returns-clause-plan c =
+pub returns : goal.returns
+returns c =
     let placed = c.args.placed in
     let gen = c.in_ok-generator.generator in (
       record {
         placed_is = c.requires.placed;
         places_long = c.in_ok-places.ensures.len;
-        places_are = subst (λ l. HasPlaces placed.g l (length l) c.in_ok-places.places.items) (c.deref.ensures.value ∙ c.in_ok-pieces.ensures.pieces.1) c.in_ok-places.ensures.places;
+        places_are = subst (λ l. HasPlaces placed.g l (length l) c.in_ok-places.places.items) (c.deref.ensures.value ∙ c.in_ok-pieces.ensures) c.in_ok-places.ensures.places;
         nodes = c.in_ok-erased.ensures.len;
         erased_are = λ n i solved h. c.in_ok-erased.ensures.value i h ∙ unknown_same placed.g placed.run c.layer_for.result n i c.layer_for.ensures.solved solved;
         few =
