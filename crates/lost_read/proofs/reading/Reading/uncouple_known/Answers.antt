@@ -1,4 +1,4 @@
-use Rattle.std.proofs.Common.{◌<◌, true, length, get_or, subst, sym, ap, ◌∙◌, arith, bit_xor}
+use Rattle.std.proofs.Common.{◌<◌, true, length, get_or, sym, ap, ◌∙◌, arith, bit_xor}
 use Rattle.clay_field.specs.Field.{product}
 use Rattle.code_laws.proofs.Vertices.{alone_value, paired_value}
 use Rattle.lost_layers.proofs.PieceLaws.{some_rows, own_piece, partner_piece}

@@ -1,4 +1,4 @@
-use Rattle.std.proofs.Common.{◌≡◌, true, subst, sym, ap, ◌∙◌}
+use Rattle.std.proofs.Common.{true, subst, sym, ap, ◌∙◌}
 use Rattle.clay_model.specs.Partners.{ArePartners}
 use Rattle.code_laws.proofs.Vertices.{alone_value}
 use Rattle.lost_layers.specs.LostLayers.{is_unknown}

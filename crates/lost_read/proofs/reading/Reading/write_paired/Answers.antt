@@ -1,9 +1,9 @@
-use Rattle.std.proofs.Common.{◌≡◌, ◌<◌, true, length, subst, sym, ap, ◌∙◌, arith, bit_xor}
+use Rattle.std.proofs.Common.{◌<◌, length, subst, sym, ap, ◌∙◌, arith, bit_xor}
 use Rattle.clay_field.specs.Field.{product, quotient}
 use Rattle.clay_model.specs.Partners.{ArePartners}
 use Rattle.code_laws.specs.Solved.{coupled_byte}
 use Rattle.code_laws.proofs.Vertices.{coupled_from_partner}
-use Rattle.lost_layers.specs.LostLayers.{is_unknown, lost_node}
+use Rattle.lost_layers.specs.LostLayers.{is_unknown}
 use Rattle.lost_layers.proofs.PieceLaws.{lost_unknown}
 use Rattle.lost_read.proofs.ReadLaws.{mate_read, mate_solved, crossed_mate}
 use Rattle.lost_read.proofs.reading.Reading.write_paired.Goals as goal

@@ -1,10 +1,8 @@
-use Rattle.std.proofs.Common.{◌≡◌, ℕ, ◌+◌, ◌-◌, ◌*◌, ◌<◌, ◌≤◌, true, List, length, subst, sym, ap, ◌∙◌, arith}
+use Rattle.std.proofs.Common.{◌≡◌, ℕ, ◌+◌, ◌-◌, ◌*◌, ◌<◌, ◌≤◌, true, length, subst, sym, ap, arith}
 use borrow.Rule.Slice.PartMut.{put_mid}
-use Rattle.clay_grid.specs.Shape.{layer_count}
 use Rattle.code_laws.specs.Columns.{HoldsPieces}
 use Rattle.code_laws.specs.Solved.{coupled_byte}
 use Rattle.code_laws.proofs.Pieces.{piece_fits, one_more_piece}
-use Rattle.lost_layers.specs.LostLayers.{is_wanted}
 use Rattle.lost_layers.proofs.Determining.{between_wanted}
 use Rattle.lost_read.proofs.reading.Reading.write_run.Goals as goal
 
