@@ -259,12 +259,62 @@ static void fewer(uint64_t *state) {
     free(word);
 }
 
+/* The same where it may be none: at most one above. */
+static size_t around(uint64_t *state, size_t len) {
+    return len == 0 ? drawn(state) % 2 : beside(state, len);
+}
+
+/* Some layers of a lost chunk, from the subchunks that they take: layers, lengths and the chunk may be wrong. */
+static void degraded(uint64_t *state) {
+    uint32_t at = drawn(state) % (sizeof CODES / sizeof *CODES), k = CODES[at].k, m = CODES[at].m, w = CODES[at].w;
+    struct clay_numbers g;
+    hold(clay_geometry(k, m, w, &g) == CLAY_DONE, "clay_geometry", k, m, w, 0);
+    size_t len = g.chunk_len;
+    uint8_t *word = made(g.chunks * len);
+    for (size_t i = 0; i < g.stripe_len; i++)
+        word[i] = (uint8_t)drawn(state);
+    hold(clay_parity(k, m, w, word, g.stripe_len, word + g.stripe_len, m * len) == CLAY_DONE, "clay_parity", k, m, w, 0);
+
+    uint32_t lost = drawn(state) % (g.chunks + 1), from = drawn(state) % g.layers, to = drawn(state) % 2 ? from + 1 : drawn(state) % (g.layers + 2);
+    uint32_t wanted = lost >= g.chunks ? CLAY_BAD_CHUNK : from > to || to > g.layers ? CLAY_BAD_LAYER : CLAY_DONE, count = 0xa5a5a5a5;
+    uint32_t status = clay_lost_count(k, m, w, lost, from, to, &count);
+    hold(status == wanted, "clay_lost_count", k, m, w, status);
+    hold(status != CLAY_DONE ? is_marked((uint8_t *)&count, sizeof count) : count <= (g.chunks - 1) * (g.layers / m), "its count", k, m, w, status);
+    if (to == from + 1 && g.virtual_nodes == 0 && status == CLAY_DONE)
+        hold(count == 2 * k - g.columns + 1, "the count of one layer", k, m, w, status);
+    size_t pieces = status == CLAY_DONE ? count : 1, room = around(state, pieces), read = around(state, pieces * w);
+    size_t width = (size_t)w * (wanted == CLAY_DONE ? to - from : 1), given = around(state, width);
+
+    struct clay_piece *list = made((pieces + 1) * sizeof *list);
+    memset(list, 0xa5, (pieces + 1) * sizeof *list);
+    status = clay_lost_pieces(k, m, w, lost, from, to, list, room);
+    hold(status == (wanted != CLAY_DONE ? wanted : room != pieces ? CLAY_BAD_LENGTH : CLAY_DONE), "clay_lost_pieces", k, m, w, status);
+    hold(status == CLAY_DONE || is_marked((uint8_t *)list, (pieces + 1) * sizeof *list), "what clay_lost_pieces wrote", k, m, w, status);
+    if (wanted == CLAY_DONE)
+        hold(clay_lost_pieces(k, m, w, lost, from, to, list, pieces) == CLAY_DONE, "clay_lost_pieces", k, m, w, 0);
+
+    uint8_t *bytes = made(pieces * w + 1), *out = made(width + 1);
+    memset(bytes, 0, pieces * w + 1);
+    memset(out, 0xa5, width + 1);
+    for (size_t i = 0; i < pieces && wanted == CLAY_DONE; i++)
+        memcpy(bytes + i * w, word + list[i].chunk * len + (size_t)list[i].layer * w, w);
+    status = clay_read_lost(k, m, w, lost, from, to, bytes, read, out, given);
+    int is_right = read == pieces * w && given == width;
+    hold(status == (wanted != CLAY_DONE ? wanted : is_right ? CLAY_DONE : CLAY_BAD_LENGTH), "clay_read_lost", k, m, w, status);
+    hold(status == CLAY_DONE ? memcmp(out, word + lost * len + (size_t)from * w, width) == 0 : is_marked(out, width + 1), "what clay_read_lost wrote", k, m, w, status);
+    free(out);
+    free(bytes);
+    free(list);
+    free(word);
+}
+
 static void *thread(void *number) {
     uint64_t state = start + (uint64_t)(uintptr_t)number * 0x1234567;
     for (int round = 0; round < rounds; round++) {
         numbers(&state);
         chunks(&state);
         fewer(&state);
+        degraded(&state);
     }
     return NULL;
 }

@@ -16,8 +16,8 @@
 extern "C" {
 #endif
 
-/* How a call ends: at the first test that fails, in the order of these numbers but for CLAY_BAD_CHUNK, which is tested before lengths, and
- * CLAY_BAD_HELPERS, which is tested before memory is taken. */
+/* How a call ends: at the first test that fails, in the order of these numbers but for CLAY_BAD_CHUNK and then CLAY_BAD_LAYER, which are
+ * tested before lengths, and CLAY_BAD_HELPERS, which is tested before memory is taken. */
 enum clay_status {
     CLAY_DONE = 0,
     CLAY_BAD_GEOMETRY = 1, /* k, m and w aren't within the limits that clay_geometry names */
@@ -25,7 +25,8 @@ enum clay_status {
     CLAY_BAD_CHUNK = 3,    /* there is no chunk of this number */
     CLAY_TOO_FEW = 4,      /* more than m chunks are missing */
     CLAY_OUT_OF_MEMORY = 5,
-    CLAY_BAD_HELPERS = 6   /* the helpers aren't d, or the lost chunk is one, or another chunk of its column is none */
+    CLAY_BAD_HELPERS = 6,  /* the helpers aren't d, or the lost chunk is one, or another chunk of its column is none */
+    CLAY_BAD_LAYER = 7     /* from is above to, or to above alpha */
 };
 
 /* The numbers of a code. */
@@ -99,6 +100,33 @@ uint32_t clay_repair_layers_with_helpers(uint32_t k, uint32_t m, uint32_t d, uin
  * parts_len: d * part_len. chunk_len: as clay_geometry_with_helpers tells.
  * CLAY_DONE, CLAY_BAD_GEOMETRY, CLAY_BAD_LENGTH, CLAY_BAD_CHUNK, CLAY_OUT_OF_MEMORY, CLAY_BAD_HELPERS. */
 uint32_t clay_rebuild_with_helpers(uint32_t k, uint32_t m, uint32_t d, uint32_t w, uint32_t lost, const uint8_t *helpers, size_t helpers_len, const uint8_t *parts, size_t parts_len, uint8_t *chunk, size_t chunk_len);
+
+/* Some layers of one lost chunk, from few subchunks of the others, which are all there: of the code of clay_geometry. Where no node is virtual,
+ * one layer takes 2k - t + 1 subchunks, of k chunks. All layers take what clay_rebuild takes, and no run of layers takes more of a chunk.
+ * Where only the same w bytes of each subchunk are wanted, they are read of each piece, and the calls get that w: bytes at the same place of all
+ * subchunks are a code of their own. */
+
+/* A subchunk of a chunk. */
+struct clay_piece {
+    uint32_t chunk;
+    uint32_t layer;
+};
+
+/* Writes how many subchunks of other chunks the layers from..to of chunk `lost` take: layer `from` is the first, and `to` the one behind the
+ * last. from and to: at most alpha.
+ * CLAY_DONE, CLAY_BAD_GEOMETRY, CLAY_BAD_CHUNK, CLAY_BAD_LAYER. */
+uint32_t clay_lost_count(uint32_t k, uint32_t m, uint32_t w, uint32_t lost, uint32_t from, uint32_t to, uint32_t *count);
+
+/* Writes which they are: by rising number of their chunks, and of a chunk by rising layer.
+ * pieces_len: as many elements (not bytes) as clay_lost_count tells.
+ * CLAY_DONE, CLAY_BAD_GEOMETRY, CLAY_BAD_LENGTH, CLAY_BAD_CHUNK, CLAY_OUT_OF_MEMORY, CLAY_BAD_LAYER. */
+uint32_t clay_lost_pieces(uint32_t k, uint32_t m, uint32_t w, uint32_t lost, uint32_t from, uint32_t to, struct clay_piece *pieces, size_t pieces_len);
+
+/* Writes the layers from..to of chunk `lost`, one behind another, from the bytes of these subchunks, which stand one behind another in that
+ * order and are read where they stand. That they are of one codeword isn't tested: where they aren't, some bytes are written.
+ * pieces_len: w bytes for each of them. subchunks_len: (to - from) * w.
+ * CLAY_DONE, CLAY_BAD_GEOMETRY, CLAY_BAD_LENGTH, CLAY_BAD_CHUNK, CLAY_OUT_OF_MEMORY, CLAY_BAD_LAYER. */
+uint32_t clay_read_lost(uint32_t k, uint32_t m, uint32_t w, uint32_t lost, uint32_t from, uint32_t to, const uint8_t *pieces, size_t pieces_len, uint8_t *subchunks, size_t subchunks_len);
 
 #ifdef __cplusplus
 }

@@ -55,3 +55,14 @@ CALL(clay_rebuild_with_helpers,
      (uint32_t k, uint32_t m, uint32_t d, uint32_t w, uint32_t lost, const uint8_t *helpers, size_t helpers_len, const uint8_t *parts, size_t parts_len,
       uint8_t *chunk, size_t chunk_len),
      (k, m, d, w, lost, helpers, helpers_len, parts, parts_len, chunk, chunk_len))
+
+CALL(clay_lost_count, (uint32_t k, uint32_t m, uint32_t w, uint32_t lost, uint32_t from, uint32_t to, uint32_t *count), (k, m, w, lost, from, to, count))
+
+CALL(clay_lost_pieces,
+     (uint32_t k, uint32_t m, uint32_t w, uint32_t lost, uint32_t from, uint32_t to, struct clay_piece *pieces, size_t pieces_len),
+     (k, m, w, lost, from, to, pieces, pieces_len))
+
+CALL(clay_read_lost,
+     (uint32_t k, uint32_t m, uint32_t w, uint32_t lost, uint32_t from, uint32_t to, const uint8_t *pieces, size_t pieces_len, uint8_t *subchunks,
+      size_t subchunks_len),
+     (k, m, w, lost, from, to, pieces, pieces_len, subchunks, subchunks_len))

@@ -4,3 +4,4 @@ pub mod Recovering
 pub mod Marking
 pub mod Missing
 pub mod Shown
+pub mod PiecesCut

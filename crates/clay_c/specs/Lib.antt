@@ -3,3 +3,4 @@ pub mod Pieces
 pub mod Calls
 pub mod Helpers
 pub mod Missing
+pub mod Lost

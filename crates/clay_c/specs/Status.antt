@@ -29,6 +29,10 @@ out_of_memory = 5
 abbrev pub bad_helpers : ℕ
 bad_helpers = 6
 
+-- a chunk hasn't these layers
+abbrev pub bad_layer : ℕ
+bad_layer = 7
+
 -- with which a call ends that takes bytes
 abbrev pub EndsByLength : ℕ → Type 0
 EndsByLength status = status ≢ bad_geometry → status ≢ bad_length → status ≢ done → status ≡ out_of_memory
@@ -36,3 +40,7 @@ EndsByLength status = status ≢ bad_geometry → status ≢ bad_length → stat
 -- and one that takes a chunk's number too
 abbrev pub EndsByChunk : ℕ → Type 0
 EndsByChunk status = status ≢ bad_geometry → status ≢ bad_chunk → status ≢ bad_length → status ≢ done → status ≡ out_of_memory
+
+-- and one that takes layers too
+abbrev pub EndsByLayer : ℕ → Type 0
+EndsByLayer status = status ≢ bad_geometry → status ≢ bad_chunk → status ≢ bad_layer → status ≢ bad_length → status ≢ done → status ≡ out_of_memory

@@ -11,6 +11,8 @@ ghost use Rattle.clay_c.specs.Calls.{HasNumbers, LayersFit, ParityFits, MakesPar
 
 mod aloof;
 mod helpers;
+mod laid;
+mod lost;
 mod marks;
 mod pieces;
 mod rebuilding;
@@ -25,6 +27,7 @@ pub use helpers::{
     clay_geometry_with_helpers, clay_parity_with_helpers, clay_rebuild_with_helpers,
     clay_recover_with_helpers, clay_repair_layers_with_helpers,
 };
+pub use lost::{clay_lost_count, clay_lost_pieces, clay_read_lost};
 use std::alloc::Global;
 
 /// The numbers of a code, as C sees them. Lengths are in bytes.

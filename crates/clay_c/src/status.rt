@@ -13,3 +13,5 @@ pub const TOO_FEW: u32 = 4;
 pub const OUT_OF_MEMORY: u32 = 5;
 
 pub const BAD_HELPERS: u32 = 6;
+
+pub const BAD_LAYER: u32 = 7;
