@@ -11,6 +11,8 @@ mod faults;
 #[cfg(test)]
 mod generated;
 #[cfg(test)]
+mod locked_steps;
+#[cfg(test)]
 mod rows;
 #[cfg(test)]
 mod runs;
