@@ -1,5 +1,5 @@
 //! A caller with its turns at all places of a store.
-ghost use Rattle.std.specs.Prelude.{◌≡◌, ◌<◌, ℕ, true, false};
+ghost use Rattle.std.specs.Prelude.{◌≡◌, ◌+◌, ◌<◌, ℕ, true, false};
 ghost use Rattle.run_seats.specs.Telling.{IsTold};
 ghost use Rattle.run_seats.specs.Places.{IsStore, last_by};
 ghost use Rattle.run_seats.specs.Seated.{IsSeated, MayStep, StepsOn, left_by, seated_has};
@@ -110,6 +110,7 @@ impl<'a> Seated<'a> {
         ensures falls { seated_has store.now.script.now self.old ≡ true → left_by store.now self.new < left_by store.now self.old }
         ensures over { seated_has store.now.script.now self.old ≡ false → left_by store.now self.new ≡ left_by store.now self.old }
         ensures told { seated_has store.now.script.now self.old ≡ true → IsTold (G.was_told gate.now) self.old.actor self.old.steps }
+        ensures counted { seated_has store.now.script.now self.old ≡ true → self.new.steps ≡ self.old.steps + 1 }
     {
         if !self.caller.has_step() {
             return;

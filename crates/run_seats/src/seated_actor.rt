@@ -2,7 +2,7 @@
 ghost use Rattle.std.specs.Prelude.{◌≡◌, ◌<◌, true, false};
 ghost use Rattle.store_map.specs.declared.script.Script.{Script as StoreScript};
 ghost use Rattle.run_seats.specs.Falling.{steps_left};
-ghost use Rattle.run_seats.specs.Telling.{IsToldOf};
+ghost use Rattle.run_seats.specs.Telling.{HasCounted, IsToldOf};
 ghost use Rattle.run_seats.specs.Places.{IsStore};
 ghost use Rattle.run_seats.specs.SeatedActors.{IsOfCode, IsSeatedActor, actor_has, number_of};
 
@@ -50,6 +50,7 @@ impl<'a> SeatedActor<'a> {
         ensures falls { actor_has store.now.script.now self.old ≡ true → steps_left store.now self.new < steps_left store.now self.old }
         ensures over { actor_has store.now.script.now self.old ≡ false → steps_left store.now self.new ≡ steps_left store.now self.old }
         ensures told { IsToldOf (G.was_told gate.now) store.now.script.now self.old }
+        ensures counted { HasCounted store.now.script.now self.old self.new }
     {
         match self {
             SeatedActor::Caller(seated) => seated.visit(rt, coder, gate, store),

@@ -1,5 +1,5 @@
 //! The operator with its turns at all places of a store.
-ghost use Rattle.std.specs.Prelude.{◌≡◌, ◌<◌, ℕ, true, false};
+ghost use Rattle.std.specs.Prelude.{◌≡◌, ◌+◌, ◌<◌, ℕ, true, false};
 ghost use Rattle.thread_laws.specs.Threaded.{is_line};
 ghost use Rattle.store_map.specs.declared.actor.Actor.TheVariants as actor;
 ghost use Rattle.run_seats.specs.Telling.{IsTold};
@@ -105,6 +105,7 @@ impl SeatedOperator {
         ensures falls { line_left self.old ≡ true → lines_left store.now self.new < lines_left store.now self.old }
         ensures over { line_left self.old ≡ false → lines_left store.now self.new ≡ lines_left store.now self.old }
         ensures told { line_left self.old ≡ true → IsTold (G.was_told gate.now) actor.Operator self.old.made }
+        ensures counted { line_left self.old ≡ true → self.new.made ≡ self.old.made + 1 }
     {
         if !self.has_line() {
             return;
