@@ -6,3 +6,4 @@ pub mod RepairBounds
 pub mod NodeCounts
 pub mod KnownNodes
 pub mod CountLaws
+pub mod RangeLaws

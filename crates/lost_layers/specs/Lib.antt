@@ -1,5 +1,6 @@
 pub mod LostLayers
 pub mod LostPieces
 pub mod Determined
+pub mod Ranges
 pub mod Refused
 pub mod Placing

@@ -6,6 +6,7 @@ ghost use Rattle.clay_grid.specs.Repair.{repair_layers_of};
 ghost use Rattle.lost_layers.specs.LostLayers.{IsLostRun};
 ghost use Rattle.lost_layers.specs.LostPieces.{lost_layers_of, lost_pieces_of};
 ghost use Rattle.lost_layers.specs.Determined.{PiecesDetermine};
+ghost use Rattle.lost_layers.specs.Ranges.{RangesAreCoded};
 ghost use Rattle.lost_layers.specs.declared.run.LostRun.{LostRun};
 
 /// The pieces determine the layers: two codewords with the same pieces have the same layers of the lost chunk.
@@ -24,4 +25,10 @@ pub fn reads_stay_within_repairs()
 pub fn pieces_of_one_layer()
     ensures { (g : Shape) (run : LostRun) → IsGeometry g → IsLostRun g run → run.to ≡ suc run.from
         → virtual_count g ≡ 0 → length (lost_pieces_of g run) + column_count g ≡ 2 * g.data_count + 1 }
+{}
+
+/// The bytes at the same places of all subchunks of a codeword are a codeword of the code with that many bytes in a subchunk. So a read
+/// of a part of a subchunk takes that part of each piece.
+pub fn ranges_are_coded()
+    ensures { (g : Shape) → RangesAreCoded g }
 {}

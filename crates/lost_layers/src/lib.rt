@@ -10,7 +10,9 @@ mod run;
 mod tests;
 
 pub use fault::LostFault;
-pub use laws::{pieces_determine_runs, pieces_of_one_layer, reads_stay_within_repairs};
+pub use laws::{
+    pieces_determine_runs, pieces_of_one_layer, ranges_are_coded, reads_stay_within_repairs,
+};
 pub use pieces::{count_of_run, lost_count, lost_pieces, pieces_of_run};
 pub use placed::PlacedRun;
 pub use run::{LostPiece, LostRun};
