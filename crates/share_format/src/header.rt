@@ -4,7 +4,7 @@ ghost use Rattle.byteorder.specs.Endian.{little_bytes, little_number};
 ghost use Rattle.clay_aloof.specs.Shape.{all_chunks};
 ghost use Rattle.clay_aloof.specs.Limits.{IsAloof};
 ghost use Rattle.share_format.specs.Cut.{stripe_count};
-ghost use Rattle.share_format.specs.Header.{IsIntact, header_with, header_bytes, header_in, told_bytes};
+ghost use Rattle.share_format.specs.Header.{IsIntact, IsHeader, header_with, header_bytes, header_in, told_bytes};
 ghost use Rattle.share_format.specs.Faults.{IsFirstFault};
 
 use crate::fault::BadHeader;
@@ -145,7 +145,8 @@ impl ShareHeader {
 
     /// The stripes of the file.
     pub fn stripe_count(&self) -> u64
-        ensures { result ≡ stripe_count self.now.shape self.now.size }
+        ensures count { result ≡ stripe_count self.now.shape self.now.size }
+        ensures header { IsHeader self.now }
     {
         stripes_of(self.geometry, self.size)
     }
