@@ -144,3 +144,10 @@ all_joined a blocks chunks bytes are is stripe word codes has =
   where
     early : (k m c : ℕ) → c < k → c < k + m
     early k m c h = omega (arith, h)
+
+-- the first of all chunks are as long as a stripe
+pub first_long : (a : AloofShape) (chunks bytes : List ℕ) → length chunks ≡ all_chunks a * chunk_length (grid_of a)
+    → bytes ≡ take (stripe_bytes a) chunks → length bytes ≡ stripe_bytes a
+first_long a chunks bytes long is =
+    let sum : (a.data_count + a.parity_count) * chunk_length (grid_of a) ≡ stripe_bytes a + a.parity_count * chunk_length (grid_of a) = omega arith in
+    ap length is ∙ length-take-le (stripe_bytes a) chunks (omega (arith, long, sum))

@@ -4,7 +4,7 @@ ghost use Rattle.std.specs.List.{flat_map};
 ghost use Rattle.clay_grid.specs.Shape.{chunk_length};
 ghost use Rattle.clay_grid.specs.Score.{count_below};
 ghost use Rattle.clay_model.specs.Left.{AreLong};
-ghost use Rattle.clay_aloof.specs.Shape.{all_chunks, grid_of};
+ghost use Rattle.clay_aloof.specs.Shape.{all_chunks, grid_of, stripe_bytes};
 ghost use Rattle.clay_aloof.specs.Recovered.{chunk_in};
 ghost use Rattle.share_format.specs.Blocks.{block_length, chunk_start as start_of};
 ghost use Rattle.share_blocks.specs.Joined.{is_lost, AreTooFew, chunk_or_zeros, IsJoined, AreChunksOf, IsRecoveredChunk};
@@ -165,7 +165,8 @@ fn joined_data(
     requires count { length blocks.now ≡ all_chunks g }
     requires lengths { AreLong (block_length g) blocks.now }
     requires there { (c : ℕ) → c < g.data_count → is_lost blocks.now c ≡ false }
-    ensures { IfOk result (λ stripe. IsJoined g blocks.now stripe.items) }
+    ensures len { IfOk result (λ stripe. length stripe.items ≡ stripe_bytes g) }
+    ensures joined { IfOk result (λ stripe. IsJoined g blocks.now stripe.items) }
 {
     let chunks = gathered(alloc, g, blocks, g.k())?;
     Ok(chunks)
@@ -180,7 +181,8 @@ fn joined_all(
     requires count { length blocks.now ≡ all_chunks g }
     requires lengths { AreLong (block_length g) blocks.now }
     requires few { count_below (all_chunks g) (is_lost blocks.now) ≤ g.parity_count }
-    ensures { IfOk result (λ stripe. IsJoined g blocks.now stripe.items) }
+    ensures len { IfOk result (λ stripe. length stripe.items ≡ stripe_bytes g) }
+    ensures joined { IfOk result (λ stripe. IsJoined g blocks.now stripe.items) }
 {
     let mut chunks = recovered(alloc, g, blocks)?;
     chunks.truncate(g.stripe_len() as usize);
@@ -217,6 +219,7 @@ pub fn join_stripe(
     requires count { length blocks.now ≡ all_chunks g }
     requires lengths { AreLong (block_length g) blocks.now }
     ensures too_few { IsErrOf result DecodeFault.TooFew ↔ AreTooFew g blocks.now }
+    ensures len { IfOk result (λ stripe. length stripe.items ≡ stripe_bytes g) }
     ensures joined { IfOk result (λ stripe. IsJoined g blocks.now stripe.items) }
 {
     if lost_count(blocks) > g.m() as usize {

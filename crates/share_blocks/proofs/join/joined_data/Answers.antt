@@ -1,11 +1,16 @@
-use Rattle.std.proofs.Common.{take, ap, ◌∙◌}
+use Rattle.std.proofs.Common.{◌*◌, take, ap, ◌∙◌}
 use Rattle.std.specs.List.{flat_map}
+use Rattle.clay_grid.specs.Shape.{chunk_length}
+use Rattle.clay_aloof.specs.Shape.{grid_of}
 use Rattle.share_blocks.specs.Joined.{chunk_or_zeros}
 use Rattle.share_blocks.proofs.Joining.{data_joined}
 use Rattle.share_blocks.proofs.join.joined_data.Goals as goal
 
-pub returns : goal.returns
-returns c =
+pub returns-clause-len : goal.returns-clause-len
+returns-clause-len c = c.in_ok-chunks.ensures.len ∙ ap (λ n. n * chunk_length (grid_of c.args.g)) c.k.ensures.value
+
+pub returns-clause-joined : goal.returns-clause-joined
+returns-clause-joined c =
     let g = c.args.g in
     let blocks = c.args.blocks.now in
     data_joined g blocks c.requires.lengths c.requires.count c.in_ok-chunks.chunks.items
