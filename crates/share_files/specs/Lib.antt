@@ -2,3 +2,4 @@ pub mod Written
 pub mod Refused
 pub mod Cut
 pub mod Found
+pub mod Seen

@@ -1,8 +1,8 @@
 //! The blocks of a share that are whole.
-ghost use Rattle.std.specs.Prelude.{◌≡◌, ◌+◌, ◌^◌, ◌≤◌, ◌<◌, ℕ, List, length, IfOk, IsErrOf};
+ghost use Rattle.std.specs.Prelude.{◌≡◌, ◌+◌, ◌^◌, ◌≤◌, ◌<◌, ℕ, List, length, IfOk, IfSome, IsErrOf};
 ghost use Rattle.clay_bytes.specs.Stream.{Rises};
 ghost use Rattle.file_bytes.specs.Places.{Shows};
-ghost use Rattle.share_format.specs.Blocks.{block_length};
+ghost use Rattle.share_format.specs.Blocks.{block_length, IsBlock};
 ghost use Rattle.share_format.specs.Shares.{block_start};
 ghost use Rattle.share_files.specs.Found.{block_in, IsFound, IsFirstRotten};
 ghost use Rattle.share_files.specs.declared.finding.BlockFault.TheVariants.{OutOfMemory};
@@ -48,6 +48,7 @@ pub fn find_block<S: SourceAt>(
     stripe: u64,
 ) -> Result<Option<Vec<u8>>, BlockFault>
     requires place { block_start geometry stripe + block_length geometry < 2 ^ 64 }
+    ensures block { IfOk result (λ found. IfSome found (λ block. IsBlock geometry block.items)) }
     // Whatever file the source shows, its block is found or missed as it is.
     ensures found { (file : List ℕ) → Shows file (S.given source.new) (S.ends source.new) → IfOk result (IsFound geometry (block_in geometry stripe file)) }
     // It is a file that the source showed before.
