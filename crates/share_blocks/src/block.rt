@@ -1,9 +1,10 @@
 //! A chunk as it stands in a share file: in front the checksums of its subchunks, then its bytes.
-ghost use Rattle.std.specs.Prelude.{◌≡◌, ◌+◌, ◌*◌, ◌^◌, ◌<◌, ◌≤◌, ◌↔◌, IsTrue, length, IfOk};
+ghost use Rattle.std.specs.Prelude.{◌≡◌, ◌+◌, ◌*◌, ◌<◌, ◌≤◌, ◌↔◌, IsTrue, length, IfOk};
 ghost use Rattle.clay_grid.specs.Shape.{layer_count, chunk_length};
 ghost use Rattle.clay_aloof.specs.Shape.{grid_of};
-ghost use Rattle.share_format.specs.Blocks.{page_of, rounded, aligned, table_of, block_of, chunk_start as start_of, block_length, IsBlock};
+ghost use Rattle.share_format.specs.Blocks.{aligned, table_of, block_of, chunk_start as start_of, block_length, IsBlock};
 
+use crate::units::{page, rounded_up};
 use clay_aloof::AloofGeometry;
 use crc64::Crc64;
 use share_format::put_u64;
@@ -12,31 +13,11 @@ use std::alloc::{AllocError, Global};
 /// The bytes of a checksum.
 pub const ENTRY: usize = 8;
 
-const PAGE: u32 = 4096;
-
-// The unit at which subchunks are aligned.
-fn page(g: AloofGeometry) -> usize
-    ensures value { result ≡ page_of g }
-    ensures some { 1 ≤ result }
-    ensures bounded { result ≤ 4096 }
-{
-    if g.w() % PAGE == 0 { PAGE as usize } else { 1 }
-}
-
-// A length rounded up to whole units.
-fn rounded_up(unit: usize, size: usize) -> usize
-    requires some { 1 ≤ unit }
-    requires bounded { size + unit < 2 ^ 64 }
-    ensures { result ≡ rounded unit size }
-{
-    (size + unit - 1) / unit * unit
-}
-
 /// Where a block's chunk begins in it.
 pub fn chunk_start(g: AloofGeometry) -> usize
     ensures { result ≡ start_of g }
 {
-    rounded_up(page(g), ENTRY * g.grid().alpha() as usize)
+    rounded_up(page(g), ENTRY as u64 * u64::from(g.grid().alpha())) as usize
 }
 
 // Where a layer's subchunk begins in its chunk.

@@ -8,9 +8,11 @@ mod laws;
 mod mend;
 #[cfg(test)]
 mod tests;
+mod units;
 
 pub use block::{chunk_start, is_block, make_block};
 pub use cut::cut_stripe;
 pub use join::{join_stripe, recover_chunk};
 pub use laws::intact_ones_pass;
 pub use mend::{is_part, mend_stripe};
+pub use units::{page, rounded_up};

@@ -4,26 +4,7 @@ ghost use Rattle.share_format.specs.Blocks.{page_of, rounded, chunk_start, block
 ghost use Rattle.share_format.specs.Shares.{block_start};
 
 use clay_aloof::AloofGeometry;
-
-// The bytes of a page where a subchunk is whole pages, and else 1.
-fn page(geometry: AloofGeometry) -> u64
-    ensures value { result ≡ page_of geometry }
-    ensures some { 1 ≤ result }
-    ensures bounded { result ≤ 4096 }
-{
-    if geometry.w() % 4096 == 0 { 4096 } else { 1 }
-}
-
-// A length rounded up to whole units.
-fn rounded_up(unit: u64, size: u64) -> u64
-    requires some { 1 ≤ unit }
-    requires bounded { size + unit < 2 ^ 64 }
-    ensures value { result ≡ rounded unit size }
-    ensures least { size ≤ result }
-    ensures most { result < size + unit }
-{
-    (size + unit - 1) / unit * unit
-}
+use share_blocks::{page, rounded_up};
 
 /// The bytes that a share's header and the zeros behind it take.
 pub fn header_room(geometry: AloofGeometry) -> u64
