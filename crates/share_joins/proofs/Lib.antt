@@ -1,0 +1,4 @@
+pub mod Reading
+pub mod Steps
+pub mod Bytes
+pub mod Shares

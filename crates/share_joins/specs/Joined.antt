@@ -1,0 +1,58 @@
+-- A file that is joined from its shares.
+use Rattle.std.specs.Prelude.{◌≡◌, ◌≢◌, ℕ, ◌+◌, ◌<◌, ◌≤◌, Bool, true, false, Option, List, [], length, get_or}
+use Rattle.crc64.specs.Remainder.{checksum_of}
+use Rattle.clay_bytes.specs.Stream.{Accepts}
+use Rattle.clay_grid.specs.Score.{count_below}
+use Rattle.clay_aloof.specs.Shape.{all_chunks}
+use Rattle.share_format.specs.Cut.{stripe_count, AreCodewords}
+use Rattle.share_format.specs.Blocks.{block_of, IsBlock}
+use Rattle.share_format.specs.Header.{Header}
+use Rattle.share_format.specs.Shares.{IsShare}
+use Rattle.share_files.specs.Found.{block_in}
+use Rattle.share_files.specs.Seen.{Seen}
+use Rattle.share_joins.specs.Missed.{AreFirstMissed, LackBlocks}
+use Rattle.share_joins.specs.declared.joining.JoinFault.{JoinFault}
+use Rattle.share_joins.specs.declared.joining.JoinFault.TheVariants.{TooFew, Mismatch, WriteFault, OutOfMemory}
+
+-- a file has the header's length and checksum, and what passes as a block in its shares' files is that of the share's chunk: no rot has
+-- the right checksums
+pub record NoRotPasses (h : Header) (file : List ℕ) (files : List (List ℕ)) : Type 0 where
+  pub size : length file ≡ h.size
+  pub checksum : checksum_of file ≡ h.checksum
+  pub words : List (List (List ℕ))
+  pub coded : AreCodewords h.shape file words
+  pub blocks : (c i : ℕ) → c < all_chunks h.shape → i < length words → IsBlock h.shape (block_in h.shape i (get_or files c [])) →
+      block_in h.shape i (get_or files c []) ≡ block_of h.shape (get_or (get_or words i []) c [])
+
+-- a sink took a file with the header's length and checksum
+pub record TakesFile (h : Header) (accepted : List ℕ) (written : Option (List ℕ)) (now : List ℕ) (new : Option (List ℕ)) : Type 0 where
+  pub file : List ℕ
+  pub takes : Accepts accepted written file now new
+  pub size : length file ≡ h.size
+  pub checksum : checksum_of file ≡ h.checksum
+
+-- it took as many bytes with another checksum
+pub record TakesAnother (h : Header) (accepted : List ℕ) (written : Option (List ℕ)) (now : List ℕ) (new : Option (List ℕ)) : Type 0 where
+  pub file : List ℕ
+  pub takes : Accepts accepted written file now new
+  pub size : length file ≡ h.size
+  pub checksum : checksum_of file ≢ h.checksum
+
+-- why a file could not be joined from shares in these files: too few have a block of a stripe, or all stripes were joined to another file.
+-- What each share missed up to there is noted
+abbrev pub IsWhyNot : Header → List (List ℕ) → List Seen → List Seen → List (Option ℕ) → JoinFault → Type 0
+IsWhyNot h files olds news missed (TooFew stripe) =
+    (stripe < stripe_count h.shape h.size) × LackBlocks h.shape stripe files olds news
+    × AreFirstMissed h.shape (stripe + 1) files olds news missed
+IsWhyNot h files olds news missed Mismatch = AreFirstMissed h.shape (stripe_count h.shape h.size) files olds news missed
+IsWhyNot h files olds news missed WriteFault = Unit {0}
+IsWhyNot h files olds news missed OutOfMemory = Unit {0}
+
+-- of a file with the header's length and checksum each file is its share, but for erased ones, which are empty, and of which there are no more
+-- than parity chunks
+pub record AreSharesBut (h : Header) (erased : ℕ → Bool) (file : List ℕ) (files : List (List ℕ)) : Type 0 where
+  pub size : length file ≡ h.size
+  pub checksum : checksum_of file ≡ h.checksum
+  pub few : count_below (all_chunks h.shape) erased ≤ h.shape.parity_count
+  pub kept : (c : ℕ) → c < all_chunks h.shape → erased c ≡ false → IsShare h.shape file c (get_or files c [])
+  pub gone : (c : ℕ) → c < all_chunks h.shape → erased c ≡ true → get_or files c [] ≡ []

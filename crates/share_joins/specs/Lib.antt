@@ -1,0 +1,4 @@
+pub mod Missed
+pub mod Gathered
+pub mod Joined
+pub mod SoFar
