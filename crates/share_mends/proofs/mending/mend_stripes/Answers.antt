@@ -1,0 +1,62 @@
+use Rattle.std.proofs.Common.{◌≤◌, ◌+◌, ℕ, refl, subst, ◌∙◌, ap, arith}
+use Rattle.clay_bytes.specs.Stream.{Rises}
+use Rattle.file_bytes.specs.Laid.{laid}
+use Rattle.share_format.specs.Blocks.{block_length}
+use Rattle.share_format.specs.Shares.{block_start}
+use Rattle.share_files.proofs.FoundLemmas.{place_before}
+use Rattle.share_files.proofs.Faults.{handed_on}
+use Rattle.share_mends.specs.declared.fault.MendFault.TheVariants.{ReadFault, WriteFault}
+use Rattle.share_mends.proofs.AskedLemmas.{asked_nothing, no_read_fails, fails_none, fails_one}
+use Rattle.share_mends.proofs.MendLemmas.{asked_stripe, good_more, names_stripe, mended_none, mended_more}
+use Rattle.share_mends.proofs.mending.mend_stripes.Goals as goal
+
+pub loop-stripe-init : goal.loop-stripe-init
+loop-stripe-init g c = record {
+  shares = c.requires.shares;
+  mended = mended_none c.args.plan.now.geometry c.args.plan.now.lost c.args.helpers.now _ _ (ap laid c.requires.empty);
+  good = λ files shows i k less. absurd (omega (arith, less));
+  asked = asked_nothing c.args.helpers.now _ _;
+  writes = refl;
+}
+
+pub mend_one-requires-clause-place : goal.mend_one-requires-clause-place
+mend_one-requires-clause-place g c =
+    let a = c.args.plan.now.geometry in
+    let before : block_start a c.loop-stripe.stripe + block_length a ≤ block_start a c.args.stripes = place_before a c.loop-stripe.stripe c.args.stripes c.loop-stripe-test.true in
+    omega (arith, before, c.requires.place)
+
+pub loop-stripe-preserved : goal.loop-stripe-preserved
+loop-stripe-preserved g c =
+    let a = c.args.plan.now.geometry in
+    let lost = c.args.plan.now.lost in
+    let inv = c.loop-stripe.invariant in
+    let one = c.in-Ok.ensures in
+    record {
+      shares = c.mend_one.auto.sources ∙ inv.shares;
+      mended = mended_more a lost c.args.helpers.now _ _ c.loop-stripe.stripe _ _ one.shown inv.mended one.written;
+      good = λ files shows. good_more a lost c.args.helpers.now files c.loop-stripe.stripe (inv.good files (one.shown files shows)) (one.good files shows);
+      asked = asked_stripe a lost c.loop-stripe.stripe _ c.args.helpers.now _ _ _ inv.asked one.asked;
+      writes = one.writes (λ e. cc) ∙ inv.writes;
+    }
+
+pub returns-in-Err-clause-rotten : goal.returns-in-Err-clause-rotten
+returns-in-Err-clause-rotten g c = λ files shows.
+    names_stripe c.args.plan.now.geometry c.args.plan.now.lost c.args.helpers.now files c.loop-stripe.stripe c.args.stripes c.in-Err.fault c.loop-stripe-test.true
+    (c.loop-stripe.invariant.good files (c.in-Err.ensures.shown files shows)) (c.in-Err.ensures.rotten files shows)
+
+pub returns-in-Err-clause-read : goal.returns-in-Err-clause-read
+returns-in-Err-clause-read g c = λ e.
+    fails_one _ _ _ (no_read_fails _ _ _ _ _ c.loop-stripe.invariant.asked) (c.in-Err.ensures.read (handed_on c.in-Err.fault ReadFault e))
+
+pub returns-in-Err-clause-reads : goal.returns-in-Err-clause-reads
+returns-in-Err-clause-reads g c = λ other.
+    fails_none _ _ _ (no_read_fails _ _ _ _ _ c.loop-stripe.invariant.asked) (c.in-Err.ensures.reads (λ e. other (handed_on c.in-Err.fault ReadFault e)))
+
+pub returns-in-Err-clause-write : goal.returns-in-Err-clause-write
+returns-in-Err-clause-write g c = λ e.
+    let P : ℕ → Type 0 = λ k. Rises k (g.K.SinkAt.faults c.mend_one.new.sink) in
+    subst P c.loop-stripe.invariant.writes (c.in-Err.ensures.write (handed_on c.in-Err.fault WriteFault e))
+
+pub returns-in-Err-clause-writes : goal.returns-in-Err-clause-writes
+returns-in-Err-clause-writes g c = λ other.
+    c.in-Err.ensures.writes (λ e. other (handed_on c.in-Err.fault WriteFault e)) ∙ c.loop-stripe.invariant.writes

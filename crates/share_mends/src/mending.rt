@@ -1,0 +1,164 @@
+//! A share mended from parts of helpers' shares.
+ghost use Rattle.std.specs.Prelude.{◌≡◌, ◌+◌, ◌^◌, ◌<◌, ℕ, List, [], true, map, length, IfOk, IfErr, OnOk, IsErrOf};
+ghost use Rattle.std.specs.List.{flat_map, range_with_len};
+ghost use Rattle.crc64.specs.Remainder.{checksum_of};
+ghost use Rattle.clay_bytes.specs.Stream.{Rises};
+ghost use Rattle.clay_aloof.specs.Shape.{all_chunks};
+ghost use Rattle.file_bytes.specs.Laid.{laid};
+ghost use Rattle.share_format.specs.Blocks.{block_length};
+ghost use Rattle.share_format.specs.Cut.{stripe_count, AreCodewords};
+ghost use Rattle.share_format.specs.Mend.{block_ranges};
+ghost use Rattle.share_format.specs.Shares.{block_start, IsShare};
+ghost use Rattle.share_files.specs.Seen.{seen, Show};
+ghost use Rattle.share_mends.specs.Spans.{IsPlan};
+ghost use Rattle.share_mends.specs.Asked.{helps, AreHelpers, AreAsked, OneReadFails, NoReadFails};
+ghost use Rattle.share_mends.specs.Gathered.{NamesFirstOf};
+ghost use Rattle.share_mends.specs.Mended.{HasGood, HaveGood, NamesFirst, AreOfWords, IsMendedBlock, HasMended, GainsMended};
+
+use crate::fault::MendFault;
+use crate::gathering::read_parts;
+use crate::spans::{Plan, make_plan};
+use clay_bytes::WriteFault;
+use crc64::Crc64;
+use file_bytes::{SinkAt, SourceAt};
+use share_blocks::{make_block, mend_stripe};
+use share_files::{PutFault, write_block, write_header};
+use share_format::ShareHeader;
+use std::alloc::Global;
+
+// The block of the lost share for a stripe, from the helpers' parts.
+fn mended_block<S: SourceAt>(
+    alloc: Global,
+    crc: &Crc64,
+    sources: &mut [S],
+    plan: &Plan,
+    helpers: &[bool],
+    stripe: u64,
+) -> Result<Vec<u8>, MendFault>
+    requires plan { IsPlan plan.now }
+    requires shares { length sources.old ≡ all_chunks plan.now.geometry }
+    requires helpers { AreHelpers plan.now.geometry plan.now.lost helpers.now }
+    requires place { block_start plan.now.geometry stripe + block_length plan.now.geometry < 2 ^ 64 }
+    ensures block { IfOk result (λ block. IsMendedBlock plan.now.geometry plan.now.lost helpers.now (map (λ s. seen (S.given s) (S.ends s) (S.faults s)) sources.new) stripe block.items) }
+    ensures good { (files : List (List ℕ)) → Show (map (λ s. seen (S.given s) (S.ends s) (S.faults s)) sources.new) files → OnOk result ((c : ℕ) → c < all_chunks plan.now.geometry → helps helpers.now c ≡ true → HasGood plan.now.geometry plan.now.lost files stripe c) }
+    ensures rotten { (files : List (List ℕ)) → Show (map (λ s. seen (S.given s) (S.ends s) (S.faults s)) sources.new) files → IfErr result (NamesFirstOf plan.now.geometry plan.now.lost helpers.now files stripe) }
+    ensures shown { (files : List (List ℕ)) → Show (map (λ s. seen (S.given s) (S.ends s) (S.faults s)) sources.new) files → Show (map (λ s. seen (S.given s) (S.ends s) (S.faults s)) sources.old) files }
+    ensures asked { OnOk result (AreAsked helpers.now (block_ranges plan.now.geometry plan.now.lost stripe) (all_chunks plan.now.geometry) (map (λ s. seen (S.given s) (S.ends s) (S.faults s)) sources.old) (map (λ s. seen (S.given s) (S.ends s) (S.faults s)) sources.new)) }
+    ensures unwritten { IsErrOf result MendFault.WriteFault → ⊥ }
+    ensures cause { IsErrOf result MendFault.ReadFault → OneReadFails (map (λ s. seen (S.given s) (S.ends s) (S.faults s)) sources.old) (map (λ s. seen (S.given s) (S.ends s) (S.faults s)) sources.new) }
+    ensures steady { (IsErrOf result MendFault.ReadFault → ⊥) → NoReadFails (map (λ s. seen (S.given s) (S.ends s) (S.faults s)) sources.old) (map (λ s. seen (S.given s) (S.ends s) (S.faults s)) sources.new) }
+{
+    let parts = match read_parts(alloc, crc, sources, plan, helpers, stripe) {
+        Ok(parts) => parts,
+        Err(fault) => return Err(fault),
+    };
+    let chunk = mend_stripe(alloc, plan.geometry, plan.lost, &parts)?;
+    let block = make_block(alloc, plan.geometry, crc, &chunk)?;
+    Ok(block)
+}
+
+// Puts the block of the lost share for a stripe into its place.
+fn mend_one<S: SourceAt, K: SinkAt>(
+    alloc: Global,
+    crc: &Crc64,
+    sources: &mut [S],
+    plan: &Plan,
+    helpers: &[bool],
+    sink: &mut K,
+    stripe: u64,
+) -> Result<(), MendFault>
+    requires plan { IsPlan plan.now }
+    requires shares { length sources.old ≡ all_chunks plan.now.geometry }
+    requires helpers { AreHelpers plan.now.geometry plan.now.lost helpers.now }
+    requires place { block_start plan.now.geometry stripe + block_length plan.now.geometry < 2 ^ 64 }
+    ensures written { OnOk result (GainsMended plan.now.geometry plan.now.lost helpers.now (map (λ s. seen (S.given s) (S.ends s) (S.faults s)) sources.new) stripe (laid (K.put sink.old)) (laid (K.put sink.new))) }
+    ensures good { (files : List (List ℕ)) → Show (map (λ s. seen (S.given s) (S.ends s) (S.faults s)) sources.new) files → OnOk result ((c : ℕ) → c < all_chunks plan.now.geometry → helps helpers.now c ≡ true → HasGood plan.now.geometry plan.now.lost files stripe c) }
+    ensures rotten { (files : List (List ℕ)) → Show (map (λ s. seen (S.given s) (S.ends s) (S.faults s)) sources.new) files → IfErr result (NamesFirstOf plan.now.geometry plan.now.lost helpers.now files stripe) }
+    ensures shown { (files : List (List ℕ)) → Show (map (λ s. seen (S.given s) (S.ends s) (S.faults s)) sources.new) files → Show (map (λ s. seen (S.given s) (S.ends s) (S.faults s)) sources.old) files }
+    ensures asked { OnOk result (AreAsked helpers.now (block_ranges plan.now.geometry plan.now.lost stripe) (all_chunks plan.now.geometry) (map (λ s. seen (S.given s) (S.ends s) (S.faults s)) sources.old) (map (λ s. seen (S.given s) (S.ends s) (S.faults s)) sources.new)) }
+    ensures read { IsErrOf result MendFault.ReadFault → OneReadFails (map (λ s. seen (S.given s) (S.ends s) (S.faults s)) sources.old) (map (λ s. seen (S.given s) (S.ends s) (S.faults s)) sources.new) }
+    ensures reads { (IsErrOf result MendFault.ReadFault → ⊥) → NoReadFails (map (λ s. seen (S.given s) (S.ends s) (S.faults s)) sources.old) (map (λ s. seen (S.given s) (S.ends s) (S.faults s)) sources.new) }
+    ensures write { IsErrOf result MendFault.WriteFault → Rises (K.faults sink.old) (K.faults sink.new) }
+    ensures writes { (IsErrOf result MendFault.WriteFault → ⊥) → K.faults sink.new ≡ K.faults sink.old }
+{
+    let block = match mended_block(alloc, crc, sources, plan, helpers, stripe) {
+        Ok(block) => block,
+        Err(fault) => return Err(fault),
+    };
+    match write_block(sink, plan.geometry, stripe, &block) {
+        Ok(()) => Ok(()),
+        Err(WriteFault) => Err(MendFault::WriteFault),
+    }
+}
+
+// Puts the blocks of the lost share for so many stripes into their places.
+fn mend_stripes<S: SourceAt, K: SinkAt>(
+    alloc: Global,
+    crc: &Crc64,
+    sources: &mut [S],
+    plan: &Plan,
+    helpers: &[bool],
+    sink: &mut K,
+    stripes: u64,
+) -> Result<(), MendFault>
+    requires plan { IsPlan plan.now }
+    requires shares { length sources.old ≡ all_chunks plan.now.geometry }
+    requires helpers { AreHelpers plan.now.geometry plan.now.lost helpers.now }
+    requires place { block_start plan.now.geometry stripes < 2 ^ 64 }
+    requires empty { K.put sink.old ≡ [] }
+    ensures mended { OnOk result (HasMended plan.now.geometry plan.now.lost helpers.now (map (λ s. seen (S.given s) (S.ends s) (S.faults s)) sources.new) stripes (laid (K.put sink.new))) }
+    ensures good { (files : List (List ℕ)) → Show (map (λ s. seen (S.given s) (S.ends s) (S.faults s)) sources.new) files → OnOk result (HaveGood plan.now.geometry plan.now.lost helpers.now files stripes) }
+    ensures rotten { (files : List (List ℕ)) → Show (map (λ s. seen (S.given s) (S.ends s) (S.faults s)) sources.new) files → IfErr result (NamesFirst plan.now.geometry plan.now.lost helpers.now files stripes) }
+    ensures asked { OnOk result (AreAsked helpers.now (flat_map (block_ranges plan.now.geometry plan.now.lost) (range_with_len 0 stripes)) (all_chunks plan.now.geometry) (map (λ s. seen (S.given s) (S.ends s) (S.faults s)) sources.old) (map (λ s. seen (S.given s) (S.ends s) (S.faults s)) sources.new)) }
+    ensures read { IsErrOf result MendFault.ReadFault → OneReadFails (map (λ s. seen (S.given s) (S.ends s) (S.faults s)) sources.old) (map (λ s. seen (S.given s) (S.ends s) (S.faults s)) sources.new) }
+    ensures reads { (IsErrOf result MendFault.ReadFault → ⊥) → NoReadFails (map (λ s. seen (S.given s) (S.ends s) (S.faults s)) sources.old) (map (λ s. seen (S.given s) (S.ends s) (S.faults s)) sources.new) }
+    ensures write { IsErrOf result MendFault.WriteFault → Rises (K.faults sink.old) (K.faults sink.new) }
+    ensures writes { (IsErrOf result MendFault.WriteFault → ⊥) → K.faults sink.new ≡ K.faults sink.old }
+{
+    for stripe in 0..stripes {
+        match mend_one(alloc, crc, sources, plan, helpers, sink, stripe) {
+            Ok(()) => {}
+            Err(fault) => return Err(fault),
+        }
+    }
+    Ok(())
+}
+
+/// Writes the lost share anew, from the parts of the marked helpers alone. The header tells the lost share's number. It is written last.
+///
+/// `sources` and `helpers` have an entry for each share. The helpers' headers are for the caller to read.
+pub fn mend<S: SourceAt, K: SinkAt>(
+    alloc: Global,
+    crc: &Crc64,
+    header: &ShareHeader,
+    sources: &mut [S],
+    helpers: &[bool],
+    sink: &mut K,
+) -> Result<(), MendFault>
+    requires shares { length sources.old ≡ all_chunks header.now.shape }
+    requires helpers { AreHelpers header.now.shape header.now.share helpers.now }
+    // Nothing was written yet.
+    requires empty { K.put sink.old ≡ [] }
+    // Of whatever file the helpers' good pieces hold the parts, the sink has the share.
+    ensures share { (file : List ℕ) (words : List (List (List ℕ))) (files : List (List ℕ)) → Show (map (λ s. seen (S.given s) (S.ends s) (S.faults s)) sources.new) files → length file ≡ header.now.size → checksum_of file ≡ header.now.checksum → AreCodewords header.now.shape file words → AreOfWords header.now.shape header.now.share helpers.now files words → OnOk result (IsShare header.now.shape file header.now.share (laid (K.put sink.new))) }
+    ensures good { (files : List (List ℕ)) → Show (map (λ s. seen (S.given s) (S.ends s) (S.faults s)) sources.new) files → OnOk result (HaveGood header.now.shape header.now.share helpers.now files (stripe_count header.now.shape header.now.size)) }
+    ensures rotten { (files : List (List ℕ)) → Show (map (λ s. seen (S.given s) (S.ends s) (S.faults s)) sources.new) files → IfErr result (NamesFirst header.now.shape header.now.share helpers.now files (stripe_count header.now.shape header.now.size)) }
+    // Each helper gave just its parts, and no other source gave a byte.
+    ensures asked { OnOk result (AreAsked helpers.now (flat_map (block_ranges header.now.shape header.now.share) (range_with_len 0 (stripe_count header.now.shape header.now.size))) (all_chunks header.now.shape) (map (λ s. seen (S.given s) (S.ends s) (S.faults s)) sources.old) (map (λ s. seen (S.given s) (S.ends s) (S.faults s)) sources.new)) }
+    ensures read { IsErrOf result MendFault.ReadFault → OneReadFails (map (λ s. seen (S.given s) (S.ends s) (S.faults s)) sources.old) (map (λ s. seen (S.given s) (S.ends s) (S.faults s)) sources.new) }
+    ensures reads { (IsErrOf result MendFault.ReadFault → ⊥) → NoReadFails (map (λ s. seen (S.given s) (S.ends s) (S.faults s)) sources.old) (map (λ s. seen (S.given s) (S.ends s) (S.faults s)) sources.new) }
+    ensures write { IsErrOf result MendFault.WriteFault → Rises (K.faults sink.old) (K.faults sink.new) }
+    ensures writes { (IsErrOf result MendFault.WriteFault → ⊥) → K.faults sink.new ≡ K.faults sink.old }
+{
+    let stripes = header.stripe_count();
+    let plan = make_plan(alloc, header.geometry(), header.share())?;
+    match mend_stripes(alloc, crc, sources, &plan, helpers, sink, stripes) {
+        Ok(()) => {}
+        Err(fault) => return Err(fault),
+    }
+    match write_header(alloc, crc, sink, header) {
+        Ok(()) => Ok(()),
+        Err(PutFault::WriteFault) => Err(MendFault::WriteFault),
+        Err(PutFault::OutOfMemory) => Err(MendFault::OutOfMemory),
+    }
+}

@@ -1,0 +1,134 @@
+//! What a mend reads of a helper's block.
+ghost use Rattle.std.specs.Prelude.{◌≡◌, ◌+◌, ◌^◌, ◌≤◌, ◌<◌, ℕ, List, [], ◌∷◌, length, take, slice_range, All, IfOk, IfSome, OnOk, IsErrOf};
+ghost use Rattle.clay_bytes.specs.Stream.{Rises};
+ghost use Rattle.clay_aloof.specs.Repair.{part_bytes};
+ghost use Rattle.file_bytes.specs.Places.{Shows};
+ghost use Rattle.share_format.specs.Blocks.{block_length, chunk_start};
+ghost use Rattle.share_format.specs.Mend.{block_ranges};
+ghost use Rattle.share_format.specs.Shares.{block_start};
+ghost use Rattle.share_mends.specs.Places.{GivesAt, GivesJust};
+ghost use Rattle.share_mends.specs.Spans.{range_at, ranges_at, span_bytes, IsShort, AreShort, IsPlan};
+ghost use Rattle.share_mends.specs.Parts.{piece_in, IsFoundPart};
+
+use crate::spans::{Plan, Span};
+use crc64::Crc64;
+use file_bytes::{ReadFault, SourceAt, read_exact_at};
+use share_blocks::is_part;
+use share_files::{BlockFault, block_place, chunk_place};
+use std::alloc::{AllocError, Global};
+
+// Reads a span of the block that begins at a place, into the buffer from an index on.
+fn read_span<S: SourceAt>(
+    source: &mut S,
+    place: u64,
+    span: Span,
+    at: usize,
+    buf: &mut [u8],
+) -> Result<(), ReadFault>
+    requires room { at + span.size ≤ length buf.old }
+    requires place { place + span.start + span.size < 2 ^ 64 }
+    ensures given { OnOk result (GivesAt (S.given source.old) (range_at place span ∷ []) (slice_range buf.new at (at + span.size)) (S.given source.new)) }
+    ensures kept { take at buf.new ≡ take at buf.old }
+    ensures on { (IsErrOf result ReadFault.Ended → ⊥) → S.ends source.new ≡ S.ends source.old }
+    ensures shown { (file : List ℕ) → Shows file (S.given source.new) (S.ends source.new) → Shows file (S.given source.old) (S.ends source.old) }
+    ensures short { (file : List ℕ) → Shows file (S.given source.new) (S.ends source.new) → IsErrOf result ReadFault.Ended → IsShort place span file }
+    ensures cause { IsErrOf result ReadFault.Failed → Rises (S.faults source.old) (S.faults source.new) }
+    ensures steady { (IsErrOf result ReadFault.Failed → ⊥) → S.faults source.new ≡ S.faults source.old }
+    ensures count { S.faults source.old ≤ S.faults source.new }
+{
+    let end = at + span.size as usize;
+    let piece = &mut buf[at..end];
+    read_exact_at(source, place + span.start, piece)
+}
+
+// Reads the spans of the block that begins at a place, one behind another into the buffer.
+fn read_spans<S: SourceAt>(
+    source: &mut S,
+    place: u64,
+    spans: &[Span],
+    buf: &mut [u8],
+) -> Result<(), ReadFault>
+    requires room { length buf.old ≡ span_bytes spans.now }
+    requires place { All (λ span. place + span.start + span.size < 2 ^ 64) spans.now }
+    ensures given { OnOk result (GivesAt (S.given source.old) (ranges_at place spans.now) buf.new (S.given source.new)) }
+    ensures on { (IsErrOf result ReadFault.Ended → ⊥) → S.ends source.new ≡ S.ends source.old }
+    ensures shown { (file : List ℕ) → Shows file (S.given source.new) (S.ends source.new) → Shows file (S.given source.old) (S.ends source.old) }
+    ensures short { (file : List ℕ) → Shows file (S.given source.new) (S.ends source.new) → IsErrOf result ReadFault.Ended → AreShort place spans.now file }
+    ensures cause { IsErrOf result ReadFault.Failed → Rises (S.faults source.old) (S.faults source.new) }
+    ensures steady { (IsErrOf result ReadFault.Failed → ⊥) → S.faults source.new ≡ S.faults source.old }
+    ensures count { S.faults source.old ≤ S.faults source.new }
+{
+    let mut at = 0;
+    for span in spans {
+        match read_span(source, place, *span, at, buf) {
+            Ok(()) => at += span.size as usize,
+            Err(fault) => return Err(fault),
+        }
+    }
+    Ok(())
+}
+
+fn make_room(alloc: Global, len: usize) -> Result<Vec<u8>, AllocError>
+    ensures { IfOk result (λ room. length room.items ≡ len) }
+{
+    vec![in alloc; 0u8; len]
+}
+
+// The part behind the table in front of it, none where a subchunk hasn't the checksum that the table has for it.
+fn good_part(
+    alloc: Global,
+    crc: &Crc64,
+    plan: &Plan,
+    piece: &[u8],
+) -> Result<Option<Vec<u8>>, AllocError>
+    requires plan { IsPlan plan.now }
+    requires size { length piece.now ≡ chunk_start plan.now.geometry + part_bytes plan.now.geometry }
+    ensures found { IfOk result (IsFoundPart plan.now.geometry plan.now.lost piece.now) }
+    ensures long { IfOk result (λ part. IfSome part (λ v. length v.items ≡ part_bytes plan.now.geometry)) }
+{
+    let start = chunk_place(plan.geometry) as usize;
+    if !is_part(
+        crc,
+        plan.geometry,
+        &plan.layers,
+        &piece[..start],
+        &piece[start..],
+    ) {
+        return Ok(None);
+    }
+    let part = Vec::from_slice(alloc, &piece[start..])?;
+    Ok(Some(part))
+}
+
+/// A helper's part for a mend of a stripe, read from its share: none where a byte of it is missing or a checksum is another.
+pub(crate) fn read_part<S: SourceAt>(
+    alloc: Global,
+    crc: &Crc64,
+    source: &mut S,
+    plan: &Plan,
+    stripe: u64,
+) -> Result<Option<Vec<u8>>, BlockFault>
+    requires plan { IsPlan plan.now }
+    requires place { block_start plan.now.geometry stripe + block_length plan.now.geometry < 2 ^ 64 }
+    // Whatever file the source shows, its part is found or missed as it is.
+    ensures found { (file : List ℕ) → Shows file (S.given source.new) (S.ends source.new) → IfOk result (IsFoundPart plan.now.geometry plan.now.lost (piece_in plan.now.geometry plan.now.lost stripe file)) }
+    ensures long { IfOk result (λ part. IfSome part (λ v. length v.items ≡ part_bytes plan.now.geometry)) }
+    // It is a file that the source showed before.
+    ensures shown { (file : List ℕ) → Shows file (S.given source.new) (S.ends source.new) → Shows file (S.given source.old) (S.ends source.old) }
+    ensures given { IfOk result (λ part. IfSome part (λ v. GivesJust (S.given source.old) (block_ranges plan.now.geometry plan.now.lost stripe) (S.given source.new))) }
+    ensures on { IfOk result (λ part. IfSome part (λ v. S.ends source.new ≡ S.ends source.old)) }
+    ensures cause { IsErrOf result BlockFault.ReadFault → Rises (S.faults source.old) (S.faults source.new) }
+    ensures steady { (IsErrOf result BlockFault.ReadFault → ⊥) → S.faults source.new ≡ S.faults source.old }
+    ensures count { S.faults source.old ≤ S.faults source.new }
+{
+    let len = chunk_place(plan.geometry) as usize + plan.geometry.part_len() as usize;
+    let mut piece = make_room(alloc, len)?;
+    let place = block_place(plan.geometry, stripe);
+    match read_spans(source, place, &plan.spans, &mut piece) {
+        Ok(()) => {}
+        Err(ReadFault::Failed) => return Err(BlockFault::ReadFault),
+        Err(ReadFault::Ended) => return Ok(None),
+    }
+    let part = good_part(alloc, crc, plan, &piece)?;
+    Ok(part)
+}
