@@ -10,7 +10,6 @@ use Rattle.clay_bytes.specs.Stream.{Accepts}
 use Rattle.clay_bytes.proofs.StreamLemmas.{and-more, gains-then, accepts-nothing}
 use Rattle.clay_model.specs.Code.{padded, stripes_below}
 use Rattle.clay_aloof.specs.Shape.{AloofShape, all_chunks, stripe_bytes}
-use Rattle.clay_aloof.specs.Limits.{IsAloof}
 use Rattle.share_format.specs.Cut.{stripe_count, file_stripes}
 use Rattle.share_format.specs.Blocks.{block_length}
 use Rattle.share_format.specs.Shares.{block_start}

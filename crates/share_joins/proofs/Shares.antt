@@ -1,16 +1,15 @@
 -- Any shares, as many as there are data chunks, can be joined.
-use Rattle.std.proofs.Common.{◌≡◌, ℕ, zero, suc, ◌+◌, ◌-◌, ◌*◌, ◌<◌, ◌≤◌, Bool, true, false, cond, List, [], length, get_or, take, drop, refl, sym, ap, subst, ◌∙◌, inl, inr, arith}
-use Rattle.std.specs.Prelude.{◌⊎◌}
+use Rattle.std.proofs.Common.{◌≡◌, ℕ, zero, suc, ◌+◌, ◌*◌, ◌<◌, ◌≤◌, Bool, true, false, cond, List, [], length, get_or, sym, ap, subst, ◌∙◌, inl, inr, arith}
 use Rattle.std.proofs.lemmas.Bool.{cases_Bool}
 use Rattle.clay_bytes.specs.Stream.{Rises}
 use Rattle.clay_grid.specs.Shape.{chunk_length}
 use Rattle.clay_grid.specs.Score.{count_below}
-use Rattle.clay_aloof.specs.Shape.{AloofShape, all_chunks, grid_of, stripe_bytes}
+use Rattle.clay_aloof.specs.Shape.{AloofShape, all_chunks, grid_of}
 use Rattle.clay_aloof.specs.Limits.{IsAloof}
-use Rattle.share_format.specs.Cut.{stripe_count, AreCodewords}
-use Rattle.share_format.specs.Blocks.{block_of, chunk_start, block_length, IsBlock}
+use Rattle.share_format.specs.Cut.{stripe_count}
+use Rattle.share_format.specs.Blocks.{block_of, block_length, IsBlock}
 use Rattle.share_format.specs.Header.{Header}
-use Rattle.share_format.specs.Shares.{share_with, chunks_at, IsShare}
+use Rattle.share_format.specs.Shares.{chunks_at, IsShare}
 use Rattle.share_format.proofs.AnyShares.{one_kept}
 use Rattle.share_format.proofs.Blocks.{block_in_share, are_chunks, count_chunks, chunk_of_word}
 use Rattle.share_format.proofs.Determined.{same_words}

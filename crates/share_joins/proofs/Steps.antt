@@ -1,5 +1,5 @@
 -- What one more stripe that was read says of each share.
-use Rattle.std.proofs.Common.{◌≡◌, ℕ, ◌+◌, ◌-◌, ◌^◌, ◌<◌, ◌≤◌, Bool, true, List, [], length, get_or, Option, None, Some, is_none, Vec, Global, refl, sym, subst, ap, ◌∙◌, inl, inr, arith, below_more}
+use Rattle.std.proofs.Common.{◌≡◌, ℕ, ◌+◌, ◌<◌, ◌≤◌, true, List, [], length, get_or, Option, None, Some, is_none, Vec, Global, refl, sym, subst, ap, ◌∙◌, inl, inr, arith, below_more}
 use Rattle.std.specs.Prelude.{◌⊎◌}
 use Rattle.std.proofs.lemmas.Bool.{true≢false}
 use Rattle.clay_bytes.specs.Stream.{Rises}

@@ -1,11 +1,9 @@
 -- Which shares lack blocks, and why a file can't be joined.
-use Rattle.std.specs.Prelude.{◌≡◌, ℕ, ◌+◌, ◌<◌, ◌⊎◌, Bool, true, false, List, [], get_or, Option, Some, None}
+use Rattle.std.specs.Prelude.{◌≡◌, ℕ, ◌<◌, ◌⊎◌, Bool, true, false, List, [], get_or, Option, Some, None}
 use Rattle.clay_bytes.specs.Stream.{Rises}
 use Rattle.clay_grid.specs.Score.{count_below}
 use Rattle.clay_aloof.specs.Shape.{AloofShape, all_chunks}
-use Rattle.share_format.specs.Cut.{stripe_count}
 use Rattle.share_format.specs.Blocks.{IsBlock}
-use Rattle.share_format.specs.Header.{Header}
 use Rattle.share_files.specs.Found.{block_in}
 use Rattle.share_files.specs.Seen.{Seen, seen_of}
 

@@ -1,5 +1,5 @@
 -- What has come of a join after some stripes.
-use Rattle.std.specs.Prelude.{◌≡◌, ℕ, ◌+◌, ◌<◌, ◌≤◌, Option, None, List, [], length, get_or, take}
+use Rattle.std.specs.Prelude.{◌≡◌, ℕ, ◌+◌, ◌<◌, ◌≤◌, Option, None, List, length, get_or, take}
 use Rattle.crc64.specs.Remainder.{checksum_of}
 use Rattle.clay_bytes.specs.Stream.{Accepts}
 use Rattle.file_bytes.specs.Places.{Shows}

@@ -3,7 +3,7 @@ use Rattle.std.proofs.Math.ListN.{set}
 use Rattle.std.proofs.lemmas.List.{length_push}
 use Rattle.clay_model.specs.Left.{AreLong}
 use Rattle.share_format.specs.Blocks.{block_length}
-use Rattle.share_files.specs.Seen.{Seen, seen}
+use Rattle.share_files.specs.Seen.{seen}
 use Rattle.share_joins.specs.Gathered.{AreRead}
 use Rattle.share_joins.proofs.Reading.{read_more, long_more}
 use Rattle.share_joins.proofs.fetching.find_blocks.Goals as goal
