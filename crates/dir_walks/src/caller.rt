@@ -1,6 +1,6 @@
 //! An actor with its ticket, and its steps at the directory, each where the actor may make it.
 
-ghost use Rattle.std.specs.Prelude.{◌≡◌, IfOk};
+ghost use Rattle.std.specs.Prelude.{◌≡◌, ◌≤◌, true, IfOk, IsTrue};
 ghost use Rattle.store_core.specs.Agreement.{ActorToken};
 ghost use Rattle.dir_walks.specs.Callers.{IsReady, Steps, is_seated};
 ghost use Rattle.stripe_dir.specs.TicketSteps.{DrewBy};
@@ -114,6 +114,13 @@ impl Caller {
 
     /// Leaves the directory.
     pub fn leave(self) {
+        self.into_ticket().leave();
+    }
+
+    /// Its ticket.
+    pub(crate) fn into_ticket(self) -> Ticket
+        ensures { result ≡ self.token }
+    {
         let Caller {
             who: _,
             ticket,
@@ -123,7 +130,14 @@ impl Caller {
             drawn: _,
             request: _,
         } = self;
-        ticket.leave();
+        ticket
+    }
+
+    /// Whether it is in no call and hasn't used this number.
+    pub(crate) fn may_use(&self, number: u32) -> bool
+        ensures { IsTrue result → (is_seated self.now.stage ≡ true) × (self.now.unused ≤ number) }
+    {
+        self.is_seated() && self.unused <= u64::from(number)
     }
 
     fn is_seated(&self) -> bool

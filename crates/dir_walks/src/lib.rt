@@ -10,6 +10,7 @@ pub mod placing;
 pub mod rows;
 pub mod said;
 pub mod shelf;
+pub mod snapshots;
 pub mod stage;
 pub mod store;
 pub mod stripe;

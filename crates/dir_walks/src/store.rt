@@ -7,6 +7,8 @@ ghost use Rattle.dir_walks.specs.Stores.{IsStore};
 ghost use Rattle.version_seal.specs.Sealer.{sealer_at};
 
 use crate::caller::{Answer, Caller, Refusal, Step};
+use crate::snapshots::snapshot;
+use snapshot_view::SnapFault;
 use std::alloc::{AllocError, Global};
 use std::marker::Model;
 use std::test::Fail;
@@ -88,6 +90,30 @@ impl<'a> Store<'a> {
         first.leave();
         second.leave();
         repairer.leave();
+    }
+
+    /// The first client takes a snapshot with its one ticket, under this number, and drops it again. Then
+    /// all leave. Where there were too many objects, how many.
+    pub fn snapshot(self, number: u32) -> Result<Option<u64>, Refusal> {
+        let Store {
+            alloc,
+            book,
+            mut directory,
+            first,
+            second,
+            repairer,
+        } = self;
+        second.leave();
+        repairer.leave();
+        if !first.may_use(number) {
+            first.leave();
+            return Err(Refusal::NotNow);
+        }
+        match snapshot(alloc, &mut directory, book, first, number) {
+            Ok(()) => Ok(None),
+            Err(SnapFault::TooMany { objects }) => Ok(Some(objects)),
+            Err(SnapFault::OutOfMemory) => Err(Refusal::Short),
+        }
     }
 
     pub fn directory(&self) -> &Directory {
