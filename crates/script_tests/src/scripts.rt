@@ -33,9 +33,12 @@ const WRITTEN: &[u8] = b"\
     clay 1\ncode 2 2 1\nclient\nget abcdefghijklmnopqrstuvwxyz0123456789._-abcdefghijklmnopqrstuvwxy\nschedule\nend\n|\
     clay 1\ncode 2 2 1\nclient\nwrite a 4294967295 fill:00:2097145\nread a 4294967295 67108864\nschedule\nend\n";
 
+// A script is written as it was read, and so is its copy.
 fn writes_back(rt: &(impl Abort + AllocGlobal), text: &[u8]) -> Result<(), Fail> {
     let whole = written(rt.alloc(), text)?;
     same(&whole, text)?;
+    let script = script_of(read_script(rt.alloc(), text))?;
+    same(&write_script(rt.alloc(), &script.copy()?)?, text)?;
     begins_with(rt.alloc(), text, b"H 0 c0.0 ok\nend\n")
 }
 
@@ -55,21 +58,6 @@ fn writes_larger_data(rt: HostRuntime) -> Result<(), Fail> {
     let text = realistic(rt.alloc())?;
     assert_eq!(rt; text.len(), 1084);
     writes_back(&rt, &text)
-}
-
-// A copy is written as the script that was read.
-fn copies_back(alloc: Global, text: &[u8]) -> Result<(), Fail> {
-    let script = script_of(read_script(alloc, text))?;
-    let copy = script.copy()?;
-    same(&write_script(alloc, &copy)?, text)
-}
-
-#[test]
-fn copies_what_it_reads(rt: HostRuntime) -> Result<(), Fail> {
-    for text in WRITTEN.split(|byte| *byte == b'|') {
-        copies_back(rt.alloc(), text)?;
-    }
-    copies_back(rt.alloc(), &realistic(rt.alloc())?)
 }
 
 // The script of larger data.
