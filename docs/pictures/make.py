@@ -197,29 +197,38 @@ def layers():
     return found
 
 
-def wrapped(words, size, room):
-    """Words in lines that stay within the room."""
-    lines = ['']
-    for word in words:
-        longer = f'{lines[-1]} {word}'.strip()
-        if widest(longer, size, 'normal') <= room:
-            lines[-1] = longer
-        else:
-            lines.append(word)
-    return lines
+def holds_of_crates():
+    """What each crate holds, by the rows of docs/CRATES.md."""
+    with open(os.path.join(HERE, '../CRATES.md')) as lines:
+        rows = [line.strip().strip('|').split(' | ') for line in lines if line.startswith('| `')]
+    return {name.strip(' `'): holds.strip().replace('`', '') for name, holds in rows}
+
+
+def brief(words, size, room):
+    """As many of the words as stay within the room, up to a comma or semicolon where that leaves enough of them."""
+    ends = [at for at, letter in enumerate(words) if letter in ',;' and at > 30] + [len(words)]
+    fitting = [end for end in ends if widest(words[:end], size, 'normal') <= room]
+    if fitting:
+        return words[:fitting[-1]]
+    while widest(words + ' …', size, 'normal') > room:
+        words = words[:words.rindex(' ')]
+    return words.rstrip(',;') + ' …'
 
 
 def draw_layers():
-    drawn = [(name, holds, wrapped(crates, 12, 590)) for name, holds, crates in reversed(layers())]
-    high = [46 + 17 * len(lines) for _, _, lines in drawn]
-    picture = Picture(800, 70 + sum(high) + 8 * len(high), 'The tiers: a crate names none of a box above its own')
+    holds_of, drawn = holds_of_crates(), list(reversed(layers()))
+    high = [44 + 17 * -(-len(crates) // 2) for _, _, crates in drawn]
+    picture = Picture(1000, 70 + sum(high) + 8 * len(high), 'The tiers: a crate names none of a box above its own')
     top = 58
-    for (name, holds, lines), height in zip(drawn, high):
-        picture.box(24, top, 752, height, PALE if name.startswith('tests') else LIGHT_BLUE, 'none', 6)
+    for (name, holds, crates), height in zip(drawn, high):
+        picture.box(24, top, 952, height, PALE if name.startswith('tests') else LIGHT_BLUE, 'none', 6)
         picture.text(36, top + 24, name, 15, weight='bold')
-        picture.text(176, top + 22, holds or 'of all layers', 13, fill=GREY)
-        for number, line in enumerate(lines):
-            picture.text(176, top + 44 + 17 * number, line, 12)
+        picture.text(176, top + 23, holds, 13, fill=GREY)
+        half = -(-len(crates) // 2)
+        for number, crate in enumerate(crates):
+            left, down = 36 + 472 * (number // half), top + 44 + 17 * (number % half)
+            picture.text(left, down, crate, 12, weight='bold')
+            picture.text(left + 118, down, brief(holds_of[crate], 11, 340), 11)
         top += height + 8
     return picture
 
