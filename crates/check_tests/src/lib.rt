@@ -1,4 +1,7 @@
-//! Tests of the checker: transcripts that each break one rule, with the line that is printed.
+//! Tests of the checker: the store's worked transcripts are histories by the rules alone, and those in which something is
+//! changed or left out are none; transcripts that each break one rule, with the line that is printed. Frames, requests and
+//! answers. The plain map with its names and contents, sources and sinks. All of it is tests, so without them the crate is
+//! empty, and it is proved once.
 #![tactic(auto)]
 
 #[cfg(test)]
@@ -12,10 +15,30 @@ mod legal;
 #[cfg(test)]
 mod order;
 #[cfg(test)]
+mod plain_map;
+#[cfg(test)]
 mod refusals;
 #[cfg(test)]
 mod requests;
 #[cfg(test)]
+pub mod spoiled_rows;
+#[cfg(test)]
+mod streams;
+#[cfg(test)]
 mod tables;
 #[cfg(test)]
 mod tails;
+#[cfg(test)]
+pub mod worked_rows;
+
+#[cfg(test)]
+use std::test::Fail;
+
+// What came out as it has to; else the test fails with this name.
+#[cfg(test)]
+fn holds(as_wanted: bool, what: &'static str) -> Result<(), Fail> {
+    if as_wanted {
+        return Ok(());
+    }
+    Err(Fail::from(what))
+}
