@@ -1,12 +1,26 @@
-//! Tests of sealed versions, and of the chunk server over them.
+//! Tests of the store's parts: sealed versions and the chunk server over them; the directory, with each
+//! answer of its calls, whole puts, puts that are given up, strays, and a snapshot that is refused. All
+//! of it is tests, so without them the crate is empty, and it is proved once.
 #![tactic(auto)]
 
-pub mod sealing;
+#[cfg(test)]
+mod answers;
+#[cfg(test)]
+mod memory;
+#[cfg(test)]
+mod sealing;
 #[cfg(test)]
 mod servers;
-pub mod shelf;
+#[cfg(test)]
+mod shelf;
+#[cfg(test)]
+mod snapshots;
+#[cfg(test)]
+mod strays;
 #[cfg(test)]
 mod versions;
+#[cfg(test)]
+mod walks;
 
 #[cfg(test)]
 use std::test::Fail;

@@ -1,5 +1,5 @@
-//! Tests of the chunk server. Each runs over a borrowed shelf, so that little is alive at each of its steps, and one function
-//! makes the shelves, so that it is proved once.
+//! Tests of the chunk server: steps at one server, each with what has to come of it. One function makes them all, so that each
+//! of them is proved once.
 use crate::holds;
 use crate::sealing::small_geometry;
 use crate::shelf::Shelf;
@@ -9,29 +9,30 @@ use std::test::Fail;
 use store_map::{Found, Placement, Version};
 use version_seal::Book;
 
-/// What a test does with a shelf.
+/// A step with versions by their numbers.
 #[derive(Clone, Copy)]
-enum Course {
-    Fetches,
-    HoldsTwice,
-    Discards,
-    Wipes,
-    GoesAway,
-}
-
-fn take(course: Course, shelf: &mut Shelf, alloc: Global) -> Result<(), Fail> {
-    match course {
-        Course::Fetches => fetches(shelf, alloc),
-        Course::HoldsTwice => holds_twice(shelf, alloc),
-        Course::Discards => discards(shelf, alloc),
-        Course::Wipes => wipes(shelf, alloc),
-        Course::GoesAway => goes_away(shelf, alloc),
-    }
-}
-
-fn on_a_shelf(alloc: Global, course: Course) -> Result<(), Fail> {
-    let (book, sealer) = Book::free(alloc, small_geometry()?)?;
-    take(course, &mut Shelf::new(alloc, &book, sealer)?, alloc)
+enum Step<'a> {
+    /// Is placed so.
+    Prepare(u64, Placement),
+    /// This is told.
+    Install(u64, Installed),
+    /// Of these layers it gives these bytes.
+    Fetch(u64, &'a [u32], &'a [u8]),
+    /// Neither a fetch nor a look finds the version, and they tell why.
+    Lack(u64, Found),
+    Settle(u64),
+    Discard(u64),
+    Wipe,
+    Down,
+    Up,
+    /// How many chunks are held, how often the server was emptied, and how many subchunks it gave.
+    Counts(usize, u64, u64),
+    /// Whether it is away, and how often it was made so.
+    Away(bool, u64),
+    /// The version of its chunk at a place, which it tells that it has.
+    HeldAt(usize, u64),
+    /// It has no chunk at this place.
+    Ends(usize),
 }
 
 // A version is prepared, and placed so.
@@ -77,96 +78,146 @@ fn is_away(server: &Server, away: bool, downs: u64) -> bool {
     server.away() == away && server.downs() == downs
 }
 
-// Whether the server's chunk at this place is of this version.
-fn has_version_at(server: &Server, place: usize, version: Option<Version>) -> bool {
-    server.stamp_at(place).map(|stamp| stamp.version()) == version
+// The version of the server's chunk at this place.
+fn version_at(server: &Server, place: usize) -> Option<Version> {
+    server.stamp_at(place).map(|stamp| stamp.version())
 }
 
-fn fetches(shelf: &mut Shelf, alloc: Global) -> Result<(), Fail> {
-    prepares(shelf, alloc, 0, Placement::At(0))?;
-    gives(shelf, 0, &[1, 0], &[6, 5])?;
-    gives(shelf, 0, &[0, 1, 2, 3], &[5, 6, 7, 8])?;
-    gives(shelf, 0, &[3, 1, 3], &[8, 6, 8])?;
-    gives(shelf, 0, &[], &[])?;
-    holds(has_counts(shelf.server(), 1, 0, 9), "counts")?;
-    holds(shelf.server().number() == 1, "number")?;
-    holds(shelf.server().geometry() == small_geometry()?, "geometry")
+// What a step without memory does to the server.
+fn change(shelf: &mut Shelf, step: Step<'_>) {
+    match step {
+        Step::Settle(version) => shelf.settle(version),
+        Step::Discard(version) => shelf.discard(version),
+        Step::Wipe => shelf.wipe(),
+        Step::Down => shelf.down(),
+        Step::Up => shelf.up(),
+        _ => {}
+    }
+}
+
+// Whether the server is as the step says.
+fn is_so(server: &Server, step: Step<'_>) -> bool {
+    match step {
+        Step::Counts(held, epoch, taken) => has_counts(server, held, epoch, taken),
+        Step::Away(away, downs) => is_away(server, away, downs),
+        Step::HeldAt(place, version) => {
+            let version = Version(version);
+            version_at(server, place) == Some(version) && server.has(version) == Presence::Here
+        }
+        Step::Ends(place) => version_at(server, place).is_none(),
+        _ => true,
+    }
+}
+
+fn make(shelf: &mut Shelf, alloc: Global, step: Step<'_>) -> Result<(), Fail> {
+    match step {
+        Step::Prepare(version, placed) => prepares(shelf, alloc, version, placed),
+        Step::Install(version, wanted) => installs(shelf, alloc, version, wanted),
+        Step::Fetch(version, layers, bytes) => gives(shelf, version, layers, bytes),
+        Step::Lack(version, why) => lacks(shelf, version, why),
+        other => {
+            change(shelf, other);
+            holds(is_so(shelf.server(), other), "as it is to be")
+        }
+    }
+}
+
+fn make_all(shelf: &mut Shelf, alloc: Global, steps: &[Step<'_>]) -> Result<(), Fail> {
+    for step in steps {
+        make(shelf, alloc, *step)?;
+    }
+    Ok(())
+}
+
+// Makes the steps at a new server.
+fn walk(alloc: Global, steps: &[Step<'_>]) -> Result<(), Fail> {
+    let (book, sealer) = Book::free(alloc, small_geometry()?)?;
+    make_all(&mut Shelf::new(alloc, &book, sealer)?, alloc, steps)
 }
 
 #[test]
 fn fetches_in_the_order_asked(rt: HostRuntime) -> Result<(), Fail> {
-    on_a_shelf(rt.alloc(), Course::Fetches)
-}
-
-fn holds_twice(shelf: &mut Shelf, alloc: Global) -> Result<(), Fail> {
-    let told = shelf.prepare_and_install(alloc, 7)?;
-    holds(told == (Placement::At(0), Installed::AlreadyThere), "both")?;
-    installs(shelf, alloc, 3, Installed::Placed { epoch: 0 })?;
-    shelf.settle(7);
-    shelf.settle(5);
-    gives(shelf, 7, &[0, 1, 2, 3], &[5, 6, 7, 8])?;
-    holds(shelf.server().held() == 2, "held")?;
-    holds(has_version_at(shelf.server(), 0, Some(Version(3))), "first")?;
-    holds(
-        has_version_at(shelf.server(), 1, Some(Version(7))),
-        "second",
-    )?;
-    holds(has_version_at(shelf.server(), 2, None), "third")
+    let steps = [
+        Step::Prepare(0, Placement::At(0)),
+        Step::Fetch(0, &[1, 0], &[6, 5]),
+        Step::Fetch(0, &[0, 1, 2, 3], &[5, 6, 7, 8]),
+        Step::Fetch(0, &[3, 1, 3], &[8, 6, 8]),
+        Step::Fetch(0, &[], &[]),
+        Step::Counts(1, 0, 9),
+    ];
+    walk(rt.alloc(), &steps)
 }
 
 #[test]
 fn a_held_version_keeps_its_chunk(rt: HostRuntime) -> Result<(), Fail> {
-    on_a_shelf(rt.alloc(), Course::HoldsTwice)
-}
-
-fn discards(shelf: &mut Shelf, alloc: Global) -> Result<(), Fail> {
-    for version in [2, 3, 1] {
-        prepares(shelf, alloc, version, Placement::At(0))?;
-    }
-    shelf.discard(2);
-    shelf.discard(4);
-    holds(shelf.server().held() == 2, "held")?;
-    holds(shelf.server().has(Version(1)) == Presence::Here, "first")?;
-    holds(shelf.server().has(Version(3)) == Presence::Here, "third")?;
-    lacks(shelf, 2, Found::Absent { epoch: 0 })
+    let steps = [
+        Step::Prepare(7, Placement::At(0)),
+        Step::Install(7, Installed::AlreadyThere),
+        Step::Install(3, Installed::Placed { epoch: 0 }),
+        Step::Settle(7),
+        Step::Settle(5),
+        Step::Fetch(7, &[0, 1, 2, 3], &[5, 6, 7, 8]),
+        Step::Counts(2, 0, 4),
+        Step::HeldAt(0, 3),
+        Step::HeldAt(1, 7),
+        Step::Ends(2),
+    ];
+    walk(rt.alloc(), &steps)
 }
 
 #[test]
 fn a_discard_leaves_the_others(rt: HostRuntime) -> Result<(), Fail> {
-    on_a_shelf(rt.alloc(), Course::Discards)
-}
-
-fn wipes(shelf: &mut Shelf, alloc: Global) -> Result<(), Fail> {
-    prepares(shelf, alloc, 0, Placement::At(0))?;
-    gives(shelf, 0, &[1, 0], &[6, 5])?;
-    shelf.wipe();
-    holds(has_counts(shelf.server(), 0, 1, 2), "counts")?;
-    lacks(shelf, 0, Found::Absent { epoch: 1 })?;
-    holds(shelf.server().taken() == 2, "taken")?;
-    installs(shelf, alloc, 1, Installed::Placed { epoch: 1 })?;
-    prepares(shelf, alloc, 2, Placement::At(1))
+    let steps = [
+        Step::Prepare(2, Placement::At(0)),
+        Step::Prepare(3, Placement::At(0)),
+        Step::Prepare(1, Placement::At(0)),
+        Step::Discard(2),
+        Step::Discard(4),
+        Step::Counts(2, 0, 0),
+        Step::HeldAt(0, 1),
+        Step::HeldAt(1, 3),
+        Step::Lack(2, Found::Absent { epoch: 0 }),
+    ];
+    walk(rt.alloc(), &steps)
 }
 
 #[test]
 fn a_wipe_raises_the_epoch(rt: HostRuntime) -> Result<(), Fail> {
-    on_a_shelf(rt.alloc(), Course::Wipes)
-}
-
-fn goes_away(shelf: &mut Shelf, alloc: Global) -> Result<(), Fail> {
-    prepares(shelf, alloc, 0, Placement::At(0))?;
-    shelf.down();
-    shelf.down();
-    holds(is_away(shelf.server(), true, 2), "away")?;
-    lacks(shelf, 0, Found::Away { downs: 2 })?;
-    prepares(shelf, alloc, 1, Placement::Skipped(2))?;
-    installs(shelf, alloc, 2, Installed::Away { downs: 2 })?;
-    shelf.up();
-    holds(is_away(shelf.server(), false, 2), "present")?;
-    holds(has_counts(shelf.server(), 1, 0, 0), "counts")?;
-    gives(shelf, 0, &[1, 0], &[6, 5])
+    let steps = [
+        Step::Prepare(0, Placement::At(0)),
+        Step::Fetch(0, &[1, 0], &[6, 5]),
+        Step::Wipe,
+        Step::Counts(0, 1, 2),
+        Step::Lack(0, Found::Absent { epoch: 1 }),
+        Step::Counts(0, 1, 2),
+        Step::Install(1, Installed::Placed { epoch: 1 }),
+        Step::Prepare(2, Placement::At(1)),
+    ];
+    walk(rt.alloc(), &steps)
 }
 
 #[test]
 fn an_away_server_gives_and_takes_nothing(rt: HostRuntime) -> Result<(), Fail> {
-    on_a_shelf(rt.alloc(), Course::GoesAway)
+    let steps = [
+        Step::Prepare(0, Placement::At(0)),
+        Step::Down,
+        Step::Down,
+        Step::Away(true, 2),
+        Step::Lack(0, Found::Away { downs: 2 }),
+        Step::Prepare(1, Placement::Skipped(2)),
+        Step::Install(2, Installed::Away { downs: 2 }),
+        Step::Up,
+        Step::Away(false, 2),
+        Step::Counts(1, 0, 0),
+        Step::Fetch(0, &[1, 0], &[6, 5]),
+    ];
+    walk(rt.alloc(), &steps)
+}
+
+#[test]
+fn a_server_tells_its_number_and_its_code(rt: HostRuntime) -> Result<(), Fail> {
+    let (book, sealer) = Book::free(rt.alloc(), small_geometry()?)?;
+    let shelf = Shelf::new(rt.alloc(), &book, sealer)?;
+    holds(shelf.server().number() == 1, "number")?;
+    holds(shelf.server().geometry() == small_geometry()?, "geometry")
 }

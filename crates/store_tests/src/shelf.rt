@@ -24,11 +24,11 @@ impl<'a> Model for Shelf<'a> {
 
     ghost Value = { ShelfOf };
 
-    ghost use Rattle.store_tests.specs.Inside.{shelf_in, IsShelfIn};
+    ghost use Rattle.store_tests.specs.Shelf.{IsShelf};
 
-    ghost view = { shelf_in };
+    ghost view = { λ a. record { book = a.book.now; stamps = a.stamps.items; server = a.server } };
 
-    ghost invariant = { IsShelfIn };
+    ghost invariant = { λ a. IsShelf (record { book = a.book.now; stamps = a.stamps.items; server = a.server }) };
 }
 
 impl<'a> Shelf<'a> {
@@ -61,17 +61,8 @@ impl<'a> Shelf<'a> {
         }
     }
 
-    // Two of them.
-    fn sealed_twice(&self, alloc: Global, version: u64) -> Result<(SealedChunk, SealedChunk), Fail>
-        ensures { IfOk result (λ pair. IsFor self.now.book.home 1 small_code pair.0
-            × IsFor self.now.book.home 1 small_code pair.1) }
-    {
-        Ok((self.sealed(alloc, version)?, self.sealed(alloc, version)?))
-    }
-
     fn place(&mut self, chunk: SealedChunk) -> Result<Placement, Fail>
         requires { IsFor self.old.book.home 1 small_code chunk }
-        ensures { self.new.book ≡ self.old.book }
     {
         Ok(self.server.prepare(chunk)?)
     }
@@ -92,17 +83,6 @@ impl<'a> Shelf<'a> {
     pub fn install(&mut self, alloc: Global, version: u64) -> Result<Installed, Fail> {
         let chunk = self.sealed(alloc, version)?;
         self.add(chunk)
-    }
-
-    /// Prepares a version, and installs it too.
-    pub fn prepare_and_install(
-        &mut self,
-        alloc: Global,
-        version: u64,
-    ) -> Result<(Placement, Installed), Fail> {
-        let (first, again) = self.sealed_twice(alloc, version)?;
-        let placement = self.place(first)?;
-        Ok((placement, self.add(again)?))
     }
 
     pub fn settle(&mut self, version: u64) {

@@ -1,5 +1,5 @@
-//! Puts of which one may want memory: the others are done. `checks/allocations dir_tests` runs them with
-//! each allocation refused in turn.
+//! Puts of which one may want memory: the others are done. `checks/allocations store_tests` runs them with each allocation
+//! refused in turn.
 
 use dir_walks::caller::Step;
 use dir_walks::opening::small_geometry;
