@@ -1,4 +1,5 @@
 //! What no clause says of sources and sinks: calls with ample memory, std's readers and writers.
+use crate::holds;
 use clay_bytes::{
     Failed, InFault, MemSink, MemSource, Sink, Source, StdSink, StdSource, SureSink, SureSource,
     WriteFault, read_all, write_all,
@@ -14,53 +15,76 @@ fn read_with(alloc: Global, failing: &[u64], budget: u64) -> Result<Vec<u8>, InF
     read_all(alloc, &mut MemSource::new(bytes, failing), budget)
 }
 
+// Whether what was read are these bytes, or the fault is this one.
+fn is_so(read: &Result<Vec<u8>, InFault>, wanted: Result<&[u8], InFault>) -> bool {
+    match (read, wanted) {
+        (Ok(bytes), Ok(wanted)) => bytes.as_slice() == wanted,
+        (Err(fault), Err(wanted)) => *fault == wanted,
+        _ => false,
+    }
+}
+
+fn ends_so(
+    alloc: Global,
+    failing: &[u64],
+    budget: u64,
+    wanted: Result<&[u8], InFault>,
+) -> Result<(), Fail> {
+    let read = read_with(alloc, failing, budget);
+    holds(is_so(&read, wanted), "read")
+}
+
 #[test]
 fn reads_to_the_end(rt: HostRuntime) -> Result<(), Fail> {
     let alloc = rt.alloc();
-    let whole = b"abcdef".to_vec(alloc)?;
-    let copy = whole.clone()?;
-    assert_eq!(rt; read_with(alloc, &[], 6), Ok(whole));
-    assert_eq!(rt; read_with(alloc, &[2, 7], u64::MAX), Ok(copy));
-    assert_eq!(rt; read_with(alloc, &[], 5), Err(InFault::InputTooLong));
-    assert_eq!(rt; read_with(alloc, &[0], 6), Err(InFault::ReadFault));
-    assert_eq!(rt; read_with(alloc, &[1], 6), Err(InFault::ReadFault));
-    Ok(())
+    ends_so(alloc, &[], 6, Ok(b"abcdef"))?;
+    ends_so(alloc, &[2, 7], u64::MAX, Ok(b"abcdef"))?;
+    ends_so(alloc, &[], 5, Err(InFault::InputTooLong))?;
+    ends_so(alloc, &[0], 6, Err(InFault::ReadFault))?;
+    ends_so(alloc, &[1], 6, Err(InFault::ReadFault))
+}
+
+// How many bytes are read of so many.
+fn read_of(alloc: Global, count: usize, budget: u64) -> Result<usize, InFault> {
+    let long = vec![in alloc; 7u8; count]?;
+    Ok(read_all(alloc, &mut SureSource::new(long), budget)?.len())
 }
 
 #[test]
 fn reads_many_blocks(rt: HostRuntime) -> Result<(), Fail> {
     let alloc = rt.alloc();
-    let long = vec![in alloc; 7u8; 200_000]?;
-    let read = read_all(alloc, &mut SureSource::new(long), 200_000)?;
-    assert_eq!(rt; read.len(), 200_000);
-    let long = vec![in alloc; 7u8; 200_000]?;
-    let cut = read_all(alloc, &mut SureSource::new(long), 199_999);
-    assert_eq!(rt; cut, Err(InFault::InputTooLong));
-    Ok(())
+    holds(read_of(alloc, 200_000, 200_000) == Ok(200_000), "all")?;
+    holds(
+        read_of(alloc, 200_000, 199_999) == Err(InFault::InputTooLong),
+        "too long",
+    )
+}
+
+fn keeps(sink: &mut SureSink) -> Result<(), Fail> {
+    holds(write_all(sink, b"abc") == Ok(()), "first")?;
+    holds(write_all(sink, b"de") == Ok(()), "second")?;
+    holds(sink.kept() == b"abcd".as_slice(), "kept")?;
+    holds(sink.taken() == 5, "taken")
 }
 
 #[test]
 fn keeps_what_has_place(rt: HostRuntime) -> Result<(), Fail> {
-    let alloc = rt.alloc();
-    let mut sink = SureSink::new(Vec::with_capacity(alloc, 4)?);
-    assert_eq!(rt; write_all(&mut sink, b"abc"), Ok(()));
-    assert_eq!(rt; write_all(&mut sink, b"de"), Ok(()));
-    assert_eq!(rt; sink.kept(), b"abcd".as_slice());
-    assert_eq!(rt; sink.taken(), 5);
-    Ok(())
+    keeps(&mut SureSink::new(Vec::with_capacity(rt.alloc(), 4)?))
+}
+
+fn fails_once(sink: &mut MemSink) -> Result<(), Fail> {
+    holds(sink.write(b"abc") == Ok(3), "first")?;
+    holds(sink.write(b"d") == Err(Failed), "second")?;
+    holds(sink.write(b"e") == Ok(1), "third")?;
+    holds(sink.kept() == b"abce".as_slice(), "kept")?;
+    holds(sink.taken() == 4, "taken")
 }
 
 #[test]
 fn fails_at_the_listed_writes(rt: HostRuntime) -> Result<(), Fail> {
-    let alloc = rt.alloc();
-    let failing = [1u64].to_vec(alloc)?;
-    let mut sink = MemSink::new(Vec::with_capacity(alloc, 8)?, failing);
-    assert_eq!(rt; sink.write(b"abc"), Ok(3));
-    assert_eq!(rt; sink.write(b"d"), Err(Failed));
-    assert_eq!(rt; sink.write(b"e"), Ok(1));
-    assert_eq!(rt; sink.kept(), b"abce".as_slice());
-    assert_eq!(rt; sink.taken(), 4);
-    Ok(())
+    let room = Vec::with_capacity(rt.alloc(), 8)?;
+    let failing = [1u64].to_vec(rt.alloc())?;
+    fails_once(&mut MemSink::new(room, failing))
 }
 
 // Interrupts each second call, gives and takes one byte at a time, and fails once its bytes are gone.
@@ -123,42 +147,41 @@ impl Write for Full {
 }
 
 #[test]
-fn reads_again_after_an_interruption(rt: HostRuntime) -> Result<(), Fail> {
+fn reads_again_after_an_interruption() -> Result<(), Fail> {
     let mut buf = [0; 4];
     let mut source = StdSource::new(Flaky { calls: 0, left: 1 });
-    assert_eq!(rt; source.read(&mut buf), Ok(1));
-    assert_eq!(rt; buf, [b'x', 0, 0, 0]);
-    assert_eq!(rt; source.read(&mut buf), Err(Failed));
-    Ok(())
+    holds(source.read(&mut buf) == Ok(1), "first")?;
+    holds(buf == [b'x', 0, 0, 0], "byte")?;
+    holds(source.read(&mut buf) == Err(Failed), "second")
 }
 
 #[test]
-fn writes_again_after_an_interruption(rt: HostRuntime) -> Result<(), Fail> {
+fn writes_again_after_an_interruption() -> Result<(), Fail> {
     let mut sink = StdSink::new(Flaky { calls: 0, left: 2 });
-    assert_eq!(rt; write_all(&mut sink, b"ab"), Ok(()));
-    assert_eq!(rt; write_all(&mut sink, b"c"), Err(WriteFault));
-    Ok(())
+    holds(write_all(&mut sink, b"ab") == Ok(()), "first")?;
+    holds(write_all(&mut sink, b"c") == Err(WriteFault), "second")
 }
 
 #[test]
-fn writes_nothing_where_nothing_is_taken(rt: HostRuntime) -> Result<(), Fail> {
-    assert_eq!(rt; write_all(&mut StdSink::new(Full), b"c"), Err(WriteFault));
-    assert_eq!(rt; write_all(&mut StdSink::new(Full), b""), Ok(()));
-    Ok(())
+fn writes_nothing_where_nothing_is_taken() -> Result<(), Fail> {
+    let full = write_all(&mut StdSink::new(Full), b"c");
+    holds(full == Err(WriteFault), "a byte")?;
+    holds(write_all(&mut StdSink::new(Full), b"") == Ok(()), "none")
 }
 
-#[test]
-fn says_what_failed(rt: HostRuntime) -> Result<(), Fail> {
-    let alloc = rt.alloc();
-    let said = format!(in alloc;
+fn said(alloc: Global) -> Result<String, AllocError> {
+    format!(in alloc;
         "{Failed}; {}; {}; {}; {WriteFault}",
         InFault::ReadFault,
         InFault::InputTooLong,
         InFault::from(AllocError)
-    )?;
-    assert_eq!(rt;
-        said.as_str(),
-        "the read or the write failed; a read failed; the input is too long; out of memory; a write failed"
-    );
-    Ok(())
+    )
+}
+
+#[test]
+fn says_what_failed(rt: HostRuntime) -> Result<(), Fail> {
+    let wanted =
+        "the read or the write failed; a read failed; the input is too long; out of memory; a write failed";
+    let said = said(rt.alloc())?;
+    holds(said.as_bytes() == wanted.as_bytes(), "words")
 }
