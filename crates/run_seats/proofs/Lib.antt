@@ -17,4 +17,12 @@ pub mod Going
 pub mod Acting
 pub mod Having
 pub mod Falling
-pub mod Crossing
+pub mod ChunksCross
+pub mod ServersCross
+pub mod DirectoriesCross
+pub mod BooksCross
+pub mod LocksCross
+pub mod CallsCross
+pub mod ScriptsCross
+pub mod CallersCross
+pub mod SeatsCross

@@ -2,6 +2,7 @@
 //! their turns at these.
 #![tactic(auto)]
 
+pub mod crossing;
 mod directory_box;
 mod directory_steps;
 mod gate;

@@ -2,7 +2,7 @@ use denote.Param.Send.{sendable}
 use Rattle.std.proofs.Common.{sym, subst}
 use Rattle.run_seats.specs.Working.{IsWorking}
 use Rattle.run_seats.specs.declared.workers.Worker.{Worker}
-use Rattle.run_seats.proofs.Crossing.{worker_send, shifts_sync, store_sync}
+use Rattle.run_seats.proofs.SeatsCross.{worker_send, shifts_sync, store_sync}
 use Rattle.run_seats.proofs.workers.work_in_shifts.Goals as goal
 
 pub for_each_mut-requires-send-T : goal.for_each_mut-requires-send-T

@@ -12,12 +12,12 @@ use Rattle.std.specs.contracts.impls.GlobalAllocator.TheImpl.{ghosts}
 use Rattle.store_map.specs.contracts.actor.Token as token
 use Rattle.turn_lock.specs.contracts.lock.Turn as turn
 use Rattle.turn_lock.specs.contracts.lock.Lock as lock
-use Rattle.store_crossing.proofs.Books.{book_sync}
-use Rattle.store_crossing.proofs.Callers.{caller_send, sweeper_send}
-use Rattle.store_crossing.proofs.Directories.{directory_send}
-use Rattle.store_crossing.proofs.Locks.{turn_send, lock_sync}
-use Rattle.store_crossing.proofs.Scripts.{script_sync}
-use Rattle.store_crossing.proofs.Servers.{server_send}
+use Rattle.run_seats.proofs.BooksCross.{book_sync}
+use Rattle.run_seats.proofs.CallersCross.{caller_send, sweeper_send}
+use Rattle.run_seats.proofs.DirectoriesCross.{directory_send}
+use Rattle.run_seats.proofs.LocksCross.{turn_send, lock_sync}
+use Rattle.run_seats.proofs.ScriptsCross.{script_sync}
+use Rattle.run_seats.proofs.ServersCross.{server_send}
 use Rattle.run_seats.specs.contracts.directory_box.DirectoryBox as directory_box
 use Rattle.run_seats.specs.contracts.directory_box.DirectoryBoxHistoried.TheImpl as directory_ghosts
 use Rattle.run_seats.specs.contracts.directory_box.DirectoryIdentity as directory_fixed

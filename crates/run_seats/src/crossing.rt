@@ -1,6 +1,4 @@
 //! What the store's threads hold may go to them.
-#![tactic(auto)]
-
 ghost use Rattle.std.specs.Prelude.{◌<◌};
 
 use actors::Caller;

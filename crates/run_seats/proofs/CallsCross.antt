@@ -28,9 +28,9 @@ use Rattle.call_machine.specs.contracts.call_machine.Kind as kind
 use Rattle.call_machine.specs.contracts.call_machine.Task as task
 use Rattle.call_machine.specs.contracts.call_machine.CallMachine.TheInside as machine_inside
 use Rattle.call_machine.specs.contracts.call_machine.CallMachine as machine
-use Rattle.store_crossing.proofs.Chunks.{stamp_send, chunk_send}
-use Rattle.store_crossing.proofs.Servers.{opening_send}
-use Rattle.store_crossing.proofs.Locks.{option_send}
+use Rattle.run_seats.proofs.ChunksCross.{stamp_send, chunk_send}
+use Rattle.run_seats.proofs.ServersCross.{opening_send}
+use Rattle.run_seats.proofs.LocksCross.{option_send}
 
 -- what is asked is borrowed, so it is shared
 name_sync : IsSync name.the_row

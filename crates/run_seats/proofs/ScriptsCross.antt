@@ -10,7 +10,7 @@ use Rattle.store_map.specs.contracts.list_of.ListOf as list
 use Rattle.store_map.specs.contracts.script.ClientPart as client_part
 use Rattle.store_map.specs.contracts.script.RepairPart as repair_part
 use Rattle.store_map.specs.contracts.script.Script as script
-use Rattle.store_crossing.proofs.Calls.{call_sync}
+use Rattle.run_seats.proofs.CallsCross.{call_sync}
 
 list_sync : (T : RattleType) → IsSync T → IsSync (list.the_row T)
 list_sync T s = view_sync (list_inside.the_row T) _ _ _ _ (declared_sync (list_inside.the_type T) (Vec-sync T s, tt))

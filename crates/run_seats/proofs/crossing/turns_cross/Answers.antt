@@ -1,6 +1,6 @@
 use denote.Param.Send.{sendable}
-use Rattle.store_crossing.proofs.Locks.{turn_send, lock_sync}
-use Rattle.store_crossing.proofs.turns_cross.Goals as goal
+use Rattle.run_seats.proofs.LocksCross.{turn_send, lock_sync}
+use Rattle.run_seats.proofs.crossing.turns_cross.Goals as goal
 
 pub for_each_mut-requires-send-T : goal.for_each_mut-requires-send-T
 for_each_mut-requires-send-T g c κs within = search (sendable, turn_send)

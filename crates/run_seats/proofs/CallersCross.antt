@@ -12,10 +12,10 @@ use Rattle.sweeper.specs.contracts.sweeper.Sweeper as sweeper
 use Rattle.actors.specs.contracts.part.Part as part
 use Rattle.actors.specs.contracts.caller.Caller.TheInside as inside
 use Rattle.actors.specs.contracts.caller.Caller as caller
-use Rattle.store_crossing.proofs.Servers.{opening_send}
-use Rattle.store_crossing.proofs.Locks.{option_send}
-use Rattle.store_crossing.proofs.Calls.{machine_send}
-use Rattle.store_crossing.proofs.Scripts.{client_part_sync, repair_part_sync}
+use Rattle.run_seats.proofs.ServersCross.{opening_send}
+use Rattle.run_seats.proofs.LocksCross.{option_send}
+use Rattle.run_seats.proofs.CallsCross.{machine_send}
+use Rattle.run_seats.proofs.ScriptsCross.{client_part_sync, repair_part_sync}
 
 part_send : (ν : NamedLft) → IsSend (part.the_row ν)
 part_send ν =

@@ -1,7 +1,7 @@
 use denote.Param.Send.{sendable}
-use Rattle.store_crossing.proofs.Callers.{caller_send}
-use Rattle.store_crossing.proofs.Scripts.{script_sync}
-use Rattle.store_crossing.proofs.callers_cross.Goals as goal
+use Rattle.run_seats.proofs.CallersCross.{caller_send}
+use Rattle.run_seats.proofs.ScriptsCross.{script_sync}
+use Rattle.run_seats.proofs.crossing.callers_cross.Goals as goal
 
 pub for_each_mut-requires-send-T : goal.for_each_mut-requires-send-T
 for_each_mut-requires-send-T g c κs within = search (sendable, caller_send)

@@ -1,7 +1,7 @@
 use denote.Param.Send.{sendable}
-use Rattle.store_crossing.proofs.Books.{book_sync}
-use Rattle.store_crossing.proofs.Servers.{server_send}
-use Rattle.store_crossing.proofs.servers_cross.Goals as goal
+use Rattle.run_seats.proofs.BooksCross.{book_sync}
+use Rattle.run_seats.proofs.ServersCross.{server_send}
+use Rattle.run_seats.proofs.crossing.servers_cross.Goals as goal
 
 pub for_each_mut-requires-send-T : goal.for_each_mut-requires-send-T
 for_each_mut-requires-send-T g c κs within = search (sendable, server_send)
