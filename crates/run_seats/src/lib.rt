@@ -28,5 +28,6 @@ pub use seated_operator::SeatedOperator;
 pub use seated_sweeper::SeatedSweeper;
 pub use server_box::{ServerBox, ServerIdentity, StepNote};
 pub use store::Store;
+pub use sweeps::has_sweep;
 pub use turns::Turns;
 pub use workers::{Worker, work_together};

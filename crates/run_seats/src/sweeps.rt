@@ -1,5 +1,7 @@
 //! Steps of the sweeper.
-ghost use Rattle.std.specs.Prelude.{◌≡◌, ◌∷◌, ◌++◌, [], ℕ};
+ghost use Rattle.std.specs.Prelude.{◌≡◌, ◌||◌, ◌∷◌, ◌++◌, [], ℕ, is_some};
+ghost use Rattle.store_core.specs.Lookups.{first_garbage};
+ghost use Rattle.store_core.specs.Sweep.{is_busy};
 ghost use Rattle.thread_laws.specs.MadeSteps.{MadeStep};
 ghost use Rattle.place_laws.specs.Noted.{Noted};
 ghost use Rattle.run_seats.specs.declared.gate.Place.TheVariants as place;
@@ -13,8 +15,16 @@ use crate::server_box::ServerBox;
 use crate::stepper::Stepper;
 use std::snapshot::Snapshot;
 use std::sync::Wait;
+use stripe_dir::Directory;
 use sweeper::Sweeper;
 use turn_lock::{Lock, Turn};
+
+/// Whether the sweeper has a step: it is busy, or the directory has garbage.
+pub fn has_sweep(sweeper: &Sweeper, directory: &Directory) -> bool
+    ensures { result ≡ is_busy sweeper.now.at || is_some (first_garbage directory.now.core) }
+{
+    sweeper.busy() || directory.has_garbage()
+}
 
 // Gives the server back with the entry that its caller names from the arguments.
 fn give_server(

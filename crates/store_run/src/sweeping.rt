@@ -6,15 +6,9 @@ ghost use Rattle.store_run.specs.LastSweep.{steps_left};
 
 use crate::ended::Ended;
 use call_steps::Need;
+use run_seats::has_sweep;
 
 impl Ended {
-    // Whether the sweeper has something to do.
-    fn has_sweep(&self) -> bool
-        ensures { result ≡ has_sweep self.now }
-    {
-        self.sweeper.busy() || self.directory.has_garbage()
-    }
-
     // A step of the sweeper, which has fewer left after it.
     fn sweep_step(&mut self)
         ghost script: { Script }
@@ -41,7 +35,7 @@ impl Ended {
         ensures ended { IsEnded script self.new }
         ensures swept { has_sweep self.new ≡ false }
     {
-        while self.has_sweep() {
+        while has_sweep(&self.sweeper, &self.directory) {
             self.sweep_step();
         }
     }
