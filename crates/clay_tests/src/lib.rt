@@ -1,12 +1,7 @@
-//! The program's commands over sources and sinks in memory: what each answers, worked scripts as they are played, reads and writes
-//! that fail, and what the coder is asked. The worked scripts were reckoned by hand from the rules of the store; each row is named by
-//! what it shows. All of it is tests, so without them the crate is empty, and it is proved once.
+//! The program's commands over sources and sinks in memory: what each answers, reads and writes that fail, and what the coder is
+//! asked. All of it is tests, so without them the crate is empty, and it is proved once.
 #![tactic(auto)]
 
-#[cfg(test)]
-mod answers;
-#[cfg(test)]
-mod away;
 #[cfg(test)]
 mod by_threads;
 #[cfg(test)]
@@ -24,8 +19,6 @@ mod faults;
 #[cfg(test)]
 mod generate;
 #[cfg(test)]
-mod losses;
-#[cfg(test)]
 mod meeting;
 #[cfg(test)]
 mod meetings;
@@ -33,8 +26,6 @@ mod meetings;
 mod piped;
 #[cfg(test)]
 mod play;
-#[cfg(test)]
-mod races;
 #[cfg(test)]
 mod recover;
 #[cfg(test)]
