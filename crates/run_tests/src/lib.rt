@@ -1,5 +1,6 @@
-//! Tests of whole runs in threads, of what no clause says: that the sweeper sweeps while clients have steps, that a run asks
-//! the coder that it was given, and that the checker finds the transcripts of its runs legal.
+//! Tests of threads and of sessions. Whole runs in threads, of what no clause says: that the sweeper sweeps while clients have
+//! steps, that a run asks the coder that it was given, and that the checker finds the transcripts of its runs legal. The lock of
+//! `turn_lock` in use: turns that add to one list, in one thread and in two. Framed sessions over memory.
 #![tactic(auto)]
 
 #[cfg(test)]
@@ -11,7 +12,10 @@ mod faults;
 #[cfg(test)]
 mod generated;
 #[cfg(test)]
+mod lock_turns;
+#[cfg(test)]
 mod locked_steps;
+mod number_list;
 #[cfg(test)]
 mod rows;
 #[cfg(test)]
@@ -21,8 +25,6 @@ mod scripts;
 #[cfg(test)]
 mod session_coders;
 #[cfg(test)]
-mod session_counted;
-#[cfg(test)]
 mod session_runs;
 #[cfg(test)]
 mod snapshots;
@@ -30,3 +32,7 @@ mod snapshots;
 mod sweeps;
 #[cfg(test)]
 mod words;
+mod workers;
+
+pub use number_list::{Line, NumberList, add};
+pub use workers::{Worker, collect, hire, work_together};

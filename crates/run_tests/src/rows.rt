@@ -6,6 +6,7 @@ use std::alloc::Global;
 use std::str;
 use std::test::Fail;
 use std::thread::Threads;
+use text_tables::faults::parts;
 
 // The bytes that a text of digits spells, which blanks may part for the reader.
 fn bytes_of(alloc: Global, text: &[u8]) -> Result<Vec<u8>, Fail> {
@@ -20,15 +21,6 @@ fn bytes_of(alloc: Global, text: &[u8]) -> Result<Vec<u8>, Fail> {
         Err(FromHexError::OutOfMemory) => Err(Fail::from("out of memory")),
         Err(_) => Err(Fail::from("no digits")),
     }
-}
-
-// The part of a row before its first `>`, and what stands behind that.
-fn parts(row: &[u8]) -> Result<(&[u8], &[u8]), Fail> {
-    let at = row
-        .iter()
-        .position(|byte| *byte == b'>')
-        .ok_or("a row without what is wanted")?;
-    Ok((&row[..at], &row[at + 1..]))
 }
 
 // Holds a session against what is wanted: its exit status, and what it writes.

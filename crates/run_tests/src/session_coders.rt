@@ -1,5 +1,5 @@
 //! What a session asks of its coder.
-use crate::session_counted::CountingCoder;
+use crate::counted::CountingCoder;
 use crate::session_runs::{NOTHING, WORDS, run_with};
 use frame_session::SessionStatus;
 use std::test::Fail;

@@ -1,10 +1,10 @@
 use Rattle.std.proofs.Common.{rules, ◌≡◌, ℕ, [], ◌∷◌, ◌++◌, length, subst, refl, IfSome, slice_get}
 use Rattle.std.proofs.lemmas.List.Elements.{All-push}
 use Rattle.turn_lock.specs.TurnState.{TurnState, new_turn}
-use Rattle.lock_tests.specs.declared.workers.Worker.{Worker}
-use Rattle.lock_tests.specs.Workers.{IsReady}
-use Rattle.lock_tests.proofs.Hiring.{without_last, at_last, new_is_ready}
-use Rattle.lock_tests.proofs.workers.hire.Goals as goal
+use Rattle.run_tests.specs.declared.workers.Worker.{Worker}
+use Rattle.run_tests.specs.Workers.{IsReady}
+use Rattle.run_tests.proofs.Hiring.{without_last, at_last, new_is_ready}
+use Rattle.run_tests.proofs.workers.hire.Goals as goal
 
 pub loop-turn-preserved : goal.loop-turn-preserved
 loop-turn-preserved c =

@@ -1,7 +1,7 @@
 //! A list that turns add to.
 ghost use Rattle.std.specs.Prelude.{◌≡◌, ℕ, ◌∷◌, ◌++◌, [], true, false, Some, OnOk, OnErr};
 ghost use Rattle.turn_lock.specs.History.{Among, SameEntries, entries_of};
-ghost use Rattle.lock_tests.specs.NumberList.{lines_of};
+ghost use Rattle.run_tests.specs.NumberList.{lines_of};
 
 use std::alloc::AllocError;
 use std::sync::Wait;

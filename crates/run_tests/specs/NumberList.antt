@@ -1,6 +1,6 @@
 -- The lines of a list, from the history that it stands for.
 use Rattle.std.specs.Prelude.{ℕ, List, map}
-use Rattle.lock_tests.specs.declared.number_list.Line.{Line}
+use Rattle.run_tests.specs.declared.number_list.Line.{Line}
 
 -- each entry as a line
 abbrev pub lines_of : List (ℕ × ℕ) → List Line

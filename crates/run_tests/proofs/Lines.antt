@@ -2,8 +2,8 @@
 use Rattle.std.proofs.Common.{◌≡◌, ℕ, List, [], ◌∷◌, ◌++◌, cond, refl, ap, ◌∙◌, eq-eqb}
 use Rattle.std.proofs.lemmas.List.Elements.{filter-append}
 use Rattle.turn_lock.specs.History.{has_number, entries_of}
-use Rattle.lock_tests.specs.declared.number_list.Line.{Line}
-use Rattle.lock_tests.specs.NumberList.{lines_of}
+use Rattle.run_tests.specs.declared.number_list.Line.{Line}
+use Rattle.run_tests.specs.NumberList.{lines_of}
 
 pub lines_of-append : (log : List (ℕ × ℕ)) (turn value : ℕ) → lines_of log ++ record { turn = turn; value = value } ∷ [] ≡ lines_of (log ++ (turn, value) ∷ [])
 lines_of-append [] turn value = refl

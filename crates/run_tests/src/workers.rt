@@ -1,6 +1,6 @@
 //! Workers that add to one list.
 ghost use Rattle.std.specs.Prelude.{◌≡◌, ◌+◌, ◌<◌, ◌↔◌, [], ℕ, length, vec_len, All, IfOk, IsNone, slice_index_or};
-ghost use Rattle.lock_tests.specs.Workers.{IsReady, line_count};
+ghost use Rattle.run_tests.specs.Workers.{IsReady, line_count};
 
 use crate::number_list::{Line, NumberList, add};
 use std::alloc::{AllocError, Global};
