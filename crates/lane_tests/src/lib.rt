@@ -1,4 +1,5 @@
-//! The fast coders beside the plain one, for many codes, widths and losses. All of it is tests: without them the crate is empty.
+//! The fast coders beside the plain one, for many codes, widths and losses; layers of lost chunks read from few subchunks, beside the
+//! plain coder's codewords. All of it is tests: without them the crate is empty.
 #![tactic(auto)]
 
 #[cfg(test)]
@@ -11,6 +12,8 @@ mod coupling;
 mod encoding;
 #[cfg(test)]
 mod kernels;
+#[cfg(test)]
+mod lost_reads;
 #[cfg(test)]
 mod rebuilding;
 #[cfg(test)]

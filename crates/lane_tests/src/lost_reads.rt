@@ -1,4 +1,5 @@
 //! Runs of every chunk of some codes, read from the subchunks that they take.
+use crate::encoding::{expect_bytes, mixed_bytes};
 use clay_encode::encode;
 use clay_grid::Geometry;
 use lost_layers::{LostFault, LostPiece, LostRun, lost_pieces};
@@ -9,17 +10,6 @@ use std::test::Fail;
 
 /// Data chunks and parity chunks: with and without virtual nodes, of two to four rows and of two and three columns.
 const CODES: [(u32, u32); 6] = [(2, 2), (3, 2), (4, 2), (3, 3), (5, 3), (5, 4)];
-
-// Bytes that repeat only after 256 * 251 of them.
-fn mixed_bytes(alloc: Global, count: u32) -> Result<Vec<u8>, AllocError> {
-    let mut bytes = Vec::with_capacity(alloc, count as usize)?;
-    let mut byte = 1u8;
-    for i in 0..count {
-        byte = byte.wrapping_mul(29).wrapping_add((i % 251) as u8);
-        bytes.push(byte)?;
-    }
-    Ok(bytes)
-}
 
 // The chunks of some stripe, by the plain coder.
 fn word_of(rt: &impl Abort, alloc: Global, g: Geometry) -> Result<Vec<Vec<u8>>, AllocError> {
@@ -44,10 +34,6 @@ fn layers<'a>(
     let bytes = &word[chunk as usize];
     assert!(rt; to as usize * w <= bytes.len());
     &bytes[from as usize * w..to as usize * w]
-}
-
-fn expect_bytes(rt: &impl Abort, found: &[u8], wanted: &[u8]) {
-    assert_eq!(rt; found, wanted);
 }
 
 // The bytes of the pieces, where they stand.
