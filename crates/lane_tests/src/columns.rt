@@ -7,20 +7,27 @@ use std::alloc::Global;
 use std::process::Abort;
 use std::test::Fail;
 
-// A row of `len` bytes of this value, with such multiples of rows added to it.
+// Four rows of `len` bytes, of which multiples are added to bytes of one value.
+#[derive(Clone, Copy)]
+struct Terms<'a> {
+    len: usize,
+    value: u8,
+    rows: &'a [u8],
+}
+
+// The sum with these multiples of these rows.
 fn added(
     rt: &impl Abort,
     alloc: Global,
-    len: usize,
-    value: u8,
-    terms: &[(u8, usize)],
-    rows: &[u8],
+    terms: Terms<'_>,
+    factors: &[(u8, usize)],
 ) -> Result<Vec<u8>, Fail> {
-    let mut sum = vec![in alloc; value; len]?;
-    for (factor, row) in terms {
-        assert!(rt; len <= 200 && *row < 4 && rows.len() == 4 * len);
+    let len = terms.len;
+    let mut sum = vec![in alloc; terms.value; len]?;
+    for (factor, row) in factors {
+        assert!(rt; len <= 200 && *row < 4 && terms.rows.len() == 4 * len);
         assert_eq!(rt; sum.len(), len);
-        add_scaled(&mut sum, *factor, &rows[*row * len..(*row + 1) * len]);
+        add_scaled(&mut sum, *factor, &terms.rows[*row * len..(*row + 1) * len]);
     }
     Ok(sum)
 }
@@ -29,6 +36,20 @@ fn expect_row(rt: &impl Abort, rows: &[u8], row: usize, expected: &[u8]) {
     let len = expected.len();
     assert!(rt; len <= 200 && row < 4 && rows.len() == 4 * len);
     assert_eq!(rt; &rows[row * len..(row + 1) * len], expected);
+}
+
+// Each row is the sum with these multiples. Nothing is owned here, so each sum that may fail costs little to prove.
+fn expect_sums(
+    rt: &impl Abort,
+    alloc: Global,
+    rows: &[u8],
+    terms: Terms<'_>,
+    factors: [&[(u8, usize)]; 4],
+) -> Result<(), Fail> {
+    for (row, factors) in factors.iter().enumerate() {
+        expect_row(rt, rows, row, &added(rt, alloc, terms, factors)?);
+    }
+    Ok(())
 }
 
 // Four rows of `len` bytes.
@@ -42,28 +63,15 @@ fn four_rows(alloc: Global, len: usize) -> Result<Vec<u8>, Fail> {
     Ok(rows)
 }
 
-// Adds a column of `len` bytes a row with these factors to rows in column form.
-fn check_column(
+// The rows after a column with these factors was added to bytes of one value.
+fn expect_column(
     rt: &impl Abort,
     alloc: Global,
-    len: usize,
-    sigma: u8,
-    tau: u8,
-    rho: u8,
-    kappa: u8,
+    rows: &[u8],
+    terms: Terms<'_>,
+    [sigma, tau, rho, kappa]: [u8; 4],
 ) -> Result<(), Fail> {
-    let values = four_rows(alloc, len)?;
-    assert!(rt; len <= 200 && values.len() == 4 * len);
-    let mut rows = vec![in alloc; 0x3Cu8; 4 * len]?;
-    let factors = ColumnFactors {
-        sigma: Products::new(sigma),
-        tau: Products::new(tau),
-        rho: Products::new(rho),
-        kappa: Products::new(kappa),
-    };
-    add_column(len, &factors, &values, &mut rows);
     let first = [(1, 0), (1, 1), (1, 2), (1, 3)];
-    expect_row(rt, &rows, 0, &added(rt, alloc, len, 0x3C, &first, &values)?);
     let second = [
         (1, 1),
         (1, 3),
@@ -72,14 +80,7 @@ fn check_column(
         (sigma, 2),
         (sigma, 3),
     ];
-    expect_row(
-        rt,
-        &rows,
-        1,
-        &added(rt, alloc, len, 0x3C, &second, &values)?,
-    );
     let third = [(1, 2), (1, 3), (tau, 0), (tau, 1), (tau, 2), (tau, 3)];
-    expect_row(rt, &rows, 2, &added(rt, alloc, len, 0x3C, &third, &values)?);
     let fourth = [
         (1, 3),
         (kappa, 0),
@@ -91,13 +92,28 @@ fn check_column(
         (rho, 2),
         (rho, 3),
     ];
-    expect_row(
-        rt,
-        &rows,
-        3,
-        &added(rt, alloc, len, 0x3C, &fourth, &values)?,
-    );
-    Ok(())
+    expect_sums(rt, alloc, rows, terms, [&first, &second, &third, &fourth])
+}
+
+// Adds a column of `len` bytes a row with the factors sigma, tau, rho and kappa to rows in column form.
+fn check_column(rt: &impl Abort, alloc: Global, len: usize, factors: [u8; 4]) -> Result<(), Fail> {
+    let values = four_rows(alloc, len)?;
+    assert!(rt; len <= 200 && values.len() == 4 * len);
+    let mut rows = vec![in alloc; 0x3Cu8; 4 * len]?;
+    let [sigma, tau, rho, kappa] = factors;
+    let products = ColumnFactors {
+        sigma: Products::new(sigma),
+        tau: Products::new(tau),
+        rho: Products::new(rho),
+        kappa: Products::new(kappa),
+    };
+    add_column(len, &products, &values, &mut rows);
+    let terms = Terms {
+        len,
+        value: 0x3C,
+        rows: &values,
+    };
+    expect_column(rt, alloc, &rows, terms, factors)
 }
 
 // Takes rows of `len` bytes out of their column form.
@@ -106,31 +122,23 @@ fn check_end(rt: &impl Abort, alloc: Global, len: usize) -> Result<(), Fail> {
     let mut rows = four_rows(alloc, len)?;
     assert!(rt; len <= 200 && rows.len() == 4 * len);
     end_column(len, &mut rows);
-    let all = [(1, 0), (1, 1), (1, 2), (1, 3)];
-    expect_row(rt, &rows, 0, &added(rt, alloc, len, 0, &all, &form)?);
-    expect_row(
-        rt,
-        &rows,
-        1,
-        &added(rt, alloc, len, 0, &[(1, 1), (1, 3)], &form)?,
-    );
-    expect_row(
-        rt,
-        &rows,
-        2,
-        &added(rt, alloc, len, 0, &[(1, 2), (1, 3)], &form)?,
-    );
-    expect_row(rt, &rows, 3, &added(rt, alloc, len, 0, &[(1, 3)], &form)?);
-    Ok(())
+    let terms = Terms {
+        len,
+        value: 0,
+        rows: &form,
+    };
+    let first = [(1, 0), (1, 1), (1, 2), (1, 3)];
+    let factors: [&[(u8, usize)]; 4] = [&first, &[(1, 1), (1, 3)], &[(1, 2), (1, 3)], &[(1, 3)]];
+    expect_sums(rt, alloc, &rows, terms, factors)
 }
 
 #[test]
 fn columns_of_every_length_are_added(rt: HostRuntime) -> Result<(), Fail> {
     for len in 0..131 {
-        check_column(&rt, rt.alloc(), len, 0, 1, 2, 0x53)?;
-        check_column(&rt, rt.alloc(), len, 0xFF, 0, 1, 2)?;
-        check_column(&rt, rt.alloc(), len, 0x53, 0xFF, 0, 1)?;
-        check_column(&rt, rt.alloc(), len, 2, 0x53, 0xFF, 0)?;
+        check_column(&rt, rt.alloc(), len, [0, 1, 2, 0x53])?;
+        check_column(&rt, rt.alloc(), len, [0xFF, 0, 1, 2])?;
+        check_column(&rt, rt.alloc(), len, [0x53, 0xFF, 0, 1])?;
+        check_column(&rt, rt.alloc(), len, [2, 0x53, 0xFF, 0])?;
         check_end(&rt, rt.alloc(), len)?;
     }
     Ok(())
