@@ -1,27 +1,14 @@
 //! The commands `run` and `trial`. That transcripts of runs are legal is tested below the program
 //! (`run_tests`).
+use crate::meeting::MeetingGate;
 use clay_par::ParCoder;
+use command_runs::Status;
 use command_runs::runs::{Ran, fails, run_by};
 use command_runs::scripts::{PUT_THEN_GET, TRANSCRIPT};
 use command_runs::tables::answers;
-use command_runs::{Gate, NoGate, Place, Status};
 use std::sync::Wait;
-use std::sync::atomic::{AtomicU64, Ordering};
 use std::test::Fail;
 use std::thread::Threads;
-use store_map::Actor;
-
-// Counts the steps that it is told of.
-#[derive(Drop)]
-struct CountingGate {
-    passes: AtomicU64,
-}
-
-impl Gate for CountingGate {
-    fn pass(&self, _actor: Actor, _step: u64, _place: Place) {
-        self.passes.fetch_add(1, Ordering::SeqCst);
-    }
-}
 
 const REFUSAL: &[u8] = b"refused line 2 missing end\n";
 
@@ -66,7 +53,8 @@ end
 #[test]
 fn long_subchunks_are_stored_by_threads(rt: HostRuntime) -> Result<(), Fail> {
     let words = ["run", "4"];
-    let ran = run_by(&rt, &words, LONG_SUBCHUNKS, &[], &[], &NoGate, &ParCoder)?;
+    let gate = MeetingGate::counting();
+    let ran = run_by(&rt, &words, LONG_SUBCHUNKS, &[], &[], &gate, &ParCoder)?;
     assert_eq!(rt; ran.status, Status::Done);
     assert_eq!(rt; ran.written.as_slice(), ITS_TRANSCRIPT);
     Ok(())
@@ -97,7 +85,7 @@ fn faults_of_run(rt: HostRuntime) -> Result<(), Fail> {
 // A trial whose source fails at once, with this gate.
 fn trial_with<R: Threads + Wait + Sync + AllocGlobal>(
     rt: &R,
-    gate: &CountingGate,
+    gate: &MeetingGate,
 ) -> Result<Ran, Fail> {
     run_by(
         rt,
@@ -112,7 +100,7 @@ fn trial_with<R: Threads + Wait + Sync + AllocGlobal>(
 
 fn is_legal_with<R: Threads + Wait + Sync + AllocGlobal>(
     rt: &R,
-    gate: &CountingGate,
+    gate: &MeetingGate,
 ) -> Result<bool, Fail> {
     let ran = trial_with(rt, gate)?;
     Ok(ran.status == Status::Done && ran.written.as_slice() == TRIAL)
@@ -121,11 +109,9 @@ fn is_legal_with<R: Threads + Wait + Sync + AllocGlobal>(
 // The lines are the same for every run, so no clause says that there was one.
 #[test]
 fn trial_makes_a_step_of_each_call(rt: HostRuntime) -> Result<(), Fail> {
-    let gate = CountingGate {
-        passes: AtomicU64::new(0),
-    };
+    let gate = MeetingGate::counting();
     assert!(rt; is_legal_with(&rt, &gate)?);
-    assert!(rt; gate.passes.load(Ordering::SeqCst) >= 272);
+    assert!(rt; gate.passes() >= 272);
     Ok(())
 }
 

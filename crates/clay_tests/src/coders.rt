@@ -6,7 +6,6 @@ ghost use Rattle.version_seal.specs.Sealer.{sealer_at};
 use crate::counted::CountingCoder;
 use crate::drips::{NONE, run_in_drips};
 use command_runs::Status;
-use command_runs::lines::unfolded;
 use command_runs::scripts::PUT_THEN_GET;
 use script_text::read_script;
 use std::alloc::AllocError;
@@ -15,6 +14,7 @@ use std::test::Fail;
 use std::thread::Threads;
 use store_map::{Script, Transcript};
 use store_world::World;
+use text_tables::lines::unfolded;
 use version_seal::{Book, Sealer};
 
 // Of a stripe whose chunk 0 is lost.

@@ -21,7 +21,7 @@ end
 
 // Fails where the two clients aren't inside two locks at once: so it is in one thread, whatever was asked for.
 fn clients_meet<R: Threads + Wait + Sync + AllocGlobal>(rt: &R, workers: &str) -> Result<(), Fail> {
-    let gate = MeetingGate::new();
+    let gate = MeetingGate::holding();
     let ran = run_by(rt, &["run", workers], TWO_PUTS, &[], &[], &gate, &ParCoder)?;
     if ran.status != Status::Done || !gate.has_held_both() || gate.has_given_up() {
         return Err(Fail::new(format_args!("{workers} workers: none met")));

@@ -1,11 +1,11 @@
 //! What `play` and `run` print for the scripts of the examples, put behind its script, is legal to `verify`.
 use command_runs::Status;
-use command_runs::lines::unfolded;
 use command_runs::runs::run;
 use command_runs::tables::answers;
 use std::sync::Wait;
 use std::test::Fail;
 use std::thread::Threads;
+use text_tables::lines::unfolded;
 
 // The scripts of the examples, parted by `|`.
 const EXAMPLES: &[u8] = b"\

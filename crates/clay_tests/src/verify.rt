@@ -1,9 +1,9 @@
 //! The command `verify`.
 use command_runs::Status;
-use command_runs::lines::unfolded;
 use command_runs::scripts::PUT_THEN_GET;
 use command_runs::tables::{Around, all_answer, all_answer_within, answers};
 use std::test::Fail;
+use text_tables::lines::unfolded;
 
 const TAIL: &[u8] = b"G c0.1 4 4 0 0\nT 0 4 1 0\nT 1 4 1 0\nT 2 0 1 0\nT 3 0 1 0\nend\n";
 

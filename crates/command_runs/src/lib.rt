@@ -1,8 +1,7 @@
 //! What tests of the program's commands share: a call of it over a source and a sink in memory, and tables
-//! of scripts. It has no tests of its own, so that it is proved once.
+//! of inputs. It has no tests of its own, so that it is proved once.
 #![tactic(auto)]
 
-pub mod lines;
 pub mod runs;
 pub mod scripts;
 pub mod tables;

@@ -1,6 +1,5 @@
 //! Worked scripts with servers that are away.
-use command_runs::Status;
-use command_runs::tables::all_print;
+use crate::worked::all_show;
 use std::test::Fail;
 
 // Servers that are away for a time, in scripts of form 2.
@@ -118,5 +117,5 @@ end
 
 #[test]
 fn servers_that_are_away(rt: HostRuntime) -> Result<(), Fail> {
-    all_print(&rt, Status::Done, 5, AWAY)
+    all_show(&rt, 5, AWAY)
 }

@@ -19,3 +19,5 @@ mod races;
 mod reads;
 #[cfg(test)]
 mod rebuilds;
+#[cfg(test)]
+mod worked;

@@ -1,6 +1,5 @@
 //! Worked scripts in which chunks are lost and made again.
-use command_runs::Status;
-use command_runs::tables::{Repeated, all_print, prints_from};
+use crate::worked::{Repeated, all_show, show_from};
 use std::test::Fail;
 
 // Gets after a put whose chunks are lost.
@@ -134,12 +133,12 @@ end
 
 #[test]
 fn reads_after_losses(rt: HostRuntime) -> Result<(), Fail> {
-    all_print(&rt, Status::Done, 3, READS)
+    all_show(&rt, 3, READS)
 }
 
 #[test]
 fn rebuilds(rt: HostRuntime) -> Result<(), Fail> {
-    all_print(&rt, Status::Done, 2, REBUILDS)
+    all_show(&rt, 2, REBUILDS)
 }
 
 // A server is emptied after so many of the put's eleven steps.
@@ -186,8 +185,8 @@ end
 
 #[test]
 fn one_loss_at_each_step_of_a_put(rt: HostRuntime) -> Result<(), Fail> {
-    prints_from(&rt, ONE_LOSS, 0, 3, BEFORE_ITS_CHUNK)?;
-    prints_from(&rt, ONE_LOSS, 3, 12, AFTER_ITS_CHUNK)
+    show_from(&rt, ONE_LOSS, 0, 3, BEFORE_ITS_CHUNK)?;
+    show_from(&rt, ONE_LOSS, 3, 12, AFTER_ITS_CHUNK)
 }
 
 // Three servers are emptied after so many of the put's eleven steps.
@@ -259,10 +258,10 @@ end
 
 #[test]
 fn three_losses_at_each_step_of_a_put(rt: HostRuntime) -> Result<(), Fail> {
-    prints_from(&rt, THREE_LOSSES, 0, 3, NONE_LOST)?;
-    prints_from(&rt, THREE_LOSSES, 3, 4, ONE_LOST)?;
-    prints_from(&rt, THREE_LOSSES, 4, 5, TWO_LOST)?;
-    prints_from(&rt, THREE_LOSSES, 5, 12, THREE_LOST)
+    show_from(&rt, THREE_LOSSES, 0, 3, NONE_LOST)?;
+    show_from(&rt, THREE_LOSSES, 3, 4, ONE_LOST)?;
+    show_from(&rt, THREE_LOSSES, 4, 5, TWO_LOST)?;
+    show_from(&rt, THREE_LOSSES, 5, 12, THREE_LOST)
 }
 
 // After a put, a server is emptied after so many of the write's thirteen steps.
@@ -329,9 +328,9 @@ end
 
 #[test]
 fn a_loss_at_each_step_of_a_write(rt: HostRuntime) -> Result<(), Fail> {
-    prints_from(&rt, WRITE, 0, 2, OLD_CHUNK_LOST)?;
-    prints_from(&rt, WRITE, 2, 5, BETWEEN_THE_CHUNKS)?;
-    prints_from(&rt, WRITE, 5, 14, NEW_CHUNK_LOST)
+    show_from(&rt, WRITE, 0, 2, OLD_CHUNK_LOST)?;
+    show_from(&rt, WRITE, 2, 5, BETWEEN_THE_CHUNKS)?;
+    show_from(&rt, WRITE, 5, 14, NEW_CHUNK_LOST)
 }
 
 // A second server is emptied after so many of the rebuild's eleven steps.
@@ -381,6 +380,6 @@ end
 
 #[test]
 fn a_loss_at_each_step_of_a_rebuild(rt: HostRuntime) -> Result<(), Fail> {
-    prints_from(&rt, REBUILD, 0, 6, FROM_WHOLE_CHUNKS)?;
-    prints_from(&rt, REBUILD, 6, 12, FROM_REPAIR_LAYERS)
+    show_from(&rt, REBUILD, 0, 6, FROM_WHOLE_CHUNKS)?;
+    show_from(&rt, REBUILD, 6, 12, FROM_REPAIR_LAYERS)
 }

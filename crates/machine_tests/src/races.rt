@@ -1,6 +1,5 @@
 //! Worked scripts of races, and of calls that are given up.
-use command_runs::Status;
-use command_runs::tables::all_print;
+use crate::worked::all_show;
 use std::test::Fail;
 
 // Calls of two clients on one object.
@@ -180,10 +179,10 @@ end
 
 #[test]
 fn races(rt: HostRuntime) -> Result<(), Fail> {
-    all_print(&rt, Status::Done, 3, RACES)
+    all_show(&rt, 3, RACES)
 }
 
 #[test]
 fn calls_given_up(rt: HostRuntime) -> Result<(), Fail> {
-    all_print(&rt, Status::Done, 4, GIVEN_UP)
+    all_show(&rt, 4, GIVEN_UP)
 }

@@ -1,0 +1,110 @@
+//! Worked scripts, each with the text of the transcript that its run shows. A table is a text: one that is an array is proved row by
+//! row.
+ghost use Rattle.store_map.specs.Naming.{IsValid};
+
+use clay_lanes::LaneCoder;
+use script_text::read_script;
+use std::alloc::Global;
+use std::str;
+use std::test::Fail;
+use std::thread::Threads;
+use store_map::Script;
+use store_world::play;
+use text_tables::faults::parts;
+use text_tables::lines::{add_line, unfolded};
+use transcript_text::write_transcript;
+
+fn played<R: Threads + Sync + AllocGlobal>(rt: &R, script: Script) -> Result<Vec<u8>, Fail>
+    requires { IsValid script }
+{
+    let transcript = play(rt, rt.alloc(), &LaneCoder, script)?;
+    Ok(write_transcript(rt.alloc(), &transcript)?)
+}
+
+// What a run of the script shows.
+fn shown<R: Threads + Sync + AllocGlobal>(rt: &R, script: &[u8]) -> Result<Vec<u8>, Fail> {
+    match read_script(rt.alloc(), script) {
+        Ok(script) => played(rt, script),
+        Err(_) => Err(Fail::from("the script is refused")),
+    }
+}
+
+fn shows<R: Threads + Sync + AllocGlobal>(
+    rt: &R,
+    script: &[u8],
+    wanted: &[u8],
+) -> Result<bool, Fail> {
+    Ok(shown(rt, script)?.as_slice() == wanted)
+}
+
+// The name tells which row of a table fails.
+fn failed(name: &[u8]) -> Fail {
+    match str::from_utf8(name) {
+        Ok(name) => Fail::new(format_args!("{name}: not what is wanted")),
+        Err(_) => Fail::from("a name that is no text"),
+    }
+}
+
+fn row_shows<R: Threads + Sync + AllocGlobal>(rt: &R, row: &[u8]) -> Result<(), Fail> {
+    let (name, texts) = parts(row)?;
+    let (script, wanted) = parts(texts)?;
+    let script = unfolded(rt.alloc(), script)?;
+    let wanted = unfolded(rt.alloc(), wanted)?;
+    if shows(rt, &script, &wanted)? {
+        return Ok(());
+    }
+    Err(failed(name))
+}
+
+/// Holds what a run of each row's script shows against the row's transcript. The rows are parted by `|`, and
+/// a row's name, script and transcript by `>`; there are so many.
+pub fn all_show<R: Threads + Sync + AllocGlobal>(
+    rt: &R,
+    rows: usize,
+    table: &[u8],
+) -> Result<(), Fail> {
+    let mut held: usize = 0;
+    for row in table.split(|byte| *byte == b'|') {
+        row_shows(rt, row)?;
+        held = held.saturating_add(1);
+    }
+    if held != rows {
+        return Err(Fail::from("not so many rows"));
+    }
+    Ok(())
+}
+
+/// A script in which a line of the schedule stands some number of times.
+#[derive(Clone, Copy)]
+pub struct Repeated<'a> {
+    pub before: &'a [u8],
+    pub line: &'a [u8],
+    pub behind: &'a [u8],
+}
+
+// The script with its line so many times.
+fn script_with(alloc: Global, repeated: Repeated<'_>, times: u32) -> Result<Vec<u8>, Fail> {
+    let mut script = unfolded(alloc, repeated.before)?;
+    for _ in 0..times {
+        add_line(&mut script, repeated.line)?;
+    }
+    script.extend_from_slice(repeated.behind)?;
+    Ok(script)
+}
+
+/// Holds what the runs show against the transcript, for each number of times from the first up to the end.
+pub fn show_from<R: Threads + Sync + AllocGlobal>(
+    rt: &R,
+    repeated: Repeated<'_>,
+    first: u32,
+    end: u32,
+    transcript: &[u8],
+) -> Result<(), Fail> {
+    for times in first..end {
+        let script = script_with(rt.alloc(), repeated, times)?;
+        if !shows(rt, &script, transcript)? {
+            return Err(Fail::new(format_args!("{times} times: not what is wanted")));
+        }
+    }
+    Ok(())
+}
