@@ -1,11 +1,12 @@
 //! Runs of scripts that are drawn from numbers.
+use crate::gates::TestGate;
 use crate::runs::expect_legal;
 use clay_gen::generate;
 use clay_par::ParCoder;
 use std::sync::Wait;
 use std::test::Fail;
 use std::thread::Threads;
-use store_run::{NoGate, run};
+use store_run::run;
 
 // As many scripts, and as many calls of each client.
 const SCRIPTS: u64 = 64;
@@ -20,7 +21,7 @@ fn run_is_legal<R: Threads + Wait + Sync + AllocGlobal>(rt: &R, start: u64) -> R
         generate(alloc, start, CALLS)?,
         4,
         &ParCoder,
-        &NoGate,
+        &TestGate::Nobody,
     )?;
     expect_legal(alloc, &generate(alloc, start, CALLS)?, &transcript)
 }

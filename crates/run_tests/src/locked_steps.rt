@@ -1,5 +1,6 @@
 //! Whether a gate is told of each kind of step while the lock of its place is held: nobody else is told of a step at that
 //! place meanwhile.
+use crate::gates::TestGate;
 use crate::runs::transcript_of;
 use clay_par::ParCoder;
 use std::alloc::Global;
@@ -9,7 +10,7 @@ use std::test::Fail;
 use std::thread;
 use std::thread::Threads;
 use store_map::Actor;
-use store_run::{Gate, Place};
+use store_run::Place;
 use text_tables::scripts::repeated;
 
 // So many watched steps are held, each for so many looks: the other worker's client comes to each place meanwhile.
@@ -20,10 +21,10 @@ const LOOKS: u32 = 300;
 // Each other step is held for so many: a step that is told outside of the lock finds it.
 const LOOKS_OF_OTHERS: u32 = 2;
 
-// Holds the steps of an actor at the directory or at servers, and finds whether two steps are told at one place at once.
-// No step waits for another one, so a run ends in any case.
+/// Holds the steps of an actor at the directory or at servers, and finds whether two steps are told at one place at once.
+/// No step waits for another one, so a run ends in any case.
 #[derive(Drop)]
-struct PlaceGate {
+pub struct PlaceGate {
     actor: Actor,
     at_servers: bool,
     // how many watched steps there were
@@ -80,10 +81,9 @@ impl PlaceGate {
             thread::yield_now();
         }
     }
-}
 
-impl Gate for PlaceGate {
-    fn pass(&self, actor: Actor, _step: u64, place: Place) {
+    /// An actor makes a step at a place.
+    pub fn pass(&self, actor: Actor, place: Place) {
         let Some(inside) = self.inside(place) else {
             return;
         };
@@ -118,7 +118,7 @@ fn are_told_inside<R: Threads + Wait + Sync + AllocGlobal>(
 ) -> Result<(), Fail> {
     let gate = PlaceGate::new(actor, at_servers);
     let script = script_of_all(rt.alloc())?;
-    let _transcript = transcript_of(rt, &script, 2, &ParCoder, &gate)?;
+    let _transcript = transcript_of(rt, &script, 2, &ParCoder, &TestGate::Places(&gate))?;
     let watched = gate.watched.load(Ordering::SeqCst);
     if gate.have_met.load(Ordering::SeqCst) || watched < HELD {
         return Err(Fail::new(format_args!("{actor:?}, servers {at_servers}: {watched} steps")));

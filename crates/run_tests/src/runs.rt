@@ -2,6 +2,7 @@
 ghost use Rattle.std.specs.Prelude.{IfOk};
 ghost use Rattle.store_map.specs.Naming.{IsValid};
 
+use crate::gates::TestGate;
 use clay_model::Coder;
 use clay_par::ParCoder;
 use hist_check::{check, verdict_line};
@@ -12,7 +13,7 @@ use std::sync::Wait;
 use std::test::Fail;
 use std::thread::Threads;
 use store_map::{Script, Transcript};
-use store_run::{Gate, NoGate, run};
+use store_run::run;
 
 /// In so many threads each script is run.
 pub const WORKERS: [usize; 4] = [1, 2, 4, 16];
@@ -31,12 +32,12 @@ pub fn script_of(alloc: Global, text: &[u8]) -> Result<Script, Fail>
 }
 
 /// The transcript of a run of the script in so many threads.
-pub fn transcript_of<R: Threads + Wait + Sync + AllocGlobal, C: Coder + Sync, G: Gate + Sync>(
+pub fn transcript_of<R: Threads + Wait + Sync + AllocGlobal, C: Coder + Sync>(
     rt: &R,
     text: &[u8],
     workers: usize,
     coder: &C,
-    gate: &G,
+    gate: &TestGate<'_>,
 ) -> Result<Transcript, Fail> {
     if workers == 0 {
         return Err(Fail::from("no workers"));
@@ -79,7 +80,7 @@ fn rounds_are_legal<R: Threads + Wait + Sync + AllocGlobal>(
 ) -> Result<(), Fail> {
     let script = script_of(rt.alloc(), text)?;
     for _round in 0..ROUNDS {
-        let transcript = transcript_of(rt, text, workers, &ParCoder, &NoGate)?;
+        let transcript = transcript_of(rt, text, workers, &ParCoder, &TestGate::Nobody)?;
         expect_legal(rt.alloc(), &script, &transcript)?;
     }
     Ok(())

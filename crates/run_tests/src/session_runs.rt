@@ -1,6 +1,6 @@
 //! One session over a source and a sink in memory that give and take one byte a call.
+use crate::counted::CountingCoder;
 use clay_bytes::{DripSink, DripSource};
-use clay_model::Coder;
 use frame_session::{SessionStatus, frame_main};
 use std::alloc::{AllocError, Global};
 use std::test::Fail;
@@ -56,12 +56,12 @@ fn sink_of(alloc: Global, failing: Failing) -> Result<DripSink, AllocError> {
 }
 
 /// The session of these words and this input.
-pub fn run_with<R: Threads + Sync + AllocGlobal, C: Coder>(
+pub fn run_with<R: Threads + Sync + AllocGlobal>(
     rt: &R,
     words: &[u8],
     input: &[u8],
     failing: Failing,
-    coder: &C,
+    coder: &CountingCoder,
 ) -> Result<Ran, Fail> {
     let alloc = rt.alloc();
     let words = words_of(alloc, words)?;

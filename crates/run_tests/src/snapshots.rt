@@ -1,9 +1,9 @@
 //! Snapshots: of more objects than may be, and beside puts and writes.
 ghost use Rattle.std.specs.Prelude.{◌<◌, ◌≤◌};
 
+use crate::counted::CountingCoder;
 use crate::rows::rows_hold;
 use crate::session_runs::{NOTHING, WORDS, run_with};
-use clay_repair::PlainCoder;
 use frame_session::SessionStatus;
 use std::alloc::{AllocError, Global};
 use std::test::Fail;
@@ -40,7 +40,7 @@ fn is_written<R: Threads + Sync + AllocGlobal>(
     input: &[u8],
     output: &[u8],
 ) -> Result<bool, Fail> {
-    let ran = run_with(rt, WORDS, input, NOTHING, &PlainCoder)?;
+    let ran = run_with(rt, WORDS, input, NOTHING, &CountingCoder::new())?;
     Ok(ran.status == SessionStatus::Done && ran.written.as_slice() == output)
 }
 

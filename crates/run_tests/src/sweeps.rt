@@ -1,4 +1,5 @@
 //! Whether the sweeper sweeps while clients have steps.
+use crate::gates::TestGate;
 use crate::runs::transcript_of;
 use clay_par::ParCoder;
 use std::alloc::Global;
@@ -8,7 +9,6 @@ use std::test::Fail;
 use std::thread;
 use std::thread::Threads;
 use store_map::Actor;
-use store_run::{Gate, Place};
 use text_tables::scripts::repeated;
 
 // In so many threads each script is run.
@@ -20,9 +20,9 @@ const TURNS: u32 = 10_000_000;
 // How many steps of the sweeper it is held for: more than client 0 makes.
 const HELD_FOR: u64 = 64;
 
-// Counts the steps of client 0 and of the sweeper.
+/// Counts the steps of client 0 and of the sweeper.
 #[derive(Drop)]
-struct StepsGate {
+pub struct StepsGate {
     firsts: AtomicU64,
     sweeps: AtomicU64,
 }
@@ -34,10 +34,9 @@ impl StepsGate {
             sweeps: AtomicU64::new(0),
         }
     }
-}
 
-impl Gate for StepsGate {
-    fn pass(&self, actor: Actor, _step: u64, _place: Place) {
+    /// An actor makes a step.
+    pub fn pass(&self, actor: Actor) {
         match actor {
             Actor::Client(0) => {
                 self.firsts.fetch_add(1, Ordering::SeqCst);
@@ -67,7 +66,7 @@ fn sweeps_beside<R: Threads + Wait + Sync + AllocGlobal>(
     workers: usize,
 ) -> Result<(), Fail> {
     let gate = StepsGate::new();
-    let _transcript = transcript_of(rt, script, workers, &ParCoder, &gate)?;
+    let _transcript = transcript_of(rt, script, workers, &ParCoder, &TestGate::Steps(&gate))?;
     let firsts = gate.firsts.load(Ordering::SeqCst);
     let sweeps = gate.sweeps.load(Ordering::SeqCst);
     if firsts < 8 || sweeps < firsts {
@@ -85,9 +84,9 @@ fn the_sweeper_steps_beside_a_client(rt: HostRuntime) -> Result<(), Fail> {
     Ok(())
 }
 
-// Holds client 1 inside the lock of server 0 until the sweeper has made many steps.
+/// Holds client 1 inside the lock of server 0 until the sweeper has made many steps.
 #[derive(Drop)]
-struct HoldingGate {
+pub struct HoldingGate {
     sweeps: AtomicU64,
     gave_up: AtomicBool,
 }
@@ -109,11 +108,9 @@ impl HoldingGate {
         }
         self.gave_up.store(true, Ordering::SeqCst);
     }
-}
 
-impl Gate for HoldingGate {
-    // A put looks, draws, and then prepares a chunk at server 0.
-    fn pass(&self, actor: Actor, step: u64, _place: Place) {
+    /// An actor makes a step. A put looks, draws, and then prepares a chunk at server 0.
+    pub fn pass(&self, actor: Actor, step: u64) {
         match actor {
             Actor::Sweeper => {
                 self.sweeps.fetch_add(1, Ordering::SeqCst);
@@ -142,7 +139,8 @@ end
 // go on.
 fn sweeps_on<R: Threads + Wait + Sync + AllocGlobal>(rt: &R, workers: usize) -> Result<(), Fail> {
     let gate = HoldingGate::new();
-    let _transcript = transcript_of(rt, STAT_AND_PUT, workers, &ParCoder, &gate)?;
+    let held = TestGate::Holding(&gate);
+    let _transcript = transcript_of(rt, STAT_AND_PUT, workers, &ParCoder, &held)?;
     if gate.gave_up.load(Ordering::SeqCst) {
         return Err(Fail::new(format_args!("{workers} workers: the sweeper ended before client 1")));
     }

@@ -1,6 +1,6 @@
 //! Words of sessions, and words that are no session's.
+use crate::counted::CountingCoder;
 use crate::session_runs::{NOTHING, run_with};
-use clay_repair::PlainCoder;
 use frame_session::SessionStatus;
 use std::test::Fail;
 use std::thread::Threads;
@@ -11,7 +11,7 @@ fn ends_as<R: Threads + Sync + AllocGlobal>(
     words: &[u8],
     status: SessionStatus,
 ) -> Result<(), Fail> {
-    let ran = run_with(rt, words, b"\0", NOTHING, &PlainCoder)?;
+    let ran = run_with(rt, words, b"\0", NOTHING, &CountingCoder::new())?;
     if ran.status == status && ran.written.is_empty() {
         return Ok(());
     }
