@@ -52,7 +52,37 @@ fn other_shelves(alloc: Global, book: &Book, stamp: &Stamp) -> Result<Vec<Shelf>
     Ok(shelves)
 }
 
-// The put is given up after its first chunk came, and the others come once its version was swept.
+fn discard_all(shelves: &mut [Shelf]) {
+    for shelf in shelves.iter_mut() {
+        shelf.discard(Version(0));
+    }
+}
+
+fn prepare_all(alloc: Global, shelves: &mut [Shelf]) -> Result<(), Fail> {
+    for shelf in shelves.iter_mut() {
+        prepare(alloc, shelf)?;
+    }
+    Ok(())
+}
+
+// The put is given up after its first chunk came, and the others come once its version was swept. Nothing is owned here, so each step
+// that may fail costs little to prove.
+fn give_up(
+    alloc: Global,
+    store: &mut Store<'_>,
+    first: &mut Shelf,
+    others: &mut [Shelf],
+) -> Result<(), Fail> {
+    prepare(alloc, first)?;
+    hold(alloc, store, 2, GIVEN_UP)?;
+    first.discard(Version(0));
+    discard_all(others);
+    hold(alloc, store, 2, SWEPT)?;
+    prepare_all(alloc, others)?;
+    hold(alloc, store, 3, ENDED)
+}
+
+// The servers after that.
 fn leave_strays(alloc: Global, book: &Book, store: &mut Store<'_>) -> Result<Vec<Server>, Fail>
     requires book { store.old.book ≡ book.now }
     requires code { book.now.geometry ≡ small_code }
@@ -60,17 +90,7 @@ fn leave_strays(alloc: Global, book: &Book, store: &mut Store<'_>) -> Result<Vec
     let stamp = drawn_stripe(alloc, store)?;
     let mut first = Shelf::new(alloc, book, 0, &stamp);
     let mut others = other_shelves(alloc, book, &stamp)?;
-    prepare(alloc, &mut first)?;
-    hold(alloc, store, 2, GIVEN_UP)?;
-    first.discard(Version(0));
-    for shelf in &mut others {
-        shelf.discard(Version(0));
-    }
-    hold(alloc, store, 2, SWEPT)?;
-    for shelf in &mut others {
-        prepare(alloc, shelf)?;
-    }
-    hold(alloc, store, 3, ENDED)?;
+    give_up(alloc, store, &mut first, &mut others)?;
     servers_of(alloc, first, others)
 }
 
@@ -110,15 +130,19 @@ fn scrubbed(alloc: Global, store: &Store<'_>, servers: &[Server]) -> Result<Repo
     Ok(scrub(alloc, directory, servers)?)
 }
 
+fn are_dropped(alloc: Global, store: &Store<'_>, servers: &mut [Server]) -> Result<(), Fail> {
+    let report = scrubbed(alloc, store, servers)?;
+    are_at(&report, &[1, 2, 3])?;
+    drop_strays(servers, &report);
+    are_at(&scrubbed(alloc, store, servers)?, &[])
+}
+
 fn strays_go(alloc: Global, book: &Book, store: &mut Store<'_>) -> Result<(), Fail>
     requires book { store.old.book ≡ book.now }
     requires code { book.now.geometry ≡ small_code }
 {
     let mut servers = leave_strays(alloc, book, store)?;
-    let report = scrubbed(alloc, store, &servers)?;
-    are_at(&report, &[1, 2, 3])?;
-    drop_strays(&mut servers, &report);
-    are_at(&scrubbed(alloc, store, &servers)?, &[])
+    are_dropped(alloc, store, &mut servers)
 }
 
 #[test]
