@@ -55,8 +55,7 @@ fn long_subchunks_are_stored_by_threads(rt: HostRuntime) -> Result<(), Fail> {
     let words = ["run", "4"];
     let gate = MeetingGate::counting();
     let ran = run_by(&rt, &words, LONG_SUBCHUNKS, &[], &[], &gate, &ParCoder)?;
-    assert_eq!(rt; ran.status, Status::Done);
-    assert_eq!(rt; ran.written.as_slice(), ITS_TRANSCRIPT);
+    assert!(rt; ran.is_so(Status::Done, ITS_TRANSCRIPT));
     Ok(())
 }
 
@@ -102,8 +101,7 @@ fn is_legal_with<R: Threads + Wait + Sync + AllocGlobal>(
     rt: &R,
     gate: &MeetingGate,
 ) -> Result<bool, Fail> {
-    let ran = trial_with(rt, gate)?;
-    Ok(ran.status == Status::Done && ran.written.as_slice() == TRIAL)
+    Ok(trial_with(rt, gate)?.is_so(Status::Done, TRIAL))
 }
 
 // The lines are the same for every run, so no clause says that there was one.

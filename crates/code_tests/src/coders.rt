@@ -2,6 +2,7 @@
 ghost use Rattle.std.specs.Prelude.{◌<◌};
 ghost use Rattle.clay_grid.specs.Shape.{chunk_count};
 
+use crate::{expect_bytes, expect_numbers};
 use clay_grid::Geometry;
 use clay_lanes::LaneCoder;
 use clay_model::Coder;
@@ -22,9 +23,9 @@ const OF_SECOND_CHUNK: Word = [
 ];
 
 fn expect_word(rt: &impl Abort, chunks: &[Vec<u8>], word: &Word) {
-    assert_eq!(rt; chunks.len(), 4);
+    assert!(rt; chunks.len() == 4);
     for (c, chunk) in chunks.iter().enumerate() {
-        assert_eq!(rt; chunk.as_slice(), &word[4 * c..4 * c + 4]);
+        expect_bytes(rt, chunk, &word[4 * c..4 * c + 4]);
     }
 }
 
@@ -54,7 +55,7 @@ fn expect_layers(
     requires { lost < chunk_count g }
 {
     let found = g.repair_layers(alloc, lost)?;
-    assert_eq!(rt; found.as_slice(), layers);
+    expect_numbers(rt, &found, layers);
     Ok(())
 }
 
@@ -71,7 +72,7 @@ fn check_data_chunk<R: Threads + Sync + Abort, C: Coder>(
     let second = Vec::from_slice(alloc, &[0x53, 0])?;
     let parts = [None, Some(data), Some(first), Some(second)];
     let chunk = coder.rebuild(rt, alloc, g, 0, &parts)?;
-    assert_eq!(rt; chunk.as_slice(), [1, 0, 0, 0].as_slice());
+    expect_bytes(rt, &chunk, &[1, 0, 0, 0]);
     Ok(())
 }
 
@@ -89,7 +90,7 @@ fn check_parity_chunk<R: Threads + Sync + Abort, C: Coder>(
     let parity = Vec::from_slice(alloc, &[0x55, 0xf7, 0, 0])?;
     let parts = [Some(zero), Some(one), Some(two), Some(parity), None];
     let chunk = coder.rebuild(rt, alloc, g, 4, &parts)?;
-    assert_eq!(rt; chunk.as_slice(), [0xa4, 0, 0xf5, 0, 0, 0, 0, 0].as_slice());
+    expect_bytes(rt, &chunk, &[0xa4, 0, 0xf5, 0, 0, 0, 0, 0]);
     Ok(())
 }
 

@@ -18,6 +18,13 @@ pub struct Ran {
     pub written: Vec<u8>,
 }
 
+impl Ran {
+    /// Whether it ended so and wrote that.
+    pub fn is_so(&self, status: Status, written: &[u8]) -> bool {
+        self.status == status && self.written.as_slice() == written
+    }
+}
+
 /// Calls the program with these words, source, sink, gate and coder.
 pub fn run_with<
     R: Threads + Wait + Sync + AllocGlobal,
@@ -99,8 +106,7 @@ pub fn fails<R: Threads + Wait + Sync + AllocGlobal>(
     writes: &[u64],
     status: Status,
 ) -> Result<bool, Fail> {
-    let ran = run_failing(rt, words, input, reads, writes)?;
-    Ok(ran.status == status && ran.written.is_empty())
+    Ok(run_failing(rt, words, input, reads, writes)?.is_so(status, b""))
 }
 
 /// Calls the program where nothing fails.

@@ -25,8 +25,7 @@ pub fn answers<R: Threads + Wait + Sync + AllocGlobal>(
     status: Status,
     wanted: &[u8],
 ) -> Result<bool, Fail> {
-    let ran = run(rt, words, input)?;
-    Ok(ran.status == status && ran.written.as_slice() == wanted)
+    Ok(run(rt, words, input)?.is_so(status, wanted))
 }
 
 fn row_answers<R: Threads + Wait + Sync + AllocGlobal>(

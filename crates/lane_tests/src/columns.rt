@@ -1,4 +1,5 @@
 //! Columns added in column form, beside sums by `add_scaled`, and which codes have such columns.
+use crate::encoding::expect_bytes;
 use clay_field::add_scaled;
 use clay_grid::Geometry;
 use clay_kernels::{ColumnFactors, Products, add_column, end_column};
@@ -26,7 +27,7 @@ fn added(
     let mut sum = vec![in alloc; terms.value; len]?;
     for (factor, row) in factors {
         assert!(rt; len <= 200 && *row < 4 && terms.rows.len() == 4 * len);
-        assert_eq!(rt; sum.len(), len);
+        assert!(rt; sum.len() == len);
         add_scaled(&mut sum, *factor, &terms.rows[*row * len..(*row + 1) * len]);
     }
     Ok(sum)
@@ -35,7 +36,7 @@ fn added(
 fn expect_row(rt: &impl Abort, rows: &[u8], row: usize, expected: &[u8]) {
     let len = expected.len();
     assert!(rt; len <= 200 && row < 4 && rows.len() == 4 * len);
-    assert_eq!(rt; &rows[row * len..(row + 1) * len], expected);
+    expect_bytes(rt, &rows[row * len..(row + 1) * len], expected);
 }
 
 // Each row is the sum with these multiples. Nothing is owned here, so each sum that may fail costs little to prove.
@@ -152,9 +153,9 @@ fn column_count(alloc: Global, k: u32, m: u32) -> Result<usize, Fail> {
 
 #[test]
 fn four_parity_nodes_are_made_by_columns(rt: HostRuntime) -> Result<(), Fail> {
-    assert_eq!(&rt; column_count(rt.alloc(), 8, 4)?, 2);
-    assert_eq!(&rt; column_count(rt.alloc(), 10, 4)?, 3);
-    assert_eq!(&rt; column_count(rt.alloc(), 16, 4)?, 4);
-    assert_eq!(&rt; column_count(rt.alloc(), 4, 2)?, 0);
+    assert!(&rt; column_count(rt.alloc(), 8, 4)? == 2);
+    assert!(&rt; column_count(rt.alloc(), 10, 4)? == 3);
+    assert!(&rt; column_count(rt.alloc(), 16, 4)? == 4);
+    assert!(&rt; column_count(rt.alloc(), 4, 2)? == 0);
     Ok(())
 }

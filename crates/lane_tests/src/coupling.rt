@@ -1,4 +1,5 @@
 //! Bytes coupled and crossed, beside `add_scaled`.
+use crate::encoding::expect_bytes;
 use clay_field::add_scaled;
 use clay_kernels::{couple, cross, fifths, halves};
 use std::alloc::Global;
@@ -26,7 +27,7 @@ fn check_coupled(rt: &impl Abort, alloc: Global, len: usize) -> Result<(), Fail>
     add_scaled(&mut made, 5, &coupled);
     add_scaled(&mut expected, 1, &own);
     add_scaled(&mut expected, 2, &partner);
-    assert_eq!(rt; made.as_slice(), expected.as_slice());
+    expect_bytes(rt, &made, &expected);
     Ok(())
 }
 
@@ -42,7 +43,7 @@ fn check_crossed(rt: &impl Abort, alloc: Global, len: usize) -> Result<(), Fail>
     add_scaled(&mut made, 2, &crossed);
     add_scaled(&mut expected, 1, &uncoupled);
     add_scaled(&mut expected, 1, &coupled);
-    assert_eq!(rt; made.as_slice(), expected.as_slice());
+    expect_bytes(rt, &made, &expected);
     Ok(())
 }
 

@@ -1,4 +1,5 @@
 //! Products added to rows, beside `add_scaled`.
+use crate::encoding::expect_bytes;
 use clay_field::add_scaled;
 use clay_kernels::{Products, add_rows};
 use std::alloc::Global;
@@ -14,7 +15,7 @@ fn check_row(
 ) -> Result<(), Fail> {
     let mut expected = vec![in alloc; 0x3Cu8; src.len()]?;
     add_scaled(&mut expected, factor, src);
-    assert_eq!(rt; row, expected.as_slice());
+    expect_bytes(rt, row, &expected);
     Ok(())
 }
 
@@ -31,8 +32,8 @@ fn check_rows(rt: &impl Abort, alloc: Global, factors: &[u8], len: usize) -> Res
     let count = factors.len();
     assert!(rt; count <= 8 && len <= 200);
     let mut rows = vec![in alloc; 0x3Cu8; count * len]?;
-    assert_eq!(rt; products.len(), count);
-    assert_eq!(rt; src.len(), len);
+    assert!(rt; products.len() == count);
+    assert!(rt; src.len() == len);
     add_rows(&products, &src, &mut rows);
     for (row, factor) in factors.iter().enumerate() {
         check_row(rt, alloc, *factor, &src, &rows[row * len..(row + 1) * len])?;

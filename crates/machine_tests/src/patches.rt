@@ -111,67 +111,27 @@ delete > answered 3 Done, takes nothing
 sweep > 2
 held > 0 0 0 0";
 
-#[test]
-fn write_inside(rt: HostRuntime) -> Result<(), Fail> {
-    hold_anew(&rt, rt.alloc(), INSIDE)
-}
+// Each in a new store.
+const ALL: [&str; 13] = [
+    INSIDE,
+    WHOLE,
+    PAST_THE_END,
+    FROM_THE_END,
+    REFUSED,
+    OVER_A_LOST_CHUNK,
+    OVER_TOO_MANY,
+    TRIED_AGAIN,
+    GIVEN_UP,
+    DELETED,
+    DELETED_MEANWHILE,
+    REAPED,
+    SWEPT,
+];
 
 #[test]
-fn write_a_whole_stripe(rt: HostRuntime) -> Result<(), Fail> {
-    hold_anew(&rt, rt.alloc(), WHOLE)
-}
-
-#[test]
-fn write_past_the_end(rt: HostRuntime) -> Result<(), Fail> {
-    hold_anew(&rt, rt.alloc(), PAST_THE_END)
-}
-
-#[test]
-fn write_from_the_end(rt: HostRuntime) -> Result<(), Fail> {
-    hold_anew(&rt, rt.alloc(), FROM_THE_END)
-}
-
-#[test]
-fn write_where_it_is_refused(rt: HostRuntime) -> Result<(), Fail> {
-    hold_anew(&rt, rt.alloc(), REFUSED)
-}
-
-#[test]
-fn write_over_a_lost_chunk(rt: HostRuntime) -> Result<(), Fail> {
-    hold_anew(&rt, rt.alloc(), OVER_A_LOST_CHUNK)
-}
-
-#[test]
-fn write_over_too_many(rt: HostRuntime) -> Result<(), Fail> {
-    hold_anew(&rt, rt.alloc(), OVER_TOO_MANY)
-}
-
-#[test]
-fn write_again(rt: HostRuntime) -> Result<(), Fail> {
-    hold_anew(&rt, rt.alloc(), TRIED_AGAIN)
-}
-
-#[test]
-fn write_is_given_up(rt: HostRuntime) -> Result<(), Fail> {
-    hold_anew(&rt, rt.alloc(), GIVEN_UP)
-}
-
-#[test]
-fn delete(rt: HostRuntime) -> Result<(), Fail> {
-    hold_anew(&rt, rt.alloc(), DELETED)
-}
-
-#[test]
-fn delete_what_is_read(rt: HostRuntime) -> Result<(), Fail> {
-    hold_anew(&rt, rt.alloc(), DELETED_MEANWHILE)
-}
-
-#[test]
-fn write_is_reaped(rt: HostRuntime) -> Result<(), Fail> {
-    hold_anew(&rt, rt.alloc(), REAPED)
-}
-
-#[test]
-fn sweep_what_is_left(rt: HostRuntime) -> Result<(), Fail> {
-    hold_anew(&rt, rt.alloc(), SWEPT)
+fn writes_and_deletes_end(rt: HostRuntime) -> Result<(), Fail> {
+    for rows in ALL {
+        hold_anew(&rt, rt.alloc(), rows)?;
+    }
+    Ok(())
 }

@@ -35,17 +35,13 @@ turns 7 > server 0
 reap 5 > nothing
 rest > answered 2 Done, takes nothing";
 
-#[test]
-fn are_answered(rt: HostRuntime) -> Result<(), Fail> {
-    hold_anew(&rt, rt.alloc(), ANSWERED)
-}
+// Each in a new store.
+const ALL: [&str; 3] = [ANSWERED, AWAY, REAPED];
 
 #[test]
-fn with_servers_away(rt: HostRuntime) -> Result<(), Fail> {
-    hold_anew(&rt, rt.alloc(), AWAY)
-}
-
-#[test]
-fn are_reaped(rt: HostRuntime) -> Result<(), Fail> {
-    hold_anew(&rt, rt.alloc(), REAPED)
+fn puts_end(rt: HostRuntime) -> Result<(), Fail> {
+    for rows in ALL {
+        hold_anew(&rt, rt.alloc(), rows)?;
+    }
+    Ok(())
 }

@@ -39,22 +39,13 @@ turns 1 > coder
 reap 6 > 2
 rest > reaped 2, takes [4, 4, 0, 0]";
 
-#[test]
-fn are_served(rt: HostRuntime) -> Result<(), Fail> {
-    hold_anew(&rt, rt.alloc(), SERVED)
-}
+// Each in a new store.
+const ALL: [&str; 4] = [SERVED, REFUSED, LOST, REAPED];
 
 #[test]
-fn are_refused(rt: HostRuntime) -> Result<(), Fail> {
-    hold_anew(&rt, rt.alloc(), REFUSED)
-}
-
-#[test]
-fn over_lost_chunks(rt: HostRuntime) -> Result<(), Fail> {
-    hold_anew(&rt, rt.alloc(), LOST)
-}
-
-#[test]
-fn are_reaped(rt: HostRuntime) -> Result<(), Fail> {
-    hold_anew(&rt, rt.alloc(), REAPED)
+fn gets_reads_and_stats_end(rt: HostRuntime) -> Result<(), Fail> {
+    for rows in ALL {
+        hold_anew(&rt, rt.alloc(), rows)?;
+    }
+    Ok(())
 }

@@ -64,47 +64,23 @@ rest > superseded 1, takes [2, 0, 2, 2]
 held > 2 1 2 2
 get > served 2 [51, 52, 53, 54, 55, 56, 57, 58], takes [4, 4, 0, 0]";
 
-#[test]
-fn makes_the_chunk(rt: HostRuntime) -> Result<(), Fail> {
-    hold_anew(&rt, rt.alloc(), REBUILT)
-}
+// Each in a new store.
+const ALL: [&str; 9] = [
+    REBUILT,
+    REBUILT_OF_TWO,
+    HERE,
+    AWAY,
+    NO_OBJECT,
+    NO_STRIPE,
+    TOO_MANY_MISSING,
+    REAPED,
+    SUPERSEDED,
+];
 
 #[test]
-fn makes_the_chunk_though_another_is_lost(rt: HostRuntime) -> Result<(), Fail> {
-    hold_anew(&rt, rt.alloc(), REBUILT_OF_TWO)
-}
-
-#[test]
-fn finds_the_chunk(rt: HostRuntime) -> Result<(), Fail> {
-    hold_anew(&rt, rt.alloc(), HERE)
-}
-
-#[test]
-fn finds_the_server_away(rt: HostRuntime) -> Result<(), Fail> {
-    hold_anew(&rt, rt.alloc(), AWAY)
-}
-
-#[test]
-fn finds_no_object(rt: HostRuntime) -> Result<(), Fail> {
-    hold_anew(&rt, rt.alloc(), NO_OBJECT)
-}
-
-#[test]
-fn finds_no_stripe(rt: HostRuntime) -> Result<(), Fail> {
-    hold_anew(&rt, rt.alloc(), NO_STRIPE)
-}
-
-#[test]
-fn finds_too_many_missing(rt: HostRuntime) -> Result<(), Fail> {
-    hold_anew(&rt, rt.alloc(), TOO_MANY_MISSING)
-}
-
-#[test]
-fn is_reaped(rt: HostRuntime) -> Result<(), Fail> {
-    hold_anew(&rt, rt.alloc(), REAPED)
-}
-
-#[test]
-fn is_superseded(rt: HostRuntime) -> Result<(), Fail> {
-    hold_anew(&rt, rt.alloc(), SUPERSEDED)
+fn rebuilds_end(rt: HostRuntime) -> Result<(), Fail> {
+    for rows in ALL {
+        hold_anew(&rt, rt.alloc(), rows)?;
+    }
+    Ok(())
 }

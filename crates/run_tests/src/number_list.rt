@@ -8,7 +8,7 @@ use std::sync::Wait;
 use turn_lock::{Historied, Lock, Turn};
 
 /// A value, and a number of the turn that added it.
-#[derive(Clone, Copy, Debug, PartialEq, Eq)]
+#[derive(Clone, Copy, PartialEq)]
 pub struct Line {
     pub turn: u32,
     pub value: u32,

@@ -4,7 +4,7 @@ use line_grammar::FaultKind::{
 };
 use script_text::ScriptFault;
 use std::test::Fail;
-use text_tables::faults::parts;
+use text_tables::faults::{parts, same};
 use text_tables::scripts::{HEAD, begins_with, has_faults};
 
 #[test]
@@ -346,16 +346,18 @@ fn prints_faults(rt: HostRuntime) -> Result<(), Fail> {
         (OutOfMemory, 7, "out of memory"),
     ];
     for (kind, number, text) in kinds {
-        assert_eq!(rt; kind as u8, number);
-        assert_eq!(rt; format!(in rt.alloc(); "{kind}")?.as_str(), text);
+        assert!(rt; kind as u8 == number);
+        same(
+            format!(in rt.alloc(); "{kind}")?.as_bytes(),
+            text.as_bytes(),
+        )?;
     }
     let fault = ScriptFault {
         line: 4,
         kind: NoSuchActor,
     };
-    assert_eq!(rt;
-        format!(in rt.alloc(); "{fault}")?.as_str(),
-        "line 4: no such actor"
-    );
-    Ok(())
+    same(
+        format!(in rt.alloc(); "{fault}")?.as_bytes(),
+        b"line 4: no such actor",
+    )
 }

@@ -1,7 +1,6 @@
 //! Scripts that are drawn from numbers.
 use clay_gen::generate;
 use script_text::write_script;
-use std::process::Abort;
 use std::test::Fail;
 
 // Of 10007, by another program.
@@ -221,19 +220,13 @@ end
 ";
 
 // Holds the script of a number against its text.
-fn generates(
-    rt: &(impl Abort + AllocGlobal),
-    start: u64,
-    size: u32,
-    text: &[u8],
-) -> Result<(), Fail> {
+fn generates(rt: &impl AllocGlobal, start: u64, size: u32, text: &[u8]) -> Result<(), Fail> {
     if size > 4096 {
         return Err(Fail::from("too many calls"));
     }
     let script = generate(rt.alloc(), start, size)?;
     let written = write_script(rt.alloc(), &script)?;
-    assert_eq!(rt; written.as_slice(), text);
-    Ok(())
+    same(&written, text)
 }
 
 #[test]

@@ -49,14 +49,14 @@ fn writes_what_it_reads(rt: HostRuntime) -> Result<(), Fail> {
         writes_back(&rt, text)?;
         count = count.saturating_add(1);
     }
-    assert_eq!(rt; count, 7);
+    assert!(rt; count == 7);
     Ok(())
 }
 
 #[test]
 fn writes_larger_data(rt: HostRuntime) -> Result<(), Fail> {
     let text = realistic(rt.alloc())?;
-    assert_eq!(rt; text.len(), 1084);
+    assert!(rt; text.len() == 1084);
     writes_back(&rt, &text)
 }
 
@@ -295,7 +295,7 @@ fn numbers(rt: HostRuntime) -> Result<(), Fail> {
         (b"1 ", None),
     ];
     for (word, number) in words {
-        assert_eq!(rt; read_number(word), number);
+        assert!(rt; read_number(word) == number);
     }
     Ok(())
 }

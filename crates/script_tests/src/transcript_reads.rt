@@ -4,7 +4,7 @@ use std::alloc::Global;
 use std::process::Abort;
 use std::test::Fail;
 use store_map::Transcript;
-use text_tables::faults::{Around, Reader, have_faults};
+use text_tables::faults::{Around, Reader, have_faults, same};
 use transcript_read::read_transcript;
 use transcript_text::write_transcript;
 
@@ -71,11 +71,10 @@ fn reads_every_form_of_line(rt: HostRuntime) -> Result<(), Fail> {
     let Ok(transcript) = read(rt.alloc(), WHOLE, 3)? else {
         return Err(Fail::from("refused"));
     };
-    assert_eq!(rt; transcript.history.len(), 8);
-    assert_eq!(rt; transcript.servers.len(), 3);
+    assert!(rt; transcript.history.len() == 8);
+    assert!(rt; transcript.servers.len() == 3);
     let text = write_transcript(rt.alloc(), &transcript)?;
-    assert_eq!(rt; text.as_slice(), WHOLE);
-    Ok(())
+    same(&text, WHOLE)
 }
 
 #[test]

@@ -103,22 +103,13 @@ second end > reaped 3
 second get 1 a > pinned 4, 8 bytes, 0 v3 at 0 0 0 0
 points > 5";
 
-#[test]
-fn answers_to_looks(rt: HostRuntime) -> Result<(), Fail> {
-    hold_anew(rt.alloc(), 20, LOOKS)
-}
+// How many rows each has.
+const ALL: [(usize, &str); 4] = [(20, LOOKS), (22, RACES), (22, REBUILDS), (21, GARBAGE)];
 
 #[test]
-fn answers_to_writes(rt: HostRuntime) -> Result<(), Fail> {
-    hold_anew(rt.alloc(), 22, RACES)
-}
-
-#[test]
-fn answers_to_rebuilds(rt: HostRuntime) -> Result<(), Fail> {
-    hold_anew(rt.alloc(), 22, REBUILDS)
-}
-
-#[test]
-fn answers_to_the_sweeper(rt: HostRuntime) -> Result<(), Fail> {
-    hold_anew(rt.alloc(), 21, GARBAGE)
+fn steps_are_answered(rt: HostRuntime) -> Result<(), Fail> {
+    for (count, rows) in ALL {
+        hold_anew(rt.alloc(), count, rows)?;
+    }
+    Ok(())
 }

@@ -34,17 +34,17 @@ first commit > done 1
 points > 2
 take > 0";
 
-#[test]
-fn a_reap_between_look_and_draw(rt: HostRuntime) -> Result<(), Fail> {
-    hold_anew(rt.alloc(), 8, REAPED_BEFORE_DRAW)
-}
+// How many rows each has.
+const ALL: [(usize, &str); 3] = [
+    (8, REAPED_BEFORE_DRAW),
+    (9, REAPED_BEFORE_COMMIT),
+    (8, PUT_TWICE),
+];
 
 #[test]
-fn a_reap_between_draw_and_commit(rt: HostRuntime) -> Result<(), Fail> {
-    hold_anew(rt.alloc(), 9, REAPED_BEFORE_COMMIT)
-}
-
-#[test]
-fn a_put_over_a_put(rt: HostRuntime) -> Result<(), Fail> {
-    hold_anew(rt.alloc(), 8, PUT_TWICE)
+fn puts_are_given_up_and_made(rt: HostRuntime) -> Result<(), Fail> {
+    for (count, rows) in ALL {
+        hold_anew(rt.alloc(), count, rows)?;
+    }
+    Ok(())
 }
