@@ -11,11 +11,6 @@ H 1 c1.2 ok
 X c5.0 nomem
 ";
 
-#[test]
-fn calls_that_nobody_made(rt: HostRuntime) -> Result<(), Fail> {
-    are_judged(&rt, SCRIPT, BEFORE_ITS_END, 2, CALLS_THAT_NOBODY_MADE)
-}
-
 const CALLS_OUT_OF_ORDER: &[u8] = b"\
 misplaced c0.0 1 0
 >H 0 c0.1 nosuch
@@ -29,11 +24,6 @@ H 1 c1.0 ok
 X c0.0 nomem
 ";
 
-#[test]
-fn calls_out_of_order(rt: HostRuntime) -> Result<(), Fail> {
-    are_judged(&rt, SCRIPT, BEFORE_ITS_END, 3, CALLS_OUT_OF_ORDER)
-}
-
 const REPLIES_OF_ANOTHER_MAP: &[u8] = b"\
 differs c0.1 expected bytes hex:0102 got bytes hex:00
 >H 0 c0.0 ok
@@ -44,11 +34,6 @@ H 2 c0.1 bytes hex:00
 H 1 c1.1 open
 O c1.1
 ";
-
-#[test]
-fn replies_of_another_map(rt: HostRuntime) -> Result<(), Fail> {
-    are_judged(&rt, SCRIPT, BEFORE_ITS_END, 2, REPLIES_OF_ANOTHER_MAP)
-}
 
 const CALLS_WITHOUT_A_REPLY: &[u8] = b"\
 misplaced c0.0 0 2
@@ -65,6 +50,15 @@ O c0.1
 ";
 
 #[test]
-fn calls_without_a_reply(rt: HostRuntime) -> Result<(), Fail> {
-    are_judged(&rt, SCRIPT, BEFORE_ITS_END, 3, CALLS_WITHOUT_A_REPLY)
+fn lines_of_no_history(rt: HostRuntime) -> Result<(), Fail> {
+    let tables = [
+        (2, CALLS_THAT_NOBODY_MADE),
+        (3, CALLS_OUT_OF_ORDER),
+        (2, REPLIES_OF_ANOTHER_MAP),
+        (3, CALLS_WITHOUT_A_REPLY),
+    ];
+    for (rows, table) in tables {
+        are_judged(&rt, SCRIPT, BEFORE_ITS_END, rows, table)?;
+    }
+    Ok(())
 }

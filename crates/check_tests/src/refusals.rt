@@ -26,11 +26,6 @@ X c0.1 unavailable stripe 0 missing 1/0/1 0/0/1 2/0/1
 X c0.1 unavailable stripe 0 missing 1/0/1 0/u1/a1 2/0/1
 ";
 
-#[test]
-fn losses_that_nobody_caused(rt: HostRuntime) -> Result<(), Fail> {
-    are_judged(&rt, SCRIPT, BEFORE_ITS_END, 7, LOSSES_THAT_NOBODY_CAUSED)
-}
-
 const RACES_THAT_NOBODY_WON: &[u8] = b"\
 cause c0.1 0 1
 >H 0 c0.0 ok
@@ -54,11 +49,6 @@ H 1 c1.0 ok
 X c2.0 contended 0/1 1/2
 ";
 
-#[test]
-fn races_that_nobody_won(rt: HostRuntime) -> Result<(), Fail> {
-    are_judged(&rt, SCRIPT, BEFORE_ITS_END, 5, RACES_THAT_NOBODY_WON)
-}
-
 const OTHER_CAUSES: &[u8] = b"\
 cause c1.1 1 2
 >H 0 c0.0 ok
@@ -75,6 +65,14 @@ R r0.0 away 1
 ";
 
 #[test]
-fn other_causes(rt: HostRuntime) -> Result<(), Fail> {
-    are_judged(&rt, SCRIPT, BEFORE_ITS_END, 3, OTHER_CAUSES)
+fn refusals_without_a_cause(rt: HostRuntime) -> Result<(), Fail> {
+    let tables = [
+        (7, LOSSES_THAT_NOBODY_CAUSED),
+        (5, RACES_THAT_NOBODY_WON),
+        (3, OTHER_CAUSES),
+    ];
+    for (rows, table) in tables {
+        are_judged(&rt, SCRIPT, BEFORE_ITS_END, rows, table)?;
+    }
+    Ok(())
 }

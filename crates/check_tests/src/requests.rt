@@ -21,11 +21,6 @@ const OF_THE_MAP: &[u8] = b"\
 ;\x05\x01a>Some(OfMap(Stat { name: Name { bytes: [97] } }))\
 ;\x06\x01a>Some(OfMap(Delete { name: Name { bytes: [97] } }))";
 
-#[test]
-fn requests_of_the_map(rt: HostRuntime) -> Result<(), Fail> {
-    are_read(rt.alloc(), Reader::Request, 6, OF_THE_MAP)
-}
-
 const OF_CHUNKS_AND_SNAPSHOTS: &[u8] = b"\
 \x07\0\0\0\x03>Some(Lose { server: 3 })\
 ;\x08\x01a\0\0\0\x01\0\0\0\x02>Some(Rebuild { name: Name { bytes: [97] }, stripe: 1, server: 2 })\
@@ -34,11 +29,6 @@ const OF_CHUNKS_AND_SNAPSHOTS: &[u8] = b"\
 ;\x0b>Some(SnapDrop)\
 ;\x0c>Some(Scrub)\
 ;\x0d>Some(Heal)";
-
-#[test]
-fn requests_of_chunks_and_snapshots(rt: HostRuntime) -> Result<(), Fail> {
-    are_read(rt.alloc(), Reader::Request, 7, OF_CHUNKS_AND_SNAPSHOTS)
-}
 
 // No kind, one that there isn't, and a field too many; then fields that are none, or not all there.
 const NONE: &[u8] = b"\
@@ -57,6 +47,10 @@ const NONE: &[u8] = b"\
 ;\x0a\x01a\0\0\0\0>None";
 
 #[test]
-fn frames_that_are_no_requests(rt: HostRuntime) -> Result<(), Fail> {
-    are_read(rt.alloc(), Reader::Request, 13, NONE)
+fn requests_are_read(rt: HostRuntime) -> Result<(), Fail> {
+    let tables = [(6, OF_THE_MAP), (7, OF_CHUNKS_AND_SNAPSHOTS), (13, NONE)];
+    for (rows, table) in tables {
+        are_read(rt.alloc(), Reader::Request, rows, table)?;
+    }
+    Ok(())
 }
