@@ -135,21 +135,14 @@ fn are_told_inside_everywhere<R: Threads + Wait + Sync + AllocGlobal>(
 }
 
 #[test]
-fn clients_are_told_inside_the_lock(rt: HostRuntime) -> Result<(), Fail> {
-    are_told_inside_everywhere(&rt, Actor::Client(0))
-}
-
-#[test]
-fn repairers_are_told_inside_the_lock(rt: HostRuntime) -> Result<(), Fail> {
-    are_told_inside_everywhere(&rt, Actor::Repairer(0))
-}
-
-#[test]
-fn the_sweeper_is_told_inside_the_lock(rt: HostRuntime) -> Result<(), Fail> {
-    are_told_inside_everywhere(&rt, Actor::Sweeper)
-}
-
-#[test]
-fn the_operator_is_told_inside_the_lock(rt: HostRuntime) -> Result<(), Fail> {
-    are_told_inside_everywhere(&rt, Actor::Operator)
+fn all_are_told_inside_the_lock(rt: HostRuntime) -> Result<(), Fail> {
+    for actor in [
+        Actor::Client(0),
+        Actor::Repairer(0),
+        Actor::Sweeper,
+        Actor::Operator,
+    ] {
+        are_told_inside_everywhere(&rt, actor)?;
+    }
+    Ok(())
 }

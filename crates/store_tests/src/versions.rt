@@ -135,11 +135,6 @@ fn decodes(alloc: Global, book: &Book, sealer: &mut Sealer) -> Result<(), Fail>
     holds(has_stripe(&chunks, &stripe(alloc)?), "decode")
 }
 
-#[test]
-fn a_put_is_decoded_from_two_servers(rt: HostRuntime) -> Result<(), Fail> {
-    with_a_book(rt.alloc(), Course::Decodes)
-}
-
 fn tells_its_version(alloc: Global, book: &Book, sealer: &mut Sealer) -> Result<(), Fail>
     requires book { IsSmall book.now }
     requires sealer { sealer.old ≡ sealer_at book.now 0 }
@@ -148,11 +143,6 @@ fn tells_its_version(alloc: Global, book: &Book, sealer: &mut Sealer) -> Result<
     let shown = format!(in alloc; "{first:?}")?;
     holds(shown.as_str() == "Stamp(0)", "stamp")?;
     holds(sealer.next() == Version(1), "next")
-}
-
-#[test]
-fn a_stamp_tells_its_version(rt: HostRuntime) -> Result<(), Fail> {
-    with_a_book(rt.alloc(), Course::TellsItsVersion)
 }
 
 fn lays_over(alloc: Global, book: &Book, sealer: &mut Sealer) -> Result<(), Fail>
@@ -164,11 +154,6 @@ fn lays_over(alloc: Global, book: &Book, sealer: &mut Sealer) -> Result<(), Fail
     let note = book.note(&next);
     holds((note.actor, note.number) == (Actor::Client(0), 1), "call")?;
     holds((note.stripe, note.base) == (0, Some(0)), "base")
-}
-
-#[test]
-fn a_write_is_laid_over_its_base(rt: HostRuntime) -> Result<(), Fail> {
-    with_a_book(rt.alloc(), Course::LaysOver)
 }
 
 // Whether there is room for so many versions from this one on.
@@ -191,11 +176,6 @@ fn ends(book: &Book) -> Result<(), Fail> {
     Ok(())
 }
 
-#[test]
-fn room_ends_with_the_book(rt: HostRuntime) -> Result<(), Fail> {
-    with_a_book(rt.alloc(), Course::Ends)
-}
-
 fn parts(alloc: Global, book: &Book, sealer: &mut Sealer) -> Result<(), Fail>
     requires book { IsSmall book.now }
     requires sealer { sealer.old ≡ sealer_at book.now 0 }
@@ -206,8 +186,17 @@ fn parts(alloc: Global, book: &Book, sealer: &mut Sealer) -> Result<(), Fail>
 }
 
 #[test]
-fn a_part_has_its_layers_alone(rt: HostRuntime) -> Result<(), Fail> {
-    with_a_book(rt.alloc(), Course::Parts)
+fn versions_are_sealed_and_read(rt: HostRuntime) -> Result<(), Fail> {
+    for course in [
+        Course::Decodes,
+        Course::TellsItsVersion,
+        Course::LaysOver,
+        Course::Ends,
+        Course::Parts,
+    ] {
+        with_a_book(rt.alloc(), course)?;
+    }
+    Ok(())
 }
 
 // A script of one put.
