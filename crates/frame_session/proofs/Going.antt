@@ -1,6 +1,7 @@
 -- A store that serves a session, and how far the session has come.
-use Rattle.std.proofs.Common.{◌≡◌, ℕ, ◌+◌, ◌-◌, ◌≤◌, List, length, Option, None, Some, Result, Ok, Err, OnOk, OnErr, refl, sym, ap, subst, ◌∙◌, inr, arith}
-use Rattle.clay_bytes.specs.Stream.{Gains, IsPrefixWritten}
+use Rattle.std.proofs.Common.{◌≡◌, ℕ, ◌+◌, ◌-◌, ◌≤◌, Bool, List, [], ◌++◌, length, take, Option, None, Some, Result, Ok, Err, OnOk, OnErr, refl, sym, ap, subst, ◌∙◌, inr, arith}
+use Rattle.clay_bytes.specs.Stream.{HandsOut, Accepts, AcceptsPrefix}
+use Rattle.clay_bytes.proofs.StreamLemmas.{gives-then, gains-then, and-more, hands-nothing, accepts-nothing}
 use Rattle.clay_grid.specs.Shape.{Shape, chunk_count}
 use Rattle.clay_grid.specs.Limits.{IsGeometry}
 use Rattle.session_rules.specs.State.{State, first_state}
@@ -13,17 +14,18 @@ use Rattle.session_rules.specs.Replies.{answer_bytes}
 use Rattle.session_rules.specs.Session.{IsAnswered}
 use Rattle.session_rules.specs.Shortages.{Leaves}
 use Rattle.frame_bytes.specs.declared.reading.Next.{Next}
-use Rattle.frame_bytes.specs.Next.{IsNext, StopsWithin, StopsAtLength}
+use Rattle.frame_bytes.specs.Next.{IsNext}
+use Rattle.frame_bytes.specs.Heard.{HandsOutNext, HandsOutPart, HandsOutLength}
 use Rattle.frame_bytes.specs.Requests.{HasName, IsNamed}
 use Rattle.frame_bytes.specs.Writing.{IsWritable}
 use Rattle.session_store.specs.Stored.{StoreOf}
 use Rattle.session_store.specs.Standing.{StandsAt}
 use Rattle.session_store.specs.Serving.{Serves, ServesAll, served_one}
 use Rattle.frame_session.specs.Fits.{IsBounded}
-use Rattle.frame_session.specs.Session.{IsSession, IsGivenUp, IsWanting, IsCutShort}
+use Rattle.frame_session.specs.Session.{IsSessionOf, IsSessionIn, IsGivenUp, IsWanting, IsCutShort}
 use Rattle.frame_session.specs.Serving.{Answers, AnswersAll, IsLater, IsLimited, IsBeginning, IsReady, IsWritten, ServesFrame}
 use Rattle.frame_session.proofs.Bounded.{Keeps, answered_keeps, first_bounded}
-use Rattle.frame_session.proofs.Progress.{HasServed, nothing_served, next_served, ended, stopped, stopped_at_length, cut}
+use Rattle.frame_session.proofs.Progress.{HasServed, nothing_served, next_served, ended_so, told_next, given_up, wanting, never_begun, cut}
 
 -- ---- the answer to a frame
 -- where memory was wanting for a request's name nothing changed
@@ -104,20 +106,22 @@ goes_on frame old now answer ready later all =
       ready = record { limited = limited; state = one.after; stands = one.stands; bounded = keeps.0 };
     }
 
-pub is_written : {X E : Type 0} (result : Result X E) (old : Option (List ℕ)) (bytes : List ℕ) (new : Option (List ℕ)) → OnOk result (Gains old bytes new) →
-    OnErr result (IsPrefixWritten old bytes new) → IsWritten result old bytes new
-is_written (Ok done) old bytes new whole prefix = whole
-is_written (Err fault) old bytes new whole prefix = prefix
+pub is_written : {X E : Type 0} (result : Result X E) (accepted : List ℕ) (written : Option (List ℕ)) (bytes now : List ℕ) (new : Option (List ℕ)) →
+    OnOk result (Accepts accepted written bytes now new) → OnErr result (AcceptsPrefix accepted written bytes now new) →
+    IsWritten result accepted written bytes now new
+is_written (Ok done) accepted written bytes now new whole part = whole
+is_written (Err fault) accepted written bytes now new whole part = part
 
-pub frame_served : {X E : Type 0} (frame : List ℕ) (old now : StoreOf) (answer : Answer) (result : Result X E) (written new : Option (List ℕ)) →
-    AnswersAll frame old answer now → IsWritten result written (framed (answer_bytes answer)) new →
-    (before : State) → StandsAt old before → ServesFrame frame before now result written new
-frame_served frame old now answer result written new all bytes before stands =
-    let one : Answers frame before answer now = all before stands in
-    record { after = one.after; answer = answer; answered = one.answered; stands = one.stands; written = bytes }
+pub frame_served : {X E : Type 0} (frame : List ℕ) (old store : StoreOf) (answer : Answer) (result : Result X E) (accepted : List ℕ) (written : Option (List ℕ))
+    (now : List ℕ) (new : Option (List ℕ)) → AnswersAll frame old answer store → IsWritten result accepted written (framed (answer_bytes answer)) now new →
+    (before : State) → StandsAt old before → ServesFrame frame before store result accepted written now new
+frame_served frame old store answer result accepted written now new all writes before stands =
+    let one : Answers frame before answer store = all before stands in
+    record { after = one.after; answer = answer; answered = one.answered; stands = one.stands; writes = writes }
 
--- ---- a session that goes on
-pub record Going (begun store : StoreOf) (room : ℕ) (before left old new : Option (List ℕ)) : Type 0 where
+-- ---- a session that goes on: what the source handed out and the sink took so far, from what both had to what they have
+pub record Going (begun store : StoreOf) (room : ℕ) (a : List ℕ) (o : Option (List ℕ)) (b : List ℕ) (p : Option (List ℕ)) (w : List ℕ) (n : Option (List ℕ))
+    (v : List ℕ) (m : Option (List ℕ)) : Type 0 where
   pub limited : IsLimited store
   pub geometry : store.geometry ≡ begun.geometry
   pub max : store.max ≡ begun.max
@@ -125,10 +129,19 @@ pub record Going (begun store : StoreOf) (room : ℕ) (before left old new : Opt
   pub state : State
   pub stands : StandsAt store state
   pub bounded : IsBounded store.max state
-  pub so_far : (input : List ℕ) → before ≡ Some input → HasServed begun.geometry begun.max input room state left old new
+  pub got : List ℕ
+  pub taken : List ℕ
+  pub hands : HandsOut a o got b p
+  pub accepts : Accepts w n taken v m
+  pub served : HasServed begun.geometry begun.max got room state taken
 
-pub begins : (store : StoreOf) (before old : Option (List ℕ)) → IsBeginning store → Going store store most_input before before old old
-begins store before old beginning = record {
+-- some bytes were handed out and some taken, of which this is true
+abbrev pub Moved : List ℕ → Option (List ℕ) → List ℕ → Option (List ℕ) → List ℕ → Option (List ℕ) → List ℕ → Option (List ℕ) → (List ℕ → List ℕ → Type 0) → Type 0
+Moved a o c q w n v m P = (got : List ℕ) × (taken : List ℕ) × HandsOut a o got c q × Accepts w n taken v m × P got taken
+
+pub begins : (store : StoreOf) (a : List ℕ) (o : Option (List ℕ)) (w : List ℕ) (n : Option (List ℕ)) → IsBeginning store →
+    Going store store most_input a o a o w n w n
+begins store a o w n beginning = record {
   limited = beginning.limited;
   geometry = refl;
   max = refl;
@@ -136,15 +149,22 @@ begins store before old beginning = record {
   state = first_state store.geometry;
   stands = beginning.stands;
   bounded = first_bounded store.geometry store.max;
-  so_far =
-      λ input told.
-      subst (λ l. HasServed store.geometry store.max input most_input (first_state store.geometry) l old old) (sym told)
-      (nothing_served store.geometry store.max input old);
+  got = [];
+  taken = [];
+  hands = hands-nothing a o;
+  accepts = accepts-nothing w n;
+  served = nothing_served store.geometry store.max;
 }
 
-pub is_ready : (begun store : StoreOf) (room : ℕ) (before left old new : Option (List ℕ)) → Going begun store room before left old new → IsReady store
-is_ready begun store room before left old new going =
-    record { limited = going.limited; state = going.state; stands = going.stands; bounded = going.bounded }
+-- some bytes, and more behind them
+hands_then : (a b c : List ℕ) (o p q : Option (List ℕ)) (got step : List ℕ) → HandsOut a o got b p → HandsOut b p step c q → HandsOut a o (got ++ step) c q
+hands_then a b c o p q got step first second =
+    (and-more a b c got step (got ++ step) first.0 second.0 refl, gives-then o p q got step (got ++ step) first.1 second.1 refl)
+
+accepts_then : (w v u : List ℕ) (n m k : Option (List ℕ)) (taken piece : List ℕ) → Accepts w n taken v m → Accepts v m piece u k →
+    Accepts w n (taken ++ piece) u k
+accepts_then w v u n m k taken piece first second =
+    (and-more w v u taken piece (taken ++ piece) first.0 second.0 refl, gains-then n m k taken piece (taken ++ piece) first.1 second.1 refl)
 
 -- what was answered, of the code with which the session began
 answered_of : (begun now : StoreOf) (frame : List ℕ) (s : State) (served : State × Answer) → now.geometry ≡ begun.geometry → now.max ≡ begun.max →
@@ -154,16 +174,16 @@ answered_of begun now frame s served code most answered =
     subst (λ m. IsAnswered begun.geometry m (request_of (chunk_count begun.geometry) frame) s served) most
     (subst (λ g. IsAnswered g now.max (request_of (chunk_count g) frame) s served) code answered)
 
-module _ (begun store now : StoreOf) (room : ℕ) (frame : List ℕ) (before left taken old new newer : Option (List ℕ))
-    (going : Going begun store room before left old new) (next : IsNext room left (Next.Frame frame) taken) (fits : 4 + length frame ≤ room)
+module _ (begun store now : StoreOf) (room : ℕ) (frame a b c : List ℕ) (o p q : Option (List ℕ)) (ended : Bool) (w v u : List ℕ) (n m k : Option (List ℕ))
+    (going : Going begun store room a o b p w n v m) (next : HandsOutNext room b p (Next.Frame frame) c ended q) (fits : 4 + length frame ≤ room)
     (later : IsLater store now) where
   -- one more frame was served
-  pub goes_further : {X E : Type 0} (done : X) → ((before : State) → StandsAt store before → ServesFrame {X = X} {E = E} frame before now (Ok done) new newer) →
-      Going begun now (room - (length frame + 4)) before taken old newer
+  pub goes_further : {X E : Type 0} (done : X) → ((before : State) → StandsAt store before → ServesFrame {X = X} {E = E} frame before now (Ok done) v m u k) →
+      Going begun now (room - (length frame + 4)) a o c q w n u k
   goes_further done serves =
-      let served : ServesFrame frame going.state now (Ok done) new newer = serves going.state going.stands in
+      let served : ServesFrame frame going.state now (Ok done) v m u k = serves going.state going.stands in
       let limited : IsLimited now = limited_later store now later going.limited in
-      let bounded : IsBounded now.max going.state = subst (λ m. IsBounded m going.state) (sym later.max) going.bounded in
+      let bounded : IsBounded now.max going.state = subst (λ most. IsBounded most going.state) (sym later.max) going.bounded in
       let keeps : Keeps now.geometry now.max limited.geometry limited.max (served.after, served.answer) =
       answered_keeps now.geometry now.max limited.geometry limited.max frame going.state (served.after, served.answer) bounded served.answered in
       let count : now.served ≤ store.served + 1 = later.served in
@@ -176,33 +196,69 @@ module _ (begun store now : StoreOf) (room : ℕ) (frame : List ℕ) (before lef
         state = served.after;
         stands = served.stands;
         bounded = keeps.0;
-        so_far =
-            λ input told.
-            next_served begun.geometry begun.max input room going.state served.after frame served.answer left taken old new newer (going.so_far input told) next
-            (answered_of begun now frame going.state (served.after, served.answer) (later.geometry ∙ going.geometry) (later.max ∙ going.max) served.answered)
-            served.written;
+        got = going.got ++ next.0;
+        taken = going.taken ++ framed (answer_bytes served.answer);
+        hands = hands_then a b c o p q going.got next.0 going.hands next.1;
+        accepts = accepts_then w v u n m k going.taken (framed (answer_bytes served.answer)) going.accepts served.writes;
+        served =
+            next_served begun.geometry begun.max going.got room going.state served.after frame served.answer going.taken next.0 ended going.served next.2
+            (answered_of begun now frame going.state (served.after, served.answer) (later.geometry ∙ going.geometry) (later.max ∙ going.max) served.answered);
       }
 
   -- its answer couldn't be written
-  pub is_cut : {X E : Type 0} (fault : E) → ((before : State) → StandsAt store before → ServesFrame {X = X} {E = E} frame before now (Err fault) new newer) →
-      (input : List ℕ) → before ≡ Some input → IsCutShort begun.geometry begun.max input taken old newer
-  is_cut fault serves input told =
-      let served : ServesFrame frame going.state now (Err fault) new newer = serves going.state going.stands in
-      cut begun.geometry begun.max input room going.state served.after frame served.answer left taken old new newer (going.so_far input told) next
-      (answered_of begun now frame going.state (served.after, served.answer) (later.geometry ∙ going.geometry) (later.max ∙ going.max) served.answered)
-      served.written
+  pub is_cut : {X E : Type 0} (fault : E) → ((before : State) → StandsAt store before → ServesFrame {X = X} {E = E} frame before now (Err fault) v m u k) →
+      Moved a o c q w n u k (IsCutShort begun.geometry begun.max)
+  is_cut fault serves =
+      let served : ServesFrame frame going.state now (Err fault) v m u k = serves going.state going.stands in
+      let part : AcceptsPrefix v m (framed (answer_bytes served.answer)) u k = served.writes in (
+        going.got ++ next.0,
+        going.taken ++ take part.0 (framed (answer_bytes served.answer)),
+        hands_then a b c o p q going.got next.0 going.hands next.1,
+        accepts_then w v u n m k going.taken (take part.0 (framed (answer_bytes served.answer))) going.accepts part.2,
+        cut begun.geometry begun.max going.got room going.state served.after frame served.answer going.taken next.0 ended part.0 going.served next.2
+            (answered_of begun now frame going.state (served.after, served.answer) (later.geometry ∙ going.geometry) (later.max ∙ going.max) served.answered)
+            part.1,
+      )
 
 -- nothing more was served
-module _ (begun store : StoreOf) (room : ℕ) (before left taken old new : Option (List ℕ)) (going : Going begun store room before left old new) where
-  pub is_session : (ending : Ending) → IsNext room left (Next.End ending) taken → (input : List ℕ) → before ≡ Some input →
-      IsSession begun.geometry begun.max input ending taken old new
-  is_session ending next input told = ended begun.geometry begun.max input room going.state ending left taken old new (going.so_far input told) next
+module _ (begun store : StoreOf) (room : ℕ) (a b c : List ℕ) (o p q : Option (List ℕ)) (w v : List ℕ) (n m : Option (List ℕ))
+    (going : Going begun store room a o b p w n v m) where
+  pub is_session : (ending : Ending) (ended : Bool) → HandsOutNext room b p (Next.End ending) c ended q → IsNext room p (Next.End ending) q →
+      Moved a o c q w n v m (λ got taken. IsSessionOf begun.geometry begun.max got ended ending taken × IsSessionIn begun.geometry begun.max o got ending taken)
+  is_session ending ended next told = (
+    going.got ++ next.0,
+    going.taken,
+    hands_then a b c o p q going.got next.0 going.hands next.1,
+    going.accepts,
+    (
+      λ more may. ended_so begun.geometry begun.max going.got room going.state ending going.taken next.0 more going.served (next.2 more may),
+      λ more same.
+          ended_so begun.geometry begun.max going.got room going.state ending going.taken next.0 more going.served
+          (told_next room (Next.End ending) o p q going.got next.0 more going.hands.1 next.1.1 told same),
+    ),
+  )
 
-  pub is_given_up : StopsWithin room left taken → (input : List ℕ) → before ≡ Some input → IsGivenUp begun.geometry begun.max input taken old new
-  is_given_up stops input told = stopped begun.geometry begun.max input room going.state left taken old new (going.so_far input told) stops
+  pub is_given_up : HandsOutPart room b p c q → Moved a o c q w n v m (IsGivenUp begun.geometry begun.max)
+  is_given_up part = (
+    going.got ++ part.0,
+    going.taken,
+    hands_then a b c o p q going.got part.0 going.hands part.2,
+    going.accepts,
+    given_up begun.geometry begun.max going.got room going.state going.taken going.served part.0 part.1,
+  )
 
-  pub is_wanting : StopsAtLength room left taken → (input : List ℕ) → before ≡ Some input → IsWanting begun.geometry begun.max input taken old new
-  is_wanting stops input told = stopped_at_length begun.geometry begun.max input room going.state left taken old new (going.so_far input told) stops
+  pub is_wanting : HandsOutLength room b p c q → Moved a o c q w n v m (IsWanting begun.geometry begun.max)
+  is_wanting part = (
+    going.got ++ part.0,
+    going.taken,
+    hands_then a b c o p q going.got part.0 going.hands part.3,
+    going.accepts,
+    wanting begun.geometry begun.max going.got room going.state going.taken going.served part.0 part.2 part.1,
+  )
+
+-- nothing was handed out or taken
+pub nothing_moved : (g : Shape) (max : ℕ) (a : List ℕ) (o : Option (List ℕ)) (w : List ℕ) (n : Option (List ℕ)) → Moved a o a o w n w n (IsWanting g max)
+nothing_moved g max a o w n = ([], [], hands-nothing a o, accepts-nothing w n, never_begun g max)
 
 -- memory was wanting for some request
 pub any_wanting : (frame : List ℕ) (servers : ℕ) (store : StoreOf) → IsNamed (request_of servers frame) → servers ≡ chunk_count store.geometry →

@@ -2,7 +2,6 @@ mod Asked
 mod Bounded
 mod Progress
 mod Going
-mod GoingHeard
 mod WordLaws
 mod Statuses
 mod Tops

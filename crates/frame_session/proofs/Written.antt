@@ -51,8 +51,9 @@ all_ample g max s (frame ∷ frames) (answer ∷ answers) ample (after, one, res
     ∙ ap (λ (served : State × Answer). served.1 ∷ answers_from g max served.0 frames) first
 
 pub ample_sessions_are_those : AmpleSessionsAreThose
-ample_sessions_are_those g max input ending left old new session ample =
+ample_sessions_are_those g max input ending left taken session ample =
     let answers : session.served.answers ≡ answers_from g max (first_state g) (input_of input).0 =
     all_ample g max (first_state g) (input_of input).0 session.served.answers ample session.served.answered in
-    ap (λ l. let pair : List ℕ × Ending = (written_as l, ending) in pair) answers
+    ap (λ l. let pair : List ℕ × Ending = (l, ending) in pair) session.served.taken_are
+    ∙ ap (λ l. let pair : List ℕ × Ending = (written_as l, ending) in pair) answers
     ∙ ap (λ e. let pair : List ℕ × Ending = (written_as (answers_from g max (first_state g) (input_of input).0), e) in pair) (sym session.ends)

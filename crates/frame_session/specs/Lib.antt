@@ -4,5 +4,4 @@ pub mod Session
 pub mod Fits
 pub mod Serving
 pub mod Written
-pub mod Heard
 pub mod Serves

@@ -1,6 +1,6 @@
 -- How frames are served by a store.
 use Rattle.std.specs.Prelude.{◌≡◌, ℕ, ◌+◌, ◌≤◌, Option, List, Result, Ok, Err}
-use Rattle.clay_bytes.specs.Stream.{Gains, IsPrefixWritten}
+use Rattle.clay_bytes.specs.Stream.{Accepts, AcceptsPrefix}
 use Rattle.clay_grid.specs.Shape.{chunk_count}
 use Rattle.clay_grid.specs.Limits.{IsGeometry}
 use Rattle.session_rules.specs.State.{State, first_state}
@@ -47,15 +47,16 @@ pub record IsReady (store : StoreOf) : Type 0 where
   pub stands : StandsAt store state
   pub bounded : IsBounded store.max state
 
--- bytes were written, or after a fault a prefix of them
-abbrev pub IsWritten : {X E : Type 0} → Result X E → Option (List ℕ) → List ℕ → Option (List ℕ) → Type 0
-IsWritten (Ok done) old bytes new = Gains old bytes new
-IsWritten (Err fault) old bytes new = IsPrefixWritten old bytes new
+-- a sink took these bytes, or after a fault a prefix of them: what it had accepted and written, then both after it
+abbrev pub IsWritten : {X E : Type 0} → Result X E → List ℕ → Option (List ℕ) → List ℕ → List ℕ → Option (List ℕ) → Type 0
+IsWritten (Ok done) accepted written bytes now new = Accepts accepted written bytes now new
+IsWritten (Err fault) accepted written bytes now new = AcceptsPrefix accepted written bytes now new
 
 -- from a state a frame was answered, and the answer written as a frame; the store stands at the state after it
-pub record ServesFrame {X E : Type 0} (frame : List ℕ) (before : State) (now : StoreOf) (result : Result X E) (old new : Option (List ℕ)) : Type 0 where
+pub record ServesFrame {X E : Type 0} (frame : List ℕ) (before : State) (store : StoreOf) (result : Result X E) (accepted : List ℕ) (written : Option (List ℕ))
+    (now : List ℕ) (new : Option (List ℕ)) : Type 0 where
   pub after : State
   pub answer : Answer
-  pub answered : IsAnswered now.geometry now.max (request_of (chunk_count now.geometry) frame) before (after, answer)
-  pub stands : StandsAt now after
-  pub written : IsWritten result old (framed (answer_bytes answer)) new
+  pub answered : IsAnswered store.geometry store.max (request_of (chunk_count store.geometry) frame) before (after, answer)
+  pub stands : StandsAt store after
+  pub writes : IsWritten result accepted written (framed (answer_bytes answer)) now new

@@ -1,5 +1,5 @@
 -- What sessions write.
-use Rattle.std.specs.Prelude.{◌≡◌, ◌≢◌, ℕ, ◌≤◌, List, [], Option, map}
+use Rattle.std.specs.Prelude.{◌≡◌, ◌≢◌, ℕ, ◌≤◌, List, [], map}
 use Rattle.std.specs.List.{AllByRecursion}
 use Rattle.clay_grid.specs.Shape.{Shape}
 use Rattle.clay_grid.specs.Limits.{IsGeometry}
@@ -24,5 +24,5 @@ AreAmple answers = AllByRecursion (λ answer. answer ≢ Answer.NoMemory) answer
 -- then what is written and the ending are those that the definitions compute
 abbrev pub AmpleSessionsAreThose : Type 0
 AmpleSessionsAreThose =
-    (g : Shape) (max : ℕ) (input : List ℕ) (ending : Ending) (left old new : Option (List ℕ)) (session : IsSession g max input ending left old new) →
-    AreAmple session.served.answers → (written_as session.served.answers, ending) ≡ session_of g max input
+    (g : Shape) (max : ℕ) (input : List ℕ) (ending : Ending) (left taken : List ℕ) (session : IsSession g max input ending left taken) →
+    AreAmple session.served.answers → (taken, ending) ≡ session_of g max input

@@ -1,13 +1,12 @@
 //! Frames, read and answered one after another.
-ghost use Rattle.std.specs.Prelude.{◌≡◌, ◌⊎◌, ◌+◌, ◌<◌, ◌≤◌, ◌^◌, Some, List, ℕ, length, OnOk, OnErr};
-ghost use Rattle.clay_bytes.specs.Stream.{Rises, HandsOut};
+ghost use Rattle.std.specs.Prelude.{◌≡◌, ◌+◌, ◌<◌, ◌^◌, List, ℕ, length, OnOk, OnErr};
+ghost use Rattle.clay_bytes.specs.Stream.{Rises, HandsOut, Accepts};
 ghost use Rattle.clay_grid.specs.Shape.{chunk_count};
 ghost use Rattle.session_rules.specs.State.{State};
 ghost use Rattle.session_rules.specs.declared.ending.Ending.{Ending};
 ghost use Rattle.session_store.specs.Standing.{StandsAt};
 ghost use Rattle.frame_session.specs.Status.{status_of};
-ghost use Rattle.frame_session.specs.Session.{WhereTold, IsSession, IsGivenUp, IsWanting, IsCutShort};
-ghost use Rattle.frame_session.specs.Heard.{IsSessionOf, IsGivenUpAt, IsWantingAt, IsCutAt};
+ghost use Rattle.frame_session.specs.Session.{IsSessionOf, IsSessionIn, IsGivenUp, IsWanting, IsCutShort};
 ghost use Rattle.frame_session.specs.Serving.{ServesFrame, IsLater, IsReady, IsBeginning};
 
 use crate::SessionStatus;
@@ -34,8 +33,8 @@ fn serve_frame<R: Threads + Sync, K: Sink, C: Coder>(
     requires servers { servers ≡ chunk_count store.old.geometry }
     requires short { length frame.now < 2 ^ 32 }
     requires ready { IsReady store.old }
-    ensures serves { (before : State) → StandsAt store.old before → ServesFrame frame.now before store.new result (K.written sink.old) (K.written sink.new) }
-    ensures serves_heard { (before : State) → StandsAt store.old before → ServesFrame frame.now before store.new result (Some (K.accepted sink.old)) (Some (K.accepted sink.new)) }
+    ensures serves { (before : State) → StandsAt store.old before →
+        ServesFrame frame.now before store.new result (K.accepted sink.old) (K.written sink.old) (K.accepted sink.new) (K.written sink.new) }
     ensures later { IsLater store.old store.new }
     ensures ready { IsReady store.new }
     ensures cause { OnErr result (Rises (K.faults sink.old) (K.faults sink.new)) }
@@ -60,26 +59,23 @@ pub(crate) fn serve_frames<R: Threads + Sync, S: Source, K: Sink, C: Coder>(
 ) -> SessionStatus
     requires begins { IsBeginning store.old }
     requires servers { servers ≡ chunk_count store.old.geometry }
-    ensures session_heard { (ending : Ending) → result ≡ status_of ending → (got : List ℕ)
+    ensures session { (ending : Ending) → result ≡ status_of ending → (got : List ℕ) × (taken : List ℕ)
         × HandsOut (S.given source.old) (S.left source.old) got (S.given source.new) (S.left source.new)
-        × IsSessionOf store.old.geometry store.old.max got (S.ended source.new) ending (K.accepted sink.old) (K.accepted sink.new) }
-    ensures given_up_heard { result ≡ SessionStatus.ReadFault → (got : List ℕ)
+        × Accepts (K.accepted sink.old) (K.written sink.old) taken (K.accepted sink.new) (K.written sink.new)
+        × (IsSessionOf store.old.geometry store.old.max got (S.ended source.new) ending taken
+        × IsSessionIn store.old.geometry store.old.max (S.left source.old) got ending taken) }
+    ensures given_up { result ≡ SessionStatus.ReadFault → (got : List ℕ) × (taken : List ℕ)
         × HandsOut (S.given source.old) (S.left source.old) got (S.given source.new) (S.left source.new)
-        × IsGivenUpAt store.old.geometry store.old.max got (K.accepted sink.old) (K.accepted sink.new) }
-    ensures wanting_heard { result ≡ SessionStatus.OutOfMemory → (got : List ℕ)
+        × Accepts (K.accepted sink.old) (K.written sink.old) taken (K.accepted sink.new) (K.written sink.new)
+        × IsGivenUp store.old.geometry store.old.max got taken }
+    ensures wanting { result ≡ SessionStatus.OutOfMemory → (got : List ℕ) × (taken : List ℕ)
         × HandsOut (S.given source.old) (S.left source.old) got (S.given source.new) (S.left source.new)
-        × IsWantingAt store.old.geometry store.old.max got (K.accepted sink.old) (K.accepted sink.new) }
-    ensures cut_off_heard { result ≡ SessionStatus.WriteFault → (got : List ℕ)
+        × Accepts (K.accepted sink.old) (K.written sink.old) taken (K.accepted sink.new) (K.written sink.new)
+        × IsWanting store.old.geometry store.old.max got taken }
+    ensures cut_off { result ≡ SessionStatus.WriteFault → (got : List ℕ) × (taken : List ℕ)
         × HandsOut (S.given source.old) (S.left source.old) got (S.given source.new) (S.left source.new)
-        × IsCutAt store.old.geometry store.old.max got (K.accepted sink.old) (K.accepted sink.new) }
-    ensures session { (ending : Ending) → result ≡ status_of ending → WhereTold (S.left source.old) (λ input.
-        IsSession store.old.geometry store.old.max input ending (S.left source.new) (K.written sink.old) (K.written sink.new)) }
-    ensures given_up { result ≡ SessionStatus.ReadFault → WhereTold (S.left source.old) (λ input.
-        IsGivenUp store.old.geometry store.old.max input (S.left source.new) (K.written sink.old) (K.written sink.new)) }
-    ensures wanting { result ≡ SessionStatus.OutOfMemory → WhereTold (S.left source.old) (λ input.
-        IsWanting store.old.geometry store.old.max input (S.left source.new) (K.written sink.old) (K.written sink.new)) }
-    ensures cut_off { result ≡ SessionStatus.WriteFault → WhereTold (S.left source.old) (λ input.
-        IsCutShort store.old.geometry store.old.max input (S.left source.new) (K.written sink.old) (K.written sink.new)) }
+        × Accepts (K.accepted sink.old) (K.written sink.old) taken (K.accepted sink.new) (K.written sink.new)
+        × IsCutShort store.old.geometry store.old.max got taken }
     ensures which { result ≡ SessionStatus.Usage → ⊥ }
     ensures read_fault { result ≡ SessionStatus.ReadFault → Rises (S.faults source.old) (S.faults source.new) }
     ensures write_fault { result ≡ SessionStatus.WriteFault → Rises (K.faults sink.old) (K.faults sink.new) }

@@ -1,13 +1,11 @@
 //! The top call: from words, a source and a sink to a status.
 ghost use Rattle.std.specs.Prelude.{◌≡◌, ◌⊎◌, ◌≤◌, List, ℕ, map, string_bytes};
-ghost use Rattle.clay_bytes.specs.Stream.{Rises, HandsOut};
+ghost use Rattle.clay_bytes.specs.Stream.{Rises, HandsOut, Accepts};
 ghost use Rattle.clay_grid.specs.Limits.{IsGeometry};
-ghost use Rattle.session_rules.specs.Input.{input_of};
 ghost use Rattle.session_rules.specs.declared.ending.Ending.{Ending};
 ghost use Rattle.frame_session.specs.Status.{status_of};
 ghost use Rattle.frame_session.specs.Words.{AskNothing, IfAsked};
-ghost use Rattle.frame_session.specs.Heard.{IsSessionOf, IsGivenUpAt, IsWantingAt, IsCutAt};
-ghost use Rattle.frame_session.specs.Session.{WhereTold, IsSession, IsGivenUp, IsWanting, IsCutShort};
+ghost use Rattle.frame_session.specs.Session.{IsSessionOf, IsSessionIn, IsGivenUp, IsWanting, IsCutShort};
 
 use crate::SessionStatus;
 use crate::serving::serve_frames;
@@ -32,26 +30,23 @@ fn serve_session<R: Threads + Sync, S: Source, K: Sink, C: Coder>(
 ) -> SessionStatus
     requires geometry { IsGeometry asked.geometry }
     requires max { asked.max ≤ 1048576 }
-    ensures session_heard { (ending : Ending) → result ≡ status_of ending → (got : List ℕ)
+    ensures session { (ending : Ending) → result ≡ status_of ending → (got : List ℕ) × (taken : List ℕ)
         × HandsOut (S.given source.old) (S.left source.old) got (S.given source.new) (S.left source.new)
-        × IsSessionOf asked.geometry asked.max got (S.ended source.new) ending (K.accepted sink.old) (K.accepted sink.new) }
-    ensures given_up_heard { result ≡ SessionStatus.ReadFault → (got : List ℕ)
+        × Accepts (K.accepted sink.old) (K.written sink.old) taken (K.accepted sink.new) (K.written sink.new)
+        × (IsSessionOf asked.geometry asked.max got (S.ended source.new) ending taken
+        × IsSessionIn asked.geometry asked.max (S.left source.old) got ending taken) }
+    ensures given_up { result ≡ SessionStatus.ReadFault → (got : List ℕ) × (taken : List ℕ)
         × HandsOut (S.given source.old) (S.left source.old) got (S.given source.new) (S.left source.new)
-        × IsGivenUpAt asked.geometry asked.max got (K.accepted sink.old) (K.accepted sink.new) }
-    ensures wanting_heard { result ≡ SessionStatus.OutOfMemory → (got : List ℕ)
+        × Accepts (K.accepted sink.old) (K.written sink.old) taken (K.accepted sink.new) (K.written sink.new)
+        × IsGivenUp asked.geometry asked.max got taken }
+    ensures wanting { result ≡ SessionStatus.OutOfMemory → (got : List ℕ) × (taken : List ℕ)
         × HandsOut (S.given source.old) (S.left source.old) got (S.given source.new) (S.left source.new)
-        × IsWantingAt asked.geometry asked.max got (K.accepted sink.old) (K.accepted sink.new) }
-    ensures cut_off_heard { result ≡ SessionStatus.WriteFault → (got : List ℕ)
+        × Accepts (K.accepted sink.old) (K.written sink.old) taken (K.accepted sink.new) (K.written sink.new)
+        × IsWanting asked.geometry asked.max got taken }
+    ensures cut_off { result ≡ SessionStatus.WriteFault → (got : List ℕ) × (taken : List ℕ)
         × HandsOut (S.given source.old) (S.left source.old) got (S.given source.new) (S.left source.new)
-        × IsCutAt asked.geometry asked.max got (K.accepted sink.old) (K.accepted sink.new) }
-    ensures session { (ending : Ending) → result ≡ status_of ending → WhereTold (S.left source.old) (λ input.
-        IsSession asked.geometry asked.max input ending (S.left source.new) (K.written sink.old) (K.written sink.new)) }
-    ensures given_up { result ≡ SessionStatus.ReadFault → WhereTold (S.left source.old) (λ input.
-        IsGivenUp asked.geometry asked.max input (S.left source.new) (K.written sink.old) (K.written sink.new)) }
-    ensures wanting { result ≡ SessionStatus.OutOfMemory → WhereTold (S.left source.old) (λ input.
-        IsWanting asked.geometry asked.max input (S.left source.new) (K.written sink.old) (K.written sink.new)) }
-    ensures cut_off { result ≡ SessionStatus.WriteFault → WhereTold (S.left source.old) (λ input.
-        IsCutShort asked.geometry asked.max input (S.left source.new) (K.written sink.old) (K.written sink.new)) }
+        × Accepts (K.accepted sink.old) (K.written sink.old) taken (K.accepted sink.new) (K.written sink.new)
+        × IsCutShort asked.geometry asked.max got taken }
     ensures which { result ≡ SessionStatus.Usage → ⊥ }
     ensures read_fault { result ≡ SessionStatus.ReadFault → Rises (S.faults source.old) (S.faults source.new) }
     ensures write_fault { result ≡ SessionStatus.WriteFault → Rises (K.faults sink.old) (K.faults sink.new) }
@@ -92,43 +87,30 @@ pub fn frame_main<R: Threads + Sync, S: Source, K: Sink, C: Coder>(
     ensures usage_only { result ≡ SessionStatus.Usage → AskNothing (map string_bytes words.now) }
 
     // What the source handed out in this call and what the sink took in it are known of each source and sink, by their own answers.
-    // To the ending of each input that begins with what was handed out: the answers to all its frames were taken, in order.
-    ensures session_heard { IfAsked (map string_bytes words.now) (λ g max. (ending : Ending) → result ≡ status_of ending → (got : List ℕ)
+    // To the ending of each input that begins with what was handed out, and of the one that the source told: the answers to all its
+    // frames were taken, in order, as frames.
+    ensures session { IfAsked (map string_bytes words.now) (λ g max. (ending : Ending) → result ≡ status_of ending → (got : List ℕ) × (taken : List ℕ)
         × HandsOut (S.given source.old) (S.left source.old) got (S.given source.new) (S.left source.new)
-        × IsSessionOf g max got (S.ended source.new) ending (K.accepted sink.old) (K.accepted sink.new)) }
+        × Accepts (K.accepted sink.old) (K.written sink.old) taken (K.accepted sink.new) (K.written sink.new)
+        × (IsSessionOf g max got (S.ended source.new) ending taken × IsSessionIn g max (S.left source.old) got ending taken)) }
 
-    // A read failed, memory was wanting outside a request, or a write failed.
-    ensures given_up_heard { IfAsked (map string_bytes words.now) (λ g max. result ≡ SessionStatus.ReadFault → (got : List ℕ)
+    // A read failed: the answers to all frames of what was handed out were taken, and it ends with a frame or inside one.
+    ensures given_up { IfAsked (map string_bytes words.now) (λ g max. result ≡ SessionStatus.ReadFault → (got : List ℕ) × (taken : List ℕ)
         × HandsOut (S.given source.old) (S.left source.old) got (S.given source.new) (S.left source.new)
-        × IsGivenUpAt g max got (K.accepted sink.old) (K.accepted sink.new)) }
-    ensures wanting_heard { IfAsked (map string_bytes words.now) (λ g max. result ≡ SessionStatus.OutOfMemory → (got : List ℕ)
+        × Accepts (K.accepted sink.old) (K.written sink.old) taken (K.accepted sink.new) (K.written sink.new)
+        × IsGivenUp g max got taken) }
+
+    // Memory was wanting outside a request: so it is too, and what was handed out ends with a frame's length, or is nothing.
+    ensures wanting { IfAsked (map string_bytes words.now) (λ g max. result ≡ SessionStatus.OutOfMemory → (got : List ℕ) × (taken : List ℕ)
         × HandsOut (S.given source.old) (S.left source.old) got (S.given source.new) (S.left source.new)
-        × IsWantingAt g max got (K.accepted sink.old) (K.accepted sink.new)) }
-    ensures cut_off_heard { IfAsked (map string_bytes words.now) (λ g max. result ≡ SessionStatus.WriteFault → (got : List ℕ)
+        × Accepts (K.accepted sink.old) (K.written sink.old) taken (K.accepted sink.new) (K.written sink.new)
+        × IsWanting g max got taken) }
+
+    // A write failed: what was handed out are whole frames; the answers to all but the last were taken, then a prefix of that to the last.
+    ensures cut_off { IfAsked (map string_bytes words.now) (λ g max. result ≡ SessionStatus.WriteFault → (got : List ℕ) × (taken : List ℕ)
         × HandsOut (S.given source.old) (S.left source.old) got (S.given source.new) (S.left source.new)
-        × IsCutAt g max got (K.accepted sink.old) (K.accepted sink.new)) }
-
-    // Where no count rose the session comes to an ending, or memory was wanting outside a request.
-    ensures complete_heard { IfAsked (map string_bytes words.now) (λ g max.
-        (Rises (S.faults source.old) (S.faults source.new) → ⊥) → (Rises (K.faults sink.old) (K.faults sink.new) → ⊥) →
-        ((ending : Ending) × (result ≡ status_of ending)) ⊎ (result ≡ SessionStatus.OutOfMemory)) }
-
-    // To the ending of its input: the answers to all frames that stand before it are written, in order, as frames, and what stands
-    // behind what was read for it is left.
-    ensures session { IfAsked (map string_bytes words.now) (λ g max. (ending : Ending) → result ≡ status_of ending →
-        WhereTold (S.left source.old) (λ input. IsSession g max input ending (S.left source.new) (K.written sink.old) (K.written sink.new))) }
-
-    // A read failed: of the bytes that were read the same is written, and they end with a frame or inside one.
-    ensures given_up { IfAsked (map string_bytes words.now) (λ g max. result ≡ SessionStatus.ReadFault →
-        WhereTold (S.left source.old) (λ input. IsGivenUp g max input (S.left source.new) (K.written sink.old) (K.written sink.new))) }
-
-    // Memory was wanting outside a request: so it is too, and what was read ends with a frame's length, or is nothing.
-    ensures wanting { IfAsked (map string_bytes words.now) (λ g max. result ≡ SessionStatus.OutOfMemory →
-        WhereTold (S.left source.old) (λ input. IsWanting g max input (S.left source.new) (K.written sink.old) (K.written sink.new))) }
-
-    // A write failed: what was read are whole frames; the answers to all but the last are written, then a prefix of that to the last.
-    ensures cut_off { IfAsked (map string_bytes words.now) (λ g max. result ≡ SessionStatus.WriteFault →
-        WhereTold (S.left source.old) (λ input. IsCutShort g max input (S.left source.new) (K.written sink.old) (K.written sink.new))) }
+        × Accepts (K.accepted sink.old) (K.written sink.old) taken (K.accepted sink.new) (K.written sink.new)
+        × IsCutShort g max got taken) }
 
     // A read or a write is blamed only where its count of faults rose; else that count is as it was.
     ensures read_fault { result ≡ SessionStatus.ReadFault → Rises (S.faults source.old) (S.faults source.new) }
@@ -136,10 +118,10 @@ pub fn frame_main<R: Threads + Sync, S: Source, K: Sink, C: Coder>(
     ensures read_steady { (result ≡ SessionStatus.ReadFault → ⊥) → S.faults source.new ≡ S.faults source.old }
     ensures write_steady { (result ≡ SessionStatus.WriteFault → ⊥) → K.faults sink.new ≡ K.faults sink.old }
 
-    // Where no count rose the input comes to its ending, or memory was wanting outside a request.
-    ensures complete { IfAsked (map string_bytes words.now) (λ g max. WhereTold (S.left source.old) (λ input.
+    // Where no count rose the session comes to an ending, or memory was wanting outside a request.
+    ensures complete { IfAsked (map string_bytes words.now) (λ g max.
         (Rises (S.faults source.old) (S.faults source.new) → ⊥) → (Rises (K.faults sink.old) (K.faults sink.new) → ⊥) →
-        (result ≡ status_of (input_of input).1) ⊎ (result ≡ SessionStatus.OutOfMemory))) }
+        ((ending : Ending) × (result ≡ status_of ending)) ⊎ (result ≡ SessionStatus.OutOfMemory)) }
 {
     match asked_by(words) {
         Some(asked) => serve_session(rt, alloc, coder, asked, source, sink),
