@@ -8,5 +8,4 @@ mod SameEntries
 mod OneAnswer
 mod Tried
 mod ServesLemmas
-mod HeardLaws
 mod Printed

@@ -1,9 +1,9 @@
 //! The program: from a source to a sink.
-ghost use Rattle.std.specs.Prelude.{◌≡◌, ◌≤◌, ◌<◌, ◌++◌, ◌⊎◌, ℕ, List, [], IfOk, IfErr, IsErrOf, length};
+ghost use Rattle.std.specs.Prelude.{◌≡◌, ◌≤◌, ◌++◌, ◌⊎◌, ℕ, List, [], IfOk, IfErr, IsErrOf, length};
 ghost use Rattle.store_map.specs.Naming.{IsValid};
-ghost use Rattle.clay_bytes.specs.Stream.{Rises, Gains, GivesAtMost, IsCutOff, IsPrefixWritten, HandsOutAll, HandsOutJust, HandsOutAtMost, Accepts, AcceptsPrefix};
+ghost use Rattle.clay_bytes.specs.Stream.{Rises, HandsOutAll, HandsOutJust, HandsOutAtMost, Accepts, AcceptsPrefix};
 ghost use Rattle.transcript_text.specs.Text.{text_of};
-ghost use Rattle.clay_cli.specs.Top.{WhereTold, IsSilent};
+ghost use Rattle.clay_cli.specs.Top.{IsSilent};
 ghost use Rattle.trace_lines.specs.Lines.{lines_of};
 ghost use Rattle.trace_run.specs.Top.{IsAnswer, IsOfInput, IsTextOf, Owes};
 
@@ -87,16 +87,12 @@ fn answer<R: Threads + Sync, S: Source, C: Coder>(
     coder: &C,
 ) -> Result<Output, Status>
     ensures status { IfOk result (λ output. IsOfInput output.status) }
-    ensures heard { IfOk result (λ output. (input : List ℕ)
+    ensures answers { IfOk result (λ output. (input : List ℕ)
         × HandsOutAll (S.given source.old) (S.left source.old) input (S.given source.new) (S.ended source.new) (S.left source.new)
         × (length input ≤ 167772160) × IsAnswer input output) }
     ensures cut { IfErr result (λ status. status ≡ Status.InputTooLong → HandsOutJust (S.given source.old) (S.left source.old) 167772161 (S.given source.new) (S.left source.new)) }
     ensures most { (IsErrOf result Status.InputTooLong → ⊥) → HandsOutAtMost (S.given source.old) (S.left source.old) 167772160 (S.given source.new) (S.left source.new) }
-    ensures answers { IfOk result (λ output. WhereTold (S.left source.old) (λ input.
-        (length input ≤ 167772160) × IsAnswer input output)) }
     ensures silent { IfErr result IsSilent }
-    ensures too_long { IfErr result (λ status. status ≡ Status.InputTooLong → IsCutOff (S.left source.old) 167772161 (S.left source.new)) }
-    ensures in_budget { (IsErrOf result Status.InputTooLong → ⊥) → GivesAtMost (S.left source.old) 167772160 (S.left source.new) }
     ensures read_steady { (IsErrOf result Status.ReadFault → ⊥) → S.faults source.new ≡ S.faults source.old }
     ensures read_fault { IfErr result (λ status. status ≡ Status.ReadFault → Rises (S.faults source.old) (S.faults source.new)) }
 {
@@ -115,37 +111,22 @@ pub fn trace_main<R: Threads + Sync, S: Source, K: Sink, C: Coder>(
     coder: &C,
 ) -> Status
     // What the source handed out in this call and what the sink took in it are known of each source and sink, by their own answers.
-    // With a status of an output: the source handed out an input and told its end, and the sink took the output that is owed for
-    // it. Where a write fails it took a prefix of one; else nothing.
-    ensures output_heard { IsOfInput result → (input : List ℕ) × (output : List ℕ)
+    // With a status of an output: the source handed out an input and told its end, and the sink took the output that is owed for the
+    // whole of it. Where a write fails it took a prefix of one; else nothing.
+    ensures output { IsOfInput result → (input : List ℕ) × (output : List ℕ)
         × HandsOutAll (S.given source.old) (S.left source.old) input (S.given source.new) (S.ended source.new) (S.left source.new)
         × (length input ≤ 167772160) × Owes input result output
         × Accepts (K.accepted sink.old) (K.written sink.old) output (K.accepted sink.new) (K.written sink.new) }
-    ensures prefix_heard { result ≡ Status.WriteFault → (input : List ℕ) × (status : Status) × (output : List ℕ)
+    ensures prefix { result ≡ Status.WriteFault → (input : List ℕ) × (status : Status) × (output : List ℕ)
         × HandsOutAll (S.given source.old) (S.left source.old) input (S.given source.new) (S.ended source.new) (S.left source.new)
         × (length input ≤ 167772160) × Owes input status output
         × AcceptsPrefix (K.accepted sink.old) (K.written sink.old) output (K.accepted sink.new) (K.written sink.new) }
-    ensures silent_heard { IsSilent result → Accepts (K.accepted sink.old) (K.written sink.old) [] (K.accepted sink.new) (K.written sink.new) }
+    ensures silent { IsSilent result → Accepts (K.accepted sink.old) (K.written sink.old) [] (K.accepted sink.new) (K.written sink.new) }
+    ensures which { IsOfInput result ⊎ (result ≡ Status.WriteFault) ⊎ IsSilent result }
 
     // No more than the limit is handed out, or one byte past it.
     ensures cut { result ≡ Status.InputTooLong → HandsOutJust (S.given source.old) (S.left source.old) 167772161 (S.given source.new) (S.left source.new) }
     ensures most { (result ≡ Status.InputTooLong → ⊥) → HandsOutAtMost (S.given source.old) (S.left source.old) 167772160 (S.given source.new) (S.left source.new) }
-
-    // Where no count rose, the input gets its output or is too long, if memory suffices.
-    ensures complete_heard { (Rises (S.faults source.old) (S.faults source.new) → ⊥) → (Rises (K.faults sink.old) (K.faults sink.new) → ⊥) →
-        IsOfInput result ⊎ (result ≡ Status.InputTooLong) ⊎ (result ≡ Status.OutOfMemory) }
-
-    // One output is owed for the whole input; a prefix is written where a write fails, or nothing.
-    ensures output { IsOfInput result → WhereTold (S.left source.old) (λ input.
-        (length input ≤ 167772160) × ((output : List ℕ) × Owes input result output × Gains (K.written sink.old) output (K.written sink.new))) }
-    ensures prefix { result ≡ Status.WriteFault → WhereTold (S.left source.old) (λ input.
-        (status : Status) × (output : List ℕ) × Owes input status output × IsPrefixWritten (K.written sink.old) output (K.written sink.new)) }
-    ensures silent { IsSilent result → Gains (K.written sink.old) [] (K.written sink.new) }
-    ensures which { IsOfInput result ⊎ (result ≡ Status.WriteFault) ⊎ IsSilent result }
-
-    // No more than the limit is read, or one byte past it.
-    ensures too_long { result ≡ Status.InputTooLong → IsCutOff (S.left source.old) 167772161 (S.left source.new) }
-    ensures in_budget { (result ≡ Status.InputTooLong → ⊥) → GivesAtMost (S.left source.old) 167772160 (S.left source.new) }
 
     // A read or a write is blamed only where its count of faults rose; else that count is as it was.
     ensures read_fault { result ≡ Status.ReadFault → Rises (S.faults source.old) (S.faults source.new) }
@@ -153,12 +134,9 @@ pub fn trace_main<R: Threads + Sync, S: Source, K: Sink, C: Coder>(
     ensures read_steady { (result ≡ Status.ReadFault → ⊥) → S.faults source.new ≡ S.faults source.old }
     ensures write_steady { (result ≡ Status.WriteFault → ⊥) → K.faults sink.new ≡ K.faults sink.old }
 
-    // Where no count rose, an input within the limit gets its output, and a longer one is refused, if memory suffices.
-    ensures complete { WhereTold (S.left source.old) (λ input. length input ≤ 167772160 →
-        (Rises (S.faults source.old) (S.faults source.new) → ⊥) → (Rises (K.faults sink.old) (K.faults sink.new) → ⊥) →
-        IsOfInput result ⊎ (result ≡ Status.OutOfMemory)) }
-    ensures complete_long { WhereTold (S.left source.old) (λ input. 167772160 < length input →
-        (Rises (S.faults source.old) (S.faults source.new) → ⊥) → (result ≡ Status.InputTooLong) ⊎ (result ≡ Status.OutOfMemory)) }
+    // Where no count rose, the input gets its output or is too long, if memory suffices.
+    ensures complete { (Rises (S.faults source.old) (S.faults source.new) → ⊥) → (Rises (K.faults sink.old) (K.faults sink.new) → ⊥) →
+        IsOfInput result ⊎ (result ≡ Status.InputTooLong) ⊎ (result ≡ Status.OutOfMemory) }
 {
     match answer(rt, alloc, source, coder) {
         Ok(output) => write_out(sink, &output.bytes, output.status),
