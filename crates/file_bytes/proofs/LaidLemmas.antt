@@ -1,7 +1,7 @@
 -- The file that bytes in a row make.
 use Rattle.std.proofs.Common.{◌≡◌, ◌≤◌, ◌<◌, ◌+◌, ◌-◌, ◌⊎◌, inl, inr, ℕ, List, [], ◌∷◌, ◌++◌, length, take, drop, replicate, refl, sym, ◌∙◌, ap, arith, append-nil, length-append, length-take, length-drop}
 use Rattle.std.proofs.Math.Seq.{drop-append-add}
-use Rattle.std.proofs.lemmas.List.{append_assoc, take_at, take_all, drop_all, drop-append-le, length-replicate, drop-drop}
+use Rattle.std.proofs.lemmas.List.{append_assoc, take_at, take_all, drop_at, drop_all, drop-append-le, length-replicate, drop-drop}
 use Rattle.file_bytes.specs.Places.{Placed, placed_from}
 use Rattle.file_bytes.specs.Laid.{front, laid_at, laid_over, laid}
 
@@ -62,7 +62,7 @@ over_row at file byte [] = refl
 over_row at file byte (next ∷ bytes) =
     over_row (at + 1) (laid_at at (byte ∷ []) file) next bytes ∙ laid_more at (byte ∷ []) (next ∷ bytes) file
 
-over_some : (at : ℕ) (file bytes : List ℕ) → 0 < length bytes → laid_over file (placed_from at bytes) ≡ laid_at at bytes file
+pub over_some : (at : ℕ) (file bytes : List ℕ) → 0 < length bytes → laid_over file (placed_from at bytes) ≡ laid_at at bytes file
 over_some at file [] some = absurd (omega (arith, some))
 over_some at file (byte ∷ bytes) some = over_row at file byte bytes
 
@@ -104,3 +104,22 @@ laid_before piece file =
     let none : 0 - length file ≡ 0 = omega arith in
     let place : 0 + length piece ≡ length piece = omega arith in
     ap (λ n. replicate {A = ℕ} n 0 ++ (piece ++ drop (0 + length piece) file)) none ∙ ap (λ n. piece ++ drop n file) place
+
+-- bytes in a row and then what stands before them
+over_behind : (start : ℕ) (xs before : List ℕ) → drop start (laid_over before (placed_from start xs)) ≡ xs ++ drop (start + length xs) before
+over_behind start [] before = let none : start ≡ start + 0 = omega arith in ap (λ n. drop n before) none
+over_behind start (x ∷ xs) before =
+    ap (drop start) (over_some start before (x ∷ xs) (omega arith))
+    ∙ drop_at (front start before) ((x ∷ xs) ++ drop (start + length (x ∷ xs)) before) start (front_long start before)
+
+pub laid_both : (start : ℕ) (xs head before : List ℕ) → length head ≡ start → 0 < length head →
+    laid_over before (placed_from start xs ++ placed_from 0 head) ≡ (head ++ xs) ++ drop (length (head ++ xs)) before
+laid_both start xs head before long some =
+    let sum : start + length xs ≡ length (head ++ xs) = omega (arith, length-append head xs, long) in
+    over_more before (placed_from start xs) (placed_from 0 head)
+    ∙ over_some 0 (laid_over before (placed_from start xs)) head some
+    ∙ laid_before head (laid_over before (placed_from start xs))
+    ∙ ap (λ n. head ++ drop n (laid_over before (placed_from start xs))) long
+    ∙ ap (λ l. head ++ l) (over_behind start xs before)
+    ∙ sym (append_assoc head xs (drop (start + length xs) before))
+    ∙ ap (λ n. head ++ xs ++ drop n before) sum

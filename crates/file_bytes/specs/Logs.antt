@@ -2,7 +2,7 @@
 use Rattle.std.specs.Prelude.{ℕ, List, [], ◌∷◌}
 use Rattle.file_bytes.specs.Places.{Placed, placed}
 use Rattle.file_bytes.specs.declared.logs.PlaceLog.TheInside as bytes
-use Rattle.file_bytes.specs.declared.logs.EndLog.TheInside as ends
+use Rattle.file_bytes.specs.declared.logs.PositionLog.TheInside as positions
 
 -- each position followed by its byte
 abbrev pub numbers_of : List Placed → List ℕ
@@ -18,5 +18,5 @@ placed_of (at ∷ (byte ∷ rest)) = placed at byte ∷ placed_of rest
 abbrev pub placed_in : bytes.Inside → List Placed
 placed_in a = placed_of a.tag.numbers
 
-abbrev pub ends_in : ends.Inside → List ℕ
-ends_in a = a.tag.numbers
+abbrev pub positions_in : positions.Inside → List ℕ
+positions_in a = a.tag.numbers

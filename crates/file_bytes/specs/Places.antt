@@ -24,15 +24,24 @@ pub record Shows (file : List ℕ) (given : List Placed) (ends : List ℕ) : Typ
   pub bytes : All (λ p. slice_get file p.at ≡ Some p.byte) given
   pub end : All (λ at. length file ≤ at) ends
 
--- a source handed out fewer than so many bytes in a row from a position on: what it had given, then also these
-pub record GivesFewer (given : List Placed) (at size : ℕ) (now : List Placed) : Type 0 where
-  pub got : List ℕ
-  pub fewer : length got < size
-  pub gives : now ≡ given ++ placed_from at got
-
--- and then told its end behind them
+-- a source handed out fewer than so many bytes in a row from a position on, and then told its end behind them: what it had given and told, then
+-- both afterwards
 pub record EndsBefore (given : List Placed) (ends : List ℕ) (at size : ℕ) (now : List Placed) (told : List ℕ) : Type 0 where
   pub got : List ℕ
   pub fewer : length got < size
   pub gives : now ≡ given ++ placed_from at got
   pub ended : told ≡ ends ++ ((at + length got) ∷ [])
+
+-- the same, and then the read behind them failed
+pub record FailsBefore (given : List Placed) (failed : List ℕ) (at size : ℕ) (now : List Placed) (told : List ℕ) : Type 0 where
+  pub got : List ℕ
+  pub fewer : length got < size
+  pub gives : now ≡ given ++ placed_from at got
+  pub fails : told ≡ failed ++ ((at + length got) ∷ [])
+
+-- one more read failed, of one of so many bytes from a position on: where reads had failed, and where they have then
+pub record FailsIn (at size : ℕ) (failed now : List ℕ) : Type 0 where
+  pub place : ℕ
+  pub from : at ≤ place
+  pub before : place < at + size
+  pub fails : now ≡ failed ++ (place ∷ [])

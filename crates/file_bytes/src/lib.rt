@@ -10,7 +10,7 @@ mod stream;
 mod tests;
 
 pub use laws::files_grow;
-pub use logs::{EndLog, PlaceLog};
+pub use logs::{PlaceLog, PositionLog};
 pub use memory::MemFile;
 pub use standard::StdFile;
 pub use stream::{ReadFault, SinkAt, SourceAt, read_exact_at, write_all_at};

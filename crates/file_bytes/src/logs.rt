@@ -1,5 +1,5 @@
 //! What was handed out and taken at which positions, for contracts alone: when it runs nothing of it is kept.
-ghost use Rattle.std.specs.Prelude.{◌≡◌, ◌++◌, [], take};
+ghost use Rattle.std.specs.Prelude.{◌≡◌, ◌++◌, ◌∷◌, [], take};
 ghost use Rattle.file_bytes.specs.Places.{placed_from, ends_after};
 ghost use Rattle.file_bytes.specs.Logs.{numbers_of};
 
@@ -60,26 +60,39 @@ impl PlaceLog {
     }
 }
 
-/// The positions at which a file told its end.
+/// Positions at which a file told its end, or at which a read of it failed, in the order of the calls.
 #[derive(Drop)]
-pub struct EndLog {
+pub struct PositionLog {
     tag: Tag,
 }
 
-impl Model for EndLog {
+impl Model for PositionLog {
     ghost use Rattle.std.specs.Prelude.{List, ℕ};
 
     ghost Value = { List ℕ };
 
-    ghost use Rattle.file_bytes.specs.Logs.{ends_in};
+    ghost use Rattle.file_bytes.specs.Logs.{positions_in};
 
-    ghost view = { ends_in };
+    ghost view = { positions_in };
+}
+
+// A call at a position.
+#[derive(Drop)]
+struct Calling<'a> {
+    log: &'a PositionLog,
+    at: u64,
+}
+
+struct AfterCall;
+
+impl<'a> Names<Calling<'a>> for AfterCall {
+    ghost numbers = { λ c. c.log.now ++ (c.at ∷ []) };
 }
 
 // A read at a position that gave so many bytes.
 #[derive(Drop)]
 struct Reading<'a> {
-    log: &'a EndLog,
+    log: &'a PositionLog,
     at: u64,
     count: usize,
 }
@@ -90,16 +103,24 @@ impl<'a> Names<Reading<'a>> for AfterRead {
     ghost numbers = { λ r. ends_after r.log.now r.at r.count };
 }
 
-impl EndLog {
-    /// Before the first read.
-    pub fn new() -> EndLog
+impl PositionLog {
+    /// Before the first call.
+    pub fn new() -> PositionLog
         ensures { result ≡ [] }
     {
-        EndLog { tag: Tag::empty() }
+        PositionLog { tag: Tag::empty() }
     }
 
-    /// A read at this position into a buffer with room gave so many bytes.
-    pub fn add(&mut self, at: u64, count: usize)
+    /// One more position.
+    pub fn add(&mut self, at: u64)
+        ensures { self.new ≡ self.old ++ (at ∷ []) }
+    {
+        let tag = Tag::of::<Calling, AfterCall>(&Calling { log: self, at });
+        self.tag = tag;
+    }
+
+    /// A read at this position into a buffer with room gave so many bytes: where it gave none, the file ends there.
+    pub fn add_end(&mut self, at: u64, count: usize)
         ensures { self.new ≡ ends_after self.old at count }
     {
         let tag = Tag::of::<Reading, AfterRead>(&Reading {

@@ -1,10 +1,10 @@
 //! A file in memory, which takes no memory by itself, and one of whose calls fails.
-ghost use Rattle.std.specs.Prelude.{◌≡◌, ◌≤◌, ◌<◌, ◌+◌, ◌-◌, ◌++◌, ◌↔◌, ◌⊎◌, [], Some, length, take, drop, replicate, vec_len, vec_capacity, IfOk, OnErr, IsErr, IsTrue, is_err};
+ghost use Rattle.std.specs.Prelude.{◌≡◌, ◌≤◌, ◌<◌, ◌+◌, ◌-◌, ◌++◌, ◌∷◌, ◌↔◌, ◌⊎◌, [], Some, length, take, drop, replicate, vec_len, vec_capacity, IfOk, OnOk, OnErr, IsErr, IsTrue, is_err};
 ghost use Rattle.clay_bytes.specs.Memory.{next_count, count_if};
 ghost use Rattle.file_bytes.specs.Places.{placed_from, ends_after, Shows};
 ghost use Rattle.file_bytes.specs.Laid.{laid_at};
 
-use crate::logs::{EndLog, PlaceLog};
+use crate::logs::{PlaceLog, PositionLog};
 use crate::{SinkAt, SourceAt};
 use clay_bytes::Failed;
 use std::marker::Model;
@@ -43,7 +43,8 @@ pub struct MemFile {
     most: usize,
     calls: FailingCall,
     given: PlaceLog,
-    ends: EndLog,
+    ends: PositionLog,
+    failed: PositionLog,
     put: PlaceLog,
 }
 
@@ -62,6 +63,7 @@ impl Model for MemFile {
       faults = s.calls.faults;
       given = s.given;
       ends = s.ends;
+      failed = s.failed;
       put = s.put;
     } };
 
@@ -72,7 +74,7 @@ impl MemFile {
     /// A file of these bytes. A call moves at most `most` bytes, and the call of the number `failing`, counted from 0, fails.
     pub fn new(bytes: Vec<u8>, most: usize, failing: Option<u64>) -> Self
         requires { 0 < most }
-        ensures { result ≡ record { bytes = bytes.items; room = vec_capacity bytes; most = most; failing = failing; calls = 0; faults = 0; given = []; ends = []; put = [] } }
+        ensures { result ≡ record { bytes = bytes.items; room = vec_capacity bytes; most = most; failing = failing; calls = 0; faults = 0; given = []; ends = []; failed = []; put = [] } }
     {
         let room = bytes.capacity();
         MemFile {
@@ -85,7 +87,8 @@ impl MemFile {
                 faults: 0,
             },
             given: PlaceLog::new(),
-            ends: EndLog::new(),
+            ends: PositionLog::new(),
+            failed: PositionLog::new(),
             put: PlaceLog::new(),
         }
     }
@@ -121,7 +124,7 @@ impl SourceAt for MemFile {
 
     ghost ends = { λ s. s.ends };
 
-    ghost faults = { λ s. s.faults };
+    ghost failed = { λ s. s.failed };
 
     fn read_at(&mut self, at: u64, buf: &mut [u8]) -> Result<usize, Failed>
         requires { 0 < length buf.old }
@@ -129,20 +132,22 @@ impl SourceAt for MemFile {
         ensures hands_out { IfOk result (λ n. self.new.given ≡ self.old.given ++ placed_from at (take n buf.new)) }
         ensures tells_end { IfOk result (λ n. self.new.ends ≡ ends_after self.old.ends at n) }
         ensures unheard { OnErr result ((self.new.given ≡ self.old.given) × (self.new.ends ≡ self.old.ends)) }
+        ensures fails { OnErr result (self.new.failed ≡ self.old.failed ++ (at ∷ [])) }
+        ensures steady { OnOk result (self.new.failed ≡ self.old.failed) }
         // What it hands out and tells is of its bytes.
         ensures shows { Shows self.old.bytes self.old.given self.old.ends → Shows self.new.bytes self.new.given self.new.ends }
         ensures failing { IsErr result ↔ (self.old.failing ≡ Some self.old.calls) }
         ensures same { (self.new.bytes ≡ self.old.bytes) × (self.new.failing ≡ self.old.failing) × (self.new.put ≡ self.old.put) }
         ensures calls { self.new.calls ≡ next_count self.old.calls }
         ensures faults { self.new.faults ≡ count_if (is_err result) self.old.faults }
-        ensures count { self.old.faults ≤ self.new.faults }
     {
         if self.calls.next_fails(false) {
+            self.failed.add(at);
             return Err(Failed);
         }
         let n = copy_from(&self.bytes, at, self.most, buf);
         self.given.add(at, buf, n);
-        self.ends.add(at, n);
+        self.ends.add_end(at, n);
         Ok(n)
     }
 }

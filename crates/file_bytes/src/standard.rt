@@ -1,7 +1,7 @@
 //! Open files of std at positions. This is the trusted edge: what the system gives and takes is known only as far as they say.
 ghost use Rattle.std.specs.Prelude.{◌≡◌, ◌≤◌, ◌<◌, [], length, IfOk};
 
-use crate::logs::{EndLog, PlaceLog};
+use crate::logs::{PlaceLog, PositionLog};
 use crate::{SinkAt, SourceAt};
 use clay_bytes::Failed;
 use std::io::ErrorKind;
@@ -13,7 +13,8 @@ pub struct StdFile<F: FileExt> {
     file: F,
     faults: u64,
     given: PlaceLog,
-    ends: EndLog,
+    ends: PositionLog,
+    failed: PositionLog,
     put: PlaceLog,
 }
 
@@ -23,13 +24,15 @@ impl<F: FileExt> StdFile<F> {
         ensures faults { result.faults ≡ 0 }
         ensures given { result.given ≡ [] }
         ensures ends { result.ends ≡ [] }
+        ensures failed { result.failed ≡ [] }
         ensures put { result.put ≡ [] }
     {
         StdFile {
             file,
             faults: 0,
             given: PlaceLog::new(),
-            ends: EndLog::new(),
+            ends: PositionLog::new(),
+            failed: PositionLog::new(),
             put: PlaceLog::new(),
         }
     }
@@ -47,17 +50,17 @@ impl<F: FileExt> SourceAt for StdFile<F> {
 
     ghost ends = { λ s. s.ends };
 
-    ghost faults = { λ s. s.faults };
+    ghost failed = { λ s. s.failed };
 
     fn read_at(&mut self, at: u64, buf: &mut [u8]) -> Result<usize, Failed> {
         match read_again(&self.file, at, buf) {
             Ok(n) => {
                 self.given.add(at, buf, n);
-                self.ends.add(at, n);
+                self.ends.add_end(at, n);
                 Ok(n)
             }
             Err(Failed) => {
-                self.faults = self.faults.saturating_add(1);
+                self.failed.add(at);
                 Err(Failed)
             }
         }

@@ -1,7 +1,7 @@
 //! What sources and sinks at positions are, and the two loops over them.
-ghost use Rattle.std.specs.Prelude.{◌≡◌, ◌≤◌, ◌<◌, ◌+◌, ◌^◌, ◌++◌, List, ℕ, length, take, slice_range, IfOk, IsErrOf, OnOk, OnErr};
+ghost use Rattle.std.specs.Prelude.{◌≡◌, ◌≤◌, ◌<◌, ◌+◌, ◌^◌, ◌++◌, ◌∷◌, [], List, ℕ, length, take, slice_range, IfOk, IsErrOf, OnOk, OnErr};
 ghost use Rattle.clay_bytes.specs.Stream.{Rises};
-ghost use Rattle.file_bytes.specs.Places.{Placed, placed_from, ends_after, Shows, GivesFewer, EndsBefore};
+ghost use Rattle.file_bytes.specs.Places.{Placed, placed_from, ends_after, Shows, FailsBefore, EndsBefore};
 ghost use Rattle.file_bytes.specs.Laid.{laid, laid_at, PutsFewer};
 
 use clay_bytes::{Failed, WriteFault};
@@ -24,8 +24,8 @@ pub trait SourceAt {
     /// The positions at which a read found no byte.
     ghost ends: { Self → List ℕ };
 
-    /// How many reads have failed, as a number that stops at the end of its type.
-    ghost faults: { Self → ℕ };
+    /// The positions at which a read failed.
+    ghost failed: { Self → List ℕ };
 
     /// Takes bytes from a position on into the front of the buffer, and answers how many. `Ok(0)` is the end of the file.
     fn read_at(&mut self, at: u64, buf: &mut [u8]) -> Result<usize, Failed>
@@ -34,9 +34,8 @@ pub trait SourceAt {
         ensures hands_out { IfOk result (λ n. given self.new ≡ given self.old ++ placed_from at (take n buf.new)) }
         ensures tells_end { IfOk result (λ n. ends self.new ≡ ends_after (ends self.old) at n) }
         ensures unheard { OnErr result ((given self.new ≡ given self.old) × (ends self.new ≡ ends self.old)) }
-        ensures cause { OnErr result (Rises (faults self.old) (faults self.new)) }
-        ensures steady { OnOk result (faults self.new ≡ faults self.old) }
-        ensures count { faults self.old ≤ faults self.new };
+        ensures fails { OnErr result (failed self.new ≡ failed self.old ++ (at ∷ [])) }
+        ensures steady { OnOk result (failed self.new ≡ failed self.old) };
 }
 
 /// A file that is written at positions.
@@ -63,7 +62,7 @@ pub trait SinkAt {
 pub fn read_exact_at<S: SourceAt>(source: &mut S, at: u64, buf: &mut [u8]) -> Result<(), ReadFault>
     requires { at + length buf.old < 2 ^ 64 }
     ensures given { OnOk result (S.given source.new ≡ S.given source.old ++ placed_from at buf.new) }
-    ensures part { IsErrOf result ReadFault.Failed → GivesFewer (S.given source.old) at (length buf.new) (S.given source.new) }
+    ensures failed { IsErrOf result ReadFault.Failed → FailsBefore (S.given source.old) (S.failed source.old) at (length buf.new) (S.given source.new) (S.failed source.new) }
     ensures ended { IsErrOf result ReadFault.Ended → EndsBefore (S.given source.old) (S.ends source.old) at (length buf.new) (S.given source.new) (S.ends source.new) }
     ensures on { (IsErrOf result ReadFault.Ended → ⊥) → S.ends source.new ≡ S.ends source.old }
 
@@ -71,9 +70,7 @@ pub fn read_exact_at<S: SourceAt>(source: &mut S, at: u64, buf: &mut [u8]) -> Re
     ensures shown { (file : List ℕ) → Shows file (S.given source.new) (S.ends source.new) → OnOk result (buf.new ≡ slice_range file at (at + length buf.new)) }
     ensures short { (file : List ℕ) → Shows file (S.given source.new) (S.ends source.new) → IsErrOf result ReadFault.Ended → length file < at + length buf.new }
 
-    ensures cause { IsErrOf result ReadFault.Failed → Rises (S.faults source.old) (S.faults source.new) }
-    ensures steady { (IsErrOf result ReadFault.Failed → ⊥) → S.faults source.new ≡ S.faults source.old }
-    ensures count { S.faults source.old ≤ S.faults source.new }
+    ensures steady { (IsErrOf result ReadFault.Failed → ⊥) → S.failed source.new ≡ S.failed source.old }
 {
     let mut done = 0;
     'reads: while done < buf.len() {

@@ -101,9 +101,9 @@ block_few a aloof =
     let start : chunk_start a < 8 * layers + page_of a = rounded_most (page_of a) (8 * layers) (page_few a).0 in
     omega (arith, long, high, page, start)
 
-pub places_fit : (a : AloofShape) (number size : ℕ) → IsAloof a → size ≡ number * stripe_bytes a → size ≤ 2 ^ 56 →
-    block_start a number + block_length a < 2 ^ 64
-places_fit a number size aloof is bounded =
+pub places_low : (a : AloofShape) (number size : ℕ) → IsAloof a → size ≡ number * stripe_bytes a → size ≤ 2 ^ 56 →
+    block_start a number + block_length a < 2 ^ 60
+places_low a number size aloof is bounded =
     let chunk : ℕ = chunk_length (grid_of a) in
     let few : block_length a ≤ 10 * chunk = block_few a aloof in
     let small : chunk ≤ 1048576 = aloof.limits.chunk in
@@ -113,6 +113,11 @@ places_fit a number size aloof is bounded =
     let five : number * (5 * stripe_bytes a) ≡ 5 * (number * stripe_bytes a) = omega arith in
     let header : rounded (page_of a) 64 < 64 + page_of a = rounded_most (page_of a) 64 (page_few a).0 in
     omega (arith, few, small, blocks, five, header, (page_few a).1, is, bounded)
+
+pub places_fit : (a : AloofShape) (number size : ℕ) → IsAloof a → size ≡ number * stripe_bytes a → size ≤ 2 ^ 56 →
+    block_start a number + block_length a < 2 ^ 64
+places_fit a number size aloof is bounded =
+    let low : block_start a number + block_length a < 2 ^ 60 = places_low a number size aloof is bounded in omega (arith, low)
 
 -- ---- the files
 

@@ -4,7 +4,7 @@ use Rattle.std.specs.Prelude.{All, Some, slice_get, min}
 use Rattle.std.proofs.lemmas.List.{length-take, take_at}
 use Rattle.std.proofs.lemmas.List.Elements.{All-same, All-take}
 use Rattle.std.proofs.lemmas.Nat.{mul-le}
-use Rattle.file_bytes.specs.Places.{Placed, placed_from, Shows, GivesFewer, EndsBefore}
+use Rattle.file_bytes.specs.Places.{Placed, placed_from, Shows, EndsBefore, FailsBefore, FailsIn}
 use Rattle.clay_aloof.specs.Shape.{AloofShape}
 use Rattle.share_format.specs.Blocks.{block_length, IsBlock}
 use Rattle.share_format.specs.Shares.{block_start}
@@ -25,9 +25,9 @@ pub shown_given : (file : List ℕ) (old now : List Placed) (at : ℕ) (bytes : 
     Shows file now told → Shows file old ends
 shown_given file old now at bytes ends told e f = shown_before file old now (placed_from at bytes) ends told [] e (f ∙ sym (append-nil ends))
 
-pub shown_fewer : (file : List ℕ) (old now : List Placed) (at size : ℕ) (ends told : List ℕ) → GivesFewer old at size now → told ≡ ends →
+pub shown_failed : (file : List ℕ) (old now : List Placed) (at size : ℕ) (ends told failed more : List ℕ) → FailsBefore old failed at size now more → told ≡ ends →
     Shows file now told → Shows file old ends
-shown_fewer file old now at size ends told fewer f = shown_given file old now at fewer.got ends told fewer.gives f
+shown_failed file old now at size ends told failed more fails f = shown_given file old now at fails.got ends told fails.gives f
 
 pub shown_ended : (file : List ℕ) (old now : List Placed) (at size : ℕ) (ends told : List ℕ) → EndsBefore old ends at size now told →
     Shows file now told → Shows file old ends
@@ -47,3 +47,25 @@ place_before a i count less =
     let more : (i + 1) * block_length a ≤ count * block_length a = mul-le (i + 1) (block_length a) count (block_length a) (omega (arith, less)) (omega arith) in
     let one : (i + 1) * block_length a ≡ i * block_length a + block_length a = omega arith in
     omega (arith, more, one)
+
+-- ---- a read that failed
+
+pub fails_in : (old now : List Placed) (failed more : List ℕ) (at size : ℕ) → FailsBefore old failed at size now more → FailsIn at size failed more
+fails_in old now failed more at size fails = record {
+  place = at + length fails.got;
+  from = omega arith;
+  before = omega (arith, fails.fewer);
+  fails = fails.fails;
+}
+
+-- in the block of one of the first so many stripes
+pub fails_among : (a : AloofShape) (i count : ℕ) (old failed now : List ℕ) → i < count → failed ≡ old → FailsIn (block_start a i) (block_length a) failed now →
+    FailsIn (block_start a 0) (count * block_length a) old now
+fails_among a i count old failed now less same fails =
+    let last : block_start a i + block_length a ≤ block_start a count = place_before a i count less in
+    let first : block_start a 0 ≤ block_start a i = omega arith in record {
+      place = fails.place;
+      from = omega (arith, first, fails.from);
+      before = omega (arith, last, fails.before);
+      fails = fails.fails ∙ ap (λ l. l ++ (fails.place ∷ [])) same;
+    }

@@ -3,5 +3,8 @@ pub mod FillLemmas
 pub mod ChangeLemmas
 pub mod StripeLemmas
 pub mod CutLemmas
+pub mod EndLemmas
 pub mod FoundLemmas
+pub mod ShareLemmas
+pub mod PutLemmas
 pub mod Faults

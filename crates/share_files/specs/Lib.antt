@@ -3,3 +3,4 @@ pub mod Refused
 pub mod Cut
 pub mod Found
 pub mod Seen
+pub mod Put

@@ -159,7 +159,7 @@ pub fn cut<S: Source, K: SinkAt>(
     sinks: &mut [K],
 ) -> Result<(), CutFault>
     requires shares { length sinks.old ≡ all_chunks geometry }
-    // Nothing was written yet.
+    // Nothing was written yet. `laid` is the file that the writes make of an empty one: so the sinks' files are empty, for the caller to see to.
     requires empty { All (λ sink. K.put sink ≡ []) sinks.old }
     ensures cut { OnOk result (AreCut geometry (S.given source.old) (S.left source.old) (S.given source.new) (S.left source.new) (S.ended source.new) (map (λ sink. laid (K.put sink)) sinks.new)) }
     ensures long { IsErrOf result CutFault.TooLong → HandsOutTooMuch (S.given source.old) (S.left source.old) 0 (S.given source.new) (S.left source.new) }

@@ -1,7 +1,6 @@
 //! The blocks of a share that are whole.
-ghost use Rattle.std.specs.Prelude.{◌≡◌, ◌+◌, ◌^◌, ◌≤◌, ◌<◌, ℕ, List, length, IfOk, IfSome, IsErrOf};
-ghost use Rattle.clay_bytes.specs.Stream.{Rises};
-ghost use Rattle.file_bytes.specs.Places.{Shows};
+ghost use Rattle.std.specs.Prelude.{◌≡◌, ◌+◌, ◌*◌, ◌^◌, ◌<◌, ℕ, List, length, IfOk, IfSome, IsErrOf};
+ghost use Rattle.file_bytes.specs.Places.{Shows, FailsIn};
 ghost use Rattle.share_format.specs.Blocks.{block_length, IsBlock};
 ghost use Rattle.share_format.specs.Shares.{block_start};
 ghost use Rattle.share_files.specs.Found.{block_in, IsFound, IsFirstRotten};
@@ -53,9 +52,8 @@ pub fn find_block<S: SourceAt>(
     ensures found { (file : List ℕ) → Shows file (S.given source.new) (S.ends source.new) → IfOk result (IsFound geometry (block_in geometry stripe file)) }
     // It is a file that the source showed before.
     ensures shown { (file : List ℕ) → Shows file (S.given source.new) (S.ends source.new) → Shows file (S.given source.old) (S.ends source.old) }
-    ensures cause { IsErrOf result BlockFault.ReadFault → Rises (S.faults source.old) (S.faults source.new) }
-    ensures steady { (IsErrOf result BlockFault.ReadFault → ⊥) → S.faults source.new ≡ S.faults source.old }
-    ensures count { S.faults source.old ≤ S.faults source.new }
+    ensures cause { IsErrOf result BlockFault.ReadFault → FailsIn (block_start geometry stripe) (block_length geometry) (S.failed source.old) (S.failed source.new) }
+    ensures steady { (IsErrOf result BlockFault.ReadFault → ⊥) → S.failed source.new ≡ S.failed source.old }
 {
     let len = block_len(geometry);
     let mut block = make_block_room(alloc, len as usize)?;
@@ -78,8 +76,9 @@ pub fn first_rotten<S: SourceAt>(
 ) -> Result<Option<u64>, BlockFault>
     requires { block_start geometry stripes < 2 ^ 64 }
     ensures rotten { (file : List ℕ) → Shows file (S.given source.new) (S.ends source.new) → IfOk result (IsFirstRotten geometry stripes file) }
-    ensures cause { IsErrOf result BlockFault.ReadFault → Rises (S.faults source.old) (S.faults source.new) }
-    ensures steady { (IsErrOf result BlockFault.ReadFault → ⊥) → S.faults source.new ≡ S.faults source.old }
+    ensures shown { (file : List ℕ) → Shows file (S.given source.new) (S.ends source.new) → Shows file (S.given source.old) (S.ends source.old) }
+    ensures cause { IsErrOf result BlockFault.ReadFault → FailsIn (block_start geometry 0) (stripes * block_length geometry) (S.failed source.old) (S.failed source.new) }
+    ensures steady { (IsErrOf result BlockFault.ReadFault → ⊥) → S.failed source.new ≡ S.failed source.old }
 {
     for stripe in 0..stripes {
         match find_block(alloc, crc, source, geometry, stripe) {

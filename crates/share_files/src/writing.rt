@@ -1,6 +1,7 @@
 //! A share's blocks written in a row, and its header at last.
-ghost use Rattle.std.specs.Prelude.{◌≡◌, ◌+◌, ◌^◌, ◌≤◌, ◌<◌, length, OnOk, OnErr, IsErrOf, IfOk};
+ghost use Rattle.std.specs.Prelude.{◌≡◌, ◌+◌, ◌^◌, ◌≤◌, ◌<◌, ◌++◌, length, OnOk, OnErr, IsErrOf, IfOk};
 ghost use Rattle.clay_bytes.specs.Stream.{Rises};
+ghost use Rattle.file_bytes.specs.Places.{placed_from};
 ghost use Rattle.file_bytes.specs.Laid.{laid, PutsFewer};
 ghost use Rattle.clay_model.specs.Code.{padded};
 ghost use Rattle.share_format.specs.Blocks.{aligned, block_length};
@@ -45,6 +46,7 @@ pub fn write_block<K: SinkAt>(
     requires size { length block.now ≡ block_length geometry }
     requires place { block_start geometry stripe + block_length geometry < 2 ^ 64 }
     ensures written { OnOk result (GainsBlock geometry stripe block.now (laid (K.put sink.old)) (laid (K.put sink.new))) }
+    ensures put { OnOk result (K.put sink.new ≡ K.put sink.old ++ placed_from (block_start geometry stripe) block.now) }
     ensures part { OnErr result (PutsFewer (K.put sink.old) (block_start geometry stripe) block.now (K.put sink.new)) }
     ensures cause { OnErr result (Rises (K.faults sink.old) (K.faults sink.new)) }
     ensures steady { OnOk result (K.faults sink.new ≡ K.faults sink.old) }
@@ -63,9 +65,13 @@ fn fill_with_zeros(alloc: Global, bytes: &mut Vec<u8>, size: usize) -> Result<()
     bytes.extend_from_slice(&zeros)
 }
 
-// The bytes of a header, and the zeros behind it.
+/// The bytes of a header, and the zeros behind it up to a share's first block.
 #[tactic(auto, using(crate::proofs::WrittenLemmas::aligned_header))]
-fn padded_header(alloc: Global, crc: &Crc64, header: &ShareHeader) -> Result<Vec<u8>, AllocError>
+pub fn padded_header(
+    alloc: Global,
+    crc: &Crc64,
+    header: &ShareHeader,
+) -> Result<Vec<u8>, AllocError>
     ensures { IfOk result (λ bytes. bytes.items ≡ aligned header.now.shape (header_bytes header.now)) }
 {
     let mut bytes = header.bytes(alloc, crc)?;
@@ -82,6 +88,8 @@ pub fn write_header<K: SinkAt>(
     header: &ShareHeader,
 ) -> Result<(), PutFault>
     ensures share { OnOk result (GainsHeader header.now.shape header.now.size header.now.checksum header.now.share (laid (K.put sink.old)) (laid (K.put sink.new))) }
+    ensures put { OnOk result (K.put sink.new ≡ K.put sink.old ++ placed_from 0 (aligned header.now.shape (header_bytes header.now))) }
+    ensures part { IsErrOf result PutFault.WriteFault → PutsFewer (K.put sink.old) 0 (aligned header.now.shape (header_bytes header.now)) (K.put sink.new) }
     ensures cause { IsErrOf result PutFault.WriteFault → Rises (K.faults sink.old) (K.faults sink.new) }
     ensures unwritten { IsErrOf result PutFault.OutOfMemory → K.put sink.new ≡ K.put sink.old }
     ensures steady { (IsErrOf result PutFault.WriteFault → ⊥) → K.faults sink.new ≡ K.faults sink.old }

@@ -1,32 +1,27 @@
 -- The bytes of a file, a stripe at a time.
-use Rattle.std.proofs.Common.{◌≡◌, ◌≢◌, ℕ, zero, suc, ◌+◌, ◌-◌, ◌*◌, ◌/◌, ◌%◌, ◌^◌, ◌<◌, ◌≤◌, List, [], ◌++◌, length, get_or, take, drop, replicate, Option, None, Some, Vec, Global, refl, sym, subst, ◌∙◌, ap, arith, inl, inr, length-append}
+use Rattle.std.proofs.Common.{◌≡◌, ℕ, zero, suc, ◌+◌, ◌-◌, ◌*◌, ◌/◌, ◌%◌, ◌^◌, ◌<◌, ◌≤◌, List, [], ◌∷◌, ◌++◌, length, get_or, take, drop, replicate, Option, None, Some, Vec, Global, refl, sym, subst, ◌∙◌, ap, arith, inl, inr, append-nil}
 use Rattle.std.specs.Prelude.{min}
 use Rattle.std.proofs.lemmas.Bool.{cases_lt}
-use Rattle.std.proofs.lemmas.List.{length-take, length-take-le, length-drop, take_all, take-take, take-append-le, drop-drop, get_or_past}
+use Rattle.std.proofs.lemmas.List.{length-take, length-drop, take_all, take-take, take-append-le, take-append-drop, drop-drop, get_or_past}
 use Rattle.std.proofs.lemmas.Nat.{mul-le, mod_below, div-add-mod'}
 use Rattle.std.proofs.Math.Seq.{take-add}
-use Rattle.crc64.specs.Remainder.{checksum_of}
-use Rattle.clay_bytes.specs.Stream.{Accepts}
-use Rattle.clay_bytes.proofs.StreamLemmas.{and-more, gains-then, accepts-nothing}
 use Rattle.clay_model.specs.Code.{padded, stripes_below}
 use Rattle.clay_aloof.specs.Shape.{AloofShape, all_chunks, stripe_bytes}
-use Rattle.share_format.specs.Cut.{stripe_count, file_stripes}
+use Rattle.share_format.specs.Cut.{stripe_count, file_stripes, AreCodewords}
 use Rattle.share_format.specs.Blocks.{block_length}
 use Rattle.share_format.specs.Shares.{block_start}
 use Rattle.share_format.specs.Header.{Header, IsHeader}
 use Rattle.share_format.proofs.HeaderBack.{stripe_some}
-use Rattle.share_blocks.specs.Joined.{HasBlocks, IsJoined}
-use Rattle.share_files.specs.Seen.{Seen, seen_of, Show}
+use Rattle.share_blocks.specs.Joined.{HasBlocks}
+use Rattle.share_files.specs.Seen.{Seen, seen_of, failed_since, Show}
 use Rattle.share_files.proofs.CutLemmas.{places_fit}
-use Rattle.share_files.specs.Found.{block_in}
-use Rattle.share_joins.specs.Gathered.{IsHad, IsStripeRead, JoinsStripe}
-use Rattle.share_joins.specs.Joined.{NoRotPasses, TakesFile, TakesAnother}
-use Rattle.share_joins.specs.SoFar.{TakesSoFar}
+use Rattle.share_joins.specs.Joined.{NoRotIn, NoRotPasses}
+use Rattle.share_joins.specs.Stripes.{IsRead, IsStripeOf, HasStripe, AreJoined}
 
 -- ---- places
 
 -- a stripe begins before the file's end
-begins_within : (s size i : ℕ) → 1 ≤ s → i < (size + s - 1) / s → i * s < size
+pub begins_within : (s size i : ℕ) → 1 ≤ s → i < (size + s - 1) / s → i * s < size
 begins_within s size i some less =
     let whole : (size + s - 1) / s * s + (size + s - 1) % s ≡ size + s - 1 = div-add-mod' (size + s - 1) s in
     let more : (i + 1) * s ≤ (size + s - 1) / s * s = mul-le (i + 1) s ((size + s - 1) / s) s (omega (arith, less)) (omega arith) in
@@ -76,124 +71,100 @@ stripe_front s at count file most =
     take-append-le count (take s (drop at file)) (replicate (s - length (take s (drop at file))) 0) (omega (arith, left, long, most))
     ∙ take-take count s (drop at file) (omega (arith, most))
 
+-- as many bytes as there are
+take_least : (s : ℕ) (xs : List ℕ) → take (min (length xs) s) xs ≡ take s xs
+take_least s xs = elim (cases_lt (length xs) s) [
+  | inl short ↦ take_all (min (length xs) s) xs (omega (arith, short)) ∙ sym (take_all s xs (omega (arith, short)))
+  | inr long ↦ let most : min (length xs) s ≡ s = omega (arith, long) in ap (λ k. take k xs) most
+]
+
 -- ---- a stripe of a file whose rot is found
 
 some_none : (block : Vec ℕ Global) → Some block ≡ None → ⊥
 some_none block same = cc
 
-module _ (h : Header) (i : ℕ) (mids news : List Seen) (before after : List (Option ℕ)) (is : IsStripeRead h.shape i mids news before after)
-    (count : length news ≡ all_chunks h.shape) (file : List ℕ) (files : List (List ℕ)) (shows : Show news files) (pass : NoRotPasses h file files)
-    (within : i < stripe_count h.shape h.size) where
-  in_words : i < length pass.words
-  in_words = subst (λ n. i < n) (sym (pass.coded.count ∙ ap (stripe_count h.shape) pass.size)) within
+module _ (h : Header) (i : ℕ) (olds news : List Seen) (file : List ℕ) (words : List (List (List ℕ))) (files : List (List ℕ)) (size : length file ≡ h.size)
+    (coded : AreCodewords h.shape file words) (within : i < length words) (no_rot : NoRotIn h.shape i files (get_or words i [])) where
+  abbrev s : ℕ
+  s = stripe_bytes h.shape
 
-  has_blocks : HasBlocks h.shape is.blocks (get_or pass.words i [])
-  has_blocks c block there =
+  has_blocks : (bytes : List ℕ) (is : IsStripeOf h.shape i files olds news bytes) → HasBlocks h.shape is.blocks (get_or words i [])
+  has_blocks bytes is c block there =
       elim (cases_lt c (all_chunks h.shape)) [
         | inl less ↦
-            let P : Option (Vec ℕ Global) → Type 0 = λ b. IsHad h.shape (block_in h.shape i (get_or files c [])) (seen_of mids c).faults (seen_of news c).faults b in
-            let had = subst P there ((is.read.read c less).had (get_or files c []) (shows c (omega (arith, less, count)))) in
-            had.0 ∙ pass.blocks c i less in_words had.1
+            let P : Option (Vec ℕ Global) → Type 0 =
+            λ b. IsRead h.shape i (get_or files c []) (failed_since (seen_of olds c) (seen_of news c)) b in
+            let read = subst P there (is.read c less) in
+            read.0 ∙ no_rot c less read.1
         | inr more ↦
             let none : get_or is.blocks c None ≡ None = get_or_past is.blocks c None (omega (arith, more, is.count)) in
             let same : Some block ≡ None = sym there ∙ none in absurd (some_none block same)
       ]
 
-  stripe_is : (bytes : List ℕ) → IsJoined h.shape is.blocks bytes → bytes ≡ padded (stripe_bytes h.shape) (take (stripe_bytes h.shape) (drop (i * stripe_bytes h.shape) file))
-  stripe_is bytes joins =
-      joins (get_or (file_stripes h.shape file) i []) (get_or pass.words i []) (pass.coded.codes i in_words) has_blocks
-      ∙ stripe_at (stripe_bytes h.shape) (stripe_count h.shape (length file)) i file (subst (λ n. i < n) pass.coded.count in_words)
+  stripe_is : (bytes : List ℕ) → IsStripeOf h.shape i files olds news bytes → bytes ≡ padded s (take s (drop (i * s) file))
+  stripe_is bytes is =
+      is.joined (get_or (file_stripes h.shape file) i []) (get_or words i []) (coded.codes i within) (has_blocks bytes is)
+      ∙ stripe_at s (stripe_count h.shape (length file)) i file (subst (λ n. i < n) coded.count within)
 
--- ---- what a sink took
+  -- what was joined of it is the file's
+  stripe_same : (bytes : List ℕ) → HasStripe h i files olds news bytes → take s (drop (i * s) bytes) ≡ take (min (h.size - i * s) s) (drop (i * s) file)
+  stripe_same bytes has =
+      let left : min (h.size - i * s) s ≡ min (length file - i * s) s = ap (λ n. min (n - i * s) s) (sym size) in
+      has.part
+      ∙ ap (take (min (h.size - i * s) s)) (stripe_is has.stripe has.of)
+      ∙ stripe_front s (i * s) (min (h.size - i * s) s) file left
 
--- nothing yet
-pub takes_nothing : (h : Header) (left : ℕ) (sources : List Seen) (accepted : List ℕ) (written : Option (List ℕ)) (checksum : ℕ) → left ≡ h.size →
-    checksum ≡ checksum_of [] → TakesSoFar h left sources accepted written accepted written checksum
-takes_nothing h left sources accepted written checksum all summed = record {
-  done = [];
-  takes = accepts-nothing accepted written;
-  counted = omega (arith, all);
-  summed = summed;
-  same = λ file files shows pass. refl;
-}
+  pub stripe_right : (bytes : List ℕ) → HasStripe h i files olds news bytes → take s (drop (i * s) bytes) ≡ take s (drop (i * s) file)
+  stripe_right bytes has =
+      let left : length (drop (i * s) file) ≡ h.size - i * s = length-drop (i * s) file ∙ ap (λ n. n - i * s) size in
+      stripe_same bytes has ∙ ap (λ n. take (min n s) (drop (i * s) file)) (sym left) ∙ take_least s (drop (i * s) file)
 
--- one stripe's bytes more
-module _ (h : Header) (i left count : ℕ) (mids news : List Seen) (before after : List (Option ℕ)) (bytes : List ℕ)
-    (joins : JoinsStripe h.shape i mids news before after bytes) (header : IsHeader h) (within : i < stripe_count h.shape h.size)
-    (all_mids : length mids ≡ all_chunks h.shape) (all_news : length news ≡ all_chunks h.shape) (left_is : left ≡ h.size - i * stripe_bytes h.shape)
-    (slice : List ℕ) (slice_is : slice ≡ bytes) (long : length bytes ≡ stripe_bytes h.shape) (most : count ≡ min left (stripe_bytes h.shape)) where
-  abbrev s : ℕ
-  s = stripe_bytes h.shape
+-- ---- stripes that agree
 
-  begins : i * s < h.size
-  begins = begins_within s h.size i (stripe_some h.shape header.code) within
+both_taken : (s size n total k : ℕ) (ys : List ℕ) → total ≡ min size (suc n * s) → k ≡ total - s → suc n * s ≡ s + n * s →
+    take (min size s) ys ++ take k (drop s ys) ≡ take total ys
+both_taken s size n total k ys long left next = elim (cases_lt size s) [
+  | inl short ↦
+      let none : k ≡ 0 = omega (arith, long, left, short) in
+      let all : min size s ≡ total = omega (arith, long, next, short) in
+      (λ j. take (all j) ys ++ take (none j) (drop s ys)) ∙ append-nil (take total ys)
+  | inr wide ↦
+      let one : min size s ≡ s = omega (arith, wide) in
+      let sum : s + k ≡ total = omega (arith, long, left, next, wide) in
+      ap (λ m. take m ys ++ take k (drop s ys)) one ∙ sym (take-add s k ys) ∙ ap (λ m. take m ys) sum
+]
 
-  counted_piece : length (take count slice) ≡ count
-  counted_piece = length-take-le count slice (omega (arith, ap (λ (l : List ℕ). length l) slice_is, long, most))
+same_front : (s size n : ℕ) (xs ys : List ℕ) → length xs ≡ min size (n * s) →
+    ((i : ℕ) → i < n → take s (drop (i * s) xs) ≡ take (min (size - i * s) s) (drop (i * s) ys)) → xs ≡ take (length xs) ys
+same_front s size zero [] ys long same = refl
+same_front s size zero (x ∷ xs) ys long same = let none : 0 * s ≡ 0 = omega arith in absurd (omega (arith, long, none))
+same_front s size (suc n) xs ys long same =
+    let next : suc n * s ≡ s + n * s = omega arith in
+    let none : 0 * s ≡ 0 = omega arith in
+    let all : min (size - 0 * s) s ≡ min size s = omega (arith, none) in
+    let left : length (drop s xs) ≡ length xs - s = length-drop s xs in
+    let first : take s xs ≡ take (min size s) ys =
+    ap (λ k. take s (drop k xs)) (sym none) ∙ same 0 (omega arith) ∙ ap (λ k. take (min (size - 0 * s) s) (drop k ys)) none ∙ ap (λ k. take k ys) all in
+    let later : drop s xs ≡ take (length (drop s xs)) (drop s ys) =
+    same_front s (size - s) n (drop s xs) (drop s ys) (omega (arith, left, long, next)) (λ i less.
+    let behind : suc i * s ≡ s + i * s = omega arith in
+    let end : size - suc i * s ≡ size - s - i * s = omega (arith, behind) in
+    ap (take s) (drop-drop (i * s) s xs ∙ ap (λ k. drop k xs) (sym behind))
+    ∙ same (suc i) (omega (arith, less))
+    ∙ ap (λ k. take (min k s) (drop (suc i * s) ys)) end
+    ∙ ap (take (min (size - s - i * s) s)) (ap (λ k. drop k ys) behind ∙ sym (drop-drop (i * s) s ys))) in
+    sym (take-append-drop s xs) ∙ (λ j. first j ++ later j) ∙ both_taken s size n (length xs) (length (drop s xs)) ys long left next
 
-  piece_is : (file : List ℕ) (files : List (List ℕ)) → Show news files → NoRotPasses h file files → take count slice ≡ take count (drop (i * s) file)
-  piece_is file files shows pass =
-      let size : length file ≡ h.size = pass.size in
-      ap (take count) (slice_is ∙ stripe_is h i mids news before after joins.0 all_news file files shows pass within bytes joins.1)
-      ∙ stripe_front s (i * s) count file (omega (arith, most, left_is, size))
+-- the first stripes that were joined are those of the file
+pub joined_same : (h : Header) (count : ℕ) (olds news : List Seen) (bytes file : List ℕ) (files : List (List ℕ)) → count ≤ stripe_count h.shape h.size →
+    AreJoined h count olds news bytes → Show news files → NoRotPasses h file files → bytes ≡ take (length bytes) file
+joined_same h count olds news bytes file files few joined shows pass =
+    same_front (stripe_bytes h.shape) h.size count bytes file joined.size (λ i less.
+    let all : length pass.words ≡ stripe_count h.shape h.size = pass.coded.count ∙ ap (stripe_count h.shape) pass.size in
+    let within : i < length pass.words = omega (arith, less, few, all) in
+    stripe_same h i olds news file pass.words files pass.size pass.coded within (pass.blocks i within) bytes (joined.stripes files shows i less))
 
-  shown_before : (files : List (List ℕ)) → Show news files → Show mids files
-  shown_before files shows c less =
-      (joins.0.read.read c (omega (arith, less, all_mids))).shown (get_or files c []) (shows c (omega (arith, less, all_mids, all_news)))
-
-  pub takes_more : (accepted mid now : List ℕ) (written middle rest : Option (List ℕ)) (checksum sum : ℕ) →
-      TakesSoFar h left mids accepted written mid middle checksum → Accepts mid middle (take count slice) now rest →
-      ((done : List ℕ) → checksum ≡ checksum_of done → sum ≡ checksum_of (done ++ take count slice)) →
-      TakesSoFar h (left - count) news accepted written now rest sum
-  takes_more accepted mid now written middle rest checksum sum so takes summed = record {
-    done = so.done ++ take count slice;
-    takes = (
-      and-more accepted mid now so.done (take count slice) (so.done ++ take count slice) so.takes.0 takes.0 refl,
-      gains-then written middle rest so.done (take count slice) (so.done ++ take count slice) so.takes.1 takes.1 refl,
-    );
-    counted = omega (arith, length-append so.done (take count slice), counted_piece, so.counted, most);
-    summed = summed so.done so.summed;
-    same = λ file files shows pass.
-        let place : length so.done ≡ i * s = omega (arith, so.counted, left_is, begins) in
-        let total : length so.done + count ≡ length (so.done ++ take count slice) = omega (arith, length-append so.done (take count slice), counted_piece) in
-        (λ v. so.same file files (shown_before files shows) pass v
-        ++ (piece_is file files shows pass ∙ ap (λ k. take count (drop k file)) (sym place)) v)
-        ∙ sym (take-add (length so.done) count file)
-        ∙ ap (λ k. take k file) total;
-  }
-
-pub takes_all : (h : Header) (left : ℕ) (news : List Seen) (accepted : List ℕ) (written : Option (List ℕ)) (now : List ℕ) (rest : Option (List ℕ))
-    (checksum : ℕ) → left ≡ 0 → TakesSoFar h left news accepted written now rest checksum → TakesSoFar h 0 news accepted written now rest checksum
-takes_all h left news accepted written now rest checksum none so =
-    let P : ℕ → Type 0 = λ n. TakesSoFar h n news accepted written now rest checksum in subst P none so
-
--- all of them
-module _ (h : Header) (news : List Seen) (accepted : List ℕ) (written : Option (List ℕ)) (now : List ℕ) (rest : Option (List ℕ)) (checksum : ℕ)
-    (so : TakesSoFar h 0 news accepted written now rest checksum) where
-  pub takes_file : checksum ≡ h.checksum → TakesFile h accepted written now rest
-  takes_file same = record { file = so.done; takes = so.takes; size = omega (arith, so.counted); checksum = sym so.summed ∙ same }
-
-  pub takes_another : checksum ≢ h.checksum → TakesAnother h accepted written now rest
-  takes_another differs = record { file = so.done; takes = so.takes; size = omega (arith, so.counted); checksum = λ same. differs (so.summed ∙ same) }
-
-  is_file : (file : List ℕ) (files : List (List ℕ)) → Show news files → NoRotPasses h file files → so.done ≡ file
-  is_file file files shows pass =
-      let size : length file ≡ h.size = pass.size in
-      so.same file files shows pass ∙ take_all (length so.done) file (omega (arith, so.counted, size))
-
-  pub takes_this : (file : List ℕ) (files : List (List ℕ)) → Show news files → NoRotPasses h file files → Accepts accepted written file now rest
-  takes_this file files shows pass =
-      let P : List ℕ → Type 0 = λ l. Accepts accepted written l now rest in
-      subst P (is_file file files shows pass) so.takes
-
-  pub matches_this : checksum ≢ h.checksum → (file : List ℕ) (files : List (List ℕ)) → Show news files → NoRotPasses h file files → ⊥
-  matches_this differs file files shows pass = differs (so.summed ∙ ap checksum_of (is_file file files shows pass) ∙ pass.checksum)
-
--- the code is the header's
-pub joins_of : (geometry : AloofShape) (h : Header) (i : ℕ) (mids news : List Seen) (before after : List (Option ℕ)) (bytes : List ℕ) →
-    geometry ≡ h.shape → JoinsStripe geometry i mids news before after bytes → JoinsStripe h.shape i mids news before after bytes
-joins_of geometry h i mids news before after bytes same joins =
-    let P : AloofShape → Type 0 = λ a. JoinsStripe a i mids news before after bytes in subst P same joins
+-- ---- the code is the header's
 
 pub place_of : (geometry : AloofShape) (h : Header) (i : ℕ) → geometry ≡ h.shape → IsHeader h → i < stripe_count h.shape h.size →
     block_start geometry i + block_length geometry < 2 ^ 64

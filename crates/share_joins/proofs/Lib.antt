@@ -1,4 +1,5 @@
 pub mod Reading
 pub mod Steps
 pub mod Bytes
+pub mod Taking
 pub mod Shares

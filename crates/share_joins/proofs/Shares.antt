@@ -1,7 +1,6 @@
 -- Any shares, as many as there are data chunks, can be joined.
-use Rattle.std.proofs.Common.{◌≡◌, ℕ, zero, suc, ◌+◌, ◌*◌, ◌<◌, ◌≤◌, Bool, true, false, cond, List, [], length, get_or, sym, ap, subst, ◌∙◌, inl, inr, arith}
+use Rattle.std.proofs.Common.{◌≡◌, ℕ, zero, suc, ◌+◌, ◌*◌, ◌<◌, ◌≤◌, Bool, true, false, cond, List, [], ◌∷◌, length, get_or, sym, ap, subst, ◌∙◌, inl, inr, arith, length-append}
 use Rattle.std.proofs.lemmas.Bool.{cases_Bool}
-use Rattle.clay_bytes.specs.Stream.{Rises}
 use Rattle.clay_grid.specs.Shape.{chunk_length}
 use Rattle.clay_grid.specs.Score.{count_below}
 use Rattle.clay_aloof.specs.Shape.{AloofShape, all_chunks, grid_of}
@@ -9,16 +8,15 @@ use Rattle.clay_aloof.specs.Limits.{IsAloof}
 use Rattle.share_format.specs.Cut.{stripe_count}
 use Rattle.share_format.specs.Blocks.{block_of, block_length, IsBlock}
 use Rattle.share_format.specs.Header.{Header}
-use Rattle.share_format.specs.Shares.{chunks_at, IsShare}
+use Rattle.share_format.specs.Shares.{IsShare}
 use Rattle.share_format.proofs.AnyShares.{one_kept}
-use Rattle.share_format.proofs.Blocks.{block_in_share, are_chunks, count_chunks, chunk_of_word}
 use Rattle.share_format.proofs.Determined.{same_words}
 use Rattle.share_format.proofs.HeaderBack.{stripe_some}
-use Rattle.share_blocks.proofs.Intact.{block_kept}
 use Rattle.share_files.specs.Found.{block_in}
-use Rattle.share_files.specs.Seen.{Seen, seen_of}
+use Rattle.share_files.specs.Seen.{Seen, seen_of, failed_since}
 use Rattle.share_files.proofs.FoundLemmas.{no_block}
-use Rattle.share_joins.specs.Missed.{LackBlocks}
+use Rattle.share_files.proofs.ShareLemmas.{block_is, block_good}
+use Rattle.share_joins.specs.Missed.{HasFailed, LackBlocks}
 use Rattle.share_joins.specs.Joined.{NoRotPasses, AreSharesBut}
 
 -- ---- one that is counted here and not there
@@ -59,21 +57,13 @@ some_block a aloof =
     let chunk : 0 < chunk_length (grid_of a) = grind arith in
     omega (arith, chunk)
 
-module _ (a : AloofShape) (file bytes : List ℕ) (c : ℕ) (is : IsShare a file c bytes) (i : ℕ) (less : i < length is.words) where
-  within : i < length (chunks_at c is.words)
-  within = subst (λ n. i < n) (is.coded.count ∙ sym (count_chunks a file c is.words is.coded is.numbered)) less
-
-  pub block_is : block_in a i bytes ≡ block_of a (get_or (get_or is.words i []) c [])
-  block_is =
-      ap (block_in a i) is.value
-      ∙ block_in_share a file c (chunks_at c is.words) (are_chunks a file c is.words is.coded is.numbered) i within
-      ∙ ap (block_of a) (chunk_of_word a file c is.words is.coded is.numbered i less)
-
-  pub block_good : IsBlock a (block_in a i bytes)
-  block_good =
-      let P : List ℕ → Type 0 = λ l. IsBlock a l in
-      subst P (sym block_is)
-      (block_kept a (get_or (get_or is.words i []) c []) ((is.coded.codes i less).codeword.lengths c is.numbered))
+-- no read failed in the place of a block where none failed
+none_failed : (a : AloofShape) (i : ℕ) (failed : List ℕ) → failed ≡ [] → HasFailed a i failed → ⊥
+none_failed a i failed none has =
+    let size : length failed ≡ length has.earlier + length (has.place ∷ has.later) =
+    ap (λ (l : List ℕ). length l) has.one ∙ length-append has.earlier (has.place ∷ has.later) in
+    let empty : length failed ≡ 0 = ap (λ (l : List ℕ). length l) none in
+    omega (arith, size, empty)
 
 -- ---- the shares of a file
 
@@ -87,9 +77,9 @@ module _ (h : Header) (erased : ℕ → Bool) (file : List ℕ) (files : List (L
   first : IsShare h.shape file some.0 (get_or files some.0 [])
   first = shares.kept some.0 some.1 some.2
 
-  block_passes : (c i : ℕ) → c < all_chunks h.shape → i < length first.words → IsBlock h.shape (block_in h.shape i (get_or files c [])) →
+  block_passes : (i : ℕ) → i < length first.words → (c : ℕ) → c < all_chunks h.shape → IsBlock h.shape (block_in h.shape i (get_or files c [])) →
       block_in h.shape i (get_or files c []) ≡ block_of h.shape (get_or (get_or first.words i []) c [])
-  block_passes c i less within is = elim (cases_Bool (erased c)) [
+  block_passes i within c less is = elim (cases_Bool (erased c)) [
     | inl gone ↦
         let empty : get_or files c [] ≡ [] = shares.gone c less gone in
         let short : length (get_or files c []) ≡ 0 = ap (λ (l : List ℕ). length l) empty in
@@ -105,7 +95,7 @@ module _ (h : Header) (erased : ℕ → Bool) (file : List ℕ) (files : List (L
   shares_pass = record { size = shares.size; checksum = shares.checksum; words = first.words; coded = first.coded; blocks = block_passes }
 
   pub shares_enough : (i : ℕ) (olds news : List Seen) → i < stripe_count h.shape h.size →
-      ((c : ℕ) → c < all_chunks h.shape → erased c ≡ false → Rises (seen_of olds c).faults (seen_of news c).faults → ⊥) →
+      ((c : ℕ) → c < all_chunks h.shape → erased c ≡ false → failed_since (seen_of olds c) (seen_of news c) ≡ []) →
       LackBlocks h.shape i files olds news → ⊥
   shares_enough i olds news less steady lack =
       let one = one_more (all_chunks h.shape) lack.lost erased (omega (arith, shares.few, lack.many)) in
@@ -113,5 +103,5 @@ module _ (h : Header) (erased : ℕ → Bool) (file : List ℕ) (files : List (L
       let within : i < length share.words = subst (λ n. i < n) (sym (share.coded.count ∙ ap (stripe_count h.shape) shares.size)) less in
       elim (lack.each one.0 one.1 one.2) [
         | inl none ↦ none (block_good h.shape file (get_or files one.0 []) one.0 share i within)
-        | inr rises ↦ steady one.0 one.1 one.3 rises
+        | inr failed ↦ none_failed h.shape i (failed_since (seen_of olds one.0) (seen_of news one.0)) (steady one.0 one.1 one.3) failed
       ]

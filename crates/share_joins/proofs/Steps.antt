@@ -1,51 +1,133 @@
 -- What one more stripe that was read says of each share.
-use Rattle.std.proofs.Common.{◌≡◌, ℕ, ◌+◌, ◌<◌, ◌≤◌, true, List, [], length, get_or, Option, None, Some, is_none, Vec, Global, refl, sym, subst, ap, ◌∙◌, inl, inr, arith, below_more}
-use Rattle.std.specs.Prelude.{◌⊎◌}
+use Rattle.std.proofs.Common.{◌≡◌, ℕ, ◌+◌, ◌*◌, ◌<◌, ◌≤◌, true, List, [], ◌∷◌, ◌++◌, length, get_or, drop, Option, None, Some, Ok, is_none, Vec, Global, refl, sym, subst, ap, ◌∙◌, inl, inr, arith, append_assoc, length-append, below_more}
+use Rattle.std.specs.Prelude.{All, IsErrOf}
 use Rattle.std.proofs.lemmas.Bool.{true≢false}
-use Rattle.clay_bytes.specs.Stream.{Rises}
+use Rattle.std.proofs.lemmas.List.{drop-append-le, drop_all}
+use Rattle.std.proofs.lemmas.Nat.{mul-le}
+use Rattle.std.proofs.lemmas.List.Elements.{All-nil, All-same, All-push}
+use Rattle.file_bytes.specs.Places.{FailsIn}
 use Rattle.clay_aloof.specs.Shape.{AloofShape, all_chunks}
 use Rattle.share_format.specs.Cut.{stripe_count}
-use Rattle.share_format.specs.Blocks.{IsBlock}
+use Rattle.share_format.specs.Blocks.{block_length, IsBlock}
+use Rattle.share_format.specs.Shares.{block_start}
 use Rattle.share_format.specs.Header.{Header}
 use Rattle.share_blocks.specs.Joined.{is_lost, IsJoined, AreTooFew}
 use Rattle.share_files.specs.Found.{block_in}
-use Rattle.share_files.specs.Seen.{Seen, seen_of, Show}
-use Rattle.share_joins.specs.Missed.{missed_after, IsFirstMissed, AreFirstMissed, LackBlocks}
-use Rattle.share_joins.specs.Gathered.{IsHad, Reads, AreRead, IsStripeRead, JoinsStripe, IsStripeFault}
+use Rattle.share_files.specs.Seen.{Seen, seen_of, failed_since, Show}
+use Rattle.share_joins.specs.Missed.{missed_after, HasFailed, IsMissing, IsFirstMissed, AreFirstMissed, LackBlocks}
+use Rattle.share_joins.specs.Gathered.{Grows, IsHad, MayFail, Reads, AreRead, IsStripeRead, JoinsStripe, IsStripeFault}
 use Rattle.share_joins.specs.Joined.{IsWhyNot}
 use Rattle.share_joins.specs.SoFar.{IsReadSoFar, AreReadSoFar, IsStop}
 use Rattle.share_joins.specs.declared.joining.JoinFault.{JoinFault}
 use Rattle.share_joins.specs.declared.joining.JoinFault.TheVariants.{TooFew, Mismatch, WriteFault, OutOfMemory}
+use Rattle.share_joins.proofs.Reading.{grows_none, grows_then, grows_read}
 
-rises_later : (old mid new : ℕ) → old ≤ mid → Rises mid new → Rises old new
-rises_later old mid new more rises = omega (arith, more, rises)
+-- ---- where reads failed
 
-rises_sooner : (old mid new : ℕ) → mid ≤ new → Rises old mid → Rises old new
-rises_sooner old mid new more rises = omega (arith, more, rises)
+failed_once : (a : AloofShape) (i : ℕ) (failed now : List ℕ) → FailsIn (block_start a i) (block_length a) failed now → HasFailed a i now
+failed_once a i failed now fails =
+    record { earlier = failed; place = fails.place; later = []; one = fails.fails; from = fails.from; before = fails.before }
 
-noted_more : (a : AloofShape) (i : ℕ) (file : List ℕ) (old mid new : ℕ) (missed : Option ℕ) (block : Option (Vec ℕ Global)) → old ≤ mid → mid ≤ new →
-    IsFirstMissed a i file old mid missed → IsHad a (block_in a i file) mid new block → IsFirstMissed a (i + 1) file old new (missed_after missed i (is_none block))
-noted_more a i file old mid new (Some first) block before after noted had = (
+failed_later : (a : AloofShape) (i : ℕ) (failed more now : List ℕ) → now ≡ failed ++ more → HasFailed a i failed → HasFailed a i now
+failed_later a i failed more now is has = record {
+  earlier = has.earlier;
+  place = has.place;
+  later = has.later ++ more;
+  one = is ∙ ap (λ l. l ++ more) has.one ∙ append_assoc has.earlier (has.place ∷ has.later) more;
+  from = has.from;
+  before = has.before;
+}
+
+pub missing_later : (a : AloofShape) (i : ℕ) (file failed more now : List ℕ) → now ≡ failed ++ more → IsMissing a i file failed → IsMissing a i file now
+missing_later a i file failed more now is missing = elim missing [ inl none ↦ inl none | inr has ↦ inr (failed_later a i failed more now is has) ]
+
+pub had_none : (a : AloofShape) (i : ℕ) (file failed now : List ℕ) (block : Option (Vec ℕ Global)) → is_none block ≡ true → IsHad a i file failed now block →
+    IsMissing a i file now
+had_none a i file failed now None gone had = elim had [ inl none ↦ inl none | inr fails ↦ inr (failed_once a i failed now fails) ]
+had_none a i file failed now (Some block) gone had = absurd (true≢false (sym gone))
+
+-- counted from some moment on
+module _ (old mid new : Seen) (so : Grows old mid) where
+  longer : length old.failed ≤ length mid.failed
+  longer = omega (arith, ap (λ (l : List ℕ). length l) so.failed, length-append old.failed so.more)
+
+  pub since_more : (more : List ℕ) → new.failed ≡ mid.failed ++ more → failed_since old new ≡ failed_since old mid ++ more
+  since_more more is = ap (drop (length old.failed)) is ∙ drop-append-le (length old.failed) mid.failed more longer
+
+  since_fails : (at size : ℕ) → FailsIn at size mid.failed new.failed → FailsIn at size (failed_since old mid) (failed_since old new)
+  since_fails at size fails = record {
+    place = fails.place;
+    from = fails.from;
+    before = fails.before;
+    fails = since_more (fails.place ∷ []) fails.fails;
+  }
+
+  since_same : new.failed ≡ mid.failed → failed_since old new ≡ failed_since old mid
+  since_same same = ap (drop (length old.failed)) same
+
+  pub since_had : (a : AloofShape) (i : ℕ) (file : List ℕ) (block : Option (Vec ℕ Global)) → IsHad a i file mid.failed new.failed block →
+      IsHad a i file (failed_since old mid) (failed_since old new) block
+  since_had a i file None had = elim had [ inl none ↦ inl none | inr fails ↦ inr (since_fails (block_start a i) (block_length a) fails) ]
+  since_had a i file (Some block) had = (had.0, had.1, since_same had.2)
+
+  since_may : (a : AloofShape) (i : ℕ) → MayFail a i mid.failed new.failed → MayFail a i (failed_since old mid) (failed_since old new)
+  since_may a i may = elim may [ inl same ↦ inl (since_same same) | inr fails ↦ inr (since_fails (block_start a i) (block_length a) fails) ]
+
+-- ---- the first that is missed
+
+start_before : (a : AloofShape) (first i : ℕ) → first ≤ i → block_start a first ≤ block_start a i
+start_before a first i from =
+    let more : first * block_length a ≤ i * block_length a = mul-le first (block_length a) i (block_length a) from (omega arith) in
+    omega (arith, more)
+
+module _ (a : AloofShape) (first i : ℕ) (from : first ≤ i) (failed now : List ℕ) where
+  abbrev IsBehind : ℕ → Type 0
+  IsBehind place = block_start a first ≤ place
+
+  all_behind : MayFail a i failed now → All IsBehind failed → All IsBehind now
+  all_behind may so = elim may [
+    | inl same ↦ All-same IsBehind now failed same so
+    | inr fails ↦
+        All-same IsBehind now (failed ++ fails.place ∷ []) fails.fails
+        (All-push IsBehind failed fails.place so (omega (arith, start_before a first i from, fails.from)))
+  ]
+
+-- where it was missed before, and where it is missed here
+missed_before : (a : AloofShape) (i : ℕ) (file failed now : List ℕ) (first : ℕ) → MayFail a i failed now → IsFirstMissed a i file failed (Some first) →
+    IsFirstMissed a (i + 1) file now (Some first)
+missed_before a i file failed now first may noted = (
   omega (arith, noted.0),
   noted.1,
-  elim noted.2 [ inl none ↦ inl none | inr rises ↦ inr (rises_sooner old mid new after rises) ],
+  elim may [
+    | inl same ↦ let P : List ℕ → Type 0 = λ l. IsMissing a first file l in subst P (sym same) noted.2
+    | inr fails ↦ missing_later a first file failed (fails.place ∷ []) now fails.fails noted.2
+  ],
+  all_behind a first i (omega (arith, noted.0)) failed now may noted.3,
 )
-noted_more a i file old mid new None None before after noted had = (
+
+missed_here : (a : AloofShape) (i : ℕ) (file failed now : List ℕ) → MayFail a i failed now → IsHad a i file failed now None → IsFirstMissed a i file failed None →
+    IsFirstMissed a (i + 1) file now (Some i)
+missed_here a i file failed now may had noted = (
   omega arith,
   noted.0,
-  elim had [ inl none ↦ inl none | inr rises ↦ inr (rises_later old mid new before rises) ],
+  had_none a i file failed now None refl had,
+  all_behind a i i (omega arith) failed now may (All-same (λ place. block_start a i ≤ place) failed [] noted.1 (All-nil (λ place. block_start a i ≤ place))),
 )
-noted_more a i file old mid new None (Some block) before after noted had =
+
+noted_more : (a : AloofShape) (i : ℕ) (file failed now : List ℕ) (missed : Option ℕ) (block : Option (Vec ℕ Global)) → MayFail a i failed now →
+    IsFirstMissed a i file failed missed → IsHad a i file failed now block → IsFirstMissed a (i + 1) file now (missed_after missed i (is_none block))
+noted_more a i file failed now (Some first) block may noted had = missed_before a i file failed now first may noted
+noted_more a i file failed now None None may noted had = missed_here a i file failed now may had noted
+noted_more a i file failed now None (Some block) may noted had =
     (below_more (λ k. IsBlock a (block_in a k file)) i noted.0 had.1, had.2 ∙ noted.1)
 
 read_further : (h : Header) (i : ℕ) (old mid new : Seen) (missed : Option ℕ) (block : Option (Vec ℕ Global)) → IsReadSoFar h i old mid missed →
     Reads h.shape i mid new block → IsReadSoFar h (i + 1) old new (missed_after missed i (is_none block))
 read_further h i old mid new missed block so reads = record {
   noted = λ file shows.
-      noted_more h.shape i file old.faults mid.faults new.faults missed block so.faults reads.faults (so.noted file (reads.shown file shows))
-      (reads.had file shows);
-  shown = λ file shows. so.shown file (reads.shown file shows);
-  faults = omega (arith, so.faults, reads.faults);
+      noted_more h.shape i file (failed_since old mid) (failed_since old new) missed block (since_may old mid new so.grows h.shape i reads.fails)
+      (so.noted file (reads.shown file shows)) (since_had old mid new so.grows h.shape i file block (reads.had file shows));
+  grows = grows_then old mid new so.grows (grows_read h.shape i mid new block reads);
 }
 
 -- before the first stripe
@@ -55,9 +137,11 @@ read_nothing h sources missed fresh = record {
   each = λ c less.
       let P : Option ℕ → Type 0 = λ m. IsReadSoFar h 0 (seen_of sources c) (seen_of sources c) m in
       subst P (sym (fresh c)) (record {
-        noted = λ file shows. (λ i below. absurd (omega (arith, below)), refl);
-        shown = λ file shows. shows;
-        faults = omega arith;
+        noted = λ file shows. (
+          λ i below. absurd (omega (arith, below)),
+          drop_all (length (seen_of sources c).failed) (seen_of sources c).failed (omega arith),
+        );
+        grows = grows_none (seen_of sources c) (seen_of sources c) refl;
       });
 }
 
@@ -72,25 +156,22 @@ module _ (h : Header) (i : ℕ) (olds mids news : List Seen) (before after : Lis
         (is.read.read c less));
   }
 
-  had_none : (bytes : List ℕ) (old mid new : ℕ) (block : Option (Vec ℕ Global)) → is_none block ≡ true → old ≤ mid → IsHad h.shape bytes mid new block →
-      (¬ IsBlock h.shape bytes) ⊎ Rises old new
-  had_none bytes old mid new None gone more had = elim had [ inl none ↦ inl none | inr rises ↦ inr (rises_later old mid new more rises) ]
-  had_none bytes old mid new (Some block) gone more had = absurd (true≢false (sym gone))
-
   lack : AreTooFew h.shape is.blocks → length news ≡ all_chunks h.shape → (files : List (List ℕ)) → Show news files → LackBlocks h.shape i files olds news
   lack few count files shows = record {
     lost = is_lost is.blocks;
     many = few;
     each = λ c less gone.
-        had_none (block_in h.shape i (get_or files c [])) (seen_of olds c).faults (seen_of mids c).faults (seen_of news c).faults (get_or is.blocks c None) gone
-        (so.each c less).faults ((is.read.read c less).had (get_or files c []) (shows c (omega (arith, less, count))));
+        had_none h.shape i (get_or files c []) (failed_since (seen_of olds c) (seen_of mids c)) (failed_since (seen_of olds c) (seen_of news c))
+        (get_or is.blocks c None) gone
+        (since_had (seen_of olds c) (seen_of mids c) (seen_of news c) (so.each c less).grows h.shape i (get_or files c []) (get_or is.blocks c None)
+        ((is.read.read c less).had (get_or files c []) (shows c (omega (arith, less, count)))));
   }
 
 pub read_in : (geometry : AloofShape) (h : Header) (i : ℕ) (olds mids news : List Seen) (before after : List (Option ℕ)) (bytes : List ℕ) →
     geometry ≡ h.shape → AreReadSoFar h i olds mids before → JoinsStripe geometry i mids news before after bytes → AreReadSoFar h (i + 1) olds news after
 read_in geometry h i olds mids news before after bytes same so joins =
     let P : AloofShape → Type 0 = λ a. IsStripeRead a i mids news before after in
-    read_stripe h i olds mids news before after so (subst P same joins.0)
+    read_stripe h i olds mids news before after so (subst P same joins.is)
 
 -- why a stripe can't be joined is why the file can't
 stop_at : (h : Header) (i : ℕ) (olds mids news : List Seen) (before after : List (Option ℕ)) → AreReadSoFar h i olds mids before →
@@ -131,6 +212,9 @@ why_stopped h olds news missed long OutOfMemory stop files shows = tt
 
 -- ---- a stripe that was read
 
+pub ok_is_no_fault : {A E : Type 0} (x : A) (y : E) → IsErrOf {T = A} (Ok x) y → ⊥
+ok_is_no_fault x y e = cc
+
 module _ (a : AloofShape) (i : ℕ) (olds news : List Seen) (before after : List (Option ℕ)) (blocks slice other : List (Option (Vec ℕ Global))) (count : ℕ)
     (slice_is : slice ≡ blocks) (other_is : other ≡ blocks) (long : length blocks ≡ count) (all : count ≡ all_chunks a) (read : AreRead a i count olds news blocks)
     (noted : (c : ℕ) → c < length slice → get_or after c None ≡ missed_after (get_or before c None) i (is_lost slice c)) where
@@ -144,8 +228,12 @@ module _ (a : AloofShape) (i : ℕ) (olds news : List Seen) (before after : List
         noted c (omega (arith, less, size, long, all)) ∙ ap (λ (l : List (Option (Vec ℕ Global))). missed_after (get_or before c None) i (is_lost l c)) slice_is;
   }
 
-  pub joins_stripe : (bytes : List ℕ) → IsJoined a other bytes → JoinsStripe a i olds news before after bytes
-  joins_stripe bytes joined = (is_read, (let P : List (Option (Vec ℕ Global)) → Type 0 = λ l. IsJoined a l bytes in subst P other_is joined))
+  pub joins_stripe : (bytes : List ℕ) → (AreTooFew a other → ⊥) → IsJoined a other bytes → JoinsStripe a i olds news before after bytes
+  joins_stripe bytes few joined = record {
+    is = is_read;
+    few = let P : List (Option (Vec ℕ Global)) → Type 0 = λ l. AreTooFew a l → ⊥ in subst P other_is few;
+    joined = let P : List (Option (Vec ℕ Global)) → Type 0 = λ l. IsJoined a l bytes in subst P other_is joined;
+  }
 
   pub lacks_stripe : AreTooFew a other → IsStripeFault a i olds news before after (TooFew i)
   lacks_stripe few = (refl, (is_read, (let P : List (Option (Vec ℕ Global)) → Type 0 = λ l. AreTooFew a l in subst P other_is few)))

@@ -1,10 +1,10 @@
 -- The blocks of a stripe, as they are read from the sources of the shares.
-use Rattle.std.specs.Prelude.{◌≡◌, ℕ, ◌<◌, ◌≤◌, ◌⊎◌, List, length, get_or, Option, Some, None, Vec}
+use Rattle.std.specs.Prelude.{◌≡◌, ℕ, ◌<◌, ◌≤◌, ◌⊎◌, List, ◌++◌, length, get_or, Option, Some, None, Vec}
 use Rattle.std.specs.declared.alloc.Global.{Global}
-use Rattle.clay_bytes.specs.Stream.{Rises}
-use Rattle.file_bytes.specs.Places.{Shows}
+use Rattle.file_bytes.specs.Places.{Shows, FailsIn}
 use Rattle.clay_aloof.specs.Shape.{AloofShape, all_chunks}
-use Rattle.share_format.specs.Blocks.{IsBlock}
+use Rattle.share_format.specs.Blocks.{block_length, IsBlock}
+use Rattle.share_format.specs.Shares.{block_start}
 use Rattle.share_blocks.specs.Joined.{is_lost, IsJoined, AreTooFew}
 use Rattle.share_files.specs.Found.{block_in}
 use Rattle.share_files.specs.Seen.{Seen, seen_of}
@@ -12,16 +12,29 @@ use Rattle.share_joins.specs.Missed.{missed_after}
 use Rattle.share_joins.specs.declared.joining.JoinFault.{JoinFault}
 use Rattle.share_joins.specs.declared.joining.JoinFault.TheVariants.{TooFew, Mismatch, WriteFault, OutOfMemory}
 
--- these bytes were had as a block and no read failed; or they are none, or a read failed: the count of failed reads before and after
-abbrev pub IsHad : AloofShape → List ℕ → ℕ → ℕ → Option (Vec ℕ Global) → Type 0
-IsHad a bytes before after None = (¬ IsBlock a bytes) ⊎ Rises before after
-IsHad a bytes before after (Some block) = (block.items ≡ bytes) × IsBlock a bytes × (after ≡ before)
+-- what a source shows now it showed before, and its reads that had failed are still told
+pub record Grows (old new : Seen) : Type 0 where
+  pub shown : (file : List ℕ) → Shows file new.given new.ends → Shows file old.given old.ends
+  pub more : List ℕ
+  pub failed : new.failed ≡ old.failed ++ more
+
+abbrev pub Grow : List Seen → List Seen → Type 0
+Grow olds news = (c : ℕ) → Grows (seen_of olds c) (seen_of news c)
+
+-- a block was had as it stands in its file, and no read failed; or it isn't there, or a read of it failed
+abbrev pub IsHad : AloofShape → ℕ → List ℕ → List ℕ → List ℕ → Option (Vec ℕ Global) → Type 0
+IsHad a i file failed now None = (¬ IsBlock a (block_in a i file)) ⊎ FailsIn (block_start a i) (block_length a) failed now
+IsHad a i file failed now (Some block) = (block.items ≡ block_in a i file) × IsBlock a (block_in a i file) × (now ≡ failed)
+
+-- no read failed, or one of stripe i's block
+abbrev pub MayFail : AloofShape → ℕ → List ℕ → List ℕ → Type 0
+MayFail a i failed now = (now ≡ failed) ⊎ FailsIn (block_start a i) (block_length a) failed now
 
 -- the block of stripe i was read: what was known of its source before and after, and the block
 pub record Reads (a : AloofShape) (i : ℕ) (old new : Seen) (block : Option (Vec ℕ Global)) : Type 0 where
-  pub had : (file : List ℕ) → Shows file new.given new.ends → IsHad a (block_in a i file) old.faults new.faults block
+  pub had : (file : List ℕ) → Shows file new.given new.ends → IsHad a i file old.failed new.failed block
   pub shown : (file : List ℕ) → Shows file new.given new.ends → Shows file old.given old.ends
-  pub faults : old.faults ≤ new.faults
+  pub fails : MayFail a i old.failed new.failed
 
 -- so was that of each of the first so many sources, and the others are as they were
 pub record AreRead (a : AloofShape) (i count : ℕ) (olds news : List Seen) (blocks : List (Option (Vec ℕ Global))) : Type 0 where
@@ -35,9 +48,11 @@ pub record IsStripeRead (a : AloofShape) (i : ℕ) (olds news : List Seen) (befo
   pub read : AreRead a i (all_chunks a) olds news blocks
   pub missed : (c : ℕ) → c < all_chunks a → get_or after c None ≡ missed_after (get_or before c None) i (is_lost blocks c)
 
--- and bytes are the stripe of these blocks
-abbrev pub JoinsStripe : AloofShape → ℕ → List Seen → List Seen → List (Option ℕ) → List (Option ℕ) → List ℕ → Type 0
-JoinsStripe a i olds news before after bytes = (is : IsStripeRead a i olds news before after) × IsJoined a is.blocks bytes
+-- enough are there, and bytes are the stripe of these blocks
+pub record JoinsStripe (a : AloofShape) (i : ℕ) (olds news : List Seen) (before after : List (Option ℕ)) (bytes : List ℕ) : Type 0 where
+  pub is : IsStripeRead a i olds news before after
+  pub few : ¬ AreTooFew a is.blocks
+  pub joined : IsJoined a is.blocks bytes
 
 -- or too few are there, or memory is short
 abbrev pub IsStripeFault : AloofShape → ℕ → List Seen → List Seen → List (Option ℕ) → List (Option ℕ) → JoinFault → Type 0

@@ -1,9 +1,8 @@
 -- A file that is joined from its shares.
-use Rattle.std.specs.Prelude.{◌≡◌, ◌≢◌, ℕ, ◌+◌, ◌<◌, ◌≤◌, Bool, true, false, Option, List, [], length, get_or}
+use Rattle.std.specs.Prelude.{◌≡◌, ℕ, ◌+◌, ◌<◌, ◌≤◌, Bool, true, false, Option, List, [], length, get_or}
 use Rattle.crc64.specs.Remainder.{checksum_of}
-use Rattle.clay_bytes.specs.Stream.{Accepts}
 use Rattle.clay_grid.specs.Score.{count_below}
-use Rattle.clay_aloof.specs.Shape.{all_chunks}
+use Rattle.clay_aloof.specs.Shape.{AloofShape, all_chunks}
 use Rattle.share_format.specs.Cut.{stripe_count, AreCodewords}
 use Rattle.share_format.specs.Blocks.{block_of, IsBlock}
 use Rattle.share_format.specs.Header.{Header}
@@ -14,29 +13,18 @@ use Rattle.share_joins.specs.Missed.{AreFirstMissed, LackBlocks}
 use Rattle.share_joins.specs.declared.joining.JoinFault.{JoinFault}
 use Rattle.share_joins.specs.declared.joining.JoinFault.TheVariants.{TooFew, Mismatch, WriteFault, OutOfMemory}
 
--- a file has the header's length and checksum, and what passes as a block in its shares' files is that of the share's chunk: no rot has
--- the right checksums
+-- what passes as a block of stripe i in the shares' files is that of the share's chunk of the word: no rot there has the right checksums
+abbrev pub NoRotIn : AloofShape → ℕ → List (List ℕ) → List (List ℕ) → Type 0
+NoRotIn a i files word =
+    (c : ℕ) → c < all_chunks a → IsBlock a (block_in a i (get_or files c [])) → block_in a i (get_or files c []) ≡ block_of a (get_or word c [])
+
+-- a file has the header's length and checksum, and of each of its stripes this holds of the codeword
 pub record NoRotPasses (h : Header) (file : List ℕ) (files : List (List ℕ)) : Type 0 where
   pub size : length file ≡ h.size
   pub checksum : checksum_of file ≡ h.checksum
   pub words : List (List (List ℕ))
   pub coded : AreCodewords h.shape file words
-  pub blocks : (c i : ℕ) → c < all_chunks h.shape → i < length words → IsBlock h.shape (block_in h.shape i (get_or files c [])) →
-      block_in h.shape i (get_or files c []) ≡ block_of h.shape (get_or (get_or words i []) c [])
-
--- a sink took a file with the header's length and checksum
-pub record TakesFile (h : Header) (accepted : List ℕ) (written : Option (List ℕ)) (now : List ℕ) (new : Option (List ℕ)) : Type 0 where
-  pub file : List ℕ
-  pub takes : Accepts accepted written file now new
-  pub size : length file ≡ h.size
-  pub checksum : checksum_of file ≡ h.checksum
-
--- it took as many bytes with another checksum
-pub record TakesAnother (h : Header) (accepted : List ℕ) (written : Option (List ℕ)) (now : List ℕ) (new : Option (List ℕ)) : Type 0 where
-  pub file : List ℕ
-  pub takes : Accepts accepted written file now new
-  pub size : length file ≡ h.size
-  pub checksum : checksum_of file ≢ h.checksum
+  pub blocks : (i : ℕ) → i < length words → NoRotIn h.shape i files (get_or words i [])
 
 -- why a file could not be joined from shares in these files: too few have a block of a stripe, or all stripes were joined to another file.
 -- What each share missed up to there is noted

@@ -4,7 +4,7 @@ ghost use Rattle.clay_model.specs.Left.{AreLong};
 ghost use Rattle.share_format.specs.Blocks.{block_length, IsBlock};
 ghost use Rattle.share_format.specs.Shares.{block_start};
 ghost use Rattle.share_files.specs.Seen.{seen};
-ghost use Rattle.share_joins.specs.Gathered.{Reads, AreRead};
+ghost use Rattle.share_joins.specs.Gathered.{Grows, Grow, Reads, AreRead};
 
 use clay_aloof::AloofGeometry;
 use crc64::Crc64;
@@ -22,7 +22,8 @@ fn block_or_none<S: SourceAt>(
 ) -> Result<Option<Vec<u8>>, AllocError>
     requires { block_start geometry stripe + block_length geometry < 2 ^ 64 }
     ensures block { IfOk result (λ found. IfSome found (λ block. IsBlock geometry block.items)) }
-    ensures read { IfOk result (Reads geometry stripe (seen (S.given source.old) (S.ends source.old) (S.faults source.old)) (seen (S.given source.new) (S.ends source.new) (S.faults source.new))) }
+    ensures read { IfOk result (Reads geometry stripe (seen (S.given source.old) (S.ends source.old) (S.failed source.old)) (seen (S.given source.new) (S.ends source.new) (S.failed source.new))) }
+    ensures grow { Grows (seen (S.given source.old) (S.ends source.old) (S.failed source.old)) (seen (S.given source.new) (S.ends source.new) (S.failed source.new)) }
 {
     match find_block(alloc, crc, source, geometry, stripe) {
         Ok(found) => Ok(found),
@@ -42,7 +43,8 @@ pub fn find_blocks<S: SourceAt>(
     requires { block_start geometry stripe + block_length geometry < 2 ^ 64 }
     ensures count { IfOk result (λ blocks. length blocks.items ≡ length sources.new) }
     ensures lengths { IfOk result (λ blocks. AreLong (block_length geometry) blocks.items) }
-    ensures read { IfOk result (λ blocks. AreRead geometry stripe (length sources.new) (map (λ s. seen (S.given s) (S.ends s) (S.faults s)) sources.old) (map (λ s. seen (S.given s) (S.ends s) (S.faults s)) sources.new) blocks.items) }
+    ensures read { IfOk result (λ blocks. AreRead geometry stripe (length sources.new) (map (λ s. seen (S.given s) (S.ends s) (S.failed s)) sources.old) (map (λ s. seen (S.given s) (S.ends s) (S.failed s)) sources.new) blocks.items) }
+    ensures grow { Grow (map (λ s. seen (S.given s) (S.ends s) (S.failed s)) sources.old) (map (λ s. seen (S.given s) (S.ends s) (S.failed s)) sources.new) }
 {
     let mut blocks = Vec::with_capacity(alloc, sources.len())?;
     for share in 0..sources.len() {

@@ -1,15 +1,16 @@
 //! A file from the blocks of its shares, a stripe at a time.
 ghost use Rattle.std.specs.Prelude.{◌≡◌, ◌+◌, ◌^◌, ◌≤◌, ◌<◌, ◌++◌, ℕ, List, None, map, take, length, min, slice_index_or, OnOk, IfOk, IfErr, IsErrOf, OnErr};
 ghost use Rattle.crc64.specs.Remainder.{checksum_of};
-ghost use Rattle.clay_bytes.specs.Stream.{Rises, Accepts};
+ghost use Rattle.clay_bytes.specs.Stream.{Rises, Accepts, AcceptsPrefix};
 ghost use Rattle.clay_aloof.specs.Shape.{all_chunks, stripe_bytes};
 ghost use Rattle.share_format.specs.Cut.{stripe_count};
 ghost use Rattle.share_format.specs.Blocks.{block_length};
 ghost use Rattle.share_format.specs.Shares.{block_start};
 ghost use Rattle.share_files.specs.Seen.{seen, Show};
-ghost use Rattle.share_joins.specs.Gathered.{JoinsStripe, IsStripeFault};
+ghost use Rattle.share_joins.specs.Gathered.{Grow, JoinsStripe, IsStripeFault};
 ghost use Rattle.share_joins.specs.Missed.{AreFirstMissed};
-ghost use Rattle.share_joins.specs.Joined.{NoRotPasses, TakesFile, TakesAnother, IsWhyNot};
+ghost use Rattle.share_joins.specs.Joined.{NoRotPasses, IsWhyNot};
+ghost use Rattle.share_joins.specs.Taken.{TakesFile, TakesAnother, TakesUntil};
 ghost use Rattle.share_joins.specs.SoFar.{TakesSoFar, AreReadSoFar, IsStop};
 ghost use Rattle.share_joins.specs.declared.joining.JoinFault.TheVariants.{OutOfMemory};
 
@@ -60,8 +61,9 @@ fn next_stripe<S: SourceAt>(
     requires sources { length sources.old ≡ all_chunks geometry }
     requires missed { length missed.old ≡ all_chunks geometry }
     ensures len { IfOk result (λ bytes. length bytes.items ≡ stripe_bytes geometry) }
-    ensures joined { IfOk result (λ bytes. JoinsStripe geometry stripe (map (λ s. seen (S.given s) (S.ends s) (S.faults s)) sources.old) (map (λ s. seen (S.given s) (S.ends s) (S.faults s)) sources.new) missed.old missed.new bytes.items) }
-    ensures fault { IfErr result (IsStripeFault geometry stripe (map (λ s. seen (S.given s) (S.ends s) (S.faults s)) sources.old) (map (λ s. seen (S.given s) (S.ends s) (S.faults s)) sources.new) missed.old missed.new) }
+    ensures joined { IfOk result (λ bytes. JoinsStripe geometry stripe (map (λ s. seen (S.given s) (S.ends s) (S.failed s)) sources.old) (map (λ s. seen (S.given s) (S.ends s) (S.failed s)) sources.new) missed.old missed.new bytes.items) }
+    ensures fault { IfErr result (IsStripeFault geometry stripe (map (λ s. seen (S.given s) (S.ends s) (S.failed s)) sources.old) (map (λ s. seen (S.given s) (S.ends s) (S.failed s)) sources.new) missed.old missed.new) }
+    ensures grow { Grow (map (λ s. seen (S.given s) (S.ends s) (S.failed s)) sources.old) (map (λ s. seen (S.given s) (S.ends s) (S.failed s)) sources.new) }
 {
     let blocks = find_blocks(alloc, crc, sources, geometry, stripe)?;
     note_missed(&blocks, stripe, missed);
@@ -82,6 +84,7 @@ fn pass_on<K: Sink>(
 ) -> Result<u64, WriteFault>
     requires { count ≤ length stripe.now }
     ensures accepted { OnOk result (Accepts (K.accepted sink.old) (K.written sink.old) (take count stripe.now) (K.accepted sink.new) (K.written sink.new)) }
+    ensures part { OnErr result (AcceptsPrefix (K.accepted sink.old) (K.written sink.old) (take count stripe.now) (K.accepted sink.new) (K.written sink.new)) }
     ensures summed { IfOk result (λ sum. (before : List ℕ) → checksum ≡ checksum_of before → sum ≡ checksum_of (before ++ take count stripe.now)) }
     ensures cause { OnErr result (Rises (K.faults sink.old) (K.faults sink.new)) }
     ensures steady { OnOk result (K.faults sink.new ≡ K.faults sink.old) }
@@ -112,9 +115,10 @@ fn join_stripes<S: SourceAt, K: Sink>(
     requires sources { length sources.old ≡ all_chunks header.now.shape }
     requires missed { length missed.old ≡ all_chunks header.now.shape }
     requires fresh { (c : ℕ) → slice_index_or missed.old c None ≡ None }
-    ensures taken { IfOk result (TakesSoFar header.now 0 (map (λ s. seen (S.given s) (S.ends s) (S.faults s)) sources.new) (K.accepted sink.old) (K.written sink.old) (K.accepted sink.new) (K.written sink.new)) }
-    ensures read { OnOk result (AreReadSoFar header.now (stripe_count header.now.shape header.now.size) (map (λ s. seen (S.given s) (S.ends s) (S.faults s)) sources.old) (map (λ s. seen (S.given s) (S.ends s) (S.faults s)) sources.new) missed.new) }
-    ensures stop { IfErr result (IsStop header.now (map (λ s. seen (S.given s) (S.ends s) (S.faults s)) sources.old) (map (λ s. seen (S.given s) (S.ends s) (S.faults s)) sources.new) missed.new) }
+    ensures taken { IfOk result (TakesSoFar header.now (stripe_count header.now.shape header.now.size) 0 (map (λ s. seen (S.given s) (S.ends s) (S.failed s)) sources.old) (map (λ s. seen (S.given s) (S.ends s) (S.failed s)) sources.new) (K.accepted sink.old) (K.written sink.old) (K.accepted sink.new) (K.written sink.new)) }
+    ensures until { IfErr result (TakesUntil header.now (map (λ s. seen (S.given s) (S.ends s) (S.failed s)) sources.old) (map (λ s. seen (S.given s) (S.ends s) (S.failed s)) sources.new) (K.accepted sink.old) (K.written sink.old) (K.accepted sink.new) (K.written sink.new)) }
+    ensures read { OnOk result (AreReadSoFar header.now (stripe_count header.now.shape header.now.size) (map (λ s. seen (S.given s) (S.ends s) (S.failed s)) sources.old) (map (λ s. seen (S.given s) (S.ends s) (S.failed s)) sources.new) missed.new) }
+    ensures stop { IfErr result (IsStop header.now (map (λ s. seen (S.given s) (S.ends s) (S.failed s)) sources.old) (map (λ s. seen (S.given s) (S.ends s) (S.failed s)) sources.new) missed.new) }
     ensures write { IsErrOf result JoinFault.WriteFault → Rises (K.faults sink.old) (K.faults sink.new) }
     ensures writes { (IsErrOf result JoinFault.WriteFault → ⊥) → K.faults sink.new ≡ K.faults sink.old }
 {
@@ -142,7 +146,8 @@ fn join_stripes<S: SourceAt, K: Sink>(
 /// is that of any share.
 ///
 /// A block that can't be read counts as missing. At Ok, TooFew and Mismatch `missed` has for each share the first stripe at which its
-/// block was missing, and None where all blocks that were read are good.
+/// block was missing, and None where all blocks that were read are good. After an error the sink has a part of the file at most: what
+/// shall not be seen half done is joined beside its place and renamed.
 pub fn join<S: SourceAt, K: Sink>(
     alloc: Global,
     crc: &Crc64,
@@ -154,13 +159,16 @@ pub fn join<S: SourceAt, K: Sink>(
     requires sources { length sources.old ≡ all_chunks header.now.shape }
     requires missed { length missed.old ≡ all_chunks header.now.shape }
     // Whatever files the sources show: if they are shares of a file, with rot that its checksums find, the sink took that file.
-    ensures joined { (file : List ℕ) (files : List (List ℕ)) → Show (map (λ s. seen (S.given s) (S.ends s) (S.faults s)) sources.new) files → NoRotPasses header.now file files → OnOk result (Accepts (K.accepted sink.old) (K.written sink.old) file (K.accepted sink.new) (K.written sink.new)) }
-    ensures matching { (file : List ℕ) (files : List (List ℕ)) → Show (map (λ s. seen (S.given s) (S.ends s) (S.faults s)) sources.new) files → NoRotPasses header.now file files → IsErrOf result JoinFault.Mismatch → ⊥ }
-    // Of any files: with Ok the sink took a file with the header's length and checksum.
-    ensures taken { OnOk result (TakesFile header.now (K.accepted sink.old) (K.written sink.old) (K.accepted sink.new) (K.written sink.new)) }
-    ensures mismatch { IsErrOf result JoinFault.Mismatch → TakesAnother header.now (K.accepted sink.old) (K.written sink.old) (K.accepted sink.new) (K.written sink.new) }
-    ensures missed { (files : List (List ℕ)) → Show (map (λ s. seen (S.given s) (S.ends s) (S.faults s)) sources.new) files → OnOk result (AreFirstMissed header.now.shape (stripe_count header.now.shape header.now.size) files (map (λ s. seen (S.given s) (S.ends s) (S.faults s)) sources.old) (map (λ s. seen (S.given s) (S.ends s) (S.faults s)) sources.new) missed.new) }
-    ensures why_not { (files : List (List ℕ)) → Show (map (λ s. seen (S.given s) (S.ends s) (S.faults s)) sources.new) files → IfErr result (IsWhyNot header.now files (map (λ s. seen (S.given s) (S.ends s) (S.faults s)) sources.old) (map (λ s. seen (S.given s) (S.ends s) (S.faults s)) sources.new) missed.new) }
+    ensures joined { (file : List ℕ) (files : List (List ℕ)) → Show (map (λ s. seen (S.given s) (S.ends s) (S.failed s)) sources.new) files → NoRotPasses header.now file files → OnOk result (Accepts (K.accepted sink.old) (K.written sink.old) file (K.accepted sink.new) (K.written sink.new)) }
+    ensures matching { (file : List ℕ) (files : List (List ℕ)) → Show (map (λ s. seen (S.given s) (S.ends s) (S.failed s)) sources.new) files → NoRotPasses header.now file files → IsErrOf result JoinFault.Mismatch → ⊥ }
+    ensures prefix { (file : List ℕ) (files : List (List ℕ)) → Show (map (λ s. seen (S.given s) (S.ends s) (S.failed s)) sources.new) files → NoRotPasses header.now file files → OnErr result (AcceptsPrefix (K.accepted sink.old) (K.written sink.old) file (K.accepted sink.new) (K.written sink.new)) }
+    // Of any files: the sink took the stripes as they were joined, with Ok all, of the header's length and checksum.
+    ensures taken { OnOk result (TakesFile header.now (map (λ s. seen (S.given s) (S.ends s) (S.failed s)) sources.old) (map (λ s. seen (S.given s) (S.ends s) (S.failed s)) sources.new) (K.accepted sink.old) (K.written sink.old) (K.accepted sink.new) (K.written sink.new)) }
+    ensures mismatch { IsErrOf result JoinFault.Mismatch → TakesAnother header.now (map (λ s. seen (S.given s) (S.ends s) (S.failed s)) sources.old) (map (λ s. seen (S.given s) (S.ends s) (S.failed s)) sources.new) (K.accepted sink.old) (K.written sink.old) (K.accepted sink.new) (K.written sink.new) }
+    // After any error: the stripes that were joined before, or a prefix of them.
+    ensures until { IfErr result (TakesUntil header.now (map (λ s. seen (S.given s) (S.ends s) (S.failed s)) sources.old) (map (λ s. seen (S.given s) (S.ends s) (S.failed s)) sources.new) (K.accepted sink.old) (K.written sink.old) (K.accepted sink.new) (K.written sink.new)) }
+    ensures missed { (files : List (List ℕ)) → Show (map (λ s. seen (S.given s) (S.ends s) (S.failed s)) sources.new) files → OnOk result (AreFirstMissed header.now.shape (stripe_count header.now.shape header.now.size) files (map (λ s. seen (S.given s) (S.ends s) (S.failed s)) sources.old) (map (λ s. seen (S.given s) (S.ends s) (S.failed s)) sources.new) missed.new) }
+    ensures why_not { (files : List (List ℕ)) → Show (map (λ s. seen (S.given s) (S.ends s) (S.failed s)) sources.new) files → IfErr result (IsWhyNot header.now files (map (λ s. seen (S.given s) (S.ends s) (S.failed s)) sources.old) (map (λ s. seen (S.given s) (S.ends s) (S.failed s)) sources.new) missed.new) }
     ensures write { IsErrOf result JoinFault.WriteFault → Rises (K.faults sink.old) (K.faults sink.new) }
     ensures writes { (IsErrOf result JoinFault.WriteFault → ⊥) → K.faults sink.new ≡ K.faults sink.old }
 {

@@ -8,4 +8,4 @@ mod missing;
 
 pub use fetching::find_blocks;
 pub use joining::{JoinFault, join};
-pub use laws::any_shares_join;
+pub use laws::{any_shares_join, joined_stripes_are_right};

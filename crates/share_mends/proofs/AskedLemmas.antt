@@ -4,11 +4,13 @@ use Rattle.std.proofs.Math.ListN.{set}
 use Rattle.std.proofs.lemmas.Bool.{cases_lt}
 use Rattle.std.proofs.lemmas.List as lists
 use Rattle.std.proofs.lemmas.List.{map-set, length-map}
-use Rattle.clay_bytes.specs.Stream.{Rises}
-use Rattle.file_bytes.specs.Places.{Placed, Shows}
+use Rattle.file_bytes.specs.Places.{Placed, Shows, FailsIn}
 use Rattle.share_format.specs.Mend.{Range}
+use Rattle.share_format.specs.Blocks.{block_length}
+use Rattle.share_format.specs.Shares.{block_start}
+use Rattle.clay_aloof.specs.Shape.{AloofShape}
 use Rattle.share_files.specs.Seen.{Seen, seen, seen_of, Show}
-use Rattle.share_mends.specs.Asked.{helps, GivesIf, IsAsked, AreAsked, OneReadFails, NoReadFails}
+use Rattle.share_mends.specs.Asked.{helps, GivesIf, IsAsked, AreAsked, FailsAt, NoReadFails}
 use Rattle.share_mends.proofs.GivenLemmas.{gives_none, just_then, shown_before}
 
 -- ---- one source
@@ -36,7 +38,7 @@ asked_none marks ranges seens = record { asked = λ c less. absurd (omega (arith
 -- for no ranges
 pub asked_nothing : (marks : List Bool) (count : ℕ) (seens : List Seen) → AreAsked marks [] count seens seens
 asked_nothing marks count seens = record {
-  asked = λ c less. record { given = gives_if_none (helps marks c) (seen_of seens c).given; ends = refl; faults = refl };
+  asked = λ c less. record { given = gives_if_none (helps marks c) (seen_of seens c).given; ends = refl; failed = refl };
   others = λ c more. refl;
 }
 
@@ -47,7 +49,7 @@ asked_then marks first second count a b c one two = record {
   asked = λ k less. record {
     given = gives_if_then (helps marks k) _ _ _ first second (one.asked k less).given (two.asked k less).given;
     ends = (two.asked k less).ends ∙ (one.asked k less).ends;
-    faults = (two.asked k less).faults ∙ (one.asked k less).faults;
+    failed = (two.asked k less).failed ∙ (one.asked k less).failed;
   };
   others = λ k more. two.others k more ∙ one.others k more;
 }
@@ -55,17 +57,22 @@ asked_then marks first second count a b c one two = record {
 pub no_read_fails : (marks : List Bool) (ranges : List Range) (count : ℕ) (olds news : List Seen) → AreAsked marks ranges count olds news → NoReadFails olds news
 no_read_fails marks ranges count olds news so c =
     elim (cases_lt c count) [
-      | inl less ↦ (so.asked c less).faults
-      | inr more ↦ ap (λ (s : Seen). s.faults) (so.others c more)
+      | inl less ↦ (so.asked c less).failed
+      | inr more ↦ ap (λ (s : Seen). s.failed) (so.others c more)
     ]
 
 pub fails_none : (olds mids news : List Seen) → NoReadFails olds mids → NoReadFails mids news → NoReadFails olds news
 fails_none olds mids news one two c = two c ∙ one c
 
-pub fails_one : (olds mids news : List Seen) → NoReadFails olds mids → OneReadFails mids news → OneReadFails olds news
-fails_one olds mids news none one =
-    let P : ℕ → Type 0 = λ n. Rises n (seen_of news one.share).faults in
-    record { share = one.share; rises = subst P (none one.share) one.rises }
+pub fails_one : (a : AloofShape) (marks : List Bool) (stripe : ℕ) (olds mids news : List Seen) → NoReadFails olds mids → FailsAt a marks stripe mids news →
+    FailsAt a marks stripe olds news
+fails_one a marks stripe olds mids news none one =
+    let P : List ℕ → Type 0 = λ l. FailsIn (block_start a stripe) (block_length a) l (seen_of news one.share).failed in record {
+      share = one.share;
+      helper = one.helper;
+      fails = subst P (none one.share) one.fails;
+      others = λ c other. one.others c other ∙ none c;
+    }
 
 pub shown_asked : (marks : List Bool) (ranges : List Range) (count : ℕ) (olds news : List Seen) (files : List (List ℕ)) → length olds ≡ length news
     → AreAsked marks ranges count olds news → Show news files → Show olds files
@@ -85,7 +92,7 @@ same_count f xs ys same = length-map xs f ∙ same ∙ sym (length-map ys f)
 
 module _ {X : Type 0} (f : X → Seen) (xs : List X) (i : ℕ) (old new : X) (within : i < length xs) (here : old ≡ get_or xs i old) where
   seen_here : seen_of (map f xs) i ≡ f old
-  seen_here = lists.get_or-map f xs i old (seen [] [] 0) within ∙ sym (ap f here)
+  seen_here = lists.get_or-map f xs i old (seen [] [] []) within ∙ sym (ap f here)
 
   long : length (map f (set xs i new)) ≡ length (map f xs)
   long = length-map (set xs i new) f ∙ length-set xs i new ∙ sym (length-map xs f)
@@ -93,10 +100,10 @@ module _ {X : Type 0} (f : X → Seen) (xs : List X) (i : ℕ) (old new : X) (wi
   seen_there : seen_of (map f (set xs i new)) i ≡ f new
   seen_there =
       let count : length (map f xs) ≡ length xs = length-map xs f in
-      ap (λ l. seen_of l i) (map-set f xs i new) ∙ get_or-set_same (map f xs) i (f new) (seen [] [] 0) (omega (arith, count, within))
+      ap (λ l. seen_of l i) (map-set f xs i new) ∙ get_or-set_same (map f xs) i (f new) (seen [] [] []) (omega (arith, count, within))
 
   seen_other : (c : ℕ) → c ≢ i → seen_of (map f (set xs i new)) c ≡ seen_of (map f xs) c
-  seen_other c other = ap (λ l. seen_of l c) (map-set f xs i new) ∙ get_or-set_other (map f xs) i c (f new) (seen [] [] 0) other
+  seen_other c other = ap (λ l. seen_of l c) (map-set f xs i new) ∙ get_or-set_other (map f xs) i c (f new) (seen [] [] []) other
 
   pub asked_more : (marks : List Bool) (ranges : List Range) (olds : List Seen) → IsAsked (helps marks i) ranges (f old) (f new) → AreAsked marks ranges i olds (map f xs)
       → AreAsked marks ranges (i + 1) olds (map f (set xs i new))
@@ -142,24 +149,29 @@ module _ {X : Type 0} (f : X → Seen) (xs : List X) (i : ℕ) (old new : X) (wi
             ]
       ]
 
-  pub one_fails : (olds : List Seen) → Rises (f old).faults (f new).faults → NoReadFails olds (map f xs) → OneReadFails olds (map f (set xs i new))
-  one_fails olds rises so =
-      let first : (f old).faults ≡ (seen_of olds i).faults = sym (ap (λ (s : Seen). s.faults) seen_here) ∙ so i in
-      let second : (f new).faults ≡ (seen_of (map f (set xs i new)) i).faults = sym (ap (λ (s : Seen). s.faults) seen_there) in
-      let P : ℕ → Type 0 = λ n. Rises n (seen_of (map f (set xs i new)) i).faults in
-      let Q : ℕ → Type 0 = λ n. Rises (f old).faults n in
-      record { share = i; rises = subst P first (subst Q second rises) }
+  pub one_fails : (a : AloofShape) (marks : List Bool) (stripe : ℕ) (olds : List Seen) → helps marks i ≡ true →
+      FailsIn (block_start a stripe) (block_length a) (f old).failed (f new).failed → NoReadFails olds (map f xs) → FailsAt a marks stripe olds (map f (set xs i new))
+  one_fails a marks stripe olds help fails so =
+      let first : (f old).failed ≡ (seen_of olds i).failed = sym (ap (λ (s : Seen). s.failed) seen_here) ∙ so i in
+      let second : (f new).failed ≡ (seen_of (map f (set xs i new)) i).failed = sym (ap (λ (s : Seen). s.failed) seen_there) in
+      let P : List ℕ → Type 0 = λ l. FailsIn (block_start a stripe) (block_length a) l (seen_of (map f (set xs i new)) i).failed in
+      let Q : List ℕ → Type 0 = λ l. FailsIn (block_start a stripe) (block_length a) (f old).failed l in record {
+        share = i;
+        helper = help;
+        fails = subst P first (subst Q second fails);
+        others = λ c other. ap (λ (s : Seen). s.failed) (seen_other c other) ∙ so c;
+      }
 
-  pub none_fails : (olds : List Seen) → (f new).faults ≡ (f old).faults → NoReadFails olds (map f xs) → NoReadFails olds (map f (set xs i new))
+  pub none_fails : (olds : List Seen) → (f new).failed ≡ (f old).failed → NoReadFails olds (map f xs) → NoReadFails olds (map f (set xs i new))
   none_fails olds same so c =
       elim (cases_lt c i) [
-        | inl before ↦ ap (λ (s : Seen). s.faults) (seen_other c (omega (arith, before))) ∙ so c
+        | inl before ↦ ap (λ (s : Seen). s.failed) (seen_other c (omega (arith, before))) ∙ so c
         | inr from ↦
             elim (cases_lt i c) [
-              | inl behind ↦ ap (λ (s : Seen). s.faults) (seen_other c (omega (arith, behind))) ∙ so c
+              | inl behind ↦ ap (λ (s : Seen). s.failed) (seen_other c (omega (arith, behind))) ∙ so c
               | inr most ↦
                   let is : i ≡ c = omega (arith, from, most) in
-                  let P : ℕ → Type 0 = λ k. (seen_of (map f (set xs i new)) k).faults ≡ (seen_of olds k).faults in
-                  subst P is (ap (λ (s : Seen). s.faults) seen_there ∙ same ∙ sym (ap (λ (s : Seen). s.faults) seen_here) ∙ so i)
+                  let P : ℕ → Type 0 = λ k. (seen_of (map f (set xs i new)) k).failed ≡ (seen_of olds k).failed in
+                  subst P is (ap (λ (s : Seen). s.failed) seen_there ∙ same ∙ sym (ap (λ (s : Seen). s.failed) seen_here) ∙ so i)
             ]
       ]

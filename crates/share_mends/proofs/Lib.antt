@@ -5,5 +5,4 @@ pub mod PieceLemmas
 pub mod AskedLemmas
 pub mod GatherLemmas
 pub mod MendLemmas
-pub mod PlanLemmas
 pub mod LawLemmas

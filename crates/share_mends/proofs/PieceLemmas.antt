@@ -1,8 +1,9 @@
 -- A piece that was read: its front, its part, and what it tells of the file.
-use Rattle.std.proofs.Common.{◌≡◌, ℕ, ◌+◌, ◌-◌, ◌*◌, ◌<◌, List, length, get_or, take, drop, Option, Some, None, Vec, Global, sym, subst, ◌∙◌, ap, arith, length-drop}
-use Rattle.std.specs.Prelude.{IfSome}
+use Rattle.std.proofs.Common.{◌≡◌, ℕ, ◌+◌, ◌-◌, ◌*◌, ◌<◌, ◌≤◌, List, length, get_or, take, drop, Option, Some, None, Vec, Global, sym, subst, ◌∙◌, ap, arith, length-drop}
+use Rattle.std.specs.Prelude.{IfSome, All}
 use Rattle.std.proofs.lemmas.List.{length-take-le, take_rest}
-use Rattle.file_bytes.specs.Places.{Placed, Shows}
+use Rattle.std.proofs.lemmas.List.Elements.{All-same}
+use Rattle.file_bytes.specs.Places.{Placed, Shows, FailsIn}
 use Rattle.clay_grid.specs.Shape.{layer_count}
 use Rattle.clay_aloof.specs.Shape.{AloofShape, all_chunks, grid_of}
 use Rattle.clay_aloof.specs.Limits.{IsAloof}
@@ -10,7 +11,7 @@ use Rattle.clay_aloof.specs.Repair.{aloof_layers_of, part_bytes}
 use Rattle.clay_aloof.proofs.Parts.{given_at}
 use Rattle.clay_aloof.proofs.Put.{length-part}
 use Rattle.share_format.specs.Mend.{block_ranges}
-use Rattle.share_format.specs.Blocks.{chunk_start}
+use Rattle.share_format.specs.Blocks.{chunk_start, block_length}
 use Rattle.share_format.specs.Shares.{block_start}
 use Rattle.share_blocks.specs.Parts.{IsIntactPart}
 use Rattle.share_mends.specs.Places.{GivesAt}
@@ -76,6 +77,13 @@ none_shown a lost i place spans items file aloof within here same are short =
     let P : ℕ → Type 0 = λ p. AreShort p items file in
     let Q : List Span → Type 0 = λ l. AreShort place l file in
     short_piece a lost i items file aloof within are (subst P here (subst Q same short))
+
+-- a read of one of its spans that failed
+pub fails_in_block : (a : AloofShape) (lost i place : ℕ) (spans items : List Span) (old now : List ℕ) → place ≡ block_start a i → spans ≡ items → AreSpans a lost items
+    → (All (λ (span : Span). span.start + span.size ≤ block_length a) spans → FailsIn place (block_length a) old now) → FailsIn (block_start a i) (block_length a) old now
+fails_in_block a lost i place spans items old now here same are fails =
+    let P : ℕ → Type 0 = λ p. FailsIn p (block_length a) old now in
+    subst P here (fails (All-same (λ (span : Span). span.start + span.size ≤ block_length a) spans items same are.within))
 
 -- a fact of whatever part is there
 pub if_some : {P : Type 0} → (part : Option (Vec ℕ Global)) → P → IfSome part (λ v. P)

@@ -1,13 +1,14 @@
 -- The spans of a block, read one behind another.
 use Rattle.std.proofs.Common.{◌≡◌, ℕ, zero, suc, ◌+◌, ◌-◌, ◌*◌, ◌<◌, ◌≤◌, List, [], ◌∷◌, ◌++◌, length, get_or, take, drop, map, slice_range, Result, Ok, Err, refl, sym, subst, ap, ◌∙◌, arith, length-append}
-use Rattle.std.specs.Prelude.{OnOk, IsErrOf}
+use Rattle.std.specs.Prelude.{OnOk, IsErrOf, All}
 use Rattle.std.specs.List.{range_with_len}
 use Rattle.std.proofs.Math.Seq.{take-add}
 use Rattle.std.proofs.lemmas.List.{take_more, map-append, drop_more, take-append-drop, length-take-le, length-drop}
 use Rattle.std.proofs.lemmas.List.FromFn.{length-range_with_len}
+use Rattle.std.proofs.lemmas.List.Elements.{All-get_or}
 use Rattle.std.proofs.lemmas.Slice.{between-put_mid}
 use borrow.Rule.Slice.PartMut.{put_mid}
-use Rattle.file_bytes.specs.Places.{Placed, placed_from, Shows, GivesFewer, EndsBefore}
+use Rattle.file_bytes.specs.Places.{Placed, placed_from, Shows, EndsBefore, FailsBefore, FailsIn}
 use Rattle.file_bytes.specs.declared.stream.ReadFault.{ReadFault}
 use Rattle.file_bytes.specs.declared.stream.ReadFault.TheVariants.{Failed, Ended}
 use Rattle.clay_aloof.specs.Shape.{AloofShape, all_chunks}
@@ -17,7 +18,7 @@ use Rattle.clay_aloof.proofs.Put.{length-part}
 use Rattle.share_format.specs.Mend.{Range, range_of, block_ranges}
 use Rattle.share_format.specs.Blocks.{chunk_start}
 use Rattle.share_format.specs.Shares.{block_start}
-use Rattle.share_files.proofs.FoundLemmas.{shown_given, shown_fewer, shown_ended}
+use Rattle.share_files.proofs.FoundLemmas.{shown_given, shown_failed, shown_ended, fails_in}
 use Rattle.share_mends.specs.Places.{places_in, GivesAt}
 use Rattle.share_mends.specs.Spans.{range_at, ranges_at, span_bytes, IsShort, AreShort, AreSpans}
 use Rattle.share_mends.specs.Parts.{piece_in, IsGoodPiece}
@@ -27,13 +28,37 @@ use Rattle.share_mends.proofs.GivenLemmas.{gives_one, gives_then, ends_before}
 -- ---- one span
 
 -- whatever a read answered, a file that is shown was shown before
-pub shown_read : (file : List ℕ) (old now : List Placed) (ends told : List ℕ) (place : ℕ) (bytes : List ℕ) (result : Result (Unit {0}) ReadFault)
-    → OnOk result (now ≡ old ++ placed_from place bytes) → (IsErrOf result Failed → GivesFewer old place (length bytes) now)
+pub shown_read : (file : List ℕ) (old now : List Placed) (ends told failed more : List ℕ) (place : ℕ) (bytes : List ℕ) (result : Result (Unit {0}) ReadFault)
+    → OnOk result (now ≡ old ++ placed_from place bytes) → (IsErrOf result Failed → FailsBefore old failed place (length bytes) now more)
     → (IsErrOf result Ended → EndsBefore old ends place (length bytes) now told) → ((IsErrOf result Ended → ⊥) → told ≡ ends) → Shows file now told → Shows file old ends
-shown_read file old now ends told place bytes (Ok u) given part ended on = shown_given file old now place bytes ends told given (on (λ e. cc))
-shown_read file old now ends told place bytes (Err Failed) given part ended on =
-    shown_fewer file old now place (length bytes) ends told (part refl) (on (λ e. cc))
-shown_read file old now ends told place bytes (Err Ended) given part ended on = shown_ended file old now place (length bytes) ends told (ended refl)
+shown_read file old now ends told failed more place bytes (Ok u) given part ended on = shown_given file old now place bytes ends told given (on (λ e. cc))
+shown_read file old now ends told failed more place bytes (Err Failed) given part ended on =
+    shown_failed file old now place (length bytes) ends told failed more (part refl) (on (λ e. cc))
+shown_read file old now ends told failed more place bytes (Err Ended) given part ended on = shown_ended file old now place (length bytes) ends told (ended refl)
+
+-- so many bytes of a buffer from a place on
+pub piece_long : (at size : ℕ) (buf piece : List ℕ) → at + size ≤ length buf → length piece ≡ length (take (at + size - at) (drop at buf)) → length piece ≡ size
+piece_long at size buf piece within long =
+    let some : at ≤ length buf = omega (arith, within) in
+    let middle : length (take (at + size - at) (drop at buf)) ≡ at + size - at =
+    length-take-le (at + size - at) (drop at buf) (omega (arith, length-drop at buf, within)) in
+    omega (arith, long, middle)
+
+pub span_fails : (old now : List Placed) (failed more : List ℕ) (at size : ℕ) (piece : List ℕ) → length piece ≡ size → FailsBefore old failed at (length piece) now more →
+    FailsIn at size failed more
+span_fails old now failed more at size piece long fails =
+    let P : ℕ → Type 0 = λ n. FailsIn at n failed more in subst P long (fails_in old now failed more at (length piece) fails)
+
+-- the read that fails of one of some spans is within what all are within
+pub fails_within : (place most : ℕ) (spans : List Span) (i : ℕ) (d : Span) (old failed now : List ℕ) → i < length spans → All (λ span. span.start + span.size ≤ most) spans →
+    failed ≡ old → FailsIn (place + (get_or spans i d).start) (get_or spans i d).size failed now → FailsIn place most old now
+fails_within place most spans i d old failed now less within same fails =
+    let end : (get_or spans i d).start + (get_or spans i d).size ≤ most = All-get_or (λ span. span.start + span.size ≤ most) spans i d less within in record {
+      place = fails.place;
+      from = omega (arith, fails.from);
+      before = omega (arith, end, fails.before);
+      fails = fails.fails ∙ ap (λ l. l ++ (fails.place ∷ [])) same;
+    }
 
 pub span_given : (a b : List Placed) (place at size : ℕ) (buf piece : List ℕ) → at + size ≤ length buf → length piece ≡ length (take (at + size - at) (drop at buf)) → b ≡ a ++ placed_from place piece
     → GivesAt a (range_of place size ∷ []) (slice_range (put_mid at (at + size - at) buf piece) at (at + size)) b

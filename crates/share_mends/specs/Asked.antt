@@ -1,10 +1,11 @@
 -- What a mend takes of its sources.
 use Rattle.std.specs.Prelude.{◌≡◌, ◌≢◌, ℕ, ◌/◌, ◌<◌, ◌≤◌, Bool, true, false, List, length, get_or}
-use Rattle.clay_bytes.specs.Stream.{Rises}
 use Rattle.clay_grid.specs.Score.{count_below}
 use Rattle.clay_aloof.specs.Shape.{AloofShape, all_chunks, rows_of, node_of}
-use Rattle.file_bytes.specs.Places.{Placed}
+use Rattle.file_bytes.specs.Places.{Placed, FailsIn}
 use Rattle.share_format.specs.Mend.{Range}
+use Rattle.share_format.specs.Blocks.{block_length}
+use Rattle.share_format.specs.Shares.{block_start}
 use Rattle.share_files.specs.Seen.{Seen, seen_of}
 use Rattle.share_mends.specs.Places.{GivesJust}
 
@@ -28,17 +29,25 @@ GivesIf false given ranges now = now ≡ given
 pub record IsAsked (help : Bool) (ranges : List Range) (old new : Seen) : Type 0 where
   pub given : GivesIf help old.given ranges new.given
   pub ends : new.ends ≡ old.ends
-  pub faults : new.faults ≡ old.faults
+  pub failed : new.failed ≡ old.failed
 
 -- each of the first so many sources was, and the others were not touched
 pub record AreAsked (marks : List Bool) (ranges : List Range) (count : ℕ) (olds news : List Seen) : Type 0 where
   pub asked : (c : ℕ) → c < count → IsAsked (helps marks c) ranges (seen_of olds c) (seen_of news c)
   pub others : (c : ℕ) → count ≤ c → seen_of news c ≡ seen_of olds c
 
--- a read of one of the sources failed, or of none
-pub record OneReadFails (olds news : List Seen) : Type 0 where
+-- one read of one helper's block of a stripe failed, and no other read
+pub record FailsAt (a : AloofShape) (marks : List Bool) (stripe : ℕ) (olds news : List Seen) : Type 0 where
   pub share : ℕ
-  pub rises : Rises (seen_of olds share).faults (seen_of news share).faults
+  pub helper : helps marks share ≡ true
+  pub fails : FailsIn (block_start a stripe) (block_length a) (seen_of olds share).failed (seen_of news share).failed
+  pub others : (c : ℕ) → c ≢ share → (seen_of news c).failed ≡ (seen_of olds c).failed
+
+-- of one of the first so many stripes
+pub record OneReadFails (a : AloofShape) (marks : List Bool) (count : ℕ) (olds news : List Seen) : Type 0 where
+  pub stripe : ℕ
+  pub within : stripe < count
+  pub fails : FailsAt a marks stripe olds news
 
 abbrev pub NoReadFails : List Seen → List Seen → Type 0
-NoReadFails olds news = (c : ℕ) → (seen_of news c).faults ≡ (seen_of olds c).faults
+NoReadFails olds news = (c : ℕ) → (seen_of news c).failed ≡ (seen_of olds c).failed

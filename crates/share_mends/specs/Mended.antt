@@ -7,7 +7,6 @@ use Rattle.clay_aloof.specs.Code.{IsCodeword}
 use Rattle.clay_aloof.specs.Repair.{aloof_layers_of}
 use Rattle.share_format.specs.Blocks.{chunk_start, block_of}
 use Rattle.share_files.specs.Seen.{Seen, Show}
-use Rattle.share_files.specs.Written.{HasBlocks, GainsBlock}
 use Rattle.share_mends.specs.Parts.{piece_in, IsGoodPiece}
 use Rattle.share_mends.specs.Asked.{helps}
 use Rattle.share_mends.specs.declared.fault.RottenPart.{RottenPart}
@@ -55,16 +54,3 @@ pub record IsMendedBlock (a : AloofShape) (lost : ℕ) (marks : List Bool) (sour
   pub chunk : List ℕ
   pub mended : IsMended a lost marks sources i chunk
   pub value : block ≡ block_of a chunk
-
--- a share's file has the blocks of such chunks of the first so many stripes, and no more behind its header's place
-pub record HasMended (a : AloofShape) (lost : ℕ) (marks : List Bool) (sources : List Seen) (count : ℕ) (file : List ℕ) : Type 0 where
-  pub chunks : List (List ℕ)
-  pub number : length chunks ≡ count
-  pub blocks : HasBlocks a chunks file
-  pub mended : (i : ℕ) → i < count → IsMended a lost marks sources i (get_or chunks i [])
-
--- the next of them is put behind others
-pub record GainsMended (a : AloofShape) (lost : ℕ) (marks : List Bool) (sources : List Seen) (i : ℕ) (old new : List ℕ) : Type 0 where
-  pub block : List ℕ
-  pub is : IsMendedBlock a lost marks sources i block
-  pub gains : GainsBlock a i block old new

@@ -1,17 +1,16 @@
 //! The helpers' parts of a stripe, read from their shares.
-ghost use Rattle.std.specs.Prelude.{◌≡◌, ◌+◌, ◌^◌, ◌≤◌, ◌<◌, ℕ, List, [], None, is_some, map, length, get_or, IfOk, IfErr, IfSome, OnOk, IsErrOf};
-ghost use Rattle.clay_bytes.specs.Stream.{Rises};
+ghost use Rattle.std.specs.Prelude.{◌≡◌, ◌+◌, ◌^◌, ◌≤◌, ◌<◌, ℕ, List, [], None, true, is_some, map, length, get_or, IfOk, IfErr, IfSome, OnOk, IsErrOf};
 ghost use Rattle.clay_model.specs.Left.{AreLong};
 ghost use Rattle.clay_aloof.specs.Shape.{all_chunks};
 ghost use Rattle.clay_aloof.specs.Repair.{part_bytes};
-ghost use Rattle.file_bytes.specs.Places.{Shows};
+ghost use Rattle.file_bytes.specs.Places.{Shows, FailsIn};
 ghost use Rattle.share_format.specs.Blocks.{block_length};
 ghost use Rattle.share_format.specs.Mend.{block_ranges};
 ghost use Rattle.share_format.specs.Shares.{block_start};
 ghost use Rattle.share_files.specs.Seen.{seen, Show};
 ghost use Rattle.share_mends.specs.Spans.{IsPlan};
 ghost use Rattle.share_mends.specs.Parts.{piece_in};
-ghost use Rattle.share_mends.specs.Asked.{helps, GivesIf, AreAsked, OneReadFails, NoReadFails};
+ghost use Rattle.share_mends.specs.Asked.{helps, GivesIf, AreAsked, FailsAt, NoReadFails};
 ghost use Rattle.share_mends.specs.Gathered.{HasPart, NamesPart, AreParts, ArePartsOf, NamesFirstOf};
 
 use crate::fault::{MendFault, RottenPart};
@@ -42,8 +41,8 @@ fn part_of<S: SourceAt>(
     ensures given { OnOk result (GivesIf help (S.given source.old) (block_ranges plan.now.geometry plan.now.lost stripe) (S.given source.new)) }
     ensures on { OnOk result (S.ends source.new ≡ S.ends source.old) }
     ensures unwritten { IsErrOf result MendFault.WriteFault → ⊥ }
-    ensures cause { IsErrOf result MendFault.ReadFault → Rises (S.faults source.old) (S.faults source.new) }
-    ensures steady { (IsErrOf result MendFault.ReadFault → ⊥) → S.faults source.new ≡ S.faults source.old }
+    ensures cause { IsErrOf result MendFault.ReadFault → (help ≡ true) × FailsIn (block_start plan.now.geometry stripe) (block_length plan.now.geometry) (S.failed source.old) (S.failed source.new) }
+    ensures steady { (IsErrOf result MendFault.ReadFault → ⊥) → S.failed source.new ≡ S.failed source.old }
 {
     if !help {
         return Ok(None);
@@ -70,13 +69,13 @@ pub(crate) fn read_parts<S: SourceAt>(
     requires marks { length helpers.now ≡ all_chunks plan.now.geometry }
     requires place { block_start plan.now.geometry stripe + block_length plan.now.geometry < 2 ^ 64 }
     ensures parts { IfOk result (λ parts. AreParts plan.now.geometry helpers.now (all_chunks plan.now.geometry) parts.items) }
-    ensures good { (files : List (List ℕ)) → Show (map (λ s. seen (S.given s) (S.ends s) (S.faults s)) sources.new) files → IfOk result (λ parts. ArePartsOf plan.now.geometry plan.now.lost files stripe (all_chunks plan.now.geometry) parts.items) }
-    ensures rotten { (files : List (List ℕ)) → Show (map (λ s. seen (S.given s) (S.ends s) (S.faults s)) sources.new) files → IfErr result (NamesFirstOf plan.now.geometry plan.now.lost helpers.now files stripe) }
-    ensures shown { (files : List (List ℕ)) → Show (map (λ s. seen (S.given s) (S.ends s) (S.faults s)) sources.new) files → Show (map (λ s. seen (S.given s) (S.ends s) (S.faults s)) sources.old) files }
-    ensures asked { OnOk result (AreAsked helpers.now (block_ranges plan.now.geometry plan.now.lost stripe) (all_chunks plan.now.geometry) (map (λ s. seen (S.given s) (S.ends s) (S.faults s)) sources.old) (map (λ s. seen (S.given s) (S.ends s) (S.faults s)) sources.new)) }
+    ensures good { (files : List (List ℕ)) → Show (map (λ s. seen (S.given s) (S.ends s) (S.failed s)) sources.new) files → IfOk result (λ parts. ArePartsOf plan.now.geometry plan.now.lost files stripe (all_chunks plan.now.geometry) parts.items) }
+    ensures rotten { (files : List (List ℕ)) → Show (map (λ s. seen (S.given s) (S.ends s) (S.failed s)) sources.new) files → IfErr result (NamesFirstOf plan.now.geometry plan.now.lost helpers.now files stripe) }
+    ensures shown { (files : List (List ℕ)) → Show (map (λ s. seen (S.given s) (S.ends s) (S.failed s)) sources.new) files → Show (map (λ s. seen (S.given s) (S.ends s) (S.failed s)) sources.old) files }
+    ensures asked { OnOk result (AreAsked helpers.now (block_ranges plan.now.geometry plan.now.lost stripe) (all_chunks plan.now.geometry) (map (λ s. seen (S.given s) (S.ends s) (S.failed s)) sources.old) (map (λ s. seen (S.given s) (S.ends s) (S.failed s)) sources.new)) }
     ensures unwritten { IsErrOf result MendFault.WriteFault → ⊥ }
-    ensures cause { IsErrOf result MendFault.ReadFault → OneReadFails (map (λ s. seen (S.given s) (S.ends s) (S.faults s)) sources.old) (map (λ s. seen (S.given s) (S.ends s) (S.faults s)) sources.new) }
-    ensures steady { (IsErrOf result MendFault.ReadFault → ⊥) → NoReadFails (map (λ s. seen (S.given s) (S.ends s) (S.faults s)) sources.old) (map (λ s. seen (S.given s) (S.ends s) (S.faults s)) sources.new) }
+    ensures cause { IsErrOf result MendFault.ReadFault → FailsAt plan.now.geometry helpers.now stripe (map (λ s. seen (S.given s) (S.ends s) (S.failed s)) sources.old) (map (λ s. seen (S.given s) (S.ends s) (S.failed s)) sources.new) }
+    ensures steady { (IsErrOf result MendFault.ReadFault → ⊥) → NoReadFails (map (λ s. seen (S.given s) (S.ends s) (S.failed s)) sources.old) (map (λ s. seen (S.given s) (S.ends s) (S.failed s)) sources.new) }
 {
     let mut parts = Vec::with_capacity(alloc, helpers.len())?;
     for share in 0..plan.geometry.n() {

@@ -1,19 +1,19 @@
 //! A share mended from parts of helpers' shares.
-ghost use Rattle.std.specs.Prelude.{◌≡◌, ◌+◌, ◌^◌, ◌<◌, ℕ, List, [], true, map, length, IfOk, IfErr, OnOk, IsErrOf};
+ghost use Rattle.std.specs.Prelude.{◌≡◌, ◌+◌, ◌^◌, ◌<◌, ℕ, List, true, map, length, IfOk, IfErr, OnOk, OnErr, IsErrOf};
 ghost use Rattle.std.specs.List.{flat_map, range_with_len};
 ghost use Rattle.crc64.specs.Remainder.{checksum_of};
 ghost use Rattle.clay_bytes.specs.Stream.{Rises};
 ghost use Rattle.clay_aloof.specs.Shape.{all_chunks};
-ghost use Rattle.file_bytes.specs.Laid.{laid};
 ghost use Rattle.share_format.specs.Blocks.{block_length};
 ghost use Rattle.share_format.specs.Cut.{stripe_count, AreCodewords};
 ghost use Rattle.share_format.specs.Mend.{block_ranges};
-ghost use Rattle.share_format.specs.Shares.{block_start, IsShare};
+ghost use Rattle.share_format.specs.Shares.{block_start};
 ghost use Rattle.share_files.specs.Seen.{seen, Show};
+ghost use Rattle.share_files.specs.Put.{PutsBlock, PutsAtMost, PutsBlocks, PutsSome, PutsPart, PutsShare};
 ghost use Rattle.share_mends.specs.Spans.{IsPlan};
-ghost use Rattle.share_mends.specs.Asked.{helps, AreHelpers, AreAsked, OneReadFails, NoReadFails};
+ghost use Rattle.share_mends.specs.Asked.{helps, AreHelpers, AreAsked, FailsAt, OneReadFails, NoReadFails};
 ghost use Rattle.share_mends.specs.Gathered.{NamesFirstOf};
-ghost use Rattle.share_mends.specs.Mended.{HasGood, HaveGood, NamesFirst, AreOfWords, IsMendedBlock, HasMended, GainsMended};
+ghost use Rattle.share_mends.specs.Mended.{HasGood, HaveGood, NamesFirst, AreOfWords, IsMended, IsMendedBlock};
 
 use crate::fault::MendFault;
 use crate::gathering::read_parts;
@@ -39,14 +39,14 @@ fn mended_block<S: SourceAt>(
     requires shares { length sources.old ≡ all_chunks plan.now.geometry }
     requires helpers { AreHelpers plan.now.geometry plan.now.lost helpers.now }
     requires place { block_start plan.now.geometry stripe + block_length plan.now.geometry < 2 ^ 64 }
-    ensures block { IfOk result (λ block. IsMendedBlock plan.now.geometry plan.now.lost helpers.now (map (λ s. seen (S.given s) (S.ends s) (S.faults s)) sources.new) stripe block.items) }
-    ensures good { (files : List (List ℕ)) → Show (map (λ s. seen (S.given s) (S.ends s) (S.faults s)) sources.new) files → OnOk result ((c : ℕ) → c < all_chunks plan.now.geometry → helps helpers.now c ≡ true → HasGood plan.now.geometry plan.now.lost files stripe c) }
-    ensures rotten { (files : List (List ℕ)) → Show (map (λ s. seen (S.given s) (S.ends s) (S.faults s)) sources.new) files → IfErr result (NamesFirstOf plan.now.geometry plan.now.lost helpers.now files stripe) }
-    ensures shown { (files : List (List ℕ)) → Show (map (λ s. seen (S.given s) (S.ends s) (S.faults s)) sources.new) files → Show (map (λ s. seen (S.given s) (S.ends s) (S.faults s)) sources.old) files }
-    ensures asked { OnOk result (AreAsked helpers.now (block_ranges plan.now.geometry plan.now.lost stripe) (all_chunks plan.now.geometry) (map (λ s. seen (S.given s) (S.ends s) (S.faults s)) sources.old) (map (λ s. seen (S.given s) (S.ends s) (S.faults s)) sources.new)) }
+    ensures block { IfOk result (λ block. IsMendedBlock plan.now.geometry plan.now.lost helpers.now (map (λ s. seen (S.given s) (S.ends s) (S.failed s)) sources.new) stripe block.items) }
+    ensures good { (files : List (List ℕ)) → Show (map (λ s. seen (S.given s) (S.ends s) (S.failed s)) sources.new) files → OnOk result ((c : ℕ) → c < all_chunks plan.now.geometry → helps helpers.now c ≡ true → HasGood plan.now.geometry plan.now.lost files stripe c) }
+    ensures rotten { (files : List (List ℕ)) → Show (map (λ s. seen (S.given s) (S.ends s) (S.failed s)) sources.new) files → IfErr result (NamesFirstOf plan.now.geometry plan.now.lost helpers.now files stripe) }
+    ensures shown { (files : List (List ℕ)) → Show (map (λ s. seen (S.given s) (S.ends s) (S.failed s)) sources.new) files → Show (map (λ s. seen (S.given s) (S.ends s) (S.failed s)) sources.old) files }
+    ensures asked { OnOk result (AreAsked helpers.now (block_ranges plan.now.geometry plan.now.lost stripe) (all_chunks plan.now.geometry) (map (λ s. seen (S.given s) (S.ends s) (S.failed s)) sources.old) (map (λ s. seen (S.given s) (S.ends s) (S.failed s)) sources.new)) }
     ensures unwritten { IsErrOf result MendFault.WriteFault → ⊥ }
-    ensures cause { IsErrOf result MendFault.ReadFault → OneReadFails (map (λ s. seen (S.given s) (S.ends s) (S.faults s)) sources.old) (map (λ s. seen (S.given s) (S.ends s) (S.faults s)) sources.new) }
-    ensures steady { (IsErrOf result MendFault.ReadFault → ⊥) → NoReadFails (map (λ s. seen (S.given s) (S.ends s) (S.faults s)) sources.old) (map (λ s. seen (S.given s) (S.ends s) (S.faults s)) sources.new) }
+    ensures cause { IsErrOf result MendFault.ReadFault → FailsAt plan.now.geometry helpers.now stripe (map (λ s. seen (S.given s) (S.ends s) (S.failed s)) sources.old) (map (λ s. seen (S.given s) (S.ends s) (S.failed s)) sources.new) }
+    ensures steady { (IsErrOf result MendFault.ReadFault → ⊥) → NoReadFails (map (λ s. seen (S.given s) (S.ends s) (S.failed s)) sources.old) (map (λ s. seen (S.given s) (S.ends s) (S.failed s)) sources.new) }
 {
     let parts = match read_parts(alloc, crc, sources, plan, helpers, stripe) {
         Ok(parts) => parts,
@@ -71,13 +71,14 @@ fn mend_one<S: SourceAt, K: SinkAt>(
     requires shares { length sources.old ≡ all_chunks plan.now.geometry }
     requires helpers { AreHelpers plan.now.geometry plan.now.lost helpers.now }
     requires place { block_start plan.now.geometry stripe + block_length plan.now.geometry < 2 ^ 64 }
-    ensures written { OnOk result (GainsMended plan.now.geometry plan.now.lost helpers.now (map (λ s. seen (S.given s) (S.ends s) (S.faults s)) sources.new) stripe (laid (K.put sink.old)) (laid (K.put sink.new))) }
-    ensures good { (files : List (List ℕ)) → Show (map (λ s. seen (S.given s) (S.ends s) (S.faults s)) sources.new) files → OnOk result ((c : ℕ) → c < all_chunks plan.now.geometry → helps helpers.now c ≡ true → HasGood plan.now.geometry plan.now.lost files stripe c) }
-    ensures rotten { (files : List (List ℕ)) → Show (map (λ s. seen (S.given s) (S.ends s) (S.faults s)) sources.new) files → IfErr result (NamesFirstOf plan.now.geometry plan.now.lost helpers.now files stripe) }
-    ensures shown { (files : List (List ℕ)) → Show (map (λ s. seen (S.given s) (S.ends s) (S.faults s)) sources.new) files → Show (map (λ s. seen (S.given s) (S.ends s) (S.faults s)) sources.old) files }
-    ensures asked { OnOk result (AreAsked helpers.now (block_ranges plan.now.geometry plan.now.lost stripe) (all_chunks plan.now.geometry) (map (λ s. seen (S.given s) (S.ends s) (S.faults s)) sources.old) (map (λ s. seen (S.given s) (S.ends s) (S.faults s)) sources.new)) }
-    ensures read { IsErrOf result MendFault.ReadFault → OneReadFails (map (λ s. seen (S.given s) (S.ends s) (S.faults s)) sources.old) (map (λ s. seen (S.given s) (S.ends s) (S.faults s)) sources.new) }
-    ensures reads { (IsErrOf result MendFault.ReadFault → ⊥) → NoReadFails (map (λ s. seen (S.given s) (S.ends s) (S.faults s)) sources.old) (map (λ s. seen (S.given s) (S.ends s) (S.faults s)) sources.new) }
+    ensures put { OnOk result (PutsBlock plan.now.geometry (IsMended plan.now.geometry plan.now.lost helpers.now (map (λ s. seen (S.given s) (S.ends s) (S.failed s)) sources.new)) stripe (K.put sink.old) (K.put sink.new)) }
+    ensures part { OnErr result (PutsAtMost plan.now.geometry (IsMended plan.now.geometry plan.now.lost helpers.now (map (λ s. seen (S.given s) (S.ends s) (S.failed s)) sources.new)) stripe (K.put sink.old) (K.put sink.new)) }
+    ensures good { (files : List (List ℕ)) → Show (map (λ s. seen (S.given s) (S.ends s) (S.failed s)) sources.new) files → OnOk result ((c : ℕ) → c < all_chunks plan.now.geometry → helps helpers.now c ≡ true → HasGood plan.now.geometry plan.now.lost files stripe c) }
+    ensures rotten { (files : List (List ℕ)) → Show (map (λ s. seen (S.given s) (S.ends s) (S.failed s)) sources.new) files → IfErr result (NamesFirstOf plan.now.geometry plan.now.lost helpers.now files stripe) }
+    ensures shown { (files : List (List ℕ)) → Show (map (λ s. seen (S.given s) (S.ends s) (S.failed s)) sources.new) files → Show (map (λ s. seen (S.given s) (S.ends s) (S.failed s)) sources.old) files }
+    ensures asked { OnOk result (AreAsked helpers.now (block_ranges plan.now.geometry plan.now.lost stripe) (all_chunks plan.now.geometry) (map (λ s. seen (S.given s) (S.ends s) (S.failed s)) sources.old) (map (λ s. seen (S.given s) (S.ends s) (S.failed s)) sources.new)) }
+    ensures read { IsErrOf result MendFault.ReadFault → FailsAt plan.now.geometry helpers.now stripe (map (λ s. seen (S.given s) (S.ends s) (S.failed s)) sources.old) (map (λ s. seen (S.given s) (S.ends s) (S.failed s)) sources.new) }
+    ensures reads { (IsErrOf result MendFault.ReadFault → ⊥) → NoReadFails (map (λ s. seen (S.given s) (S.ends s) (S.failed s)) sources.old) (map (λ s. seen (S.given s) (S.ends s) (S.failed s)) sources.new) }
     ensures write { IsErrOf result MendFault.WriteFault → Rises (K.faults sink.old) (K.faults sink.new) }
     ensures writes { (IsErrOf result MendFault.WriteFault → ⊥) → K.faults sink.new ≡ K.faults sink.old }
 {
@@ -105,13 +106,13 @@ fn mend_stripes<S: SourceAt, K: SinkAt>(
     requires shares { length sources.old ≡ all_chunks plan.now.geometry }
     requires helpers { AreHelpers plan.now.geometry plan.now.lost helpers.now }
     requires place { block_start plan.now.geometry stripes < 2 ^ 64 }
-    requires empty { K.put sink.old ≡ [] }
-    ensures mended { OnOk result (HasMended plan.now.geometry plan.now.lost helpers.now (map (λ s. seen (S.given s) (S.ends s) (S.faults s)) sources.new) stripes (laid (K.put sink.new))) }
-    ensures good { (files : List (List ℕ)) → Show (map (λ s. seen (S.given s) (S.ends s) (S.faults s)) sources.new) files → OnOk result (HaveGood plan.now.geometry plan.now.lost helpers.now files stripes) }
-    ensures rotten { (files : List (List ℕ)) → Show (map (λ s. seen (S.given s) (S.ends s) (S.faults s)) sources.new) files → IfErr result (NamesFirst plan.now.geometry plan.now.lost helpers.now files stripes) }
-    ensures asked { OnOk result (AreAsked helpers.now (flat_map (block_ranges plan.now.geometry plan.now.lost) (range_with_len 0 stripes)) (all_chunks plan.now.geometry) (map (λ s. seen (S.given s) (S.ends s) (S.faults s)) sources.old) (map (λ s. seen (S.given s) (S.ends s) (S.faults s)) sources.new)) }
-    ensures read { IsErrOf result MendFault.ReadFault → OneReadFails (map (λ s. seen (S.given s) (S.ends s) (S.faults s)) sources.old) (map (λ s. seen (S.given s) (S.ends s) (S.faults s)) sources.new) }
-    ensures reads { (IsErrOf result MendFault.ReadFault → ⊥) → NoReadFails (map (λ s. seen (S.given s) (S.ends s) (S.faults s)) sources.old) (map (λ s. seen (S.given s) (S.ends s) (S.faults s)) sources.new) }
+    ensures put { OnOk result (PutsBlocks plan.now.geometry (IsMended plan.now.geometry plan.now.lost helpers.now (map (λ s. seen (S.given s) (S.ends s) (S.failed s)) sources.new)) stripes (K.put sink.old) (K.put sink.new)) }
+    ensures part { OnErr result (PutsSome plan.now.geometry (IsMended plan.now.geometry plan.now.lost helpers.now (map (λ s. seen (S.given s) (S.ends s) (S.failed s)) sources.new)) stripes (K.put sink.old) (K.put sink.new)) }
+    ensures good { (files : List (List ℕ)) → Show (map (λ s. seen (S.given s) (S.ends s) (S.failed s)) sources.new) files → OnOk result (HaveGood plan.now.geometry plan.now.lost helpers.now files stripes) }
+    ensures rotten { (files : List (List ℕ)) → Show (map (λ s. seen (S.given s) (S.ends s) (S.failed s)) sources.new) files → IfErr result (NamesFirst plan.now.geometry plan.now.lost helpers.now files stripes) }
+    ensures asked { OnOk result (AreAsked helpers.now (flat_map (block_ranges plan.now.geometry plan.now.lost) (range_with_len 0 stripes)) (all_chunks plan.now.geometry) (map (λ s. seen (S.given s) (S.ends s) (S.failed s)) sources.old) (map (λ s. seen (S.given s) (S.ends s) (S.failed s)) sources.new)) }
+    ensures read { IsErrOf result MendFault.ReadFault → OneReadFails plan.now.geometry helpers.now stripes (map (λ s. seen (S.given s) (S.ends s) (S.failed s)) sources.old) (map (λ s. seen (S.given s) (S.ends s) (S.failed s)) sources.new) }
+    ensures reads { (IsErrOf result MendFault.ReadFault → ⊥) → NoReadFails (map (λ s. seen (S.given s) (S.ends s) (S.failed s)) sources.old) (map (λ s. seen (S.given s) (S.ends s) (S.failed s)) sources.new) }
     ensures write { IsErrOf result MendFault.WriteFault → Rises (K.faults sink.old) (K.faults sink.new) }
     ensures writes { (IsErrOf result MendFault.WriteFault → ⊥) → K.faults sink.new ≡ K.faults sink.old }
 {
@@ -126,7 +127,8 @@ fn mend_stripes<S: SourceAt, K: SinkAt>(
 
 /// Writes the lost share anew, from the parts of the marked helpers alone. The header tells the lost share's number. It is written last.
 ///
-/// `sources` and `helpers` have an entry for each share. The helpers' headers are for the caller to read.
+/// `sources` and `helpers` have an entry for each share. The helpers' headers are for the caller to read. The sink's file is to be no
+/// longer than a share: what it has behind one stays.
 pub fn mend<S: SourceAt, K: SinkAt>(
     alloc: Global,
     crc: &Crc64,
@@ -137,16 +139,16 @@ pub fn mend<S: SourceAt, K: SinkAt>(
 ) -> Result<(), MendFault>
     requires shares { length sources.old ≡ all_chunks header.now.shape }
     requires helpers { AreHelpers header.now.shape header.now.share helpers.now }
-    // Nothing was written yet.
-    requires empty { K.put sink.old ≡ [] }
-    // Of whatever file the helpers' good pieces hold the parts, the sink has the share.
-    ensures share { (file : List ℕ) (words : List (List (List ℕ))) (files : List (List ℕ)) → Show (map (λ s. seen (S.given s) (S.ends s) (S.faults s)) sources.new) files → length file ≡ header.now.size → checksum_of file ≡ header.now.checksum → AreCodewords header.now.shape file words → AreOfWords header.now.shape header.now.share helpers.now files words → OnOk result (IsShare header.now.shape file header.now.share (laid (K.put sink.new))) }
-    ensures good { (files : List (List ℕ)) → Show (map (λ s. seen (S.given s) (S.ends s) (S.faults s)) sources.new) files → OnOk result (HaveGood header.now.shape header.now.share helpers.now files (stripe_count header.now.shape header.now.size)) }
-    ensures rotten { (files : List (List ℕ)) → Show (map (λ s. seen (S.given s) (S.ends s) (S.faults s)) sources.new) files → IfErr result (NamesFirst header.now.shape header.now.share helpers.now files (stripe_count header.now.shape header.now.size)) }
+    // Of whatever file the helpers' good pieces hold the parts, the sink took the share.
+    ensures share { (file : List ℕ) (words : List (List (List ℕ))) (files : List (List ℕ)) → Show (map (λ s. seen (S.given s) (S.ends s) (S.failed s)) sources.new) files → length file ≡ header.now.size → checksum_of file ≡ header.now.checksum → AreCodewords header.now.shape file words → AreOfWords header.now.shape header.now.share helpers.now files words → OnOk result (PutsShare header.now.shape file header.now.share (K.put sink.old) (K.put sink.new)) }
+    // After an error it took a part of the mended blocks, or all of them and not the whole header.
+    ensures part { OnErr result (PutsPart header.now (IsMended header.now.shape header.now.share helpers.now (map (λ s. seen (S.given s) (S.ends s) (S.failed s)) sources.new)) (K.put sink.old) (K.put sink.new)) }
+    ensures good { (files : List (List ℕ)) → Show (map (λ s. seen (S.given s) (S.ends s) (S.failed s)) sources.new) files → OnOk result (HaveGood header.now.shape header.now.share helpers.now files (stripe_count header.now.shape header.now.size)) }
+    ensures rotten { (files : List (List ℕ)) → Show (map (λ s. seen (S.given s) (S.ends s) (S.failed s)) sources.new) files → IfErr result (NamesFirst header.now.shape header.now.share helpers.now files (stripe_count header.now.shape header.now.size)) }
     // Each helper gave just its parts, and no other source gave a byte.
-    ensures asked { OnOk result (AreAsked helpers.now (flat_map (block_ranges header.now.shape header.now.share) (range_with_len 0 (stripe_count header.now.shape header.now.size))) (all_chunks header.now.shape) (map (λ s. seen (S.given s) (S.ends s) (S.faults s)) sources.old) (map (λ s. seen (S.given s) (S.ends s) (S.faults s)) sources.new)) }
-    ensures read { IsErrOf result MendFault.ReadFault → OneReadFails (map (λ s. seen (S.given s) (S.ends s) (S.faults s)) sources.old) (map (λ s. seen (S.given s) (S.ends s) (S.faults s)) sources.new) }
-    ensures reads { (IsErrOf result MendFault.ReadFault → ⊥) → NoReadFails (map (λ s. seen (S.given s) (S.ends s) (S.faults s)) sources.old) (map (λ s. seen (S.given s) (S.ends s) (S.faults s)) sources.new) }
+    ensures asked { OnOk result (AreAsked helpers.now (flat_map (block_ranges header.now.shape header.now.share) (range_with_len 0 (stripe_count header.now.shape header.now.size))) (all_chunks header.now.shape) (map (λ s. seen (S.given s) (S.ends s) (S.failed s)) sources.old) (map (λ s. seen (S.given s) (S.ends s) (S.failed s)) sources.new)) }
+    ensures read { IsErrOf result MendFault.ReadFault → OneReadFails header.now.shape helpers.now (stripe_count header.now.shape header.now.size) (map (λ s. seen (S.given s) (S.ends s) (S.failed s)) sources.old) (map (λ s. seen (S.given s) (S.ends s) (S.failed s)) sources.new) }
+    ensures reads { (IsErrOf result MendFault.ReadFault → ⊥) → NoReadFails (map (λ s. seen (S.given s) (S.ends s) (S.failed s)) sources.old) (map (λ s. seen (S.given s) (S.ends s) (S.failed s)) sources.new) }
     ensures write { IsErrOf result MendFault.WriteFault → Rises (K.faults sink.old) (K.faults sink.new) }
     ensures writes { (IsErrOf result MendFault.WriteFault → ⊥) → K.faults sink.new ≡ K.faults sink.old }
 {

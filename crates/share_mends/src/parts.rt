@@ -1,8 +1,7 @@
 //! What a mend reads of a helper's block.
 ghost use Rattle.std.specs.Prelude.{◌≡◌, ◌+◌, ◌^◌, ◌≤◌, ◌<◌, ℕ, List, [], ◌∷◌, length, take, slice_range, All, IfOk, IfSome, OnOk, IsErrOf};
-ghost use Rattle.clay_bytes.specs.Stream.{Rises};
 ghost use Rattle.clay_aloof.specs.Repair.{part_bytes};
-ghost use Rattle.file_bytes.specs.Places.{Shows};
+ghost use Rattle.file_bytes.specs.Places.{Shows, FailsIn};
 ghost use Rattle.share_format.specs.Blocks.{block_length, chunk_start};
 ghost use Rattle.share_format.specs.Mend.{block_ranges};
 ghost use Rattle.share_format.specs.Shares.{block_start};
@@ -32,9 +31,8 @@ fn read_span<S: SourceAt>(
     ensures on { (IsErrOf result ReadFault.Ended → ⊥) → S.ends source.new ≡ S.ends source.old }
     ensures shown { (file : List ℕ) → Shows file (S.given source.new) (S.ends source.new) → Shows file (S.given source.old) (S.ends source.old) }
     ensures short { (file : List ℕ) → Shows file (S.given source.new) (S.ends source.new) → IsErrOf result ReadFault.Ended → IsShort place span file }
-    ensures cause { IsErrOf result ReadFault.Failed → Rises (S.faults source.old) (S.faults source.new) }
-    ensures steady { (IsErrOf result ReadFault.Failed → ⊥) → S.faults source.new ≡ S.faults source.old }
-    ensures count { S.faults source.old ≤ S.faults source.new }
+    ensures cause { IsErrOf result ReadFault.Failed → FailsIn (place + span.start) span.size (S.failed source.old) (S.failed source.new) }
+    ensures steady { (IsErrOf result ReadFault.Failed → ⊥) → S.failed source.new ≡ S.failed source.old }
 {
     let end = at + span.size as usize;
     let piece = &mut buf[at..end];
@@ -54,9 +52,9 @@ fn read_spans<S: SourceAt>(
     ensures on { (IsErrOf result ReadFault.Ended → ⊥) → S.ends source.new ≡ S.ends source.old }
     ensures shown { (file : List ℕ) → Shows file (S.given source.new) (S.ends source.new) → Shows file (S.given source.old) (S.ends source.old) }
     ensures short { (file : List ℕ) → Shows file (S.given source.new) (S.ends source.new) → IsErrOf result ReadFault.Ended → AreShort place spans.now file }
-    ensures cause { IsErrOf result ReadFault.Failed → Rises (S.faults source.old) (S.faults source.new) }
-    ensures steady { (IsErrOf result ReadFault.Failed → ⊥) → S.faults source.new ≡ S.faults source.old }
-    ensures count { S.faults source.old ≤ S.faults source.new }
+    // The read that failed is within what all spans are within.
+    ensures cause { (most : ℕ) → All (λ span. span.start + span.size ≤ most) spans.now → IsErrOf result ReadFault.Failed → FailsIn place most (S.failed source.old) (S.failed source.new) }
+    ensures steady { (IsErrOf result ReadFault.Failed → ⊥) → S.failed source.new ≡ S.failed source.old }
 {
     let mut at = 0;
     for span in spans {
@@ -117,9 +115,8 @@ pub(crate) fn read_part<S: SourceAt>(
     ensures shown { (file : List ℕ) → Shows file (S.given source.new) (S.ends source.new) → Shows file (S.given source.old) (S.ends source.old) }
     ensures given { IfOk result (λ part. IfSome part (λ v. GivesJust (S.given source.old) (block_ranges plan.now.geometry plan.now.lost stripe) (S.given source.new))) }
     ensures on { IfOk result (λ part. IfSome part (λ v. S.ends source.new ≡ S.ends source.old)) }
-    ensures cause { IsErrOf result BlockFault.ReadFault → Rises (S.faults source.old) (S.faults source.new) }
-    ensures steady { (IsErrOf result BlockFault.ReadFault → ⊥) → S.faults source.new ≡ S.faults source.old }
-    ensures count { S.faults source.old ≤ S.faults source.new }
+    ensures cause { IsErrOf result BlockFault.ReadFault → FailsIn (block_start plan.now.geometry stripe) (block_length plan.now.geometry) (S.failed source.old) (S.failed source.new) }
+    ensures steady { (IsErrOf result BlockFault.ReadFault → ⊥) → S.failed source.new ≡ S.failed source.old }
 {
     let len = chunk_place(plan.geometry) as usize + plan.geometry.part_len() as usize;
     let mut piece = make_room(alloc, len)?;

@@ -7,7 +7,7 @@ invariant-reads g l = record {
   within : l.done ≤ length l.buf;
   given : g.S.SourceAt.given l.source ≡ g.S.SourceAt.given l.fn.source ++ placed_from l.fn.at (take l.done l.buf);
   ends : g.S.SourceAt.ends l.source ≡ g.S.SourceAt.ends l.fn.source;
-  steady : g.S.SourceAt.faults l.source ≡ g.S.SourceAt.faults l.fn.source;
+  steady : g.S.SourceAt.failed l.source ≡ g.S.SourceAt.failed l.fn.source;
 }
 
 abbrev pub decreases-reads : goal.decreases-reads

@@ -1,13 +1,18 @@
 use Rattle.std.proofs.Common.{◌<◌, Err, ap, arith}
 use Rattle.share_format.specs.Blocks.{block_length}
 use Rattle.share_format.specs.Shares.{block_start}
-use Rattle.share_files.proofs.FoundLemmas.{shown_given, shown_fewer, shown_ended, no_block}
+use Rattle.share_files.proofs.FoundLemmas.{shown_given, shown_failed, shown_ended, no_block, fails_in}
 use Rattle.share_files.proofs.finding.find_block.Goals as goal
 
 pub returns-in-Err-Failed-clause-shown : goal.returns-in-Err-Failed-clause-shown
 returns-in-Err-Failed-clause-shown g c = λ file shows.
-    shown_fewer file _ _ (block_start c.args.geometry c.args.stripe) (block_length c.args.geometry) _ _
-    (c.in-Err-Failed.ensures.part (ap Err c.in-Err-Failed.field-0-is)) (c.in-Err-Failed.ensures.on (λ e. cc)) shows
+    shown_failed file _ _ (block_start c.args.geometry c.args.stripe) (block_length c.args.geometry) _ _ _ _
+    (c.in-Err-Failed.ensures.failed (ap Err c.in-Err-Failed.field-0-is)) (c.in-Err-Failed.ensures.on (λ e. cc)) shows
+
+pub returns-in-Err-Failed-clause-cause : goal.returns-in-Err-Failed-clause-cause
+returns-in-Err-Failed-clause-cause g c = λ e.
+    fails_in _ _ _ _ (block_start c.args.geometry c.args.stripe) (block_length c.args.geometry)
+    (c.in-Err-Failed.ensures.failed (ap Err c.in-Err-Failed.field-0-is))
 
 pub returns-in-Err-Ended-clause-shown : goal.returns-in-Err-Ended-clause-shown
 returns-in-Err-Ended-clause-shown g c = λ file shows.

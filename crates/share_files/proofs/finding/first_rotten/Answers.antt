@@ -1,10 +1,9 @@
 use Rattle.std.proofs.Common.{◌≤◌, ◌+◌, ℕ, Option, Vec, Global, subst, ◌∙◌, arith, below_more}
-use Rattle.clay_bytes.specs.Stream.{Rises}
 use Rattle.share_format.specs.Blocks.{block_length, IsBlock}
 use Rattle.share_format.specs.Shares.{block_start}
 use Rattle.share_files.specs.Found.{block_in, IsFound}
 use Rattle.share_files.specs.declared.finding.BlockFault.TheVariants.{ReadFault}
-use Rattle.share_files.proofs.FoundLemmas.{place_before}
+use Rattle.share_files.proofs.FoundLemmas.{place_before, fails_among}
 use Rattle.share_files.proofs.Faults.{handed_on}
 use Rattle.share_files.proofs.finding.first_rotten.Goals as goal
 
@@ -21,6 +20,7 @@ loop-stripe-preserved g c = record {
       below_more (λ i. IsBlock c.args.geometry (block_in c.args.geometry i file)) c.loop-stripe.stripe
       (c.loop-stripe.invariant.whole file (c.in-Ok-Some.ensures.shown file shows))
       (subst P c.in-Ok-Some.field-0-is (c.in-Ok-Some.ensures.found file shows)).1;
+  shown = λ file shows. c.loop-stripe.invariant.shown file (c.in-Ok-Some.ensures.shown file shows);
   steady = c.in-Ok-Some.ensures.steady (λ e. cc) ∙ c.loop-stripe.invariant.steady;
 }
 
@@ -32,10 +32,16 @@ returns-in-Ok-None-clause-rotten g c = λ file shows.
       c.loop-stripe.invariant.whole file (c.in-Ok-None.ensures.shown file shows),
     )
 
+pub returns-in-Ok-None-clause-shown : goal.returns-in-Ok-None-clause-shown
+returns-in-Ok-None-clause-shown g c = λ file shows. c.loop-stripe.invariant.shown file (c.in-Ok-None.ensures.shown file shows)
+
+pub returns-in-Err-clause-shown : goal.returns-in-Err-clause-shown
+returns-in-Err-clause-shown g c = λ file shows. c.loop-stripe.invariant.shown file (c.in-Err.ensures.shown file shows)
+
 pub returns-in-Err-clause-cause : goal.returns-in-Err-clause-cause
 returns-in-Err-clause-cause g c = λ e.
-    let P : ℕ → Type 0 = λ k. Rises k (g.S.SourceAt.faults c.find_block.new.source) in
-    subst P c.loop-stripe.invariant.steady (c.in-Err.ensures.cause (handed_on c.in-Err.fault ReadFault e))
+    fails_among c.args.geometry c.loop-stripe.stripe c.args.stripes _ _ _ c.loop-stripe-test.true c.loop-stripe.invariant.steady
+    (c.in-Err.ensures.cause (handed_on c.in-Err.fault ReadFault e))
 
 pub returns-in-Err-clause-steady : goal.returns-in-Err-clause-steady
 returns-in-Err-clause-steady g c = λ other.

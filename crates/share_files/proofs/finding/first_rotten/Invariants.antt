@@ -7,5 +7,6 @@ use Rattle.share_files.proofs.finding.first_rotten.Given as goal
 abbrev pub invariant-loop-stripe : goal.invariant-loop-stripe
 invariant-loop-stripe g l = record {
   whole : (file : List ℕ) → Shows file (g.S.SourceAt.given l.source) (g.S.SourceAt.ends l.source) → (i : ℕ) → i < l.stripe → IsBlock l.geometry (block_in l.geometry i file);
-  steady : g.S.SourceAt.faults l.source ≡ g.S.SourceAt.faults l.fn.source;
+  shown : (file : List ℕ) → Shows file (g.S.SourceAt.given l.source) (g.S.SourceAt.ends l.source) → Shows file (g.S.SourceAt.given l.fn.source) (g.S.SourceAt.ends l.fn.source);
+  steady : g.S.SourceAt.failed l.source ≡ g.S.SourceAt.failed l.fn.source;
 }

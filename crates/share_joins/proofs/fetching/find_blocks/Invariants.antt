@@ -10,5 +10,5 @@ invariant-loop-share g l = record {
   all : length l.sources ≡ length l.fn.sources;
   count : length l.blocks.items ≡ l.share;
   lengths : AreLong (block_length l.geometry) l.blocks.items;
-  read : AreRead l.geometry l.stripe l.share (map (λ s. seen (g.S.SourceAt.given s) (g.S.SourceAt.ends s) (g.S.SourceAt.faults s)) l.fn.sources) (map (λ s. seen (g.S.SourceAt.given s) (g.S.SourceAt.ends s) (g.S.SourceAt.faults s)) l.sources) l.blocks.items;
+  read : AreRead l.geometry l.stripe l.share (map (λ s. seen (g.S.SourceAt.given s) (g.S.SourceAt.ends s) (g.S.SourceAt.failed s)) l.fn.sources) (map (λ s. seen (g.S.SourceAt.given s) (g.S.SourceAt.ends s) (g.S.SourceAt.failed s)) l.sources) l.blocks.items;
 }

@@ -1,4 +1,4 @@
-use Rattle.std.proofs.Common.{◌≡◌, ℕ, Option, Vec, Global, true, refl, subst, rules}
+use Rattle.std.proofs.Common.{◌≡◌, ℕ, Option, Vec, Global, true, Err, refl, subst, ap, rules}
 use Rattle.share_mends.specs.Parts.{piece_in, IsFoundPart}
 use Rattle.share_mends.proofs.gathering.part_of.Goals as goal
 
@@ -18,3 +18,8 @@ returns-in-Ok-None-clause-rotten g c = λ file shows.
       refl,
       subst P c.in-Ok-None.field-0-is (c.in-Ok-None.ensures.found file shows),
     )
+
+pub returns-in-Err-ReadFault-clause-cause : goal.returns-in-Err-ReadFault-clause-cause
+returns-in-Err-ReadFault-clause-cause g c = λ e.
+    let help : c.args.help ≡ true = first_of (search, search rules) in
+    (help, c.in-Err-ReadFault.ensures.cause (ap Err c.in-Err-ReadFault.field-0-is))

@@ -29,11 +29,11 @@ loop-share-preserved g c =
           let Q : List (Option (Vec ℕ Global)) → Type 0 = λ l. ArePartsOf a lost files c.args.stripe (i + 1) l in
           subst Q (sym pushed)
           (of_more a lost files c.args.stripe i c.loop-share.parts.items c.in-Ok.part inv.parts.long
-          (inv.good files (shows_back (λ s. seen (g.S.SourceAt.given s) (g.S.SourceAt.ends s) (g.S.SourceAt.faults s)) now i old c.part_of.new.source less here files (c.in-Ok.ensures.shown (get_or files i [])) shows))
-          (c.in-Ok.ensures.good (get_or files i []) (shows_new (λ s. seen (g.S.SourceAt.given s) (g.S.SourceAt.ends s) (g.S.SourceAt.faults s)) now i old c.part_of.new.source less here files shows)));
+          (inv.good files (shows_back (λ s. seen (g.S.SourceAt.given s) (g.S.SourceAt.ends s) (g.S.SourceAt.failed s)) now i old c.part_of.new.source less here files (c.in-Ok.ensures.shown (get_or files i [])) shows))
+          (c.in-Ok.ensures.good (get_or files i []) (shows_new (λ s. seen (g.S.SourceAt.given s) (g.S.SourceAt.ends s) (g.S.SourceAt.failed s)) now i old c.part_of.new.source less here files shows)));
       asked =
-          asked_more (λ s. seen (g.S.SourceAt.given s) (g.S.SourceAt.ends s) (g.S.SourceAt.faults s)) now i old c.part_of.new.source less here c.args.helpers.now (block_ranges a lost c.args.stripe) _
-          (record { given = c.in-Ok.ensures.given; ends = c.in-Ok.ensures.on; faults = c.in-Ok.ensures.steady (λ e. cc) }) inv.asked;
+          asked_more (λ s. seen (g.S.SourceAt.given s) (g.S.SourceAt.ends s) (g.S.SourceAt.failed s)) now i old c.part_of.new.source less here c.args.helpers.now (block_ranges a lost c.args.stripe) _
+          (record { given = c.in-Ok.ensures.given; ends = c.in-Ok.ensures.on; failed = c.in-Ok.ensures.steady (λ e. cc) }) inv.asked;
     }
 
 pub returns-in-Err-clause-rotten : goal.returns-in-Err-clause-rotten
@@ -46,9 +46,9 @@ returns-in-Err-clause-rotten g c = λ files shows.
     let less : i < length now = omega (arith, inv.shares) in
     let old = get_or now i c.index-sources-at.result in
     let here = ap (get_or now i) c.index-sources-at.is in
-    names_first a lost c.args.helpers.now files c.args.stripe i c.in-Err.fault (c.in-Err.ensures.rotten (get_or files i []) (shows_new (λ s. seen (g.S.SourceAt.given s) (g.S.SourceAt.ends s) (g.S.SourceAt.faults s)) now i old c.part_of.new.source less here files shows))
+    names_first a lost c.args.helpers.now files c.args.stripe i c.in-Err.fault (c.in-Err.ensures.rotten (get_or files i []) (shows_new (λ s. seen (g.S.SourceAt.given s) (g.S.SourceAt.ends s) (g.S.SourceAt.failed s)) now i old c.part_of.new.source less here files shows))
     (good_of a lost c.args.helpers.now files c.args.stripe i c.loop-share.parts.items inv.parts
-    (inv.good files (shows_back (λ s. seen (g.S.SourceAt.given s) (g.S.SourceAt.ends s) (g.S.SourceAt.faults s)) now i old c.part_of.new.source less here files (c.in-Err.ensures.shown (get_or files i [])) shows)))
+    (inv.good files (shows_back (λ s. seen (g.S.SourceAt.given s) (g.S.SourceAt.ends s) (g.S.SourceAt.failed s)) now i old c.part_of.new.source less here files (c.in-Err.ensures.shown (get_or files i [])) shows)))
 
 pub returns-in-Err-clause-shown : goal.returns-in-Err-clause-shown
 returns-in-Err-clause-shown g c = λ files shows.
@@ -58,8 +58,8 @@ returns-in-Err-clause-shown g c = λ files shows.
     let less : i < length now = omega (arith, inv.shares) in
     let old = get_or now i c.index-sources-at.result in
     let here = ap (get_or now i) c.index-sources-at.is in
-    shown_asked c.args.helpers.now _ i _ _ files (same_count (λ s. seen (g.S.SourceAt.given s) (g.S.SourceAt.ends s) (g.S.SourceAt.faults s)) c.args.sources.now now (c.requires.shares ∙ sym inv.shares)) inv.asked
-    (shows_back (λ s. seen (g.S.SourceAt.given s) (g.S.SourceAt.ends s) (g.S.SourceAt.faults s)) now i old c.part_of.new.source less here files (c.in-Err.ensures.shown (get_or files i [])) shows)
+    shown_asked c.args.helpers.now _ i _ _ files (same_count (λ s. seen (g.S.SourceAt.given s) (g.S.SourceAt.ends s) (g.S.SourceAt.failed s)) c.args.sources.now now (c.requires.shares ∙ sym inv.shares)) inv.asked
+    (shows_back (λ s. seen (g.S.SourceAt.given s) (g.S.SourceAt.ends s) (g.S.SourceAt.failed s)) now i old c.part_of.new.source less here files (c.in-Err.ensures.shown (get_or files i [])) shows)
 
 pub returns-in-Err-clause-cause : goal.returns-in-Err-clause-cause
 returns-in-Err-clause-cause g c = λ e.
@@ -69,7 +69,9 @@ returns-in-Err-clause-cause g c = λ e.
     let less : i < length now = omega (arith, inv.shares) in
     let old = get_or now i c.index-sources-at.result in
     let here = ap (get_or now i) c.index-sources-at.is in
-    one_fails (λ s. seen (g.S.SourceAt.given s) (g.S.SourceAt.ends s) (g.S.SourceAt.faults s)) now i old c.part_of.new.source less here _ (c.in-Err.ensures.cause (handed_on c.in-Err.fault ReadFault e)) (no_read_fails _ _ _ _ _ inv.asked)
+    let fails = c.in-Err.ensures.cause (handed_on c.in-Err.fault ReadFault e) in
+    one_fails (λ s. seen (g.S.SourceAt.given s) (g.S.SourceAt.ends s) (g.S.SourceAt.failed s)) now i old c.part_of.new.source less here c.args.plan.now.geometry
+    c.args.helpers.now c.args.stripe _ fails.0 fails.1 (no_read_fails _ _ _ _ _ inv.asked)
 
 pub returns-in-Err-clause-steady : goal.returns-in-Err-clause-steady
 returns-in-Err-clause-steady g c = λ other.
@@ -79,7 +81,7 @@ returns-in-Err-clause-steady g c = λ other.
     let less : i < length now = omega (arith, inv.shares) in
     let old = get_or now i c.index-sources-at.result in
     let here = ap (get_or now i) c.index-sources-at.is in
-    none_fails (λ s. seen (g.S.SourceAt.given s) (g.S.SourceAt.ends s) (g.S.SourceAt.faults s)) now i old c.part_of.new.source less here _ (c.in-Err.ensures.steady (λ e. other (handed_on c.in-Err.fault ReadFault e))) (no_read_fails _ _ _ _ _ inv.asked)
+    none_fails (λ s. seen (g.S.SourceAt.given s) (g.S.SourceAt.ends s) (g.S.SourceAt.failed s)) now i old c.part_of.new.source less here _ (c.in-Err.ensures.steady (λ e. other (handed_on c.in-Err.fault ReadFault e))) (no_read_fails _ _ _ _ _ inv.asked)
 
 pub returns-clause-good : goal.returns-clause-good
 returns-clause-good g c = λ files shows.
@@ -90,4 +92,4 @@ returns-clause-good g c = λ files shows.
 pub returns-clause-shown : goal.returns-clause-shown
 returns-clause-shown g c = λ files shows.
     shown_asked c.args.helpers.now _ c.loop-share.share _ _ files
-    (same_count (λ s. seen (g.S.SourceAt.given s) (g.S.SourceAt.ends s) (g.S.SourceAt.faults s)) c.args.sources.now c.loop-share.sources (c.requires.shares ∙ sym c.loop-share.invariant.shares)) c.loop-share.invariant.asked shows
+    (same_count (λ s. seen (g.S.SourceAt.given s) (g.S.SourceAt.ends s) (g.S.SourceAt.failed s)) c.args.sources.now c.loop-share.sources (c.requires.shares ∙ sym c.loop-share.invariant.shares)) c.loop-share.invariant.asked shows

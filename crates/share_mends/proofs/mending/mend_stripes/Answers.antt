@@ -1,19 +1,19 @@
-use Rattle.std.proofs.Common.{◌≤◌, ◌+◌, ℕ, refl, subst, ◌∙◌, ap, arith}
+use Rattle.std.proofs.Common.{◌≤◌, ◌+◌, ℕ, refl, subst, ◌∙◌, arith}
 use Rattle.clay_bytes.specs.Stream.{Rises}
-use Rattle.file_bytes.specs.Laid.{laid}
 use Rattle.share_format.specs.Blocks.{block_length}
 use Rattle.share_format.specs.Shares.{block_start}
 use Rattle.share_files.proofs.FoundLemmas.{place_before}
 use Rattle.share_files.proofs.Faults.{handed_on}
+use Rattle.share_files.proofs.PutLemmas.{puts_none, puts_more, puts_some}
 use Rattle.share_mends.specs.declared.fault.MendFault.TheVariants.{ReadFault, WriteFault}
 use Rattle.share_mends.proofs.AskedLemmas.{asked_nothing, no_read_fails, fails_none, fails_one}
-use Rattle.share_mends.proofs.MendLemmas.{asked_stripe, good_more, names_stripe, mended_none, mended_more}
+use Rattle.share_mends.proofs.MendLemmas.{asked_stripe, good_more, names_stripe, later}
 use Rattle.share_mends.proofs.mending.mend_stripes.Goals as goal
 
 pub loop-stripe-init : goal.loop-stripe-init
 loop-stripe-init g c = record {
   shares = c.requires.shares;
-  mended = mended_none c.args.plan.now.geometry c.args.plan.now.lost c.args.helpers.now _ _ (ap laid c.requires.empty);
+  put = puts_none c.args.plan.now.geometry _ _;
   good = λ files shows i k less. absurd (omega (arith, less));
   asked = asked_nothing c.args.helpers.now _ _;
   writes = refl;
@@ -33,11 +33,18 @@ loop-stripe-preserved g c =
     let one = c.in-Ok.ensures in
     record {
       shares = c.mend_one.auto.sources ∙ inv.shares;
-      mended = mended_more a lost c.args.helpers.now _ _ c.loop-stripe.stripe _ _ one.shown inv.mended one.written;
+      put =
+          puts_more a _ _ c.loop-stripe.stripe _ _ _ (λ i chunk is. later a lost c.args.helpers.now _ _ i chunk one.shown is) inv.put one.put;
       good = λ files shows. good_more a lost c.args.helpers.now files c.loop-stripe.stripe (inv.good files (one.shown files shows)) (one.good files shows);
       asked = asked_stripe a lost c.loop-stripe.stripe _ c.args.helpers.now _ _ _ inv.asked one.asked;
       writes = one.writes (λ e. cc) ∙ inv.writes;
     }
+
+pub returns-in-Err-clause-part : goal.returns-in-Err-clause-part
+returns-in-Err-clause-part g c =
+    puts_some c.args.plan.now.geometry _ _ c.loop-stripe.stripe _ _ _
+    (λ i chunk is. later c.args.plan.now.geometry c.args.plan.now.lost c.args.helpers.now _ _ i chunk c.in-Err.ensures.shown is) c.loop-stripe.invariant.put
+    c.args.stripes c.loop-stripe-test.true c.in-Err.ensures.part
 
 pub returns-in-Err-clause-rotten : goal.returns-in-Err-clause-rotten
 returns-in-Err-clause-rotten g c = λ files shows.
@@ -45,8 +52,13 @@ returns-in-Err-clause-rotten g c = λ files shows.
     (c.loop-stripe.invariant.good files (c.in-Err.ensures.shown files shows)) (c.in-Err.ensures.rotten files shows)
 
 pub returns-in-Err-clause-read : goal.returns-in-Err-clause-read
-returns-in-Err-clause-read g c = λ e.
-    fails_one _ _ _ (no_read_fails _ _ _ _ _ c.loop-stripe.invariant.asked) (c.in-Err.ensures.read (handed_on c.in-Err.fault ReadFault e))
+returns-in-Err-clause-read g c = λ e. record {
+  stripe = c.loop-stripe.stripe;
+  within = c.loop-stripe-test.true;
+  fails =
+      fails_one c.args.plan.now.geometry c.args.helpers.now c.loop-stripe.stripe _ _ _ (no_read_fails _ _ _ _ _ c.loop-stripe.invariant.asked)
+      (c.in-Err.ensures.read (handed_on c.in-Err.fault ReadFault e));
+}
 
 pub returns-in-Err-clause-reads : goal.returns-in-Err-clause-reads
 returns-in-Err-clause-reads g c = λ other.

@@ -2,7 +2,7 @@ use Rattle.std.proofs.Common.{◌≡◌, ◌+◌, Err, sym, ap, ◌∙◌, lengt
 use Rattle.std.proofs.lemmas.Grind.{common_steps}
 use Rattle.share_mends.specs.Spans.{span_bytes}
 use Rattle.share_mends.proofs.ReadLemmas.{spans_long}
-use Rattle.share_mends.proofs.PieceLemmas.{in_block, found_shown, none_shown, if_some}
+use Rattle.share_mends.proofs.PieceLemmas.{in_block, found_shown, none_shown, fails_in_block, if_some}
 use Rattle.share_mends.proofs.parts.read_part.Goals as goal
 
 pub read_spans-requires-clause-room : goal.read_spans-requires-clause-room
@@ -10,6 +10,11 @@ read_spans-requires-clause-room g c =
     ap length c.deref_mut.ensures.value ∙ c.in_ok-piece.ensures ∙ (λ i. c.chunk_place.ensures.value i + c.part_len.ensures.value i)
     ∙ sym (spans_long c.args.plan.now.geometry c.args.plan.now.lost c.args.plan.now.spans.items c.requires.plan.aloof c.requires.plan.lost c.requires.plan.spans)
     ∙ ap span_bytes (sym c.deref.ensures.value)
+
+pub returns-in-Err-Failed-clause-cause : goal.returns-in-Err-Failed-clause-cause
+returns-in-Err-Failed-clause-cause g c = λ e.
+    fails_in_block c.args.plan.now.geometry c.args.plan.now.lost c.args.stripe c.block_place-place.result c.deref.result.now c.args.plan.now.spans.items _ _
+    c.block_place-place.ensures c.deref.ensures.value c.requires.plan.spans (λ within. c.in-Err-Failed.ensures.cause _ within (ap Err c.in-Err-Failed.field-0-is))
 
 pub returns-in-Err-Ended-clause-found : goal.returns-in-Err-Ended-clause-found
 returns-in-Err-Ended-clause-found g c = λ file shows.

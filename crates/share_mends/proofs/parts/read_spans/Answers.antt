@@ -1,11 +1,11 @@
 use Rattle.std.proofs.Common.{◌≡◌, ◌<◌, ◌≤◌, ◌+◌, ℕ, length, get_or, take, sym, ap, ◌∙◌, arith, rules}
-use Rattle.file_bytes.specs.declared.stream.ReadFault.TheVariants.{Ended}
+use Rattle.file_bytes.specs.declared.stream.ReadFault.TheVariants.{Failed, Ended}
 use Rattle.std.proofs.lemmas.Grind.{common_steps}
 use Rattle.share_files.proofs.Faults.{handed_on}
 use Rattle.share_mends.specs.Spans.{span_bytes}
 use Rattle.share_mends.specs.declared.spans.Span.{Span}
 use Rattle.share_mends.proofs.GivenLemmas.{shown_before}
-use Rattle.share_mends.proofs.ReadLemmas.{bytes_more, bytes_within, span_more, short_at}
+use Rattle.share_mends.proofs.ReadLemmas.{bytes_more, bytes_within, span_more, short_at, fails_within}
 use Rattle.share_mends.proofs.parts.read_spans.Goals as goal
 
 pub read_span-requires-clause-room : goal.read_span-requires-clause-room
@@ -42,6 +42,13 @@ returns-in-Err-clause-short g c = λ file shows e.
     let i : ℕ = c.loop-span.span-index in
     let less : i < length c.args.spans.now = omega (arith, c.loop-span-test.true) in
     short_at c.args.place c.args.spans.now i none file less (c.in-Err.ensures.short file shows (handed_on c.in-Err.fault Ended e))
+
+pub returns-in-Err-clause-cause : goal.returns-in-Err-clause-cause
+returns-in-Err-clause-cause g c = λ most within e.
+    let none : Span = record { start = 0; size = 0 } in
+    let i : ℕ = c.loop-span.span-index in
+    let less : i < length c.args.spans.now = omega (arith, c.loop-span-test.true) in
+    fails_within c.args.place most c.args.spans.now i none _ _ _ less within c.loop-span.invariant.steady (c.in-Err.ensures.cause (handed_on c.in-Err.fault Failed e))
 
 pub returns-clause-shown : goal.returns-clause-shown
 returns-clause-shown g c = λ file shows. shown_before file _ _ _ _ _ _ c.loop-span.invariant.given c.loop-span.invariant.ends shows

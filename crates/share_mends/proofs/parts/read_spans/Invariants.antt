@@ -8,5 +8,5 @@ invariant-loop-span g l = record {
   at : l.at ≡ span_bytes (take l.span-index l.spans);
   given : GivesAt (g.S.SourceAt.given l.fn.source) (ranges_at l.place (take l.span-index l.spans)) (take l.at l.buf) (g.S.SourceAt.given l.source);
   ends : g.S.SourceAt.ends l.source ≡ g.S.SourceAt.ends l.fn.source;
-  steady : g.S.SourceAt.faults l.source ≡ g.S.SourceAt.faults l.fn.source;
+  steady : g.S.SourceAt.failed l.source ≡ g.S.SourceAt.failed l.fn.source;
 }
