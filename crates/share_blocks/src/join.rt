@@ -148,7 +148,8 @@ fn recovered(
 fn chunk_copy(alloc: Global, g: AloofGeometry, chunks: &[u8], c: u32) -> Result<Vec<u8>, AllocError>
     requires chunks { length chunks.now ≡ all_chunks g * chunk_length (grid_of g) }
     requires chunk { c < all_chunks g }
-    ensures { IfOk result (λ chunk. chunk.items ≡ chunk_in g chunks.now c) }
+    ensures chunk { IfOk result (λ chunk. chunk.items ≡ chunk_in g chunks.now c) }
+    ensures len { IfOk result (λ chunk. length chunk.items ≡ chunk_length (grid_of g)) }
 {
     let len = g.chunk_len() as usize;
     let at = c as usize * len;
@@ -200,7 +201,8 @@ fn one_recovered(
     requires lengths { AreLong (block_length g) blocks.now }
     requires few { count_below (all_chunks g) (is_lost blocks.now) ≤ g.parity_count }
     requires chunk { lost < all_chunks g }
-    ensures { IfOk result (λ chunk. IsRecoveredChunk g blocks.now lost chunk.items) }
+    ensures len { IfOk result (λ chunk. length chunk.items ≡ chunk_length (grid_of g)) }
+    ensures recovered { IfOk result (λ chunk. IsRecoveredChunk g blocks.now lost chunk.items) }
 {
     let chunks = recovered(alloc, g, blocks)?;
     let chunk = chunk_copy(alloc, g, &chunks, lost)?;
@@ -242,6 +244,7 @@ pub fn recover_chunk(
     requires lengths { AreLong (block_length g) blocks.now }
     requires chunk { lost < all_chunks g }
     ensures too_few { IsErrOf result DecodeFault.TooFew ↔ AreTooFew g blocks.now }
+    ensures len { IfOk result (λ chunk. length chunk.items ≡ chunk_length (grid_of g)) }
     ensures recovered { IfOk result (λ chunk. IsRecoveredChunk g blocks.now lost chunk.items) }
 {
     if lost_count(blocks) > g.m() as usize {
