@@ -1,0 +1,123 @@
+//! A share's file judged from its front to its end.
+ghost use Rattle.std.specs.Prelude.{◌≡◌, ◌↔◌, ◌+◌, ◌^◌, ◌≤◌, ◌<◌, ℕ, List, None, length, take, IfOk, IfErr, OnOk, IsErrOf, IsTrue};
+ghost use Rattle.file_bytes.specs.Places.{Shows};
+ghost use Rattle.share_format.specs.Header.{header_bytes};
+ghost use Rattle.share_checks.specs.Whole.{BeginsWith, IsWhole, IsFirstFault, OneFails};
+
+use crate::fault::{ShareFault, refused, unread};
+use crc64::Crc64;
+use file_bytes::{ReadFault, SourceAt, read_exact_at};
+use share_files::{
+    BlockFault, block_place, first_rotten, header_room, padded_header, read_share_header,
+};
+use share_format::ShareHeader;
+use std::alloc::{AllocError, Global};
+
+fn make_room(alloc: Global, len: usize) -> Result<Vec<u8>, AllocError>
+    ensures { IfOk result (λ room. length room.items ≡ len) }
+{
+    vec![in alloc; 0u8; len]
+}
+
+fn are_same(bytes: &[u8], others: &[u8]) -> bool
+    ensures { IsTrue result ↔ (bytes.now ≡ others.now) }
+{
+    bytes == others
+}
+
+// Whether a share begins with its header and the zeros behind it.
+fn begins_with<S: SourceAt>(
+    alloc: Global,
+    crc: &Crc64,
+    source: &mut S,
+    header: &ShareHeader,
+) -> Result<bool, BlockFault>
+    ensures begins { (file : List ℕ) → Shows file (S.given source.new) (S.ends source.new) → IfOk result (λ is. IsTrue is ↔ BeginsWith header.now file) }
+    ensures shown { (file : List ℕ) → Shows file (S.given source.new) (S.ends source.new) → Shows file (S.given source.old) (S.ends source.old) }
+    ensures cause { IsErrOf result BlockFault.ReadFault → OneFails (S.failed source.old) (S.failed source.new) }
+    ensures steady { (IsErrOf result BlockFault.ReadFault → ⊥) → S.failed source.new ≡ S.failed source.old }
+{
+    let wanted = padded_header(alloc, crc, header)?;
+    let mut front = make_room(alloc, header_room(header.geometry()) as usize)?;
+    match read_exact_at(source, 0, &mut front) {
+        Ok(()) => Ok(are_same(&front, &wanted)),
+        Err(ReadFault::Failed) => Err(BlockFault::ReadFault),
+        Err(ReadFault::Ended) => Ok(false),
+    }
+}
+
+// Whether a file ends at a place or before.
+fn ends_at<S: SourceAt>(source: &mut S, place: u64) -> Result<bool, BlockFault>
+    requires { place + 1 < 2 ^ 64 }
+    ensures ends { (file : List ℕ) → Shows file (S.given source.new) (S.ends source.new) → IfOk result (λ is. IsTrue is ↔ length file ≤ place) }
+    ensures shown { (file : List ℕ) → Shows file (S.given source.new) (S.ends source.new) → Shows file (S.given source.old) (S.ends source.old) }
+    ensures cause { IsErrOf result BlockFault.ReadFault → OneFails (S.failed source.old) (S.failed source.new) }
+    ensures steady { (IsErrOf result BlockFault.ReadFault → ⊥) → S.failed source.new ≡ S.failed source.old }
+{
+    let mut next = [0u8; 1];
+    match read_exact_at(source, place, &mut next) {
+        Ok(()) => Ok(false),
+        Err(ReadFault::Failed) => Err(BlockFault::ReadFault),
+        Err(ReadFault::Ended) => Ok(true),
+    }
+}
+
+// The first fault behind the header's own bytes.
+fn check_rest<S: SourceAt>(
+    alloc: Global,
+    crc: &Crc64,
+    source: &mut S,
+    header: &ShareHeader,
+) -> Result<(), ShareFault>
+    ensures whole { (file : List ℕ) → Shows file (S.given source.new) (S.ends source.new) → OnOk result (IsWhole header.now file) }
+    ensures fault { (file : List ℕ) → Shows file (S.given source.new) (S.ends source.new) → take 64 file ≡ header_bytes header.now → IfErr result (IsFirstFault file) }
+    ensures shown { (file : List ℕ) → Shows file (S.given source.new) (S.ends source.new) → Shows file (S.given source.old) (S.ends source.old) }
+    ensures cause { IsErrOf result ShareFault.ReadFault → OneFails (S.failed source.old) (S.failed source.new) }
+    ensures steady { (IsErrOf result ShareFault.ReadFault → ⊥) → S.failed source.new ≡ S.failed source.old }
+{
+    let begins = match begins_with(alloc, crc, source, header) {
+        Ok(begins) => begins,
+        Err(fault) => return Err(unread(fault)),
+    };
+    if !begins {
+        return Err(ShareFault::Padding);
+    }
+    let geometry = header.geometry();
+    let stripes = header.stripe_count();
+    match first_rotten(alloc, crc, source, geometry, stripes) {
+        Ok(None) => {}
+        Ok(Some(stripe)) => return Err(ShareFault::Block(stripe)),
+        Err(fault) => return Err(unread(fault)),
+    }
+    let ends = match ends_at(source, block_place(geometry, stripes)) {
+        Ok(ends) => ends,
+        Err(fault) => return Err(unread(fault)),
+    };
+    if !ends {
+        return Err(ShareFault::Longer);
+    }
+    Ok(())
+}
+
+/// Judges a share's file from its front to its end: the header, the zeros behind it, each block with its checksums and zeros, and that
+/// nothing stands behind the last. It reads each byte once, the header's twice. Answers what the header tells.
+pub fn check_share<S: SourceAt>(
+    alloc: Global,
+    crc: &Crc64,
+    source: &mut S,
+) -> Result<ShareHeader, ShareFault>
+    // Whatever file the source shows: it is whole, or this is its first fault.
+    ensures whole { (file : List ℕ) → Shows file (S.given source.new) (S.ends source.new) → IfOk result (λ header. IsWhole header file) }
+    ensures fault { (file : List ℕ) → Shows file (S.given source.new) (S.ends source.new) → IfErr result (IsFirstFault file) }
+    ensures cause { IsErrOf result ShareFault.ReadFault → OneFails (S.failed source.old) (S.failed source.new) }
+    ensures steady { (IsErrOf result ShareFault.ReadFault → ⊥) → S.failed source.new ≡ S.failed source.old }
+{
+    let header = match read_share_header(source, crc) {
+        Ok(header) => header,
+        Err(refusal) => return Err(refused(refusal)),
+    };
+    match check_rest(alloc, crc, source, &header) {
+        Ok(()) => Ok(header),
+        Err(fault) => Err(fault),
+    }
+}

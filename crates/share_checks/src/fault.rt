@@ -1,0 +1,55 @@
+//! Why a file is no whole share.
+ghost use Rattle.std.specs.Prelude.{◌≡◌, ◌↔◌, ℕ, List};
+ghost use Rattle.share_files.specs.Refused.{IsRefusal};
+ghost use Rattle.share_checks.specs.Whole.{IsFirstFault};
+ghost use Rattle.share_checks.specs.declared.fault.ShareFault.TheVariants.{ReadFault, OutOfMemory};
+ghost use Rattle.share_files.specs.declared.finding.BlockFault.TheVariants.{ReadFault as BlockReadFault};
+ghost use Rattle.share_files.specs.declared.reading.HeaderRefusal.TheVariants.{ReadFault as HeaderReadFault};
+
+use share_files::{BlockFault, HeaderRefusal};
+use share_format::BadHeader;
+use thiserror::Error;
+
+/// The first fault of a file, from its front.
+#[derive(Clone, Copy, Debug, PartialEq, Eq, Error)]
+pub enum ShareFault {
+    #[error("the file is shorter than a header")]
+    Short,
+    #[error("{0}")]
+    Header(BadHeader),
+    /// What stands between the header and the first block isn't zeros, or the file ends there.
+    #[error("the header isn't filled up with zeros")]
+    Padding,
+    /// The block of the stripe of this number, from 0.
+    #[error("the block of stripe {0} is rotten or missing")]
+    Block(u64),
+    #[error("bytes stand behind the last block")]
+    Longer,
+    #[error("a read failed")]
+    ReadFault,
+    #[error("out of memory")]
+    OutOfMemory,
+}
+
+/// The fault of a file whose header is refused.
+pub(crate) fn refused(refusal: HeaderRefusal) -> ShareFault
+    ensures fault { (file : List ℕ) → IsRefusal file refusal → IsFirstFault file result }
+    ensures read { (result ≡ ShareFault.ReadFault) ↔ (refusal ≡ HeaderReadFault) }
+{
+    match refusal {
+        HeaderRefusal::ReadFault => ShareFault::ReadFault,
+        HeaderRefusal::Short => ShareFault::Short,
+        HeaderRefusal::Bad(fault) => ShareFault::Header(fault),
+    }
+}
+
+/// The same of what can't be read.
+pub(crate) fn unread(fault: BlockFault) -> ShareFault
+    ensures fault { (file : List ℕ) → IsFirstFault file result }
+    ensures read { (result ≡ ShareFault.ReadFault) ↔ (fault ≡ BlockReadFault) }
+{
+    match fault {
+        BlockFault::ReadFault => ShareFault::ReadFault,
+        BlockFault::OutOfMemory => ShareFault::OutOfMemory,
+    }
+}
