@@ -44,13 +44,13 @@ pub record PutsSome (a : AloofShape) (Is : ℕ → List ℕ → Type 0) (count :
   pub bytes : ℕ
   pub puts : now ≡ put ++ placed_from (block_start a 0) (take bytes (flat_map (block_of a) chunks))
 
--- it took all blocks and then fewer bytes of the header than there are, from its front
+-- it took all blocks and then fewer bytes of the padded header than there are, from its front
 pub record PutsHead (h : Header) (Is : ℕ → List ℕ → Type 0) (put now : List Placed) : Type 0 where
   pub middle : List Placed
   pub blocks : PutsBlocks h.shape Is (stripe_count h.shape h.size) put middle
   pub less : PutsFewer middle 0 (aligned h.shape (header_bytes h)) now
 
--- it took a part of a share: some of its blocks, or all and not the whole header
+-- it took a part of a share: bytes of its blocks from their front, or all and a part of the padded header
 abbrev pub PutsPart : Header → (ℕ → List ℕ → Type 0) → List Placed → List Placed → Type 0
 PutsPart h Is put now = PutsSome h.shape Is (stripe_count h.shape h.size) put now ⊎ PutsHead h Is put now
 

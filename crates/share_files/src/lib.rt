@@ -7,8 +7,6 @@ mod finding;
 mod places;
 mod reading;
 mod shares;
-#[cfg(test)]
-mod tests;
 mod writing;
 
 pub use cutting::{CutFault, cut};

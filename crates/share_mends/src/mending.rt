@@ -141,7 +141,7 @@ pub fn mend<S: SourceAt, K: SinkAt>(
     requires helpers { AreHelpers header.now.shape header.now.share helpers.now }
     // Of whatever file the helpers' good pieces hold the parts, the sink took the share.
     ensures share { (file : List ℕ) (words : List (List (List ℕ))) (files : List (List ℕ)) → Show (map (λ s. seen (S.given s) (S.ends s) (S.failed s)) sources.new) files → length file ≡ header.now.size → checksum_of file ≡ header.now.checksum → AreCodewords header.now.shape file words → AreOfWords header.now.shape header.now.share helpers.now files words → OnOk result (PutsShare header.now.shape file header.now.share (K.put sink.old) (K.put sink.new)) }
-    // After an error it took a part of the mended blocks, or all of them and not the whole header.
+    // After an error it took the mended blocks' bytes up to some place, or all and a part of the padded header.
     ensures part { OnErr result (PutsPart header.now (IsMended header.now.shape header.now.share helpers.now (map (λ s. seen (S.given s) (S.ends s) (S.failed s)) sources.new)) (K.put sink.old) (K.put sink.new)) }
     ensures good { (files : List (List ℕ)) → Show (map (λ s. seen (S.given s) (S.ends s) (S.failed s)) sources.new) files → OnOk result (HaveGood header.now.shape header.now.share helpers.now files (stripe_count header.now.shape header.now.size)) }
     ensures rotten { (files : List (List ℕ)) → Show (map (λ s. seen (S.given s) (S.ends s) (S.failed s)) sources.new) files → IfErr result (NamesFirst header.now.shape header.now.share helpers.now files (stripe_count header.now.shape header.now.size)) }

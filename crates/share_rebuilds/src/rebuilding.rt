@@ -143,7 +143,7 @@ pub fn mend_whole<S: SourceAt, K: SinkAt>(
     requires { length sources.old ≡ all_chunks header.now.shape }
     // Whatever files the sources show: if they are shares of a file, with rot that its checksums find, the sink took the lost share.
     ensures share { (file : List ℕ) (files : List (List ℕ)) → Show (map (λ s. seen (S.given s) (S.ends s) (S.failed s)) sources.new) files → NoRotPasses header.now file files → OnOk result (PutsShare header.now.shape file header.now.share (K.put sink.old) (K.put sink.new)) }
-    // After an error it took a part of the rebuilt blocks, or all of them and not the whole header.
+    // After an error it took the rebuilt blocks' bytes up to some place, or all and a part of the padded header.
     ensures part { OnErr result (PutsPart header.now (IsRebuilt header.now.shape header.now.share (map (λ s. seen (S.given s) (S.ends s) (S.failed s)) sources.new)) (K.put sink.old) (K.put sink.new)) }
     ensures lack { IfErr result (IsLack header.now.shape (stripe_count header.now.shape header.now.size) (map (λ s. seen (S.given s) (S.ends s) (S.failed s)) sources.old) (map (λ s. seen (S.given s) (S.ends s) (S.failed s)) sources.new)) }
     ensures write { IsErrOf result RebuildFault.WriteFault → Rises (K.faults sink.old) (K.faults sink.new) }
