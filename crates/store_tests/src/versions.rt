@@ -8,7 +8,7 @@ ghost use Rattle.version_seal.specs.Sealer.{sealer_at};
 
 use crate::holds;
 use crate::sealing::{fetched, gathered, part, small_geometry, stamp, stamp_over, stripe};
-use clay_decode::decode;
+use clay_lanes::decode;
 use std::alloc::Global;
 use std::test::Fail;
 use std::thread;
