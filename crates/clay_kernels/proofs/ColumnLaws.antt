@@ -14,18 +14,18 @@ use Rattle.clay_kernels.specs.Generated.{factor_at, IsLastGenerator}
 use Rattle.clay_kernels.specs.declared.column.ColumnFactors.{ColumnFactors}
 use Rattle.clay_kernels.specs.Columns.{AddUp, IsColumn, AreColumns, AddsColumn, IsColumnForm, EndsColumn, row_byte, all_rows, both_rows}
 
-xor_left_comm : (a b c : ℕ) → bit_xor a (bit_xor b c) ≡ bit_xor b (bit_xor a c)
+pub xor_left_comm : (a b c : ℕ) → bit_xor a (bit_xor b c) ≡ bit_xor b (bit_xor a c)
 xor_left_comm a b c = sym (xor_assoc a b c) ∙ ap (λ x. bit_xor x c) (xor_comm a b) ∙ xor_assoc b a c
 
-zero_xor : (b : ℕ) → bit_xor 0 b ≡ b
+pub zero_xor : (b : ℕ) → bit_xor 0 b ≡ b
 zero_xor b = xor_comm 0 b ∙ xor_zero_r b
 
-xor_again : (a b : ℕ) → bit_xor a (bit_xor a b) ≡ b
+pub xor_again : (a b : ℕ) → bit_xor a (bit_xor a b) ≡ b
 xor_again a b = sym (xor_assoc a a b) ∙ ap (λ x. bit_xor x b) (xor_self a) ∙ zero_xor b
 
 -- ---- sums in another order
 
-swap : (a b c d : ℕ) → bit_xor (bit_xor a b) (bit_xor c d) ≡ bit_xor (bit_xor a c) (bit_xor b d)
+pub swap : (a b c d : ℕ) → bit_xor (bit_xor a b) (bit_xor c d) ≡ bit_xor (bit_xor a c) (bit_xor b d)
 swap a b c d = simp (xor_assoc, xor_comm, xor_left_comm)
 
 -- a sum of four more terms
@@ -96,7 +96,7 @@ module _ (factors : List ℕ) (node odd high last : ℕ) (adds : AddUp factors n
   last_of_node = ap (λ f. product f u) adds.last_row
 
 -- a factor that is one more
-one_more : (c u : ℕ) → u < 2 ^ 8 → product (bit_xor 1 c) u ≡ bit_xor u (product c u)
+pub one_more : (c u : ℕ) → u < 2 ^ 8 → product (bit_xor 1 c) u ≡ bit_xor u (product c u)
 one_more c u byte = product_add_left 1 c u ∙ ap (λ x. bit_xor x (product c u)) (one_product u byte)
 
 -- a factor of all four values

@@ -6,3 +6,5 @@ pub mod DistanceLaws
 pub mod GeneratorLaws
 pub mod ColumnLemmas
 pub mod ColumnLaws
+pub mod SmallColumnLaws
+pub mod ColumnOfThree

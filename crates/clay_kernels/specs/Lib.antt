@@ -3,3 +3,4 @@ pub mod Columns
 pub mod Generated
 pub mod Distances
 pub mod Progress
+pub mod SmallColumns

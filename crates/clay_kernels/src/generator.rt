@@ -4,11 +4,13 @@ ghost use Rattle.clay_model.specs.Points.{AreDistinct};
 ghost use Rattle.clay_kernels.specs.Lanes.{AddsRows};
 ghost use Rattle.clay_kernels.specs.Generated.{IsGenerator, IsGeneratorOf, factor_at};
 ghost use Rattle.clay_kernels.specs.Columns.{AreColumns};
+ghost use Rattle.clay_kernels.specs.SmallColumns.{AddsNodes};
 
 use crate::column::ColumnFactors;
 use crate::factors::{in_blocks, lagrange_factors};
 use crate::kernels::add_rows;
 use crate::products::Products;
+use crate::small_columns::add_nodes;
 use clay_grid::Geometry;
 use std::alloc::{AllocError, Global};
 use std::marker::Model;
@@ -141,6 +143,39 @@ impl Generator {
     {
         let factors = self.of_node(node);
         add_rows(factors, values, rows);
+    }
+
+    // How many unknown nodes there are.
+    fn unknown(&self) -> usize
+        ensures { result ≡ self.now.unknown }
+    {
+        self.unknown
+    }
+
+    // The factors of as many known nodes as there are unknown ones, from `first` on.
+    fn of_nodes(&self, first: usize) -> &[Products]
+        requires { (first + self.now.unknown) * self.now.unknown ≤ length self.now.each }
+        ensures { result.now ≡ slice_range self.now.each
+            (first * self.now.unknown)
+            ((first + self.now.unknown) * self.now.unknown) }
+    {
+        let m = self.unknown;
+        &self.factors.as_slice()[first * m..(first + m) * m]
+    }
+
+    /// Adds to each unknown node's row of `len` bytes what as many known nodes add, from `first` on, with a row of values for each. For the
+    /// nodes of a column of two or three it takes fewer products than `add` for each.
+    pub fn add_nodes(&self, first: usize, len: usize, values: &[u8], rows: &mut [u8])
+        requires few { self.now.unknown ≤ 8 }
+        requires nodes { (first + self.now.unknown) * self.now.unknown ≤ length self.now.each }
+        requires values_len { length values.now ≡ self.now.unknown * len }
+        requires rows_len { length rows.old ≡ self.now.unknown * len }
+        ensures { AddsNodes self.now.unknown len
+            (λ x e. factor_at self.now.each self.now.unknown (first + x) e)
+            (λ x b. slice_index values.now (x * len + b)) rows.old rows.new }
+    {
+        let factors = self.of_nodes(first);
+        add_nodes(self.unknown(), len, factors, values, rows);
     }
 }
 

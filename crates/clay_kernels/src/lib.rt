@@ -9,6 +9,7 @@ mod factors;
 mod generator;
 mod kernels;
 mod products;
+mod small_columns;
 
 pub use blocks::{BLOCK, column_room, zeros};
 pub use column::{ColumnFactors, add_column, end_column};
