@@ -8,16 +8,6 @@ use Rattle.call_machine.specs.Kinds.{Machine, machine_of, IfReads}
 use Rattle.call_machine.specs.Calls.{MachineOf, drawn_by, owed_by}
 use Rattle.actors.specs.Callers.{CallerOf, asked_at}
 
--- a turn of a call: before its step, after its coding, it reads the same bytes, unless memory was wanting in that coding; and the step changes them and the directory's stamps
-pub record CallOwes (c : MachineOf) (d now : Sealed) (after : MachineOf) (coding short : Bool) : Type 0 where
-  pub before : MachineOf
-  pub is_ready : before.call ≡ ready coding c.call
-  pub is_asked : before.asked ≡ c.asked
-  pub owed : (c.call.due && coding) ≡ false → before.owed ≡ c.owed
-  pub asked : after.asked ≡ before.asked
-  pub goes : after.owed ≡ owed_by short d before
-  pub stamps : now.stamps ≡ d.stamps ++ drawn_by short d before
-
 -- the bytes that a call in work reads
 abbrev pub owed_now : Option MachineOf → List ℕ
 owed_now None = []

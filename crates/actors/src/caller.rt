@@ -28,7 +28,7 @@ use crate::after_step::{conclude, put_call, take};
 use crate::left::has_step;
 use crate::next_call::next_call;
 use crate::part::Part;
-use crate::steps::{on_coder, step_at_directory, step_at_server};
+use crate::steps::{on_coder, step_call_at_directory, step_call_at_server};
 use call_machine::CallMachine;
 use call_steps::{
     Act, CallerCalls, DirectoryAnswer, EndedCall, Need, ServerAnswer, Step, StepAnswer,
@@ -100,13 +100,6 @@ impl<'a> Caller<'a> {
                 Err(e)
             }
         }
-    }
-
-    /// How many of its calls have ended.
-    pub fn ended(&self) -> usize
-        ensures { result ≡ length self.now.actor.ended }
-    {
-        self.ended.len()
     }
 
     /// The steps that its call in work has made, none where it is in no call.
@@ -220,7 +213,7 @@ impl<'a> Caller<'a> {
         ensures knows { Knows directory.new self.new }
         ensures book { directory.new.book ≡ directory.old.book }
     {
-        let made = step_at_directory(&mut self.call, directory, book);
+        let made = step_call_at_directory(&mut self.call, directory, book);
         conclude(
             &mut self.call,
             &mut self.seat,
@@ -241,7 +234,7 @@ impl<'a> Caller<'a> {
         ensures knows { (d : Sealed) → Knows d self.old → Knows d self.new }
         ensures same { IsSame server.old server.new }
     {
-        let made = step_at_server(&mut self.call, server);
+        let made = step_call_at_server(&mut self.call, server);
         conclude(
             &mut self.call,
             &mut self.seat,

@@ -56,7 +56,7 @@ pub(crate) fn on_coder<R: Threads + Sync, C: Coder>(
 }
 
 /// The step of the call in work at the directory: the call as the step leaves it, and the answer.
-pub(crate) fn step_at_directory<'a>(
+pub(crate) fn step_call_at_directory<'a>(
     call: &mut Option<CallMachine<'a>>,
     directory: &mut Directory,
     book: &Book,
@@ -78,7 +78,7 @@ pub(crate) fn step_at_directory<'a>(
 
 /// The step of the call in work at the server that it needs: the call as the step leaves it, and the
 /// answer.
-pub(crate) fn step_at_server<'a>(
+pub(crate) fn step_call_at_server<'a>(
     call: &mut Option<CallMachine<'a>>,
     server: &mut Server,
 ) -> (Snapshot<CallMachine<'a>>, ServerAnswer)

@@ -12,7 +12,7 @@ use call_steps::{Act, DirectoryAct, DirectoryAnswer, ServerAct, ServerAnswer, St
 use store_map::{Actor, Point};
 
 // The operator's step at the server, which answers nothing.
-fn step_at_server(server: u32, act: ServerAct) -> Step
+fn step_of_server_act(server: u32, act: ServerAct) -> Step
     ensures { result ≡ server_act_told server act }
 {
     step_of(
@@ -43,7 +43,7 @@ impl<'a> World<'a> {
         ensures same_book { self.new.book ≡ self.old.book }
     {
         self.servers[server as usize].wipe();
-        step_at_server(server, ServerAct::Wipe)
+        step_of_server_act(server, ServerAct::Wipe)
     }
 
     /// The server is made away, and the step that does it.
@@ -55,7 +55,7 @@ impl<'a> World<'a> {
         ensures same_book { self.new.book ≡ self.old.book }
     {
         self.servers[server as usize].down();
-        step_at_server(server, ServerAct::Down)
+        step_of_server_act(server, ServerAct::Down)
     }
 
     /// The server is made present, and the step that does it.
@@ -67,7 +67,7 @@ impl<'a> World<'a> {
         ensures same_book { self.new.book ≡ self.old.book }
     {
         self.servers[server as usize].up();
-        step_at_server(server, ServerAct::Up)
+        step_of_server_act(server, ServerAct::Up)
     }
 
     /// The client's pass is given up, and the step that does it.

@@ -7,20 +7,20 @@ use Rattle.actors.proofs.caller.Caller.on_server.Goals as goal
 pub conclude-requires-clause-servers : goal.conclude-requires-clause-servers
 conclude-requires-clause-servers c =
     let a : _ = c.self.inside in
-    let m : _ = c.step_at_server-made.ensures.made in
-    counts_servers a.opening (part_by a.part) (length a.ended.items) a.call c.step_at_server-made.new.call m.call c.step_at_server-made.result.0.value c.self.invariant.kept m.was m.is (same_here m.call c.step_at_server-made.result.0.value _ _ m.made)
+    let m : _ = c.step_call_at_server-made.ensures.made in
+    counts_servers a.opening (part_by a.part) (length a.ended.items) a.call c.step_call_at_server-made.new.call m.call c.step_call_at_server-made.result.0.value c.self.invariant.kept m.was m.is (same_here m.call c.step_call_at_server-made.result.0.value _ _ m.made)
 
 pub invariant_of-self : goal.invariant_of-self
 invariant_of-self c =
     let a : _ = c.self.inside in
-    let m : _ = c.step_at_server-made.ensures.made in
-    let done : _ = c.conclude.ensures.concluded c.step_at_server-made.result.0.value m.is in
+    let m : _ = c.step_call_at_server-made.ensures.made in
+    let done : _ = c.conclude.ensures.concluded c.step_call_at_server-made.result.0.value m.is in
     let work : _ = in_work_at a.opening (part_by a.part) (length a.ended.items) a.call m.call c.self.invariant.kept m.was in
-    let same : _ = same_here m.call c.step_at_server-made.result.0.value _ _ m.made in
+    let same : _ = same_here m.call c.step_call_at_server-made.result.0.value _ _ m.made in
     record {
       either = done.either;
       kept =
-          stays_in_work (part_by a.part) a.opening a.tries a.ended.items c.conclude.new.ended.items a.seat c.conclude.new.seat a.steps c.conclude.new.steps c.step_at_server-made.result.0.value c.conclude.new.call (same.book ∙ work.its) done
+          stays_in_work (part_by a.part) a.opening a.tries a.ended.items c.conclude.new.ended.items a.seat c.conclude.new.seat a.steps c.conclude.new.steps c.step_call_at_server-made.result.0.value c.conclude.new.call (same.book ∙ work.its) done
           m.call work same m.made.asked;
       few = c.self.invariant.few;
       tries = c.self.invariant.tries;
@@ -30,6 +30,6 @@ invariant_of-self c =
 
 pub returns-clause-knows : goal.returns-clause-knows
 returns-clause-knows c d knows =
-    let m : _ = c.step_at_server-made.ensures.made in
-    let done : _ = c.conclude.ensures.concluded c.step_at_server-made.result.0.value m.is in
-    knows_after d c.step_at_server-made.result.0.value c.conclude.new.call (m.knows d (known_at d c.self.inside.call m.call c.args.self.now (ap (λ (a : CallerOf). a.work) c.self.view_is) m.was knows)) done.work
+    let m : _ = c.step_call_at_server-made.ensures.made in
+    let done : _ = c.conclude.ensures.concluded c.step_call_at_server-made.result.0.value m.is in
+    knows_after d c.step_call_at_server-made.result.0.value c.conclude.new.call (m.knows d (known_at d c.self.inside.call m.call c.args.self.now (ap (λ (a : CallerOf). a.work) c.self.view_is) m.was knows)) done.work

@@ -44,8 +44,8 @@ returns-clause-told c =
     subst
     (λ (v : StoredWorld). LeadsTold (token.Up c.args.server) v
     (changed (stored_in c.self.inside) c.self.inside.directory (set c.self.inside.servers.items c.args.server c.up.new.self) c.self.inside.clients.items c.self.inside.repairers.items c.self.inside.sweeper)
-    (c.step_at_server.result ∷ []))
+    (c.step_of_server_act.result ∷ []))
     c.self.view_is
     (subst (λ (step : Step). LeadsTold (token.Up c.args.server) (stored_in c.self.inside)
     (changed (stored_in c.self.inside) c.self.inside.directory (set c.self.inside.servers.items c.args.server c.up.new.self) c.self.inside.clients.items c.self.inside.repairers.items c.self.inside.sweeper)
-    (step ∷ [])) (sym c.step_at_server.ensures) told)
+    (step ∷ [])) (sym c.step_of_server_act.ensures) told)
