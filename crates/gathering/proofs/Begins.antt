@@ -1,20 +1,20 @@
 -- A course that begins keeps what a course keeps.
-use Rattle.std.proofs.Common.{◌≡◌, ◌<◌, ◌≤◌, ◌+◌, ℕ, Bool, true, false, cond, true≢false, map, List, [], ◌∷◌, length, take, get_or, All, Vec, refl, sym, ap, subst, ◌∙◌, arith}
+use Rattle.std.proofs.Common.{◌≡◌, ◌<◌, ℕ, map, List, [], ◌∷◌, length, take, All, refl, sym, ap, subst, ◌∙◌, arith}
 use Rattle.std.proofs.lemmas.List.Elements.{All-nil, All-cons}
-use Rattle.store_core.specs.Told.{Lost}
-use Rattle.clay_grid.specs.Shape.{Shape, chunk_count}
-use Rattle.store_map.specs.declared.placement.LostChunk.{LostChunk}
-use Rattle.gathering.specs.declared.course.Course.TheInside.{Inside}
-use Rattle.gathering.specs.declared.position.Doing.{Doing}
-use Rattle.gathering.specs.declared.position.Doing.TheVariants as doing
-use Rattle.gathering.specs.declared.position.Position.{Position}
-use Rattle.gathering.specs.Positions.{IsPlaced, IsPlacedBy}
-use Rattle.gathering.specs.Hearing.{IsAsking, IsFirst, FitsAim}
-use Rattle.gathering.specs.CourseInside.{IsCourse, aim_in, gone_in, missing_in, seen_in}
-use Rattle.store_core.specs.Told.{lost_in}
+use Rattle.store_core.specs.Told.{Lost, lost_in}
+use Rattle.clay_grid.specs.Shape.{chunk_count}
 use Rattle.store_resume.specs.Stage.{Aim}
+use Rattle.gathering.specs.declared.aim.CourseAim.{CourseAim}
+use Rattle.gathering.specs.declared.aim.CourseAim.TheVariants as own
+use Rattle.gathering.specs.declared.course.Course.TheInside.{Inside}
+use Rattle.gathering.specs.declared.position.Position.{Position}
+use Rattle.gathering.specs.declared.position.Position.TheVariants as position
+use Rattle.gathering.specs.Aims.{aim_of}
+use Rattle.gathering.specs.Positions.{IsPlaced}
+use Rattle.gathering.specs.Hearing.{IsFirst, FitsAim}
+use Rattle.gathering.specs.CourseInside.{IsCourse, seen_in}
 
-pub chunk_begins : (a : Inside) (target : ℕ) → a.position.doing ≡ doing.Target → a.is_chunk ≡ true → a.count ≡ 0 → a.first.items ≡ target ∷ [] → target < chunk_count a.geometry
+pub chunk_begins : (a : Inside) (target : ℕ) → a.position ≡ position.Target target → a.aim ≡ own.Chunk target → a.count ≡ 0 → a.first.items ≡ target ∷ [] → target < chunk_count a.geometry
     → length a.placed.items ≡ chunk_count a.geometry → length a.missing.items ≡ chunk_count a.geometry → length a.gone.items ≡ chunk_count a.geometry → IsCourse a
 chunk_begins a target d c none f below placed missing gone =
     record {
@@ -28,17 +28,11 @@ chunk_begins a target d c none f below placed missing gone =
       missing_below = λ i h other. absurd (omega (arith, h, none));
       knows =
           record {
-            is_first = by a.is_chunk c;
-            fits = fits_by a.is_chunk c;
+            is_first = subst (λ (k : CourseAim). IsFirst a.geometry (aim_of (seen_in a) k) a.first.items) (sym c) f;
+            fits =
+                subst (λ (k : CourseAim). FitsAim a.position (aim_of (seen_in a) k)) (sym c)
+                (subst (λ (p : Position). FitsAim p (Aim.Chunk (seen_in a) target)) (sym d) refl);
             servers = ap (λ (n : ℕ). map (λ (lost : Lost). lost.server) (map lost_in (take n a.missing.items))) none ∙ sym (ap (λ (n : ℕ). take n a.gone.items) none);
           };
-      is_placed = subst (λ (e : Doing). IsPlacedBy e a.geometry (length a.first.items) a.count a.position) (sym d) none;
+      is_placed = subst (λ (p : Position). IsPlaced a.geometry (length a.first.items) a.count p) (sym d) (below, none);
     }
-  where
-    by : (b : Bool) → b ≡ true → IsFirst a.geometry (cond b (Aim.Chunk (seen_in a) (get_or a.first.items 0 0)) (Aim.Range (record { seen = seen_in a; start = a.start; end = a.end }))) a.first.items
-    by true e = f ∙ ap (λ (l : List ℕ). get_or l 0 0 ∷ []) (sym f)
-    by false e = absurd (true≢false (sym e))
-
-    fits_by : (b : Bool) → b ≡ true → FitsAim a.position.doing (cond b (Aim.Chunk (seen_in a) (get_or a.first.items 0 0)) (Aim.Range (record { seen = seen_in a; start = a.start; end = a.end })))
-    fits_by true e = subst (λ (k : Doing). FitsAim k (Aim.Chunk (seen_in a) (get_or a.first.items 0 0))) (sym d) tt
-    fits_by false e = absurd (true≢false (sym e))

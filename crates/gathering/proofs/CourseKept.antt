@@ -1,6 +1,7 @@
 -- A course keeps what it keeps.
-use Rattle.std.proofs.Common.{◌≡◌, ◌<◌, ◌≤◌, ◌+◌, ℕ, zero, suc, Bool, true, false, cond, List, [], ◌∷◌, ◌++◌, length, map, take, set, get_or, All, Option, Some, refl, sym, ap, subst, ◌∙◌, inl, inr, get_or-set_same, get_or-set_other, arith}
+use Rattle.std.proofs.Common.{◌≡◌, ◌<◌, ◌≤◌, ◌+◌, ℕ, zero, suc, List, [], ◌∷◌, ◌++◌, length, map, take, set, get_or, All, Option, None, Some, refl, sym, ap, subst, ◌∙◌, inl, inr, get_or-set_same, get_or-set_other, arith}
 use Rattle.std.proofs.lemmas.Bool.{cases_eq}
+use Rattle.std.proofs.lemmas.Option.{none-some}
 use Rattle.std.proofs.lemmas.List.{length-take-le, length-set, take_more_set, map_push}
 use Rattle.clay_grid.specs.Shape.{Shape, chunk_count}
 use Rattle.std.specs.Vec.{with_item}
@@ -9,16 +10,20 @@ use Rattle.store_map.specs.declared.placement.Placement.{Placement}
 use Rattle.store_map.specs.declared.placement.Placement.TheVariants as placement
 use Rattle.store_core.specs.Told.{Lost, Seen, Told}
 use Rattle.store_core.specs.Gathering.{lost_at}
-use Rattle.store_resume.specs.Stage.{Aim, Stage, seen_of}
+use Rattle.store_resume.specs.Stage.{Asking, Stage, seen_of}
 use Rattle.store_resume.specs.StageAfter.{next_stage}
 use Rattle.gathering.specs.Courses.{CourseOf, IsAskingStage, server_at, server_of, gone_after, after_answer}
-use Rattle.gathering.specs.declared.position.Doing.{Doing}
-use Rattle.gathering.specs.declared.position.Doing.TheVariants as doing
 use Rattle.store_map.specs.declared.placement.LostChunk.{LostChunk}
+use Rattle.gathering.specs.declared.aim.CourseAim.{CourseAim}
+use Rattle.gathering.specs.declared.aim.CourseAim.TheVariants as own
 use Rattle.gathering.specs.declared.course.Course.TheInside.{Inside}
+use Rattle.gathering.specs.declared.ending.Ending.{Ending}
+use Rattle.gathering.specs.declared.ending.Ending.TheVariants as ending
 use Rattle.gathering.specs.declared.position.Position.{Position}
-use Rattle.gathering.specs.Positions.{stage_by, stage_of, asked_by, IsPlaced}
-use Rattle.gathering.specs.Hearing.{IsAsking, KeepsAim, Knows, FitsAim, HearsMissing}
+use Rattle.gathering.specs.declared.position.Position.TheVariants as position
+use Rattle.gathering.specs.Aims.{aim_of, ending_at}
+use Rattle.gathering.specs.Positions.{stage_ended, stage_of, IsPlaced}
+use Rattle.gathering.specs.Hearing.{IsAsking, KeepsAim, HearsMissing}
 use Rattle.gathering.specs.CourseInside.{IsCourse, course_in, seen_in, aim_in, gone_in, missing_in}
 use Rattle.store_core.specs.Told.{lost_in}
 
@@ -27,7 +32,7 @@ abbrev pub moved : Inside → Position → Inside
 moved a result = record a { position = result }
 
 pub course_moved : (a : Inside) (result : Position) (first gone : List ℕ) → IsCourse a → first ≡ a.first.items → gone ≡ gone_in a
-    → (IsAsking result.doing → IsAsking a.position.doing) → KeepsAim a.position result → IsPlaced a.geometry (length first) (length gone) result → IsCourse (moved a result)
+    → (IsAsking result → IsAsking a.position) → KeepsAim a.position result → IsPlaced a.geometry (length first) (length gone) result → IsCourse (moved a result)
 course_moved a result first gone i f g asks keeps placed =
     record {
       placed_length = i.placed_length;
@@ -46,11 +51,11 @@ course_moved a result first gone i f g asks keeps placed =
     }
 
 seen_same : (a : Inside) → seen_of (aim_in a) ≡ seen_in a
-seen_same a = by a.is_chunk
+seen_same a = by a.aim
   where
-    by : (b : Bool) → seen_of (cond b (Aim.Chunk (seen_in a) (get_or a.first.items 0 0)) (Aim.Range (record { seen = seen_in a; start = a.start; end = a.end }))) ≡ seen_in a
-    by true = refl
-    by false = refl
+    by : (k : CourseAim) → seen_of (aim_of (seen_in a) k) ≡ seen_in a
+    by (own.Range start end) = refl
+    by (own.Chunk target) = refl
 
 -- a missing server
 abbrev pub lost_of : ℕ → Placement → Found → LostChunk
@@ -61,23 +66,13 @@ abbrev pub missed_in : Inside → ℕ → Placement → Found → Position → I
 missed_in a server placed found result =
     record a { missing = with_item a.missing a.count (lost_of server placed found); gone = with_item a.gone a.count server; count = a.count + 1; position = result }
 
--- the server that is asked is that of the position
-asked_at : (d : Doing) (a : Inside) → IsAsking d
-    → server_at a.geometry (aim_in a) (stage_by d a.geometry a.first.items (gone_in a) (missing_in a) a.position) ≡ Some (asked_by d a.first.items a.position)
-asked_at doing.Fetch a h = refl
-asked_at doing.Look a h = refl
-asked_at doing.Repair a h = refl
-asked_at doing.Whole a h = refl
-asked_at doing.Target a h = refl
-asked_at d a h = absurd h
-
 -- the fields after the server that is asked was found missing are the course after that answer
 pub course_missed : (a : Inside) (server : ℕ) (placed : Placement) (found : Found) (result : Position) (first gone : List ℕ) → IsCourse a → a.count < chunk_count a.geometry
-    → IsAsking a.position.doing → server ≡ asked_by a.position.doing a.first.items a.position → placed ≡ get_or a.placed.items server (placement.At 0)
+    → server_of (course_in a) ≡ Some server → placed ≡ get_or a.placed.items server (placement.At 0)
     → first ≡ a.first.items → gone ≡ take (a.count + 1) (set a.gone.items a.count server)
     → HearsMissing a.geometry first gone a.position found result
     → course_in (missed_in a server placed found result) ≡ after_answer (course_in a) (Told.Missing found)
-course_missed a server placed found result first gone i room asks s p f is goes =
+course_missed a server placed found result first gone i room asked p f is goes =
     let g = a.geometry in
     let below : a.count < length a.gone.items = subst (λ (n : ℕ). a.count < n) (sym i.gone_length) room in
     let below_missing : a.count < length a.missing.items = subst (λ (n : ℕ). a.count < n) (sym i.missing_length) room in
@@ -99,24 +94,31 @@ course_missed a server placed found result first gone i room asks s p f is goes 
     ≡ next_stage g (aim_in a) (stage_of g a.first.items (gone_in a) (missing_in a) a.position) (Told.Missing found) =
     ap (λ (l : List Lost). stage_of g a.first.items (take (a.count + 1) (set a.gone.items a.count server)) l result) missing
     ∙ ap (λ (l : List ℕ). stage_of g a.first.items l (missing_in a ++ lost_at g (seen_of (aim_in a)) server found ∷ []) result) (sym is)
-    ∙ goes_on (aim_in a) (gone_in a) server (missing_in a) i.knows at_place (is ∙ more) s
+    ∙ goes_on (aim_in a) (gone_in a) server (missing_in a) i.knows at_place (is ∙ more) asked
     in
-    let asked : server_of (course_in a) ≡ Some server = asked_at a.position.doing a asks ∙ ap Some (sym s) in
     let servers : take (a.count + 1) (set a.gone.items a.count server) ≡ gone_after (Told.Missing found) (server_of (course_in a)) (gone_in a) =
     more ∙ sym (ap (λ (o : Option ℕ). gone_after (Told.Missing found) o (gone_in a)) asked)
     in
     λ j. record { geometry = g; aim = aim_in a; stage = stage j; gone = servers j }
 
-asking_by : (d : Doing) (a : Inside) → IsAskingStage (stage_by d a.geometry a.first.items (gone_in a) (missing_in a) a.position) → IsAsking d
-asking_by doing.Fetch a h = tt
-asking_by doing.Look a h = tt
-asking_by doing.Repair a h = tt
-asking_by doing.Whole a h = tt
-asking_by doing.Target a h = tt
-asking_by d a h = h
+asking_by : (p : Position) (a : Inside) → IsAskingStage (stage_of a.geometry a.first.items (gone_in a) (missing_in a) p) → IsAsking p
+asking_by position.HasBytes a h = h
+asking_by (position.Ended ending.TooMany) a h = h
+asking_by (position.Ended ending.AtTarget) a h = h
+asking_by (position.Ended (ending.TargetAway downs)) a h = h
+asking_by (position.Ended ending.Short) a h = h
+asking_by p a h = tt
 
-pub is_asking : (a : Inside) (w : CourseOf) → course_in a ≡ w → IsAskingStage w.stage → IsAsking a.position.doing
-is_asking a w e h = asking_by a.position.doing a (subst (λ (v : CourseOf). IsAskingStage v.stage) (sym e) h)
+pub is_asking : (a : Inside) (w : CourseOf) → course_in a ≡ w → IsAskingStage w.stage → IsAsking a.position
+is_asking a w e h = asking_by a.position a (subst (λ (v : CourseOf). IsAskingStage v.stage) (sym e) h)
+
+-- a course that asks has a server that it asks
+pub one_is_asked : (w : CourseOf) → IsAskingStage w.stage → None ≡ server_of w → ⊥
+one_is_asked w h e = by w.stage h e
+  where
+    by : (stage : Stage) → IsAskingStage stage → None ≡ server_at w.geometry w.aim stage → ⊥
+    by (Stage.Asks asking) h e = none-some _ e
+    by stage h e = h
 
 pub there : {A : Type 0} (l : List A) (i : ℕ) (d e : A) → i < length l → get_or l i d ≡ get_or l i e
 there [] i d e h = absurd (omega (arith, h))
@@ -141,7 +143,7 @@ missing_more a server placed found k below room i h other =
 
 pub missed_kept : (a : Inside) (server : ℕ) (placed : Placement) (found : Found) (result : Position) (first gone : List ℕ) → IsCourse a → server < chunk_count a.geometry → a.count < chunk_count a.geometry
     → first ≡ a.first.items → gone ≡ take (a.count + 1) (set a.gone.items a.count server)
-    → (IsAsking result.doing → length gone ≤ a.geometry.parity_count) → KeepsAim a.position result → IsPlaced a.geometry (length first) (length gone) result
+    → (IsAsking result → length gone ≤ a.geometry.parity_count) → KeepsAim a.position result → IsPlaced a.geometry (length first) (length gone) result
     → IsCourse (missed_in a server placed found result)
 missed_kept a server placed found result first gone k below room f is asks keeps at_result =
     let below_gone : a.count < length a.gone.items = subst (λ (n : ℕ). a.count < n) (sym k.gone_length) room in
@@ -174,3 +176,25 @@ missed_kept a server placed found result first gone k below room f is asks keeps
           subst (λ (n : ℕ). IsPlaced a.geometry (length a.first.items) n result) count
           (subst (λ (l : List ℕ). IsPlaced a.geometry (length l) (length gone) result) f at_result);
     }
+
+-- how a position's stage ends, if it does
+pub ends_so : (missing : List Lost) (how : Ending) → Some how ≡ ending_at (stage_ended missing how)
+ends_so missing ending.TooMany = refl
+ends_so missing ending.AtTarget = refl
+ends_so missing (ending.TargetAway downs) = refl
+ends_so missing ending.Short = refl
+
+-- want of memory ends any course that asks
+pub short_ends : (a : Inside) (w : CourseOf) → course_in a ≡ w → IsAskingStage w.stage → course_in (moved a (position.Ended ending.Short)) ≡ after_answer w Told.Short
+short_ends a w e h = (λ i. record { geometry = a.geometry; aim = aim_in a; stage = by (course_in a).stage (subst (λ (v : CourseOf). IsAskingStage v.stage) (sym e) h) i; gone = gone_in a }) ∙ ap (λ (v : CourseOf). after_answer v Told.Short) e
+  where
+    asks : (asking : Asking) → Stage.Short ≡ next_stage a.geometry (aim_in a) (Stage.Asks asking) Told.Short
+    asks (Asking.Fetch server more missing) = refl
+    asks (Asking.Look server more missing) = refl
+    asks (Asking.Repair server more lost) = refl
+    asks (Asking.Whole server more wanted missing) = refl
+    asks (Asking.Target server) = refl
+
+    by : (stage : Stage) → IsAskingStage stage → Stage.Short ≡ next_stage a.geometry (aim_in a) stage Told.Short
+    by (Stage.Asks asking) h = asks asking
+    by stage h = absurd h

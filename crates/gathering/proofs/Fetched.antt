@@ -11,6 +11,8 @@ use Rattle.store_core.specs.Act.{ServerStep}
 use Rattle.store_core.specs.Server.{Server, at_server}
 use Rattle.store_core.specs.GatheringParts.{chunks_in_range}
 use Rattle.store_resume.specs.Stage.{Asking, Stage, seen_of}
+use Rattle.store_resume.specs.Stages.{fetch_stage}
+use Rattle.store_core.specs.Gathering.{Part}
 use Rattle.gathering.specs.Courses.{IsAskingStage, server_at, server_of, is_look, layers_at, layers_asked}
 use Rattle.gathering.specs.Gathers.{GatherOf, heard, taking, stepped_at, stepped}
 use Rattle.gathering.proofs.Among.{kept_in, in_range}
@@ -91,3 +93,11 @@ some_chunk g start end long some within =
     (lt-ltb (max start (c * chunk_length g)) (min end ((c + 1) * chunk_length g))
     (meets start end (chunk_length g) c (start % chunk_length g) some (mod_below start (chunk_length g) long) (div-add-mod' start (chunk_length g))))
     (range_with_len 0 g.data_count) (in_range c 0 g.data_count (omega arith) (omega (arith, inside))))
+
+-- a part with bytes asks for them first
+pub first_asks : (g : Shape) (part : Part) → 0 < length (chunks_in_range g part.start part.end) → IsAskingStage (fetch_stage g part (chunks_in_range g part.start part.end) [])
+first_asks g part some = by (chunks_in_range g part.start part.end) some
+  where
+    by : (servers : List ℕ) → 0 < length servers → IsAskingStage (fetch_stage g part servers [])
+    by [] h = absurd (omega (arith, h))
+    by (server ∷ servers) h = tt

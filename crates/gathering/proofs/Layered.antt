@@ -6,6 +6,8 @@ use Rattle.std.proofs.lemmas.Bool.{lt-ltb, le-ltb}
 use Rattle.clay_grid.specs.Shape.{Shape, layer_count, chunk_length}
 use Rattle.clay_grid.specs.Repair.{all_layers, layers_in_range, repair_layers_of}
 use Rattle.store_core.specs.GatheringParts.{layers_for}
+use Rattle.store_resume.specs.Stage.{Aim}
+use Rattle.store_resume.specs.StageAfter.{wanted_layers}
 
 pub range_more : (a n : ℕ) → range_with_len a (suc n) ≡ range_with_len a n ++ (a + n) ∷ []
 range_more a zero = ap (λ (k : ℕ). k ∷ []) (none a)
@@ -70,10 +72,12 @@ within a (suc n) m h = All-cons (λ (x : ℕ). x < m) a (range_with_len (a + 1) 
 pub below_all : (g : Shape) (l : List ℕ) → l ≡ all_layers g → All (λ (x : ℕ). x < layer_count g) l
 below_all g l e = subst (λ (k : List ℕ). All (λ (x : ℕ). x < layer_count g) k) (sym e) (within 0 (layer_count g) (layer_count g) (omega arith))
 
-pub below_for : (g : Shape) (start end chunk : ℕ) (l : List ℕ) → l ≡ layers_for g start end chunk → All (λ (x : ℕ). x < layer_count g) l
-below_for g start end chunk l e =
-    subst (λ (k : List ℕ). All (λ (x : ℕ). x < layer_count g) k) (sym e)
-    (All-filter _ (λ (x : ℕ). x < layer_count g) (all_layers g) (within 0 (layer_count g) (layer_count g) (omega arith)))
+below_of : (g : Shape) (aim : Aim) (server : ℕ) → All (λ (x : ℕ). x < layer_count g) (wanted_layers g aim server)
+below_of g (Aim.Range part) server = All-filter _ (λ (x : ℕ). x < layer_count g) (all_layers g) (within 0 (layer_count g) (layer_count g) (omega arith))
+below_of g (Aim.Chunk seen target) server = All-nil (λ (x : ℕ). x < layer_count g)
+
+pub below_wanted : (g : Shape) (aim : Aim) (server : ℕ) (l : List ℕ) → l ≡ wanted_layers g aim server → All (λ (x : ℕ). x < layer_count g) l
+below_wanted g aim server l e = subst (λ (k : List ℕ). All (λ (x : ℕ). x < layer_count g) k) (sym e) (below_of g aim server)
 
 pub below_repair : (g : Shape) (chunk : ℕ) (l : List ℕ) → l ≡ repair_layers_of g chunk → All (λ (x : ℕ). x < layer_count g) l
 below_repair g chunk l e =

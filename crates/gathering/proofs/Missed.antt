@@ -1,195 +1,148 @@
 -- From a position to the one after the server that was asked is found missing.
-use Rattle.std.proofs.Common.{◌≡◌, ℕ, zero, suc, ◌+◌, ◌-◌, ◌<◌, ◌≤◌, Bool, true, false, cond, nat_lt, List, [], ◌∷◌, ◌++◌, length, map, take, drop, get_or, refl, sym, ap, subst, ◌∙◌, arith}
-use Rattle.std.proofs.lemmas.List.{map_push, take-append-le}
-use Rattle.std.proofs.lemmas.Bool.{lt-ltb, le-ltb}
+use Rattle.std.proofs.Common.{◌≡◌, ℕ, suc, ◌+◌, nat_lt, Bool, true, false, cond, List, [], ◌∷◌, ◌++◌, length, map, take, drop, get_or, refl, sym, ap, subst, ◌∙◌, arith}
+use Rattle.std.proofs.lemmas.List.{map_push, length_push, take-append-le}
+use Rattle.std.proofs.lemmas.Option.{same_Some}
 use Rattle.clay_grid.specs.Shape.{Shape, chunk_count}
 use Rattle.store_map.specs.declared.placement.Found.{Found}
 use Rattle.store_map.specs.declared.placement.Found.TheVariants as why
-use Rattle.store_core.specs.Told.{Seen, Lost, Told}
-use Rattle.store_core.specs.Gathering.{Part, lost_at, servers_but}
-use Rattle.store_resume.specs.Stage.{Aim, Asking, Stage, seen_of}
-use Rattle.store_resume.specs.Stages.{unless_many, whole_stage, repair_stage, recover_stage, look_stage, fetch_stage_of}
-use Rattle.store_resume.specs.StageAfter.{next_stage}
+use Rattle.store_core.specs.Told.{Seen, Lost}
+use Rattle.store_core.specs.Gathering.{lost_at, servers_but}
+use Rattle.store_resume.specs.Stage.{Aim, Stage, seen_of}
+use Rattle.store_resume.specs.StageAfter.{with_lost}
+use Rattle.store_resume.specs.Stages.{unless_many, whole_stage, recover_stage, look_stage, fetch_stage}
 use Rattle.gathering.specs.CourseServers.{asked_from}
-use Rattle.gathering.specs.declared.position.Doing.{Doing}
-use Rattle.gathering.specs.declared.position.Doing.TheVariants as doing
+use Rattle.gathering.specs.Servers.{AreServers}
+use Rattle.gathering.specs.declared.ending.Ending.TheVariants as ending
 use Rattle.gathering.specs.declared.position.Position.{Position}
-use Rattle.gathering.specs.Positions.{stage_by, stage_of, first_lost, downs_of, IsPlacedBy, IsPlaced, asked_by}
-use Rattle.gathering.specs.Reaching.{BeginWith, AreMissing, GoesToWhole, GoesToRepair, GoesToMake, GoesToLook, GoesToFetch}
-use Rattle.gathering.specs.Hearing.{IsFirst, FitsAim, Knows, HearsMissing}
-use Rattle.gathering.proofs.Moves.{as_many, from_none}
-use Rattle.gathering.proofs.Heard.{whole_list, begins}
+use Rattle.gathering.specs.declared.position.Position.TheVariants as position
+use Rattle.gathering.specs.Positions.{stage_of, first_lost}
+use Rattle.gathering.specs.Reaching.{GoesToWhole, GoesToLook, GoesToFetch}
+use Rattle.gathering.specs.Hearing.{HearsMissing, or_too_many}
+use Rattle.gathering.proofs.Moves.{as_many, from_none, one_more, whole_list}
+use Rattle.gathering.proofs.Heard.{begins}
 
-one_more : (n : ℕ) → n + 1 ≡ suc n
-one_more n = omega arith
+-- the stage of a position, unless too many are missing
+many_by : (g : Shape) (first gone : List ℕ) (missing : List Lost) (next : Position) (own all : Bool) → own ≡ all
+    → stage_of g first gone missing (cond own (position.Ended ending.TooMany) next) ≡ cond all (Stage.TooMany missing) (stage_of g first gone missing next)
+many_by g first gone missing next true all e = ap (λ (b : Bool). cond b (Stage.TooMany missing) (stage_of g first gone missing next)) e
+many_by g first gone missing next false all e = ap (λ (b : Bool). cond b (Stage.TooMany missing) (stage_of g first gone missing next)) e
 
-lt_yes : (a b : ℕ) → a < b → nat_lt a b ≡ true
-lt_yes a b h = lt-ltb a b h
+too_many : (g : Shape) (first gone : List ℕ) (missing : List Lost) (next : Position) → AreServers missing gone
+    → stage_of g first gone missing (or_too_many g gone next) ≡ unless_many g missing (stage_of g first gone missing next)
+too_many g first gone missing next servers =
+    many_by g first gone missing next (nat_lt g.parity_count (length gone)) (nat_lt g.parity_count (length missing))
+    (ap (λ (n : ℕ). nat_lt g.parity_count n) (sym (as_many gone missing servers)))
 
-lt_no : (a b : ℕ) → b ≤ a → nat_lt a b ≡ false
-lt_no a b h = le-ltb a b h
+module _ (g : Shape) (first gone : List ℕ) (found : Found) where
+  -- with one more missing server
+  servers_then : (aim : Aim) (before : List ℕ) (server : ℕ) (missing : List Lost) → AreServers missing before → gone ≡ before ++ server ∷ []
+      → AreServers (with_lost g aim missing server found) gone
+  servers_then aim before server missing servers more =
+      map_push (λ (lost : Lost). lost.server) missing (lost_at g (seen_of aim) server found) ∙ ap (λ (l : List ℕ). l ++ server ∷ []) servers ∙ sym more
 
-module _ (g : Shape) (first gone : List ℕ) (p result : Position) (found : Found) (aim : Aim) (before : List ℕ) (server : ℕ) (missing : List Lost)
-    (k : Knows g aim first before missing p) (placed : IsPlaced g (length first) (length before) p) (more : gone ≡ before ++ server ∷ []) where
-  abbrev pub later : List Lost
-  later = missing ++ lost_at g (seen_of aim) server found ∷ []
+  -- where the next position has this stage, unless too many are missing
+  missed_to : (aim : Aim) (before : List ℕ) (server : ℕ) (missing : List Lost) → AreServers missing before → gone ≡ before ++ server ∷ []
+      → (next result : Position) (otherwise : Stage) → result ≡ or_too_many g gone next → stage_of g first gone (with_lost g aim missing server found) next ≡ otherwise
+      → stage_of g first gone (with_lost g aim missing server found) result ≡ unless_many g (with_lost g aim missing server found) otherwise
+  missed_to aim before server missing servers more next result otherwise is goes =
+      ap (λ (p : Position). stage_of g first gone (with_lost g aim missing server found) p) is
+      ∙ too_many g first gone (with_lost g aim missing server found) next (servers_then aim before server missing servers more)
+      ∙ ap (λ (stage : Stage). unless_many g (with_lost g aim missing server found) stage) goes
 
-  pub now_marked : AreMissing gone gone later
-  now_marked =
-      record {
-        begin = whole_list gone;
-        servers = map_push (λ (lost : Lost). lost.server) missing (lost_at g (seen_of aim) server found) ∙ ap (λ (l : List ℕ). l ++ server ∷ []) k.servers ∙ sym more;
-      }
+  -- of the position that it is
+  misses_as : (p now result : Position) → p ≡ now → HearsMissing g first gone now found result → HearsMissing g first gone p found result
+  misses_as p now result e heard = subst (λ (q : Position). HearsMissing g first gone q found result) (sym e) heard
 
-  pub count_now : length later ≡ length gone
-  count_now = as_many gone later now_marked.servers
+  fetch_missed : (next result : Position) (at : ℕ) → result ≡ or_too_many g gone next → GoesToFetch g first (at + 1) gone next → HearsMissing g first gone (position.Fetch at) found result
+  fetch_missed next result at is goes (Aim.Range part) before server missing k placed more asked =
+      missed_to (Aim.Range part) before server missing k.servers more next result _ is
+      (goes part (with_lost g (Aim.Range part) missing server found) (servers_then (Aim.Range part) before server missing k.servers more) k.is_first)
+      ∙ ap (λ (s : ℕ). unless_many g (with_lost g (Aim.Range part) missing s found) (fetch_stage g part (drop (at + 1) first) (with_lost g (Aim.Range part) missing s found)))
+      (sym (same_Some (get_or first at 0) server asked))
+  fetch_missed next result at is goes (Aim.Chunk seen target) before server missing k placed more asked = absurd k.fits
 
-  pub yes : (otherwise : Stage) → g.parity_count < length gone → unless_many g later otherwise ≡ Stage.TooMany later
-  yes otherwise h = ap (λ (b : Bool). cond b (Stage.TooMany later) otherwise) (lt_yes g.parity_count (length later) (subst (λ (n : ℕ). g.parity_count < n) (sym count_now) h))
+  pub miss_fetch : (p next result : Position) (at : ℕ) → p ≡ position.Fetch at → result ≡ or_too_many g gone next → GoesToFetch g first (at + 1) gone next → HearsMissing g first gone p found result
+  miss_fetch p next result at e is goes = misses_as p (position.Fetch at) result e (fetch_missed next result at is goes)
 
-  pub never : (otherwise : Stage) → length gone ≤ g.parity_count → unless_many g later otherwise ≡ otherwise
-  never otherwise h = ap (λ (b : Bool). cond b (Stage.TooMany later) otherwise) (lt_no g.parity_count (length later) (subst (λ (n : ℕ). n ≤ g.parity_count) (sym count_now) h))
+  look_missed : (next result : Position) (of : ℕ) → result ≡ or_too_many g gone next → GoesToLook g first gone (of + 1) next → HearsMissing g first gone (position.Look of) found result
+  look_missed next result of is goes aim before server missing k placed more asked =
+      missed_to aim before server missing k.servers more next result _ is
+      (goes (seen_of aim) (with_lost g aim missing server found) (servers_then aim before server missing k.servers more))
+      ∙ ap (λ (s : ℕ). unless_many g (with_lost g aim missing s found) (look_stage g (seen_of aim) (asked_from first (chunk_count g) (of + 1)) (with_lost g aim missing s found)))
+      (sym (same_Some of server asked))
 
-  ends : (ending : Doing) → result.doing ≡ ending → stage_of g first gone later result ≡ stage_by ending g first gone later result
-  ends ending e = ap (λ (d : Doing). stage_by d g first gone later result) e
+  pub miss_look : (p next result : Position) (of : ℕ) → p ≡ position.Look of → result ≡ or_too_many g gone next → GoesToLook g first gone (of + 1) next → HearsMissing g first gone p found result
+  miss_look p next result of e is goes = misses_as p (position.Look of) result e (look_missed next result of is goes)
 
-  at : (now : Doing) → p.doing ≡ now → next_stage g aim (stage_of g first before missing p) (Told.Missing found) ≡ next_stage g aim (stage_by now g first before missing p) (Told.Missing found)
-  at now e = ap (λ (d : Doing). next_stage g aim (stage_by d g first before missing p) (Told.Missing found)) e
-
-  -- what follows where not too many are missing
-  from_fetch : p.doing ≡ doing.Fetch → server ≡ asked_by p.doing first p
-      → next_stage g aim (stage_of g first before missing p) (Told.Missing found) ≡ unless_many g later (fetch_stage_of g aim (drop (p.at + 1) first) later)
-  from_fetch e s =
-      at doing.Fetch e
-      ∙ ap (λ (k : ℕ). unless_many g (missing ++ lost_at g (seen_of aim) k found ∷ []) (fetch_stage_of g aim (drop (p.at + 1) first) (missing ++ lost_at g (seen_of aim) k found ∷ [])))
-      (sym (s ∙ ap (λ (d : Doing). asked_by d first p) e))
-
-  from_look : p.doing ≡ doing.Look → server ≡ asked_by p.doing first p
-      → next_stage g aim (stage_of g first before missing p) (Told.Missing found) ≡ unless_many g later (look_stage g (seen_of aim) (asked_from first (chunk_count g) (p.server + 1)) later)
-  from_look e s =
-      at doing.Look e
-      ∙ ap (λ (k : ℕ). unless_many g (missing ++ lost_at g (seen_of aim) k found ∷ []) (look_stage g (seen_of aim) (asked_from first (chunk_count g) (p.server + 1)) (missing ++ lost_at g (seen_of aim) k found ∷ [])))
-      (sym (s ∙ ap (λ (d : Doing). asked_by d first p) e))
-
-  from_whole : p.doing ≡ doing.Whole → server ≡ asked_by p.doing first p
-      → next_stage g aim (stage_of g first before missing p) (Told.Missing found) ≡ unless_many g later (whole_stage g (asked_from (take p.counted before) (chunk_count g) (p.server + 1)) (suc p.wanted) later)
-  from_whole e s =
-      at doing.Whole e
-      ∙ ap (λ (k : ℕ). unless_many g (missing ++ lost_at g (seen_of aim) k found ∷ []) (whole_stage g (asked_from (take p.counted before) (chunk_count g) (p.server + 1)) (suc p.wanted) (missing ++ lost_at g (seen_of aim) k found ∷ [])))
-      (sym (s ∙ ap (λ (d : Doing). asked_by d first p) e))
-
-  one_lost : (missing : List Lost) → length missing ≡ 1 → first_lost missing ∷ [] ≡ missing
+  one_lost : (missing : List Lost) → length missing ≡ 1 → missing ≡ first_lost missing ∷ []
   one_lost [] n = absurd (omega (arith, n))
   one_lost (lost ∷ []) n = refl
   one_lost (lost ∷ other ∷ more) n = absurd (omega (arith, n))
 
-  from_repair : p.doing ≡ doing.Repair → server ≡ asked_by p.doing first p
-      → next_stage g aim (stage_of g first before missing p) (Told.Missing found) ≡ unless_many g later (recover_stage g (seen_of aim) later)
-  from_repair e s =
-      let was : IsPlacedBy doing.Repair g (length first) (length before) p = subst (λ (d : Doing). IsPlacedBy d g (length first) (length before) p) e placed in
-      at doing.Repair e
-      ∙ ap (λ (l : List Lost). unless_many g (l ++ lost_at g (seen_of aim) p.server found ∷ []) (recover_stage g (seen_of aim) (l ++ lost_at g (seen_of aim) p.server found ∷ [])))
-      (one_lost missing (as_many before missing k.servers ∙ was.2))
-      ∙ ap (λ (k : ℕ). unless_many g (missing ++ lost_at g (seen_of aim) k found ∷ []) (recover_stage g (seen_of aim) (missing ++ lost_at g (seen_of aim) k found ∷ [])))
-      (sym (s ∙ ap (λ (d : Doing). asked_by d first p) e))
+  recovers : (seen : Seen) (missing : List Lost) (next : Position) → GoesToWhole g gone 0 g.data_count next → AreServers missing gone → stage_of g first gone missing next ≡ recover_stage g seen missing
+  recovers seen missing next goes servers =
+      goes first gone missing (whole_list gone)
+      ∙ sym (ap (λ (l : List ℕ). whole_stage g (asked_from l (chunk_count g) 0) g.data_count missing) servers)
+      ∙ sym (ap (λ (l : List ℕ). whole_stage g l g.data_count missing) (from_none g seen (map (λ (lost : Lost). lost.server) missing)))
 
-  fetch_part : (aim' : Aim) → aim ≡ aim' → GoesToFetch g first (p.at + 1) gone result → IsFirst g aim' first → FitsAim doing.Fetch aim' → stage_of g first gone later result ≡ fetch_stage_of g aim' (drop (p.at + 1) first) later
-  fetch_part (Aim.Range part) same goes is fits = goes part gone later now_marked is
-  fetch_part (Aim.Chunk seen target) same goes is fits = absurd fits
+  repair_missed : (next result : Position) (of : ℕ) → result ≡ or_too_many g gone next → GoesToWhole g gone 0 g.data_count next → HearsMissing g first gone (position.Repair of) found result
+  repair_missed next result of is goes aim before server missing k placed more asked =
+      missed_to aim before server missing k.servers more next result _ is
+      (recovers (seen_of aim) (with_lost g aim missing server found) next goes (servers_then aim before server missing k.servers more))
+      ∙ ap (λ (s : ℕ). unless_many g (with_lost g aim missing s found) (recover_stage g (seen_of aim) (with_lost g aim missing s found))) (sym (same_Some of server asked))
+      ∙ ap (λ (l : List Lost). unless_many g (with_lost g aim l of found) (recover_stage g (seen_of aim) (with_lost g aim l of found)))
+      (one_lost missing (as_many before missing k.servers ∙ placed.1))
 
-  no_lost : (missing : List Lost) → length missing ≡ 0 → missing ≡ []
-  no_lost [] n = refl
-  no_lost (lost ∷ missing) n = absurd (omega (arith, n))
+  pub miss_repair : (p next result : Position) (of wanted : ℕ) → p ≡ position.Repair of → result ≡ or_too_many g gone next → wanted ≡ g.data_count → GoesToWhole g gone 0 wanted next
+      → HearsMissing g first gone p found result
+  miss_repair p next result of wanted e is w goes =
+      misses_as p (position.Repair of) result e (repair_missed next result of is (subst (λ (n : ℕ). GoesToWhole g gone 0 n next) w goes))
 
-  target_chunk : (aim' : Aim) → aim ≡ aim' → IsFirst g aim' first → FitsAim doing.Target aim' → get_or first 0 0 ∷ [] ≡ first
-  target_chunk (Aim.Range part) same is fits = absurd fits
-  target_chunk (Aim.Chunk seen target) same is fits = ap (λ (l : List ℕ). get_or l 0 0 ∷ []) is ∙ sym is
+  whole_missed : (next result : Position) (of wanted counted : ℕ) → result ≡ or_too_many g gone next → GoesToWhole g (take counted gone) (of + 1) (wanted + 1) next
+      → HearsMissing g first gone (position.Whole of wanted counted) found result
+  whole_missed next result of wanted counted is goes aim before server missing k placed more asked =
+      let many : length gone ≡ length before + 1 = ap length more ∙ length_push before server in
+      let same : take counted gone ≡ take counted before = ap (λ (l : List ℕ). take counted l) more ∙ take-append-le counted before (server ∷ []) placed.1 in
+      missed_to aim before server missing k.servers more next result _ is
+      (goes first gone (with_lost g aim missing server found) (begins gone counted (omega (arith, placed.1, many)))
+      ∙ ap (λ (l : List ℕ). whole_stage g (asked_from l (chunk_count g) (of + 1)) (wanted + 1) (with_lost g aim missing server found)) same
+      ∙ ap (λ (n : ℕ). whole_stage g (asked_from (take counted before) (chunk_count g) (of + 1)) n (with_lost g aim missing server found)) (one_more wanted))
+      ∙ ap (λ (s : ℕ). unless_many g (with_lost g aim missing s found) (whole_stage g (asked_from (take counted before) (chunk_count g) (of + 1)) (suc wanted) (with_lost g aim missing s found)))
+      (sym (same_Some of server asked))
 
-  none_before : p.doing ≡ doing.Target → missing ≡ []
-  none_before e =
-      let was : length before ≡ 0 = subst (λ (d : Doing). IsPlacedBy d g (length first) (length before) p) e placed in
-      no_lost missing (as_many before missing k.servers ∙ was)
+  pub miss_whole : (p next result : Position) (of wanted counted : ℕ) (taken : List ℕ) → p ≡ position.Whole of wanted counted → result ≡ or_too_many g gone next → taken ≡ take counted gone
+      → GoesToWhole g taken (of + 1) (wanted + 1) next → HearsMissing g first gone p found result
+  miss_whole p next result of wanted counted taken e is same goes =
+      misses_as p (position.Whole of wanted counted) result e
+      (whole_missed next result of wanted counted is (subst (λ (l : List ℕ). GoesToWhole g l (of + 1) (wanted + 1) next) same goes))
 
-  -- the target lacks its chunk
-  from_absent : (epoch : ℕ) → found ≡ why.Absent epoch → p.doing ≡ doing.Target → server ≡ asked_by p.doing first p
-      → next_stage g aim (stage_of g first before missing p) (Told.Missing found) ≡ look_stage g (seen_of aim) (asked_from first (chunk_count g) 0) later
-  from_absent epoch is e s =
-      let target : get_or first 0 0 ∷ [] ≡ first = target_chunk aim refl k.is_first (subst (λ (d : Doing). FitsAim d aim) e k.fits) in
-      at doing.Target e
-      ∙ ap (λ (f : Found). next_stage g aim (Stage.Asks (Asking.Target (get_or first 0 0))) (Told.Missing f)) is
-      ∙ ap (λ (l : List ℕ). look_stage g (seen_of aim) (servers_but g (seen_of aim) l) ([] ++ lost_at g (seen_of aim) (get_or first 0 0) (why.Absent epoch) ∷ [])) target
-      ∙ ap (λ (l : List ℕ). look_stage g (seen_of aim) l ([] ++ lost_at g (seen_of aim) (get_or first 0 0) (why.Absent epoch) ∷ [])) (from_none g (seen_of aim) first)
-      ∙ ap (λ (f : Found). look_stage g (seen_of aim) (asked_from first (chunk_count g) 0) ([] ++ lost_at g (seen_of aim) (get_or first 0 0) f ∷ [])) (sym is)
-      ∙ ap (λ (l : List Lost). look_stage g (seen_of aim) (asked_from first (chunk_count g) 0) (l ++ lost_at g (seen_of aim) (get_or first 0 0) found ∷ [])) (sym (none_before e))
-      ∙ ap (λ (k : ℕ). look_stage g (seen_of aim) (asked_from first (chunk_count g) 0) (missing ++ lost_at g (seen_of aim) k found ∷ [])) (sym (s ∙ ap (λ (d : Doing). asked_by d first p) e))
+-- the target of a rebuild
+none_lost : (missing : List Lost) → length missing ≡ 0 → missing ≡ []
+none_lost [] n = refl
+none_lost (lost ∷ missing) n = absurd (omega (arith, n))
 
-  -- the target is away
-  from_away : (downs : ℕ) → found ≡ why.Away downs → p.doing ≡ doing.Target
-      → next_stage g aim (stage_of g first before missing p) (Told.Missing found) ≡ Stage.TargetAway (downs_of (first_lost later).found)
-  from_away downs is e =
-      at doing.Target e
-      ∙ ap (λ (f : Found). next_stage g aim (Stage.Asks (Asking.Target (get_or first 0 0))) (Told.Missing f)) is
-      ∙ ap (λ (f : Found). Stage.TargetAway (downs_of f)) (sym is)
-      ∙ ap (λ (l : List Lost). Stage.TargetAway (downs_of (first_lost (l ++ lost_at g (seen_of aim) server found ∷ [])).found)) (sym (none_before e))
+module _ (g : Shape) (first gone : List ℕ) where
+  -- it lacks its chunk
+  target_missed : (result : Position) (of epoch : ℕ) → GoesToLook g first gone 0 result → HearsMissing g first gone (position.Target of) (why.Absent epoch) result
+  target_missed result of epoch goes (Aim.Range part) before server missing k placed more asked = absurd k.fits
+  target_missed result of epoch goes (Aim.Chunk seen target) before server missing k placed more asked =
+      goes seen (with_lost g (Aim.Chunk seen target) missing server (why.Absent epoch)) (servers_then g first gone (why.Absent epoch) (Aim.Chunk seen target) before server missing k.servers more)
+      ∙ ap (λ (l : List ℕ). look_stage g seen (asked_from l (chunk_count g) 0) (with_lost g (Aim.Chunk seen target) missing server (why.Absent epoch)))
+      (k.is_first ∙ ap (λ (s : ℕ). s ∷ []) (sym k.fits))
+      ∙ sym (ap (λ (l : List ℕ). look_stage g seen l (with_lost g (Aim.Chunk seen target) missing server (why.Absent epoch))) (from_none g seen (of ∷ [])))
+      ∙ ap (λ (l : List Lost). look_stage g seen (servers_but g seen (of ∷ [])) (with_lost g (Aim.Chunk seen target) l server (why.Absent epoch)))
+      (none_lost missing (as_many before missing k.servers ∙ placed.1))
+      ∙ ap (λ (s : ℕ). look_stage g seen (servers_but g seen (of ∷ [])) (with_lost g (Aim.Chunk seen target) [] s (why.Absent epoch))) (sym (same_Some of server asked))
 
-  counted_same : p.counted ≤ length before → take p.counted before ≡ take p.counted gone
-  counted_same h = sym (ap (λ (l : List ℕ). take p.counted l) more ∙ take-append-le p.counted before (server ∷ []) h)
+  pub miss_absent : (p result : Position) (found : Found) (of epoch : ℕ) → p ≡ position.Target of → found ≡ why.Absent epoch → GoesToLook g first gone 0 result → HearsMissing g first gone p found result
+  miss_absent p result found of epoch e is goes =
+      misses_as g first gone found p (position.Target of) result e
+      (subst (λ (f : Found). HearsMissing g first gone (position.Target of) f result) (sym is) (target_missed result of epoch goes))
 
-module _ (g : Shape) (first gone : List ℕ) (p result : Position) (found : Found) where
-  pub miss_many_fetch : p.doing ≡ doing.Fetch → g.parity_count < length gone → result.doing ≡ doing.TooMany → HearsMissing g first gone p found result
-  miss_many_fetch e many r aim before server missing k placed more s =
-      ends g first gone p result found aim before server missing k placed more doing.TooMany r
-      ∙ sym (from_fetch g first gone p result found aim before server missing k placed more e s ∙ yes g first gone p result found aim before server missing k placed more _ many)
-
-  pub miss_many_look : p.doing ≡ doing.Look → g.parity_count < length gone → result.doing ≡ doing.TooMany → HearsMissing g first gone p found result
-  miss_many_look e many r aim before server missing k placed more s =
-      ends g first gone p result found aim before server missing k placed more doing.TooMany r
-      ∙ sym (from_look g first gone p result found aim before server missing k placed more e s ∙ yes g first gone p result found aim before server missing k placed more _ many)
-
-  pub miss_many_repair : p.doing ≡ doing.Repair → g.parity_count < length gone → result.doing ≡ doing.TooMany → HearsMissing g first gone p found result
-  miss_many_repair e many r aim before server missing k placed more s =
-      ends g first gone p result found aim before server missing k placed more doing.TooMany r
-      ∙ sym (from_repair g first gone p result found aim before server missing k placed more e s ∙ yes g first gone p result found aim before server missing k placed more _ many)
-
-  pub miss_many_whole : p.doing ≡ doing.Whole → g.parity_count < length gone → result.doing ≡ doing.TooMany → HearsMissing g first gone p found result
-  miss_many_whole e many r aim before server missing k placed more s =
-      ends g first gone p result found aim before server missing k placed more doing.TooMany r
-      ∙ sym (from_whole g first gone p result found aim before server missing k placed more e s ∙ yes g first gone p result found aim before server missing k placed more _ many)
-
-  pub miss_fetch : p.doing ≡ doing.Fetch → length gone ≤ g.parity_count → GoesToFetch g first (p.at + 1) gone result → HearsMissing g first gone p found result
-  miss_fetch e few goes aim before server missing k placed more s =
-      fetch_part g first gone p result found aim before server missing k placed more aim refl goes k.is_first (subst (λ (d : Doing). FitsAim d aim) e k.fits)
-      ∙ sym (from_fetch g first gone p result found aim before server missing k placed more e s ∙ never g first gone p result found aim before server missing k placed more _ few)
-
-  pub miss_look : p.doing ≡ doing.Look → length gone ≤ g.parity_count → GoesToLook g first gone (p.server + 1) result → HearsMissing g first gone p found result
-  miss_look e few goes aim before server missing k placed more s =
-      goes (seen_of aim) gone (later g first gone p result found aim before server missing k placed more) (now_marked g first gone p result found aim before server missing k placed more)
-      ∙ sym (from_look g first gone p result found aim before server missing k placed more e s ∙ never g first gone p result found aim before server missing k placed more _ few)
-
-  pub miss_repair : (wanted : ℕ) → p.doing ≡ doing.Repair → length gone ≤ g.parity_count → wanted ≡ g.data_count → GoesToWhole g gone 0 wanted result → HearsMissing g first gone p found result
-  miss_repair wanted e few w goes aim before server missing k placed more s =
-      let marked = now_marked g first gone p result found aim before server missing k placed more in
-      goes first gone (later g first gone p result found aim before server missing k placed more) marked.begin
-      ∙ ap (λ (n : ℕ). whole_stage g (asked_from gone (chunk_count g) 0) n (later g first gone p result found aim before server missing k placed more)) w
-      ∙ sym (ap (λ (l : List ℕ). whole_stage g (asked_from l (chunk_count g) 0) g.data_count (later g first gone p result found aim before server missing k placed more)) marked.servers)
-      ∙ sym (ap (λ (l : List ℕ). whole_stage g l g.data_count (later g first gone p result found aim before server missing k placed more)) (from_none g (seen_of aim) (map (λ (lost : Lost). lost.server) (later g first gone p result found aim before server missing k placed more))))
-      ∙ sym (from_repair g first gone p result found aim before server missing k placed more e s ∙ never g first gone p result found aim before server missing k placed more _ few)
-
-  pub miss_whole : (counted : List ℕ) → p.doing ≡ doing.Whole → length gone ≤ g.parity_count → p.counted ≤ length gone → counted ≡ take p.counted gone
-      → GoesToWhole g counted (p.server + 1) (p.wanted + 1) result → HearsMissing g first gone p found result
-  miss_whole counted e few fits is goes aim before server missing k placed more s =
-      let was : IsPlacedBy doing.Whole g (length first) (length before) p = subst (λ (d : Doing). IsPlacedBy d g (length first) (length before) p) e placed in
-      goes first gone (later g first gone p result found aim before server missing k placed more) (subst (λ (l : List ℕ). BeginWith l gone) (sym is) (begins gone p.counted fits))
-      ∙ ap (λ (l : List ℕ). whole_stage g (asked_from l (chunk_count g) (p.server + 1)) (p.wanted + 1) (later g first gone p result found aim before server missing k placed more)) (is ∙ sym (counted_same g first gone p result found aim before server missing k placed more was.1))
-      ∙ ap (λ (n : ℕ). whole_stage g (asked_from (take p.counted before) (chunk_count g) (p.server + 1)) n (later g first gone p result found aim before server missing k placed more)) (one_more p.wanted)
-      ∙ sym (from_whole g first gone p result found aim before server missing k placed more e s ∙ never g first gone p result found aim before server missing k placed more _ few)
-
-  pub miss_absent : (epoch : ℕ) → found ≡ why.Absent epoch → p.doing ≡ doing.Target → GoesToLook g first gone 0 result → HearsMissing g first gone p found result
-  miss_absent epoch is e goes aim before server missing k placed more s =
-      goes (seen_of aim) gone (later g first gone p result found aim before server missing k placed more) (now_marked g first gone p result found aim before server missing k placed more)
-      ∙ sym (from_absent g first gone p result found aim before server missing k placed more epoch is e s)
-
-  pub miss_away : (downs : ℕ) → found ≡ why.Away downs → p.doing ≡ doing.Target → result.doing ≡ doing.TargetAway → HearsMissing g first gone p found result
-  miss_away downs is e r aim before server missing k placed more s =
-      ends g first gone p result found aim before server missing k placed more doing.TargetAway r
-      ∙ sym (from_away g first gone p result found aim before server missing k placed more downs is e)
+  -- it is away
+  pub miss_away : (p : Position) (found : Found) (of downs : ℕ) → p ≡ position.Target of → found ≡ why.Away downs
+      → HearsMissing g first gone p found (position.Ended (ending.TargetAway downs))
+  miss_away p found of downs e is =
+      misses_as g first gone found p (position.Target of) (position.Ended (ending.TargetAway downs)) e
+      (subst (λ (f : Found). HearsMissing g first gone (position.Target of) f (position.Ended (ending.TargetAway downs))) (sym is)
+      (λ aim before server missing k placed more asked. refl))

@@ -1,10 +1,17 @@
 -- What a course was made for, how its missing servers were found, and how it ended.
 use Rattle.std.specs.Prelude.{◌≡◌, ⊤, ℕ, List, Option, None, Some}
-use Rattle.store_core.specs.Told.{Lost}
+use Rattle.store_core.specs.Told.{Lost, Seen}
 use Rattle.store_core.specs.Gathering.{Part}
 use Rattle.store_resume.specs.Stage.{Aim, Stage}
+use Rattle.gathering.specs.declared.aim.CourseAim.{CourseAim}
+use Rattle.gathering.specs.declared.aim.CourseAim.TheVariants as own
 use Rattle.gathering.specs.declared.ending.Ending.{Ending}
 use Rattle.gathering.specs.declared.ending.Ending.TheVariants as ending
+
+-- of a pinned stripe
+abbrev pub aim_of : Seen → CourseAim → Aim
+aim_of seen (own.Range start end) = Aim.Range (record { seen = seen; start = start; end = end })
+aim_of seen (own.Chunk target) = Aim.Chunk seen target
 
 -- the chunk that is made anew
 abbrev pub target_of : Aim → Option ℕ

@@ -1,5 +1,5 @@
 -- The fields of a course as callers see them, and what they keep.
-use Rattle.std.specs.Prelude.{◌≡◌, ◌<◌, ◌≤◌, ℕ, List, map, take, get_or, length, All, if◌then◌else◌}
+use Rattle.std.specs.Prelude.{◌≡◌, ◌<◌, ◌≤◌, ℕ, List, map, take, get_or, length, All}
 use Rattle.clay_grid.specs.Shape.{chunk_count}
 use Rattle.store_core.specs.Told.{Seen, Lost}
 use Rattle.store_resume.specs.Stage.{Aim, Stage}
@@ -7,6 +7,7 @@ use Rattle.store_map.specs.declared.placement.LostChunk.{LostChunk}
 use Rattle.gathering.specs.declared.course.Course.TheInside.{Inside}
 use Rattle.gathering.specs.Positions.{stage_of, IsPlaced}
 use Rattle.gathering.specs.Hearing.{IsAsking, Knows}
+use Rattle.gathering.specs.Aims.{aim_of}
 use Rattle.gathering.specs.Courses.{CourseOf}
 use Rattle.store_core.specs.Told.{lost_in}
 
@@ -16,9 +17,7 @@ seen_in a = record { stripe = a.stripe; version = a.version.0; placed = a.placed
 
 -- what is gathered
 abbrev pub aim_in : Inside → Aim
-aim_in a =
-    if a.is_chunk then Aim.Chunk (seen_in a) (get_or a.first.items 0 0)
-    else Aim.Range (record { seen = seen_in a; start = a.start; end = a.end })
+aim_in a = aim_of (seen_in a) a.aim
 
 -- the missing servers, in the order found
 abbrev pub missing_in : Inside → List Lost
@@ -42,7 +41,7 @@ pub record IsCourse (a : Inside) : Type 0 where
   pub missing_length : length a.missing.items ≡ chunk_count a.geometry
   pub gone_length : length a.gone.items ≡ chunk_count a.geometry
   pub few : a.count ≤ chunk_count a.geometry
-  pub room : IsAsking a.position.doing → a.count ≤ a.geometry.parity_count
+  pub room : IsAsking a.position → a.count ≤ a.geometry.parity_count
   pub some : 0 < length a.first.items
   pub below : All (λ server. server < chunk_count a.geometry) a.first.items
   pub missing_below : (i : ℕ) → i < a.count → (other : LostChunk) → (get_or a.missing.items i other).server < chunk_count a.geometry

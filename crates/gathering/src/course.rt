@@ -4,15 +4,14 @@ ghost use Rattle.clay_grid.specs.Shape.{chunk_count, layer_count};
 ghost use Rattle.store_core.specs.Told.{Told};
 ghost use Rattle.store_core.specs.GatheringParts.{chunks_in_range};
 ghost use Rattle.store_resume.specs.Stage.{Aim, seen_of};
-ghost use Rattle.gathering.specs.Positions.{IsPlaced, asked_by, first_lost, downs_of};
-ghost use Rattle.gathering.specs.Hearing.{IsAsking};
 ghost use Rattle.gathering.specs.Courses.{new_course, IsAskingStage, is_look, is_fetch, has_bytes, is_lost, layers_asked, server_of, after_answer};
 ghost use Rattle.gathering.specs.Aims.{target_of, IfRange, IsTooMany, ending_at};
 ghost use Rattle.store_core.specs.Told.{lost_in};
 
+use crate::aim::CourseAim;
 use crate::ending::Ending;
-use crate::layers::{all_layers, chunks_in_range, layers_for};
-use crate::position::{Doing, Position, after_given, after_here, after_missing, ended, on_fetch};
+use crate::layers::{all_layers, chunks_in_range, wanted_layers};
+use crate::position::{Position, after_given, after_here, after_missing, on_fetch};
 use clay_grid::Geometry;
 use std::alloc::{AllocError, Global};
 use std::marker::Model;
@@ -26,9 +25,7 @@ pub struct Course {
     stripe: u32,
     version: Version,
     placed: Vec<Placement>,
-    is_chunk: bool,
-    start: u32,
-    end: u32,
+    aim: CourseAim,
     // the servers that the first stage asks
     first: Vec<u32>,
     // the first `count` are those that were found missing, and their numbers
@@ -84,9 +81,7 @@ impl Course {
             stripe,
             version,
             placed,
-            is_chunk: false,
-            start,
-            end,
+            aim: CourseAim::Range { start, end },
             first,
             missing,
             gone,
@@ -119,14 +114,12 @@ impl Course {
             stripe,
             version,
             placed,
-            is_chunk: true,
-            start: 0,
-            end: 0,
+            aim: CourseAim::Chunk { target },
             first,
             missing,
             gone,
             count: 0,
-            position: ended(Doing::Target),
+            position: Position::Target { server: target },
         })
     }
 
@@ -134,18 +127,20 @@ impl Course {
     pub fn target(&self) -> Option<u32>
         ensures { result ≡ target_of self.now.aim }
     {
-        if self.is_chunk {
-            Some(self.first[0])
-        } else {
-            None
+        match self.aim {
+            CourseAim::Chunk { target } => Some(target),
+            CourseAim::Range { .. } => None,
         }
     }
 
-    /// Where the wanted bytes begin and end in the stripe, of a course of some.
+    /// Where the wanted bytes begin and end in the stripe. A chunk's course wants none.
     pub fn bounds(&self) -> (u32, u32)
         ensures { IfRange self.now.aim (λ part. result ≡ (part.start, part.end)) }
     {
-        (self.start, self.end)
+        match self.aim {
+            CourseAim::Range { start, end } => (start, end),
+            CourseAim::Chunk { .. } => (0, 0),
+        }
     }
 
     /// The server that is asked, while one is.
@@ -153,11 +148,13 @@ impl Course {
         ensures server { result ≡ server_of self.now }
         ensures below { IfSome result (λ server. server < chunk_count self.now.geometry) }
     {
-        match self.position.doing {
-            Doing::Fetch => Some(self.first[self.position.at]),
-            Doing::Target => Some(self.first[0]),
-            Doing::Look | Doing::Repair | Doing::Whole => Some(self.position.server),
-            _ => None,
+        match self.position {
+            Position::Fetch { at } => Some(self.first[at]),
+            Position::Look { server } => Some(server),
+            Position::Repair { server } => Some(server),
+            Position::Whole { server, .. } => Some(server),
+            Position::Target { server } => Some(server),
+            Position::HasBytes | Position::Ended(_) => None,
         }
     }
 
@@ -186,41 +183,40 @@ impl Course {
     pub fn asks_whether(&self) -> bool
         ensures { result ≡ is_look self.now.stage }
     {
-        matches!(self.position.doing, Doing::Look | Doing::Target)
+        matches!(
+            self.position,
+            Position::Look { .. } | Position::Target { .. }
+        )
     }
 
     /// Whether the server is asked for the layers with wanted bytes.
     pub fn asks_for_wanted(&self) -> bool
         ensures { result ≡ is_fetch self.now.stage }
     {
-        matches!(self.position.doing, Doing::Fetch)
+        matches!(self.position, Position::Fetch { .. })
     }
 
     /// Whether all parts have come.
     pub fn has_bytes(&self) -> bool
         ensures { result ≡ has_bytes self.now.stage }
     {
-        matches!(self.position.doing, Doing::HasBytes)
+        matches!(self.position, Position::HasBytes)
     }
 
     /// Whether more servers were found missing than there are parity chunks.
     pub fn is_lost(&self) -> bool
         ensures { result ≡ is_lost self.now.stage }
     {
-        matches!(self.position.doing, Doing::TooMany)
+        matches!(self.position, Position::Ended(Ending::TooMany))
     }
 
     /// How it has ended without its bytes, if it has.
+    #[tactic(auto, using(crate::proofs::CourseKept::ends_so))]
     pub fn ending(&self) -> Option<Ending>
         ensures { result ≡ ending_at self.now.stage }
     {
-        match self.position.doing {
-            Doing::TooMany => Some(Ending::TooMany),
-            Doing::AtTarget => Some(Ending::AtTarget),
-            Doing::TargetAway => Some(Ending::TargetAway {
-                downs: first_downs(&self.missing[..self.count]),
-            }),
-            Doing::Short => Some(Ending::Short),
+        match self.position {
+            Position::Ended(ending) => Some(ending),
             _ => None,
         }
     }
@@ -255,7 +251,7 @@ impl Course {
     }
 
     /// The layers of the part that the server is asked for.
-    #[tactic(auto, using(crate::proofs::Layered::below_all, crate::proofs::Layered::below_for, crate::proofs::Layered::below_repair))]
+    #[tactic(auto, using(crate::proofs::Layered::below_all, crate::proofs::Layered::below_wanted, crate::proofs::Layered::below_repair))]
     pub fn layers(&self, alloc: Global) -> Result<Vec<u32>, AllocError>
         requires asking { IsAskingStage self.now.stage }
         requires part { is_look self.now.stage ≡ false }
@@ -264,12 +260,9 @@ impl Course {
             All (λ layer. layer < layer_count self.now.geometry) layers.items) }
     {
         let g = self.geometry;
-        match self.position.doing {
-            Doing::Fetch => {
-                let server = self.first[self.position.at];
-                Ok(layers_for(alloc, g, self.start, self.end, server)?)
-            }
-            Doing::Repair => Ok(g.repair_layers(alloc, self.missing[0].server)?),
+        match self.position {
+            Position::Fetch { at } => Ok(wanted_layers(alloc, g, self.aim, self.first[at])?),
+            Position::Repair { .. } => Ok(g.repair_layers(alloc, self.missing[0].server)?),
             _ => Ok(all_layers(alloc, g)?),
         }
     }
@@ -301,13 +294,16 @@ impl Course {
     }
 
     /// The server gives no chunk.
+    #[tactic(auto, using(crate::proofs::CourseKept::one_is_asked))]
     pub fn told_missing(&mut self, found: Found)
         requires { IsAskingStage self.old.stage }
         ensures { self.new ≡ after_answer self.old (Told.Missing found) }
     {
         // That there are fewer parity chunks than servers is needed below.
         let _ = self.geometry.n();
-        let server = asked_at(self.geometry, self.position, &self.first);
+        let Some(server) = self.asked() else {
+            unreachable!()
+        };
         let placed = self.placed[server as usize];
         self.missing[self.count] = LostChunk {
             server,
@@ -326,39 +322,11 @@ impl Course {
     }
 
     /// Memory was wanting.
+    #[tactic(auto, using(crate::proofs::CourseKept::short_ends))]
     pub fn told_short(&mut self)
         requires { IsAskingStage self.old.stage }
         ensures { self.new ≡ after_answer self.old Told.Short }
     {
-        self.position = ended(Doing::Short);
-    }
-}
-
-// How often the first missing server had been made away, where it is away.
-fn first_downs(missing: &[LostChunk]) -> u64
-    ensures { result ≡ downs_of (first_lost (map lost_in missing.now)).found }
-{
-    match missing.first() {
-        Some(lost) => match lost.found {
-            Found::Away { downs } => downs,
-            Found::Absent { .. } => 0,
-        },
-        None => 0,
-    }
-}
-
-// The server that a position asks.
-fn asked_at(g: Geometry, p: Position, first: &[u32]) -> u32
-    requires asking { IsAsking p.doing }
-    requires some { 0 < length first.now }
-    requires below { All (λ server. server < chunk_count g) first.now }
-    requires placed { (missing : ℕ) × IsPlaced g (length first.now) missing p }
-    ensures server { result ≡ asked_by p.doing first.now p }
-    ensures below { result < chunk_count g }
-{
-    match p.doing {
-        Doing::Fetch => first[p.at],
-        Doing::Target => first[0],
-        _ => p.server,
+        self.position = Position::Ended(Ending::Short);
     }
 }

@@ -3,7 +3,11 @@ ghost use Rattle.std.specs.Prelude.{◌≡◌, ◌<◌, All, IfOk};
 ghost use Rattle.clay_grid.specs.Shape.{layer_count};
 ghost use Rattle.clay_grid.specs.Repair.{all_layers, layers_in_range};
 ghost use Rattle.store_core.specs.GatheringParts.{chunks_in_range, layers_for};
+ghost use Rattle.store_core.specs.Told.{Seen};
+ghost use Rattle.store_resume.specs.StageAfter.{wanted_layers};
+ghost use Rattle.gathering.specs.Aims.{aim_of};
 
+use crate::aim::CourseAim;
 use clay_grid::Geometry;
 use std::alloc::{AllocError, Global};
 
@@ -34,7 +38,8 @@ fn layers_in_range(alloc: Global, g: Geometry, start: u32, end: u32) -> Result<V
     Ok(layers)
 }
 
-pub(crate) fn layers_for(
+// Those of a data chunk with one of a stripe's bytes from start up to end.
+fn layers_for(
     alloc: Global,
     g: Geometry,
     start: u32,
@@ -51,6 +56,21 @@ pub(crate) fn layers_for(
         start.saturating_sub(before),
         end.saturating_sub(before),
     )
+}
+
+/// The layers of a server's chunk with wanted bytes. To make a chunk anew none are wanted.
+pub(crate) fn wanted_layers(
+    alloc: Global,
+    g: Geometry,
+    aim: CourseAim,
+    server: u32,
+) -> Result<Vec<u32>, AllocError>
+    ensures layers { (seen : Seen) → IfOk result (λ layers. layers.items ≡ wanted_layers g (aim_of seen aim) server) }
+{
+    match aim {
+        CourseAim::Range { start, end } => layers_for(alloc, g, start, end, server),
+        CourseAim::Chunk { .. } => Ok(Vec::new(alloc)),
+    }
 }
 
 /// The data chunks with one of a stripe's bytes from start up to end.

@@ -2,6 +2,7 @@
 //! the servers that hold chunks of that version.
 #![tactic(auto)]
 
+mod aim;
 mod coding;
 mod course;
 mod ending;
