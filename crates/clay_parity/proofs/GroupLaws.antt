@@ -45,10 +45,12 @@ in_stripe layers k w chunk z room end inside below within =
     let start : (chunk * layers + z) * w ≡ chunk * (layers * w) + z * w = omega arith in
     omega arith
 
--- a column of four nodes other than the last
-pub column_of_four : (g : Shape) (y : ℕ) → row_count g ≡ 4 → y * 4 + 4 ≤ first_parity g → y < column_count g
-column_of_four g y four known =
-    let grid : first_parity g ≡ 4 * column_count g - 4 = λ i. four i * column_count g - four i in
+-- the nodes of a column other than the last stand before that
+pub column_known : (g : Shape) (y : ℕ) → y + 1 < column_count g → y * row_count g + row_count g ≤ first_parity g
+column_known g y h =
+    let more : (y + 2) * row_count g ≤ column_count g * row_count g = mul-le (y + 2) (row_count g) (column_count g) (row_count g) (omega arith) (omega arith) in
+    let turn : column_count g * row_count g ≡ row_count g * column_count g = mul_comm (column_count g) (row_count g) in
+    let opened : (y + 2) * row_count g ≡ y * row_count g + row_count g + row_count g = omega arith in
     omega arith
 
 module _ (g : Shape) (geometry : IsGeometry g) where

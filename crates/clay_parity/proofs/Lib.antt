@@ -5,3 +5,4 @@ pub mod ShortLemmas
 pub mod ChunkLists
 pub mod ParityLemmas
 pub mod FlatLemmas
+pub mod ColumnSums

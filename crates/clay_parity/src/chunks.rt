@@ -113,7 +113,35 @@ fn solve_by_nodes(
     }
 }
 
-// The same where the generator has the factors of columns, with room for the values of one.
+// The same, the nodes of a column together, with room for the values of one.
+fn solve_by_whole_columns(
+    g: Geometry,
+    generator: &Generator,
+    stripe: &[u8],
+    z: u32,
+    at: usize,
+    len: usize,
+    column: &mut [u8],
+    rows: &mut [u8],
+)
+    requires whole { length stripe.now ≡ stripe_length g }
+    requires generator { IsLastGenerator g generator.now.unknown generator.now.each }
+    requires layer { z < layer_count g }
+    requires within { at + len ≤ (row_count g - z % row_count g) * g.width }
+    requires column_len { length column.old ≡ g.parity_count * len }
+    requires rows_len { length rows.old ≡ g.parity_count * len }
+    ensures { (e b : ℕ) → e < g.parity_count → b < len →
+        slice_index rows.new (e * len + b) ≡ solved_value g generator.now.each stripe.now (at + b) e (layer_of g z) }
+{
+    rows.fill(0);
+    for y in 0..g.t() - 1 {
+        write_column(g, stripe, y, z, at, len, column);
+        let first = y * g.q();
+        generator.add_nodes(first as usize, len, column, rows);
+    }
+}
+
+// The same where the generator has the factors of columns of four, with room for the values of one.
 fn solve_by_columns(
     g: Geometry,
     generator: &Generator,
@@ -164,11 +192,19 @@ fn solve_block(
         slice_index rows.new (e * length values.old + b)
         ≡ solved_value g generator.now.each stripe.now (at + b) e (layer_of g z) }
 {
-    if generator.columns().is_empty() {
-        solve_by_nodes(g, generator, stripe, z, at, values, rows);
-    } else {
-        solve_by_columns(g, generator, stripe, z, at, values.len(), column, rows);
+    let len = values.len();
+    if !generator.columns().is_empty() {
+        solve_by_columns(g, generator, stripe, z, at, len, column, rows);
+        return;
     }
+    let q = g.q() as usize;
+    if q < 4 {
+        // sums of the nodes of a column take fewer products
+        let column = &mut column[..q * len];
+        solve_by_whole_columns(g, generator, stripe, z, at, len, column, rows);
+        return;
+    }
+    solve_by_nodes(g, generator, stripe, z, at, values, rows);
 }
 
 /// Writes the uncoupled values of the last column in a group of layers with short subchunks, all together, those of a node one behind

@@ -4,7 +4,7 @@
 //! So bytes of a layer may run on into the later layers of its group.
 ghost use Rattle.std.specs.Prelude.{◌≡◌, ℕ, ◌+◌, ◌-◌, ◌*◌, ◌%◌, ◌<◌, ◌≤◌, slice_index, length, bit_xor};
 ghost use Rattle.clay_field.specs.Field.{product};
-ghost use Rattle.clay_grid.specs.Shape.{row_count, layer_count, stripe_length};
+ghost use Rattle.clay_grid.specs.Shape.{row_count, column_count, layer_count, stripe_length};
 ghost use Rattle.clay_grid.specs.Layers.{layer_of, vertex_at, partner_of};
 ghost use Rattle.clay_grid.specs.Limits.{IsGeometry};
 ghost use Rattle.code_laws.specs.Columns.{data_byte, uncoupled_value, first_parity, HoldsPieces};
@@ -64,8 +64,8 @@ fn write_own(g: Geometry, stripe: &[u8], node: u32, z: u32, at: usize, out: &mut
     }
 }
 
-// Writes the uncoupled value of the node in row `x` of a column of four other than the last, of which this is the partner, in the bytes from
-// `at` on of layer `z`.
+// Writes the uncoupled value of the node in row `x` of a column other than the last, of which this is the partner, in the bytes from `at` on of
+// layer `z`.
 fn write_value(
     g: Geometry,
     stripe: &[u8],
@@ -77,19 +77,19 @@ fn write_value(
     out: &mut [u8],
 )
     requires whole { length stripe.now ≡ stripe_length g }
-    requires four { row_count g ≡ 4 }
-    requires known { column * 4 + 4 ≤ first_parity g }
-    requires row { x < 4 }
+    requires known { column * row_count g + row_count g ≤ first_parity g }
+    requires row { x < row_count g }
     requires layer { z < layer_count g }
     requires partner { vertex_at g partner.x partner.y partner.z ≡ partner_of (vertex_at g x column z) }
-    requires other_row { partner.x < 4 }
+    requires other_row { partner.x < row_count g }
     requires other_layer { partner.z < layer_count g }
     requires within { at + length out.old ≤ (row_count g - z % row_count g) * g.width }
     ensures { (b : ℕ) → b < length out.old →
-        slice_index out.new b ≡ uncoupled_value g stripe.now (at + b) (column * 4 + x) (layer_of g z) }
+        slice_index out.new b ≡ uncoupled_value g stripe.now (at + b) (column * row_count g + x) (layer_of g z) }
 {
-    let node = column * 4 + x;
-    let other = column * 4 + partner.x;
+    let first = column * g.q();
+    let node = first + x;
+    let other = first + partner.x;
     if partner.x == x {
         write_own(g, stripe, node, z, at, out);
     } else if other >= g.k() {
@@ -101,7 +101,7 @@ fn write_value(
     }
 }
 
-/// Writes the uncoupled values of four nodes of a column other than the last in the bytes from `at` on of layer `z`, a row for each.
+/// Writes the uncoupled values of the nodes of a column other than the last in the bytes from `at` on of layer `z`, a row for each.
 pub fn write_column(
     g: Geometry,
     stripe: &[u8],
@@ -112,17 +112,16 @@ pub fn write_column(
     values: &mut [u8],
 )
     requires whole { length stripe.now ≡ stripe_length g }
-    requires four { row_count g ≡ 4 }
-    requires known { column * 4 + 4 ≤ first_parity g }
+    requires known { column + 1 < column_count g }
     requires layer { z < layer_count g }
     requires within { at + len ≤ (row_count g - z % row_count g) * g.width }
-    requires values_len { length values.old ≡ 4 * len }
-    ensures { HoldsPieces len 4 (λ x b. uncoupled_value g stripe.now (at + b) (column * 4 + x) (layer_of g z)) values.new }
+    requires values_len { length values.old ≡ row_count g * len }
+    ensures { HoldsPieces len (row_count g) (λ x b. uncoupled_value g stripe.now (at + b) (column * row_count g + x) (layer_of g z)) values.new }
 {
     // all nodes of the column have a partner in the row that the layer's digit names
     let stride = g.stride(column);
     let digit = z / stride % g.q();
-    for x in 0..4u32 {
+    for x in 0..g.q() {
         let from = x as usize * len;
         let partner = Vertex {
             x: digit,

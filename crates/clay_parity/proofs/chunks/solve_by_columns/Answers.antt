@@ -20,7 +20,7 @@ loop-y-preserved c =
     let there : f ≡ get_or gen.columns y f = c.index-columns-y.is ∙ ap (λ l. get_or l y f) c.columns-columns.ensures.value in
     let column : IsColumn gen.each y f = subst (IsColumn gen.each y) (sym there) (c.columns-columns.ensures.columns.each y f below) in
     column_more len gen.each value y f c.write_column.new.values c.loop-y.rows c.add_column.new.rows column
-    (λ x b hx hb. c.write_column.ensures.at x b hx hb)
+    (λ x b hx hb. c.write_column.ensures.at x b (subst (λ n. x < n) (sym counts.four) hx) hb ∙ ap (λ q. value (y * q + x) b) counts.four)
     c.add_column.ensures.bytes c.add_column.ensures.added c.loop-y.invariant
 
 pub returns : goal.returns
@@ -37,7 +37,8 @@ returns c = λ e b he hb.
     ∙ ap (λ n. known_sum gen.each value n e b) all
     ∙ ap (λ n. sum_below (first_parity g) (λ i. product (get_or gen.each (i * n + e) 0) (value i b))) (sym counts.four)
 
-pub write_column-requires-clause-four : goal.write_column-requires-clause-four
-write_column-requires-clause-four c =
+pub write_column-requires-clause-values_len : goal.write_column-requires-clause-values_len
+write_column-requires-clause-values_len c =
     let gen = c.args.generator.now in
-    (last_columns c.args.g gen.unknown gen.each gen.columns c.columns-columns.ensures.columns c.requires.columns c.requires.generator).four
+    let counts = last_columns c.args.g gen.unknown gen.each gen.columns c.columns-columns.ensures.columns c.requires.columns c.requires.generator in
+    c.loop-y.auto.column ∙ c.requires.column_len ∙ ap (λ q. q * c.args.len) (sym counts.four)
