@@ -51,8 +51,9 @@ uint32_t clay_geometry(uint32_t k, uint32_t m, uint32_t w, struct clay_numbers *
  * CLAY_DONE, CLAY_BAD_GEOMETRY, CLAY_BAD_LENGTH, CLAY_OUT_OF_MEMORY. */
 uint32_t clay_parity(uint32_t k, uint32_t m, uint32_t w, const uint8_t *stripe, size_t stripe_len, uint8_t *parity, size_t parity_len);
 
-/* Writes the missing ones of all chunks, which stand one behind another by rising number, and leaves the others as they are. What stood at
- * a missing one's place doesn't count. That the others are of one codeword isn't tested: where they aren't, some bytes are written.
+/* Writes the missing ones of all chunks, which stand one behind another by rising number, and leaves the others as they are: they are read
+ * where they stand. What stood at a missing one's place doesn't count. That the others are of one codeword isn't tested: where they aren't,
+ * some bytes are written.
  * present: a byte for each chunk, 0 where it is missing; present_len: n. chunks_len: n * chunk_len.
  * CLAY_DONE, CLAY_BAD_GEOMETRY, CLAY_BAD_LENGTH, CLAY_TOO_FEW, CLAY_OUT_OF_MEMORY. */
 uint32_t clay_recover(uint32_t k, uint32_t m, uint32_t w, const uint8_t *present, size_t present_len, uint8_t *chunks, size_t chunks_len);

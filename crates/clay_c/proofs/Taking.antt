@@ -1,17 +1,17 @@
 -- What was taken out of a caller's bytes.
-use Rattle.std.proofs.Common.{◌≡◌, ◌≢◌, ℕ, suc, ◌+◌, ◌<◌, Bool, true, false, cond, eqb, List, [], ◌∷◌, ◌++◌, map, length, get_or, count_by, filter, Option, Some, None, is_none, IfSome, Vec, Global, refl, sym, ap, ◌∙◌, arith}
+use Rattle.std.proofs.Common.{◌≡◌, ◌≢◌, ℕ, ◌+◌, ◌<◌, Bool, true, false, cond, eqb, List, [], ◌∷◌, ◌++◌, map, length, get_or, Option, Some, None, is_none, IfSome, Vec, Global, refl, sym, subst, ap, ◌∙◌, arith}
 use Rattle.std.specs.Option.{option_map}
 use Rattle.std.specs.List.{range_with_len}
 use Rattle.std.proofs.lemmas.Bool.{ne_eqb}
-use Rattle.std.proofs.lemmas.List.{map_push, length-map}
+use Rattle.std.proofs.lemmas.List.{map_push, length-map, ext_get_or}
 use Rattle.std.proofs.lemmas.List.FromFn.{length-map-range_with_len, get_or-map-range_with_len, map-range_with_len_more}
 use Rattle.std.proofs.lemmas.List.Elements.{All-push}
-use Rattle.std.proofs.lemmas.List.Sums.{length-filter}
 use Rattle.std.proofs.Math.ListN.{get_or-map}
 use Rattle.clay_grid.specs.Shape.{Shape, chunk_count, chunk_length}
 use Rattle.clay_model.specs.Left.{parts, AreLong}
+use Rattle.clay_lanes.specs.Present.{chunks_left}
 use Rattle.clay_c.specs.Pieces.{piece_at}
-use Rattle.clay_c.specs.Calls.{lost_count, left_of}
+use Rattle.clay_c.specs.Calls.{left_of}
 
 abbrev items : Option (Vec ℕ Global) → Option (List ℕ)
 items o = option_map (λ (v : Vec ℕ Global). v.items) o
@@ -50,31 +50,24 @@ pub gone : (test : ℕ → Bool) (piece : ℕ → List ℕ) (have : List (Option
 gone test piece have n c is h =
     sym (none_items (get_or have c None)) ∙ ap is_none (entry (λ k. cond (test k) None (Some (piece k))) have n c is h) ∙ none_cond (test c) (piece c)
 
-longer : (b : Bool) (o : Option (Vec ℕ Global)) (os : List (Option (Vec ℕ Global))) (p : ℕ) (ps : List ℕ) → length os ≡ length ps → length (cond b (o ∷ os) os) ≡ length (cond b (p ∷ ps) ps)
-longer true o os p ps same = ap suc same
-longer false o os p ps same = same
+-- which chunks are gone of what is left
+pub gone_left : (g : Shape) (present chunks : List ℕ) (c : ℕ) → c < chunk_count g → is_none (get_or (left_of g present chunks) c None) ≡ eqb (get_or present c 0) 0
+gone_left g present chunks c h =
+    let f : ℕ → Option (List ℕ) = λ k. cond (eqb (get_or present k 0) 0) None (Some (piece_at (chunk_length g) chunks k)) in
+    ap is_none (get_or-map-range_with_len f 0 (chunk_count g) c c None h (omega arith)) ∙ none_cond (eqb (get_or present c 0) 0) (piece_at (chunk_length g) chunks c)
 
-same_length : (have : List (Option (Vec ℕ Global))) (present : List ℕ) → length have ≡ length present
-    → ((c : ℕ) → c < length have → is_none (get_or have c None) ≡ eqb (get_or present c 0) 0) → length (filter is_none have) ≡ length (filter (λ mark. eqb mark 0) present)
-same_length [] [] long same = refl
-same_length [] (p ∷ ps) long same = absurd (omega (arith, long))
-same_length (o ∷ os) [] long same = absurd (omega (arith, long))
-same_length (o ∷ os) (p ∷ ps) long same =
-    ap (λ b. length (cond b (o ∷ filter is_none os) (filter is_none os))) (same 0 (omega arith))
-    ∙ longer (eqb p 0) o (filter is_none os) p (filter (λ mark. eqb mark 0) ps) (same_length os ps (omega (arith, long)) (λ c h. same (suc c) (omega (arith, h))))
-
--- as many chunks are missing as have the mark 0
-pub same_count : (have : List (Option (Vec ℕ Global))) (present : List ℕ) → length have ≡ length present
-    → ((c : ℕ) → c < length have → is_none (get_or have c None) ≡ eqb (get_or present c 0) 0) → count_by is_none have ≡ lost_count present
-same_count have present long same =
-    sym (length-filter is_none have) ∙ same_length have present long same ∙ length-filter (λ mark. eqb mark 0) present
-
--- which chunks are gone of those that were taken
-pub gone_left : (g : Shape) (present chunks : List ℕ) (have : List (Option (Vec ℕ Global))) (c : ℕ) → parts have ≡ left_of g present chunks → c < chunk_count g → is_none (get_or have c None) ≡ eqb (get_or present c 0) 0
-gone_left g present chunks have c is h = gone (λ k. eqb (get_or present k 0) 0) (λ k. piece_at (chunk_length g) chunks k) have (chunk_count g) c is h
-
-pub length_left : (g : Shape) (present chunks : List ℕ) (have : List (Option (Vec ℕ Global))) → parts have ≡ left_of g present chunks → length have ≡ chunk_count g
-length_left g present chunks have is = length_of (λ k. cond (eqb (get_or present k 0) 0) None (Some (piece_at (chunk_length g) chunks k))) have (chunk_count g) is
+-- the same by other marks
+pub same_left : (g : Shape) (present : List ℕ) (missing : List Bool) (chunks : List ℕ) → ((c : ℕ) → c < chunk_count g → get_or missing c false ≡ eqb (get_or present c 0) 0)
+    → chunks_left g missing chunks ≡ left_of g present chunks
+same_left g present missing chunks same =
+    let n : ℕ = chunk_count g in
+    let f : ℕ → Option (List ℕ) = λ k. cond (get_or missing k false) None (Some (piece_at (chunk_length g) chunks k)) in
+    let h : ℕ → Option (List ℕ) = λ k. cond (eqb (get_or present k 0) 0) None (Some (piece_at (chunk_length g) chunks k)) in
+    ext_get_or None (map f (range_with_len 0 n)) (map h (range_with_len 0 n)) (length-map-range_with_len f 0 n ∙ sym (length-map-range_with_len h 0 n)) (λ c within.
+    let below : c < n = subst (λ m. c < m) (length-map-range_with_len f 0 n) within in
+    get_or-map-range_with_len f 0 n c c None below (omega arith)
+    ∙ ap (λ b. cond b None (Some (piece_at (chunk_length g) chunks c))) (same c below)
+    ∙ sym (get_or-map-range_with_len h 0 n c c None below (omega arith)))
 
 -- what is left of the chunks
 pub left_at : (g : Shape) (present chunks : List ℕ) (c : ℕ) → c < chunk_count g → get_or present c 0 ≢ 0 → get_or (left_of g present chunks) c None ≡ Some (piece_at (chunk_length g) chunks c)

@@ -1,5 +1,5 @@
 //! Parity chunks, missing chunks and a lost chunk of a code with fewer helpers, written to a caller's bytes.
-ghost use Rattle.std.specs.Prelude.{◌≡◌, ℕ, ◌*◌, ◌<◌, ◌≤◌, length, slice_index, slice_index_or, eqb, false, IfOk, OnOk, OnErr};
+ghost use Rattle.std.specs.Prelude.{◌≡◌, ◌*◌, ◌<◌, ◌≤◌, length, IfOk, OnOk, OnErr};
 ghost use Rattle.clay_grid.specs.Shape.{chunk_length};
 ghost use Rattle.clay_grid.specs.Score.{count_below};
 ghost use Rattle.clay_model.specs.Left.{parts, AreLong};
@@ -10,6 +10,7 @@ ghost use Rattle.clay_c.specs.Missing.{AloofChunksFit, RecoversAloof};
 ghost use Rattle.clay_c.specs.Calls.{lost_count};
 
 use crate::pieces::take;
+use crate::recovery::missing_marks;
 use clay_aloof::{AloofGeometry, parity_into, rebuild_into, recover_into};
 use std::alloc::{AllocError, Global};
 
@@ -27,18 +28,6 @@ pub fn write_parity(
 {
     parity_into(alloc, g, stripe, parity)?;
     Ok(())
-}
-
-// For each chunk, whether it is missing.
-fn missing_marks(alloc: Global, present: &[u8]) -> Result<Vec<bool>, AllocError>
-    ensures len { IfOk result (λ v. length v.items ≡ length present.now) }
-    ensures value { IfOk result (λ v. (c : ℕ) → c < length present.now → slice_index_or v.items c false ≡ eqb (slice_index present.now c) 0) }
-{
-    let mut missing = Vec::with_capacity(alloc, present.len())?;
-    for mark in present {
-        missing.push(*mark == 0)?;
-    }
-    Ok(missing)
 }
 
 /// Writes the missing ones of all chunks, which stand one behind another, from the others.

@@ -1,13 +1,10 @@
 //! Parity and missing chunks, written to a caller's bytes.
-ghost use Rattle.std.specs.Prelude.{◌≡◌, ◌*◌, ◌≤◌, length, IfOk, OnOk, OnErr};
+ghost use Rattle.std.specs.Prelude.{◌≡◌, ℕ, ◌*◌, ◌<◌, ◌≤◌, length, slice_index, slice_index_or, eqb, false, IfOk, OnOk, OnErr};
 ghost use Rattle.clay_grid.specs.Shape.{chunk_count, chunk_length, stripe_length};
-ghost use Rattle.clay_model.specs.Left.{parts, AreLong};
-ghost use Rattle.clay_c.specs.Calls.{MakesParity, lost_count, left_of, Recovers};
+ghost use Rattle.clay_c.specs.Calls.{MakesParity, lost_count, Recovers};
 
-use crate::pieces::take;
 use clay_grid::Geometry;
-use clay_lanes::{missing_into, parity_into};
-use clay_model::DecodeFault;
+use clay_lanes::{parity_into, recover_into};
 use std::alloc::{AllocError, Global};
 
 /// Writes the parity chunks of a stripe, one behind another.
@@ -33,24 +30,16 @@ pub fn missing_count(present: &[u8]) -> usize
     present.iter().filter(|mark| **mark == 0).count()
 }
 
-// Copies of the chunks that are there.
-fn chunks_left(
-    alloc: Global,
-    g: Geometry,
-    present: &[u8],
-    chunks: &[u8],
-) -> Result<Vec<Option<Vec<u8>>>, AllocError>
-    requires marks { length present.now ≡ chunk_count g }
-    requires chunks { length chunks.now ≡ chunk_count g * chunk_length g }
-    ensures parts { IfOk result (λ have. parts have.items ≡ left_of g present.now chunks.now) }
-    ensures lengths { IfOk result (λ have. AreLong (chunk_length g) have.items) }
+/// For each chunk, whether it is missing.
+pub fn missing_marks(alloc: Global, present: &[u8]) -> Result<Vec<bool>, AllocError>
+    ensures len { IfOk result (λ v. length v.items ≡ length present.now) }
+    ensures value { IfOk result (λ v. (c : ℕ) → c < length present.now → slice_index_or v.items c false ≡ eqb (slice_index present.now c) 0) }
 {
-    let len = g.chunk_len() as usize;
-    let mut have = Vec::with_capacity(alloc, g.n() as usize)?;
-    for c in 0..g.n() as usize {
-        have.push(take(alloc, chunks, len, c, present[c] == 0)?)?;
+    let mut missing = Vec::with_capacity(alloc, present.len())?;
+    for mark in present {
+        missing.push(*mark == 0)?;
     }
-    Ok(have)
+    Ok(missing)
 }
 
 /// Writes the missing ones of all chunks, which stand one behind another, from the others.
@@ -66,10 +55,7 @@ pub fn write_missing(
     ensures written { OnOk result (Recovers g present.now chunks.old chunks.new) }
     ensures kept { OnErr result (chunks.new ≡ chunks.old) }
 {
-    let have = chunks_left(alloc, g, present, chunks)?;
-    match missing_into(alloc, g, &have, chunks) {
-        Ok(()) => Ok(()),
-        Err(DecodeFault::OutOfMemory) => Err(AllocError),
-        Err(DecodeFault::TooFew) => unreachable!(),
-    }
+    let missing = missing_marks(alloc, present)?;
+    recover_into(alloc, g, &missing, chunks)?;
+    Ok(())
 }

@@ -21,15 +21,15 @@ use Rattle.lane_repair.specs.Pieces.{HoldsByte}
 use Rattle.clay_lanes.specs.Recovered.{missing_from, missing_of, AreMissing}
 use Rattle.clay_parity.proofs.ChunkLists.{contents_set, length-contents}
 
-none_of : (o : Option (Vec ℕ Global)) → is_none o ≡ true → o ≡ None
+pub none_of : {A : Type 0} (o : Option A) → is_none o ≡ true → o ≡ None
 none_of None h = refl
 none_of (Some v) h = let both : true ≡ false = sym h in absurd (true≢false both)
 
 -- each number of a missing chunk
-pub missing_below : (have : List (Option (Vec ℕ Global))) (i : ℕ) → i < length (missing_of have) → get_or (missing_of have) i 0 < length have
+pub missing_below : {A : Type 0} (have : List (Option A)) (i : ℕ) → i < length (missing_of have) → get_or (missing_of have) i 0 < length have
 missing_below have i h = ((Lists-filter (λ c. is_none (get_or have c None)) (length have)).only i h).0
 
-pub missing_none : (have : List (Option (Vec ℕ Global))) (i : ℕ) → i < length (missing_of have) → get_or have (get_or (missing_of have) i 0) None ≡ None
+pub missing_none : {A : Type 0} (have : List (Option A)) (i : ℕ) → i < length (missing_of have) → get_or have (get_or (missing_of have) i 0) None ≡ None
 missing_none have i h = none_of (get_or have (get_or (missing_of have) i 0) None) ((Lists-filter (λ c. is_none (get_or have c None)) (length have)).only i h).1
 
 -- chunks that have each byte of the missing ones

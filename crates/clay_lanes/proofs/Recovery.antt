@@ -1,30 +1,30 @@
 -- The pieces of chunks that are there and of erased nodes in a block of bytes, and the layers that are solved.
-use Rattle.std.proofs.Common.{◌≡◌, ◌≢◌, ℕ, subst, ◌+◌, ◌*◌, ◌<◌, ◌≤◌, Bool, List, length, get_or, take, drop, Option, Some, None, Vec, Global, sym, ap, ◌∙◌, inl, inr, arith}
+use Rattle.std.proofs.Common.{◌≡◌, ◌≢◌, ℕ, subst, ◌+◌, ◌*◌, ◌<◌, ◌≤◌, Bool, List, length, get_or, take, drop, Option, Some, None, sym, ap, ◌∙◌, inl, inr, arith}
 use Rattle.std.proofs.lemmas.Bool.{cases_eq, cases_lt}
 use Rattle.std.proofs.lemmas.List.{get_or-take, get_or-drop}
 use Rattle.clay_grid.specs.Shape.{Shape, row_count, layer_count}
 use Rattle.clay_grid.specs.Score.{IsByScore}
 use Rattle.code_laws.proofs.Pieces.{put_mid_before, put_mid_within, put_mid_past, place_below, piece_fits}
 use borrow.Rule.Slice.PartMut.{put_mid}
-use Rattle.clay_model.specs.Left.{Completes}
 use Rattle.code_laws.specs.Solved.{uncoupled_byte}
 use Rattle.code_laws.proofs.Layer.{lower_earlier}
-use Rattle.code_laws.proofs.Nodes.{IsNodeOf, agreeing_chunk, chunk_byte}
+use Rattle.code_laws.proofs.Nodes.{IsNodeOf, chunk_byte}
 use Rattle.lane_repair.specs.Pieces.{IsCoupled, IsUncoupled, HoldsRows}
+use Rattle.clay_lanes.specs.Present.{FitsChunks}
 use Rattle.clay_lanes.specs.Recovered.{HoldsLayerRows, HoldsLower, AreRowsOfLayers}
 
 -- ---- pieces
 
-pub held_piece : (g : Shape) (have : List (Option (Vec ℕ Global))) (c i n at len start k : ℕ) (v : Vec ℕ Global) → 0 < row_count g → n < layer_count g → IsNodeOf g c i → get_or have c None ≡ Some v
-    → start ≡ n * g.width + at → k ≡ len → IsCoupled g (λ word. Completes g have word) at len i n (take k (drop start v.items))
-held_piece g have c i n at len start k v rows below node there start_is width = record {
+pub held_piece : (g : Shape) (pieces : List (Option (List ℕ))) (c i n at len start k : ℕ) (bytes : List ℕ) → 0 < row_count g → n < layer_count g → IsNodeOf g c i → get_or pieces c None ≡ Some bytes
+    → start ≡ n * g.width + at → k ≡ len → IsCoupled g (λ word. FitsChunks g pieces word) at len i n (take k (drop start bytes))
+held_piece g pieces c i n at len start k bytes rows below node there start_is width = record {
   bytes = λ word fits b hb.
       let place : n * g.width + at + b ≡ n * g.width + (at + b) = omega arith in
-      get_or-take k (drop start v.items) b 0 (subst (λ w. b < w) (sym width) hb)
-      ∙ get_or-drop start v.items b 0
-      ∙ ap (λ p. get_or v.items (p + b) 0) start_is
-      ∙ ap (λ p. get_or v.items p 0) place
-      ∙ ap (λ l. get_or l (n * g.width + (at + b)) 0) (sym (agreeing_chunk g have word fits c v there))
+      get_or-take k (drop start bytes) b 0 (subst (λ w. b < w) (sym width) hb)
+      ∙ get_or-drop start bytes b 0
+      ∙ ap (λ p. get_or bytes (p + b) 0) start_is
+      ∙ ap (λ p. get_or bytes p 0) place
+      ∙ ap (λ l. get_or l (n * g.width + (at + b)) 0) (sym (fits.agrees c bytes there))
       ∙ sym (chunk_byte g word c i n (at + b) rows below node);
 }
 

@@ -12,23 +12,24 @@ use Rattle.clay_kernels.specs.Generated.{IsGeneratorOf}
 use Rattle.lane_repair.specs.Pieces.{HoldsByte}
 use Rattle.clay_lanes.specs.declared.plan.Plan.{Plan}
 
--- the erased nodes, the order of the layers, and a subchunk of zeros, for chunks of which few enough are missing
-pub record IsNodePlan (g : Shape) (have : List (Option (Vec ℕ Global))) (plan : Plan) : Type 0 where
+-- the gone nodes, which are few enough, the factors of every node in their values, the order of the layers, a subchunk of zeros, and the
+-- products of the inverse of 5
+pub record IsPlanFor (g : Shape) (gone : ℕ → Bool) (plan : Plan) : Type 0 where
   pub geometry : IsGeometry g
-  pub count : length have ≡ chunk_count g
-  pub lengths : AreLong (chunk_length g) have
   pub few : length plan.points.items ≤ g.parity_count
   pub nodes : length plan.erased.items ≡ node_count g
-  pub erased_are : (i : ℕ) → i < node_count g → get_or plan.erased.items i false ≡ is_erased g have i
+  pub erased_are : (i : ℕ) → i < node_count g → get_or plan.erased.items i false ≡ gone i
   pub points_are : plan.points.items ≡ erased_below plan.erased.items (node_count g)
+  pub generator : IsGeneratorOf g plan.points.items plan.generator.unknown plan.generator.each
   pub order : IsByScore g plan.erased.items plan.layers.items
   pub empty : plan.zeros.items ≡ replicate g.width 0
-
--- a call of decoding works with the plan of the missing chunks, the factors of their nodes, and the products of the inverse of 5
-pub record IsLanePlan (g : Shape) (have : List (Option (Vec ℕ Global))) (plan : Plan) : Type 0 where
-  pub nodes : IsNodePlan g have plan
-  pub generator : IsGeneratorOf g plan.points.items plan.generator.unknown plan.generator.each
   pub fifths : plan.fifths ≡ 0xA7
+
+-- a call of decoding works with the plan of the missing chunks
+pub record IsLanePlan (g : Shape) (have : List (Option (Vec ℕ Global))) (plan : Plan) : Type 0 where
+  pub count : length have ≡ chunk_count g
+  pub lengths : AreLong (chunk_length g) have
+  pub nodes : IsPlanFor g (is_erased g have) plan
 
 -- the rows of layer n (`HoldsRows`) where those of one layer follow those of the one before
 pub record HoldsLayerRows (g : Shape) (fits : List (List ℕ) → Type 0) (at len : ℕ) (points : List ℕ) (n : ℕ) (solved : List ℕ) : Type 0 where
@@ -75,11 +76,11 @@ abbrev pub AreNextOf : Shape → List (Option (Vec ℕ Global)) → Plan → ℕ
 AreNextOf g have plan at len layers solved = AreNext g (λ word. Completes g have word) at len plan.erased.items plan.points.items layers solved
 
 -- the numbers of the missing chunks from c on, rising
-abbrev pub missing_from : List (Option (Vec ℕ Global)) → ℕ → ℕ → List ℕ
+abbrev pub missing_from : {A : Type 0} → List (Option A) → ℕ → ℕ → List ℕ
 missing_from have c count = filter (λ i. is_none (get_or have i None)) (range_with_len c count)
 
 -- the numbers of the missing chunks, rising
-abbrev pub missing_of : List (Option (Vec ℕ Global)) → List ℕ
+abbrev pub missing_of : {A : Type 0} → List (Option A) → List ℕ
 missing_of have = missing_from have 0 (length have)
 
 -- chunks are the missing ones of each codeword that agrees with what is left

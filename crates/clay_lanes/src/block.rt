@@ -2,15 +2,16 @@
 
 use crate::plan::Plan;
 use clay_grid::Geometry;
+use lane_repair::ChunkView;
 
 /// What is read at `len` byte positions of each subchunk, from `at` on.
 #[derive(Clone, Copy)]
-pub(crate) struct Block<'a> {
-    pub(crate) g: Geometry,
+pub struct Block<'a> {
+    pub g: Geometry,
     /// The chunks that are there.
-    pub(crate) have: &'a [Option<Vec<u8>>],
+    pub have: ChunkView<'a>,
     /// The plan of the missing ones.
-    pub(crate) plan: &'a Plan,
-    pub(crate) at: usize,
-    pub(crate) len: usize,
+    pub plan: &'a Plan,
+    pub at: usize,
+    pub len: usize,
 }

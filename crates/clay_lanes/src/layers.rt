@@ -9,7 +9,7 @@ use crate::plan::Plan;
 use clay_grid::Geometry;
 use clay_kernels::{add_column, column_room, end_column, uncouple, uncouple_from};
 use clay_model::partner_of;
-use lane_repair::is_column_erased;
+use lane_repair::{ChunkView, is_column_erased};
 
 // The place of an erased node among them.
 fn place_of(points: &[u8], node: u32) -> usize
@@ -37,7 +37,7 @@ impl<'a> Block<'a> {
     {
         let start = z as usize * self.g.w() as usize + self.at;
         match self.g.chunk_of_node(node) {
-            Some(chunk) => match &self.have[chunk as usize] {
+            Some(chunk) => match self.have.get(chunk as usize) {
                 Some(bytes) => &bytes[start..start + self.len],
                 None => &self.plan.zeros[..self.len],
             },
@@ -191,7 +191,7 @@ impl<'a> Block<'a> {
     }
 
     /// Writes the uncoupled values of the erased nodes in each layer, with room for those of a node and for those of one layer.
-    pub(crate) fn solve(&self, values: &mut [u8], rows: &mut [u8], solved: &mut [u8])
+    pub fn solve(&self, values: &mut [u8], rows: &mut [u8], solved: &mut [u8])
         requires block { IsBlock self.now }
         requires values_len { length values.old ≡ self.now.len }
         requires rows_len { length rows.old ≡ rows_length self.now }
@@ -251,7 +251,7 @@ pub fn solve_some_layers(
 {
     let block = Block {
         g,
-        have,
+        have: ChunkView::Apart(have),
         plan,
         at,
         len,
@@ -277,7 +277,7 @@ pub fn solve_layers(
 {
     let block = Block {
         g,
-        have,
+        have: ChunkView::Apart(have),
         plan,
         at,
         len: values.len(),

@@ -9,11 +9,12 @@ mod lost;
 mod places;
 mod plan;
 
+pub use block::Block;
 pub use checked::decode_checked;
 pub use clay_parity::{Prepared, encode, parity, parity_into};
 pub use coder::LaneCoder;
 pub use lane_repair::{ChunkView, rebuild, rebuild_into};
 pub use layers::{solve_layers, solve_some_layers};
 pub use lost::{couple_chunk, decode, missing, missing_count};
-pub use places::missing_into;
-pub use plan::{Plan, make_plan};
+pub use places::{missing_into, recover_into};
+pub use plan::{Plan, make_plan, plan_of};

@@ -1,10 +1,11 @@
 //! The missing chunks, a block of bytes of each subchunk after another.
-ghost use Rattle.std.specs.Prelude.{◌≡◌, ℕ, ◌+◌, ◌*◌, ◌<◌, ◌≤◌, ◌↔◌, List, length, min, replicate, IfOk, IsErrOf, All, slice_index_or, true, false, count_by, is_none, None};
+ghost use Rattle.std.specs.Prelude.{◌≡◌, ℕ, ◌+◌, ◌*◌, ◌<◌, ◌≤◌, ◌↔◌, length, min, IfOk, IsErrOf, All, get_or, slice_index_or, true, false, count_by, is_none, None};
 ghost use Rattle.clay_grid.specs.Shape.{chunk_count, node_count, layer_count, chunk_length};
 ghost use Rattle.clay_model.specs.Code.{AgreesWith};
 ghost use Rattle.clay_model.specs.Chunks.{contents};
 ghost use Rattle.clay_model.specs.Left.{parts, AreLong, AreTooFew};
 ghost use Rattle.clay_model.specs.Left.{AreLeft, AreRecovered};
+ghost use Rattle.lane_repair.specs.Views.{pieces_of};
 ghost use Rattle.clay_lanes.specs.Recovered.{IsLanePlan, HoldsByteOf, KeepsBytes, HoldsLayersOf, HaveLength, missing_of, AreMissing};
 ghost use Rattle.clay_lanes.specs.Blocks.{IsBlock, rows_length, solved_length, row_bytes, solved_bytes, IsCoupledIn, HoldsLayersIn, HoldsChunkIn, KeepsBytesIn, HoldsChunksIn, KeepsChunksIn};
 
@@ -13,6 +14,7 @@ use crate::plan::{Plan, make_plan};
 use clay_grid::Geometry;
 use clay_kernels::{BLOCK, couple, uncouple, zeros};
 use clay_model::{DecodeFault, partner_of};
+use lane_repair::ChunkView;
 use std::alloc::{AllocError, Global};
 
 impl<'a> Block<'a> {
@@ -41,12 +43,12 @@ impl<'a> Block<'a> {
     }
 
     /// Writes the block's bytes of each subchunk of a missing chunk.
-    pub(crate) fn couple_chunk(&self, solved: &[u8], c: u32, chunk: &mut [u8])
+    pub fn couple_chunk(&self, solved: &[u8], c: u32, chunk: &mut [u8])
         requires block { IsBlock self.now }
         requires solved_len { length solved.now ≡ solved_length self.now }
         requires holds { HoldsLayersIn self.now solved.now }
         requires chunk { c < chunk_count self.now.g }
-        requires missing { slice_index_or self.now.have.now c None ≡ None }
+        requires missing { get_or (pieces_of self.now.have) c None ≡ None }
         requires chunk_len { length chunk.old ≡ chunk_length self.now.g }
         ensures written { HoldsChunkIn self.now c chunk.new }
         ensures kept { KeepsBytesIn self.now c chunk.old chunk.new }
@@ -65,7 +67,7 @@ impl<'a> Block<'a> {
         requires block { IsBlock self.now }
         requires solved_len { length solved.now ≡ solved_length self.now }
         requires holds { HoldsLayersIn self.now solved.now }
-        requires lost { lost.now ≡ missing_of self.now.have.now }
+        requires lost { lost.now ≡ missing_of (pieces_of self.now.have) }
         requires chunk_count { length chunks.old ≡ length lost.now }
         requires chunk_len { HaveLength (length chunks.old) (chunk_length self.now.g) (contents chunks.old) }
         ensures chunk_len { HaveLength (length chunks.old) (chunk_length self.now.g) (contents chunks.new) }
@@ -91,7 +93,7 @@ impl<'a> Block<'a> {
         requires values_len { length values.old ≡ self.now.len }
         requires rows_len { length rows.old ≡ rows_length self.now }
         requires solved_len { length solved.old ≡ solved_length self.now }
-        requires lost { lost.now ≡ missing_of self.now.have.now }
+        requires lost { lost.now ≡ missing_of (pieces_of self.now.have) }
         requires chunk_count { length chunks.old ≡ length lost.now }
         requires chunk_len { HaveLength (length chunks.old) (chunk_length self.now.g) (contents chunks.old) }
         ensures chunk_len { HaveLength (length chunks.old) (chunk_length self.now.g) (contents chunks.new) }
@@ -115,7 +117,7 @@ impl<'a> Block<'a> {
         requires values_len { length values.old ≡ min self.now.len 4096 }
         requires rows_len { length rows.old ≡ row_bytes self.now (min self.now.len 4096) }
         requires solved_len { length solved.old ≡ solved_bytes self.now (min self.now.len 4096) }
-        requires lost { lost.now ≡ missing_of self.now.have.now }
+        requires lost { lost.now ≡ missing_of (pieces_of self.now.have) }
         requires chunk_count { length chunks.old ≡ length lost.now }
         requires chunk_len { HaveLength (length chunks.old) (chunk_length self.now.g) (contents chunks.old) }
         ensures chunk_len { HaveLength (length chunks.old) (chunk_length self.now.g) (contents chunks.new) }
@@ -169,7 +171,7 @@ pub fn couple_chunk(
 {
     let block = Block {
         g,
-        have,
+        have: ChunkView::Apart(have),
         plan,
         at,
         len,
@@ -221,7 +223,7 @@ fn recover_missing(
     let plan = make_plan(alloc, g, have)?;
     let block = Block {
         g,
-        have,
+        have: ChunkView::Apart(have),
         plan: &plan,
         at: 0,
         len: g.w() as usize,

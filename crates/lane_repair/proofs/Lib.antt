@@ -2,3 +2,4 @@ pub mod RowLemmas
 pub mod ColumnRows
 pub mod RepairLemmas
 pub mod ViewLemmas
+pub mod AroundLemmas

@@ -1,26 +1,28 @@
-use Rattle.std.proofs.Common.{◌≡◌, ◌<◌, Err, count_by, is_none, sym, subst, ap, ◌∙◌, arith}
-use Rattle.clay_model.specs.Left.{parts}
-use Rattle.clay_c.specs.Calls.{left_of, lost_count}
-use Rattle.clay_c.proofs.Taking.{length_left, gone_left, same_count}
+use Rattle.std.proofs.Common.{◌≡◌, ◌<◌, ◌≤◌, eqb, false, length, get_or, sym, subst, ap, ◌∙◌}
+use Rattle.clay_lanes.specs.Places.{AreFilledFrom}
+use Rattle.clay_lanes.proofs.FillLemmas.{same_count}
+use Rattle.clay_c.proofs.Taking.{same_left}
 use Rattle.clay_c.proofs.Recovering.{recovers}
 use Rattle.clay_c.proofs.recovery.write_missing.Goals as goal
 
-pub missing_into-requires-clause-count : goal.missing_into-requires-clause-count
-missing_into-requires-clause-count c =
-    length_left c.args.g c.args.present.now c.args.chunks.now c.deref.result.now (ap parts c.deref.ensures.value ∙ c.in_ok-have.ensures.parts)
+pub recover_into-requires-clause-count : goal.recover_into-requires-clause-count
+recover_into-requires-clause-count c = ap length c.deref.ensures.value ∙ c.in_ok-missing.ensures.len ∙ c.requires.marks
 
-pub unreachable-requires : goal.unreachable-requires
-unreachable-requires c =
+pub recover_into-requires-clause-few : goal.recover_into-requires-clause-few
+recover_into-requires-clause-few c =
+    let present = c.args.present.now in
+    let missing = c.deref.result.now in
+    let long : length missing ≡ length present = ap length c.deref.ensures.value ∙ c.in_ok-missing.ensures.len in
+    subst (λ n. n ≤ c.args.g.parity_count) (sym (same_count (λ gone. gone) (λ mark. eqb mark 0) false 0 missing present long
+    (λ k h. ap (λ l. get_or l k false) c.deref.ensures.value ∙ c.in_ok-missing.ensures.value k (subst (λ n. k < n) long h)))) c.requires.few
+
+pub returns-clause-written : goal.returns-clause-written
+returns-clause-written c =
     let g = c.args.g in
     let present = c.args.present.now in
-    let have = c.deref.result.now in
-    let is : parts have ≡ left_of g present c.args.chunks.now = ap parts c.deref.ensures.value ∙ c.in_ok-have.ensures.parts in
-    let count = length_left g present c.args.chunks.now have is in
-    let same : count_by is_none have ≡ lost_count present =
-    same_count have present (count ∙ sym c.requires.marks) (λ k h. gone_left g present c.args.chunks.now have k is (subst (λ n. k < n) count h)) in
-    let many : g.parity_count < count_by is_none have = c.in-Err-TooFew.ensures.too_few.0 (ap Err c.in-Err-TooFew.field-0-is) in
-    omega (arith, many, same, c.requires.few)
-
-pub returns-in-Ok-clause-written : goal.returns-in-Ok-clause-written
-returns-in-Ok-clause-written c =
-    recovers c.args.g c.args.present.now c.args.chunks.now c.missing_into.new.chunks c.deref.result.now (ap parts c.deref.ensures.value ∙ c.in_ok-have.ensures.parts) c.in-Ok.ensures.filled
+    let old = c.args.chunks.now in
+    let new = c.recover_into.new.chunks in
+    recovers g present old new
+    (subst (λ p. AreFilledFrom g p old new)
+    (same_left g present c.deref.result.now old (λ k h. ap (λ l. get_or l k false) c.deref.ensures.value ∙ c.in_ok-missing.ensures.value k (subst (λ n. k < n) (sym c.requires.marks) h)))
+    c.in_ok-recover_into.ensures.filled)

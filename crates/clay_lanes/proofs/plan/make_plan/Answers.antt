@@ -1,56 +1,26 @@
-use Rattle.std.proofs.Common.{◌≡◌, ◌<◌, ◌≤◌, length, replicate, sym, subst, ap, ◌∙◌, arith}
-use Rattle.clay_grid.specs.Shape.{node_count}
-use Rattle.clay_grid.specs.Limits.{IsGeometry}
-use Rattle.clay_grid.specs.Score.{IsByScore}
-use Rattle.clay_model.specs.Erased.{erased_below}
-use Rattle.clay_model.specs.Points.{AreDistinct}
-use Rattle.code_laws.proofs.ErasedNodes.{AreDistinct-erased}
-use Rattle.code_laws.proofs.Nodes.{few_points}
-use Rattle.clay_kernels.specs.Generated.{IsGeneratorOf}
+use Rattle.std.proofs.Common.{◌≤◌, sym, subst, ◌∙◌}
+use Rattle.std.specs.Option.{option_map}
+use Rattle.std.proofs.lemmas.List.{length-map}
+use Rattle.std.proofs.lemmas.Result.{IfOk-weaker}
+use Rattle.clay_model.specs.Left.{parts}
+use Rattle.code_laws.specs.Solved.{is_erased}
+use Rattle.clay_lanes.specs.Present.{is_gone}
+use Rattle.clay_lanes.specs.Recovered.{IsPlanFor, IsLanePlan}
+use Rattle.clay_lanes.proofs.Shown.{bytes_of, count_none, gone_erased, plan_same}
 use Rattle.clay_lanes.proofs.plan.make_plan.Goals as goal
 
-pub generator_of-requires-clause-few : goal.generator_of-requires-clause-few
-generator_of-requires-clause-few c =
-    let g = c.args.g in
-    let geometry : IsGeometry g = c.w.ensures.geometry in
-    let rows : 0 < g.parity_count = let some = geometry.limits.parity_chunks.0 in omega arith in
-    let few = few_points g c.args.have.now c.in_ok-erased.erased.items rows c.requires.count c.in_ok-erased.ensures.value c.requires.few in
-    let most : g.parity_count ≤ 8 = geometry.limits.parity_chunks.1 in
-    let points_are : c.deref-2.result.now ≡ erased_below c.in_ok-erased.erased.items (node_count g) =
-    c.deref-2.ensures.value ∙ c.in_ok-points.ensures
-    ∙ (λ k. erased_below (c.deref.ensures.value k) (length (c.deref.ensures.value k)))
-    ∙ ap (erased_below c.in_ok-erased.erased.items) c.in_ok-erased.ensures.len in
-    subst (λ l. length l ≤ 8) (sym points_are) (omega arith)
+pub plan_of-requires-clause-count : goal.plan_of-requires-clause-count
+plan_of-requires-clause-count c = length-map c.args.have.now (option_map bytes_of) ∙ c.requires.count
 
-pub generator_of-requires-clause-distinct : goal.generator_of-requires-clause-distinct
-generator_of-requires-clause-distinct c =
-    let g = c.args.g in
-    let points_are : c.deref-2.result.now ≡ erased_below c.in_ok-erased.erased.items (node_count g) =
-    c.deref-2.ensures.value ∙ c.in_ok-points.ensures
-    ∙ (λ k. erased_below (c.deref.ensures.value k) (length (c.deref.ensures.value k)))
-    ∙ ap (erased_below c.in_ok-erased.erased.items) c.in_ok-erased.ensures.len in
-    subst AreDistinct (sym points_are) (AreDistinct-erased c.in_ok-erased.erased.items (node_count g))
+pub plan_of-requires-clause-few : goal.plan_of-requires-clause-few
+plan_of-requires-clause-few c = subst (λ n. n ≤ c.args.g.parity_count) (sym (count_none bytes_of c.args.have.now)) c.requires.few
 
 pub returns : goal.returns
 returns c =
     let g = c.args.g in
-    let rows : 0 < g.parity_count = let some = c.w.ensures.geometry.limits.parity_chunks.0 in omega arith in
-    let few = few_points g c.args.have.now c.in_ok-erased.erased.items rows c.requires.count c.in_ok-erased.ensures.value c.requires.few in
-    let points : c.in_ok-points.points.items ≡ erased_below c.in_ok-erased.erased.items (node_count g) = c.in_ok-points.ensures
-    ∙ (λ k. erased_below (c.deref.ensures.value k) (length (c.deref.ensures.value k)))
-    ∙ ap (erased_below c.in_ok-erased.erased.items) c.in_ok-erased.ensures.len in
-    record {
-      nodes = record {
-        geometry = c.w.ensures.geometry;
-        count = c.requires.count;
-        lengths = c.requires.lengths;
-        few = subst (λ l. length l ≤ g.parity_count) (sym points) few;
-        nodes = c.in_ok-erased.ensures.len;
-        erased_are = c.in_ok-erased.ensures.value;
-        points_are = points;
-        order = subst (λ e. IsByScore g e c.in_ok-layers.layers.items) c.deref-3.ensures.value c.in_ok-layers.ensures;
-        empty = c.in_ok-zeros.ensures ∙ ap (λ n. replicate n 0) c.w.ensures.value;
-      };
-      generator = subst (λ p. IsGeneratorOf g p c.in_ok-generator.generator.unknown c.in_ok-generator.generator.each) c.deref-2.ensures.value c.in_ok-generator.ensures;
-      fifths = c.fifths.ensures;
-    }
+    let have = c.args.have.now in
+    IfOk-weaker c.plan_of.result (IsPlanFor g (is_gone g (parts have))) (IsLanePlan g have) (λ plan is. record {
+      count = c.requires.count;
+      lengths = c.requires.lengths;
+      nodes = plan_same g (is_gone g (parts have)) (is_erased g have) plan (gone_erased g have) is;
+    }) c.plan_of.ensures

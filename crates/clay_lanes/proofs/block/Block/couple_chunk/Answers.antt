@@ -3,10 +3,11 @@ use Rattle.std.proofs.lemmas.Bool.{cases_eq}
 use Rattle.clay_grid.specs.Shape.{row_count, layer_count}
 use Rattle.code_laws.proofs.Pieces.{piece_fits}
 use borrow.Rule.Slice.PartMut.{put_mid}
-use Rattle.clay_model.specs.Left.{Completes}
 use Rattle.code_laws.proofs.Nodes.{node_real}
+use Rattle.lane_repair.specs.Views.{pieces_of}
 use Rattle.lane_repair.specs.Pieces.{HoldsByte}
 use Rattle.lane_repair.proofs.RowLemmas.{piece_written, byte_kept}
+use Rattle.clay_lanes.specs.Present.{FitsChunks}
 use Rattle.clay_lanes.proofs.block.Block.couple_chunk.Goals as goal
 
 pub loop-z-preserved : goal.loop-z-preserved
@@ -16,8 +17,8 @@ loop-z-preserved c =
     let len : ℕ = c.args.self.now.len in
     let z : ℕ = c.loop-z.z in
     let node : ℕ = c.node_of_chunk-node.result in
-    let fits : List (List ℕ) → Type 0 = λ word. Completes g c.args.self.now.have.now word in
-    let rows : 0 < row_count g = let some = c.requires.block.planned.nodes.geometry.limits.parity_chunks.0 in omega arith in
+    let fits : List (List ℕ) → Type 0 = λ word. FitsChunks g (pieces_of c.args.self.now.have) word in
+    let rows : 0 < row_count g = let some = c.requires.block.planned.geometry.limits.parity_chunks.0 in omega arith in
     let below : z < layer_count g = omega (arith, c.loop-z-test.true, c.alpha-z-end.ensures.value) in
     let start : ℕ = z * c.w-w.result + at in
     let start_is : start ≡ z * g.width + at = ap (λ v. z * v + at) c.w-w.ensures.value in

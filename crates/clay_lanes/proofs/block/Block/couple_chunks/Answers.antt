@@ -4,8 +4,9 @@ use Rattle.std.proofs.lemmas.Bool.{cases_eq}
 use Rattle.clay_grid.specs.Shape.{chunk_count}
 use Rattle.clay_model.specs.Chunks.{contents}
 use Rattle.code_laws.proofs.Pieces.{written_whole}
-use Rattle.clay_model.specs.Left.{Completes}
+use Rattle.lane_repair.specs.Views.{pieces_of}
 use Rattle.lane_repair.specs.Pieces.{HoldsByte}
+use Rattle.clay_lanes.specs.Present.{FitsChunks}
 use Rattle.clay_lanes.specs.Recovered.{missing_of}
 use Rattle.clay_parity.proofs.ChunkLists.{contents_at}
 use Rattle.clay_lanes.proofs.MissingChunks.{missing_below, missing_none, written_at, written_other}
@@ -14,14 +15,14 @@ use Rattle.clay_lanes.proofs.block.Block.couple_chunks.Goals as goal
 pub couple_chunk-requires-clause-chunk : goal.couple_chunk-requires-clause-chunk
 couple_chunk-requires-clause-chunk c =
     let g = c.args.self.now.g in
-    let have = c.args.self.now.have.now in
+    let have = pieces_of c.args.self.now.have in
     let i : ℕ = c.loop-i.i in
     let there : i < length (missing_of have) = omega (arith, c.loop-i-test.true, ap length c.requires.lost) in
-    subst (λ l. get_or l i 0 < chunk_count g) (sym c.requires.lost) (subst (λ n. get_or (missing_of have) i 0 < n) c.requires.block.planned.nodes.count (missing_below have i there))
+    subst (λ l. get_or l i 0 < chunk_count g) (sym c.requires.lost) (subst (λ n. get_or (missing_of have) i 0 < n) c.requires.block.chunks.count (missing_below have i there))
 
 pub couple_chunk-requires-clause-missing : goal.couple_chunk-requires-clause-missing
 couple_chunk-requires-clause-missing c =
-    let have = c.args.self.now.have.now in
+    let have = pieces_of c.args.self.now.have in
     let i : ℕ = c.loop-i.i in
     let there : i < length (missing_of have) = omega (arith, c.loop-i-test.true, ap length c.requires.lost) in
     subst (λ l. get_or have (get_or l i 0) None ≡ None) (sym c.requires.lost) (missing_none have i there)
@@ -37,7 +38,7 @@ couple_chunk-requires-clause-chunk_len c =
 pub loop-i-preserved : goal.loop-i-preserved
 loop-i-preserved c =
     let g = c.args.self.now.g in
-    let fits : List (List ℕ) → Type 0 = λ word. Completes g c.args.self.now.have.now word in
+    let fits : List (List ℕ) → Type 0 = λ word. FitsChunks g (pieces_of c.args.self.now.have) word in
     let lost = c.args.lost.now in
     let vs = c.loop-i.chunks in
     let i : ℕ = c.loop-i.i in

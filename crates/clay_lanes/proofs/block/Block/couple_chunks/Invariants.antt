@@ -1,15 +1,16 @@
 use Rattle.std.proofs.Common.{◌≡◌, ℕ, ◌+◌, ◌*◌, ◌<◌, [], length, get_or}
 use Rattle.clay_grid.specs.Shape.{layer_count, chunk_length}
 use Rattle.clay_model.specs.Chunks.{contents}
-use Rattle.clay_model.specs.Left.{Completes}
+use Rattle.lane_repair.specs.Views.{pieces_of}
 use Rattle.lane_repair.specs.Pieces.{HoldsByte}
+use Rattle.clay_lanes.specs.Present.{FitsChunks}
 use Rattle.clay_lanes.proofs.block.Block.couple_chunks.Given as goal
 
 abbrev pub invariant-loop-i : goal.invariant-loop-i
 invariant-loop-i l = record {
   lengths : (k : ℕ) → k < length l.fn.chunks → length (get_or (contents l.chunks) k []) ≡ chunk_length l.self.g;
   written : (k z b : ℕ) → k < l.i → z < layer_count l.self.g → b < l.self.len
-      → HoldsByte (λ word. Completes l.self.g l.self.have.now word) (get_or l.lost k 0) (get_or (contents l.chunks) k []) (z * l.self.g.width + (l.self.at + b));
-  kept : (k p : ℕ) → HoldsByte (λ word. Completes l.self.g l.self.have.now word) (get_or l.lost k 0) (get_or (contents l.fn.chunks) k []) p
-      → HoldsByte (λ word. Completes l.self.g l.self.have.now word) (get_or l.lost k 0) (get_or (contents l.chunks) k []) p;
+      → HoldsByte (λ word. FitsChunks l.self.g (pieces_of l.self.have) word) (get_or l.lost k 0) (get_or (contents l.chunks) k []) (z * l.self.g.width + (l.self.at + b));
+  kept : (k p : ℕ) → HoldsByte (λ word. FitsChunks l.self.g (pieces_of l.self.have) word) (get_or l.lost k 0) (get_or (contents l.fn.chunks) k []) p
+      → HoldsByte (λ word. FitsChunks l.self.g (pieces_of l.self.have) word) (get_or l.lost k 0) (get_or (contents l.chunks) k []) p;
 }

@@ -1,15 +1,16 @@
-use Rattle.std.proofs.Common.{◌≡◌, ℕ, ◌+◌, ◌-◌, ◌*◌, ◌<◌, List, [], min, get_or, sym, subst, ap, ◌∙◌, inl, inr, arith}
+use Rattle.std.proofs.Common.{◌≡◌, ℕ, ◌+◌, ◌-◌, ◌*◌, ◌<◌, List, [], get_or, sym, subst, inl, inr, arith}
 use Rattle.std.proofs.lemmas.Bool.{cases_lt}
 use Rattle.clay_model.specs.Chunks.{contents}
-use Rattle.clay_model.specs.Left.{Completes}
+use Rattle.lane_repair.specs.Views.{pieces_of}
 use Rattle.lane_repair.specs.Pieces.{HoldsByte}
+use Rattle.clay_lanes.specs.Present.{FitsChunks}
 use Rattle.clay_lanes.proofs.block.Block.recover_parts.Goals as goal
 
 pub loop-from-preserved : goal.loop-from-preserved
 loop-from-preserved c =
     let block = c.args.self.now in
     let g = block.g in
-    let fits : List (List ℕ) → Type 0 = λ word. Completes g block.have.now word in
+    let fits : List (List ℕ) → Type 0 = λ word. FitsChunks g (pieces_of block.have) word in
     let from : ℕ = c.loop-from.from in
     let len : ℕ = c.min-len.result in
     let found = c.recover.ensures in

@@ -3,9 +3,10 @@ use Rattle.std.proofs.lemmas.Bool.{cases_eq}
 use Rattle.clay_grid.specs.Shape.{layer_count}
 use Rattle.code_laws.proofs.Pieces.{piece_fits}
 use borrow.Rule.Slice.PartMut.{put_mid}
-use Rattle.clay_model.specs.Left.{Completes}
 use Rattle.code_laws.proofs.Layer.{other_layer}
+use Rattle.lane_repair.specs.Views.{pieces_of}
 use Rattle.lane_repair.specs.Pieces.{HoldsRows}
+use Rattle.clay_lanes.specs.Present.{FitsChunks}
 use Rattle.clay_lanes.specs.Recovered.{HoldsLayerRows, HoldsLower}
 use Rattle.clay_lanes.proofs.Recovery.{lower_solved, every_layer, layer_written, layer_kept}
 use Rattle.clay_lanes.proofs.block.Block.solve.Goals as goal
@@ -14,11 +15,11 @@ pub solve_layer-requires-clause-lower : goal.solve_layer-requires-clause-lower
 solve_layer-requires-clause-lower c =
     let g = c.args.self.now.g in
     let plan = c.args.self.now.plan.now in
-    let fits : List (List ℕ) → Type 0 = λ word. Completes g c.args.self.now.have.now word in
+    let fits : List (List ℕ) → Type 0 = λ word. FitsChunks g (pieces_of c.args.self.now.have) word in
     let i : ℕ = c.loop-z.z-index in
     let within : i < length plan.layers.items = omega (arith, c.loop-z-test.true, ap length c.deref-z-items.ensures.value) in
     subst (λ l. HoldsLower g fits c.args.self.now.at (c.args.self.now.len) plan.erased.items plan.points.items (get_or l i 0) c.loop-z.solved) (sym c.deref-z-items.ensures.value)
-    (lower_solved g fits c.args.self.now.at (c.args.self.now.len) plan.erased.items plan.points.items plan.layers.items c.loop-z.solved c.requires.block.planned.nodes.order i within c.loop-z.invariant)
+    (lower_solved g fits c.args.self.now.at (c.args.self.now.len) plan.erased.items plan.points.items plan.layers.items c.loop-z.solved c.requires.block.planned.order i within c.loop-z.invariant)
 
 pub slice_bounds-copy_from_slice-end : goal.slice_bounds-copy_from_slice-end
 slice_bounds-copy_from_slice-end c =
@@ -28,7 +29,7 @@ slice_bounds-copy_from_slice-end c =
     let within : i < length plan.layers.items = omega (arith, c.loop-z-test.true, ap length c.deref-z-items.ensures.value) in
     let z : ℕ = get_or c.deref-z-items.result.now i 0 in
     let rows : ℕ = length plan.points.items * c.args.self.now.len in
-    let below : z < layer_count g = subst (λ l. get_or l i 0 < layer_count g) (sym c.deref-z-items.ensures.value) (c.requires.block.planned.nodes.order.only_layers i within) in
+    let below : z < layer_count g = subst (λ l. get_or l i 0 < layer_count g) (sym c.deref-z-items.ensures.value) (c.requires.block.planned.order.only_layers i within) in
     let part : length c.args.rows.now ≡ rows = c.requires.rows_len in
     let fits = piece_fits z (layer_count g) rows below in
     let same : z * length c.args.rows.now + length c.args.rows.now ≡ z * rows + rows = ap (λ p. z * p + p) part in
@@ -39,11 +40,11 @@ pub loop-z-preserved : goal.loop-z-preserved
 loop-z-preserved c = λ k hk.
     let g = c.args.self.now.g in
     let plan = c.args.self.now.plan.now in
-    let fits : List (List ℕ) → Type 0 = λ word. Completes g c.args.self.now.have.now word in
+    let fits : List (List ℕ) → Type 0 = λ word. FitsChunks g (pieces_of c.args.self.now.have) word in
     let at : ℕ = c.args.self.now.at in
     let len : ℕ = c.args.self.now.len in
     let points = plan.points.items in
-    let order = c.requires.block.planned.nodes.order in
+    let order = c.requires.block.planned.order in
     let i : ℕ = c.loop-z.z-index in
     let within : i < length plan.layers.items = omega (arith, c.loop-z-test.true, ap length c.deref-z-items.ensures.value) in
     let n : ℕ = get_or plan.layers.items i 0 in
@@ -74,5 +75,5 @@ loop-z-preserved c = λ k hk.
 pub returns : goal.returns
 returns c =
     let plan = c.args.self.now.plan.now in
-    every_layer c.args.self.now.g (λ word. Completes c.args.self.now.g c.args.self.now.have.now word) c.args.self.now.at (c.args.self.now.len) plan.erased.items plan.points.items plan.layers.items c.loop-z.solved c.requires.block.planned.nodes.order
+    every_layer c.args.self.now.g (λ word. FitsChunks c.args.self.now.g (pieces_of c.args.self.now.have) word) c.args.self.now.at (c.args.self.now.len) plan.erased.items plan.points.items plan.layers.items c.loop-z.solved c.requires.block.planned.order
     (λ k h. c.loop-z.invariant k (omega (arith, h, c.loop-z-test.false, ap length c.deref-z-items.ensures.value)))

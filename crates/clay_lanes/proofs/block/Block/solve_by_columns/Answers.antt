@@ -1,9 +1,10 @@
 use Rattle.std.proofs.Common.{◌≡◌, ℕ, ◌+◌, ◌*◌, ◌<◌, false, List, length, get_or, subst, sym, ap, ◌∙◌, arith}
 use Rattle.clay_grid.specs.Shape.{node_count}
-use Rattle.clay_model.specs.Left.{Completes}
 use Rattle.clay_kernels.specs.Columns.{IsColumn}
+use Rattle.lane_repair.specs.Views.{pieces_of}
 use Rattle.lane_repair.proofs.ColumnRows.{HoldsForm, fit_columns, form_more, form_skipped, form_ended}
 use Rattle.lane_repair.proofs.RowLemmas.{rows_of_sums}
+use Rattle.clay_lanes.specs.Present.{FitsChunks}
 use Rattle.clay_lanes.proofs.block.Block.solve_by_columns.Goals as goal
 use Rattle.clay_lanes.proofs.block.Block.solve_by_columns.Goals.{then-not-is_column_erased, else-not-is_column_erased}
 
@@ -11,7 +12,7 @@ pub loop-y-preserved : goal.loop-y-preserved
 loop-y-preserved c =
     let g = c.args.self.now.g in
     let plan = c.args.self.now.plan.now in
-    let fits : List (List ℕ) → Type 0 = λ word. Completes g c.args.self.now.have.now word in
+    let fits : List (List ℕ) → Type 0 = λ word. FitsChunks g (pieces_of c.args.self.now.have) word in
     let gen = plan.generator in
     let len : ℕ = c.args.self.now.len in
     let y = c.loop-y.y in
@@ -36,7 +37,7 @@ pub returns : goal.returns
 returns c =
     let g = c.args.self.now.g in
     let plan = c.args.self.now.plan.now in
-    let fits : List (List ℕ) → Type 0 = λ word. Completes g c.args.self.now.have.now word in
+    let fits : List (List ℕ) → Type 0 = λ word. FitsChunks g (pieces_of c.args.self.now.have) word in
     let gen = plan.generator in
     let erased = plan.erased.items in
     let points = plan.points.items in
@@ -45,7 +46,7 @@ returns c =
     let all : c.loop-y.y * 4 ≡ node_count g = ap (λ n. n * 4) end ∙ sym counts.nodes_are in
     let sums = form_ended g fits c.args.self.now.at c.args.self.now.len erased gen.each c.args.z points (c.loop-y.y * 4) (node_count g) c.loop-y.rows c.end_column.new.rows counts.four all
     c.loop-y.invariant c.end_column.ensures in
-    let nodes = c.requires.block.planned.nodes in
+    let nodes = c.requires.block.planned in
     rows_of_sums g fits c.args.self.now.at c.args.self.now.len erased points gen.unknown gen.each c.args.z c.end_column.new.rows
     nodes.geometry c.requires.block.planned.generator nodes.few nodes.points_are (λ word f. f.codeword) c.requires.block.within sums
 

@@ -2,8 +2,9 @@ use Rattle.std.proofs.Common.{◌≡◌, ℕ, ◌+◌, ◌*◌, ◌<◌, true, f
 use Rattle.std.proofs.lemmas.List.{get_or_read}
 use Rattle.clay_grid.specs.Shape.{node_count}
 use Rattle.code_laws.proofs.Pieces.{piece_fits}
-use Rattle.clay_model.specs.Left.{Completes}
+use Rattle.lane_repair.specs.Views.{pieces_of}
 use Rattle.lane_repair.proofs.RowLemmas.{HoldsSums, sums_more, sums_skipped, rows_of_sums}
+use Rattle.clay_lanes.specs.Present.{FitsChunks}
 use Rattle.clay_lanes.proofs.block.Block.solve_by_nodes.Goals as goal
 use Rattle.clay_lanes.proofs.block.Block.solve_by_nodes.Goals.{then-not-index, else-not-index}
 
@@ -21,7 +22,7 @@ pub loop-node-preserved : goal.loop-node-preserved
 loop-node-preserved c =
     let g = c.args.self.now.g in
     let plan = c.args.self.now.plan.now in
-    let fits : List (List ℕ) → Type 0 = λ word. Completes g c.args.self.now.have.now word in
+    let fits : List (List ℕ) → Type 0 = λ word. FitsChunks g (pieces_of c.args.self.now.have) word in
     let at : ℕ = c.args.self.now.at in
     let len : ℕ = c.args.self.now.len in
     let z : ℕ = c.args.z in
@@ -30,7 +31,7 @@ loop-node-preserved c =
     let factors = plan.generator.each in
     let node : ℕ = c.loop-node.node in
     let below : node < node_count g = omega (arith, c.loop-node-test.true, c.nodes-node-end.ensures.value) in
-    let within : node < length erased = omega (arith, c.requires.block.planned.nodes.nodes) in
+    let within : node < length erased = omega (arith, c.requires.block.planned.nodes) in
     let read : c.index.result.now ≡ get_or erased node false = get_or_read erased node c.index.result.now within c.index.ensures false in
     elim c.if-not-index.branch [
       | then-not-index w ↦
@@ -48,8 +49,8 @@ pub returns : goal.returns
 returns c =
     let g = c.args.self.now.g in
     let plan = c.args.self.now.plan.now in
-    let fits : List (List ℕ) → Type 0 = λ word. Completes g c.args.self.now.have.now word in
-    let nodes = c.requires.block.planned.nodes in
+    let fits : List (List ℕ) → Type 0 = λ word. FitsChunks g (pieces_of c.args.self.now.have) word in
+    let nodes = c.requires.block.planned in
     let len : ℕ = c.args.self.now.len in
     let all : c.loop-node.node ≡ node_count g = omega (arith, c.loop-node-test.false, c.loop-node.auto.node-end, c.nodes-node-end.ensures.value) in
     rows_of_sums g fits c.args.self.now.at len plan.erased.items plan.points.items plan.generator.unknown plan.generator.each c.args.z c.loop-node.rows

@@ -1,6 +1,7 @@
-use Rattle.std.proofs.Common.{◌≡◌, ℕ, ◌+◌, ◌-◌, ◌*◌, ◌<◌, ◌≤◌, List, length, subst, sym, ap, ◌∙◌, arith}
+use Rattle.std.proofs.Common.{◌≡◌, ℕ, ◌+◌, ◌-◌, ◌*◌, ◌≤◌, List, length, subst, sym, ap, ◌∙◌, arith}
 use Rattle.code_laws.proofs.Pieces.{piece_fits}
-use Rattle.clay_model.specs.Left.{Completes}
+use Rattle.lane_repair.specs.Views.{pieces_of}
+use Rattle.clay_lanes.specs.Present.{FitsChunks}
 use Rattle.clay_lanes.specs.Recovered.{AreRowsOfLayers}
 use Rattle.clay_lanes.proofs.Recovery.{rows_written}
 use Rattle.clay_lanes.proofs.block.Block.solve_some.Goals as goal
@@ -19,7 +20,7 @@ slice_bounds-out-end c =
 pub loop-i-preserved : goal.loop-i-preserved
 loop-i-preserved c =
     let block = c.args.self.now in
-    let fits : List (List ℕ) → Type 0 = λ word. Completes block.g block.have.now word in
+    let fits : List (List ℕ) → Type 0 = λ word. FitsChunks block.g (pieces_of block.have) word in
     let points = block.plan.now.points.items in
     let i : ℕ = c.loop-i.i in
     let part : ℕ = c.len.result * block.len in
@@ -39,4 +40,4 @@ pub returns : goal.returns
 returns c =
     let block = c.args.self.now in
     let all : c.loop-i.i ≡ length c.args.layers.now = omega (arith, c.loop-i-test.false, c.loop-i.auto.i-end) in
-    subst (λ n. AreRowsOfLayers block.g (λ word. Completes block.g block.have.now word) block.at block.len block.plan.now.points.items c.args.layers.now n c.loop-i.rows) all c.loop-i.invariant
+    subst (λ n. AreRowsOfLayers block.g (λ word. FitsChunks block.g (pieces_of block.have) word) block.at block.len block.plan.now.points.items c.args.layers.now n c.loop-i.rows) all c.loop-i.invariant

@@ -1,14 +1,15 @@
 use Rattle.std.proofs.Common.{◌≡◌, ℕ, ◌+◌, ◌-◌, ◌*◌, ◌<◌, ◌≤◌, length, get_or, sym, subst, ap, ◌∙◌, arith, Contains}
 use Rattle.clay_grid.specs.Shape.{node_count, layer_count}
-use Rattle.clay_model.specs.Left.{Completes}
 use Rattle.code_laws.proofs.Nodes.{contains_erased}
 use Rattle.code_laws.proofs.Pieces.{piece_fits, place_below}
+use Rattle.lane_repair.specs.Views.{pieces_of}
+use Rattle.clay_lanes.specs.Present.{FitsChunks}
 use Rattle.clay_lanes.proofs.Recovery.{solved_part}
 use Rattle.clay_lanes.proofs.block.Block.solved_piece.Goals as goal
 
 pub place_of-requires : goal.place_of-requires
 place_of-requires c =
-    subst (λ l. Contains l c.args.node) (sym (c.deref.ensures.value ∙ c.requires.block.planned.nodes.points_are))
+    subst (λ l. Contains l c.args.node) (sym (c.deref.ensures.value ∙ c.requires.block.planned.points_are))
     (contains_erased c.args.self.now.plan.now.erased.items (node_count c.args.self.now.g) c.args.node c.requires.node c.requires.erased)
 
 pub slice_bounds-result-end : goal.slice_bounds-result-end
@@ -33,6 +34,6 @@ returns-clause-value c =
     let within : c.place_of.result < length c.args.self.now.plan.now.points.items = omega (arith, c.place_of.ensures.within, ap length c.deref.ensures.value) in
     let count_is : c.len.result ≡ length c.args.self.now.plan.now.points.items = omega (arith, c.len.ensures, c.deref.ensures.len, ap length c.deref.ensures.value) in
     let width : start + c.args.self.now.len - start ≡ c.args.self.now.len = omega arith in
-    solved_part g (λ word. Completes g c.args.self.now.have.now word) c.args.self.now.at c.args.self.now.len c.args.self.now.plan.now.points.items c.args.solved.now c.args.node c.args.z c.place_of.result start (start + c.args.self.now.len - start) c.requires.holds within
+    solved_part g (λ word. FitsChunks g (pieces_of c.args.self.now.have) word) c.args.self.now.at c.args.self.now.len c.args.self.now.plan.now.points.items c.args.solved.now c.args.node c.args.z c.place_of.result start (start + c.args.self.now.len - start) c.requires.holds within
     (ap (λ l. get_or l c.place_of.result 0) (sym c.deref.ensures.value) ∙ c.place_of.ensures.place)
     (ap (λ n. (c.args.z * n + c.place_of.result) * c.args.self.now.len) count_is) width

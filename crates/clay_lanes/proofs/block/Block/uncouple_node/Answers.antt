@@ -9,7 +9,7 @@ solved_piece-theirs-requires-clause-holds c =
     let g = c.args.self.now.g in
     let p = c.partner_of-partner.result in
     let erased = c.args.self.now.plan.now.erased.items in
-    let within : p.node < length erased = omega (arith, c.partner_of-partner.ensures.in_grid, c.requires.block.planned.nodes.nodes) in
+    let within : p.node < length erased = omega (arith, c.partner_of-partner.ensures.in_grid, c.requires.block.planned.nodes) in
     let gone : get_or erased p.node false ≡ true = sym (get_or_read erased p.node c.index.result.now within c.index.ensures false) ∙ c.if-index.true in
     c.requires.lower p.layer c.partner_of-partner.ensures.in_layers
     (lower_score g c.args.node c.args.z p.node p.layer c.partner_of-partner.ensures.partners erased c.requires.there gone)

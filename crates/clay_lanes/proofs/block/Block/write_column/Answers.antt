@@ -1,15 +1,16 @@
-use Rattle.std.proofs.Common.{◌≡◌, ℕ, ◌+◌, ◌-◌, ◌*◌, List, length, take, drop, subst, ◌∙◌, arith}
+use Rattle.std.proofs.Common.{◌≡◌, ℕ, ◌+◌, ◌-◌, ◌*◌, List, length, take, drop, ◌∙◌, arith}
 use Rattle.std.proofs.lemmas.List.Edits.{length-between}
 use Rattle.code_laws.proofs.Pieces.{piece_fits}
-use Rattle.clay_model.specs.Left.{Completes}
+use Rattle.lane_repair.specs.Views.{pieces_of}
 use Rattle.lane_repair.proofs.ColumnRows.{one_more_value}
+use Rattle.clay_lanes.specs.Present.{FitsChunks}
 use Rattle.clay_lanes.proofs.block.Block.write_column.Goals as goal
 
 pub loop-x-preserved : goal.loop-x-preserved
 loop-x-preserved c =
     let g = c.args.self.now.g in
     let plan = c.args.self.now.plan.now in
-    let fits : List (List ℕ) → Type 0 = λ word. Completes g c.args.self.now.have.now word in
+    let fits : List (List ℕ) → Type 0 = λ word. FitsChunks g (pieces_of c.args.self.now.have) word in
     let len : ℕ = c.args.self.now.len in
     let x = c.loop-x.x in
     let values = c.loop-x.values in

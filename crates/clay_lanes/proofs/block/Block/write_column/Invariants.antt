@@ -1,6 +1,7 @@
-use Rattle.clay_model.specs.Left.{Completes}
+use Rattle.lane_repair.specs.Views.{pieces_of}
 use Rattle.lane_repair.specs.Pieces.{HoldsColumn}
+use Rattle.clay_lanes.specs.Present.{FitsChunks}
 use Rattle.clay_lanes.proofs.block.Block.write_column.Given as goal
 
 abbrev pub invariant-loop-x : goal.invariant-loop-x
-invariant-loop-x l = HoldsColumn l.self.g (λ word. Completes l.self.g l.self.have.now word) l.self.at l.self.len l.self.plan.now.erased.items l.column l.z l.x l.values
+invariant-loop-x l = HoldsColumn l.self.g (λ word. FitsChunks l.self.g (pieces_of l.self.have) word) l.self.at l.self.len l.self.plan.now.erased.items l.column l.z l.x l.values
