@@ -3,3 +3,4 @@ pub mod ColumnRows
 pub mod RepairLemmas
 pub mod ViewLemmas
 pub mod AroundLemmas
+pub mod NodeRows

@@ -21,6 +21,11 @@ pub record HoldsColumn (g : Shape) (fits : List (List ℕ) → Type 0) (at len :
   pub bytes : (word : List (List ℕ)) → fits word → (x b : ℕ) → x < count → b < len
       → get_or values (x * len + b) 0 ≡ present erased (λ i. uncoupled_byte g word (at + b) i n) (y * 4 + x)
 
+-- a row of those values for each of count nodes from first on
+pub record HoldsNodes (g : Shape) (fits : List (List ℕ) → Type 0) (at len : ℕ) (erased : List Bool) (first n count : ℕ) (values : List ℕ) : Type 0 where
+  pub bytes : (word : List (List ℕ)) → fits word → (x b : ℕ) → x < count → b < len
+      → get_or values (x * len + b) 0 ≡ present erased (λ i. uncoupled_byte g word (at + b) i n) (first + x)
+
 -- a row for each of the nodes: the bytes from `at` on of their uncoupled values in layer n
 pub record HoldsRows (g : Shape) (fits : List (List ℕ) → Type 0) (at len : ℕ) (points : List ℕ) (n : ℕ) (rows : List ℕ) : Type 0 where
   pub bytes : (word : List (List ℕ)) → fits word → (e b : ℕ) → e < length points → b < len

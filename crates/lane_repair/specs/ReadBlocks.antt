@@ -2,7 +2,7 @@
 use Rattle.std.specs.Prelude.{ℕ, ◌+◌, ◌*◌, ◌<◌, ◌≤◌, List}
 use Rattle.clay_grid.specs.Shape.{row_count}
 use Rattle.code_laws.specs.Rebuilt.{IsReadFor, with_digit}
-use Rattle.lane_repair.specs.Pieces.{IsCoupled, IsUncoupled, IsPresent, HoldsColumn, HoldsRows, HoldsByte}
+use Rattle.lane_repair.specs.Pieces.{IsCoupled, IsUncoupled, IsPresent, HoldsColumn, HoldsNodes, HoldsRows, HoldsByte}
 use Rattle.lane_repair.specs.Views.{pieces_of, HasRoom, ArePieces, FitsPieces}
 use Rattle.lane_repair.specs.Repaired.{IsRepairPlan, column_nodes}
 use Rattle.lane_repair.specs.declared.read_block.ReadBlock.{ReadBlock}
@@ -30,6 +30,11 @@ IsPresentIn block i piece = IsPresent block.g (λ word. FitsPieces block.g block
 -- a row of those values for each of the four nodes of column y
 abbrev pub HoldsColumnIn : ReadBlock → ℕ → List ℕ → Type 0
 HoldsColumnIn block y values = HoldsColumn block.g (λ word. FitsPieces block.g block.plan.now.lost (pieces_of block.parts) word) block.at block.len block.plan.now.erased.items y block.z 4 values
+
+-- the same for as many nodes as a column has, from first on
+abbrev pub HoldsNodesIn : ReadBlock → ℕ → List ℕ → Type 0
+HoldsNodesIn block first values =
+    HoldsNodes block.g (λ word. FitsPieces block.g block.plan.now.lost (pieces_of block.parts) word) block.at block.len block.plan.now.erased.items first block.z (row_count block.g) values
 
 -- a row for each node of the lost node's column: its uncoupled value
 abbrev pub HoldsRowsIn : ReadBlock → List ℕ → Type 0

@@ -1,11 +1,11 @@
 //! The lost chunk, from parts of the others, a block of bytes of a layer after another.
-ghost use Rattle.std.specs.Prelude.{◌≡◌, ◌≢◌, ℕ, ◌+◌, ◌*◌, ◌/◌, ◌<◌, ◌≤◌, length, min, IfOk, OnOk, OnErr};
+ghost use Rattle.std.specs.Prelude.{◌≡◌, ◌≢◌, ◌+◌, ◌*◌, ◌/◌, ◌<◌, ◌≤◌, length, min, IfOk, OnOk, OnErr};
 ghost use Rattle.clay_grid.specs.Shape.{row_count, node_count, node_of_chunk, chunk_length};
 ghost use Rattle.clay_model.specs.RepairParts.{AreParts, IsRebuilt};
 ghost use Rattle.code_laws.specs.Rebuilt.{IsReadFor, with_digit};
 ghost use Rattle.lane_repair.specs.Repaired.{IsRepairPlan};
 ghost use Rattle.lane_repair.specs.Views.{pieces_of, HasRoom, ArePieces, IsRebuiltFrom};
-ghost use Rattle.lane_repair.specs.ReadBlocks.{IsReadBlock, IsCoupledIn, IsUncoupledIn, IsPresentIn, HoldsColumnIn, HoldsRowsIn, HoldsSubchunksIn, KeepsBytesIn};
+ghost use Rattle.lane_repair.specs.ReadBlocks.{IsReadBlock, IsCoupledIn, IsUncoupledIn, IsPresentIn, HoldsColumnIn, HoldsNodesIn, HoldsRowsIn, HoldsSubchunksIn, KeepsBytesIn};
 
 use crate::erased::is_column_erased;
 use crate::read_block::ReadBlock;
@@ -84,6 +84,41 @@ impl<'a> ReadBlock<'a> {
         }
     }
 
+    // Writes the uncoupled values of the nodes of a column, a row for each.
+    fn write_nodes(&self, first: u32, values: &mut [u8])
+        requires block { IsReadBlock self.now }
+        requires nodes { first + row_count self.now.g ≤ node_count self.now.g }
+        requires values_len { length values.old ≡ row_count self.now.g * self.now.len }
+        ensures { HoldsNodesIn self.now first values.new }
+    {
+        let len = self.len;
+        for x in 0..self.g.q() {
+            let from = x as usize * len;
+            let out = &mut values[from..from + len];
+            self.write_value(first + x, out);
+        }
+    }
+
+    // The same as `solve_by_nodes`, the nodes of a column together, with room for the values of one.
+    fn solve_by_whole_columns(&self, column: &mut [u8], rows: &mut [u8])
+        requires block { IsReadBlock self.now }
+        requires column_len { length column.old ≡ row_count self.now.g * self.now.len }
+        requires rows_len { length rows.old ≡ row_count self.now.g * self.now.len }
+        ensures { HoldsRowsIn self.now rows.new }
+    {
+        let len = self.len;
+        rows.fill(0);
+        for y in 0..self.g.t() {
+            if y != self.plan.column {
+                let first = y * self.g.q();
+                self.write_nodes(first, column);
+                self.plan
+                    .generator
+                    .add_nodes(first as usize, len, column, rows);
+            }
+        }
+    }
+
     // Writes the uncoupled values of the four nodes of a column, a row for each.
     fn write_column(&self, column: u32, values: &mut [u8])
         requires block { IsReadBlock self.now }
@@ -127,7 +162,14 @@ impl<'a> ReadBlock<'a> {
         ensures { HoldsRowsIn self.now rows.new }
     {
         let len = self.len;
-        if self.plan.generator.columns().is_empty() || len > column.len() / 4 {
+        let q = self.g.q() as usize;
+        if len > column.len() / 4 {
+            self.solve_by_nodes(values, rows);
+        } else if q < 4 {
+            // sums of the nodes of a column take fewer products
+            let column = &mut column[..q * len];
+            self.solve_by_whole_columns(column, rows);
+        } else if self.plan.generator.columns().is_empty() {
             self.solve_by_nodes(values, rows);
         } else {
             let column = &mut column[..4 * len];
