@@ -1,8 +1,8 @@
 //! The uncoupled values of the erased nodes in a block of bytes, layer by layer.
-ghost use Rattle.std.specs.Prelude.{◌≡◌, ◌+◌, ◌*◌, ◌<◌, ◌≤◌, length, slice_index, slice_index_or, true, false, Contains};
-ghost use Rattle.clay_grid.specs.Shape.{node_count, layer_count};
+ghost use Rattle.std.specs.Prelude.{◌≡◌, ℕ, ◌+◌, ◌*◌, ◌<◌, ◌≤◌, length, slice_index, slice_index_or, true, false, Contains};
+ghost use Rattle.clay_grid.specs.Shape.{row_count, node_count, layer_count};
 ghost use Rattle.clay_lanes.specs.Recovered.{IsLanePlan, HoldsLayersOf, AreNextOf, AreRowsOfLayersFor};
-ghost use Rattle.clay_lanes.specs.Blocks.{IsBlock, rows_length, solved_length, IsCoupledIn, IsUncoupledIn, IsPresentIn, HoldsColumnIn, HoldsRowsIn, HoldsLayerIn, HoldsLayersIn, HoldsLowerIn, AreNextIn, AreRowsOfLayersIn};
+ghost use Rattle.clay_lanes.specs.Blocks.{IsBlock, rows_length, solved_length, IsCoupledIn, IsUncoupledIn, IsPresentIn, HoldsColumnIn, HoldsNodesIn, HoldsRowsIn, HoldsLayerIn, HoldsLayersIn, HoldsLowerIn, AreNextIn, AreRowsOfLayersIn};
 
 use crate::block::Block;
 use crate::plan::Plan;
@@ -23,6 +23,20 @@ fn place_of(points: &[u8], node: u32) -> usize
         }
     }
     unreachable!()
+}
+
+// Whether the erased nodes are those of one column.
+fn are_column(points: &[u8], q: u32) -> bool
+    requires some { 0 < q }
+    requires few { q ≤ 8 }
+    ensures { result ≡ true → length points.now ≡ q }
+{
+    if points.len() != q as usize {
+        return false;
+    }
+    let first = u32::from(points[0]);
+    let last = u32::from(points[points.len() - 1]);
+    first % q == 0 && last + 1 == first + q
 }
 
 impl<'a> Block<'a> {
@@ -122,6 +136,64 @@ impl<'a> Block<'a> {
         }
     }
 
+    // Writes the uncoupled values of the nodes of a column in layer `z`, a row for each, where the layers of lower score are solved.
+    fn write_nodes(&self, solved: &[u8], first: u32, z: u32, values: &mut [u8])
+        requires block { IsBlock self.now }
+        requires solved_len { length solved.now ≡ solved_length self.now }
+        requires lower { HoldsLowerIn self.now z solved.now }
+        requires nodes { first + row_count self.now.g ≤ node_count self.now.g }
+        requires layer { z < layer_count self.now.g }
+        requires values_len { length values.old ≡ row_count self.now.g * self.now.len }
+        ensures { HoldsNodesIn self.now first z values.new }
+    {
+        let len = self.len;
+        for x in 0..self.g.q() {
+            let from = x as usize * len;
+            let out = &mut values[from..from + len];
+            self.write_value(solved, first + x, z, out);
+        }
+    }
+
+    // Whether all nodes of a column are erased.
+    fn is_erased_column(&self, first: u32) -> bool
+        requires block { IsBlock self.now }
+        requires nodes { first + row_count self.now.g ≤ node_count self.now.g }
+        ensures { result ≡ true → (x : ℕ) → x < row_count self.now.g →
+            slice_index_or self.now.plan.now.erased.items (first + x) false ≡ true }
+    {
+        for x in 0..self.g.q() {
+            if !self.plan.erased[(first + x) as usize] {
+                return false;
+            }
+        }
+        true
+    }
+
+    // The same as `solve_by_nodes` where as many nodes are erased as a column has, the nodes of a column together, with room for the values of
+    // one.
+    fn solve_by_whole_columns(&self, solved: &[u8], z: u32, column: &mut [u8], rows: &mut [u8])
+        requires block { IsBlock self.now }
+        requires solved_len { length solved.now ≡ solved_length self.now }
+        requires lower { HoldsLowerIn self.now z solved.now }
+        requires points { length self.now.plan.now.points.items ≡ row_count self.now.g }
+        requires layer { z < layer_count self.now.g }
+        requires column_len { length column.old ≡ row_count self.now.g * self.now.len }
+        requires rows_len { length rows.old ≡ rows_length self.now }
+        ensures { HoldsRowsIn self.now z rows.new }
+    {
+        let len = self.len;
+        rows.fill(0);
+        for y in 0..self.g.t() {
+            let first = y * self.g.q();
+            if !self.is_erased_column(first) {
+                self.write_nodes(solved, first, z, column);
+                self.plan
+                    .generator
+                    .add_nodes(first as usize, len, column, rows);
+            }
+        }
+    }
+
     // Writes the uncoupled values of the four nodes of a column in layer `z`, a row for each, where the layers of lower score are solved.
     fn write_column(&self, solved: &[u8], column: u32, z: u32, values: &mut [u8])
         requires block { IsBlock self.now }
@@ -182,7 +254,14 @@ impl<'a> Block<'a> {
         ensures { HoldsRowsIn self.now z rows.new }
     {
         let len = self.len;
-        if self.plan.generator.columns().is_empty() || len > column.len() / 4 {
+        let q = self.g.q() as usize;
+        if len > column.len() / 4 {
+            self.solve_by_nodes(solved, z, values, rows);
+        } else if q < 4 && are_column(&self.plan.points, self.g.q()) {
+            // sums of the nodes of a column take fewer products
+            let column = &mut column[..q * len];
+            self.solve_by_whole_columns(solved, z, column, rows);
+        } else if self.plan.generator.columns().is_empty() {
             self.solve_by_nodes(solved, z, values, rows);
         } else {
             let column = &mut column[..4 * len];
