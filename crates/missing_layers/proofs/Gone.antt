@@ -1,0 +1,152 @@
+-- The nodes whose chunks are missing, and the pieces of the others.
+use Rattle.std.proofs.Common.{◌≡◌, ℕ, suc, subst, ◌+◌, ◌-◌, ◌*◌, ◌<◌, ◌≤◌, Bool, true, false, not, ◌&&◌, ◌||◌, eqb, List, [], ◌∷◌, ◌++◌, All, length, get_or, take, drop, map, flat_map, refl, sym, ap, ◌∙◌, inl, inr, arith, length-append}
+use Rattle.std.specs.List.{range_with_len}
+use Rattle.std.proofs.lemmas.Bool.{cases_lt, cases_Bool, eq-eqb, true≢false, and_parts, or_cases, not-true}
+use Rattle.std.proofs.lemmas.List.{get_or-map, length-map, get_or_append_left, get_or-append-add}
+use Rattle.std.proofs.lemmas.List.FromFn.{length-range_with_len, get_or-range_with_len, length-map-range_with_len, get_or-map-range_with_len, map-range_with_len_more}
+use Rattle.clay_grid.specs.Shape.{Shape, chunk_count, node_count, layer_count, node_of_chunk, IsVirtual}
+use Rattle.clay_grid.specs.Limits.{IsGeometry}
+use Rattle.clay_grid.specs.Score.{count_below}
+use Rattle.clay_grid.proofs.Counting.{count_below_same}
+use Rattle.clay_grid.proofs.Rising.{Lists-filter}
+use Rattle.clay_model.specs.Code.{chunk_of_node}
+use Rattle.code_laws.proofs.Column.{node_inside}
+use Rattle.code_laws.proofs.Nodes.{node_real, node_virtual}
+use Rattle.lost_layers.specs.LostLayers.{lost_node, is_wanted, partner_node, partner_layer}
+use Rattle.lost_layers.specs.LostPieces.{piece_at}
+use Rattle.lost_layers.specs.declared.run.LostRun.{LostRun}
+use Rattle.lost_layers.specs.declared.run.LostPiece.{LostPiece}
+use Rattle.missing_layers.specs.Erased.{Erased, IsErased, is_missing, is_unknown}
+use Rattle.missing_layers.specs.ErasedPieces.{is_used, is_piece, layers_read, pieces_of_chunk, pieces_of}
+use Rattle.missing_layers.specs.Marks.{AreMore}
+use Rattle.missing_layers.specs.Without.{is_there, is_gone, gone_nodes, gone_count, IsThere, Determine, IsReadable}
+use Rattle.missing_layers.proofs.ErasedDetermining.{pieces_determine}
+
+pub one_more : (test : ℕ → Bool) (marks : List Bool) (mark : Bool) (n : ℕ) → mark ≡ test n → marks ≡ map test (range_with_len 0 n) → marks ++ mark ∷ [] ≡ map test (range_with_len 0 (n + 1))
+one_more test marks mark n is before = (λ i. before i ++ is i ∷ []) ∙ sym (map-range_with_len_more test 0 n n (omega arith))
+
+module _ (g : Shape) (run : LostRun) (present : List Bool) where
+  pub mark_at : (i : ℕ) → i < node_count g → get_or (gone_nodes g run present) i false ≡ is_gone g run present i
+  mark_at i h = get_or-map-range_with_len (is_gone g run present) 0 (node_count g) i i false h (omega arith)
+
+  -- as many have a mark as there is room for
+  pub gone_few : IsReadable g run present → AreMore g (gone_nodes g run present) (gone_nodes g run present)
+  gone_few readable =
+      let same : count_below (node_count g) (λ i. get_or (gone_nodes g run present) i false) ≡ gone_count g run present =
+      count_below_same (node_count g) (λ i. get_or (gone_nodes g run present) i false) (is_gone g run present) mark_at in
+      record {
+        len = length-map-range_with_len (is_gone g run present) 0 (node_count g);
+        kept = λ i h. h;
+        few = subst (λ n. n ≤ g.parity_count) (sym same) readable.few;
+      }
+
+  pub gone_node : (c i : ℕ) → node_of_chunk g c ≡ i → is_gone g run present i ≡ not (is_there run present c)
+  gone_node c i is =
+      let node = node_real g c i is in
+      λ k. not (node.real k) && not (is_there run present (node.chunk k))
+
+  gone_at : (c : ℕ) → is_gone g run present (node_of_chunk g c) ≡ not (is_there run present c)
+  gone_at c = gone_node c (node_of_chunk g c) refl
+
+  pub gone_virtual : (i : ℕ) → IsVirtual g i → is_gone g run present i ≡ false
+  gone_virtual i virtual = ap (λ v. not v && not (is_there run present (chunk_of_node g i))) (node_virtual g i virtual)
+
+  -- the lost one is missing
+  pub lost_gone : is_gone g run present (lost_node g run) ≡ true
+  lost_gone = gone_at run.lost ∙ ap (λ b. not (not b && get_or present run.lost false)) (eq-eqb run.lost run.lost refl)
+
+  pub there_from : (c : ℕ) → is_gone g run present (node_of_chunk g c) ≡ false → is_there run present c ≡ true
+  there_from c h = turned (is_there run present c) (sym (gone_at c) ∙ h)
+    where
+      turned : (b : Bool) → not b ≡ false → b ≡ true
+      turned true h = refl
+      turned false h = absurd (true≢false h)
+
+-- ---- what is read
+
+present_piece : (e : Erased) (i n : ℕ) → IsErased e → is_piece e i n ≡ true → is_missing e i ≡ false
+present_piece e i n erased read =
+    elim (cases_Bool (is_missing e i)) [
+      | inr there ↦ there
+      | inl gone ↦ elim (or_cases (not (is_unknown e i) && (is_used e i n || is_used e (partner_node e.g i n) (partner_layer e.g i n))) _ read) [
+        | inl known ↦
+            let own = (and_parts (not (is_unknown e i)) _ known).0 in
+            absurd (true≢false (sym (erased.missing i gone) ∙ not-true (is_unknown e i) own))
+        | inr wanted ↦
+            let both = and_parts (not (is_missing e i) && eqb (partner_node e.g i n) (lost_node e.g e.run)) (is_wanted e.run (partner_layer e.g i n)) wanted in
+            let own = (and_parts (not (is_missing e i)) _ both.0).0 in
+            absurd (true≢false (sym gone ∙ not-true (is_missing e i) own))
+      ]
+    ]
+
+flat_map_only : (P : LostPiece → Type 0) (f : ℕ → List LostPiece) (xs : List ℕ) (d : LostPiece) → ((i r : ℕ) → i < length xs → r < length (f (get_or xs i 0)) → P (get_or (f (get_or xs i 0)) r d))
+    → (s : ℕ) → s < length (flat_map f xs) → P (get_or (flat_map f xs) s d)
+flat_map_only P f [] d each s h = absurd (omega arith)
+flat_map_only P f (x ∷ xs) d each s h =
+    let whole : length (f x ++ flat_map f xs) ≡ length (f x) + length (flat_map f xs) = length-append (f x) (flat_map f xs) in
+    elim (cases_lt s (length (f x))) [
+      | inl early ↦ subst P (sym (get_or_append_left (f x) (flat_map f xs) d s early)) (each 0 s (omega arith) early)
+      | inr late ↦
+          let place : length (f x) + (s - length (f x)) ≡ s = omega arith in
+          subst P (sym (get_or-append-add (f x) (flat_map f xs) (s - length (f x)) d) ∙ ap (λ v. get_or (f x ++ flat_map f xs) v d) place)
+          (flat_map_only P f xs d (λ i r hi hr. each (suc i) r (omega arith) hr) (s - length (f x)) (omega (arith, whole)))
+    ]
+
+-- the pieces are subchunks of chunks that are there
+pieces_there : (e : Erased) (present : List Bool) → IsGeometry e.g → IsErased e → e.missing ≡ gone_nodes e.g e.run present → All (IsThere e.g e.run present) (pieces_of e)
+pieces_there e present geometry erased marks =
+    λ s d. flat_map_only (IsThere e.g e.run present) (pieces_of_chunk e) (range_with_len 0 (chunk_count e.g)) d
+    (λ i r hi hr.
+    let within : i < chunk_count e.g = subst (λ v. i < v) (length-range_with_len 0 (chunk_count e.g)) hi in
+    let first : get_or (range_with_len 0 (chunk_count e.g)) i 0 ≡ 0 + i = get_or-range_with_len 0 (chunk_count e.g) i 0 within in
+    let none : 0 + i ≡ i = omega arith in
+    one (get_or (range_with_len 0 (chunk_count e.g)) i 0) i r d (first ∙ none) within hr)
+    s
+  where
+    one : (c i r : ℕ) (d : LostPiece) → c ≡ i → i < chunk_count e.g → r < length (pieces_of_chunk e c) → IsThere e.g e.run present (get_or (pieces_of_chunk e c) r d)
+    one c i r d same within hr =
+        let layers : List ℕ = layers_read e c in
+        let inside : r < length layers = subst (λ v. r < v) (length-map layers (piece_at c)) hr in
+        let found = (Lists-filter (is_piece e (node_of_chunk e.g c)) (layer_count e.g)).only r inside in
+        let chunk : c < chunk_count e.g = subst (λ v. v < chunk_count e.g) (sym same) within in
+        let node : node_of_chunk e.g c < node_count e.g = node_inside e.g c geometry chunk in
+        let here : is_gone e.g e.run present (node_of_chunk e.g c) ≡ false =
+        sym (mark_at e.g e.run present (node_of_chunk e.g c) node) ∙ ap (λ l. get_or l (node_of_chunk e.g c) false) (sym marks) ∙ present_piece e (node_of_chunk e.g c) (get_or layers r 0) erased found.1 in
+        subst (IsThere e.g e.run present) (sym (get_or-map (piece_at c) layers r 0 d inside)) (chunk, found.0, there_from e.g e.run present c here)
+
+-- ---- the pieces of a run without the chunks that are gone
+
+module _ (g : Shape) (run : LostRun) (present unknown : List Bool) (geometry : IsGeometry g) (readable : IsReadable g run present) (more : AreMore g (gone_nodes g run present) unknown) where
+  abbrev erased : Erased
+  erased = record { g = g; run = run; missing = gone_nodes g run present; unknown = unknown }
+
+  pub is_erased : IsErased (record { g = g; run = run; missing = gone_nodes g run present; unknown = unknown })
+  is_erased = record {
+    run = readable.run_is;
+    lost = mark_at g run present (lost_node g run) (node_inside g run.lost geometry readable.run_is.chunk) ∙ lost_gone g run present;
+    missing = more.kept;
+    few = more.few;
+  }
+
+  pub determine : Determine g run present (pieces_of (record { g = g; run = run; missing = gone_nodes g run present; unknown = unknown }))
+  determine = record {
+    there = pieces_there erased present geometry is_erased refl;
+    same = pieces_determine erased geometry is_erased;
+  }
+
+-- no pieces determine no layers
+pub none_determine : (g : Shape) (run : LostRun) (present : List Bool) → run.from ≡ run.to → Determine g run present []
+none_determine g run present same =
+    let none : (run.to - run.from) * g.width ≡ 0 = no_bytes run.from run.to g.width same in
+    record {
+      there = λ s d h. absurd (omega (arith, h));
+      same = λ a b wa wb each.
+          ap (λ n. take n (drop (run.from * g.width) (get_or a run.lost []))) none
+          ∙ sym (ap (λ n. take n (drop (run.from * g.width) (get_or b run.lost []))) none);
+    }
+  where
+    no_bytes : (from to w : ℕ) → from ≡ to → (to - from) * w ≡ 0
+    no_bytes from to w same =
+        let none : to - from ≡ 0 = omega (arith, same) in
+        let zero : 0 * w ≡ 0 = omega arith in
+        ap (λ n. n * w) none ∙ zero

@@ -1,0 +1,28 @@
+-- A run as the code has it.
+use Rattle.std.specs.Prelude.{◌≡◌, ℕ, ◌<◌, false, List, Bool, length, get_or}
+use Rattle.clay_grid.specs.Shape.{node_count, layer_count}
+use Rattle.lost_layers.specs.Placing.{IsPlaced}
+use Rattle.missing_layers.specs.Erased.{Erased, IsErased}
+use Rattle.missing_layers.specs.ErasedLayers.{is_solved}
+use Rattle.missing_layers.specs.declared.erased.ErasedRun.{ErasedRun}
+use Rattle.missing_layers.specs.declared.pieces.SolvedRun.{SolvedRun}
+
+abbrev pub erased_of : ErasedRun → Erased
+erased_of run = record { g = run.placed.g; run = run.placed.run; missing = run.missing.now; unknown = run.unknown.now }
+
+-- a run with its place, and an entry for each node
+pub record IsErasedRun (run : ErasedRun) : Type 0 where
+  pub placed : IsPlaced run.placed
+  pub erased : IsErased (erased_of run)
+  pub missing : length run.missing.now ≡ node_count run.placed.g
+  pub unknown : length run.unknown.now ≡ node_count run.placed.g
+
+-- for each layer below a count, whether it is solved
+pub record AreSolved (run : ErasedRun) (count : ℕ) (solved : List Bool) : Type 0 where
+  pub len : length solved ≡ count
+  pub each : (n : ℕ) → n < count → get_or solved n false ≡ is_solved (erased_of run) n
+
+-- a run, and which layers are solved for it
+pub record IsSolvedRun (run : SolvedRun) : Type 0 where
+  pub erased : IsErasedRun run.erased.now
+  pub solved : AreSolved run.erased.now (layer_count run.erased.now.placed.g) run.solved.now
