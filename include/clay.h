@@ -96,7 +96,7 @@ uint32_t clay_recover_with_helpers(uint32_t k, uint32_t m, uint32_t d, uint32_t 
 uint32_t clay_repair_layers_with_helpers(uint32_t k, uint32_t m, uint32_t d, uint32_t w, uint32_t lost, uint32_t *layers, size_t layers_len);
 
 /* Writes chunk `lost` from the parts of d helpers, which stand one behind another by rising number of their chunks. The part of a chunk is
- * its subchunks of those layers, one behind another. Any parts are those of some codeword.
+ * its subchunks of those layers, one behind another. The parts are read where they stand. Any parts are those of some codeword.
  * helpers: a byte for each chunk, 0 where it doesn't help; helpers_len: n. Each other chunk of the lost one's column helps.
  * parts_len: d * part_len. chunk_len: as clay_geometry_with_helpers tells.
  * CLAY_DONE, CLAY_BAD_GEOMETRY, CLAY_BAD_LENGTH, CLAY_BAD_CHUNK, CLAY_OUT_OF_MEMORY, CLAY_BAD_HELPERS. */

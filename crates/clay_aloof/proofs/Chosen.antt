@@ -1,5 +1,5 @@
 -- The nodes that are filled up in the layers that are not given: those of the missing chunks, and as many others that there are m.
-use Rattle.std.proofs.Common.{◌≡◌, ◌≢◌, ℕ, zero, suc, subst, ◌+◌, ◌-◌, ◌<◌, ◌≤◌, Bool, true, false, cond, not, eqb, ◌&&◌, ◌||◌, List, [], ◌∷◌, ◌++◌, length, get_or, Option, None, is_none, Vec, Global, refl, sym, ap, ◌∙◌, inl, inr, arith}
+use Rattle.std.proofs.Common.{◌≡◌, ◌≢◌, ℕ, zero, suc, subst, ◌+◌, ◌-◌, ◌<◌, ◌≤◌, Bool, true, false, cond, not, eqb, ◌&&◌, ◌||◌, List, [], ◌∷◌, ◌++◌, length, get_or, Option, None, is_none, refl, sym, ap, ◌∙◌, inl, inr, arith}
 use Rattle.std.proofs.lemmas.Bool.{cases_eq, cases_lt, cases_Bool, eq-eqb, ne_eqb, true≢false}
 use Rattle.std.proofs.lemmas.List.{length_push, get_or_push, get_or_append_left, get_or_past}
 use Rattle.clay_grid.specs.Shape.{node_count}
@@ -10,7 +10,7 @@ use Rattle.clay_model.specs.Erased.{erased_below}
 use Rattle.code_laws.proofs.Nodes.{length-erased_below}
 use Rattle.clay_aloof.specs.Shape.{AloofShape, all_chunks, grid_of, node_of, is_virtual_node, chunk_at}
 use Rattle.clay_aloof.specs.Limits.{IsAloof}
-use Rattle.clay_aloof.specs.Repair.{HelpersFit}
+use Rattle.clay_aloof.specs.Pieces.{PiecesFit}
 use Rattle.clay_aloof.specs.Rebuilt.{is_missing_node}
 use Rattle.clay_aloof.proofs.Nodes.{node_real, node_inside}
 use Rattle.clay_aloof.proofs.Unknown.{count_either, nodes_counted, missing_counted, missing_chunks}
@@ -95,7 +95,7 @@ chosen (suc n) m f g each low high =
 -- ---- the nodes
 
 -- m nodes, among them those of all missing chunks, none of them virtual or the lost one
-pub record AreFilled (a : AloofShape) (lost : ℕ) (have : List (Option (Vec ℕ Global))) (filled : List Bool) : Type 0 where
+pub record AreFilled (a : AloofShape) (lost : ℕ) (have : List (Option (List ℕ))) (filled : List Bool) : Type 0 where
   pub counted : length (erased_below filled (node_count (grid_of a))) ≡ a.parity_count
   pub lost_kept : get_or filled (node_of a lost) false ≡ false
   pub virtual_kept : (i : ℕ) → is_virtual_node a i ≡ true → get_or filled i false ≡ false
@@ -150,7 +150,7 @@ others_counted a lost aloof within =
     joined : (f g e b n : ℕ) → e ≡ n → b ≡ 0 → g ≡ 1 → e + b ≡ f + g → f + 1 ≡ n
     joined f g e b n whole none one either = omega arith
 
-pub filled_nodes : (a : AloofShape) (lost : ℕ) (have : List (Option (Vec ℕ Global))) → IsAloof a → lost < all_chunks a → HelpersFit a lost have → (filled : List Bool) × AreFilled a lost have filled
+pub filled_nodes : (a : AloofShape) (lost : ℕ) (have : List (Option (List ℕ))) → IsAloof a → lost < all_chunks a → PiecesFit a lost have → (filled : List Bool) × AreFilled a lost have filled
 unfolding is_real not_lost
 filled_nodes a lost have aloof within fit =
     let n : ℕ = node_count (grid_of a) in

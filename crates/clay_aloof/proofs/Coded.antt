@@ -1,5 +1,5 @@
 -- Any parts of helpers that fit are those of a codeword: at each byte the code that extends them, as chunks.
-use Rattle.std.proofs.Common.{◌≡◌, ◌≢◌, ℕ, subst, ◌+◌, ◌*◌, ◌/◌, ◌%◌, ◌^◌, ◌<◌, ◌≤◌, Bool, true, false, cond, ◌||◌, List, [], map, length, get_or, Option, Some, None, IfSome, is_none, Vec, Global, refl, sym, ap, ◌∙◌, inl, inr, arith, lit<}
+use Rattle.std.proofs.Common.{◌≡◌, ◌≢◌, ℕ, subst, ◌+◌, ◌*◌, ◌/◌, ◌%◌, ◌^◌, ◌<◌, ◌≤◌, Bool, true, false, cond, ◌||◌, List, [], map, length, get_or, Option, Some, None, IfSome, is_none, refl, sym, ap, ◌∙◌, inl, inr, arith, lit<}
 use Rattle.std.specs.List.{range_with_len}
 use Rattle.std.proofs.lemmas.Bool.{cases_eq, cases_lt, cases_Bool, cond-true, cond-false, cond_both, ne_eqb, true≢false}
 use Rattle.std.proofs.lemmas.Nat.{mod_below, div_below, div-mul-add, mod-mul-add, div-add-mod'}
@@ -15,16 +15,15 @@ use Rattle.clay_model.proofs.Unique.{row_of, node_below}
 use Rattle.clay_model.specs.Points.{AreDistinct}
 use Rattle.code_laws.proofs.Pieces.{piece_fits, place_below, bytes_everywhere}
 use Rattle.clay_model.specs.Left.{parts}
-use Rattle.code_laws.proofs.Nodes.{long_chunk}
-use Rattle.code_laws.proofs.Agreeing.{agrees_of}
 use Rattle.clay_model.specs.RepairParts.{subchunks_at}
 use Rattle.code_laws.proofs.Places.{subchunk_at, length-subchunks}
 use Rattle.clay_aloof.specs.Shape.{AloofShape, all_chunks, rows_of, grid_of, node_of, is_virtual_node, chunk_at}
 use Rattle.clay_aloof.specs.Limits.{IsAloof}
 use Rattle.clay_aloof.specs.Code.{coupled_value, IsCodeword}
-use Rattle.clay_aloof.specs.Repair.{aloof_layers_of, part_bytes, AreParts}
+use Rattle.clay_aloof.specs.Repair.{aloof_layers_of, part_bytes}
+use Rattle.clay_aloof.specs.Pieces.{ArePieces, HaveBytes, FitsPieces}
 use Rattle.clay_aloof.specs.Rebuilt.{is_unknown}
-use Rattle.clay_aloof.specs.Coded.{AreBytes, PartsAreCoded}
+use Rattle.clay_aloof.specs.Coded.{PartsAreCoded}
 use Rattle.clay_aloof.proofs.Filled.{place_in, place_in-at}
 use Rattle.clay_aloof.proofs.Layer.{some_rows}
 use Rattle.clay_aloof.proofs.Nodes.{node_back, node_real, node_inside, coupled_real, coupled_virtual}
@@ -34,21 +33,18 @@ use Rattle.clay_aloof.proofs.Put.{length-part}
 use Rattle.clay_aloof.proofs.Unknown.{missing_real, unknown_counted}
 use Rattle.clay_aloof.proofs.Chosen.{AreFilled, filled_nodes}
 use Rattle.clay_aloof.proofs.Extended.{Extends, extended}
+use Rattle.clay_aloof.proofs.Shown.{shown_parts, shown_bytes}
 
 -- a part's bytes, and none where there is no part
-abbrev bytes_of : Option (Vec ℕ Global) → List ℕ
+abbrev bytes_of : Option (List ℕ) → List ℕ
 bytes_of None = []
-bytes_of (Some v) = v.items
+bytes_of (Some v) = v
 
-part_byte : (o : Option (Vec ℕ Global)) → ((v : Vec ℕ Global) → o ≡ Some v → (i : ℕ) → get_or v.items i 0 < 2 ^ 8) → (i : ℕ) → get_or (bytes_of o) i 0 < 2 ^ 8
+part_byte : (o : Option (List ℕ)) → ((v : List ℕ) → o ≡ Some v → (i : ℕ) → get_or v i 0 < 2 ^ 8) → (i : ℕ) → get_or (bytes_of o) i 0 < 2 ^ 8
 part_byte None each i = lit< tt
 part_byte (Some v) each i = each v refl i
 
-if_some : (o : Option (Vec ℕ Global)) (P : Vec ℕ Global → Type 0) → ((v : Vec ℕ Global) → o ≡ Some v → P v) → IfSome o P
-if_some None P each = tt
-if_some (Some v) P each = each v refl
-
-module _ (a : AloofShape) (lost : ℕ) (have : List (Option (Vec ℕ Global))) (aloof : IsAloof a) (are : AreParts a lost have) (bytes : AreBytes have) where
+module _ (a : AloofShape) (lost : ℕ) (have : List (Option (List ℕ))) (aloof : IsAloof a) (are : ArePieces a lost have) (bytes : HaveBytes have) where
   abbrev q : ℕ
   q = rows_of a
 
@@ -93,7 +89,7 @@ module _ (a : AloofShape) (lost : ℕ) (have : List (Option (Vec ℕ Global))) (
   apart d e h l same = let less = given_rising a lost d e h l in omega (arith, same)
 
   -- in the layer at place r
-  known_part : (b c r : ℕ) (v : Vec ℕ Global) → get_or have c None ≡ Some v → r < length layers → known b (node_of a c) (layer_of g (get_or layers r 0)) ≡ get_or v.items (r * w + b) 0
+  known_part : (b c r : ℕ) (v : List ℕ) → get_or have c None ≡ Some v → r < length layers → known b (node_of a c) (layer_of g (get_or layers r 0)) ≡ get_or v (r * w + b) 0
   unfolding known
   known_part b c r v there h =
       let at = node_real a c (node_of a c) refl in
@@ -226,7 +222,7 @@ module _ (a : AloofShape) (lost : ℕ) (have : List (Option (Vec ℕ Global))) (
   layer_is : (r : ℕ) → r < length layers → IsLayer q t (layer_of g (get_or layers r 0))
   layer_is r h = IsLayer-digits_of q t (get_or layers r 0) rows
 
-  code_known : (b c r : ℕ) (v : Vec ℕ Global) → c < all_chunks a → get_or have c None ≡ Some v → r < length layers
+  code_known : (b c r : ℕ) (v : List ℕ) → c < all_chunks a → get_or have c None ≡ Some v → r < length layers
       → code b (node_of a c) (layer_of g (get_or layers r 0)) ≡ known b (node_of a c) (layer_of g (get_or layers r 0))
   code_known b c r v hc there h =
       let i : ℕ = node_of a c in
@@ -252,14 +248,14 @@ module _ (a : AloofShape) (lost : ℕ) (have : List (Option (Vec ℕ Global))) (
             subst (λ j. code b j z ≡ known b j z) own ((extends b).elsewhere (i % q) (i / q) z hx hy other present (layer_is r h) given)
       ]
 
-  part_is : (c : ℕ) (v : Vec ℕ Global) → c < all_chunks a → get_or have c None ≡ Some v → subchunks_at w (get_or word c []) layers ≡ v.items
+  part_is : (c : ℕ) (v : List ℕ) → c < all_chunks a → get_or have c None ≡ Some v → subchunks_at w (get_or word c []) layers ≡ v
   part_is c v hc there =
       let xs : List ℕ = get_or word c [] in
       let fit : (r : ℕ) → r < length layers → get_or layers r 0 * w + w ≤ length xs =
       λ r h. subst (λ l. get_or layers r 0 * w + w ≤ l) (sym (chunk_long c hc)) (piece_fits (get_or layers r 0) (layer_count g) w (given_at a lost r h).0) in
       let long : length (subchunks_at w xs layers) ≡ length layers * w = length-subchunks w xs layers fit in
-      let size : length v.items ≡ part_bytes a = long_chunk (part_bytes a) have are.lengths c v (subst (λ n. c < n) (sym are.fit.count) hc) there in
-      ext_get_or 0 (subchunks_at w xs layers) v.items (long ∙ length-part a lost aloof are.chunk ∙ sym size) (λ p hp.
+      let size : length v ≡ part_bytes a = subst (λ o. IfSome o (λ p. length p ≡ part_bytes a)) there (are.lengths c None (subst (λ n. c < n) (sym are.fit.count) hc)) in
+      ext_get_or 0 (subchunks_at w xs layers) v (long ∙ length-part a lost aloof are.chunk ∙ sym size) (λ p hp.
       let place : p < length layers * w = subst (λ n. p < n) long hp in
       let r : ℕ = p / w in
       let b : ℕ = p % w in
@@ -271,17 +267,23 @@ module _ (a : AloofShape) (lost : ℕ) (have : List (Option (Vec ℕ Global))) (
       ∙ chunk_is c (get_or layers r 0) b hc (given_at a lost r hr).0 hb
       ∙ code_known b c r v hc there hr
       ∙ known_part b c r v there hr
-      ∙ ap (λ k. get_or v.items k 0) is)
+      ∙ ap (λ k. get_or v k 0) is)
 
-  agrees : AgreesWith (parts have) (map (λ xs. subchunks_at w xs layers) word)
-  agrees =
-      agrees_of have (map (λ xs. subchunks_at w xs layers) word) (λ c h.
-      let hc : c < all_chunks a = subst (λ n. c < n) are.fit.count h in
-      if_some (get_or have c None) (λ v. get_or (map (λ xs. subchunks_at w xs layers) word) c [] ≡ v.items) (λ v there.
-      lists.get_or-map (λ xs. subchunks_at w xs layers) word c [] [] (subst (λ n. c < n) (sym word_count) hc) ∙ part_is c v hc there))
+  agrees : AgreesWith have (map (λ xs. subchunks_at w xs layers) word)
+  agrees c v there = elim (cases_lt c (length have)) [
+    | inl within ↦
+        let hc : c < all_chunks a = subst (λ n. c < n) are.fit.count within in
+        lists.get_or-map (λ xs. subchunks_at w xs layers) word c [] [] (subst (λ n. c < n) (sym word_count) hc) ∙ part_is c v hc there
+    | inr past ↦ absurd (let none : None ≡ Some v = sym (get_or_past have c None past) ∙ there in cc)
+  ]
 
-pub parts_are_coded : PartsAreCoded
-parts_are_coded a lost have aloof are bytes = (
+pub pieces_are_coded : (a : AloofShape) (lost : ℕ) (have : List (Option (List ℕ))) → IsAloof a → ArePieces a lost have → HaveBytes have → (word : List (List ℕ)) × FitsPieces a lost have word
+pieces_are_coded a lost have aloof are bytes = (
   word a lost have aloof are bytes,
   record { codeword = is_codeword a lost have aloof are bytes; agrees = agrees a lost have aloof are bytes },
 )
+
+pub parts_are_coded : PartsAreCoded
+parts_are_coded a lost have aloof are bytes =
+    let found = pieces_are_coded a lost (parts have) aloof (shown_parts a lost have are) (shown_bytes have bytes) in
+    (found.0, record { codeword = found.1.codeword; agrees = found.1.agrees })

@@ -1,5 +1,5 @@
 -- The lost node's vertex and its partner, which stands in a layer that is given.
-use Rattle.std.proofs.Common.{◌≡◌, ◌≢◌, ℕ, subst, ◌+◌, ◌*◌, ◌/◌, ◌%◌, ◌<◌, ◌≤◌, true, false, ◌||◌, List, length, get_or, Option, Vec, Global, refl, [], sym, ap, ◌∙◌, inl, inr, arith, bit_xor, get_or-set_same}
+use Rattle.std.proofs.Common.{◌≡◌, ◌≢◌, ℕ, subst, ◌+◌, ◌*◌, ◌/◌, ◌%◌, ◌<◌, ◌≤◌, true, false, ◌||◌, List, length, get_or, Option, refl, [], sym, ap, ◌∙◌, inl, inr, arith, bit_xor, get_or-set_same}
 use Rattle.std.proofs.lemmas.Bool.{eq-eqb}
 use Rattle.std.proofs.lemmas.Nat.{div-mul-add, mod_below, div_below, div-add-mod'}
 use Rattle.std.proofs.lemmas.List.{ext_get_or}
@@ -15,7 +15,7 @@ use Rattle.clay_model.specs.Partners.{ArePartners}
 use Rattle.clay_aloof.specs.Shape.{AloofShape, all_chunks, rows_of, grid_of, node_of}
 use Rattle.clay_aloof.specs.Limits.{IsAloof}
 use Rattle.clay_aloof.specs.Code.{coupled_value}
-use Rattle.clay_aloof.specs.Repair.{HelpersFit}
+use Rattle.clay_aloof.specs.Pieces.{PiecesFit}
 use Rattle.clay_aloof.specs.Solved.{Fits, IsUncoupled}
 use Rattle.clay_aloof.specs.Rebuilt.{is_missing_node, IsGiven, IsRepairPlan, ArePut, IsLostPiece, HoldsLost, IsLostChunk}
 use Rattle.clay_aloof.specs.declared.layers.Plan.{Plan}
@@ -50,12 +50,12 @@ module _ (a : AloofShape) (lost : ℕ) (aloof : IsAloof a) (within : lost < all_
       ∙ get_or-set_same (layer_of (grid_of a) n) (node_of a lost / rows_of a) (node_of a lost % rows_of a) 0 (subst (λ t. node_of a lost / rows_of a < t) (sym layer.long) column)
 
   -- and is solved
-  pub partner_erased : (have : List (Option (Vec ℕ Global))) (plan : Plan) → IsRepairPlan a lost have plan → other < node_count (grid_of a) → get_or plan.erased.items other false ≡ true
+  pub partner_erased : (have : List (Option (List ℕ))) (plan : Plan) → IsRepairPlan a lost have plan → other < node_count (grid_of a) → get_or plan.erased.items other false ≡ true
   partner_erased have plan repair below =
       repair.erased_are other below ∙ ap (λ b. b || is_missing_node a have other) (eq-eqb (other / rows_of a) (node_of a lost / rows_of a) partner_column)
 
 -- the piece of an unpaired vertex is its uncoupled value
-pub lost_alone : (a : AloofShape) (lost : ℕ) (have : List (Option (Vec ℕ Global))) (plan : Plan) (known : List ℕ) (n other p : ℕ) (own out : List ℕ) → IsRepairPlan a lost have plan → ArePut a lost have (all_chunks a) known
+pub lost_alone : (a : AloofShape) (lost : ℕ) (have : List (Option (List ℕ))) (plan : Plan) (known : List ℕ) (n other p : ℕ) (own out : List ℕ) → IsRepairPlan a lost have plan → ArePut a lost have (all_chunks a) known
     → ArePartners (grid_of a) (node_of a lost) n other p → other ≡ node_of a lost → IsUncoupled (grid_of a) plan known other p own → out ≡ own → IsLostPiece a lost have n out
 lost_alone a lost have plan known n other p own out repair put pair same uncoupled copied = record {
   at = λ word parts b hb.
@@ -66,8 +66,8 @@ lost_alone a lost have plan known n other p own out repair put pair same uncoupl
 }
 
 -- that of a paired one is crossed from its partner's values
-pub lost_crossed : (a : AloofShape) (lost : ℕ) (have : List (Option (Vec ℕ Global))) (plan : Plan) (known : List ℕ) (n other p : ℕ) (own out : List ℕ) → IsRepairPlan a lost have plan → ArePut a lost have (all_chunks a) known
-    → HelpersFit a lost have → lost < all_chunks a → ArePartners (grid_of a) (node_of a lost) n other p → other < node_count (grid_of a) → p < layer_count (grid_of a) → other ≢ node_of a lost
+pub lost_crossed : (a : AloofShape) (lost : ℕ) (have : List (Option (List ℕ))) (plan : Plan) (known : List ℕ) (n other p : ℕ) (own out : List ℕ) → IsRepairPlan a lost have plan → ArePut a lost have (all_chunks a) known
+    → PiecesFit a lost have → lost < all_chunks a → ArePartners (grid_of a) (node_of a lost) n other p → other < node_count (grid_of a) → p < layer_count (grid_of a) → other ≢ node_of a lost
     → IsUncoupled (grid_of a) plan known other p own
     → ((b : ℕ) → b < a.width → get_or out b 0 ≡ quotient (bit_xor (get_or own b 0) (get_or known ((other * layer_count (grid_of a) + p) * a.width + b) 0)) 2) → IsLostPiece a lost have n out
 lost_crossed a lost have plan known n other p own out repair put fit within pair below layer differ uncoupled written = record {
@@ -81,7 +81,7 @@ lost_crossed a lost have plan known n other p own out repair put fit within pair
 }
 
 -- one piece more
-pub lost_more : (a : AloofShape) (lost : ℕ) (have : List (Option (Vec ℕ Global))) (n k : ℕ) (chunk out : List ℕ) → n * a.width ≤ length chunk → length out ≡ a.width
+pub lost_more : (a : AloofShape) (lost : ℕ) (have : List (Option (List ℕ))) (n k : ℕ) (chunk out : List ℕ) → n * a.width ≤ length chunk → length out ≡ a.width
     → HoldsLost a lost have n chunk → IsLostPiece a lost have n out → HoldsLost a lost have (n + 1) (put_mid (n * a.width) k chunk out)
 lost_more a lost have n k chunk out start long before new = record {
   at = λ word parts v b hv hb. elim (cases_eq v n) [
@@ -98,7 +98,7 @@ lost_more a lost have n k chunk out start long before new = record {
 }
 
 -- a chunk of which each piece is the lost one's
-pub is_lost_chunk : (a : AloofShape) (lost : ℕ) (have : List (Option (Vec ℕ Global))) (chunk : List ℕ) → IsAloof a → lost < all_chunks a → length chunk ≡ chunk_length (grid_of a)
+pub is_lost_chunk : (a : AloofShape) (lost : ℕ) (have : List (Option (List ℕ))) (chunk : List ℕ) → IsAloof a → lost < all_chunks a → length chunk ≡ chunk_length (grid_of a)
     → HoldsLost a lost have (layer_count (grid_of a)) chunk → IsLostChunk a lost have chunk
 is_lost_chunk a lost have chunk aloof within long holds = record {
   len = long;

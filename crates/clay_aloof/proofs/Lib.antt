@@ -6,6 +6,7 @@ pub mod Nodes
 pub mod Parity
 pub mod Word
 pub mod Laid
+pub mod DataCoded
 pub mod Kept
 pub mod Parts
 pub mod Unknown
@@ -14,6 +15,7 @@ pub mod Chosen
 pub mod Extended
 pub mod Full
 pub mod Put
+pub mod Shown
 pub mod Coded
 pub mod Column
 pub mod Worked

@@ -1,10 +1,8 @@
 -- The parts of a repair: which layers they have, which nodes are solved, and what is known of a codeword that has them.
-use Rattle.std.proofs.Common.{◌≡◌, ◌≢◌, ℕ, subst, ◌+◌, ◌*◌, ◌/◌, ◌%◌, ◌<◌, ◌≤◌, ◌⊎◌, Bool, true, false, not, eqb, ◌&&◌, ◌||◌, List, [], length, get_or, filter, Option, Some, None, is_none, Vec, Global, refl, sym, ap, ◌∙◌, inl, inr, arith}
-use Rattle.std.specs.Option.{option_map}
+use Rattle.std.proofs.Common.{◌≡◌, ◌≢◌, ℕ, subst, ◌+◌, ◌*◌, ◌/◌, ◌%◌, ◌<◌, ◌≤◌, ◌⊎◌, Bool, true, false, not, eqb, ◌&&◌, ◌||◌, List, [], length, get_or, filter, Option, Some, None, is_none, refl, sym, ap, ◌∙◌, inl, inr, arith}
 use Rattle.std.proofs.lemmas.Bool.{cases_Bool, eqb-true, eq-eqb, true≢false}
 use Rattle.std.proofs.lemmas.List.{get_or-set_other}
 use Rattle.std.proofs.lemmas.List as lists
-use Rattle.std.proofs.Math.ListN.{get_or-map}
 use Rattle.clay_grid.specs.Shape.{Shape, column_count, node_count, layer_count}
 use Rattle.clay_grid.specs.Layers.{layer_of}
 use Rattle.clay_grid.specs.Score.{GoesBefore, IsByScore}
@@ -17,7 +15,8 @@ use Rattle.code_laws.proofs.Places.{subchunk_at}
 use Rattle.clay_aloof.specs.Shape.{AloofShape, all_chunks, rows_of, grid_of, node_of, is_virtual_node, chunk_at}
 use Rattle.clay_aloof.specs.Limits.{IsAloof}
 use Rattle.clay_aloof.specs.Code.{coupled_value}
-use Rattle.clay_aloof.specs.Repair.{aloof_layers_of, HelpersFit, HasParts}
+use Rattle.clay_aloof.specs.Repair.{aloof_layers_of}
+use Rattle.clay_aloof.specs.Pieces.{PiecesFit, FitsPieces}
 use Rattle.clay_aloof.specs.Solved.{IsIn, Fits}
 use Rattle.clay_aloof.specs.Rebuilt.{is_unknown, IsGiven, IsRepairPlan, kept_layers, ArePut}
 use Rattle.clay_aloof.specs.declared.layers.Plan.{Plan}
@@ -92,11 +91,11 @@ not_and_false true n e = inl refl
 not_and_false false n e = inr e
 
 -- a node that isn't solved stands in another column, and is virtual or has a part
-pub record IsKnown (a : AloofShape) (lost : ℕ) (have : List (Option (Vec ℕ Global))) (i : ℕ) : Type 0 where
+pub record IsKnown (a : AloofShape) (lost : ℕ) (have : List (Option (List ℕ))) (i : ℕ) : Type 0 where
   pub apart : i / rows_of a ≢ node_of a lost / rows_of a
   pub there : (is_virtual_node a i ≡ true) ⊎ (is_none (get_or have (chunk_at a i) None) ≡ false)
 
-pub is_known : (a : AloofShape) (lost : ℕ) (have : List (Option (Vec ℕ Global))) (i : ℕ) → is_unknown a lost have i ≡ false → IsKnown a lost have i
+pub is_known : (a : AloofShape) (lost : ℕ) (have : List (Option (List ℕ))) (i : ℕ) → is_unknown a lost have i ≡ false → IsKnown a lost have i
 is_known a lost have i e =
     let both = or_false (eqb (i / rows_of a) (node_of a lost / rows_of a)) (not (is_virtual_node a i) && is_none (get_or have (chunk_at a i) None)) e in
     record {
@@ -105,7 +104,7 @@ is_known a lost have i e =
     }
 
 -- another node of the lost node's column is virtual or has a part
-pub column_known : (a : AloofShape) (lost : ℕ) (have : List (Option (Vec ℕ Global))) (i : ℕ) → IsAloof a → HelpersFit a lost have → i < node_count (grid_of a)
+pub column_known : (a : AloofShape) (lost : ℕ) (have : List (Option (List ℕ))) (i : ℕ) → IsAloof a → PiecesFit a lost have → i < node_count (grid_of a)
     → i / rows_of a ≡ node_of a lost / rows_of a → i ≢ node_of a lost → (is_virtual_node a i ≡ true) ⊎ (is_none (get_or have (chunk_at a i) None) ≡ false)
 column_known a lost have i aloof fit hi column differ =
     elim (cases_Bool (is_virtual_node a i)) [
@@ -117,19 +116,17 @@ column_known a lost have i aloof fit hi column differ =
 
 -- ---- what is known of a codeword with these parts
 
-some_of : (o : Option (Vec ℕ Global)) → is_none o ≡ false → (v : Vec ℕ Global) × (o ≡ Some v)
+some_of : (o : Option (List ℕ)) → is_none o ≡ false → (v : List ℕ) × (o ≡ Some v)
 some_of None e = absurd (true≢false e)
 some_of (Some v) e = (v, refl)
 
-agreeing_part : (a : AloofShape) (lost : ℕ) (have : List (Option (Vec ℕ Global))) (word : List (List ℕ)) → HasParts a lost have word → (c : ℕ) (v : Vec ℕ Global) → c < all_chunks a → get_or have c None ≡ Some v
-    → subchunks_at a.width (get_or word c []) (aloof_layers_of a lost) ≡ v.items
+agreeing_part : (a : AloofShape) (lost : ℕ) (have : List (Option (List ℕ))) (word : List (List ℕ)) → FitsPieces a lost have word → (c : ℕ) (v : List ℕ) → c < all_chunks a → get_or have c None ≡ Some v
+    → subchunks_at a.width (get_or word c []) (aloof_layers_of a lost) ≡ v
 agreeing_part a lost have word fits c v below there =
-    let items : Option (Vec ℕ Global) → Option (List ℕ) = option_map (λ (w : Vec ℕ Global). w.items) in
-    let part : List ℕ → List ℕ = λ chunk. subchunks_at a.width chunk (aloof_layers_of a lost) in
-    sym (lists.get_or-map part word c [] [] (subst (λ n. c < n) (sym fits.codeword.count) below))
-    ∙ fits.agrees c v.items (get_or-map items have c None ∙ ap items there)
+    sym (lists.get_or-map (λ chunk. subchunks_at a.width chunk (aloof_layers_of a lost)) word c [] [] (subst (λ n. c < n) (sym fits.codeword.count) below))
+    ∙ fits.agrees c v there
 
-pub known_value : (a : AloofShape) (lost : ℕ) (have : List (Option (Vec ℕ Global))) (known : List ℕ) (word : List (List ℕ)) → IsAloof a → ArePut a lost have (all_chunks a) known → HasParts a lost have word
+pub known_value : (a : AloofShape) (lost : ℕ) (have : List (Option (List ℕ))) (known : List ℕ) (word : List (List ℕ)) → IsAloof a → ArePut a lost have (all_chunks a) known → FitsPieces a lost have word
     → (i n b : ℕ) → i < node_count (grid_of a) → n < layer_count (grid_of a) → IsGiven a lost n → (is_virtual_node a i ≡ true) ⊎ (is_none (get_or have (chunk_at a i) None) ≡ false) → b < a.width
     → get_or known ((i * layer_count (grid_of a) + n) * a.width + b) 0 ≡ coupled_value a word b i (layer_of (grid_of a) n)
 known_value a lost have known word aloof put fits i n b hi hn given there hb =
@@ -144,7 +141,7 @@ known_value a lost have known word aloof put fits i n b hi hn given there hb =
             | inr here ↦ here
           ] in
           let some = some_of (get_or have c None) present in
-          let v : Vec ℕ Global = some.0 in
+          let v : List ℕ = some.0 in
           let layers : List ℕ = aloof_layers_of a lost in
           let place = given_place a lost n hn given in
           let k : ℕ = place.0 in
@@ -163,8 +160,8 @@ known_value a lost have known word aloof put fits i n b hi hn given there hb =
 pub fewer_sums : (q t m k : ℕ) (c : ℕ → List ℕ → ℕ) → k ≤ m → HasZeroSums q t m c → HasZeroSums q t k c
 fewer_sums q t m k c few sums z layer j hj = sums z layer j (omega arith)
 
-pub word_fits : (a : AloofShape) (lost : ℕ) (have : List (Option (Vec ℕ Global))) (plan : Plan) (known : List ℕ) (word : List (List ℕ)) → IsRepairPlan a lost have plan → ArePut a lost have (all_chunks a) known
-    → HasParts a lost have word → Fits (grid_of a) plan known (coupled_value a word)
+pub word_fits : (a : AloofShape) (lost : ℕ) (have : List (Option (List ℕ))) (plan : Plan) (known : List ℕ) (word : List (List ℕ)) → IsRepairPlan a lost have plan → ArePut a lost have (all_chunks a) known
+    → FitsPieces a lost have word → Fits (grid_of a) plan known (coupled_value a word)
 word_fits a lost have plan known word repair put fits = record {
   bytes = coupled_byte a word fits.codeword.bytes;
   sums = λ b hb. fewer_sums (rows_of a) (column_count (grid_of a)) a.parity_count (length plan.points.items) (coupled_value a word b) repair.few (fits.codeword.sums b hb);

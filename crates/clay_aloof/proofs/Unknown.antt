@@ -1,5 +1,5 @@
 -- How many nodes a repair solves.
-use Rattle.std.proofs.Common.{◌≡◌, ℕ, zero, suc, subst, ◌+◌, ◌-◌, ◌*◌, ◌/◌, ◌<◌, ◌≤◌, Bool, true, false, cond, not, eqb, ◌&&◌, ◌||◌, ◌⊎◌, ◌%◌, List, [], ◌∷◌, ◌++◌, length, get_or, Option, None, Some, is_none, is_some, Vec, Global, refl, sym, ap, ◌∙◌, inl, inr, arith}
+use Rattle.std.proofs.Common.{◌≡◌, ℕ, zero, suc, subst, ◌+◌, ◌-◌, ◌*◌, ◌/◌, ◌<◌, ◌≤◌, Bool, true, false, cond, not, eqb, ◌&&◌, ◌||◌, ◌⊎◌, ◌%◌, List, [], ◌∷◌, ◌++◌, length, get_or, Option, None, Some, is_none, is_some, refl, sym, ap, ◌∙◌, inl, inr, arith}
 use Rattle.std.proofs.lemmas.Bool.{cases_eq, eq-eqb, ne_eqb}
 use Rattle.std.proofs.lemmas.Nat.{div_below}
 use Rattle.std.proofs.lemmas.List.{get_or_push, get_or_append_left}
@@ -12,7 +12,7 @@ use Rattle.clay_model.specs.Erased.{erased_below}
 use Rattle.code_laws.proofs.Nodes.{length-erased_below}
 use Rattle.clay_aloof.specs.Shape.{AloofShape, all_chunks, rows_of, grid_of, node_of, chunk_at, is_virtual_node}
 use Rattle.clay_aloof.specs.Limits.{IsAloof}
-use Rattle.clay_aloof.specs.Repair.{HelpersFit}
+use Rattle.clay_aloof.specs.Pieces.{PiecesFit}
 use Rattle.clay_aloof.specs.Rebuilt.{is_missing_node, is_unknown}
 use Rattle.clay_aloof.proofs.Layer.{some_rows}
 use Rattle.clay_aloof.proofs.Parts.{column_known}
@@ -71,7 +71,7 @@ count_both (suc n) f g each =
     joined : (a b c d n : ℕ) → a + b ≡ n → c + d ≡ 1 → a + c + (b + d) ≡ suc n
     joined a b c d n p q = omega arith
 
-pub missing_real : (a : AloofShape) (have : List (Option (Vec ℕ Global))) (c i : ℕ) → IsNodeOf a c i → is_missing_node a have i ≡ is_none (get_or have c None)
+pub missing_real : (a : AloofShape) (have : List (Option (List ℕ))) (c i : ℕ) → IsNodeOf a c i → is_missing_node a have i ≡ is_none (get_or have c None)
 missing_real a have c i node = λ k. not (node.real k) && is_none (get_or have (node.chunk k) None)
 
 -- as many nodes as chunks pass a test of their chunks
@@ -109,14 +109,14 @@ nodes_counted a test aloof =
     plain a = omega arith
 
 -- as many nodes are missing as chunks
-pub missing_counted : (a : AloofShape) (have : List (Option (Vec ℕ Global))) → IsAloof a
+pub missing_counted : (a : AloofShape) (have : List (Option (List ℕ))) → IsAloof a
     → count_below (node_count (grid_of a)) (is_missing_node a have) ≡ count_below (all_chunks a) (λ c. is_none (get_or have c None))
 missing_counted a have aloof = nodes_counted a (λ c. is_none (get_or have c None)) aloof
 
-none_is : (o : Option (Vec ℕ Global)) → is_none o ≡ not (is_some o)
+none_is : (o : Option (List ℕ)) → is_none o ≡ not (is_some o)
 none_is o = elim o as (λ p. is_none p ≡ not (is_some p)) [ Some v ↦ refl | None ↦ refl ]
 
-missing_not : (a : AloofShape) (have : List (Option (Vec ℕ Global))) (i : ℕ) → (is_virtual_node a i ≡ true) ⊎ (is_none (get_or have (chunk_at a i) None) ≡ false) → is_missing_node a have i ≡ false
+missing_not : (a : AloofShape) (have : List (Option (List ℕ))) (i : ℕ) → (is_virtual_node a i ≡ true) ⊎ (is_none (get_or have (chunk_at a i) None) ≡ false) → is_missing_node a have i ≡ false
 missing_not a have i known =
     elim known [
       | inl virtual ↦ ap (λ b. not b && is_none (get_or have (chunk_at a i) None)) virtual
@@ -128,7 +128,7 @@ missing_not a have i known =
     and_false false = refl
 
 -- of the lost node's column its chunk alone is missing
-lost_alone : (a : AloofShape) (lost : ℕ) (have : List (Option (Vec ℕ Global))) → IsAloof a → lost < all_chunks a → HelpersFit a lost have → (i : ℕ) → i < node_count (grid_of a)
+lost_alone : (a : AloofShape) (lost : ℕ) (have : List (Option (List ℕ))) → IsAloof a → lost < all_chunks a → PiecesFit a lost have → (i : ℕ) → i < node_count (grid_of a)
     → (eqb (i / rows_of a) (node_of a lost / rows_of a) && is_missing_node a have i) ≡ (eqb (i / rows_of a) (node_of a lost / rows_of a) && eqb (node_of a lost) i)
 lost_alone a lost have aloof within fit i h =
     let node : ℕ = node_of a lost in
@@ -147,13 +147,13 @@ lost_alone a lost have aloof within fit i h =
     ]
 
 -- as many chunks are missing as are no helpers
-pub missing_chunks : (a : AloofShape) (lost : ℕ) (have : List (Option (Vec ℕ Global))) → HelpersFit a lost have → a.helper_count + count_below (all_chunks a) (λ c. is_none (get_or have c None)) ≡ all_chunks a
+pub missing_chunks : (a : AloofShape) (lost : ℕ) (have : List (Option (List ℕ))) → PiecesFit a lost have → a.helper_count + count_below (all_chunks a) (λ c. is_none (get_or have c None)) ≡ all_chunks a
 missing_chunks a lost have fit =
     ap (λ n. n + count_below (all_chunks a) (λ c. is_none (get_or have c None))) (sym fit.helpers)
     ∙ count_both (all_chunks a) (λ c. is_some (get_or have c None)) (λ c. is_none (get_or have c None)) (λ c. none_is (get_or have c None))
 
 -- as many nodes are solved as there are parity chunks
-pub unknown_counted : (a : AloofShape) (lost : ℕ) (have : List (Option (Vec ℕ Global))) (erased : List Bool) → IsAloof a → lost < all_chunks a → HelpersFit a lost have
+pub unknown_counted : (a : AloofShape) (lost : ℕ) (have : List (Option (List ℕ))) (erased : List Bool) → IsAloof a → lost < all_chunks a → PiecesFit a lost have
     → ((i : ℕ) → i < node_count (grid_of a) → get_or erased i false ≡ is_unknown a lost have i) → length (erased_below erased (node_count (grid_of a))) ≡ a.parity_count
 unknown_counted a lost have erased aloof within fit each =
     let n : ℕ = node_count (grid_of a) in
@@ -181,6 +181,6 @@ unknown_counted a lost have erased aloof within fit each =
     whole : (e b f g u k m d : ℕ) → e + b ≡ f + g → b ≡ 1 → f ≡ d + 1 - k → g ≡ u → d + u ≡ k + m → k < d → e ≡ m
     whole e b f g u k m d either both column missing rest low = omega arith
 
-pub few_unknown : (a : AloofShape) (lost : ℕ) (have : List (Option (Vec ℕ Global))) (erased : List Bool) → IsAloof a → lost < all_chunks a → HelpersFit a lost have
+pub few_unknown : (a : AloofShape) (lost : ℕ) (have : List (Option (List ℕ))) (erased : List Bool) → IsAloof a → lost < all_chunks a → PiecesFit a lost have
     → ((i : ℕ) → i < node_count (grid_of a) → get_or erased i false ≡ is_unknown a lost have i) → length (erased_below erased (node_count (grid_of a))) ≤ a.parity_count
 few_unknown a lost have erased aloof within fit each = let whole = unknown_counted a lost have erased aloof within fit each in omega arith

@@ -2,6 +2,7 @@ pub mod Shape
 pub mod Limits
 pub mod Code
 pub mod Repair
+pub mod Pieces
 pub mod Filled
 pub mod Coded
 pub mod Solved
@@ -9,5 +10,7 @@ pub mod Encoded
 pub mod Rebuilt
 pub mod Worked
 pub mod Known
+pub mod Tables
 pub mod Partners
 pub mod Recovered
+pub mod Recoveries

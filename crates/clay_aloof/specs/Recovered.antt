@@ -1,12 +1,11 @@
 -- Missing chunks of a codeword, from the others.
-use Rattle.std.specs.Prelude.{◌≡◌, ◌≢◌, ℕ, ◌+◌, ◌*◌, ◌<◌, ◌≤◌, ◌&&◌, Bool, true, false, not, List, [], length, get_or, slice_range, Option, Some, None, Vec}
-use Rattle.std.specs.declared.alloc.Global.{Global}
-use Rattle.clay_grid.specs.Shape.{node_count, layer_count, chunk_length}
+use Rattle.std.specs.Prelude.{◌≡◌, ℕ, ◌+◌, ◌*◌, ◌<◌, ◌≤◌, ◌&&◌, Bool, false, not, List, [], length, get_or, slice_range}
+use Rattle.clay_grid.specs.Shape.{layer_count, chunk_length}
 use Rattle.clay_grid.specs.Score.{count_below}
-use Rattle.clay_aloof.specs.Shape.{AloofShape, all_chunks, grid_of, node_of, is_virtual_node, chunk_at}
+use Rattle.clay_aloof.specs.Shape.{AloofShape, all_chunks, grid_of, is_virtual_node, chunk_at}
 use Rattle.clay_aloof.specs.Code.{IsCodeword}
 use Rattle.clay_aloof.specs.Limits.{IsAloof}
-use Rattle.clay_aloof.specs.Solved.{IsPlan, IsIn, HoldsSubchunks}
+use Rattle.clay_aloof.specs.Solved.{IsPlan, IsIn}
 use Rattle.clay_aloof.specs.declared.layers.Plan.{Plan}
 
 -- whether chunk c is missing
@@ -43,46 +42,3 @@ pub record IsWholePlan (a : AloofShape) (erased : List Bool) (plan : Plan) : Typ
   pub few : length plan.points.items ≤ a.parity_count
   pub erased_are : plan.erased.items ≡ erased
   pub all : (n : ℕ) → n < layer_count (grid_of a) → IsIn plan.layers.items n
-
--- each node has the bytes of its chunk, and a virtual one zeros
-pub record AreHeld (a : AloofShape) (bytes known : List ℕ) : Type 0 where
-  pub real : (i n b : ℕ) → i < node_count (grid_of a) → is_virtual_node a i ≡ false → n < layer_count (grid_of a) → b < a.width
-      → get_or known ((i * layer_count (grid_of a) + n) * a.width + b) 0 ≡ get_or (chunk_in a bytes (chunk_at a i)) (n * a.width + b) 0
-  pub virtual : (i n b : ℕ) → i < node_count (grid_of a) → is_virtual_node a i ≡ true → n < layer_count (grid_of a) → b < a.width
-      → get_or known ((i * layer_count (grid_of a) + n) * a.width + b) 0 ≡ 0
-
--- the chunk of an erased node, and none for another
-abbrev pub IsErasedChunk : AloofShape → Plan → List ℕ → ℕ → Option (Vec ℕ Global) → Type 0
-IsErasedChunk a plan known c None = get_or plan.erased.items (node_of a c) false ≡ false
-IsErasedChunk a plan known c (Some v) =
-    (get_or plan.erased.items (node_of a c) false ≡ true) × (length v.items ≡ chunk_length (grid_of a)) × HoldsSubchunks (grid_of a) plan known (node_of a c) (layer_count (grid_of a)) v.items
-
--- these of the first count chunks
-pub record AreErasedChunks (a : AloofShape) (plan : Plan) (known : List ℕ) (count : ℕ) (chunks : List (Option (Vec ℕ Global))) : Type 0 where
-  pub long : length chunks ≡ count
-  pub each : (c : ℕ) → c < count → IsErasedChunk a plan known c (get_or chunks c None)
-
--- a missing chunk of each codeword that has the others, and none for one that is there
-abbrev pub IsMissingChunk : AloofShape → List Bool → List ℕ → ℕ → Option (Vec ℕ Global) → Type 0
-IsMissingChunk a missing bytes c None = is_gone missing c ≡ false
-IsMissingChunk a missing bytes c (Some v) =
-    (is_gone missing c ≡ true) × (length v.items ≡ chunk_length (grid_of a)) × ((word : List (List ℕ)) → HasOthers a missing bytes word → v.items ≡ get_or word c [])
-
-pub record AreMissingChunks (a : AloofShape) (missing : List Bool) (bytes : List ℕ) (chunks : List (Option (Vec ℕ Global))) : Type 0 where
-  pub long : length chunks ≡ all_chunks a
-  pub each : (c : ℕ) → c < all_chunks a → IsMissingChunk a missing bytes c (get_or chunks c None)
-
--- the chunk that is put in a place, where there is one, else the one that stood there
-abbrev pub put_over : Option (Vec ℕ Global) → List ℕ → List ℕ
-put_over None before = before
-put_over (Some v) before = v.items
-
--- a chunk is put in its place, where there is one
-pub record IsPutOver (a : AloofShape) (chunk : Option (Vec ℕ Global)) (c : ℕ) (old new : List ℕ) : Type 0 where
-  pub here : chunk_in a new c ≡ put_over chunk (chunk_in a old c)
-  pub elsewhere : (d : ℕ) → d < all_chunks a → d ≢ c → chunk_in a new d ≡ chunk_in a old d
-
--- the first count of these are put in their places
-pub record ArePutOver (a : AloofShape) (chunks : List (Option (Vec ℕ Global))) (count : ℕ) (old new : List ℕ) : Type 0 where
-  pub put : (c : ℕ) → c < count → chunk_in a new c ≡ put_over (get_or chunks c None) (chunk_in a old c)
-  pub rest : (c : ℕ) → count ≤ c → c < all_chunks a → chunk_in a new c ≡ chunk_in a old c

@@ -1,21 +1,23 @@
 //! The lost chunk, from parts of the helpers' chunks.
-ghost use Rattle.std.specs.Prelude.{◌≡◌, ◌≢◌, ℕ, ◌+◌, ◌*◌, ◌/◌, ◌%◌, ◌^◌, ◌<◌, ◌≤◌, ◌↔◌, ◌||◌, ◌&&◌, List, length, IfOk, OnOk, OnErr, IfSome, IsTrue, MatchOption, slice_index, slice_index_or, slice_range, true, false, eqb, is_none, is_some, count_by, None, filter, nat_eq};
+ghost use Rattle.std.specs.Prelude.{◌≡◌, ◌≢◌, ℕ, ◌+◌, ◌*◌, ◌/◌, ◌%◌, ◌^◌, ◌<◌, ◌≤◌, ◌↔◌, ◌||◌, ◌&&◌, List, length, IfOk, OnOk, OnErr, IfSome, IsTrue, MatchOption, slice_index, slice_index_or, slice_range, true, false, eqb, is_none, is_some, count_by, None, Some, filter, nat_eq};
 ghost use Rattle.clay_grid.specs.Shape.{Shape, row_count, column_count, node_count, layer_count, chunk_length};
 ghost use Rattle.clay_grid.specs.Layers.{layer_of};
 ghost use Rattle.clay_grid.specs.Score.{count_below};
 ghost use Rattle.clay_aloof.specs.Shape.{AloofShape, all_chunks, rows_of, grid_of, node_of, is_virtual_node, chunk_at};
 ghost use Rattle.clay_aloof.specs.Repair.{aloof_layers_of, HelpersFit, AreParts, IsRebuilt};
-ghost use Rattle.clay_aloof.specs.Coded.{AreBytes};
+ghost use Rattle.clay_aloof.specs.Pieces.{PiecesFit, ArePieces, HaveBytes, IsRebuiltFrom};
+ghost use Rattle.lane_repair.specs.Views.{pieces_of, HasRoom as HasViewRoom};
 ghost use Rattle.clay_aloof.specs.Known.{node_bytes, IsKnown};
 ghost use Rattle.clay_aloof.specs.Solved.{IsPlan, IsIn, AreSolved};
-ghost use Rattle.clay_aloof.specs.Rebuilt.{is_missing_node, is_unknown, IsBetween, IsEntry, IsGap, IsRepairPlan, ArePut, IsLostPiece, HoldsLost, IsLostChunk, HasColumn, kept_layers};
+ghost use Rattle.clay_aloof.specs.Rebuilt.{is_missing_node, is_unknown, IsBetween, IsEntry, IsGap, IsRepairPlan, ArePartTables, ArePut, IsLostPiece, HoldsLost, IsLostChunk, HasColumn, kept_layers};
 
 use crate::geometry::AloofGeometry;
-use crate::known::{Known, Source, piece};
+use crate::known::{Known, Source, Tables, piece};
 use crate::layers::{Plan, erased_points, partner_of, places_of, solved_piece, solved_values};
 use crate::partners::Partners;
 use clay_grid::Geometry;
 use clay_kernels::{Products, cross, generator_of, halves, zeros};
+use lane_repair::ChunkView;
 use std::alloc::{AllocError, Global};
 
 /// The layers that a repair of a chunk reads from each helper, rising: those whose digit in the column of the chunk's node is the node's
@@ -118,23 +120,25 @@ pub fn chunk_of(g: AloofGeometry, node: u32) -> Option<u32>
 }
 
 // Whether the chunk of a node isn't there. That of a virtual node always is.
-fn is_missing(g: AloofGeometry, parts: &[Option<Vec<u8>>], node: u32) -> bool
-    requires count { length parts.now ≡ all_chunks g }
+fn is_missing(g: AloofGeometry, parts: ChunkView<'_>, node: u32) -> bool
+    requires count { length (pieces_of parts) ≡ all_chunks g }
+    requires room { HasViewRoom parts }
     requires node { node < node_count (grid_of g) }
-    ensures { result ≡ is_missing_node g parts.now node }
+    ensures { result ≡ is_missing_node g (pieces_of parts.entry) node }
 {
     match chunk_of(g, node) {
-        Some(chunk) => parts[chunk as usize].is_none(),
+        Some(chunk) => parts.get(chunk as usize).is_none(),
         None => false,
     }
 }
 
 // Whether a node is solved: it stands in the lost node's column, or its chunk isn't there.
-fn is_solved(g: AloofGeometry, lost: u32, parts: &[Option<Vec<u8>>], node: u32) -> bool
+fn is_solved(g: AloofGeometry, lost: u32, parts: ChunkView<'_>, node: u32) -> bool
     requires lost { lost < all_chunks g }
-    requires count { length parts.now ≡ all_chunks g }
+    requires count { length (pieces_of parts) ≡ all_chunks g }
+    requires room { HasViewRoom parts }
     requires node { node < node_count (grid_of g) }
-    ensures { result ≡ is_unknown g lost parts.now node }
+    ensures { result ≡ is_unknown g lost (pieces_of parts.entry) node }
 {
     let grid = g.grid();
     let q = grid.q();
@@ -149,13 +153,14 @@ fn solved_nodes(
     alloc: Global,
     g: AloofGeometry,
     lost: u32,
-    parts: &[Option<Vec<u8>>],
+    parts: ChunkView<'_>,
 ) -> Result<Vec<bool>, AllocError>
     requires lost { lost < all_chunks g }
-    requires count { length parts.now ≡ all_chunks g }
+    requires count { length (pieces_of parts) ≡ all_chunks g }
+    requires room { HasViewRoom parts }
     ensures len { IfOk result (λ v. length v.items ≡ node_count (grid_of g)) }
     ensures value { IfOk result (λ v. (i : ℕ) → i < node_count (grid_of g) →
-        slice_index_or v.items i false ≡ is_unknown g lost parts.now i) }
+        slice_index_or v.items i false ≡ is_unknown g lost (pieces_of parts.entry) i) }
 {
     let grid = g.grid();
     let mut nodes = Vec::new(alloc);
@@ -191,11 +196,12 @@ fn repair_plan(
     alloc: Global,
     g: AloofGeometry,
     lost: u32,
-    parts: &[Option<Vec<u8>>],
+    parts: ChunkView<'_>,
 ) -> Result<Plan, AllocError>
     requires chunk { lost < all_chunks g }
-    requires fit { HelpersFit g lost parts.now }
-    ensures { IfOk result (IsRepairPlan g lost parts.now) }
+    requires fit { PiecesFit g lost (pieces_of parts) }
+    requires room { HasViewRoom parts }
+    ensures { IfOk result (IsRepairPlan g lost (pieces_of parts.entry)) }
 {
     let grid = g.grid();
     let node = g.node_of_chunk(lost);
@@ -231,28 +237,40 @@ pub fn chunks_of_nodes(alloc: Global, g: AloofGeometry) -> Result<Vec<Option<u32
     Ok(chunks)
 }
 
-// What the helpers' parts tell of the nodes.
-fn known_parts<'a>(
-    alloc: Global,
-    g: AloofGeometry,
-    lost: u32,
-    parts: &'a [Option<Vec<u8>>],
-) -> Result<Known<'a>, AllocError>
-    requires { AreParts g lost parts.now }
-    ensures known { IfOk result (IsKnown (grid_of g)) }
-    ensures put { IfOk result (λ known. ArePut g lost parts.now (all_chunks g) (node_bytes (grid_of g) known)) }
+// For each node its chunk, and the places of the layers that the helpers give.
+fn part_tables(alloc: Global, g: AloofGeometry, lost: u32) -> Result<Tables, AllocError>
+    requires { lost < all_chunks g }
+    ensures { IfOk result (ArePartTables g lost) }
 {
     let grid = g.grid();
     let layers = aloof_layers(alloc, g, lost)?;
     let places = places_of(alloc, grid, &layers)?;
     let chunks = chunks_of_nodes(alloc, g)?;
     let zeros = zeros(alloc, grid.w() as usize)?;
-    Ok(Known {
-        source: Source::Parts(parts),
+    Ok(Tables {
         chunks,
         places,
         zeros,
     })
+}
+
+// What the helpers' parts tell of the nodes.
+fn known_parts<'a>(
+    g: AloofGeometry,
+    lost: u32,
+    parts: ChunkView<'a>,
+    tables: &'a Tables,
+) -> Known<'a>
+    requires parts { ArePieces g lost (pieces_of parts) }
+    requires room { HasViewRoom parts }
+    requires tables { ArePartTables g lost tables.now }
+    ensures known { IsKnown (grid_of g) result }
+    ensures put { ArePut g lost (pieces_of parts.entry) (all_chunks g) (node_bytes (grid_of g) result) }
+{
+    Known {
+        source: Source::Shown(parts),
+        tables,
+    }
 }
 
 // The numbers of a part are bytes. It does nothing when it runs.
@@ -260,14 +278,25 @@ fn keeps_bytes(part: &[u8])
     ensures { (i : ℕ) → slice_index part.now i < 2 ^ 8 }
 {}
 
-// The same of all parts.
-fn are_bytes(parts: &[Option<Vec<u8>>])
-    ensures { AreBytes parts.now }
+// The same of a part that is there.
+fn keeps_part(parts: ChunkView<'_>, c: usize)
+    requires room { HasViewRoom parts }
+    requires number { c < length (pieces_of parts) }
+    ensures { (piece : List ℕ) → slice_index_or (pieces_of parts.entry) c None ≡ Some piece → (i : ℕ) → slice_index piece i < 2 ^ 8 }
 {
-    for part in parts {
-        if let Some(bytes) = part {
-            keeps_bytes(bytes);
-        }
+    if let Some(bytes) = parts.get(c) {
+        keeps_bytes(bytes);
+    }
+}
+
+// The same of all parts.
+fn are_bytes(g: AloofGeometry, parts: ChunkView<'_>)
+    requires room { HasViewRoom parts }
+    requires count { length (pieces_of parts) ≡ all_chunks g }
+    ensures { HaveBytes (pieces_of parts.entry) }
+{
+    for c in 0..g.n() as usize {
+        keeps_part(parts, c);
     }
 }
 
@@ -275,7 +304,7 @@ fn are_bytes(parts: &[Option<Vec<u8>>])
 fn lost_piece(
     g: AloofGeometry,
     lost: u32,
-    parts: &[Option<Vec<u8>>],
+    parts: ChunkView<'_>,
     plan: &Plan,
     halves: &Products,
     known: &Known<'_>,
@@ -283,15 +312,15 @@ fn lost_piece(
     z: u32,
     out: &mut [u8],
 )
-    requires parts { AreParts g lost parts.now }
+    requires parts { ArePieces g lost (pieces_of parts) }
     requires halves { halves.now ≡ 0x8E }
-    requires plan { IsRepairPlan g lost parts.now plan.now }
+    requires plan { IsRepairPlan g lost (pieces_of parts) plan.now }
     requires known { IsKnown (grid_of g) known.now }
-    requires put { ArePut g lost parts.now (all_chunks g) (node_bytes (grid_of g) known.now) }
+    requires put { ArePut g lost (pieces_of parts) (all_chunks g) (node_bytes (grid_of g) known.now) }
     requires solved { AreSolved (grid_of g) plan.now (node_bytes (grid_of g) known.now) solved.now }
     requires layer { z < layer_count (grid_of g) }
     requires out_len { length out.old ≡ g.width }
-    ensures { IsLostPiece g lost parts.now z out.new }
+    ensures { IsLostPiece g lost (pieces_of parts.entry) z out.new }
 {
     let grid = g.grid();
     let node = g.node_of_chunk(lost);
@@ -310,19 +339,19 @@ fn lost_piece(
 fn write_lost(
     g: AloofGeometry,
     lost: u32,
-    parts: &[Option<Vec<u8>>],
+    parts: ChunkView<'_>,
     plan: &Plan,
     known: &Known<'_>,
     solved: &[u8],
     chunk: &mut [u8],
 )
-    requires parts { AreParts g lost parts.now }
-    requires plan { IsRepairPlan g lost parts.now plan.now }
+    requires parts { ArePieces g lost (pieces_of parts) }
+    requires plan { IsRepairPlan g lost (pieces_of parts) plan.now }
     requires known { IsKnown (grid_of g) known.now }
-    requires put { ArePut g lost parts.now (all_chunks g) (node_bytes (grid_of g) known.now) }
+    requires put { ArePut g lost (pieces_of parts) (all_chunks g) (node_bytes (grid_of g) known.now) }
     requires solved { AreSolved (grid_of g) plan.now (node_bytes (grid_of g) known.now) solved.now }
     requires chunk_len { length chunk.old ≡ chunk_length (grid_of g) }
-    ensures { IsLostChunk g lost parts.now chunk.new }
+    ensures { IsLostChunk g lost (pieces_of parts.entry) chunk.new }
 {
     let grid = g.grid();
     let w = grid.w() as usize;
@@ -336,10 +365,33 @@ fn write_lost(
 
 /// Writes the lost chunk of the codewords whose chunks have these parts. Any parts are those of some codeword.
 ///
-/// `parts` has an entry for each chunk: for `d` helpers, among them each other chunk of the lost one's column, the subchunks of the
-/// layers of `aloof_layers(alloc, g, lost)`, one after another, and `None` for the lost chunk and the aloof ones. What `chunk` held before
-/// doesn't matter, and it stays as it is where memory is wanting.
+/// `parts` shows for `d` helpers, among them each other chunk of the lost one's column, the subchunks of the layers of
+/// `aloof_layers(alloc, g, lost)`, one after another, and nothing of the lost chunk and the aloof ones. They are read where they stand. What
+/// `chunk` held before doesn't matter, and it stays as it is where memory is wanting.
 pub fn rebuild_into(
+    alloc: Global,
+    g: AloofGeometry,
+    lost: u32,
+    parts: ChunkView<'_>,
+    chunk: &mut [u8],
+) -> Result<(), AllocError>
+    requires parts { ArePieces g lost (pieces_of parts) }
+    requires room { HasViewRoom parts }
+    requires chunk { length chunk.old ≡ chunk_length (grid_of g) }
+    ensures rebuilt { OnOk result (IsRebuiltFrom g lost (pieces_of parts.entry) chunk.new) }
+    ensures kept { OnErr result (chunk.new ≡ chunk.old) }
+{
+    are_bytes(g, parts);
+    let plan = repair_plan(alloc, g, lost, parts)?;
+    let tables = part_tables(alloc, g, lost)?;
+    let known = known_parts(g, lost, parts, &tables);
+    let solved = solved_values(alloc, g.grid(), &plan, &known)?;
+    write_lost(g, lost, parts, &plan, &known, &solved, chunk);
+    Ok(())
+}
+
+// The same from parts that are vectors.
+fn rebuild_apart(
     alloc: Global,
     g: AloofGeometry,
     lost: u32,
@@ -351,15 +403,11 @@ pub fn rebuild_into(
     ensures rebuilt { OnOk result (IsRebuilt g lost parts.now chunk.new) }
     ensures kept { OnErr result (chunk.new ≡ chunk.old) }
 {
-    are_bytes(parts);
-    let plan = repair_plan(alloc, g, lost, parts)?;
-    let known = known_parts(alloc, g, lost, parts)?;
-    let solved = solved_values(alloc, g.grid(), &plan, &known)?;
-    write_lost(g, lost, parts, &plan, &known, &solved, chunk);
+    rebuild_into(alloc, g, lost, ChunkView::Apart(parts), chunk)?;
     Ok(())
 }
 
-/// The lost chunk, as `rebuild_into` writes it.
+/// The lost chunk, as `rebuild_into` writes it. `parts` has an entry for each chunk, `None` for the lost one and the aloof ones.
 pub fn rebuild(
     alloc: Global,
     g: AloofGeometry,
@@ -370,6 +418,6 @@ pub fn rebuild(
     ensures { IfOk result (λ chunk. IsRebuilt g lost parts.now chunk.items) }
 {
     let mut chunk = zeros(alloc, g.chunk_len() as usize)?;
-    rebuild_into(alloc, g, lost, parts, &mut chunk)?;
+    rebuild_apart(alloc, g, lost, parts, &mut chunk)?;
     Ok(chunk)
 }

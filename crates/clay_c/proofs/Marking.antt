@@ -1,19 +1,18 @@
 -- The marks of the chunks that help, and their parts.
-use Rattle.std.proofs.Common.{◌≡◌, ℕ, zero, suc, subst, ◌+◌, ◌*◌, ◌<◌, ◌≤◌, Bool, true, false, cond, not, eqb, List, map, length, get_or, Option, Some, None, is_none, is_some, Vec, Global, refl, sym, ap, ◌∙◌, inl, inr, arith, mul-le-mul_right}
-use Rattle.std.proofs.lemmas.Bool.{cases_eq, eq-eqb, ne_eqb}
+use Rattle.std.proofs.Common.{◌≡◌, ℕ, zero, suc, subst, ◌+◌, ◌*◌, ◌<◌, ◌≤◌, Bool, true, false, cond, not, eqb, List, length, get_or, Option, Some, None, is_none, is_some, refl, sym, ap, ◌∙◌, inl, inr, arith, mul-le-mul_right}
+use Rattle.std.proofs.lemmas.Bool.{cases_eq, eq-eqb, ne_eqb, cond-true}
+use Rattle.std.proofs.lemmas.List.FromFn.{length-map-range_with_len, get_or-map-range_with_len}
 use mir.Val.{bool_byte}
-use Rattle.clay_grid.specs.Shape.{chunk_length}
 use Rattle.clay_grid.specs.Score.{count_below}
 use Rattle.clay_grid.proofs.Counting.{count_below_same, count_below-le}
-use Rattle.clay_model.specs.Code.{AgreesWith}
 use Rattle.clay_model.proofs.SumLaws.{one_if}
-use Rattle.clay_model.specs.Left.{parts, AreLong}
-use Rattle.clay_model.specs.RepairParts.{subchunks_at}
-use Rattle.clay_aloof.specs.Shape.{AloofShape, all_chunks, grid_of}
-use Rattle.clay_aloof.specs.Repair.{aloof_layers_of, part_bytes, AreParts, IsRebuilt}
+use Rattle.lane_repair.specs.Views.{laid_pieces, EndWithin}
+use Rattle.clay_aloof.specs.Shape.{AloofShape, all_chunks}
+use Rattle.clay_aloof.specs.Repair.{part_bytes}
+use Rattle.clay_aloof.specs.Pieces.{ArePieces, IsRebuiltFrom}
 use Rattle.clay_c.specs.Pieces.{piece_at}
-use Rattle.clay_c.specs.Helpers.{is_marked, MarksFit, marked_parts, RebuildsAloof}
-use Rattle.clay_c.proofs.Taking.{length_of, none_of, gone}
+use Rattle.clay_c.specs.Helpers.{is_marked, MarksFit, marked_parts, starts_marked, RebuildsAloof}
+use Rattle.clay_c.proofs.Shown.{pieces_shown, starts_end, pieces_long}
 
 -- ---- how many have a mark
 
@@ -33,7 +32,7 @@ marks_below marks c count bit before is =
     let most : count_below (c + 1) (is_marked marks) ≤ c + 1 = count_below-le (c + 1) (is_marked marks) in
     subst (λ n. n ≤ c + 1) (sym (mark_counts marks c count bit before is)) most
 
-count_before : (n c : ℕ) (f : ℕ → Bool) → c < n → f c ≡ true → count_below c f + 1 ≤ count_below n f
+pub count_before : (n c : ℕ) (f : ℕ → Bool) → c < n → f c ≡ true → count_below c f + 1 ≤ count_below n f
 count_before zero c f h passes = absurd (omega arith)
 count_before (suc n) c f h passes =
     elim (cases_eq c n) [
@@ -51,48 +50,58 @@ part_room marks n c len long h there room =
     let all : (count_below c (is_marked marks) + 1) * len ≤ count_below n (is_marked marks) * len = mul-le-mul_right len before in
     omega (arith, all, room)
 
--- ---- the parts that were taken
+-- ---- their parts
 
-some_of : (o : Option (Vec ℕ Global)) → is_some o ≡ not (is_none o)
-some_of None = refl
-some_of (Some v) = refl
+pub none_cond : (b : Bool) (l : List ℕ) → is_none (cond b None (Some l)) ≡ b
+none_cond true l = refl
+none_cond false l = refl
 
-pub are_parts : (a : AloofShape) (lost : ℕ) (marks bytes : List ℕ) (have : List (Option (Vec ℕ Global))) → lost < all_chunks a → MarksFit a lost marks
-    → parts have ≡ marked_parts a marks bytes → AreLong (part_bytes a) have → AreParts a lost have
-are_parts a lost marks bytes have inside fit is long =
-    let piece : ℕ → List ℕ = λ c. piece_at (part_bytes a) bytes (count_below c (is_marked marks)) in
-    let test : ℕ → Bool = λ c. eqb (get_or marks c 0) 0 in
-    record {
-      chunk = inside;
-      fit = record {
-        count = length_of (λ c. cond (test c) None (Some (piece c))) have (all_chunks a) is;
-        none = none_of (get_or have lost None) (gone test piece have (all_chunks a) lost is inside ∙ eq-eqb (get_or marks lost 0) 0 fit.none);
-        helpers = count_below_same (all_chunks a) (λ c. is_some (get_or have c None)) (is_marked marks)
-            (λ c h. some_of (get_or have c None) ∙ ap not (gone test piece have (all_chunks a) c is h))
-            ∙ fit.helpers;
-        column = λ c h other same. gone test piece have (all_chunks a) c is h ∙ ne_eqb (get_or marks c 0) 0 (fit.column c h other same);
-      };
-      lengths = long;
-    }
+some_cond : (b : Bool) (l : List ℕ) → is_some (cond b None (Some l)) ≡ not b
+some_cond true l = refl
+some_cond false l = refl
+
+module _ (a : AloofShape) (marks bytes : List ℕ) where
+  entry : (c : ℕ) → c < all_chunks a → get_or (marked_parts a marks bytes) c None ≡ cond (eqb (get_or marks c 0) 0) None (Some (piece_at (part_bytes a) bytes (count_below c (is_marked marks))))
+  entry c h =
+      get_or-map-range_with_len (λ k. cond (eqb (get_or marks k 0) 0) None (Some (piece_at (part_bytes a) bytes (count_below k (is_marked marks))))) 0 (all_chunks a) c c None h (omega arith)
+
+  fits : count_below (all_chunks a) (is_marked marks) * part_bytes a ≤ length bytes → (c : ℕ) → c < all_chunks a → eqb (get_or marks c 0) 0 ≡ false → count_below c (is_marked marks) * part_bytes a + part_bytes a ≤ length bytes
+  fits room c h there =
+      let all : (count_below c (is_marked marks) + 1) * part_bytes a ≤ length bytes = part_room marks (all_chunks a) c (part_bytes a) (length bytes) h there room in
+      let split : (count_below c (is_marked marks) + 1) * part_bytes a ≡ count_below c (is_marked marks) * part_bytes a + part_bytes a = omega arith in
+      omega (arith, all, split)
+
+  pub are_pieces : (lost : ℕ) → lost < all_chunks a → MarksFit a lost marks → count_below (all_chunks a) (is_marked marks) * part_bytes a ≤ length bytes → ArePieces a lost (marked_parts a marks bytes)
+  are_pieces lost inside fit room =
+      let piece : ℕ → List ℕ = λ c. piece_at (part_bytes a) bytes (count_below c (is_marked marks)) in
+      record {
+        chunk = inside;
+        fit = record {
+          count = length-map-range_with_len (λ c. cond (eqb (get_or marks c 0) 0) None (Some (piece c))) 0 (all_chunks a);
+          none = entry lost inside ∙ cond-true (eqb (get_or marks lost 0) 0) None (Some (piece lost)) (eq-eqb (get_or marks lost 0) 0 fit.none);
+          helpers = count_below_same (all_chunks a) (λ c. is_some (get_or (marked_parts a marks bytes) c None)) (is_marked marks)
+              (λ c h. ap is_some (entry c h) ∙ some_cond (eqb (get_or marks c 0) 0) (piece c))
+              ∙ fit.helpers;
+          column = λ c h other same. ap is_none (entry c h) ∙ none_cond (eqb (get_or marks c 0) 0) (piece c) ∙ ne_eqb (get_or marks c 0) 0 (fit.column c h other same);
+        };
+        lengths = pieces_long bytes (part_bytes a) (λ c. eqb (get_or marks c 0) 0) (λ c. count_below c (is_marked marks)) (all_chunks a) (fits room);
+      }
+
+  module _ (starts : List (Option ℕ)) (len : ℕ) where
+    pub marked_laid : starts ≡ starts_marked marks (part_bytes a) (all_chunks a) → len ≡ part_bytes a → laid_pieces bytes starts len ≡ marked_parts a marks bytes
+    marked_laid are size =
+        (λ i. laid_pieces bytes (are i) (size i)) ∙ pieces_shown bytes (part_bytes a) (λ c. eqb (get_or marks c 0) 0) (λ c. count_below c (is_marked marks)) (all_chunks a)
+
+    pub marked_end : starts ≡ starts_marked marks (part_bytes a) (all_chunks a) → len ≡ part_bytes a → count_below (all_chunks a) (is_marked marks) * part_bytes a ≤ length bytes → EndWithin bytes starts len
+    marked_end are size room =
+        subst (λ l. EndWithin bytes starts l) (sym size) (subst (λ s. EndWithin bytes s (part_bytes a)) (sym are)
+        (starts_end bytes (part_bytes a) (λ c. eqb (get_or marks c 0) 0) (λ c. count_below c (is_marked marks)) (all_chunks a) (fits room)))
 
 -- the chunk that is rebuilt from them
-
-pub rebuilt_long : (a : AloofShape) (lost : ℕ) (have : List (Option (Vec ℕ Global))) (chunk : List ℕ) → lost < all_chunks a → IsRebuilt a lost have chunk → length chunk ≡ chunk_length (grid_of a)
-rebuilt_long a lost have chunk inside built = ap length built.value ∙ built.has_parts.codeword.lengths lost inside
-
-pub rebuilds : (a : AloofShape) (lost : ℕ) (marks bytes : List ℕ) (have : List (Option (Vec ℕ Global))) (chunk : List ℕ) → parts have ≡ marked_parts a marks bytes → IsRebuilt a lost have chunk
-    → RebuildsAloof a lost marks bytes chunk
-rebuilds a lost marks bytes have chunk is built =
-    let given : List (List ℕ) → List (List ℕ) = λ word. map (λ chunk. subchunks_at a.width chunk (aloof_layers_of a lost)) word in
-    record {
-      word = built.word;
-      gives = record {
-        codeword = built.has_parts.codeword;
-        agrees = subst (λ p. AgreesWith p (given built.word)) is built.has_parts.agrees;
-      };
-      value = built.value;
-      only = λ other gives. built.only other (record {
-        codeword = gives.codeword;
-        agrees = subst (λ p. AgreesWith p (given other)) (sym is) gives.agrees;
-      });
-    }
+pub rebuilds : (a : AloofShape) (lost : ℕ) (marks bytes chunk : List ℕ) → IsRebuiltFrom a lost (marked_parts a marks bytes) chunk → RebuildsAloof a lost marks bytes chunk
+rebuilds a lost marks bytes chunk built = record {
+  word = built.word;
+  gives = record { codeword = built.has_parts.codeword; agrees = built.has_parts.agrees };
+  value = built.value;
+  only = λ other gives. built.only other (record { codeword = gives.codeword; agrees = gives.agrees });
+}

@@ -8,7 +8,7 @@ use Rattle.clay_model.specs.RepairParts.{subchunks_at}
 use Rattle.clay_aloof.specs.Shape.{AloofShape, all_chunks, rows_of, grid_of, stripe_bytes, node_of}
 use Rattle.clay_aloof.specs.Code.{IsCodeword, Codes}
 use Rattle.clay_aloof.specs.Repair.{aloof_layers_of, part_bytes}
-use Rattle.clay_c.specs.Pieces.{piece_at, AreLaid}
+use Rattle.clay_c.specs.Pieces.{piece_at, starts_of, AreLaid}
 use Rattle.clay_c.specs.declared.ClayNumbers.{ClayNumbers}
 
 -- the numbers of a code
@@ -63,6 +63,10 @@ MarkedPartsFit a marks parts chunk =
 abbrev pub marked_parts : AloofShape → List ℕ → List ℕ → List (Option (List ℕ))
 marked_parts a marks bytes =
     map (λ c. cond (eqb (get_or marks c 0) 0) None (Some (piece_at (part_bytes a) bytes (count_below c (is_marked marks))))) (range_with_len 0 (all_chunks a))
+
+-- where the pieces of the first count chunks start that have a mark, of len bytes each, one behind another
+abbrev pub starts_marked : List ℕ → ℕ → ℕ → List (Option ℕ)
+starts_marked marks len count = starts_of (λ c. eqb (get_or marks c 0) 0) (λ c. count_below c (is_marked marks)) len count
 
 -- a codeword of which the chunks with a mark have these parts
 pub record GivesParts (a : AloofShape) (lost : ℕ) (marks bytes : List ℕ) (word : List (List ℕ)) : Type 0 where

@@ -1,17 +1,15 @@
 //! Parity chunks, missing chunks and a lost chunk of a code with fewer helpers, written to a caller's bytes.
 ghost use Rattle.std.specs.Prelude.{◌≡◌, ◌*◌, ◌<◌, ◌≤◌, length, IfOk, OnOk, OnErr};
 ghost use Rattle.clay_grid.specs.Shape.{chunk_length};
-ghost use Rattle.clay_grid.specs.Score.{count_below};
-ghost use Rattle.clay_model.specs.Left.{parts, AreLong};
 ghost use Rattle.clay_aloof.specs.Shape.{all_chunks, grid_of, stripe_bytes};
-ghost use Rattle.clay_aloof.specs.Repair.{part_bytes};
-ghost use Rattle.clay_c.specs.Helpers.{MakesAloofParity, is_marked, MarksFit, MarkedPartsFit, marked_parts, RebuildsAloof};
+ghost use Rattle.clay_c.specs.Helpers.{MakesAloofParity, MarksFit, MarkedPartsFit, RebuildsAloof};
 ghost use Rattle.clay_c.specs.Missing.{AloofChunksFit, RecoversAloof};
 ghost use Rattle.clay_c.specs.Calls.{lost_count};
 
-use crate::pieces::take;
+use crate::marks::marked_starts;
 use crate::recovery::missing_marks;
 use clay_aloof::{AloofGeometry, parity_into, rebuild_into, recover_into};
+use clay_lanes::ChunkView;
 use std::alloc::{AllocError, Global};
 
 /// Writes the parity chunks of a stripe, one behind another.
@@ -47,29 +45,6 @@ pub fn write_missing(
     Ok(())
 }
 
-// Copies of the parts of the chunks with a mark.
-fn parts_taken(
-    alloc: Global,
-    g: AloofGeometry,
-    marks: &[u8],
-    bytes: &[u8],
-) -> Result<Vec<Option<Vec<u8>>>, AllocError>
-    requires marks { length marks.now ≡ all_chunks g }
-    requires bytes { count_below (all_chunks g) (is_marked marks.now) * part_bytes g ≤ length bytes.now }
-    ensures parts { IfOk result (λ have. parts have.items ≡ marked_parts g marks.now bytes.now) }
-    ensures lengths { IfOk result (λ have. AreLong (part_bytes g) have.items) }
-{
-    let len = g.part_len() as usize;
-    let mut have = Vec::with_capacity(alloc, g.n() as usize)?;
-    let mut place = 0;
-    for c in 0..g.n() as usize {
-        let is_aloof = marks[c] == 0;
-        have.push(take(alloc, bytes, len, place, is_aloof)?)?;
-        place += usize::from(!is_aloof);
-    }
-    Ok(have)
-}
-
 /// Writes the lost chunk, from the parts of the chunks with a mark by rising number, one behind another.
 pub fn write_rebuilt(
     alloc: Global,
@@ -85,7 +60,13 @@ pub fn write_rebuilt(
     ensures written { OnOk result (RebuildsAloof g lost marks.now bytes.now chunk.new) }
     ensures kept { OnErr result (chunk.new ≡ chunk.old) }
 {
-    let have = parts_taken(alloc, g, marks, bytes)?;
-    rebuild_into(alloc, g, lost, &have, chunk)?;
+    let len = g.part_len();
+    let starts = marked_starts(alloc, marks, len)?;
+    let parts = ChunkView::Laid {
+        bytes,
+        starts: &starts,
+        len: len as usize,
+    };
+    rebuild_into(alloc, g, lost, parts, chunk)?;
     Ok(())
 }

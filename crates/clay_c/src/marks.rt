@@ -1,10 +1,12 @@
-//! The marks of the chunks that help in a rebuild.
-ghost use Rattle.std.specs.Prelude.{◌≡◌, ◌^◌, ◌<◌, ◌↔◌, length, IsTrue};
+//! The marks of the chunks that help in a rebuild, or that are there.
+ghost use Rattle.std.specs.Prelude.{◌≡◌, ◌^◌, ◌<◌, ◌↔◌, length, IfOk, IsTrue};
 ghost use Rattle.clay_grid.specs.Score.{count_below};
 ghost use Rattle.clay_aloof.specs.Shape.{all_chunks};
-ghost use Rattle.clay_c.specs.Helpers.{is_marked, MarksFit, IsUnmarked, HasMarks};
+ghost use Rattle.clay_c.specs.Helpers.{is_marked, starts_marked, MarksFit, IsUnmarked, HasMarks};
 
+use crate::pieces::piece_start;
 use clay_aloof::AloofGeometry;
+use std::alloc::{AllocError, Global};
 
 // How many chunks have a mark.
 fn marked_count(marks: &[u8]) -> usize
@@ -17,6 +19,25 @@ fn marked_count(marks: &[u8]) -> usize
         count += usize::from(!is_aloof);
     }
     count
+}
+
+/// Where the piece of each chunk with a mark starts, where these have `len` bytes each and stand one behind another.
+pub fn marked_starts(
+    alloc: Global,
+    marks: &[u8],
+    len: u32,
+) -> Result<Vec<Option<usize>>, AllocError>
+    requires { length marks.now < 2 ^ 32 }
+    ensures { IfOk result (λ starts. starts.items ≡ starts_marked marks.now len (length marks.now)) }
+{
+    let mut starts = Vec::with_capacity(alloc, marks.len())?;
+    let mut place = 0;
+    for mark in marks {
+        let is_aloof = *mark == 0;
+        starts.push(piece_start(is_aloof, place, len))?;
+        place += usize::from(!is_aloof);
+    }
+    Ok(starts)
 }
 
 // Whether another chunk of the lost one's column has no mark.

@@ -7,6 +7,6 @@ use Rattle.clay_aloof.proofs.chunks.parity_into.Goals as goal
 pub returns-clause-parity : goal.returns-clause-parity
 returns-clause-parity c =
     let g = c.args.g in
-    parity_codes g c.args.stripe.now c.in_ok-plan.plan (node_bytes (grid_of g) c.in_ok-known.known) c.couple_chunks.new.parity
-    c.in_ok-plan.ensures c.in_ok-known.ensures.spread c.requires.stripe (λ p. omega (arith, c.type_inv.stripe p))
+    parity_codes g c.args.stripe.now c.in_ok-plan.plan (node_bytes (grid_of g) c.known_stripe-known.result) c.couple_chunks.new.parity
+    c.in_ok-plan.ensures c.known_stripe-known.ensures.spread c.requires.stripe (λ p. omega (arith, c.type_inv.stripe p))
     (c.couple_chunks.auto.parity ∙ c.requires.parity) c.couple_chunks.ensures

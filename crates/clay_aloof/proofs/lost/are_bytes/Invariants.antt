@@ -1,5 +1,6 @@
-use Rattle.std.proofs.Common.{◌≡◌, ℕ, ◌^◌, ◌<◌, get_or, Some, None, Vec, Global}
+use Rattle.std.proofs.Common.{◌≡◌, ℕ, ◌^◌, ◌<◌, List, get_or, Some, None}
+use Rattle.lane_repair.specs.Views.{pieces_of}
 use Rattle.clay_aloof.proofs.lost.are_bytes.Given as goal
 
-abbrev pub invariant-loop-part : goal.invariant-loop-part
-invariant-loop-part l = (c : ℕ) (v : Vec ℕ Global) → c < l.part-index → get_or l.parts c None ≡ Some v → (i : ℕ) → get_or v.items i 0 < 2 ^ 8
+abbrev pub invariant-loop-c : goal.invariant-loop-c
+invariant-loop-c l = (c : ℕ) (piece : List ℕ) → c < l.c → get_or (pieces_of l.parts) c None ≡ Some piece → (i : ℕ) → get_or piece i 0 < 2 ^ 8

@@ -5,6 +5,7 @@ use Rattle.clay_model.specs.Erased.{erased_below}
 use Rattle.clay_model.specs.Points.{AreDistinct}
 use Rattle.code_laws.proofs.ErasedNodes.{AreDistinct-erased}
 use Rattle.clay_kernels.specs.Generated.{IsGeneratorOf}
+use Rattle.lane_repair.specs.Views.{pieces_of}
 use Rattle.clay_aloof.specs.Shape.{rows_of, grid_of, node_of}
 use Rattle.clay_aloof.specs.Rebuilt.{kept_layers}
 use Rattle.clay_aloof.specs.Solved.{HasPlaces}
@@ -22,7 +23,7 @@ points_are c =
 counted : (c : goal.After-deref-2) → length c.in_ok-points.points.items ≤ c.args.g.parity_count
 counted c =
     subst (λ l. length l ≤ c.args.g.parity_count) (sym (points_are c))
-    (few_unknown c.args.g c.args.lost c.args.parts.now c.in_ok-erased.erased.items c.grid-grid.ensures.geometry c.requires.chunk c.requires.fit c.in_ok-erased.ensures.value)
+    (few_unknown c.args.g c.args.lost (pieces_of c.args.parts) c.in_ok-erased.erased.items c.grid-grid.ensures.geometry c.requires.chunk c.requires.fit c.in_ok-erased.ensures.value)
 
 at_most_eight : (n m : ℕ) → n ≤ m → m ≤ 8 → n ≤ 8
 at_most_eight n m h l = omega arith
@@ -79,7 +80,7 @@ returns c =
     ∙ (λ k. erased_below (c.deref.ensures.value k) (length (c.deref.ensures.value k)))
     ∙ ap (erased_below erased) c.in_ok-erased.ensures.len in
     let few : length c.in_ok-points.points.items ≤ g.parity_count =
-    subst (λ l. length l ≤ g.parity_count) (sym points) (few_unknown g lost c.args.parts.now erased aloof c.requires.chunk c.requires.fit c.in_ok-erased.ensures.value) in
+    subst (λ l. length l ≤ g.parity_count) (sym points) (few_unknown g lost (pieces_of c.args.parts) erased aloof c.requires.chunk c.requires.fit c.in_ok-erased.ensures.value) in
     let grid : c.grid-grid.result ≡ grid_of g = c.grid-grid.ensures.value in
     let order : IsByScore (grid_of g) erased c.in_ok-order.order.items =
     subst (λ s. IsByScore s erased c.in_ok-order.order.items) grid
@@ -105,7 +106,7 @@ returns c =
         slot_count = c.in_ok-slots.ensures.len ∙ ap layer_count c.grid-grid.ensures.value;
         slots = subst (λ l. HasPlaces l (length l) c.in_ok-slots.slots.items) c.deref-5.ensures.value c.in_ok-slots.ensures.places;
         partners = λ i n other p there pair below listed.
-            let outside = is_known g lost c.args.parts.now i (sym (c.in_ok-erased.ensures.value i pair.node) ∙ there) in
+            let outside = is_known g lost (pieces_of c.args.parts) i (sym (c.in_ok-erased.ensures.value i pair.node) ∙ there) in
             kept.each_layer p below (partner_given g lost i n other p outside.apart pair (kept.given n listed));
       };
       few = few;

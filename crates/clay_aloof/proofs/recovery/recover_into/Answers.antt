@@ -1,11 +1,18 @@
-use Rattle.std.proofs.Common.{subst}
-use Rattle.clay_aloof.specs.Shape.{all_chunks}
-use Rattle.clay_aloof.specs.Recovered.{ArePutOver}
-use Rattle.clay_aloof.proofs.Recovering.{recovered}
+use Rattle.std.proofs.Common.{◌∙◌}
 use Rattle.clay_aloof.proofs.recovery.recover_into.Goals as goal
 
-pub returns-clause-recovered : goal.returns-clause-recovered
-returns-clause-recovered c =
-    let g = c.args.g in
-    recovered g c.args.missing.now c.in_ok-made.made.items c.args.chunks.now c.put_chunks.new.all c.in_ok-made.ensures
-    (subst (λ l. ArePutOver g l (all_chunks g) c.args.chunks.now c.put_chunks.new.all) c.deref.ensures.value c.put_chunks.ensures)
+pub solve-requires-clause-recovery : goal.solve-requires-clause-recovery
+solve-requires-clause-recovery c = record {
+  count = c.requires.missing.count;
+  starts = c.deref.ensures.value ∙ c.in_ok-starts.ensures;
+  plan = c.in_ok-plan.ensures;
+  tables = c.in_ok-tables.ensures;
+}
+
+pub put_all-requires-clause-recovery : goal.put_all-requires-clause-recovery
+put_all-requires-clause-recovery c = record {
+  count = c.requires.missing.count;
+  starts = c.deref.ensures.value ∙ c.in_ok-starts.ensures;
+  plan = c.in_ok-plan.ensures;
+  tables = c.in_ok-tables.ensures;
+}
