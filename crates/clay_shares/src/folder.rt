@@ -1,0 +1,257 @@
+//! The shares in a folder: which of them are there, and what their headers tell.
+ghost use Rattle.std.specs.Prelude.{◌≡◌, ◌≤◌, vec_len, IfOk, IfSome};
+
+use crate::share_file::ShareFile;
+use crc64::Crc64;
+use share_files::HeaderRefusal;
+use share_format::ShareHeader;
+use share_run::{Head, ShareStatus, ends, ends_short, fails, read_heads, told_header};
+use std::alloc::{AllocError, Global};
+use std::fs::{self, File};
+use std::io::{self, Eprint, ErrorKind};
+use std::process::ExitCode;
+use std::rt::Files;
+
+// No code has more shares.
+const MOST_SHARES: usize = 24;
+
+/// The shares of a folder: an entry for each number, and the header of one of them, which goes with all others.
+#[derive(Drop)]
+pub(crate) struct Folder {
+    pub(crate) stem: String,
+    pub(crate) header: ShareHeader,
+    pub(crate) sources: Vec<ShareFile>,
+}
+
+fn digit(byte: u8) -> Option<usize>
+    ensures { IfSome result (λ n. n ≤ 9) }
+{
+    if byte < b'0' || byte > b'9' {
+        return None;
+    }
+    Some(usize::from(byte - b'0'))
+}
+
+// The number of two digits.
+fn two_digits(digits: &[u8]) -> Option<usize> {
+    match digits {
+        [tens, ones] => Some(digit(*tens)? * 10 + digit(*ones)?),
+        _ => None,
+    }
+}
+
+// The number in a file's name, if that is a share's, and what stands before it.
+fn numbered(name: &str) -> Option<(&str, usize)> {
+    let (stem, digits) = name.strip_suffix(".clay")?.rsplit_once('.')?;
+    let number = two_digits(digits.as_bytes())?;
+    if number < MOST_SHARES {
+        Some((stem, number))
+    } else {
+        None
+    }
+}
+
+// The names of a folder's shares by their numbers. Of two with one number both are told.
+#[derive(Drop)]
+struct ShareNames {
+    names: Vec<Option<String>>,
+    twice: Option<String>,
+}
+
+fn no_names(alloc: Global) -> io::Result<Vec<Option<String>>> {
+    let mut names = Vec::new(alloc);
+    for _ in 0..MOST_SHARES {
+        names.push(None)?;
+    }
+    Ok(names)
+}
+
+// Whether a share of another file than this stands among the names.
+fn is_other(names: &[Option<String>], stem: &str) -> bool {
+    names.iter().any(|held| match held {
+        Some(name) => match numbered(name.as_str()) {
+            Some((other, _)) => other != stem,
+            None => false,
+        },
+        None => false,
+    })
+}
+
+fn list_shares<R: Files<File = File> + AllocGlobal + Clone + Drop>(
+    rt: &R,
+    folder: &str,
+) -> io::Result<ShareNames> {
+    let mut names = no_names(rt.alloc())?;
+    for entry in fs::read_dir(rt, folder)? {
+        let entry = match entry {
+            Ok(entry) => entry,
+            // no share has a name that isn't text
+            Err(error) if error.kind() == ErrorKind::InvalidFilename => continue,
+            Err(error) => return Err(error),
+        };
+        if let Some((stem, number)) = numbered(entry.file_name()) {
+            let name = String::from_str(rt.alloc(), entry.file_name())?;
+            if is_other(&names, stem) {
+                return Ok(ShareNames {
+                    names,
+                    twice: Some(name),
+                });
+            }
+            if let Some(place) = names.get_mut(number) {
+                *place = Some(name);
+            }
+        }
+    }
+    Ok(ShareNames { names, twice: None })
+}
+
+/// The first so many of some shares, and missing ones behind them where there are fewer.
+pub(crate) fn first_shares(
+    alloc: Global,
+    sources: Vec<ShareFile>,
+    count: u32,
+) -> Result<Vec<ShareFile>, AllocError>
+    ensures { IfOk result (λ shares. vec_len shares ≡ count) }
+{
+    let wanted = count as usize;
+    let mut rest = sources.into_iter();
+    let mut shares = Vec::new(alloc);
+    'shares: while shares.len() < wanted {
+        let source = match rest.next() {
+            Some(source) => source,
+            None => ShareFile::missing(false),
+        };
+        shares.push(source)?;
+    }
+    Ok(shares)
+}
+
+// The file of a share. Where it can't be opened, why is said, and it counts as missing.
+fn open_share<R: Files<File = File> + Eprint>(
+    rt: &R,
+    alloc: Global,
+    folder: &str,
+    name: &str,
+) -> Result<ShareFile, AllocError> {
+    let path = format!(in alloc; "{folder}/{name}")?;
+    match fs::open(rt, path.as_str()) {
+        Ok(file) => Ok(ShareFile::of(file)),
+        Err(error) => {
+            let _said = fails(rt, ShareStatus::ReadFault, name, &error);
+            Ok(ShareFile::missing(true))
+        }
+    }
+}
+
+// The files of all shares, or none for each that is missing.
+fn open_all<R: Files<File = File> + Eprint>(
+    rt: &R,
+    alloc: Global,
+    folder: &str,
+    names: &[Option<String>],
+) -> Result<Vec<ShareFile>, AllocError> {
+    let mut sources = Vec::new(alloc);
+    for held in names {
+        let source = match held {
+            Some(name) => open_share(rt, alloc, folder, name.as_str())?,
+            None => ShareFile::missing(false),
+        };
+        sources.push(source)?;
+    }
+    Ok(sources)
+}
+
+// Says why a share has no header, if it is there.
+fn tell_refusal<R: Eprint>(
+    rt: &R,
+    name: Option<&Option<String>>,
+    source: &ShareFile,
+    refusal: HeaderRefusal,
+) {
+    if source.is_missing() {
+        return;
+    }
+    if let Some(Some(name)) = name {
+        let _said = eprintln!(rt; "clay_shares: {name}: {refusal}");
+    }
+}
+
+// Says why shares have no header, and closes them: they count as missing.
+fn close_headless<R: Eprint>(
+    rt: &R,
+    names: &[Option<String>],
+    heads: &[Head],
+    sources: &mut [ShareFile],
+) {
+    for (number, source) in sources.iter_mut().enumerate() {
+        source.count_anew();
+        if let Some(Err(refusal)) = heads.get(number) {
+            tell_refusal(rt, names.get(number), source, *refusal);
+            source.close();
+        }
+    }
+}
+
+// What stands before the numbers in the shares' names.
+fn stem_of(alloc: Global, names: &[Option<String>]) -> io::Result<String> {
+    let mut stem = String::new(alloc);
+    for name in names.iter().flatten() {
+        if let Some((first, _)) = numbered(name.as_str()) {
+            stem = String::from_str(alloc, first)?;
+        }
+    }
+    Ok(stem)
+}
+
+// Opens the shares of these names, and reads their headers.
+fn open_named<R: Files<File = File> + Eprint>(
+    rt: &R,
+    alloc: Global,
+    crc: &Crc64,
+    folder: &str,
+    names: &[Option<String>],
+) -> io::Result<Result<Folder, ExitCode>> {
+    let mut sources = open_all(rt, alloc, folder, names)?;
+    let heads = read_heads(alloc, crc, &mut sources)?;
+    close_headless(rt, names, &heads, &mut sources);
+    match told_header(&heads) {
+        Ok(Some(header)) => Ok(Ok(Folder {
+            stem: stem_of(alloc, names)?,
+            header,
+            sources,
+        })),
+        Ok(None) => {
+            let why = "there is no share whose header is good";
+            Ok(Err(ends(rt, ShareStatus::TooFew, folder, why)))
+        }
+        Err(foreign) => {
+            let name = match names.get(foreign.share) {
+                Some(Some(name)) => name.as_str(),
+                _ => folder,
+            };
+            let why =
+                "its header tells another share, or another file or code than those before it";
+            Ok(Err(ends(rt, ShareStatus::BadShare, name, why)))
+        }
+    }
+}
+
+/// Opens the shares of a folder, and says what is wrong with them.
+pub(crate) fn open_folder<R: Files<File = File> + AllocGlobal + Clone + Drop + Eprint>(
+    rt: &R,
+    crc: &Crc64,
+    folder: &str,
+) -> Result<Folder, ExitCode> {
+    let listed = match list_shares(rt, folder) {
+        Ok(listed) => listed,
+        Err(error) => return Err(fails(rt, ShareStatus::ReadFault, folder, &error)),
+    };
+    if let Some(name) = &listed.twice {
+        let why = "it is a share of another file than the others in the folder";
+        return Err(ends(rt, ShareStatus::BadShare, name.as_str(), why));
+    }
+    match open_named(rt, rt.alloc(), crc, folder, &listed.names) {
+        Ok(opened) => opened,
+        Err(_) => Err(ends_short(rt, folder)),
+    }
+}

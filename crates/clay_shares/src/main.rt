@@ -1,0 +1,19 @@
+//! The program `clay_shares`: files cut into shares, joined from them and mended. It opens the files that its words name, and says what was
+//! wrong with them; `share_run` does the rest. Its stored run joins two shares of four.
+#![tactic(auto)]
+
+mod code;
+mod cut_command;
+mod disk;
+mod folder;
+mod join_command;
+mod mend_command;
+mod program;
+mod share_file;
+mod words;
+
+use std::process::ExitCode;
+
+fn main(rt: HostRuntime) -> ExitCode {
+    program::run(&rt)
+}

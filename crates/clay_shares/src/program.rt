@@ -1,0 +1,63 @@
+//! The program: the command that its words ask for.
+use crate::cut_command::run_cut;
+use crate::join_command::run_join;
+use crate::mend_command::run_mend;
+use crate::words::{Asked, asked_by};
+use crc64::Crc64;
+use share_run::{ShareStatus, ends_short, exit_with};
+use std::env::{self, Env};
+use std::fs::File;
+use std::io::{self, Eprint, ErrorKind};
+use std::process::ExitCode;
+use std::rt::Files;
+
+const USAGE: &str =
+    "usage: clay_shares cut K M FILE FOLDER [--helpers D] [--width W] | join FOLDER FILE | mend FOLDER I";
+
+// The words after the program's name. Where one of them isn't UTF-8 there are none, which are no command's.
+fn words_of<R: Env + AllocGlobal>(rt: &R) -> io::Result<Vec<String>> {
+    let mut words = Vec::new(rt.alloc());
+    match env::args(rt) {
+        Ok(args) => {
+            for word in args.skip(1) {
+                words.push(word)?;
+            }
+        }
+        Err(error) if error.kind() == ErrorKind::InvalidData => {}
+        Err(error) => return Err(error),
+    }
+    Ok(words)
+}
+
+fn run_asked<R: Files<File = File> + AllocGlobal + Clone + Drop + Eprint>(
+    rt: &R,
+    asked: Asked,
+    words: &[String],
+) -> ExitCode {
+    let alloc = rt.alloc();
+    let Ok(crc) = Crc64::new(alloc) else {
+        return ends_short(rt, "checksums");
+    };
+    match (asked, words) {
+        (Asked::Cut(code), [_, _, _, path, folder, ..]) => {
+            run_cut(rt, alloc, code, path.as_str(), folder.as_str())
+        }
+        (Asked::Join, [_, folder, path]) => run_join(rt, &crc, folder.as_str(), path.as_str()),
+        (Asked::Mend(number), [_, folder, _]) => run_mend(rt, &crc, folder.as_str(), number),
+        _ => exit_with(ShareStatus::Usage),
+    }
+}
+
+/// Runs the command that the process's words ask for, over the files that they name. No clause speaks of the process's own words.
+pub fn run<R: Env + AllocGlobal + Files<File = File> + Clone + Drop + Eprint>(rt: &R) -> ExitCode {
+    let Ok(words) = words_of(rt) else {
+        return ends_short(rt, "its words");
+    };
+    match asked_by(&words) {
+        Some(asked) => run_asked(rt, asked, &words),
+        None => {
+            let _said = eprintln!(rt; "{USAGE}");
+            exit_with(ShareStatus::Usage)
+        }
+    }
+}

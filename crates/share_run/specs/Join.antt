@@ -1,0 +1,78 @@
+-- How a join of a file from its shares ends.
+use Rattle.std.specs.Prelude.{◌≡◌, ℕ, ◌+◌, ◌<◌, ◌⊎◌, Option, List, [], ◌∷◌, ◌++◌, length}
+use Rattle.crc64.specs.Remainder.{checksum_of}
+use Rattle.clay_bytes.specs.Stream.{Rises}
+use Rattle.share_format.specs.Cut.{stripe_count}
+use Rattle.share_format.specs.Header.{Header}
+use Rattle.share_files.specs.Seen.{Seen, Show}
+use Rattle.share_joins.specs.Missed.{AreFirstMissed, LackBlocks}
+use Rattle.share_joins.specs.Joined.{NoRotPasses}
+use Rattle.share_joins.specs.Stripes.{AreJoined}
+use Rattle.share_run.specs.Places.{Kept, filled, IsUntouched}
+use Rattle.share_run.specs.declared.status.ShareStatus.{ShareStatus}
+use Rattle.share_run.specs.declared.status.ShareStatus.TheVariants.{Done, Usage, TooFew, BadShare, ReadFault, WriteFault, OutOfMemory}
+
+-- the shares' sources, the count of failed writes beside the file's place, and the place: each before and after a join; and what is noted
+-- of each share
+pub record JoinRun : Type 0 where
+  pub header : Header
+  pub olds : List Seen
+  pub news : List Seen
+  pub writes : ℕ
+  pub written : ℕ
+  pub before : Kept
+  pub after : Kept
+  pub missed : List (Option ℕ)
+
+abbrev pub join_run : Header → List Seen → List Seen → ℕ → ℕ → Kept → Kept → List (Option ℕ) → JoinRun
+join_run header olds news writes written before after missed = record {
+  header = header;
+  olds = olds;
+  news = news;
+  writes = writes;
+  written = written;
+  before = before;
+  after = after;
+  missed = missed;
+}
+
+-- a file was put into the place
+abbrev pub IsPlaced : JoinRun → List ℕ → Type 0
+IsPlaced r file = r.after.files ≡ r.before.files ++ filled 0 file ∷ []
+
+-- it has the length and the checksum that the header tells, and is of the blocks that were read. Whatever files the sources show: if they are shares of a file, with rot that its
+-- checksums find, it is that file
+pub record FilePlaced (r : JoinRun) : Type 0 where
+  pub file : List ℕ
+  pub size : length file ≡ r.header.size
+  pub checksum : checksum_of file ≡ r.header.checksum
+  pub from : AreJoined r.header (stripe_count r.header.shape r.header.size) r.olds r.news file
+  pub placed : IsPlaced r file
+  pub joined : (whole : List ℕ) (files : List (List ℕ)) → Show r.news files → NoRotPasses r.header whole files → IsPlaced r whole
+
+-- up to so many stripes it is noted what each share missed
+abbrev pub IsNoted : JoinRun → ℕ → Type 0
+IsNoted r count = (files : List (List ℕ)) → Show r.news files → AreFirstMissed r.header.shape count files r.olds r.news r.missed
+
+-- too few shares in these files have a block of some stripe, and what each missed up to it is noted
+pub record IsLacking (r : JoinRun) (files : List (List ℕ)) : Type 0 where
+  pub stripe : ℕ
+  pub within : stripe < stripe_count r.header.shape r.header.size
+  pub lack : LackBlocks r.header.shape stripe files r.olds r.news
+  pub noted : AreFirstMissed r.header.shape (stripe + 1) files r.olds r.news r.missed
+
+-- no write failed, and the place refused nothing
+abbrev pub IsWritten : JoinRun → Type 0
+IsWritten r = (r.written ≡ r.writes) × (r.after.faults ≡ r.before.faults)
+
+-- what each status says of a join
+abbrev pub JoinEnds : ShareStatus → JoinRun → Type 0
+JoinEnds Done r = FilePlaced r × IsNoted r (stripe_count r.header.shape r.header.size) × IsWritten r
+JoinEnds Usage r = ⊥
+JoinEnds TooFew r = ((files : List (List ℕ)) → Show r.news files → IsLacking r files) × IsUntouched r.before r.after × IsWritten r
+-- what the shares give has another checksum: so they are not shares of a file with rot that checksums find
+JoinEnds BadShare r = ((file : List ℕ) (files : List (List ℕ)) → Show r.news files → NoRotPasses r.header file files → ⊥)
+    × IsUntouched r.before r.after × IsWritten r
+JoinEnds ReadFault r = ⊥
+JoinEnds WriteFault r = (Rises r.writes r.written ⊎ Rises r.before.faults r.after.faults) × IsUntouched r.before r.after
+JoinEnds OutOfMemory r = IsUntouched r.before r.after × IsWritten r

@@ -1,0 +1,9 @@
+pub mod Status
+pub mod Places
+pub mod Logs
+pub mod Cut
+pub mod Join
+pub mod Mend
+pub mod Heads
+pub mod Told
+pub mod Rebuild

@@ -1,0 +1,26 @@
+//! Files cut into shares, joined from them and mended: the commands of the program `clay_shares` over open files.
+#![tactic(auto)]
+
+mod cutting;
+mod fill_log;
+mod headers;
+mod helpers;
+mod joining;
+mod mending;
+mod places;
+mod rebuilding;
+mod said;
+mod serving;
+mod status;
+
+pub use cutting::cut_main;
+pub use fill_log::FillLog;
+pub use headers::{ForeignShare, Head, read_heads, told_header};
+pub use helpers::choose_helpers;
+pub use joining::join_main;
+pub use mending::{MendStop, mend_main};
+pub use places::{Place, Places};
+pub use rebuilding::rebuild_main;
+pub use said::{ends, ends_short, exit_with, fails};
+pub use serving::{serve_cut, serve_join, serve_mend, serve_rebuild};
+pub use status::ShareStatus;
