@@ -2,6 +2,7 @@
 //! wrong with them; `share_run` does the rest. Its stored run joins two shares of four.
 #![tactic(auto)]
 
+mod check_command;
 mod code;
 mod cut_command;
 mod disk;

@@ -1,4 +1,5 @@
 //! The program: the command that its words ask for.
+use crate::check_command::run_check;
 use crate::cut_command::run_cut;
 use crate::join_command::run_join;
 use crate::mend_command::run_mend;
@@ -12,7 +13,7 @@ use std::process::ExitCode;
 use std::rt::Files;
 
 const USAGE: &str =
-    "usage: clay_shares cut K M FILE FOLDER [--helpers D] [--width W] | join FOLDER FILE | mend FOLDER I";
+    "usage: clay_shares cut K M FILE FOLDER [--helpers D] [--width W] | join FOLDER FILE | mend FOLDER I | check FOLDER";
 
 // The words after the program's name. Where one of them isn't UTF-8 there are none, which are no command's.
 fn words_of<R: Env + AllocGlobal>(rt: &R) -> io::Result<Vec<String>> {
@@ -43,6 +44,7 @@ fn run_asked<R: Files<File = File> + AllocGlobal + Clone + Drop + Eprint>(
             run_cut(rt, alloc, code, path.as_str(), folder.as_str())
         }
         (Asked::Join, [_, folder, path]) => run_join(rt, &crc, folder.as_str(), path.as_str()),
+        (Asked::Check, [_, folder]) => run_check(rt, &crc, folder.as_str()),
         (Asked::Mend(number), [_, folder, _]) => run_mend(rt, &crc, folder.as_str(), number),
         _ => exit_with(ShareStatus::Usage),
     }

@@ -19,6 +19,8 @@ pub(crate) enum Asked {
     Join,
     /// `mend FOLDER I`, with the share's number.
     Mend(u32),
+    /// `check FOLDER`.
+    Check,
 }
 
 fn number_of(word: &str) -> Option<u32> {
@@ -81,6 +83,7 @@ pub(crate) fn asked_by(words: &[String]) -> Option<Asked> {
         [name, _, number] if name.as_str() == "mend" => {
             Some(Asked::Mend(number_of(number.as_str())?))
         }
+        [name, _] if name.as_str() == "check" => Some(Asked::Check),
         _ => None,
     }
 }

@@ -4,4 +4,5 @@ pub mod FaultLemmas
 pub mod JoinLemmas
 pub mod SeenLemmas
 pub mod HeadLemmas
+pub mod CheckLemmas
 pub mod MendLemmas

@@ -7,3 +7,4 @@ pub mod Mend
 pub mod Heads
 pub mod Told
 pub mod Rebuild
+pub mod Check

@@ -1,6 +1,7 @@
 //! Files cut into shares, joined from them and mended: the commands of the program `clay_shares` over open files.
 #![tactic(auto)]
 
+mod checking;
 mod cutting;
 mod fill_log;
 mod headers;
@@ -13,6 +14,7 @@ mod said;
 mod serving;
 mod status;
 
+pub use checking::check_main;
 pub use cutting::cut_main;
 pub use fill_log::FillLog;
 pub use headers::{ForeignShare, Head, read_heads, told_header};
@@ -22,5 +24,5 @@ pub use mending::{MendStop, mend_main};
 pub use places::{Place, Places};
 pub use rebuilding::rebuild_main;
 pub use said::{ends, ends_short, exit_with, fails};
-pub use serving::{serve_cut, serve_join, serve_mend, serve_rebuild};
+pub use serving::{serve_check, serve_cut, serve_join, serve_mend, serve_rebuild};
 pub use status::ShareStatus;

@@ -10,8 +10,10 @@ ghost use Rattle.share_run.specs.Cut.{heard, cut_run, CutEnds};
 ghost use Rattle.share_run.specs.Join.{join_run, JoinEnds};
 ghost use Rattle.share_run.specs.Mend.{mend_run, MendEnds, MendStops};
 ghost use Rattle.share_run.specs.Rebuild.{RebuildEnds};
+ghost use Rattle.share_run.specs.Check.{CheckEnds};
 
 use crate::ShareStatus;
+use crate::checking::check_main;
 use crate::cutting::cut_main;
 use crate::joining::join_main;
 use crate::mending::{MendStop, mend_main};
@@ -22,6 +24,7 @@ use clay_aloof::AloofGeometry;
 use clay_bytes::{Sink, Source};
 use crc64::Crc64;
 use file_bytes::{SinkAt, SourceAt};
+use share_checks::ShareFault;
 use share_format::ShareHeader;
 use std::alloc::Global;
 use std::io::Eprint;
@@ -169,4 +172,33 @@ pub fn serve_rebuild<R: Eprint, S: SourceAt, K: SinkAt, P: Places<K>>(
 {
     let status = rebuild_main(alloc, crc, header, sources, sink, places);
     ended(rt, status, path, mend_trouble(status))
+}
+
+// What a status says of a folder whose shares were judged.
+fn check_trouble(status: ShareStatus) -> &'static str {
+    match status {
+        ShareStatus::TooFew => "fewer of its shares are whole than its file needs",
+        ShareStatus::BadShare => "not all of its shares are whole",
+        ShareStatus::OutOfMemory => "there was not enough memory",
+        _ => "its shares are whole",
+    }
+}
+
+/// Judges each share of a file, and notes the first fault of each. Says why it ended, if not well, and ends with the number of that status.
+pub fn serve_check<R: Eprint, S: SourceAt>(
+    rt: &R,
+    alloc: Global,
+    crc: &Crc64,
+    header: &ShareHeader,
+    folder: &str,
+    sources: &mut [S],
+    verdicts: &mut [Option<ShareFault>],
+) -> ExitCode
+    requires sources { length sources.old ≡ all_chunks header.now.shape }
+    requires verdicts { length verdicts.old ≡ all_chunks header.now.shape }
+    ensures exit { (status : ShareStatus) × (exit_status result ≡ status_number status)
+        × CheckEnds status header.now (map (λ s. seen (S.given s) (S.ends s) (S.failed s)) sources.new) verdicts.new }
+{
+    let status = check_main(alloc, crc, header, sources, verdicts);
+    ended(rt, status, folder, check_trouble(status))
 }

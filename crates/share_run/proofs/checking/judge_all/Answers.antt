@@ -1,0 +1,23 @@
+use Rattle.std.proofs.Common.{◌≡◌, ◌<◌, ℕ, length, length-set, ◌∙◌, arith}
+use Rattle.share_files.specs.Seen.{seen}
+use Rattle.share_run.proofs.CheckLemmas.{verdicts_more}
+use Rattle.share_run.proofs.checking.judge_all.Goals as goal
+
+pub loop-share-preserved : goal.loop-share-preserved
+loop-share-preserved g c =
+    let now = c.loop-share.sources in
+    let share : ℕ = c.loop-share.share in
+    let inv = c.loop-share.invariant in
+    let less : share < length now = omega arith in
+    let there : share < length c.loop-share.verdicts = omega arith in
+    record {
+      all = length-set now share c.fault_of.new.source ∙ inv.all;
+      count = length-set c.loop-share.verdicts share c.in_ok-verdict.verdict ∙ inv.count;
+      judged = verdicts_more (λ s. seen (g.S.SourceAt.given s) (g.S.SourceAt.ends s) (g.S.SourceAt.failed s)) now share c.fault_of.new.source less
+          c.loop-share.verdicts c.in_ok-verdict.verdict there c.in_ok-verdict.ensures inv.judged;
+    }
+
+pub returns-clause-judged : goal.returns-clause-judged
+returns-clause-judged g c = λ i less.
+    let within : i < c.loop-share.share = omega (arith, less) in
+    c.loop-share.invariant.judged i within

@@ -1,0 +1,11 @@
+use Rattle.std.proofs.Common.{◌≡◌, map, length}
+use Rattle.share_files.specs.Seen.{seen}
+use Rattle.share_run.specs.Check.{AreVerdicts}
+use Rattle.share_run.proofs.checking.judge_all.Given as goal
+
+abbrev pub invariant-loop-share : goal.invariant-loop-share
+invariant-loop-share g l = record {
+  all : length l.sources ≡ length l.fn.sources;
+  count : length l.verdicts ≡ length l.fn.verdicts;
+  judged : AreVerdicts l.share (map (λ s. seen (g.S.SourceAt.given s) (g.S.SourceAt.ends s) (g.S.SourceAt.failed s)) l.sources) l.verdicts;
+}
