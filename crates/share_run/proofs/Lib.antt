@@ -6,3 +6,5 @@ pub mod SeenLemmas
 pub mod HeadLemmas
 pub mod CheckLemmas
 pub mod MendLemmas
+pub mod PieceLemmas
+pub mod MadeLemmas

@@ -8,3 +8,4 @@ pub mod Heads
 pub mod Told
 pub mod Rebuild
 pub mod Check
+pub mod Made
