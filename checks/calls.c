@@ -69,6 +69,87 @@ static size_t beside(uint64_t *state, size_t len) {
     }
 }
 
+/* Copies of pieces that stand one behind another, each in a buffer of its own; one of them may be a byte too long. */
+static struct clay_bytes *copies(uint64_t *state, const uint8_t *bytes, size_t count, size_t len, int *is_right) {
+    struct clay_bytes *list = made(count * sizeof *list);
+    size_t odd = drawn(state) % 4 || count == 0 ? count : drawn(state) % count;
+    for (size_t i = 0; i < count; i++) {
+        uint8_t *copy = made(len + 1);
+        memcpy(copy, bytes + i * len, len);
+        list[i] = (struct clay_bytes){copy, len + (i == odd)};
+    }
+    *is_right = *is_right && odd == count;
+    return list;
+}
+
+static void free_copies(struct clay_bytes *list, size_t count) {
+    for (size_t i = 0; i < count; i++)
+        free((void *)list[i].bytes);
+    free(list);
+}
+
+/* The missing chunks, the parity chunks and a lost one, from buffers that stand apart, with counts and lengths that may be wrong. */
+static void apart(uint64_t *state, const struct clay_numbers *g, uint32_t k, uint32_t m, uint32_t w, const uint8_t *word, const uint8_t *present, uint32_t gone, const uint8_t *parts) {
+    size_t len = g->chunk_len, there = 0, lost = 0;
+    uint8_t *left = made(g->chunks * len);
+    struct clay_room rooms[MOST];
+    uint32_t numbers[MOST];
+    for (uint32_t c = 0; c < g->chunks; c++) {
+        if (present[c]) {
+            memcpy(left + there++ * len, word + c * len, len);
+            continue;
+        }
+        numbers[lost] = c;
+        rooms[lost] = (struct clay_room){made(len + 1), len};
+        memset(rooms[lost++].bytes, 0xa5, len + 1);
+    }
+    int is_right = 1;
+    struct clay_bytes *list = copies(state, left, there, len, &is_right);
+    size_t given = there > 0 && drawn(state) % 4 == 0 ? there - 1 : there;
+    if (lost > 0 && drawn(state) % 8 == 0)
+        rooms[drawn(state) % lost].len++, is_right = 0;
+    is_right = is_right && given == there;
+    uint32_t status = clay_recover_chunks(k, m, w, present, g->chunks, list, given, rooms, lost);
+    hold(status == (!is_right ? CLAY_BAD_LENGTH : lost > m ? CLAY_TOO_FEW : CLAY_DONE), "clay_recover_chunks", k, m, w, status);
+    for (size_t i = 0; i < lost; i++) {
+        hold(status == CLAY_DONE ? memcmp(rooms[i].bytes, word + numbers[i] * len, len) == 0 : is_marked(rooms[i].bytes, len), "what clay_recover_chunks wrote", k, m, w, status);
+        free(rooms[i].bytes);
+    }
+    free_copies(list, there);
+    free(left);
+
+    is_right = 1;
+    list = copies(state, word, k, len, &is_right);
+    for (uint32_t i = 0; i < m; i++) {
+        rooms[i] = (struct clay_room){made(len), len};
+        memset(rooms[i].bytes, 0xa5, len);
+    }
+    given = drawn(state) % 4 ? m : m - 1;
+    is_right = is_right && given == m;
+    status = clay_encode_chunks(k, m, w, list, k, rooms, given);
+    hold(status == (is_right ? CLAY_DONE : CLAY_BAD_LENGTH), "clay_encode_chunks", k, m, w, status);
+    for (uint32_t i = 0; i < m; i++) {
+        hold(status == CLAY_DONE ? memcmp(rooms[i].bytes, word + (k + i) * len, len) == 0 : is_marked(rooms[i].bytes, len), "what clay_encode_chunks wrote", k, m, w, status);
+        free(rooms[i].bytes);
+    }
+    free_copies(list, k);
+
+    size_t others = g->chunks - 1;
+    uint8_t *chunk = made(len);
+    memset(chunk, 0xa5, len);
+    is_right = 1;
+    list = copies(state, parts, others, g->part_len, &is_right);
+    given = beside(state, others);
+    if (given > others)
+        given = others;
+    is_right = is_right && given == others;
+    status = clay_rebuild_chunks(k, m, w, gone, list, given, chunk, len);
+    hold(status == (gone >= g->chunks ? CLAY_BAD_CHUNK : is_right ? CLAY_DONE : CLAY_BAD_LENGTH), "clay_rebuild_chunks", k, m, w, status);
+    hold(status == CLAY_DONE ? memcmp(chunk, word + gone * len, len) == 0 : is_marked(chunk, len), "what clay_rebuild_chunks wrote", k, m, w, status);
+    free_copies(list, others);
+    free(chunk);
+}
+
 /* A stripe's parity chunks; then one chunk rebuilt and up to m, or more, recovered, with lengths that may be wrong. */
 static void chunks(uint64_t *state) {
     uint32_t at = drawn(state) % (sizeof CODES / sizeof *CODES), k = CODES[at].k, m = CODES[at].m, w = CODES[at].w;
@@ -124,6 +205,9 @@ static void chunks(uint64_t *state) {
     is_right = parts_len == (g.chunks - 1) * g.part_len;
     hold(status == (gone >= g.chunks ? CLAY_BAD_CHUNK : is_right ? CLAY_DONE : CLAY_BAD_LENGTH), "clay_rebuild", k, m, w, status);
     hold(status == CLAY_DONE ? memcmp(chunk, word + gone * len, len) == 0 : is_marked(chunk, len), "what clay_rebuild wrote", k, m, w, status);
+    if (gone >= g.chunks)
+        memset(parts, 0, (g.chunks - 1) * g.part_len);
+    apart(state, &g, k, m, w, word, present, gone, parts);
     free(exact);
     free(parts);
     free(chunk);

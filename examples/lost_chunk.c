@@ -58,6 +58,25 @@ static void recover(uint32_t one, uint32_t other) {
     expect_same(copy, chunks, sizeof chunks, "the recovered chunks");
 }
 
+/* The same where each chunk stands apart: the four that are there are read, and the two are written to `copy`. */
+static void recover_apart(uint32_t one, uint32_t other) {
+    uint8_t present[N];
+    struct clay_bytes there[N];
+    struct clay_room missing[M];
+    size_t count = 0, lost = 0;
+    memset(copy, 0, sizeof copy);
+    for (uint32_t c = 0; c < N; c++) {
+        present[c] = c != one && c != other;
+        if (present[c])
+            there[count++] = (struct clay_bytes){chunks + c * LEN, LEN};
+        else
+            missing[lost++] = (struct clay_room){copy + c * LEN, LEN};
+    }
+    expect(clay_recover_chunks(K, M, W, present, N, there, count, missing, lost), CLAY_DONE, "clay_recover_chunks");
+    expect_same(copy + one * LEN, chunks + one * LEN, LEN, "a recovered chunk");
+    expect_same(copy + other * LEN, chunks + other * LEN, LEN, "the other one");
+}
+
 /* Wrong numbers and lengths are told, and nothing is written then. */
 static void try_wrong_numbers(void) {
     uint8_t none[N] = {0}, all[N] = {1, 1, 1, 1, 1, 1};
@@ -94,8 +113,10 @@ int main(void) {
     for (uint32_t lost = 0; lost < N; lost++)
         rebuild(lost);
     for (uint32_t one = 0; one < N; one++)
-        for (uint32_t other = one + 1; other < N; other++)
+        for (uint32_t other = one + 1; other < N; other++) {
             recover(one, other);
+            recover_apart(one, other);
+        }
     try_wrong_numbers();
     print_chunks();
     return 0;

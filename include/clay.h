@@ -69,6 +69,37 @@ uint32_t clay_repair_layers(uint32_t k, uint32_t m, uint32_t w, uint32_t lost, u
  * CLAY_DONE, CLAY_BAD_GEOMETRY, CLAY_BAD_LENGTH, CLAY_BAD_CHUNK, CLAY_OUT_OF_MEMORY. */
 uint32_t clay_rebuild(uint32_t k, uint32_t m, uint32_t w, uint32_t lost, const uint8_t *parts, size_t parts_len, uint8_t *chunk, size_t chunk_len);
 
+/* The same for callers whose chunks or parts stand apart: each is given by where it stands and how many bytes it has. */
+
+/* Bytes that a call reads where they stand. */
+struct clay_bytes {
+    const uint8_t *bytes;
+    size_t len;
+};
+
+/* Bytes that a call writes. */
+struct clay_room {
+    uint8_t *bytes;
+    size_t len;
+};
+
+/* Writes the parity chunks of a stripe from its data chunks. Each has chunk_len bytes.
+ * data_count: k. parity_count: m.
+ * CLAY_DONE, CLAY_BAD_GEOMETRY, CLAY_BAD_LENGTH, CLAY_OUT_OF_MEMORY. */
+uint32_t clay_encode_chunks(uint32_t k, uint32_t m, uint32_t w, const struct clay_bytes *data, size_t data_count, const struct clay_room *parity, size_t parity_count);
+
+/* Writes the missing chunks from those that are there. That these are of one codeword isn't tested: where they aren't, some bytes are written.
+ * present: a byte for each chunk, 0 where it is missing; present_len: n. chunks: those that are there, by rising number; chunk_count: as many.
+ * missing: room for each other one, by rising number; missing_count: as many. Each has chunk_len bytes.
+ * CLAY_DONE, CLAY_BAD_GEOMETRY, CLAY_BAD_LENGTH, CLAY_TOO_FEW, CLAY_OUT_OF_MEMORY. */
+uint32_t clay_recover_chunks(uint32_t k, uint32_t m, uint32_t w, const uint8_t *present, size_t present_len, const struct clay_bytes *chunks, size_t chunk_count, const struct clay_room *missing, size_t missing_count);
+
+/* Writes chunk `lost` from the parts of all others, by rising number of their chunks, each of part_len bytes. That they are of one codeword
+ * isn't tested.
+ * part_count: n - 1. chunk_len: as clay_geometry tells.
+ * CLAY_DONE, CLAY_BAD_GEOMETRY, CLAY_BAD_LENGTH, CLAY_BAD_CHUNK, CLAY_OUT_OF_MEMORY. */
+uint32_t clay_rebuild_chunks(uint32_t k, uint32_t m, uint32_t w, uint32_t lost, const struct clay_bytes *parts, size_t part_count, uint8_t *chunk, size_t chunk_len);
+
 /* The same code family with d helpers of a rebuild, fewer than there are other chunks: k < d < k + m. With d = k + m - 1 the codewords are
  * those of the calls above. The grid has d - k + 1 rows. Node i of it stands in column i / rows; chunk c is node c where it is a data chunk,
  * and else node c + virtual_nodes. */

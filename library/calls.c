@@ -37,6 +37,19 @@ CALL(clay_rebuild,
      (uint32_t k, uint32_t m, uint32_t w, uint32_t lost, const uint8_t *parts, size_t parts_len, uint8_t *chunk, size_t chunk_len),
      (k, m, w, lost, parts, parts_len, chunk, chunk_len))
 
+CALL(clay_encode_chunks,
+     (uint32_t k, uint32_t m, uint32_t w, const struct clay_bytes *data, size_t data_count, const struct clay_room *parity, size_t parity_count),
+     (k, m, w, data, data_count, parity, parity_count))
+
+CALL(clay_recover_chunks,
+     (uint32_t k, uint32_t m, uint32_t w, const uint8_t *present, size_t present_len, const struct clay_bytes *chunks, size_t chunk_count,
+      const struct clay_room *missing, size_t missing_count),
+     (k, m, w, present, present_len, chunks, chunk_count, missing, missing_count))
+
+CALL(clay_rebuild_chunks,
+     (uint32_t k, uint32_t m, uint32_t w, uint32_t lost, const struct clay_bytes *parts, size_t part_count, uint8_t *chunk, size_t chunk_len),
+     (k, m, w, lost, parts, part_count, chunk, chunk_len))
+
 CALL(clay_geometry_with_helpers, (uint32_t k, uint32_t m, uint32_t d, uint32_t w, struct clay_numbers *numbers), (k, m, d, w, numbers))
 
 CALL(clay_parity_with_helpers,

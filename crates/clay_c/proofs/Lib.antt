@@ -5,3 +5,5 @@ pub mod Marking
 pub mod Missing
 pub mod Shown
 pub mod PiecesCut
+pub mod Slices
+pub mod Encoded

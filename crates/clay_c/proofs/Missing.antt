@@ -33,7 +33,7 @@ zero_marks marks (suc n) h =
           (λ k. rest k + none k) ∙ same ∙ sym more ∙ ap (λ v. count_by is_zero (take v marks)) next
     ]
 
-lost_counted : (marks : List ℕ) → count_below (length marks) (λ c. eqb (get_or marks c 0) 0) ≡ lost_count marks
+pub lost_counted : (marks : List ℕ) → count_below (length marks) (λ c. eqb (get_or marks c 0) 0) ≡ lost_count marks
 unfolding is_zero
 lost_counted marks = zero_marks marks (length marks) (omega arith) ∙ ap (count_by (λ mark. eqb mark 0)) (take_all (length marks) marks (omega arith))
 

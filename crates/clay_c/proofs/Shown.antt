@@ -62,7 +62,7 @@ cond_le false c = omega arith
 pub place_le : (lost c : ℕ) → place_among_others lost c ≤ c
 place_le lost c = cond_le (nat_lt c lost) c
 
-place_below : (lost c n : ℕ) → lost < n → c < n → c ≢ lost → place_among_others lost c < n - 1
+pub place_below : (lost c n : ℕ) → lost < n → c < n → c ≢ lost → place_among_others lost c < n - 1
 place_below lost c n inside below other = elim (cases_lt c lost) [
   | inl early ↦ subst (λ p. p < n - 1) (sym (cond-true (nat_lt c lost) c (c - 1) (lt-ltb c lost early))) (omega (arith, early, inside))
   | inr late ↦ subst (λ p. p < n - 1) (sym (cond-false (nat_lt c lost) c (c - 1) (le-ltb c lost late))) (omega (arith, late, below, other))

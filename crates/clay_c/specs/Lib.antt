@@ -4,3 +4,4 @@ pub mod Calls
 pub mod Helpers
 pub mod Missing
 pub mod Lost
+pub mod Apart

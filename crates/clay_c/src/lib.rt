@@ -10,6 +10,8 @@ ghost use Rattle.clay_c.specs.Status.{done, bad_geometry, bad_length, bad_chunk,
 ghost use Rattle.clay_c.specs.Calls.{HasNumbers, LayersFit, ParityFits, MakesParity, ChunksFit, lost_count, Recovers, PartsFit, Rebuilds};
 
 mod aloof;
+mod apart;
+mod encoding;
 mod helpers;
 mod laid;
 mod lost;
@@ -22,6 +24,7 @@ mod status;
 use crate::rebuilding::{part_len, write_rebuilt};
 use crate::recovery::{missing_count, write_missing, write_parity};
 use crate::status::{BAD_CHUNK, BAD_GEOMETRY, BAD_LENGTH, DONE, OUT_OF_MEMORY, TOO_FEW};
+pub use apart::{clay_encode_chunks, clay_rebuild_chunks, clay_recover_chunks};
 use clay_grid::Geometry;
 pub use helpers::{
     clay_geometry_with_helpers, clay_parity_with_helpers, clay_rebuild_with_helpers,

@@ -1,9 +1,10 @@
 //! A lost chunk, written to a caller's bytes.
-ghost use Rattle.std.specs.Prelude.{◌≡◌, ◌-◌, ◌*◌, ◌<◌, eqb, length, IfOk, OnOk, OnErr};
+ghost use Rattle.std.specs.Prelude.{◌≡◌, ◌-◌, ◌*◌, ◌<◌, eqb, map, length, IfOk, OnOk, OnErr};
 ghost use Rattle.clay_grid.specs.Shape.{chunk_count, chunk_length};
 ghost use Rattle.clay_model.specs.RepairParts.{part_length};
 ghost use Rattle.clay_c.specs.Calls.{place_among_others, Rebuilds};
 ghost use Rattle.clay_c.specs.Pieces.{starts_of};
+ghost use Rattle.clay_c.specs.Apart.{PartSlicesFit, RebuildsApart};
 
 use crate::pieces::start_unless;
 use clay_grid::Geometry;
@@ -33,11 +34,15 @@ fn part_start(lost: u32, c: u32, len: u32) -> usize
     start
 }
 
-// Where the part of each chunk but the lost one starts.
-fn part_starts(alloc: Global, g: Geometry, lost: u32) -> Result<Vec<Option<usize>>, AllocError>
-    ensures { IfOk result (λ starts. starts.items ≡ starts_of (λ c. eqb c lost) (place_among_others lost) (part_length g) (chunk_count g)) }
+// Where the part of each chunk but the lost one starts, where parts have this length.
+fn part_starts(
+    alloc: Global,
+    g: Geometry,
+    lost: u32,
+    len: u32,
+) -> Result<Vec<Option<usize>>, AllocError>
+    ensures { IfOk result (λ starts. starts.items ≡ starts_of (λ c. eqb c lost) (place_among_others lost) len (chunk_count g)) }
 {
-    let len = part_len(g);
     let mut starts = Vec::with_capacity(alloc, g.n() as usize)?;
     for c in 0..g.n() {
         let start = part_start(lost, c, len);
@@ -60,12 +65,36 @@ pub fn write_rebuilt(
     ensures written { OnOk result (Rebuilds g lost bytes.now chunk.new) }
     ensures kept { OnErr result (chunk.new ≡ chunk.old) }
 {
-    let starts = part_starts(alloc, g, lost)?;
+    let len = part_len(g);
+    let starts = part_starts(alloc, g, lost, len)?;
     let parts = ChunkView::Laid {
         bytes,
         starts: &starts,
-        len: part_len(g) as usize,
+        len: len as usize,
     };
     rebuild_into(alloc, g, lost, parts, chunk)?;
+    Ok(())
+}
+
+/// The same from parts that are slices of their own.
+pub fn write_rebuilt_apart(
+    alloc: Global,
+    g: Geometry,
+    lost: u32,
+    parts: &[&[u8]],
+    chunk: &mut [u8],
+) -> Result<(), AllocError>
+    requires chunk { lost < chunk_count g }
+    requires fit { PartSlicesFit g (map (λ part. part.now) parts.now) chunk.old }
+    ensures written { OnOk result (RebuildsApart g lost (map (λ part. part.now) parts.now) chunk.new) }
+    ensures kept { OnErr result (chunk.new ≡ chunk.old) }
+{
+    // a slice is found by its place, so the places are starts of pieces of length 1
+    let places = part_starts(alloc, g, lost, 1)?;
+    let view = ChunkView::Slices {
+        pieces: parts,
+        places: &places,
+    };
+    rebuild_into(alloc, g, lost, view, chunk)?;
     Ok(())
 }

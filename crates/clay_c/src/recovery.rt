@@ -1,10 +1,13 @@
 //! Parity and missing chunks, written to a caller's bytes.
-ghost use Rattle.std.specs.Prelude.{◌≡◌, ℕ, ◌*◌, ◌<◌, ◌≤◌, length, slice_index, slice_index_or, eqb, false, IfOk, OnOk, OnErr};
+ghost use Rattle.std.specs.Prelude.{◌≡◌, ℕ, ◌*◌, ◌<◌, ◌≤◌, map, length, slice_index, slice_index_or, eqb, false, IfOk, OnOk, OnErr};
 ghost use Rattle.clay_grid.specs.Shape.{chunk_count, chunk_length, stripe_length};
 ghost use Rattle.clay_c.specs.Calls.{MakesParity, lost_count, Recovers};
+ghost use Rattle.clay_c.specs.Apart.{ChunkSlicesFit, RecoversApart};
 
+use crate::marks::marked_starts;
 use clay_grid::Geometry;
-use clay_lanes::{parity_into, recover_into};
+use clay_lanes::{ChunkView, parity_into, recover_into};
+use lane_slices::recover_slices;
 use std::alloc::{AllocError, Global};
 
 /// Writes the parity chunks of a stripe, one behind another.
@@ -57,5 +60,28 @@ pub fn write_missing(
 {
     let missing = missing_marks(alloc, present)?;
     recover_into(alloc, g, &missing, chunks)?;
+    Ok(())
+}
+
+/// Writes the missing chunks, each to a slice of its own, from the others, which are slices too.
+pub fn write_missing_apart(
+    alloc: Global,
+    g: Geometry,
+    present: &[u8],
+    chunks: &[&[u8]],
+    missing: &mut [&mut [u8]],
+) -> Result<(), AllocError>
+    requires fit { ChunkSlicesFit g present.now (map (λ chunk. chunk.now) chunks.now) (map (λ room. room.now) missing.old) }
+    requires few { lost_count present.now ≤ g.parity_count }
+    ensures written { OnOk result (RecoversApart g present.now (map (λ chunk. chunk.now) chunks.now) (map (λ room. room.now) missing.new)) }
+    ensures kept { OnErr result (missing.new ≡ missing.old) }
+{
+    // a slice is found by its place, so the places are starts of pieces of length 1
+    let places = marked_starts(alloc, present, 1)?;
+    let view = ChunkView::Slices {
+        pieces: chunks,
+        places: &places,
+    };
+    recover_slices(alloc, g, view, missing)?;
     Ok(())
 }
