@@ -16,10 +16,12 @@ use Rattle.lost_layers.specs.LostLayers.{lost_node, is_wanted, partner_node, par
 use Rattle.lost_layers.specs.LostPieces.{piece_at}
 use Rattle.lost_layers.specs.declared.run.LostRun.{LostRun}
 use Rattle.lost_layers.specs.declared.run.LostPiece.{LostPiece}
+use Rattle.lost_layers.proofs.Determining.{wanted_between}
 use Rattle.missing_layers.specs.Erased.{Erased, IsErased, is_missing, is_unknown}
+use Rattle.missing_layers.specs.ErasedLayers.{is_solved_for, is_solved}
 use Rattle.missing_layers.specs.ErasedPieces.{is_used, is_piece, layers_read, pieces_of_chunk, pieces_of}
 use Rattle.missing_layers.specs.Marks.{AreMore}
-use Rattle.missing_layers.specs.Without.{is_there, is_gone, gone_nodes, gone_count, IsThere, Determine, IsReadable}
+use Rattle.missing_layers.specs.Without.{is_there, is_gone, gone_nodes, gone_count, AreListed, IsThere, Determine, IsReadable}
 use Rattle.missing_layers.proofs.ErasedDetermining.{pieces_determine}
 
 pub one_more : (test : ℕ → Bool) (marks : List Bool) (mark : Bool) (n : ℕ) → mark ≡ test n → marks ≡ map test (range_with_len 0 n) → marks ++ mark ∷ [] ≡ map test (range_with_len 0 (n + 1))
@@ -133,6 +135,55 @@ module _ (g : Shape) (run : LostRun) (present unknown : List Bool) (geometry : I
     there = pieces_there erased present geometry is_erased refl;
     same = pieces_determine erased geometry is_erased;
   }
+
+-- ---- an empty run
+
+-- it has no pieces
+module _ (e : Erased) (same : e.run.from ≡ e.run.to) where
+  unsolved : (n : ℕ) → is_solved e n ≡ false
+  unsolved n =
+      let none : e.run.to - e.run.from ≡ 0 = omega (arith, same) in
+      ap (λ k. not (eqb (count_below k (λ d. is_solved_for e (e.run.from + d) n)) 0)) none
+
+  unused : (i n : ℕ) → is_used e i n ≡ true → ⊥
+  unused i n used = true≢false (sym (and_parts (not (is_unknown e i)) (is_solved e n) used).1 ∙ unsolved n)
+
+  unread : (i n : ℕ) → is_piece e i n ≡ true → ⊥
+  unread i n read =
+      elim (or_cases (not (is_unknown e i) && (is_used e i n || is_used e (partner_node e.g i n) (partner_layer e.g i n))) _ read) [
+        | inl known ↦ elim (or_cases (is_used e i n) _ (and_parts (not (is_unknown e i)) _ known).1) [
+          | inl own ↦ unused i n own
+          | inr theirs ↦ unused (partner_node e.g i n) (partner_layer e.g i n) theirs
+        ]
+        | inr mate ↦
+            let wanted = (and_parts (not (is_missing e i) && eqb (partner_node e.g i n) (lost_node e.g e.run)) (is_wanted e.run (partner_layer e.g i n)) mate).1 in
+            let between = wanted_between e.run (partner_layer e.g i n) wanted in
+            omega (arith, between.0, between.1, same)
+      ]
+
+  no_pieces : pieces_of e ≡ []
+  no_pieces =
+      empty (pieces_of e) (λ h. flat_map_only (λ piece. ⊥) (pieces_of_chunk e) (range_with_len 0 (chunk_count e.g)) (piece_at 0 0)
+      (λ i r hi hr. of_chunk (get_or (range_with_len 0 (chunk_count e.g)) i 0) r hr)
+      0 h)
+    where
+      empty : (xs : List LostPiece) → (0 < length xs → ⊥) → xs ≡ []
+      empty [] h = refl
+      empty (x ∷ xs) h = absurd (h (omega arith))
+
+      of_chunk : (c r : ℕ) → r < length (pieces_of_chunk e c) → ⊥
+      of_chunk c r hr =
+          let layers : List ℕ = layers_read e c in
+          let inside : r < length layers = subst (λ v. r < v) (length-map layers (piece_at c)) hr in
+          let found = (Lists-filter (is_piece e (node_of_chunk e.g c)) (layer_count e.g)).only r inside in
+          unread (node_of_chunk e.g c) (get_or layers r 0) found.1
+
+pub none_listed : (g : Shape) (run : LostRun) (present : List Bool) → IsReadable g run present → run.from ≡ run.to → AreListed g run present []
+none_listed g run present readable same = record {
+  unknown = gone_nodes g run present;
+  more = gone_few g run present readable;
+  pieces_are = sym (no_pieces (record { g = g; run = run; missing = gone_nodes g run present; unknown = gone_nodes g run present }) same);
+}
 
 -- no pieces determine no layers
 pub none_determine : (g : Shape) (run : LostRun) (present : List Bool) → run.from ≡ run.to → Determine g run present []

@@ -8,7 +8,8 @@ use Rattle.lost_layers.specs.LostLayers.{IsLostRun}
 use Rattle.lost_layers.specs.Determined.{bytes_of_run}
 use Rattle.lost_layers.specs.declared.run.LostRun.{LostRun}
 use Rattle.lost_layers.specs.declared.run.LostPiece.{LostPiece}
-use Rattle.missing_layers.specs.ErasedPieces.{HaveSame}
+use Rattle.missing_layers.specs.ErasedPieces.{HaveSame, pieces_of}
+use Rattle.missing_layers.specs.Marks.{AreMore}
 use Rattle.missing_layers.specs.declared.fault.MissingFault.{MissingFault}
 use Rattle.missing_layers.specs.declared.fault.MissingFault.TheVariants.{NoSuchChunk, NoSuchLayers, MarkCount, TooFew, OutOfMemory}
 
@@ -29,6 +30,12 @@ gone_count g run present = count_below (node_count g) (is_gone g run present)
 -- a subchunk of a chunk that is there
 abbrev pub IsThere : Shape → LostRun → List Bool → LostPiece → Type 0
 IsThere g run present piece = (piece.chunk < chunk_count g) × (piece.layer < layer_count g) × (is_there run present piece.chunk ≡ true)
+
+-- what is read where the missing nodes, and perhaps further ones, count as unknown
+pub record AreListed (g : Shape) (run : LostRun) (present : List Bool) (pieces : List LostPiece) : Type 0 where
+  pub unknown : List Bool
+  pub more : AreMore g (gone_nodes g run present) unknown
+  pub pieces_are : pieces ≡ pieces_of (record { g = g; run = run; missing = gone_nodes g run present; unknown = unknown })
 
 -- subchunks of chunks that are there, by which codewords with the same bytes of each have the same bytes of the run
 pub record Determine (g : Shape) (run : LostRun) (present : List Bool) (pieces : List LostPiece) : Type 0 where

@@ -2,7 +2,7 @@
 ghost use Rattle.std.specs.Prelude.{◌≡◌, ◌≤◌, ◌<◌, length, IfOk, IfErr};
 ghost use Rattle.clay_grid.specs.Shape.{chunk_count, node_count};
 ghost use Rattle.lost_layers.specs.Placing.{IsPlaced};
-ghost use Rattle.missing_layers.specs.Without.{is_there, is_gone, gone_nodes, gone_count, Determine, IsReadable, IsRefused};
+ghost use Rattle.missing_layers.specs.Without.{is_there, is_gone, gone_nodes, gone_count, AreListed, Determine, IsReadable, IsRefused};
 
 use crate::erased::ErasedRun;
 use crate::fault::MissingFault;
@@ -91,7 +91,8 @@ fn some_pieces(
     requires placed { IsPlaced placed.now }
     requires readable { IsReadable placed.now.g placed.now.run present.now }
     requires some { placed.now.run.from < placed.now.run.to }
-    ensures { IfOk result (λ pieces. Determine placed.now.g placed.now.run present.now pieces.items) }
+    ensures listed { IfOk result (λ pieces. AreListed placed.now.g placed.now.run present.now pieces.items) }
+    ensures determine { IfOk result (λ pieces. Determine placed.now.g placed.now.run present.now pieces.items) }
 {
     let missing = mark_gone(alloc, placed.g, placed.run, present)?;
     let unknown = unknown_nodes(alloc, placed, &missing)?;
@@ -113,6 +114,7 @@ pub fn missing_pieces(
     present: &[bool],
 ) -> Result<Vec<LostPiece>, MissingFault>
     ensures readable { IfOk result (λ pieces. IsReadable g run present.now) }
+    ensures listed { IfOk result (λ pieces. AreListed g run present.now pieces.items) }
     ensures determine { IfOk result (λ pieces. Determine g run present.now pieces.items) }
     ensures refused { IfErr result (λ fault. IsRefused g run present.now fault) }
 {

@@ -4,7 +4,7 @@ use Rattle.lost_layers.specs.declared.run.LostPiece.{LostPiece}
 use Rattle.missing_layers.specs.Erased.{IsErased}
 use Rattle.missing_layers.specs.ErasedPieces.{pieces_of}
 use Rattle.missing_layers.specs.Marks.{AreMore}
-use Rattle.missing_layers.specs.Without.{gone_nodes, Determine}
+use Rattle.missing_layers.specs.Without.{gone_nodes, AreListed, Determine}
 use Rattle.missing_layers.proofs.Gone.{gone_few, is_erased, determine}
 use Rattle.missing_layers.proofs.missing.some_pieces.Goals as goal
 
@@ -31,8 +31,25 @@ erased_pieces-requires c =
       unknown = more.len;
     }
 
-pub returns : goal.returns
-returns c =
+pub returns-clause-listed : goal.returns-clause-listed
+returns-clause-listed c =
+    let g = c.args.placed.now.g in
+    let run = c.args.placed.now.run in
+    let present = c.args.present.now in
+    let gone : c.deref-2.result.now ≡ gone_nodes g run present = c.deref-2.ensures.value ∙ c.in_ok-missing.ensures in
+    let same : c.deref.result.now ≡ gone_nodes g run present = c.deref.ensures.value ∙ c.in_ok-missing.ensures in
+    IfOk-weaker c.erased_pieces.result
+    (λ (v : Vec LostPiece Global). v.items ≡ pieces_of (record { g = g; run = run; missing = c.deref-2.result.now; unknown = c.deref-3.result.now }))
+    (λ (v : Vec LostPiece Global). AreListed g run present v.items)
+    (λ v is. record {
+      unknown = c.deref-3.result.now;
+      more = subst (AreMore g (gone_nodes g run present)) (sym c.deref-3.ensures.value) (subst (λ l. AreMore g l c.in_ok-unknown.unknown.items) same c.in_ok-unknown.ensures);
+      pieces_are = is ∙ ap (λ (l : List Bool). pieces_of (record { g = g; run = run; missing = l; unknown = c.deref-3.result.now })) gone;
+    })
+    c.erased_pieces.ensures
+
+pub returns-clause-determine : goal.returns-clause-determine
+returns-clause-determine c =
     let g = c.args.placed.now.g in
     let run = c.args.placed.now.run in
     let present = c.args.present.now in
