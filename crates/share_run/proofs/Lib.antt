@@ -8,3 +8,4 @@ pub mod CheckLemmas
 pub mod MendLemmas
 pub mod PieceLemmas
 pub mod MadeLemmas
+pub mod HelperLemmas

@@ -9,3 +9,4 @@ pub mod Told
 pub mod Rebuild
 pub mod Check
 pub mod Made
+pub mod Helpers
