@@ -2,6 +2,7 @@
 ghost use Rattle.std.specs.Prelude.{◌≡◌, ◌≤◌, vec_len, IfOk, IfSome};
 
 use crate::share_file::ShareFile;
+use crate::told_file::{Progress, ToldFile};
 use crc64::Crc64;
 use share_files::HeaderRefusal;
 use share_format::ShareHeader;
@@ -17,10 +18,10 @@ const MOST_SHARES: usize = 24;
 
 /// The shares of a folder: an entry for each number, and the header of one of them, which goes with all others.
 #[derive(Drop)]
-pub(crate) struct Folder {
+pub(crate) struct Folder<'a, R: Eprint> {
     pub(crate) stem: String,
     pub(crate) header: ShareHeader,
-    pub(crate) sources: Vec<ShareFile>,
+    pub(crate) sources: Vec<ShareFile<'a, R>>,
 }
 
 fn digit(byte: u8) -> Option<usize>
@@ -105,37 +106,60 @@ fn list_shares<R: Files<File = File> + AllocGlobal + Clone + Drop>(
     Ok(ShareNames { names, twice: None })
 }
 
+/// The name of a share that stands in a folder.
+pub(crate) fn standing_share<R: Files<File = File> + AllocGlobal + Clone + Drop>(
+    rt: &R,
+    folder: &str,
+) -> io::Result<Option<String>> {
+    let ShareNames { names, twice } = list_shares(rt, folder)?;
+    if twice.is_some() {
+        return Ok(twice);
+    }
+    Ok(names.into_iter().flatten().next())
+}
+
 /// The first so many of some shares, and missing ones behind them where there are fewer.
-pub(crate) fn first_shares(
+pub(crate) fn first_shares<'a, R: Eprint>(
     alloc: Global,
-    sources: Vec<ShareFile>,
+    sources: Vec<ShareFile<'a, R>>,
     count: u32,
-) -> Result<Vec<ShareFile>, AllocError>
+) -> Result<Vec<ShareFile<'a, R>>, AllocError>
     ensures { IfOk result (λ shares. vec_len shares ≡ count) }
 {
     let wanted = count as usize;
     let mut rest = sources.into_iter();
     let mut shares = Vec::new(alloc);
     'shares: while shares.len() < wanted {
-        let source = match rest.next() {
-            Some(source) => source,
-            None => ShareFile::missing(false),
-        };
-        shares.push(source)?;
+        match rest.next() {
+            Some(source) => shares.push(source)?,
+            None => shares.push(ShareFile::missing(false))?,
+        }
     }
     Ok(shares)
 }
 
-// The file of a share. Where it can't be opened, why is said, and it counts as missing.
-fn open_share<R: Files<File = File> + Eprint>(
-    rt: &R,
+// The file of a share. Where it can't be opened, why is said, and it counts as missing. A pipe isn't opened: it would be waited for.
+fn open_share<'a, R: Files<File = File> + Eprint>(
+    rt: &'a R,
     alloc: Global,
+    progress: Option<&'a Progress>,
     folder: &str,
     name: &str,
-) -> Result<ShareFile, AllocError> {
+) -> Result<ShareFile<'a, R>, AllocError> {
     let path = format!(in alloc; "{folder}/{name}")?;
+    match fs::metadata(rt, path.as_str()) {
+        Ok(about) if !about.is_file() => {
+            let why = "it is no plain file";
+            let _said = ends(rt, ShareStatus::ReadFault, name, why);
+            return Ok(ShareFile::missing(true));
+        }
+        _ => {}
+    }
     match fs::open(rt, path.as_str()) {
-        Ok(file) => Ok(ShareFile::of(file)),
+        Ok(file) => {
+            let name = String::from_str(alloc, name)?;
+            Ok(ShareFile::of(ToldFile::new(rt, name, file, progress)))
+        }
         Err(error) => {
             let _said = fails(rt, ShareStatus::ReadFault, name, &error);
             Ok(ShareFile::missing(true))
@@ -144,28 +168,45 @@ fn open_share<R: Files<File = File> + Eprint>(
 }
 
 // The files of all shares, or none for each that is missing.
-fn open_all<R: Files<File = File> + Eprint>(
-    rt: &R,
+fn open_all<'a, R: Files<File = File> + Eprint>(
+    rt: &'a R,
     alloc: Global,
+    progress: Option<&'a Progress>,
     folder: &str,
     names: &[Option<String>],
-) -> Result<Vec<ShareFile>, AllocError> {
+) -> Result<Vec<ShareFile<'a, R>>, AllocError> {
     let mut sources = Vec::new(alloc);
     for held in names {
-        let source = match held {
-            Some(name) => open_share(rt, alloc, folder, name.as_str())?,
-            None => ShareFile::missing(false),
-        };
-        sources.push(source)?;
+        match held {
+            Some(name) => {
+                let source = open_share(rt, alloc, progress, folder, name.as_str())?;
+                sources.push(source)?;
+            }
+            None => sources.push(ShareFile::missing(false))?,
+        }
     }
     Ok(sources)
+}
+
+/// Says which shares are missing, but for one that is known to be, where it wasn't said why.
+pub(crate) fn tell_missing<R: Eprint>(
+    rt: &R,
+    stem: &str,
+    sources: &[ShareFile<R>],
+    known: Option<u32>,
+) {
+    for (number, source) in sources.iter().enumerate() {
+        if source.is_missing() && !source.is_told() && known != Some(number as u32) {
+            let _said = eprintln!(rt; "clay_shares: {stem}.{number:02}.clay: it is missing");
+        }
+    }
 }
 
 // Says why a share has no header, if it is there.
 fn tell_refusal<R: Eprint>(
     rt: &R,
     name: Option<&Option<String>>,
-    source: &ShareFile,
+    source: &ShareFile<R>,
     refusal: HeaderRefusal,
 ) {
     if source.is_missing() {
@@ -181,7 +222,7 @@ fn close_headless<R: Eprint>(
     rt: &R,
     names: &[Option<String>],
     heads: &[Head],
-    sources: &mut [ShareFile],
+    sources: &mut [ShareFile<R>],
 ) {
     for (number, source) in sources.iter_mut().enumerate() {
         source.count_anew();
@@ -204,14 +245,15 @@ fn stem_of(alloc: Global, names: &[Option<String>]) -> io::Result<String> {
 }
 
 // Opens the shares of these names, and reads their headers.
-fn open_named<R: Files<File = File> + Eprint>(
-    rt: &R,
+fn open_named<'a, R: Files<File = File> + Eprint>(
+    rt: &'a R,
     alloc: Global,
     crc: &Crc64,
+    progress: Option<&'a Progress>,
     folder: &str,
     names: &[Option<String>],
-) -> io::Result<Result<Folder, ExitCode>> {
-    let mut sources = open_all(rt, alloc, folder, names)?;
+) -> io::Result<Result<Folder<'a, R>, ExitCode>> {
+    let mut sources = open_all(rt, alloc, progress, folder, names)?;
     let heads = read_heads(alloc, crc, &mut sources)?;
     close_headless(rt, names, &heads, &mut sources);
     match told_header(&heads) {
@@ -236,12 +278,13 @@ fn open_named<R: Files<File = File> + Eprint>(
     }
 }
 
-/// Opens the shares of a folder, and says what is wrong with them.
-pub(crate) fn open_folder<R: Files<File = File> + AllocGlobal + Clone + Drop + Eprint>(
-    rt: &R,
+/// Opens the shares of a folder, and says what is wrong with them. What is read of them may count for the progress.
+pub(crate) fn open_folder<'a, R: Files<File = File> + AllocGlobal + Clone + Drop + Eprint>(
+    rt: &'a R,
     crc: &Crc64,
+    progress: Option<&'a Progress>,
     folder: &str,
-) -> Result<Folder, ExitCode> {
+) -> Result<Folder<'a, R>, ExitCode> {
     let listed = match list_shares(rt, folder) {
         Ok(listed) => listed,
         Err(error) => return Err(fails(rt, ShareStatus::ReadFault, folder, &error)),
@@ -250,7 +293,7 @@ pub(crate) fn open_folder<R: Files<File = File> + AllocGlobal + Clone + Drop + E
         let why = "it is a share of another file than the others in the folder";
         return Err(ends(rt, ShareStatus::BadShare, name.as_str(), why));
     }
-    match open_named(rt, rt.alloc(), crc, folder, &listed.names) {
+    match open_named(rt, rt.alloc(), crc, progress, folder, &listed.names) {
         Ok(opened) => opened,
         Err(_) => Err(ends_short(rt, folder)),
     }

@@ -2,25 +2,25 @@
 ghost use Rattle.std.specs.Prelude.{◌≡◌, vec_len, IfOk};
 
 use crate::disk::StdPlaces;
-use crate::folder::{Folder, first_shares, open_folder};
+use crate::folder::{Folder, first_shares, open_folder, tell_missing};
 use crate::share_file::ShareFile;
+use crate::told_file::{Progress, ToldFile};
 use clay_bytes::StdSink;
 use crc64::Crc64;
-use share_run::{ShareStatus, ends_short, fails, serve_join};
+use share_run::{ends_short, serve_join};
 use std::alloc::{AllocError, Global};
 use std::fs::File;
 use std::io::Eprint;
 use std::process::ExitCode;
 use std::rt::Files;
 
-// Says which shares are missing, and which lacked blocks.
-fn tell_missed<R: Eprint>(rt: &R, stem: &str, sources: &[ShareFile], missed: &[Option<u64>]) {
+// Says which shares lacked blocks.
+fn tell_missed<R: Eprint>(rt: &R, stem: &str, sources: &[ShareFile<R>], missed: &[Option<u64>]) {
     for (number, source) in sources.iter().enumerate() {
         if source.is_missing() {
-            if !source.is_told() {
-                let _said = eprintln!(rt; "clay_shares: {stem}.{number:02}.clay: it is missing");
-            }
-        } else if let Some(Some(stripe)) = missed.get(number) {
+            continue;
+        }
+        if let Some(Some(stripe)) = missed.get(number) {
             let _said = eprintln!(rt;
                 "clay_shares: {stem}.{number:02}.clay: its block of stripe {stripe} is rotten or missing"
             );
@@ -40,14 +40,14 @@ fn no_marks(alloc: Global, count: u32) -> Result<Vec<Option<u64>>, AllocError>
 }
 
 // Joins the shares of a folder to an open file beside its place.
-fn join_open<R: Files<File = File> + Eprint>(
+fn join_open<'a, R: Files<File = File> + Eprint>(
     rt: &R,
     alloc: Global,
     crc: &Crc64,
-    shares: Folder,
+    shares: Folder<R>,
     path: &str,
-    file: File,
-    places: &mut StdPlaces<R>,
+    file: ToldFile<'a, R>,
+    places: &mut StdPlaces<'a, R>,
 ) -> Result<ExitCode, AllocError> {
     let Folder {
         stem,
@@ -57,6 +57,7 @@ fn join_open<R: Files<File = File> + Eprint>(
     let count = header.geometry().n();
     let mut sources = first_shares(alloc, sources, count)?;
     let mut missed = no_marks(alloc, count)?;
+    tell_missing(rt, stem.as_str(), &sources, None);
     let mut sink = StdSink::new(file);
     let exit = serve_join(
         rt,
@@ -74,23 +75,25 @@ fn join_open<R: Files<File = File> + Eprint>(
 }
 
 /// Joins the shares of a folder to a file at a path.
-pub(crate) fn run_join<R: Files<File = File> + AllocGlobal + Clone + Drop + Eprint>(
-    rt: &R,
+pub(crate) fn run_join<'a, R: Files<File = File> + AllocGlobal + Clone + Drop + Eprint>(
+    rt: &'a R,
+    progress: &'a Progress,
     crc: &Crc64,
     folder: &str,
     path: &str,
 ) -> ExitCode {
-    let shares = match open_folder(rt, crc, folder) {
+    let shares = match open_folder(rt, crc, None, folder) {
         Ok(shares) => shares,
         Err(exit) => return exit,
     };
+    progress.begin(shares.header.size());
     let mut places = StdPlaces::new(rt, rt.alloc());
-    let exit = match places.open_beside(rt.alloc(), path) {
+    let exit = match places.open_beside(rt.alloc(), path, Some(progress)) {
         Ok(file) => match join_open(rt, rt.alloc(), crc, shares, path, file, &mut places) {
             Ok(exit) => exit,
             Err(AllocError) => ends_short(rt, path),
         },
-        Err(error) => fails(rt, ShareStatus::WriteFault, path, &error),
+        Err(exit) => exit,
     };
     places.clear();
     exit

@@ -11,10 +11,12 @@ mod join_command;
 mod mend_command;
 mod program;
 mod share_file;
+mod told_file;
 mod words;
 
+use std::io::IsTerminal;
 use std::process::ExitCode;
 
 fn main(rt: HostRuntime) -> ExitCode {
-    program::run(&rt)
+    program::run(&rt, rt.stderr().is_terminal())
 }

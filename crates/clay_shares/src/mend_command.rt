@@ -4,13 +4,14 @@ ghost use Rattle.clay_aloof.specs.Shape.{all_chunks};
 ghost use Rattle.share_mends.specs.Asked.{AreHelpers};
 
 use crate::disk::StdPlaces;
-use crate::folder::{Folder, first_shares, open_folder};
+use crate::folder::{Folder, first_shares, open_folder, tell_missing};
 use crate::share_file::ShareFile;
+use crate::told_file::Progress;
 use crc64::Crc64;
 use file_bytes::StdFile;
 use share_format::ShareHeader;
 use share_run::{
-    MendStop, ShareStatus, choose_helpers, ends, ends_short, fails, serve_mend, serve_rebuild,
+    MendStop, ShareStatus, choose_helpers, ends, ends_short, serve_mend, serve_rebuild,
 };
 use std::alloc::{AllocError, Global};
 use std::fs::File;
@@ -19,7 +20,7 @@ use std::process::ExitCode;
 use std::rt::Files;
 
 // Which shares are there.
-fn good_marks(alloc: Global, sources: &[ShareFile]) -> Result<Vec<bool>, AllocError>
+fn good_marks<R: Eprint>(alloc: Global, sources: &[ShareFile<R>]) -> Result<Vec<bool>, AllocError>
     ensures { IfOk result (λ marks. length marks.items ≡ length sources.now) }
 {
     let mut marks = Vec::with_capacity(alloc, sources.len())?;
@@ -30,7 +31,7 @@ fn good_marks(alloc: Global, sources: &[ShareFile]) -> Result<Vec<bool>, AllocEr
 }
 
 // Says what was taken of each share, beside what a Reed-Solomon code would take.
-fn tell_taken<R: Eprint>(rt: &R, stem: &str, header: &ShareHeader, sources: &[ShareFile]) {
+fn tell_taken<R: Eprint>(rt: &R, stem: &str, header: &ShareHeader, sources: &[ShareFile<R>]) {
     let mut all = 0u64;
     for (number, source) in sources.iter().enumerate() {
         let taken = source.taken();
@@ -44,12 +45,18 @@ fn tell_taken<R: Eprint>(rt: &R, stem: &str, header: &ShareHeader, sources: &[Sh
         }
     }
     let geometry = header.geometry();
-    let stripe = u64::from(geometry.stripe_len());
-    let other = header.stripe_count().saturating_mul(stripe);
     let k = geometry.k();
+    let each = chunk_bytes(header);
+    let other = each.saturating_mul(u64::from(k));
     let _said = eprintln!(rt;
-        "clay_shares: {all} bytes in all; a Reed-Solomon code would take {other} of {k} shares"
+        "clay_shares: {all} bytes in all; a Reed-Solomon code would take {other}: {each} of each of {k} shares"
     );
+}
+
+// The bytes of a share's chunks.
+fn chunk_bytes(header: &ShareHeader) -> u64 {
+    let chunk = u64::from(header.geometry().chunk_len());
+    header.stripe_count().saturating_mul(chunk)
 }
 
 // Says why parts don't do.
@@ -67,24 +74,26 @@ fn tell_stop<R: Eprint>(rt: &R, stem: &str, stop: MendStop) {
 }
 
 // Mends a share from the marked helpers' parts. None where one of them stops it.
-fn by_parts<R: Files<File = File> + Eprint>(
+fn by_parts<'a, R: Files<File = File> + Eprint>(
     rt: &R,
     alloc: Global,
+    progress: &'a Progress,
     crc: &Crc64,
     stem: &str,
     header: &ShareHeader,
     path: &str,
-    sources: &mut [ShareFile],
+    sources: &mut [ShareFile<R>],
     helpers: &[bool],
-    places: &mut StdPlaces<R>,
+    places: &mut StdPlaces<'a, R>,
 ) -> Option<ExitCode>
     requires sources { length sources.old ≡ all_chunks header.now.shape }
     requires helpers { AreHelpers header.now.shape header.now.share helpers.now }
 {
-    let file = match places.open_beside(alloc, path) {
+    let file = match places.open_beside(alloc, path, Some(progress)) {
         Ok(file) => file,
-        Err(error) => return Some(fails(rt, ShareStatus::WriteFault, path, &error)),
+        Err(exit) => return Some(exit),
     };
+    progress.begin(chunk_bytes(header));
     let mut sink = StdFile::new(file);
     match serve_mend(
         rt, alloc, crc, header, path, sources, helpers, &mut sink, places,
@@ -95,28 +104,32 @@ fn by_parts<R: Files<File = File> + Eprint>(
         }
         Err(stop) => {
             tell_stop(rt, stem, stop);
+            places.clear();
             None
         }
     }
 }
 
 // Mends a share from whole blocks of any `K` of those that are there.
-fn by_blocks<R: Files<File = File> + Eprint>(
+fn by_blocks<'a, R: Files<File = File> + Eprint>(
     rt: &R,
     alloc: Global,
+    progress: &'a Progress,
     crc: &Crc64,
     stem: &str,
     header: &ShareHeader,
     path: &str,
-    sources: &mut [ShareFile],
-    places: &mut StdPlaces<R>,
+    sources: &mut [ShareFile<R>],
+    places: &mut StdPlaces<'a, R>,
 ) -> ExitCode
     requires sources { length sources.old ≡ all_chunks header.now.shape }
 {
-    let file = match places.open_beside(alloc, path) {
+    let file = match places.open_beside(alloc, path, Some(progress)) {
         Ok(file) => file,
-        Err(error) => return fails(rt, ShareStatus::WriteFault, path, &error),
+        Err(exit) => return exit,
     };
+    tell_missing(rt, stem, sources, Some(header.share()));
+    progress.begin(chunk_bytes(header));
     let mut sink = StdFile::new(file);
     let exit = serve_rebuild(rt, alloc, crc, header, path, sources, &mut sink, places);
     tell_taken(rt, stem, header, sources);
@@ -124,14 +137,15 @@ fn by_blocks<R: Files<File = File> + Eprint>(
 }
 
 // Mends a share of those in a folder.
-fn mend_share<R: Files<File = File> + Eprint>(
+fn mend_share<'a, R: Files<File = File> + Eprint>(
     rt: &R,
     alloc: Global,
+    progress: &'a Progress,
     crc: &Crc64,
-    shares: Folder,
+    shares: Folder<R>,
     header: &ShareHeader,
     path: &str,
-    places: &mut StdPlaces<R>,
+    places: &mut StdPlaces<'a, R>,
 ) -> Result<ExitCode, AllocError> {
     let Folder {
         stem: name,
@@ -148,6 +162,7 @@ fn mend_share<R: Files<File = File> + Eprint>(
         if let Some(exit) = by_parts(
             rt,
             alloc,
+            progress,
             crc,
             stem,
             header,
@@ -159,16 +174,27 @@ fn mend_share<R: Files<File = File> + Eprint>(
             return Ok(exit);
         }
     }
-    Ok(by_blocks(rt, alloc, crc, stem, header, path, &mut sources, places))
+    Ok(by_blocks(
+        rt,
+        alloc,
+        progress,
+        crc,
+        stem,
+        header,
+        path,
+        &mut sources,
+        places,
+    ))
 }
 
 // Mends a share of the number among those in a folder, beside its place.
-fn mend_numbered<R: Files<File = File> + Eprint>(
-    rt: &R,
+fn mend_numbered<'a, R: Files<File = File> + Eprint>(
+    rt: &'a R,
     alloc: Global,
+    progress: &'a Progress,
     crc: &Crc64,
     folder: &str,
-    shares: Folder,
+    shares: Folder<R>,
     number: u32,
 ) -> Result<ExitCode, AllocError> {
     let told = shares.header;
@@ -180,23 +206,33 @@ fn mend_numbered<R: Files<File = File> + Eprint>(
     let header = ShareHeader::new(told.geometry(), number, told.size(), told.checksum());
     let path = format!(in alloc; "{folder}/{}.{number:02}.clay", shares.stem)?;
     let mut places = StdPlaces::new(rt, alloc);
-    let exit = mend_share(rt, alloc, crc, shares, &header, path.as_str(), &mut places);
+    let exit = mend_share(
+        rt,
+        alloc,
+        progress,
+        crc,
+        shares,
+        &header,
+        path.as_str(),
+        &mut places,
+    );
     places.clear();
     exit
 }
 
 /// Makes the share of a number in a folder anew.
-pub(crate) fn run_mend<R: Files<File = File> + AllocGlobal + Clone + Drop + Eprint>(
-    rt: &R,
+pub(crate) fn run_mend<'a, R: Files<File = File> + AllocGlobal + Clone + Drop + Eprint>(
+    rt: &'a R,
+    progress: &'a Progress,
     crc: &Crc64,
     folder: &str,
     number: u32,
 ) -> ExitCode {
-    let shares = match open_folder(rt, crc, folder) {
+    let shares = match open_folder(rt, crc, None, folder) {
         Ok(shares) => shares,
         Err(exit) => return exit,
     };
-    match mend_numbered(rt, rt.alloc(), crc, folder, shares, number) {
+    match mend_numbered(rt, rt.alloc(), progress, crc, folder, shares, number) {
         Ok(exit) => exit,
         Err(AllocError) => ends_short(rt, folder),
     }

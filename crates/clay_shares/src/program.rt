@@ -3,6 +3,7 @@ use crate::check_command::run_check;
 use crate::cut_command::run_cut;
 use crate::join_command::run_join;
 use crate::mend_command::run_mend;
+use crate::told_file::Progress;
 use crate::words::{Asked, asked_by};
 use crc64::Crc64;
 use share_run::{ShareStatus, ends_short, exit_with};
@@ -30,33 +31,41 @@ fn words_of<R: Env + AllocGlobal>(rt: &R) -> io::Result<Vec<String>> {
     Ok(words)
 }
 
-fn run_asked<R: Files<File = File> + AllocGlobal + Clone + Drop + Eprint>(
-    rt: &R,
+fn run_asked<'a, R: Files<File = File> + AllocGlobal + Clone + Drop + Eprint>(
+    rt: &'a R,
+    progress: &'a Progress,
     asked: Asked,
     words: &[String],
 ) -> ExitCode {
-    let alloc = rt.alloc();
-    let Ok(crc) = Crc64::new(alloc) else {
+    let Ok(crc) = Crc64::new(rt.alloc()) else {
         return ends_short(rt, "checksums");
     };
     match (asked, words) {
         (Asked::Cut(code), [_, _, _, path, folder, ..]) => {
-            run_cut(rt, alloc, code, path.as_str(), folder.as_str())
+            run_cut(rt, progress, code, path.as_str(), folder.as_str())
         }
-        (Asked::Join, [_, folder, path]) => run_join(rt, &crc, folder.as_str(), path.as_str()),
-        (Asked::Check, [_, folder]) => run_check(rt, &crc, folder.as_str()),
-        (Asked::Mend(number), [_, folder, _]) => run_mend(rt, &crc, folder.as_str(), number),
+        (Asked::Join, [_, folder, path]) => {
+            run_join(rt, progress, &crc, folder.as_str(), path.as_str())
+        }
+        (Asked::Check, [_, folder]) => run_check(rt, progress, &crc, folder.as_str()),
+        (Asked::Mend(number), [_, folder, _]) => {
+            run_mend(rt, progress, &crc, folder.as_str(), number)
+        }
         _ => exit_with(ShareStatus::Usage),
     }
 }
 
-/// Runs the command that the process's words ask for, over the files that they name. No clause speaks of the process's own words.
-pub fn run<R: Env + AllocGlobal + Files<File = File> + Clone + Drop + Eprint>(rt: &R) -> ExitCode {
+/// Runs the command that the process's words ask for, over the files that they name. No clause speaks of the process's own words. How far
+/// it has come is told on a terminal.
+pub fn run<R: Env + AllocGlobal + Files<File = File> + Clone + Drop + Eprint>(
+    rt: &R,
+    is_terminal: bool,
+) -> ExitCode {
     let Ok(words) = words_of(rt) else {
         return ends_short(rt, "its words");
     };
     match asked_by(&words) {
-        Some(asked) => run_asked(rt, asked, &words),
+        Some(asked) => run_asked(rt, &Progress::new(is_terminal), asked, &words),
         None => {
             let _said = eprintln!(rt; "{USAGE}");
             exit_with(ShareStatus::Usage)

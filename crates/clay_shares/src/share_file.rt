@@ -1,9 +1,10 @@
 //! The file of a share, or none, which reads as an empty one; and what was read of it.
 ghost use Rattle.std.specs.Prelude.{◌≤◌, ◌<◌, length, IfOk};
 
+use crate::told_file::ToldFile;
 use clay_bytes::Failed;
 use file_bytes::{PlaceLog, PositionLog, SourceAt, StdFile};
-use std::fs::File;
+use std::io::Eprint;
 
 /// How many reads gave bytes of a share, and how many bytes they gave. The counts stop at the ends of their types.
 #[derive(Clone, Copy)]
@@ -31,8 +32,8 @@ impl Taken {
 
 /// The file of a share, if it is there.
 #[derive(Drop)]
-pub(crate) struct ShareFile {
-    file: Option<StdFile<File>>,
+pub(crate) struct ShareFile<'a, R: Eprint> {
+    file: Option<StdFile<ToldFile<'a, R>>>,
     given: PlaceLog,
     ends: PositionLog,
     failed: PositionLog,
@@ -40,7 +41,7 @@ pub(crate) struct ShareFile {
     taken: Taken,
 }
 
-impl ShareFile {
+impl<'a, R: Eprint> ShareFile<'a, R> {
     /// No file. Whether it was said already why there is none.
     pub(crate) fn missing(is_told: bool) -> Self {
         ShareFile {
@@ -53,7 +54,7 @@ impl ShareFile {
         }
     }
 
-    pub(crate) fn of(file: File) -> Self {
+    pub(crate) fn of(file: ToldFile<'a, R>) -> Self {
         ShareFile {
             is_told: false,
             file: Some(StdFile::new(file)),
@@ -93,7 +94,11 @@ impl ShareFile {
 }
 
 // Reads of a file, or of an empty one.
-fn read_if(file: &mut Option<StdFile<File>>, at: u64, buf: &mut [u8]) -> Result<usize, Failed>
+fn read_if<R: Eprint>(
+    file: &mut Option<StdFile<ToldFile<R>>>,
+    at: u64,
+    buf: &mut [u8],
+) -> Result<usize, Failed>
     requires { 0 < length buf.old }
     ensures { IfOk result (λ n. n ≤ length buf.new) }
 {
@@ -103,7 +108,7 @@ fn read_if(file: &mut Option<StdFile<File>>, at: u64, buf: &mut [u8]) -> Result<
     }
 }
 
-impl SourceAt for ShareFile {
+impl<'a, R: Eprint> SourceAt for ShareFile<'a, R> {
     ghost given = { λ s. s.given };
 
     ghost ends = { λ s. s.ends };
