@@ -188,6 +188,14 @@ fn open_all<'a, R: Files<File = File> + Eprint>(
     Ok(sources)
 }
 
+// Whether it is the share that is known to be missing.
+fn is_known(known: Option<u32>, number: usize) -> bool {
+    match known {
+        Some(share) => share as usize == number,
+        None => false,
+    }
+}
+
 /// Says which shares are missing, but for one that is known to be, where it wasn't said why.
 pub(crate) fn tell_missing<R: Eprint>(
     rt: &R,
@@ -196,7 +204,7 @@ pub(crate) fn tell_missing<R: Eprint>(
     known: Option<u32>,
 ) {
     for (number, source) in sources.iter().enumerate() {
-        if source.is_missing() && !source.is_told() && known != Some(number as u32) {
+        if source.is_missing() && !source.is_told() && !is_known(known, number) {
             let _said = eprintln!(rt; "clay_shares: {stem}.{number:02}.clay: it is missing");
         }
     }

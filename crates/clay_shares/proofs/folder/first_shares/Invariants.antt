@@ -2,7 +2,7 @@ use Rattle.std.proofs.Common.{◌-◌, ◌≤◌, vec_len}
 use Rattle.clay_shares.proofs.folder.first_shares.Given as goal
 
 abbrev pub invariant-shares : goal.invariant-shares
-invariant-shares l = vec_len l.shares ≤ l.wanted
+invariant-shares g l = vec_len l.shares ≤ l.wanted
 
 abbrev pub decreases-shares : goal.decreases-shares
-decreases-shares l = l.wanted - vec_len l.shares
+decreases-shares g l = l.wanted - vec_len l.shares
