@@ -9,9 +9,7 @@
 // - Ceph: a call of the plugin on buffers that are there. It hands present chunks on without a copy, and takes new ones for what it makes.
 // - With fewer helpers encoding and repair are timed, not recovery.
 // - ISA-L: a call on buffers that are there; the matrix of a decoding and its tables are made anew in each, as for new losses.
-// - "call" is a whole call of libclay_c.a. Its buffers are the caller's: in decoding and repair it copies the chunks or parts that it reads
-//   into memory of its own.
-// - "coding" is that call less the same copies, which are timed by themselves in the same round, since Ceph's call has none of them.
+// - clay_c: a call of libclay_c.a on buffers that are there. It copies none of what it reads.
 #include <algorithm>
 #include <cstdio>
 #include <cstdlib>
@@ -336,34 +334,19 @@ struct OurCode {
     repair();
     expect(memcmp(rebuilt.data(), wanted.data(), rebuilt.size()) == 0, "a repair of ours is wrong");
   }
-
-  // what a call copies: pieces into memory of its own
-  void copy(uint32_t count, size_t len) {
-    vector<uint8_t *> pieces;
-    for (uint32_t i = 0; i < count; i++) {
-      pieces.push_back((uint8_t *)malloc(len));
-      memcpy(pieces[i], &wanted[i * len], len);
-    }
-    for (uint8_t *piece : pieces) free(piece);
-  }
 };
 
 static void add_ours(vector<Operation> &operations, const Code &code) {
   auto ours = make_shared<OurCode>(code);
   ours->check();
   double bytes = code.stripe_len(), lost_bytes = code.chunk_len();
-  auto add = [&](const string &what, double bytes, function<void()> call, function<void()> copies) {
-    operations.push_back({"clay_c call", what, bytes, call, {}});
-    operations.push_back({"copies", what, bytes, copies, {}});
-  };
-  size_t len = code.chunk_len(), part_len = code.numbers.part_len;
-  uint32_t k = code.k, helpers = code.d;
-  add("encode", bytes, [=] { ours->encode(); }, [=] { ours->copy(0, 0); });
+  auto add = [&](const string &what, double bytes, function<void()> call) { operations.push_back({"clay_c", what, bytes, call, {}}); };
+  add("encode", bytes, [=] { ours->encode(); });
   if (!code.has_fewer()) {
-    add("decode, a column", bytes, [=] { ours->decode(code.column); }, [=] { ours->copy(k, len); });
-    add("decode, spread", bytes, [=] { ours->decode(code.spread); }, [=] { ours->copy(k, len); });
+    add("decode, a column", bytes, [=] { ours->decode(code.column); });
+    add("decode, spread", bytes, [=] { ours->decode(code.spread); });
   }
-  add("repair of one", lost_bytes, [=] { ours->repair(); }, [=] { ours->copy(helpers, part_len); });
+  add("repair of one", lost_bytes, [=] { ours->repair(); });
 }
 
 // ---- The table
@@ -372,17 +355,6 @@ static const Operation &find(const vector<Operation> &operations, const string &
   for (auto &operation : operations)
     if (operation.coder == coder && operation.what == what) return operation;
   end_with("no operation " + what);
-}
-
-// in place of the copies a call without them
-static vector<Operation> with_coding(vector<Operation> operations) {
-  for (auto &operation : operations) {
-    if (operation.coder != "copies") continue;
-    const auto &call = find(operations, "clay_c call", operation.what);
-    for (size_t round = 0; round < call.seconds.size(); round++) operation.seconds[round] = call.seconds[round] - operation.seconds[round];
-    operation.coder = "clay_c coding";
-  }
-  return operations;
 }
 
 static void print(const Code &code, const vector<Operation> &operations) {
@@ -427,7 +399,7 @@ int main(int count, char **words) {
     add_isal(operations, code);
     add_ours(operations, code);
     measure(operations, atoi(words[2]), atof(words[3]) / 1000);
-    print(code, with_coding(operations));
+    print(code, operations);
   }
   // without Ceph's end, which wants a cluster
   _Exit(0);
