@@ -4,7 +4,7 @@ use script_text::read_script;
 use std::alloc::Global;
 use std::test::Fail;
 use store_map::{Script, Transcript};
-use text_tables::faults::{Around, joined, parts, same};
+use text_tables::faults::{Around, joined, parts, rows_of, same};
 use transcript_read::read_transcript;
 
 /// Two clients that put and read, one that writes, one repairer. Server 1 is emptied once.
@@ -94,13 +94,9 @@ pub fn are_judged(
     rows: usize,
     table: &[u8],
 ) -> Result<(), Fail> {
-    let mut held: usize = 0;
-    for row in table.split(|byte| *byte == b'|') {
-        is_judged(rt.alloc(), script, around, row)?;
-        held = held.saturating_add(1);
-    }
-    if held != rows {
-        return Err(Fail::from("not so many rows"));
+    let alloc = rt.alloc();
+    for row in &rows_of(alloc, table, b'|', rows)? {
+        is_judged(alloc, script, around, row)?;
     }
     Ok(())
 }

@@ -3,6 +3,7 @@ use crate::inputs::first_shown;
 use crate::requests::request_shown;
 use std::alloc::Global;
 use std::test::Fail;
+use text_tables::faults::{parts, rows_of};
 
 /// What reads the bytes of a row.
 #[derive(Clone, Copy)]
@@ -11,15 +12,6 @@ pub enum Reader {
     Request,
     /// Of what stands first in an input of which so many bytes are served.
     Input(u64),
-}
-
-// The parts of a row before and behind its first `>`: the bytes, and what is read of them.
-fn parts(row: &[u8]) -> Result<(&[u8], &[u8]), Fail> {
-    let at = row
-        .iter()
-        .position(|byte| *byte == b'>')
-        .ok_or("a row without what is wanted")?;
-    Ok((&row[..at], &row[at + 1..]))
 }
 
 /// Holds what was found against what is wanted.
@@ -42,13 +34,8 @@ fn is_read(alloc: Global, reader: Reader, row: &[u8]) -> Result<(), Fail> {
 /// Holds what is read of each row's bytes against what that row says. The rows are parted by `;`, and a row's
 /// bytes and what is read of them by `>`; there are so many.
 pub fn are_read(alloc: Global, reader: Reader, rows: usize, table: &[u8]) -> Result<(), Fail> {
-    let mut held: usize = 0;
-    for row in table.split(|byte| *byte == b';') {
+    for row in &rows_of(alloc, table, b';', rows)? {
         is_read(alloc, reader, row)?;
-        held = held.saturating_add(1);
-    }
-    if held != rows {
-        return Err(Fail::from("not so many rows"));
     }
     Ok(())
 }

@@ -3,8 +3,8 @@ ghost use Rattle.std.specs.Prelude.{◌≡◌, Some};
 ghost use Rattle.store_map.specs.Naming.{IsValid};
 ghost use Rattle.version_seal.specs.Sealer.{sealer_at};
 
-use crate::counted::CountingCoder;
 use crate::drips::{NONE, run_in_drips};
+use clay_repair::PlainCoder;
 use command_runs::Status;
 use command_runs::scripts::PUT_THEN_GET;
 use script_text::read_script;
@@ -14,6 +14,7 @@ use std::test::Fail;
 use std::thread::Threads;
 use store_map::{Script, Transcript};
 use store_world::World;
+use text_tables::counting::Counting;
 use text_tables::lines::unfolded;
 use version_seal::{Book, Sealer};
 
@@ -36,7 +37,7 @@ fn asked_by_the_program<R: Threads + Wait + Sync + AllocGlobal>(
     rt: &R,
     words: &[&str],
     script: &[u8],
-    coder: &CountingCoder,
+    coder: &Counting<PlainCoder>,
 ) -> Result<(), Fail> {
     let script = unfolded(rt.alloc(), script)?;
     if run_in_drips(rt, words, &script, NONE, coder)?.status != Status::Done {
@@ -49,7 +50,7 @@ fn encodes_of_the_program<R: Threads + Wait + Sync + AllocGlobal>(
     rt: &R,
     words: &[&str],
 ) -> Result<u64, Fail> {
-    let coder = CountingCoder::new();
+    let coder = Counting::new(PlainCoder);
     asked_by_the_program(rt, words, PUT_THEN_GET, &coder)?;
     Ok(coder.encodes())
 }
@@ -64,16 +65,17 @@ fn the_program_asks_its_coder(rt: HostRuntime) -> Result<(), Fail> {
 
 #[test]
 fn the_program_asks_for_a_rebuild(rt: HostRuntime) -> Result<(), Fail> {
-    let coder = CountingCoder::new();
+    let coder = Counting::new(PlainCoder);
     asked_by_the_program(&rt, &[], ONE_LOSS, &coder)?;
-    assert!(rt; coder.rebuilds() >= 1);
+    assert!(rt; coder.rebuilds() == 1);
+    assert!(rt; coder.recovers() == 0);
     Ok(())
 }
 
 // Runs a world over the script of the book.
 fn run_world<R: Threads + Sync + AllocGlobal>(
     rt: &R,
-    coder: &CountingCoder,
+    coder: &Counting<PlainCoder>,
     script: &Script,
     book: &Book,
     sealer: Sealer,
@@ -94,7 +96,7 @@ fn run_world<R: Threads + Sync + AllocGlobal>(
 fn asked_by_a_world<R: Threads + Sync + AllocGlobal>(
     rt: &R,
     text: &[u8],
-    coder: &CountingCoder,
+    coder: &Counting<PlainCoder>,
 ) -> Result<(), Fail> {
     let alloc = rt.alloc();
     let Ok(script) = read_script(alloc, &unfolded(alloc, text)?) else {
@@ -109,7 +111,7 @@ fn asked_by_a_world<R: Threads + Sync + AllocGlobal>(
 
 #[test]
 fn a_world_asks_its_coder(rt: HostRuntime) -> Result<(), Fail> {
-    let coder = CountingCoder::new();
+    let coder = Counting::new(PlainCoder);
     asked_by_a_world(&rt, PUT_THEN_GET, &coder)?;
     assert!(rt; coder.encodes() >= 1);
     Ok(())
@@ -117,8 +119,9 @@ fn a_world_asks_its_coder(rt: HostRuntime) -> Result<(), Fail> {
 
 #[test]
 fn a_world_asks_for_a_rebuild(rt: HostRuntime) -> Result<(), Fail> {
-    let coder = CountingCoder::new();
+    let coder = Counting::new(PlainCoder);
     asked_by_a_world(&rt, ONE_LOSS, &coder)?;
-    assert!(rt; coder.rebuilds() >= 1);
+    assert!(rt; coder.rebuilds() == 1);
+    assert!(rt; coder.recovers() == 0);
     Ok(())
 }

@@ -1,13 +1,14 @@
 //! Calls of the program over a source that gives a byte a call and a sink that takes one, by a coder that counts. One function makes
 //! them all: the whole program is built anew for each kind of source, sink, gate and coder.
-use crate::counted::CountingCoder;
 use clay_bytes::{DripSink, DripSource};
+use clay_repair::PlainCoder;
 use command_runs::NoGate;
 use command_runs::runs::{Ran, run_with};
 use std::alloc::Global;
 use std::sync::Wait;
 use std::test::Fail;
 use std::thread::Threads;
+use text_tables::counting::Counting;
 
 /// The numbers of the reads and of the writes that fail.
 #[derive(Clone, Copy)]
@@ -36,7 +37,7 @@ fn ran<R: Threads + Wait + Sync + AllocGlobal>(
     words: &[&str],
     source: &mut DripSource,
     sink: &mut DripSink,
-    coder: &CountingCoder,
+    coder: &Counting<PlainCoder>,
 ) -> Result<Ran, Fail> {
     let status = run_with(rt, words, source, sink, &NoGate, coder)?;
     let written = Vec::from_slice(rt.alloc(), sink.kept())?;
@@ -49,7 +50,7 @@ pub fn run_in_drips<R: Threads + Wait + Sync + AllocGlobal>(
     words: &[&str],
     input: &[u8],
     failing: Failing<'_>,
-    coder: &CountingCoder,
+    coder: &Counting<PlainCoder>,
 ) -> Result<Ran, Fail> {
     let mut source = source_of(rt.alloc(), input, failing.reads)?;
     let mut sink = sink_of(rt.alloc(), failing.writes)?;

@@ -1,12 +1,13 @@
 //! Reads and writes that fail, each in turn.
-use crate::counted::CountingCoder;
 use crate::drips::{Failing, NONE, run_in_drips};
+use clay_repair::PlainCoder;
 use command_runs::Status;
 use command_runs::runs::fails;
 use command_runs::scripts::{PUT_THEN_GET, TRANSCRIPT};
 use std::sync::Wait;
 use std::test::Fail;
 use std::thread::Threads;
+use text_tables::counting::Counting;
 use text_tables::faults::same;
 
 #[test]
@@ -33,7 +34,7 @@ fn play<R: Threads + Wait + Sync + AllocGlobal>(
     status: Status,
     written: &[u8],
 ) -> Result<(), Fail> {
-    let ran = run_in_drips(rt, &[], PUT_THEN_GET, failing, &CountingCoder::new())?;
+    let ran = run_in_drips(rt, &[], PUT_THEN_GET, failing, &Counting::new(PlainCoder))?;
     if ran.status != status {
         return Err(Fail::from("another status"));
     }

@@ -11,8 +11,6 @@ mod chunksd;
 #[cfg(test)]
 mod coders;
 #[cfg(test)]
-mod counted;
-#[cfg(test)]
 mod drips;
 #[cfg(test)]
 mod faults;

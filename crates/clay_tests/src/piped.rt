@@ -5,6 +5,7 @@ use command_runs::tables::answers;
 use std::sync::Wait;
 use std::test::Fail;
 use std::thread::Threads;
+use text_tables::faults::rows_of;
 use text_tables::lines::unfolded;
 
 // The scripts of the examples, parted by `|`.
@@ -164,15 +165,11 @@ fn all_are_found_legal<R: Threads + Wait + Sync + AllocGlobal>(
     rt: &R,
     words: &[&str],
 ) -> Result<(), Fail> {
-    let mut held: usize = 0;
-    for script in EXAMPLES.split(|byte| *byte == b'|') {
+    let scripts = rows_of(rt.alloc(), EXAMPLES, b'|', 10)?;
+    for (at, script) in scripts.iter().enumerate() {
         if !is_found_legal(rt, words, script)? {
-            return Err(Fail::new(format_args!("script {held} isn't found legal")));
+            return Err(Fail::new(format_args!("script {at} isn't found legal")));
         }
-        held = held.saturating_add(1);
-    }
-    if held != 10 {
-        return Err(Fail::from("not so many scripts"));
     }
     Ok(())
 }

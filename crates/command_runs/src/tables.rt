@@ -1,21 +1,11 @@
 //! Tables of inputs with what a command says of them, each a text: a table that is an array is proved row by row.
 use crate::runs::run;
 use clay_cli::Status;
-use std::alloc::Global;
-use std::str;
 use std::sync::Wait;
 use std::test::Fail;
 use std::thread::Threads;
 pub use text_tables::faults::Around;
-use text_tables::faults::{joined, parts};
-
-// The name tells which row of a table fails.
-fn failed(name: &[u8]) -> Fail {
-    match str::from_utf8(name) {
-        Ok(name) => Fail::new(format_args!("{name}: not what is wanted")),
-        Err(_) => Fail::from("a name that is no text"),
-    }
-}
+use text_tables::faults::{failed, joined, parts, rows_of};
 
 /// Whether the command of the words ends so on the input, and writes that.
 pub fn answers<R: Threads + Wait + Sync + AllocGlobal>(
@@ -53,13 +43,8 @@ pub fn all_answer_within<R: Threads + Wait + Sync + AllocGlobal>(
     rows: usize,
     table: &[u8],
 ) -> Result<(), Fail> {
-    let mut held: usize = 0;
-    for row in table.split(|byte| *byte == b'|') {
+    for row in &rows_of(rt.alloc(), table, b'|', rows)? {
         row_answers(rt, words, around, status, row)?;
-        held = held.saturating_add(1);
-    }
-    if held != rows {
-        return Err(Fail::from("not so many rows"));
     }
     Ok(())
 }

@@ -5,12 +5,11 @@ ghost use Rattle.store_map.specs.Naming.{IsValid};
 use clay_lanes::LaneCoder;
 use script_text::read_script;
 use std::alloc::Global;
-use std::str;
 use std::test::Fail;
 use std::thread::Threads;
 use store_map::Script;
 use store_world::play;
-use text_tables::faults::parts;
+use text_tables::faults::{failed, parts, rows_of};
 use text_tables::lines::{add_line, unfolded};
 use transcript_text::write_transcript;
 
@@ -37,14 +36,6 @@ fn shows<R: Threads + Sync + AllocGlobal>(
     Ok(shown(rt, script)?.as_slice() == wanted)
 }
 
-// The name tells which row of a table fails.
-fn failed(name: &[u8]) -> Fail {
-    match str::from_utf8(name) {
-        Ok(name) => Fail::new(format_args!("{name}: not what is wanted")),
-        Err(_) => Fail::from("a name that is no text"),
-    }
-}
-
 fn row_shows<R: Threads + Sync + AllocGlobal>(rt: &R, row: &[u8]) -> Result<(), Fail> {
     let (name, texts) = parts(row)?;
     let (script, wanted) = parts(texts)?;
@@ -63,13 +54,8 @@ pub fn all_show<R: Threads + Sync + AllocGlobal>(
     rows: usize,
     table: &[u8],
 ) -> Result<(), Fail> {
-    let mut held: usize = 0;
-    for row in table.split(|byte| *byte == b'|') {
+    for row in &rows_of(rt.alloc(), table, b'|', rows)? {
         row_shows(rt, row)?;
-        held = held.saturating_add(1);
-    }
-    if held != rows {
-        return Err(Fail::from("not so many rows"));
     }
     Ok(())
 }

@@ -1,10 +1,11 @@
 //! What a run asks of its coder, and what it shows where only one history is possible.
-use crate::counted::CountingCoder;
 use crate::gates::TestGate;
 use crate::runs::{WORKERS, transcript_of};
+use clay_repair::PlainCoder;
 use std::sync::Wait;
 use std::test::Fail;
 use std::thread::Threads;
+use text_tables::counting::Counting;
 use transcript_text::write_transcript;
 
 const PUT_THEN_GET: &[u8] = b"\
@@ -33,7 +34,7 @@ end
 
 // Runs the script in so many threads, and fails where its transcript is another or its coder wasn't asked.
 fn run_alone<R: Threads + Wait + Sync + AllocGlobal>(rt: &R, workers: usize) -> Result<(), Fail> {
-    let coder = CountingCoder::new();
+    let coder = Counting::new(PlainCoder);
     let transcript = transcript_of(rt, PUT_THEN_GET, workers, &coder, &TestGate::Nobody)?;
     if coder.encodes() == 0 {
         return Err(Fail::from("no stripe was encoded"));

@@ -6,8 +6,6 @@
 #[cfg(test)]
 mod coders;
 #[cfg(test)]
-mod counted;
-#[cfg(test)]
 mod faults;
 #[cfg(test)]
 mod gates;

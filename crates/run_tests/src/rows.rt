@@ -1,12 +1,13 @@
 //! Worked sessions.
-use crate::counted::CountingCoder;
 use crate::session_runs::{Failing, NOTHING, WORDS, run_with};
+use clay_repair::PlainCoder;
 use hex::FromHexError;
 use std::alloc::Global;
 use std::str;
 use std::test::Fail;
 use std::thread::Threads;
-use text_tables::faults::parts;
+use text_tables::counting::Counting;
+use text_tables::faults::{parts, rows_of};
 
 // The bytes that a text of digits spells, which blanks may part for the reader.
 fn bytes_of(alloc: Global, text: &[u8]) -> Result<Vec<u8>, Fail> {
@@ -31,7 +32,7 @@ fn ends_so<R: Threads + Sync + AllocGlobal>(
     status: &[u8],
     output: &[u8],
 ) -> Result<(), Fail> {
-    let ran = run_with(rt, WORDS, input, failing, &CountingCoder::new())?;
+    let ran = run_with(rt, WORDS, input, failing, &Counting::new(PlainCoder))?;
     let wanted: u8 = str::from_utf8(status)?.parse()?;
     if ran.status.number() == wanted && ran.written.as_slice() == output {
         return Ok(());
@@ -60,13 +61,8 @@ pub fn rows_hold<R: Threads + Sync + AllocGlobal>(
     rows: usize,
     table: &[u8],
 ) -> Result<(), Fail> {
-    let mut held: usize = 0;
-    for row in table.split(|byte| *byte == b';') {
+    for row in &rows_of(rt.alloc(), table, b';', rows)? {
         row_holds(rt, row, NOTHING)?;
-        held = held.saturating_add(1);
-    }
-    if held != rows {
-        return Err(Fail::from("not so many rows"));
     }
     Ok(())
 }

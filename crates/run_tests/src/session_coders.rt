@@ -1,9 +1,10 @@
 //! What a session asks of its coder.
-use crate::counted::CountingCoder;
 use crate::session_runs::{NOTHING, WORDS, run_with};
+use clay_repair::PlainCoder;
 use frame_session::SessionStatus;
 use std::test::Fail;
 use std::thread::Threads;
+use text_tables::counting::Counting;
 
 // A put of eight bytes under the name a.
 const PUT: &[u8] = b"\0\0\0\x0b\x01\x01a\x01\0\0\0\0\0\0\0";
@@ -17,8 +18,11 @@ const HEAL: &[u8] = b"\
 \0\0\0\x01\x0d";
 
 // What the session of an input asks of its coder.
-fn asked_by<R: Threads + Sync + AllocGlobal>(rt: &R, input: &[u8]) -> Result<CountingCoder, Fail> {
-    let coder = CountingCoder::new();
+fn asked_by<R: Threads + Sync + AllocGlobal>(
+    rt: &R,
+    input: &[u8],
+) -> Result<Counting<PlainCoder>, Fail> {
+    let coder = Counting::new(PlainCoder);
     let ran = run_with(rt, WORDS, input, NOTHING, &coder)?;
     if ran.status != SessionStatus::Done {
         return Err(Fail::from("not done"));

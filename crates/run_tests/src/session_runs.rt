@@ -1,10 +1,11 @@
 //! One session over a source and a sink in memory that give and take one byte a call.
-use crate::counted::CountingCoder;
 use clay_bytes::{DripSink, DripSource};
+use clay_repair::PlainCoder;
 use frame_session::{SessionStatus, frame_main};
 use std::alloc::{AllocError, Global};
 use std::test::Fail;
 use std::thread::Threads;
+use text_tables::counting::Counting;
 
 // The bytes of an output that are kept, which are all of it in each test.
 const ROOM: usize = 4096;
@@ -61,7 +62,7 @@ pub fn run_with<R: Threads + Sync + AllocGlobal>(
     words: &[u8],
     input: &[u8],
     failing: Failing,
-    coder: &CountingCoder,
+    coder: &Counting<PlainCoder>,
 ) -> Result<Ran, Fail> {
     let alloc = rt.alloc();
     let words = words_of(alloc, words)?;

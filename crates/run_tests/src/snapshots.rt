@@ -1,13 +1,14 @@
 //! Snapshots: of more objects than may be, and beside puts and writes.
 ghost use Rattle.std.specs.Prelude.{◌<◌, ◌≤◌};
 
-use crate::counted::CountingCoder;
 use crate::rows::rows_hold;
 use crate::session_runs::{NOTHING, WORDS, run_with};
+use clay_repair::PlainCoder;
 use frame_session::SessionStatus;
 use std::alloc::{AllocError, Global};
 use std::test::Fail;
 use std::thread::Threads;
+use text_tables::counting::Counting;
 
 // So many objects are one too many for a snapshot.
 const OBJECTS: u8 = 65;
@@ -40,7 +41,7 @@ fn is_written<R: Threads + Sync + AllocGlobal>(
     input: &[u8],
     output: &[u8],
 ) -> Result<bool, Fail> {
-    let ran = run_with(rt, WORDS, input, NOTHING, &CountingCoder::new())?;
+    let ran = run_with(rt, WORDS, input, NOTHING, &Counting::new(PlainCoder))?;
     Ok(ran.status == SessionStatus::Done && ran.written.as_slice() == output)
 }
 

@@ -1,9 +1,11 @@
 //! Words of sessions, and words that are no session's.
-use crate::counted::CountingCoder;
 use crate::session_runs::{NOTHING, run_with};
+use clay_repair::PlainCoder;
 use frame_session::SessionStatus;
 use std::test::Fail;
 use std::thread::Threads;
+use text_tables::counting::Counting;
+use text_tables::faults::rows_of;
 
 // How a session of these words ends whose input is a byte that is no frame, and which writes nothing.
 fn ends_as<R: Threads + Sync + AllocGlobal>(
@@ -11,7 +13,7 @@ fn ends_as<R: Threads + Sync + AllocGlobal>(
     words: &[u8],
     status: SessionStatus,
 ) -> Result<(), Fail> {
-    let ran = run_with(rt, words, b"\0", NOTHING, &CountingCoder::new())?;
+    let ran = run_with(rt, words, b"\0", NOTHING, &Counting::new(PlainCoder))?;
     if ran.status == status && ran.written.is_empty() {
         return Ok(());
     }
@@ -25,13 +27,8 @@ fn all_end_as<R: Threads + Sync + AllocGlobal>(
     table: &[u8],
     status: SessionStatus,
 ) -> Result<(), Fail> {
-    let mut held: usize = 0;
-    for words in table.split(|byte| *byte == b';') {
+    for words in &rows_of(rt.alloc(), table, b';', rows)? {
         ends_as(rt, words, status)?;
-        held = held.saturating_add(1);
-    }
-    if held != rows {
-        return Err(Fail::from("not so many rows"));
     }
     Ok(())
 }

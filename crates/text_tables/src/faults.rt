@@ -2,6 +2,7 @@
 
 use script_text::read_script;
 use std::alloc::Global;
+use std::str;
 use std::test::Fail;
 use transcript_read::read_transcript;
 
@@ -27,6 +28,28 @@ pub fn parts(row: &[u8]) -> Result<(&[u8], &[u8]), Fail> {
         .position(|byte| *byte == b'>')
         .ok_or("a row without what is wanted")?;
     Ok((&row[..at], &row[at + 1..]))
+}
+
+/// The rows of a table, parted by this byte; there are so many.
+pub fn rows_of<'a>(
+    alloc: Global,
+    table: &'a [u8],
+    between: u8,
+    rows: usize,
+) -> Result<Vec<&'a [u8]>, Fail> {
+    let parted: Vec<&[u8]> = table.split(|byte| *byte == between).collect(alloc)?;
+    if parted.len() != rows {
+        return Err(Fail::from("not so many rows"));
+    }
+    Ok(parted)
+}
+
+/// That the row of this name failed.
+pub fn failed(name: &[u8]) -> Fail {
+    match str::from_utf8(name) {
+        Ok(name) => Fail::new(format_args!("{name}: not what is wanted")),
+        Err(_) => Fail::from("a name that is no text"),
+    }
 }
 
 /// The first fault of the text, as it is printed.
@@ -77,13 +100,8 @@ pub fn have_faults(
     rows: usize,
     table: &[u8],
 ) -> Result<(), Fail> {
-    let mut held: usize = 0;
-    for row in table.split(|byte| *byte == b'|') {
+    for row in &rows_of(alloc, table, b'|', rows)? {
         has_fault(alloc, reader, around, row)?;
-        held = held.saturating_add(1);
-    }
-    if held != rows {
-        return Err(Fail::from("not so many rows"));
     }
     Ok(())
 }

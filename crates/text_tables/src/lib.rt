@@ -1,7 +1,8 @@
-//! What tests of texts share: tables of faults, scripts that are read and written again, and texts whose
-//! lines tell how often they stand. It has no tests of its own, so that it is proved once.
+//! What tests share: tables of faults, scripts that are read and written again, texts whose lines tell how
+//! often they stand, and a coder that counts. It has no tests of its own, so that it is proved once.
 #![tactic(auto)]
 
+pub mod counting;
 pub mod faults;
 pub mod lines;
 pub mod scripts;

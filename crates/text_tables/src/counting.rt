@@ -1,23 +1,24 @@
 //! A coder that counts what it is asked for.
 use clay_grid::Geometry;
 use clay_model::Coder;
-use clay_repair::PlainCoder;
 use std::alloc::{AllocError, Global};
 use std::sync::atomic::{AtomicU64, Ordering};
 use std::thread::Threads;
 
-/// Hands each call on to `PlainCoder`, and counts the calls of each kind.
+/// Hands each call on to another coder, and counts the calls of each kind.
 #[derive(Drop)]
-pub struct CountingCoder {
+pub struct Counting<C: Coder> {
+    coder: C,
     encodes: AtomicU64,
     recovers: AtomicU64,
     rebuilds: AtomicU64,
 }
 
-impl CountingCoder {
+impl<C: Coder> Counting<C> {
     /// Has counted nothing.
-    pub fn new() -> Self {
-        CountingCoder {
+    pub fn new(coder: C) -> Self {
+        Counting {
+            coder,
             encodes: AtomicU64::new(0),
             recovers: AtomicU64::new(0),
             rebuilds: AtomicU64::new(0),
@@ -40,7 +41,7 @@ impl CountingCoder {
     }
 }
 
-impl Coder for CountingCoder {
+impl<C: Coder> Coder for Counting<C> {
     fn encode<R: Threads + Sync>(
         &self,
         rt: &R,
@@ -49,7 +50,7 @@ impl Coder for CountingCoder {
         stripe: &[u8],
     ) -> Result<Vec<Vec<u8>>, AllocError> {
         self.encodes.fetch_add(1, Ordering::SeqCst);
-        PlainCoder.encode(rt, alloc, g, stripe)
+        self.coder.encode(rt, alloc, g, stripe)
     }
 
     fn recover<R: Threads + Sync>(
@@ -60,7 +61,7 @@ impl Coder for CountingCoder {
         have: &[Option<Vec<u8>>],
     ) -> Result<Vec<Vec<u8>>, AllocError> {
         self.recovers.fetch_add(1, Ordering::SeqCst);
-        PlainCoder.recover(rt, alloc, g, have)
+        self.coder.recover(rt, alloc, g, have)
     }
 
     fn rebuild<R: Threads + Sync>(
@@ -72,6 +73,6 @@ impl Coder for CountingCoder {
         parts: &[Option<Vec<u8>>],
     ) -> Result<Vec<u8>, AllocError> {
         self.rebuilds.fetch_add(1, Ordering::SeqCst);
-        PlainCoder.rebuild(rt, alloc, g, lost, parts)
+        self.coder.rebuild(rt, alloc, g, lost, parts)
     }
 }
