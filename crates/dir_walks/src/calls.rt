@@ -9,6 +9,11 @@ fn bytes(length: u32) -> Content {
     Content::Fill { byte: 5, length }
 }
 
+fn put(name: Name, words: &[&str]) -> Result<Call, Fail> {
+    let content = bytes(number_at(words, 3)?);
+    Ok(Call::Put { name, content })
+}
+
 fn write(name: Name, words: &[&str]) -> Result<Call, Fail> {
     let offset = number_at(words, 3)?;
     let content = bytes(number_at(words, 4)?);
@@ -31,12 +36,10 @@ fn read(name: Name, words: &[&str]) -> Result<Call, Fail> {
 
 /// A client's call: what it is, its number, its object's name, and its offset and length where it has them.
 pub fn call(alloc: Global, words: &[&str]) -> Result<Call, Fail> {
+    let kind = word_at(words, 0)?;
     let name = Name::new(alloc, word_at(words, 2)?)?;
-    match word_at(words, 0)? {
-        "put" => {
-            let content = bytes(number_at(words, 3)?);
-            Ok(Call::Put { name, content })
-        }
+    match kind {
+        "put" => put(name, words),
         "write" => write(name, words),
         "get" => Ok(Call::Get { name }),
         "read" => read(name, words),

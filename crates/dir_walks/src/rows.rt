@@ -74,13 +74,15 @@ fn repaired(
 }
 
 fn look(alloc: Global, store: &mut Store<'_>, who: Actor, words: &[&str]) -> Result<Answer, Fail> {
-    let call = call(alloc, words)?;
     let number = number_at(words, 1)?;
+    let call = call(alloc, words)?;
     let step = Step::Look {
         number,
         call: &call,
     };
-    make(alloc, store, who, step)
+    let answer = make(alloc, store, who, step);
+    drop(call);
+    answer
 }
 
 fn look_repair(
@@ -90,14 +92,16 @@ fn look_repair(
     words: &[&str],
 ) -> Result<Answer, Fail> {
     let number = number_at(words, 1)?;
-    let name = Name::new(alloc, word_at(words, 2)?)?;
     let stripe = number_at(words, 3)?;
+    let name = Name::new(alloc, word_at(words, 2)?)?;
     let step = Step::LookRepair {
         number,
         name: &name,
         stripe,
     };
-    make(alloc, store, who, step)
+    let answer = make(alloc, store, who, step);
+    drop(name);
+    answer
 }
 
 // A step of a client or a repairer.
@@ -143,26 +147,43 @@ fn taken(alloc: Global, store: &mut Store<'_>) -> Result<String, Fail> {
     or_nothing(alloc, found.map(|version| version.0))
 }
 
+fn points(alloc: Global, store: &Store<'_>) -> Result<String, Fail> {
+    Ok(format!(in alloc; "{}", store.directory().points())?)
+}
+
+fn reaped(alloc: Global, store: &mut Store<'_>, words: &[&str]) -> Result<String, Fail> {
+    let point = store.reap(actor(word_at(words, 1)?)?);
+    or_nothing(alloc, point.map(|point| point.0))
+}
+
+fn swept(alloc: Global, store: &mut Store<'_>, words: &[&str]) -> Result<String, Fail> {
+    store.swept(Version(u64::from(number_at(words, 1)?)));
+    or_nothing(alloc, None)
+}
+
+fn answered(
+    alloc: Global,
+    store: &mut Store<'_>,
+    who: &str,
+    words: &[&str],
+) -> Result<String, Fail> {
+    let answer = answer(alloc, store, actor(who)?, words)?;
+    let text = said(alloc, &answer);
+    drop(answer);
+    Ok(text?)
+}
+
 // What a step is answered: the first word is who makes it.
 fn told(alloc: Global, store: &mut Store<'_>, words: &[&str]) -> Result<String, Fail> {
     let Some((first, others)) = words.split_first() else {
         return Err(Fail::from("a row without words"));
     };
     match *first {
-        "points" => Ok(format!(in alloc; "{}", store.directory().points())?),
-        "reap" => {
-            let point = store.reap(actor(word_at(words, 1)?)?);
-            or_nothing(alloc, point.map(|point| point.0))
-        }
+        "points" => points(alloc, store),
+        "reap" => reaped(alloc, store, words),
         "take" => taken(alloc, store),
-        "sweep" => {
-            store.swept(Version(u64::from(number_at(words, 1)?)));
-            or_nothing(alloc, None)
-        }
-        word => {
-            let answer = answer(alloc, store, actor(word)?, others)?;
-            Ok(said(alloc, &answer)?)
-        }
+        "sweep" => swept(alloc, store, words),
+        who => answered(alloc, store, who, others),
     }
 }
 

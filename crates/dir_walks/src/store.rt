@@ -1,8 +1,9 @@
 //! A directory with two clients and a repairer, and what they, operator and sweeper do there.
 
-ghost use Rattle.std.specs.Prelude.{◌≡◌, ◌<◌, ◌∷◌, ◌++◌, [], length, None, IfOk};
+ghost use Rattle.std.specs.Prelude.{◌≡◌, ◌<◌, ◌∷◌, ◌++◌, [], length, true, None, IfOk};
 ghost use Rattle.stripe_dir.specs.TicketSteps.{DrewBy};
 ghost use Rattle.dir_walks.specs.Begun.{IfBegun};
+ghost use Rattle.dir_walks.specs.Callers.{IsReady, is_client};
 ghost use Rattle.dir_walks.specs.Stores.{IsStore};
 ghost use Rattle.version_seal.specs.Sealer.{sealer_at};
 
@@ -49,6 +50,28 @@ fn last(seats: &mut Vec<Seat>) -> Seat
     }
 }
 
+// The client takes a snapshot with its one ticket, where it may, and leaves.
+fn snapshot_by(
+    alloc: Global,
+    directory: &mut Directory,
+    book: &Book,
+    client: Caller,
+    number: u32,
+) -> Result<Option<u64>, Refusal>
+    requires ready { IsReady book.now directory.old client }
+    requires client { is_client client.who ≡ true }
+{
+    if !client.may_use(number) {
+        client.leave();
+        return Err(Refusal::NotNow);
+    }
+    match snapshot(alloc, directory, book, client, number) {
+        Ok(()) => Ok(None),
+        Err(SnapFault::TooMany { objects }) => Ok(Some(objects)),
+        Err(SnapFault::OutOfMemory) => Err(Refusal::Short),
+    }
+}
+
 impl<'a> Store<'a> {
     /// A directory without objects, whose objects may have `max` bytes each.
     pub fn open(
@@ -82,7 +105,7 @@ impl<'a> Store<'a> {
         let Store {
             alloc: _,
             book: _,
-            directory: _,
+            directory,
             first,
             second,
             repairer,
@@ -90,6 +113,7 @@ impl<'a> Store<'a> {
         first.leave();
         second.leave();
         repairer.leave();
+        drop(directory);
     }
 
     /// The first client takes a snapshot with its one ticket, under this number, and drops it again. Then
@@ -105,15 +129,9 @@ impl<'a> Store<'a> {
         } = self;
         second.leave();
         repairer.leave();
-        if !first.may_use(number) {
-            first.leave();
-            return Err(Refusal::NotNow);
-        }
-        match snapshot(alloc, &mut directory, book, first, number) {
-            Ok(()) => Ok(None),
-            Err(SnapFault::TooMany { objects }) => Ok(Some(objects)),
-            Err(SnapFault::OutOfMemory) => Err(Refusal::Short),
-        }
+        let answer = snapshot_by(alloc, &mut directory, book, first, number);
+        drop(directory);
+        answer
     }
 
     pub fn directory(&self) -> &Directory {
