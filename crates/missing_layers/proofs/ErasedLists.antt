@@ -1,7 +1,8 @@
 -- What is in the list of the pieces.
-use Rattle.std.proofs.Common.{◌≡◌, ℕ, subst, ◌+◌, ◌*◌, ◌<◌, true, List, [], length, get_or, take, drop, flat_map, All, sym, ap, ◌∙◌, arith}
+use Rattle.std.proofs.Common.{◌≡◌, ℕ, suc, subst, ◌+◌, ◌-◌, ◌*◌, ◌<◌, true, List, [], ◌∷◌, ◌++◌, length, get_or, take, drop, flat_map, All, sym, ap, ◌∙◌, inl, inr, arith, length-append}
 use Rattle.std.specs.List.{range_with_len}
-use Rattle.std.proofs.lemmas.List.{get_or-map, length-map, get_or-take, get_or-drop}
+use Rattle.std.proofs.lemmas.Bool.{cases_lt}
+use Rattle.std.proofs.lemmas.List.{get_or-map, length-map, get_or_append_left, get_or-append-add, get_or-take, get_or-drop}
 use Rattle.std.proofs.lemmas.List.Concat.{get_or-flat_map}
 use Rattle.std.proofs.lemmas.List.Folds.{length-flat_map-take}
 use Rattle.std.proofs.lemmas.List.FromFn.{length-range_with_len, get_or-range_with_len}
@@ -12,6 +13,46 @@ use Rattle.lost_layers.specs.declared.run.LostPiece.{LostPiece}
 use Rattle.lost_layers.proofs.PieceLists.{StandsAt}
 use Rattle.missing_layers.specs.Erased.{Erased}
 use Rattle.missing_layers.specs.ErasedPieces.{is_piece, layers_read, pieces_of_chunk, pieces_of, HaveSame}
+
+-- a subchunk that is read
+pub record IsRead (e : Erased) (piece : LostPiece) : Type 0 where
+  pub chunk : piece.chunk < chunk_count e.g
+  pub layer : piece.layer < layer_count e.g
+  pub read : is_piece e (node_of_chunk e.g piece.chunk) piece.layer ≡ true
+
+flat_map_only : (P : LostPiece → Type 0) (f : ℕ → List LostPiece) (xs : List ℕ) (d : LostPiece) → ((i r : ℕ) → i < length xs → r < length (f (get_or xs i 0)) → P (get_or (f (get_or xs i 0)) r d))
+    → (s : ℕ) → s < length (flat_map f xs) → P (get_or (flat_map f xs) s d)
+flat_map_only P f [] d each s h = absurd (omega arith)
+flat_map_only P f (x ∷ xs) d each s h =
+    let whole : length (f x ++ flat_map f xs) ≡ length (f x) + length (flat_map f xs) = length-append (f x) (flat_map f xs) in
+    elim (cases_lt s (length (f x))) [
+      | inl early ↦ subst P (sym (get_or_append_left (f x) (flat_map f xs) d s early)) (each 0 s (omega arith) early)
+      | inr late ↦
+          let place : length (f x) + (s - length (f x)) ≡ s = omega arith in
+          subst P (sym (get_or-append-add (f x) (flat_map f xs) (s - length (f x)) d) ∙ ap (λ v. get_or (f x ++ flat_map f xs) v d) place)
+          (flat_map_only P f xs d (λ i r hi hr. each (suc i) r (omega arith) hr) (s - length (f x)) (omega (arith, whole)))
+    ]
+
+pub only_read : (e : Erased) (d : LostPiece) (p : ℕ) → p < length (pieces_of e) → IsRead e (get_or (pieces_of e) p d)
+only_read e d p h =
+    flat_map_only (IsRead e) (pieces_of_chunk e) (range_with_len 0 (chunk_count e.g)) d
+    (λ i r hi hr.
+    let within : i < chunk_count e.g = subst (λ v. i < v) (length-range_with_len 0 (chunk_count e.g)) hi in
+    let first : get_or (range_with_len 0 (chunk_count e.g)) i 0 ≡ 0 + i = get_or-range_with_len 0 (chunk_count e.g) i 0 within in
+    let none : 0 + i ≡ i = omega arith in
+    one (get_or (range_with_len 0 (chunk_count e.g)) i 0) i r (first ∙ none) within hr)
+    p h
+  where
+    one : (c i r : ℕ) → c ≡ i → i < chunk_count e.g → r < length (pieces_of_chunk e c) → IsRead e (get_or (pieces_of_chunk e c) r d)
+    one c i r same within hr =
+        let layers : List ℕ = layers_read e c in
+        let inside : r < length layers = subst (λ v. r < v) (length-map layers (piece_at c)) hr in
+        let found = (Lists-filter (is_piece e (node_of_chunk e.g c)) (layer_count e.g)).only r inside in
+        subst (IsRead e) (sym (get_or-map (piece_at c) layers r 0 d inside)) (record {
+          chunk = subst (λ v. v < chunk_count e.g) (sym same) within;
+          layer = found.0;
+          read = found.1;
+        })
 
 pub each_read : (e : Erased) (c n : ℕ) → c < chunk_count e.g → n < layer_count e.g → is_piece e (node_of_chunk e.g c) n ≡ true → (p : ℕ) × StandsAt (pieces_of e) p c n
 each_read e c n hc hn read =

@@ -1,14 +1,12 @@
 -- The nodes whose chunks are missing, and the pieces of the others.
-use Rattle.std.proofs.Common.{◌≡◌, ℕ, suc, subst, ◌+◌, ◌-◌, ◌*◌, ◌<◌, ◌≤◌, Bool, true, false, not, ◌&&◌, ◌||◌, eqb, List, [], ◌∷◌, ◌++◌, All, length, get_or, take, drop, map, flat_map, refl, sym, ap, ◌∙◌, inl, inr, arith, length-append}
+use Rattle.std.proofs.Common.{◌≡◌, ℕ, subst, ◌+◌, ◌-◌, ◌<◌, ◌≤◌, Bool, true, false, not, ◌&&◌, ◌||◌, eqb, List, [], ◌∷◌, ◌++◌, All, length, get_or, map, refl, sym, ap, ◌∙◌, inl, inr, arith}
 use Rattle.std.specs.List.{range_with_len}
-use Rattle.std.proofs.lemmas.Bool.{cases_lt, cases_Bool, eq-eqb, true≢false, and_parts, or_cases, not-true}
-use Rattle.std.proofs.lemmas.List.{get_or-map, length-map, get_or_append_left, get_or-append-add}
-use Rattle.std.proofs.lemmas.List.FromFn.{length-range_with_len, get_or-range_with_len, length-map-range_with_len, get_or-map-range_with_len, map-range_with_len_more}
-use Rattle.clay_grid.specs.Shape.{Shape, chunk_count, node_count, layer_count, node_of_chunk, IsVirtual}
+use Rattle.std.proofs.lemmas.Bool.{cases_Bool, eq-eqb, true≢false, and_parts, or_cases, not-true}
+use Rattle.std.proofs.lemmas.List.FromFn.{length-map-range_with_len, get_or-map-range_with_len, map-range_with_len_more}
+use Rattle.clay_grid.specs.Shape.{Shape, node_count, node_of_chunk, IsVirtual}
 use Rattle.clay_grid.specs.Limits.{IsGeometry}
 use Rattle.clay_grid.specs.Score.{count_below}
 use Rattle.clay_grid.proofs.Counting.{count_below_same}
-use Rattle.clay_grid.proofs.Rising.{Lists-filter}
 use Rattle.clay_model.specs.Code.{chunk_of_node}
 use Rattle.code_laws.proofs.Column.{node_inside}
 use Rattle.code_laws.proofs.Nodes.{node_real, node_virtual}
@@ -19,9 +17,11 @@ use Rattle.lost_layers.specs.declared.run.LostPiece.{LostPiece}
 use Rattle.lost_layers.proofs.Determining.{wanted_between}
 use Rattle.missing_layers.specs.Erased.{Erased, IsErased, is_missing, is_unknown}
 use Rattle.missing_layers.specs.ErasedLayers.{is_solved_for, is_solved}
-use Rattle.missing_layers.specs.ErasedPieces.{is_used, is_piece, layers_read, pieces_of_chunk, pieces_of}
-use Rattle.missing_layers.specs.Marks.{AreMore}
-use Rattle.missing_layers.specs.Without.{is_there, is_gone, gone_nodes, gone_count, AreListed, IsThere, Determine, IsReadable}
+use Rattle.missing_layers.specs.ErasedPieces.{is_used, is_piece, pieces_of}
+use Rattle.missing_layers.specs.Unknown.{unknown_from}
+use Rattle.missing_layers.specs.Without.{is_there, is_gone, gone_nodes, gone_count, without, missing_pieces_of, IsThere, Determine, IsReadable}
+use Rattle.missing_layers.proofs.Marking.{AreMore, unknown_more}
+use Rattle.missing_layers.proofs.ErasedLists.{IsRead, only_read}
 use Rattle.missing_layers.proofs.ErasedDetermining.{pieces_determine}
 
 pub one_more : (test : ℕ → Bool) (marks : List Bool) (mark : Bool) (n : ℕ) → mark ≡ test n → marks ≡ map test (range_with_len 0 n) → marks ++ mark ∷ [] ≡ map test (range_with_len 0 (n + 1))
@@ -81,48 +81,26 @@ present_piece e i n erased read =
       ]
     ]
 
-flat_map_only : (P : LostPiece → Type 0) (f : ℕ → List LostPiece) (xs : List ℕ) (d : LostPiece) → ((i r : ℕ) → i < length xs → r < length (f (get_or xs i 0)) → P (get_or (f (get_or xs i 0)) r d))
-    → (s : ℕ) → s < length (flat_map f xs) → P (get_or (flat_map f xs) s d)
-flat_map_only P f [] d each s h = absurd (omega arith)
-flat_map_only P f (x ∷ xs) d each s h =
-    let whole : length (f x ++ flat_map f xs) ≡ length (f x) + length (flat_map f xs) = length-append (f x) (flat_map f xs) in
-    elim (cases_lt s (length (f x))) [
-      | inl early ↦ subst P (sym (get_or_append_left (f x) (flat_map f xs) d s early)) (each 0 s (omega arith) early)
-      | inr late ↦
-          let place : length (f x) + (s - length (f x)) ≡ s = omega arith in
-          subst P (sym (get_or-append-add (f x) (flat_map f xs) (s - length (f x)) d) ∙ ap (λ v. get_or (f x ++ flat_map f xs) v d) place)
-          (flat_map_only P f xs d (λ i r hi hr. each (suc i) r (omega arith) hr) (s - length (f x)) (omega (arith, whole)))
-    ]
-
 -- the pieces are subchunks of chunks that are there
 pieces_there : (e : Erased) (present : List Bool) → IsGeometry e.g → IsErased e → e.missing ≡ gone_nodes e.g e.run present → All (IsThere e.g e.run present) (pieces_of e)
-pieces_there e present geometry erased marks =
-    λ s d. flat_map_only (IsThere e.g e.run present) (pieces_of_chunk e) (range_with_len 0 (chunk_count e.g)) d
-    (λ i r hi hr.
-    let within : i < chunk_count e.g = subst (λ v. i < v) (length-range_with_len 0 (chunk_count e.g)) hi in
-    let first : get_or (range_with_len 0 (chunk_count e.g)) i 0 ≡ 0 + i = get_or-range_with_len 0 (chunk_count e.g) i 0 within in
-    let none : 0 + i ≡ i = omega arith in
-    one (get_or (range_with_len 0 (chunk_count e.g)) i 0) i r d (first ∙ none) within hr)
-    s
-  where
-    one : (c i r : ℕ) (d : LostPiece) → c ≡ i → i < chunk_count e.g → r < length (pieces_of_chunk e c) → IsThere e.g e.run present (get_or (pieces_of_chunk e c) r d)
-    one c i r d same within hr =
-        let layers : List ℕ = layers_read e c in
-        let inside : r < length layers = subst (λ v. r < v) (length-map layers (piece_at c)) hr in
-        let found = (Lists-filter (is_piece e (node_of_chunk e.g c)) (layer_count e.g)).only r inside in
-        let chunk : c < chunk_count e.g = subst (λ v. v < chunk_count e.g) (sym same) within in
-        let node : node_of_chunk e.g c < node_count e.g = node_inside e.g c geometry chunk in
-        let here : is_gone e.g e.run present (node_of_chunk e.g c) ≡ false =
-        sym (mark_at e.g e.run present (node_of_chunk e.g c) node) ∙ ap (λ l. get_or l (node_of_chunk e.g c) false) (sym marks) ∙ present_piece e (node_of_chunk e.g c) (get_or layers r 0) erased found.1 in
-        subst (IsThere e.g e.run present) (sym (get_or-map (piece_at c) layers r 0 d inside)) (chunk, found.0, there_from e.g e.run present c here)
+pieces_there e present geometry erased marks = λ s d h.
+    let piece : LostPiece = get_or (pieces_of e) s d in
+    let read : IsRead e piece = only_read e d s h in
+    let node : ℕ = node_of_chunk e.g piece.chunk in
+    let here : is_gone e.g e.run present node ≡ false =
+    sym (mark_at e.g e.run present node (node_inside e.g piece.chunk geometry read.chunk)) ∙ ap (λ l. get_or l node false) (sym marks) ∙ present_piece e node piece.layer erased read.read in
+    (read.chunk, read.layer, there_from e.g e.run present piece.chunk here)
 
 -- ---- the pieces of a run without the chunks that are gone
 
-module _ (g : Shape) (run : LostRun) (present unknown : List Bool) (geometry : IsGeometry g) (readable : IsReadable g run present) (more : AreMore g (gone_nodes g run present) unknown) where
-  abbrev erased : Erased
-  erased = record { g = g; run = run; missing = gone_nodes g run present; unknown = unknown }
+module _ (g : Shape) (run : LostRun) (present : List Bool) (geometry : IsGeometry g) (readable : IsReadable g run present) where
+  more : AreMore g (gone_nodes g run present) (unknown_from g run (gone_nodes g run present))
+  more = unknown_more g run (gone_nodes g run present) (gone_few g run present readable)
 
-  pub is_erased : IsErased (record { g = g; run = run; missing = gone_nodes g run present; unknown = unknown })
+  pub unknown_long : length (without g run present).unknown ≡ node_count g
+  unknown_long = more.len
+
+  pub is_erased : IsErased (without g run present)
   is_erased = record {
     run = readable.run_is;
     lost = mark_at g run present (lost_node g run) (node_inside g run.lost geometry readable.run_is.chunk) ∙ lost_gone g run present;
@@ -130,10 +108,10 @@ module _ (g : Shape) (run : LostRun) (present unknown : List Bool) (geometry : I
     few = more.few;
   }
 
-  pub determine : Determine g run present (pieces_of (record { g = g; run = run; missing = gone_nodes g run present; unknown = unknown }))
+  pub determine : Determine g run present (missing_pieces_of g run present)
   determine = record {
-    there = pieces_there erased present geometry is_erased refl;
-    same = pieces_determine erased geometry is_erased;
+    there = pieces_there (without g run present) present geometry is_erased refl;
+    same = pieces_determine (without g run present) geometry is_erased;
   }
 
 -- ---- an empty run
@@ -161,43 +139,10 @@ module _ (e : Erased) (same : e.run.from ≡ e.run.to) where
             omega (arith, between.0, between.1, same)
       ]
 
-  no_pieces : pieces_of e ≡ []
+  pub no_pieces : pieces_of e ≡ []
   no_pieces =
-      empty (pieces_of e) (λ h. flat_map_only (λ piece. ⊥) (pieces_of_chunk e) (range_with_len 0 (chunk_count e.g)) (piece_at 0 0)
-      (λ i r hi hr. of_chunk (get_or (range_with_len 0 (chunk_count e.g)) i 0) r hr)
-      0 h)
+      empty (pieces_of e) (λ h. let read = only_read e (piece_at 0 0) 0 h in unread _ _ read.read)
     where
       empty : (xs : List LostPiece) → (0 < length xs → ⊥) → xs ≡ []
       empty [] h = refl
       empty (x ∷ xs) h = absurd (h (omega arith))
-
-      of_chunk : (c r : ℕ) → r < length (pieces_of_chunk e c) → ⊥
-      of_chunk c r hr =
-          let layers : List ℕ = layers_read e c in
-          let inside : r < length layers = subst (λ v. r < v) (length-map layers (piece_at c)) hr in
-          let found = (Lists-filter (is_piece e (node_of_chunk e.g c)) (layer_count e.g)).only r inside in
-          unread (node_of_chunk e.g c) (get_or layers r 0) found.1
-
-pub none_listed : (g : Shape) (run : LostRun) (present : List Bool) → IsReadable g run present → run.from ≡ run.to → AreListed g run present []
-none_listed g run present readable same = record {
-  unknown = gone_nodes g run present;
-  more = gone_few g run present readable;
-  pieces_are = sym (no_pieces (record { g = g; run = run; missing = gone_nodes g run present; unknown = gone_nodes g run present }) same);
-}
-
--- no pieces determine no layers
-pub none_determine : (g : Shape) (run : LostRun) (present : List Bool) → run.from ≡ run.to → Determine g run present []
-none_determine g run present same =
-    let none : (run.to - run.from) * g.width ≡ 0 = no_bytes run.from run.to g.width same in
-    record {
-      there = λ s d h. absurd (omega (arith, h));
-      same = λ a b wa wb each.
-          ap (λ n. take n (drop (run.from * g.width) (get_or a run.lost []))) none
-          ∙ sym (ap (λ n. take n (drop (run.from * g.width) (get_or b run.lost []))) none);
-    }
-  where
-    no_bytes : (from to w : ℕ) → from ≡ to → (to - from) * w ≡ 0
-    no_bytes from to w same =
-        let none : to - from ≡ 0 = omega (arith, same) in
-        let zero : 0 * w ≡ 0 = omega arith in
-        ap (λ n. n * w) none ∙ zero

@@ -1,5 +1,5 @@
+pub mod Marking
 pub mod ErasedLists
 pub mod ErasedServing
 pub mod ErasedDetermining
-pub mod Marking
 pub mod Gone

@@ -2,5 +2,5 @@ pub mod Erased
 pub mod ErasedLayers
 pub mod ErasedPieces
 pub mod ErasedRuns
-pub mod Marks
+pub mod Unknown
 pub mod Without

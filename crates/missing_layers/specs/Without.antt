@@ -8,8 +8,9 @@ use Rattle.lost_layers.specs.LostLayers.{IsLostRun}
 use Rattle.lost_layers.specs.Determined.{bytes_of_run}
 use Rattle.lost_layers.specs.declared.run.LostRun.{LostRun}
 use Rattle.lost_layers.specs.declared.run.LostPiece.{LostPiece}
+use Rattle.missing_layers.specs.Erased.{Erased}
 use Rattle.missing_layers.specs.ErasedPieces.{HaveSame, pieces_of}
-use Rattle.missing_layers.specs.Marks.{AreMore}
+use Rattle.missing_layers.specs.Unknown.{unknown_from}
 use Rattle.missing_layers.specs.declared.fault.MissingFault.{MissingFault}
 use Rattle.missing_layers.specs.declared.fault.MissingFault.TheVariants.{NoSuchChunk, NoSuchLayers, MarkCount, TooFew, OutOfMemory}
 
@@ -31,11 +32,14 @@ gone_count g run present = count_below (node_count g) (is_gone g run present)
 abbrev pub IsThere : Shape → LostRun → List Bool → LostPiece → Type 0
 IsThere g run present piece = (piece.chunk < chunk_count g) × (piece.layer < layer_count g) × (is_there run present piece.chunk ≡ true)
 
--- what is read where the missing nodes, and perhaps further ones, count as unknown
-pub record AreListed (g : Shape) (run : LostRun) (present : List Bool) (pieces : List LostPiece) : Type 0 where
-  pub unknown : List Bool
-  pub more : AreMore g (gone_nodes g run present) unknown
-  pub pieces_are : pieces ≡ pieces_of (record { g = g; run = run; missing = gone_nodes g run present; unknown = unknown })
+-- the run, with the nodes that are missing and those that count as unknown
+abbrev pub without : Shape → LostRun → List Bool → Erased
+without g run present =
+    record { g = g; run = run; missing = gone_nodes g run present; unknown = unknown_from g run (gone_nodes g run present) }
+
+-- what is read, chunk by chunk
+abbrev pub missing_pieces_of : Shape → LostRun → List Bool → List LostPiece
+missing_pieces_of g run present = pieces_of (without g run present)
 
 -- subchunks of chunks that are there, by which codewords with the same bytes of each have the same bytes of the run
 pub record Determine (g : Shape) (run : LostRun) (present : List Bool) (pieces : List LostPiece) : Type 0 where

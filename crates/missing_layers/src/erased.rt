@@ -31,9 +31,21 @@ pub(crate) fn unpaired_in(g: Geometry, column: u32, layer: u32) -> u32
     column * g.q() + g.digit(layer, column)
 }
 
+// The subchunk with which a node's is coupled.
+pub(crate) fn partner_in(g: Geometry, node: u32, layer: u32) -> Subchunk
+    requires node { node < node_count g }
+    requires layer { layer < layer_count g }
+    ensures node { result.node ≡ partner_node g node layer }
+    ensures layer { result.layer ≡ partner_layer g node layer }
+    ensures in_grid { result.node < node_count g }
+    ensures in_layers { result.layer < layer_count g }
+{
+    partner_of(g, node, layer)
+}
+
 impl<'a> ErasedRun<'a> {
     // Whether the node's chunk is missing.
-    pub(crate) fn is_missing(&self, node: u32) -> bool
+    fn is_missing(&self, node: u32) -> bool
         requires run { IsErasedRun self.now }
         requires node { node < node_count self.now.placed.g }
         ensures { result ≡ is_missing (erased_of self.now) node }
@@ -42,25 +54,12 @@ impl<'a> ErasedRun<'a> {
     }
 
     // Whether the node's values count as unknown.
-    pub(crate) fn is_unknown(&self, node: u32) -> bool
+    fn is_unknown(&self, node: u32) -> bool
         requires run { IsErasedRun self.now }
         requires node { node < node_count self.now.placed.g }
         ensures { result ≡ is_unknown (erased_of self.now) node }
     {
         self.unknown[node as usize]
-    }
-
-    // The subchunk with which a node's is coupled.
-    pub(crate) fn partner(&self, node: u32, layer: u32) -> Subchunk
-        requires run { IsErasedRun self.now }
-        requires node { node < node_count self.now.placed.g }
-        requires layer { layer < layer_count self.now.placed.g }
-        ensures node { result.node ≡ partner_node self.now.placed.g node layer }
-        ensures layer { result.layer ≡ partner_layer self.now.placed.g node layer }
-        ensures in_grid { result.node < node_count self.now.placed.g }
-        ensures in_layers { result.layer < layer_count self.now.placed.g }
-    {
-        partner_of(self.placed.g, node, layer)
     }
 
     // Whether a layer's digit is that of a wanted one, or leads from an unknown node to a known one.
@@ -99,7 +98,7 @@ impl<'a> ErasedRun<'a> {
         requires layer { layer < layer_count self.now.placed.g }
         ensures { result ≡ is_solved_for (erased_of self.now) wanted layer }
     {
-        let mate = self.partner(self.placed.node, wanted);
+        let mate = partner_in(self.placed.g, self.placed.node, wanted);
         let is_unknown = self.is_unknown(mate.node);
         (self.is_missing(mate.node) || !is_unknown) && self.serves(wanted, layer)
             || is_unknown && self.serves(mate.layer, layer)

@@ -4,6 +4,7 @@
 mod erased;
 mod fault;
 mod laws;
+mod marked;
 mod missing;
 mod pieces;
 #[cfg(test)]
@@ -13,6 +14,7 @@ mod unknown;
 pub use erased::ErasedRun;
 pub use fault::MissingFault;
 pub use laws::missing_pieces_determine;
-pub use missing::missing_pieces;
-pub use pieces::erased_pieces;
+pub use marked::MarkedRun;
+pub use missing::{missing_count, missing_pieces, readable_run};
+pub use pieces::{SolvedRun, erased_pieces};
 pub use unknown::unknown_nodes;

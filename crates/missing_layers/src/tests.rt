@@ -1,5 +1,5 @@
 //! Pieces without some chunks.
-use crate::{MissingFault, missing_pieces};
+use crate::{MissingFault, missing_count, missing_pieces};
 use clay_grid::Geometry;
 use lost_layers::LostRun;
 use std::alloc::Global;
@@ -31,8 +31,9 @@ fn counts(rt: HostRuntime) -> Result<(), Fail> {
     for [k, m, missing, lost, from, to, count] in COUNTS {
         let g = Geometry::new(k, m, 1)?;
         let marks = present(rt.alloc(), g.n(), missing)?;
-        let pieces = missing_pieces(rt.alloc(), g, LostRun { lost, from, to }, &marks)?;
-        assert!(rt; pieces.len() == count as usize);
+        let run = LostRun { lost, from, to };
+        assert!(rt; missing_pieces(rt.alloc(), g, run, &marks)?.len() == count as usize);
+        assert!(rt; missing_count(rt.alloc(), g, run, &marks)? == count);
     }
     Ok(())
 }

@@ -1,9 +1,10 @@
 //! A choice of the nodes that count as unknown. Any choice will do (`missing_pieces_determine`); by this one little is read.
-ghost use Rattle.std.specs.Prelude.{◌≡◌, ◌<◌, ◌≤◌, length, slice_index_or, false, IfOk};
+ghost use Rattle.std.specs.Prelude.{◌≡◌, ◌<◌, ◌≤◌, length, slice_index_or, false, IfOk, fold};
 ghost use Rattle.clay_grid.specs.Shape.{column_count, node_count, layer_count};
 ghost use Rattle.clay_grid.specs.Score.{count_below};
+ghost use Rattle.lost_layers.specs.LostLayers.{unpaired_node};
 ghost use Rattle.lost_layers.specs.Placing.{IsPlaced};
-ghost use Rattle.missing_layers.specs.Marks.{AreMore};
+ghost use Rattle.missing_layers.specs.Unknown.{is_chosen, chosen, with_node, unknown_from};
 
 use crate::erased::unpaired_in;
 use clay_grid::Geometry;
@@ -33,16 +34,13 @@ fn marked_count(marks: &[bool]) -> u32
     count
 }
 
-// Marks a node that is chosen, while there is room.
-fn mark(g: Geometry, node: u32, is_chosen: bool, marks: &mut [bool])
-    requires marks { AreMore g marks.old marks.old }
+// Marks a node, while there is room.
+fn mark(g: Geometry, node: u32, marks: &mut [bool])
+    requires marks { length marks.old ≡ node_count g }
     requires nodes { node_count g ≤ 24 }
     requires node { node < node_count g }
-    ensures { AreMore g marks.old marks.new }
+    ensures { marks.new ≡ with_node g marks.old node }
 {
-    if !is_chosen {
-        return;
-    }
     if marked_count(marks) >= g.m() {
         return;
     }
@@ -54,6 +52,7 @@ fn is_met(g: Geometry, missing: &[bool], layer: u32, column: u32) -> bool
     requires nodes { length missing.now ≡ node_count g }
     requires layer { layer < layer_count g }
     requires column { column < column_count g }
+    ensures { result ≡ slice_index_or missing.now (unpaired_node g column layer) false }
 {
     missing[unpaired_in(g, column, layer) as usize]
 }
@@ -64,6 +63,7 @@ fn is_chosen(placed: &PlacedRun, missing: &[bool], choice: Choice, node: u32) ->
     requires some { placed.now.run.from < placed.now.run.to }
     requires nodes { length missing.now ≡ node_count placed.now.g }
     requires node { node < node_count placed.now.g }
+    ensures { result ≡ is_chosen placed.now.g placed.now.run missing.now choice node }
 {
     let layer = placed.run.from;
     let (row, column) = placed.g.place(node);
@@ -82,12 +82,13 @@ fn mark_more(placed: &PlacedRun, missing: &[bool], choice: Choice, marks: &mut [
     requires placed { IsPlaced placed.now }
     requires some { placed.now.run.from < placed.now.run.to }
     requires nodes { length missing.now ≡ node_count placed.now.g }
-    requires marks { AreMore placed.now.g missing.now marks.old }
-    ensures { AreMore placed.now.g missing.now marks.new }
+    requires marks { length marks.old ≡ node_count placed.now.g }
+    ensures { marks.new ≡ fold (with_node placed.now.g) marks.old (chosen placed.now.g placed.now.run missing.now choice) }
 {
     for node in 0..placed.g.nodes() {
-        let is_chosen = is_chosen(placed, missing, choice, node);
-        mark(placed.g, node, is_chosen, marks);
+        if is_chosen(placed, missing, choice, node) {
+            mark(placed.g, node, marks);
+        }
     }
 }
 
@@ -96,8 +97,8 @@ fn mark_all(placed: &PlacedRun, missing: &[bool], marks: &mut [bool])
     requires placed { IsPlaced placed.now }
     requires some { placed.now.run.from < placed.now.run.to }
     requires nodes { length missing.now ≡ node_count placed.now.g }
-    requires marks { AreMore placed.now.g missing.now marks.old }
-    ensures { AreMore placed.now.g missing.now marks.new }
+    requires marks { marks.old ≡ missing.now }
+    ensures { marks.new ≡ unknown_from placed.now.g placed.now.run missing.now }
 {
     mark_more(placed, missing, Choice::OwnColumn, marks);
     mark_more(placed, missing, Choice::MetColumns, marks);
@@ -112,8 +113,8 @@ pub fn unknown_nodes(
 ) -> Result<Vec<bool>, AllocError>
     requires placed { IsPlaced placed.now }
     requires some { placed.now.run.from < placed.now.run.to }
-    requires missing { AreMore placed.now.g missing.now missing.now }
-    ensures { IfOk result (λ marks. AreMore placed.now.g missing.now marks.items) }
+    requires nodes { length missing.now ≡ node_count placed.now.g }
+    ensures { IfOk result (λ marks. marks.items ≡ unknown_from placed.now.g placed.now.run missing.now) }
 {
     let mut marks = Vec::from_slice(alloc, missing)?;
     mark_all(placed, missing, &mut marks);

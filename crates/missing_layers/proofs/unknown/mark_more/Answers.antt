@@ -1,8 +1,19 @@
-use Rattle.missing_layers.proofs.Marking.{more_itself, more_twice}
+use Rattle.std.proofs.Common.{ℕ, Bool, sym, ◌∙◌}
+use Rattle.missing_layers.specs.Unknown.{is_chosen}
+use Rattle.missing_layers.proofs.Marking.{marked_more, marked_same}
 use Rattle.missing_layers.proofs.unknown.mark_more.Goals as goal
-
-pub mark-requires-clause-marks : goal.mark-requires-clause-marks
-mark-requires-clause-marks c = more_itself c.args.placed.now.g c.args.missing.now c.loop-node.marks c.loop-node.invariant
+use Rattle.missing_layers.proofs.unknown.mark_more.Goals.{then-is_chosen, else-is_chosen}
 
 pub loop-node-preserved : goal.loop-node-preserved
-loop-node-preserved c = more_twice c.args.placed.now.g c.args.missing.now c.loop-node.marks c.mark.new.marks c.loop-node.invariant c.mark.ensures
+loop-node-preserved c =
+    let placed = c.args.placed.now in
+    let test : ℕ → Bool = is_chosen placed.g placed.run c.args.missing.now c.args.choice in
+    elim c.if-is_chosen.branch [
+      | then-is_chosen w ↦
+          w.marks-is
+          ∙ w.mark.ensures
+          ∙ marked_more placed.g test c.args.marks.now c.loop-node.marks c.loop-node.node c.loop-node.invariant (sym c.is_chosen.ensures ∙ w.if-is_chosen.true)
+      | else-is_chosen w ↦
+          w.marks-is
+          ∙ marked_same placed.g test c.args.marks.now c.loop-node.marks c.loop-node.node c.loop-node.invariant (sym c.is_chosen.ensures ∙ w.if-is_chosen.false)
+    ]

@@ -1,12 +1,12 @@
 use Rattle.std.proofs.Common.{ℕ, ◌++◌, sym, ap, ◌∙◌}
 use Rattle.lost_layers.proofs.PieceSteps.{chunk_more}
 use Rattle.missing_layers.specs.ErasedPieces.{pieces_of_chunk}
-use Rattle.missing_layers.specs.ErasedRuns.{erased_of}
+use Rattle.missing_layers.specs.ErasedRuns.{solved_of}
 use Rattle.missing_layers.proofs.pieces.SolvedRun.pieces.Goals as goal
 
 pub loop-chunk-preserved : goal.loop-chunk-preserved
 loop-chunk-preserved c =
-    let e = erased_of c.args.self.now.erased.now in
+    let e = solved_of c.args.self.now in
     let chunk : ℕ = c.loop-chunk.chunk in
     c.in_ok-push_chunk.ensures
     ∙ ap (λ l. l ++ pieces_of_chunk e chunk) c.loop-chunk.invariant

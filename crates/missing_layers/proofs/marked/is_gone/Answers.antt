@@ -1,7 +1,7 @@
 use Rattle.std.proofs.Common.{◌≡◌, ◌<◌, MatchOption, not, sym, subst, ap, ◌∙◌}
 use Rattle.clay_grid.specs.Shape.{chunk_count, node_of_chunk, IsVirtual}
 use Rattle.missing_layers.proofs.Gone.{gone_node, gone_virtual}
-use Rattle.missing_layers.proofs.missing.is_gone.Goals as goal
+use Rattle.missing_layers.proofs.marked.is_gone.Goals as goal
 
 pub returns : goal.returns
 returns c =

@@ -1,7 +1,7 @@
 use Rattle.std.proofs.Common.{ℕ, Bool, ◌∙◌}
 use Rattle.missing_layers.specs.Without.{is_gone}
 use Rattle.missing_layers.proofs.Gone.{one_more}
-use Rattle.missing_layers.proofs.missing.mark_gone.Goals as goal
+use Rattle.missing_layers.proofs.marked.mark_gone.Goals as goal
 
 pub loop-node-preserved : goal.loop-node-preserved
 loop-node-preserved c =
