@@ -1,0 +1,5 @@
+pub mod Read
+pub mod Refused
+pub mod Plan
+pub mod Readings
+pub mod Values

@@ -1,0 +1,153 @@
+//! Runs that are read while chunks are missing, beside the codewords of the fast coder.
+use crate::{MissingReadFault, read_missing};
+use clay_grid::Geometry;
+use clay_parity::encode;
+use lost_layers::{LostPiece, LostRun};
+use missing_layers::{MissingFault, missing_pieces};
+use std::alloc::{AllocError, Global};
+use std::process::Abort;
+use std::test::Fail;
+
+/// k, m, the bytes of a subchunk, the missing chunks by their bits, the lost one, from, to
+const READS: [[u32; 7]; 9] = [
+    [4, 2, 3, 0b00_0001, 0, 0, 8],
+    [4, 2, 3, 0b01_0001, 0, 2, 3],
+    [4, 2, 3, 0b00_0011, 1, 1, 7],
+    [3, 2, 5, 0b1_0010, 4, 3, 8],
+    [8, 4, 67, 0b0001_0010_0000, 5, 21, 22],
+    [8, 4, 3, 0b0000_0000_0110, 2, 10, 30],
+    [8, 4, 3, 0b0000_0111_1000, 3, 0, 64],
+    [8, 4, 3, 0b1001_0010_0001, 0, 56, 57],
+    [5, 4, 33, 0b0_1011_0000, 7, 13, 17],
+];
+
+// Bytes that repeat only after 256 * 251 of them.
+fn mixed_bytes(alloc: Global, count: u32) -> Result<Vec<u8>, AllocError> {
+    let mut bytes = Vec::with_capacity(alloc, count as usize)?;
+    let mut byte = 1u8;
+    for i in 0..count {
+        byte = byte.wrapping_mul(29).wrapping_add((i % 251) as u8);
+        bytes.push(byte)?;
+    }
+    Ok(bytes)
+}
+
+// The chunks of some stripe.
+fn word_of(rt: &impl Abort, alloc: Global, g: Geometry) -> Result<Vec<Vec<u8>>, AllocError> {
+    let stripe = mixed_bytes(alloc, g.stripe_len())?;
+    assert!(rt; stripe.len() == g.stripe_len() as usize);
+    encode(alloc, g, &stripe)
+}
+
+// Marks for so many chunks, of which those with a bit are missing.
+fn present(alloc: Global, count: u32, missing: u32) -> Result<Vec<bool>, AllocError> {
+    let mut marks = Vec::with_capacity(alloc, count as usize)?;
+    for bit in 0..count.min(32) {
+        marks.push(missing >> bit & 1 == 0)?;
+    }
+    Ok(marks)
+}
+
+// Layers of a chunk.
+fn layers<'a>(
+    rt: &impl Abort,
+    g: Geometry,
+    word: &'a [Vec<u8>],
+    chunk: u32,
+    from: u32,
+    to: u32,
+) -> &'a [u8] {
+    let w = g.w() as usize;
+    assert!(rt; (chunk as usize) < word.len());
+    assert!(rt; from <= to);
+    assert!(rt; to <= 1024);
+    let bytes = &word[chunk as usize];
+    assert!(rt; to as usize * w <= bytes.len());
+    &bytes[from as usize * w..to as usize * w]
+}
+
+// The bytes of the pieces, where they stand.
+fn bytes_of<'a>(
+    rt: &impl Abort,
+    alloc: Global,
+    g: Geometry,
+    word: &'a [Vec<u8>],
+    pieces: &[LostPiece],
+) -> Result<Vec<&'a [u8]>, AllocError> {
+    let mut bytes = Vec::with_capacity(alloc, pieces.len())?;
+    for piece in pieces.iter() {
+        assert!(rt; piece.layer < 1024);
+        bytes.push(layers(rt, g, word, piece.chunk, piece.layer, piece.layer + 1))?;
+    }
+    Ok(bytes)
+}
+
+// Reads a run over bytes that were there before.
+fn check_run(
+    rt: &impl Abort,
+    alloc: Global,
+    g: Geometry,
+    missing: u32,
+    run: LostRun,
+) -> Result<(), Fail> {
+    let word = word_of(rt, alloc, g)?;
+    let marks = present(alloc, g.n(), missing)?;
+    let pieces = missing_pieces(alloc, g, run, &marks)?;
+    let bytes = bytes_of(rt, alloc, g, &word, &pieces)?;
+    let wanted = layers(rt, g, &word, run.lost, run.from, run.to);
+    let mut out = vec![in alloc; 0xa5u8; wanted.len()]?;
+    read_missing(alloc, g, run, &marks, &bytes, &mut out)?;
+    assert_eq!(rt; out.as_slice(), wanted);
+    Ok(())
+}
+
+#[test]
+fn runs_are_read(rt: HostRuntime) -> Result<(), Fail> {
+    for [k, m, w, missing, lost, from, to] in READS {
+        let g = Geometry::new(k, m, w)?;
+        check_run(&rt, rt.alloc(), g, missing, LostRun { lost, from, to })?;
+    }
+    Ok(())
+}
+
+// Why the layers below `to` of chunk 3 of a code with two parity chunks, of which the first chunk is missing, aren't read. Layer 0 takes five
+// pieces of two bytes.
+fn refusal(
+    alloc: Global,
+    to: u32,
+    pieces: &[&[u8]],
+    room: usize,
+) -> Result<Option<MissingReadFault>, Fail> {
+    let g = Geometry::new(2, 2, 2)?;
+    let marks = present(alloc, 4, 0b0001)?;
+    let mut out = vec![in alloc; 0u8; room]?;
+    let run = LostRun {
+        lost: 3,
+        from: 0,
+        to,
+    };
+    Ok(read_missing(alloc, g, run, &marks, pieces, &mut out).err())
+}
+
+#[test]
+fn refusals(rt: HostRuntime) -> Result<(), Fail> {
+    let alloc = rt.alloc();
+    let good = [b"ab".as_slice(); 5];
+    let short = [
+        b"ab".as_slice(),
+        b"c".as_slice(),
+        b"ef".as_slice(),
+        b"gh".as_slice(),
+        b"ij".as_slice(),
+    ];
+    let layers = Some(MissingReadFault::Run(MissingFault::NoSuchLayers));
+    assert!(rt; refusal(alloc, 5, &[], 0)? == layers);
+    assert!(rt; refusal(alloc, 1, &good[1..], 2)? == Some(MissingReadFault::PieceCount));
+    assert!(rt; refusal(alloc, 1, &short, 2)? == Some(MissingReadFault::PieceLength));
+    assert!(rt; refusal(alloc, 1, &good, 3)? == Some(MissingReadFault::Room));
+    assert!(rt; refusal(alloc, 1, &good, 2)? == None);
+    assert!(rt; refusal(alloc, 0, &good, 0)? == Some(MissingReadFault::PieceCount));
+    assert!(rt; refusal(alloc, 0, &[], 1)? == Some(MissingReadFault::Room));
+    assert!(rt; refusal(alloc, 0, &[], 0)? == None);
+    Ok(())
+}
