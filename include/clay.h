@@ -17,7 +17,7 @@ extern "C" {
 #endif
 
 /* How a call ends: at the first test that fails, in the order of these numbers but for CLAY_BAD_CHUNK and then CLAY_BAD_LAYER, which are
- * tested before lengths, and CLAY_BAD_HELPERS, which is tested before memory is taken. */
+ * tested before lengths, and CLAY_BAD_HELPERS, which is tested before memory is taken. The last three calls have an order of their own. */
 enum clay_status {
     CLAY_DONE = 0,
     CLAY_BAD_GEOMETRY = 1, /* k, m and w aren't within the limits that clay_geometry names */
@@ -159,6 +159,26 @@ uint32_t clay_lost_pieces(uint32_t k, uint32_t m, uint32_t w, uint32_t lost, uin
  * pieces_len: w bytes for each of them. subchunks_len: (to - from) * w.
  * CLAY_DONE, CLAY_BAD_GEOMETRY, CLAY_BAD_LENGTH, CLAY_BAD_CHUNK, CLAY_OUT_OF_MEMORY, CLAY_BAD_LAYER. */
 uint32_t clay_read_lost(uint32_t k, uint32_t m, uint32_t w, uint32_t lost, uint32_t from, uint32_t to, const uint8_t *pieces, size_t pieces_len, uint8_t *subchunks, size_t subchunks_len);
+
+/* The same while other chunks are missing too, up to m with the lost one: only subchunks of chunks that are there are read. Where all others
+ * are there, one layer may take other subchunks than by the calls above. What is read is the same.
+ * present: a byte for each chunk, 0 where it is missing, as in clay_recover; present_len: n. That of the lost one doesn't count.
+ * Tested in this order: layers, present_len, CLAY_TOO_FEW, memory for the list of the subchunks, other lengths. */
+
+/* Writes how many subchunks the layers from..to of chunk `lost` take.
+ * CLAY_DONE, CLAY_BAD_GEOMETRY, CLAY_BAD_LENGTH, CLAY_BAD_CHUNK, CLAY_TOO_FEW, CLAY_OUT_OF_MEMORY, CLAY_BAD_LAYER. */
+uint32_t clay_missing_count(uint32_t k, uint32_t m, uint32_t w, uint32_t lost, uint32_t from, uint32_t to, const uint8_t *present, size_t present_len, uint32_t *count);
+
+/* Writes which they are: by rising number of their chunks, and of a chunk by rising layer.
+ * pieces_len: as many elements (not bytes) as clay_missing_count tells.
+ * CLAY_DONE, CLAY_BAD_GEOMETRY, CLAY_BAD_LENGTH, CLAY_BAD_CHUNK, CLAY_TOO_FEW, CLAY_OUT_OF_MEMORY, CLAY_BAD_LAYER. */
+uint32_t clay_missing_pieces(uint32_t k, uint32_t m, uint32_t w, uint32_t lost, uint32_t from, uint32_t to, const uint8_t *present, size_t present_len, struct clay_piece *pieces, size_t pieces_len);
+
+/* Writes the layers from..to of chunk `lost`, one behind another, from the bytes of these subchunks in that order. Each may stand anywhere, and is
+ * read where it stands. That they are of one codeword isn't tested: where they aren't, some bytes are written.
+ * piece_count: as many elements (not bytes) as clay_missing_count tells, each of w bytes. subchunks_len: (to - from) * w.
+ * CLAY_DONE, CLAY_BAD_GEOMETRY, CLAY_BAD_LENGTH, CLAY_BAD_CHUNK, CLAY_TOO_FEW, CLAY_OUT_OF_MEMORY, CLAY_BAD_LAYER. */
+uint32_t clay_read_missing(uint32_t k, uint32_t m, uint32_t w, uint32_t lost, uint32_t from, uint32_t to, const uint8_t *present, size_t present_len, const struct clay_bytes *pieces, size_t piece_count, uint8_t *subchunks, size_t subchunks_len);
 
 #ifdef __cplusplus
 }

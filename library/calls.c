@@ -79,3 +79,17 @@ CALL(clay_read_lost,
      (uint32_t k, uint32_t m, uint32_t w, uint32_t lost, uint32_t from, uint32_t to, const uint8_t *pieces, size_t pieces_len, uint8_t *subchunks,
       size_t subchunks_len),
      (k, m, w, lost, from, to, pieces, pieces_len, subchunks, subchunks_len))
+
+CALL(clay_missing_count,
+     (uint32_t k, uint32_t m, uint32_t w, uint32_t lost, uint32_t from, uint32_t to, const uint8_t *present, size_t present_len, uint32_t *count),
+     (k, m, w, lost, from, to, present, present_len, count))
+
+CALL(clay_missing_pieces,
+     (uint32_t k, uint32_t m, uint32_t w, uint32_t lost, uint32_t from, uint32_t to, const uint8_t *present, size_t present_len, struct clay_piece *pieces,
+      size_t pieces_len),
+     (k, m, w, lost, from, to, present, present_len, pieces, pieces_len))
+
+CALL(clay_read_missing,
+     (uint32_t k, uint32_t m, uint32_t w, uint32_t lost, uint32_t from, uint32_t to, const uint8_t *present, size_t present_len,
+      const struct clay_bytes *pieces, size_t piece_count, uint8_t *subchunks, size_t subchunks_len),
+     (k, m, w, lost, from, to, present, present_len, pieces, piece_count, subchunks, subchunks_len))

@@ -4,4 +4,5 @@ pub mod Calls
 pub mod Helpers
 pub mod Missing
 pub mod Lost
+pub mod Without
 pub mod Apart

@@ -44,3 +44,8 @@ EndsByChunk status = status ≢ bad_geometry → status ≢ bad_chunk → status
 -- and one that takes layers too
 abbrev pub EndsByLayer : ℕ → Type 0
 EndsByLayer status = status ≢ bad_geometry → status ≢ bad_chunk → status ≢ bad_layer → status ≢ bad_length → status ≢ done → status ≡ out_of_memory
+
+-- and one that takes marks of the chunks that are there too
+abbrev pub EndsByMarks : ℕ → Type 0
+EndsByMarks status =
+    status ≢ bad_geometry → status ≢ bad_chunk → status ≢ bad_layer → status ≢ bad_length → status ≢ too_few → status ≢ done → status ≡ out_of_memory

@@ -20,6 +20,8 @@ mod pieces;
 mod rebuilding;
 mod recovery;
 mod status;
+mod there;
+mod without;
 
 use crate::rebuilding::{part_len, write_rebuilt};
 use crate::recovery::{missing_count, write_missing, write_parity};
@@ -32,6 +34,7 @@ pub use helpers::{
 };
 pub use lost::{clay_lost_count, clay_lost_pieces, clay_read_lost};
 use std::alloc::Global;
+pub use without::{clay_missing_count, clay_missing_pieces, clay_read_missing};
 
 /// The numbers of a code, as C sees them. Lengths are in bytes.
 #[repr(C)]
