@@ -128,7 +128,7 @@ def read_header(data):
 
 class Share:
     def __init__(self, path):
-        self.path, self.file = path, open(path, 'rb')
+        self.path, self.file, self.number = path, open(path, 'rb'), int(path.name[-7:-5])
         self.header = read_header(self.file.read(64))
         self.rotten = set()
 
@@ -142,6 +142,10 @@ class Share:
             return chunk
         self.rotten.add(stripe)
         return None
+
+    def is_of(self, cut):
+        """Whether it has the header of its number, of the cut of a header."""
+        return self.header == cut._replace(share=self.number)
 
     def faults(self):
         """What is wrong with the whole file."""
@@ -157,23 +161,21 @@ class Share:
 
 
 def shares_in(folder):
-    """The shares of a folder by their numbers; of those that are refused the reasons."""
-    shares, refused = {}, []
+    """A header of the cut that most shares of a folder are of, these shares by their numbers, and of the others why they count as missing."""
+    found, refused = [], []
     for path in sorted(Path(folder).glob('*.[0-9][0-9].clay')):
         try:
-            share = Share(path)
+            found.append(Share(path))
         except (Refused, OSError) as error:
             refused.append(f'{path.name}: {error}')
-            continue
-        for other in shares.values():
-            if other.header._replace(share=0) != share.header._replace(share=0):
-                raise Refused(f'{path.name} and {other.path.name} are of two files')
-            if other.header.share == share.header.share:
-                raise Refused(f'{path.name} and {other.path.name} are one share')
-        shares[share.header.share] = share
-    if not shares:
+    if not found:
         raise Refused('there is no share')
-    return shares, refused
+    if len({share.path.name[:-8] for share in found}) > 1:
+        raise Refused(f'{found[0].path.name} and {found[-1].path.name} are of two files')
+    # the first of those that most are of
+    cut = max((share.header for share in found), key=lambda header: sum(share.is_of(header) for share in found))
+    refused += [f'{share.path.name}: it is a share of another number, file or code' for share in found if not share.is_of(cut)]
+    return cut, {share.number: share for share in found if share.is_of(cut)}, refused
 
 
 class Library:
@@ -205,8 +207,7 @@ class Library:
 
 
 def join(folder, target, library=None):
-    shares, refused = shares_in(folder)
-    header = next(iter(shares.values())).header
+    header, shares, refused = shares_in(folder)
     code, whole = header.code, 0
     made, calls = Path(f'{target}.part'), None
     try:
@@ -255,10 +256,10 @@ def cut(code, source, folder, library):
 
 
 def check(folder):
-    shares, faults = shares_in(folder)
+    header, shares, faults = shares_in(folder)
     faults += [f'{share.path.name}: {fault}' for share in shares.values() for fault in share.faults()]
-    code = next(iter(shares.values())).header.code
-    return faults + [f'share {number} is missing' for number in range(code.shares) if number not in shares]
+    there = {int(path.name[-7:-5]) for path in Path(folder).glob('*.[0-9][0-9].clay')}
+    return faults + [f'share {number} is missing' for number in range(header.code.shares) if number not in there]
 
 
 def main(words):

@@ -3,11 +3,10 @@ ghost use Rattle.std.specs.Prelude.{◌≡◌, vec_len, IfOk};
 
 use crate::folder::{Folder, first_shares, open_folder, tell_missing};
 use crate::share_file::ShareFile;
-use crate::told_file::Progress;
 use crc64::Crc64;
 use share_checks::ShareFault;
 use share_format::ShareHeader;
-use share_run::{ends_short, serve_check};
+use share_run::{Progress, ends_short, serve_check};
 use std::alloc::{AllocError, Global};
 use std::fs::File;
 use std::io::Eprint;
@@ -42,6 +41,20 @@ fn no_verdicts(alloc: Global, count: u32) -> Result<Vec<Option<ShareFault>>, All
     Ok(verdicts)
 }
 
+// Says which files have a number that no share has, behind the shares, and whether there are any.
+fn tell_strays<R: Eprint>(rt: &R, stem: &str, count: u32, sources: &[ShareFile<R>]) -> bool {
+    let mut are_there = false;
+    for (number, source) in sources.iter().enumerate() {
+        if number >= count as usize && !source.is_missing() {
+            let _said = eprintln!(rt;
+                "clay_shares: {stem}.{number:02}.clay: the code has no share of this number"
+            );
+            are_there = true;
+        }
+    }
+    are_there
+}
+
 // How many bytes the shares have that are there, but for their headers and tables.
 fn bytes_of<R: Eprint>(header: &ShareHeader, sources: &[ShareFile<R>]) -> u64 {
     let chunk = u64::from(header.geometry().chunk_len());
@@ -63,13 +76,24 @@ fn check_shares<R: Eprint>(
         stem,
         header,
         sources,
+        ..
     } = shares;
     let count = header.geometry().n();
+    let strays = tell_strays(rt, stem.as_str(), count, &sources);
     let mut sources = first_shares(alloc, sources, count)?;
     let mut verdicts = no_verdicts(alloc, count)?;
     tell_missing(rt, stem.as_str(), &sources, None);
     progress.begin(bytes_of(&header, &sources));
-    let exit = serve_check(rt, alloc, crc, &header, folder, &mut sources, &mut verdicts);
+    let exit = serve_check(
+        rt,
+        alloc,
+        crc,
+        &header,
+        folder,
+        strays,
+        &mut sources,
+        &mut verdicts,
+    );
     tell_faults(rt, stem.as_str(), &sources, &verdicts);
     Ok(exit)
 }

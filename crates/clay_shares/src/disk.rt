@@ -1,9 +1,8 @@
 //! Files of std that are written beside their places. This is the trusted edge: that a file is put where its path says isn't proved.
 
-use crate::told_file::{Progress, ToldFile};
 use clay_bytes::{Failed, StdSink};
 use file_bytes::StdFile;
-use share_run::{FillLog, Place, Places, ShareStatus, ends, ends_short, fails};
+use share_run::{FillLog, Place, Places, Progress, ShareStatus, ToldFile, ends, ends_short, fails};
 use std::alloc::Global;
 use std::fs::{self, File};
 use std::io::{self, Eprint, ErrorKind};

@@ -2,11 +2,13 @@
 ghost use Rattle.std.specs.Prelude.{◌≡◌, ◌≤◌, vec_len, IfOk, IfSome};
 
 use crate::share_file::ShareFile;
-use crate::told_file::{Progress, ToldFile};
 use crc64::Crc64;
-use share_files::HeaderRefusal;
+use share_checks::ShareFault;
 use share_format::ShareHeader;
-use share_run::{Head, ShareStatus, ends, ends_short, fails, read_heads, told_header};
+use share_run::{
+    Head, Progress, ShareStatus, ToldFile, ends, ends_short, fails, is_of_cut, read_heads,
+    told_header,
+};
 use std::alloc::{AllocError, Global};
 use std::fs::{self, File};
 use std::io::{self, Eprint, ErrorKind};
@@ -16,11 +18,12 @@ use std::rt::Files;
 // No code has more shares.
 const MOST_SHARES: usize = 24;
 
-/// The shares of a folder: an entry for each number, and the header of one of them, which goes with all others.
+/// The shares of a folder: a header of the cut that most of them are of, and for each number its file and what its header is.
 #[derive(Drop)]
 pub(crate) struct Folder<'a, R: Eprint> {
     pub(crate) stem: String,
     pub(crate) header: ShareHeader,
+    pub(crate) heads: Vec<Head>,
     pub(crate) sources: Vec<ShareFile<'a, R>>,
 }
 
@@ -210,33 +213,49 @@ pub(crate) fn tell_missing<R: Eprint>(
     }
 }
 
-// Says why a share has no header, if it is there.
-fn tell_refusal<R: Eprint>(
+// Says why a share counts as missing, and closes it, if it is there.
+fn close_share<R: Eprint>(
     rt: &R,
-    name: Option<&Option<String>>,
-    source: &ShareFile<R>,
-    refusal: HeaderRefusal,
+    stem: &str,
+    number: usize,
+    head: &Head,
+    source: &mut ShareFile<R>,
 ) {
     if source.is_missing() {
         return;
     }
-    if let Some(Some(name)) = name {
-        let _said = eprintln!(rt; "clay_shares: {name}: {refusal}");
+    let _said = match head {
+        Err(refusal) => eprintln!(rt; "clay_shares: {stem}.{number:02}.clay: {refusal}"),
+        Ok(_) => {
+            let why = ShareFault::Foreign;
+            eprintln!(rt; "clay_shares: {stem}.{number:02}.clay: {why}")
+        }
+    };
+    source.close();
+}
+
+// Whether a share has the header of its number of the cut, where there is one.
+fn fits(cut: &Option<ShareHeader>, number: usize, head: &Head) -> bool {
+    match cut {
+        Some(cut) => is_of_cut(cut, number, head),
+        None => false,
     }
 }
 
-// Says why shares have no header, and closes them: they count as missing.
-fn close_headless<R: Eprint>(
+// Closes the shares that haven't the header of their number of the cut, and says why: they count as missing.
+fn close_unfit<R: Eprint>(
     rt: &R,
-    names: &[Option<String>],
+    stem: &str,
+    cut: &Option<ShareHeader>,
     heads: &[Head],
     sources: &mut [ShareFile<R>],
 ) {
     for (number, source) in sources.iter_mut().enumerate() {
         source.count_anew();
-        if let Some(Err(refusal)) = heads.get(number) {
-            tell_refusal(rt, names.get(number), source, *refusal);
-            source.close();
+        if let Some(head) = heads.get(number) {
+            if !fits(cut, number, head) {
+                close_share(rt, stem, number, head, source);
+            }
         }
     }
 }
@@ -261,32 +280,25 @@ fn open_named<'a, R: Files<File = File> + Eprint>(
     folder: &str,
     names: &[Option<String>],
 ) -> io::Result<Result<Folder<'a, R>, ExitCode>> {
+    let stem = stem_of(alloc, names)?;
     let mut sources = open_all(rt, alloc, progress, folder, names)?;
     let heads = read_heads(alloc, crc, &mut sources)?;
-    close_headless(rt, names, &heads, &mut sources);
     match told_header(&heads) {
-        Ok(Some(header)) => Ok(Ok(Folder {
-            stem: stem_of(alloc, names)?,
+        Some(header) => Ok(Ok(Folder {
+            stem,
             header,
+            heads,
             sources,
         })),
-        Ok(None) => {
+        None => {
+            close_unfit(rt, stem.as_str(), &None, &heads, &mut sources);
             let why = "there is no share whose header is good";
             Ok(Err(ends(rt, ShareStatus::TooFew, folder, why)))
-        }
-        Err(foreign) => {
-            let name = match names.get(foreign.share) {
-                Some(Some(name)) => name.as_str(),
-                _ => folder,
-            };
-            let why =
-                "its header tells another share, or another file or code than those before it";
-            Ok(Err(ends(rt, ShareStatus::BadShare, name, why)))
         }
     }
 }
 
-/// Opens the shares of a folder, and says what is wrong with them. What is read of them may count for the progress.
+/// Opens the shares of a folder, whatever their headers are. What is read of them may count for the progress.
 pub(crate) fn open_folder<'a, R: Files<File = File> + AllocGlobal + Clone + Drop + Eprint>(
     rt: &'a R,
     crc: &Crc64,
@@ -305,4 +317,25 @@ pub(crate) fn open_folder<'a, R: Files<File = File> + AllocGlobal + Clone + Drop
         Ok(opened) => opened,
         Err(_) => Err(ends_short(rt, folder)),
     }
+}
+
+/// Opens the shares of a folder. Those that haven't the header of their number of its cut count as missing, and it is said why.
+pub(crate) fn open_fit<'a, R: Files<File = File> + AllocGlobal + Clone + Drop + Eprint>(
+    rt: &'a R,
+    crc: &Crc64,
+    folder: &str,
+) -> Result<Folder<'a, R>, ExitCode> {
+    let Folder {
+        stem,
+        header,
+        heads,
+        mut sources,
+    } = open_folder(rt, crc, None, folder)?;
+    close_unfit(rt, stem.as_str(), &Some(header), &heads, &mut sources);
+    Ok(Folder {
+        stem,
+        header,
+        heads,
+        sources,
+    })
 }

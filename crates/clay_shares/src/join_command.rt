@@ -2,12 +2,11 @@
 ghost use Rattle.std.specs.Prelude.{◌≡◌, vec_len, IfOk};
 
 use crate::disk::StdPlaces;
-use crate::folder::{Folder, first_shares, open_folder, tell_missing};
+use crate::folder::{Folder, first_shares, open_fit, tell_missing};
 use crate::share_file::ShareFile;
-use crate::told_file::{Progress, ToldFile};
 use clay_bytes::StdSink;
 use crc64::Crc64;
-use share_run::{ends_short, serve_join};
+use share_run::{Progress, ToldFile, ends_short, serve_join};
 use std::alloc::{AllocError, Global};
 use std::fs::File;
 use std::io::Eprint;
@@ -53,6 +52,7 @@ fn join_open<'a, R: Files<File = File> + Eprint>(
         stem,
         header,
         sources,
+        ..
     } = shares;
     let count = header.geometry().n();
     let mut sources = first_shares(alloc, sources, count)?;
@@ -82,7 +82,7 @@ pub(crate) fn run_join<'a, R: Files<File = File> + AllocGlobal + Clone + Drop + 
     folder: &str,
     path: &str,
 ) -> ExitCode {
-    let shares = match open_folder(rt, crc, None, folder) {
+    let shares = match open_fit(rt, crc, folder) {
         Ok(shares) => shares,
         Err(exit) => return exit,
     };

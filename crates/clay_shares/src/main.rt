@@ -11,7 +11,6 @@ mod join_command;
 mod mend_command;
 mod program;
 mod share_file;
-mod told_file;
 mod words;
 
 use std::io::IsTerminal;

@@ -4,14 +4,14 @@ ghost use Rattle.clay_aloof.specs.Shape.{all_chunks};
 ghost use Rattle.share_mends.specs.Asked.{AreHelpers};
 
 use crate::disk::StdPlaces;
-use crate::folder::{Folder, first_shares, open_folder, tell_missing};
+use crate::folder::{Folder, first_shares, open_fit, tell_missing};
 use crate::share_file::ShareFile;
-use crate::told_file::Progress;
 use crc64::Crc64;
 use file_bytes::StdFile;
 use share_format::ShareHeader;
 use share_run::{
-    MendStop, ShareStatus, choose_helpers, ends, ends_short, serve_mend, serve_rebuild,
+    MendStop, Progress, ShareStatus, choose_helpers, ends, ends_short, header_of_share, serve_mend,
+    serve_rebuild,
 };
 use std::alloc::{AllocError, Global};
 use std::fs::File;
@@ -202,8 +202,7 @@ fn mend_numbered<'a, R: Files<File = File> + Eprint>(
         let why = "the code has no share of this number";
         return Ok(ends(rt, ShareStatus::Usage, folder, why));
     }
-    let _stripes = told.stripe_count();
-    let header = ShareHeader::new(told.geometry(), number, told.size(), told.checksum());
+    let header = header_of_share(&told, number);
     let path = format!(in alloc; "{folder}/{}.{number:02}.clay", shares.stem)?;
     let mut places = StdPlaces::new(rt, alloc);
     let exit = mend_share(
@@ -228,7 +227,7 @@ pub(crate) fn run_mend<'a, R: Files<File = File> + AllocGlobal + Clone + Drop + 
     folder: &str,
     number: u32,
 ) -> ExitCode {
-    let shares = match open_folder(rt, crc, None, folder) {
+    let shares = match open_fit(rt, crc, folder) {
         Ok(shares) => shares,
         Err(exit) => return exit,
     };

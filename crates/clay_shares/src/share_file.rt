@@ -1,9 +1,9 @@
 //! The file of a share, or none, which reads as an empty one; and what was read of it.
 ghost use Rattle.std.specs.Prelude.{◌≤◌, ◌<◌, length, IfOk};
 
-use crate::told_file::ToldFile;
 use clay_bytes::Failed;
 use file_bytes::{PlaceLog, PositionLog, SourceAt, StdFile};
+use share_run::ToldFile;
 use std::io::Eprint;
 
 /// How many reads gave bytes of a share, and how many bytes they gave. The counts stop at the ends of their types.

@@ -1,5 +1,5 @@
 -- What the front and the end of a file tell of it.
-use Rattle.std.proofs.Common.{◌≡◌, ℕ, zero, suc, ◌+◌, ◌-◌, ◌*◌, ◌<◌, ◌≤◌, ◌↔◌, Bool, true, false, List, [], ◌∷◌, ◌++◌, length, take, drop, slice_range, None, Some, Err, refl, sym, subst, ap, ◌∙◌, arith, length-take, length-drop}
+use Rattle.std.proofs.Common.{◌≡◌, ◌≢◌, ℕ, zero, suc, ◌+◌, ◌-◌, ◌*◌, ◌<◌, ◌≤◌, ◌↔◌, Bool, true, false, List, [], ◌∷◌, ◌++◌, length, take, drop, slice_range, None, Some, Err, refl, sym, subst, ap, ◌∙◌, arith, length-take, length-drop}
 use Rattle.std.specs.Prelude.{IsTrue, IsErrOf, min}
 use Rattle.std.specs.List.{flat_map}
 use Rattle.std.proofs.lemmas.Bool.{true≢false}
@@ -16,7 +16,7 @@ use Rattle.share_format.proofs.Lengths.{length_aligned, length_header}
 use Rattle.share_files.specs.Found.{block_in, IsFirstRotten}
 use Rattle.share_files.proofs.WrittenLemmas.{slice_is}
 use Rattle.share_files.proofs.ShareLemmas.{block_good}
-use Rattle.share_checks.specs.Whole.{BeginsWith, IsWhole, IsUnfilled, IsRottenAt, IsLonger, OneFails}
+use Rattle.share_checks.specs.Whole.{BeginsWith, IsWhole, IsForeign, IsUnfilled, IsRottenAt, IsLonger, OneFails}
 
 -- ---- the front
 
@@ -77,8 +77,8 @@ module _ (h : Header) (file : List ℕ) (begins : BeginsWith h file) (blocks : I
       let reached : block_start h.shape (stripe_count h.shape h.size) ≤ length file = reaches h (stripe_count h.shape h.size) file begins blocks in
       record { begins = begins; blocks = blocks; size = omega (arith, reached, within) }
 
-  pub is_longer : (length file ≤ share_length h.shape h.size → ⊥) → IsLonger file
-  is_longer past = record { header = h; begins = begins; blocks = blocks; longer = omega (arith, past) }
+  pub is_longer : (length file ≤ share_length h.shape h.size → ⊥) → IsLonger h file
+  is_longer past = record { begins = begins; blocks = blocks; longer = omega (arith, past) }
 
 -- ---- a share
 
@@ -110,11 +110,14 @@ pub moved : (P : AloofShape → ℕ → Type 0) (a b : AloofShape) (n count : �
 moved P a b n count shape number h = subst (λ k. P b k) number (subst (λ x. P x n) shape h)
 
 -- a fault behind the header
-pub is_unfilled : (h : Header) (file : List ℕ) → take 64 file ≡ header_bytes h → ¬ BeginsWith h file → IsUnfilled file
-is_unfilled h file first differs = record { header = h; first = first; differs = differs }
+pub is_unfilled : (h : Header) (file : List ℕ) → take 64 file ≡ header_bytes h → ¬ BeginsWith h file → IsUnfilled h file
+is_unfilled h file first differs = record { first = first; differs = differs }
 
-pub is_rotten : (h : Header) (file : List ℕ) (stripe : ℕ) → BeginsWith h file → IsFirstRotten h.shape (stripe_count h.shape h.size) file (Some stripe) → IsRottenAt file stripe
-is_rotten h file stripe begins rotten = record { header = h; begins = begins; rotten = rotten }
+pub is_foreign : (h found : Header) (file : List ℕ) → take 64 file ≡ header_bytes found → found ≢ h → IsForeign h file
+is_foreign h found file first other = record { header = found; first = first; other = other }
+
+pub is_rotten : (h : Header) (file : List ℕ) (stripe : ℕ) → BeginsWith h file → IsFirstRotten h.shape (stripe_count h.shape h.size) file (Some stripe) → IsRottenAt h file stripe
+is_rotten h file stripe begins rotten = record { begins = begins; rotten = rotten }
 
 pub one_after : (at size : ℕ) (old mid now : List ℕ) → FailsIn at size mid now → mid ≡ old → OneFails old now
 one_after at size old mid now fails same = record { place = fails.place; fails = fails.fails ∙ ap (λ l. l ++ fails.place ∷ []) same }

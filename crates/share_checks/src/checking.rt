@@ -70,7 +70,7 @@ fn check_rest<S: SourceAt>(
     header: &ShareHeader,
 ) -> Result<(), ShareFault>
     ensures whole { (file : List ℕ) → Shows file (S.given source.new) (S.ends source.new) → OnOk result (IsWhole header.now file) }
-    ensures fault { (file : List ℕ) → Shows file (S.given source.new) (S.ends source.new) → take 64 file ≡ header_bytes header.now → IfErr result (IsFirstFault file) }
+    ensures fault { (file : List ℕ) → Shows file (S.given source.new) (S.ends source.new) → take 64 file ≡ header_bytes header.now → IfErr result (IsFirstFault header.now file) }
     ensures shown { (file : List ℕ) → Shows file (S.given source.new) (S.ends source.new) → Shows file (S.given source.old) (S.ends source.old) }
     ensures cause { IsErrOf result ShareFault.ReadFault → OneFails (S.failed source.old) (S.failed source.new) }
     ensures steady { (IsErrOf result ShareFault.ReadFault → ⊥) → S.failed source.new ≡ S.failed source.old }
@@ -99,25 +99,33 @@ fn check_rest<S: SourceAt>(
     Ok(())
 }
 
-/// Judges a share's file from its front to its end: the header, the zeros behind it, each block with its checksums and zeros, and that
-/// nothing stands behind the last. It reads each byte once, the header's twice. Answers what the header tells.
+// Whether two headers tell the same.
+fn is_header(found: &ShareHeader, header: &ShareHeader) -> bool
+    ensures { IsTrue result ↔ (found.now ≡ header.now) }
+{
+    found == header
+}
+
+/// Judges a file that should be the share of the header, from its front to its end: the header, the zeros behind it, each block with its
+/// checksums and zeros, and that nothing stands behind the last. It reads each byte once, the header's twice.
 pub fn check_share<S: SourceAt>(
     alloc: Global,
     crc: &Crc64,
+    header: &ShareHeader,
     source: &mut S,
-) -> Result<ShareHeader, ShareFault>
-    // Whatever file the source shows: it is whole, or this is its first fault.
-    ensures whole { (file : List ℕ) → Shows file (S.given source.new) (S.ends source.new) → IfOk result (λ header. IsWhole header file) }
-    ensures fault { (file : List ℕ) → Shows file (S.given source.new) (S.ends source.new) → IfErr result (IsFirstFault file) }
+) -> Result<(), ShareFault>
+    // Whatever file the source shows: it is that share, whole, or this is its first fault.
+    ensures whole { (file : List ℕ) → Shows file (S.given source.new) (S.ends source.new) → OnOk result (IsWhole header.now file) }
+    ensures fault { (file : List ℕ) → Shows file (S.given source.new) (S.ends source.new) → IfErr result (IsFirstFault header.now file) }
     ensures cause { IsErrOf result ShareFault.ReadFault → OneFails (S.failed source.old) (S.failed source.new) }
     ensures steady { (IsErrOf result ShareFault.ReadFault → ⊥) → S.failed source.new ≡ S.failed source.old }
 {
-    let header = match read_share_header(source, crc) {
-        Ok(header) => header,
+    let found = match read_share_header(source, crc) {
+        Ok(found) => found,
         Err(refusal) => return Err(refused(refusal)),
     };
-    match check_rest(alloc, crc, source, &header) {
-        Ok(()) => Ok(header),
-        Err(fault) => Err(fault),
+    if !is_header(&found, header) {
+        return Err(ShareFault::Foreign);
     }
+    check_rest(alloc, crc, source, header)
 }

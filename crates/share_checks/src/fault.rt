@@ -1,5 +1,6 @@
-//! Why a file is no whole share.
+//! Why a file isn't the whole share that it should be.
 ghost use Rattle.std.specs.Prelude.{◌≡◌, ◌↔◌, ℕ, List};
+ghost use Rattle.share_format.specs.Header.{Header};
 ghost use Rattle.share_files.specs.Refused.{IsRefusal};
 ghost use Rattle.share_checks.specs.Whole.{IsFirstFault};
 ghost use Rattle.share_checks.specs.declared.fault.ShareFault.TheVariants.{ReadFault, OutOfMemory};
@@ -17,6 +18,9 @@ pub enum ShareFault {
     Short,
     #[error("{0}")]
     Header(BadHeader),
+    /// The header is another one than that of the share.
+    #[error("its header tells another share, or another file or code")]
+    Foreign,
     /// What stands between the header and the first block isn't zeros, or the file ends there.
     #[error("the header isn't filled up with zeros")]
     Padding,
@@ -33,7 +37,7 @@ pub enum ShareFault {
 
 /// The fault of a file whose header is refused.
 pub(crate) fn refused(refusal: HeaderRefusal) -> ShareFault
-    ensures fault { (file : List ℕ) → IsRefusal file refusal → IsFirstFault file result }
+    ensures fault { (h : Header) (file : List ℕ) → IsRefusal file refusal → IsFirstFault h file result }
     ensures read { (result ≡ ShareFault.ReadFault) ↔ (refusal ≡ HeaderReadFault) }
 {
     match refusal {
@@ -45,7 +49,7 @@ pub(crate) fn refused(refusal: HeaderRefusal) -> ShareFault
 
 /// The same of what can't be read.
 pub(crate) fn unread(fault: BlockFault) -> ShareFault
-    ensures fault { (file : List ℕ) → IsFirstFault file result }
+    ensures fault { (h : Header) (file : List ℕ) → IsFirstFault h file result }
     ensures read { (result ≡ ShareFault.ReadFault) ↔ (fault ≡ BlockReadFault) }
 {
     match fault {

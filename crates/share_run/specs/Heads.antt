@@ -1,7 +1,9 @@
--- The headers of shares, by their numbers.
-use Rattle.std.specs.Prelude.{◌≡◌, ◌≢◌, ◌<◌, ◌⊎◌, ℕ, List, length, take, get_or, Option, None, Some, Result, Ok, Err}
+-- The headers of shares, by their numbers, and the cut that most of these shares are of.
+use Rattle.std.specs.Prelude.{◌≡◌, ◌<◌, ◌≤◌, ℕ, nat_eq, Bool, false, ◌&&◌, List, length, take, get_or, Option, None, Some, Result, Ok, Err}
+use Rattle.clay_grid.specs.Score.{count_below}
+use Rattle.clay_aloof.specs.Shape.{AloofShape}
 use Rattle.file_bytes.specs.Places.{Shows}
-use Rattle.share_format.specs.Header.{Header, header_bytes}
+use Rattle.share_format.specs.Header.{Header, header_with, header_bytes}
 use Rattle.share_files.specs.Seen.{Seen, seen_of}
 use Rattle.share_files.specs.Refused.{IsRefusal}
 use Rattle.share_files.specs.declared.reading.HeaderRefusal.{HeaderRefusal}
@@ -28,27 +30,36 @@ head_of heads c = get_or heads c (Err Short)
 abbrev pub AreHeads : List Seen → List Head → Type 0
 AreHeads sources heads = (c : ℕ) → c < length heads → IsHeadOf (seen_of sources c) (head_of heads c)
 
--- two headers are of one cut of one file
-abbrev pub AreOfOneCut : Header → Header → Type 0
-AreOfOneCut g h = (g.shape ≡ h.shape) × (g.size ≡ h.size) × (g.checksum ≡ h.checksum)
+-- the header of the share of a number, of the same cut
+abbrev pub numbered : Header → ℕ → Header
+numbered h c = header_with h.shape c h.size h.checksum
 
--- a share has the header of its number of a cut, or none
-abbrev pub Fits : Header → ℕ → Head → Type 0
-Fits h c (Ok header) = (header.share ≡ c) × AreOfOneCut header h
-Fits h c (Err refusal) = Unit {0}
+-- whether two codes are the same, with their helpers and widths
+abbrev pub is_code : AloofShape → AloofShape → Bool
+is_code a b = nat_eq a.data_count b.data_count && (nat_eq a.parity_count b.parity_count && (nat_eq a.helper_count b.helper_count && nat_eq a.width b.width))
+
+-- whether a share has the header of its number, of the cut that a header is of
+abbrev pub is_of : Header → ℕ → Head → Bool
+is_of h c (Ok header) = nat_eq header.share c && (is_code header.shape h.shape && (nat_eq header.size h.size && nat_eq header.checksum h.checksum))
+is_of h c (Err refusal) = false
+
+-- how many shares have one
+abbrev pub share_count : List Head → Header → ℕ
+share_count heads h = count_below (length heads) (λ c. is_of h c (head_of heads c))
 
 abbrev pub HasNone : Head → Type 0
 HasNone (Ok header) = ⊥
 HasNone (Err refusal) = Unit {0}
 
--- what the first so many shares' headers tell: nothing, where there is none; or a cut, where one is of it and all fit it
+-- a header of one of the first so many shares: by the header of no other of them more shares are of its cut, and by none before it as many
+pub record IsMostShared (heads : List Head) (count : ℕ) (h : Header) : Type 0 where
+  pub share : ℕ
+  pub within : share < count
+  pub there : head_of heads share ≡ Ok h
+  pub most : (c : ℕ) (other : Header) → c < count → head_of heads c ≡ Ok other → share_count heads other ≤ share_count heads h
+  pub first : (c : ℕ) (other : Header) → c < share → head_of heads c ≡ Ok other → share_count heads other < share_count heads h
+
+-- what the first so many shares' headers tell: nothing, where there is none; or the cut that most shares are of
 abbrev pub Tell : List Head → ℕ → Option Header → Type 0
 Tell heads count None = (c : ℕ) → c < count → HasNone (head_of heads c)
-Tell heads count (Some h) = ((c : ℕ) × (c < count) × (head_of heads c ≡ Ok h)) × ((c : ℕ) → c < count → Fits h c (head_of heads c))
-
--- a share's header tells another number than the share has, or another cut than the header of one before it
-pub record IsForeign (heads : List Head) (c : ℕ) : Type 0 where
-  pub header : Header
-  pub within : c < length heads
-  pub there : head_of heads c ≡ Ok header
-  pub foreign : (header.share ≢ c) ⊎ ((b : ℕ) × (first : Header) × (b < c) × (head_of heads b ≡ Ok first) × (AreOfOneCut header first → ⊥))
+Tell heads count (Some h) = IsMostShared heads count h

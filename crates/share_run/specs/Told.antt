@@ -1,16 +1,12 @@
 -- One more header, beside what those before it tell.
-use Rattle.std.specs.Prelude.{◌≡◌, ◌≢◌, ◌⊎◌, ℕ, Option, None, Some, Ok, Err}
+use Rattle.std.specs.Prelude.{◌≡◌, ◌<◌, ◌≤◌, ◌⊎◌, Option, None, Some, List, Ok, Err}
 use Rattle.share_format.specs.Header.{Header}
-use Rattle.share_run.specs.Heads.{Head, AreOfOneCut}
+use Rattle.share_run.specs.Heads.{Head, share_count}
 
--- what they tell with this one, which fits
-abbrev pub TellsNext : Option Header → ℕ → Head → Option Header → Type 0
-TellsNext told c (Err refusal) next = next ≡ told
-TellsNext None c (Ok header) next = (next ≡ Some header) × (header.share ≡ c)
-TellsNext (Some first) c (Ok header) next = (next ≡ Some first) × (header.share ≡ c) × AreOfOneCut header first
-
--- or it doesn't fit
-abbrev pub IsUnfit : Option Header → ℕ → Head → Type 0
-IsUnfit told c (Err refusal) = ⊥
-IsUnfit None c (Ok header) = header.share ≢ c
-IsUnfit (Some first) c (Ok header) = (header.share ≢ c) ⊎ (AreOfOneCut header first → ⊥)
+-- what they tell with this one
+abbrev pub TellsNext : List Head → Option Header → Head → Option Header → Type 0
+TellsNext heads told (Err refusal) next = next ≡ told
+TellsNext heads None (Ok header) next = next ≡ Some header
+TellsNext heads (Some first) (Ok header) next =
+    ((next ≡ Some first) × (share_count heads header ≤ share_count heads first))
+    ⊎ ((next ≡ Some header) × (share_count heads first < share_count heads header))

@@ -3,25 +3,31 @@ ghost use Rattle.std.specs.Prelude.{◌≡◌, ◌^◌, ◌<◌, length, map, If
 ghost use Rattle.clay_grid.specs.Score.{count_below};
 ghost use Rattle.clay_aloof.specs.Shape.{all_chunks};
 ghost use Rattle.share_files.specs.Seen.{seen};
-ghost use Rattle.share_run.specs.Check.{IsVerdictOf, AreVerdicts, is_whole, CheckEnds};
+ghost use Rattle.share_run.specs.Heads.{numbered};
+ghost use Rattle.share_run.specs.Check.{IsVerdictOf, AreJudged, is_whole, CheckEnds};
 
 use crate::ShareStatus;
+use crate::headers::header_of_share;
 use crc64::Crc64;
 use file_bytes::SourceAt;
 use share_checks::{ShareFault, check_share};
 use share_format::ShareHeader;
 use std::alloc::{AllocError, Global};
 
-// The first fault of a share. The error is an allocation failure.
+// The first fault of the share of a number. The error is an allocation failure.
 fn fault_of<S: SourceAt>(
     alloc: Global,
     crc: &Crc64,
+    header: &ShareHeader,
+    share: u32,
     source: &mut S,
 ) -> Result<Option<ShareFault>, AllocError>
-    ensures { IfOk result (IsVerdictOf (seen (S.given source.new) (S.ends source.new) (S.failed source.new))) }
+    requires { share < all_chunks header.now.shape }
+    ensures { IfOk result (IsVerdictOf (numbered header.now share) (seen (S.given source.new) (S.ends source.new) (S.failed source.new))) }
 {
-    match check_share(alloc, crc, source) {
-        Ok(_header) => Ok(None),
+    let own = header_of_share(header, share);
+    match check_share(alloc, crc, &own, source) {
+        Ok(()) => Ok(None),
         Err(ShareFault::OutOfMemory) => Err(AllocError),
         Err(fault) => Ok(Some(fault)),
     }
@@ -31,18 +37,21 @@ fn fault_of<S: SourceAt>(
 fn judge_all<S: SourceAt>(
     alloc: Global,
     crc: &Crc64,
+    header: &ShareHeader,
     sources: &mut [S],
     verdicts: &mut [Option<ShareFault>],
 ) -> Result<(), AllocError>
-    requires { length verdicts.old ≡ length sources.old }
-    ensures judged { OnOk result (AreVerdicts (length sources.new) (map (λ s. seen (S.given s) (S.ends s) (S.failed s)) sources.new) verdicts.new) }
-    ensures count { length sources.new ≡ length sources.old }
+    requires sources { length sources.old ≡ all_chunks header.now.shape }
+    requires verdicts { length verdicts.old ≡ all_chunks header.now.shape }
+    ensures judged { OnOk result (AreJudged header.now (map (λ s. seen (S.given s) (S.ends s) (S.failed s)) sources.new) verdicts.new) }
     ensures verdicts { length verdicts.new ≡ length verdicts.old }
 {
-    for share in 0..sources.len() {
-        let source = &mut sources[share];
-        let verdict = fault_of(alloc, crc, source)?;
-        verdicts[share] = verdict;
+    let shares = header.geometry().n();
+    for share in 0..shares {
+        let at = share as usize;
+        let source = &mut sources[at];
+        let verdict = fault_of(alloc, crc, header, share, source)?;
+        verdicts[at] = verdict;
     }
     Ok(())
 }
@@ -61,30 +70,34 @@ fn whole_count(verdicts: &[Option<ShareFault>]) -> usize
     count
 }
 
-/// Judges each share of a file, and notes the first fault of each. All sources are of one cut, as far as they have a header.
+/// Judges each share of the header's cut, and notes the first fault of each. Strays are files with a share's name, of a number that none has.
 pub fn check_main<S: SourceAt>(
     alloc: Global,
     crc: &Crc64,
     header: &ShareHeader,
+    strays: bool,
     sources: &mut [S],
     verdicts: &mut [Option<ShareFault>],
 ) -> ShareStatus
     requires sources { length sources.old ≡ all_chunks header.now.shape }
     requires verdicts { length verdicts.old ≡ all_chunks header.now.shape }
-    ensures { CheckEnds result header.now (map (λ s. seen (S.given s) (S.ends s) (S.failed s)) sources.new) verdicts.new }
+    ensures { CheckEnds result header.now strays (map (λ s. seen (S.given s) (S.ends s) (S.failed s)) sources.new) verdicts.new }
 {
     let shares = header.geometry().n() as usize;
     let enough = header.geometry().k() as usize;
-    match judge_all(alloc, crc, sources, verdicts) {
+    match judge_all(alloc, crc, header, sources, verdicts) {
         Ok(()) => {}
         Err(AllocError) => return ShareStatus::OutOfMemory,
     }
     let whole = whole_count(verdicts);
-    if whole == shares {
-        return ShareStatus::Done;
-    }
     if whole < enough {
         return ShareStatus::TooFew;
     }
-    ShareStatus::BadShare
+    if whole < shares {
+        return ShareStatus::BadShare;
+    }
+    if strays {
+        return ShareStatus::BadShare;
+    }
+    ShareStatus::Done
 }

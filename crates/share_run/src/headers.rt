@@ -1,8 +1,9 @@
-//! The headers of shares, by their numbers, and whether they are of one cut.
-ghost use Rattle.std.specs.Prelude.{◌≡◌, ◌↔◌, length, map, vec_len, IfOk, OnErr, IfErr, IsTrue};
+//! The headers of shares, by their numbers, and the cut that most of them are of.
+ghost use Rattle.std.specs.Prelude.{◌≡◌, ◌↔◌, ◌<◌, length, map, IfOk, IsTrue, Ok};
+ghost use Rattle.clay_aloof.specs.Shape.{all_chunks};
 ghost use Rattle.share_files.specs.Seen.{seen};
-ghost use Rattle.share_run.specs.Heads.{AreHeads, AreOfOneCut, Tell, IsForeign};
-ghost use Rattle.share_run.specs.Told.{TellsNext, IsUnfit};
+ghost use Rattle.share_run.specs.Heads.{AreHeads, numbered, is_of, share_count, Tell};
+ghost use Rattle.share_run.specs.Told.{TellsNext};
 
 use crc64::Crc64;
 use file_bytes::SourceAt;
@@ -12,12 +13,6 @@ use std::alloc::{AllocError, Global};
 
 /// A share's header, or why it has none.
 pub type Head = Result<ShareHeader, HeaderRefusal>;
-
-/// The share of this number has a header of another share or of another cut.
-#[derive(Clone, Copy, Debug, PartialEq, Eq)]
-pub struct ForeignShare {
-    pub share: usize,
-}
 
 /// The header of each share.
 pub fn read_heads<S: SourceAt>(
@@ -39,50 +34,79 @@ pub fn read_heads<S: SourceAt>(
 
 // Whether two headers are of one cut.
 fn of_one_cut(one: &ShareHeader, other: &ShareHeader) -> bool
-    ensures { IsTrue result ↔ AreOfOneCut one.now other.now }
+    ensures { IsTrue result ↔ ((one.now.shape ≡ other.now.shape) × (one.now.size ≡ other.now.size) × (one.now.checksum ≡ other.now.checksum)) }
 {
     one.geometry() == other.geometry()
         && one.size() == other.size()
         && one.checksum() == other.checksum()
 }
 
-// What headers tell with one more, or the error that it doesn't fit.
-fn next_told(
-    told: Option<ShareHeader>,
-    share: usize,
-    head: &Head,
-) -> Result<Option<ShareHeader>, ForeignShare>
-    ensures next { IfOk result (TellsNext told share head.now) }
-    ensures unfit { IfErr result (λ foreign. (foreign.share ≡ share) × IsUnfit told share head.now) }
+// Whether a header is that of a share of the same cut.
+fn is_share_of(cut: &ShareHeader, share: usize, header: &ShareHeader) -> bool
+    ensures { result ≡ is_of cut.now share (Ok header.now) }
 {
-    let header = match head {
-        Ok(header) => header,
-        Err(_) => return Ok(told),
-    };
-    if header.share() as usize != share {
-        return Err(ForeignShare { share });
-    }
-    let Some(first) = told else {
-        return Ok(Some(*header));
-    };
-    if of_one_cut(header, &first) {
-        Ok(Some(first))
-    } else {
-        Err(ForeignShare { share })
+    header.share() as usize == share && of_one_cut(header, cut)
+}
+
+/// Whether a share has the header of its number, of a cut.
+pub fn is_of_cut(cut: &ShareHeader, share: usize, head: &Head) -> bool
+    ensures { result ≡ is_of cut.now share head.now }
+{
+    match head {
+        Ok(header) => is_share_of(cut, share, header),
+        Err(_) => false,
     }
 }
 
-/// What the headers of all shares tell: the header of one of them, which all others fit, and none where no share has one.
-pub fn told_header(heads: &[Head]) -> Result<Option<ShareHeader>, ForeignShare>
-    ensures told { IfOk result (Tell heads.now (length heads.now)) }
-    ensures foreign { IfErr result (λ foreign. IsForeign heads.now foreign.share) }
+// How many shares have the header of their number, of a cut.
+fn shares_of(heads: &[Head], cut: &ShareHeader) -> usize
+    ensures { result ≡ share_count heads.now cut.now }
+{
+    let mut count = 0;
+    for share in 0..heads.len() {
+        if is_of_cut(cut, share, &heads[share]) {
+            count += 1;
+        }
+    }
+    count
+}
+
+// What headers tell with one more: that of whose cut there are more shares.
+fn next_told(heads: &[Head], told: Option<ShareHeader>, head: &Head) -> Option<ShareHeader>
+    ensures { TellsNext heads.now told head.now result }
+{
+    let header = match head {
+        Ok(header) => header,
+        Err(_) => return told,
+    };
+    let Some(first) = told else {
+        return Some(*header);
+    };
+    if shares_of(heads, &first) < shares_of(heads, header) {
+        Some(*header)
+    } else {
+        Some(first)
+    }
+}
+
+/// What the headers of all shares tell: the cut that most of them are of, as the first of its headers; and none where no share has a header. Of
+/// two cuts with as many shares it is that of the first header.
+pub fn told_header(heads: &[Head]) -> Option<ShareHeader>
+    ensures told { Tell heads.now (length heads.now) result }
 {
     let mut told = None;
     for share in 0..heads.len() {
-        told = match next_told(told, share, &heads[share]) {
-            Ok(next) => next,
-            Err(foreign) => return Err(foreign),
-        };
+        told = next_told(heads, told, &heads[share]);
     }
-    Ok(told)
+    told
+}
+
+/// The header of the share of a number, of the same cut.
+pub fn header_of_share(cut: &ShareHeader, share: u32) -> ShareHeader
+    requires { share < all_chunks cut.now.shape }
+    ensures { result ≡ numbered cut.now share }
+{
+    // a header's limits are known once its stripes are counted
+    let _stripes = cut.stripe_count();
+    ShareHeader::new(cut.geometry(), share, cut.size(), cut.checksum())
 }

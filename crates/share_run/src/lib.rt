@@ -14,11 +14,14 @@ mod rebuilding;
 mod said;
 mod serving;
 mod status;
+#[cfg(test)]
+mod tests;
+mod told_file;
 
 pub use checking::check_main;
 pub use cutting::cut_main;
 pub use fill_log::FillLog;
-pub use headers::{ForeignShare, Head, read_heads, told_header};
+pub use headers::{Head, header_of_share, is_of_cut, read_heads, told_header};
 pub use helpers::choose_helpers;
 pub use joining::join_main;
 pub use laws::{cut_shares_join, cut_shares_mend};
@@ -28,3 +31,4 @@ pub use rebuilding::rebuild_main;
 pub use said::{ends, ends_short, exit_with, fails};
 pub use serving::{serve_check, serve_cut, serve_join, serve_mend, serve_rebuild};
 pub use status::ShareStatus;
+pub use told_file::{Progress, ToldFile};

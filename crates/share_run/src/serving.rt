@@ -178,27 +178,28 @@ pub fn serve_rebuild<R: Eprint, S: SourceAt, K: SinkAt, P: Places<K>>(
 fn check_trouble(status: ShareStatus) -> &'static str {
     match status {
         ShareStatus::TooFew => "fewer of its shares are whole than its file needs",
-        ShareStatus::BadShare => "not all of its shares are whole",
+        ShareStatus::BadShare => "not all shares in it are whole ones of its file",
         ShareStatus::OutOfMemory => "there was not enough memory",
         _ => "its shares are whole",
     }
 }
 
-/// Judges each share of a file, and notes the first fault of each. Says why it ended, if not well, and ends with the number of that status.
+/// Judges each share of the header's cut, and notes the first fault of each. Strays are as in `check_main`. Says why it ended, if not well, and ends with the number of that status.
 pub fn serve_check<R: Eprint, S: SourceAt>(
     rt: &R,
     alloc: Global,
     crc: &Crc64,
     header: &ShareHeader,
     folder: &str,
+    strays: bool,
     sources: &mut [S],
     verdicts: &mut [Option<ShareFault>],
 ) -> ExitCode
     requires sources { length sources.old ≡ all_chunks header.now.shape }
     requires verdicts { length verdicts.old ≡ all_chunks header.now.shape }
     ensures exit { (status : ShareStatus) × (exit_status result ≡ status_number status)
-        × CheckEnds status header.now (map (λ s. seen (S.given s) (S.ends s) (S.failed s)) sources.new) verdicts.new }
+        × CheckEnds status header.now strays (map (λ s. seen (S.given s) (S.ends s) (S.failed s)) sources.new) verdicts.new }
 {
-    let status = check_main(alloc, crc, header, sources, verdicts);
+    let status = check_main(alloc, crc, header, strays, sources, verdicts);
     ended(rt, status, folder, check_trouble(status))
 }

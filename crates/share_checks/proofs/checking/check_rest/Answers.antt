@@ -36,7 +36,7 @@ ends_at-requires g c =
 -- ---- the header's zeros
 
 pub returns-in-Err-clause-fault : goal.returns-in-Err-clause-fault
-returns-in-Err-clause-fault g c = λ file shows first. c.unread.ensures.fault file
+returns-in-Err-clause-fault g c = λ file shows first. c.unread.ensures.fault c.args.header.now file
 
 pub returns-in-Err-clause-cause : goal.returns-in-Err-clause-cause
 returns-in-Err-clause-cause g c = λ e. c.in-Err.ensures.cause (fault_is _ _ (c.unread.ensures.read.0 (fault_of _ _ e)))
@@ -63,7 +63,7 @@ pub returns-in-Ok-Some-clause-shown : goal.returns-in-Ok-Some-clause-shown
 returns-in-Ok-Some-clause-shown g c = λ file shows. c.in-Ok.ensures.shown file (c.in-Ok-Some.ensures.shown file shows)
 
 pub returns-in-Err-first_rotten-clause-fault : goal.returns-in-Err-first_rotten-clause-fault
-returns-in-Err-first_rotten-clause-fault g c = λ file shows first. c.unread-in-Err-first_rotten.ensures.fault file
+returns-in-Err-first_rotten-clause-fault g c = λ file shows first. c.unread-in-Err-first_rotten.ensures.fault c.args.header.now file
 
 pub returns-in-Err-first_rotten-clause-shown : goal.returns-in-Err-first_rotten-clause-shown
 returns-in-Err-first_rotten-clause-shown g c = λ file shows. c.in-Ok.ensures.shown file (c.in-Err-first_rotten.ensures.shown file shows)
@@ -79,7 +79,7 @@ returns-in-Err-first_rotten-clause-steady g c = λ other.
 -- ---- the end
 
 pub returns-in-Err-ends_at-clause-fault : goal.returns-in-Err-ends_at-clause-fault
-returns-in-Err-ends_at-clause-fault g c = λ file shows first. c.unread-in-Err-ends_at.ensures.fault file
+returns-in-Err-ends_at-clause-fault g c = λ file shows first. c.unread-in-Err-ends_at.ensures.fault c.args.header.now file
 
 pub returns-in-Err-ends_at-clause-shown : goal.returns-in-Err-ends_at-clause-shown
 returns-in-Err-ends_at-clause-shown g c = λ file shows. c.in-Ok.ensures.shown file (c.in-Ok-None.ensures.shown file (c.in-Err-ends_at.ensures.shown file shows))

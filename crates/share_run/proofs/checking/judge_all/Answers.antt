@@ -1,4 +1,5 @@
-use Rattle.std.proofs.Common.{◌≡◌, ◌<◌, ℕ, length, length-set, ◌∙◌, arith}
+use Rattle.std.proofs.Common.{◌≡◌, ◌<◌, ℕ, length, length-set, ◌∙◌, ap, arith}
+use Rattle.clay_aloof.specs.Shape.{all_chunks}
 use Rattle.share_files.specs.Seen.{seen}
 use Rattle.share_run.proofs.CheckLemmas.{verdicts_more}
 use Rattle.share_run.proofs.checking.judge_all.Goals as goal
@@ -8,16 +9,18 @@ loop-share-preserved g c =
     let now = c.loop-share.sources in
     let share : ℕ = c.loop-share.share in
     let inv = c.loop-share.invariant in
-    let less : share < length now = omega arith in
-    let there : share < length c.loop-share.verdicts = omega arith in
+    let all : c.n-shares.result ≡ all_chunks c.args.header.now.shape = c.n-shares.ensures.value ∙ ap all_chunks c.geometry.ensures in
+    let less : share < length now = omega (arith, all) in
+    let there : share < length c.loop-share.verdicts = omega (arith, all) in
     record {
       all = length-set now share c.fault_of.new.source ∙ inv.all;
       count = length-set c.loop-share.verdicts share c.in_ok-verdict.verdict ∙ inv.count;
-      judged = verdicts_more (λ s. seen (g.S.SourceAt.given s) (g.S.SourceAt.ends s) (g.S.SourceAt.failed s)) now share c.fault_of.new.source less
+      judged = verdicts_more c.args.header.now (λ s. seen (g.S.SourceAt.given s) (g.S.SourceAt.ends s) (g.S.SourceAt.failed s)) now share c.fault_of.new.source less
           c.loop-share.verdicts c.in_ok-verdict.verdict there c.in_ok-verdict.ensures inv.judged;
     }
 
 pub returns-clause-judged : goal.returns-clause-judged
 returns-clause-judged g c = λ i less.
-    let within : i < c.loop-share.share = omega (arith, less) in
+    let all : c.n-shares.result ≡ all_chunks c.args.header.now.shape = c.n-shares.ensures.value ∙ ap all_chunks c.geometry.ensures in
+    let within : i < c.loop-share.share = omega (arith, less, all) in
     c.loop-share.invariant.judged i within

@@ -7,5 +7,5 @@ abbrev pub invariant-loop-share : goal.invariant-loop-share
 invariant-loop-share g l = record {
   all : length l.sources ≡ length l.fn.sources;
   count : length l.verdicts ≡ length l.fn.verdicts;
-  judged : AreVerdicts l.share (map (λ s. seen (g.S.SourceAt.given s) (g.S.SourceAt.ends s) (g.S.SourceAt.failed s)) l.sources) l.verdicts;
+  judged : AreVerdicts l.header l.share (map (λ s. seen (g.S.SourceAt.given s) (g.S.SourceAt.ends s) (g.S.SourceAt.failed s)) l.sources) l.verdicts;
 }

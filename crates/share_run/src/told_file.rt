@@ -7,7 +7,7 @@ use std::os::unix::fs::FileExt;
 
 /// How far a command has come: how many bytes were moved, of how many in all. Of none nothing is told.
 #[derive(Drop)]
-pub(crate) struct Progress {
+pub struct Progress {
     is_shown: bool,
     all: Cell<u64>,
     moved: Cell<u64>,
@@ -23,7 +23,7 @@ fn percent_of(moved: u64, all: u64) -> u64 {
 
 impl Progress {
     /// Nothing is told before it begins, nor where standard error is no terminal.
-    pub(crate) fn new(is_shown: bool) -> Self {
+    pub fn new(is_shown: bool) -> Self {
         Progress {
             is_shown,
             all: Cell::new(0),
@@ -32,7 +32,7 @@ impl Progress {
     }
 
     /// So many bytes are to be moved from here on.
-    pub(crate) fn begin(&self, all: u64) {
+    pub fn begin(&self, all: u64) {
         if self.is_shown {
             self.all.set(all);
             self.moved.set(0);
@@ -58,7 +58,7 @@ impl Progress {
 
 /// An open file of std. It says why a call failed, the first time, and may count for the progress.
 #[derive(Drop)]
-pub(crate) struct ToldFile<'a, R: Eprint> {
+pub struct ToldFile<'a, R: Eprint> {
     rt: &'a R,
     path: String,
     file: File,
@@ -67,7 +67,7 @@ pub(crate) struct ToldFile<'a, R: Eprint> {
 }
 
 impl<'a, R: Eprint> ToldFile<'a, R> {
-    pub(crate) fn new(rt: &'a R, path: String, file: File, progress: Option<&'a Progress>) -> Self {
+    pub fn new(rt: &'a R, path: String, file: File, progress: Option<&'a Progress>) -> Self {
         ToldFile {
             rt,
             path,
