@@ -9,7 +9,7 @@ use Rattle.file_bytes.specs.Places.{FailsIn}
 use Rattle.clay_aloof.specs.Shape.{AloofShape}
 use Rattle.share_format.specs.Cut.{stripe_count}
 use Rattle.share_format.specs.Blocks.{page_of, rounded, aligned, block_of, block_length, IsBlock}
-use Rattle.share_format.specs.Header.{Header, header_with, header_bytes}
+use Rattle.share_format.specs.Header.{Header, IsHeader, header_with, header_bytes}
 use Rattle.share_format.specs.Shares.{block_start, chunks_at, share_length, IsShare}
 use Rattle.share_format.proofs.Blocks.{share_has_length}
 use Rattle.share_format.proofs.Lengths.{length_aligned, length_header}
@@ -113,8 +113,8 @@ moved P a b n count shape number h = subst (λ k. P b k) number (subst (λ x. P 
 pub is_unfilled : (h : Header) (file : List ℕ) → take 64 file ≡ header_bytes h → ¬ BeginsWith h file → IsUnfilled h file
 is_unfilled h file first differs = record { first = first; differs = differs }
 
-pub is_foreign : (h found : Header) (file : List ℕ) → take 64 file ≡ header_bytes found → found ≢ h → IsForeign h file
-is_foreign h found file first other = record { header = found; first = first; other = other }
+pub is_foreign : (h found : Header) (file : List ℕ) → IsHeader found → take 64 file ≡ header_bytes found → found ≢ h → IsForeign h file
+is_foreign h found file bounded first other = record { header = found; bounded = bounded; first = first; other = other }
 
 pub is_rotten : (h : Header) (file : List ℕ) (stripe : ℕ) → BeginsWith h file → IsFirstRotten h.shape (stripe_count h.shape h.size) file (Some stripe) → IsRottenAt h file stripe
 is_rotten h file stripe begins rotten = record { begins = begins; rotten = rotten }

@@ -2,7 +2,7 @@
 use Rattle.std.specs.Prelude.{◌≡◌, ◌≢◌, ℕ, ◌<◌, List, ◌++◌, [], ◌∷◌, length, take, Some, None}
 use Rattle.share_format.specs.Cut.{stripe_count}
 use Rattle.share_format.specs.Blocks.{page_of, rounded, aligned}
-use Rattle.share_format.specs.Header.{Header, header_bytes}
+use Rattle.share_format.specs.Header.{Header, IsHeader, header_bytes}
 use Rattle.share_format.specs.Shares.{share_length}
 use Rattle.share_files.specs.Found.{IsFirstRotten}
 use Rattle.share_files.specs.Refused.{IsRefusal}
@@ -23,6 +23,7 @@ pub record IsWhole (h : Header) (file : List ℕ) : Type 0 where
 -- another header is there
 pub record IsForeign (h : Header) (file : List ℕ) : Type 0 where
   pub header : Header
+  pub bounded : IsHeader header
   pub first : take 64 file ≡ header_bytes header
   pub other : header ≢ h
 

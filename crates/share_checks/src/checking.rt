@@ -1,7 +1,7 @@
 //! A share's file judged from its front to its end.
 ghost use Rattle.std.specs.Prelude.{◌≡◌, ◌↔◌, ◌+◌, ◌^◌, ◌≤◌, ◌<◌, ℕ, List, None, length, take, IfOk, IfErr, OnOk, IsErrOf, IsTrue};
 ghost use Rattle.file_bytes.specs.Places.{Shows};
-ghost use Rattle.share_format.specs.Header.{header_bytes};
+ghost use Rattle.share_format.specs.Header.{IsHeader, header_bytes};
 ghost use Rattle.share_checks.specs.Whole.{BeginsWith, IsWhole, IsFirstFault, OneFails};
 
 use crate::fault::{ShareFault, refused, unread};
@@ -101,8 +101,11 @@ fn check_rest<S: SourceAt>(
 
 // Whether two headers tell the same.
 fn is_header(found: &ShareHeader, header: &ShareHeader) -> bool
-    ensures { IsTrue result ↔ (found.now ≡ header.now) }
+    ensures same { IsTrue result ↔ (found.now ≡ header.now) }
+    ensures bounded { IsHeader found.now }
 {
+    // a header's limits are known once its stripes are counted
+    let _stripes = found.stripe_count();
     found == header
 }
 
