@@ -1,32 +1,44 @@
 -- Headers that are read and judged one after another.
-use Rattle.std.proofs.Common.{◌≡◌, ◌≢◌, ◌⊎◌, ℕ, ◌+◌, ◌<◌, List, [], ◌∷◌, ◌++◌, length, get_or, map, Option, None, Some, Ok, Err, refl, sym, subst, ap, inl, inr, arith, take, IfOk, IfErr, ◌≤◌, below_more}
+use Rattle.std.proofs.Common.{◌≡◌, ◌≢◌, ℕ, ◌+◌, ◌<◌, List, [], ◌∷◌, ◌++◌, length, get_or, map, Option, None, Some, Ok, Err, refl, sym, subst, ap, inl, inr, arith, take, IfOk, IfErr, IsErrOf, ◌≤◌, below_more}
 use Rattle.std.proofs.Math.ListN.{set}
 use Rattle.std.proofs.lemmas.List.{length_push, get_or_append_left, get_or_push}
+use Rattle.file_bytes.specs.Places.{FailsIn}
 use Rattle.share_format.specs.Header.{Header, header_bytes}
 use Rattle.share_files.specs.Seen.{Seen, seen_of}
 use Rattle.share_files.specs.Refused.{IsRefusal}
-use Rattle.share_files.specs.declared.reading.HeaderRefusal.TheVariants.{Short}
-use Rattle.share_run.specs.Heads.{Head, IsHead, IsHeadOf, head_of, AreHeads, share_count, HasNone, IsMostShared, Tell}
-use Rattle.share_run.proofs.SeenLemmas.{own, other}
+use Rattle.share_files.specs.declared.reading.HeaderRefusal.TheVariants.{ReadFault, Short, Bad}
+use Rattle.share_run.specs.Heads.{Head, IsHead, FailsFor, IsHeadOf, head_of, AreHeads, share_count, HasNone, IsMostShared, Tell}
+use Rattle.share_run.proofs.SeenLemmas.{own, other, was}
 use Rattle.share_run.specs.Told.{TellsNext}
 
-module _ {X : Type 0} (f : X → Seen) (xs : List X) (share : ℕ) (new : X) (within : share < length xs) where
+module _ {X : Type 0} (f : X → Seen) (olds xs : List X) (share : ℕ) (old new : X) (within : share < length xs) (here : old ≡ get_or xs share old)
+    (others : (c : ℕ) → share ≤ c → seen_of (map f xs) c ≡ seen_of (map f olds) c) where
   -- one more header
-  pub heads_more : (heads : List Head) (head : Head) → length heads ≡ share → IsHeadOf (f new) head → AreHeads (map f xs) heads →
-      AreHeads (map f (set xs share new)) (heads ++ head ∷ [])
+  pub heads_more : (heads : List Head) (head : Head) → length heads ≡ share → IsHeadOf (f old) (f new) head → AreHeads (map f olds) (map f xs) heads →
+      AreHeads (map f olds) (map f (set xs share new)) (heads ++ head ∷ [])
   heads_more heads head count is so = λ c less.
       let long : length (heads ++ head ∷ []) ≡ length heads + 1 = length_push heads head in
-      below_more (λ i. IsHeadOf (seen_of (map f (set xs share new)) i) (head_of (heads ++ head ∷ []) i)) share
+      below_more (λ i. IsHeadOf (seen_of (map f olds) i) (seen_of (map f (set xs share new)) i) (head_of (heads ++ head ∷ []) i)) share
       (λ i below.
       let differs : i ≢ share = omega (arith, below) in
-      let P : Seen → Type 0 = λ s. IsHeadOf s (head_of heads i) in
-      let Q : Head → Type 0 = λ h. IsHeadOf (seen_of (map f (set xs share new)) i) h in
+      let P : Seen → Type 0 = λ s. IsHeadOf (seen_of (map f olds) i) s (head_of heads i) in
+      let Q : Head → Type 0 = λ h. IsHeadOf (seen_of (map f olds) i) (seen_of (map f (set xs share new)) i) h in
       subst Q (sym (get_or_append_left heads (head ∷ []) (Err Short) i (omega (arith, below, count))))
       (subst P (sym (other f xs share new within i differs)) (so i (omega (arith, below, count)))))
-      (let P : Seen → Type 0 = λ s. IsHeadOf s head in
-      let Q : Head → Type 0 = λ h. IsHeadOf (seen_of (map f (set xs share new)) share) h in
-      subst Q (sym (get_or_push heads head (Err Short) share count)) (subst P (sym (own f xs share new within)) is))
+      (let O : Seen → Type 0 = λ s. IsHeadOf s (f new) head in
+      let P : Seen → Type 0 = λ s. IsHeadOf (seen_of (map f olds) share) s head in
+      let Q : Head → Type 0 = λ h. IsHeadOf (seen_of (map f olds) share) (seen_of (map f (set xs share new)) share) h in
+      subst Q (sym (get_or_push heads head (Err Short) share count))
+      (subst P (sym (own f xs share new within)) (subst O (sym (was f olds xs share old new within here others)) is)))
       c (omega (arith, less, long, count))
+
+-- what failed, by a header that was read or not
+pub head_fails : (failed now : List ℕ) (head : Head) → (IsErrOf head ReadFault → FailsIn 0 64 failed now) → ((IsErrOf head ReadFault → ⊥) → now ≡ failed) →
+    FailsFor failed now head
+head_fails failed now (Err ReadFault) cause steady = cause refl
+head_fails failed now (Err Short) cause steady = steady (λ e. cc)
+head_fails failed now (Err (Bad fault)) cause steady = steady (λ e. cc)
+head_fails failed now (Ok header) cause steady = steady (λ e. cc)
 
 -- ---- the cut that most shares are of
 

@@ -3,9 +3,9 @@ use Rattle.std.proofs.Common.{◌≡◌, ℕ, Option, List, [], ◌∷◌, ◌++
 use Rattle.clay_bytes.specs.Stream.{Accepts}
 use Rattle.share_files.specs.Seen.{Show}
 use Rattle.share_joins.specs.Joined.{NoRotPasses}
-use Rattle.share_joins.specs.Taken.{TakesFile}
+use Rattle.share_joins.specs.Taken.{TakesFile, TakesAnother}
 use Rattle.share_run.specs.Places.{Filled, filled}
-use Rattle.share_run.specs.Join.{JoinRun, FilePlaced}
+use Rattle.share_run.specs.Join.{JoinRun, FilePlaced, IsAnother}
 
 -- an empty sink took a file, and that was put into the place
 took_placed : (accepted now file : List ℕ) (before after : List Filled) → accepted ≡ [] → now ≡ accepted ++ file →
@@ -27,3 +27,7 @@ file_placed r accepted now written new empty placed takes joined = record {
   joined = λ whole files shows pass.
       took_placed accepted now whole r.before.files r.after.files empty (joined whole files shows pass).0 placed;
 }
+
+-- what was joined where the checksum is another
+pub is_another : (r : JoinRun) (accepted now : List ℕ) (written new : Option (List ℕ)) → TakesAnother r.header r.olds r.news accepted written now new → IsAnother r
+is_another r accepted now written new takes = record { file = takes.file; size = takes.size; checksum = takes.checksum; from = takes.joined }

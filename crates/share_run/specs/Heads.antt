@@ -2,12 +2,12 @@
 use Rattle.std.specs.Prelude.{◌≡◌, ◌<◌, ◌≤◌, ℕ, nat_eq, Bool, false, ◌&&◌, List, length, take, get_or, Option, None, Some, Result, Ok, Err}
 use Rattle.clay_grid.specs.Score.{count_below}
 use Rattle.clay_aloof.specs.Shape.{AloofShape}
-use Rattle.file_bytes.specs.Places.{Shows}
+use Rattle.file_bytes.specs.Places.{Shows, FailsIn}
 use Rattle.share_format.specs.Header.{Header, header_with, header_bytes}
 use Rattle.share_files.specs.Seen.{Seen, seen_of}
 use Rattle.share_files.specs.Refused.{IsRefusal}
 use Rattle.share_files.specs.declared.reading.HeaderRefusal.{HeaderRefusal}
-use Rattle.share_files.specs.declared.reading.HeaderRefusal.TheVariants.{Short}
+use Rattle.share_files.specs.declared.reading.HeaderRefusal.TheVariants.{ReadFault, Short}
 
 -- a header that was read, or why there is none
 abbrev pub Head : Type 0
@@ -18,17 +18,23 @@ abbrev pub IsHead : List ℕ → Head → Type 0
 IsHead file (Ok header) = take 64 file ≡ header_bytes header
 IsHead file (Err refusal) = IsRefusal file refusal
 
--- so it is of whatever file a source shows
-abbrev pub IsHeadOf : Seen → Head → Type 0
-IsHeadOf source head = (file : List ℕ) → Shows file source.given source.ends → IsHead file head
+-- a read of it failed where that is the reason, and none elsewhere: where reads had failed, and where they have then
+abbrev pub FailsFor : List ℕ → List ℕ → Head → Type 0
+FailsFor failed now (Err ReadFault) = FailsIn 0 64 failed now
+FailsFor failed now head = now ≡ failed
+
+-- so it is of whatever file a source shows, by what was known of it before and after
+pub record IsHeadOf (old new : Seen) (head : Head) : Type 0 where
+  pub is : (file : List ℕ) → Shows file new.given new.ends → IsHead file head
+  pub fails : FailsFor old.failed new.failed head
 
 -- the one of a number
 abbrev pub head_of : List Head → ℕ → Head
 head_of heads c = get_or heads c (Err Short)
 
 -- so it is of each source
-abbrev pub AreHeads : List Seen → List Head → Type 0
-AreHeads sources heads = (c : ℕ) → c < length heads → IsHeadOf (seen_of sources c) (head_of heads c)
+abbrev pub AreHeads : List Seen → List Seen → List Head → Type 0
+AreHeads olds news heads = (c : ℕ) → c < length heads → IsHeadOf (seen_of olds c) (seen_of news c) (head_of heads c)
 
 -- the header of the share of a number, of the same cut
 abbrev pub numbered : Header → ℕ → Header

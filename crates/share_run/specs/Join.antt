@@ -1,5 +1,5 @@
 -- How a join of a file from its shares ends.
-use Rattle.std.specs.Prelude.{◌≡◌, ℕ, ◌+◌, ◌<◌, ◌⊎◌, Option, List, [], ◌∷◌, ◌++◌, length}
+use Rattle.std.specs.Prelude.{◌≡◌, ◌≢◌, ℕ, ◌+◌, ◌<◌, ◌⊎◌, Option, List, [], ◌∷◌, ◌++◌, length}
 use Rattle.crc64.specs.Remainder.{checksum_of}
 use Rattle.clay_bytes.specs.Stream.{Rises}
 use Rattle.share_format.specs.Cut.{stripe_count}
@@ -54,9 +54,15 @@ pub record FilePlaced (r : JoinRun) : Type 0 where
 abbrev pub IsNoted : JoinRun → ℕ → Type 0
 IsNoted r count = (files : List (List ℕ)) → Show r.news files → AreFirstMissed r.header.shape count files r.olds r.news r.missed
 
--- too few shares in these files have a block of some stripe, and what each missed up to it is noted
-pub record IsLacking (r : JoinRun) (files : List (List ℕ)) : Type 0 where
-  pub stripe : ℕ
+-- the blocks that were read give a file of the header's length and with another checksum
+pub record IsAnother (r : JoinRun) : Type 0 where
+  pub file : List ℕ
+  pub size : length file ≡ r.header.size
+  pub checksum : checksum_of file ≢ r.header.checksum
+  pub from : AreJoined r.header (stripe_count r.header.shape r.header.size) r.olds r.news file
+
+-- too few shares in these files have a block of the stripe, and what each missed up to it is noted
+pub record IsLacking (r : JoinRun) (stripe : ℕ) (files : List (List ℕ)) : Type 0 where
   pub within : stripe < stripe_count r.header.shape r.header.size
   pub lack : LackBlocks r.header.shape stripe files r.olds r.news
   pub noted : AreFirstMissed r.header.shape (stripe + 1) files r.olds r.news r.missed
@@ -69,10 +75,10 @@ IsWritten r = (r.written ≡ r.writes) × (r.after.faults ≡ r.before.faults)
 abbrev pub JoinEnds : ShareStatus → JoinRun → Type 0
 JoinEnds Done r = FilePlaced r × IsNoted r (stripe_count r.header.shape r.header.size) × IsWritten r
 JoinEnds Usage r = ⊥
-JoinEnds TooFew r = ((files : List (List ℕ)) → Show r.news files → IsLacking r files) × IsUntouched r.before r.after × IsWritten r
+JoinEnds TooFew r = ((stripe : ℕ) × ((files : List (List ℕ)) → Show r.news files → IsLacking r stripe files)) × IsUntouched r.before r.after × IsWritten r
 -- what the shares give has another checksum: so they are not shares of a file with rot that checksums find
 JoinEnds BadShare r = ((file : List ℕ) (files : List (List ℕ)) → Show r.news files → NoRotPasses r.header file files → ⊥)
-    × IsUntouched r.before r.after × IsWritten r
+    × IsAnother r × IsNoted r (stripe_count r.header.shape r.header.size) × IsUntouched r.before r.after × IsWritten r
 JoinEnds ReadFault r = ⊥
 JoinEnds WriteFault r = (Rises r.writes r.written ⊎ Rises r.before.faults r.after.faults) × IsUntouched r.before r.after
 JoinEnds OutOfMemory r = IsUntouched r.before r.after × IsWritten r

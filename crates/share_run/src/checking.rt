@@ -23,13 +23,16 @@ fn fault_of<S: SourceAt>(
     source: &mut S,
 ) -> Result<Option<ShareFault>, AllocError>
     requires { share < all_chunks header.now.shape }
-    ensures { IfOk result (IsVerdictOf (numbered header.now share) (seen (S.given source.new) (S.ends source.new) (S.failed source.new))) }
+    ensures { IfOk result (IsVerdictOf (numbered header.now share) (seen (S.given source.old) (S.ends source.old) (S.failed source.old)) (seen (S.given source.new) (S.ends source.new) (S.failed source.new))) }
 {
     let own = header_of_share(header, share);
-    match check_share(alloc, crc, &own, source) {
-        Ok(()) => Ok(None),
-        Err(ShareFault::OutOfMemory) => Err(AllocError),
-        Err(fault) => Ok(Some(fault)),
+    let fault = match check_share(alloc, crc, &own, source) {
+        Ok(()) => return Ok(None),
+        Err(fault) => fault,
+    };
+    match fault {
+        ShareFault::OutOfMemory => Err(AllocError),
+        _ => Ok(Some(fault)),
     }
 }
 
@@ -43,7 +46,7 @@ fn judge_all<S: SourceAt>(
 ) -> Result<(), AllocError>
     requires sources { length sources.old ≡ all_chunks header.now.shape }
     requires verdicts { length verdicts.old ≡ all_chunks header.now.shape }
-    ensures judged { OnOk result (AreJudged header.now (map (λ s. seen (S.given s) (S.ends s) (S.failed s)) sources.new) verdicts.new) }
+    ensures judged { OnOk result (AreJudged header.now (map (λ s. seen (S.given s) (S.ends s) (S.failed s)) sources.old) (map (λ s. seen (S.given s) (S.ends s) (S.failed s)) sources.new) verdicts.new) }
     ensures verdicts { length verdicts.new ≡ length verdicts.old }
 {
     let shares = header.geometry().n();
@@ -81,7 +84,8 @@ pub fn check_main<S: SourceAt>(
 ) -> ShareStatus
     requires sources { length sources.old ≡ all_chunks header.now.shape }
     requires verdicts { length verdicts.old ≡ all_chunks header.now.shape }
-    ensures { CheckEnds result header.now strays (map (λ s. seen (S.given s) (S.ends s) (S.failed s)) sources.new) verdicts.new }
+    ensures { CheckEnds result header.now strays
+        (map (λ s. seen (S.given s) (S.ends s) (S.failed s)) sources.old) (map (λ s. seen (S.given s) (S.ends s) (S.failed s)) sources.new) verdicts.new }
 {
     let shares = header.geometry().n() as usize;
     let enough = header.geometry().k() as usize;

@@ -21,7 +21,7 @@ pub fn read_heads<S: SourceAt>(
     sources: &mut [S],
 ) -> Result<Vec<Head>, AllocError>
     ensures count { IfOk result (λ heads. length heads.items ≡ length sources.new) }
-    ensures heads { IfOk result (λ heads. AreHeads (map (λ s. seen (S.given s) (S.ends s) (S.failed s)) sources.new) heads.items) }
+    ensures heads { IfOk result (λ heads. AreHeads (map (λ s. seen (S.given s) (S.ends s) (S.failed s)) sources.old) (map (λ s. seen (S.given s) (S.ends s) (S.failed s)) sources.new) heads.items) }
 {
     let mut heads = Vec::with_capacity(alloc, sources.len())?;
     for share in 0..sources.len() {

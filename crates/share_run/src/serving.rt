@@ -198,7 +198,7 @@ pub fn serve_check<R: Eprint, S: SourceAt>(
     requires sources { length sources.old ≡ all_chunks header.now.shape }
     requires verdicts { length verdicts.old ≡ all_chunks header.now.shape }
     ensures exit { (status : ShareStatus) × (exit_status result ≡ status_number status)
-        × CheckEnds status header.now strays (map (λ s. seen (S.given s) (S.ends s) (S.failed s)) sources.new) verdicts.new }
+        × CheckEnds status header.now strays (map (λ s. seen (S.given s) (S.ends s) (S.failed s)) sources.old) (map (λ s. seen (S.given s) (S.ends s) (S.failed s)) sources.new) verdicts.new }
 {
     let status = check_main(alloc, crc, header, strays, sources, verdicts);
     ended(rt, status, folder, check_trouble(status))

@@ -1,5 +1,5 @@
-use Rattle.std.proofs.Common.{◌≡◌, map, length}
-use Rattle.share_files.specs.Seen.{seen}
+use Rattle.std.proofs.Common.{◌≡◌, ◌≤◌, ℕ, map, length}
+use Rattle.share_files.specs.Seen.{seen, seen_of}
 use Rattle.share_run.specs.Heads.{AreHeads}
 use Rattle.share_run.proofs.headers.read_heads.Given as goal
 
@@ -7,5 +7,6 @@ abbrev pub invariant-loop-share : goal.invariant-loop-share
 invariant-loop-share g l = record {
   all : length l.sources ≡ length l.fn.sources;
   count : length l.heads.items ≡ l.share;
-  heads : AreHeads (map (λ s. seen (g.S.SourceAt.given s) (g.S.SourceAt.ends s) (g.S.SourceAt.failed s)) l.sources) l.heads.items;
+  heads : AreHeads (map (λ s. seen (g.S.SourceAt.given s) (g.S.SourceAt.ends s) (g.S.SourceAt.failed s)) l.fn.sources) (map (λ s. seen (g.S.SourceAt.given s) (g.S.SourceAt.ends s) (g.S.SourceAt.failed s)) l.sources) l.heads.items;
+  others : (c : ℕ) → l.share ≤ c → seen_of (map (λ s. seen (g.S.SourceAt.given s) (g.S.SourceAt.ends s) (g.S.SourceAt.failed s)) l.sources) c ≡ seen_of (map (λ s. seen (g.S.SourceAt.given s) (g.S.SourceAt.ends s) (g.S.SourceAt.failed s)) l.fn.sources) c;
 }

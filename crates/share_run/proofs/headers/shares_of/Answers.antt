@@ -1,4 +1,4 @@
-use Rattle.std.proofs.Common.{◌≡◌, ◌<◌, ◌≤◌, ℕ, Bool, length, arith}
+use Rattle.std.proofs.Common.{◌≤◌, ℕ, Bool, arith}
 use Rattle.clay_grid.specs.Score.{count_below}
 use Rattle.clay_grid.proofs.Counting.{count_below-le}
 use Rattle.share_run.specs.Heads.{head_of, is_of}

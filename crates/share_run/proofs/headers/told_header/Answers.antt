@@ -1,4 +1,4 @@
-use Rattle.std.proofs.Common.{◌≡◌, ◌<◌, ℕ, List, length, Err, refl, sym, arith}
+use Rattle.std.proofs.Common.{◌<◌, ℕ, List, length, Err, refl, sym, arith}
 use Rattle.std.proofs.lemmas.List.{get_or_read_under}
 use Rattle.share_files.specs.declared.reading.HeaderRefusal.TheVariants.{Short}
 use Rattle.share_run.specs.Heads.{Head}

@@ -3,17 +3,20 @@ use Rattle.share_files.specs.Seen.{seen}
 use Rattle.share_joins.specs.Joined.{IsWhyNot}
 use Rattle.share_joins.specs.declared.joining.JoinFault.{JoinFault}
 use Rattle.share_run.proofs.FaultLemmas.{few_no_write, other_no_write}
-use Rattle.share_run.proofs.JoinLemmas.{file_placed}
+use Rattle.share_run.proofs.JoinLemmas.{file_placed, is_another}
 use Rattle.share_run.proofs.joining.join_main.Goals as goal
 
 pub returns-in-Err-TooFew : goal.returns-in-Err-TooFew
 returns-in-Err-TooFew g c = (
-  λ files shows.
-      let P : JoinFault → Type 0 = λ fault.
-      IsWhyNot c.args.header.now files (map (λ s. seen (g.S.SourceAt.given s) (g.S.SourceAt.ends s) (g.S.SourceAt.failed s)) c.args.sources.now)
-      (map (λ s. seen (g.S.SourceAt.given s) (g.S.SourceAt.ends s) (g.S.SourceAt.failed s)) c.join.new.sources) c.join.new.missed fault in
-      let why = subst P c.in-Err-TooFew.field-0-is (c.in-Err-TooFew.ensures.why_not files shows) in
-      record { stripe = c.in-Err-TooFew.field-0-0; within = why.0; lack = why.1; noted = why.2 },
+  (
+    c.in-Err-TooFew.field-0-0,
+    λ files shows.
+        let P : JoinFault → Type 0 = λ fault.
+        IsWhyNot c.args.header.now files (map (λ s. seen (g.S.SourceAt.given s) (g.S.SourceAt.ends s) (g.S.SourceAt.failed s)) c.args.sources.now)
+        (map (λ s. seen (g.S.SourceAt.given s) (g.S.SourceAt.ends s) (g.S.SourceAt.failed s)) c.join.new.sources) c.join.new.missed fault in
+        let why = subst P c.in-Err-TooFew.field-0-is (c.in-Err-TooFew.ensures.why_not files shows) in
+        record { within = why.0; lack = why.1; noted = why.2 },
+  ),
   refl,
   (c.in-Err-TooFew.ensures.writes (λ e. few_no_write c.in-Err-TooFew.field-0 c.in-Err-TooFew.field-0-0 c.in-Err-TooFew.field-0-is e), refl),
 )
@@ -21,6 +24,12 @@ returns-in-Err-TooFew g c = (
 pub returns-in-Err-Mismatch : goal.returns-in-Err-Mismatch
 returns-in-Err-Mismatch g c = (
   λ file files shows pass. c.in-Err-Mismatch.ensures.matching file files shows pass (ap Err c.in-Err-Mismatch.field-0-is),
+  is_another _ _ _ _ _ (c.in-Err-Mismatch.ensures.mismatch (ap Err c.in-Err-Mismatch.field-0-is)),
+  λ files shows.
+      let P : JoinFault → Type 0 = λ fault.
+      IsWhyNot c.args.header.now files (map (λ s. seen (g.S.SourceAt.given s) (g.S.SourceAt.ends s) (g.S.SourceAt.failed s)) c.args.sources.now)
+      (map (λ s. seen (g.S.SourceAt.given s) (g.S.SourceAt.ends s) (g.S.SourceAt.failed s)) c.join.new.sources) c.join.new.missed fault in
+      subst P c.in-Err-Mismatch.field-0-is (c.in-Err-Mismatch.ensures.why_not files shows),
   refl,
   (c.in-Err-Mismatch.ensures.writes (λ e. other_no_write c.in-Err-Mismatch.field-0 c.in-Err-Mismatch.field-0-is e), refl),
 )
