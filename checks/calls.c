@@ -1,5 +1,5 @@
-/* Calls of the library for C with right and wrong numbers and lengths, in several threads at once: each ends as it should, writes
- * nothing where it isn't CLAY_DONE, and gives what the same call gave alone. checks/library builds and runs it.
+/* Calls of the library for C with right and wrong numbers and lengths, some with memory refused, in several threads at once: each ends as it
+ * should, writes nothing where it isn't CLAY_DONE, and gives what the same call gave alone. checks/library builds and runs it.
  *
  *     calls THREADS ROUNDS START      ends with 0 where all calls ended so */
 #include <clay.h>
@@ -348,17 +348,32 @@ static size_t around(uint64_t *state, size_t len) {
     return len == 0 ? drawn(state) % 2 : beside(state, len);
 }
 
+/* A code, its numbers, and the chunks of a stripe one behind another. */
+struct stripe {
+    uint32_t k, m, w;
+    struct clay_numbers g;
+    uint8_t *word;
+};
+
+static struct stripe drawn_stripe(uint64_t *state) {
+    uint32_t at = drawn(state) % (sizeof CODES / sizeof *CODES), k = CODES[at].k, m = CODES[at].m, w = CODES[at].w;
+    struct stripe it = {k, m, w, {0}, NULL};
+    hold(clay_geometry(k, m, w, &it.g) == CLAY_DONE, "clay_geometry", k, m, w, 0);
+    size_t len = it.g.chunk_len;
+    it.word = made(it.g.chunks * len);
+    for (size_t i = 0; i < it.g.stripe_len; i++)
+        it.word[i] = (uint8_t)drawn(state);
+    hold(clay_parity(k, m, w, it.word, it.g.stripe_len, it.word + it.g.stripe_len, m * len) == CLAY_DONE, "clay_parity", k, m, w, 0);
+    return it;
+}
+
 /* Some layers of a lost chunk, from the subchunks that they take: layers, lengths and the chunk may be wrong. */
 static void degraded(uint64_t *state) {
-    uint32_t at = drawn(state) % (sizeof CODES / sizeof *CODES), k = CODES[at].k, m = CODES[at].m, w = CODES[at].w;
-    struct clay_numbers g;
-    hold(clay_geometry(k, m, w, &g) == CLAY_DONE, "clay_geometry", k, m, w, 0);
+    struct stripe it = drawn_stripe(state);
+    uint32_t k = it.k, m = it.m, w = it.w;
+    struct clay_numbers g = it.g;
     size_t len = g.chunk_len;
-    uint8_t *word = made(g.chunks * len);
-    for (size_t i = 0; i < g.stripe_len; i++)
-        word[i] = (uint8_t)drawn(state);
-    hold(clay_parity(k, m, w, word, g.stripe_len, word + g.stripe_len, m * len) == CLAY_DONE, "clay_parity", k, m, w, 0);
-
+    uint8_t *word = it.word;
     uint32_t lost = drawn(state) % (g.chunks + 1), from = drawn(state) % g.layers, to = drawn(state) % 2 ? from + 1 : drawn(state) % (g.layers + 2);
     uint32_t wanted = lost >= g.chunks ? CLAY_BAD_CHUNK : from > to || to > g.layers ? CLAY_BAD_LAYER : CLAY_DONE, count = 0xa5a5a5a5;
     uint32_t status = clay_lost_count(k, m, w, lost, from, to, &count);
@@ -392,6 +407,93 @@ static void degraded(uint64_t *state) {
     free(word);
 }
 
+/* The allocation of a call that is refused, counted from there, or 0 for none. checks/library links malloc and realloc to these. */
+static _Thread_local uint32_t refused_at;
+static _Thread_local int is_refused;
+void *__real_malloc(size_t size);
+void *__real_realloc(void *old, size_t size);
+
+static int refused(void) {
+    return refused_at > 0 && --refused_at == 0 ? is_refused = 1 : 0;
+}
+
+void *__wrap_malloc(size_t size) {
+    return refused() ? NULL : __real_malloc(size);
+}
+
+void *__wrap_realloc(void *old, size_t size) {
+    return refused() ? NULL : __real_realloc(old, size);
+}
+
+static void refuse(uint64_t *state) {
+    refused_at = drawn(state) % 4 ? 0 : 1 + drawn(state) % 16;
+    is_refused = 0;
+}
+
+/* How a call ends that would end so with memory. */
+static uint32_t or_refused(uint32_t wanted) {
+    refused_at = 0;
+    return is_refused ? CLAY_OUT_OF_MEMORY : wanted;
+}
+
+/* The same while other chunks are missing too: marks may be too many or too few, chunks may be too few, and memory may be refused. */
+static void missing(uint64_t *state) {
+    struct stripe it = drawn_stripe(state);
+    uint32_t k = it.k, m = it.m, w = it.w;
+    struct clay_numbers g = it.g;
+    size_t len = g.chunk_len, flags = beside(state, g.chunks);
+    uint8_t *word = it.word;
+    uint32_t lost = drawn(state) % (g.chunks + 1), from = drawn(state) % g.layers, to = drawn(state) % 2 ? from + 1 : drawn(state) % (g.layers + 2);
+    uint8_t present[MOST] = {0};
+    uint32_t gone = 0, one_in = 2 + drawn(state) % 8;
+    for (uint32_t c = 0; c < g.chunks; c++) {
+        present[c] = drawn(state) % one_in ? 1 + drawn(state) % 255 : 0;
+        gone += c == lost || !present[c];
+    }
+    uint32_t wanted = lost >= g.chunks ? CLAY_BAD_CHUNK : from > to || to > g.layers ? CLAY_BAD_LAYER : flags != g.chunks ? CLAY_BAD_LENGTH : gone > m ? CLAY_TOO_FEW : CLAY_DONE;
+    uint32_t count = 0xa5a5a5a5, others;
+    refuse(state);
+    uint32_t status = clay_missing_count(k, m, w, lost, from, to, present, flags, &count);
+    hold(status == or_refused(wanted), "clay_missing_count", k, m, w, status);
+    hold(status == CLAY_DONE || is_marked((uint8_t *)&count, sizeof count), "its count", k, m, w, status);
+    if (wanted == CLAY_DONE)
+        hold(clay_missing_count(k, m, w, lost, from, to, present, flags, &count) == CLAY_DONE && count <= (g.chunks - gone) * g.layers, "clay_missing_count", k, m, w, 0);
+    if (wanted == CLAY_DONE && gone == 1 && to == from + 1 && g.virtual_nodes == 0)
+        hold(clay_lost_count(k, m, w, lost, from, to, &others) == CLAY_DONE && count == others, "the count of one layer with all others", k, m, w, 0);
+
+    size_t pieces = wanted == CLAY_DONE ? count : 1, room = around(state, pieces);
+    struct clay_piece *list = made((pieces + 1) * sizeof *list);
+    memset(list, 0xa5, (pieces + 1) * sizeof *list);
+    refuse(state);
+    status = clay_missing_pieces(k, m, w, lost, from, to, present, flags, list, room);
+    hold(status == or_refused(wanted != CLAY_DONE ? wanted : room != pieces ? CLAY_BAD_LENGTH : CLAY_DONE), "clay_missing_pieces", k, m, w, status);
+    hold(status == CLAY_DONE || is_marked((uint8_t *)list, (pieces + 1) * sizeof *list), "what clay_missing_pieces wrote", k, m, w, status);
+    if (wanted == CLAY_DONE)
+        hold(clay_missing_pieces(k, m, w, lost, from, to, present, flags, list, pieces) == CLAY_DONE, "clay_missing_pieces", k, m, w, 0);
+
+    size_t width = (size_t)w * (wanted == CLAY_DONE ? to - from : 1), given = around(state, width);
+    uint8_t *bytes = made(pieces * w), *out = made(width + 1);
+    memset(bytes, 0, pieces * w);
+    memset(out, 0xa5, width + 1);
+    for (size_t i = 0; i < pieces && wanted == CLAY_DONE; i++) {
+        hold(list[i].chunk < g.chunks && list[i].chunk != lost && present[list[i].chunk], "a piece of clay_missing_pieces", k, m, w, 0);
+        memcpy(bytes + i * w, word + list[i].chunk * len + (size_t)list[i].layer * w, w);
+    }
+    int is_right = given == width;
+    struct clay_bytes *apart = copies(state, bytes, pieces, w, &is_right);
+    size_t read = pieces > 0 && drawn(state) % 4 == 0 ? pieces - 1 : pieces;
+    is_right = is_right && read == pieces;
+    refuse(state);
+    status = clay_read_missing(k, m, w, lost, from, to, present, flags, apart, read, out, given);
+    hold(status == or_refused(wanted != CLAY_DONE ? wanted : is_right ? CLAY_DONE : CLAY_BAD_LENGTH), "clay_read_missing", k, m, w, status);
+    hold(status == CLAY_DONE ? memcmp(out, word + lost * len + (size_t)from * w, width) == 0 : is_marked(out, width + 1), "what clay_read_missing wrote", k, m, w, status);
+    free_copies(apart, pieces);
+    free(out);
+    free(bytes);
+    free(list);
+    free(word);
+}
+
 static void *thread(void *number) {
     uint64_t state = start + (uint64_t)(uintptr_t)number * 0x1234567;
     for (int round = 0; round < rounds; round++) {
@@ -399,6 +501,7 @@ static void *thread(void *number) {
         chunks(&state);
         fewer(&state);
         degraded(&state);
+        missing(&state);
     }
     return NULL;
 }
