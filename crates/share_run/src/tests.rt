@@ -12,18 +12,20 @@ fn most_shares_tell_the_cut(rt: HostRuntime) {
     };
     let one = ShareHeader::new(geometry, 0, 5, 7);
     let other = ShareHeader::new(geometry, 1, 5, 8);
-    let third = header_of_share(&other, 3);
-    let heads: [Head; 5] = [
+    let third: Head = Ok(header_of_share(&other, 3));
+    let all: [Head; 5] = [
         Ok(one),
         Ok(other),
         Err(HeaderRefusal::Short),
-        Ok(third),
-        Ok(third),
+        third,
+        third,
     ];
-    assert_eq!(rt; told_header(&heads), Some(other));
-    assert_eq!(rt; told_header(&heads[..2]), Some(one));
-    assert_eq!(rt; told_header(&heads[2..3]), None);
-    assert_eq!(rt; is_of_cut(&other, 3, &heads[3]), true);
-    assert_eq!(rt; is_of_cut(&other, 4, &heads[4]), false);
-    assert_eq!(rt; is_of_cut(&one, 3, &heads[3]), false);
+    let two: [Head; 2] = [Ok(one), Ok(other)];
+    let none: [Head; 1] = [Err(HeaderRefusal::Short)];
+    assert_eq!(rt; told_header(&all), Some(other));
+    assert_eq!(rt; told_header(&two), Some(one));
+    assert_eq!(rt; told_header(&none), None);
+    assert_eq!(rt; is_of_cut(&other, 3, &third), true);
+    assert_eq!(rt; is_of_cut(&other, 4, &third), false);
+    assert_eq!(rt; is_of_cut(&one, 3, &third), false);
 }
