@@ -13,13 +13,7 @@ fn most_shares_tell_the_cut(rt: HostRuntime) {
     let one = ShareHeader::new(geometry, 0, 5, 7);
     let other = ShareHeader::new(geometry, 1, 5, 8);
     let third: Head = Ok(header_of_share(&other, 3));
-    let all: [Head; 5] = [
-        Ok(one),
-        Ok(other),
-        Err(HeaderRefusal::Short),
-        third,
-        third,
-    ];
+    let all: [Head; 5] = [Ok(one), Ok(other), Err(HeaderRefusal::Short), third, third];
     let two: [Head; 2] = [Ok(one), Ok(other)];
     let none: [Head; 1] = [Err(HeaderRefusal::Short)];
     assert_eq!(rt; told_header(&all), Some(other));
