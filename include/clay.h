@@ -163,7 +163,7 @@ uint32_t clay_read_lost(uint32_t k, uint32_t m, uint32_t w, uint32_t lost, uint3
 /* The same while other chunks are missing too, up to m with the lost one: only subchunks of chunks that are there are read. Where all others
  * are there, one layer may take other subchunks than by the calls above. What is read is the same.
  * present: a byte for each chunk, 0 where it is missing, as in clay_recover; present_len: n. That of the lost one doesn't count.
- * Tested in this order: layers, present_len, CLAY_TOO_FEW, memory for the list of the subchunks, other lengths. */
+ * Tested in this order: k, m and w, lost, layers, present_len, CLAY_TOO_FEW, memory for the list of the subchunks, other lengths. */
 
 /* Writes how many subchunks the layers from..to of chunk `lost` take.
  * CLAY_DONE, CLAY_BAD_GEOMETRY, CLAY_BAD_LENGTH, CLAY_BAD_CHUNK, CLAY_TOO_FEW, CLAY_OUT_OF_MEMORY, CLAY_BAD_LAYER. */
