@@ -1,7 +1,6 @@
 pub mod Laying
 pub mod Taking
 pub mod Recovering
-pub mod Marked
 pub mod Marking
 pub mod Missing
 pub mod Shown

@@ -20,7 +20,6 @@ mod pieces;
 mod rebuilding;
 mod recovery;
 mod status;
-mod there;
 mod without;
 
 use crate::rebuilding::{part_len, write_rebuilt};

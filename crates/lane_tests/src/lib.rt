@@ -15,6 +15,8 @@ mod kernels;
 #[cfg(test)]
 mod lost_reads;
 #[cfg(test)]
+mod missing_reads;
+#[cfg(test)]
 mod rebuilding;
 #[cfg(test)]
 mod threads;

@@ -19,7 +19,7 @@ fn word_of(rt: &impl Abort, alloc: Global, g: Geometry) -> Result<Vec<Vec<u8>>, 
 }
 
 // Layers of a chunk.
-fn layers<'a>(
+pub fn layers<'a>(
     rt: &impl Abort,
     g: Geometry,
     word: &'a [Vec<u8>],
@@ -37,7 +37,7 @@ fn layers<'a>(
 }
 
 // The bytes of the pieces, where they stand.
-fn bytes_of<'a>(
+pub fn bytes_of<'a>(
     rt: &impl Abort,
     alloc: Global,
     g: Geometry,

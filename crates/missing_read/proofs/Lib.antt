@@ -1,1 +1,2 @@
 pub mod MissingReadLaws
+pub mod Marked

@@ -3,3 +3,4 @@ pub mod Refused
 pub mod Plan
 pub mod Readings
 pub mod Values
+pub mod There

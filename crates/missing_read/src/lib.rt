@@ -5,8 +5,8 @@ mod fault;
 mod plan;
 mod read;
 mod reading;
-#[cfg(test)]
-mod tests;
+mod there;
 
 pub use fault::MissingReadFault;
 pub use read::read_missing;
+pub use there::{are_few, count_without, pieces_without, read_without};

@@ -14,8 +14,6 @@ mod rebuilding;
 mod said;
 mod serving;
 mod status;
-#[cfg(test)]
-mod tests;
 mod told_file;
 
 pub use checking::check_main;

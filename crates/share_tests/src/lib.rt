@@ -12,3 +12,5 @@ mod joins;
 mod mends;
 #[cfg(test)]
 mod shares;
+#[cfg(test)]
+mod told_cuts;

@@ -9,7 +9,7 @@ use Rattle.missing_layers.specs.declared.fault.MissingFault.{MissingFault}
 use Rattle.missing_layers.specs.declared.fault.MissingFault.TheVariants.{NoSuchChunk, NoSuchLayers, MarkCount, TooFew, OutOfMemory}
 use Rattle.missing_read.specs.Refused.{IsReadRefused}
 use Rattle.missing_read.specs.declared.fault.MissingReadFault.{MissingReadFault}
-use Rattle.clay_c.specs.Without.{there_of}
+use Rattle.missing_read.specs.There.{there_of}
 
 module _ (g : Shape) (run : LostRun) (there : List Bool) where
   -- a run that is refused for another reason has few enough

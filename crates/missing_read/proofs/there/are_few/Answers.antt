@@ -2,9 +2,9 @@ use Rattle.std.proofs.Common.{◌≡◌, ◌≤◌, ◌↔◌, true, not, eqb, L
 use Rattle.std.proofs.lemmas.List.{length-map}
 use Rattle.clay_grid.specs.Shape.{chunk_count}
 use Rattle.missing_layers.specs.Without.{gone_count}
-use Rattle.clay_c.specs.Without.{gone_with}
-use Rattle.clay_c.proofs.Marked.{few_by_fault}
-use Rattle.clay_c.proofs.there.are_few.Goals as goal
+use Rattle.missing_read.specs.There.{gone_with}
+use Rattle.missing_read.proofs.Marked.{few_by_fault}
+use Rattle.missing_read.proofs.there.are_few.Goals as goal
 
 pub returns-in-Ok : goal.returns-in-Ok
 unfolding gone_with

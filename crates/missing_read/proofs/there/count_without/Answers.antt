@@ -1,7 +1,7 @@
 use Rattle.std.proofs.Common.{◌≡◌, IfOk, length, subst}
 use Rattle.missing_layers.specs.Without.{missing_pieces_of}
-use Rattle.clay_c.specs.Without.{pieces_with}
-use Rattle.clay_c.proofs.there.count_without.Goals as goal
+use Rattle.missing_read.specs.There.{pieces_with}
+use Rattle.missing_read.proofs.there.count_without.Goals as goal
 
 pub returns : goal.returns
 unfolding pieces_with

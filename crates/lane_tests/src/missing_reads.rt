@@ -1,9 +1,11 @@
 //! Runs that are read while chunks are missing, beside the codewords of the fast coder.
-use crate::{MissingReadFault, read_missing};
+use crate::encoding::mixed_bytes;
+use crate::lost_reads::{bytes_of, layers};
 use clay_grid::Geometry;
 use clay_parity::encode;
-use lost_layers::{LostPiece, LostRun};
+use lost_layers::LostRun;
 use missing_layers::{MissingFault, missing_pieces};
+use missing_read::{MissingReadFault, read_missing};
 use std::alloc::{AllocError, Global};
 use std::process::Abort;
 use std::test::Fail;
@@ -21,18 +23,7 @@ const READS: [[u32; 7]; 9] = [
     [5, 4, 33, 0b0_1011_0000, 7, 13, 17],
 ];
 
-// Bytes that repeat only after 256 * 251 of them.
-fn mixed_bytes(alloc: Global, count: u32) -> Result<Vec<u8>, AllocError> {
-    let mut bytes = Vec::with_capacity(alloc, count as usize)?;
-    let mut byte = 1u8;
-    for i in 0..count {
-        byte = byte.wrapping_mul(29).wrapping_add((i % 251) as u8);
-        bytes.push(byte)?;
-    }
-    Ok(bytes)
-}
-
-// The chunks of some stripe.
+// The chunks of some stripe, by the fast coder.
 fn word_of(rt: &impl Abort, alloc: Global, g: Geometry) -> Result<Vec<Vec<u8>>, AllocError> {
     let stripe = mixed_bytes(alloc, g.stripe_len())?;
     assert!(rt; stripe.len() == g.stripe_len() as usize);
@@ -46,40 +37,6 @@ fn present(alloc: Global, count: u32, missing: u32) -> Result<Vec<bool>, AllocEr
         marks.push(missing >> bit & 1 == 0)?;
     }
     Ok(marks)
-}
-
-// Layers of a chunk.
-fn layers<'a>(
-    rt: &impl Abort,
-    g: Geometry,
-    word: &'a [Vec<u8>],
-    chunk: u32,
-    from: u32,
-    to: u32,
-) -> &'a [u8] {
-    let w = g.w() as usize;
-    assert!(rt; (chunk as usize) < word.len());
-    assert!(rt; from <= to);
-    assert!(rt; to <= 1024);
-    let bytes = &word[chunk as usize];
-    assert!(rt; to as usize * w <= bytes.len());
-    &bytes[from as usize * w..to as usize * w]
-}
-
-// The bytes of the pieces, where they stand.
-fn bytes_of<'a>(
-    rt: &impl Abort,
-    alloc: Global,
-    g: Geometry,
-    word: &'a [Vec<u8>],
-    pieces: &[LostPiece],
-) -> Result<Vec<&'a [u8]>, AllocError> {
-    let mut bytes = Vec::with_capacity(alloc, pieces.len())?;
-    for piece in pieces.iter() {
-        assert!(rt; piece.layer < 1024);
-        bytes.push(layers(rt, g, word, piece.chunk, piece.layer, piece.layer + 1))?;
-    }
-    Ok(bytes)
 }
 
 // Reads a run over bytes that were there before.

@@ -1,8 +1,8 @@
 //! The cut that most of some shares are of.
-use crate::{Head, header_of_share, is_of_cut, told_header};
 use clay_aloof::AloofGeometry;
 use share_files::HeaderRefusal;
 use share_format::ShareHeader;
+use share_run::{Head, header_of_share, is_of_cut, told_header};
 
 // Shares 0 and 1 are of two files, 2 has no header, 3 is of the second file, and what stands in the place of 4 is another share 3.
 #[test]

@@ -5,12 +5,13 @@ ghost use Rattle.lost_layers.specs.LostLayers.{IsLostRun};
 ghost use Rattle.missing_layers.specs.Without.{Determine};
 ghost use Rattle.missing_layers.specs.declared.fault.MissingFault.TheVariants.{TooFew};
 ghost use Rattle.missing_read.specs.Read.{FitRun};
-ghost use Rattle.clay_c.specs.Without.{there_of, gone_with, pieces_with, ReadsWithout};
+ghost use Rattle.missing_read.specs.There.{there_of, gone_with, pieces_with, ReadsWithout};
 
+use crate::fault::MissingReadFault;
+use crate::read::read_missing;
 use clay_grid::Geometry;
 use lost_layers::{LostPiece, LostRun};
 use missing_layers::{MissingFault, missing_count, missing_pieces, readable_run};
-use missing_read::{MissingReadFault, read_missing};
 use std::alloc::Global;
 
 // No code has more chunks. So marks need no memory, and whether there are few enough is known before any is taken.

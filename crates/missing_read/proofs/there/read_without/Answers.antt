@@ -3,9 +3,9 @@ use Rattle.std.proofs.lemmas.Bool.{true≢false}
 use Rattle.missing_layers.specs.Without.{missing_pieces_of}
 use Rattle.missing_read.specs.Read.{IsReadFrom, FitRun}
 use Rattle.missing_read.specs.declared.fault.MissingReadFault.TheVariants.{PieceCount, PieceLength, Room}
-use Rattle.clay_c.specs.Without.{pieces_with, ReadsWithout}
-use Rattle.clay_c.proofs.Marked.{refused_by}
-use Rattle.clay_c.proofs.there.read_without.Goals as goal
+use Rattle.missing_read.specs.There.{pieces_with, ReadsWithout}
+use Rattle.missing_read.proofs.Marked.{refused_by}
+use Rattle.missing_read.proofs.there.read_without.Goals as goal
 
 pub returns-in-Ok-clause-fit : goal.returns-in-Ok-clause-fit
 unfolding pieces_with
