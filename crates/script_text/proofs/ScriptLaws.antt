@@ -23,7 +23,7 @@ use Rattle.script_text.specs.Fault.{LineFault}
 use Rattle.script_text.specs.FirstFault.{IsFrontFault, OrMemory, fault_at}
 use Rattle.line_grammar.specs.Line.{Line, ClayLine, CodeLine, SizeLine, TriesLine, CallLine, RebuildLine, ScheduleLine, StepLine, EndLine, line_words, line_text}
 use Rattle.line_grammar.specs.Lines.{Lacks, spaced}
-use Rattle.script_text.specs.Reader.{script_of, IsSound, Takes}
+use Rattle.script_text.specs.Reader.{script_of, opened, IsSound, Takes}
 use Rattle.line_grammar.specs.ReadsLine.{ReadsCode}
 use Rattle.script_text.specs.Spelling.{limited, client_lines, repairer_lines, optional_line, script_lines, spelling}
 use Rattle.line_grammar.specs.declared.fault.FaultKind.{FaultKind}
@@ -142,6 +142,18 @@ pub record IsReadTo (bytes : List ℕ) (reader : Reader) (rest : List ℕ) (line
   pub sound : IsSound reader
   pub counted : lines ≡ length (begun reader.place (script_of reader))
   pub parted : bytes ≡ flat_map line_text (begun reader.place (script_of reader)) ++ rest
+
+-- two lines were read
+pub read_opened : (bytes : List ℕ) (reader : Reader) (form : ℕ) (g : Shape) (rest : List ℕ) → script_of reader ≡ opened form g → reader.place ≡ place.Code → IsSound reader
+    → bytes ≡ flat_map line_text (ClayLine form ∷ CodeLine g ∷ []) ++ rest → IsReadTo bytes reader rest 2
+read_opened bytes reader form g rest script at sound is =
+    let same : begun reader.place (script_of reader) ≡ ClayLine form ∷ CodeLine g ∷ [] =
+    ap (λ (p : Place). begun p (script_of reader)) at ∙ ap (begun place.Code) script in
+    record {
+      sound = sound;
+      counted = sym (ap length same);
+      parted = is ∙ ap (λ (ls : List Line). flat_map line_text ls ++ rest) (sym same);
+    }
 
 -- one line more was read
 pub read_more : (bytes : List ℕ) (old new : Reader) (rest text behind : List ℕ) (lines : ℕ) → IsReadTo bytes old rest lines → rest ≡ text ++ 10 ∷ behind

@@ -285,6 +285,7 @@ impl Reader {
         let size = self.size.unwrap_or(DEFAULT_SIZE);
         let load = self.load.with_call(stripe_len, size, &call);
         if !load.is_allowed(stripe_len) {
+            drop(call);
             return Err(FaultKind::Limit);
         }
         let leave = pending(self.place);
@@ -372,13 +373,17 @@ fn push_call(clients: &mut Vec<ClientPart>, call: Call, leave: Option<u32>) -> R
     ensures { PushesCall clients.old.items call leave result clients.new.items }
 {
     let Some(part) = clients.pop() else {
+        drop(call);
         return Err(FaultKind::Syntax);
     };
     let ClientPart { mut calls, .. } = part;
     if calls.len() == MAX_CALLS {
+        drop(call);
+        drop(calls);
         return Err(FaultKind::Limit);
     }
     let Ok(()) = calls.push(call) else {
+        drop(calls);
         return Err(FaultKind::OutOfMemory);
     };
     let Ok(()) = clients.push(ClientPart { calls, leave }) else {
@@ -397,6 +402,7 @@ fn push_rebuild(
     ensures { PushesRebuild repairers.old.items rebuild leave result repairers.new.items }
 {
     let Some(part) = repairers.pop() else {
+        drop(rebuild);
         return Err(FaultKind::Syntax);
     };
     let RepairPart {
@@ -404,9 +410,12 @@ fn push_rebuild(
         ..
     } = part;
     if rebuilds.len() == MAX_CALLS {
+        drop(rebuild);
+        drop(rebuilds);
         return Err(FaultKind::Limit);
     }
     let Ok(()) = rebuilds.push(rebuild) else {
+        drop(rebuilds);
         return Err(FaultKind::OutOfMemory);
     };
     let Ok(()) = repairers.push(RepairPart {

@@ -94,11 +94,15 @@ fn read_to_end(alloc: Global, bytes: &[u8]) -> Result<ScriptRead, ScriptFault>
     let mut lines: u32 = 2;
     while !reader.has_ended() {
         let Some((line, behind)) = split_at_first(b'\n', rest) else {
+            drop(reader);
             return Err(ScriptFault::at(lines + 1, FaultKind::MissingEnd));
         };
         match reader.take_line(alloc, line) {
             Ok(()) => {}
-            Err(kind) => return Err(ScriptFault::at(lines + 1, kind)),
+            Err(kind) => {
+                drop(reader);
+                return Err(ScriptFault::at(lines + 1, kind));
+            }
         }
         rest = behind;
         lines += 1;
@@ -123,10 +127,15 @@ pub fn read_script(alloc: Global, bytes: &[u8]) -> Result<Script, ScriptFault>
         Ok(read) => read,
         Err(fault) => return Err(fault),
     };
-    if read.length < bytes.len() {
-        return Err(ScriptFault::at(read.lines + 1, FaultKind::Syntax));
+    let ScriptRead {
+        script,
+        lines,
+        length,
+    } = read;
+    if length < bytes.len() {
+        drop(script);
+        return Err(ScriptFault::at(lines + 1, FaultKind::Syntax));
     }
-    let ScriptRead { script, .. } = read;
     Ok(script)
 }
 

@@ -289,20 +289,29 @@ fn push_repairers(text: &mut Vec<u8>, parts: &[RepairPart]) -> Result<(), AllocE
     Ok(())
 }
 
+// Appends all lines to a text without bytes.
+fn push_script(alloc: Global, text: &mut Vec<u8>, script: &Script) -> Result<(), AllocError>
+    requires { text.old.items ≡ [] }
+    ensures { OnOk result (text.new.items ≡ spelling script.now) }
+{
+    push_numbered(text, b"clay", script.form)?;
+    push_code(text, script.geometry)?;
+    push_size(text, script.size)?;
+    push_tries(text, script.tries)?;
+    push_clients(alloc, text, script.clients.as_slice())?;
+    push_repairers(text, script.repairers.as_slice())?;
+    text.extend_from_slice(b"schedule\n")?;
+    push_schedule(text, script.schedule.as_slice())?;
+    text.extend_from_slice(b"end\n")?;
+    Ok(())
+}
+
 /// The bytes that spell the script, which may be of any values, also beyond the limits. A step limit
 /// of a block without calls isn't written. Takes time in proportion to the bytes.
 pub fn write_script(alloc: Global, script: &Script) -> Result<Vec<u8>, AllocError>
     ensures { IfOk result (λ text. text.items ≡ spelling script.now) }
 {
     let mut text = Vec::new(alloc);
-    push_numbered(&mut text, b"clay", script.form)?;
-    push_code(&mut text, script.geometry)?;
-    push_size(&mut text, script.size)?;
-    push_tries(&mut text, script.tries)?;
-    push_clients(alloc, &mut text, script.clients.as_slice())?;
-    push_repairers(&mut text, script.repairers.as_slice())?;
-    text.extend_from_slice(b"schedule\n")?;
-    push_schedule(&mut text, script.schedule.as_slice())?;
-    text.extend_from_slice(b"end\n")?;
+    push_script(alloc, &mut text, script)?;
     Ok(text)
 }

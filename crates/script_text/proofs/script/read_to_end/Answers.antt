@@ -1,7 +1,7 @@
 use Rattle.std.proofs.Common.{◌≡◌, true, refl, arith}
 use Rattle.script_text.specs.Reader.{script_of}
 use Rattle.script_text.specs.Spelling.{spelling}
-use Rattle.script_text.proofs.ScriptLaws.{few_read, line_missing, line_refused, read_more, ended, front_length, front_left}
+use Rattle.script_text.proofs.ScriptLaws.{few_read, line_missing, line_refused, read_opened, read_more, ended, front_length, front_left}
 use Rattle.script_text.proofs.script.read_to_end.Goals as goal
 
 pub overflow_add-lines : goal.overflow_add-lines
@@ -32,6 +32,22 @@ pub loop-alloc-preserved : goal.loop-alloc-preserved
 loop-alloc-preserved c =
     read_more c.args.bytes.now c.loop-alloc.reader c.take_line.new.self c.loop-alloc.rest.now c.in-Some.line.now c.in-Some.behind.now c.loop-alloc.lines c.loop-alloc.invariant
     c.in-Some.ensures.found c.in-Ok-take_line.ensures
+
+pub loop-alloc-init : goal.loop-alloc-init
+loop-alloc-init c =
+    read_opened c.args.bytes.now c.new-reader.result c.in-Ok.opening.form c.in-Ok.opening.geometry c.in-Ok.opening.rest.now c.new-reader.ensures.script c.new-reader.ensures.place
+    (c.new-reader.ensures.sound c.in-Ok.ensures.form c.in-Ok.ensures.geometry) c.in-Ok.ensures.spelled
+
+pub returns-clause-values : goal.returns-clause-values
+returns-clause-values c = rw c.into_script.ensures c.loop-alloc.invariant.sound.begun.values
+
+pub returns-clause-valid : goal.returns-clause-valid
+returns-clause-valid c = rw c.into_script.ensures c.loop-alloc.invariant.sound.begun.valid
+
+pub returns-clause-lines : goal.returns-clause-lines
+returns-clause-lines c =
+    let whole = ended c.args.bytes.now c.loop-alloc.reader c.loop-alloc.rest.now c.loop-alloc.lines c.loop-alloc.invariant (c.has_ended.ensures.0 c.loop-alloc-test.false) in
+    rw c.into_script.ensures whole.0
 
 pub returns-clause-few : goal.returns-clause-few
 returns-clause-few c = few_read c.args.bytes.now c.loop-alloc.reader c.loop-alloc.rest.now c.loop-alloc.lines c.loop-alloc.invariant

@@ -7,13 +7,13 @@ use Rattle.store_map.specs.declared.script.RepairPart.{RepairPart}
 use Rattle.line_grammar.specs.Line.{ClayLine, StepLine, line_text}
 use Rattle.script_text.specs.Spelling.{client_lines, repairer_lines}
 use Rattle.script_text.proofs.WriteLaws.{script_written}
-use Rattle.script_text.proofs.write.write_script.Goals as goal
+use Rattle.script_text.proofs.write.push_script.Goals as goal
 
 pub returns : goal.returns
 returns c =
     script_written c.args.script.now c.push_numbered.new.text.items c.push_code.new.text.items c.push_size.new.text.items c.push_tries.new.text.items c.push_clients.new.text.items
     c.push_repairers.new.text.items c.extend_from_slice.new.self.items c.push_schedule.new.text.items c.extend_from_slice-2.new.self.items
-    (c.in_ok-push_numbered.ensures ∙ ap (λ (l : List ℕ). l ++ line_text (ClayLine c.args.script.now.form)) c.new-text.ensures.items) c.in_ok-push_code.ensures c.in_ok-push_size.ensures c.in_ok-push_tries.ensures
+    (c.in_ok-push_numbered.ensures ∙ ap (λ (l : List ℕ). l ++ line_text (ClayLine c.args.script.now.form)) c.requires) c.in_ok-push_code.ensures c.in_ok-push_size.ensures c.in_ok-push_tries.ensures
     (c.in_ok-push_clients.ensures ∙ ap (λ (ps : List ClientPart). c.push_tries.new.text.items ++ flat_map line_text (flat_map client_lines ps)) c.as_slice.ensures)
     (c.in_ok-push_repairers.ensures ∙ ap (λ (ps : List RepairPart). c.push_clients.new.text.items ++ flat_map line_text (flat_map repairer_lines ps)) c.as_slice-2.ensures)
     c.in_ok-extend_from_slice.ensures.items
