@@ -211,6 +211,8 @@ impl<'a> World<'a> {
             Err(e) => {
                 leave_callers(clients);
                 leave_callers(repairers);
+                drop(directory);
+                drop(servers);
                 Err(e)
             }
         }

@@ -32,6 +32,20 @@ fn calls_of(alloc: Global, mut callers: Vec<Caller>) -> Result<Vec<CallerCalls>,
     Ok(calls)
 }
 
+// The calls of the clients and of the repairers.
+fn calls_of_all(
+    alloc: Global,
+    clients: Vec<Caller>,
+    repairers: Vec<Caller>,
+) -> Result<(Vec<CallerCalls>, Vec<CallerCalls>), AllocError>
+    ensures clients { IfOk result (λ made. AreCallsOf clients.entry.items made.0.items) }
+    ensures repairers { IfOk result (λ made. AreCallsOf repairers.entry.items made.1.items) }
+{
+    let clients = calls_of(alloc, clients);
+    let repairers = calls_of(alloc, repairers);
+    Ok((clients?, repairers?))
+}
+
 impl<'a> World<'a> {
     /// The transcript of the run that is over. Calls in work are let go: where they made a step they stand in it
     /// without a reply.
@@ -47,16 +61,20 @@ impl<'a> World<'a> {
             repairers,
             sweeper: _sweeper,
         } = self;
-        let clients = calls_of(alloc, clients);
-        let repairers = calls_of(alloc, repairers);
-        let clients = clients?;
-        let repairers = repairers?;
-        make_transcript(
+        let Ok((clients, repairers)) = calls_of_all(alloc, clients, repairers) else {
+            drop(directory);
+            drop(servers);
+            return Err(AllocError);
+        };
+        let transcript = make_transcript(
             alloc,
             &directory,
             servers.as_slice(),
             clients,
             repairers.as_slice(),
-        )
+        );
+        drop(directory);
+        drop(servers);
+        transcript
     }
 }
