@@ -117,6 +117,7 @@ pub(crate) fn new_parts(alloc: Global, geometry: Geometry, max: u32) -> Result<P
         }
         Err(e) => {
             leave_seats(seats);
+            drop(places);
             Err(e)
         }
     }

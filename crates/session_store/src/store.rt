@@ -135,7 +135,7 @@ fn leave(parts: Parts)
 {
     let Parts {
         alloc: _,
-        places: _,
+        places,
         served: _,
         client,
         repairer,
@@ -151,4 +151,5 @@ fn leave(parts: Parts)
         unreachable!();
     }
     leave_tickets(tickets);
+    drop(places);
 }
