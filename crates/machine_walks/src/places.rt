@@ -86,11 +86,13 @@ impl<'a> Places<'a> {
         let Places {
             alloc: _,
             book: _,
-            directory: _,
-            servers: _,
+            directory,
+            servers,
             waiting,
         } = self;
         waiting.leave();
+        drop(directory);
+        drop(servers);
     }
 
     pub(crate) fn servers(&self) -> &[Server] {

@@ -41,6 +41,11 @@ fn bytes_at(words: &[&str], at: usize) -> Result<Content, Fail> {
     Ok(Content::Ramp { first, length })
 }
 
+fn put(name: Name, words: &[&str]) -> Result<Call, Fail> {
+    let content = bytes_at(words, 1)?;
+    Ok(Call::Put { name, content })
+}
+
 fn write(name: Name, words: &[&str]) -> Result<Call, Fail> {
     let offset = number_at(words, 1)?;
     let content = bytes_at(words, 2)?;
@@ -63,12 +68,10 @@ fn read(name: Name, words: &[&str]) -> Result<Call, Fail> {
 
 // A client's call of the one object.
 fn call(alloc: Global, words: &[&str]) -> Result<Call, Fail> {
+    let kind = word_at(words, 0)?;
     let name = Name::new(alloc, "a")?;
-    match word_at(words, 0)? {
-        "put" => {
-            let content = bytes_at(words, 1)?;
-            Ok(Call::Put { name, content })
-        }
+    match kind {
+        "put" => put(name, words),
         "write" => write(name, words),
         "get" => Ok(Call::Get { name }),
         "read" => read(name, words),
@@ -80,9 +83,9 @@ fn call(alloc: Global, words: &[&str]) -> Result<Call, Fail> {
 
 // A rebuild of a stripe of it, at a server.
 fn rebuild(alloc: Global, words: &[&str]) -> Result<Rebuild, Fail> {
-    let name = Name::new(alloc, "a")?;
     let stripe = number_at(words, 1)?;
     let server = number_at(words, 2)?;
+    let name = Name::new(alloc, "a")?;
     Ok(Rebuild {
         name,
         stripe,

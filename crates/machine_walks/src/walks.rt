@@ -86,7 +86,9 @@ fn hold<'a, R: Threads + Sync>(
             return Err(Fail::from("a row without a step"));
         };
         let found = made(rt, alloc, store, step)?;
-        same(alloc, &found, row)?;
+        let held = same(alloc, &found, row);
+        drop(found);
+        held?;
         at = at.saturating_add(1);
     }
     Ok(())
