@@ -1,10 +1,13 @@
-//! The crates of the code as they are called, compared with values from outside.
+//! The crates of the code as they are called, compared with values from outside; and files cut into shares, joined and mended, with
+//! shares missing and rotten, and with each call failing in turn.
 #![tactic(auto)]
 
 #[cfg(test)]
 mod coders;
 #[cfg(test)]
 mod coupling;
+#[cfg(test)]
+mod cuts;
 #[cfg(test)]
 mod decoding;
 #[cfg(test)]
@@ -14,7 +17,17 @@ mod field;
 #[cfg(test)]
 mod geometry;
 #[cfg(test)]
+mod headers;
+#[cfg(test)]
 mod interpolation;
+#[cfg(test)]
+mod joins;
+#[cfg(test)]
+mod mends;
+#[cfg(test)]
+mod shares;
+#[cfg(test)]
+mod told_cuts;
 
 #[cfg(test)]
 use std::process::Abort;

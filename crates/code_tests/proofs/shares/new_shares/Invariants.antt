@@ -1,6 +1,6 @@
 use Rattle.std.proofs.Common.{◌≡◌, ◌-◌, ◌≤◌, [], vec_len}
 use Rattle.std.specs.Prelude.{All}
-use Rattle.share_tests.proofs.shares.new_shares.Given as goal
+use Rattle.code_tests.proofs.shares.new_shares.Given as goal
 
 abbrev pub invariant-shares : goal.invariant-shares
 invariant-shares l = record {
