@@ -10,3 +10,5 @@ pub mod ExitStatus
 pub mod Laws
 pub mod Serves
 pub mod Printed
+pub mod FormLaws
+pub mod BackLaws

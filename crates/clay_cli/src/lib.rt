@@ -8,6 +8,7 @@ mod coder;
 mod generate;
 mod input;
 pub mod laws;
+pub mod laws_of_forms;
 mod output;
 mod play;
 mod program;

@@ -4,7 +4,7 @@ ghost use Rattle.std.specs.Prelude.{◌≡◌, vec_len, IfOk};
 use crate::folder::{Folder, first_shares, open_folder, tell_missing};
 use crate::share_file::ShareFile;
 use crc64::Crc64;
-use share_checks::ShareFault;
+use share_files::ShareFault;
 use share_format::ShareHeader;
 use share_run::{Progress, ends_short, serve_check};
 use std::alloc::{AllocError, Global};

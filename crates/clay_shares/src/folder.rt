@@ -3,7 +3,7 @@ ghost use Rattle.std.specs.Prelude.{◌≡◌, ◌≤◌, vec_len, IfOk, IfSome}
 
 use crate::share_file::ShareFile;
 use crc64::Crc64;
-use share_checks::ShareFault;
+use share_files::ShareFault;
 use share_format::ShareHeader;
 use share_run::{
     Head, Progress, ShareStatus, ToldFile, ends, ends_short, fails, is_of_cut, read_heads,

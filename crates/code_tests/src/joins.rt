@@ -7,8 +7,8 @@ use clay_aloof::AloofGeometry;
 use clay_bytes::MemSink;
 use crc64::Crc64;
 use file_bytes::{MemFile, SinkAt};
+use share_files::{JoinFault, join};
 use share_format::ShareHeader;
-use share_joins::{JoinFault, join};
 use std::alloc::{AllocError, Global};
 
 // What goes wrong with the shares, or with what is joined from them.

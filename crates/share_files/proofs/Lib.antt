@@ -8,3 +8,9 @@ pub mod FoundLemmas
 pub mod ShareLemmas
 pub mod PutLemmas
 pub mod Faults
+pub mod WholeLemmas
+pub mod Reading
+pub mod Steps
+pub mod Bytes
+pub mod Taking
+pub mod Shares

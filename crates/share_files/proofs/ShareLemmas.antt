@@ -4,7 +4,7 @@ use Rattle.clay_aloof.specs.Shape.{AloofShape}
 use Rattle.share_format.specs.Blocks.{block_of, IsBlock}
 use Rattle.share_format.specs.Shares.{chunks_at, IsShare}
 use Rattle.share_format.proofs.Blocks.{block_in_share, are_chunks, count_chunks, chunk_of_word}
-use Rattle.share_blocks.proofs.Intact.{block_kept}
+use Rattle.share_format.proofs.Intact.{block_kept}
 use Rattle.share_files.specs.Found.{block_in}
 
 module _ (a : AloofShape) (file bytes : List ℕ) (c : ℕ) (is : IsShare a file c bytes) (i : ℕ) (less : i < length is.words) where

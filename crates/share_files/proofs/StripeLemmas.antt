@@ -6,7 +6,7 @@ use Rattle.clay_model.specs.Chunks.{contents}
 use Rattle.clay_aloof.specs.Shape.{AloofShape, all_chunks}
 use Rattle.share_format.specs.Blocks.{block_of, block_length}
 use Rattle.share_format.proofs.Lengths.{length_block}
-use Rattle.share_blocks.specs.Cut.{AreBlocks}
+use Rattle.share_format.specs.CutBlocks.{AreBlocks}
 use Rattle.share_files.specs.Written.{GainsBlock, AreChanged, GainStripe}
 
 module _ (a : AloofShape) (stripe : List ℕ) (vectors items : List (Vec ℕ Global)) (same : vectors ≡ items) (of_items : AreBlocks a stripe (contents items)) where

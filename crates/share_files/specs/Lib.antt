@@ -4,3 +4,10 @@ pub mod Cut
 pub mod Found
 pub mod Seen
 pub mod Put
+pub mod Whole
+pub mod Missed
+pub mod Gathered
+pub mod Stripes
+pub mod Joined
+pub mod Taken
+pub mod SoFar

@@ -11,7 +11,7 @@ use crate::reading::read_block;
 use clay_aloof::AloofGeometry;
 use crc64::Crc64;
 use file_bytes::{ReadFault, SourceAt};
-use share_blocks::is_block;
+use share_format::is_block;
 use std::alloc::{AllocError, Global};
 use thiserror::Error;
 

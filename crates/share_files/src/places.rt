@@ -4,7 +4,7 @@ ghost use Rattle.share_format.specs.Blocks.{page_of, rounded, chunk_start, block
 ghost use Rattle.share_format.specs.Shares.{block_start};
 
 use clay_aloof::AloofGeometry;
-use share_blocks::{page, rounded_up};
+use share_format::{page, rounded_up};
 
 /// The bytes that a share's header and the zeros behind it take.
 pub fn header_room(geometry: AloofGeometry) -> u64

@@ -12,8 +12,7 @@ use clay_aloof::AloofGeometry;
 use clay_bytes::WriteFault;
 use crc64::Crc64;
 use file_bytes::SinkAt;
-use share_blocks::cut_stripe;
-use share_format::ShareHeader;
+use share_format::{ShareHeader, cut_stripe};
 use std::alloc::Global;
 
 // Puts each block into its place in its share.

@@ -8,3 +8,8 @@ pub mod AnyShares
 pub mod Mended
 pub mod Ranges
 pub mod Found
+pub mod Laid
+pub mod Full
+pub mod Coded
+pub mod Joining
+pub mod Intact

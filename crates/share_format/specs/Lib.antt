@@ -4,3 +4,6 @@ pub mod Header
 pub mod Shares
 pub mod Mend
 pub mod Faults
+pub mod CutBlocks
+pub mod Joined
+pub mod Parts

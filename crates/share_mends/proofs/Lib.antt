@@ -6,3 +6,4 @@ pub mod AskedLemmas
 pub mod GatherLemmas
 pub mod MendLemmas
 pub mod LawLemmas
+pub mod RebuildLemmas

@@ -13,7 +13,7 @@ use Rattle.clay_aloof.proofs.Put.{length-part}
 use Rattle.share_format.specs.Mend.{block_ranges}
 use Rattle.share_format.specs.Blocks.{chunk_start, block_length}
 use Rattle.share_format.specs.Shares.{block_start}
-use Rattle.share_blocks.specs.Parts.{IsIntactPart}
+use Rattle.share_format.specs.Parts.{IsIntactPart}
 use Rattle.share_mends.specs.Places.{GivesAt}
 use Rattle.share_mends.specs.Spans.{ranges_at, AreSpans, AreShort}
 use Rattle.share_mends.specs.Parts.{piece_in, IsGoodPiece, IsFoundPart}

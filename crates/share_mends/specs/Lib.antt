@@ -5,3 +5,4 @@ pub mod Asked
 pub mod Mended
 pub mod Gathered
 pub mod Column
+pub mod Rebuilt

@@ -5,7 +5,7 @@ use Rattle.clay_aloof.specs.Shape.{AloofShape}
 use Rattle.clay_aloof.specs.Repair.{aloof_layers_of, part_bytes}
 use Rattle.share_format.specs.Blocks.{chunk_start}
 use Rattle.share_format.specs.Mend.{block_ranges, bytes_in}
-use Rattle.share_blocks.specs.Parts.{IsIntactPart}
+use Rattle.share_format.specs.Parts.{IsIntactPart}
 
 -- what a file has in the ranges that a mend of the lost share reads of stripe i's block: the table, and the chunk's part behind it
 abbrev pub piece_in : AloofShape → ℕ → ℕ → List ℕ → List ℕ

@@ -1,4 +1,4 @@
-//! A lost share mended from parts of the others.
+//! A lost share mended from parts of the others, or made anew from whole blocks of them where too many are lost.
 #![tactic(auto)]
 
 mod fault;
@@ -7,9 +7,11 @@ mod helpers;
 mod laws;
 mod mending;
 mod parts;
+mod rebuilding;
 mod spans;
 
 pub use fault::{MendFault, RottenPart};
 pub use helpers::are_helpers;
 pub use laws::mends_read_ranges;
 pub use mending::mend;
+pub use rebuilding::{RebuildFault, mend_whole};

@@ -21,9 +21,8 @@ use crate::spans::{Plan, make_plan};
 use clay_bytes::WriteFault;
 use crc64::Crc64;
 use file_bytes::{SinkAt, SourceAt};
-use share_blocks::{make_block, mend_stripe};
 use share_files::{PutFault, write_block, write_header};
-use share_format::ShareHeader;
+use share_format::{ShareHeader, make_block, mend_stripe};
 use std::alloc::Global;
 
 // The block of the lost share for a stripe, from the helpers' parts.

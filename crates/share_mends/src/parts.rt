@@ -12,8 +12,8 @@ ghost use Rattle.share_mends.specs.Parts.{piece_in, IsFoundPart};
 use crate::spans::{Plan, Span};
 use crc64::Crc64;
 use file_bytes::{ReadFault, SourceAt, read_exact_at};
-use share_blocks::is_part;
 use share_files::{BlockFault, block_place, chunk_place};
+use share_format::is_part;
 use std::alloc::{AllocError, Global};
 
 // Reads a span of the block that begins at a place, into the buffer from an index on.

@@ -3,9 +3,9 @@ use Rattle.std.proofs.Common.{◌≡◌, ◌≢◌, ℕ, ◌+◌, ◌<◌, ◌�
 use Rattle.std.proofs.Math.ListN.{set}
 use Rattle.share_format.specs.Header.{Header}
 use Rattle.share_files.specs.Seen.{Seen, seen_of}
-use Rattle.share_checks.specs.Whole.{OneFails}
-use Rattle.share_checks.specs.declared.fault.ShareFault.{ShareFault}
-use Rattle.share_checks.specs.declared.fault.ShareFault.TheVariants.{Short, Header as HeaderFault, Foreign, Padding, Block, Longer, ReadFault as FailedRead, OutOfMemory as NoMemory}
+use Rattle.share_files.specs.Whole.{OneFails}
+use Rattle.share_files.specs.declared.share_fault.ShareFault.{ShareFault}
+use Rattle.share_files.specs.declared.share_fault.ShareFault.TheVariants.{Short, Header as HeaderFault, Foreign, Padding, Block, Longer, ReadFault as FailedRead, OutOfMemory as NoMemory}
 use Rattle.share_run.specs.Heads.{numbered}
 use Rattle.share_run.specs.Check.{FailsAs, IsVerdictOf, AreVerdicts}
 use Rattle.share_run.proofs.SeenLemmas.{own, other, was}

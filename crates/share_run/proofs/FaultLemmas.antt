@@ -1,13 +1,13 @@
 -- A fault of one kind is none of another.
 use Rattle.std.proofs.Common.{◌≡◌, ℕ, Err}
 use Rattle.std.specs.Prelude.{IsErrOf}
-use Rattle.share_joins.specs.declared.joining.JoinFault.{JoinFault}
-use Rattle.share_joins.specs.declared.joining.JoinFault.TheVariants.{TooFew, Mismatch, WriteFault}
+use Rattle.share_files.specs.declared.joining.JoinFault.{JoinFault}
+use Rattle.share_files.specs.declared.joining.JoinFault.TheVariants.{TooFew, Mismatch, WriteFault}
 use Rattle.share_mends.specs.declared.fault.RottenPart.{RottenPart}
 use Rattle.share_mends.specs.declared.fault.MendFault.{MendFault}
 use Rattle.share_mends.specs.declared.fault.MendFault.TheVariants.{Rotten, ReadFault as UnreadPart, WriteFault as UnwrittenShare}
-use Rattle.share_rebuilds.specs.declared.rebuilding.RebuildFault.{RebuildFault}
-use Rattle.share_rebuilds.specs.declared.rebuilding.RebuildFault.TheVariants.{TooFew as FewBlocks, WriteFault as UnwrittenBlock}
+use Rattle.share_mends.specs.declared.rebuilding.RebuildFault.{RebuildFault}
+use Rattle.share_mends.specs.declared.rebuilding.RebuildFault.TheVariants.{TooFew as FewBlocks, WriteFault as UnwrittenBlock}
 
 pub few_no_write : {A : Type 0} (fault : JoinFault) (stripe : ℕ) → fault ≡ TooFew stripe → IsErrOf {T = A} (Err fault) WriteFault → ⊥
 few_no_write fault stripe is e = cc

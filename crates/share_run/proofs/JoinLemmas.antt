@@ -2,8 +2,8 @@
 use Rattle.std.proofs.Common.{◌≡◌, ℕ, Option, List, [], ◌∷◌, ◌++◌, ◌∙◌, ap}
 use Rattle.clay_bytes.specs.Stream.{Accepts}
 use Rattle.share_files.specs.Seen.{Show}
-use Rattle.share_joins.specs.Joined.{NoRotPasses}
-use Rattle.share_joins.specs.Taken.{TakesFile, TakesAnother}
+use Rattle.share_files.specs.Joined.{NoRotPasses}
+use Rattle.share_files.specs.Taken.{TakesFile, TakesAnother}
 use Rattle.share_run.specs.Places.{Filled, filled}
 use Rattle.share_run.specs.Join.{JoinRun, FilePlaced, IsAnother}
 

@@ -14,8 +14,8 @@ use Rattle.share_format.specs.Mend.{range_of, bytes_in}
 use Rattle.share_format.specs.Shares.{IsShare, block_start}
 use Rattle.share_format.proofs.Lengths.{length_front}
 use Rattle.share_format.proofs.Rows.{take_front, drop_front, length_flat}
-use Rattle.share_blocks.specs.Parts.{IsIntactPart}
-use Rattle.share_blocks.proofs.Intact.{part_intact}
+use Rattle.share_format.specs.Parts.{IsIntactPart}
+use Rattle.share_format.proofs.Intact.{part_intact}
 use Rattle.share_files.proofs.ShareLemmas.{block_is}
 use Rattle.share_mends.specs.Parts.{piece_in, IsGoodPiece}
 

@@ -5,9 +5,9 @@ use Rattle.clay_aloof.specs.Shape.{all_chunks}
 use Rattle.file_bytes.specs.Places.{Shows}
 use Rattle.share_format.specs.Header.{Header}
 use Rattle.share_files.specs.Seen.{Seen, seen_of}
-use Rattle.share_checks.specs.Whole.{IsWhole, IsFirstFault, OneFails}
-use Rattle.share_checks.specs.declared.fault.ShareFault.{ShareFault}
-use Rattle.share_checks.specs.declared.fault.ShareFault.TheVariants.{ReadFault as FailedRead, OutOfMemory as NoMemory}
+use Rattle.share_files.specs.Whole.{IsWhole, IsFirstFault, OneFails}
+use Rattle.share_files.specs.declared.share_fault.ShareFault.{ShareFault}
+use Rattle.share_files.specs.declared.share_fault.ShareFault.TheVariants.{ReadFault as FailedRead, OutOfMemory as NoMemory}
 use Rattle.share_run.specs.Heads.{numbered}
 use Rattle.share_run.specs.declared.status.ShareStatus.{ShareStatus}
 use Rattle.share_run.specs.declared.status.ShareStatus.TheVariants.{Done, Usage, TooFew, BadShare, ReadFault, WriteFault, OutOfMemory}

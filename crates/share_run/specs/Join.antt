@@ -5,9 +5,9 @@ use Rattle.clay_bytes.specs.Stream.{Rises}
 use Rattle.share_format.specs.Cut.{stripe_count}
 use Rattle.share_format.specs.Header.{Header}
 use Rattle.share_files.specs.Seen.{Seen, Show}
-use Rattle.share_joins.specs.Missed.{AreFirstMissed, LackBlocks}
-use Rattle.share_joins.specs.Joined.{NoRotPasses}
-use Rattle.share_joins.specs.Stripes.{AreJoined}
+use Rattle.share_files.specs.Missed.{AreFirstMissed, LackBlocks}
+use Rattle.share_files.specs.Joined.{NoRotPasses}
+use Rattle.share_files.specs.Stripes.{AreJoined}
 use Rattle.share_run.specs.Places.{Kept, filled, IsUntouched}
 use Rattle.share_run.specs.declared.status.ShareStatus.{ShareStatus}
 use Rattle.share_run.specs.declared.status.ShareStatus.TheVariants.{Done, Usage, TooFew, BadShare, ReadFault, WriteFault, OutOfMemory}

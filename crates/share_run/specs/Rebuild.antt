@@ -3,8 +3,8 @@ use Rattle.std.specs.Prelude.{◌≡◌, ℕ, ◌<◌, ◌⊎◌, List, [], ◌�
 use Rattle.clay_bytes.specs.Stream.{Rises}
 use Rattle.share_format.specs.Shares.{IsShare}
 use Rattle.share_files.specs.Seen.{Show}
-use Rattle.share_joins.specs.Missed.{LackBlocks}
-use Rattle.share_joins.specs.Joined.{NoRotPasses}
+use Rattle.share_files.specs.Missed.{LackBlocks}
+use Rattle.share_files.specs.Joined.{NoRotPasses}
 use Rattle.share_run.specs.Places.{filled, IsUntouched}
 use Rattle.share_run.specs.Mend.{MendRun, stripes_of, IsWritten}
 use Rattle.share_run.specs.declared.status.ShareStatus.{ShareStatus}

@@ -10,7 +10,7 @@ use crate::ShareStatus;
 use crate::headers::header_of_share;
 use crc64::Crc64;
 use file_bytes::SourceAt;
-use share_checks::{ShareFault, check_share};
+use share_files::{ShareFault, check_share};
 use share_format::ShareHeader;
 use std::alloc::{AllocError, Global};
 

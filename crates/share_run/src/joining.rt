@@ -10,8 +10,8 @@ use crate::places::Place;
 use clay_bytes::{Failed, Sink};
 use crc64::Crc64;
 use file_bytes::SourceAt;
+use share_files::{JoinFault, join};
 use share_format::ShareHeader;
-use share_joins::{JoinFault, join};
 use std::alloc::Global;
 
 /// Joins a file from its shares beside its place, and then puts it there. `missed` has an entry for each share, as `join` sets it.

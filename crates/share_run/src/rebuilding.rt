@@ -12,7 +12,7 @@ use clay_bytes::Failed;
 use crc64::Crc64;
 use file_bytes::{SinkAt, SourceAt};
 use share_format::ShareHeader;
-use share_rebuilds::{RebuildFault, mend_whole};
+use share_mends::{RebuildFault, mend_whole};
 use std::alloc::Global;
 
 /// Mends the share of the header's number from whole blocks of any `K` shares, beside its place, and then puts it there.

@@ -24,7 +24,7 @@ use clay_aloof::AloofGeometry;
 use clay_bytes::{Sink, Source};
 use crc64::Crc64;
 use file_bytes::{SinkAt, SourceAt};
-use share_checks::ShareFault;
+use share_files::ShareFault;
 use share_format::ShareHeader;
 use std::alloc::Global;
 use std::io::Eprint;

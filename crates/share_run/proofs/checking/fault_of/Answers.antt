@@ -1,5 +1,5 @@
 use Rattle.std.proofs.Common.{subst}
-use Rattle.share_checks.specs.Whole.{IsWhole, IsFirstFault}
+use Rattle.share_files.specs.Whole.{IsWhole, IsFirstFault}
 use Rattle.share_run.proofs.CheckLemmas.{fault_fails}
 use Rattle.share_run.proofs.checking.fault_of.Goals as goal
 

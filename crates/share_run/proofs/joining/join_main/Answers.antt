@@ -1,7 +1,7 @@
 use Rattle.std.proofs.Common.{Err, map, refl, subst, ap}
 use Rattle.share_files.specs.Seen.{seen}
-use Rattle.share_joins.specs.Joined.{IsWhyNot}
-use Rattle.share_joins.specs.declared.joining.JoinFault.{JoinFault}
+use Rattle.share_files.specs.Joined.{IsWhyNot}
+use Rattle.share_files.specs.declared.joining.JoinFault.{JoinFault}
 use Rattle.share_run.proofs.FaultLemmas.{few_no_write, other_no_write}
 use Rattle.share_run.proofs.JoinLemmas.{file_placed, is_another}
 use Rattle.share_run.proofs.joining.join_main.Goals as goal

@@ -2,8 +2,8 @@ use Rattle.std.proofs.Common.{map, refl, subst}
 use Rattle.file_bytes.specs.Laid.{laid}
 use Rattle.share_format.specs.Cut.{stripe_count}
 use Rattle.share_files.specs.Seen.{seen}
-use Rattle.share_rebuilds.specs.Rebuilt.{IsLack}
-use Rattle.share_rebuilds.specs.declared.rebuilding.RebuildFault.{RebuildFault}
+use Rattle.share_mends.specs.Rebuilt.{IsLack}
+use Rattle.share_mends.specs.declared.rebuilding.RebuildFault.{RebuildFault}
 use Rattle.share_run.proofs.FaultLemmas.{short_no_write}
 use Rattle.share_run.proofs.MendLemmas.{laid_share}
 use Rattle.share_run.proofs.rebuilding.rebuild_main.Goals as goal

@@ -1,6 +1,0 @@
-use Rattle.std.proofs.Common.{◌≡◌}
-use Rattle.share_blocks.proofs.Laid.{entries_below}
-use Rattle.share_blocks.proofs.block.table.Given as goal
-
-abbrev pub invariant-loop-layer : goal.invariant-loop-layer
-invariant-loop-layer l = l.table.items ≡ entries_below l.g l.chunk l.layer

@@ -1,7 +1,0 @@
-use Rattle.std.proofs.Common.{◌≡◌, take}
-use Rattle.std.specs.List.{flat_map}
-use Rattle.share_blocks.specs.Joined.{chunk_or_zeros}
-use Rattle.share_blocks.proofs.join.gathered.Given as goal
-
-abbrev pub invariant-loop-number : goal.invariant-loop-number
-invariant-loop-number l = l.chunks.items ≡ flat_map (chunk_or_zeros l.g) (take l.number l.blocks)

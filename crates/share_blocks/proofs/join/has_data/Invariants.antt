@@ -1,6 +1,0 @@
-use Rattle.std.proofs.Common.{◌≡◌, ℕ, ◌<◌, false}
-use Rattle.share_blocks.specs.Joined.{is_lost}
-use Rattle.share_blocks.proofs.join.has_data.Given as goal
-
-abbrev pub invariant-loop-c : goal.invariant-loop-c
-invariant-loop-c l = (i : ℕ) → i < l.c → is_lost l.blocks i ≡ false

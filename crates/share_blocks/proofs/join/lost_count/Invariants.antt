@@ -1,7 +1,0 @@
-use Rattle.std.proofs.Common.{◌≡◌}
-use Rattle.clay_grid.specs.Score.{count_below}
-use Rattle.share_blocks.specs.Joined.{is_lost}
-use Rattle.share_blocks.proofs.join.lost_count.Given as goal
-
-abbrev pub invariant-loop-block : goal.invariant-loop-block
-invariant-loop-block l = l.count ≡ count_below l.block-index (is_lost l.blocks)

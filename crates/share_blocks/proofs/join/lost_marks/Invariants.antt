@@ -1,6 +1,0 @@
-use Rattle.std.proofs.Common.{◌≡◌, ℕ, ◌<◌, length, get_or, false}
-use Rattle.share_blocks.specs.Joined.{is_lost}
-use Rattle.share_blocks.proofs.join.lost_marks.Given as goal
-
-abbrev pub invariant-loop-block : goal.invariant-loop-block
-invariant-loop-block l = (length l.lost.items ≡ l.block-index) × ((c : ℕ) → c < l.block-index → get_or l.lost.items c false ≡ is_lost l.blocks c)

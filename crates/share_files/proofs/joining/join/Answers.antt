@@ -1,0 +1,57 @@
+use Rattle.std.proofs.Common.{◌≢◌, sym, ◌∙◌}
+use Rattle.std.proofs.lemmas.List.{length-map}
+use Rattle.share_format.specs.Cut.{stripe_count}
+use Rattle.share_files.specs.declared.joining.JoinFault.TheVariants.{Mismatch}
+use Rattle.share_files.proofs.Steps.{first_missed, why_stopped}
+use Rattle.share_files.proofs.Taking.{takes_file, takes_another, takes_this, matches_this, takes_mismatch, takes_prefix}
+use Rattle.share_files.proofs.joining.join.Goals as goal
+
+pub returns-in-Err-clause-prefix : goal.returns-in-Err-clause-prefix
+returns-in-Err-clause-prefix g c = λ file files shows pass.
+    takes_prefix c.args.header.now _ _ _ _ _ _ file files shows pass c.in-Err.fault c.in-Err.ensures.until
+
+pub returns-in-Err-clause-mismatch : goal.returns-in-Err-clause-mismatch
+returns-in-Err-clause-mismatch g c = λ e. takes_mismatch c.args.header.now _ _ _ _ _ _ c.in-Err.fault e c.in-Err.ensures.until
+
+pub returns-in-Err-clause-why_not : goal.returns-in-Err-clause-why_not
+returns-in-Err-clause-why_not g c = λ files shows.
+    why_stopped c.args.header.now _ _ c.join_stripes.new.missed
+    (length-map c.join_stripes.new.sources _ ∙ c.join_stripes.auto.sources ∙ c.requires.sources) c.in-Err.fault c.in-Err.ensures.stop files shows
+
+pub returns-then-checksum-clause-matching : goal.returns-then-checksum-clause-matching
+returns-then-checksum-clause-matching g c = λ file files shows pass e.
+    let differs : c.in-Ok.checksum ≢ c.args.header.now.checksum = λ same. c.if-checksum.true (same ∙ sym c.checksum.ensures) in
+    matches_this c.args.header.now _ _ _ _ _ _ c.in-Ok.checksum c.in-Ok.ensures.taken differs file files shows pass
+
+pub returns-then-checksum-clause-prefix : goal.returns-then-checksum-clause-prefix
+returns-then-checksum-clause-prefix g c = λ file files shows pass.
+    let differs : c.in-Ok.checksum ≢ c.args.header.now.checksum = λ same. c.if-checksum.true (same ∙ sym c.checksum.ensures) in
+    takes_prefix c.args.header.now _ _ _ _ _ _ file files shows pass Mismatch
+    (takes_another c.args.header.now _ _ _ _ _ _ c.in-Ok.checksum c.in-Ok.ensures.taken differs)
+
+pub returns-then-checksum-clause-mismatch : goal.returns-then-checksum-clause-mismatch
+returns-then-checksum-clause-mismatch g c = λ e.
+    let differs : c.in-Ok.checksum ≢ c.args.header.now.checksum = λ same. c.if-checksum.true (same ∙ sym c.checksum.ensures) in
+    takes_another c.args.header.now _ _ _ _ _ _ c.in-Ok.checksum c.in-Ok.ensures.taken differs
+
+pub returns-then-checksum-clause-until : goal.returns-then-checksum-clause-until
+returns-then-checksum-clause-until g c =
+    let differs : c.in-Ok.checksum ≢ c.args.header.now.checksum = λ same. c.if-checksum.true (same ∙ sym c.checksum.ensures) in
+    takes_another c.args.header.now _ _ _ _ _ _ c.in-Ok.checksum c.in-Ok.ensures.taken differs
+
+pub returns-then-checksum-clause-why_not : goal.returns-then-checksum-clause-why_not
+returns-then-checksum-clause-why_not g c = λ files shows.
+    first_missed c.args.header.now (stripe_count c.args.header.now.shape c.args.header.now.size) _ _ c.join_stripes.new.missed
+    (length-map c.join_stripes.new.sources _ ∙ c.join_stripes.auto.sources ∙ c.requires.sources) c.in-Ok.ensures.read files shows
+
+pub returns-clause-joined : goal.returns-clause-joined
+returns-clause-joined g c = λ file files shows pass.
+    takes_this c.args.header.now _ _ _ _ _ _ c.in-Ok.checksum c.in-Ok.ensures.taken file files shows pass
+
+pub returns-clause-taken : goal.returns-clause-taken
+returns-clause-taken g c = takes_file c.args.header.now _ _ _ _ _ _ c.in-Ok.checksum c.in-Ok.ensures.taken (c.if-checksum.false ∙ c.checksum.ensures)
+
+pub returns-clause-missed : goal.returns-clause-missed
+returns-clause-missed g c = λ files shows.
+    first_missed c.args.header.now (stripe_count c.args.header.now.shape c.args.header.now.size) _ _ c.join_stripes.new.missed
+    (length-map c.join_stripes.new.sources _ ∙ c.join_stripes.auto.sources ∙ c.requires.sources) c.in-Ok.ensures.read files shows

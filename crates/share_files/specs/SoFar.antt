@@ -1,0 +1,40 @@
+-- What has come of a join after some stripes.
+use Rattle.std.specs.Prelude.{◌≡◌, ℕ, ◌+◌, ◌<◌, Option, None, List, length, get_or}
+use Rattle.crc64.specs.Remainder.{checksum_of}
+use Rattle.clay_bytes.specs.Stream.{Accepts}
+use Rattle.file_bytes.specs.Places.{Shows}
+use Rattle.clay_aloof.specs.Shape.{all_chunks}
+use Rattle.share_format.specs.Cut.{stripe_count}
+use Rattle.share_format.specs.Header.{Header}
+use Rattle.share_files.specs.Seen.{Seen, seen_of, failed_since, Show}
+use Rattle.share_files.specs.Gathered.{Grows}
+use Rattle.share_files.specs.Missed.{IsFirstMissed, LackBlocks}
+use Rattle.share_files.specs.Stripes.{AreJoined}
+use Rattle.share_files.specs.declared.joining.JoinFault.{JoinFault}
+use Rattle.share_files.specs.declared.joining.JoinFault.TheVariants.{TooFew, Mismatch, WriteFault, OutOfMemory}
+
+-- after so many stripes a sink took all but so many bytes of the file, with this checksum
+pub record TakesSoFar (h : Header) (count left : ℕ) (olds news : List Seen) (accepted : List ℕ) (written : Option (List ℕ)) (now : List ℕ)
+    (new : Option (List ℕ)) (checksum : ℕ) : Type 0 where
+  pub done : List ℕ
+  pub takes : Accepts accepted written done now new
+  pub counted : length done + left ≡ h.size
+  pub summed : checksum ≡ checksum_of done
+  pub joined : AreJoined h count olds news done
+
+-- what was known of a source before, after more reads, and the first of so many stripes that was missed in it
+pub record IsReadSoFar (h : Header) (count : ℕ) (old new : Seen) (missed : Option ℕ) : Type 0 where
+  pub noted : (file : List ℕ) → Shows file new.given new.ends → IsFirstMissed h.shape count file (failed_since old new) missed
+  pub grows : Grows old new
+
+pub record AreReadSoFar (h : Header) (count : ℕ) (olds news : List Seen) (missed : List (Option ℕ)) : Type 0 where
+  pub each : (c : ℕ) → c < all_chunks h.shape → IsReadSoFar h count (seen_of olds c) (seen_of news c) (get_or missed c None)
+
+-- why stripes could not be joined
+abbrev pub IsStop : Header → List Seen → List Seen → List (Option ℕ) → JoinFault → Type 0
+IsStop h olds news missed (TooFew stripe) =
+    (stripe < stripe_count h.shape h.size) × AreReadSoFar h (stripe + 1) olds news missed
+    × ((files : List (List ℕ)) → Show news files → LackBlocks h.shape stripe files olds news)
+IsStop h olds news missed Mismatch = ⊥
+IsStop h olds news missed WriteFault = Unit {0}
+IsStop h olds news missed OutOfMemory = Unit {0}
