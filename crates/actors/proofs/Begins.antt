@@ -20,7 +20,7 @@ use Rattle.store_core.specs.Work.{Ended}
 use Rattle.version_seal.specs.Entry.{BookOf}
 use Rattle.call_steps.specs.CallOf.{tries_by}
 use Rattle.call_steps.specs.Steps.{need_by, need_of}
-use Rattle.call_laws.specs.Stands.{IsFirst}
+use Rattle.call_steps.specs.Stands.{IsFirst}
 use Rattle.call_machine.specs.Kinds.{Asked, asked_job, Machine, client_machine, machine_of, IfPatches}
 use Rattle.call_machine.specs.Calls.{MachineOf, first_call, tries_in, KnowsOldOf}
 use Rattle.call_steps.specs.CallerCalls.{ended_of}

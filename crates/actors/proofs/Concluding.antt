@@ -4,8 +4,8 @@ use Rattle.std.specs.Prelude.{unwrap_or}
 use Rattle.std.specs.List.{list_any}
 use Rattle.store_core.specs.Act.{Act, Outcome}
 use Rattle.store_core.specs.Work.{Ended}
-use Rattle.store_resume.specs.State.{State}
-use Rattle.store_resume.specs.StateActs.{act_at}
+use Rattle.run_laws.specs.State.{State}
+use Rattle.run_laws.specs.StateActs.{act_at}
 use Rattle.call_steps.specs.CallOf.{CallOf, act_of, taken_of}
 use Rattle.call_steps.specs.Steps.{need_by, need_of}
 use Rattle.world_laws.specs.World.{DoingOf, ActorOf, steps_of}

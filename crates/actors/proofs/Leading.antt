@@ -12,7 +12,7 @@ use Rattle.call_steps.specs.declared.need.Need.{Need}
 use Rattle.call_steps.specs.declared.need.Need.TheVariants as need
 use Rattle.call_steps.specs.CallOf.{CallOf}
 use Rattle.call_steps.specs.Steps.{need_of, stepped_at_directory, stepped_at_server}
-use Rattle.call_laws.specs.Ready.{ready, shortage_of}
+use Rattle.call_steps.specs.Ready.{ready, shortage_of}
 use Rattle.world_laws.specs.World.{ActorOf, WorldOf, with_directory, with_server}
 use Rattle.world_laws.specs.ActorAfter.{actor_after}
 use Rattle.world_laws.specs.Leads.{LeadsWorld}

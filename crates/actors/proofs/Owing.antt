@@ -9,7 +9,7 @@ use Rattle.stripe_dir.specs.Sealed.{Sealed}
 use Rattle.call_steps.specs.declared.need.Need.TheVariants as need
 use Rattle.call_steps.specs.CallOf.{CallOf, act_of}
 use Rattle.call_steps.specs.Steps.{need_of}
-use Rattle.call_laws.proofs.Needs.{needs_tell_acts}
+use Rattle.call_steps.proofs.Needs.{needs_tell_acts}
 use Rattle.call_machine.specs.Kinds.{Asked, Machine, client_machine, machine_of}
 use Rattle.call_machine.specs.Calls.{read_by, stamps_by, MachineOf, drawn_in, drawn_for, drawn_by, owed_in, owed_by}
 

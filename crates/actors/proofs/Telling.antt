@@ -22,8 +22,8 @@ use Rattle.call_steps.specs.Answers.{directory_answer}
 use Rattle.call_steps.specs.CallOf.{CallOf, act_of}
 use Rattle.call_steps.specs.Hearing.{IsToldHere, IsToldThere, told_here, told_here_by, told_there, told_there_by}
 use Rattle.call_steps.specs.Steps.{need_of}
-use Rattle.call_laws.specs.Ready.{ready}
-use Rattle.call_laws.proofs.Needs.{needs_tell_acts}
+use Rattle.call_steps.specs.Ready.{ready}
+use Rattle.call_steps.proofs.Needs.{needs_tell_acts}
 use Rattle.call_machine.specs.Calls.{MachineOf}
 use Rattle.call_steps.specs.declared.step.StepAnswer.TheVariants as answer
 use Rattle.call_steps.specs.declared.step.Step.{Step}

@@ -15,9 +15,9 @@ use Rattle.call_steps.specs.declared.need.Need.{Need}
 use Rattle.call_steps.specs.declared.need.Need.TheVariants as need
 use Rattle.call_steps.specs.CallOf.{CallOf, act_of}
 use Rattle.call_steps.specs.Steps.{coded, need_by, need_of, at_directory_by, at_server_by, stepped_at_server, IsDueInPass}
-use Rattle.call_laws.specs.Ready.{ready}
-use Rattle.call_laws.proofs.Codings.{acts_stand}
-use Rattle.call_laws.proofs.Needs.{needs_tell_acts, is_coder}
+use Rattle.call_steps.specs.Ready.{ready}
+use Rattle.call_steps.proofs.Codings.{acts_stand}
+use Rattle.call_steps.proofs.Needs.{needs_tell_acts, is_coder}
 use Rattle.actors.specs.Turns.{AreServers, IsMadeAt, IsMadeAtServer, HasPlace, IsSameCall}
 
 -- ---- the coding

@@ -6,7 +6,7 @@ use Rattle.store_map.specs.declared.actor.Actor.TheVariants as actor
 use Rattle.store_core.specs.Step.{Places}
 use Rattle.store_core.specs.Run.{client_step, repairer_step}
 use Rattle.store_core.specs.Work.{Work, client_work, repairer_work}
-use Rattle.call_laws.specs.Ready.{shortage_of}
+use Rattle.call_steps.specs.Ready.{shortage_of}
 use Rattle.world_laws.specs.World.{ActorOf, WorldOf, with_client, with_repairer}
 use Rattle.world_laws.specs.Tokens.{TokensAgree}
 use Rattle.actors.specs.Turned.{MakesTurn, Leads, places_in, with_places}

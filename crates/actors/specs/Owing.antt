@@ -3,7 +3,7 @@ use Rattle.std.specs.Prelude.{◌≡◌, ℕ, Bool, false, ◌&&◌, List, [], �
 use Rattle.store_core.specs.Act.{Act, Outcome}
 use Rattle.stripe_dir.specs.Sealed.{Sealed}
 use Rattle.call_steps.specs.CallOf.{CallOf, act_of}
-use Rattle.call_laws.specs.Ready.{ready}
+use Rattle.call_steps.specs.Ready.{ready}
 use Rattle.call_machine.specs.Kinds.{Machine, machine_of, IfReads}
 use Rattle.call_machine.specs.Calls.{MachineOf, drawn_by, owed_by}
 use Rattle.actors.specs.Callers.{CallerOf, asked_at}

@@ -9,7 +9,7 @@ use Rattle.call_steps.specs.declared.need.Need.{Need}
 use Rattle.call_steps.specs.declared.need.Need.TheVariants as need
 use Rattle.call_steps.specs.CallOf.{act_of}
 use Rattle.call_steps.specs.Steps.{need_of, stepped_at_directory, stepped_at_server, HoldsItsPass, IsDueInPass}
-use Rattle.call_laws.specs.Ready.{ready}
+use Rattle.call_steps.specs.Ready.{ready}
 use Rattle.call_machine.specs.Kinds.{machine_of, IfPatches}
 use Rattle.call_machine.specs.Calls.{ArePadded, MachineOf, drawn_by, owed_by, KnowsOldOf}
 use Rattle.world_laws.specs.World.{DoingOf, steps_of}

@@ -5,7 +5,7 @@ ghost use Rattle.stripe_dir.specs.Sealed.{Sealed};
 ghost use Rattle.chunk_server.specs.Core.{core_of};
 ghost use Rattle.call_steps.specs.Hearing.{IsToldHere, IsToldThere};
 ghost use Rattle.call_steps.specs.Steps.{need_of, HoldsItsPass, IsDueInPass};
-ghost use Rattle.call_laws.specs.Ready.{ready};
+ghost use Rattle.call_steps.specs.Ready.{ready};
 ghost use Rattle.call_machine.specs.Calls.{KnowsOldOf};
 ghost use Rattle.actors.specs.Turns.{HasPlace, GoesOn};
 ghost use Rattle.actors.specs.Steps.{GoesToDirectory, GoesToServer, IsCoded, IsMadeThere, IsMadeHere};

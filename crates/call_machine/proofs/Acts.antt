@@ -10,11 +10,11 @@ use Rattle.store_core.specs.Gathering.{Part}
 use Rattle.store_core.specs.NextAct.{Job}
 use Rattle.store_core.specs.Note.{Kind, note_of}
 use Rattle.store_core.specs.Told.{Told, Seen}
-use Rattle.content_laws.specs.PinLaws.{IsReading}
-use Rattle.store_resume.specs.Stage.{Aim, Stage}
-use Rattle.store_resume.specs.Stages.{first_stage}
-use Rattle.store_resume.specs.State.{Sequel, State}
-use Rattle.store_resume.specs.StateActs.{stage_act, parts_act, start_act, act_at}
+use Rattle.run_laws.specs.PinLaws.{IsReading}
+use Rattle.run_laws.specs.Stage.{Aim, Stage}
+use Rattle.run_laws.specs.Stages.{first_stage}
+use Rattle.run_laws.specs.State.{Sequel, State}
+use Rattle.run_laws.specs.StateActs.{stage_act, parts_act, start_act, act_at}
 use Rattle.stripe_dir.specs.Sealed.{Sealed}
 use Rattle.call_steps.specs.CallOf.{CallOf}
 use Rattle.client_read.specs.Owed.{owed_by}

@@ -7,10 +7,10 @@ use Rattle.store_core.specs.NextAct.{Job}
 use Rattle.store_core.specs.Note.{Kind}
 use Rattle.store_core.specs.Told.{Told}
 use Rattle.store_core.specs.Write.{old_parts}
-use Rattle.store_resume.specs.State.{Sequel, State}
-use Rattle.store_resume.specs.States.{open_state}
-use Rattle.store_resume.specs.LookAfter.{start_after}
-use Rattle.store_resume.specs.CallLaws.{next_call_from}
+use Rattle.run_laws.specs.State.{Sequel, State}
+use Rattle.run_laws.specs.States.{open_state}
+use Rattle.run_laws.specs.LookAfter.{start_after}
+use Rattle.run_laws.specs.CallLaws.{next_call_from}
 use Rattle.call_machine.proofs.Walks.{IsByPoint, point_told, of_parts, settle, read_told, later_told, open_kept as open_held}
 use Rattle.call_machine.specs.Pinned.{pinned_at}
 

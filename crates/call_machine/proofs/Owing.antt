@@ -8,13 +8,13 @@ use Rattle.store_core.specs.Read.{parts_of}
 use Rattle.store_core.specs.Server.{Server, at_server}
 use Rattle.store_core.specs.Told.{Told, Seen}
 use Rattle.store_core.specs.Tokens.{actor_of}
-use Rattle.content_laws.specs.PinLaws.{IsReading}
-use Rattle.store_resume.specs.State.{State}
-use Rattle.store_resume.specs.StateActs.{act_at}
+use Rattle.run_laws.specs.PinLaws.{IsReading}
+use Rattle.run_laws.specs.State.{State}
+use Rattle.run_laws.specs.StateActs.{act_at}
 use Rattle.stripe_dir.specs.Sealed.{Sealed}
 use Rattle.call_steps.specs.CallOf.{CallOf, act_of, state_told}
 use Rattle.call_steps.specs.Steps.{at_directory_by, at_server_by, stepped_at_directory, stepped_at_server, coded, IsDueInPass}
-use Rattle.call_laws.proofs.Needs.{needs_tell_acts}
+use Rattle.call_steps.proofs.Needs.{needs_tell_acts}
 use Rattle.client_read.specs.Owed.{contents_of, owed_after_look, owed_by as read_by}
 use Rattle.call_machine.specs.Calls.{MachineOf, owed_in, owed_by}
 use Rattle.call_machine.specs.Kinds.{Machine, asked_job, machine_of}

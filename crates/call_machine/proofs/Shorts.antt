@@ -6,14 +6,14 @@ use Rattle.store_core.specs.Gathering.{Part}
 use Rattle.store_core.specs.NextAct.{Job}
 use Rattle.store_core.specs.Note.{Note, Kind}
 use Rattle.store_core.specs.Told.{Told}
-use Rattle.store_resume.specs.Stage.{Aim, Asking, Stage}
-use Rattle.store_resume.specs.Stages.{first_stage}
-use Rattle.store_resume.specs.StageAfter.{stage_after}
-use Rattle.store_resume.specs.State.{Sequel, State}
-use Rattle.store_resume.specs.States.{parts_state, stage_state}
-use Rattle.store_resume.specs.GatherAfter.{first_after, parts_after}
-use Rattle.store_resume.specs.CallLaws.{next_call_from}
-use Rattle.store_resume.specs.StateActs.{act_at}
+use Rattle.run_laws.specs.Stage.{Aim, Asking, Stage}
+use Rattle.run_laws.specs.Stages.{first_stage}
+use Rattle.run_laws.specs.StageAfter.{stage_after}
+use Rattle.run_laws.specs.State.{Sequel, State}
+use Rattle.run_laws.specs.States.{parts_state, stage_state}
+use Rattle.run_laws.specs.GatherAfter.{first_after, parts_after}
+use Rattle.run_laws.specs.CallLaws.{next_call_from}
+use Rattle.run_laws.specs.StateActs.{act_at}
 use Rattle.call_machine.proofs.Moves.{Keeps, open_kept, next_kept}
 
 -- ---- want of memory

@@ -1,7 +1,7 @@
 -- The bytes of pinned parts by a directory's stamps are those by the stamps' contents.
 use Rattle.std.proofs.Common.{◌≡◌, ℕ, zero, suc, List, [], ◌∷◌, ◌++◌, ◌-◌, map, take, drop, get_or, slice_get, refl}
 use Rattle.store_core.specs.Gathering.{Part}
-use Rattle.content_laws.specs.ReadLaws.{bytes_read}
+use Rattle.run_laws.specs.ReadLaws.{bytes_read}
 use Rattle.version_seal.specs.Entry.{StampOf}
 use Rattle.client_read.specs.Owed.{content_of, contents_of}
 

@@ -12,15 +12,15 @@ use Rattle.store_core.specs.Note.{Note, Kind}
 use Rattle.store_core.specs.Placements.{skipped_from, skipped_count}
 use Rattle.store_core.specs.Read.{parts_of}
 use Rattle.store_core.specs.Told.{Told, Seen}
-use Rattle.store_resume.specs.Stage.{Aim, Asking, Stage, seen_of}
-use Rattle.store_resume.specs.Stages.{first_stage}
-use Rattle.store_resume.specs.StageAfter.{stage_after}
-use Rattle.store_resume.specs.State.{Sequel, State}
-use Rattle.store_resume.specs.States.{sequel_state, parts_state, stage_state, prepare_state, prepare_all_state, settle_state, open_parts, open_state}
-use Rattle.store_resume.specs.WriteAfter.{committing_after, drawing_after, prepare_rest_state, preparing_after, committed_after}
-use Rattle.store_resume.specs.GatherAfter.{ending_after, confirming_after, installing_after, sequel_after, first_after, parts_after, chunk_after}
-use Rattle.store_resume.specs.LookAfter.{start_after}
-use Rattle.store_resume.specs.CallAfter.{state_after}
+use Rattle.run_laws.specs.Stage.{Aim, Asking, Stage, seen_of}
+use Rattle.run_laws.specs.Stages.{first_stage}
+use Rattle.run_laws.specs.StageAfter.{stage_after}
+use Rattle.run_laws.specs.State.{Sequel, State}
+use Rattle.run_laws.specs.States.{sequel_state, parts_state, stage_state, prepare_state, prepare_all_state, settle_state, open_parts, open_state}
+use Rattle.run_laws.specs.WriteAfter.{committing_after, drawing_after, prepare_rest_state, preparing_after, committed_after}
+use Rattle.run_laws.specs.GatherAfter.{ending_after, confirming_after, installing_after, sequel_after, first_after, parts_after, chunk_after}
+use Rattle.run_laws.specs.LookAfter.{start_after}
+use Rattle.run_laws.specs.CallAfter.{state_after}
 use Rattle.call_machine.specs.Pinned.{point_served, point_after, pinned_at}
 
 -- the look was made

@@ -3,7 +3,7 @@ use Rattle.std.specs.Prelude.{◌≡◌, ⊤, ℕ, Bool, false, List, [], ◌++�
 use Rattle.clay_grid.specs.Shape.{chunk_count}
 use Rattle.store_map.specs.declared.call.Call.{Call}
 use Rattle.store_core.specs.Agreement.{Seat, ActorToken}
-use Rattle.store_resume.specs.State.{first_state}
+use Rattle.run_laws.specs.State.{first_state}
 use Rattle.version_seal.specs.Entry.{BookOf, StampOf}
 use Rattle.stripe_dir.specs.Sealed.{Sealed}
 use Rattle.call_steps.specs.CallOf.{CallOf, tries_by}

@@ -2,3 +2,11 @@ pub mod Making
 pub mod Telling
 pub mod Tickets
 pub mod Counts
+pub mod Acts
+pub mod Fitting
+pub mod Hears
+pub mod Codings
+pub mod Steps
+pub mod Needs
+pub mod Tokens
+pub mod Agreement

@@ -8,8 +8,8 @@ use Rattle.store_core.specs.AtDirectory.{at_directory}
 use Rattle.store_core.specs.NextAct.{Job}
 use Rattle.store_core.specs.Server.{Server, at_server}
 use Rattle.store_core.specs.Tokens.{actor_of}
-use Rattle.store_resume.specs.State.{State}
-use Rattle.store_resume.specs.StateActs.{act_at}
+use Rattle.run_laws.specs.State.{State}
+use Rattle.run_laws.specs.StateActs.{act_at}
 use Rattle.call_steps.specs.Ends.{is_ending}
 use Rattle.call_steps.specs.CallOf.{CallOf, act_of}
 use Rattle.call_steps.specs.Steps.{need_by}

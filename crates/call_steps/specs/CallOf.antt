@@ -9,9 +9,9 @@ use Rattle.store_core.specs.Act.{Act}
 use Rattle.store_core.specs.NextAct.{Job}
 use Rattle.store_core.specs.Step.{take_from}
 use Rattle.store_core.specs.Agreement.{ActorToken}
-use Rattle.store_resume.specs.State.{CallState}
-use Rattle.store_resume.specs.StateActs.{act_of_state}
-use Rattle.store_resume.specs.CallLaws.{next_call}
+use Rattle.run_laws.specs.State.{CallState}
+use Rattle.run_laws.specs.StateActs.{act_of_state}
+use Rattle.run_laws.specs.CallLaws.{next_call}
 use Rattle.version_seal.specs.Entry.{BookOf}
 
 -- the book of its versions, how often a write is tried, the call, its number, its actor's ticket, where it stands, what it took from each server,

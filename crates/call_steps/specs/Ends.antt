@@ -3,7 +3,7 @@ use Rattle.std.specs.Prelude.{⊤, ℕ, Bool, true, false, Option, None, Some}
 use Rattle.store_map.specs.declared.reply.Reply.{Reply}
 use Rattle.store_map.specs.declared.reply.Reply.TheVariants as reply
 use Rattle.store_core.specs.Act.{Outcome}
-use Rattle.store_resume.specs.State.{State}
+use Rattle.run_laws.specs.State.{State}
 
 -- the end of the pass is next
 abbrev pub is_ending : State → Bool

@@ -9,3 +9,9 @@ pub mod Answers
 pub mod Hearing
 pub mod CallOutcomes
 pub mod CallerCalls
+pub mod Stands
+pub mod Ready
+pub mod After
+pub mod StandLaws
+pub mod NeedLaws
+pub mod TokenLaws

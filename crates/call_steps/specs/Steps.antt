@@ -7,7 +7,7 @@ use Rattle.store_core.specs.Tokens.{actor_of}
 use Rattle.store_core.specs.Directory.{Directory}
 use Rattle.store_core.specs.AtDirectory.{at_directory}
 use Rattle.store_core.specs.Server.{Server, at_server}
-use Rattle.store_resume.specs.State.{State, CallState}
+use Rattle.run_laws.specs.State.{State, CallState}
 use Rattle.call_steps.specs.declared.need.Need.{Need}
 use Rattle.call_steps.specs.declared.need.Need.TheVariants as need
 use Rattle.call_steps.specs.TokenAfter.{token_after, MayMake, IsSeated, IfInCall}

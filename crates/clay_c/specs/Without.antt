@@ -3,8 +3,8 @@ use Rattle.std.specs.Prelude.{◌≡◌, ℕ, ◌≤◌, List, length}
 use Rattle.clay_grid.specs.Shape.{Shape, chunk_count}
 use Rattle.lost_layers.specs.declared.run.LostRun.{LostRun}
 use Rattle.lost_layers.specs.declared.run.LostPiece.{LostPiece}
-use Rattle.missing_read.specs.Read.{FitRun}
-use Rattle.missing_read.specs.There.{gone_with, pieces_with}
+use Rattle.lost_read.specs.MissingRead.{FitRun}
+use Rattle.lost_read.specs.There.{gone_with, pieces_with}
 
 -- a mark for each chunk; and where few enough chunks are missing, room for the list of these subchunks
 abbrev pub ListFits : Shape → LostRun → List ℕ → List LostPiece → Type 0

@@ -2,16 +2,16 @@
 ghost use Rattle.std.specs.Prelude.{◌≡◌, ◌≢◌, ◌+◌, ◌<◌, ◌≤◌, ◌↔◌, map, length};
 ghost use Rattle.clay_grid.specs.Shape.{shape_of};
 ghost use Rattle.clay_grid.specs.Limits.{IsGeometry};
-ghost use Rattle.missing_layers.specs.Without.{Determine};
+ghost use Rattle.lost_layers.specs.Without.{Determine};
 ghost use Rattle.clay_c.specs.Status.{done, bad_geometry, bad_length, bad_chunk, too_few, out_of_memory, bad_layer, EndsByMarks};
 ghost use Rattle.clay_c.specs.Lost.{run_of, AreLayers};
-ghost use Rattle.missing_read.specs.There.{there_of, gone_with, pieces_with, ReadsWithout};
+ghost use Rattle.lost_read.specs.There.{there_of, gone_with, pieces_with, ReadsWithout};
 ghost use Rattle.clay_c.specs.Without.{ListFits, BytesFit};
 
 use crate::geometry;
 use crate::status::{BAD_CHUNK, BAD_GEOMETRY, BAD_LAYER, BAD_LENGTH, DONE, OUT_OF_MEMORY, TOO_FEW};
 use lost_layers::{LostPiece, LostRun};
-use missing_read::{are_few, count_without, pieces_without, read_without};
+use lost_read::{are_few, count_without, pieces_without, read_without};
 use std::alloc::Global;
 
 /// Writes how many subchunks of chunks that are there determine the layers `from..to` of a lost chunk. `present` has a byte for each chunk,

@@ -49,9 +49,9 @@ use Rattle.run_laws.proofs.ShortObjects.{sound_short}
 use Rattle.history_laws.proofs.AtWork.{AtWork, client_at, repairer_at, first, act, after, proper, answered}
 use Rattle.history_laws.proofs.Induction.{client_after, repairer_after, operator_after, sweeper_after}
 use Rattle.history_laws.proofs.PointsOfCalls.{sweeps}
-use Rattle.transcript_laws.specs.Trace.{Made, call_made, act_made}
-use Rattle.transcript_laws.specs.Steps.{run_trace}
-use Rattle.transcript_laws.proofs.Traced.{KeptByMade, run_traced}
+use Rattle.history_laws.specs.Trace.{Made, call_made, act_made}
+use Rattle.history_laws.specs.Steps.{run_trace}
+use Rattle.history_laws.proofs.Traced.{KeptByMade, run_traced}
 use Rattle.clay_cli.proofs.ScriptValues.{IsSmall, client_job_small, repairer_job_small}
 
 -- ---- stripes

@@ -10,7 +10,7 @@ use Rattle.transcript_read.proofs.StuckLaws.{one_transcript}
 use Rattle.hist_rules.specs.Verdict.{verdict_of}
 use Rattle.hist_rules.specs.declared.verdict.Verdict.TheVariants.{Legal}
 use Rattle.store_core.specs.Shown.{shown_of}
-use Rattle.transcript_laws.proofs.Shows.{runs_are_legal}
+use Rattle.history_laws.proofs.Shows.{runs_are_legal}
 use Rattle.clay_cli.specs.BackLaws.{AreReadBack, ShownAreReadLegal}
 use Rattle.clay_cli.proofs.Whole.{runs_are_well_formed}
 

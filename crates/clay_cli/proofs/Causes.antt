@@ -43,12 +43,12 @@ use Rattle.run_laws.specs.GatherLaws.{Tells}
 use Rattle.run_laws.specs.GatheredLaws.{gathers}
 use Rattle.run_laws.specs.Losses.{ToldOfLoss, IsLost}
 use Rattle.run_laws.specs.OutcomeLaws.{HasCauseInSteps}
-use Rattle.transcript_laws.specs.LineCauses.{told_if, told_by, told_to, caller_of, number_of, WasCaused}
-use Rattle.transcript_laws.specs.LossesInTime.{WereMissing, WasAway, NamesLosses, ResultNamesLosses}
-use Rattle.transcript_laws.specs.LostChunks.{PlacesChunk, Looks, WasLost, WasSkipped}
-use Rattle.transcript_laws.specs.Moments.{Happened, saturated, downs, IsFoundThen, IsPlacedThen}
-use Rattle.transcript_laws.specs.PointsInTime.{ComesWithin, NamesPoints, ResultNamesPoints}
-use Rattle.transcript_laws.specs.Trace.{Made}
+use Rattle.history_laws.specs.LineCauses.{told_if, told_by, told_to, caller_of, number_of, WasCaused}
+use Rattle.history_laws.specs.LossesInTime.{WereMissing, WasAway, NamesLosses, ResultNamesLosses}
+use Rattle.history_laws.specs.LostChunks.{PlacesChunk, Looks, WasLost, WasSkipped}
+use Rattle.history_laws.specs.Moments.{Happened, saturated, downs, IsFoundThen, IsPlacedThen}
+use Rattle.history_laws.specs.PointsInTime.{ComesWithin, NamesPoints, ResultNamesPoints}
+use Rattle.history_laws.specs.Trace.{Made}
 use Rattle.store_core.specs.Lookups.{same_actor}
 use Rattle.store_map.specs.declared.actor.Actor.{Actor}
 use Rattle.line_grammar.specs.Values.{IsScript}

@@ -17,8 +17,8 @@ use Rattle.clay_aloof.specs.Limits.{IsAloof}
 use Rattle.clay_aloof.specs.Code as aloof
 use Rattle.clay_aloof.specs.Repair.{aloof_layers_of, part_bytes, HelpersFit, HasParts}
 use Rattle.clay_aloof.proofs.Unique as aloof_words
-use Rattle.code_text.specs.Lines.{line_of, chunk_lines}
-use Rattle.code_text.specs.Entries.{parts_of}
+use Rattle.line_grammar.specs.StripeLines.{line_of, chunk_lines}
+use Rattle.line_grammar.specs.ChunkEntries.{parts_of}
 use Rattle.clay_cli.specs.Chunks.{AreChunkLines, IsNoStripe}
 use Rattle.clay_cli.specs.Recover.{IsLeft, IsRecovered, IsMissing, IsDisagreeing, IsNotRecovered}
 use Rattle.clay_cli.specs.Repaird.{AreGiven, IsRepaired, IsUnfit, IsNotRepaired}

@@ -9,7 +9,7 @@ use Rattle.std.proofs.Math.ListN.{get_or-map}
 use Rattle.hex.specs.Hex.{decode_of}
 use Rattle.clay_grid.specs.Score.{count_below}
 use Rattle.clay_grid.proofs.Counting.{count_below_same}
-use Rattle.code_text.specs.Entries.{lines_of, IsEntry, IsNoEntry, AreEntries, HasNoEntry, AreLong, parts_of}
+use Rattle.line_grammar.specs.ChunkEntries.{lines_of, IsEntry, IsNoEntry, AreEntries, HasNoEntry, AreLong, parts_of}
 use Rattle.clay_cli.specs.Entries.{AreRead, HasOtherCount, HasOtherLine, AreRefused}
 
 pub same_bytes : (line one other : List ℕ) → decode_of line ≡ Ok one → decode_of line ≡ Ok other → one ≡ other

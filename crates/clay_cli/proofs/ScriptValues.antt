@@ -26,7 +26,7 @@ use Rattle.run_laws.proofs.SoundLists.{at_all}
 use Rattle.run_laws.proofs.Scripts.{Mapped, mapped}
 use Rattle.history_laws.proofs.NamedCalls.{inside}
 use Rattle.history_laws.proofs.Naming.{IsCall}
-use Rattle.transcript_laws.specs.LineCauses.{job_of_call}
+use Rattle.history_laws.specs.LineCauses.{job_of_call}
 
 -- ---- what is kept of a call has small numbers
 pub record IsSmall (note : Note) : Type 0 where

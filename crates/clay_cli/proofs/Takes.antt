@@ -25,10 +25,10 @@ use Rattle.store_core.specs.Told.{Told}
 use Rattle.store_core.proofs.Places.{length-change_at}
 use Rattle.run_laws.proofs.SoundLists.{filtered}
 use Rattle.history_laws.specs.TakesOfCalls.{taken_since, taken_by}
-use Rattle.transcript_laws.specs.LineCauses.{job_of_call}
-use Rattle.transcript_laws.specs.Trace.{Made}
-use Rattle.transcript_laws.specs.Over.{answers_to}
-use Rattle.transcript_laws.specs.Takes.{lines_of_takes, TakesLeast}
+use Rattle.history_laws.specs.LineCauses.{job_of_call}
+use Rattle.history_laws.specs.Trace.{Made}
+use Rattle.history_laws.specs.Over.{answers_to}
+use Rattle.history_laws.specs.Takes.{lines_of_takes, TakesLeast}
 
 -- so many numbers, all of 64 bits
 record AreTakes (n : ℕ) (takes : List ℕ) : Type 0 where

@@ -46,12 +46,12 @@ use Rattle.run_laws.proofs.Scripts.{can_run}
 use Rattle.history_laws.proofs.HistoryOrder.{LinesInOrder, lines_in_order}
 use Rattle.history_laws.proofs.NamedCalls.{OthersNamed, others_named}
 use Rattle.history_laws.proofs.OrderRuns.{end_known}
-use Rattle.transcript_laws.specs.LineCauses.{job_of_call}
-use Rattle.transcript_laws.specs.Steps.{run_trace}
-use Rattle.transcript_laws.specs.Trace.{Made}
+use Rattle.history_laws.specs.LineCauses.{job_of_call}
+use Rattle.history_laws.specs.Steps.{run_trace}
+use Rattle.history_laws.specs.Trace.{Made}
 use Rattle.thread_laws.specs.Threaded.{is_line}
-use Rattle.transcript_laws.specs.Faithful.{IsFaithful}
-use Rattle.transcript_laws.proofs.Plays.{runs_are_played}
+use Rattle.history_laws.specs.Faithful.{IsFaithful}
+use Rattle.history_laws.proofs.Plays.{runs_are_played}
 use Rattle.clay_cli.specs.FormLaws.{HasFewLines, FaithfulRunsAreWellFormed, PlayedAreWellFormed, RunsAreWellFormed, ThreadedAreWellFormed}
 use Rattle.clay_cli.proofs.Few.{IsFew, runs_are_few, filtered_few}
 use Rattle.clay_cli.proofs.Orders.{refused_rise, refused_of, repairs_rise, repairs_of, unanswered_rise, takes_rise}

@@ -4,7 +4,7 @@ use Rattle.clay_grid.specs.Shape.{Shape, stripe_length}
 use Rattle.clay_model.specs.Code.{Codes}
 use Rattle.clay_aloof.specs.Shape.{AloofShape, stripe_bytes}
 use Rattle.clay_aloof.specs.Code.{Codes as CodesAloof}
-use Rattle.code_text.specs.Lines.{Spells, SpellsNothing, chunk_lines}
+use Rattle.line_grammar.specs.StripeLines.{Spells, SpellsNothing, chunk_lines}
 
 -- the lines of the chunks that code the stripe which the input spells
 abbrev pub AreChunkLines : (List ℕ → List (List ℕ) → Type 0) → List ℕ → List ℕ → Type 0

@@ -1,7 +1,7 @@
 -- An input of entries: a line for each chunk, which is a dash or spells bytes.
 use Rattle.std.specs.Prelude.{◌≡◌, ◌≢◌, ◌⊎◌, ℕ, List, length, Option, Vec, codes}
 use Rattle.std.specs.declared.alloc.Global.{Global}
-use Rattle.code_text.specs.Entries.{lines_of, AreEntries, HasNoEntry, HasOtherLength, AreLong, parts_of}
+use Rattle.line_grammar.specs.ChunkEntries.{lines_of, AreEntries, HasNoEntry, HasOtherLength, AreLong, parts_of}
 
 -- the input's lines are so many entries, and those that are there have so many bytes
 pub record AreRead (count len : ℕ) (input : List ℕ) (entries : List (Option (Vec ℕ Global))) : Type 0 where

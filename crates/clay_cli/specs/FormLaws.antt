@@ -11,10 +11,10 @@ use Rattle.transcript_read.specs.WellFormed.{IsWellFormed}
 use Rattle.store_core.specs.Schedule.{run_core}
 use Rattle.store_core.specs.Shown.{shown, shown_of}
 use Rattle.store_core.specs.Step.{Shortage}
-use Rattle.transcript_laws.specs.Steps.{run_trace}
+use Rattle.history_laws.specs.Steps.{run_trace}
 use Rattle.thread_laws.specs.Threaded.{is_line}
-use Rattle.transcript_laws.specs.Faithful.{IsFaithful}
-use Rattle.transcript_laws.specs.Played.{IsPlayed}
+use Rattle.history_laws.specs.Faithful.{IsFaithful}
+use Rattle.history_laws.specs.Played.{IsPlayed}
 use Rattle.thread_laws.specs.Run.{IsRun}
 
 -- the operator's lines among tokens are few, as those of a valid script's schedule are

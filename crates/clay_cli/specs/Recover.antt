@@ -3,7 +3,7 @@ use Rattle.std.specs.Prelude.{◌≡◌, ◌⊎◌, ℕ, ◌<◌, ◌≤◌, Lis
 use Rattle.std.specs.declared.alloc.Global.{Global}
 use Rattle.clay_grid.specs.Shape.{Shape, chunk_count, chunk_length}
 use Rattle.clay_model.specs.Left.{Completes}
-use Rattle.code_text.specs.Lines.{chunk_lines}
+use Rattle.line_grammar.specs.StripeLines.{chunk_lines}
 use Rattle.clay_cli.specs.Entries.{AreRead, AreRefused}
 
 -- the input's lines are the chunks that are left of a code's

@@ -3,7 +3,7 @@ use Rattle.std.specs.Prelude.{◌≡◌, ℕ, List, [], ◌∷◌, Option, Vec, 
 use Rattle.std.specs.declared.alloc.Global.{Global}
 use Rattle.clay_aloof.specs.Shape.{AloofShape, all_chunks}
 use Rattle.clay_aloof.specs.Repair.{part_bytes, HelpersFit, IsRebuilt}
-use Rattle.code_text.specs.Lines.{chunk_lines}
+use Rattle.line_grammar.specs.StripeLines.{chunk_lines}
 use Rattle.clay_cli.specs.Entries.{AreRead, AreRefused}
 
 -- the input's lines are the parts of a code's chunks

@@ -7,7 +7,7 @@ use crate::Status;
 use crate::output::Output;
 use clay_grid::Geometry;
 use clay_lanes::encode;
-use code_text::{StripeFault, chunk_lines, read_stripe};
+use line_grammar::{StripeFault, chunk_lines, read_stripe};
 use std::alloc::{AllocError, Global};
 
 /// The chunks of the stripe that the input spells.

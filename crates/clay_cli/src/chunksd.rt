@@ -6,7 +6,7 @@ ghost use Rattle.clay_words.specs.declared.words.Task.TheVariants.{AloofChunks};
 use crate::Status;
 use crate::output::Output;
 use clay_aloof::{AloofGeometry, encode};
-use code_text::{StripeFault, chunk_lines, read_stripe};
+use line_grammar::{StripeFault, chunk_lines, read_stripe};
 use std::alloc::{AllocError, Global};
 
 /// The chunks of the stripe that the input spells, of a code whose repairs have fewer helpers.

@@ -1,6 +1,6 @@
 //! What the definitions say, as functions that do nothing and whose contracts are the laws.
 
-ghost use Rattle.transcript_laws.specs.Played.{IsPlayed};
+ghost use Rattle.history_laws.specs.Played.{IsPlayed};
 ghost use Rattle.store_run.specs.Swept.{IsRunToEnd};
 ghost use Rattle.clay_cli.specs.Printed.{PrintedAreLegal};
 ghost use Rattle.std.specs.Prelude.{ℕ};

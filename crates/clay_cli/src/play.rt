@@ -1,7 +1,7 @@
 //! The command `play`, and the line that refuses an input by its first faulty line.
 ghost use Rattle.std.specs.Prelude.{◌≡◌, ◌≢◌, IfOk};
 ghost use Rattle.store_map.specs.Naming.{IsValid};
-ghost use Rattle.transcript_laws.specs.Played.{IsPlayed};
+ghost use Rattle.history_laws.specs.Played.{IsPlayed};
 ghost use Rattle.clay_cli.specs.Play.{IsTextOf, kind_text, refusal_line};
 ghost use Rattle.clay_cli.specs.Top.{IsAnswer, IsOfInput};
 ghost use Rattle.clay_words.specs.declared.words.Task.TheVariants.{Play};

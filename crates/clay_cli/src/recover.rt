@@ -8,7 +8,7 @@ use crate::output::Output;
 use clay_grid::Geometry;
 use clay_lanes::decode_checked;
 use clay_model::CheckedFault;
-use code_text::{EntriesFault, chunk_lines, read_chunks};
+use line_grammar::{EntriesFault, chunk_lines, read_chunks};
 use std::alloc::{AllocError, Global};
 
 /// All chunks of the codeword that agrees with those that the input's lines spell.

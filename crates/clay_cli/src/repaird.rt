@@ -7,7 +7,7 @@ ghost use Rattle.clay_words.specs.declared.words.Task.TheVariants.{AloofRepair};
 use crate::Status;
 use crate::output::Output;
 use clay_aloof::{AloofGeometry, helpers_fit, rebuild};
-use code_text::{EntriesFault, chunk_lines, read_chunks};
+use line_grammar::{EntriesFault, chunk_lines, read_chunks};
 use std::alloc::{AllocError, Global};
 use std::slice;
 

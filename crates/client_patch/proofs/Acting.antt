@@ -10,8 +10,8 @@ use Rattle.store_core.specs.Note.{note_of}
 use Rattle.store_core.specs.Act.{Act as CoreAct, DirectoryStep, Outcome}
 use Rattle.store_core.specs.ActPlace.{is_in_pass}
 use Rattle.store_core.specs.NextAct.{job_of}
-use Rattle.store_resume.specs.State.{Sequel, State}
-use Rattle.store_resume.specs.StateActs.{act_at}
+use Rattle.run_laws.specs.State.{Sequel, State}
+use Rattle.run_laws.specs.StateActs.{act_at}
 use Rattle.call_steps.specs.declared.act.Act.{Act}
 use Rattle.call_steps.specs.declared.act.Act.TheVariants as act
 use Rattle.call_steps.specs.declared.act.DirectoryAct.TheVariants as there

@@ -8,9 +8,9 @@ use Rattle.store_core.specs.Note.{note_of}
 use Rattle.store_core.specs.NextAct.{job_of}
 use Rattle.store_core.specs.Told.{Told, Seen}
 use Rattle.store_core.specs.Read.{part_of}
-use Rattle.store_resume.specs.State.{Sequel}
-use Rattle.store_resume.specs.States.{parts_state, open_state}
-use Rattle.store_resume.specs.LookAfter.{start_after}
+use Rattle.run_laws.specs.State.{Sequel}
+use Rattle.run_laws.specs.States.{parts_state, open_state}
+use Rattle.run_laws.specs.LookAfter.{start_after}
 use Rattle.call_steps.specs.declared.outcomes.Outcome.{Outcome}
 use Rattle.gather_parts.specs.Gatherings.{GatheringsOf}
 use Rattle.gather_parts.specs.States.{state_in}

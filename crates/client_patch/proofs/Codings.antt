@@ -5,9 +5,9 @@ use Rattle.store_core.specs.Note.{note_of}
 use Rattle.store_core.specs.Act.{Act, Outcome as CoreOutcome}
 use Rattle.store_core.specs.NextAct.{Job, job_of}
 use Rattle.store_core.specs.Told.{Told}
-use Rattle.store_resume.specs.State.{Sequel, State}
-use Rattle.store_resume.specs.StateActs.{act_at}
-use Rattle.store_resume.specs.CallLaws.{next_call}
+use Rattle.run_laws.specs.State.{Sequel, State}
+use Rattle.run_laws.specs.StateActs.{act_at}
+use Rattle.run_laws.specs.CallLaws.{next_call}
 use Rattle.call_steps.specs.declared.need.Need.TheVariants as need
 use Rattle.stripe_dir.specs.Sealed.{Sealed}
 use Rattle.call_steps.specs.CallOf.{CallOf}

@@ -19,10 +19,10 @@ use Rattle.store_core.specs.Placements.{IsRow}
 use Rattle.store_core.specs.NextAct.{job_of}
 use Rattle.store_core.specs.Agreement.{ActorToken, Agrees}
 use Rattle.store_core.specs.Tokens.{actor_of}
-use Rattle.store_resume.specs.State.{Sequel, State}
-use Rattle.store_resume.specs.States.{settle_state}
-use Rattle.store_resume.specs.StateActs.{act_of_state}
-use Rattle.store_resume.specs.CallLaws.{next_call}
+use Rattle.run_laws.specs.State.{Sequel, State}
+use Rattle.run_laws.specs.States.{settle_state}
+use Rattle.run_laws.specs.StateActs.{act_of_state}
+use Rattle.run_laws.specs.CallLaws.{next_call}
 use Rattle.version_seal.specs.Entry.{BookOf}
 use Rattle.call_steps.specs.Steps.{stepped_at_directory}
 use Rattle.call_steps.specs.TokenAfter.{token_after, MayMake, IsSeated}

@@ -3,7 +3,7 @@ use Rattle.std.proofs.Common.{◌≡◌, ℕ, ◌+◌, true, List, Option, None,
 use Rattle.std.specs.Option.{option_and_then}
 use Rattle.std.specs.List.{slice_get}
 use Rattle.store_map.specs.declared.call.Call.{Call}
-use Rattle.store_resume.specs.State.{State}
+use Rattle.run_laws.specs.State.{State}
 use Rattle.version_seal.specs.Entry.{BookOf, StampOf}
 use Rattle.write_course.specs.Writings.{WritingOf, begins_version, place_of, stamp_at_work}
 use Rattle.client_patch.specs.Kept.{new_of}

@@ -21,9 +21,9 @@ use Rattle.store_core.specs.Directory.{Directory}
 use Rattle.store_core.specs.Look.{stripes_between}
 use Rattle.store_core.specs.NextAct.{job_of}
 use Rattle.store_core.specs.Tokens.{actor_of}
-use Rattle.store_resume.specs.State.{Sequel, State}
-use Rattle.store_resume.specs.States.{prepare_all_state}
-use Rattle.store_resume.specs.StateActs.{act_at, act_of_state}
+use Rattle.run_laws.specs.State.{Sequel, State}
+use Rattle.run_laws.specs.States.{prepare_all_state}
+use Rattle.run_laws.specs.StateActs.{act_at, act_of_state}
 use Rattle.call_steps.specs.declared.need.Need.TheVariants as need
 use Rattle.version_seal.specs.Entry.{BookOf, StampOf, RequestOf, call_written, content_over}
 use Rattle.stripe_dir.specs.Sealed.{Sealed, base_stamp, drawn_stamp}

@@ -10,11 +10,11 @@ use Rattle.store_core.specs.Gathering.{Part}
 use Rattle.store_core.specs.NextAct.{Job, job_of}
 use Rattle.store_core.specs.Agreement.{ActorToken}
 use Rattle.store_core.specs.Tokens.{actor_of}
-use Rattle.store_resume.specs.Stage.{Stage as GatherStage}
-use Rattle.store_resume.specs.State.{Sequel, State}
-use Rattle.store_resume.specs.States.{stage_state, open_parts}
-use Rattle.store_resume.specs.StateActs.{act_at}
-use Rattle.store_resume.specs.CallLaws.{next_call}
+use Rattle.run_laws.specs.Stage.{Stage as GatherStage}
+use Rattle.run_laws.specs.State.{Sequel, State}
+use Rattle.run_laws.specs.States.{stage_state, open_parts}
+use Rattle.run_laws.specs.StateActs.{act_at}
+use Rattle.run_laws.specs.CallLaws.{next_call}
 use Rattle.call_steps.specs.declared.need.Need.TheVariants as need
 use Rattle.call_steps.specs.Steps.{need_by, need_of, stepped_at_directory}
 use Rattle.call_steps.specs.TokenAfter.{token_after, IsSeated}

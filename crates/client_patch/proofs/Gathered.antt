@@ -4,11 +4,11 @@ use Rattle.clay_grid.specs.Shape.{Shape}
 use Rattle.store_core.specs.Act.{Act, Outcome as CoreOutcome}
 use Rattle.store_core.specs.Gathering.{Part}
 use Rattle.store_core.specs.NextAct.{Job}
-use Rattle.store_resume.specs.Stage.{Aim, Asking, Stage}
-use Rattle.store_resume.specs.Stages.{first_stage}
-use Rattle.store_resume.specs.State.{Sequel, State}
-use Rattle.store_resume.specs.States.{stage_state, open_parts}
-use Rattle.store_resume.specs.StateActs.{act_at}
+use Rattle.run_laws.specs.Stage.{Aim, Asking, Stage}
+use Rattle.run_laws.specs.Stages.{first_stage}
+use Rattle.run_laws.specs.State.{Sequel, State}
+use Rattle.run_laws.specs.States.{stage_state, open_parts}
+use Rattle.run_laws.specs.StateActs.{act_at}
 use Rattle.call_steps.specs.declared.need.Need.TheVariants as need
 use Rattle.call_steps.specs.Steps.{need_by}
 use Rattle.gather_parts.specs.Wanted.{Wanted, parts_of}

@@ -12,7 +12,7 @@ use Rattle.store_map.specs.Limits.{stripes_met}
 use Rattle.store_core.specs.Directory.{Pin}
 use Rattle.store_core.specs.Look.{keeps_old}
 use Rattle.run_laws.proofs.SoundLists.{in_filter, filtered}
-use Rattle.content_laws.proofs.Laid.{met_low, met_high, Found, found_pin}
+use Rattle.run_laws.proofs.Laid.{met_low, met_high, Found, found_pin}
 use Rattle.version_seal.specs.Entry.{StampOf, old_bytes}
 use Rattle.stripe_dir.specs.Sealed.{base_stamp}
 use Rattle.gather_parts.specs.Gatherings.{bytes_between}

@@ -4,7 +4,7 @@ use Rattle.std.specs.Option.{option_and_then}
 use Rattle.store_core.specs.Agreement.{HeldPass, ActorToken}
 use Rattle.store_core.specs.Directory.{Pin, Pass}
 use Rattle.store_core.specs.Note.{Note, note_of}
-use Rattle.store_resume.specs.State.{State}
+use Rattle.run_laws.specs.State.{State}
 use Rattle.run_laws.proofs.SoundLists.{at_all, found_at}
 use Rattle.version_seal.specs.Entry.{StampOf, BookOf, old_bytes}
 use Rattle.stripe_dir.specs.Sealed.{base_stamp}

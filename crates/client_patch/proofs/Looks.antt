@@ -18,12 +18,12 @@ use Rattle.store_core.specs.Look.{pin_of}
 use Rattle.store_core.specs.Looks.{look_by}
 use Rattle.store_core.specs.Lookups.{find_object}
 use Rattle.store_core.specs.Tokens.{actor_of}
-use Rattle.store_resume.specs.State.{Sequel, State}
-use Rattle.store_resume.specs.States.{open_state}
-use Rattle.store_resume.specs.StateActs.{act_at}
-use Rattle.store_resume.specs.CallAfter.{pairs_with}
-use Rattle.store_resume.specs.CallLaws.{next_call}
-use Rattle.store_resume.specs.LookAfter.{start_after}
+use Rattle.run_laws.specs.State.{Sequel, State}
+use Rattle.run_laws.specs.States.{open_state}
+use Rattle.run_laws.specs.StateActs.{act_at}
+use Rattle.run_laws.specs.CallAfter.{pairs_with}
+use Rattle.run_laws.specs.CallLaws.{next_call}
+use Rattle.run_laws.specs.LookAfter.{start_after}
 use Rattle.version_seal.specs.Entry.{BookOf}
 use Rattle.stripe_dir.specs.Answers.{seen_in, told_or_short, told_look}
 use Rattle.call_steps.specs.declared.seen.Seen.{Seen as AnswerSeen}

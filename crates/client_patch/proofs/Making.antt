@@ -14,8 +14,8 @@ use Rattle.store_core.specs.NextAct.{job_of}
 use Rattle.store_core.specs.PassSteps.{touched}
 use Rattle.store_core.specs.Agreement.{ActorToken}
 use Rattle.store_core.specs.Tokens.{actor_of}
-use Rattle.store_resume.specs.State.{Sequel}
-use Rattle.store_resume.specs.StateActs.{act_at}
+use Rattle.run_laws.specs.State.{Sequel}
+use Rattle.run_laws.specs.StateActs.{act_at}
 use Rattle.version_seal.specs.Entry.{BookOf}
 use Rattle.call_steps.specs.Callers.{IsClient, IsWaiting}
 use Rattle.call_steps.specs.CallOf.{CallOf, act_of}

@@ -10,11 +10,11 @@ use Rattle.store_map.specs.PlainMap.{Objects}
 use Rattle.store_core.specs.Calls.{Calls}
 use Rattle.store_core.specs.Directory.{Object}
 use Rattle.store_core.specs.Sound.{IsSound}
-use Rattle.content_laws.specs.MapAfter.{map_by}
-use Rattle.content_laws.proofs.Replayed.{replayed}
-use Rattle.content_laws.specs.Contents.{HasBytes, stored_in, stripes_in}
-use Rattle.content_laws.proofs.Bytes.{stripe_at, stripe_count, stripes_below_at}
-use Rattle.content_laws.proofs.Maps.{at}
+use Rattle.run_laws.specs.MapAfter.{map_by}
+use Rattle.run_laws.proofs.Replayed.{replayed}
+use Rattle.run_laws.specs.Contents.{HasBytes, stored_in, stripes_in}
+use Rattle.run_laws.proofs.Bytes.{stripe_at, stripe_count, stripes_below_at}
+use Rattle.run_laws.proofs.Maps.{at}
 use Rattle.version_seal.specs.Entry.{StampOf}
 use Rattle.stripe_dir.specs.Sealed.{Sealed}
 use Rattle.stripe_dir.specs.Stamped.{HaveContents}

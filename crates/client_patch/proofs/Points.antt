@@ -1,6 +1,6 @@
 -- The point of a call.
 use Rattle.std.proofs.Common.{◌≡◌, None, refl, sym, ap, ◌∙◌}
-use Rattle.store_resume.specs.State.{Sequel}
+use Rattle.run_laws.specs.State.{Sequel}
 use Rattle.gather_parts.specs.States.{state_in}
 use Rattle.call_steps.specs.Ends.{point_of, finished_of}
 use Rattle.client_patch.specs.Stages.{state_by}

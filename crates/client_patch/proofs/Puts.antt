@@ -19,8 +19,8 @@ use Rattle.store_core.specs.NextAct.{job_of}
 use Rattle.store_core.specs.PassSteps.{close_pass, give_up_drawn}
 use Rattle.store_core.specs.Agreement.{ActorToken, AgreesWithPass, Agrees}
 use Rattle.store_core.specs.Tokens.{actor_of}
-use Rattle.store_resume.specs.State.{Sequel, State}
-use Rattle.store_resume.specs.StateActs.{act_at}
+use Rattle.run_laws.specs.State.{Sequel, State}
+use Rattle.run_laws.specs.StateActs.{act_at}
 use Rattle.version_seal.specs.Entry.{BookOf, StampOf, old_bytes}
 use Rattle.stripe_dir.specs.Sealed.{base_stamp}
 use Rattle.call_steps.specs.CallOf.{act_of}

@@ -5,8 +5,8 @@ use Rattle.store_map.specs.declared.call.Call.{Call}
 use Rattle.store_core.specs.Note.{Note}
 use Rattle.store_core.specs.Server.{Server}
 use Rattle.store_core.specs.Agreement.{ActorToken}
-use Rattle.store_resume.specs.State.{State}
-use Rattle.store_resume.specs.States.{settle_state}
+use Rattle.run_laws.specs.State.{State}
+use Rattle.run_laws.specs.States.{settle_state}
 use Rattle.version_seal.specs.Entry.{BookOf}
 use Rattle.write_course.specs.Writings.{WritingOf, server_of}
 use Rattle.write_course.specs.WritingSteps.{stepped}

@@ -4,8 +4,8 @@ use Rattle.clay_grid.specs.Shape.{Shape}
 use Rattle.store_core.specs.Note.{Kind}
 use Rattle.store_core.specs.Act.{Act, DirectoryStep, Outcome as CoreOutcome}
 use Rattle.store_core.specs.NextAct.{Job}
-use Rattle.store_resume.specs.State.{Sequel}
-use Rattle.store_resume.specs.StateActs.{start_act, act_at}
+use Rattle.run_laws.specs.State.{Sequel}
+use Rattle.run_laws.specs.StateActs.{start_act, act_at}
 use Rattle.call_steps.specs.declared.need.Need.TheVariants as need
 use Rattle.call_steps.specs.Steps.{need_by}
 use Rattle.gather_parts.specs.States.{state_in}

@@ -5,7 +5,7 @@ use Rattle.store_core.specs.Note.{Note}
 use Rattle.store_core.specs.Act.{Act}
 use Rattle.store_core.specs.ActPlace.{is_in_pass}
 use Rattle.store_core.specs.Agreement.{ActorToken}
-use Rattle.store_resume.specs.State.{Sequel}
+use Rattle.run_laws.specs.State.{Sequel}
 use Rattle.call_steps.specs.declared.need.Need.TheVariants as need
 use Rattle.call_steps.specs.CallOf.{CallOf, act_of}
 use Rattle.call_steps.specs.TokenAfter.{IfInCall, IsSeated}

@@ -6,7 +6,7 @@ use Rattle.store_map.specs.declared.call.Call.{Call}
 use Rattle.store_core.specs.Note.{note_of}
 use Rattle.store_core.specs.Look.{stripes_between}
 use Rattle.store_core.specs.Agreement.{ActorToken}
-use Rattle.store_resume.specs.State.{State}
+use Rattle.run_laws.specs.State.{State}
 use Rattle.version_seal.specs.Entry.{BookOf, StampOf}
 use Rattle.call_steps.specs.TokenAfter.{IfInCall}
 use Rattle.gather_parts.specs.Gatherings.{GatheringsOf}

@@ -4,7 +4,7 @@ use Rattle.clay_grid.specs.Shape.{stripe_length}
 use Rattle.store_map.specs.Limits.{stripes_met}
 use Rattle.store_core.specs.Note.{Note, note_of}
 use Rattle.store_core.specs.Directory.{Pass}
-use Rattle.store_resume.specs.State.{State}
+use Rattle.run_laws.specs.State.{State}
 use Rattle.version_seal.specs.Entry.{StampOf, BookOf, old_bytes}
 use Rattle.stripe_dir.specs.Sealed.{Sealed, base_stamp}
 use Rattle.call_steps.specs.TokenAfter.{IfInCall}

@@ -4,7 +4,7 @@ use Rattle.std.specs.declared.alloc.AllocError.{AllocError}
 use Rattle.store_map.specs.declared.call.Call.{Call}
 use Rattle.store_map.specs.declared.call.Call.TheVariants as call
 use Rattle.store_core.specs.Told.{Told}
-use Rattle.store_resume.specs.State.{Sequel}
+use Rattle.run_laws.specs.State.{Sequel}
 use Rattle.gather_parts.specs.Gatherings.{GatheringsOf, owed}
 use Rattle.gather_parts.specs.Progress.{is_due}
 use Rattle.gather_parts.specs.States.{state_in}

@@ -6,7 +6,7 @@ use Rattle.clay_model.specs.Code.{padded}
 use Rattle.store_core.specs.Calls.{Calls}
 use Rattle.store_core.specs.Directory.{Object}
 use Rattle.store_core.specs.Sound.{IsSound}
-use Rattle.content_laws.specs.Contents.{HasBytes}
+use Rattle.run_laws.specs.Contents.{HasBytes}
 use Rattle.stripe_dir.specs.Sealed.{Sealed}
 use Rattle.stripe_dir.specs.Stamped.{HaveContents}
 

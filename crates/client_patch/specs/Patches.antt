@@ -5,7 +5,7 @@ use Rattle.store_map.specs.declared.call.Call.{Call}
 use Rattle.store_map.specs.declared.call.Call.TheVariants as call
 use Rattle.store_core.specs.Agreement.{Seat, ActorToken}
 use Rattle.store_core.specs.NextAct.{job_of}
-use Rattle.store_resume.specs.State.{first_state}
+use Rattle.run_laws.specs.State.{first_state}
 use Rattle.version_seal.specs.Entry.{BookOf}
 use Rattle.call_steps.specs.CallOf.{CallOf}
 pub use Rattle.write_course.specs.Draws.{stamps_of_draw, stamps_by, stamps_drawn, stamps_after}

@@ -1,6 +1,6 @@
 -- Where a write or a delete stands, by what its program keeps.
 use Rattle.std.specs.Prelude.{Bool, true, false}
-use Rattle.store_resume.specs.State.{Sequel, State}
+use Rattle.run_laws.specs.State.{Sequel, State}
 use Rattle.call_steps.specs.Outcomes.{outcome_of}
 use Rattle.call_steps.specs.declared.outcomes.Outcome.{Outcome}
 use Rattle.call_steps.specs.Ends.{finished_of}

@@ -5,7 +5,7 @@ ghost use Rattle.clay_grid.specs.Shape.{chunk_count};
 ghost use Rattle.store_core.specs.Note.{Kind};
 ghost use Rattle.store_core.specs.Act.{Act as CoreAct, Outcome as CoreOutcome};
 ghost use Rattle.store_core.specs.Agreement.{ActorToken};
-ghost use Rattle.store_resume.specs.State.{Sequel, State};
+ghost use Rattle.run_laws.specs.State.{Sequel, State};
 ghost use Rattle.chunk_server.specs.Core.{core_of};
 ghost use Rattle.call_steps.specs.Steps.{IsServerBelow, LeadsToAtServer, need_of, HoldsItsPass, IsDueInPass, MayMakeNext};
 ghost use Rattle.stripe_dir.specs.Sealed.{Sealed};

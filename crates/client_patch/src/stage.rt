@@ -1,6 +1,6 @@
 //! What a call does next, by its answers.
 ghost use Rattle.std.specs.Prelude.{◌≡◌, true, map, Some};
-ghost use Rattle.store_resume.specs.LookAfter.{looked_state};
+ghost use Rattle.run_laws.specs.LookAfter.{looked_state};
 ghost use Rattle.stripe_dir.specs.Answers.{told_or_short, told_look};
 ghost use Rattle.call_steps.specs.Answers.{directory_answer};
 ghost use Rattle.write_course.specs.Writings.{WritingOf};

@@ -4,7 +4,7 @@ use Rattle.clay_grid.specs.Shape.{chunk_count}
 use Rattle.store_map.specs.declared.call.Call.{Call}
 use Rattle.store_core.specs.Agreement.{Seat, ActorToken}
 use Rattle.store_core.specs.NextAct.{job_of}
-use Rattle.store_resume.specs.State.{first_state}
+use Rattle.run_laws.specs.State.{first_state}
 use Rattle.version_seal.specs.Entry.{BookOf}
 use Rattle.call_steps.specs.CallOf.{tries_by, CallOf}
 pub use Rattle.client_patch.specs.Patches.{is_put}

@@ -3,7 +3,7 @@ ghost use Rattle.std.specs.Prelude.{◌≡◌, ◌<◌, ◌≤◌, true, None};
 ghost use Rattle.std.specs.Option.{option_map};
 ghost use Rattle.clay_grid.specs.Shape.{chunk_count};
 ghost use Rattle.store_core.specs.Agreement.{Agrees, ActorToken};
-ghost use Rattle.store_resume.specs.State.{State};
+ghost use Rattle.run_laws.specs.State.{State};
 ghost use Rattle.chunk_server.specs.Core.{core_of};
 ghost use Rattle.call_steps.specs.Acts.{act_now};
 ghost use Rattle.call_steps.specs.CallOf.{HasTakenNothing};

@@ -3,7 +3,7 @@ use Rattle.std.proofs.Common.{◌≡◌, false, [], refl, sym, ap, subst, ◌∙
 use Rattle.store_core.specs.NextAct.{job_of}
 use Rattle.store_core.specs.Act.{Act as CoreAct, DirectoryStep}
 use Rattle.store_core.specs.Note.{note_of}
-use Rattle.store_resume.specs.StateActs.{act_at}
+use Rattle.run_laws.specs.StateActs.{act_at}
 use Rattle.call_steps.specs.declared.act.Act.TheVariants as act
 use Rattle.call_steps.specs.declared.act.DirectoryAct.TheVariants as there
 use Rattle.call_steps.specs.Acts.{act_by, act_now}

@@ -18,11 +18,11 @@ use Rattle.store_core.specs.Agreement.{ActorToken}
 use Rattle.store_core.specs.Tokens.{actor_of}
 use Rattle.run_laws.specs.AnswersByKind.{FitsKind}
 use Rattle.run_laws.proofs.PlaceKinds.{places_answer_by_kind}
-use Rattle.store_resume.specs.State.{State}
-use Rattle.store_resume.specs.States.{open_state}
-use Rattle.store_resume.specs.LookAfter.{start_after}
-use Rattle.store_resume.specs.CallAfter.{pairs_with}
-use Rattle.store_resume.specs.CallLaws.{next_call}
+use Rattle.run_laws.specs.State.{State}
+use Rattle.run_laws.specs.States.{open_state}
+use Rattle.run_laws.specs.LookAfter.{start_after}
+use Rattle.run_laws.specs.CallAfter.{pairs_with}
+use Rattle.run_laws.specs.CallLaws.{next_call}
 use Rattle.version_seal.specs.Entry.{BookOf, StampOf}
 use Rattle.stripe_dir.specs.Answers.{told_or_short, seen_in, told_look}
 use Rattle.stripe_dir.specs.Sealed.{Sealed}

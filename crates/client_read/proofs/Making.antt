@@ -4,8 +4,8 @@ use Rattle.store_core.specs.Note.{Note, note_of}
 use Rattle.store_core.specs.Act.{Act, DirectoryStep}
 use Rattle.store_core.specs.NextAct.{job_of}
 use Rattle.store_core.specs.Agreement.{ActorToken}
-use Rattle.store_resume.specs.State.{Sequel}
-use Rattle.store_resume.specs.StateActs.{act_at}
+use Rattle.run_laws.specs.State.{Sequel}
+use Rattle.run_laws.specs.StateActs.{act_at}
 use Rattle.call_steps.specs.CallOf.{CallOf, tries_by, act_of}
 use Rattle.call_steps.specs.Steps.{MayMakeNext}
 use Rattle.call_steps.proofs.Making.{MayBy, makes, passes}

@@ -10,8 +10,8 @@ use Rattle.store_core.specs.NextAct.{Job, job_of}
 use Rattle.store_core.specs.Act.{Act, DirectoryStep, Outcome as CoreOutcome}
 use Rattle.store_core.specs.ActPlace.{is_in_pass}
 use Rattle.store_core.specs.Agreement.{ActorToken}
-use Rattle.store_resume.specs.State.{Sequel, State}
-use Rattle.store_resume.specs.StateActs.{act_at}
+use Rattle.run_laws.specs.State.{Sequel, State}
+use Rattle.run_laws.specs.StateActs.{act_at}
 use Rattle.call_steps.specs.declared.need.Need.{Need}
 use Rattle.call_steps.specs.declared.need.Need.TheVariants as need
 use Rattle.call_steps.specs.CallOf.{CallOf, act_of, tries_by}

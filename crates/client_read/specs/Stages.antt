@@ -2,7 +2,7 @@
 use Rattle.std.specs.Prelude.{◌≡◌, Bool, false}
 use Rattle.store_core.specs.Told.{Told}
 use Rattle.store_map.specs.declared.actor.Point.{Point}
-use Rattle.store_resume.specs.State.{Sequel, State}
+use Rattle.run_laws.specs.State.{Sequel, State}
 use Rattle.call_steps.specs.Outcomes.{outcome_of}
 use Rattle.call_steps.specs.declared.outcomes.Outcome.{Outcome}
 use Rattle.call_steps.specs.Ends.{finished_of}

@@ -1,7 +1,7 @@
 //! The steps at the directory of a call that reads.
 ghost use Rattle.std.specs.Prelude.{◌≡◌, true};
 ghost use Rattle.store_core.specs.Agreement.{Agrees};
-ghost use Rattle.store_resume.specs.State.{State};
+ghost use Rattle.run_laws.specs.State.{State};
 ghost use Rattle.call_steps.specs.Steps.{LeadsTo, need_of};
 ghost use Rattle.call_steps.specs.Hearing.{IsToldThere};
 ghost use Rattle.call_steps.specs.Ends.{is_ending};

@@ -3,7 +3,7 @@ ghost use Rattle.std.specs.Prelude.{◌≡◌, ◌<◌, ◌≤◌, ℕ, true, fa
 ghost use Rattle.std.specs.Option.{option_map};
 ghost use Rattle.clay_grid.specs.Shape.{chunk_count};
 ghost use Rattle.store_core.specs.Agreement.{ActorToken};
-ghost use Rattle.store_resume.specs.State.{Sequel, State};
+ghost use Rattle.run_laws.specs.State.{Sequel, State};
 ghost use Rattle.chunk_server.specs.Core.{core_of};
 ghost use Rattle.chunk_server.specs.State.{IsSame};
 ghost use Rattle.call_steps.specs.Steps.{IsServerBelow, LeadsToAtServer, coded, need_of, HoldsItsPass, IsDueInPass, MayMakeNext};

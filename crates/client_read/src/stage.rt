@@ -4,7 +4,7 @@ ghost use Rattle.clay_grid.specs.Shape.{Shape};
 ghost use Rattle.store_core.specs.Note.{note_of};
 ghost use Rattle.store_core.specs.Read.{read_start, read_end};
 ghost use Rattle.run_laws.specs.AnswersByKind.{MayPin, FitsKind};
-ghost use Rattle.store_resume.specs.LookAfter.{looked_state};
+ghost use Rattle.run_laws.specs.LookAfter.{looked_state};
 ghost use Rattle.version_seal.specs.Entry.{StampOf};
 ghost use Rattle.call_steps.specs.Answers.{directory_answer};
 ghost use Rattle.stripe_dir.specs.Answers.{told_or_short, told_look};

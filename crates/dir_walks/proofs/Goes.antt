@@ -18,7 +18,7 @@ use Rattle.run_laws.proofs.OwnSteps.{agreement_goes_on}
 use Rattle.version_seal.specs.Entry.{BookOf, is_writing}
 use Rattle.stripe_dir.specs.Sealed.{Sealed}
 use Rattle.call_steps.specs.TokenAfter.{token_after}
-use Rattle.call_laws.proofs.Tokens.{tokens_stay}
+use Rattle.call_steps.proofs.Tokens.{tokens_stay}
 use Rattle.dir_walks.specs.Callers.{CallerOf, IsAt, IsRight, OthersAgree, Steps, is_client, is_repairer}
 use Rattle.dir_walks.specs.After.{writes}
 use Rattle.dir_walks.specs.Stores.{StoreOf, IsStore}

@@ -2,7 +2,7 @@
 use Rattle.std.proofs.Common.{◌≡◌, ℕ, true, false, None, Some, refl, sym, ap, true≢false}
 use Rattle.std.proofs.lemmas.Option.{none-some, same_Some}
 use Rattle.clay_grid.specs.Shape.{Shape}
-use Rattle.store_resume.specs.Stage.{Aim, Stage}
+use Rattle.run_laws.specs.Stage.{Aim, Stage}
 use Rattle.call_steps.specs.declared.act.Act.TheVariants as act
 use Rattle.call_steps.specs.declared.act.DirectoryAct.TheVariants as there
 use Rattle.call_steps.specs.declared.act.ServerAct.{ServerAct}

@@ -3,8 +3,8 @@ use Rattle.std.proofs.Common.{◌≡◌, ℕ, Bool, List, ◌++◌, length, Opti
 use Rattle.store_core.proofs.Places.{length-change_at}
 use Rattle.store_core.specs.Told.{Told}
 use Rattle.store_core.specs.Server.{Server, raised_by, at_server}
-use Rattle.store_resume.specs.Stage.{Stage}
-use Rattle.store_resume.specs.StageAfter.{step_asked}
+use Rattle.run_laws.specs.Stage.{Stage}
+use Rattle.run_laws.specs.StageAfter.{step_asked}
 use Rattle.version_seal.specs.Entry.{BookOf}
 use Rattle.gathering.specs.Gathers.{GatherOf, heard, taking, stepped_at, stepped as gather_stepped}
 use Rattle.gathering.specs.Courses.{server_of}

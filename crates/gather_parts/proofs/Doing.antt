@@ -4,11 +4,11 @@ use Rattle.clay_grid.specs.Shape.{Shape}
 use Rattle.store_core.specs.Act.{Act, DirectoryStep, ServerStep}
 use Rattle.store_core.specs.Gathering.{Part}
 use Rattle.store_core.specs.NextAct.{Job}
-use Rattle.store_resume.specs.Stage.{Aim, Stage}
-use Rattle.store_resume.specs.Stages.{first_stage}
-use Rattle.store_resume.specs.State.{Sequel, State}
-use Rattle.store_resume.specs.States.{sequel_state, stage_state, open_parts}
-use Rattle.store_resume.specs.StateActs.{act_at}
+use Rattle.run_laws.specs.Stage.{Aim, Stage}
+use Rattle.run_laws.specs.Stages.{first_stage}
+use Rattle.run_laws.specs.State.{Sequel, State}
+use Rattle.run_laws.specs.States.{sequel_state, stage_state, open_parts}
+use Rattle.run_laws.specs.StateActs.{act_at}
 use Rattle.gathering.specs.Gathers.{GatherOf}
 use Rattle.gather_parts.specs.Wanted.{parts_of}
 use Rattle.gather_parts.specs.Gatherings.{GatheringsOf}

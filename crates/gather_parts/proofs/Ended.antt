@@ -5,9 +5,9 @@ use Rattle.clay_grid.specs.Shape.{Shape}
 use Rattle.store_core.specs.Told.{Lost}
 use Rattle.store_core.specs.Act.{Outcome}
 use Rattle.store_core.specs.Gathering.{Part}
-use Rattle.store_resume.specs.Stage.{Aim, Stage, seen_of}
-use Rattle.store_resume.specs.State.{Sequel, State}
-use Rattle.store_resume.specs.States.{sequel_state, stage_state, open_parts}
+use Rattle.run_laws.specs.Stage.{Aim, Stage, seen_of}
+use Rattle.run_laws.specs.State.{Sequel, State}
+use Rattle.run_laws.specs.States.{sequel_state, stage_state, open_parts}
 use Rattle.gathering.specs.Gathers.{GatherOf}
 use Rattle.gather_parts.specs.declared.progress.Progress.{Progress}
 use Rattle.gather_parts.specs.declared.progress.Progress.TheVariants as progress

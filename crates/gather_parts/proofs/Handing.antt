@@ -8,12 +8,12 @@ use Rattle.store_core.specs.NextAct.{Job}
 use Rattle.store_core.specs.Gathering.{Part}
 use Rattle.store_core.specs.Act.{Act, Outcome}
 use Rattle.store_core.specs.ActPlace.{is_in_pass}
-use Rattle.store_resume.specs.Stage.{Aim, Asking, Stage}
-use Rattle.store_resume.specs.Stages.{first_stage}
-use Rattle.store_resume.specs.State.{Sequel, State, CallState}
-use Rattle.store_resume.specs.States.{sequel_state, stage_state, open_parts}
-use Rattle.store_resume.specs.StateActs.{act_at}
-use Rattle.store_resume.specs.CallLaws.{next_call}
+use Rattle.run_laws.specs.Stage.{Aim, Asking, Stage}
+use Rattle.run_laws.specs.Stages.{first_stage}
+use Rattle.run_laws.specs.State.{Sequel, State, CallState}
+use Rattle.run_laws.specs.States.{sequel_state, stage_state, open_parts}
+use Rattle.run_laws.specs.StateActs.{act_at}
+use Rattle.run_laws.specs.CallLaws.{next_call}
 use Rattle.gathering.specs.Gathers.{GatherOf}
 use Rattle.call_steps.specs.declared.need.Need.{Need}
 use Rattle.call_steps.specs.declared.need.Need.TheVariants as need

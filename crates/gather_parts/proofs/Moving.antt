@@ -10,11 +10,11 @@ use Rattle.store_core.specs.Read.{part_of}
 use Rattle.call_steps.specs.declared.seen.Seen.{Seen}
 use Rattle.stripe_dir.specs.Answers.{seen_in}
 use Rattle.store_core.specs.Server.{Server, at_server}
-use Rattle.store_resume.specs.Stage.{Aim, Asking, Stage}
-use Rattle.store_resume.specs.StageAfter.{step_asked, server_asked, stage_after}
-use Rattle.store_resume.specs.State.{Sequel}
-use Rattle.store_resume.specs.States.{parts_state, stage_state, open_parts, open_state}
-use Rattle.store_resume.proofs.Opened.{opened_next}
+use Rattle.run_laws.specs.Stage.{Aim, Asking, Stage}
+use Rattle.run_laws.specs.StageAfter.{step_asked, server_asked, stage_after}
+use Rattle.run_laws.specs.State.{Sequel}
+use Rattle.run_laws.specs.States.{parts_state, stage_state, open_parts, open_state}
+use Rattle.run_laws.proofs.Opened.{opened_next}
 use Rattle.gathering.specs.Gathers.{GatherOf, told_at, told_by}
 use Rattle.gathering.proofs.Taking.{takes_follow}
 use Rattle.call_steps.specs.CallOf.{CallOf}

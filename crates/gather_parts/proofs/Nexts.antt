@@ -5,11 +5,11 @@ use Rattle.std.proofs.lemmas.Option.{none-some, cond_some}
 use Rattle.std.specs.List.{range_with_len}
 use Rattle.clay_grid.specs.Shape.{Shape, chunk_length}
 use Rattle.store_core.specs.Gathering.{Part}
-use Rattle.store_resume.specs.Stage.{Aim}
+use Rattle.run_laws.specs.Stage.{Aim}
 use Rattle.store_core.specs.GatheringParts.{chunks_in_range}
-use Rattle.store_resume.specs.Stages.{fetch_stage}
-use Rattle.store_resume.specs.State.{Sequel}
-use Rattle.store_resume.specs.States.{stage_state, open_parts}
+use Rattle.run_laws.specs.Stages.{fetch_stage}
+use Rattle.run_laws.specs.State.{Sequel}
+use Rattle.run_laws.specs.States.{stage_state, open_parts}
 use Rattle.gathering.specs.Made.{bytes_between}
 use Rattle.version_seal.specs.Entry.{BookOf, StampOf}
 use Rattle.gathering.specs.Gathers.{GatherOf, new_gather}

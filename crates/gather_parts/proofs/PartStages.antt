@@ -4,9 +4,9 @@ use Rattle.clay_grid.specs.Shape.{Shape}
 use Rattle.store_core.specs.Told.{Seen, Lost, Told}
 use Rattle.store_core.specs.Gathering.{Part}
 use Rattle.store_core.specs.GatheringParts.{chunks_in_range}
-use Rattle.store_resume.specs.Stage.{Aim, Asking, Stage}
-use Rattle.store_resume.specs.Stages.{unless_many, whole_stage, repair_stage, recover_stage, make_stage, look_stage, data_stage, fetch_stage, first_stage}
-use Rattle.store_resume.specs.StageAfter.{with_lost, stage_after, next_stage}
+use Rattle.run_laws.specs.Stage.{Aim, Asking, Stage}
+use Rattle.run_laws.specs.Stages.{unless_many, whole_stage, repair_stage, recover_stage, make_stage, look_stage, data_stage, fetch_stage, first_stage}
+use Rattle.run_laws.specs.StageAfter.{with_lost, stage_after, next_stage}
 use Rattle.gather_parts.specs.Inside.{IsPartStage, IsOfPart}
 
 module _ (g : Shape) where

@@ -1,9 +1,9 @@
 -- What a call does next that stands in gatherings, as its machine tells it.
 use Rattle.std.specs.Prelude.{List, [], ◌∷◌, Option, None, Some}
 use Rattle.clay_grid.specs.Shape.{Shape}
-use Rattle.store_resume.specs.Stage.{Aim, Stage}
-use Rattle.store_resume.specs.StageAfter.{server_asked, step_asked}
-use Rattle.store_resume.specs.State.{Sequel}
+use Rattle.run_laws.specs.Stage.{Aim, Stage}
+use Rattle.run_laws.specs.StageAfter.{server_asked, step_asked}
+use Rattle.run_laws.specs.State.{Sequel}
 use Rattle.call_steps.specs.declared.act.Act.{Act}
 use Rattle.call_steps.specs.declared.act.Act.TheVariants as act
 use Rattle.call_steps.specs.declared.act.DirectoryAct.{DirectoryAct}

@@ -2,8 +2,8 @@
 use Rattle.std.specs.Prelude.{⊤, ℕ, map, Vec}
 use Rattle.std.specs.declared.alloc.Global.{Global}
 use Rattle.store_core.specs.Act.{Outcome}
-use Rattle.store_resume.specs.State.{Sequel, State}
-use Rattle.store_resume.specs.States.{sequel_state}
+use Rattle.run_laws.specs.State.{Sequel, State}
+use Rattle.run_laws.specs.States.{sequel_state}
 use Rattle.store_core.specs.Told.{lost_in}
 use Rattle.gather_parts.specs.declared.ends.Gathered.{Gathered}
 use Rattle.gather_parts.specs.declared.ends.Gathered.TheVariants as gathered

@@ -1,7 +1,7 @@
 -- The gatherings of a call's parts as callers see them: plain data.
 use Rattle.std.specs.Prelude.{ℕ, List, [], ◌++◌, replicate, Option, None, Some}
 use Rattle.clay_grid.specs.Shape.{chunk_count}
-use Rattle.store_resume.specs.Stage.{Aim}
+use Rattle.run_laws.specs.Stage.{Aim}
 use Rattle.version_seal.specs.Entry.{BookOf}
 pub use Rattle.gathering.specs.Made.{bytes_between}
 pub use Rattle.gathering.specs.Gathers.{GatherOf}

@@ -2,7 +2,7 @@
 use Rattle.std.specs.Prelude.{◌≡◌, ⊤, ℕ, true, List, length, map, replicate, Option, None, Some, is_some, IfSome, All}
 use Rattle.std.specs.Vec.Iter.{into_iter_items}
 use Rattle.clay_grid.specs.Shape.{Shape, chunk_count}
-use Rattle.store_resume.specs.Stage.{Aim, Asking, Stage}
+use Rattle.run_laws.specs.Stage.{Aim, Asking, Stage}
 use Rattle.version_seal.specs.Entry.{BookOf}
 use Rattle.gathering.specs.Gathers.{GatherOf}
 use Rattle.gather_parts.specs.Wanted.{wanted_of, IsPinned}

@@ -3,8 +3,8 @@ use Rattle.std.specs.Prelude.{◌≡◌, Bool, true, false, List, Option, None, 
 use Rattle.clay_grid.specs.Shape.{Shape}
 use Rattle.store_core.specs.Act.{Outcome}
 use Rattle.store_core.specs.Gathering.{Part}
-use Rattle.store_resume.specs.State.{Sequel, State}
-use Rattle.store_resume.specs.States.{stage_state, open_parts}
+use Rattle.run_laws.specs.State.{Sequel, State}
+use Rattle.run_laws.specs.States.{stage_state, open_parts}
 use Rattle.gathering.specs.Gathers.{GatherOf}
 use Rattle.call_steps.specs.CallOf.{CallOf}
 use Rattle.gather_parts.specs.Wanted.{parts_of}

@@ -2,7 +2,7 @@
 use Rattle.std.specs.Prelude.{ℕ, Bool, true, false, nat_lt, List, [], ◌∷◌, ◌++◌, Option, None, Some, if◌then◌else◌}
 use Rattle.clay_grid.specs.Shape.{Shape}
 use Rattle.store_core.specs.Server.{Server}
-use Rattle.store_resume.specs.Stage.{Aim}
+use Rattle.run_laws.specs.Stage.{Aim}
 use Rattle.gathering.specs.Gathers.{GatherOf, new_gather, stepped as gather_stepped}
 use Rattle.gather_parts.specs.Wanted.{Wanted}
 use Rattle.gather_parts.specs.Gatherings.{GatheringsOf, bytes_at_work}

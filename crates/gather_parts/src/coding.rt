@@ -1,7 +1,7 @@
 //! What a call's gatherings do between two steps.
 ghost use Rattle.std.specs.Prelude.{◌≡◌, ◌++◌, true, false, replicate, None, Some, is_some, is_err, IfSome, OnOk};
 ghost use Rattle.clay_grid.specs.Shape.{chunk_count};
-ghost use Rattle.store_resume.specs.State.{Sequel};
+ghost use Rattle.run_laws.specs.State.{Sequel};
 ghost use Rattle.call_steps.specs.CallOf.{CallOf};
 ghost use Rattle.call_steps.specs.Steps.{coded as call_coded};
 ghost use Rattle.gather_parts.specs.Gatherings.{bytes_at_work, owed};

@@ -1,7 +1,7 @@
 //! What a call's gatherings came to.
 ghost use Rattle.std.specs.Prelude.{◌≡◌};
 ghost use Rattle.std.specs.Option.{option_map};
-ghost use Rattle.store_resume.specs.State.{Sequel};
+ghost use Rattle.run_laws.specs.State.{Sequel};
 ghost use Rattle.gather_parts.specs.Gatherings.{owed};
 ghost use Rattle.gather_parts.specs.Progress.{progress_of, IsOver};
 ghost use Rattle.gather_parts.specs.States.{state_in};

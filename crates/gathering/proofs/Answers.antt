@@ -9,9 +9,9 @@ use Rattle.store_map.specs.declared.placement.Found.TheVariants as why
 use Rattle.store_core.specs.Lists.{is_among}
 use Rattle.store_core.specs.Told.{Lost, Told}
 use Rattle.store_core.specs.Gathering.{servers_but, lost_at}
-use Rattle.store_resume.specs.Stage.{Aim, Asking, Stage, seen_of}
-use Rattle.store_resume.specs.Stages.{recover_stage, whole_stage, look_stage, fetch_stage_of}
-use Rattle.store_resume.specs.StageAfter.{with_lost, stage_after, server_asked}
+use Rattle.run_laws.specs.Stage.{Aim, Asking, Stage, seen_of}
+use Rattle.run_laws.specs.Stages.{recover_stage, whole_stage, look_stage, fetch_stage_of}
+use Rattle.run_laws.specs.StageAfter.{with_lost, stage_after, server_asked}
 use Rattle.gathering.specs.Servers.{wanted_servers, TargetIs, TargetIsGone, AreServers}
 use Rattle.gathering.specs.Parts.{Shelf, AreNone, HaveCome, AllHaveCome, is_there}
 use Rattle.gathering.specs.Kept.{Keeps}

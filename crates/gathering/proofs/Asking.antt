@@ -4,8 +4,8 @@ use Rattle.std.proofs.lemmas.Option.{none-some, same_Some}
 use Rattle.clay_grid.specs.Shape.{Shape}
 use Rattle.store_map.specs.declared.actor.Version.{Version}
 use Rattle.store_core.specs.Act.{ServerStep}
-use Rattle.store_resume.specs.Stage.{Aim, Asking, Stage, seen_of}
-use Rattle.store_resume.specs.StageAfter.{server_asked}
+use Rattle.run_laws.specs.Stage.{Aim, Asking, Stage, seen_of}
+use Rattle.run_laws.specs.StageAfter.{server_asked}
 use Rattle.call_steps.specs.declared.act.ServerAct.{ServerAct}
 use Rattle.call_steps.specs.declared.act.ServerAct.TheVariants as here
 use Rattle.gathering.specs.Courses.{server_at, is_look}

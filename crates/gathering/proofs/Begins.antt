@@ -3,7 +3,7 @@ use Rattle.std.proofs.Common.{◌≡◌, ◌<◌, ℕ, map, List, [], ◌∷◌,
 use Rattle.std.proofs.lemmas.List.Elements.{All-nil, All-cons}
 use Rattle.store_core.specs.Told.{Lost, lost_in}
 use Rattle.clay_grid.specs.Shape.{chunk_count}
-use Rattle.store_resume.specs.Stage.{Aim}
+use Rattle.run_laws.specs.Stage.{Aim}
 use Rattle.gathering.specs.declared.aim.CourseAim.{CourseAim}
 use Rattle.gathering.specs.declared.aim.CourseAim.TheVariants as own
 use Rattle.gathering.specs.declared.course.Course.TheInside.{Inside}

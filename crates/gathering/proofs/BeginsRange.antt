@@ -5,8 +5,8 @@ use Rattle.store_core.specs.Told.{Lost, lost_in}
 use Rattle.store_core.specs.Gathering.{Part}
 use Rattle.store_core.specs.GatheringParts.{chunks_in_range}
 use Rattle.clay_grid.specs.Shape.{Shape, chunk_count}
-use Rattle.store_resume.specs.Stage.{Aim}
-use Rattle.store_resume.specs.Stages.{fetch_stage}
+use Rattle.run_laws.specs.Stage.{Aim}
+use Rattle.run_laws.specs.Stages.{fetch_stage}
 use Rattle.gathering.specs.declared.aim.CourseAim.{CourseAim}
 use Rattle.gathering.specs.declared.aim.CourseAim.TheVariants as own
 use Rattle.gathering.specs.declared.course.Course.TheInside.{Inside}

@@ -10,8 +10,8 @@ use Rattle.store_map.specs.declared.placement.Placement.{Placement}
 use Rattle.store_map.specs.declared.placement.Placement.TheVariants as placement
 use Rattle.store_core.specs.Told.{Lost, Seen, Told}
 use Rattle.store_core.specs.Gathering.{lost_at}
-use Rattle.store_resume.specs.Stage.{Asking, Stage, seen_of}
-use Rattle.store_resume.specs.StageAfter.{next_stage}
+use Rattle.run_laws.specs.Stage.{Asking, Stage, seen_of}
+use Rattle.run_laws.specs.StageAfter.{next_stage}
 use Rattle.gathering.specs.Courses.{CourseOf, IsAskingStage, server_at, server_of, gone_after, after_answer}
 use Rattle.store_map.specs.declared.placement.LostChunk.{LostChunk}
 use Rattle.gathering.specs.declared.aim.CourseAim.{CourseAim}

@@ -10,8 +10,8 @@ use Rattle.store_core.specs.Told.{Told}
 use Rattle.store_core.specs.Act.{ServerStep}
 use Rattle.store_core.specs.Server.{Server, at_server}
 use Rattle.store_core.specs.GatheringParts.{chunks_in_range}
-use Rattle.store_resume.specs.Stage.{Asking, Stage, seen_of}
-use Rattle.store_resume.specs.Stages.{fetch_stage}
+use Rattle.run_laws.specs.Stage.{Asking, Stage, seen_of}
+use Rattle.run_laws.specs.Stages.{fetch_stage}
 use Rattle.store_core.specs.Gathering.{Part}
 use Rattle.gathering.specs.Courses.{IsAskingStage, server_at, server_of, is_look, layers_at, layers_asked}
 use Rattle.gathering.specs.Gathers.{GatherOf, heard, taking, stepped_at, stepped}

@@ -9,8 +9,8 @@ use Rattle.store_map.specs.declared.placement.Found.{Found}
 use Rattle.store_core.specs.Told.{Seen, Told}
 use Rattle.store_core.specs.Gathering.{Part}
 use Rattle.store_core.specs.GatheringParts.{chunks_in_range}
-use Rattle.store_resume.specs.Stage.{Aim, Asking, Stage}
-use Rattle.store_resume.specs.StageAfter.{next_stage, wanted_layers}
+use Rattle.run_laws.specs.Stage.{Aim, Asking, Stage}
+use Rattle.run_laws.specs.StageAfter.{next_stage, wanted_layers}
 use Rattle.version_seal.specs.Entry.{StampOf}
 use Rattle.gathering.specs.Courses.{CourseOf, new_course, IsAskingStage, server_at, server_of, gone_after, after_answer, is_look, is_fetch, layers_at, layers_asked}
 use Rattle.gathering.specs.Parts.{Shelf, IsPart, ArePartsOf, AreNone, helping_layers}

@@ -3,9 +3,9 @@ use Rattle.std.proofs.Common.{◌≡◌, ℕ, ◌+◌, ◌≤◌, List, length, 
 use Rattle.std.proofs.lemmas.List.{length-take-le}
 use Rattle.clay_grid.specs.Shape.{Shape, chunk_count}
 use Rattle.store_core.specs.Told.{Lost, Told}
-use Rattle.store_resume.specs.Stage.{Aim, seen_of}
-use Rattle.store_resume.specs.Stages.{whole_stage}
-use Rattle.store_resume.specs.StageAfter.{next_stage}
+use Rattle.run_laws.specs.Stage.{Aim, seen_of}
+use Rattle.run_laws.specs.Stages.{whole_stage}
+use Rattle.run_laws.specs.StageAfter.{next_stage}
 use Rattle.gathering.specs.CourseServers.{asked_from}
 use Rattle.gathering.specs.declared.ending.Ending.{Ending}
 use Rattle.gathering.specs.declared.ending.Ending.TheVariants as ending

@@ -2,7 +2,7 @@
 use Rattle.std.proofs.Common.{◌≡◌, ℕ, ◌<◌, ◌≤◌, Bool, cond, List, length, sym, ap, subst}
 use Rattle.std.proofs.lemmas.Bool.{lt-ltb, le-ltb}
 use Rattle.clay_grid.specs.Shape.{Shape}
-use Rattle.store_resume.specs.Stage.{Aim}
+use Rattle.run_laws.specs.Stage.{Aim}
 use Rattle.gathering.specs.declared.ending.Ending.TheVariants as ending
 use Rattle.gathering.specs.declared.position.Position.{Position}
 use Rattle.gathering.specs.declared.position.Position.TheVariants as position

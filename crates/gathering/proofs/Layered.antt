@@ -6,8 +6,8 @@ use Rattle.std.proofs.lemmas.Bool.{lt-ltb, le-ltb}
 use Rattle.clay_grid.specs.Shape.{Shape, layer_count, chunk_length}
 use Rattle.clay_grid.specs.Repair.{all_layers, layers_in_range, repair_layers_of}
 use Rattle.store_core.specs.GatheringParts.{layers_for}
-use Rattle.store_resume.specs.Stage.{Aim}
-use Rattle.store_resume.specs.StageAfter.{wanted_layers}
+use Rattle.run_laws.specs.Stage.{Aim}
+use Rattle.run_laws.specs.StageAfter.{wanted_layers}
 
 pub range_more : (a n : ℕ) → range_with_len a (suc n) ≡ range_with_len a n ++ (a + n) ∷ []
 range_more a zero = ap (λ (k : ℕ). k ∷ []) (none a)

@@ -7,9 +7,9 @@ use Rattle.store_map.specs.declared.placement.Found.{Found}
 use Rattle.store_map.specs.declared.placement.Found.TheVariants as why
 use Rattle.store_core.specs.Told.{Seen, Lost}
 use Rattle.store_core.specs.Gathering.{lost_at, servers_but}
-use Rattle.store_resume.specs.Stage.{Aim, Stage, seen_of}
-use Rattle.store_resume.specs.StageAfter.{with_lost}
-use Rattle.store_resume.specs.Stages.{unless_many, whole_stage, recover_stage, look_stage, fetch_stage}
+use Rattle.run_laws.specs.Stage.{Aim, Stage, seen_of}
+use Rattle.run_laws.specs.StageAfter.{with_lost}
+use Rattle.run_laws.specs.Stages.{unless_many, whole_stage, recover_stage, look_stage, fetch_stage}
 use Rattle.gathering.specs.CourseServers.{asked_from}
 use Rattle.gathering.specs.Servers.{AreServers}
 use Rattle.gathering.specs.declared.ending.Ending.TheVariants as ending

@@ -9,8 +9,8 @@ use Rattle.store_core.specs.Lists.{is_among}
 use Rattle.store_core.specs.Told.{Seen, Lost}
 use Rattle.store_core.specs.Gathering.{Part, servers_but}
 use Rattle.store_core.specs.GatheringParts.{chunks_in_range}
-use Rattle.store_resume.specs.Stage.{Asking, Stage}
-use Rattle.store_resume.specs.Stages.{whole_stage, repair_stage, make_stage, look_stage, fetch_stage, data_stage}
+use Rattle.run_laws.specs.Stage.{Asking, Stage}
+use Rattle.run_laws.specs.Stages.{whole_stage, repair_stage, make_stage, look_stage, fetch_stage, data_stage}
 use Rattle.gathering.specs.CourseServers.{asked_from}
 use Rattle.gathering.specs.Servers.{AreServers}
 use Rattle.gathering.specs.declared.ending.Ending.TheVariants as ending

@@ -13,8 +13,8 @@ use Rattle.clay_model.specs.Left.{AreLeft, AreRecovered}
 use Rattle.clay_model.specs.RepairParts.{AreParts, IsRebuilt}
 use Rattle.store_core.specs.Lists.{is_among}
 use Rattle.store_core.specs.GatheringParts.{layers_for}
-use Rattle.store_resume.specs.Stage.{Aim, Stage}
-use Rattle.store_resume.specs.StageAfter.{wanted_layers}
+use Rattle.run_laws.specs.Stage.{Aim, Stage}
+use Rattle.run_laws.specs.StageAfter.{wanted_layers}
 use Rattle.version_seal.specs.Entry.{StampOf}
 use Rattle.version_seal.specs.Chunk.{IsChunkOf, subchunks_at}
 use Rattle.gathering.specs.Aims.{target_of, IfRange}

@@ -11,8 +11,8 @@ use Rattle.store_core.specs.Lists.{is_among}
 use Rattle.store_core.specs.Told.{Seen, Lost}
 use Rattle.store_core.specs.Gathering.{Part, servers_but}
 use Rattle.store_core.specs.GatheringParts.{chunks_in_range}
-use Rattle.store_resume.specs.Stage.{Aim, Stage}
-use Rattle.store_resume.specs.Stages.{unless_many, whole_stage, repair_stage, recover_stage, make_stage, look_stage, data_stage, fetch_stage, fetch_stage_of}
+use Rattle.run_laws.specs.Stage.{Aim, Stage}
+use Rattle.run_laws.specs.Stages.{unless_many, whole_stage, repair_stage, recover_stage, make_stage, look_stage, data_stage, fetch_stage, fetch_stage_of}
 use Rattle.gathering.specs.Servers.{AreApart, wanted_servers, TargetIsGone, AreServers}
 use Rattle.gathering.specs.Parts.{Shelf, AreNone, HaveCome, AllHaveCome}
 use Rattle.gathering.specs.Kept.{CanMake, Keeps}

@@ -2,7 +2,7 @@
 use Rattle.std.specs.Prelude.{◌≡◌, ⊤, ℕ, List, Option, None, Some}
 use Rattle.store_core.specs.Told.{Lost, Seen}
 use Rattle.store_core.specs.Gathering.{Part}
-use Rattle.store_resume.specs.Stage.{Aim, Stage}
+use Rattle.run_laws.specs.Stage.{Aim, Stage}
 use Rattle.gathering.specs.declared.aim.CourseAim.{CourseAim}
 use Rattle.gathering.specs.declared.aim.CourseAim.TheVariants as own
 use Rattle.gathering.specs.declared.ending.Ending.{Ending}

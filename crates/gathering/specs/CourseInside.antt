@@ -2,7 +2,7 @@
 use Rattle.std.specs.Prelude.{◌≡◌, ◌<◌, ◌≤◌, ℕ, List, map, take, get_or, length, All}
 use Rattle.clay_grid.specs.Shape.{chunk_count}
 use Rattle.store_core.specs.Told.{Seen, Lost}
-use Rattle.store_resume.specs.Stage.{Aim, Stage}
+use Rattle.run_laws.specs.Stage.{Aim, Stage}
 use Rattle.store_map.specs.declared.placement.LostChunk.{LostChunk}
 use Rattle.gathering.specs.declared.course.Course.TheInside.{Inside}
 use Rattle.gathering.specs.Positions.{stage_of, IsPlaced}

@@ -3,9 +3,9 @@ use Rattle.std.specs.Prelude.{ℕ, ⊤, Bool, true, false, List, [], ◌∷◌, 
 use Rattle.clay_grid.specs.Shape.{Shape}
 use Rattle.clay_grid.specs.Repair.{all_layers, repair_layers_of}
 use Rattle.store_core.specs.Told.{Told}
-use Rattle.store_resume.specs.Stage.{Aim, Asking, Stage}
-use Rattle.store_resume.specs.Stages.{first_stage}
-use Rattle.store_resume.specs.StageAfter.{next_stage, server_asked, wanted_layers}
+use Rattle.run_laws.specs.Stage.{Aim, Asking, Stage}
+use Rattle.run_laws.specs.Stages.{first_stage}
+use Rattle.run_laws.specs.StageAfter.{next_stage, server_asked, wanted_layers}
 
 -- the code, what is gathered, how far that has come, and the servers that were found missing, in the order found
 pub record CourseOf : Type 0 where

@@ -4,8 +4,8 @@ use Rattle.clay_grid.specs.Shape.{Shape}
 use Rattle.store_core.specs.Lists.{change_at}
 use Rattle.store_core.specs.Told.{Told}
 use Rattle.store_core.specs.Server.{Server, raised_by, at_server}
-use Rattle.store_resume.specs.Stage.{Aim, Stage}
-use Rattle.store_resume.specs.StageAfter.{server_asked, step_asked}
+use Rattle.run_laws.specs.Stage.{Aim, Stage}
+use Rattle.run_laws.specs.StageAfter.{server_asked, step_asked}
 use Rattle.version_seal.specs.Entry.{StampOf}
 use Rattle.version_seal.specs.Sealed.{PartOf}
 use Rattle.gathering.specs.Courses.{CourseOf, new_course, server_of, layers_asked, has_bytes, after_answer}

@@ -4,8 +4,8 @@ use Rattle.clay_grid.specs.Shape.{Shape}
 use Rattle.store_map.specs.declared.placement.Found.{Found}
 use Rattle.store_core.specs.Told.{Lost, Told}
 use Rattle.store_core.specs.GatheringParts.{chunks_in_range}
-use Rattle.store_resume.specs.Stage.{Aim}
-use Rattle.store_resume.specs.StageAfter.{next_stage, with_lost}
+use Rattle.run_laws.specs.Stage.{Aim}
+use Rattle.run_laws.specs.StageAfter.{next_stage, with_lost}
 use Rattle.gathering.specs.Courses.{server_at}
 use Rattle.gathering.specs.Servers.{AreServers}
 use Rattle.gathering.specs.declared.ending.Ending.TheVariants as ending

@@ -1,7 +1,7 @@
 -- The fields of a gathering as callers see them, and what they keep.
 use Rattle.std.specs.Prelude.{◌≡◌}
-use Rattle.store_resume.specs.Stage.{seen_of}
-use Rattle.store_resume.specs.StageAfter.{wanted_layers}
+use Rattle.run_laws.specs.Stage.{seen_of}
+use Rattle.run_laws.specs.StageAfter.{wanted_layers}
 use Rattle.version_seal.specs.Entry.{StampOf}
 use Rattle.gathering.specs.Courses.{CourseOf}
 use Rattle.gathering.specs.Parts.{Shelf, ArePartsOf, helping_layers}

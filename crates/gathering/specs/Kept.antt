@@ -3,7 +3,7 @@ use Rattle.std.specs.Prelude.{◌≡◌, ⊤, ℕ, suc, ◌+◌, ◌≤◌, true
 use Rattle.clay_grid.specs.Shape.{Shape}
 use Rattle.store_core.specs.Lists.{is_among}
 use Rattle.store_core.specs.Told.{Lost}
-use Rattle.store_resume.specs.Stage.{Aim, Asking, Stage}
+use Rattle.run_laws.specs.Stage.{Aim, Asking, Stage}
 use Rattle.gathering.specs.Parts.{Shelf, AreNone, HaveCome, AllHaveCome}
 use Rattle.gathering.specs.Servers.{AreApart, wanted_servers, TargetIs, TargetIsGone, AreServers}
 

@@ -4,7 +4,7 @@ use Rattle.clay_grid.specs.Shape.{Shape, chunk_count, chunk_length, stripe_lengt
 use Rattle.clay_model.specs.Code.{Codes}
 use Rattle.store_core.specs.Lists.{is_among}
 use Rattle.store_core.specs.Gathering.{Part}
-use Rattle.store_resume.specs.Stage.{Aim}
+use Rattle.run_laws.specs.Stage.{Aim}
 use Rattle.version_seal.specs.Chunk.{IsChunkOf}
 use Rattle.gathering.specs.Parts.{Shelf, AreChunksOf, is_there}
 

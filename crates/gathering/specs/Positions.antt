@@ -4,7 +4,7 @@ use Rattle.clay_grid.specs.Shape.{Shape, chunk_count}
 use Rattle.store_map.specs.declared.placement.Found.TheVariants as found
 use Rattle.store_map.specs.declared.placement.Placement.TheVariants as placement
 use Rattle.store_core.specs.Told.{Lost}
-use Rattle.store_resume.specs.Stage.{Asking, Stage}
+use Rattle.run_laws.specs.Stage.{Asking, Stage}
 use Rattle.gathering.specs.CourseServers.{asked_from}
 use Rattle.gathering.specs.declared.ending.Ending.{Ending}
 use Rattle.gathering.specs.declared.ending.Ending.TheVariants as ending

@@ -4,7 +4,7 @@ use Rattle.clay_grid.specs.Shape.{Shape, chunk_count}
 use Rattle.store_core.specs.Told.{Seen, Lost}
 use Rattle.store_core.specs.Gathering.{Part}
 use Rattle.store_core.specs.GatheringParts.{chunks_in_range}
-use Rattle.store_resume.specs.Stages.{whole_stage, repair_stage, make_stage, look_stage, fetch_stage}
+use Rattle.run_laws.specs.Stages.{whole_stage, repair_stage, make_stage, look_stage, fetch_stage}
 use Rattle.gathering.specs.CourseServers.{asked_from}
 use Rattle.gathering.specs.Servers.{AreServers}
 use Rattle.gathering.specs.declared.position.Position.{Position}

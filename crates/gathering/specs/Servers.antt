@@ -4,7 +4,7 @@ use Rattle.clay_grid.specs.Shape.{Shape}
 use Rattle.store_core.specs.Lists.{is_among}
 use Rattle.store_core.specs.Told.{Lost}
 use Rattle.store_core.specs.GatheringParts.{chunks_in_range}
-use Rattle.store_resume.specs.Stage.{Aim}
+use Rattle.run_laws.specs.Stage.{Aim}
 
 -- none stands there twice
 abbrev pub AreApart : List ℕ → Type 0

@@ -3,7 +3,7 @@ ghost use Rattle.std.specs.Prelude.{◌≡◌, ◌<◌, ℕ, false, All, IfOk, I
 ghost use Rattle.clay_grid.specs.Shape.{chunk_count, layer_count};
 ghost use Rattle.store_core.specs.Told.{Told};
 ghost use Rattle.store_core.specs.GatheringParts.{chunks_in_range};
-ghost use Rattle.store_resume.specs.Stage.{Aim, seen_of};
+ghost use Rattle.run_laws.specs.Stage.{Aim, seen_of};
 ghost use Rattle.gathering.specs.Courses.{new_course, IsAskingStage, is_look, is_fetch, has_bytes, is_lost, layers_asked, server_of, after_answer};
 ghost use Rattle.gathering.specs.Aims.{target_of, IfRange, IsTooMany, ending_at};
 ghost use Rattle.store_core.specs.Told.{lost_in};

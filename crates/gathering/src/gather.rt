@@ -2,7 +2,7 @@
 ghost use Rattle.std.specs.Prelude.{◌≡◌, ◌<◌, ◌≤◌, ℕ, true, false, List, None, Some, IfOk, IsOk, is_err, length, map, replicate};
 ghost use Rattle.clay_grid.specs.Shape.{chunk_count, stripe_length};
 ghost use Rattle.store_core.specs.Told.{Told};
-ghost use Rattle.store_resume.specs.Stage.{Aim};
+ghost use Rattle.run_laws.specs.Stage.{Aim};
 ghost use Rattle.chunk_server.specs.Core.{core_of};
 ghost use Rattle.gathering.specs.Courses.{IsAskingStage, new_course, server_of, is_look, is_fetch};
 ghost use Rattle.gathering.specs.Aims.{IsTooMany};

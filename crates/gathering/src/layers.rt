@@ -4,7 +4,7 @@ ghost use Rattle.clay_grid.specs.Shape.{layer_count};
 ghost use Rattle.clay_grid.specs.Repair.{all_layers, layers_in_range};
 ghost use Rattle.store_core.specs.GatheringParts.{chunks_in_range, layers_for};
 ghost use Rattle.store_core.specs.Told.{Seen};
-ghost use Rattle.store_resume.specs.StageAfter.{wanted_layers};
+ghost use Rattle.run_laws.specs.StageAfter.{wanted_layers};
 ghost use Rattle.gathering.specs.Aims.{aim_of};
 
 use crate::aim::CourseAim;

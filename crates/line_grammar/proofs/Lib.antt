@@ -7,3 +7,4 @@ pub mod ByteLaws
 pub mod CallLaws
 pub mod TextLaws
 pub mod HandedOn
+mod Pieces

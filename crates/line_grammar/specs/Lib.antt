@@ -8,3 +8,5 @@ pub mod Forms
 pub mod Bounds
 pub mod Reads
 pub mod ReadsLine
+pub mod StripeLines
+pub mod ChunkEntries

@@ -7,3 +7,8 @@ pub mod NodeCounts
 pub mod KnownNodes
 pub mod CountLaws
 pub mod RangeLaws
+pub mod Marking
+pub mod ErasedLists
+pub mod ErasedServing
+pub mod ErasedDetermining
+pub mod Gone

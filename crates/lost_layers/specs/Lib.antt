@@ -4,3 +4,9 @@ pub mod Determined
 pub mod Ranges
 pub mod Refused
 pub mod Placing
+pub mod Erased
+pub mod ErasedLayers
+pub mod ErasedPieces
+pub mod ErasedRuns
+pub mod Unknown
+pub mod Without

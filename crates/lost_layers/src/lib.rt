@@ -1,18 +1,34 @@
-//! Layers of a lost chunk from few subchunks of the others, while all others are there.
+//! Layers of a lost chunk from few subchunks of the others, while all others are there, or others are missing too.
 #![tactic(auto)]
 
+mod erased;
 mod fault;
 mod laws;
+mod laws_of_missing;
+mod marked;
+mod missing;
+mod missing_fault;
+#[cfg(test)]
+mod missing_tests;
 mod pieces;
+mod pieces_of_missing;
 mod placed;
 mod run;
 #[cfg(test)]
 mod tests;
+mod unknown;
 
+pub use erased::ErasedRun;
 pub use fault::LostFault;
 pub use laws::{
     pieces_determine_runs, pieces_of_one_layer, ranges_are_coded, reads_stay_within_repairs,
 };
+pub use laws_of_missing::missing_pieces_determine;
+pub use marked::MarkedRun;
+pub use missing::{missing_count, missing_pieces, readable_run};
+pub use missing_fault::MissingFault;
 pub use pieces::{count_of_run, lost_count, lost_pieces, pieces_of_run};
+pub use pieces_of_missing::{SolvedRun, erased_pieces};
 pub use placed::PlacedRun;
 pub use run::{LostPiece, LostRun};
+pub use unknown::unknown_nodes;

@@ -1,1 +1,3 @@
 pub mod ReadLaws
+pub mod MissingReadLaws
+pub mod Marked

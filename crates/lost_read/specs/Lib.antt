@@ -2,3 +2,9 @@ pub mod Read
 pub mod Refused
 pub mod Plan
 pub mod Readings
+pub mod MissingRead
+pub mod MissingRefused
+pub mod MissingPlan
+pub mod MissingReadings
+pub mod Values
+pub mod There

@@ -20,8 +20,8 @@ use Rattle.stripe_dir.specs.Sealed.{Sealed}
 use Rattle.stripe_dir.specs.Seats.{client_seat, repairer_seat}
 use Rattle.call_steps.specs.CallOf.{CallOf, act_of}
 use Rattle.call_steps.specs.Steps.{stepped_at_directory, stepped_at_server, at_directory_by, at_server_by}
-use Rattle.call_laws.proofs.Tokens.{tokens_stay}
-use Rattle.call_laws.proofs.Agreement.{agreement_stays}
+use Rattle.call_steps.proofs.Tokens.{tokens_stay}
+use Rattle.call_steps.proofs.Agreement.{agreement_stays}
 use Rattle.machine_walks.specs.Waits.{AllWait, HasBegun}
 use Rattle.machine_walks.specs.Whole.{AreWhole, Grows}
 use Rattle.machine_walks.specs.Places.{PlacesOf, ArePlaces}

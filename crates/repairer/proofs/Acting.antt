@@ -4,9 +4,9 @@ use Rattle.std.specs.Prelude.{IsTrue}
 use Rattle.clay_grid.specs.Shape.{Shape}
 use Rattle.store_core.specs.NextAct.{Job, rebuild_job}
 use Rattle.store_core.specs.Told.{Seen as CoreSeen}
-use Rattle.store_resume.specs.Stage.{Aim, Stage as CoreStage}
-use Rattle.store_resume.specs.State.{State}
-use Rattle.store_resume.specs.StateActs.{act_at}
+use Rattle.run_laws.specs.Stage.{Aim, Stage as CoreStage}
+use Rattle.run_laws.specs.State.{State}
+use Rattle.run_laws.specs.StateActs.{act_at}
 use Rattle.version_seal.specs.Sealed.{ChunkOf}
 use Rattle.gathering.specs.Courses.{IsAskingStage}
 use Rattle.gathering.specs.Gathers.{GatherOf, question_at}

@@ -5,8 +5,8 @@ use Rattle.store_core.specs.NextAct.{Job, rebuild_job}
 use Rattle.store_core.specs.Told.{Seen as CoreSeen}
 use Rattle.store_core.specs.Note.{note_of_rebuild}
 use Rattle.store_core.specs.Server.{Server}
-use Rattle.store_resume.specs.Stage.{Aim, Stage as CoreStage}
-use Rattle.store_resume.specs.StateActs.{act_at}
+use Rattle.run_laws.specs.Stage.{Aim, Stage as CoreStage}
+use Rattle.run_laws.specs.StateActs.{act_at}
 use Rattle.gathering.specs.Courses.{IsAskingStage}
 use Rattle.call_steps.specs.declared.need.Need.TheVariants as need
 use Rattle.gathering.specs.Gathers.{GatherOf, stepped, told_at, told_by}

@@ -8,9 +8,9 @@ use Rattle.store_core.specs.Note.{note_of_rebuild}
 use Rattle.store_core.specs.Server.{Server, raised_by, at_server}
 use Rattle.store_core.specs.Agreement.{ActorToken}
 use Rattle.store_core.proofs.Places.{length-change_at}
-use Rattle.store_resume.specs.Stage.{Aim, Asking, Stage as CoreStage}
-use Rattle.store_resume.specs.StageAfter.{stage_after, server_asked, step_asked}
-use Rattle.store_resume.specs.States.{open_state}
+use Rattle.run_laws.specs.Stage.{Aim, Asking, Stage as CoreStage}
+use Rattle.run_laws.specs.StageAfter.{stage_after, server_asked, step_asked}
+use Rattle.run_laws.specs.States.{open_state}
 use Rattle.version_seal.specs.Entry.{BookOf, StampOf}
 use Rattle.call_steps.specs.declared.seen.Seen.{Seen}
 use Rattle.gathering.specs.Aims.{ending_at}

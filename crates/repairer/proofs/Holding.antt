@@ -5,8 +5,8 @@ use Rattle.clay_grid.specs.Shape.{Shape}
 use Rattle.store_core.specs.Note.{Note, note_of_rebuild}
 use Rattle.store_core.specs.NextAct.{Job}
 use Rattle.store_core.specs.Agreement.{ActorToken}
-use Rattle.store_resume.specs.State.{State}
-use Rattle.store_resume.specs.StateActs.{act_at}
+use Rattle.run_laws.specs.State.{State}
+use Rattle.run_laws.specs.StateActs.{act_at}
 use Rattle.call_steps.specs.declared.need.Need.{Need}
 use Rattle.call_steps.specs.declared.need.Need.TheVariants as need
 use Rattle.call_steps.specs.TokenAfter.{IsSeated, IfInCall}

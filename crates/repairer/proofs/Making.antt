@@ -5,8 +5,8 @@ use Rattle.store_core.specs.Note.{Note, Kind, note_of_rebuild}
 use Rattle.store_core.specs.Act.{Act, DirectoryStep}
 use Rattle.store_core.specs.Directory.{Directory}
 use Rattle.store_core.specs.Agreement.{ActorToken}
-use Rattle.store_resume.specs.State.{State}
-use Rattle.store_resume.specs.StateActs.{act_of_state}
+use Rattle.run_laws.specs.State.{State}
+use Rattle.run_laws.specs.StateActs.{act_of_state}
 use Rattle.call_steps.specs.TokenAfter.{MayMake}
 use Rattle.call_steps.specs.CallOf.{CallOf, act_of}
 use Rattle.call_steps.specs.Steps.{MayMakeNext, IsUndueOncePlaced}

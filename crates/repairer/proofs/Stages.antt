@@ -2,7 +2,7 @@
 use Rattle.std.proofs.Common.{◌≡◌, ℕ, Bool, true, false, Option, refl, sym, ap, subst, ◌∙◌}
 use Rattle.store_core.specs.Act.{Act}
 use Rattle.store_core.specs.Told.{Seen as CoreSeen}
-use Rattle.store_resume.specs.Stage.{Stage as CoreStage}
+use Rattle.run_laws.specs.Stage.{Stage as CoreStage}
 use Rattle.call_steps.specs.declared.need.Need.TheVariants as need
 use Rattle.gathering.specs.Courses.{IsAskingStage}
 use Rattle.gathering.specs.Gathers.{GatherOf}

@@ -10,9 +10,9 @@ use Rattle.store_core.specs.AtDirectory.{at_directory}
 use Rattle.store_core.specs.Server.{Server, at_server}
 use Rattle.store_core.specs.Agreement.{ActorToken}
 use Rattle.store_core.specs.Tokens.{actor_of}
-use Rattle.store_resume.specs.State.{State}
-use Rattle.store_resume.specs.States.{open_state}
-use Rattle.store_resume.specs.GatherAfter.{ending_after, confirming_after}
+use Rattle.run_laws.specs.State.{State}
+use Rattle.run_laws.specs.States.{open_state}
+use Rattle.run_laws.specs.GatherAfter.{ending_after, confirming_after}
 use Rattle.version_seal.specs.Entry.{BookOf}
 use Rattle.call_steps.specs.CallOf.{heard}
 use Rattle.stripe_dir.specs.declared.answers.Ended.{Ended}

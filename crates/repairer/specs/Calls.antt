@@ -4,7 +4,7 @@ use Rattle.clay_grid.specs.Shape.{chunk_count}
 use Rattle.store_map.specs.declared.call.Rebuild.{Rebuild}
 use Rattle.store_core.specs.NextAct.{rebuild_job}
 use Rattle.store_core.specs.Agreement.{Seat, ActorToken}
-use Rattle.store_resume.specs.State.{State}
+use Rattle.run_laws.specs.State.{State}
 use Rattle.version_seal.specs.Entry.{BookOf}
 use Rattle.call_steps.specs.CallOf.{CallOf, tries_by}
 

@@ -1,7 +1,7 @@
 -- The fields of a rebuild as callers see them.
 use Rattle.std.specs.Prelude.{ℕ, List, replicate, Option, None, Some}
 use Rattle.clay_grid.specs.Shape.{chunk_count}
-use Rattle.store_resume.specs.State.{State}
+use Rattle.run_laws.specs.State.{State}
 use Rattle.call_steps.specs.CallOf.{CallOf}
 use Rattle.call_steps.specs.Outcomes.{repair_outcome_of}
 use Rattle.repairer.specs.declared.stage.Stage.{Stage}

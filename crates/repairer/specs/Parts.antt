@@ -5,7 +5,7 @@ use Rattle.store_core.specs.Note.{Note}
 use Rattle.store_core.specs.Act.{DirectoryStep}
 use Rattle.store_core.specs.Agreement.{ActorToken}
 use Rattle.store_core.specs.Tokens.{MayLook}
-use Rattle.store_resume.specs.Stage.{Aim}
+use Rattle.run_laws.specs.Stage.{Aim}
 use Rattle.version_seal.specs.Entry.{BookOf}
 use Rattle.version_seal.specs.Sealed.{ChunkOf}
 use Rattle.call_steps.specs.declared.seen.Seen.{Seen}

@@ -3,9 +3,9 @@ use Rattle.std.specs.Prelude.{ℕ, [], Option, None, Some}
 use Rattle.clay_grid.specs.Shape.{Shape}
 use Rattle.store_core.specs.Told.{Seen as CoreSeen}
 use Rattle.store_core.specs.Act.{Outcome as CoreOutcome}
-use Rattle.store_resume.specs.Stage.{Aim, Stage as CoreStage}
-use Rattle.store_resume.specs.State.{Sequel, State}
-use Rattle.store_resume.specs.States.{stage_state}
+use Rattle.run_laws.specs.Stage.{Aim, Stage as CoreStage}
+use Rattle.run_laws.specs.State.{Sequel, State}
+use Rattle.run_laws.specs.States.{stage_state}
 use Rattle.call_steps.specs.declared.seen.Seen.{Seen}
 use Rattle.stripe_dir.specs.Answers.{seen_in}
 use Rattle.gathering.specs.Courses.{CourseOf, new_course}

@@ -1,8 +1,8 @@
 //! A rebuild's steps at the directory.
 ghost use Rattle.std.specs.Prelude.{◌≡◌, Some};
 ghost use Rattle.store_core.specs.Agreement.{Agrees};
-ghost use Rattle.store_resume.specs.State.{State};
-ghost use Rattle.store_resume.specs.GatherAfter.{ending_after};
+ghost use Rattle.run_laws.specs.State.{State};
+ghost use Rattle.run_laws.specs.GatherAfter.{ending_after};
 ghost use Rattle.stripe_dir.specs.Answers.{told_ended};
 ghost use Rattle.call_steps.specs.Outcomes.{repair_outcome_of};
 ghost use Rattle.call_steps.specs.Answers.{directory_answer};

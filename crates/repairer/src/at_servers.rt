@@ -1,8 +1,8 @@
 //! A rebuild's steps at servers: the questions of its gathering, and the install of its chunk.
 ghost use Rattle.std.specs.Prelude.{◌≡◌, List, Some, if◌then◌else◌};
 ghost use Rattle.store_core.specs.Gathering.{Part};
-ghost use Rattle.store_resume.specs.State.{Sequel, State};
-ghost use Rattle.store_resume.specs.States.{stage_state};
+ghost use Rattle.run_laws.specs.State.{Sequel, State};
+ghost use Rattle.run_laws.specs.States.{stage_state};
 ghost use Rattle.gathering.specs.Aims.{ending_at};
 ghost use Rattle.chunk_server.specs.Core.{core_of};
 ghost use Rattle.chunk_server.specs.State.{IsSame};

@@ -1,7 +1,7 @@
 //! What a rebuild does between two steps: it makes its gathering, and later its chunk.
 ghost use Rattle.std.specs.Prelude.{◌≡◌, ◌<◌, Some, length, replicate, IfOk};
 ghost use Rattle.clay_grid.specs.Shape.{chunk_count};
-ghost use Rattle.store_resume.specs.Stage.{Aim};
+ghost use Rattle.run_laws.specs.Stage.{Aim};
 ghost use Rattle.stripe_dir.specs.Answers.{seen_in};
 ghost use Rattle.gathering.specs.Gathers.{new_gather, need_of as need_of_gather};
 ghost use Rattle.call_steps.specs.Steps.{need_of, coded};

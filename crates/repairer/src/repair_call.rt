@@ -5,7 +5,7 @@ ghost use Rattle.store_core.specs.Act.{DirectoryStep};
 ghost use Rattle.store_core.specs.Note.{note_of_rebuild};
 ghost use Rattle.store_core.specs.Agreement.{Agrees, ActorToken};
 ghost use Rattle.store_core.specs.Tokens.{MayLook};
-ghost use Rattle.store_resume.specs.State.{State};
+ghost use Rattle.run_laws.specs.State.{State};
 ghost use Rattle.chunk_server.specs.Core.{core_of};
 ghost use Rattle.chunk_server.specs.State.{IsSame};
 ghost use Rattle.call_steps.specs.Steps.{IsServerBelow, need_of, LeadsTo, LeadsToAtServer, coded, HoldsItsPass};

@@ -16,15 +16,15 @@ use Rattle.world_laws.specs.Tokens.{first_token, token_of}
 use Rattle.actors.specs.Callers.{CallerOf, Knows}
 use Rattle.actors.specs.Steps.{MadeAtDirectory, MakesStep}
 use Rattle.turn_lock.specs.History.{Among, GoesOn, entries_of}
-use Rattle.place_laws.specs.Entries.{next_moment}
-use Rattle.place_laws.specs.Looks.{IsLookOfScript}
-use Rattle.place_laws.specs.Noted.{Noted, IsCaller, made_in, tokens_after}
-use Rattle.place_laws.specs.Numbers.{Counts, IsTurnOf}
-use Rattle.place_laws.specs.AtDirectory.{StandsAtDirectory}
-use Rattle.place_laws.specs.CallEntries.{directory_entry}
-use Rattle.place_laws.proofs.DirectoryAdding.{stamps_more}
-use Rattle.place_laws.proofs.DirectoryGiving.{token_seen, given_stands, given_made}
-use Rattle.place_laws.proofs.Most.{keeps_most}
+use Rattle.thread_laws.specs.Entries.{next_moment}
+use Rattle.thread_laws.specs.Looks.{IsLookOfScript}
+use Rattle.thread_laws.specs.Noted.{Noted, IsCaller, made_in, tokens_after}
+use Rattle.thread_laws.specs.Numbers.{Counts, IsTurnOf}
+use Rattle.thread_laws.specs.AtDirectory.{StandsAtDirectory}
+use Rattle.thread_laws.specs.CallEntries.{directory_entry}
+use Rattle.thread_laws.proofs.DirectoryAdding.{stamps_more}
+use Rattle.thread_laws.proofs.DirectoryGiving.{token_seen, given_stands, given_made}
+use Rattle.thread_laws.proofs.Most.{keeps_most}
 use Rattle.run_seats.specs.Before.{IsInCall, IsBeforeDirectory}
 use Rattle.run_seats.specs.Seen.{seen_there}
 use Rattle.run_seats.specs.Stepped.{entry_at_directory, HasSteppedAtDirectory}

@@ -8,8 +8,8 @@ use Rattle.call_steps.specs.Steps.{need_of}
 use Rattle.call_machine.specs.Calls.{MachineOf}
 use Rattle.actors.specs.Callers.{CallerOf}
 use Rattle.actors.specs.Steps.{NeedsNow}
-use Rattle.place_laws.specs.Noted.{Noted}
-use Rattle.place_laws.specs.Numbers.{IsTurnOf}
+use Rattle.thread_laws.specs.Noted.{Noted}
+use Rattle.thread_laws.specs.Numbers.{IsTurnOf}
 use Rattle.run_seats.specs.Before.{IsInCall, IsBeforeServer, IsBeforeDirectory}
 use Rattle.run_seats.specs.Fixed.{counts_of, counts_there}
 use Rattle.run_seats.specs.declared.server_box.ServerIdentity.{ServerIdentity}

@@ -25,13 +25,13 @@ use Rattle.actors.specs.Callers.{CallerOf, Knows, work_of}
 use Rattle.actors.specs.Owing.{AreServed}
 use Rattle.actors.specs.Steps.{Concludes, IsReady, in_work}
 use Rattle.turn_lock.specs.TurnState.{TurnState}
-use Rattle.place_laws.specs.HasMade.{HasMadeAtServer, HasMadeAtDirectory}
-use Rattle.place_laws.specs.Noted.{Noted, made_in}
-use Rattle.place_laws.specs.Numbers.{IsTurnOf}
-use Rattle.place_laws.specs.Logs.{Logs, counts_of, own_at}
-use Rattle.place_laws.specs.Measure.{left_at, bound_of}
-use Rattle.place_laws.specs.Stepped.{CallsOn, with_log, with_notes}
-use Rattle.place_laws.proofs.Placing.{callers_go_on_at_servers, callers_go_on_at_directory}
+use Rattle.thread_laws.specs.HasMade.{HasMadeAtServer, HasMadeAtDirectory}
+use Rattle.thread_laws.specs.Noted.{Noted, made_in}
+use Rattle.thread_laws.specs.Numbers.{IsTurnOf}
+use Rattle.thread_laws.specs.Logs.{Logs, counts_of, own_at}
+use Rattle.thread_laws.specs.Measure.{left_at, bound_of}
+use Rattle.thread_laws.specs.Stepped.{CallsOn, with_log, with_notes}
+use Rattle.thread_laws.proofs.Placing.{callers_go_on_at_servers, callers_go_on_at_directory}
 use Rattle.run_seats.specs.Fixed.{max_in}
 use Rattle.run_seats.specs.Owing.{OwesBySteps}
 use Rattle.run_seats.specs.Places.{HasTurns, last_by, seen_by}

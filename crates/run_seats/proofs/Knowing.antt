@@ -5,7 +5,7 @@ use mathlib.Core.List.{IsPrefix}
 use Rattle.store_map.specs.declared.script.Script.{Script}
 use Rattle.store_core.specs.Sound.{IsSound}
 use Rattle.store_core.specs.History.{call_of}
-use Rattle.content_laws.specs.Contents.{HasBytes}
+use Rattle.run_laws.specs.Contents.{HasBytes}
 use Rattle.version_seal.specs.Entry.{BookOf, StampOf}
 use Rattle.stripe_dir.specs.Sealed.{Sealed}
 use Rattle.stripe_dir.specs.Stamped.{HasStamps, HaveContents}
@@ -14,7 +14,7 @@ use Rattle.client_patch.proofs.Padding.{bytes_are_padded}
 use Rattle.call_machine.specs.Calls.{MachineOf, KnowsFor}
 use Rattle.call_machine.proofs.Knowing.{more_stamps_are_known}
 use Rattle.actors.specs.Callers.{CallerOf, Knows}
-use Rattle.place_laws.specs.Noted.{Noted, stamps_in}
+use Rattle.thread_laws.specs.Noted.{Noted, stamps_in}
 use Rattle.run_seats.specs.Seen.{seen_there}
 
 stamps_append : (log more : List (ℕ × Noted)) → stamps_in (log ++ more) ≡ stamps_in log ++ stamps_in more

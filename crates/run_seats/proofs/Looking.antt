@@ -16,13 +16,13 @@ use Rattle.store_core.specs.History.{call_of}
 use Rattle.store_core.specs.NextAct.{Job, job_of, rebuild_job}
 use Rattle.store_core.specs.Note.{Kind}
 use Rattle.store_core.specs.Tokens.{actor_of}
-use Rattle.store_resume.specs.Stage.{Aim, Stage}
-use Rattle.store_resume.specs.Stages.{first_stage}
-use Rattle.store_resume.specs.State.{Sequel, State}
-use Rattle.store_resume.specs.StateActs.{act_at, parts_act, sequel_act, stage_act, start_act}
+use Rattle.run_laws.specs.Stage.{Aim, Stage}
+use Rattle.run_laws.specs.Stages.{first_stage}
+use Rattle.run_laws.specs.State.{Sequel, State}
+use Rattle.run_laws.specs.StateActs.{act_at, parts_act, sequel_act, stage_act, start_act}
 use Rattle.call_steps.specs.CallOf.{CallOf, act_of}
 use Rattle.actors.specs.Callers.{PartOf, StandsIn, who_of, work_of}
-use Rattle.place_laws.specs.Looks.{IsLookOfScript, IsOfItsCall}
+use Rattle.thread_laws.specs.Looks.{IsLookOfScript, IsOfItsCall}
 
 -- ---- the looks of a job are of its note, and a rebuild makes none
 abbrev IsClients : Kind → Type 0

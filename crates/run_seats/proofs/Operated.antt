@@ -7,9 +7,9 @@ use Rattle.thread_laws.specs.MadeSteps.{MadeStep}
 use Rattle.version_seal.specs.Entry.{BookOf}
 use Rattle.stripe_dir.specs.Sealed.{Sealed}
 use Rattle.call_machine.specs.Calls.{MachineOf}
-use Rattle.place_laws.specs.Noted.{Noted, IsCaller}
-use Rattle.place_laws.specs.Operated.{IsOperated}
-use Rattle.place_laws.proofs.Operated.{callers_differ, calls_plain, IsOthers}
+use Rattle.thread_laws.specs.Noted.{Noted, IsCaller}
+use Rattle.thread_laws.specs.Operated.{IsOperated}
+use Rattle.thread_laws.proofs.Operated.{callers_differ, calls_plain, IsOthers}
 use Rattle.run_seats.specs.Stepped.{entry_at_server, entry_at_directory}
 
 -- the same book and the same number

@@ -10,10 +10,10 @@ use Rattle.store_core.specs.ActPlace.{Place}
 use Rattle.thread_laws.specs.Lines.{operator_act}
 use Rattle.thread_laws.specs.MadeSteps.{MadeStep}
 use Rattle.turn_lock.specs.History.{entries_of}
-use Rattle.place_laws.specs.Entries.{steps_in}
-use Rattle.place_laws.specs.Noted.{Noted, made_in}
-use Rattle.place_laws.specs.Numbers.{IsTurnOf}
-use Rattle.place_laws.specs.Operated.{is_outage, IsNextThere}
+use Rattle.thread_laws.specs.Entries.{steps_in}
+use Rattle.thread_laws.specs.Noted.{Noted, made_in}
+use Rattle.thread_laws.specs.Numbers.{IsTurnOf}
+use Rattle.thread_laws.specs.Operated.{is_outage, IsNextThere}
 use Rattle.run_seats.specs.Fixed.{counts_of, counts_there}
 use Rattle.run_seats.specs.Plain.{IsLineAtServer, IsLineAtDirectory, line_step}
 use Rattle.run_seats.specs.declared.server_box.ServerIdentity.{ServerIdentity}

@@ -15,17 +15,17 @@ use Rattle.thread_laws.specs.Lines.{operator_act}
 use Rattle.thread_laws.specs.MadeSteps.{MadeStep, acts_at}
 use Rattle.thread_laws.specs.Threaded.{is_line, lines_of}
 use Rattle.turn_lock.specs.TurnState.{TurnState}
-use Rattle.place_laws.specs.Noted.{Noted}
-use Rattle.place_laws.specs.Numbers.{IsTurnOf}
-use Rattle.place_laws.specs.Callers.{IsOperating}
-use Rattle.place_laws.specs.Logs.{Logs, counts_of, log_of, own_at}
-use Rattle.place_laws.specs.Plain.{HasAddedAtServer, HasAddedAtDirectory}
-use Rattle.place_laws.specs.Stepped.{with_log}
+use Rattle.thread_laws.specs.Noted.{Noted}
+use Rattle.thread_laws.specs.Numbers.{IsTurnOf}
+use Rattle.thread_laws.specs.Callers.{IsOperating}
+use Rattle.thread_laws.specs.Logs.{Logs, counts_of, log_of, own_at}
+use Rattle.thread_laws.specs.Plain.{HasAddedAtServer, HasAddedAtDirectory}
+use Rattle.thread_laws.specs.Stepped.{with_log}
 use Rattle.turn_lock.specs.History.{entries_of}
-use Rattle.place_laws.specs.Entries.{steps_in}
-use Rattle.place_laws.specs.Operated.{IsNextThere}
-use Rattle.place_laws.proofs.Operated.{lines_are_next}
-use Rattle.place_laws.proofs.Plain.{operating_goes_on}
+use Rattle.thread_laws.specs.Entries.{steps_in}
+use Rattle.thread_laws.specs.Operated.{IsNextThere}
+use Rattle.thread_laws.proofs.Operated.{lines_are_next}
+use Rattle.thread_laws.proofs.Plain.{operating_goes_on}
 use Rattle.run_seats.specs.Places.{HasTurns, directory_of, last_by, seen_by, server_of}
 use Rattle.run_seats.specs.Plain.{HasOperatedAtServer, IsLineAtServer, IsLineAtDirectory, IsOfServer, line_step}
 use Rattle.run_seats.specs.SeatedPlain.{MayOperate, OperatesOn}

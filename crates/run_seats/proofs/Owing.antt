@@ -13,13 +13,13 @@ use Rattle.store_core.specs.Tokens.{actor_of}
 use Rattle.store_core.specs.Work.{Ended}
 use Rattle.thread_laws.specs.AtPlaces.{after_all, directory_act, directory_next, DirectoryAnswers}
 use Rattle.thread_laws.specs.MadeSteps.{MadeStep}
-use Rattle.store_resume.specs.State.{CallState, State}
+use Rattle.run_laws.specs.State.{CallState, State}
 use Rattle.version_seal.specs.Entry.{BookOf}
 use Rattle.stripe_dir.specs.Stamped.{HaveContents}
 use Rattle.call_steps.specs.declared.need.Need.TheVariants as need
 use Rattle.call_steps.specs.CallOf.{CallOf, act_of}
 use Rattle.call_steps.specs.Steps.{coded, need_of}
-use Rattle.call_laws.proofs.Needs.{needs_tell_acts}
+use Rattle.call_steps.proofs.Needs.{needs_tell_acts}
 use Rattle.call_machine.specs.Kinds.{Asked, Machine, asked_job, machine_of, IfReads}
 use Rattle.call_machine.specs.Calls.{MachineOf, drawn_by}
 use Rattle.call_machine.specs.Owes.{OwesBy}
@@ -32,10 +32,10 @@ use Rattle.world_laws.specs.ActorAfter.{IsCallBefore, actor_after, actor_after_b
 use Rattle.actors.specs.Callers.{PartOf, CallerOf, IsOfScript, asked_at, work_of}
 use Rattle.actors.specs.Owing.{AreServed, left_by, owed_now}
 use Rattle.actors.specs.Steps.{IsCallOf, IsCodedCall}
-use Rattle.place_laws.specs.CallEntries.{directory_tells, made_by}
-use Rattle.place_laws.specs.Noted.{Noted, made_in}
-use Rattle.place_laws.specs.StepOwes.{IsAfter}
-use Rattle.place_laws.proofs.Stepping.{steps_keep_owing}
+use Rattle.thread_laws.specs.CallEntries.{directory_tells, made_by}
+use Rattle.thread_laws.specs.Noted.{Noted, made_in}
+use Rattle.thread_laws.specs.StepOwes.{IsAfter}
+use Rattle.thread_laws.proofs.Stepping.{steps_keep_owing}
 use Rattle.run_seats.specs.Owing.{OwesInWork, OwesBySteps}
 use Rattle.run_seats.specs.Stepped.{WasThere}
 

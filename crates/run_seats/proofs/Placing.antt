@@ -8,10 +8,10 @@ use Rattle.thread_laws.specs.MadeSteps.{MadeStep}
 use Rattle.dir_parts.proofs.Entries.{map-set, slice_get-map}
 use Rattle.turn_lock.specs.History.{Among}
 use Rattle.turn_lock.specs.TurnState.{TurnState}
-use Rattle.place_laws.specs.Noted.{Noted}
+use Rattle.thread_laws.specs.Noted.{Noted}
 use Rattle.turn_lock.specs.Dealt.{IsTurnAt}
-use Rattle.place_laws.specs.Logs.{log_of}
-use Rattle.place_laws.specs.Stepped.{with_log}
+use Rattle.thread_laws.specs.Logs.{log_of}
+use Rattle.thread_laws.specs.Stepped.{with_log}
 use Rattle.run_seats.specs.Places.{HasTurns, seen_by, server_of, directory_of}
 use Rattle.run_seats.specs.Turns.{IsFree}
 use Rattle.run_seats.specs.declared.server_box.ServerIdentity.{ServerIdentity}

@@ -11,21 +11,21 @@ use Rattle.store_core.specs.Directory.{Directory}
 use Rattle.store_core.specs.History.{call_of}
 use Rattle.store_core.specs.Server.{Server, at_server}
 use Rattle.store_core.specs.Sound.{IsSound}
-use Rattle.content_laws.specs.Contents.{HasBytes}
-use Rattle.content_laws.proofs.ContentSteps.{steps_keep_bytes}
+use Rattle.run_laws.specs.Contents.{HasBytes}
+use Rattle.run_laws.proofs.ContentSteps.{steps_keep_bytes}
 use Rattle.thread_laws.specs.MadeSteps.{MadeStep}
 use Rattle.stripe_dir.specs.Sealed.{Sealed}
 use Rattle.turn_lock.specs.History.{Among, GoesOn, entries_of}
-use Rattle.place_laws.specs.AtDirectory.{StandsAtDirectory}
-use Rattle.place_laws.specs.AtServer.{StandsAtServer}
-use Rattle.place_laws.specs.Entries.{steps_in, next_moment}
-use Rattle.place_laws.specs.Noted.{Noted, IsCaller, made_in}
-use Rattle.place_laws.specs.Numbers.{Counts, IsTurnOf}
-use Rattle.place_laws.proofs.Adding.{moment_above, moment_after}
-use Rattle.place_laws.proofs.DirectoryAdding.{directories_stand_on}
-use Rattle.place_laws.proofs.Own.{one_more, prefix_more}
-use Rattle.place_laws.proofs.ServerAdding.{servers_stand_on}
-use Rattle.place_laws.specs.Plain.{HasAddedAtServer, HasAddedAtDirectory}
+use Rattle.thread_laws.specs.AtDirectory.{StandsAtDirectory}
+use Rattle.thread_laws.specs.AtServer.{StandsAtServer}
+use Rattle.thread_laws.specs.Entries.{steps_in, next_moment}
+use Rattle.thread_laws.specs.Noted.{Noted, IsCaller, made_in}
+use Rattle.thread_laws.specs.Numbers.{Counts, IsTurnOf}
+use Rattle.thread_laws.proofs.Adding.{moment_above, moment_after}
+use Rattle.thread_laws.proofs.DirectoryAdding.{directories_stand_on}
+use Rattle.thread_laws.proofs.PlaceOwn.{one_more, prefix_more}
+use Rattle.thread_laws.proofs.ServerAdding.{servers_stand_on}
+use Rattle.thread_laws.specs.Plain.{HasAddedAtServer, HasAddedAtDirectory}
 use Rattle.run_seats.specs.Plain.{plain_at_server, plain_at_directory}
 
 -- ---- at a server

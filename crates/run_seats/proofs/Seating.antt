@@ -28,17 +28,17 @@ use Rattle.actors.specs.Beginning.{MayGoOn}
 use Rattle.actors.specs.Callers.{PartOf, CallerOf, IsOfScript, Knows, StandsIn, calls_of, who_of, work_of}
 use Rattle.actors.specs.Steps.{IsAmpleFirst, IsReady, in_work}
 use Rattle.turn_lock.specs.TurnState.{TurnState}
-use Rattle.place_laws.specs.Looks.{IsLookOfScript}
-use Rattle.place_laws.specs.Noted.{IsCaller}
-use Rattle.place_laws.specs.Numbers.{IsTurnOf}
-use Rattle.place_laws.proofs.DirectoryAdding.{token_of_actor}
-use Rattle.place_laws.specs.Callers.{HeardLast}
-use Rattle.place_laws.specs.Calling.{KnowsItself}
-use Rattle.place_laws.specs.Logs.{counts_of, own_at}
-use Rattle.place_laws.specs.Room.{IsWorkOf, HasRoom}
-use Rattle.place_laws.specs.Stepped.{IsReady as IsReadyFor}
-use Rattle.place_laws.proofs.Calling.{calls_know_themselves}
-use Rattle.place_laws.proofs.Room.{actors_have_room}
+use Rattle.thread_laws.specs.Looks.{IsLookOfScript}
+use Rattle.thread_laws.specs.Noted.{IsCaller}
+use Rattle.thread_laws.specs.Numbers.{IsTurnOf}
+use Rattle.thread_laws.proofs.DirectoryAdding.{token_of_actor}
+use Rattle.thread_laws.specs.Callers.{HeardLast}
+use Rattle.thread_laws.specs.Calling.{KnowsItself}
+use Rattle.thread_laws.specs.Logs.{counts_of, own_at}
+use Rattle.thread_laws.specs.Room.{IsWorkOf, HasRoom}
+use Rattle.thread_laws.specs.Stepped.{IsReady as IsReadyFor}
+use Rattle.thread_laws.proofs.Calling.{calls_know_themselves}
+use Rattle.thread_laws.proofs.Room.{actors_have_room}
 use Rattle.run_seats.specs.Before.{IsInCall, IsBeforeServer, IsBeforeDirectory}
 use Rattle.run_seats.specs.Places.{seen_by, server_of, directory_of}
 use Rattle.run_seats.specs.Seated.{MayStep}

@@ -13,9 +13,9 @@ use Rattle.call_machine.specs.Calls.{MachineOf}
 use Rattle.actors.specs.Callers.{CallerOf, Knows}
 use Rattle.actors.specs.Steps.{MadeAtServer, MakesStep}
 use Rattle.turn_lock.specs.History.{Among, GoesOn}
-use Rattle.place_laws.specs.Numbers.{Counts, IsTurnOf}
-use Rattle.place_laws.specs.AtServer.{StandsAtServer}
-use Rattle.place_laws.proofs.ServerGiving.{given_stands, given_made}
+use Rattle.thread_laws.specs.Numbers.{Counts, IsTurnOf}
+use Rattle.thread_laws.specs.AtServer.{StandsAtServer}
+use Rattle.thread_laws.proofs.ServerGiving.{given_stands, given_made}
 use Rattle.run_seats.specs.Stepped.{entry_at_server, HasSteppedAtServer}
 
 -- the entry is under the number

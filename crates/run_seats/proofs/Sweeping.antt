@@ -12,13 +12,13 @@ use Rattle.store_core.specs.Sweep.{Sweeper}
 use Rattle.thread_laws.specs.MadeSteps.{MadeStep}
 use Rattle.stripe_dir.specs.Sealed.{Sealed}
 use Rattle.call_steps.specs.declared.need.Need.TheVariants as need
-use Rattle.call_laws.proofs.Needs.{server_in}
+use Rattle.call_steps.proofs.Needs.{server_in}
 use Rattle.sweeper.specs.Sweeps.{SweeperOf, act_of, need_at, need_of, at_directory_by, at_server_by, stepped_at_directory, stepped_at_server}
 use Rattle.turn_lock.specs.History.{Among, GoesOn}
-use Rattle.place_laws.specs.AtDirectory.{StandsAtDirectory}
-use Rattle.place_laws.specs.AtServer.{StandsAtServer}
-use Rattle.place_laws.specs.Noted.{Noted}
-use Rattle.place_laws.specs.Numbers.{Counts, IsTurnOf}
+use Rattle.thread_laws.specs.AtDirectory.{StandsAtDirectory}
+use Rattle.thread_laws.specs.AtServer.{StandsAtServer}
+use Rattle.thread_laws.specs.Noted.{Noted}
+use Rattle.thread_laws.specs.Numbers.{Counts, IsTurnOf}
 use Rattle.run_seats.specs.Plain.{plain_at_server, plain_at_directory, HasSweptAtServer, HasSweptAtDirectory, IsSweepAtServer, IsSweepAtDirectory}
 use Rattle.run_seats.specs.Fixed.{counts_of, counts_there}
 use Rattle.run_seats.specs.declared.server_box.ServerIdentity.{ServerIdentity}

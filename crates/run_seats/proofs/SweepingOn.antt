@@ -8,16 +8,16 @@ use Rattle.store_core.specs.ActPlace.{place_of}
 use Rattle.store_core.specs.Sweep.{next_sweep, after_sweep}
 use Rattle.thread_laws.specs.MadeSteps.{MadeStep}
 use Rattle.call_steps.specs.declared.need.Need.TheVariants as need
-use Rattle.call_laws.proofs.Needs.{server_in}
+use Rattle.call_steps.proofs.Needs.{server_in}
 use Rattle.sweeper.specs.Sweeps.{SweeperOf, act_of, heard, need_at, need_of}
 use Rattle.turn_lock.specs.TurnState.{TurnState}
-use Rattle.place_laws.specs.Noted.{Noted}
-use Rattle.place_laws.specs.Numbers.{IsTurnOf}
-use Rattle.place_laws.specs.Callers.{IsSweeping}
-use Rattle.place_laws.specs.Logs.{Logs, counts_of, log_of, own_at}
-use Rattle.place_laws.specs.Plain.{HasAddedAtServer}
-use Rattle.place_laws.specs.Stepped.{with_log, with_notes}
-use Rattle.place_laws.proofs.Plain.{sweeping_goes_on}
+use Rattle.thread_laws.specs.Noted.{Noted}
+use Rattle.thread_laws.specs.Numbers.{IsTurnOf}
+use Rattle.thread_laws.specs.Callers.{IsSweeping}
+use Rattle.thread_laws.specs.Logs.{Logs, counts_of, log_of, own_at}
+use Rattle.thread_laws.specs.Plain.{HasAddedAtServer}
+use Rattle.thread_laws.specs.Stepped.{with_log, with_notes}
+use Rattle.thread_laws.proofs.Plain.{sweeping_goes_on}
 use Rattle.run_seats.specs.Places.{HasTurns, directory_of, last_by, seen_by, server_of}
 use Rattle.run_seats.specs.Plain.{HasSweptAtServer, HasSweptAtDirectory, IsSweepAtServer, IsSweepAtDirectory}
 use Rattle.run_seats.specs.SeatedPlain.{IsSweeper, SweepsOn}

@@ -10,9 +10,9 @@ use Rattle.world_laws.specs.World.{steps_of}
 use Rattle.actors.specs.Callers.{CallerOf, Knows}
 use Rattle.actors.specs.Steps.{in_work}
 use Rattle.turn_lock.specs.History.{entries_of}
-use Rattle.place_laws.specs.Looks.{IsLookOfScript}
-use Rattle.place_laws.specs.Noted.{Noted, IsCaller, made_in, tokens_after}
-use Rattle.place_laws.specs.Numbers.{IsTurnOf}
+use Rattle.thread_laws.specs.Looks.{IsLookOfScript}
+use Rattle.thread_laws.specs.Noted.{Noted, IsCaller, made_in, tokens_after}
+use Rattle.thread_laws.specs.Numbers.{IsTurnOf}
 use Rattle.run_seats.specs.Fixed.{counts_of, counts_there}
 use Rattle.run_seats.specs.Seen.{seen_there}
 use Rattle.run_seats.specs.declared.server_box.ServerIdentity.{ServerIdentity}

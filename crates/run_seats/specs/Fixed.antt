@@ -3,12 +3,12 @@ use Rattle.std.specs.Prelude.{ℕ, List, Option, None, Some}
 use Rattle.store_core.specs.ActPlace.{Place}
 use Rattle.thread_laws.specs.MadeSteps.{MadeStep}
 use Rattle.chunk_server.specs.Core.{core_of}
-use Rattle.place_laws.specs.AtDirectory.{StandsAtDirectory}
-use Rattle.place_laws.specs.AtServer.{StandsAtServer}
-use Rattle.place_laws.specs.Entries.{steps_in}
-use Rattle.place_laws.specs.Noted.{Noted, made_in}
-use Rattle.place_laws.specs.Numbers.{Counts}
-use Rattle.place_laws.specs.Operated.{IsOperated}
+use Rattle.thread_laws.specs.AtDirectory.{StandsAtDirectory}
+use Rattle.thread_laws.specs.AtServer.{StandsAtServer}
+use Rattle.thread_laws.specs.Entries.{steps_in}
+use Rattle.thread_laws.specs.Noted.{Noted, made_in}
+use Rattle.thread_laws.specs.Numbers.{Counts}
+use Rattle.thread_laws.specs.Operated.{IsOperated}
 use Rattle.run_seats.specs.declared.server_box.ServerBox.{ServerBox}
 use Rattle.run_seats.specs.declared.server_box.ServerIdentity.{ServerIdentity}
 use Rattle.run_seats.specs.declared.directory_box.DirectoryBox.{DirectoryBox}

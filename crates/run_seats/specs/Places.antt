@@ -11,8 +11,8 @@ use Rattle.thread_laws.specs.MadeSteps.{MadeStep}
 use Rattle.version_seal.specs.Entry.{BookOf}
 use Rattle.turn_lock.specs.TurnState.{TurnState}
 use Rattle.turn_lock.specs.Dealt.{IsTurnAt}
-use Rattle.place_laws.specs.Logs.{Logs}
-use Rattle.place_laws.specs.Stepped.{last_own}
+use Rattle.thread_laws.specs.Logs.{Logs}
+use Rattle.thread_laws.specs.Stepped.{last_own}
 use Rattle.run_seats.specs.declared.directory_box.DirectoryIdentity.{DirectoryIdentity}
 use Rattle.run_seats.specs.declared.server_box.ServerIdentity.{ServerIdentity}
 use Rattle.run_seats.specs.declared.store.Store.{Store}

@@ -13,12 +13,12 @@ use Rattle.stripe_dir.specs.Sealed.{Sealed}
 use Rattle.call_steps.specs.declared.need.Need.TheVariants as need
 use Rattle.sweeper.specs.Sweeps.{SweeperOf, act_of, heard, need_of}
 use Rattle.turn_lock.specs.History.{entries_of}
-use Rattle.place_laws.specs.CallEntries.{server_tells, directory_tells}
-use Rattle.place_laws.specs.Entries.{steps_in, next_moment}
-use Rattle.place_laws.specs.Noted.{Noted, made_in}
-use Rattle.place_laws.specs.Numbers.{IsTurnOf}
-use Rattle.place_laws.specs.Operated.{IsNextThere}
-use Rattle.place_laws.specs.Plain.{plain_step, HasAddedAtServer, HasAddedAtDirectory}
+use Rattle.thread_laws.specs.CallEntries.{server_tells, directory_tells}
+use Rattle.thread_laws.specs.Entries.{steps_in, next_moment}
+use Rattle.thread_laws.specs.Noted.{Noted, made_in}
+use Rattle.thread_laws.specs.Numbers.{IsTurnOf}
+use Rattle.thread_laws.specs.Operated.{IsNextThere}
+use Rattle.thread_laws.specs.Plain.{plain_step, HasAddedAtServer, HasAddedAtDirectory}
 use Rattle.run_seats.specs.Fixed.{counts_of, counts_there}
 use Rattle.run_seats.specs.declared.server_box.ServerIdentity.{ServerIdentity}
 use Rattle.run_seats.specs.declared.directory_box.DirectoryIdentity.{DirectoryIdentity}

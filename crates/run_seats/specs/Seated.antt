@@ -6,11 +6,11 @@ use Rattle.store_map.specs.declared.script.Script.{Script}
 use Rattle.store_core.specs.Work.{has_step}
 use Rattle.world_laws.specs.Known.{calling_of}
 use Rattle.actors.specs.Callers.{Knows, StandsIn, who_of, work_of}
-use Rattle.place_laws.specs.Noted.{made_in}
-use Rattle.place_laws.specs.Numbers.{IsTurnOf}
-use Rattle.place_laws.specs.Callers.{IsCalling}
-use Rattle.place_laws.specs.Logs.{counts_of, own_at}
-use Rattle.place_laws.specs.Measure.{left_at, bound_of}
+use Rattle.thread_laws.specs.Noted.{made_in}
+use Rattle.thread_laws.specs.Numbers.{IsTurnOf}
+use Rattle.thread_laws.specs.Callers.{IsCalling}
+use Rattle.thread_laws.specs.Logs.{counts_of, own_at}
+use Rattle.thread_laws.specs.Measure.{left_at, bound_of}
 use Rattle.run_seats.specs.Owing.{OwesBySteps}
 use Rattle.run_seats.specs.Places.{IsStore, HasTurns, seen_by}
 use Rattle.run_seats.specs.Seen.{seen_there}

@@ -6,9 +6,9 @@ use Rattle.store_map.specs.declared.actor.Token.{Token}
 use Rattle.store_core.specs.Act.{Act, DirectoryStep}
 use Rattle.thread_laws.specs.Lines.{operator_act}
 use Rattle.thread_laws.specs.Threaded.{lines_of}
-use Rattle.place_laws.specs.Numbers.{IsTurnOf}
-use Rattle.place_laws.specs.Callers.{IsSweeping, IsOperating}
-use Rattle.place_laws.specs.Logs.{counts_of, own_at}
+use Rattle.thread_laws.specs.Numbers.{IsTurnOf}
+use Rattle.thread_laws.specs.Callers.{IsSweeping, IsOperating}
+use Rattle.thread_laws.specs.Logs.{counts_of, own_at}
 use Rattle.run_seats.specs.Places.{IsStore, HasTurns, seen_by}
 use Rattle.run_seats.specs.Plain.{IsOfServer, line_step}
 use Rattle.run_seats.specs.declared.seated_operator.SeatedOperator.{SeatedOperator}

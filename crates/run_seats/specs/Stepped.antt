@@ -11,12 +11,12 @@ use Rattle.call_steps.specs.Steps.{stepped_at_directory, stepped_at_server}
 use Rattle.call_machine.specs.Calls.{MachineOf, drawn_by, owed_by}
 use Rattle.actors.specs.Callers.{CallerOf, Knows}
 use Rattle.actors.specs.Steps.{Concludes}
-use Rattle.place_laws.specs.AtDirectory.{StandsAtDirectory}
-use Rattle.place_laws.specs.CallEntries.{directory_entry, directory_tells, made_by, server_entry}
-use Rattle.place_laws.specs.HasMade.{HasMadeAtServer, HasMadeAtDirectory}
-use Rattle.place_laws.specs.Noted.{Noted}
-use Rattle.place_laws.specs.Numbers.{Counts}
-use Rattle.place_laws.specs.SomeStep.{some_step, some_note}
+use Rattle.thread_laws.specs.AtDirectory.{StandsAtDirectory}
+use Rattle.thread_laws.specs.CallEntries.{directory_entry, directory_tells, made_by, server_entry}
+use Rattle.thread_laws.specs.HasMade.{HasMadeAtServer, HasMadeAtDirectory}
+use Rattle.thread_laws.specs.Noted.{Noted}
+use Rattle.thread_laws.specs.Numbers.{Counts}
+use Rattle.thread_laws.specs.SomeStep.{some_step, some_note}
 use Rattle.run_seats.specs.Seen.{seen_there}
 
 -- the entry of the step of a call in work, which left it so

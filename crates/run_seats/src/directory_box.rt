@@ -1,9 +1,9 @@
 //! The directory behind a lock.
 ghost use Rattle.std.specs.Prelude.{◌≡◌};
 ghost use Rattle.store_core.specs.ActPlace.{Place};
-ghost use Rattle.place_laws.specs.AtDirectory.{StandsAtDirectory};
-ghost use Rattle.place_laws.specs.Noted.{made_in};
-ghost use Rattle.place_laws.specs.Operated.{IsOperated};
+ghost use Rattle.thread_laws.specs.AtDirectory.{StandsAtDirectory};
+ghost use Rattle.thread_laws.specs.Noted.{made_in};
+ghost use Rattle.thread_laws.specs.Operated.{IsOperated};
 
 use std::marker::Model;
 use stripe_dir::Directory;
@@ -16,8 +16,8 @@ pub struct DirectoryNote {
 }
 
 impl Model for DirectoryNote {
-    ghost use Rattle.place_laws.specs.Noted.{Noted};
-    ghost use Rattle.place_laws.specs.SomeStep.{some_note};
+    ghost use Rattle.thread_laws.specs.Noted.{Noted};
+    ghost use Rattle.thread_laws.specs.SomeStep.{some_note};
 
     ghost Value = { Noted };
 

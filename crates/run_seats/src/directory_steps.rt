@@ -1,6 +1,6 @@
 //! Steps of callers at the directory.
 ghost use Rattle.std.specs.Prelude.{◌≡◌, ◌∷◌, ◌++◌, [], ℕ};
-ghost use Rattle.place_laws.specs.Noted.{Noted};
+ghost use Rattle.thread_laws.specs.Noted.{Noted};
 ghost use Rattle.run_seats.specs.declared.gate.Place.TheVariants as place;
 ghost use Rattle.run_seats.specs.Before.{IsBeforeDirectory};
 ghost use Rattle.run_seats.specs.Turns.{IsFree, IsHolding, gave};

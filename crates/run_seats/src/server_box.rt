@@ -2,9 +2,9 @@
 ghost use Rattle.std.specs.Prelude.{◌≡◌};
 ghost use Rattle.chunk_server.specs.Core.{core_of};
 ghost use Rattle.store_core.specs.ActPlace.{Place};
-ghost use Rattle.place_laws.specs.AtServer.{StandsAtServer};
-ghost use Rattle.place_laws.specs.Entries.{steps_in};
-ghost use Rattle.place_laws.specs.Operated.{IsOperated};
+ghost use Rattle.thread_laws.specs.AtServer.{StandsAtServer};
+ghost use Rattle.thread_laws.specs.Entries.{steps_in};
+ghost use Rattle.thread_laws.specs.Operated.{IsOperated};
 
 use chunk_server::Server;
 use std::marker::Model;
@@ -18,7 +18,7 @@ pub struct StepNote {
 
 impl Model for StepNote {
     ghost use Rattle.thread_laws.specs.MadeSteps.{MadeStep};
-    ghost use Rattle.place_laws.specs.SomeStep.{some_step};
+    ghost use Rattle.thread_laws.specs.SomeStep.{some_step};
 
     ghost Value = { MadeStep };
 

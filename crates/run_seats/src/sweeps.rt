@@ -3,7 +3,7 @@ ghost use Rattle.std.specs.Prelude.{◌≡◌, ◌||◌, ◌∷◌, ◌++◌, []
 ghost use Rattle.store_core.specs.Lookups.{first_garbage};
 ghost use Rattle.store_core.specs.Sweep.{is_busy};
 ghost use Rattle.thread_laws.specs.MadeSteps.{MadeStep};
-ghost use Rattle.place_laws.specs.Noted.{Noted};
+ghost use Rattle.thread_laws.specs.Noted.{Noted};
 ghost use Rattle.run_seats.specs.declared.gate.Place.TheVariants as place;
 ghost use Rattle.run_seats.specs.Turns.{IsFree, IsHolding, gave};
 ghost use Rattle.run_seats.specs.Fixed.{DirectoryStands, ServerStands, directory_identity, server_identity, server_in};

@@ -15,12 +15,12 @@ use Rattle.store_core.specs.NextAct.{Job}
 use Rattle.store_core.specs.Server.{Server, at_server}
 use Rattle.store_core.specs.Step.{Shortage, Places, at_server_there, at_places, take_from}
 use Rattle.store_core.specs.Tokens.{actor_of}
-use Rattle.store_resume.specs.State.{State, CallState, first_state}
-use Rattle.store_resume.specs.StateActs.{act_of_state}
-use Rattle.store_resume.specs.CallLaws.{next_call}
-use Rattle.session_laws.specs.Alone.{AtWork, step_by, step, steps, EndsAs}
-use Rattle.session_laws.specs.Takes.{taken_by, takes_in}
-use Rattle.session_laws.specs.Wants.{may_code, after_coding, wanting_by, wanting_step, wanting_steps}
+use Rattle.run_laws.specs.State.{State, CallState, first_state}
+use Rattle.run_laws.specs.StateActs.{act_of_state}
+use Rattle.run_laws.specs.CallLaws.{next_call}
+use Rattle.session_rules.specs.Alone.{AtWork, step_by, step, steps, EndsAs}
+use Rattle.session_rules.specs.Takes.{taken_by, takes_in}
+use Rattle.session_rules.specs.Wants.{may_code, after_coding, wanting_by, wanting_step, wanting_steps}
 use Rattle.call_steps.specs.declared.need.Need.{Need}
 use Rattle.call_steps.specs.declared.need.Need.TheVariants as need
 use Rattle.call_steps.specs.CallOf.{CallOf, act_of}

@@ -23,22 +23,22 @@ use Rattle.store_core.specs.Read.{parts_of}
 use Rattle.store_core.specs.Step.{Shortage, Places as CorePlaces}
 use Rattle.store_core.specs.Told.{Seen, Told}
 use Rattle.store_core.specs.Tokens.{actor_of}
-use Rattle.store_resume.specs.State.{first_state}
-use Rattle.store_resume.specs.StateActs.{act_of_state}
+use Rattle.run_laws.specs.State.{first_state}
+use Rattle.run_laws.specs.StateActs.{act_of_state}
 use Rattle.version_seal.specs.Entry.{BookOf}
 use Rattle.session_rules.specs.State.{State}
 use Rattle.session_rules.specs.Serve.{serve}
 use Rattle.session_rules.specs.Shortages.{IsServed}
 use Rattle.session_rules.specs.declared.answer.Answer.{Answer}
 use Rattle.session_rules.specs.declared.request.Request.{Request}
-use Rattle.session_laws.specs.Alone.{AtWork}
-use Rattle.session_laws.specs.Outcomes.{outcome_at}
-use Rattle.session_laws.specs.Wants.{wanting_steps}
-use Rattle.session_laws.specs.Between.{seats_after, IsBetween}
-use Rattle.session_laws.specs.Serving.{AreSweptTo}
-use Rattle.session_laws.specs.Answering.{RunsTo, IsAnswered}
-use Rattle.session_laws.proofs.CallsAnswered.{calls_are_answered}
-use Rattle.session_laws.proofs.Answers.{call_next, call_snapshot}
+use Rattle.session_rules.specs.Alone.{AtWork}
+use Rattle.session_rules.specs.Outcomes.{outcome_at}
+use Rattle.session_rules.specs.Wants.{wanting_steps}
+use Rattle.session_rules.specs.Between.{seats_after, IsBetween}
+use Rattle.session_rules.specs.Serving.{AreSweptTo}
+use Rattle.session_rules.specs.Answering.{RunsTo, IsAnswered}
+use Rattle.session_rules.proofs.CallsAnswered.{calls_are_answered}
+use Rattle.session_rules.proofs.Answers.{call_next, call_snapshot}
 use Rattle.call_steps.specs.CallOf.{tries_by, act_of}
 use Rattle.call_machine.specs.Calls.{MachineOf, first_call, tries_in}
 use Rattle.call_machine.specs.Kinds.{Asked, Machine, machine_of, client_machine, IfReads}
@@ -48,16 +48,16 @@ use Rattle.call_steps.specs.CallOutcomes.{call_outcome_of}
 use Rattle.call_steps.specs.declared.outcome.CallOutcome.{CallOutcome}
 use Rattle.store_map.specs.declared.actor.Point.{Point}
 use Rattle.store_core.specs.Content.{contents_by}
-use Rattle.content_laws.specs.ReadLaws.{bytes_read}
+use Rattle.run_laws.specs.ReadLaws.{bytes_read}
 use Rattle.client_read.specs.Owed.{contents_of}
 use Rattle.call_machine.specs.Owes.{OwesBy}
 use Rattle.call_machine.specs.OwesLaws.{AreAmong}
 use Rattle.call_machine.proofs.Owing.{at_end_owes}
 use Rattle.call_machine.proofs.Stamped.{contents_read}
 use Rattle.call_machine.specs.Ends.{IfBytesServed}
-use Rattle.session_laws.proofs.Maps.{bytes_are_owed}
-use Rattle.session_laws.proofs.Clients.{of_client}
-use Rattle.session_laws.proofs.RunKept.{begins}
+use Rattle.session_rules.proofs.Maps.{bytes_are_owed}
+use Rattle.session_rules.proofs.Clients.{of_client}
+use Rattle.session_rules.proofs.RunKept.{begins}
 use Rattle.call_steps.specs.declared.outcome.CallOutcome.TheVariants as ended
 use Rattle.store_core.specs.Lookups.{same_actor}
 use Rattle.session_rules.specs.Calls.{serve_call}

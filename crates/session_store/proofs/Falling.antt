@@ -31,21 +31,21 @@ use Rattle.run_laws.proofs.ActAnswers.{note_if, FitPlaces, act_answered}
 use Rattle.run_laws.proofs.Phases.{directory_phase, has_pass}
 use Rattle.run_laws.proofs.Proper.{ProperStep, IsProper, HasTry, acts_proper}
 use Rattle.run_laws.proofs.ShortObjects.{sound_short}
-use Rattle.store_resume.specs.State.{CallState}
-use Rattle.store_resume.specs.States.{open_call}
-use Rattle.store_resume.specs.CallAfter.{state_of}
-use Rattle.store_resume.specs.CallLaws.{next_call}
-use Rattle.store_resume.specs.FitLaws.{Fits}
-use Rattle.store_resume.proofs.States.{states_resume}
+use Rattle.run_laws.specs.State.{CallState}
+use Rattle.run_laws.specs.States.{open_call}
+use Rattle.run_laws.specs.CallAfter.{state_of}
+use Rattle.run_laws.specs.CallLaws.{next_call}
+use Rattle.run_laws.specs.FitLaws.{Fits}
+use Rattle.run_laws.proofs.States.{states_resume}
 use Rattle.call_steps.specs.TokenAfter.{MayMake, IfInCall}
 use Rattle.call_steps.specs.CallOf.{CallOf, act_of}
 use Rattle.call_steps.specs.Steps.{HoldsItsPass, IsDueInPass, MayMakeNext}
-use Rattle.call_laws.specs.Ready.{ready, actor_coded}
-use Rattle.call_laws.specs.Stands.{Stands}
-use Rattle.call_laws.proofs.Acts.{acts_now}
-use Rattle.call_laws.proofs.Codings.{acts_stand}
-use Rattle.call_laws.proofs.Fitting.{leading_fits, server_leads, directory_fits}
-use Rattle.call_laws.proofs.Tokens.{passes_are_of_calls}
+use Rattle.call_steps.specs.Ready.{ready, actor_coded}
+use Rattle.call_steps.specs.Stands.{Stands}
+use Rattle.call_steps.proofs.Acts.{acts_now}
+use Rattle.call_steps.proofs.Codings.{acts_stand}
+use Rattle.call_steps.proofs.Fitting.{leading_fits, server_leads, directory_fits}
+use Rattle.call_steps.proofs.Tokens.{passes_are_of_calls}
 
 -- an actor that was told this in its call with a number
 abbrev pub telling : ℕ → List Told → List ℕ → Calling

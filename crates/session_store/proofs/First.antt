@@ -26,10 +26,10 @@ use Rattle.stripe_dir.specs.Seats.{client_seat, repairer_seat}
 use Rattle.stripe_dir.specs.Stamped.{HaveContents}
 use Rattle.stripe_dir.proofs.StampSteps.{stamps_keep_contents}
 use Rattle.session_rules.specs.State.{first_state}
-use Rattle.session_laws.specs.Beginnings.{new_places}
-use Rattle.session_laws.specs.Between.{IsBetween}
-use Rattle.session_laws.specs.Readers.{AreReaders}
-use Rattle.session_laws.proofs.Runs.{beginnings_are_between}
+use Rattle.session_rules.specs.Beginnings.{new_places}
+use Rattle.session_rules.specs.Between.{IsBetween}
+use Rattle.session_rules.specs.Readers.{AreReaders}
+use Rattle.session_rules.proofs.Runs.{beginnings_are_between}
 use Rattle.snapshot_view.specs.Tickets.{MayGet}
 use Rattle.session_store.specs.declared.parts.Parts.{Parts}
 use Rattle.session_store.specs.Beginning.{AreNew, IsFirst, reader_tickets}

@@ -4,7 +4,7 @@ use Rattle.std.proofs.Math.Numerals.{add-one}
 use Rattle.std.proofs.lemmas.List.{length-map}
 use Rattle.session_rules.specs.declared.answer.LostChunk.{LostChunk}
 use Rattle.store_map.specs.declared.call.Rebuild.{Rebuild as RebuildCall}
-use Rattle.session_laws.specs.Heals.{rebuild_of}
+use Rattle.session_rules.specs.AloneHeals.{rebuild_of}
 use Rattle.session_store.specs.LostStripes.{beside, healable}
 use Rattle.session_store.specs.Healing.{low, added_low}
 

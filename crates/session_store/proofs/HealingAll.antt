@@ -15,8 +15,8 @@ use Rattle.store_core.specs.Step.{Shortage, Places as CorePlaces}
 use Rattle.version_seal.specs.Entry.{BookOf}
 use Rattle.session_rules.specs.declared.answer.Answer.{Answer}
 use Rattle.session_store.specs.declared.places.SessionPlaces.{SessionPlaces}
-use Rattle.session_laws.specs.Seats.{ran, HasEnded}
-use Rattle.session_laws.specs.Answering.{took}
+use Rattle.session_rules.specs.Seats.{ran, HasEnded}
+use Rattle.session_rules.specs.Answering.{took}
 use Rattle.call_steps.specs.CallOf.{tries_by, taken_of}
 use Rattle.session_store.specs.AtWork.{first_at}
 use Rattle.session_store.specs.declared.parts.Parts.{Parts}

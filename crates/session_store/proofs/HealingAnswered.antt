@@ -7,9 +7,9 @@ use Rattle.store_map.specs.declared.actor.Actor.TheVariants as actor
 use Rattle.session_rules.specs.State.{State}
 use Rattle.session_rules.specs.Heals.{lost_chunks, to_heal, numbers_last}
 use Rattle.session_rules.specs.declared.answer.LostChunk.{LostChunk}
-use Rattle.session_laws.specs.Heals.{rebuild_of}
-use Rattle.session_laws.specs.Scrubs.{lost_at}
-use Rattle.session_laws.specs.Answering.{AreMadeAnew, AreTakenAnew}
+use Rattle.session_rules.specs.AloneHeals.{rebuild_of}
+use Rattle.session_rules.specs.Scrubs.{lost_at}
+use Rattle.session_rules.specs.Answering.{AreMadeAnew, AreTakenAnew}
 use Rattle.call_steps.specs.CallOf.{tries_by}
 use Rattle.session_store.specs.declared.parts.Parts.{Parts}
 use Rattle.session_store.specs.Inside.{store_of}

@@ -11,8 +11,8 @@ use Rattle.store_core.specs.Lookups.{same_actor}
 use Rattle.store_core.specs.NextAct.{rebuild_job}
 use Rattle.store_core.specs.Step.{Places as CorePlaces}
 use Rattle.store_map.specs.declared.call.Rebuild.{Rebuild as RebuildCall}
-use Rattle.store_resume.specs.State.{first_state}
-use Rattle.store_resume.specs.StateActs.{act_of_state}
+use Rattle.run_laws.specs.State.{first_state}
+use Rattle.run_laws.specs.StateActs.{act_of_state}
 use Rattle.version_seal.specs.Entry.{BookOf}
 use Rattle.session_rules.specs.State.{State}
 use Rattle.session_rules.specs.Heals.{to_heal}
@@ -20,19 +20,19 @@ use Rattle.session_rules.specs.Shortages.{IsServed}
 use Rattle.session_rules.specs.declared.answer.Answer.{Answer}
 use Rattle.session_rules.specs.declared.answer.LostChunk.{LostChunk}
 use Rattle.session_rules.specs.declared.request.Request.{Request}
-use Rattle.session_laws.specs.Alone.{AtWork, steps, EndsAs}
-use Rattle.session_laws.specs.Heals.{rebuild_of, AreRebuilt, healed_by}
-use Rattle.session_laws.specs.Scrubs.{lost_at}
-use Rattle.session_laws.specs.Seats.{MayBeginFrom, ran, HasEnded}
-use Rattle.session_laws.specs.Serving.{AreSweptTo}
-use Rattle.session_laws.specs.Between.{IsBetween}
-use Rattle.session_laws.specs.Answering.{RunsTo, IsAnswered, AreMadeAnew, IsCutOff}
-use Rattle.session_laws.proofs.Answers.{healed_snapshot}
-use Rattle.session_laws.proofs.Doomed.{rebuild_ends_either}
-use Rattle.session_laws.proofs.Ends.{same_ends, same_rebuilt}
-use Rattle.session_laws.proofs.HealsAnswered.{rebuilt_of, heals_are_answered}
-use Rattle.session_laws.proofs.RunKept.{rebuilds_seat}
-use Rattle.session_laws.proofs.Repairs.{has_parity, healed}
+use Rattle.session_rules.specs.Alone.{AtWork, steps, EndsAs}
+use Rattle.session_rules.specs.AloneHeals.{rebuild_of, AreRebuilt, healed_by}
+use Rattle.session_rules.specs.Scrubs.{lost_at}
+use Rattle.session_rules.specs.Seats.{MayBeginFrom, ran, HasEnded}
+use Rattle.session_rules.specs.Serving.{AreSweptTo}
+use Rattle.session_rules.specs.Between.{IsBetween}
+use Rattle.session_rules.specs.Answering.{RunsTo, IsAnswered, AreMadeAnew, IsCutOff}
+use Rattle.session_rules.proofs.Answers.{healed_snapshot}
+use Rattle.session_rules.proofs.Doomed.{rebuild_ends_either}
+use Rattle.session_rules.proofs.Ends.{same_ends, same_rebuilt}
+use Rattle.session_rules.proofs.HealsAnswered.{rebuilt_of, heals_are_answered}
+use Rattle.session_rules.proofs.RunKept.{rebuilds_seat}
+use Rattle.session_rules.proofs.Repairs.{has_parity, healed}
 use Rattle.call_steps.specs.CallOf.{tries_by}
 use Rattle.session_store.specs.declared.parts.Parts.{Parts}
 use Rattle.session_store.specs.Inside.{store_of}

@@ -19,13 +19,13 @@ use Rattle.session_rules.specs.Shortages.{IsServed}
 use Rattle.session_rules.specs.declared.answer.Answer.{Answer}
 use Rattle.session_rules.specs.declared.answer.LostChunk.{LostChunk}
 use Rattle.session_rules.specs.declared.request.Request.{Request}
-use Rattle.session_laws.specs.Heals.{rebuild_of}
-use Rattle.session_laws.specs.Scrubs.{lost_at}
-use Rattle.session_laws.specs.Between.{IsBetween}
-use Rattle.session_laws.specs.Answering.{IsAnswered, AreTakenAnew}
-use Rattle.session_laws.proofs.Answers.{healed_snapshot}
-use Rattle.session_laws.proofs.HealsAnswered.{heals_are_made}
-use Rattle.session_laws.proofs.HealsTaken.{heals_take_anew}
+use Rattle.session_rules.specs.AloneHeals.{rebuild_of}
+use Rattle.session_rules.specs.Scrubs.{lost_at}
+use Rattle.session_rules.specs.Between.{IsBetween}
+use Rattle.session_rules.specs.Answering.{IsAnswered, AreTakenAnew}
+use Rattle.session_rules.proofs.Answers.{healed_snapshot}
+use Rattle.session_rules.proofs.HealsAnswered.{heals_are_made}
+use Rattle.session_rules.proofs.HealsTaken.{heals_take_anew}
 use Rattle.call_steps.specs.CallOf.{tries_by}
 use Rattle.session_store.specs.declared.parts.Parts.{Parts}
 use Rattle.session_store.specs.declared.places.SessionPlaces.{SessionPlaces}
@@ -43,7 +43,7 @@ use Rattle.session_store.proofs.Standing.{healed_epochs, later_epochs}
 use Rattle.session_store.proofs.Healing.{few_healable}
 use Rattle.session_store.proofs.HealingBounds.{AreFew, low_same, few_healed}
 use Rattle.session_store.proofs.HealingAnswered.{chunks_are, numbers_last_so, all_made, all_taken}
-use Rattle.session_laws.proofs.Pairs.{every_weaker}
+use Rattle.session_rules.proofs.Pairs.{every_weaker}
 
 -- ---- what it leaves
 module _ (parts : Parts) (is : IsStore (store_of parts)) (answer : Answer) (places : SessionPlaces) (healer : Option Seat) (next : ℕ) where

@@ -17,14 +17,14 @@ use Rattle.store_core.specs.Server.{raised_by}
 use Rattle.store_core.specs.Step.{Shortage, at_places, take_from}
 use Rattle.store_core.specs.Told.{Told}
 use Rattle.store_core.specs.Tokens.{actor_of}
-use Rattle.store_resume.specs.State.{CallState}
-use Rattle.store_resume.specs.StateActs.{act_of_state}
+use Rattle.run_laws.specs.State.{CallState}
+use Rattle.run_laws.specs.StateActs.{act_of_state}
 use Rattle.version_seal.specs.Entry.{BookOf}
 use Rattle.dir_parts.proofs.TableSteps.{length-change_at}
-use Rattle.session_laws.specs.Alone.{AtWork}
-use Rattle.session_laws.specs.Wants.{after_coding, wanting_step}
-use Rattle.session_laws.specs.Seats.{ran, HasEnded}
-use Rattle.session_laws.specs.Answering.{took}
+use Rattle.session_rules.specs.Alone.{AtWork}
+use Rattle.session_rules.specs.Wants.{after_coding, wanting_step}
+use Rattle.session_rules.specs.Seats.{ran, HasEnded}
+use Rattle.session_rules.specs.Answering.{took}
 use Rattle.call_steps.specs.CallOf.{tries_by, act_of, taken_of}
 use Rattle.call_machine.specs.Calls.{MachineOf, first_call, tries_in}
 use Rattle.call_machine.specs.Kinds.{Asked, Machine}

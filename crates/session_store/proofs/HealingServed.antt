@@ -10,11 +10,11 @@ use Rattle.session_rules.specs.Heals.{lost_chunks, to_heal, heal_all}
 use Rattle.session_rules.specs.declared.answer.Answer.{Answer}
 use Rattle.session_rules.specs.declared.answer.LostChunk.{LostChunk}
 use Rattle.session_rules.specs.declared.request.Request.{Request}
-use Rattle.session_laws.specs.Heals.{rebuild_of}
-use Rattle.session_laws.specs.Scrubs.{lost_at}
-use Rattle.session_laws.proofs.LostChunks.{IsLost, lost_all}
-use Rattle.session_laws.proofs.Pairs.{every_weaker, every_filter, every_map}
-use Rattle.session_laws.proofs.Scrubs.{scrubs_are_seen}
+use Rattle.session_rules.specs.AloneHeals.{rebuild_of}
+use Rattle.session_rules.specs.Scrubs.{lost_at}
+use Rattle.session_rules.proofs.LostChunks.{IsLost, lost_all}
+use Rattle.session_rules.proofs.Pairs.{every_weaker, every_filter, every_map}
+use Rattle.session_rules.proofs.Scrubs.{scrubs_are_seen}
 use Rattle.session_store.specs.declared.parts.Parts.{Parts}
 use Rattle.session_store.specs.Inside.{store_of}
 use Rattle.session_store.specs.Kept.{IsStore, ServesRequest}

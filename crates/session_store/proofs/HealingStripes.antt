@@ -11,8 +11,8 @@ use Rattle.session_rules.specs.State.{State}
 use Rattle.session_rules.specs.Gathered.{lacking, is_beyond_repair}
 use Rattle.session_rules.specs.Heals.{servers, lost_chunks, number_of, to_heal}
 use Rattle.session_rules.specs.declared.answer.LostChunk.{LostChunk}
-use Rattle.session_laws.proofs.LostChunks.{IsLost, lost_all}
-use Rattle.session_laws.proofs.Pairs.{every_weaker}
+use Rattle.session_rules.proofs.LostChunks.{IsLost, lost_all}
+use Rattle.session_rules.proofs.Pairs.{every_weaker}
 use Rattle.run_laws.proofs.SoundHistory.{same_name}
 use Rattle.session_store.specs.LostStripes.{is_beside, beside, healable}
 

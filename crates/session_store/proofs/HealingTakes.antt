@@ -8,10 +8,10 @@ use Rattle.store_map.specs.declared.actor.Actor.{Actor}
 use Rattle.store_core.specs.NextAct.{rebuild_job}
 use Rattle.store_core.specs.Step.{Places}
 use Rattle.session_rules.specs.declared.answer.LostChunk.{LostChunk}
-use Rattle.session_laws.specs.Heals.{rebuild_of}
-use Rattle.session_laws.specs.Takes.{added}
-use Rattle.session_laws.specs.Seats.{ran}
-use Rattle.session_laws.specs.Answering.{took, AreMadeAnew, AreTakenAnew}
+use Rattle.session_rules.specs.AloneHeals.{rebuild_of}
+use Rattle.session_rules.specs.Takes.{added}
+use Rattle.session_rules.specs.Seats.{ran}
+use Rattle.session_rules.specs.Answering.{took, AreMadeAnew, AreTakenAnew}
 use Rattle.call_steps.specs.CallOf.{taken_of}
 use Rattle.session_store.specs.AtWork.{first_at}
 use Rattle.session_store.specs.Healing.{low, added_low, added_if, AreMade}

@@ -2,12 +2,12 @@
 use Rattle.std.proofs.Common.{◌≡◌, ℕ, ◌+◌, Option, sym, ◌∙◌}
 use Rattle.store_map.specs.declared.call.Call.{Call}
 use Rattle.store_core.specs.Calls.{Calls}
-use Rattle.content_laws.specs.MoreCalls.{AreAmong}
-use Rattle.content_laws.proofs.MoreCalls.{more_calls_change_nothing}
+use Rattle.run_laws.specs.MoreCalls.{AreAmong}
+use Rattle.run_laws.proofs.MoreCalls.{more_calls_change_nothing}
 use Rattle.stripe_dir.specs.Stamped.{HaveContents}
 use Rattle.session_rules.specs.State.{State}
-use Rattle.session_laws.specs.Between.{IsBetween}
-use Rattle.session_laws.proofs.Runs.{more_calls_stay_between}
+use Rattle.session_rules.specs.Between.{IsBetween}
+use Rattle.session_rules.proofs.Runs.{more_calls_stay_between}
 use Rattle.session_store.specs.Stored.{StoreOf, places_in}
 use Rattle.session_store.specs.Standing.{seats_at, StandsAt}
 use Rattle.session_store.proofs.Numbers.{known_by, known_before}

@@ -7,11 +7,11 @@ use Rattle.store_core.specs.Told.{Told}
 use Rattle.store_core.specs.Note.{Kind}
 use Rattle.store_core.specs.Act.{Act}
 use Rattle.store_core.specs.NextAct.{Job}
-use Rattle.content_laws.specs.PinLaws.{IsReading}
-use Rattle.store_resume.specs.State.{State}
-use Rattle.store_resume.specs.LookAfter.{start_after}
-use Rattle.store_resume.specs.CallLaws.{next_call_from}
-use Rattle.store_resume.specs.FitLaws.{Fits}
+use Rattle.run_laws.specs.PinLaws.{IsReading}
+use Rattle.run_laws.specs.State.{State}
+use Rattle.run_laws.specs.LookAfter.{start_after}
+use Rattle.run_laws.specs.CallLaws.{next_call_from}
+use Rattle.run_laws.specs.FitLaws.{Fits}
 use Rattle.call_machine.proofs.Walks.{IsByPoint, settle, open_kept, read_told, later_told}
 use Rattle.call_machine.proofs.Acts.{IsLater}
 

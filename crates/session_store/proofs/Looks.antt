@@ -11,12 +11,12 @@ use Rattle.store_core.specs.Told.{Seen, Told}
 use Rattle.store_core.specs.Gathering.{Part}
 use Rattle.run_laws.specs.AnswersByKind.{FitsKind, MayPin}
 use Rattle.run_laws.proofs.PlaceKinds.{places_answer_by_kind}
-use Rattle.store_resume.specs.Stage.{Aim, Stage}
-use Rattle.store_resume.specs.Stages.{first_stage}
-use Rattle.store_resume.specs.State.{Sequel, State}
-use Rattle.store_resume.specs.StateActs.{sequel_act, stage_act, parts_act, start_act, act_at}
+use Rattle.run_laws.specs.Stage.{Aim, Stage}
+use Rattle.run_laws.specs.Stages.{first_stage}
+use Rattle.run_laws.specs.State.{Sequel, State}
+use Rattle.run_laws.specs.StateActs.{sequel_act, stage_act, parts_act, start_act, act_at}
 use Rattle.call_machine.proofs.Acts.{IsLater, start_or_later}
-use Rattle.content_laws.specs.PinLaws.{IsReading}
+use Rattle.run_laws.specs.PinLaws.{IsReading}
 
 abbrev pub is_look : Act → Bool
 is_look (Act.AtDirectory (DirectoryStep.Look note)) = true

@@ -13,9 +13,9 @@ use Rattle.session_rules.specs.State.{State}
 use Rattle.session_rules.specs.Rebuilds.{lose}
 use Rattle.session_rules.specs.declared.answer.Answer.{Answer}
 use Rattle.session_rules.specs.declared.request.Request.{Request}
-use Rattle.session_laws.specs.Between.{IsBetween}
-use Rattle.session_laws.specs.Serving.{IsServedAlone}
-use Rattle.session_laws.proofs.Repairs.{has_parity, loss_served}
+use Rattle.session_rules.specs.Between.{IsBetween}
+use Rattle.session_rules.specs.Serving.{IsServedAlone}
+use Rattle.session_rules.proofs.Repairs.{has_parity, loss_served}
 use Rattle.session_store.specs.Stored.{StoreOf, places_in}
 use Rattle.session_store.specs.Standing.{seats_at, StandsAt}
 use Rattle.session_store.specs.Serving.{Serves}

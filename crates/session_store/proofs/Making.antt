@@ -13,8 +13,8 @@ use Rattle.stripe_dir.specs.Stamped.{HasStamps}
 use Rattle.call_steps.specs.declared.need.Need.TheVariants as need
 use Rattle.call_steps.specs.CallOf.{CallOf, act_of}
 use Rattle.call_steps.specs.Steps.{need_by, need_of, coded, at_server_by, LeadsToAtServer, HoldsItsPass, IsDueInPass, MayMakeNext, IsUndueOncePlaced}
-use Rattle.call_laws.proofs.Codings.{acts_stand}
-use Rattle.call_laws.proofs.Needs.{needs_tell_acts, is_coder}
+use Rattle.call_steps.proofs.Codings.{acts_stand}
+use Rattle.call_steps.proofs.Needs.{needs_tell_acts, is_coder}
 use Rattle.call_machine.specs.Calls.{MachineOf, KnowsOldOf}
 use Rattle.call_machine.specs.Kinds.{machine_of, IfRebuilds}
 use Rattle.session_store.specs.declared.places.SessionPlaces.{SessionPlaces}

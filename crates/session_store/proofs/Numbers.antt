@@ -13,11 +13,11 @@ use Rattle.store_core.specs.Calls.{Calls}
 use Rattle.store_core.specs.Directory.{Directory, Point}
 use Rattle.store_core.specs.Lookups.{same_actor}
 use Rattle.store_core.specs.Step.{Places}
-use Rattle.content_laws.specs.MoreCalls.{AreAmong}
+use Rattle.run_laws.specs.MoreCalls.{AreAmong}
 use Rattle.session_rules.specs.State.{Numbering, Snapshot, State}
-use Rattle.session_laws.specs.Seats.{MayBeginFrom}
-use Rattle.session_laws.specs.Readers.{tickets_of, kept_numbers}
-use Rattle.session_laws.specs.Between.{Seats, IsBetween}
+use Rattle.session_rules.specs.Seats.{MayBeginFrom}
+use Rattle.session_rules.specs.Readers.{tickets_of, kept_numbers}
+use Rattle.session_rules.specs.Between.{Seats, IsBetween}
 use Rattle.session_store.specs.Standing.{IsFresh}
 
 -- ---- later numbers are unused too

@@ -17,7 +17,7 @@ use Rattle.session_rules.specs.Calls.{name_in, gathered_by, is_refusal, unless_u
 use Rattle.session_rules.specs.Placing.{after_call}
 use Rattle.session_rules.specs.declared.answer.Answer.{Answer}
 use Rattle.session_rules.specs.declared.answer.Missing.{Missing}
-use Rattle.session_laws.specs.Outcomes.{lost_as, replied_at, outcome_at}
+use Rattle.session_rules.specs.Outcomes.{lost_as, replied_at, outcome_at}
 use Rattle.call_steps.specs.CallOutcomes.{call_outcome_of}
 use Rattle.call_steps.specs.declared.outcome.CallOutcome.{CallOutcome}
 use Rattle.call_steps.specs.declared.outcome.CallOutcome.TheVariants as ended

@@ -19,11 +19,11 @@ use Rattle.run_laws.specs.StepLaws.{HasTarget}
 use Rattle.run_laws.specs.StepsLeft.{ending_left}
 use Rattle.run_laws.specs.GatheringLeft.{gathering_left}
 use Rattle.run_laws.proofs.GatheringFalls.{gathering_start}
-use Rattle.store_resume.specs.State.{Sequel, State, CallState}
-use Rattle.store_resume.specs.States.{open_parts}
-use Rattle.store_resume.specs.StateActs.{act_of_state}
-use Rattle.store_resume.specs.CallLaws.{next_call}
-use Rattle.store_resume.proofs.Opened.{opened_next}
+use Rattle.run_laws.specs.State.{Sequel, State, CallState}
+use Rattle.run_laws.specs.States.{open_parts}
+use Rattle.run_laws.specs.StateActs.{act_of_state}
+use Rattle.run_laws.specs.CallLaws.{next_call}
+use Rattle.run_laws.proofs.Opened.{opened_next}
 use Rattle.version_seal.specs.Entry.{BookOf}
 use Rattle.chunk_server.specs.Core.{core_of}
 use Rattle.chunk_server.specs.State.{ServerState, IsSame}
@@ -31,7 +31,7 @@ use Rattle.call_steps.specs.declared.need.Need.{Need}
 use Rattle.call_steps.specs.declared.need.Need.TheVariants as need
 use Rattle.call_steps.specs.CallOf.{CallOf, act_of}
 use Rattle.call_steps.specs.Steps.{at_server_by, stepped_at_server}
-use Rattle.call_laws.proofs.Needs.{needs_tell_acts}
+use Rattle.call_steps.proofs.Needs.{needs_tell_acts}
 use Rattle.gather_parts.specs.declared.progress.Progress.TheVariants as progress
 use Rattle.gather_parts.specs.Progress.{progress_of, is_due, need_at}
 use Rattle.gather_parts.specs.States.{state_in, StandsIn, moved}
@@ -42,10 +42,10 @@ use Rattle.snapshot_view.specs.ReadSteps.{need_of, coded}
 use Rattle.snapshot_view.specs.declared.ends.Ending.{Ending}
 use Rattle.snapshot_view.specs.declared.ends.Ending.TheVariants as ending
 use Rattle.snapshot_view.proofs.Needs.{asks_by, due_by}
-use Rattle.session_laws.specs.Alone.{AtWork}
-use Rattle.session_laws.specs.Wants.{may_code}
-use Rattle.session_laws.specs.Reading.{reading, reading_by, reading_step, reading_steps}
-use Rattle.session_laws.proofs.ReadingSteps.{IsGathering, opened_gathers}
+use Rattle.session_rules.specs.Alone.{AtWork}
+use Rattle.session_rules.specs.Wants.{may_code}
+use Rattle.session_rules.specs.Reading.{reading, reading_by, reading_step, reading_steps}
+use Rattle.session_rules.proofs.ReadingSteps.{IsGathering, opened_gathers}
 use Rattle.stripe_dir.specs.Sealed.{Sealed}
 use Rattle.session_store.specs.declared.places.SessionPlaces.{SessionPlaces}
 use Rattle.session_store.specs.Places.{AreServers, AreSame, seen_in}

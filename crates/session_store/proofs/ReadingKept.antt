@@ -29,9 +29,9 @@ use Rattle.snapshot_view.specs.Tickets.{pins_of}
 use Rattle.store_map.specs.Limits.{stripes_met}
 use Rattle.session_rules.specs.Gathered.{Range}
 use Rattle.session_rules.specs.State.{Chunk, Numbering, Snapshot}
-use Rattle.session_laws.specs.Seen.{version_of}
-use Rattle.session_laws.specs.Readers.{pin_at, tickets_of}
-use Rattle.session_laws.specs.Snapshots.{reader_of, pins_by, kept_stripe}
+use Rattle.session_rules.specs.Seen.{version_of}
+use Rattle.session_rules.specs.Readers.{pin_at, tickets_of}
+use Rattle.session_rules.specs.AloneSnapshots.{reader_of, pins_by, kept_stripe}
 use Rattle.session_store.specs.Standing.{placed_in}
 
 -- ---- lists

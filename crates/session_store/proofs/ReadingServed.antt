@@ -15,9 +15,9 @@ use Rattle.store_core.specs.Directory.{Directory}
 use Rattle.store_core.specs.Note.{Kind}
 use Rattle.store_core.specs.Read.{part_of}
 use Rattle.store_core.specs.Told.{Seen as CoreSeen}
-use Rattle.store_resume.specs.State.{Sequel}
-use Rattle.store_resume.specs.States.{open_parts}
-use Rattle.store_resume.proofs.Opened.{opened_next}
+use Rattle.run_laws.specs.State.{Sequel}
+use Rattle.run_laws.specs.States.{open_parts}
+use Rattle.run_laws.proofs.Opened.{opened_next}
 use Rattle.version_seal.specs.Entry.{BookOf}
 use Rattle.stripe_dir.specs.Answers.{seen_in}
 use Rattle.call_steps.specs.declared.seen.Seen.{Seen}
@@ -37,8 +37,8 @@ use Rattle.session_store.proofs.ReadingKept.{Tied, tied, gathered_same}
 use Rattle.store_core.specs.Gathering.{Part}
 use Rattle.store_core.specs.Agreement.{Agrees}
 use Rattle.std.specs.List.{AllByRecursion}
-use Rattle.session_laws.specs.Readers.{tickets_of, kept_numbers}
-use Rattle.session_laws.specs.Snapshots.{reader_of, kept_stripe}
+use Rattle.session_rules.specs.Readers.{tickets_of, kept_numbers}
+use Rattle.session_rules.specs.AloneSnapshots.{reader_of, kept_stripe}
 use Rattle.session_rules.specs.State.{Numbering}
 use Rattle.session_store.specs.Standing.{placed_in}
 use Rattle.store_map.specs.declared.placement.Placement.TheVariants as placement
@@ -48,9 +48,9 @@ use Rattle.store_core.specs.Told.{Lost, lost_in}
 use Rattle.store_core.specs.Note.{note_of}
 use Rattle.store_map.specs.declared.call.Call.TheVariants as call
 use Rattle.store_map.proofs.LimitLaws.{stripes_met-start}
-use Rattle.content_laws.proofs.Bytes.{count_stripes}
+use Rattle.run_laws.proofs.Bytes.{count_stripes}
 use Rattle.run_laws.proofs.SoundStripes.{pins_within}
-use Rattle.store_resume.specs.State.{State as CallAt}
+use Rattle.run_laws.specs.State.{State as CallAt}
 use Rattle.snapshot_view.specs.ReadSteps.{EndsAs}
 use Rattle.snapshot_view.specs.declared.ends.Ending.{Ending}
 use Rattle.snapshot_view.specs.declared.ends.Ending.TheVariants as ending
@@ -63,12 +63,12 @@ use Rattle.session_rules.specs.Gathered.{Range, ranges_between, is_unavailable, 
 use Rattle.session_rules.specs.Shortages.{IsServed}
 use Rattle.session_rules.specs.Snapshots.{reply_unless, snap_read}
 use Rattle.session_rules.specs.State.{numbers_of}
-use Rattle.session_laws.specs.Alone.{AtWork}
-use Rattle.session_laws.specs.Between.{IsBetween}
-use Rattle.session_laws.specs.Answering.{ReadsTo, IsAnswered}
-use Rattle.session_laws.specs.Reading.{begun, reading_steps}
-use Rattle.session_laws.specs.Snapshots.{kept_parts, gathered_as}
-use Rattle.session_laws.proofs.KeptReadsServed.{snap_reads_are_answered}
+use Rattle.session_rules.specs.Alone.{AtWork}
+use Rattle.session_rules.specs.Between.{IsBetween}
+use Rattle.session_rules.specs.Answering.{ReadsTo, IsAnswered}
+use Rattle.session_rules.specs.Reading.{begun, reading_steps}
+use Rattle.session_rules.specs.AloneSnapshots.{kept_parts, gathered_as}
+use Rattle.session_rules.proofs.KeptReadsServed.{snap_reads_are_answered}
 use Rattle.session_store.specs.declared.places.SessionPlaces.{SessionPlaces}
 use Rattle.session_store.specs.Places.{AreServers, seen_in as places_seen}
 use Rattle.session_store.specs.Stored.{StoreOf, places_in}

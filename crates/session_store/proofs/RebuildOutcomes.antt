@@ -10,8 +10,8 @@ use Rattle.session_rules.specs.Gathered.{holds, is_beyond_repair, named}
 use Rattle.session_rules.specs.Rebuilds.{place_anew, rebuild_one, rebuild}
 use Rattle.session_rules.specs.declared.answer.Answer.{Answer}
 use Rattle.session_rules.specs.declared.answer.Missing.{Missing}
-use Rattle.session_laws.specs.Outcomes.{lost_as}
-use Rattle.session_laws.specs.Rebuilds.{rebuilt_as}
+use Rattle.session_rules.specs.Outcomes.{lost_as}
+use Rattle.session_rules.specs.AloneRebuilds.{rebuilt_as}
 use Rattle.call_steps.specs.CallOutcomes.{call_outcome_of}
 use Rattle.call_steps.specs.declared.outcome.CallOutcome.{CallOutcome}
 use Rattle.call_steps.specs.declared.outcome.CallOutcome.TheVariants as ended

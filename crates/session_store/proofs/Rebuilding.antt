@@ -14,22 +14,22 @@ use Rattle.store_core.specs.NextAct.{rebuild_job}
 use Rattle.store_map.specs.declared.call.Rebuild.{Rebuild as RebuildCall}
 use Rattle.store_core.specs.Step.{Places as CorePlaces}
 use Rattle.store_core.specs.Tokens.{actor_of}
-use Rattle.store_resume.specs.State.{first_state}
-use Rattle.store_resume.specs.StateActs.{act_of_state}
+use Rattle.run_laws.specs.State.{first_state}
+use Rattle.run_laws.specs.StateActs.{act_of_state}
 use Rattle.version_seal.specs.Entry.{BookOf}
 use Rattle.session_rules.specs.State.{State, numbers_of}
 use Rattle.session_rules.specs.Shortages.{IsServed}
 use Rattle.session_rules.specs.declared.answer.Answer.{Answer}
 use Rattle.session_rules.specs.declared.request.Request.{Request}
-use Rattle.session_laws.specs.Alone.{AtWork}
-use Rattle.session_laws.specs.Rebuilds.{rebuilt_as}
-use Rattle.session_laws.specs.Wants.{wanting_steps}
-use Rattle.session_laws.specs.Between.{seats_after, IsBetween}
-use Rattle.session_laws.specs.Serving.{AreSweptTo}
-use Rattle.session_laws.specs.Answering.{RunsTo, IsAnswered}
-use Rattle.session_laws.proofs.RebuildsAnswered.{rebuilds_are_answered}
-use Rattle.session_laws.proofs.Answers.{rebuild_next, rebuild_snapshot}
-use Rattle.session_laws.proofs.Repairs.{has_parity}
+use Rattle.session_rules.specs.Alone.{AtWork}
+use Rattle.session_rules.specs.AloneRebuilds.{rebuilt_as}
+use Rattle.session_rules.specs.Wants.{wanting_steps}
+use Rattle.session_rules.specs.Between.{seats_after, IsBetween}
+use Rattle.session_rules.specs.Serving.{AreSweptTo}
+use Rattle.session_rules.specs.Answering.{RunsTo, IsAnswered}
+use Rattle.session_rules.proofs.RebuildsAnswered.{rebuilds_are_answered}
+use Rattle.session_rules.proofs.Answers.{rebuild_next, rebuild_snapshot}
+use Rattle.session_rules.proofs.Repairs.{has_parity}
 use Rattle.call_steps.specs.CallOf.{act_of}
 use Rattle.call_machine.specs.Calls.{MachineOf, first_call, tries_in}
 use Rattle.call_machine.specs.Kinds.{Asked, Machine}

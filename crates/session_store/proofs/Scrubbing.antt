@@ -11,8 +11,8 @@ use Rattle.session_rules.specs.Shortages.{IsServed}
 use Rattle.session_rules.specs.declared.answer.Answer.{Answer}
 use Rattle.session_rules.specs.declared.answer.LostChunk.{LostChunk}
 use Rattle.session_rules.specs.declared.request.Request.{Request}
-use Rattle.session_laws.specs.Scrubs.{lost_at}
-use Rattle.session_laws.proofs.Scrubs.{scrubs_are_seen}
+use Rattle.session_rules.specs.Scrubs.{lost_at}
+use Rattle.session_rules.proofs.Scrubs.{scrubs_are_seen}
 use Rattle.store_scrub.specs.Lost.{ArePresent}
 use Rattle.session_store.specs.Kept.{IsStore, ServesRequest}
 use Rattle.session_store.specs.Standing.{StandsAt, seats_at}

@@ -20,9 +20,9 @@ use Rattle.call_steps.specs.declared.seen.Seen.{Seen}
 use Rattle.stripe_dir.specs.Answers.{seen_in}
 use Rattle.stripe_dir.specs.Sealed.{Sealed}
 use Rattle.session_rules.specs.State.{Chunk, Numbering, Snapshot, State}
-use Rattle.session_laws.specs.Seen.{version_of, all_numbers, live_numbers, IsSeenAs}
-use Rattle.session_laws.proofs.LooksMade.{InDirectory}
-use Rattle.session_laws.proofs.Readers.{among_first, among_later}
+use Rattle.session_rules.specs.Seen.{version_of, all_numbers, live_numbers, IsSeenAs}
+use Rattle.session_rules.proofs.LooksMade.{InDirectory}
+use Rattle.session_rules.proofs.Readers.{among_first, among_later}
 use Rattle.snapshot_view.specs.LookSteps.{IsAsFound}
 use Rattle.snapshot_view.specs.Snapshots.{KeptOf}
 use Rattle.snapshot_view.proofs.Standing.{numbers_there}

@@ -21,9 +21,9 @@ use Rattle.call_steps.specs.Callers.{IsClient}
 use Rattle.call_steps.specs.TokenAfter.{token_after}
 use Rattle.call_steps.proofs.Tickets.{token_stays}
 use Rattle.session_rules.specs.State.{Numbering}
-use Rattle.session_laws.specs.Readers.{look_at, tickets_of}
-use Rattle.session_laws.specs.Serving.{AreLooks}
-use Rattle.session_laws.specs.Snapshots.{look_all, end_all}
+use Rattle.session_rules.specs.Readers.{look_at, tickets_of}
+use Rattle.session_rules.specs.Serving.{AreLooks}
+use Rattle.session_rules.specs.AloneSnapshots.{look_all, end_all}
 use Rattle.snapshot_view.specs.LookSteps.{Looked, get_of, look_one, looked_with, look_all as looks_of}
 use Rattle.snapshot_view.specs.Releasing.{Released, end_one, end_all as ends_of}
 use Rattle.snapshot_view.specs.Tickets.{MayGet}

@@ -24,14 +24,14 @@ use Rattle.session_rules.specs.State.{Snapshot, State}
 use Rattle.session_rules.specs.Snapshots.{most_objects, snap_drop}
 use Rattle.session_rules.specs.declared.answer.Answer.{Answer}
 use Rattle.session_rules.specs.declared.request.Request.{Request}
-use Rattle.session_laws.proofs.Whole.{whole_of}
-use Rattle.session_laws.specs.Between.{IsBetween}
-use Rattle.session_laws.specs.Readers.{kept_numbers, tickets_of}
-use Rattle.session_laws.specs.Serving.{AreSweptTo}
-use Rattle.session_laws.specs.Snapshots.{end_all}
-use Rattle.session_laws.proofs.Ends.{same_swept}
-use Rattle.session_laws.proofs.PassesEnded.{AreEnded, all_ended}
-use Rattle.session_laws.proofs.SnapsDropped.{nobody, swept as sweep_made, drop_swept, dropped_between}
+use Rattle.session_rules.proofs.Whole.{whole_of}
+use Rattle.session_rules.specs.Between.{IsBetween}
+use Rattle.session_rules.specs.Readers.{kept_numbers, tickets_of}
+use Rattle.session_rules.specs.Serving.{AreSweptTo}
+use Rattle.session_rules.specs.AloneSnapshots.{end_all}
+use Rattle.session_rules.proofs.Ends.{same_swept}
+use Rattle.session_rules.proofs.PassesEnded.{AreEnded, all_ended}
+use Rattle.session_rules.proofs.SnapsDropped.{nobody, swept as sweep_made, drop_swept, dropped_between}
 use Rattle.snapshot_view.specs.Releasing.{released_with, no_end, end_all as ends_of}
 use Rattle.snapshot_view.specs.Snapshots.{KeptOf, SnapshotOf}
 use Rattle.snapshot_view.specs.Tickets.{AgreesWithAll, AreOfSame, MayGet, OthersAgree}

@@ -29,17 +29,17 @@ use Rattle.session_rules.specs.State.{Snapshot, State}
 use Rattle.session_rules.specs.Snapshots.{most_objects, snap}
 use Rattle.session_rules.specs.declared.answer.Answer.{Answer}
 use Rattle.session_rules.specs.declared.request.Request.{Request}
-use Rattle.session_laws.specs.Seen.{all_numbers}
-use Rattle.session_laws.proofs.Counting.{among_append}
-use Rattle.session_laws.specs.AnsweredRuns.{IsSnapCut}
-use Rattle.session_laws.specs.Between.{seats_after, IsBetween}
-use Rattle.session_laws.specs.Readers.{kept_numbers, tickets_of}
-use Rattle.session_laws.specs.Serving.{AreLooks}
-use Rattle.session_laws.specs.Snapshots.{look_all, end_all}
-use Rattle.session_laws.proofs.LooksMade.{all_in_directory}
-use Rattle.session_laws.proofs.SnapsCut.{snap_cut}
-use Rattle.session_laws.proofs.SnapsDropped.{nobody}
-use Rattle.session_laws.proofs.SnapsServed.{lengths_named, taken_between, names_same, snap_is}
+use Rattle.session_rules.specs.Seen.{all_numbers}
+use Rattle.session_rules.proofs.Counting.{among_append}
+use Rattle.session_rules.specs.AnsweredRuns.{IsSnapCut}
+use Rattle.session_rules.specs.Between.{seats_after, IsBetween}
+use Rattle.session_rules.specs.Readers.{kept_numbers, tickets_of}
+use Rattle.session_rules.specs.Serving.{AreLooks}
+use Rattle.session_rules.specs.AloneSnapshots.{look_all, end_all}
+use Rattle.session_rules.proofs.LooksMade.{all_in_directory}
+use Rattle.session_rules.proofs.SnapsCut.{snap_cut}
+use Rattle.session_rules.proofs.SnapsDropped.{nobody}
+use Rattle.session_rules.proofs.SnapsServed.{lengths_named, taken_between, names_same, snap_is}
 use Rattle.snapshot_view.specs.LookSteps.{Looked, no_look, versions_kept, look_all as looks_of}
 use Rattle.snapshot_view.specs.Refused.{AreTooMany, IsGivenUp, IsRefused}
 use Rattle.snapshot_view.specs.Releasing.{no_end, end_all as ends_of}

@@ -7,7 +7,7 @@ use Rattle.session_rules.specs.State.{State}
 use Rattle.session_rules.specs.Gathered.{lacking}
 use Rattle.session_rules.specs.Heals.{servers, lost_chunks}
 use Rattle.session_rules.specs.declared.answer.LostChunk.{LostChunk}
-use Rattle.session_laws.proofs.Pairs.{every_map, every_flat}
+use Rattle.session_rules.proofs.Pairs.{every_map, every_flat}
 use Rattle.session_store.specs.LostStripes.{beside, StandTogether}
 use Rattle.session_store.proofs.HealingStripes.{later_none, none_named}
 use Rattle.session_store.proofs.Together.{together_append, together_stripe}

@@ -22,14 +22,14 @@ use Rattle.store_core.specs.Tokens.{actor_of, after_look, after_pass_step}
 use Rattle.run_laws.proofs.OwnSteps.{agreement_goes_on, steps_may_be_made}
 use Rattle.run_laws.proofs.Passes.{passes_move, passes_stay}
 use Rattle.run_laws.proofs.Beside.{self_actor}
-use Rattle.content_laws.proofs.ContentSteps.{steps_keep_bytes}
-use Rattle.content_laws.proofs.MoreCalls.{steps_keep_drawn}
+use Rattle.run_laws.proofs.ContentSteps.{steps_keep_bytes}
+use Rattle.run_laws.proofs.MoreCalls.{steps_keep_drawn}
 use Rattle.dir_parts.proofs.Entries.{slice_get-map, map-set}
-use Rattle.store_resume.specs.State.{State, CallState}
+use Rattle.run_laws.specs.State.{State, CallState}
 use Rattle.run_laws.specs.StepLaws.{HasTarget}
-use Rattle.content_laws.specs.Contents.{HasBytes}
-use Rattle.content_laws.specs.MoreCalls.{AreDrawnBy}
-use Rattle.store_resume.specs.StateActs.{start_act, act_at}
+use Rattle.run_laws.specs.Contents.{HasBytes}
+use Rattle.run_laws.specs.MoreCalls.{AreDrawnBy}
+use Rattle.run_laws.specs.StateActs.{start_act, act_at}
 use Rattle.version_seal.specs.Entry.{BookOf}
 use Rattle.chunk_server.specs.Core.{core_of}
 use Rattle.chunk_server.specs.State.{ServerState}
@@ -39,7 +39,7 @@ use Rattle.call_steps.specs.declared.need.Need.TheVariants as need
 use Rattle.call_steps.specs.TokenAfter.{token_after, MayMake, IfInCall}
 use Rattle.call_steps.specs.CallOf.{CallOf, act_of}
 use Rattle.call_steps.specs.Steps.{need_of, coded as coded_call, at_directory_by, at_server_by, HoldsItsPass, IsDueInPass, MayMakeNext, IsUndueOncePlaced}
-use Rattle.call_laws.proofs.Needs.{needs_tell_acts, ends_stay}
+use Rattle.call_steps.proofs.Needs.{needs_tell_acts, ends_stay}
 use Rattle.call_machine.specs.Calls.{MachineOf, KnowsOldOf}
 use Rattle.call_machine.specs.Kinds.{Asked, asked_job, Machine, machine_of, IfRebuilds}
 use Rattle.call_machine.specs.Owes.{OwesBy}
@@ -52,7 +52,7 @@ use Rattle.run_laws.specs.Answers.{Answers}
 use Rattle.run_laws.specs.CallLeft.{pin_bound, call_left}
 use Rattle.store_core.specs.Bounds.{touched_count}
 use Rattle.store_core.specs.Read.{parts_of}
-use Rattle.store_resume.specs.FitLaws.{Fits}
+use Rattle.run_laws.specs.FitLaws.{Fits}
 use Rattle.session_store.specs.AtWork.{IsOf, HasRun}
 use Rattle.session_store.proofs.AloneRunning.{calls_run_alone}
 use Rattle.session_store.specs.declared.places.SessionPlaces.{SessionPlaces}
@@ -61,7 +61,7 @@ use Rattle.call_machine.proofs.Knowing.{first_calls_know}
 use Rattle.session_store.specs.CallBytes.{IsKnownBy, KnowsBytes}
 use Rattle.session_store.specs.Stepping.{IsCoded, MayStep, AtTheDirectory, AtAServer, HasStepped}
 use Rattle.session_store.specs.Running.{MayRun, LookOwes, OthersAgree, RunsOn, IsLow, left_of}
-use Rattle.content_laws.specs.PinLaws.{IsReading}
+use Rattle.run_laws.specs.PinLaws.{IsReading}
 use Rattle.session_store.proofs.Lists.{got}
 use Rattle.session_store.proofs.Taking.{took_from, taken_more, taken_here}
 use Rattle.session_store.proofs.Running.{contents_kept}

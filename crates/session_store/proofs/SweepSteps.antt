@@ -16,8 +16,8 @@ use Rattle.store_core.specs.Sweep.{Sweeper, next_sweep, after_sweep, is_busy}
 use Rattle.chunk_server.specs.Core.{core_of}
 use Rattle.chunk_server.specs.State.{ServerState}
 use Rattle.call_steps.specs.declared.need.Need.TheVariants as need
-use Rattle.call_laws.proofs.Needs.{is_directory, is_server, server_in}
-use Rattle.session_laws.specs.Alone.{Sweeping, sweep, sweeps}
+use Rattle.call_steps.proofs.Needs.{is_directory, is_server, server_in}
+use Rattle.session_rules.specs.Alone.{Sweeping, sweep, sweeps}
 use Rattle.sweeper.specs.Sweeps.{SweeperOf, new_sweeper, act_of, at_directory_by, at_server_by, heard, need_at, need_of, stepped_at_directory, stepped_at_server}
 use Rattle.store_core.specs.Agreement.{Agrees}
 use Rattle.run_laws.proofs.OwnSteps.{agreement_goes_on}

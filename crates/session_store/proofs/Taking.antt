@@ -8,11 +8,11 @@ use Rattle.store_core.specs.NextAct.{Job}
 use Rattle.store_core.specs.Server.{Server, at_server}
 use Rattle.store_core.specs.Step.{Shortage, Places, at_places, at_server_there, take_from}
 use Rattle.store_core.specs.Tokens.{actor_of}
-use Rattle.store_resume.specs.State.{CallState}
-use Rattle.store_resume.specs.StateActs.{act_of_state}
-use Rattle.session_laws.specs.Alone.{AtWork}
-use Rattle.session_laws.specs.Wants.{after_coding, wanting_step, wanting_steps}
-use Rattle.session_laws.specs.Answering.{took}
+use Rattle.run_laws.specs.State.{CallState}
+use Rattle.run_laws.specs.StateActs.{act_of_state}
+use Rattle.session_rules.specs.Alone.{AtWork}
+use Rattle.session_rules.specs.Wants.{after_coding, wanting_step, wanting_steps}
+use Rattle.session_rules.specs.Answering.{took}
 use Rattle.call_steps.specs.CallOf.{CallOf, act_of}
 use Rattle.session_store.specs.AtWork.{HasRun, first_at}
 

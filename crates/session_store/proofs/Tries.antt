@@ -8,11 +8,11 @@ use Rattle.store_core.specs.NextAct.{Job}
 use Rattle.store_core.specs.Note.{Kind}
 use Rattle.store_core.specs.Step.{Shortage}
 use Rattle.store_core.specs.Told.{Told}
-use Rattle.store_resume.specs.State.{State, CallState}
-use Rattle.store_resume.specs.StateActs.{start_act, act_at, act_of_state}
-use Rattle.store_resume.specs.CallLaws.{next_call}
-use Rattle.session_laws.specs.Alone.{AtWork}
-use Rattle.session_laws.specs.Wants.{may_code, after_coding, wanting_by, wanting_step, wanting_steps}
+use Rattle.run_laws.specs.State.{State, CallState}
+use Rattle.run_laws.specs.StateActs.{start_act, act_at, act_of_state}
+use Rattle.run_laws.specs.CallLaws.{next_call}
+use Rattle.session_rules.specs.Alone.{AtWork}
+use Rattle.session_rules.specs.Wants.{may_code, after_coding, wanting_by, wanting_step, wanting_steps}
 
 -- a call that isn't a write
 abbrev pub NoWrite : Kind → Type 0

@@ -5,10 +5,10 @@ use Rattle.store_map.specs.declared.actor.Actor.{Actor}
 use Rattle.store_core.specs.NextAct.{Job}
 use Rattle.store_core.specs.Step.{Shortage, Places}
 use Rattle.store_core.specs.Tokens.{actor_of}
-use Rattle.store_resume.specs.State.{first_state}
-use Rattle.session_laws.specs.Alone.{AtWork, steps}
-use Rattle.session_laws.specs.Takes.{takes_in}
-use Rattle.session_laws.specs.Wants.{after_coding, wanting_steps}
+use Rattle.run_laws.specs.State.{first_state}
+use Rattle.session_rules.specs.Alone.{AtWork, steps}
+use Rattle.session_rules.specs.Takes.{takes_in}
+use Rattle.session_rules.specs.Wants.{after_coding, wanting_steps}
 use Rattle.call_steps.specs.CallOf.{CallOf}
 
 -- a call before its first step, and a call that its machine shows, at these places

@@ -2,8 +2,8 @@
 use Rattle.std.specs.Prelude.{◌≡◌, ⊤, Some}
 use Rattle.store_core.specs.Calls.{Calls}
 use Rattle.store_core.specs.Tokens.{actor_of}
-use Rattle.content_laws.specs.Contents.{HasBytes}
-use Rattle.content_laws.specs.MoreCalls.{AreDrawnBy}
+use Rattle.run_laws.specs.Contents.{HasBytes}
+use Rattle.run_laws.specs.MoreCalls.{AreDrawnBy}
 use Rattle.stripe_dir.specs.Stamped.{HaveContents}
 use Rattle.call_machine.specs.Calls.{MachineOf}
 use Rattle.call_machine.specs.Kinds.{Asked}

@@ -14,16 +14,16 @@ use Rattle.store_core.specs.Lookups.{same_actor}
 use Rattle.store_core.specs.NextAct.{rebuild_job}
 use Rattle.store_core.specs.Step.{Shortage, Places as CorePlaces}
 use Rattle.store_core.specs.Tokens.{actor_of}
-use Rattle.store_resume.specs.State.{first_state}
-use Rattle.content_laws.specs.Contents.{HasBytes}
-use Rattle.content_laws.specs.MoreCalls.{AreDrawnBy}
+use Rattle.run_laws.specs.State.{first_state}
+use Rattle.run_laws.specs.Contents.{HasBytes}
+use Rattle.run_laws.specs.MoreCalls.{AreDrawnBy}
 use Rattle.stripe_dir.specs.Sealed.{Sealed}
 use Rattle.stripe_dir.specs.Stamped.{HaveContents}
 use Rattle.call_steps.specs.CallOf.{tries_by, taken_of}
 use Rattle.session_rules.specs.declared.answer.Answer.{Answer}
-use Rattle.session_laws.specs.Takes.{added}
-use Rattle.session_laws.specs.Seats.{ran, HasEnded}
-use Rattle.session_laws.specs.Answering.{took}
+use Rattle.session_rules.specs.Takes.{added}
+use Rattle.session_rules.specs.Seats.{ran, HasEnded}
+use Rattle.session_rules.specs.Answering.{took}
 use Rattle.session_store.specs.declared.parts.Parts.{Parts}
 use Rattle.session_store.specs.Kept.{HasSeat}
 use Rattle.session_store.specs.Places.{ArePlaces, AreSame, seen_in}

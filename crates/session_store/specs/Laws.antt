@@ -9,11 +9,11 @@ use Rattle.store_core.specs.Directory.{Directory}
 use Rattle.store_core.specs.NextAct.{Job}
 use Rattle.store_core.specs.Server.{Server}
 use Rattle.store_core.specs.Step.{Shortage, Places}
-use Rattle.store_resume.specs.State.{first_state}
-use Rattle.store_resume.specs.StateActs.{act_of_state}
-use Rattle.session_laws.specs.Alone.{EndsAs}
-use Rattle.session_laws.specs.Takes.{takes_in}
-use Rattle.session_laws.specs.Wants.{wanting_steps}
+use Rattle.run_laws.specs.State.{first_state}
+use Rattle.run_laws.specs.StateActs.{act_of_state}
+use Rattle.session_rules.specs.Alone.{EndsAs}
+use Rattle.session_rules.specs.Takes.{takes_in}
+use Rattle.session_rules.specs.Wants.{wanting_steps}
 use Rattle.call_steps.specs.declared.need.Need.TheVariants as need
 use Rattle.call_steps.specs.CallOf.{CallOf, act_of}
 use Rattle.call_steps.specs.Steps.{need_of, coded, LeadsTo, LeadsToAtServer, IsDueInPass, IsUndueOncePlaced}

@@ -10,9 +10,9 @@ use Rattle.store_core.specs.Server.{Server}
 use Rattle.store_core.specs.Step.{Shortage}
 use Rattle.store_core.specs.Told.{Seen, Told}
 use Rattle.run_laws.specs.CallLeft.{call_left}
-use Rattle.store_resume.specs.State.{Sequel, State}
-use Rattle.store_resume.specs.States.{open_parts, open_call}
-use Rattle.store_resume.specs.CallAfter.{state_of}
+use Rattle.run_laws.specs.State.{Sequel, State}
+use Rattle.run_laws.specs.States.{open_parts, open_call}
+use Rattle.run_laws.specs.CallAfter.{state_of}
 use Rattle.chunk_server.specs.Core.{core_of}
 use Rattle.chunk_server.specs.State.{ServerState}
 use Rattle.call_steps.specs.declared.need.Need.{Need}
@@ -24,8 +24,8 @@ use Rattle.snapshot_view.specs.Reads.{ReadOf, reply_of}
 use Rattle.snapshot_view.specs.ReadSteps.{need_of, coded}
 use Rattle.snapshot_view.specs.declared.ends.Ending.{Ending}
 use Rattle.snapshot_view.specs.declared.ends.Ending.TheVariants as ending
-use Rattle.session_laws.specs.Alone.{AtWork}
-use Rattle.session_laws.specs.Reading.{reading_steps}
+use Rattle.session_rules.specs.Alone.{AtWork}
+use Rattle.session_rules.specs.Reading.{reading_steps}
 use Rattle.session_store.specs.declared.places.SessionPlaces.{SessionPlaces}
 use Rattle.session_store.specs.Places.{ArePlaces, AreSame, seen_in}
 

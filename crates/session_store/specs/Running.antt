@@ -13,16 +13,16 @@ use Rattle.store_core.specs.Told.{Told, Seen}
 use Rattle.store_core.specs.Tokens.{actor_of}
 use Rattle.run_laws.specs.CallLeft.{call_left}
 use Rattle.run_laws.specs.StepLaws.{HasTarget}
-use Rattle.store_resume.specs.State.{State}
-use Rattle.store_resume.specs.States.{open_call}
-use Rattle.store_resume.specs.CallAfter.{state_of}
+use Rattle.run_laws.specs.State.{State}
+use Rattle.run_laws.specs.States.{open_call}
+use Rattle.run_laws.specs.CallAfter.{state_of}
 use Rattle.client_read.specs.Owed.{contents_of}
 use Rattle.call_machine.specs.Calls.{MachineOf, KnowsOldOf, first_call}
 use Rattle.call_machine.specs.Owes.{OwesBy}
 use Rattle.call_machine.specs.OwesLaws.{AreAmong}
 use Rattle.session_store.specs.AtWork.{HasRun, first_at}
-use Rattle.session_laws.specs.Answering.{took}
-use Rattle.content_laws.specs.PinLaws.{IsReading}
+use Rattle.session_rules.specs.Answering.{took}
+use Rattle.run_laws.specs.PinLaws.{IsReading}
 use Rattle.session_store.specs.declared.places.SessionPlaces.{SessionPlaces}
 use Rattle.session_store.specs.Places.{ArePlaces, AreSame, seen_in}
 use Rattle.session_store.specs.CallBytes.{KnowsBytes}

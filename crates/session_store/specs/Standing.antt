@@ -7,7 +7,7 @@ use Rattle.store_map.specs.declared.placement.Placement.TheVariants as placement
 use Rattle.store_core.specs.Calls.{Calls}
 use Rattle.session_rules.specs.State.{Snapshot, State}
 use Rattle.session_rules.specs.Snapshots.{most_objects}
-use Rattle.session_laws.specs.Between.{Seats, IsBetween}
+use Rattle.session_rules.specs.Between.{Seats, IsBetween}
 use Rattle.stripe_dir.specs.Stamped.{HaveContents}
 use Rattle.snapshot_view.specs.LookSteps.{versions_kept}
 use Rattle.snapshot_view.specs.Snapshots.{SnapshotOf, StandsFor}

@@ -12,7 +12,7 @@ use Rattle.stripe_dir.specs.Stamped.{HasStamps}
 use Rattle.call_steps.specs.declared.need.Need.{Need}
 use Rattle.call_steps.specs.declared.need.Need.TheVariants as need
 use Rattle.call_steps.specs.Steps.{need_of, LeadsTo, LeadsToAtServer, HoldsItsPass, IsDueInPass, MayMakeNext, IsUndueOncePlaced}
-use Rattle.call_laws.specs.Ready.{ready}
+use Rattle.call_steps.specs.Ready.{ready}
 use Rattle.call_machine.specs.Calls.{MachineOf, KnowsOldOf, drawn_by, owed_by}
 use Rattle.call_machine.specs.Kinds.{machine_of, IfRebuilds}
 use Rattle.session_store.specs.declared.places.SessionPlaces.{SessionPlaces}

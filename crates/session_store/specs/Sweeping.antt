@@ -8,8 +8,8 @@ use Rattle.store_core.specs.Directory.{Directory}
 use Rattle.store_core.specs.Lookups.{same_actor, first_garbage}
 use Rattle.store_core.specs.Sweep.{Sweeper, is_busy}
 use Rattle.store_core.specs.Tokens.{actor_of}
-use Rattle.session_laws.specs.Alone.{sweep, sweeps}
-use Rattle.session_laws.specs.Serving.{AreSweptTo}
+use Rattle.session_rules.specs.Alone.{sweep, sweeps}
+use Rattle.session_rules.specs.Serving.{AreSweptTo}
 use Rattle.stripe_dir.specs.Sealed.{Sealed}
 use Rattle.stripe_dir.specs.Stamped.{HaveContents}
 use Rattle.sweeper.specs.Sweeps.{SweeperOf}

@@ -1,7 +1,7 @@
 //! Heals.
 ghost use Rattle.std.specs.Prelude.{◌≡◌, ◌<◌, ◌+◌, ◌^◌, length, map, IfOk, IfSome};
 ghost use Rattle.clay_grid.specs.Shape.{chunk_count};
-ghost use Rattle.session_laws.specs.Heals.{rebuild_of};
+ghost use Rattle.session_rules.specs.AloneHeals.{rebuild_of};
 ghost use Rattle.session_rules.specs.declared.request.Request.{Request};
 ghost use Rattle.session_store.specs.LostStripes.{healable, StandTogether};
 ghost use Rattle.session_store.specs.Healing.{added_low, added_if, is_rebuilt, MayHeal, HasHealedOne, AreOfServers, HasHealed, HealsWith, HealsLost};

@@ -1,7 +1,7 @@
 //! Which lost chunks a heal makes anew.
 ghost use Rattle.std.specs.Prelude.{◌≡◌, ◌<◌, ◌≤◌, ◌+◌, ◌++◌, cond, nat_le, [], length, map, drop, Some, IfOk, OnOk};
 ghost use Rattle.std.specs.List.{prefix_len, slice_get};
-ghost use Rattle.session_laws.specs.Heals.{rebuild_of};
+ghost use Rattle.session_rules.specs.AloneHeals.{rebuild_of};
 ghost use Rattle.session_rules.specs.declared.answer.LostChunk.{LostChunk as Lost};
 ghost use Rattle.session_store.specs.LostStripes.{is_beside, healable, StandTogether};
 

@@ -1,6 +1,6 @@
 //! Scrubs.
 ghost use Rattle.std.specs.Prelude.{◌≡◌, map, IfOk};
-ghost use Rattle.session_laws.specs.Scrubs.{lost_at};
+ghost use Rattle.session_rules.specs.Scrubs.{lost_at};
 ghost use Rattle.session_rules.specs.declared.request.Request.{Request};
 ghost use Rattle.store_scrub.specs.Lost.{lost_in};
 ghost use Rattle.session_store.specs.Inside.{store_of};

@@ -15,11 +15,11 @@ use Rattle.store_core.specs.Gathering.{Part, servers_but, lost_at}
 use Rattle.store_core.specs.GatheringParts.{chunks_in_range}
 use Rattle.store_core.specs.Read.{part_of}
 use Rattle.store_core.specs.Server.{Server, gives, found_at, raised_by, at_server}
-use Rattle.store_resume.specs.Stage.{Aim, Asking, Stage, seen_of}
-use Rattle.store_resume.specs.StageAfter.{wanted_layers, server_asked, step_asked, stage_after, next_stage, with_lost, without_target}
-use Rattle.store_resume.specs.Stages.{unless_many, whole_stage, repair_stage, recover_stage, make_stage, look_stage, data_stage, fetch_stage, fetch_stage_of, first_stage}
-use Rattle.store_resume.specs.State.{Sequel, State}
-use Rattle.store_resume.specs.States.{stage_state, open_parts, open_state, parts_state}
+use Rattle.run_laws.specs.Stage.{Aim, Asking, Stage, seen_of}
+use Rattle.run_laws.specs.StageAfter.{wanted_layers, server_asked, step_asked, stage_after, next_stage, with_lost, without_target}
+use Rattle.run_laws.specs.Stages.{unless_many, whole_stage, repair_stage, recover_stage, make_stage, look_stage, data_stage, fetch_stage, fetch_stage_of, first_stage}
+use Rattle.run_laws.specs.State.{Sequel, State}
+use Rattle.run_laws.specs.States.{stage_state, open_parts, open_state, parts_state}
 use Rattle.version_seal.specs.Entry.{StampOf}
 use Rattle.call_steps.specs.declared.seen.Seen.{Seen as SeenStripe}
 use Rattle.stripe_dir.specs.Answers.{seen_in}

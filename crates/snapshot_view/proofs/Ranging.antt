@@ -7,8 +7,8 @@ use Rattle.clay_grid.specs.Shape.{Shape, stripe_length}
 use Rattle.clay_model.specs.Code.{stripes_of}
 use Rattle.store_map.specs.Limits.{stripes_met}
 use Rattle.store_core.specs.Note.{Note, Kind}
-use Rattle.content_laws.proofs.Bytes.{stripe_at, stripes_below_at, count_stripes}
-use Rattle.content_laws.proofs.Ranges.{range_of, part_at, parts_are}
+use Rattle.run_laws.proofs.Bytes.{stripe_at, stripes_below_at, count_stripes}
+use Rattle.run_laws.proofs.Ranges.{range_of, part_at, parts_are}
 use Rattle.run_laws.proofs.SoundStripes.{pins_within}
 use Rattle.store_map.proofs.LimitLaws.{stripes_met-start}
 use Rattle.call_steps.specs.declared.seen.Seen.{Seen}

@@ -12,10 +12,10 @@ use Rattle.store_map.specs.declared.reply.Reply.TheVariants as reply
 use Rattle.store_core.specs.Read.{part_of}
 use Rattle.store_core.specs.Told.{Seen as CoreSeen}
 use Rattle.run_laws.proofs.SoundLists.{at_all, found_at}
-use Rattle.content_laws.proofs.KeptDraw.{map_map}
-use Rattle.content_laws.proofs.Ranges.{range_of}
-use Rattle.store_resume.specs.State.{Sequel}
-use Rattle.store_resume.specs.States.{parts_state, open_state}
+use Rattle.run_laws.proofs.KeptDraw.{map_map}
+use Rattle.run_laws.proofs.Ranges.{range_of}
+use Rattle.run_laws.specs.State.{Sequel}
+use Rattle.run_laws.specs.States.{parts_state, open_state}
 use Rattle.version_seal.specs.Entry.{BookOf, StampOf}
 use Rattle.call_steps.specs.declared.seen.Seen.{Seen}
 use Rattle.stripe_dir.specs.Answers.{seen_in}

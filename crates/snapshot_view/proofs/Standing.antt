@@ -20,13 +20,13 @@ use Rattle.store_core.specs.Calls.{Calls}
 use Rattle.run_laws.proofs.SoundLists.{at_all, found_at}
 use Rattle.run_laws.proofs.SoundHistory.{same_name, self_name}
 use Rattle.run_laws.proofs.SoundObjects.{length_found}
-use Rattle.content_laws.specs.MapAfter.{map_by}
-use Rattle.content_laws.proofs.LengthProofs.{length_of_found}
-use Rattle.content_laws.proofs.Replayed.{replayed}
-use Rattle.content_laws.specs.Contents.{HasBytes}
-use Rattle.content_laws.proofs.Maps.{entry_of, at, map_same, stored_found, cut_found}
-use Rattle.content_laws.proofs.KeptDraw.{map_map}
-use Rattle.content_laws.proofs.Laid.{zero_div}
+use Rattle.run_laws.specs.MapAfter.{map_by}
+use Rattle.run_laws.proofs.LengthProofs.{length_of_found}
+use Rattle.run_laws.proofs.Replayed.{replayed}
+use Rattle.run_laws.specs.Contents.{HasBytes}
+use Rattle.run_laws.proofs.Maps.{entry_of, at, map_same, stored_found, cut_found}
+use Rattle.run_laws.proofs.KeptDraw.{map_map}
+use Rattle.run_laws.proofs.Laid.{zero_div}
 use Rattle.version_seal.specs.Entry.{BookOf, StampOf}
 use Rattle.call_steps.specs.declared.seen.Seen.{Seen}
 use Rattle.stripe_dir.specs.Answers.{seen_in}

@@ -4,8 +4,8 @@ use Rattle.store_map.specs.declared.placement.Placement.TheVariants as placement
 use Rattle.store_core.specs.Told.{Seen, Lost, lost_in}
 use Rattle.store_core.specs.Act.{Outcome}
 use Rattle.store_core.specs.Server.{Server, gives, found_at}
-use Rattle.store_resume.specs.Stage.{Asking, seen_of}
-use Rattle.store_resume.specs.State.{Sequel, State}
+use Rattle.run_laws.specs.Stage.{Asking, seen_of}
+use Rattle.run_laws.specs.State.{Sequel, State}
 use Rattle.gathering.specs.Gathers.{GatherOf}
 use Rattle.gather_parts.specs.States.{state_in}
 use Rattle.call_steps.specs.declared.need.Need.TheVariants as need

@@ -4,8 +4,8 @@ use Rattle.store_map.specs.declared.reply.Reply.TheVariants as reply
 use Rattle.store_core.specs.Told.{lost_in}
 use Rattle.store_core.specs.Act.{Outcome}
 use Rattle.store_core.specs.Server.{Server}
-use Rattle.store_resume.specs.State.{Sequel, State}
-use Rattle.store_resume.specs.States.{sequel_state}
+use Rattle.run_laws.specs.State.{Sequel, State}
+use Rattle.run_laws.specs.States.{sequel_state}
 use Rattle.call_steps.specs.declared.need.Need.{Need}
 use Rattle.call_steps.specs.declared.need.Need.TheVariants as need
 use Rattle.gather_parts.specs.Gatherings.{GatheringsOf}

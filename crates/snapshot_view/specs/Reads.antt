@@ -7,8 +7,8 @@ use Rattle.store_map.specs.declared.reply.Reply.{Reply}
 use Rattle.store_map.specs.declared.reply.Reply.TheVariants as reply
 use Rattle.store_core.specs.Gathering.{Part}
 use Rattle.store_core.specs.Read.{part_of}
-use Rattle.store_resume.specs.State.{Sequel}
-use Rattle.store_resume.specs.States.{parts_state, open_state}
+use Rattle.run_laws.specs.State.{Sequel}
+use Rattle.run_laws.specs.States.{parts_state, open_state}
 use Rattle.stripe_dir.specs.Answers.{seen_in}
 use Rattle.gather_parts.specs.Gatherings.{GatheringsOf, owed}
 use Rattle.gather_parts.specs.States.{state_in}

@@ -3,8 +3,8 @@ use Rattle.std.specs.Prelude.{◌≡◌, ℕ, List, length, take, All}
 use Rattle.store_core.specs.Directory.{Directory}
 use Rattle.store_core.specs.Agreement.{ActorToken}
 use Rattle.store_core.specs.Calls.{Calls}
-use Rattle.content_laws.specs.MapAfter.{map_by}
-use Rattle.content_laws.specs.Contents.{HasBytes}
+use Rattle.run_laws.specs.MapAfter.{map_by}
+use Rattle.run_laws.specs.Contents.{HasBytes}
 use Rattle.stripe_dir.specs.Sealed.{Sealed}
 use Rattle.stripe_dir.specs.Stamped.{HaveContents}
 use Rattle.snapshot_view.specs.Snapshots.{SnapshotOf, StandsFor}

@@ -1,6 +1,6 @@
 //! How reads of a snapshot end.
 ghost use Rattle.std.specs.Prelude.{◌≡◌, None, Some};
-ghost use Rattle.store_resume.specs.State.{Sequel};
+ghost use Rattle.run_laws.specs.State.{Sequel};
 ghost use Rattle.gather_parts.specs.Gatherings.{owed};
 ghost use Rattle.gather_parts.specs.States.{state_in};
 ghost use Rattle.gather_parts.specs.Ends.{end_state, IfBytes};

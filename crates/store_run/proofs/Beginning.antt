@@ -19,16 +19,16 @@ use Rattle.sweeper.specs.Sweeps.{new_sweeper}
 use Rattle.actors.specs.Callers.{PartOf, StandsIn, first_caller, who_of, work_of}
 use Rattle.turn_lock.specs.History.{entries_of}
 use Rattle.turn_lock.specs.TurnState.{TurnState}
-use Rattle.place_laws.specs.Entries.{steps_in}
-use Rattle.place_laws.specs.Noted.{Noted, made_in}
-use Rattle.place_laws.specs.Numbers.{IsTurnOf}
-use Rattle.place_laws.specs.Begin.{ActorsBegin}
-use Rattle.place_laws.specs.Callers.{IsOperating}
-use Rattle.place_laws.specs.Logs.{counts_of, log_of, own_at}
-use Rattle.place_laws.specs.Measure.{bound_of, left_of}
-use Rattle.place_laws.proofs.Falling.{begun_left}
-use Rattle.place_laws.proofs.Lists.{own_empty}
-use Rattle.place_laws.proofs.Plain.{all_begin}
+use Rattle.thread_laws.specs.Entries.{steps_in}
+use Rattle.thread_laws.specs.Noted.{Noted, made_in}
+use Rattle.thread_laws.specs.Numbers.{IsTurnOf}
+use Rattle.thread_laws.specs.Begin.{ActorsBegin}
+use Rattle.thread_laws.specs.Callers.{IsOperating}
+use Rattle.thread_laws.specs.Logs.{counts_of, log_of, own_at}
+use Rattle.thread_laws.specs.Measure.{bound_of, left_of}
+use Rattle.thread_laws.proofs.Falling.{begun_left}
+use Rattle.thread_laws.proofs.Lists.{own_empty}
+use Rattle.thread_laws.proofs.Plain.{all_begin}
 use Rattle.store_run.specs.First.{AreNew}
 use Rattle.run_seats.specs.Owing.{OwesBySteps}
 use Rattle.run_seats.specs.Places.{seen_by}

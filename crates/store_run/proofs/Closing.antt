@@ -9,10 +9,10 @@ use Rattle.turn_lock.specs.Dealt.{IsTurnAt}
 use Rattle.turn_lock.specs.Joined.{AreAll, IsWhole}
 use Rattle.turn_lock.specs.Out.{AreOut, AreRows, IsOut}
 use Rattle.turn_lock.specs.Piles.{items_of}
-use Rattle.place_laws.specs.AtDirectory.{StandsAtDirectory}
-use Rattle.place_laws.specs.AtServer.{StandsAtServer}
+use Rattle.thread_laws.specs.AtDirectory.{StandsAtDirectory}
+use Rattle.thread_laws.specs.AtServer.{StandsAtServer}
 use Rattle.chunk_server.specs.Core.{core_of}
-use Rattle.place_laws.specs.Noted.{Noted}
+use Rattle.thread_laws.specs.Noted.{Noted}
 use Rattle.run_seats.specs.Fixed.{DirectoryStands, ServerStands, counts_of, counts_there, directory_identity, server_identity}
 use Rattle.run_seats.specs.Places.{HasTurns, IsStore, directory_of, server_of}
 use Rattle.run_seats.specs.SeatedActors.{IsSeatedActor, number_of}

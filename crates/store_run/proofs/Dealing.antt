@@ -8,7 +8,7 @@ use Rattle.turn_lock.proofs.Dealing.{turn_first, turn_taken, turns_left}
 use Rattle.turn_lock.proofs.JoinedLists.{at_place}
 use Rattle.turn_lock.specs.Piles.{items_of}
 use Rattle.turn_lock.specs.Rows.{ArePiles, DealOf, IsNewRow}
-use Rattle.place_laws.specs.Noted.{Noted}
+use Rattle.thread_laws.specs.Noted.{Noted}
 use Rattle.run_seats.specs.Places.{IsStore, directory_of, server_of}
 use Rattle.run_seats.specs.declared.directory_box.DirectoryIdentity.{DirectoryIdentity}
 use Rattle.run_seats.specs.declared.server_box.ServerIdentity.{ServerIdentity}

@@ -28,14 +28,14 @@ use Rattle.actors.specs.Inside.{served_of}
 use Rattle.turn_lock.proofs.JoinedLists.{at_place}
 use Rattle.turn_lock.specs.Out.{HasOwnAt}
 use Rattle.turn_lock.specs.Piles.{items_of}
-use Rattle.place_laws.specs.AtServer.{StandsAtServer}
-use Rattle.place_laws.specs.Noted.{made_in}
-use Rattle.place_laws.specs.Numbers.{actor_at}
-use Rattle.place_laws.specs.Callers.{IsOperating, IsSweeping}
-use Rattle.place_laws.specs.Ended.{AllHaveEnded, CallerOf, HasEnded, PlacesStand}
-use Rattle.place_laws.specs.Logs.{HasSeenOwn, Logs, counts_of, log_of, own_at}
-use Rattle.place_laws.proofs.Turns.{client_turn, operator_turn}
-use Rattle.place_laws.specs.SeenOwed.{OwedBySeen}
+use Rattle.thread_laws.specs.AtServer.{StandsAtServer}
+use Rattle.thread_laws.specs.Noted.{made_in}
+use Rattle.thread_laws.specs.Numbers.{actor_at}
+use Rattle.thread_laws.specs.Callers.{IsOperating, IsSweeping}
+use Rattle.thread_laws.specs.PlaceEnded.{AllHaveEnded, CallerOf, HasEnded, PlacesStand}
+use Rattle.thread_laws.specs.Logs.{HasSeenOwn, Logs, counts_of, log_of, own_at}
+use Rattle.thread_laws.proofs.Turns.{client_turn, operator_turn}
+use Rattle.thread_laws.specs.SeenOwed.{OwedBySeen}
 use Rattle.run_seats.specs.Owing.{OwesBySteps}
 use Rattle.run_seats.specs.Places.{IsStore, seen_by}
 use Rattle.run_seats.specs.Seated.{IsSeated}

@@ -6,12 +6,12 @@ use Rattle.version_seal.specs.Entry.{BookOf}
 use Rattle.chunk_server.specs.Core.{core_of}
 use Rattle.chunk_server.specs.State.{ServerState, empty_server}
 use Rattle.stripe_dir.specs.Sealed.{Sealed, new_sealed}
-use Rattle.place_laws.specs.AtDirectory.{StandsAtDirectory}
-use Rattle.place_laws.specs.AtServer.{StandsAtServer}
-use Rattle.place_laws.specs.Numbers.{Counts}
-use Rattle.place_laws.specs.Operated.{IsOperated}
-use Rattle.place_laws.proofs.Operated.{none_operated}
-use Rattle.place_laws.proofs.Others.{all_places_begin}
+use Rattle.thread_laws.specs.AtDirectory.{StandsAtDirectory}
+use Rattle.thread_laws.specs.AtServer.{StandsAtServer}
+use Rattle.thread_laws.specs.Numbers.{Counts}
+use Rattle.thread_laws.specs.Operated.{IsOperated}
+use Rattle.thread_laws.proofs.Operated.{none_operated}
+use Rattle.thread_laws.proofs.Others.{all_places_begin}
 
 pub server_begins : (of : Counts) (number : ℕ) (book : BookOf) (s : ServerState) → s ≡ empty_server number book
     → StandsAtServer of s.number (core_of s) [] × IsOperated s.book.script (Place.Server s.number) []

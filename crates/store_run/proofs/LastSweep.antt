@@ -26,25 +26,25 @@ use Rattle.dir_parts.proofs.Entries.{slice_get-map}
 use Rattle.version_seal.specs.Entry.{BookOf}
 use Rattle.stripe_dir.specs.Sealed.{Sealed}
 use Rattle.call_steps.specs.declared.need.Need.TheVariants as need
-use Rattle.call_laws.proofs.Needs.{server_in}
+use Rattle.call_steps.proofs.Needs.{server_in}
 use Rattle.sweeper.specs.Sweeps.{SweeperOf, act_of, at_directory_by, heard, need_at, need_of, stepped_at_directory, stepped_at_server}
 use Rattle.turn_lock.specs.History.{Among, GoesOn}
 use Rattle.turn_lock.proofs.Lists.{among_one, entries_of-with_entry, prefix_after, prefix_self, prefix_trans}
 use Rattle.turn_lock.proofs.JoinedLists.{each_changed, map_set}
 use Rattle.world_laws.specs.SweepsLeft.{sweeps_left}
 use Rattle.world_laws.proofs.SweepsLeft.{sweeps_fall}
-use Rattle.place_laws.specs.AtServer.{StandsAtServer}
-use Rattle.place_laws.specs.Noted.{Noted}
-use Rattle.place_laws.specs.Numbers.{IsTurnOf}
-use Rattle.place_laws.specs.Callers.{IsSweeping}
-use Rattle.place_laws.specs.Ended.{AllHaveEnded, CallerOf, HasEnded, PlacesStand}
-use Rattle.place_laws.specs.Logs.{Logs, counts_of, log_of, own_at}
-use Rattle.place_laws.specs.Plain.{HasAddedAtServer}
-use Rattle.place_laws.specs.Stepped.{last_own, with_log, with_notes}
-use Rattle.place_laws.proofs.Others.{others_add_nothing}
-use Rattle.place_laws.proofs.Placing.{changed_get}
-use Rattle.place_laws.proofs.Plain.{sweeping_goes_on}
-use Rattle.place_laws.proofs.Turns.{sweeper_turn}
+use Rattle.thread_laws.specs.AtServer.{StandsAtServer}
+use Rattle.thread_laws.specs.Noted.{Noted}
+use Rattle.thread_laws.specs.Numbers.{IsTurnOf}
+use Rattle.thread_laws.specs.Callers.{IsSweeping}
+use Rattle.thread_laws.specs.PlaceEnded.{AllHaveEnded, CallerOf, HasEnded, PlacesStand}
+use Rattle.thread_laws.specs.Logs.{Logs, counts_of, log_of, own_at}
+use Rattle.thread_laws.specs.Plain.{HasAddedAtServer}
+use Rattle.thread_laws.specs.Stepped.{last_own, with_log, with_notes}
+use Rattle.thread_laws.proofs.Others.{others_add_nothing}
+use Rattle.thread_laws.proofs.Placing.{changed_get}
+use Rattle.thread_laws.proofs.Plain.{sweeping_goes_on}
+use Rattle.thread_laws.proofs.Turns.{sweeper_turn}
 use Rattle.run_seats.specs.Plain.{HasSweptAtDirectory, HasSweptAtServer, plain_at_directory, plain_at_server}
 use Rattle.run_seats.proofs.Sweeping.{sweep_stands, sweep_stands_there, sweep_stepped, sweep_stepped_there}
 use Rattle.store_run.specs.Ended.{IsEnded, has_sweep}

@@ -8,10 +8,10 @@ use Rattle.thread_laws.specs.MadeSteps.{MadeStep}
 use Rattle.call_steps.specs.declared.caller_calls.CallerCalls.{CallerCalls}
 use Rattle.sweeper.specs.Sweeps.{SweeperOf}
 use Rattle.turn_lock.specs.TurnState.{TurnState}
-use Rattle.place_laws.specs.Noted.{Noted}
+use Rattle.thread_laws.specs.Noted.{Noted}
 use Rattle.turn_lock.proofs.JoinedLists.{at_end, each_pushed, front}
 use Rattle.turn_lock.specs.Piles.{items_of}
-use Rattle.place_laws.specs.Logs.{counts_of}
+use Rattle.thread_laws.specs.Logs.{counts_of}
 use Rattle.run_seats.specs.Seated.{IsSeated}
 use Rattle.run_seats.specs.SeatedActors.{IsSeatedActor, number_of}
 use Rattle.run_seats.specs.SeatedPlain.{IsOperator, IsSweeper}

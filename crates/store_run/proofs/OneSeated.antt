@@ -7,8 +7,8 @@ use Rattle.store_map.specs.declared.script.Script.{Script}
 use Rattle.store_core.specs.Agreement.{Seat}
 use Rattle.stripe_dir.specs.Seats.{first_seat}
 use Rattle.actors.specs.Callers.{PartOf, who_of}
-use Rattle.place_laws.specs.Numbers.{IsTurnOf}
-use Rattle.place_laws.specs.Logs.{counts_of}
+use Rattle.thread_laws.specs.Numbers.{IsTurnOf}
+use Rattle.thread_laws.specs.Logs.{counts_of}
 use Rattle.run_seats.specs.SeatedActors.{IsSeatedActor, number_of}
 use Rattle.run_seats.specs.declared.seated_actor.SeatedActor.{SeatedActor}
 use Rattle.run_seats.specs.declared.store.Store.{Store}

@@ -11,11 +11,11 @@ use Rattle.store_core.specs.Work.{Work, client_work, has_step, repairer_work}
 use Rattle.dir_parts.proofs.Entries.{slice_get-map}
 use Rattle.world_laws.specs.Known.{calling_of}
 use Rattle.actors.specs.Callers.{PartOf, StandsIn, who_of, work_of}
-use Rattle.place_laws.specs.Numbers.{actor_at}
-use Rattle.place_laws.specs.Callers.{IsCalling}
-use Rattle.place_laws.specs.Ended.{CallerOf, HasEnded}
-use Rattle.place_laws.specs.Logs.{Logs, HasSeenOwn, counts_of, own_at}
-use Rattle.place_laws.proofs.Numbers.{clients_come_first, repairers_follow}
+use Rattle.thread_laws.specs.Numbers.{actor_at}
+use Rattle.thread_laws.specs.Callers.{IsCalling}
+use Rattle.thread_laws.specs.PlaceEnded.{CallerOf, HasEnded}
+use Rattle.thread_laws.specs.Logs.{Logs, HasSeenOwn, counts_of, own_at}
+use Rattle.thread_laws.proofs.Numbers.{clients_come_first, repairers_follow}
 use Rattle.run_seats.specs.Places.{seen_by}
 use Rattle.run_seats.specs.Seated.{IsSeated, seated_has}
 use Rattle.run_seats.specs.declared.seated.Seated.{Seated}

@@ -7,8 +7,8 @@ use Rattle.store_map.specs.declared.actor.Actor.TheVariants as actor
 use Rattle.store_core.specs.Agreement.{Seat}
 use Rattle.stripe_dir.specs.Seats.{client_seat, first_seat, first_seats, repairer_seat}
 use Rattle.actors.specs.Callers.{PartOf, who_of}
-use Rattle.place_laws.specs.Numbers.{Counts, actor_at}
-use Rattle.place_laws.proofs.Numbers.{clients_come_first, repairers_follow}
+use Rattle.thread_laws.specs.Numbers.{Counts, actor_at}
+use Rattle.thread_laws.proofs.Numbers.{clients_come_first, repairers_follow}
 
 module _ (of : Counts) where
   abbrev seats : List Seat

@@ -10,9 +10,9 @@ use Rattle.turn_lock.specs.Joined.{HasOwn}
 use Rattle.turn_lock.proofs.JoinedLists.{at_place}
 use Rattle.turn_lock.specs.Out.{HasOwnAt}
 use Rattle.turn_lock.specs.Piles.{items_of}
-use Rattle.place_laws.specs.Noted.{Noted}
-use Rattle.place_laws.specs.Logs.{HasSeenOwn, Logs}
-use Rattle.place_laws.proofs.Seen.{histories_have_all}
+use Rattle.thread_laws.specs.Noted.{Noted}
+use Rattle.thread_laws.specs.Logs.{HasSeenOwn, Logs}
+use Rattle.thread_laws.proofs.Seen.{histories_have_all}
 use Rattle.run_seats.specs.Places.{seen_by}
 use Rattle.run_seats.specs.declared.directory_box.DirectoryIdentity.{DirectoryIdentity}
 use Rattle.run_seats.specs.declared.seated_actor.SeatedActor.{SeatedActor}

@@ -24,9 +24,9 @@ use Rattle.run_laws.proofs.Runs.{CanRun}
 use Rattle.run_laws.proofs.Scripts.{Mapped, can_run, mapped}
 use Rattle.history_laws.proofs.Induction.{run_has}
 use Rattle.history_laws.proofs.NamedCalls.{AllCalls, AllInWork, calls_kept, first_calls}
-use Rattle.transcript_laws.specs.Faithful.{IsFaithful}
-use Rattle.transcript_laws.proofs.Ample.{ample_runs_are_one}
-use Rattle.transcript_laws.proofs.Plays.{runs_are_faithful}
+use Rattle.history_laws.specs.Faithful.{IsFaithful}
+use Rattle.history_laws.proofs.Ample.{ample_runs_are_one}
+use Rattle.history_laws.proofs.Plays.{runs_are_faithful}
 use Rattle.thread_laws.specs.Histories.{Histories}
 use Rattle.thread_laws.specs.Threaded.{IsThreadedRun, lines_of}
 use Rattle.thread_laws.proofs.Showing.{shows_core}
@@ -46,13 +46,13 @@ use Rattle.world_laws.specs.World.{ActorOf, DoingOf, WorldOf}
 use Rattle.world_laws.proofs.Actors.{Found, found}
 use Rattle.world_laws.proofs.Shows.{worlds_show}
 use Rattle.actors.specs.Callers.{PartOf, work_of}
-use Rattle.place_laws.specs.EndLaws.{end_of, world_of}
-use Rattle.place_laws.specs.Ended.{CallerOf}
-use Rattle.place_laws.specs.Logs.{run_lists}
-use Rattle.place_laws.proofs.Ending.{actors_end_runs}
-use Rattle.place_laws.specs.ServedLaws.{IsMadeOf}
-use Rattle.place_laws.proofs.SeenOwed.{all_served_stay_owed}
-use Rattle.place_laws.proofs.Served.{owed_are_served}
+use Rattle.thread_laws.specs.EndLaws.{end_of, world_of}
+use Rattle.thread_laws.specs.PlaceEnded.{CallerOf}
+use Rattle.thread_laws.specs.Logs.{run_lists}
+use Rattle.thread_laws.proofs.Ending.{actors_end_runs}
+use Rattle.thread_laws.specs.ServedLaws.{IsMadeOf}
+use Rattle.thread_laws.proofs.SeenOwed.{all_served_stay_owed}
+use Rattle.thread_laws.proofs.Served.{owed_are_served}
 use Rattle.store_run.specs.Ended.{AreCallsOf, IsEnded, has_sweep}
 use Rattle.store_run.specs.Swept.{IsRunToEnd}
 use Rattle.store_run.specs.declared.ended.Ended.{Ended}

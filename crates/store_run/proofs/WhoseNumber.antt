@@ -2,8 +2,8 @@
 use Rattle.std.proofs.Common.{◌≡◌, ℕ, ◌+◌, ◌-◌, ◌<◌, ◌≤◌, Bool, true, false, cond, nat_lt, nat_eq, length, refl, sym, ap, ◌∙◌, arith, true≢false, eq-eqb, eqb-true, ltb-false, ltb-true}
 use Rattle.store_map.specs.declared.actor.Actor.{Actor}
 use Rattle.store_map.specs.declared.actor.Actor.TheVariants as actor
-use Rattle.place_laws.specs.Numbers.{Counts, actor_at}
-use Rattle.place_laws.specs.Logs.{counts_of}
+use Rattle.thread_laws.specs.Numbers.{Counts, actor_at}
+use Rattle.thread_laws.specs.Logs.{counts_of}
 use Rattle.actors.specs.Callers.{PartOf, who_of}
 use Rattle.run_seats.specs.Seated.{IsSeated}
 use Rattle.run_seats.specs.SeatedActors.{IsSeatedActor, number_of}

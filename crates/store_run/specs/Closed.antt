@@ -9,10 +9,10 @@ use Rattle.stripe_dir.specs.Sealed.{Sealed}
 use Rattle.turn_lock.specs.TurnState.{TurnState}
 use Rattle.turn_lock.specs.Joined.{IsWhole}
 use Rattle.turn_lock.specs.Out.{HasOwnAt}
-use Rattle.place_laws.specs.AtDirectory.{StandsAtDirectory}
-use Rattle.place_laws.specs.AtServer.{StandsAtServer}
-use Rattle.place_laws.specs.Noted.{Noted}
-use Rattle.place_laws.specs.Logs.{counts_of}
+use Rattle.thread_laws.specs.AtDirectory.{StandsAtDirectory}
+use Rattle.thread_laws.specs.AtServer.{StandsAtServer}
+use Rattle.thread_laws.specs.Noted.{Noted}
+use Rattle.thread_laws.specs.Logs.{counts_of}
 use Rattle.run_seats.specs.declared.directory_box.DirectoryIdentity.{DirectoryIdentity}
 use Rattle.run_seats.specs.declared.server_box.ServerIdentity.{ServerIdentity}
 use Rattle.run_seats.specs.declared.store.Store.{Store}

@@ -12,9 +12,9 @@ use Rattle.chunk_server.specs.State.{ServerState}
 use Rattle.world_laws.specs.Known.{calling_of}
 use Rattle.call_steps.specs.CallerCalls.{calling_at}
 use Rattle.call_steps.specs.declared.caller_calls.CallerCalls.{CallerCalls}
-use Rattle.place_laws.specs.Ended.{AllHaveEnded, CallerOf, PlacesStand}
-use Rattle.place_laws.specs.Logs.{Logs}
-use Rattle.place_laws.specs.SeenOwed.{OwedBySeen}
+use Rattle.thread_laws.specs.PlaceEnded.{AllHaveEnded, CallerOf, PlacesStand}
+use Rattle.thread_laws.specs.Logs.{Logs}
+use Rattle.thread_laws.specs.SeenOwed.{OwedBySeen}
 use Rattle.store_run.specs.declared.ended.Ended.{Ended}
 
 -- these calls are those of the callers

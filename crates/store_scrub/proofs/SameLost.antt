@@ -11,8 +11,8 @@ use Rattle.store_core.specs.Server.{new_server}
 use Rattle.store_core.specs.Sound.{IsSound, HasItsVersions}
 use Rattle.store_core.specs.SoundPasses.{Stands}
 use Rattle.dir_parts.specs.Known.{is_unswept_standing, is_known}
-use Rattle.session_laws.specs.Seen.{versions_under}
-use Rattle.session_laws.specs.Scrubs.{holds_version, servers_without, lost_of, lost_at}
+use Rattle.session_rules.specs.Seen.{versions_under}
+use Rattle.session_rules.specs.Scrubs.{holds_version, servers_without, lost_of, lost_at}
 use Rattle.chunk_server.specs.State.{Held, ServerState, versions_of}
 use Rattle.chunk_server.specs.Core.{core_of}
 use Rattle.store_scrub.specs.Lost.{places_with, lost_from}

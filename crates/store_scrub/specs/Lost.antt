@@ -3,7 +3,7 @@ use Rattle.std.specs.Prelude.{◌≡◌, ℕ, false, List, map, All}
 use Rattle.store_core.specs.Directory.{Directory}
 use Rattle.store_core.specs.Step.{Places}
 use Rattle.session_rules.specs.declared.answer.LostChunk.{LostChunk as Lost}
-use Rattle.session_laws.specs.Scrubs.{servers_without}
+use Rattle.session_rules.specs.Scrubs.{servers_without}
 use Rattle.chunk_server.specs.State.{ServerState}
 use Rattle.chunk_server.specs.Core.{core_of}
 use Rattle.store_scrub.specs.declared.report.LostChunk.{LostChunk}

@@ -3,7 +3,7 @@ ghost use Rattle.std.specs.Prelude.{◌≡◌, ◌<◌, ◌^◌, ◌++◌, false
 ghost use Rattle.clay_grid.specs.Shape.{chunk_count};
 ghost use Rattle.store_core.specs.Lists.{is_among};
 ghost use Rattle.store_core.specs.Directory.{Directory as CoreDirectory};
-ghost use Rattle.session_laws.specs.Scrubs.{lost_of, lost_at};
+ghost use Rattle.session_rules.specs.Scrubs.{lost_of, lost_at};
 ghost use Rattle.chunk_server.specs.Core.{core_of};
 ghost use Rattle.store_scrub.specs.Lost.{lost_in, lost_from, places_with, ArePresent};
 ghost use Rattle.store_scrub.specs.Strays.{is_stray, stray_at, strays_in};

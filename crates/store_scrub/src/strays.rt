@@ -3,7 +3,7 @@ ghost use Rattle.std.specs.Prelude.{◌≡◌, [], All};
 ghost use Rattle.store_core.specs.Lists.{change_at};
 ghost use Rattle.store_core.specs.Directory.{Directory as CoreDirectory};
 ghost use Rattle.store_core.specs.Sound.{IsSound};
-ghost use Rattle.session_laws.specs.Scrubs.{lost_at};
+ghost use Rattle.session_rules.specs.Scrubs.{lost_at};
 ghost use Rattle.chunk_server.specs.Valid.{IsValid};
 ghost use Rattle.chunk_server.specs.Steps.{after_discard};
 ghost use Rattle.store_scrub.specs.Lost.{places_with, ArePresent};

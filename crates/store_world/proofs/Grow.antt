@@ -11,7 +11,7 @@ use Rattle.call_steps.specs.declared.need.Need.{Need}
 use Rattle.call_steps.specs.declared.need.Need.TheVariants as need
 use Rattle.call_steps.specs.CallOf.{CallOf, act_of}
 use Rattle.call_steps.specs.Steps.{at_directory_by as called_at_directory, need_of}
-use Rattle.call_laws.specs.Ready.{ready}
+use Rattle.call_steps.specs.Ready.{ready}
 use Rattle.sweeper.specs.Sweeps.{SweeperOf, act_of as sweep_of, at_directory_by as swept_at_directory}
 use Rattle.actors.specs.Turns.{IsMadeAt}
 use Rattle.store_world.specs.ServeLaws.{HasMorePoints, HistoriesGrow}

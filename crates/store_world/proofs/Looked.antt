@@ -10,14 +10,14 @@ use Rattle.store_core.specs.NextAct.{Job}
 use Rattle.store_core.specs.Note.{Note, Kind, note_of}
 use Rattle.store_core.specs.Read.{parts_of}
 use Rattle.store_core.specs.Told.{Told}
-use Rattle.store_resume.specs.Stage.{Aim, Stage, seen_of}
-use Rattle.store_resume.specs.Stages.{first_stage}
-use Rattle.store_resume.specs.StageAfter.{stage_after}
-use Rattle.store_resume.specs.State.{Sequel, State}
-use Rattle.store_resume.specs.States.{sequel_state, parts_state, stage_state, open_parts, open_state}
-use Rattle.store_resume.specs.GatherAfter.{ending_after, first_after, parts_after}
-use Rattle.store_resume.specs.LookAfter.{start_after}
-use Rattle.store_resume.specs.CallLaws.{next_call_from}
+use Rattle.run_laws.specs.Stage.{Aim, Stage, seen_of}
+use Rattle.run_laws.specs.Stages.{first_stage}
+use Rattle.run_laws.specs.StageAfter.{stage_after}
+use Rattle.run_laws.specs.State.{Sequel, State}
+use Rattle.run_laws.specs.States.{sequel_state, parts_state, stage_state, open_parts, open_state}
+use Rattle.run_laws.specs.GatherAfter.{ending_after, first_after, parts_after}
+use Rattle.run_laws.specs.LookAfter.{start_after}
+use Rattle.run_laws.specs.CallLaws.{next_call_from}
 use Rattle.call_machine.specs.Kinds.{Asked, asked_job, machine_of, IfReads, client_machine}
 use Rattle.store_world.specs.Looked.{IsServing, HasLooked}
 

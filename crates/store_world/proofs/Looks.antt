@@ -20,12 +20,12 @@ use Rattle.store_core.specs.Read.{parts_of}
 use Rattle.store_map.specs.declared.call.Call.{Call}
 use Rattle.store_core.specs.Told.{Told, Seen}
 use Rattle.store_core.specs.Tokens.{actor_of}
-use Rattle.content_laws.specs.MapAfter.{map_by}
-use Rattle.content_laws.specs.PinLaws.{IsReading}
-use Rattle.content_laws.specs.ReadLaws.{bytes_read}
-use Rattle.content_laws.proofs.OwedBytes.{looks_owe_their_pins}
-use Rattle.store_resume.specs.State.{State}
-use Rattle.store_resume.specs.StateActs.{act_at}
+use Rattle.run_laws.specs.MapAfter.{map_by}
+use Rattle.run_laws.specs.PinLaws.{IsReading}
+use Rattle.run_laws.specs.ReadLaws.{bytes_read}
+use Rattle.run_laws.proofs.OwedBytes.{looks_owe_their_pins}
+use Rattle.run_laws.specs.State.{State}
+use Rattle.run_laws.specs.StateActs.{act_at}
 use Rattle.stripe_dir.specs.Sealed.{Sealed}
 use Rattle.call_steps.specs.CallOf.{CallOf, act_of}
 use Rattle.client_read.specs.Owed.{contents_of, owed_after_look, owed_by as read_by}

@@ -12,7 +12,7 @@ use Rattle.chunk_server.specs.State.{ServerState}
 use Rattle.stripe_dir.specs.Sealed.{Sealed}
 use Rattle.call_steps.specs.CallOf.{CallOf, act_of}
 use Rattle.call_steps.specs.Steps.{need_of}
-use Rattle.call_laws.specs.Ready.{ready}
+use Rattle.call_steps.specs.Ready.{ready}
 use Rattle.call_machine.specs.Kinds.{Machine, machine_of, IfReads}
 use Rattle.call_machine.specs.Calls.{MachineOf}
 use Rattle.world_laws.specs.World.{ActorOf, DoingOf, steps_of}

@@ -4,9 +4,9 @@ use Rattle.store_map.specs.declared.script.Script.{Script}
 use Rattle.store_core.specs.History.{call_of}
 use Rattle.store_core.specs.Schedule.{run_core}
 use Rattle.store_core.specs.Sound.{IsSound}
-use Rattle.content_laws.specs.Contents.{HasBytes}
-use Rattle.content_laws.specs.RunContents.{RunsStandForTheMap}
-use Rattle.content_laws.proofs.RunBytes.{all_runs_stand_for_the_map}
+use Rattle.run_laws.specs.Contents.{HasBytes}
+use Rattle.run_laws.specs.RunContents.{RunsStandForTheMap}
+use Rattle.run_laws.proofs.RunBytes.{all_runs_stand_for_the_map}
 use Rattle.stripe_dir.specs.Stamped.{HaveContents, HasStamps}
 use Rattle.client_patch.specs.Padded.{ArePadded, BytesOfTheMapArePadded}
 use Rattle.world_laws.specs.StandsFor.{StandsFor}

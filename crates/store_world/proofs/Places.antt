@@ -19,7 +19,7 @@ use Rattle.store_core.specs.Told.{Told}
 use Rattle.chunk_server.specs.State.{ServerState}
 use Rattle.chunk_server.specs.Core.{core_of}
 use Rattle.dir_parts.proofs.Entries.{map-set, slice_get-map}
-use Rattle.transcript_laws.specs.Trace.{act_made}
+use Rattle.history_laws.specs.Trace.{act_made}
 use Rattle.call_steps.specs.declared.act.Act.{Act as ActTold}
 use Rattle.call_steps.specs.declared.answer.DirectoryAnswer.{DirectoryAnswer}
 use Rattle.call_steps.specs.declared.answer.ServerAnswer.{ServerAnswer}

@@ -6,8 +6,8 @@ use Rattle.store_map.specs.declared.actor.Token.{Token}
 use Rattle.store_map.specs.declared.script.Script.{Script}
 use Rattle.store_map.specs.declared.transcript.Transcript.{Transcript}
 use Rattle.store_core.specs.Shown.{shown}
-use Rattle.transcript_laws.specs.Played.{IsPlayed}
-use Rattle.transcript_laws.proofs.Plays.{runs_are_played}
+use Rattle.history_laws.specs.Played.{IsPlayed}
+use Rattle.history_laws.proofs.Plays.{runs_are_played}
 use Rattle.world_laws.specs.World.{WorldOf}
 use Rattle.world_laws.specs.Known.{core_of}
 use Rattle.world_laws.proofs.Shows.{worlds_show}

@@ -9,11 +9,11 @@ use Rattle.store_core.specs.Directory.{Directory}
 use Rattle.store_core.specs.History.{call_of}
 use Rattle.store_core.specs.Tokens.{actor_of}
 use Rattle.store_core.specs.Work.{Ended}
-use Rattle.store_resume.specs.State.{State}
-use Rattle.store_resume.specs.StateActs.{act_at}
+use Rattle.run_laws.specs.State.{State}
+use Rattle.run_laws.specs.StateActs.{act_at}
 use Rattle.call_steps.specs.CallOf.{CallOf, act_of}
 use Rattle.call_steps.specs.Steps.{coded, HoldsItsPass, IsDueInPass}
-use Rattle.call_laws.specs.Ready.{ready}
+use Rattle.call_steps.specs.Ready.{ready}
 use Rattle.store_core.specs.Told.{Told}
 use Rattle.call_machine.specs.Kinds.{Asked, asked_job, Machine, machine_of, IfReads}
 use Rattle.call_machine.specs.Calls.{MachineOf}

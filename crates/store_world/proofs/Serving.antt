@@ -13,9 +13,9 @@ use Rattle.store_core.specs.Sound.{IsSound}
 use Rattle.store_core.specs.Work.{Ended}
 use Rattle.run_laws.proofs.Scripts.{can_run}
 use Rattle.run_laws.proofs.DirectoryInvariants.{StepsKeep, Held, runs_hold}
-use Rattle.content_laws.specs.Contents.{HasBytes}
-use Rattle.content_laws.specs.ContentLaws.{StepsKeepBytes}
-use Rattle.content_laws.proofs.ContentSteps.{steps_keep_bytes}
+use Rattle.run_laws.specs.Contents.{HasBytes}
+use Rattle.run_laws.specs.ContentLaws.{StepsKeepBytes}
+use Rattle.run_laws.proofs.ContentSteps.{steps_keep_bytes}
 use Rattle.call_steps.specs.declared.caller_calls.CallerCalls.{CallerCalls}
 use Rattle.call_steps.specs.declared.caller_calls.EndedCall.{EndedCall}
 use Rattle.call_steps.specs.CallerCalls.{ended_of}

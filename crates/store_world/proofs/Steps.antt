@@ -12,9 +12,9 @@ use Rattle.store_core.specs.NextAct.{Job}
 use Rattle.store_core.specs.Note.{Kind}
 use Rattle.store_core.specs.Told.{Told}
 use Rattle.store_core.specs.Tokens.{actor_of}
-use Rattle.content_laws.specs.MapAfter.{map_by}
-use Rattle.store_resume.specs.State.{State}
-use Rattle.store_resume.specs.CallLaws.{next_call_from}
+use Rattle.run_laws.specs.MapAfter.{map_by}
+use Rattle.run_laws.specs.State.{State}
+use Rattle.run_laws.specs.CallLaws.{next_call_from}
 use Rattle.call_steps.specs.CallOf.{CallOf, state_told}
 use Rattle.call_machine.specs.Kinds.{Asked, asked_job, Machine, machine_of, IfReads}
 use Rattle.call_machine.specs.Calls.{MachineOf}

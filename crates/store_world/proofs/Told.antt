@@ -14,7 +14,7 @@ use Rattle.store_core.specs.Server.{Server, at_server}
 use Rattle.store_core.specs.Step.{Shortage, Places, at_places, at_server_there}
 use Rattle.store_core.specs.Told.{Told}
 use Rattle.store_core.specs.Work.{Work}
-use Rattle.transcript_laws.specs.Trace.{Made, act_made}
+use Rattle.history_laws.specs.Trace.{Made, act_made}
 use Rattle.call_steps.specs.declared.act.Act.{Act as ActTold}
 use Rattle.call_steps.specs.declared.answer.DirectoryAnswer.{DirectoryAnswer}
 use Rattle.call_steps.specs.declared.answer.DirectoryAnswer.TheVariants as said

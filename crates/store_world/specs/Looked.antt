@@ -1,6 +1,6 @@
 -- Where a call that reads can stand after its look.
 use Rattle.std.specs.Prelude.{⊤}
-use Rattle.store_resume.specs.State.{Sequel, State}
+use Rattle.run_laws.specs.State.{Sequel, State}
 
 -- a gathering whose bytes are served
 abbrev pub IsServing : Sequel → Type 0

@@ -5,7 +5,7 @@ use Rattle.store_map.specs.Limits.{size_of}
 use Rattle.store_map.specs.declared.script.Script.{Script}
 use Rattle.store_core.specs.History.{call_of}
 use Rattle.store_core.specs.Sound.{IsSound}
-use Rattle.content_laws.specs.Contents.{HasBytes}
+use Rattle.run_laws.specs.Contents.{HasBytes}
 use Rattle.stripe_dir.specs.Sealed.{Sealed}
 use Rattle.stripe_dir.specs.Stamped.{HaveContents}
 

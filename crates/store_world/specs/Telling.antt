@@ -2,7 +2,7 @@
 use Rattle.std.specs.Prelude.{ℕ, List, [], ◌∷◌, Option, None, Some, false}
 use Rattle.store_map.specs.declared.actor.Actor.{Actor}
 use Rattle.store_map.specs.declared.actor.Token.{Token}
-use Rattle.transcript_laws.specs.Trace.{Made}
+use Rattle.history_laws.specs.Trace.{Made}
 use Rattle.store_map.specs.declared.actor.Actor.TheVariants as actor
 use Rattle.store_map.specs.declared.actor.Point.{Point}
 use Rattle.call_steps.specs.declared.act.Act.{Act}

@@ -2,7 +2,7 @@
 ghost use Rattle.std.specs.Prelude.{◌≡◌, Some, IfOk};
 ghost use Rattle.store_map.specs.Naming.{IsValid};
 ghost use Rattle.version_seal.specs.Sealer.{sealer_at};
-ghost use Rattle.transcript_laws.specs.Played.{IsPlayed};
+ghost use Rattle.history_laws.specs.Played.{IsPlayed};
 
 use crate::world::World;
 use clay_model::Coder;

@@ -16,7 +16,7 @@ use Rattle.dir_parts.specs.Table.{Table}
 use Rattle.dir_parts.specs.Parts.{Shelf, PointLog}
 use Rattle.dir_parts.proofs.TableSteps.{length-change_at}
 use Rattle.stripe_dir.specs.Stripes.{pin_by}
-use Rattle.content_laws.proofs.Grows.{origins}
+use Rattle.run_laws.proofs.ContentGrows.{origins}
 use Rattle.stripe_dir.specs.Kept.{directory_in, sealed_in, IsKept}
 use Rattle.stripe_dir.proofs.Stamps.{same_count, stamps_stay}
 use Rattle.stripe_dir.specs.declared.directory.Directory.TheInside.{Inside}

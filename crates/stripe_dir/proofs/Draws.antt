@@ -29,7 +29,7 @@ use Rattle.stripe_dir.proofs.Stamps.{bases_in, stamps_drawn}
 use Rattle.stripe_dir.specs.declared.directory.Directory.TheInside.{Inside}
 use Rattle.stripe_dir.proofs.Sound.{keeps_whole}
 use Rattle.stripe_dir.proofs.Garbage.{kept_versions}
-use Rattle.content_laws.proofs.Grows.{origins}
+use Rattle.run_laws.proofs.ContentGrows.{origins}
 
 -- what a pass keeps that may get what was drawn
 still : {X : Type 0} (f : Pass → X) (dr : List ℕ) → ((q : Pass) → f (record q { drawn = dr }) ≡ f q) → (b : Bool) (q : Pass) → f (cond {A = Pass} b (record q { drawn = dr }) q) ≡ f q

@@ -27,7 +27,7 @@ use Rattle.dir_parts.specs.TableSteps.{placed_anew_by}
 use Rattle.dir_parts.specs.Parts.{Shelf, PointLog}
 use Rattle.stripe_dir.specs.ItsStripes.{IsWhole}
 use Rattle.stripe_dir.specs.Seats.{seat_left}
-use Rattle.content_laws.proofs.Grows.{origins}
+use Rattle.run_laws.proofs.ContentGrows.{origins}
 use Rattle.stripe_dir.specs.Kept.{directory_in, sealed_in, IsKept}
 use Rattle.stripe_dir.proofs.Stamps.{same_count, stamps_stay}
 use Rattle.stripe_dir.specs.declared.directory.Directory.TheInside.{Inside}

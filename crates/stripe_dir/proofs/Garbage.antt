@@ -15,7 +15,7 @@ use Rattle.stripe_dir.specs.ItsStripes.{IsWhole}
 use Rattle.dir_parts.specs.Counts.{one_if, times, pins_of, pins_by}
 use Rattle.dir_parts.specs.Table.{Table}
 use Rattle.dir_parts.specs.TableSteps.{first_free, taken_from}
-use Rattle.content_laws.proofs.Grows.{origins, set_keeps, swept_keeps}
+use Rattle.run_laws.proofs.ContentGrows.{origins, set_keeps, swept_keeps}
 use Rattle.stripe_dir.specs.Kept.{directory_in, sealed_in, IsKept}
 use Rattle.stripe_dir.proofs.Stamps.{same_count, stamps_stay}
 use Rattle.stripe_dir.specs.declared.directory.Directory.TheInside.{Inside}

@@ -19,7 +19,7 @@ use Rattle.dir_parts.specs.Parts.{PointLog}
 use Rattle.dir_parts.proofs.Actors.{same_is, both_of, find_passes}
 use Rattle.dir_parts.proofs.TableSteps.{length-set_standing}
 use Rattle.dir_parts.proofs.Growing.{all_changed}
-use Rattle.content_laws.proofs.Grows.{origins, set_keeps}
+use Rattle.run_laws.proofs.ContentGrows.{origins, set_keeps}
 use Rattle.stripe_dir.specs.Kept.{directory_in, sealed_in, IsKept}
 use Rattle.stripe_dir.proofs.Stamps.{stamps_stay}
 use Rattle.stripe_dir.specs.declared.directory.Directory.TheInside.{Inside}

@@ -12,9 +12,9 @@ use Rattle.store_core.specs.Directory.{Pass, Directory}
 use Rattle.store_core.specs.Lookups.{pass_of}
 use Rattle.store_core.specs.Note.{Note}
 use Rattle.store_core.specs.PassSteps.{touched, new_version, draw, close_pass}
-use Rattle.content_laws.specs.Contents.{stored_in}
-use Rattle.content_laws.proofs.Grows.{origins, same_contents}
-use Rattle.content_laws.proofs.VersionsMove.{Draws, versions_move}
+use Rattle.run_laws.specs.Contents.{stored_in}
+use Rattle.run_laws.proofs.ContentGrows.{origins, same_contents}
+use Rattle.run_laws.proofs.VersionsMove.{Draws, versions_move}
 use Rattle.version_seal.specs.Entry.{StampOf, RequestOf, call_written}
 use Rattle.stripe_dir.specs.ItsStripes.{IsWhole}
 use Rattle.stripe_dir.specs.Sealed.{Sealed, stamps_touched}

@@ -16,7 +16,7 @@ use Rattle.store_core.specs.Directory.{Version, Pin, Pass, Directory}
 use Rattle.store_core.specs.History.{call_of}
 use Rattle.store_core.specs.Lookups.{same_actor, pass_of}
 use Rattle.store_core.specs.SoundPasses.{HasVersions}
-use Rattle.content_laws.proofs.Grows.{origins, same_contents, IsBased, count_contents, contents_drawn}
+use Rattle.run_laws.proofs.ContentGrows.{origins, same_contents, IsBased, count_contents, contents_drawn}
 use Rattle.run_laws.proofs.Passes.{found_has}
 use Rattle.dir_parts.specs.TableSteps.{base_version, drawn_version}
 use Rattle.version_seal.specs.Entry.{BookOf, StampOf, RequestOf, call_written, old_bytes, content_over, IsBaseIn}

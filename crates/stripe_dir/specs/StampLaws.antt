@@ -7,8 +7,8 @@ use Rattle.store_core.specs.AtDirectory.{at_directory}
 use Rattle.store_core.specs.Calls.{Calls}
 use Rattle.store_core.specs.Directory.{Pass}
 use Rattle.store_core.specs.Lookups.{pass_of}
-use Rattle.content_laws.specs.MapAfter.{map_by}
-use Rattle.content_laws.specs.Contents.{stripes_in, stored_in, HasBytes}
+use Rattle.run_laws.specs.MapAfter.{map_by}
+use Rattle.run_laws.specs.Contents.{stripes_in, stored_in, HasBytes}
 use Rattle.version_seal.specs.Entry.{BookOf, RequestOf, call_written}
 use Rattle.stripe_dir.specs.ItsStripes.{IsWhole}
 use Rattle.stripe_dir.specs.Sealed.{Sealed, new_sealed, stamps_touched}

@@ -21,11 +21,11 @@ use Rattle.store_core.specs.Read.{parts_of}
 use Rattle.store_core.specs.Schedule.{run_core}
 use Rattle.store_core.specs.Told.{Told}
 use Rattle.store_core.proofs.Places.{directory_keeps_places}
-use Rattle.content_laws.specs.MapAfter.{map_by}
-use Rattle.content_laws.specs.Contents.{HasBytes}
-use Rattle.content_laws.specs.ReadLaws.{bytes_read}
-use Rattle.content_laws.proofs.OwedBytes.{looks_owe_their_pins}
-use Rattle.content_laws.proofs.RunBytes.{all_runs_stand_for_the_map}
+use Rattle.run_laws.specs.MapAfter.{map_by}
+use Rattle.run_laws.specs.Contents.{HasBytes}
+use Rattle.run_laws.specs.ReadLaws.{bytes_read}
+use Rattle.run_laws.proofs.OwedBytes.{looks_owe_their_pins}
+use Rattle.run_laws.proofs.RunBytes.{all_runs_stand_for_the_map}
 use Rattle.history_laws.proofs.OrderEnds.{EndKnown}
 use Rattle.history_laws.proofs.OrderRuns.{end_known}
 use Rattle.thread_laws.specs.AtPlaces.{after_all, directory_next}

@@ -30,10 +30,10 @@ use Rattle.history_laws.proofs.OwnRuns.{AllOwn, all_own}
 use Rattle.history_laws.proofs.OwnLines.{named_losses}
 use Rattle.history_laws.proofs.RaceLines.{runs_lose_races, runs_name_changes}
 use Rattle.history_laws.proofs.ColumnRuns.{runs_add_up}
-use Rattle.transcript_laws.specs.Faithful.{IsFaithful}
-use Rattle.transcript_laws.proofs.Shows.{all_names}
-use Rattle.transcript_laws.proofs.Ample.{ample_runs_are_one}
-use Rattle.transcript_laws.proofs.Plays.{runs_are_faithful}
+use Rattle.history_laws.specs.Faithful.{IsFaithful}
+use Rattle.history_laws.proofs.Shows.{all_names}
+use Rattle.history_laws.proofs.Ample.{ample_runs_are_one}
+use Rattle.history_laws.proofs.Plays.{runs_are_faithful}
 use Rattle.thread_laws.specs.Threaded.{IsThreadedRun, is_line, lines_of}
 use Rattle.thread_laws.proofs.Showing.{shows_core}
 use Rattle.thread_laws.specs.Ended.{HaveEnded}

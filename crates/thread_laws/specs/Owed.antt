@@ -9,7 +9,7 @@ use Rattle.store_core.specs.Directory.{Directory, new_directory}
 use Rattle.store_core.specs.Note.{Note}
 use Rattle.store_core.specs.Read.{parts_of}
 use Rattle.store_core.specs.Told.{Seen, Told}
-use Rattle.content_laws.specs.ReadLaws.{bytes_read}
+use Rattle.run_laws.specs.ReadLaws.{bytes_read}
 use Rattle.thread_laws.specs.AtPlaces.{after_all, directory_next}
 use Rattle.thread_laws.specs.MadeSteps.{MadeStep}
 

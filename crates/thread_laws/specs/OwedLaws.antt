@@ -14,8 +14,8 @@ use Rattle.store_core.specs.Core.{first_core}
 use Rattle.store_core.specs.Directory.{Event, Point}
 use Rattle.store_core.specs.History.{applied, call_of}
 use Rattle.store_core.specs.Read.{parts_of}
-use Rattle.content_laws.specs.MapAfter.{map_by}
-use Rattle.content_laws.specs.ReadLaws.{bytes_read}
+use Rattle.run_laws.specs.MapAfter.{map_by}
+use Rattle.run_laws.specs.ReadLaws.{bytes_read}
 use Rattle.thread_laws.specs.Histories.{Histories, StandTwice, GoOn}
 use Rattle.thread_laws.specs.MadeSteps.{MadeStep}
 use Rattle.thread_laws.specs.Owed.{directory_after, IsLook, WasOwed}

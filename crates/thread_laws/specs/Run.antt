@@ -6,11 +6,11 @@ use Rattle.hist_rules.specs.Finished.{Finished}
 use Rattle.store_core.specs.Core.{Core}
 use Rattle.store_core.specs.Schedule.{run_core}
 use Rattle.store_core.specs.Shown.{shown}
-use Rattle.transcript_laws.specs.Steps.{run_trace}
-use Rattle.transcript_laws.specs.Trace.{Made}
+use Rattle.history_laws.specs.Steps.{run_trace}
+use Rattle.history_laws.specs.Trace.{Made}
 use Rattle.thread_laws.specs.Threaded.{IsThreadedRun}
-use Rattle.transcript_laws.specs.Ample.{IsAmple}
-use Rattle.transcript_laws.specs.Faithful.{IsFaithful}
+use Rattle.history_laws.specs.Ample.{IsAmple}
+use Rattle.history_laws.specs.Faithful.{IsFaithful}
 
 -- the core that it ends with, and its steps, each with its answer
 abbrev pub core_of : (script : Script) (t : Transcript) → IsThreadedRun script t → Core

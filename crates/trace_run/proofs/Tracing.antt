@@ -7,11 +7,11 @@ use Rattle.store_map.specs.declared.script.Script.{Script}
 use Rattle.store_map.specs.declared.transcript.Transcript.{Transcript}
 use Rattle.store_core.specs.Shown.{shown, shown_of}
 use Rattle.store_core.specs.Step.{Shortage}
-use Rattle.transcript_laws.specs.Trace.{Made}
-use Rattle.transcript_laws.specs.Steps.{run_trace}
-use Rattle.transcript_laws.proofs.Ample.{ample_runs_are_one}
-use Rattle.transcript_laws.proofs.Plays.{runs_are_faithful, runs_are_played}
-use Rattle.transcript_laws.proofs.Shows.{runs_show_histories}
+use Rattle.history_laws.specs.Trace.{Made}
+use Rattle.history_laws.specs.Steps.{run_trace}
+use Rattle.history_laws.proofs.Ample.{ample_runs_are_one}
+use Rattle.history_laws.proofs.Plays.{runs_are_faithful, runs_are_played}
+use Rattle.history_laws.proofs.Shows.{runs_show_histories}
 use Rattle.call_steps.specs.declared.step.Step.{Step}
 use Rattle.world_laws.specs.StepsTold.{AreSteps}
 use Rattle.world_laws.specs.World.{WorldOf}

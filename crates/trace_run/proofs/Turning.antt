@@ -3,8 +3,8 @@ use Rattle.std.proofs.Common.{◌≡◌, ℕ, ◌+◌, Bool, true, false, List, 
 use Rattle.store_map.specs.declared.actor.Token.TheVariants as token
 use Rattle.store_map.specs.declared.script.Script.{Script}
 use Rattle.store_core.specs.Core.{sweeper_has_step}
-use Rattle.transcript_laws.specs.Trace.{Made}
-use Rattle.transcript_laws.specs.Steps.{sweep_token}
+use Rattle.history_laws.specs.Trace.{Made}
+use Rattle.history_laws.specs.Steps.{sweep_token}
 use Rattle.call_steps.specs.declared.step.Step.{Step}
 use Rattle.world_laws.specs.World.{WorldOf}
 use Rattle.world_laws.specs.Known.{core_of}

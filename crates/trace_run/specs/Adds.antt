@@ -3,7 +3,7 @@ use Rattle.std.specs.Prelude.{◌≡◌, List, ◌++◌}
 use Rattle.store_map.specs.declared.actor.Token.{Token}
 use Rattle.store_map.specs.declared.script.Script.{Script}
 use Rattle.store_core.specs.Step.{Shortage}
-use Rattle.transcript_laws.specs.Trace.{Made}
+use Rattle.history_laws.specs.Trace.{Made}
 use Rattle.call_steps.specs.declared.step.Step.{Step}
 use Rattle.world_laws.specs.StepsTold.{AreSteps}
 use Rattle.world_laws.specs.World.{WorldOf}

@@ -2,8 +2,8 @@
 use Rattle.std.specs.Prelude.{List}
 use Rattle.store_map.specs.declared.script.Script.{Script}
 use Rattle.store_map.specs.declared.transcript.Transcript.{Transcript}
-use Rattle.transcript_laws.specs.Steps.{run_trace}
-use Rattle.transcript_laws.specs.Played.{IsPlayed}
+use Rattle.history_laws.specs.Steps.{run_trace}
+use Rattle.history_laws.specs.Played.{IsPlayed}
 use Rattle.call_steps.specs.declared.step.Step.{Step}
 use Rattle.world_laws.specs.StepsTold.{AreSteps}
 

@@ -22,9 +22,9 @@ use Rattle.run_laws.proofs.OwnSteps.{agreement_goes_on}
 use Rattle.call_steps.specs.TokenAfter.{token_after}
 use Rattle.call_steps.specs.CallOf.{CallOf, act_of}
 use Rattle.call_steps.specs.Steps.{coded, at_directory_by, at_server_by, stepped_at_directory, stepped_at_server}
-use Rattle.call_laws.specs.Ready.{ready}
-use Rattle.call_laws.proofs.Tokens.{tokens_stay, passes_are_of_calls}
-use Rattle.call_laws.proofs.Agreement.{agreement_stays}
+use Rattle.call_steps.specs.Ready.{ready}
+use Rattle.call_steps.proofs.Tokens.{tokens_stay, passes_are_of_calls}
+use Rattle.call_steps.proofs.Agreement.{agreement_stays}
 use Rattle.sweeper.specs.Sweeps.{act_of as sweeper_act, at_directory_by as swept_by}
 use Rattle.world_laws.specs.World.{ActorOf, WorldOf}
 use Rattle.world_laws.specs.FirstWorld.{new_actor}

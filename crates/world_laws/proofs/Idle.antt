@@ -11,8 +11,8 @@ use Rattle.store_core.specs.Schedule.{is_unfinished, run_tokens}
 use Rattle.store_core.specs.Work.{Work, Calling, client_work, repairer_work, has_step, any_has_step}
 use Rattle.run_laws.specs.ShortageLaws.{may_turn}
 use Rattle.run_laws.proofs.Leading.{steps_lead}
-use Rattle.transcript_laws.specs.Trace.{made_of, trace_of}
-use Rattle.transcript_laws.specs.Steps.{actors_round, sweep_token}
+use Rattle.history_laws.specs.Trace.{made_of, trace_of}
+use Rattle.history_laws.specs.Steps.{actors_round, sweep_token}
 use Rattle.world_laws.proofs.TurnLaws.{ample}
 use Rattle.world_laws.specs.RoundTells.{client_tokens, repairer_tokens, round_made}
 use Rattle.world_laws.proofs.Lists.{run_append, trace_append}

@@ -8,8 +8,8 @@ use Rattle.store_core.specs.Core.{sweeper_has_step}
 use Rattle.store_core.specs.Fuel.{fuel_of}
 use Rattle.store_core.specs.Run.{Run, client_step, repairer_step}
 use Rattle.store_core.specs.Schedule.{is_unfinished, sweep_if, round, drain_by, drain, step_core, run_tokens}
-use Rattle.transcript_laws.specs.Trace.{made_of, trace_of}
-use Rattle.transcript_laws.specs.Steps.{actors_round, sweep_token, round_steps, drain_steps, steps_of}
+use Rattle.history_laws.specs.Trace.{made_of, trace_of}
+use Rattle.history_laws.specs.Steps.{actors_round, sweep_token, round_steps, drain_steps, steps_of}
 use Rattle.world_laws.specs.Telling.{tokens_made}
 use Rattle.world_laws.specs.RoundTells.{client_tokens, repairer_tokens, round_made}
 

@@ -16,11 +16,11 @@ use Rattle.store_core.specs.Work.{Work, Calling, has_step}
 use Rattle.call_steps.specs.declared.need.Need.TheVariants as need
 use Rattle.call_steps.specs.CallOf.{CallOf, act_of}
 use Rattle.call_steps.specs.Steps.{need_of, stepped_at_directory, stepped_at_server}
-use Rattle.call_laws.specs.Ready.{ready, shortage_of}
-use Rattle.call_laws.specs.After.{StepsTo}
-use Rattle.call_laws.specs.StandLaws.{HasPassOfItsKind}
-use Rattle.call_laws.proofs.Needs.{needs_tell_acts}
-use Rattle.call_laws.proofs.Steps.{steps_at_directory, steps_at_servers}
+use Rattle.call_steps.specs.Ready.{ready, shortage_of}
+use Rattle.call_steps.specs.After.{StepsTo}
+use Rattle.call_steps.specs.StandLaws.{HasPassOfItsKind}
+use Rattle.call_steps.proofs.Needs.{needs_tell_acts}
+use Rattle.call_steps.proofs.Steps.{steps_at_directory, steps_at_servers}
 use Rattle.run_laws.specs.ShortageLaws.{may_turn}
 use Rattle.world_laws.specs.World.{ActorOf}
 use Rattle.world_laws.specs.Known.{calling_of}

@@ -17,7 +17,7 @@ use Rattle.store_core.specs.Sweep.{next_sweep, after_sweep}
 use Rattle.store_core.specs.Run.{Run, places_in, operator_step, sweeper_step}
 use Rattle.call_steps.specs.declared.need.Need.TheVariants as need
 use Rattle.sweeper.specs.Sweeps.{act_of, need_at, at_directory_by, at_server_by, stepped_at_directory, stepped_at_server}
-use Rattle.call_laws.proofs.Needs.{is_directory, is_server, server_in}
+use Rattle.call_steps.proofs.Needs.{is_directory, is_server, server_in}
 use Rattle.world_laws.specs.World.{WorldOf, with_directory, with_server, with_sweeper}
 use Rattle.world_laws.specs.StandsFor.{StandsFor}
 use Rattle.world_laws.specs.Leads.{IsAt}

@@ -6,7 +6,7 @@ use Rattle.store_core.specs.Act.{Act, DirectoryStep, ServerStep}
 use Rattle.store_core.specs.Core.{Core}
 use Rattle.store_core.specs.Run.{places_in}
 use Rattle.store_core.specs.Sweep.{next_sweep}
-use Rattle.transcript_laws.specs.Trace.{act_made}
+use Rattle.history_laws.specs.Trace.{act_made}
 use Rattle.world_laws.specs.World.{WorldOf}
 use Rattle.world_laws.specs.StandsFor.{StandsFor}
 use Rattle.world_laws.specs.TurnMade.{places_of}

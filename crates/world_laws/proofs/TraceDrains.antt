@@ -11,8 +11,8 @@ use Rattle.store_core.specs.Schedule.{is_unfinished, round, run_tokens}
 use Rattle.store_core.specs.Step.{Shortage}
 use Rattle.run_laws.specs.RoundLaws.{rounds, GoesByRounds}
 use Rattle.run_laws.proofs.Rounds.{drains_go_by_rounds}
-use Rattle.transcript_laws.specs.Trace.{Made, trace_of}
-use Rattle.transcript_laws.specs.Steps.{round_steps, drain_steps, first_run, run_trace}
+use Rattle.history_laws.specs.Trace.{Made, trace_of}
+use Rattle.history_laws.specs.Steps.{round_steps, drain_steps, first_run, run_trace}
 use Rattle.world_laws.specs.World.{WorldOf}
 use Rattle.world_laws.specs.Known.{core_of}
 use Rattle.world_laws.specs.Leads.{IsAt}

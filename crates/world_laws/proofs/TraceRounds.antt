@@ -10,8 +10,8 @@ use Rattle.store_core.specs.Core.{Core, sweeper_has_step}
 use Rattle.store_core.specs.Run.{Run}
 use Rattle.store_core.specs.Schedule.{run_tokens}
 use Rattle.store_core.specs.Step.{Shortage}
-use Rattle.transcript_laws.specs.Trace.{Made}
-use Rattle.transcript_laws.specs.Steps.{actors_round, sweep_token, round_steps}
+use Rattle.history_laws.specs.Trace.{Made}
+use Rattle.history_laws.specs.Steps.{actors_round, sweep_token, round_steps}
 use Rattle.world_laws.specs.World.{WorldOf}
 use Rattle.world_laws.specs.Known.{core_of}
 use Rattle.world_laws.specs.StandsFor.{StandsFor}

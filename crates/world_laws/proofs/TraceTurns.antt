@@ -13,12 +13,12 @@ use Rattle.store_core.specs.Run.{places_in}
 use Rattle.store_core.specs.Step.{Shortage, Places, at_places, told_first}
 use Rattle.store_core.specs.Work.{Work, Calling, client_work, repairer_work, has_step}
 use Rattle.run_laws.specs.ShortageLaws.{may_turn}
-use Rattle.transcript_laws.specs.Trace.{Made, call_made, job_made, made_if, made_by}
+use Rattle.history_laws.specs.Trace.{Made, call_made, job_made, made_if, made_by}
 use Rattle.call_steps.specs.CallOf.{CallOf, act_of}
 use Rattle.call_steps.specs.Steps.{IsDueInPass}
-use Rattle.call_laws.specs.Stands.{Stands}
-use Rattle.call_laws.specs.Ready.{ready, shortage_of}
-use Rattle.call_laws.proofs.Codings.{acts_stand}
+use Rattle.call_steps.specs.Stands.{Stands}
+use Rattle.call_steps.specs.Ready.{ready, shortage_of}
+use Rattle.call_steps.proofs.Codings.{acts_stand}
 use Rattle.world_laws.specs.World.{ActorOf, WorldOf}
 use Rattle.world_laws.specs.Known.{calling_of}
 use Rattle.world_laws.specs.StandsFor.{AllStand, StandsFor}

@@ -5,8 +5,8 @@ use Rattle.store_map.specs.declared.script.Script.{Script}
 use Rattle.store_core.specs.Run.{Run}
 use Rattle.store_core.specs.Schedule.{run_tokens}
 use Rattle.store_core.specs.Step.{Shortage}
-use Rattle.transcript_laws.specs.Trace.{Made}
-use Rattle.transcript_laws.specs.Steps.{first_run, run_trace}
+use Rattle.history_laws.specs.Trace.{Made}
+use Rattle.history_laws.specs.Steps.{first_run, run_trace}
 use Rattle.world_laws.specs.World.{WorldOf}
 use Rattle.world_laws.specs.FirstWorld.{IsFirstWorld}
 use Rattle.world_laws.specs.Leads.{IsAt}

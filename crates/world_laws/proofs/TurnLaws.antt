@@ -11,7 +11,7 @@ use Rattle.store_core.specs.Run.{Run, after_client, after_repairer, client_step,
 use Rattle.store_core.specs.Work.{Work, Calling, client_work, repairer_work}
 use Rattle.run_laws.specs.ShortageLaws.{may_turn}
 use Rattle.run_laws.proofs.Leading.{steps_lead}
-use Rattle.call_laws.specs.Ready.{shortage_of}
+use Rattle.call_steps.specs.Ready.{shortage_of}
 use Rattle.world_laws.specs.World.{ActorOf, WorldOf, with_client, with_repairer}
 use Rattle.world_laws.specs.StandsFor.{StandsFor}
 use Rattle.world_laws.specs.Leads.{IsAt}

@@ -10,9 +10,9 @@ use Rattle.store_core.specs.Step.{Places, Shortage, actor_step}
 use Rattle.store_core.specs.CallStep.{job_step, step_if, step_of}
 use Rattle.store_core.specs.Work.{Ended, Work, Calling, has_step}
 use Rattle.call_steps.specs.CallOf.{CallOf, act_of}
-use Rattle.call_laws.specs.Stands.{Stands}
-use Rattle.call_laws.specs.After.{StandsAfterBy, StandsAfter}
-use Rattle.call_laws.proofs.Acts.{firsts_stand}
+use Rattle.call_steps.specs.Stands.{Stands}
+use Rattle.call_steps.specs.After.{StandsAfterBy, StandsAfter}
+use Rattle.call_steps.proofs.Acts.{firsts_stand}
 use Rattle.world_laws.specs.World.{DoingOf, ActorOf, steps_of}
 use Rattle.world_laws.specs.StandsFor.{DoingStands, ActorStands}
 use Rattle.world_laws.specs.ActorAfter.{IsCallBefore, actor_after_by, actor_after}

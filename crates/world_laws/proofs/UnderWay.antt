@@ -8,14 +8,14 @@ use Rattle.store_core.specs.Act.{Act, DirectoryStep, Outcome}
 use Rattle.store_core.specs.NextAct.{Job}
 use Rattle.store_core.specs.Note.{Kind}
 use Rattle.store_core.specs.Work.{Ended, Work}
-use Rattle.store_resume.specs.State.{first_state}
-use Rattle.store_resume.specs.States.{open_call}
-use Rattle.store_resume.specs.StateActs.{start_act, act_of_state}
+use Rattle.run_laws.specs.State.{first_state}
+use Rattle.run_laws.specs.States.{open_call}
+use Rattle.run_laws.specs.StateActs.{start_act, act_of_state}
 use Rattle.call_steps.specs.CallOf.{CallOf, act_of}
 use Rattle.call_steps.specs.Steps.{coded, need_by, need_of, IsDueInPass}
-use Rattle.call_laws.specs.Ready.{ready}
-use Rattle.call_laws.specs.Stands.{IsFirst}
-use Rattle.call_laws.proofs.Codings.{acts_stand}
+use Rattle.call_steps.specs.Ready.{ready}
+use Rattle.call_steps.specs.Stands.{IsFirst}
+use Rattle.call_steps.proofs.Codings.{acts_stand}
 use Rattle.world_laws.specs.World.{DoingOf, ActorOf}
 use Rattle.world_laws.specs.ActorAfter.{IsCallBefore, actor_after_by}
 use Rattle.world_laws.specs.WayLaws.{IsStep, IsUnderWay, IsPlace, CallsAreUnderWay}

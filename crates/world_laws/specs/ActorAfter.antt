@@ -11,7 +11,7 @@ use Rattle.store_core.specs.Tokens.{actor_of}
 use Rattle.store_core.specs.Work.{Ended, Work, has_step}
 use Rattle.call_steps.specs.CallOf.{CallOf, act_of}
 use Rattle.call_steps.specs.Steps.{IsDueInPass}
-use Rattle.call_laws.specs.Stands.{IsFirst}
+use Rattle.call_steps.specs.Stands.{IsFirst}
 use Rattle.world_laws.specs.World.{DoingOf, ActorOf, steps_of}
 use Rattle.world_laws.specs.Known.{calling_of}
 

@@ -9,8 +9,8 @@ use Rattle.store_core.specs.Run.{Run}
 use Rattle.store_core.specs.Schedule.{is_unfinished, run_tokens}
 use Rattle.store_core.specs.Step.{Shortage}
 use Rattle.run_laws.specs.RoundLaws.{rounds}
-use Rattle.transcript_laws.specs.Trace.{Made}
-use Rattle.transcript_laws.specs.Steps.{first_run, run_trace}
+use Rattle.history_laws.specs.Trace.{Made}
+use Rattle.history_laws.specs.Steps.{first_run, run_trace}
 use Rattle.world_laws.specs.World.{WorldOf}
 use Rattle.world_laws.specs.Known.{core_of}
 use Rattle.world_laws.specs.RunLaws.{ReachesInDrain}

@@ -7,7 +7,7 @@ use Rattle.store_map.specs.declared.actor.Token.TheVariants as token
 use Rattle.store_map.specs.declared.script.Script.{Script}
 use Rattle.store_core.specs.Act.{Act, DirectoryStep, ServerStep}
 use Rattle.store_core.specs.Step.{Shortage}
-use Rattle.transcript_laws.specs.Trace.{act_made}
+use Rattle.history_laws.specs.Trace.{act_made}
 use Rattle.sweeper.specs.Sweeps.{act_of}
 use Rattle.world_laws.specs.World.{WorldOf}
 use Rattle.world_laws.specs.TurnMade.{places_of}

@@ -7,8 +7,8 @@ use Rattle.store_map.specs.declared.script.Script.{Script}
 use Rattle.store_core.specs.Core.{sweeper_has_step}
 use Rattle.store_core.specs.Run.{Run}
 use Rattle.store_core.specs.Schedule.{round}
-use Rattle.transcript_laws.specs.Trace.{Made, trace_of}
-use Rattle.transcript_laws.specs.Steps.{sweep_token, round_steps}
+use Rattle.history_laws.specs.Trace.{Made, trace_of}
+use Rattle.history_laws.specs.Steps.{sweep_token, round_steps}
 use Rattle.world_laws.specs.World.{WorldOf}
 use Rattle.world_laws.specs.Known.{core_of}
 use Rattle.world_laws.specs.Telling.{PartTells, LeadsTelling}

@@ -9,7 +9,7 @@ use Rattle.store_core.specs.Act.{Outcome as CoreOutcome}
 use Rattle.store_core.specs.Calls.{Calls}
 use Rattle.store_core.specs.Directory.{Event, Point}
 use Rattle.store_core.specs.History.{applied, is_answered}
-use Rattle.content_laws.specs.MapAfter.{map_by}
+use Rattle.run_laws.specs.MapAfter.{map_by}
 use Rattle.call_steps.specs.CallOutcomes.{call_outcome_of}
 use Rattle.call_steps.specs.declared.outcome.CallOutcome.{CallOutcome}
 use Rattle.call_steps.specs.declared.outcome.CallOutcome.TheVariants as outcome

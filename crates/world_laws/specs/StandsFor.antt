@@ -8,7 +8,7 @@ use Rattle.store_core.specs.NextAct.{Job}
 use Rattle.store_core.specs.Work.{Calling, Work, client_work, repairer_work}
 use Rattle.store_core.specs.Core.{Core}
 use Rattle.call_steps.specs.CallOf.{CallOf}
-use Rattle.call_laws.specs.Stands.{Stands, IsBetweenCalls}
+use Rattle.call_steps.specs.Stands.{Stands, IsBetweenCalls}
 use Rattle.world_laws.specs.World.{DoingOf, ActorOf, WorldOf}
 
 -- an actor that waits: its next call has not begun

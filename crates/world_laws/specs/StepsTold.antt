@@ -1,7 +1,7 @@
 -- Which step of the program a step of the store's definitions is.
 use Rattle.std.specs.Prelude.{◌≡◌, ⊤, false, List, [], ◌∷◌, Some}
 use Rattle.store_core.specs.Told.{Told}
-use Rattle.transcript_laws.specs.Trace.{Made}
+use Rattle.history_laws.specs.Trace.{Made}
 use Rattle.call_steps.specs.Acts.{act_by}
 use Rattle.call_steps.specs.Answers.{directory_answer, server_told}
 use Rattle.call_steps.specs.declared.step.StepAnswer.{StepAnswer}

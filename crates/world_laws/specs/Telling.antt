@@ -6,8 +6,8 @@ use Rattle.store_core.specs.Core.{Core}
 use Rattle.store_core.specs.Run.{Run}
 use Rattle.store_core.specs.Schedule.{run_tokens}
 use Rattle.store_core.specs.Step.{Shortage}
-use Rattle.transcript_laws.specs.Trace.{Made, trace_of}
-use Rattle.transcript_laws.specs.Steps.{steps_of}
+use Rattle.history_laws.specs.Trace.{Made, trace_of}
+use Rattle.history_laws.specs.Steps.{steps_of}
 use Rattle.world_laws.specs.World.{WorldOf}
 use Rattle.world_laws.specs.StandsFor.{StandsFor}
 use Rattle.world_laws.specs.Leads.{LeadsWorld}

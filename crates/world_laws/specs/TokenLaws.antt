@@ -12,8 +12,8 @@ use Rattle.store_core.specs.Server.{Server}
 use Rattle.store_core.specs.Work.{Work}
 use Rattle.call_steps.specs.CallOf.{CallOf}
 use Rattle.call_steps.specs.Steps.{stepped_at_directory, stepped_at_server, HoldsItsPass}
-use Rattle.call_laws.specs.Ready.{ready}
-use Rattle.call_laws.specs.StandLaws.{HasPassOfItsKind}
+use Rattle.call_steps.specs.Ready.{ready}
+use Rattle.call_steps.specs.StandLaws.{HasPassOfItsKind}
 use Rattle.sweeper.specs.Sweeps.{SweeperOf, stepped_at_directory as swept_at_directory}
 use Rattle.world_laws.specs.World.{ActorOf, WorldOf, with_directory, with_server, with_client, with_repairer, with_sweeper}
 use Rattle.world_laws.specs.FirstWorld.{IsFirstWorld, new_actor}

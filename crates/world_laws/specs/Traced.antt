@@ -4,8 +4,8 @@ use Rattle.store_map.specs.declared.actor.Token.{Token}
 use Rattle.store_map.specs.declared.script.Script.{Script}
 use Rattle.store_core.specs.Schedule.{run_core}
 use Rattle.store_core.specs.Step.{Shortage}
-use Rattle.transcript_laws.specs.Trace.{Made}
-use Rattle.transcript_laws.specs.Steps.{run_trace}
+use Rattle.history_laws.specs.Trace.{Made}
+use Rattle.history_laws.specs.Steps.{run_trace}
 use Rattle.world_laws.specs.World.{WorldOf}
 use Rattle.world_laws.specs.StandsFor.{StandsFor}
 use Rattle.world_laws.specs.FirstWorld.{IsFirstWorld}

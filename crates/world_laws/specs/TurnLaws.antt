@@ -11,8 +11,8 @@ use Rattle.store_core.specs.Work.{Work, client_work, repairer_work, has_step}
 use Rattle.call_steps.specs.declared.need.Need.TheVariants as need
 use Rattle.call_steps.specs.CallOf.{CallOf}
 use Rattle.call_steps.specs.Steps.{need_of, stepped_at_directory, stepped_at_server}
-use Rattle.call_laws.specs.Ready.{ready, shortage_of}
-use Rattle.call_laws.specs.StandLaws.{HasPassOfItsKind}
+use Rattle.call_steps.specs.Ready.{ready, shortage_of}
+use Rattle.call_steps.specs.StandLaws.{HasPassOfItsKind}
 use Rattle.world_laws.specs.World.{ActorOf, WorldOf, with_directory, with_server, with_client, with_repairer}
 use Rattle.world_laws.specs.Known.{calling_of}
 use Rattle.world_laws.specs.Leads.{LeadsWorld}

@@ -3,9 +3,9 @@ use Rattle.std.specs.Prelude.{Bool, ◌&&◌}
 use Rattle.store_map.specs.declared.actor.Actor.{Actor}
 use Rattle.store_core.specs.Act.{Act}
 use Rattle.store_core.specs.Step.{Places, at_places}
-use Rattle.transcript_laws.specs.Trace.{Made}
+use Rattle.history_laws.specs.Trace.{Made}
 use Rattle.call_steps.specs.CallOf.{CallOf, act_of}
-use Rattle.call_laws.specs.Ready.{ready}
+use Rattle.call_steps.specs.Ready.{ready}
 use Rattle.world_laws.specs.World.{WorldOf}
 
 -- of its call before it, with a coding first if one is due; whether memory was wanting in the coding and in the step

@@ -8,7 +8,7 @@ use Rattle.store_map.specs.declared.actor.Token.TheVariants as token
 use Rattle.store_map.specs.declared.script.Script.{Script}
 use Rattle.store_core.specs.Work.{Work, client_work, repairer_work, has_step}
 use Rattle.call_steps.specs.CallOf.{CallOf}
-use Rattle.call_laws.specs.Ready.{shortage_of}
+use Rattle.call_steps.specs.Ready.{shortage_of}
 use Rattle.world_laws.specs.World.{ActorOf, WorldOf}
 use Rattle.world_laws.specs.Known.{calling_of}
 use Rattle.world_laws.specs.ActorAfter.{HasTurn}

@@ -9,7 +9,7 @@ use Rattle.call_steps.specs.declared.need.Need.{Need}
 use Rattle.call_steps.specs.declared.need.Need.TheVariants as need
 use Rattle.call_steps.specs.CallOf.{CallOf, act_of}
 use Rattle.call_steps.specs.Steps.{need_of}
-use Rattle.call_laws.specs.Ready.{ready}
+use Rattle.call_steps.specs.Ready.{ready}
 use Rattle.world_laws.specs.World.{DoingOf, ActorOf}
 use Rattle.world_laws.specs.ActorAfter.{HasTurn, actor_after}
 

@@ -3,8 +3,8 @@ use Rattle.std.proofs.Common.{◌≡◌, ℕ, Bool, true, false, List, None, Som
 use Rattle.std.proofs.lemmas.Option.{none-some, same_Some}
 use Rattle.clay_grid.specs.Shape.{Shape}
 use Rattle.store_core.specs.NextAct.{Job}
-use Rattle.store_resume.specs.State.{State}
-use Rattle.store_resume.specs.StateActs.{act_at}
+use Rattle.run_laws.specs.State.{State}
+use Rattle.run_laws.specs.StateActs.{act_at}
 use Rattle.call_steps.specs.declared.act.Act.TheVariants as act
 use Rattle.call_steps.specs.declared.act.DirectoryAct.TheVariants as there
 use Rattle.call_steps.specs.declared.act.ServerAct.{ServerAct}

@@ -17,9 +17,9 @@ use Rattle.store_core.specs.PassSteps.{touched}
 use Rattle.store_core.specs.Placements.{IsRow}
 use Rattle.store_core.specs.Agreement.{HeldPass, ActorToken}
 use Rattle.store_core.specs.Tokens.{actor_of, IsToWrite}
-use Rattle.store_resume.specs.State.{State, CallState}
-use Rattle.store_resume.specs.StateActs.{act_at}
-use Rattle.store_resume.specs.CallLaws.{next_call}
+use Rattle.run_laws.specs.State.{State, CallState}
+use Rattle.run_laws.specs.StateActs.{act_at}
+use Rattle.run_laws.specs.CallLaws.{next_call}
 use Rattle.version_seal.specs.Entry.{StampOf, RequestOf, call_written}
 use Rattle.stripe_dir.specs.Sealed.{Sealed, stamps_touched}
 use Rattle.call_steps.specs.CallOf.{CallOf, act_of, heard}

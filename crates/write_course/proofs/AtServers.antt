@@ -9,9 +9,9 @@ use Rattle.store_core.specs.NextAct.{Job}
 use Rattle.store_core.specs.Server.{Server, at_server}
 use Rattle.store_core.specs.Step.{take_from}
 use Rattle.store_core.specs.Agreement.{ActorToken}
-use Rattle.store_resume.specs.State.{State, CallState}
-use Rattle.store_resume.specs.StateActs.{act_at, act_of_state}
-use Rattle.store_resume.specs.CallLaws.{next_call}
+use Rattle.run_laws.specs.State.{State, CallState}
+use Rattle.run_laws.specs.StateActs.{act_at, act_of_state}
+use Rattle.run_laws.specs.CallLaws.{next_call}
 use Rattle.call_steps.specs.declared.need.Need.TheVariants as need
 use Rattle.call_steps.specs.CallOf.{CallOf, act_of}
 use Rattle.call_steps.specs.Steps.{need_by, stepped_at_server, at_server_by}

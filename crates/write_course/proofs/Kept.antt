@@ -7,7 +7,7 @@ use Rattle.std.proofs.lemmas.Bool.{ltb-true, ltb-false}
 use Rattle.clay_grid.specs.Shape.{Shape, chunk_count}
 use Rattle.store_map.specs.declared.placement.Placement.{Placement}
 use Rattle.store_core.specs.Placements.{IsRow, skipped_count}
-use Rattle.store_resume.specs.State.{State}
+use Rattle.run_laws.specs.State.{State}
 use Rattle.version_seal.specs.Entry.{BookOf, StampOf}
 use Rattle.write_course.specs.Chunks.{PlacingOf, with_placement, AreChunksFrom}
 use Rattle.write_course.specs.States.{Prepared, Settled, prepares_or_commits, settles_or_is_done, state_by, placed_on}

@@ -8,9 +8,9 @@ use Rattle.store_core.specs.Act.{Act, ServerStep}
 use Rattle.store_core.specs.NextAct.{Job}
 use Rattle.store_core.specs.Server.{Server, at_server, hold}
 use Rattle.store_core.specs.Step.{take_from}
-use Rattle.store_resume.specs.State.{State}
-use Rattle.store_resume.specs.CallLaws.{next_call}
-use Rattle.store_resume.specs.WriteAfter.{preparing_after}
+use Rattle.run_laws.specs.State.{State}
+use Rattle.run_laws.specs.CallLaws.{next_call}
+use Rattle.run_laws.specs.WriteAfter.{preparing_after}
 use Rattle.write_course.specs.Writings.{server_of, begins_version}
 use Rattle.write_course.specs.WritingSteps.{stepped}
 use Rattle.write_course.specs.Laws.{StepsAreOfTheCall, call_at, IsServerStep, IsShortOfMemory}

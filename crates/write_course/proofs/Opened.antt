@@ -5,9 +5,9 @@ use Rattle.clay_grid.specs.Shape.{Shape, chunk_count}
 use Rattle.store_map.specs.declared.placement.Placement.{Placement}
 use Rattle.store_core.specs.Act.{Outcome}
 use Rattle.store_core.specs.Placements.{skipped_from, skipped_count}
-use Rattle.store_resume.specs.State.{State}
-use Rattle.store_resume.specs.States.{prepare_state, prepare_all_state, settle_state, open_state}
-use Rattle.store_resume.specs.WriteAfter.{unless_few, prepare_rest_state}
+use Rattle.run_laws.specs.State.{State}
+use Rattle.run_laws.specs.States.{prepare_state, prepare_all_state, settle_state, open_state}
+use Rattle.run_laws.specs.WriteAfter.{unless_few, prepare_rest_state}
 
 module _ (g : Shape) where
   -- a version's chunks at some servers, by what follows

@@ -12,9 +12,9 @@ use Rattle.store_core.specs.Placements.{IsRow}
 use Rattle.store_core.specs.Told.{Told}
 use Rattle.store_core.specs.Act.{ServerStep}
 use Rattle.store_core.specs.Server.{Server, at_server}
-use Rattle.store_resume.specs.State.{State}
-use Rattle.store_resume.specs.States.{settle_state}
-use Rattle.store_resume.specs.WriteAfter.{preparing_after}
+use Rattle.run_laws.specs.State.{State}
+use Rattle.run_laws.specs.States.{settle_state}
+use Rattle.run_laws.specs.WriteAfter.{preparing_after}
 use Rattle.version_seal.specs.Entry.{StampOf}
 use Rattle.write_course.specs.Chunks.{PlacingOf, new_placing, with_placement, IsAfterPrepare}
 use Rattle.write_course.specs.States.{Prepared, settles_or_is_done, servers_from, places_from, row_in, state_by, placed_on}

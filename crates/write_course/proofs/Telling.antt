@@ -8,7 +8,7 @@ use Rattle.store_map.specs.declared.placement.Placement.TheVariants as placement
 use Rattle.store_core.specs.Told.{Told}
 use Rattle.store_core.specs.Act.{ServerStep}
 use Rattle.store_core.specs.Server.{Server, hold, at_server}
-use Rattle.store_resume.specs.State.{State}
+use Rattle.run_laws.specs.State.{State}
 use Rattle.call_steps.specs.declared.act.ServerAct.{ServerAct}
 use Rattle.call_steps.specs.declared.act.ServerAct.TheVariants as here
 use Rattle.version_seal.specs.Entry.{StampOf}

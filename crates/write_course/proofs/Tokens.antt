@@ -10,9 +10,9 @@ use Rattle.store_core.specs.Placements.{skipped_from, skipped_count}
 use Rattle.store_core.specs.Server.{Server}
 use Rattle.store_core.specs.Agreement.{Seat, HeldPass, ActorToken}
 use Rattle.store_core.specs.Tokens.{actor_of, after_look, after_pass_step}
-use Rattle.store_resume.specs.State.{State}
-use Rattle.store_resume.specs.States.{prepare_state, prepare_all_state, settle_state}
-use Rattle.store_resume.specs.WriteAfter.{unless_few, prepare_rest_state, preparing_after}
+use Rattle.run_laws.specs.State.{State}
+use Rattle.run_laws.specs.States.{prepare_state, prepare_all_state, settle_state}
+use Rattle.run_laws.specs.WriteAfter.{unless_few, prepare_rest_state, preparing_after}
 use Rattle.call_steps.specs.TokenAfter.{token_after, IsSeated}
 use Rattle.write_course.specs.Writings.{server_of, begins_version, is_committing}
 use Rattle.write_course.specs.WritingSteps.{stepped}

@@ -10,9 +10,9 @@ use Rattle.store_core.specs.Placements.{skipped_from, skipped_count}
 use Rattle.store_core.specs.Told.{Told}
 use Rattle.store_core.specs.Act.{ServerStep, Outcome}
 use Rattle.store_core.specs.Server.{Server, at_server}
-use Rattle.store_resume.specs.State.{State}
-use Rattle.store_resume.specs.States.{prepare_state, prepare_all_state, settle_state}
-use Rattle.store_resume.specs.WriteAfter.{preparing_after, prepare_rest_state}
+use Rattle.run_laws.specs.State.{State}
+use Rattle.run_laws.specs.States.{prepare_state, prepare_all_state, settle_state}
+use Rattle.run_laws.specs.WriteAfter.{preparing_after, prepare_rest_state}
 use Rattle.write_course.specs.Chunks.{PlacingOf, with_placement}
 use Rattle.write_course.specs.States.{Prepared, Settled, prepares_or_commits, settles_or_is_done, servers_from, places_from, state_by, placed_on}
 use Rattle.write_course.specs.WritingSteps.{stepped}

@@ -5,7 +5,7 @@ use Rattle.store_core.specs.Note.{Note}
 use Rattle.store_core.specs.Placements.{IsRow}
 use Rattle.store_core.specs.Agreement.{HeldPass, ActorToken}
 use Rattle.store_core.specs.Act.{Outcome}
-use Rattle.store_resume.specs.State.{State}
+use Rattle.run_laws.specs.State.{State}
 use Rattle.call_steps.specs.TokenAfter.{IsSeated}
 use Rattle.call_steps.specs.Ends.{point_ended}
 use Rattle.write_course.specs.Writings.{WritingOf}

@@ -7,10 +7,10 @@ use Rattle.store_core.specs.ActPlace.{is_in_pass}
 use Rattle.store_core.specs.NextAct.{Job}
 use Rattle.store_core.specs.Server.{Server, at_server}
 use Rattle.store_core.specs.Step.{take_from}
-use Rattle.store_resume.specs.State.{State, CallState}
-use Rattle.store_resume.specs.States.{prepare_all_state}
-use Rattle.store_resume.specs.StateActs.{act_at}
-use Rattle.store_resume.specs.CallLaws.{next_call}
+use Rattle.run_laws.specs.State.{State, CallState}
+use Rattle.run_laws.specs.States.{prepare_all_state}
+use Rattle.run_laws.specs.StateActs.{act_at}
+use Rattle.run_laws.specs.CallLaws.{next_call}
 use Rattle.write_course.specs.Writings.{server_of, begins_version}
 use Rattle.write_course.specs.WritingSteps.{stepped}
 

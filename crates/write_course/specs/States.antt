@@ -7,7 +7,7 @@ use Rattle.store_map.specs.declared.reply.Reply.TheVariants as reply
 use Rattle.store_core.specs.Lists.{places_of}
 use Rattle.store_core.specs.Placements.{skipped_from, skipped_count}
 use Rattle.store_core.specs.Act.{Outcome}
-use Rattle.store_resume.specs.State.{State}
+use Rattle.run_laws.specs.State.{State}
 use Rattle.write_course.specs.Chunks.{PlacingOf}
 use Rattle.write_course.specs.declared.writing_stage.WritingStage.{WritingStage}
 use Rattle.write_course.specs.declared.writing_stage.WritingStage.TheVariants as doing

@@ -6,9 +6,9 @@ use Rattle.store_map.specs.declared.reply.Reply.TheVariants as reply
 use Rattle.store_core.specs.Told.{Told, Lost}
 use Rattle.store_core.specs.Act.{ServerStep, Outcome}
 use Rattle.store_core.specs.Server.{Server, at_server}
-use Rattle.store_resume.specs.State.{State}
-use Rattle.store_resume.specs.States.{settle_state}
-use Rattle.store_resume.specs.WriteAfter.{preparing_after}
+use Rattle.run_laws.specs.State.{State}
+use Rattle.run_laws.specs.States.{settle_state}
+use Rattle.run_laws.specs.WriteAfter.{preparing_after}
 use Rattle.write_course.specs.Writings.{WritingOf, versions_of, is_preparing, is_settling}
 use Rattle.write_course.specs.declared.writing_stage.WritingStage.{WritingStage}
 use Rattle.write_course.specs.declared.writing_stage.WritingStage.TheVariants as doing

@@ -4,7 +4,7 @@ use Rattle.std.specs.List.{slice_get}
 use Rattle.std.specs.Option.{option_and_then}
 use Rattle.store_map.specs.declared.placement.Placement.{Placement}
 use Rattle.store_core.specs.Act.{Outcome}
-use Rattle.store_resume.specs.State.{State}
+use Rattle.run_laws.specs.State.{State}
 use Rattle.version_seal.specs.Entry.{BookOf, StampOf}
 use Rattle.call_steps.specs.declared.act.ServerAct.{ServerAct}
 use Rattle.call_steps.specs.declared.act.ServerAct.TheVariants as here

@@ -2,8 +2,8 @@
 ghost use Rattle.std.specs.Prelude.{◌≡◌, ℕ, List, true};
 ghost use Rattle.clay_grid.specs.Shape.{chunk_count};
 ghost use Rattle.store_core.specs.NextAct.{Job};
-ghost use Rattle.store_resume.specs.State.{State};
-ghost use Rattle.store_resume.specs.StateActs.{act_at};
+ghost use Rattle.run_laws.specs.State.{State};
+ghost use Rattle.run_laws.specs.StateActs.{act_at};
 ghost use Rattle.call_steps.specs.Ends.{finished_of, IsStanding, IsOver};
 ghost use Rattle.call_steps.specs.Outcomes.{outcome_of};
 ghost use Rattle.call_steps.specs.Steps.{need_by, IsServerBelow};

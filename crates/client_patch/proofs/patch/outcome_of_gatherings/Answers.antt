@@ -1,5 +1,5 @@
 use Rattle.std.proofs.Common.{◌≡◌, sym, ap, ◌∙◌}
-use Rattle.store_resume.specs.State.{Sequel, State}
+use Rattle.run_laws.specs.State.{Sequel, State}
 use Rattle.gather_parts.specs.Ends.{end_state}
 use Rattle.client_patch.proofs.Gathered.{ungathered_ends}
 use Rattle.client_patch.proofs.patch.outcome_of_gatherings.Goals as goal

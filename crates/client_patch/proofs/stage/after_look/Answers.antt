@@ -3,9 +3,9 @@ use Rattle.std.specs.Prelude.{⊤}
 use Rattle.store_core.specs.Note.{note_of}
 use Rattle.store_core.specs.NextAct.{job_of}
 use Rattle.store_core.specs.Told.{Told, Seen}
-use Rattle.store_resume.specs.State.{Sequel}
-use Rattle.store_resume.specs.States.{open_state}
-use Rattle.store_resume.specs.LookAfter.{start_after}
+use Rattle.run_laws.specs.State.{Sequel}
+use Rattle.run_laws.specs.States.{open_state}
+use Rattle.run_laws.specs.LookAfter.{start_after}
 use Rattle.stripe_dir.specs.Answers.{seen_in, told_or_short, told_look}
 use Rattle.stripe_dir.specs.declared.answers.Look.TheVariants as look
 use Rattle.call_steps.specs.declared.answer.DirectoryAnswer.TheVariants as there

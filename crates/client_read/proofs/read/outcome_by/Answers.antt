@@ -1,5 +1,5 @@
 use Rattle.std.proofs.Common.{sym, ap}
-use Rattle.store_resume.specs.State.{Sequel}
+use Rattle.run_laws.specs.State.{Sequel}
 use Rattle.gather_parts.specs.Ends.{end_state}
 use Rattle.call_steps.specs.Ends.{finished_of}
 use Rattle.client_read.proofs.read.outcome_by.Goals as goal

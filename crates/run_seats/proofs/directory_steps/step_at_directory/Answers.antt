@@ -7,11 +7,11 @@ use Rattle.actors.specs.Steps.{MadeAtDirectory}
 use Rattle.actors.proofs.Stepping.{padded_for}
 use Rattle.turn_lock.specs.TurnState.{TurnState}
 use Rattle.version_seal.specs.Entry.{BookOf}
-use Rattle.place_laws.specs.Noted.{Noted, made_in}
-use Rattle.place_laws.specs.Numbers.{Counts}
-use Rattle.place_laws.specs.AtDirectory.{StandsAtDirectory}
-use Rattle.place_laws.specs.Operated.{IsOperated}
-use Rattle.place_laws.proofs.Operated.{others_at_directory}
+use Rattle.thread_laws.specs.Noted.{Noted, made_in}
+use Rattle.thread_laws.specs.Numbers.{Counts}
+use Rattle.thread_laws.specs.AtDirectory.{StandsAtDirectory}
+use Rattle.thread_laws.specs.Operated.{IsOperated}
+use Rattle.thread_laws.proofs.Operated.{others_at_directory}
 use Rattle.run_seats.specs.Fixed.{directory_identity, max_in}
 use Rattle.run_seats.specs.Stepped.{entry_at_directory, HasSteppedAtDirectory}
 use Rattle.run_seats.proofs.Fits.{call_is, fits_there, needs_there, work_is}

@@ -7,11 +7,11 @@ use Rattle.store_core.specs.Told.{Told}
 use Rattle.thread_laws.specs.MadeSteps.{MadeStep}
 use Rattle.chunk_server.specs.Core.{core_of}
 use Rattle.turn_lock.specs.TurnState.{TurnState}
-use Rattle.place_laws.specs.AtServer.{StandsAtServer}
-use Rattle.place_laws.specs.Entries.{steps_in}
-use Rattle.place_laws.specs.Numbers.{Counts}
-use Rattle.place_laws.specs.Operated.{IsOperated}
-use Rattle.place_laws.proofs.Operated.{line_at_server}
+use Rattle.thread_laws.specs.AtServer.{StandsAtServer}
+use Rattle.thread_laws.specs.Entries.{steps_in}
+use Rattle.thread_laws.specs.Numbers.{Counts}
+use Rattle.thread_laws.specs.Operated.{IsOperated}
+use Rattle.thread_laws.proofs.Operated.{line_at_server}
 use Rattle.run_seats.specs.Fixed.{server_identity, server_in}
 use Rattle.run_seats.specs.Plain.{plain_at_server, line_step}
 use Rattle.run_seats.proofs.Holding.{holding}

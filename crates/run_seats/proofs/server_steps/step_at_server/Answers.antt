@@ -6,9 +6,9 @@ use Rattle.call_machine.specs.Calls.{MachineOf}
 use Rattle.actors.specs.Callers.{CallerOf}
 use Rattle.actors.specs.Steps.{MadeAtServer}
 use Rattle.turn_lock.specs.TurnState.{TurnState}
-use Rattle.place_laws.specs.Numbers.{Counts}
-use Rattle.place_laws.specs.AtServer.{StandsAtServer}
-use Rattle.place_laws.proofs.Operated.{others_at_server}
+use Rattle.thread_laws.specs.Numbers.{Counts}
+use Rattle.thread_laws.specs.AtServer.{StandsAtServer}
+use Rattle.thread_laws.proofs.Operated.{others_at_server}
 use Rattle.run_seats.specs.Stepped.{entry_at_server}
 use Rattle.run_seats.specs.Fixed.{server_identity, server_in}
 use Rattle.run_seats.proofs.Fits.{call_is, fits, needs_here, work_is}

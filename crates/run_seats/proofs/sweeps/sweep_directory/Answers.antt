@@ -4,11 +4,11 @@ use Rattle.store_core.specs.ActPlace.{Place}
 use Rattle.version_seal.specs.Entry.{BookOf}
 use Rattle.sweeper.specs.Sweeps.{SweeperOf, act_of}
 use Rattle.turn_lock.specs.TurnState.{TurnState}
-use Rattle.place_laws.specs.AtDirectory.{StandsAtDirectory}
-use Rattle.place_laws.specs.Noted.{Noted, made_in}
-use Rattle.place_laws.specs.Numbers.{Counts}
-use Rattle.place_laws.specs.Operated.{IsOperated}
-use Rattle.place_laws.proofs.Operated.{others_at_directory, sweeps_plain}
+use Rattle.thread_laws.specs.AtDirectory.{StandsAtDirectory}
+use Rattle.thread_laws.specs.Noted.{Noted, made_in}
+use Rattle.thread_laws.specs.Numbers.{Counts}
+use Rattle.thread_laws.specs.Operated.{IsOperated}
+use Rattle.thread_laws.proofs.Operated.{others_at_directory, sweeps_plain}
 use Rattle.run_seats.specs.Fixed.{directory_identity}
 use Rattle.run_seats.specs.Plain.{plain_at_directory}
 use Rattle.run_seats.proofs.Holding.{holding}

@@ -5,9 +5,9 @@ use Rattle.thread_laws.specs.MadeSteps.{MadeStep}
 use Rattle.chunk_server.specs.Core.{core_of}
 use Rattle.sweeper.specs.Sweeps.{SweeperOf, act_of}
 use Rattle.turn_lock.specs.TurnState.{TurnState}
-use Rattle.place_laws.specs.AtServer.{StandsAtServer}
-use Rattle.place_laws.specs.Numbers.{Counts}
-use Rattle.place_laws.proofs.Operated.{others_at_server, sweeps_plain}
+use Rattle.thread_laws.specs.AtServer.{StandsAtServer}
+use Rattle.thread_laws.specs.Numbers.{Counts}
+use Rattle.thread_laws.proofs.Operated.{others_at_server, sweeps_plain}
 use Rattle.run_seats.specs.Fixed.{server_identity, server_in}
 use Rattle.run_seats.specs.Plain.{plain_at_server}
 use Rattle.run_seats.proofs.Holding.{holding}

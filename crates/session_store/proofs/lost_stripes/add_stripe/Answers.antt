@@ -1,6 +1,6 @@
 use Rattle.std.proofs.Common.{rules, ap, ◌∙◌, ◌≡◌, ◌∷◌, [], ◌++◌, map, take, sym}
 use Rattle.std.proofs.lemmas.List.{append_assoc}
-use Rattle.session_laws.specs.Heals.{rebuild_of}
+use Rattle.session_rules.specs.AloneHeals.{rebuild_of}
 use Rattle.session_store.proofs.Together.{rebuilt_more, all_added, none_added}
 use Rattle.session_store.proofs.lost_stripes.add_stripe.Goals as goal
 

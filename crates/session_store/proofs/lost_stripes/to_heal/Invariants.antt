@@ -1,5 +1,5 @@
 use Rattle.std.specs.Prelude.{◌≡◌, ◌≤◌, ◌-◌, nat_le, length, map, filter, take, drop}
-use Rattle.session_laws.specs.Heals.{rebuild_of}
+use Rattle.session_rules.specs.AloneHeals.{rebuild_of}
 use Rattle.session_store.specs.LostStripes.{beside}
 use Rattle.session_store.proofs.Together.{AreOthers}
 use Rattle.session_store.proofs.lost_stripes.to_heal.Given as goal

@@ -1,6 +1,6 @@
 use Rattle.std.proofs.Common.{false, refl, ap}
 use Rattle.store_core.specs.Server.{Server}
-use Rattle.store_resume.specs.State.{Sequel}
+use Rattle.run_laws.specs.State.{Sequel}
 use Rattle.snapshot_view.specs.Reads.{ReadOf}
 use Rattle.session_store.proofs.ReadingAlone.{asked_here}
 use Rattle.session_store.proofs.snapshot_reads.read_on.Goals as goal

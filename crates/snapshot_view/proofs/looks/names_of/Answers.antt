@@ -1,7 +1,7 @@
 use Rattle.std.proofs.Common.{ℕ, ◌≤◌, List, [], ◌∷◌, ◌++◌, length, map, take, Bor, ap, sym, ◌∙◌, arith}
 use Rattle.std.proofs.lemmas.List.{map-append, take_all}
 use Rattle.store_core.specs.Directory.{Object}
-use Rattle.content_laws.proofs.KeptDraw.{map_map}
+use Rattle.run_laws.proofs.KeptDraw.{map_map}
 use Rattle.dir_parts.specs.Parts.{Held, object_of}
 use Rattle.snapshot_view.proofs.Looking.{read_more}
 use Rattle.snapshot_view.proofs.looks.names_of.Goals as goal

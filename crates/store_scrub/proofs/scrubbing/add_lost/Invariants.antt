@@ -1,7 +1,7 @@
 use Rattle.std.proofs.Common.{◌≡◌, ◌++◌, not, map, filter}
 use Rattle.std.specs.List.{range_with_len}
 use Rattle.store_core.specs.Directory.{Directory}
-use Rattle.session_laws.specs.Scrubs.{holds_version}
+use Rattle.session_rules.specs.Scrubs.{holds_version}
 use Rattle.store_scrub.specs.Lost.{lost_in, places_with}
 use Rattle.store_scrub.proofs.scrubbing.add_lost.Given as goal
 

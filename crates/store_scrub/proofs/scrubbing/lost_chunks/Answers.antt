@@ -4,8 +4,8 @@ use Rattle.std.proofs.lemmas.List.{take_all}
 use Rattle.std.proofs.lemmas.List.Folds.{flat_map-map}
 use Rattle.store_core.specs.Directory.{Object, Directory}
 use Rattle.session_rules.specs.declared.answer.LostChunk.{LostChunk as Lost}
-use Rattle.session_laws.specs.Seen.{versions_under}
-use Rattle.session_laws.specs.Scrubs.{lost_of}
+use Rattle.session_rules.specs.Seen.{versions_under}
+use Rattle.session_rules.specs.Scrubs.{lost_of}
 use Rattle.dir_parts.specs.Parts.{Held, object_of}
 use Rattle.store_scrub.specs.Lost.{lost_in, places_with}
 use Rattle.store_scrub.proofs.Loops.{item_more}

@@ -1,7 +1,7 @@
 use Rattle.std.proofs.Common.{◌≡◌, map, take}
 use Rattle.std.specs.List.{flat_map}
 use Rattle.store_core.specs.Directory.{Directory}
-use Rattle.session_laws.specs.Scrubs.{lost_of}
+use Rattle.session_rules.specs.Scrubs.{lost_of}
 use Rattle.store_scrub.specs.Lost.{lost_in, places_with}
 use Rattle.store_scrub.proofs.scrubbing.lost_chunks.Given as goal
 

@@ -2,7 +2,7 @@ use Rattle.std.proofs.Common.{◌≡◌, false, List, take, All, ap, sym, subst,
 use Rattle.std.proofs.lemmas.List.{take_all}
 use Rattle.store_core.specs.Lists.{change_at}
 use Rattle.store_core.specs.Directory.{Directory}
-use Rattle.session_laws.specs.Scrubs.{lost_at}
+use Rattle.session_rules.specs.Scrubs.{lost_at}
 use Rattle.chunk_server.specs.State.{ServerState}
 use Rattle.chunk_server.specs.Steps.{after_discard}
 use Rattle.store_scrub.specs.Lost.{places_with}

@@ -1,7 +1,7 @@
 use Rattle.std.proofs.Common.{refl, ap, subst, ◌∙◌}
 use Rattle.store_core.specs.NextAct.{job_of}
-use Rattle.store_resume.specs.State.{Sequel}
-use Rattle.store_resume.specs.StateActs.{act_at}
+use Rattle.run_laws.specs.State.{Sequel}
+use Rattle.run_laws.specs.StateActs.{act_at}
 use Rattle.version_seal.specs.Entry.{BookOf}
 use Rattle.call_steps.specs.Acts.{act_by, act_now}
 use Rattle.client_patch.specs.Patches.{PatchOf}

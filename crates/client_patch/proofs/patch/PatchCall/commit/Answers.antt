@@ -6,7 +6,7 @@ use Rattle.store_core.specs.Told.{Told}
 use Rattle.store_core.specs.Act.{DirectoryStep}
 use Rattle.store_core.specs.Agreement.{Agrees}
 use Rattle.store_core.specs.Tokens.{actor_of}
-use Rattle.store_resume.specs.States.{settle_state}
+use Rattle.run_laws.specs.States.{settle_state}
 use Rattle.version_seal.specs.Entry.{BookOf}
 use Rattle.stripe_dir.specs.Answers.{told_committed}
 use Rattle.call_steps.specs.declared.answer.DirectoryAnswer.TheVariants as there

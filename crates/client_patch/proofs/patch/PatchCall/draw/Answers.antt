@@ -5,7 +5,7 @@ use Rattle.store_core.specs.Told.{Told}
 use Rattle.store_core.specs.Act.{DirectoryStep}
 use Rattle.store_core.specs.AtDirectory.{at_directory}
 use Rattle.store_core.specs.Tokens.{actor_of}
-use Rattle.store_resume.specs.States.{prepare_all_state}
+use Rattle.run_laws.specs.States.{prepare_all_state}
 use Rattle.stripe_dir.specs.Answers.{told_or_short, told_drawn}
 use Rattle.call_steps.specs.declared.answer.DirectoryAnswer.TheVariants as there
 use Rattle.call_steps.specs.Answers.{directory_answer}

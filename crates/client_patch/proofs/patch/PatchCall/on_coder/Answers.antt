@@ -1,6 +1,6 @@
 use Rattle.std.proofs.Common.{◌≡◌, true, false, is_err, refl, ap, subst, sym, ◌∙◌}
 use Rattle.store_core.specs.Act.{Outcome as CoreOutcome}
-use Rattle.store_resume.specs.State.{Sequel, State}
+use Rattle.run_laws.specs.State.{Sequel, State}
 use Rattle.write_course.specs.Writings.{WritingOf, begins_version}
 use Rattle.call_steps.specs.Steps.{coded}
 use Rattle.gather_parts.specs.States.{StandsIn, after_coding}

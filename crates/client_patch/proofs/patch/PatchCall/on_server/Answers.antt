@@ -1,5 +1,5 @@
 use Rattle.std.proofs.Common.{Bool, false, ap, sym, ◌∙◌}
-use Rattle.store_resume.specs.State.{Sequel}
+use Rattle.run_laws.specs.State.{Sequel}
 use Rattle.call_steps.specs.Hearing.{told_here}
 use Rattle.client_patch.specs.Stages.{state_by}
 use Rattle.client_patch.specs.Inside.{patch_in}

@@ -1,6 +1,6 @@
 use Rattle.std.proofs.Common.{◌≡◌, replicate, ap, subst, ◌∙◌}
 use Rattle.clay_grid.specs.Shape.{chunk_count}
-use Rattle.store_resume.specs.State.{State}
+use Rattle.run_laws.specs.State.{State}
 use Rattle.call_steps.specs.CallOf.{taken_of}
 use Rattle.call_steps.specs.Outcomes.{outcome_of}
 use Rattle.call_steps.specs.Steps.{need_of}

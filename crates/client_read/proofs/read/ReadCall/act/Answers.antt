@@ -1,5 +1,5 @@
 use Rattle.std.proofs.Common.{refl, ap, ◌∙◌}
-use Rattle.store_resume.specs.State.{Sequel}
+use Rattle.run_laws.specs.State.{Sequel}
 use Rattle.call_steps.specs.Acts.{act_now}
 use Rattle.client_read.specs.Reads.{ReadOf}
 use Rattle.client_read.specs.Stages.{due_by}

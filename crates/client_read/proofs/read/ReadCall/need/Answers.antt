@@ -2,7 +2,7 @@ use Rattle.std.proofs.Common.{refl, ap, subst, ◌∙◌}
 use Rattle.std.specs.Prelude.{IsTrue}
 use Rattle.store_core.specs.Note.{note_of}
 use Rattle.store_core.specs.ActPlace.{is_in_pass}
-use Rattle.store_resume.specs.State.{Sequel}
+use Rattle.run_laws.specs.State.{Sequel}
 use Rattle.call_steps.specs.CallOf.{act_of}
 use Rattle.call_steps.specs.Steps.{need_of, HoldsItsPass}
 use Rattle.client_read.specs.Reads.{ReadOf}

@@ -1,7 +1,7 @@
 use Rattle.std.proofs.Common.{◌≡◌, true, false, is_err, [], refl, ap, subst, ◌∙◌}
 use Rattle.store_core.specs.Note.{note_of}
 use Rattle.store_core.specs.Act.{Outcome}
-use Rattle.store_resume.specs.State.{Sequel, State}
+use Rattle.run_laws.specs.State.{Sequel, State}
 use Rattle.call_steps.specs.CallOf.{CallOf, tries_by}
 use Rattle.call_steps.specs.Steps.{need_of, coded}
 use Rattle.gather_parts.specs.Gatherings.{GatheringsOf}

@@ -1,5 +1,5 @@
 use Rattle.std.proofs.Common.{◌≡◌, Bool, false, [], refl, sym, ap, subst, ◌∙◌}
-use Rattle.store_resume.specs.State.{Sequel}
+use Rattle.run_laws.specs.State.{Sequel}
 use Rattle.chunk_server.specs.Core.{core_of}
 use Rattle.call_steps.specs.CallOf.{CallOf, tries_by}
 use Rattle.call_steps.specs.Steps.{need_of, stepped_at_server}

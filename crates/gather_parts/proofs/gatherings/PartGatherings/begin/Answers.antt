@@ -1,6 +1,6 @@
 use Rattle.std.proofs.Common.{List, map, ap, ◌∙◌}
 use Rattle.store_core.specs.Read.{part_of}
-use Rattle.store_resume.specs.States.{parts_state, open_parts, open_state}
+use Rattle.run_laws.specs.States.{parts_state, open_parts, open_state}
 use Rattle.clay_grid.specs.Shape.{Shape}
 use Rattle.call_steps.specs.declared.seen.Seen.{Seen}
 use Rattle.stripe_dir.specs.Answers.{seen_in}

@@ -1,7 +1,7 @@
 use Rattle.std.proofs.Common.{◌≡◌, false, is_err, [], None, Some, if◌then◌else◌, refl, sym, ap, ◌∙◌}
-use Rattle.store_resume.specs.Stage.{Aim}
-use Rattle.store_resume.specs.State.{Sequel, State}
-use Rattle.store_resume.specs.States.{stage_state}
+use Rattle.run_laws.specs.Stage.{Aim}
+use Rattle.run_laws.specs.State.{Sequel, State}
+use Rattle.run_laws.specs.States.{stage_state}
 use Rattle.chunk_server.specs.Core.{core_of}
 use Rattle.gathering.specs.Courses.{CourseOf, has_bytes}
 use Rattle.gathering.specs.Aims.{ending_at}

@@ -1,5 +1,5 @@
 use Rattle.std.proofs.Common.{◌≡◌, true, false, Option, Some, unwrap_or, sym, ap, subst, ◌∙◌}
-use Rattle.store_resume.specs.Stage.{Aim}
+use Rattle.run_laws.specs.Stage.{Aim}
 use Rattle.call_steps.specs.declared.seen.Seen.{Seen}
 use Rattle.stripe_dir.specs.Answers.{seen_in}
 use Rattle.gathering.specs.Gathers.{new_gather}

@@ -2,8 +2,8 @@ use Rattle.std.specs.Prelude.{⊤}
 use Rattle.std.proofs.Common.{false, refl, sym, ap, ◌∙◌}
 use Rattle.clay_grid.specs.Shape.{chunk_count}
 use Rattle.store_core.specs.Act.{DirectoryStep}
-use Rattle.store_resume.specs.States.{open_state}
-use Rattle.store_resume.specs.GatherAfter.{confirming_after}
+use Rattle.run_laws.specs.States.{open_state}
+use Rattle.run_laws.specs.GatherAfter.{confirming_after}
 use Rattle.stripe_dir.specs.declared.answers.Confirmed.{Confirmed}
 use Rattle.stripe_dir.specs.Answers.{told_confirmed}
 use Rattle.call_steps.specs.declared.answer.DirectoryAnswer.TheVariants as there

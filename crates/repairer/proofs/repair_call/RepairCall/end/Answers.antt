@@ -2,7 +2,7 @@ use Rattle.std.proofs.Common.{◌≡◌, false, refl, ap, ◌∙◌}
 use Rattle.clay_grid.specs.Shape.{chunk_count}
 use Rattle.store_core.specs.Note.{note_of_rebuild}
 use Rattle.store_core.specs.Act.{DirectoryStep}
-use Rattle.store_resume.specs.GatherAfter.{ending_after}
+use Rattle.run_laws.specs.GatherAfter.{ending_after}
 use Rattle.stripe_dir.specs.Answers.{told_ended}
 use Rattle.call_steps.specs.declared.outcomes.RepairOutcome.{RepairOutcome}
 use Rattle.call_steps.specs.CallOf.{CallOf}

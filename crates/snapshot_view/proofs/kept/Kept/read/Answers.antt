@@ -2,8 +2,8 @@ use Rattle.std.proofs.Common.{◌≡◌, ◌<◌, ◌+◌, min, List, [], map, A
 use Rattle.clay_grid.specs.Shape.{Shape, stripe_length}
 use Rattle.code_laws.proofs.Cut.{stripe_positive}
 use Rattle.store_core.specs.Read.{part_of}
-use Rattle.store_resume.specs.State.{Sequel}
-use Rattle.store_resume.specs.States.{parts_state, open_state}
+use Rattle.run_laws.specs.State.{Sequel}
+use Rattle.run_laws.specs.States.{parts_state, open_state}
 use Rattle.call_steps.specs.declared.seen.Seen.{Seen}
 use Rattle.stripe_dir.specs.Answers.{seen_in}
 use Rattle.gather_parts.specs.Wanted.{wanted_of, IsPinned}

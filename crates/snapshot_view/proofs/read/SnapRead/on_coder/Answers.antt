@@ -1,5 +1,5 @@
 use Rattle.std.proofs.Common.{◌≡◌, is_err, sym, ap, subst, ◌∙◌}
-use Rattle.store_resume.specs.State.{Sequel}
+use Rattle.run_laws.specs.State.{Sequel}
 use Rattle.gather_parts.specs.Gatherings.{GatheringsOf}
 use Rattle.gather_parts.specs.States.{state_in}
 use Rattle.gather_parts.specs.Steps.{coded}

@@ -4,7 +4,7 @@ use Rattle.store_map.specs.declared.transcript.Transcript.{Transcript}
 use Rattle.chunk_server.specs.State.{ServerState}
 use Rattle.call_steps.specs.CallerCalls.{HaveNames, counts_of}
 use Rattle.call_steps.specs.declared.caller_calls.CallerCalls.{CallerCalls}
-use Rattle.place_laws.specs.ServedLaws.{IsMadeOf}
+use Rattle.thread_laws.specs.ServedLaws.{IsMadeOf}
 use Rattle.store_run.specs.Ended.{IsEnded}
 use Rattle.store_run.specs.Swept.{IsRunToEnd}
 use Rattle.store_run.specs.declared.ended.Ended.{Ended}

@@ -2,8 +2,8 @@ use Rattle.std.proofs.Common.{rules, ◌≡◌, ℕ, ◌<◌, ◌%◌, [], ◌�
 use Rattle.std.specs.Vec.{with_item}
 use Rattle.actors.specs.Callers.{PartOf, first_caller}
 use Rattle.actors.specs.Inside.{part_by}
-use Rattle.place_laws.specs.Numbers.{IsTurnOf}
-use Rattle.place_laws.specs.Logs.{counts_of}
+use Rattle.thread_laws.specs.Numbers.{IsTurnOf}
+use Rattle.thread_laws.specs.Logs.{counts_of}
 use Rattle.run_seats.specs.Seated.{IsSeated}
 use Rattle.run_seats.specs.declared.seated.Seated.{Seated}
 use Rattle.run_seats.specs.declared.seated_actor.SeatedActor.TheVariants as kind

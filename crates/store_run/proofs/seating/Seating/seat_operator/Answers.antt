@@ -1,8 +1,8 @@
 use Rattle.std.proofs.Common.{rules, ◌≡◌, ℕ, ◌%◌, false, [], ◌∷◌, ◌++◌, length, sym, ap, subst, ◌∙◌, refl}
 use Rattle.std.specs.Vec.{with_item}
 use Rattle.store_map.specs.declared.actor.Actor.TheVariants as actor
-use Rattle.place_laws.specs.Numbers.{IsTurnOf}
-use Rattle.place_laws.specs.Logs.{counts_of}
+use Rattle.thread_laws.specs.Numbers.{IsTurnOf}
+use Rattle.thread_laws.specs.Logs.{counts_of}
 use Rattle.run_seats.specs.SeatedPlain.{IsOperator}
 use Rattle.run_seats.specs.declared.seated_actor.SeatedActor.TheVariants as kind
 use Rattle.run_seats.specs.declared.seated_operator.SeatedOperator.{SeatedOperator}

@@ -2,8 +2,8 @@ use Rattle.std.proofs.Common.{rules, ◌≡◌, ℕ, ◌%◌, true, [], ◌∷�
 use Rattle.std.specs.Vec.{with_item}
 use Rattle.store_map.specs.declared.actor.Actor.TheVariants as actor
 use Rattle.sweeper.specs.Sweeps.{new_sweeper}
-use Rattle.place_laws.specs.Numbers.{IsTurnOf}
-use Rattle.place_laws.specs.Logs.{counts_of}
+use Rattle.thread_laws.specs.Numbers.{IsTurnOf}
+use Rattle.thread_laws.specs.Logs.{counts_of}
 use Rattle.run_seats.specs.SeatedPlain.{IsSweeper}
 use Rattle.run_seats.specs.declared.seated_actor.SeatedActor.TheVariants as kind
 use Rattle.run_seats.specs.declared.seated_sweeper.SeatedSweeper.{SeatedSweeper}

@@ -9,7 +9,7 @@ use Rattle.store_core.specs.Agreement.{Seat}
 use Rattle.stripe_dir.specs.ItsStripes.{IsWhole}
 use Rattle.dir_parts.specs.Known.{IsKnown}
 use Rattle.dir_parts.specs.Parts.{object_or_new}
-use Rattle.content_laws.proofs.Grows.{origins, set_keeps}
+use Rattle.run_laws.proofs.ContentGrows.{origins, set_keeps}
 use Rattle.stripe_dir.specs.Begun.{deleted}
 use Rattle.stripe_dir.specs.Kept.{directory_in}
 use Rattle.stripe_dir.specs.declared.directory.Directory.TheInside.{Inside}

@@ -21,7 +21,7 @@ use Rattle.dir_parts.specs.OpenPass.{Open}
 use Rattle.dir_parts.specs.Parts.{object_or_new}
 use Rattle.dir_parts.specs.Known.{IsKnown}
 use Rattle.dir_parts.proofs.Known.{known_placed}
-use Rattle.content_laws.proofs.Grows.{origins, set_keeps, place_keeps}
+use Rattle.run_laws.proofs.ContentGrows.{origins, set_keeps, place_keeps}
 use Rattle.stripe_dir.specs.Kept.{directory_in}
 use Rattle.stripe_dir.specs.Installed.{installed, dropped, changed_in}
 use Rattle.stripe_dir.specs.declared.directory.Directory.TheInside.{Inside}

@@ -10,7 +10,7 @@ use Rattle.store_core.specs.Agreement.{HeldPass, ActorToken}
 use Rattle.dir_parts.specs.Counts.{unpinned}
 use Rattle.dir_parts.specs.OpenPass.{Open}
 use Rattle.dir_parts.specs.TableSteps.{placed_anew_by}
-use Rattle.content_laws.proofs.Grows.{origins, raise_keeps}
+use Rattle.run_laws.proofs.ContentGrows.{origins, raise_keeps}
 use Rattle.stripe_dir.specs.Sealed.{Sealed}
 use Rattle.stripe_dir.specs.Kept.{directory_in}
 use Rattle.stripe_dir.specs.declared.directory.Directory.TheInside.{Inside}

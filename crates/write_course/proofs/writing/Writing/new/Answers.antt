@@ -1,7 +1,7 @@
 use Rattle.std.proofs.Common.{◌≡◌, ℕ, ◌+◌, ◌<◌, List, [], None, length, map, ap, subst, sym, ◌∙◌, arith}
 use Rattle.std.proofs.lemmas.List.{length-map}
 use Rattle.clay_grid.specs.Shape.{Shape, chunk_count}
-use Rattle.store_resume.specs.States.{prepare_all_state}
+use Rattle.run_laws.specs.States.{prepare_all_state}
 use Rattle.write_course.specs.States.{Settled, prepares_or_commits, state_by}
 use Rattle.write_course.specs.Writings.{versions_of}
 use Rattle.write_course.proofs.Transitions.{begins}

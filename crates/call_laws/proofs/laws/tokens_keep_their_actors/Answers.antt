@@ -1,8 +1,0 @@
-use Rattle.call_laws.proofs.Tokens.{tokens_stay, passes_are_of_calls}
-use Rattle.call_laws.proofs.laws.tokens_keep_their_actors.Goals as goal
-
-pub returns-clause-tokens : goal.returns-clause-tokens
-returns-clause-tokens c = tokens_stay
-
-pub returns-clause-passes : goal.returns-clause-passes
-returns-clause-passes c = passes_are_of_calls

@@ -1,6 +1,0 @@
-use Rattle.std.proofs.Common.{◌≡◌, map, take}
-use Rattle.code_text.specs.Lines.{chunk_lines}
-use Rattle.code_text.proofs.chunk_lines.Given as goal
-
-abbrev pub invariant-loop-chunk : goal.invariant-loop-chunk
-invariant-loop-chunk l = l.lines.items ≡ chunk_lines (map (λ chunk. chunk.items) (take l.chunk-index l.chunks))

@@ -1,6 +1,0 @@
-use Rattle.std.proofs.Common.{map, take}
-use Rattle.code_text.specs.Entries.{AreEntries, parts_of}
-use Rattle.code_text.proofs.entries.entries_of.Given as goal
-
-abbrev pub invariant-loop-line : goal.invariant-loop-line
-invariant-loop-line l = AreEntries (map (λ line. line.now) (take l.line-index l.lines)) (parts_of l.entries.items)

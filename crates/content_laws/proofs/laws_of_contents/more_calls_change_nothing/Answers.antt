@@ -1,5 +1,0 @@
-use Rattle.content_laws.proofs.MoreCalls.{more_calls_change_nothing}
-use Rattle.content_laws.proofs.laws_of_contents.more_calls_change_nothing.Goals as goal
-
-pub returns : goal.returns
-returns c = more_calls_change_nothing

@@ -1,5 +1,0 @@
-use Rattle.content_laws.proofs.LengthProofs.{lengths_are_the_map}
-use Rattle.content_laws.proofs.laws_of_lengths.lengths_are_the_map.Goals as goal
-
-pub returns : goal.returns
-returns c = lengths_are_the_map

@@ -1,5 +1,0 @@
-use Rattle.content_laws.proofs.OwedBytes.{looks_owe_their_pins}
-use Rattle.content_laws.proofs.laws_of_reads.looks_owe_their_pins.Goals as goal
-
-pub returns : goal.returns
-returns c = looks_owe_their_pins

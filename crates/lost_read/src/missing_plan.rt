@@ -1,0 +1,124 @@
+//! What a run is read with.
+ghost use Rattle.std.specs.Prelude.{◌≡◌, ◌*◌, ◌≤◌, [], ◌∷◌, length, IfOk};
+ghost use Rattle.clay_grid.specs.Shape.{chunk_count, layer_count};
+ghost use Rattle.clay_model.specs.Erased.{erased_below};
+ghost use Rattle.lost_read.specs.Plan.{AreSubchunks, HasPlaces};
+ghost use Rattle.lost_layers.specs.ErasedPieces.{pieces_of};
+ghost use Rattle.lost_layers.specs.ErasedRuns.{solved_of, IsSolvedRun};
+ghost use Rattle.lost_read.specs.MissingPlan.{AreRanks, IsReadPlan};
+
+use clay_grid::Geometry;
+use clay_kernels::{Generator, Products, fifths, generator_of, halves, zeros};
+use lost_layers::{LostPiece, SolvedRun};
+use std::alloc::{AllocError, Global};
+
+/// What a run is read with.
+#[derive(Drop)]
+pub(crate) struct ReadPlan {
+    /// For each subchunk, chunk by chunk, its place among the pieces, and 0 where it is none of them.
+    pub(crate) places: Vec<usize>,
+    /// The unknown nodes, rising.
+    pub(crate) points: Vec<u8>,
+    /// The factors of every node in the values of these nodes.
+    pub(crate) generator: Generator,
+    /// The layers, by rising score.
+    pub(crate) order: Vec<u32>,
+    /// For each layer, and behind the last one, how many of those below it are solved.
+    pub(crate) ranks: Vec<u32>,
+    /// A subchunk of a virtual node.
+    pub(crate) zeros: Vec<u8>,
+    /// The products of the inverses of 2 and of 5.
+    pub(crate) halves: Products,
+    pub(crate) fifths: Products,
+}
+
+// Writes the place of each piece.
+fn write_places(g: Geometry, list: &[LostPiece], places: &mut [usize])
+    requires subchunks { AreSubchunks g list.now }
+    requires places_len { length places.old ≡ chunk_count g * layer_count g }
+    ensures { HasPlaces g list.now (length list.now) places.new }
+{
+    for (at, piece) in list.iter().enumerate() {
+        places[(piece.chunk * g.alpha() + piece.layer) as usize] = at;
+    }
+}
+
+// For each subchunk its place among the pieces.
+fn places_of(alloc: Global, g: Geometry, list: &[LostPiece]) -> Result<Vec<usize>, AllocError>
+    requires { AreSubchunks g list.now }
+    ensures len { IfOk result (λ v. length v.items ≡ chunk_count g * layer_count g) }
+    ensures places { IfOk result (λ v. HasPlaces g list.now (length list.now) v.items) }
+{
+    let mut places = vec![in alloc; 0usize; (g.n() * g.alpha()) as usize]?;
+    write_places(g, list, &mut places);
+    Ok(places)
+}
+
+// The numbers of the nodes with a mark, rising.
+fn points_of(alloc: Global, marks: &[bool]) -> Result<Vec<u8>, AllocError>
+    requires { length marks.now ≤ 256 }
+    ensures { IfOk result (λ v. v.items ≡ erased_below marks.now (length marks.now)) }
+{
+    let mut points = Vec::new(alloc);
+    for (node, mark) in marks.iter().enumerate() {
+        if *mark {
+            points.push(node as u8)?;
+        }
+    }
+    Ok(points)
+}
+
+// The rank of the first layer, with room for those of so many more.
+fn first_rank(alloc: Global, count: u32) -> Result<Vec<u32>, AllocError>
+    ensures { IfOk result (λ v. v.items ≡ 0 ∷ []) }
+{
+    let mut ranks = Vec::with_capacity(alloc, count as usize + 1)?;
+    ranks.push(0)?;
+    Ok(ranks)
+}
+
+// For each layer, and behind the last one, how many of those below it are solved.
+fn ranks_of(alloc: Global, run: &SolvedRun<'_>) -> Result<Vec<u32>, AllocError>
+    requires { IsSolvedRun run.now }
+    ensures { IfOk result (λ v. AreRanks (solved_of run.now) (layer_count run.now.placed.g) v.items) }
+{
+    let alpha = run.placed.g.alpha();
+    let mut ranks = first_rank(alloc, alpha)?;
+    let mut count = 0;
+    for layer in 0..alpha {
+        count += u32::from(run.is_solved(layer));
+        ranks.push(count)?;
+    }
+    Ok(ranks)
+}
+
+impl ReadPlan {
+    /// The plan for a run that takes these pieces.
+    pub(crate) fn new(
+        alloc: Global,
+        run: &SolvedRun<'_>,
+        list: &[LostPiece],
+    ) -> Result<ReadPlan, AllocError>
+        requires run { IsSolvedRun run.now }
+        requires list { list.now ≡ pieces_of (solved_of run.now) }
+        ensures { IfOk result (λ plan. IsReadPlan (solved_of run.now) plan) }
+    {
+        let g = run.placed.g;
+        let places = places_of(alloc, g, list)?;
+        let points = points_of(alloc, run.unknown)?;
+        let generator = generator_of(alloc, g, &points)?;
+        let order = g.layers_by_score(alloc, run.unknown)?;
+        let ranks = ranks_of(alloc, run)?;
+        let zeros = zeros(alloc, g.w() as usize)?;
+        Ok(ReadPlan {
+            places,
+            points,
+            generator,
+            order,
+            ranks,
+            zeros,
+            halves: halves(),
+            fifths: fifths(),
+        })
+    }
+}

@@ -1,9 +1,0 @@
-use Rattle.std.proofs.Common.{◌≡◌, ◌≤◌, ◌*◌, length, flat_map}
-use Rattle.std.specs.List.{range_with_len}
-use Rattle.missing_layers.specs.ErasedPieces.{pieces_of_chunk}
-use Rattle.missing_layers.specs.ErasedRuns.{solved_of}
-use Rattle.missing_layers.proofs.pieces.SolvedRun.count.Given as goal
-
-abbrev pub invariant-loop-chunk : goal.invariant-loop-chunk
-invariant-loop-chunk l =
-    (l.count ≡ length (flat_map (pieces_of_chunk (solved_of l.self)) (range_with_len 0 l.chunk))) × (l.count ≤ l.chunk * 1024)

@@ -1,8 +1,0 @@
-use Rattle.std.proofs.Common.{◌≡◌, ◌≤◌}
-use Rattle.clay_grid.specs.Score.{count_below}
-use Rattle.missing_layers.specs.ErasedPieces.{is_piece}
-use Rattle.missing_layers.specs.ErasedRuns.{solved_of}
-use Rattle.missing_layers.proofs.pieces.SolvedRun.count_of_chunk.Given as goal
-
-abbrev pub invariant-loop-layer : goal.invariant-loop-layer
-invariant-loop-layer l = (l.count ≡ count_below l.layer (is_piece (solved_of l.self) l.node)) × (l.count ≤ l.layer)

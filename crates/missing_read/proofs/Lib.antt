@@ -1,2 +1,0 @@
-pub mod MissingReadLaws
-pub mod Marked

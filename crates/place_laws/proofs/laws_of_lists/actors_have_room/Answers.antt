@@ -1,5 +1,0 @@
-use Rattle.place_laws.proofs.Room.{actors_have_room}
-use Rattle.place_laws.proofs.laws_of_lists.actors_have_room.Goals as goal
-
-pub returns : goal.returns
-returns c = actors_have_room

@@ -1,5 +1,0 @@
-use Rattle.place_laws.proofs.Others.{all_places_begin}
-use Rattle.place_laws.proofs.laws_of_lists.all_places_begin.Goals as goal
-
-pub returns : goal.returns
-returns c = all_places_begin

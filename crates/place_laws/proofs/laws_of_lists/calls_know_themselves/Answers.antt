@@ -1,5 +1,0 @@
-use Rattle.place_laws.proofs.Calling.{calls_know_themselves}
-use Rattle.place_laws.proofs.laws_of_lists.calls_know_themselves.Goals as goal
-
-pub returns : goal.returns
-returns c = calls_know_themselves

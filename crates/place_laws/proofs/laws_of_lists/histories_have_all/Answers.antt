@@ -1,5 +1,0 @@
-use Rattle.place_laws.proofs.Seen.{histories_have_all}
-use Rattle.place_laws.proofs.laws_of_lists.histories_have_all.Goals as goal
-
-pub returns : goal.returns
-returns c = histories_have_all

@@ -1,5 +1,0 @@
-use Rattle.place_laws.proofs.Seen.{new_turns_begin}
-use Rattle.place_laws.proofs.laws_of_lists.new_turns_begin.Goals as goal
-
-pub returns : goal.returns
-returns c = new_turns_begin

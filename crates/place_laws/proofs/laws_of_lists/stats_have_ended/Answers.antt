@@ -1,5 +1,0 @@
-use Rattle.place_laws.proofs.Worked.{stats_have_ended}
-use Rattle.place_laws.proofs.laws_of_lists.stats_have_ended.Goals as goal
-
-pub returns : goal.returns
-returns c = stats_have_ended

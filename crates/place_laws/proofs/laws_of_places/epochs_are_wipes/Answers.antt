@@ -1,5 +1,0 @@
-use Rattle.place_laws.proofs.Epochs.{epochs_are_wipes}
-use Rattle.place_laws.proofs.laws_of_places.epochs_are_wipes.Goals as goal
-
-pub returns : goal.returns
-returns c = epochs_are_wipes

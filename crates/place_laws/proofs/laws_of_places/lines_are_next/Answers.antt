@@ -1,5 +1,0 @@
-use Rattle.place_laws.proofs.Operated.{lines_are_next}
-use Rattle.place_laws.proofs.laws_of_places.lines_are_next.Goals as goal
-
-pub returns : goal.returns
-returns c = lines_are_next

@@ -1,5 +1,0 @@
-use Rattle.place_laws.proofs.ServerAdding.{servers_stand_on}
-use Rattle.place_laws.proofs.laws_of_places.servers_stand_on.Goals as goal
-
-pub returns : goal.returns
-returns c = servers_stand_on

@@ -1,5 +1,0 @@
-use Rattle.place_laws.proofs.SeenOwed.{all_served_stay_owed}
-use Rattle.place_laws.proofs.laws_of_serving.all_served_stay_owed.Goals as goal
-
-pub returns : goal.returns
-returns c = all_served_stay_owed

@@ -1,5 +1,0 @@
-use Rattle.session_laws.proofs.SweptCalls.{puts_are_swept as law}
-use Rattle.session_laws.proofs.laws.puts_are_swept.Goals as goal
-
-pub returns : goal.returns
-returns c = law

@@ -1,5 +1,0 @@
-use Rattle.session_laws.proofs.Maps.{beginnings_are_maps as law}
-use Rattle.session_laws.proofs.laws_of_bytes.beginnings_are_maps.Goals as goal
-
-pub returns : goal.returns
-returns c = law

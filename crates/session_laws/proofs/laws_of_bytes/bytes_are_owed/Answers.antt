@@ -1,5 +1,0 @@
-use Rattle.session_laws.proofs.Maps.{bytes_are_owed as law}
-use Rattle.session_laws.proofs.laws_of_bytes.bytes_are_owed.Goals as goal
-
-pub returns : goal.returns
-returns c = law

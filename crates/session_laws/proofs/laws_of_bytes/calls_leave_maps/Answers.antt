@@ -1,5 +1,0 @@
-use Rattle.session_laws.proofs.CallLeft.{calls_leave_maps as law}
-use Rattle.session_laws.proofs.laws_of_bytes.calls_leave_maps.Goals as goal
-
-pub returns : goal.returns
-returns c = law

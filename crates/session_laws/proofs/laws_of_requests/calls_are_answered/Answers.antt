@@ -1,5 +1,0 @@
-use Rattle.session_laws.proofs.CallsAnswered.{calls_are_answered as law}
-use Rattle.session_laws.proofs.laws_of_requests.calls_are_answered.Goals as goal
-
-pub returns : goal.returns
-returns c = law

@@ -1,5 +1,0 @@
-use Rattle.session_laws.proofs.Runs.{more_calls_stay_between as law}
-use Rattle.session_laws.proofs.laws_of_requests.more_calls_stay_between.Goals as goal
-
-pub returns : goal.returns
-returns c = law

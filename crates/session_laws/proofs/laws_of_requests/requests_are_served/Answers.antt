@@ -1,5 +1,0 @@
-use Rattle.session_laws.proofs.Runs.{requests_are_served as law}
-use Rattle.session_laws.proofs.laws_of_requests.requests_are_served.Goals as goal
-
-pub returns : goal.returns
-returns c = law

@@ -1,0 +1,5 @@
+use Rattle.session_rules.proofs.RebuildsAnswered.{rebuilds_are_answered as law}
+use Rattle.session_rules.proofs.laws_of_requests.rebuilds_are_answered.Goals as goal
+
+pub returns : goal.returns
+returns c = law

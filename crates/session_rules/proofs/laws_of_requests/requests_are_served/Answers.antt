@@ -1,0 +1,5 @@
+use Rattle.session_rules.proofs.Runs.{requests_are_served as law}
+use Rattle.session_rules.proofs.laws_of_requests.requests_are_served.Goals as goal
+
+pub returns : goal.returns
+returns c = law

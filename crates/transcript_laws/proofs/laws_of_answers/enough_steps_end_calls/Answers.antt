@@ -1,5 +1,0 @@
-use Rattle.transcript_laws.proofs.Overs.{enough_steps_end_calls}
-use Rattle.transcript_laws.proofs.laws_of_answers.enough_steps_end_calls.Goals as goal
-
-pub returns : goal.returns
-returns c = enough_steps_end_calls

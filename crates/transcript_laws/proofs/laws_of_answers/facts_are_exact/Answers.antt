@@ -1,5 +1,0 @@
-use Rattle.transcript_laws.proofs.FactsExact.{facts_are_exact}
-use Rattle.transcript_laws.proofs.laws_of_answers.facts_are_exact.Goals as goal
-
-pub returns : goal.returns
-returns c = facts_are_exact

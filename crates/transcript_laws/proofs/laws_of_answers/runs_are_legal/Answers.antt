@@ -1,5 +1,0 @@
-use Rattle.transcript_laws.proofs.Shows.{runs_are_legal}
-use Rattle.transcript_laws.proofs.laws_of_answers.runs_are_legal.Goals as goal
-
-pub returns : goal.returns
-returns c = runs_are_legal

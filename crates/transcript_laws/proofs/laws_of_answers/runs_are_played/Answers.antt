@@ -1,5 +1,0 @@
-use Rattle.transcript_laws.proofs.Plays.{runs_are_played}
-use Rattle.transcript_laws.proofs.laws_of_answers.runs_are_played.Goals as goal
-
-pub returns : goal.returns
-returns c = runs_are_played

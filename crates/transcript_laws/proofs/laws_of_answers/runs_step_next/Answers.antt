@@ -1,5 +1,0 @@
-use Rattle.transcript_laws.proofs.Acts.{runs_step_next}
-use Rattle.transcript_laws.proofs.laws_of_answers.runs_step_next.Goals as goal
-
-pub returns : goal.returns
-returns c = runs_step_next

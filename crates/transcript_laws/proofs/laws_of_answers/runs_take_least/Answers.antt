@@ -1,5 +1,0 @@
-use Rattle.transcript_laws.proofs.TakesOfRuns.{runs_take_least}
-use Rattle.transcript_laws.proofs.laws_of_answers.runs_take_least.Goals as goal
-
-pub returns : goal.returns
-returns c = runs_take_least

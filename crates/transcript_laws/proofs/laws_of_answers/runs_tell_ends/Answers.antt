@@ -1,5 +1,0 @@
-use Rattle.transcript_laws.proofs.Overs.{runs_tell_ends}
-use Rattle.transcript_laws.proofs.laws_of_answers.runs_tell_ends.Goals as goal
-
-pub returns : goal.returns
-returns c = runs_tell_ends
