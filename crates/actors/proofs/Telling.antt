@@ -13,7 +13,7 @@ use Rattle.store_core.specs.Work.{Ended, has_step}
 use Rattle.chunk_server.specs.State.{ServerState}
 use Rattle.chunk_server.specs.Core.{core_of}
 use Rattle.dir_parts.proofs.Entries.{slice_get-map}
-use Rattle.stripe_dir.specs.Sealed.{Sealed}
+use Rattle.stripe_stamps.specs.Sealed.{Sealed}
 use Rattle.call_steps.specs.declared.answer.DirectoryAnswer.{DirectoryAnswer}
 use Rattle.call_steps.specs.declared.answer.ServerAnswer.{ServerAnswer}
 use Rattle.call_steps.specs.declared.need.Need.TheVariants as need

@@ -3,7 +3,7 @@ use Rattle.std.specs.Prelude.{◌≡◌, ℕ, List, ◌++◌}
 use Rattle.store_map.specs.declared.script.Script.{Script}
 use Rattle.version_seal.specs.Entry.{StampOf}
 use Rattle.chunk_server.specs.State.{ServerState}
-use Rattle.stripe_dir.specs.Sealed.{Sealed}
+use Rattle.stripe_stamps.specs.Sealed.{Sealed}
 use Rattle.call_steps.specs.declared.step.Step.{Step}
 use Rattle.world_laws.specs.StepsTold.{IsStep}
 use Rattle.world_laws.specs.TurnMade.{turn_made}

@@ -11,7 +11,7 @@ use Rattle.store_core.specs.NextAct.{job_of, rebuild_job}
 use Rattle.store_core.specs.Agreement.{Seat, ActorToken}
 use Rattle.store_core.specs.Work.{Work}
 use Rattle.version_seal.specs.Entry.{BookOf}
-use Rattle.stripe_dir.specs.Sealed.{Sealed}
+use Rattle.stripe_stamps.specs.Sealed.{Sealed}
 use Rattle.call_machine.specs.Kinds.{Asked, machine_of, IfPatches}
 use Rattle.call_machine.specs.Calls.{ArePadded, MachineOf, KnowsOldOf}
 use Rattle.world_laws.specs.World.{ActorOf}

@@ -1,7 +1,7 @@
 -- What a caller's turn leaves of the bytes that its call reads, and of the directory's stamps.
 use Rattle.std.specs.Prelude.{◌≡◌, ℕ, Bool, false, ◌&&◌, List, [], ◌∷◌, ◌++◌, length, Option, None, Some}
 use Rattle.store_core.specs.Act.{Act, Outcome}
-use Rattle.stripe_dir.specs.Sealed.{Sealed}
+use Rattle.stripe_stamps.specs.Sealed.{Sealed}
 use Rattle.call_steps.specs.CallOf.{CallOf, act_of}
 use Rattle.call_steps.specs.Ready.{ready}
 use Rattle.call_machine.specs.Kinds.{Machine, machine_of, IfReads}

@@ -1,7 +1,7 @@
 //! The coding and the step of a caller's call.
 ghost use Rattle.std.specs.Prelude.{◌≡◌, ◌&&◌, false, is_some, IsTrue, IfSome};
 ghost use Rattle.chunk_server.specs.State.{IsSame};
-ghost use Rattle.stripe_dir.specs.Sealed.{Sealed};
+ghost use Rattle.stripe_stamps.specs.Sealed.{Sealed};
 ghost use Rattle.chunk_server.specs.Core.{core_of};
 ghost use Rattle.call_steps.specs.Hearing.{IsToldHere, IsToldThere};
 ghost use Rattle.call_steps.specs.Steps.{need_of, HoldsItsPass, IsDueInPass};

@@ -15,7 +15,7 @@ use Rattle.run_laws.specs.Stage.{Aim, Stage}
 use Rattle.run_laws.specs.Stages.{first_stage}
 use Rattle.run_laws.specs.State.{Sequel, State}
 use Rattle.run_laws.specs.StateActs.{stage_act, parts_act, start_act, act_at}
-use Rattle.stripe_dir.specs.Sealed.{Sealed}
+use Rattle.stripe_stamps.specs.Sealed.{Sealed}
 use Rattle.call_steps.specs.CallOf.{CallOf}
 use Rattle.client_read.specs.Owed.{owed_by}
 use Rattle.call_machine.specs.Kinds.{Asked, asked_job, Machine, client_machine, machine_of}

@@ -1,7 +1,7 @@
 -- What a call knows of the old bytes that it keeps, whatever is asked.
 use Rattle.std.proofs.Common.{◌≡◌, List, ◌++◌}
 use Rattle.version_seal.specs.Entry.{StampOf}
-use Rattle.stripe_dir.specs.Sealed.{Sealed}
+use Rattle.stripe_stamps.specs.Sealed.{Sealed}
 use Rattle.client_patch.specs.Known.{KnowsOld}
 use Rattle.client_patch.proofs.Knowing.{more_stamps_are_known as more_known_by_patches}
 use Rattle.call_machine.specs.Kinds.{Asked, client_machine}

@@ -1,7 +1,7 @@
 -- What a call of one machine leaves of clauses that speak of all.
 use Rattle.std.proofs.Common.{◌≡◌, ℕ, replicate, None, refl, sym, ap, subst, ◌∙◌}
 use Rattle.store_map.specs.declared.call.Call.{Call}
-use Rattle.stripe_dir.specs.Sealed.{Sealed}
+use Rattle.stripe_stamps.specs.Sealed.{Sealed}
 use Rattle.call_steps.specs.CallOf.{taken_of}
 use Rattle.call_steps.proofs.Counts.{none_taken}
 use Rattle.client_put.specs.Puts.{PutOf}

@@ -11,7 +11,7 @@ use Rattle.store_core.specs.Tokens.{actor_of}
 use Rattle.run_laws.specs.PinLaws.{IsReading}
 use Rattle.run_laws.specs.State.{State}
 use Rattle.run_laws.specs.StateActs.{act_at}
-use Rattle.stripe_dir.specs.Sealed.{Sealed}
+use Rattle.stripe_stamps.specs.Sealed.{Sealed}
 use Rattle.call_steps.specs.CallOf.{CallOf, act_of, state_told}
 use Rattle.call_steps.specs.Steps.{at_directory_by, at_server_by, stepped_at_directory, stepped_at_server, coded, IsDueInPass}
 use Rattle.call_steps.proofs.Needs.{needs_tell_acts}

@@ -5,7 +5,7 @@ use Rattle.store_map.specs.declared.call.Call.{Call}
 use Rattle.store_core.specs.Agreement.{Seat, ActorToken}
 use Rattle.run_laws.specs.State.{first_state}
 use Rattle.version_seal.specs.Entry.{BookOf, StampOf}
-use Rattle.stripe_dir.specs.Sealed.{Sealed}
+use Rattle.stripe_stamps.specs.Sealed.{Sealed}
 use Rattle.call_steps.specs.CallOf.{CallOf, tries_by}
 use Rattle.client_read.specs.Owed.{owed_after}
 pub use Rattle.client_read.specs.Owed.{owed_by as read_by}

@@ -8,7 +8,7 @@ use Rattle.store_core.specs.Server.{Server}
 use Rattle.store_core.specs.Told.{Told, Seen}
 use Rattle.store_core.specs.Tokens.{actor_of}
 use Rattle.version_seal.specs.Entry.{BookOf}
-use Rattle.stripe_dir.specs.Sealed.{Sealed}
+use Rattle.stripe_stamps.specs.Sealed.{Sealed}
 use Rattle.call_steps.specs.declared.need.Need.TheVariants as need
 use Rattle.call_steps.specs.CallOf.{act_of}
 use Rattle.call_steps.specs.Steps.{stepped_at_directory, stepped_at_server, coded, need_of, IsDueInPass}

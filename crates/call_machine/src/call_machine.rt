@@ -7,7 +7,7 @@ ghost use Rattle.store_core.specs.Agreement.{Agrees, ActorToken};
 ghost use Rattle.run_laws.specs.State.{State};
 ghost use Rattle.chunk_server.specs.Core.{core_of};
 ghost use Rattle.chunk_server.specs.State.{IsSame};
-ghost use Rattle.stripe_dir.specs.Sealed.{Sealed};
+ghost use Rattle.stripe_stamps.specs.Sealed.{Sealed};
 ghost use Rattle.call_steps.specs.Acts.{act_now};
 ghost use Rattle.call_steps.specs.CallOf.{act_of, taken_of, HasTakenNothing};
 ghost use Rattle.call_steps.specs.Hearing.{IsToldHere, IsToldThere};

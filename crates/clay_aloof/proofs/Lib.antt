@@ -21,5 +21,4 @@ pub mod Column
 pub mod Worked
 pub mod Faults
 pub mod KnownBytes
-pub mod Tables
-pub mod Recovering
+pub mod PartnerTables

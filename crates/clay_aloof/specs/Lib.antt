@@ -13,4 +13,3 @@ pub mod Known
 pub mod Tables
 pub mod Partners
 pub mod Recovered
-pub mod Recoveries

@@ -10,14 +10,14 @@ mod laws;
 mod layers;
 mod lost;
 mod partners;
-mod recovery;
 
-pub use chunks::{encode, parity_into};
+pub use chunks::{couple_chunk, encode, numbers, parity_into, whole_plan};
 pub use fault::BadAloof;
 pub use geometry::AloofGeometry;
+pub use known::{Known, Source, Tables};
 pub use laws::{
     codes_are_filled, codewords_are_unique, fault_law, full_helpers, parts_are_coded,
     worked_codeword,
 };
-pub use lost::{aloof_layers, helpers_fit, rebuild, rebuild_into};
-pub use recovery::recover_into;
+pub use layers::{Plan, solved_values};
+pub use lost::{aloof_layers, chunk_of, chunks_of_nodes, helpers_fit, rebuild, rebuild_into};

@@ -16,7 +16,8 @@ use crate::known::{Known, Source, Tables, piece};
 use crate::layers::{Plan, erased_points, partner_of, places_of, solved_piece, solved_values};
 use crate::partners::Partners;
 use clay_grid::Geometry;
-use clay_kernels::{Products, cross, generator_of, halves, zeros};
+use clay_kernels::{Products, cross, halves, zeros};
+use generator_matrix::generator_of;
 use lane_repair::ChunkView;
 use std::alloc::{AllocError, Global};
 

@@ -8,7 +8,8 @@ ghost use Rattle.clay_c.specs.Calls.{lost_count};
 
 use crate::marks::marked_starts;
 use crate::recovery::missing_marks;
-use clay_aloof::{AloofGeometry, parity_into, rebuild_into, recover_into};
+use aloof_recovery::recover_into;
+use clay_aloof::{AloofGeometry, parity_into, rebuild_into};
 use clay_lanes::ChunkView;
 use std::alloc::{AllocError, Global};
 

@@ -1,7 +1,7 @@
 -- Rows that are added to, one after another.
 -- AddsRows speaks of functions, not of lists, so that a kernel's clause becomes a node's by AddsRows-as. The invariant over nodes is a
 -- partial sum of the matrix product, with 0 at unknown nodes (HoldsSums).
-use Rattle.std.proofs.Common.{◌≡◌, ℕ, zero, suc, subst, ◌+◌, ◌-◌, ◌*◌, ◌<◌, ◌≤◌, List, ◌++◌, length, get_or, take, drop, slice_range, inl, inr, sym, ap, ◌∙◌, arith, rules, bit_xor}
+use Rattle.std.proofs.Common.{◌≡◌, ℕ, zero, suc, subst, ◌+◌, ◌-◌, ◌*◌, ◌<◌, ◌≤◌, List, ◌++◌, length, get_or, take, drop, inl, inr, sym, ap, ◌∙◌, arith, rules, bit_xor}
 use Rattle.std.proofs.lemmas.Bool.{cases_lt}
 use Rattle.std.proofs.lemmas.Nat.{mul-le}
 use Rattle.std.proofs.lemmas.List.{get_or_append_left, get_or-append_right, get_or-take, get_or-drop, places}
@@ -9,10 +9,8 @@ use borrow.Rule.Slice.PartMut.{put_mid}
 use Rattle.clay_field.specs.Field.{product}
 use Rattle.clay_field.proofs.FieldLaws.{product_zero}
 use Rattle.clay_kernels.specs.Lanes.{AddsRows}
-use Rattle.clay_kernels.specs.Generated.{factor_at}
-use Rattle.std.proofs.lemmas.List.Edits.{get_or-between, length-between}
 use lib.Bits.{xor_zero_r}
-use Rattle.code_laws.proofs.Pieces.{put_mid_before, put_mid_within, place_below, piece_fits}
+use Rattle.code_laws.proofs.Pieces.{put_mid_before, put_mid_within, place_below}
 
 -- one row
 pub AddsRows-last : (len : ℕ) (factor value : ℕ → ℕ) (a b : List ℕ) → ((k : ℕ) → k < len → get_or b k 0 ≡ bit_xor (get_or a k 0) (product (factor 0) (value k)))
@@ -109,20 +107,3 @@ pub AddsRows-as : (n len : ℕ) (factor value factor' value' : ℕ → ℕ) (bef
 AddsRows-as n len factor value factor' value' before after fs vs adds = record {
   at = λ r b hr hb. adds.at r b hr hb ∙ (λ i. bit_xor (get_or before (r * len + b) 0) (product (fs r hr i) (vs b hb i)));
 }
-
--- the factors of a node
-module _ (factors products : List ℕ) (m u node count : ℕ) (units : u ≡ m) (long : length factors ≡ count * m) (inside : node < count)
-    (part : products ≡ slice_range factors (node * u) (node * u + u)) where
-  fits : node * m + m ≤ length factors
-  fits = let end = piece_fits node count m inside in omega arith
-
-  pub factor_count : length products ≡ m
-  factor_count =
-      let width : node * m + m - node * m ≡ m = omega arith in
-      ap length part ∙ ap (λ v. length (slice_range factors (node * v) (node * v + v))) units ∙ length-between factors (node * m) (node * m + m) fits ∙ width
-
-  pub factor_is : (e : ℕ) → e < m → get_or products e 0 ≡ factor_at factors m node e
-  factor_is e h =
-      ap (λ l. get_or l e 0) part
-      ∙ ap (λ v. get_or (slice_range factors (node * v) (node * v + v)) e 0) units
-      ∙ get_or-between factors (node * m) (node * m + m) e 0 (omega arith)

@@ -8,7 +8,7 @@ use Rattle.clay_grid.specs.Score.{score_at, IsByScore}
 use Rattle.clay_model.specs.Erased.{erased_below}
 use Rattle.clay_model.specs.Left.{AreLong, Completes}
 use Rattle.code_laws.specs.Solved.{is_erased, uncoupled_byte}
-use Rattle.clay_kernels.specs.Generated.{IsGeneratorOf}
+use Rattle.generator_matrix.specs.Generated.{IsGeneratorOf}
 use Rattle.lane_repair.specs.Pieces.{HoldsByte}
 use Rattle.clay_lanes.specs.declared.plan.Plan.{Plan}
 

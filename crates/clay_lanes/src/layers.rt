@@ -7,8 +7,9 @@ ghost use Rattle.clay_lanes.specs.Blocks.{IsBlock, rows_length, solved_length, I
 use crate::block::Block;
 use crate::plan::Plan;
 use clay_grid::Geometry;
-use clay_kernels::{add_column, column_room, end_column, uncouple, uncouple_from};
+use clay_kernels::{column_room, uncouple, uncouple_from};
 use clay_model::partner_of;
+use generator_matrix::{add_column, end_column};
 use lane_repair::{ChunkView, is_column_erased};
 
 // The place of an erased node among them.

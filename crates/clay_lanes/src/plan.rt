@@ -8,7 +8,8 @@ ghost use Rattle.clay_lanes.specs.Present.{is_gone};
 ghost use Rattle.clay_lanes.specs.Recovered.{IsPlanFor, IsLanePlan};
 
 use clay_grid::Geometry;
-use clay_kernels::{Generator, Products, fifths, generator_of, zeros};
+use clay_kernels::{Products, fifths, zeros};
+use generator_matrix::{Generator, generator_of};
 use lane_repair::ChunkView;
 use std::alloc::{AllocError, Global};
 

@@ -8,7 +8,7 @@ use Rattle.clay_grid.specs.Shape.{Shape, row_count, layer_count, chunk_length, s
 use Rattle.clay_grid.specs.Limits.{IsGeometry}
 use Rattle.clay_parity.specs.Blocks.{HoldsGroup}
 use Rattle.clay_parity.specs.Flat.{HoldsGroups}
-use Rattle.clay_kernels.specs.Generated.{IsLastGenerator}
+use Rattle.generator_matrix.specs.Generated.{IsLastGenerator}
 use Rattle.clay_parity.specs.Solved.{layer_value}
 use Rattle.clay_parity.specs.Parity.{AreParity}
 use Rattle.clay_parity.proofs.ParityLemmas.{groups, parity_codes}

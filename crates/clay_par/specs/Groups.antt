@@ -2,7 +2,7 @@
 use Rattle.std.specs.Prelude.{◌≡◌, ℕ, ◌+◌, ◌*◌, ◌/◌, ◌%◌, ◌<◌, ◌≤◌, min, List, [], length, get_or, All}
 use Rattle.clay_grid.specs.Shape.{Shape, row_count, layer_count, chunk_length}
 use Rattle.clay_grid.specs.Limits.{IsGeometry}
-use Rattle.clay_kernels.specs.Generated.{IsLastGenerator}
+use Rattle.generator_matrix.specs.Generated.{IsLastGenerator}
 use Rattle.clay_parity.specs.Blocks.{HoldsGroup, coupled_of}
 use Rattle.clay_parity.specs.Solved.{layer_value}
 use Rattle.clay_par.specs.declared.parity.Group.{Group}

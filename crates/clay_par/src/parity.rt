@@ -4,7 +4,7 @@ ghost use Rattle.clay_grid.specs.Shape.{row_count, layer_count, chunk_length, st
 ghost use Rattle.clay_model.specs.Code.{Codes};
 ghost use Rattle.clay_model.specs.Chunks.{contents};
 ghost use Rattle.clay_parity.specs.Blocks.{HoldsGroup};
-ghost use Rattle.clay_kernels.specs.Generated.{IsLastGenerator};
+ghost use Rattle.generator_matrix.specs.Generated.{IsLastGenerator};
 ghost use Rattle.clay_parity.specs.Solved.{layer_value};
 ghost use Rattle.clay_parity.specs.Flat.{HoldsGroups, IsParity};
 ghost use Rattle.clay_parity.specs.Parity.{data_pieces, AreParity};
@@ -12,8 +12,9 @@ ghost use Rattle.clay_par.specs.Groups.{HasRoom, AreGroups, AreWhole, AreSolved,
 
 use crate::made::all_made;
 use clay_grid::Geometry;
-use clay_kernels::{BLOCK, Generator, fifths, zeros};
+use clay_kernels::{BLOCK, fifths, zeros};
 use clay_parity::{last_column, solve_group, write_pieces};
+use generator_matrix::Generator;
 use rayon::prelude::*;
 use std::alloc::{AllocError, Global};
 use std::thread::Threads;

@@ -9,8 +9,8 @@ use Rattle.clay_model.proofs.SumLaws.{sum_below_same}
 use Rattle.code_laws.specs.Columns.{first_parity, HoldsPieces}
 use Rattle.code_laws.proofs.Filled.{sum_below-add}
 use Rattle.code_laws.proofs.Pieces.{place_below}
-use Rattle.clay_kernels.specs.Generated.{factor_at}
-use Rattle.clay_kernels.specs.SmallColumns.{AddsNodes}
+use Rattle.generator_matrix.specs.Generated.{factor_at}
+use Rattle.generator_matrix.specs.SmallColumns.{AddsNodes}
 
 -- row e of m rows has the sum of the nodes below count
 pub record HoldsSums (m len : ℕ) (factors : List ℕ) (value : ℕ → ℕ → ℕ) (count : ℕ) (rows : List ℕ) : Type 0 where

@@ -8,7 +8,7 @@ use borrow.Rule.Slice.PartMut.{put_mid}
 use Rattle.clay_grid.specs.Shape.{Shape, row_count, layer_count, chunk_length, stripe_length}
 use Rattle.clay_grid.specs.Limits.{IsGeometry}
 use Rattle.code_laws.proofs.Pieces.{piece_fits, place_below, put_mid_before, put_mid_past, put_mid_within}
-use Rattle.clay_kernels.specs.Generated.{IsLastGenerator}
+use Rattle.generator_matrix.specs.Generated.{IsLastGenerator}
 use Rattle.clay_parity.specs.Solved.{layer_value}
 use Rattle.clay_parity.specs.Blocks.{coupled_of}
 use Rattle.clay_parity.specs.Parity.{AreParity}

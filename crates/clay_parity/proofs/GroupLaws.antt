@@ -15,7 +15,7 @@ use Rattle.clay_model.proofs.Unique.{row_of}
 use Rattle.code_laws.specs.Columns.{first_parity, data_byte, data_value, uncoupled_value, HoldsPieces}
 use Rattle.code_laws.proofs.Pieces.{place_below, piece_fits}
 use Rattle.code_laws.proofs.StripeVertices.{index_of-layer_of, partner_layer}
-use Rattle.clay_kernels.specs.Generated.{factor_at}
+use Rattle.generator_matrix.specs.Generated.{factor_at}
 use Rattle.clay_parity.specs.Solved.{solved_value, layer_value}
 use Rattle.clay_parity.specs.Blocks.{place_of, HoldsGroup}
 use Rattle.clay_parity.specs.Short.{HoldsShort}

@@ -23,7 +23,7 @@ use Rattle.code_laws.proofs.Pieces.{place_below, bytes_everywhere}
 use Rattle.code_laws.proofs.Filled.{sum_below-add}
 use Rattle.code_laws.proofs.StripeVertices.{index_of-layer_of, alone_last, paired_last}
 use Rattle.code_laws.proofs.Assembled.{assembled}
-use Rattle.clay_kernels.specs.Generated.{IsLastGenerator, factor_at}
+use Rattle.generator_matrix.specs.Generated.{IsLastGenerator, factor_at}
 use Rattle.clay_parity.specs.Solved.{layer_value}
 use Rattle.clay_parity.specs.Blocks.{coupled_of, Appends}
 use Rattle.clay_parity.specs.Parity.{data_pieces, AreParity}

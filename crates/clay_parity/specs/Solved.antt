@@ -3,7 +3,7 @@ use Rattle.std.specs.Prelude.{ℕ, List}
 use Rattle.clay_grid.specs.Shape.{Shape}
 use Rattle.clay_grid.specs.Layers.{layer_of}
 use Rattle.code_laws.specs.Columns.{first_parity, uncoupled_value}
-use Rattle.clay_kernels.specs.Generated.{generated}
+use Rattle.generator_matrix.specs.Generated.{generated}
 
 -- byte b of row e of the last column in layer z
 abbrev pub solved_value : Shape → List ℕ → List ℕ → ℕ → ℕ → List ℕ → ℕ

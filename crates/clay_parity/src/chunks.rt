@@ -11,16 +11,14 @@ ghost use Rattle.clay_kernels.specs.Lanes.{AddsRows};
 ghost use Rattle.clay_parity.specs.Blocks.{HoldsLayer, Appends, HoldsGroup, group_byte, coupled_byte, piece_bytes};
 ghost use Rattle.clay_parity.specs.Short.{HoldsShort, short_coupled};
 ghost use Rattle.clay_parity.specs.Parity.{data_pieces, AreParity, AppendsGroups};
-ghost use Rattle.clay_kernels.specs.Generated.{IsLastGenerator, factor_at};
+ghost use Rattle.generator_matrix.specs.Generated.{IsLastGenerator, factor_at};
 ghost use Rattle.clay_parity.specs.Solved.{solved_value, layer_value};
 
 use crate::short::{couple_row, transpose};
 use crate::stripe::{piece, uncouple_node, write_column};
 use clay_grid::Geometry;
-use clay_kernels::{
-    BLOCK, Generator, Products, add_column, add_rows, column_room, couple, end_column, fifths,
-    nodes, zeros,
-};
+use clay_kernels::{BLOCK, Products, add_rows, column_room, couple, fifths, zeros};
+use generator_matrix::{Generator, add_column, end_column, nodes};
 use std::alloc::{AllocError, Global};
 
 /// The most bytes of a node in a group of layers that are coded together. A call for each of short subchunks costs more than its work.

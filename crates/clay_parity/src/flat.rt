@@ -1,7 +1,7 @@
 //! The parity chunks of a stripe, written one behind another into the caller's bytes.
 ghost use Rattle.std.specs.Prelude.{◌≡◌, ℕ, ◌+◌, ◌-◌, ◌*◌, ◌%◌, ◌<◌, ◌≤◌, slice_index, length, min, OnOk, OnErr};
 ghost use Rattle.clay_grid.specs.Shape.{row_count, layer_count, chunk_length, stripe_length};
-ghost use Rattle.clay_kernels.specs.Generated.{IsLastGenerator};
+ghost use Rattle.generator_matrix.specs.Generated.{IsLastGenerator};
 ghost use Rattle.clay_parity.specs.Blocks.{coupled_byte, piece_bytes};
 ghost use Rattle.clay_parity.specs.Short.{short_coupled};
 ghost use Rattle.clay_parity.specs.Flat.{WritesGroup, HoldsAllGroups, IsParity};
@@ -10,7 +10,8 @@ use crate::chunks::{SHORT, block, solve_layers, solve_rows};
 use crate::prepared::Prepared;
 use crate::short::couple_row;
 use clay_grid::Geometry;
-use clay_kernels::{BLOCK, Generator, Products, couple, fifths, zeros};
+use clay_kernels::{BLOCK, Products, couple, fifths, zeros};
+use generator_matrix::Generator;
 use std::alloc::{AllocError, Global};
 
 // Writes the coupled bytes from `at` on of row `x` in a layer of the group, which are a block.

@@ -6,7 +6,7 @@ ghost use Rattle.clay_parity.specs.Flat.{IsParity};
 use crate::chunks::last_column;
 use crate::flat::write_parity;
 use clay_grid::Geometry;
-use clay_kernels::Generator;
+use generator_matrix::Generator;
 use std::alloc::{AllocError, Global};
 use std::marker::Model;
 
@@ -19,7 +19,7 @@ pub struct Prepared {
 
 impl Model for Prepared {
     ghost use Rattle.clay_grid.specs.Shape.{Shape};
-    ghost use Rattle.clay_kernels.specs.Generated.{IsLastGenerator};
+    ghost use Rattle.generator_matrix.specs.Generated.{IsLastGenerator};
 
     ghost Value = { Shape };
 

@@ -9,7 +9,7 @@ use Rattle.run_laws.specs.State.{Sequel, State}
 use Rattle.run_laws.specs.StateActs.{act_at}
 use Rattle.run_laws.specs.CallLaws.{next_call}
 use Rattle.call_steps.specs.declared.need.Need.TheVariants as need
-use Rattle.stripe_dir.specs.Sealed.{Sealed}
+use Rattle.stripe_stamps.specs.Sealed.{Sealed}
 use Rattle.call_steps.specs.CallOf.{CallOf}
 use Rattle.call_steps.specs.TokenAfter.{IfInCall}
 use Rattle.call_steps.specs.Steps.{need_by, need_of, coded}

@@ -26,7 +26,7 @@ use Rattle.run_laws.specs.States.{prepare_all_state}
 use Rattle.run_laws.specs.StateActs.{act_at, act_of_state}
 use Rattle.call_steps.specs.declared.need.Need.TheVariants as need
 use Rattle.version_seal.specs.Entry.{BookOf, StampOf, RequestOf, call_written, content_over}
-use Rattle.stripe_dir.specs.Sealed.{Sealed, base_stamp, drawn_stamp}
+use Rattle.stripe_stamps.specs.Sealed.{Sealed, base_stamp, drawn_stamp}
 use Rattle.call_steps.specs.CallOf.{act_of}
 use Rattle.call_steps.specs.Steps.{need_by, need_of}
 use Rattle.call_steps.specs.TokenAfter.{token_after, IfInCall}

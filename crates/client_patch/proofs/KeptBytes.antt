@@ -14,7 +14,7 @@ use Rattle.store_core.specs.Look.{keeps_old}
 use Rattle.run_laws.proofs.SoundLists.{in_filter, filtered}
 use Rattle.run_laws.proofs.Laid.{met_low, met_high, Found, found_pin}
 use Rattle.version_seal.specs.Entry.{StampOf, old_bytes}
-use Rattle.stripe_dir.specs.Sealed.{base_stamp}
+use Rattle.stripe_stamps.specs.Sealed.{base_stamp}
 use Rattle.gather_parts.specs.Gatherings.{bytes_between}
 use Rattle.client_patch.specs.Padded.{IsPadded}
 use Rattle.client_patch.specs.Kept.{kept_count, kept_from, old_in}

@@ -7,7 +7,7 @@ use Rattle.store_core.specs.Note.{Note, note_of}
 use Rattle.run_laws.specs.State.{State}
 use Rattle.run_laws.proofs.SoundLists.{at_all, found_at}
 use Rattle.version_seal.specs.Entry.{StampOf, BookOf, old_bytes}
-use Rattle.stripe_dir.specs.Sealed.{base_stamp}
+use Rattle.stripe_stamps.specs.Sealed.{base_stamp}
 use Rattle.call_steps.specs.TokenAfter.{IfInCall}
 use Rattle.client_patch.specs.Known.{AreOldBytes, UpToDraw, MoreStampsAreKnown}
 

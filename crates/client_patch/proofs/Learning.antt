@@ -24,11 +24,11 @@ use Rattle.run_laws.proofs.SoundStripes.{pins_within}
 use Rattle.version_seal.specs.Entry.{BookOf, StampOf, old_bytes}
 use Rattle.dir_parts.specs.Parts.{object_or_new}
 use Rattle.call_steps.specs.declared.seen.Seen.{Seen}
-use Rattle.stripe_dir.specs.Answers.{seen_in}
-use Rattle.stripe_dir.specs.AnswerStamps.{IsSeenIn}
-use Rattle.stripe_dir.specs.Sealed.{Sealed, base_stamp}
-use Rattle.stripe_dir.specs.Stamped.{HasStamps}
-use Rattle.stripe_dir.proofs.Stamps.{stamps_count}
+use Rattle.stripe_stamps.specs.SeenStripes.{seen_in}
+use Rattle.stripe_stamps.specs.SeenStripes.{IsSeenIn}
+use Rattle.stripe_stamps.specs.Sealed.{Sealed, base_stamp}
+use Rattle.stripe_stamps.specs.Stamped.{HasStamps}
+use Rattle.stripe_stamps.proofs.StampLists.{stamps_count}
 use Rattle.stripe_dir.proofs.Lookings.{look_refused, look_accepted, old_count, pins_stand}
 use Rattle.gather_parts.specs.Gatherings.{bytes_between}
 use Rattle.gather_parts.specs.Wanted.{wanted_of, bytes_of}

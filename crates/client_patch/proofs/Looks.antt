@@ -25,7 +25,8 @@ use Rattle.run_laws.specs.CallAfter.{pairs_with}
 use Rattle.run_laws.specs.CallLaws.{next_call}
 use Rattle.run_laws.specs.LookAfter.{start_after}
 use Rattle.version_seal.specs.Entry.{BookOf}
-use Rattle.stripe_dir.specs.Answers.{seen_in, told_or_short, told_look}
+use Rattle.stripe_dir.specs.Answers.{told_or_short, told_look}
+use Rattle.stripe_stamps.specs.SeenStripes.{seen_in}
 use Rattle.call_steps.specs.declared.seen.Seen.{Seen as AnswerSeen}
 use Rattle.call_steps.specs.declared.need.Need.TheVariants as need
 use Rattle.call_steps.specs.CallOf.{act_of}

@@ -16,9 +16,9 @@ use Rattle.run_laws.specs.Contents.{HasBytes, stored_in, stripes_in}
 use Rattle.run_laws.proofs.Bytes.{stripe_at, stripe_count, stripes_below_at}
 use Rattle.run_laws.proofs.Maps.{at}
 use Rattle.version_seal.specs.Entry.{StampOf}
-use Rattle.stripe_dir.specs.Sealed.{Sealed}
-use Rattle.stripe_dir.specs.Stamped.{HaveContents}
-use Rattle.stripe_dir.proofs.StampSteps.{stamps_hold_the_bytes_of_the_map}
+use Rattle.stripe_stamps.specs.Sealed.{Sealed}
+use Rattle.stripe_stamps.specs.Stamped.{HaveContents}
+use Rattle.stripe_stamps.proofs.StampSteps.{stamps_hold_the_bytes_of_the_map}
 use Rattle.client_patch.specs.Padded.{IsPadded, ItsArePadded, ArePadded, BytesOfTheMapArePadded}
 
 -- a stripe of some bytes is zeros behind their end

@@ -22,7 +22,7 @@ use Rattle.store_core.specs.Tokens.{actor_of}
 use Rattle.run_laws.specs.State.{Sequel, State}
 use Rattle.run_laws.specs.StateActs.{act_at}
 use Rattle.version_seal.specs.Entry.{BookOf, StampOf, old_bytes}
-use Rattle.stripe_dir.specs.Sealed.{base_stamp}
+use Rattle.stripe_stamps.specs.Sealed.{base_stamp}
 use Rattle.call_steps.specs.CallOf.{act_of}
 use Rattle.call_steps.specs.Ends.{finished_of}
 use Rattle.gather_parts.specs.Wanted.{parts_of}

@@ -6,7 +6,7 @@ use Rattle.store_core.specs.Server.{Server}
 use Rattle.run_laws.specs.State.{Sequel, State}
 use Rattle.run_laws.specs.StateActs.{act_at}
 use Rattle.version_seal.specs.Entry.{BookOf, StampOf}
-use Rattle.stripe_dir.specs.Sealed.{Sealed}
+use Rattle.stripe_stamps.specs.Sealed.{Sealed}
 use Rattle.call_steps.specs.declared.need.Need.TheVariants as need
 use Rattle.call_steps.specs.TokenAfter.{IfInCall}
 use Rattle.call_steps.specs.Steps.{need_by, need_of, stepped_at_server}

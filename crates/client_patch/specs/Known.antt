@@ -6,7 +6,7 @@ use Rattle.store_core.specs.Note.{Note, note_of}
 use Rattle.store_core.specs.Directory.{Pass}
 use Rattle.run_laws.specs.State.{State}
 use Rattle.version_seal.specs.Entry.{StampOf, BookOf, old_bytes}
-use Rattle.stripe_dir.specs.Sealed.{Sealed, base_stamp}
+use Rattle.stripe_stamps.specs.Sealed.{Sealed, base_stamp}
 use Rattle.call_steps.specs.TokenAfter.{IfInCall}
 use Rattle.client_patch.specs.Kept.{old_of}
 use Rattle.client_patch.specs.Patches.{PatchOf}

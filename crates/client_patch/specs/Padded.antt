@@ -7,8 +7,8 @@ use Rattle.store_core.specs.Calls.{Calls}
 use Rattle.store_core.specs.Directory.{Object}
 use Rattle.store_core.specs.Sound.{IsSound}
 use Rattle.run_laws.specs.Contents.{HasBytes}
-use Rattle.stripe_dir.specs.Sealed.{Sealed}
-use Rattle.stripe_dir.specs.Stamped.{HaveContents}
+use Rattle.stripe_stamps.specs.Sealed.{Sealed}
+use Rattle.stripe_stamps.specs.Stamped.{HaveContents}
 
 -- a stripe of an object of some length: it is whole, and behind the object's end there are zeros
 pub record IsPadded (g : Shape) (size stripe : ℕ) (content : List ℕ) : Type 0 where

@@ -1,6 +1,6 @@
 //! What a call does between two steps.
 ghost use Rattle.std.specs.Prelude.{◌≡◌, ◌<◌, true, false, length, vec_capacity, OnOk, OnErr};
-ghost use Rattle.stripe_dir.specs.Sealed.{Sealed};
+ghost use Rattle.stripe_stamps.specs.Sealed.{Sealed};
 ghost use Rattle.call_steps.specs.Steps.{coded, need_of};
 ghost use Rattle.client_patch.specs.Holds.{IsOfCall};
 ghost use Rattle.client_patch.specs.Known.{KnowsOld};

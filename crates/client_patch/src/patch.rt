@@ -8,7 +8,7 @@ ghost use Rattle.store_core.specs.Agreement.{ActorToken};
 ghost use Rattle.run_laws.specs.State.{Sequel, State};
 ghost use Rattle.chunk_server.specs.Core.{core_of};
 ghost use Rattle.call_steps.specs.Steps.{IsServerBelow, LeadsToAtServer, need_of, HoldsItsPass, IsDueInPass, MayMakeNext};
-ghost use Rattle.stripe_dir.specs.Sealed.{Sealed};
+ghost use Rattle.stripe_stamps.specs.Sealed.{Sealed};
 ghost use Rattle.call_steps.specs.CallOf.{act_of, taken_of, HasTakenNothing};
 ghost use Rattle.call_steps.specs.Acts.{act_now};
 ghost use Rattle.call_steps.specs.Hearing.{IsToldHere};
@@ -24,12 +24,13 @@ ghost use Rattle.client_patch.specs.Patches.{is_patch, is_put, is_change, first_
 use crate::stage::Stage;
 use call_steps::{Act, Change, DirectoryAct, Need, Outcome, ServerAnswer};
 use chunk_server::Server;
+use dir_tickets::Ticket;
 use gather_parts::{Gathered, PartGatherings};
 use read_ledger::Takes;
 use std::alloc::Global;
 use std::marker::Model;
 use store_map::{Actor, Call, Point, Reply};
-use stripe_dir::{Seat, Ticket};
+use stripe_dir::Seat;
 use version_seal::Opening;
 use write_course::Writing;
 

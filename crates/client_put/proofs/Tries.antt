@@ -11,7 +11,7 @@ use Rattle.store_core.specs.NextAct.{Job}
 use Rattle.store_core.specs.Server.{Server}
 use Rattle.run_laws.specs.State.{State}
 use Rattle.run_laws.specs.StateActs.{start_act, act_at}
-use Rattle.stripe_dir.specs.Sealed.{Sealed}
+use Rattle.stripe_stamps.specs.Sealed.{Sealed}
 use Rattle.call_steps.specs.CallOf.{CallOf, tries_by, act_of}
 use Rattle.call_steps.specs.Steps.{at_directory_by, stepped_at_directory, at_server_by, stepped_at_server, coded, need_by, need_of, HoldsItsPass, IsDueInPass, MayMakeNext}
 use Rattle.call_steps.specs.Acts.{act_by, act_now}

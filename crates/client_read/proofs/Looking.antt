@@ -24,8 +24,9 @@ use Rattle.run_laws.specs.LookAfter.{start_after}
 use Rattle.run_laws.specs.CallAfter.{pairs_with}
 use Rattle.run_laws.specs.CallLaws.{next_call}
 use Rattle.version_seal.specs.Entry.{BookOf, StampOf}
-use Rattle.stripe_dir.specs.Answers.{told_or_short, seen_in, told_look}
-use Rattle.stripe_dir.specs.Sealed.{Sealed}
+use Rattle.stripe_dir.specs.Answers.{told_or_short, told_look}
+use Rattle.stripe_stamps.specs.SeenStripes.{seen_in}
+use Rattle.stripe_stamps.specs.Sealed.{Sealed}
 use Rattle.store_map.specs.declared.actor.Point.{Point}
 use Rattle.call_steps.specs.TokenAfter.{token_after, MayMake}
 use Rattle.call_steps.specs.CallOf.{CallOf, act_of, state_told, heard}
@@ -33,7 +34,7 @@ use Rattle.call_steps.specs.Steps.{at_directory_by, stepped_at_directory}
 use Rattle.stripe_dir.specs.declared.answers.Look.{Look}
 use Rattle.stripe_dir.specs.declared.answers.Look.TheVariants as look
 use Rattle.stripe_dir.specs.Shown.{AreShown, stripes_seen}
-use Rattle.stripe_dir.specs.AnswerStamps.{IsSeenIn}
+use Rattle.stripe_stamps.specs.SeenStripes.{IsSeenIn}
 use Rattle.gather_parts.specs.Gatherings.{GatheringsOf}
 use Rattle.client_read.specs.Reads.{is_read}
 use Rattle.call_steps.specs.Callers.{IsClient, IsWaiting}

@@ -6,8 +6,8 @@ use Rattle.store_core.specs.Gathering.{Part}
 use Rattle.store_core.specs.Read.{part_of}
 use Rattle.version_seal.specs.Entry.{StampOf}
 use Rattle.call_steps.specs.declared.seen.Seen.{Seen}
-use Rattle.stripe_dir.specs.Answers.{seen_in}
-use Rattle.stripe_dir.specs.AnswerStamps.{IsSeenIn}
+use Rattle.stripe_stamps.specs.SeenStripes.{seen_in}
+use Rattle.stripe_stamps.specs.SeenStripes.{IsSeenIn}
 use Rattle.gather_parts.specs.Gatherings.{bytes_between}
 use Rattle.gather_parts.specs.Wanted.{wanted_of, bytes_of}
 use Rattle.client_read.specs.Owed.{content_of, contents_of}

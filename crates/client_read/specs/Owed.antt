@@ -10,7 +10,7 @@ use Rattle.store_core.specs.Read.{parts_of}
 use Rattle.store_core.specs.Tokens.{actor_of}
 use Rattle.store_core.specs.AtDirectory.{at_directory}
 use Rattle.version_seal.specs.Entry.{StampOf}
-use Rattle.stripe_dir.specs.Sealed.{Sealed}
+use Rattle.stripe_stamps.specs.Sealed.{Sealed}
 use Rattle.gather_parts.specs.Gatherings.{bytes_between}
 use Rattle.call_steps.specs.CallOf.{CallOf, act_of}
 

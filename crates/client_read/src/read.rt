@@ -21,13 +21,14 @@ use crate::stage::Stage;
 use call_steps::{Act, DirectoryAct, Need, Outcome, ServerAnswer};
 use chunk_server::Server;
 use clay_model::Coder;
+use dir_tickets::Ticket;
 use gather_parts::{Gathered, PartGatherings};
 use read_ledger::Takes;
 use std::alloc::Global;
 use std::marker::Model;
 use std::thread::Threads;
 use store_map::{Call, Point};
-use stripe_dir::{Seat, Ticket};
+use stripe_dir::Seat;
 use version_seal::Opening;
 
 /// A client's get, read or stat in work. It has to be finished or abandoned.

@@ -8,7 +8,7 @@ ghost use Rattle.run_laws.specs.LookAfter.{looked_state};
 ghost use Rattle.version_seal.specs.Entry.{StampOf};
 ghost use Rattle.call_steps.specs.Answers.{directory_answer};
 ghost use Rattle.stripe_dir.specs.Answers.{told_or_short, told_look};
-ghost use Rattle.stripe_dir.specs.AnswerStamps.{IsSeenIn};
+ghost use Rattle.stripe_stamps.specs.SeenStripes.{IsSeenIn};
 ghost use Rattle.stripe_dir.specs.Shown.{stripes_seen};
 ghost use Rattle.gather_parts.specs.Wanted.{ArePinned};
 ghost use Rattle.gather_parts.specs.Gatherings.{owed};

@@ -1,7 +1,4 @@
-pub mod Changes
-pub mod Places
 pub mod Entries
-pub mod TableSteps
 pub mod Actors
 pub mod Births
 pub mod ShelfSteps
@@ -10,12 +7,7 @@ pub mod Growing
 pub mod Naming
 pub mod Exchange
 pub mod Options
-pub mod Counting
-pub mod Least
 pub mod Codec
-pub mod Told
 pub mod ToldPoints
-pub mod RowSteps
-pub mod Drawing
-pub mod Known
 pub mod Keeping
+pub mod ToldActors

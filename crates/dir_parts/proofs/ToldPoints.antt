@@ -8,10 +8,10 @@ use Rattle.dir_parts.specs.declared.history.Event.{Event}
 use Rattle.dir_parts.specs.declared.history.Event.TheVariants as event
 use Rattle.dir_parts.specs.declared.history.PointRow.{PointRow}
 use Rattle.dir_parts.specs.Codec.{number, both, many}
-use Rattle.dir_parts.specs.Told.{an_actor}
+use Rattle.dir_parts.specs.ToldActors.{an_actor}
 use Rattle.dir_parts.specs.ToldPoints.{kind_to, kind_from, a_kind, event_to, event_from, an_event, point_to, point_from, a_point, point_numbers, points_of}
 use Rattle.dir_parts.proofs.Codec.{ReadsBack, number_back, both_back, other_back, many_back}
-use Rattle.dir_parts.proofs.Told.{actor_back}
+use Rattle.dir_parts.proofs.ToldActors.{actor_back}
 
 kind_back : ReadsBack a_kind
 kind_back = other_back number kind_to kind_from same number_back

@@ -2,7 +2,7 @@
 use Rattle.std.specs.Prelude.{ℕ, zero, suc, List}
 use Rattle.store_map.specs.declared.actor.Actor.{Actor}
 use Rattle.dir_parts.specs.Codec.{Codec, number, both, as_other, many}
-use Rattle.dir_parts.specs.Told.{an_actor}
+use Rattle.dir_parts.specs.ToldActors.{an_actor}
 use Rattle.dir_parts.specs.declared.passes.Kind.{Kind}
 use Rattle.dir_parts.specs.declared.passes.Kind.TheVariants as kind
 use Rattle.dir_parts.specs.declared.history.Answer.TheVariants as answer

@@ -1,16 +1,15 @@
-//! The parts of the directory: versions with their pins, the history, the objects, and the calls in work.
+//! The parts of the directory: the history, the objects, the calls in work, and what is kept and refused of a call.
 #![tactic(auto)]
 
 mod history;
 mod objects;
 mod passes;
-mod rows;
+mod refusing;
+mod room;
 mod told_points;
-mod told_versions;
-mod versions;
 
 pub use history::{Answer, Event, History, PointEntry};
 pub use objects::{Contents, Objects};
 pub use passes::{CallNote, Kind, OpenPass, Passes, Pinned};
-pub use rows::base_of;
-pub use versions::Versions;
+pub use refusing::{note_of, refusal};
+pub use room::{add_look, make_room};

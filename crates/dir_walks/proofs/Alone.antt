@@ -8,7 +8,7 @@ use Rattle.store_core.specs.Agreement.{ActorToken, Agrees}
 use Rattle.store_core.specs.Tokens.{actor_of}
 use Rattle.version_seal.specs.Entry.{BookOf}
 use Rattle.call_steps.specs.Callers.{IsClient}
-use Rattle.stripe_dir.specs.Sealed.{Sealed}
+use Rattle.stripe_stamps.specs.Sealed.{Sealed}
 use Rattle.snapshot_view.specs.Tickets.{MayGet}
 use Rattle.snapshot_view.specs.Taking.{MayTake}
 use Rattle.dir_walks.specs.declared.stage.Stage.{Stage}

@@ -14,7 +14,7 @@ use Rattle.store_core.specs.Act.{DirectoryStep}
 use Rattle.store_core.specs.Agreement.{Seat, HeldPass, ActorToken}
 use Rattle.store_core.specs.Tokens.{actor_of, after_look, begun_by, after_pass_step}
 use Rattle.version_seal.specs.Entry.{BookOf, RequestOf, StampOf, call_written, is_writing, IsRequestIn}
-use Rattle.stripe_dir.specs.Sealed.{CanSeal}
+use Rattle.stripe_stamps.specs.Sealed.{CanSeal}
 use Rattle.stripe_dir.specs.declared.answers.RepairLook.{RepairLook}
 use Rattle.stripe_dir.specs.declared.answers.RepairLook.TheVariants as repair
 use Rattle.stripe_dir.specs.declared.answers.Look.{Look}

@@ -16,7 +16,7 @@ use Rattle.store_core.specs.Agreement.{ActorToken, Agrees}
 use Rattle.store_core.specs.Tokens.{actor_of}
 use Rattle.run_laws.proofs.OwnSteps.{agreement_goes_on}
 use Rattle.version_seal.specs.Entry.{BookOf, is_writing}
-use Rattle.stripe_dir.specs.Sealed.{Sealed}
+use Rattle.stripe_stamps.specs.Sealed.{Sealed}
 use Rattle.call_steps.specs.TokenAfter.{token_after}
 use Rattle.call_steps.proofs.Tokens.{tokens_stay}
 use Rattle.dir_walks.specs.Callers.{CallerOf, IsAt, IsRight, OthersAgree, Steps, is_client, is_repairer}

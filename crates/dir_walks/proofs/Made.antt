@@ -8,13 +8,14 @@ use Rattle.store_map.specs.declared.call.Call.{Call}
 use Rattle.store_core.specs.Told.{Told}
 use Rattle.store_core.specs.Note.{Kind, note_of}
 use Rattle.store_core.specs.Look.{stripes_between, pin_of}
-use Rattle.stripe_dir.specs.Answers.{seen_in, told_look, told_repair_look, told_drawn, told_committed, told_ended, told_confirmed}
+use Rattle.stripe_dir.specs.Answers.{told_look, told_repair_look, told_drawn, told_committed, told_ended, told_confirmed}
+use Rattle.stripe_stamps.specs.SeenStripes.{seen_in}
 use Rattle.store_core.specs.Act.{DirectoryStep}
 use Rattle.store_core.specs.AtDirectory.{at_directory}
 use Rattle.store_core.specs.Agreement.{Seat, HeldPass, ActorToken, Agrees}
 use Rattle.store_core.specs.Tokens.{actor_of}
 use Rattle.version_seal.specs.Entry.{BookOf, RequestOf, StampOf}
-use Rattle.stripe_dir.specs.Sealed.{Sealed}
+use Rattle.stripe_stamps.specs.Sealed.{Sealed}
 use Rattle.call_steps.specs.declared.seen.Seen.{Seen}
 use Rattle.call_steps.specs.TokenAfter.{token_after}
 use Rattle.stripe_dir.specs.Shown.{repair_note}

@@ -10,7 +10,7 @@ use Rattle.store_core.specs.Lookups.{same_actor}
 use Rattle.store_core.specs.Agreement.{HeldPass, ActorToken, Agrees}
 use Rattle.store_core.specs.Tokens.{actor_of, IsToWrite}
 use Rattle.version_seal.specs.Entry.{BookOf, RequestOf}
-use Rattle.stripe_dir.specs.Sealed.{Sealed, CanSeal}
+use Rattle.stripe_stamps.specs.Sealed.{Sealed, CanSeal}
 use Rattle.dir_walks.specs.declared.stage.Stage.{Stage}
 use Rattle.dir_walks.specs.declared.stage.Stage.TheVariants as stage
 

@@ -2,7 +2,7 @@
 use Rattle.std.specs.Prelude.{◌≡◌, None}
 use Rattle.store_map.specs.declared.actor.Actor.TheVariants as actor
 use Rattle.version_seal.specs.Entry.{BookOf}
-use Rattle.stripe_dir.specs.Sealed.{Sealed}
+use Rattle.stripe_stamps.specs.Sealed.{Sealed}
 use Rattle.dir_walks.specs.Callers.{CallerOf, IsRight}
 
 pub record StoreOf : Type 0 where

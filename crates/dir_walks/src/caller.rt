@@ -3,7 +3,7 @@
 ghost use Rattle.std.specs.Prelude.{◌≡◌, ◌≤◌, true, IfOk, IsTrue};
 ghost use Rattle.store_core.specs.Agreement.{ActorToken};
 ghost use Rattle.dir_walks.specs.Callers.{IsReady, Steps, is_seated};
-ghost use Rattle.stripe_dir.specs.TicketSteps.{DrewBy};
+ghost use Rattle.dir_tickets.specs.TicketSteps.{DrewBy};
 ghost use Rattle.dir_walks.specs.Begun.{IfBegun};
 ghost use Rattle.dir_walks.specs.Opened.{new_caller};
 
@@ -12,10 +12,11 @@ use crate::stage::{
     Stage, drawn_by, is_client, is_repairer, stage_after_confirm, stage_after_draw,
     stage_after_look, stage_after_repair_look, unused_after_commit,
 };
+use dir_tickets::Ticket;
 use std::alloc::{AllocError, Global};
 use std::marker::Model;
 use store_map::{Actor, Call, Name};
-use stripe_dir::{Committed, Confirmed, Directory, Drawn, Ended, Look, RepairLook, Seat, Ticket};
+use stripe_dir::{Committed, Confirmed, Directory, Drawn, Ended, Look, RepairLook, Seat};
 use version_seal::{Book, Request};
 
 /// A step of an actor at the directory.

@@ -4,9 +4,10 @@ ghost use Rattle.std.specs.Prelude.{◌≡◌, ◌≤◌, true};
 ghost use Rattle.dir_walks.specs.Callers.{IsReady, is_client, is_seated};
 
 use crate::caller::Caller;
+use dir_tickets::Ticket;
 use snapshot_view::{SnapFault, SnapRefused, Snapshot};
 use std::alloc::Global;
-use stripe_dir::{Directory, Ticket};
+use stripe_dir::Directory;
 use version_seal::Book;
 
 // Spends tickets.

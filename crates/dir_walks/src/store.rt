@@ -1,7 +1,7 @@
 //! A directory with two clients and a repairer, and what they, operator and sweeper do there.
 
 ghost use Rattle.std.specs.Prelude.{◌≡◌, ◌<◌, ◌∷◌, ◌++◌, [], length, true, None, IfOk};
-ghost use Rattle.stripe_dir.specs.TicketSteps.{DrewBy};
+ghost use Rattle.dir_tickets.specs.TicketSteps.{DrewBy};
 ghost use Rattle.dir_walks.specs.Begun.{IfBegun};
 ghost use Rattle.dir_walks.specs.Callers.{IsReady, is_client};
 ghost use Rattle.dir_walks.specs.Stores.{IsStore};

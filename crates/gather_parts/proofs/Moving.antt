@@ -8,7 +8,7 @@ use Rattle.store_core.specs.NextAct.{Job}
 use Rattle.store_core.specs.Gathering.{Part}
 use Rattle.store_core.specs.Read.{part_of}
 use Rattle.call_steps.specs.declared.seen.Seen.{Seen}
-use Rattle.stripe_dir.specs.Answers.{seen_in}
+use Rattle.stripe_stamps.specs.SeenStripes.{seen_in}
 use Rattle.store_core.specs.Server.{Server, at_server}
 use Rattle.run_laws.specs.Stage.{Aim, Asking, Stage}
 use Rattle.run_laws.specs.StageAfter.{step_asked, server_asked, stage_after}

@@ -6,7 +6,7 @@ ghost use Rattle.store_core.specs.ActPlace.{is_in_pass};
 ghost use Rattle.store_core.specs.Read.{part_of};
 ghost use Rattle.run_laws.specs.State.{State, Sequel};
 ghost use Rattle.run_laws.specs.States.{parts_state, open_state};
-ghost use Rattle.stripe_dir.specs.Answers.{seen_in};
+ghost use Rattle.stripe_stamps.specs.SeenStripes.{seen_in};
 ghost use Rattle.chunk_server.specs.Core.{core_of};
 ghost use Rattle.chunk_server.specs.State.{IsSame};
 ghost use Rattle.call_steps.specs.Steps.{IsServerBelow};

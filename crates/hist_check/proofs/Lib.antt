@@ -8,7 +8,6 @@ pub mod Groups
 pub mod Searches
 pub mod Made
 pub mod Tails
-pub mod Ors
 pub mod Places
 pub mod Reaped
 pub mod Differences

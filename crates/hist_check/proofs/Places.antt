@@ -10,7 +10,7 @@ use Rattle.store_map.specs.declared.line.HLine.{HLine}
 use Rattle.hist_rules.specs.Calls.{same_actor}
 use Rattle.hist_rules.specs.First.{first_fault_after, first_fault_along}
 use Rattle.hist_rules.specs.PointsRise.{point_rises, number_rises, line_rises}
-use Rattle.hist_check.proofs.Ors.{none_parts, unless_none}
+use Rattle.hist_losses.proofs.Ors.{none_parts, unless_none}
 
 -- ---- points rise
 

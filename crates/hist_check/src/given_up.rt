@@ -3,7 +3,7 @@ ghost use Rattle.std.specs.Prelude.{◌≡◌, ◌++◌, map, filter, IfOk, OnOk
 ghost use Rattle.hist_rules.specs.First.{first_fault_along};
 ghost use Rattle.hist_rules.specs.GivenUp.{is_reaped_cause, is_reaped_result, reaped_calls, is_reaped, given_up};
 
-use crate::blame::blame_unless;
+use hist_losses::blame_unless;
 use hist_rules::Verdict;
 use hist_tables::{ActorTable, Reaps};
 use std::alloc::{AllocError, Global};

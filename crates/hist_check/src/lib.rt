@@ -2,13 +2,10 @@
 //! the line in which a verdict is printed.
 #![tactic(auto)]
 
-mod blame;
 mod calls_exist;
 mod changes;
-mod chunks;
 mod given_up;
 mod least_missing;
-mod losses;
 mod objects;
 mod open_calls;
 mod order;
@@ -23,7 +20,6 @@ mod verdict;
 mod verdict_text;
 
 pub use given_up::find_false_reap;
-pub use losses::find_false_loss;
 pub use objects::find_wrong_object;
 pub use races::find_false_race;
 pub use results::find_false_result;

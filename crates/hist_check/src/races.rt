@@ -6,8 +6,8 @@ ghost use Rattle.hist_rules.specs.First.{first_fault_along};
 ghost use Rattle.hist_rules.specs.PointsRise.{points_rise};
 ghost use Rattle.hist_rules.specs.LostRaces.{written_name, begins_later, race_lost, races_lost, cause_of_races, lost_races};
 
-use crate::blame::blame_unless;
 use crate::changes::is_change_point;
+use hist_losses::blame_unless;
 use hist_rules::Verdict;
 use hist_tables::call_of;
 use store_map::{Call, CallName, Cause, Name, Script, Transcript, XLine};

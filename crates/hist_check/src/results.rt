@@ -3,10 +3,10 @@ ghost use Rattle.std.specs.Prelude.{◌≡◌, None, IfOk, option_and_then};
 ghost use Rattle.hist_rules.specs.Calls.{rebuild_of};
 ghost use Rattle.hist_rules.specs.PointsRise.{points_rise};
 ghost use Rattle.hist_rules.specs.CausesNamed.{result_named, causes_named};
-ghost use Rattle.hist_check.specs.Losses.{AreDowns};
+ghost use Rattle.hist_losses.specs.Losses.{AreDowns};
 
-use crate::blame::{blame_unless, downs_fit};
 use crate::changes::is_change_point;
+use hist_losses::{blame_unless, downs_fit};
 use hist_rules::Verdict;
 use hist_tables::{OperatorCounts, rebuild_of};
 use std::alloc::{AllocError, Global};

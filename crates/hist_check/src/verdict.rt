@@ -20,7 +20,6 @@ ghost use Rattle.hist_rules.specs.Verdict.{fault_of, verdict_of};
 
 use crate::calls_exist::find_made_up;
 use crate::given_up::find_false_reap;
-use crate::losses::find_false_loss;
 use crate::objects::find_wrong_object;
 use crate::open_calls::find_wrong_open;
 use crate::order::find_wrong_answer;
@@ -30,6 +29,7 @@ use crate::results::find_false_result;
 use crate::rising::find_fall;
 use crate::sums::find_wrong_sum;
 use crate::unlisted::find_unlisted;
+use hist_losses::find_false_loss;
 use hist_rules::Verdict;
 use hist_tables::CallSet;
 use std::alloc::{AllocError, Global};

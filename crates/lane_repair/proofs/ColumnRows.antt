@@ -9,11 +9,11 @@ use Rattle.clay_model.specs.Sums.{sum_below}
 use Rattle.clay_model.specs.Erased.{present}
 use Rattle.code_laws.proofs.Pieces.{put_mid_before, put_mid_within, place_below}
 use Rattle.code_laws.specs.Solved.{uncoupled_byte}
-use Rattle.clay_kernels.specs.Generated.{IsGeneratorOf}
-use Rattle.clay_kernels.specs.declared.column.ColumnFactors.{ColumnFactors}
-use Rattle.clay_kernels.specs.Columns.{IsColumn, AreColumns, AddsColumn, IsColumnForm, EndsColumn}
+use Rattle.generator_matrix.specs.Generated.{IsGeneratorOf}
+use Rattle.generator_matrix.specs.declared.column.ColumnFactors.{ColumnFactors}
+use Rattle.generator_matrix.specs.Columns.{IsColumn, AreColumns, AddsColumn, IsColumnForm, EndsColumn}
 use Rattle.lane_repair.specs.Pieces.{IsUncoupled, IsPresent, HoldsColumn}
-use Rattle.clay_kernels.proofs.ColumnLaws.{known_sum, column_begun, column_more, column_skipped, column_ended}
+use Rattle.generator_matrix.proofs.ColumnLaws.{known_sum, column_begun, column_more, column_skipped, column_ended}
 use Rattle.lane_repair.proofs.RowLemmas.{HoldsSums}
 
 -- ---- the values of a column

@@ -12,8 +12,8 @@ use Rattle.clay_model.proofs.SumLaws.{sum_below_same, sum_below-zero}
 use Rattle.code_laws.proofs.Filled.{sum_below-add}
 use Rattle.code_laws.proofs.Pieces.{put_mid_before, put_mid_within, place_below}
 use Rattle.code_laws.specs.Solved.{uncoupled_byte}
-use Rattle.clay_kernels.specs.Generated.{factor_at}
-use Rattle.clay_kernels.specs.SmallColumns.{AddsNodes}
+use Rattle.generator_matrix.specs.Generated.{factor_at}
+use Rattle.generator_matrix.specs.SmallColumns.{AddsNodes}
 use Rattle.lane_repair.specs.Pieces.{IsPresent, HoldsNodes}
 use Rattle.lane_repair.proofs.RowLemmas.{HoldsSums}
 

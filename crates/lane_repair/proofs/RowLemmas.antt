@@ -25,7 +25,7 @@ use Rattle.code_laws.specs.Solved.{uncoupled_byte}
 use Rattle.code_laws.proofs.Layer.{coupled_below}
 use Rattle.code_laws.proofs.Nodes.{IsNodeOf, chunk_byte}
 use Rattle.clay_kernels.specs.Lanes.{AddsRows}
-use Rattle.clay_kernels.specs.Generated.{factor_at, generated, IsGeneratorOf}
+use Rattle.generator_matrix.specs.Generated.{factor_at, generated, IsGeneratorOf}
 use Rattle.lane_repair.specs.Pieces.{IsCoupled, IsUncoupled, HoldsRows, HoldsByte}
 
 -- ---- the rows of a layer

@@ -12,8 +12,9 @@ use crate::read_block::ReadBlock;
 use crate::repair_plan::{RepairPlan, layer_place, make_repair_plan};
 use crate::view::ChunkView;
 use clay_grid::Geometry;
-use clay_kernels::{BLOCK, add_column, cross, end_column, uncouple, zeros};
+use clay_kernels::{BLOCK, cross, uncouple, zeros};
 use clay_model::partner_of;
+use generator_matrix::{add_column, end_column};
 use std::alloc::{AllocError, Global};
 
 impl<'a> ReadBlock<'a> {

@@ -6,7 +6,8 @@ ghost use Rattle.clay_grid.specs.Repair.{layers_with_digit};
 ghost use Rattle.lane_repair.specs.Repaired.{IsRepairPlan, column_nodes};
 
 use clay_grid::Geometry;
-use clay_kernels::{Generator, Products, generator_of, halves, zeros};
+use clay_kernels::{Products, halves, zeros};
+use generator_matrix::{Generator, generator_of};
 use std::alloc::{AllocError, Global};
 
 /// The place of the lost node, the factors of its column, and the layers that are read.

@@ -2,8 +2,9 @@
 use crate::encoding::expect_bytes;
 use clay_field::add_scaled;
 use clay_grid::Geometry;
-use clay_kernels::{ColumnFactors, Products, add_column, end_column};
+use clay_kernels::Products;
 use clay_parity::last_column;
+use generator_matrix::{ColumnFactors, add_column, end_column};
 use std::alloc::Global;
 use std::process::Abort;
 use std::test::Fail;

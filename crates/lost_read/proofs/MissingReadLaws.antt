@@ -20,7 +20,7 @@ use Rattle.code_laws.proofs.Pieces.{put_mid_before, put_mid_within, put_mid_past
 use Rattle.code_laws.proofs.Column.{node_inside}
 use Rattle.code_laws.proofs.Nodes.{node_real, chunk_byte, length-erased_below}
 use Rattle.clay_kernels.specs.Lanes.{AddsRows}
-use Rattle.clay_kernels.specs.Generated.{factor_at}
+use Rattle.generator_matrix.specs.Generated.{factor_at}
 use Rattle.lost_layers.specs.LostLayers.{is_wanted, partner_layer, lost_node}
 use Rattle.lost_layers.specs.LostPieces.{piece_at}
 use Rattle.lost_layers.specs.declared.run.LostRun.{LostRun}

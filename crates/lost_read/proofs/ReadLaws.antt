@@ -20,7 +20,7 @@ use Rattle.code_laws.proofs.Pieces.{piece_fits, place_below}
 use Rattle.code_laws.proofs.Column.{node_inside}
 use Rattle.code_laws.proofs.Nodes.{node_real, chunk_byte, length-erased_below}
 use Rattle.clay_kernels.specs.Lanes.{AddsRows}
-use Rattle.clay_kernels.specs.Generated.{factor_at}
+use Rattle.generator_matrix.specs.Generated.{factor_at}
 use Rattle.lost_layers.specs.LostLayers.{IsLostRun, is_wanted, partner_layer, lost_node, lost_column, is_unpaired, is_solved, is_unknown}
 use Rattle.lost_layers.specs.LostPieces.{is_piece, piece_at, lost_pieces_of}
 use Rattle.lost_layers.specs.declared.run.LostRun.{LostRun}

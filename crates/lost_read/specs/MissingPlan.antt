@@ -3,7 +3,7 @@ use Rattle.std.specs.Prelude.{◌≡◌, ℕ, suc, ◌*◌, ◌≤◌, List, len
 use Rattle.clay_grid.specs.Shape.{chunk_count, node_count, layer_count}
 use Rattle.clay_grid.specs.Score.{count_below, IsByScore}
 use Rattle.clay_model.specs.Erased.{erased_below}
-use Rattle.clay_kernels.specs.Generated.{IsGeneratorOf}
+use Rattle.generator_matrix.specs.Generated.{IsGeneratorOf}
 use Rattle.lost_read.specs.Plan.{HasPlaces}
 use Rattle.lost_layers.specs.Erased.{Erased}
 use Rattle.lost_layers.specs.ErasedLayers.{is_solved}

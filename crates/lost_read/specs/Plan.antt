@@ -2,7 +2,7 @@
 use Rattle.std.specs.Prelude.{◌≡◌, ℕ, ◌+◌, ◌*◌, ◌<◌, ◌≤◌, true, false, List, length, get_or, replicate}
 use Rattle.clay_grid.specs.Shape.{Shape, chunk_count, node_count, layer_count}
 use Rattle.clay_model.specs.Erased.{erased_below}
-use Rattle.clay_kernels.specs.Generated.{IsGeneratorOf}
+use Rattle.generator_matrix.specs.Generated.{IsGeneratorOf}
 use Rattle.lost_layers.specs.LostLayers.{is_solved, is_unknown}
 use Rattle.lost_layers.specs.LostPieces.{lost_pieces_of, piece_at}
 use Rattle.lost_layers.specs.Placing.{IsPlaced}

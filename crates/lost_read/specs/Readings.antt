@@ -1,7 +1,7 @@
 -- What is known of a run's subchunks, for each codeword that has the pieces.
 use Rattle.std.specs.Prelude.{◌≡◌, ℕ, ◌+◌, ◌<◌, List, map, get_or}
 use Rattle.clay_field.specs.Field.{product}
-use Rattle.clay_kernels.specs.Generated.{factor_at}
+use Rattle.generator_matrix.specs.Generated.{factor_at}
 use Rattle.clay_model.specs.Sums.{sum_below}
 use Rattle.clay_model.specs.Erased.{present}
 use Rattle.clay_model.specs.Partners.{ArePartners}

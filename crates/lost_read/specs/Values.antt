@@ -1,7 +1,7 @@
 -- The values of the unknown nodes in the layers that are solved, for each codeword that has the pieces.
 use Rattle.std.specs.Prelude.{◌≡◌, ◌≢◌, ℕ, ◌+◌, ◌*◌, ◌<◌, true, List, length, get_or, bit_xor}
 use Rattle.clay_field.specs.Field.{product}
-use Rattle.clay_kernels.specs.Generated.{factor_at}
+use Rattle.generator_matrix.specs.Generated.{factor_at}
 use Rattle.clay_grid.specs.Shape.{layer_count}
 use Rattle.clay_grid.specs.Score.{score_at}
 use Rattle.code_laws.specs.Solved.{uncoupled_byte}

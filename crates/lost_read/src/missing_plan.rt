@@ -8,7 +8,8 @@ ghost use Rattle.lost_layers.specs.ErasedRuns.{solved_of, IsSolvedRun};
 ghost use Rattle.lost_read.specs.MissingPlan.{AreRanks, IsReadPlan};
 
 use clay_grid::Geometry;
-use clay_kernels::{Generator, Products, fifths, generator_of, halves, zeros};
+use clay_kernels::{Products, fifths, halves, zeros};
+use generator_matrix::{Generator, generator_of};
 use lost_layers::{LostPiece, SolvedRun};
 use std::alloc::{AllocError, Global};
 

@@ -7,8 +7,9 @@ ghost use Rattle.lost_layers.specs.Placing.{IsPlaced};
 ghost use Rattle.lost_read.specs.Plan.{AreSubchunks, HasPlaces, IsReadPlan};
 
 use clay_grid::Geometry;
-use clay_kernels::{Generator, Products, generator_of, halves, zeros};
+use clay_kernels::{Products, halves, zeros};
 use clay_model::partner_of;
+use generator_matrix::{Generator, generator_of};
 use lost_layers::{LostPiece, PlacedRun, pieces_of_run};
 use std::alloc::{AllocError, Global};
 

@@ -3,7 +3,7 @@ use Rattle.std.proofs.Common.{◌≡◌, ℕ, Bool, true, List, ◌++◌}
 use Rattle.store_map.specs.declared.call.Call.{Call}
 use Rattle.store_core.specs.Agreement.{Seat}
 use Rattle.version_seal.specs.Entry.{BookOf, StampOf}
-use Rattle.stripe_dir.specs.Sealed.{Sealed}
+use Rattle.stripe_stamps.specs.Sealed.{Sealed}
 use Rattle.call_machine.specs.Kinds.{Asked, Machine, client_machine, IfPatches, IfDraws}
 use Rattle.call_machine.specs.Calls.{MachineOf, first_call, KnowsOldOf, drawn_in, drawn_for, drawn_by}
 use Rattle.call_machine.proofs.Knowing.{more_stamps_are_known, first_calls_know}

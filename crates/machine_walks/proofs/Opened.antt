@@ -11,7 +11,7 @@ use Rattle.store_core.specs.Agreement.{Seat, AgreesWithSeat}
 use Rattle.run_laws.proofs.OwnSteps.{agreement_goes_on}
 use Rattle.version_seal.specs.Entry.{BookOf, StampOf}
 use Rattle.chunk_server.specs.State.{ServerState, empty_server}
-use Rattle.stripe_dir.specs.Sealed.{Sealed}
+use Rattle.stripe_stamps.specs.Sealed.{Sealed}
 use Rattle.stripe_dir.specs.Seats.{client_seat, repairer_seat}
 use Rattle.machine_walks.specs.Small.{small_code}
 use Rattle.machine_walks.specs.Waits.{AllWait}

@@ -15,9 +15,9 @@ use Rattle.store_core.specs.AtDirectory.{at_directory}
 use Rattle.store_core.specs.Directory.{Pass}
 use Rattle.store_core.specs.Agreement.{ActorToken}
 use Rattle.run_laws.proofs.SoundLists.{at_all}
-use Rattle.dir_parts.specs.TableSteps.{base_version}
+use Rattle.version_table.specs.TableSteps.{base_version}
 use Rattle.version_seal.specs.Entry.{BookOf, StampOf, RequestOf, old_bytes, call_written}
-use Rattle.stripe_dir.specs.Sealed.{Sealed, base_stamp, drawn_stamp, stamps_touched}
+use Rattle.stripe_stamps.specs.Sealed.{Sealed, base_stamp, drawn_stamp, stamps_touched}
 use Rattle.call_steps.specs.CallOf.{CallOf, act_of}
 use Rattle.write_course.specs.Draws.{request_of, stamps_told, stamps_of_draw, stamps_by, stamps_drawn}
 use Rattle.machine_walks.specs.Whole.{AreWhole, Grows}

@@ -7,7 +7,7 @@ use Rattle.clay_model.specs.Code.{padded}
 use Rattle.store_core.specs.Directory.{Object}
 use Rattle.run_laws.proofs.SoundLists.{at_all}
 use Rattle.version_seal.specs.Entry.{StampOf}
-use Rattle.stripe_dir.specs.Sealed.{Sealed}
+use Rattle.stripe_stamps.specs.Sealed.{Sealed}
 use Rattle.client_patch.specs.Padded.{IsPadded, ItsArePadded, ArePadded}
 use Rattle.machine_walks.specs.Small.{small_code}
 use Rattle.machine_walks.specs.Whole.{AreWhole, AreWholeObjects}

@@ -4,7 +4,7 @@ use Rattle.std.specs.List.{slice_get}
 use Rattle.clay_grid.specs.Shape.{chunk_count}
 use Rattle.version_seal.specs.Entry.{BookOf}
 use Rattle.chunk_server.specs.State.{ServerState}
-use Rattle.stripe_dir.specs.Sealed.{Sealed}
+use Rattle.stripe_stamps.specs.Sealed.{Sealed}
 use Rattle.machine_walks.specs.Small.{small_code}
 use Rattle.machine_walks.specs.Waits.{AllWait}
 use Rattle.machine_walks.specs.Whole.{AreWhole}

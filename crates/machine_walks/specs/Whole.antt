@@ -3,7 +3,7 @@ use Rattle.std.specs.Prelude.{◌≡◌, ⊤, ◌*◌, ◌≤◌, List, [], ◌�
 use Rattle.clay_grid.specs.Shape.{stripe_length}
 use Rattle.store_core.specs.Directory.{Object}
 use Rattle.version_seal.specs.Entry.{BookOf, StampOf}
-use Rattle.stripe_dir.specs.Sealed.{Sealed}
+use Rattle.stripe_stamps.specs.Sealed.{Sealed}
 use Rattle.call_machine.specs.Kinds.{machine_of, IfPatches}
 use Rattle.machine_walks.specs.declared.work.InWork.{InWork}
 

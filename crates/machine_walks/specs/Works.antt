@@ -4,7 +4,7 @@ use Rattle.store_map.specs.declared.actor.Actor.{Actor}
 use Rattle.store_core.specs.Lookups.{same_actor}
 use Rattle.store_core.specs.Agreement.{Agrees}
 use Rattle.store_core.specs.Tokens.{actor_of}
-use Rattle.stripe_dir.specs.Sealed.{Sealed}
+use Rattle.stripe_stamps.specs.Sealed.{Sealed}
 use Rattle.call_steps.specs.CallOf.{CallOf}
 use Rattle.call_machine.specs.Calls.{KnowsOldOf}
 use Rattle.machine_walks.specs.Waits.{HasBegun}

@@ -4,7 +4,7 @@ ghost use Rattle.std.specs.Prelude.{◌≡◌, ◌<◌, true};
 ghost use Rattle.clay_grid.specs.Shape.{chunk_count};
 ghost use Rattle.chunk_server.specs.Core.{core_of};
 ghost use Rattle.store_core.specs.Agreement.{Agrees, ActorToken};
-ghost use Rattle.stripe_dir.specs.Sealed.{Sealed};
+ghost use Rattle.stripe_stamps.specs.Sealed.{Sealed};
 ghost use Rattle.stripe_dir.specs.Seats.{client_seat, repairer_seat};
 ghost use Rattle.call_steps.specs.Steps.{need_of, IsServerBelow, LeadsTo, LeadsToAtServer};
 ghost use Rattle.call_machine.specs.Kinds.{client_machine, machine_of};

@@ -5,7 +5,7 @@ use Rattle.clay_grid.specs.Shape.{chunk_count}
 use Rattle.run_laws.specs.Stage.{Aim}
 use Rattle.version_seal.specs.Entry.{BookOf}
 use Rattle.call_steps.specs.declared.seen.Seen.{Seen}
-use Rattle.stripe_dir.specs.Answers.{seen_in}
+use Rattle.stripe_stamps.specs.SeenStripes.{seen_in}
 use Rattle.gathering.specs.Courses.{IsAskingStage}
 use Rattle.gathering.specs.Gathers.{GatherOf, new_gather}
 use Rattle.repairer.specs.Standing.{seen_at, course_at, gathered_state, stage_of}

@@ -9,7 +9,7 @@ use Rattle.run_laws.specs.Stage.{Aim}
 use Rattle.version_seal.specs.Entry.{BookOf}
 use Rattle.version_seal.specs.Sealed.{ChunkOf}
 use Rattle.call_steps.specs.declared.seen.Seen.{Seen}
-use Rattle.stripe_dir.specs.Answers.{seen_in}
+use Rattle.stripe_stamps.specs.SeenStripes.{seen_in}
 use Rattle.gathering.specs.Gathers.{GatherOf}
 
 -- a seat with which its actor may begin the call

@@ -7,7 +7,7 @@ use Rattle.run_laws.specs.Stage.{Aim, Stage as CoreStage}
 use Rattle.run_laws.specs.State.{Sequel, State}
 use Rattle.run_laws.specs.States.{stage_state}
 use Rattle.call_steps.specs.declared.seen.Seen.{Seen}
-use Rattle.stripe_dir.specs.Answers.{seen_in}
+use Rattle.stripe_stamps.specs.SeenStripes.{seen_in}
 use Rattle.gathering.specs.Courses.{CourseOf, new_course}
 use Rattle.gathering.specs.Gathers.{GatherOf}
 use Rattle.repairer.specs.declared.stage.Stage.{Stage}

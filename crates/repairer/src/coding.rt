@@ -2,7 +2,7 @@
 ghost use Rattle.std.specs.Prelude.{◌≡◌, ◌<◌, Some, length, replicate, IfOk};
 ghost use Rattle.clay_grid.specs.Shape.{chunk_count};
 ghost use Rattle.run_laws.specs.Stage.{Aim};
-ghost use Rattle.stripe_dir.specs.Answers.{seen_in};
+ghost use Rattle.stripe_stamps.specs.SeenStripes.{seen_in};
 ghost use Rattle.gathering.specs.Gathers.{new_gather, need_of as need_of_gather};
 ghost use Rattle.call_steps.specs.Steps.{need_of, coded};
 ghost use Rattle.gathering.specs.Aims.{target_of};

@@ -25,13 +25,14 @@ use call_steps::{
 };
 use chunk_server::Server;
 use clay_model::Coder;
+use dir_tickets::Ticket;
 use gathering::Gather;
 use read_ledger::Takes;
 use std::marker::Model;
 use std::snapshot::Snapshot;
 use std::thread::Threads;
 use store_map::Rebuild;
-use stripe_dir::{Directory, Seat, Seen, Ticket};
+use stripe_dir::{Directory, Seat, Seen};
 use version_seal::{Opening, SealedChunk};
 
 /// A rebuild in work. It has to be spent.

@@ -10,7 +10,7 @@ use Rattle.store_core.specs.ActPlace.{Place}
 use Rattle.store_core.specs.Work.{Work}
 use Rattle.thread_laws.specs.MadeSteps.{MadeStep}
 use Rattle.version_seal.specs.Entry.{BookOf}
-use Rattle.stripe_dir.specs.Sealed.{Sealed}
+use Rattle.stripe_stamps.specs.Sealed.{Sealed}
 use Rattle.call_steps.specs.declared.need.Need.TheVariants as need
 use Rattle.call_steps.specs.CallOf.{CallOf, act_of}
 use Rattle.call_steps.specs.Steps.{need_of, stepped_at_server}

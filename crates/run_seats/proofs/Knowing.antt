@@ -7,8 +7,8 @@ use Rattle.store_core.specs.Sound.{IsSound}
 use Rattle.store_core.specs.History.{call_of}
 use Rattle.run_laws.specs.Contents.{HasBytes}
 use Rattle.version_seal.specs.Entry.{BookOf, StampOf}
-use Rattle.stripe_dir.specs.Sealed.{Sealed}
-use Rattle.stripe_dir.specs.Stamped.{HasStamps, HaveContents}
+use Rattle.stripe_stamps.specs.Sealed.{Sealed}
+use Rattle.stripe_stamps.specs.Stamped.{HasStamps, HaveContents}
 use Rattle.client_patch.specs.Padded.{ArePadded}
 use Rattle.client_patch.proofs.Padding.{bytes_are_padded}
 use Rattle.call_machine.specs.Calls.{MachineOf, KnowsFor}

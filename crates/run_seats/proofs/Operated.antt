@@ -5,7 +5,7 @@ use Rattle.store_core.specs.Server.{Server}
 use Rattle.store_core.specs.Tokens.{actor_of}
 use Rattle.thread_laws.specs.MadeSteps.{MadeStep}
 use Rattle.version_seal.specs.Entry.{BookOf}
-use Rattle.stripe_dir.specs.Sealed.{Sealed}
+use Rattle.stripe_stamps.specs.Sealed.{Sealed}
 use Rattle.call_machine.specs.Calls.{MachineOf}
 use Rattle.thread_laws.specs.Noted.{Noted, IsCaller}
 use Rattle.thread_laws.specs.Operated.{IsOperated}

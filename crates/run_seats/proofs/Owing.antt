@@ -15,7 +15,7 @@ use Rattle.thread_laws.specs.AtPlaces.{after_all, directory_act, directory_next,
 use Rattle.thread_laws.specs.MadeSteps.{MadeStep}
 use Rattle.run_laws.specs.State.{CallState, State}
 use Rattle.version_seal.specs.Entry.{BookOf}
-use Rattle.stripe_dir.specs.Stamped.{HaveContents}
+use Rattle.stripe_stamps.specs.Stamped.{HaveContents}
 use Rattle.call_steps.specs.declared.need.Need.TheVariants as need
 use Rattle.call_steps.specs.CallOf.{CallOf, act_of}
 use Rattle.call_steps.specs.Steps.{coded, need_of}

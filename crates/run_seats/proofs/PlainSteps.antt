@@ -14,7 +14,7 @@ use Rattle.store_core.specs.Sound.{IsSound}
 use Rattle.run_laws.specs.Contents.{HasBytes}
 use Rattle.run_laws.proofs.ContentSteps.{steps_keep_bytes}
 use Rattle.thread_laws.specs.MadeSteps.{MadeStep}
-use Rattle.stripe_dir.specs.Sealed.{Sealed}
+use Rattle.stripe_stamps.specs.Sealed.{Sealed}
 use Rattle.turn_lock.specs.History.{Among, GoesOn, entries_of}
 use Rattle.thread_laws.specs.AtDirectory.{StandsAtDirectory}
 use Rattle.thread_laws.specs.AtServer.{StandsAtServer}

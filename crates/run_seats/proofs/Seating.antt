@@ -13,7 +13,7 @@ use Rattle.store_core.specs.Work.{Ended, Work}
 use Rattle.thread_laws.specs.MadeSteps.{MadeStep}
 use Rattle.version_seal.specs.Entry.{BookOf}
 use Rattle.dir_parts.proofs.Entries.{slice_get-map}
-use Rattle.stripe_dir.specs.Sealed.{Sealed}
+use Rattle.stripe_stamps.specs.Sealed.{Sealed}
 use Rattle.call_steps.specs.declared.need.Need.TheVariants as need
 use Rattle.call_steps.specs.CallOf.{CallOf}
 use Rattle.call_steps.specs.Steps.{need_of, coded, HoldsItsPass, MayMakeNext}

@@ -10,7 +10,7 @@ use Rattle.store_core.specs.Server.{Server}
 use Rattle.store_core.specs.Sound.{IsSound}
 use Rattle.store_core.specs.Sweep.{Sweeper}
 use Rattle.thread_laws.specs.MadeSteps.{MadeStep}
-use Rattle.stripe_dir.specs.Sealed.{Sealed}
+use Rattle.stripe_stamps.specs.Sealed.{Sealed}
 use Rattle.call_steps.specs.declared.need.Need.TheVariants as need
 use Rattle.call_steps.proofs.Needs.{server_in}
 use Rattle.sweeper.specs.Sweeps.{SweeperOf, act_of, need_at, need_of, at_directory_by, at_server_by, stepped_at_directory, stepped_at_server}

@@ -9,7 +9,7 @@ use Rattle.store_core.specs.ActPlace.{Place}
 use Rattle.store_core.specs.Server.{Server}
 use Rattle.thread_laws.specs.Lines.{operator_act}
 use Rattle.thread_laws.specs.MadeSteps.{MadeStep}
-use Rattle.stripe_dir.specs.Sealed.{Sealed}
+use Rattle.stripe_stamps.specs.Sealed.{Sealed}
 use Rattle.call_steps.specs.declared.need.Need.TheVariants as need
 use Rattle.sweeper.specs.Sweeps.{SweeperOf, act_of, heard, need_of}
 use Rattle.turn_lock.specs.History.{entries_of}

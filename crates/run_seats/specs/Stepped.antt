@@ -4,8 +4,8 @@ use mathlib.Core.List.{IsPrefix}
 use Rattle.store_core.specs.Server.{Server}
 use Rattle.store_core.specs.Tokens.{actor_of}
 use Rattle.thread_laws.specs.MadeSteps.{MadeStep}
-use Rattle.stripe_dir.specs.Sealed.{Sealed}
-use Rattle.stripe_dir.specs.Stamped.{HasStamps}
+use Rattle.stripe_stamps.specs.Sealed.{Sealed}
+use Rattle.stripe_stamps.specs.Stamped.{HasStamps}
 use Rattle.call_steps.specs.CallOf.{act_of}
 use Rattle.call_steps.specs.Steps.{stepped_at_directory, stepped_at_server}
 use Rattle.call_machine.specs.Calls.{MachineOf, drawn_by, owed_by}

@@ -21,10 +21,10 @@ use Rattle.run_laws.proofs.OwnSteps.{agreement_goes_on}
 use Rattle.version_seal.specs.Entry.{BookOf}
 use Rattle.chunk_server.specs.Core.{core_of}
 use Rattle.chunk_server.specs.State.{ServerState, empty_server}
-use Rattle.stripe_dir.specs.Sealed.{Sealed}
+use Rattle.stripe_stamps.specs.Sealed.{Sealed}
 use Rattle.stripe_dir.specs.Seats.{client_seat, repairer_seat}
-use Rattle.stripe_dir.specs.Stamped.{HaveContents}
-use Rattle.stripe_dir.proofs.StampSteps.{stamps_keep_contents}
+use Rattle.stripe_stamps.specs.Stamped.{HaveContents}
+use Rattle.stripe_stamps.proofs.StampSteps.{stamps_keep_contents}
 use Rattle.session_rules.specs.State.{first_state}
 use Rattle.session_rules.specs.Beginnings.{new_places}
 use Rattle.session_rules.specs.Between.{IsBetween}

@@ -11,7 +11,7 @@ use Rattle.store_core.specs.Calls.{Calls}
 use Rattle.store_core.specs.Lookups.{same_actor}
 use Rattle.store_core.specs.Tokens.{actor_of}
 use Rattle.version_seal.specs.Entry.{BookOf}
-use Rattle.stripe_dir.specs.Stamped.{HaveContents}
+use Rattle.stripe_stamps.specs.Stamped.{HaveContents}
 use Rattle.session_rules.specs.State.{State}
 use Rattle.session_rules.specs.Heals.{to_heal, heal_all, numbers_last}
 use Rattle.session_rules.specs.Serve.{serve}

@@ -20,7 +20,7 @@ use Rattle.store_core.specs.Tokens.{actor_of}
 use Rattle.run_laws.specs.State.{CallState}
 use Rattle.run_laws.specs.StateActs.{act_of_state}
 use Rattle.version_seal.specs.Entry.{BookOf}
-use Rattle.dir_parts.proofs.TableSteps.{length-change_at}
+use Rattle.version_table.proofs.TableSteps.{length-change_at}
 use Rattle.session_rules.specs.Alone.{AtWork}
 use Rattle.session_rules.specs.Wants.{after_coding, wanting_step}
 use Rattle.session_rules.specs.Seats.{ran, HasEnded}

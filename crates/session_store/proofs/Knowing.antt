@@ -4,7 +4,7 @@ use Rattle.store_map.specs.declared.call.Call.{Call}
 use Rattle.store_core.specs.Calls.{Calls}
 use Rattle.run_laws.specs.MoreCalls.{AreAmong}
 use Rattle.run_laws.proofs.MoreCalls.{more_calls_change_nothing}
-use Rattle.stripe_dir.specs.Stamped.{HaveContents}
+use Rattle.stripe_stamps.specs.Stamped.{HaveContents}
 use Rattle.session_rules.specs.State.{State}
 use Rattle.session_rules.specs.Between.{IsBetween}
 use Rattle.session_rules.proofs.Runs.{more_calls_stay_between}

@@ -7,9 +7,9 @@ use Rattle.store_core.specs.Server.{Server}
 use Rattle.version_seal.specs.Entry.{BookOf}
 use Rattle.chunk_server.specs.Core.{core_of}
 use Rattle.chunk_server.specs.State.{ServerState, IsSame}
-use Rattle.stripe_dir.specs.ItsStripes.{IsWhole}
-use Rattle.stripe_dir.specs.Sealed.{Sealed}
-use Rattle.stripe_dir.specs.Stamped.{HasStamps}
+use Rattle.stripe_stamps.specs.ItsStripes.{IsWhole}
+use Rattle.stripe_stamps.specs.Sealed.{Sealed}
+use Rattle.stripe_stamps.specs.Stamped.{HasStamps}
 use Rattle.call_steps.specs.declared.need.Need.TheVariants as need
 use Rattle.call_steps.specs.CallOf.{CallOf, act_of}
 use Rattle.call_steps.specs.Steps.{need_by, need_of, coded, at_server_by, LeadsToAtServer, HoldsItsPass, IsDueInPass, MayMakeNext, IsUndueOncePlaced}

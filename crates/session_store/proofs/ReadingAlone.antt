@@ -46,7 +46,7 @@ use Rattle.session_rules.specs.Alone.{AtWork}
 use Rattle.session_rules.specs.Wants.{may_code}
 use Rattle.session_rules.specs.Reading.{reading, reading_by, reading_step, reading_steps}
 use Rattle.session_rules.proofs.ReadingSteps.{IsGathering, opened_gathers}
-use Rattle.stripe_dir.specs.Sealed.{Sealed}
+use Rattle.stripe_stamps.specs.Sealed.{Sealed}
 use Rattle.session_store.specs.declared.places.SessionPlaces.{SessionPlaces}
 use Rattle.session_store.specs.Places.{AreServers, AreSame, seen_in}
 use Rattle.session_store.specs.Reading.{stands_by, at_work, MayReadOn, HasCoded, HasAsked, HasReadOn, MayRead, job_from, codings_next, left_of, ReadsOn}

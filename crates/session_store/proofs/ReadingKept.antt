@@ -21,7 +21,7 @@ use Rattle.store_core.specs.Read.{part_of}
 use Rattle.store_core.specs.Told.{Seen as CoreSeen}
 use Rattle.store_core.specs.Tokens.{actor_of}
 use Rattle.call_steps.specs.declared.seen.Seen.{Seen}
-use Rattle.stripe_dir.specs.Answers.{seen_in}
+use Rattle.stripe_stamps.specs.SeenStripes.{seen_in}
 use Rattle.snapshot_view.specs.LookSteps.{versions_kept}
 use Rattle.snapshot_view.specs.Met.{met_by}
 use Rattle.snapshot_view.specs.Snapshots.{KeptOf, find_kept}

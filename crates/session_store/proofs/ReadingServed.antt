@@ -19,7 +19,7 @@ use Rattle.run_laws.specs.State.{Sequel}
 use Rattle.run_laws.specs.States.{open_parts}
 use Rattle.run_laws.proofs.Opened.{opened_next}
 use Rattle.version_seal.specs.Entry.{BookOf}
-use Rattle.stripe_dir.specs.Answers.{seen_in}
+use Rattle.stripe_stamps.specs.SeenStripes.{seen_in}
 use Rattle.call_steps.specs.declared.seen.Seen.{Seen}
 use Rattle.gather_parts.specs.Gatherings.{owed}
 use Rattle.gather_parts.specs.States.{state_in}

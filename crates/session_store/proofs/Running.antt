@@ -18,10 +18,10 @@ use Rattle.store_core.specs.PassSteps.{draw}
 use Rattle.store_core.specs.Told.{Told}
 use Rattle.store_core.specs.Tokens.{actor_of, IsToWrite}
 use Rattle.version_seal.specs.Entry.{StampOf, RequestOf, call_written}
-use Rattle.stripe_dir.specs.Sealed.{Sealed}
-use Rattle.stripe_dir.specs.Stamped.{HaveContents, HasStamps}
-use Rattle.stripe_dir.specs.ItsStripes.{IsWhole}
-use Rattle.stripe_dir.proofs.StampSteps.{stamps_keep_contents}
+use Rattle.stripe_stamps.specs.Sealed.{Sealed}
+use Rattle.stripe_stamps.specs.Stamped.{HaveContents, HasStamps}
+use Rattle.stripe_stamps.specs.ItsStripes.{IsWhole}
+use Rattle.stripe_stamps.proofs.StampSteps.{stamps_keep_contents}
 use Rattle.call_steps.specs.declared.need.Need.TheVariants as need
 use Rattle.call_steps.specs.TokenAfter.{MayMake, IfInCall}
 use Rattle.call_steps.specs.CallOf.{act_of}

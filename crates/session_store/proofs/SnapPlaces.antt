@@ -17,8 +17,8 @@ use Rattle.store_core.specs.Lookups.{find_object}
 use Rattle.store_core.specs.Step.{Places}
 use Rattle.store_core.specs.Told.{Seen as CoreSeen}
 use Rattle.call_steps.specs.declared.seen.Seen.{Seen}
-use Rattle.stripe_dir.specs.Answers.{seen_in}
-use Rattle.stripe_dir.specs.Sealed.{Sealed}
+use Rattle.stripe_stamps.specs.SeenStripes.{seen_in}
+use Rattle.stripe_stamps.specs.Sealed.{Sealed}
 use Rattle.session_rules.specs.State.{Chunk, Numbering, Snapshot, State}
 use Rattle.session_rules.specs.Seen.{version_of, all_numbers, live_numbers, IsSeenAs}
 use Rattle.session_rules.proofs.LooksMade.{InDirectory}

@@ -18,8 +18,8 @@ use Rattle.store_core.specs.Step.{Places as CorePlaces}
 use Rattle.store_core.specs.Tokens.{actor_of}
 use Rattle.version_seal.specs.Entry.{BookOf}
 use Rattle.chunk_server.specs.Core.{core_of}
-use Rattle.stripe_dir.specs.Sealed.{Sealed}
-use Rattle.stripe_dir.specs.Stamped.{HaveContents}
+use Rattle.stripe_stamps.specs.Sealed.{Sealed}
+use Rattle.stripe_stamps.specs.Stamped.{HaveContents}
 use Rattle.session_rules.specs.State.{Snapshot, State}
 use Rattle.session_rules.specs.Snapshots.{most_objects, snap_drop}
 use Rattle.session_rules.specs.declared.answer.Answer.{Answer}

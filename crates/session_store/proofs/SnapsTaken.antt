@@ -23,8 +23,8 @@ use Rattle.store_core.specs.Server.{Server}
 use Rattle.store_core.specs.Step.{Places}
 use Rattle.store_core.specs.Tokens.{actor_of}
 use Rattle.chunk_server.specs.Core.{core_of}
-use Rattle.stripe_dir.specs.Sealed.{Sealed}
-use Rattle.stripe_dir.specs.Stamped.{HaveContents}
+use Rattle.stripe_stamps.specs.Sealed.{Sealed}
+use Rattle.stripe_stamps.specs.Stamped.{HaveContents}
 use Rattle.session_rules.specs.State.{Snapshot, State}
 use Rattle.session_rules.specs.Snapshots.{most_objects, snap}
 use Rattle.session_rules.specs.declared.answer.Answer.{Answer}

@@ -33,8 +33,8 @@ use Rattle.run_laws.specs.StateActs.{start_act, act_at}
 use Rattle.version_seal.specs.Entry.{BookOf}
 use Rattle.chunk_server.specs.Core.{core_of}
 use Rattle.chunk_server.specs.State.{ServerState}
-use Rattle.stripe_dir.specs.Sealed.{Sealed}
-use Rattle.stripe_dir.specs.Stamped.{HaveContents}
+use Rattle.stripe_stamps.specs.Sealed.{Sealed}
+use Rattle.stripe_stamps.specs.Stamped.{HaveContents}
 use Rattle.call_steps.specs.declared.need.Need.TheVariants as need
 use Rattle.call_steps.specs.TokenAfter.{token_after, MayMake, IfInCall}
 use Rattle.call_steps.specs.CallOf.{CallOf, act_of}

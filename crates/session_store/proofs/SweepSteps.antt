@@ -23,9 +23,9 @@ use Rattle.store_core.specs.Agreement.{Agrees}
 use Rattle.run_laws.proofs.OwnSteps.{agreement_goes_on}
 use Rattle.version_seal.specs.Entry.{BookOf}
 use Rattle.store_core.specs.Calls.{Calls}
-use Rattle.stripe_dir.specs.Sealed.{Sealed}
-use Rattle.stripe_dir.specs.Stamped.{HaveContents}
-use Rattle.stripe_dir.proofs.StampSteps.{stamps_keep_contents}
+use Rattle.stripe_stamps.specs.Sealed.{Sealed}
+use Rattle.stripe_stamps.specs.Stamped.{HaveContents}
+use Rattle.stripe_stamps.proofs.StampSteps.{stamps_keep_contents}
 use Rattle.session_store.specs.declared.places.SessionPlaces.{SessionPlaces}
 use Rattle.session_store.specs.Places.{AreServers, ArePlaces, seen_in}
 use Rattle.world_laws.specs.SweepsLeft.{sweeps_left}

@@ -6,7 +6,7 @@ use Rattle.clay_grid.specs.Limits.{IsGeometry}
 use Rattle.store_core.specs.Agreement.{Seat, ActorToken}
 use Rattle.version_seal.specs.Entry.{IsBookFor}
 use Rattle.chunk_server.specs.State.{empty_server}
-use Rattle.stripe_dir.specs.Sealed.{new_sealed}
+use Rattle.stripe_stamps.specs.Sealed.{new_sealed}
 use Rattle.stripe_dir.specs.Seats.{client_seat, first_seats}
 use Rattle.session_rules.specs.State.{first_state}
 use Rattle.session_store.specs.declared.places.SessionPlaces.{SessionPlaces}

@@ -4,7 +4,7 @@ use Rattle.store_core.specs.Calls.{Calls}
 use Rattle.store_core.specs.Tokens.{actor_of}
 use Rattle.run_laws.specs.Contents.{HasBytes}
 use Rattle.run_laws.specs.MoreCalls.{AreDrawnBy}
-use Rattle.stripe_dir.specs.Stamped.{HaveContents}
+use Rattle.stripe_stamps.specs.Stamped.{HaveContents}
 use Rattle.call_machine.specs.Calls.{MachineOf}
 use Rattle.call_machine.specs.Kinds.{Asked}
 use Rattle.session_store.specs.declared.places.SessionPlaces.{SessionPlaces}

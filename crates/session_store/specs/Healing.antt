@@ -17,8 +17,8 @@ use Rattle.store_core.specs.Tokens.{actor_of}
 use Rattle.run_laws.specs.State.{first_state}
 use Rattle.run_laws.specs.Contents.{HasBytes}
 use Rattle.run_laws.specs.MoreCalls.{AreDrawnBy}
-use Rattle.stripe_dir.specs.Sealed.{Sealed}
-use Rattle.stripe_dir.specs.Stamped.{HaveContents}
+use Rattle.stripe_stamps.specs.Sealed.{Sealed}
+use Rattle.stripe_stamps.specs.Stamped.{HaveContents}
 use Rattle.call_steps.specs.CallOf.{tries_by, taken_of}
 use Rattle.session_rules.specs.declared.answer.Answer.{Answer}
 use Rattle.session_rules.specs.Takes.{added}

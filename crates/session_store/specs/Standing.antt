@@ -8,7 +8,7 @@ use Rattle.store_core.specs.Calls.{Calls}
 use Rattle.session_rules.specs.State.{Snapshot, State}
 use Rattle.session_rules.specs.Snapshots.{most_objects}
 use Rattle.session_rules.specs.Between.{Seats, IsBetween}
-use Rattle.stripe_dir.specs.Stamped.{HaveContents}
+use Rattle.stripe_stamps.specs.Stamped.{HaveContents}
 use Rattle.snapshot_view.specs.LookSteps.{versions_kept}
 use Rattle.snapshot_view.specs.Snapshots.{SnapshotOf, StandsFor}
 use Rattle.snapshot_view.specs.Tickets.{pins_of}

@@ -6,7 +6,7 @@ use Rattle.store_core.specs.Step.{Places}
 use Rattle.version_seal.specs.Entry.{BookOf}
 use Rattle.chunk_server.specs.State.{ServerState}
 use Rattle.chunk_server.specs.Core.{core_of}
-use Rattle.stripe_dir.specs.Sealed.{Sealed}
+use Rattle.stripe_stamps.specs.Sealed.{Sealed}
 use Rattle.snapshot_view.specs.Snapshots.{SnapshotOf}
 
 -- what it keeps for its requests: the book of its versions, the directory and the servers, the seats of the client, the repairer and the healer, the

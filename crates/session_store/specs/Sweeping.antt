@@ -10,8 +10,8 @@ use Rattle.store_core.specs.Sweep.{Sweeper, is_busy}
 use Rattle.store_core.specs.Tokens.{actor_of}
 use Rattle.session_rules.specs.Alone.{sweep, sweeps}
 use Rattle.session_rules.specs.Serving.{AreSweptTo}
-use Rattle.stripe_dir.specs.Sealed.{Sealed}
-use Rattle.stripe_dir.specs.Stamped.{HaveContents}
+use Rattle.stripe_stamps.specs.Sealed.{Sealed}
+use Rattle.stripe_stamps.specs.Stamped.{HaveContents}
 use Rattle.sweeper.specs.Sweeps.{SweeperOf}
 use Rattle.world_laws.specs.SweepsLeft.{sweeps_left}
 use Rattle.session_store.specs.declared.places.SessionPlaces.{SessionPlaces}

@@ -2,7 +2,7 @@
 ghost use Rattle.std.specs.Prelude.{◌≡◌, ◌++◌, ◌+◌, ◌&&◌, false};
 ghost use Rattle.store_core.specs.Act.{Act as CoreAct};
 ghost use Rattle.store_core.specs.Agreement.{ActorToken};
-ghost use Rattle.stripe_dir.specs.Sealed.{Sealed};
+ghost use Rattle.stripe_stamps.specs.Sealed.{Sealed};
 ghost use Rattle.call_steps.specs.CallOf.{act_of, taken_of};
 ghost use Rattle.call_steps.specs.Steps.{need_of};
 ghost use Rattle.call_machine.specs.Ends.{IfBytesServed};

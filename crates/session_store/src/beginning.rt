@@ -10,8 +10,9 @@ use crate::parts::Parts;
 use crate::places::SessionPlaces;
 use chunk_server::Server;
 use clay_grid::Geometry;
+use dir_tickets::Ticket;
 use std::alloc::{AllocError, Global};
-use stripe_dir::{Directory, Seat, Ticket};
+use stripe_dir::{Directory, Seat};
 use version_seal::Book;
 
 // A snapshot has so many objects at most: a reader looks at each.

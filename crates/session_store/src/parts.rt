@@ -1,8 +1,9 @@
 //! What a session's store keeps.
 use crate::places::SessionPlaces;
+use dir_tickets::Ticket;
 use snapshot_view::Snapshot;
 use std::alloc::Global;
-use stripe_dir::{Seat, Ticket};
+use stripe_dir::Seat;
 
 /// The places, whose calls are made in them, and the snapshot that is open.
 pub(crate) struct Parts {

@@ -1,8 +1,9 @@
 //! Seats in their places, out of which a call takes them.
 ghost use Rattle.std.specs.Prelude.{◌≡◌, None, Some, is_some, IsTrue};
 
+use dir_tickets::Ticket;
 use snapshot_view::Snapshot;
-use stripe_dir::{Seat, Ticket};
+use stripe_dir::Seat;
 
 /// Takes what stands there.
 pub(crate) fn take<T>(place: &mut Option<T>) -> T

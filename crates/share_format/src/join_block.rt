@@ -10,7 +10,8 @@ ghost use Rattle.share_format.specs.Blocks.{block_length, chunk_start as start_o
 ghost use Rattle.share_format.specs.Joined.{is_lost, AreTooFew, chunk_or_zeros, IsJoined, AreChunksOf, IsRecoveredChunk};
 
 use crate::block::chunk_start;
-use clay_aloof::{AloofGeometry, recover_into};
+use aloof_recovery::recover_into;
+use clay_aloof::AloofGeometry;
 use clay_model::DecodeFault;
 use std::alloc::{AllocError, Global};
 

@@ -22,8 +22,9 @@ use Rattle.store_core.specs.Tokens.{actor_of}
 use Rattle.call_steps.specs.Callers.{IsClient}
 use Rattle.call_steps.specs.TokenAfter.{token_after, MayMake}
 use Rattle.call_steps.specs.declared.seen.Seen.{Seen as SeenStripe}
-use Rattle.stripe_dir.specs.Sealed.{Sealed}
-use Rattle.stripe_dir.specs.Answers.{seen_in, told_look, told_or_short}
+use Rattle.stripe_stamps.specs.Sealed.{Sealed}
+use Rattle.stripe_dir.specs.Answers.{told_look, told_or_short}
+use Rattle.stripe_stamps.specs.SeenStripes.{seen_in}
 use Rattle.stripe_dir.specs.Shown.{IsShown}
 use Rattle.stripe_dir.specs.declared.answers.Look.{Look}
 use Rattle.stripe_dir.specs.declared.answers.Look.TheVariants as look

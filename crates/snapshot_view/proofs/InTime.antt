@@ -22,7 +22,7 @@ use Rattle.run_laws.specs.State.{Sequel, State}
 use Rattle.run_laws.specs.States.{stage_state, open_parts, open_state, parts_state}
 use Rattle.version_seal.specs.Entry.{StampOf}
 use Rattle.call_steps.specs.declared.seen.Seen.{Seen as SeenStripe}
-use Rattle.stripe_dir.specs.Answers.{seen_in}
+use Rattle.stripe_stamps.specs.SeenStripes.{seen_in}
 use Rattle.gathering.specs.Gathers.{GatherOf, stepped_at}
 use Rattle.gather_parts.specs.Wanted.{Wanted, parts_of}
 use Rattle.gather_parts.specs.Gatherings.{GatheringsOf}

@@ -4,7 +4,7 @@ use Rattle.std.proofs.lemmas.List.{append_assoc, map-append, take_more, take_mor
 use Rattle.std.proofs.lemmas.List.Elements.{All-nil, All-push}
 use Rattle.store_core.specs.Agreement.{ActorToken}
 use Rattle.store_core.specs.Tokens.{actor_of}
-use Rattle.stripe_dir.specs.Sealed.{Sealed}
+use Rattle.stripe_stamps.specs.Sealed.{Sealed}
 use Rattle.snapshot_view.specs.Snapshots.{KeptOf}
 use Rattle.snapshot_view.specs.Tickets.{IsInCall, AgreesWithAll, pins_of, passes_in}
 use Rattle.snapshot_view.specs.LookSteps.{Looked, look_one, look_all, no_look, IsAsFound, IsSameButCalls, AreLooked, versions_kept}

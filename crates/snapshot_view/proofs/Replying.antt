@@ -18,7 +18,7 @@ use Rattle.run_laws.specs.State.{Sequel}
 use Rattle.run_laws.specs.States.{parts_state, open_state}
 use Rattle.version_seal.specs.Entry.{BookOf, StampOf}
 use Rattle.call_steps.specs.declared.seen.Seen.{Seen}
-use Rattle.stripe_dir.specs.Answers.{seen_in}
+use Rattle.stripe_stamps.specs.SeenStripes.{seen_in}
 use Rattle.gather_parts.specs.Wanted.{Wanted, wanted_of, IsPinned, bytes_of as wanted_bytes}
 use Rattle.gather_parts.specs.Gatherings.{new_gatherings, begun, owed}
 use Rattle.gather_parts.specs.States.{state_in}

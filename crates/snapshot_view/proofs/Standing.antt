@@ -29,11 +29,11 @@ use Rattle.run_laws.proofs.KeptDraw.{map_map}
 use Rattle.run_laws.proofs.Laid.{zero_div}
 use Rattle.version_seal.specs.Entry.{BookOf, StampOf}
 use Rattle.call_steps.specs.declared.seen.Seen.{Seen}
-use Rattle.stripe_dir.specs.Answers.{seen_in}
-use Rattle.stripe_dir.specs.AnswerStamps.{IsSeenIn}
-use Rattle.stripe_dir.specs.Sealed.{Sealed}
-use Rattle.stripe_dir.specs.Stamped.{HaveContents}
-use Rattle.stripe_dir.proofs.StampSteps.{stamps_hold_the_bytes_of_the_map}
+use Rattle.stripe_stamps.specs.SeenStripes.{seen_in}
+use Rattle.stripe_stamps.specs.SeenStripes.{IsSeenIn}
+use Rattle.stripe_stamps.specs.Sealed.{Sealed}
+use Rattle.stripe_stamps.specs.Stamped.{HaveContents}
+use Rattle.stripe_stamps.proofs.StampSteps.{stamps_hold_the_bytes_of_the_map}
 use Rattle.snapshot_view.specs.Snapshots.{KeptOf, find_kept, stored_kept}
 use Rattle.snapshot_view.specs.LookSteps.{IsAsFound}
 use Rattle.snapshot_view.specs.Inside.{IsOfBook}

@@ -8,7 +8,7 @@ use Rattle.version_seal.specs.Entry.{BookOf}
 use Rattle.store_core.specs.Directory.{Object}
 use Rattle.store_core.specs.Agreement.{ActorToken}
 use Rattle.store_core.specs.Tokens.{actor_of}
-use Rattle.stripe_dir.specs.Sealed.{Sealed}
+use Rattle.stripe_stamps.specs.Sealed.{Sealed}
 use Rattle.snapshot_view.specs.Snapshots.{KeptOf}
 use Rattle.snapshot_view.specs.Tickets.{AgreesWithAll, MayGet, AreOfSame}
 use Rattle.snapshot_view.specs.LookSteps.{no_look, AreLooked}

@@ -11,8 +11,8 @@ use Rattle.store_core.specs.AtDirectory.{at_directory}
 use Rattle.store_core.specs.Agreement.{ActorToken}
 use Rattle.store_core.specs.Tokens.{actor_of}
 use Rattle.call_steps.specs.TokenAfter.{token_after}
-use Rattle.stripe_dir.specs.Sealed.{Sealed}
-use Rattle.stripe_dir.specs.Answers.{seen_in}
+use Rattle.stripe_stamps.specs.Sealed.{Sealed}
+use Rattle.stripe_stamps.specs.SeenStripes.{seen_in}
 use Rattle.stripe_dir.specs.Shown.{IsShown}
 use Rattle.snapshot_view.specs.Snapshots.{KeptOf}
 use Rattle.snapshot_view.specs.Tickets.{AgreesWithAll, AreOfSame, IsInCall, passes_in, pins_of}

@@ -4,7 +4,7 @@ use Rattle.store_map.specs.Limits.{stripes_met}
 use Rattle.store_core.specs.Told.{Seen as CoreSeen}
 use Rattle.version_seal.specs.Entry.{StampOf}
 use Rattle.call_steps.specs.declared.seen.Seen.{Seen}
-use Rattle.stripe_dir.specs.Answers.{seen_in}
+use Rattle.stripe_stamps.specs.SeenStripes.{seen_in}
 
 -- from the first one on that meets the bytes from start up to end, as many as meet them, by the length of a stripe
 abbrev pub met_by : ℕ → ℕ → ℕ → List Seen → List Seen

@@ -9,7 +9,7 @@ use Rattle.store_core.specs.Gathering.{Part}
 use Rattle.store_core.specs.Read.{part_of}
 use Rattle.run_laws.specs.State.{Sequel}
 use Rattle.run_laws.specs.States.{parts_state, open_state}
-use Rattle.stripe_dir.specs.Answers.{seen_in}
+use Rattle.stripe_stamps.specs.SeenStripes.{seen_in}
 use Rattle.gather_parts.specs.Gatherings.{GatheringsOf, owed}
 use Rattle.gather_parts.specs.States.{state_in}
 use Rattle.snapshot_view.specs.Snapshots.{KeptOf, SnapshotOf, stored_kept, StandsFor}

@@ -1,7 +1,7 @@
 -- When no snapshot is taken.
 use Rattle.std.specs.Prelude.{◌≡◌, ◌⊎◌, ℕ, ◌≤◌, ◌<◌, List, ◌++◌, length, map, take, drop}
 use Rattle.store_core.specs.Agreement.{ActorToken}
-use Rattle.stripe_dir.specs.Sealed.{Sealed}
+use Rattle.stripe_stamps.specs.Sealed.{Sealed}
 use Rattle.snapshot_view.specs.Tickets.{AgreesWithAll, AreOfSame}
 use Rattle.snapshot_view.specs.LookSteps.{Looked, look_all, no_look}
 use Rattle.snapshot_view.specs.Releasing.{Released, end_all, no_end}

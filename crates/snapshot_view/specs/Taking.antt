@@ -5,8 +5,8 @@ use Rattle.store_core.specs.Agreement.{ActorToken}
 use Rattle.store_core.specs.Calls.{Calls}
 use Rattle.run_laws.specs.MapAfter.{map_by}
 use Rattle.run_laws.specs.Contents.{HasBytes}
-use Rattle.stripe_dir.specs.Sealed.{Sealed}
-use Rattle.stripe_dir.specs.Stamped.{HaveContents}
+use Rattle.stripe_stamps.specs.Sealed.{Sealed}
+use Rattle.stripe_stamps.specs.Stamped.{HaveContents}
 use Rattle.snapshot_view.specs.Snapshots.{SnapshotOf, StandsFor}
 use Rattle.snapshot_view.specs.Tickets.{AgreesWithAll, MayGet}
 use Rattle.snapshot_view.specs.LookSteps.{AreLooked}

@@ -1,4 +1,4 @@
-use stripe_dir::Ticket;
+use dir_tickets::Ticket;
 
 /// Why no snapshot was taken.
 #[derive(Clone, Copy, PartialEq, Eq, Debug)]

@@ -2,7 +2,7 @@
 ghost use Rattle.std.specs.Prelude.{◌≡◌, ◌≤◌, [], map, IfOk, slice_get};
 ghost use Rattle.std.specs.Option.{option_map};
 ghost use Rattle.snapshot_view.specs.Snapshots.{find_kept};
-ghost use Rattle.stripe_dir.specs.Answers.{seen_in};
+ghost use Rattle.stripe_stamps.specs.SeenStripes.{seen_in};
 ghost use Rattle.snapshot_view.specs.InTime.{HasFound};
 ghost use Rattle.snapshot_view.specs.Inside.{IsOfBook};
 ghost use Rattle.snapshot_view.specs.Reads.{RepliesFor, Gathers};

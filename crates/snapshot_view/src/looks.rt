@@ -8,9 +8,10 @@ ghost use Rattle.snapshot_view.specs.Tickets.{MayGet, IsInCall, AgreesWithAll, O
 ghost use Rattle.snapshot_view.specs.LookSteps.{IsAsFound, IsSameButCalls, AreLooked, look_one, looked_with, no_look, versions_kept};
 
 use crate::kept::Kept;
+use dir_tickets::Ticket;
 use std::alloc::{AllocError, Global};
 use store_map::{Call, Name};
-use stripe_dir::{Directory, Look, Ticket};
+use stripe_dir::{Directory, Look};
 
 /// The names of all objects, in order of creation.
 pub(crate) fn names_of(alloc: Global, directory: &Directory) -> Result<Vec<Name>, AllocError>

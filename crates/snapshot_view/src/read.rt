@@ -12,7 +12,7 @@ ghost use Rattle.call_steps.specs.Answers.{told_by_server};
 ghost use Rattle.call_steps.specs.Hearing.{told_here};
 ghost use Rattle.call_steps.specs.Steps.{IsServerBelow, stepped_at_server};
 ghost use Rattle.call_steps.specs.CallOf.{CallOf, taken_of};
-ghost use Rattle.stripe_dir.specs.Answers.{seen_in};
+ghost use Rattle.stripe_stamps.specs.SeenStripes.{seen_in};
 ghost use Rattle.gather_parts.specs.Wanted.{wanted_of, IsPinned};
 ghost use Rattle.gather_parts.specs.Gatherings.{new_gatherings, begun};
 ghost use Rattle.gather_parts.specs.States.{state_in, StandsIn, moved};

@@ -8,8 +8,9 @@ ghost use Rattle.snapshot_view.specs.Tickets.{IsInCall, AgreesWithAll, AreOfSame
 ghost use Rattle.snapshot_view.specs.Releasing.{reap_in, end_one, end_all, no_end, released_with};
 
 use crate::snapshot::Snapshot;
+use dir_tickets::Ticket;
 use store_map::Point;
-use stripe_dir::{Directory, Ended, Ticket};
+use stripe_dir::{Directory, Ended};
 
 // The point where a pass was reaped, if it was, comes behind the others.
 fn note_reap(ended: Ended<()>, points: &mut Vec<Point>)

@@ -1,6 +1,6 @@
 //! Snapshots, and reads of them.
 ghost use Rattle.std.specs.Prelude.{◌≡◌, ◌≤◌, [], map, Some, length, IfOk};
-ghost use Rattle.stripe_dir.specs.Answers.{seen_in};
+ghost use Rattle.stripe_stamps.specs.SeenStripes.{seen_in};
 ghost use Rattle.snapshot_view.specs.InTime.{HasFound};
 ghost use Rattle.snapshot_view.specs.Snapshots.{KeptOf, find_kept};
 ghost use Rattle.snapshot_view.specs.Reads.{RepliesAs, Gathers};
@@ -8,10 +8,10 @@ ghost use Rattle.snapshot_view.specs.Reads.{RepliesAs, Gathers};
 use crate::ends::Ending;
 use crate::kept::{Kept, find};
 use crate::read::SnapRead;
+use dir_tickets::Ticket;
 use std::alloc::{AllocError, Global};
 use std::marker::Model;
 use store_map::{Name, Point};
-use stripe_dir::Ticket;
 use version_seal::Opening;
 
 /// All objects as they stood at one moment. A pass for each pins its versions, so their chunks stay

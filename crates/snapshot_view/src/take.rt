@@ -9,9 +9,10 @@ use crate::kept::Kept;
 use crate::looks::{look_all, names_of};
 use crate::release::end_passes;
 use crate::snapshot::Snapshot;
+use dir_tickets::Ticket;
 use std::alloc::{AllocError, Global};
 use store_map::{Name, Point};
-use stripe_dir::{Directory, Ticket};
+use stripe_dir::Directory;
 use version_seal::Opening;
 
 // What a snapshot of so many objects takes memory for, before its first look.

@@ -15,7 +15,7 @@ use Rattle.run_laws.proofs.Scripts.{Mapped, mapped}
 use Rattle.version_seal.specs.Entry.{BookOf}
 use Rattle.chunk_server.specs.Core.{core_of}
 use Rattle.chunk_server.specs.State.{ServerState}
-use Rattle.stripe_dir.specs.Sealed.{Sealed}
+use Rattle.stripe_stamps.specs.Sealed.{Sealed}
 use Rattle.sweeper.specs.Sweeps.{SweeperOf}
 use Rattle.call_steps.specs.CallerCalls.{calling_at, ended_of}
 use Rattle.world_laws.specs.Served.{outcome_in, served_in}

@@ -5,7 +5,7 @@ use Rattle.store_core.specs.Server.{Server}
 use Rattle.version_seal.specs.Entry.{BookOf}
 use Rattle.chunk_server.specs.Core.{core_of}
 use Rattle.chunk_server.specs.State.{ServerState, empty_server}
-use Rattle.stripe_dir.specs.Sealed.{Sealed, new_sealed}
+use Rattle.stripe_stamps.specs.Sealed.{Sealed, new_sealed}
 use Rattle.thread_laws.specs.AtDirectory.{StandsAtDirectory}
 use Rattle.thread_laws.specs.AtServer.{StandsAtServer}
 use Rattle.thread_laws.specs.Numbers.{Counts}

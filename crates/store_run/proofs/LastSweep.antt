@@ -24,7 +24,7 @@ use Rattle.chunk_server.specs.Core.{core_of}
 use Rattle.chunk_server.specs.State.{ServerState}
 use Rattle.dir_parts.proofs.Entries.{slice_get-map}
 use Rattle.version_seal.specs.Entry.{BookOf}
-use Rattle.stripe_dir.specs.Sealed.{Sealed}
+use Rattle.stripe_stamps.specs.Sealed.{Sealed}
 use Rattle.call_steps.specs.declared.need.Need.TheVariants as need
 use Rattle.call_steps.proofs.Needs.{server_in}
 use Rattle.sweeper.specs.Sweeps.{SweeperOf, act_of, at_directory_by, heard, need_at, need_of, stepped_at_directory, stepped_at_server}

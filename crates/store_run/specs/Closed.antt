@@ -5,7 +5,7 @@ use Rattle.store_map.specs.Limits.{size_of}
 use Rattle.thread_laws.specs.MadeSteps.{MadeStep}
 use Rattle.chunk_server.specs.Core.{core_of}
 use Rattle.chunk_server.specs.State.{ServerState}
-use Rattle.stripe_dir.specs.Sealed.{Sealed}
+use Rattle.stripe_stamps.specs.Sealed.{Sealed}
 use Rattle.turn_lock.specs.TurnState.{TurnState}
 use Rattle.turn_lock.specs.Joined.{IsWhole}
 use Rattle.turn_lock.specs.Out.{HasOwnAt}

@@ -4,7 +4,7 @@ ghost use Rattle.clay_grid.specs.Limits.{IsGeometry};
 ghost use Rattle.store_map.specs.Limits.{size_of};
 ghost use Rattle.store_map.specs.Naming.{IsValid};
 ghost use Rattle.version_seal.specs.Sealer.{sealer_at};
-ghost use Rattle.stripe_dir.specs.Sealed.{new_sealed};
+ghost use Rattle.stripe_stamps.specs.Sealed.{new_sealed};
 ghost use Rattle.stripe_dir.specs.Seats.{first_seats};
 ghost use Rattle.turn_lock.specs.Dealt.{AreTurns};
 ghost use Rattle.run_seats.specs.Places.{IsStore, directory_for, server_for};

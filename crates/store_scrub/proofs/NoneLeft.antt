@@ -7,7 +7,7 @@ use Rattle.std.proofs.lemmas.List.Elements.{All-head, All-tail}
 use Rattle.clay_grid.specs.Shape.{Shape}
 use Rattle.store_core.specs.Directory.{Version}
 use Rattle.version_seal.specs.Entry.{StampOf}
-use Rattle.dir_parts.specs.Known.{is_known}
+use Rattle.version_table.specs.Known.{is_known}
 use Rattle.chunk_server.specs.State.{Held, ServerState}
 use Rattle.chunk_server.specs.Valid.{IsOwn, IsValid}
 use Rattle.store_scrub.specs.Strays.{is_stray, stray_at, strays_at, strays_in, is_listed, cleared, without}

@@ -10,7 +10,7 @@ use Rattle.store_core.specs.Directory.{Object, Standing, Version, Directory}
 use Rattle.store_core.specs.Server.{new_server}
 use Rattle.store_core.specs.Sound.{IsSound, HasItsVersions}
 use Rattle.store_core.specs.SoundPasses.{Stands}
-use Rattle.dir_parts.specs.Known.{is_unswept_standing, is_known}
+use Rattle.version_table.specs.Known.{is_unswept_standing, is_known}
 use Rattle.session_rules.specs.Seen.{versions_under}
 use Rattle.session_rules.specs.Scrubs.{holds_version, servers_without, lost_of, lost_at}
 use Rattle.chunk_server.specs.State.{Held, ServerState, versions_of}

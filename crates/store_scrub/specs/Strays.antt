@@ -3,7 +3,7 @@ use Rattle.std.specs.Prelude.{ℕ, Bool, not, nat_eq, ◌&&◌, List, map, filte
 use Rattle.std.specs.List.{list_any, flat_map, enumerate_from}
 use Rattle.store_core.specs.Directory.{Version}
 use Rattle.version_seal.specs.Entry.{StampOf}
-use Rattle.dir_parts.specs.Known.{is_known}
+use Rattle.version_table.specs.Known.{is_known}
 use Rattle.chunk_server.specs.State.{ServerState}
 use Rattle.store_scrub.specs.declared.report.Stray.{Stray}
 

@@ -17,7 +17,7 @@ use Rattle.store_core.specs.Server.{new_server}
 use Rattle.version_seal.specs.Entry.{BookOf}
 use Rattle.chunk_server.specs.State.{ServerState, empty_server}
 use Rattle.chunk_server.specs.Core.{core_of}
-use Rattle.stripe_dir.specs.Sealed.{Sealed}
+use Rattle.stripe_stamps.specs.Sealed.{Sealed}
 use Rattle.stripe_dir.specs.Seats.{client_seat, repairer_seat}
 use Rattle.sweeper.specs.Sweeps.{SweeperOf, new_sweeper}
 use Rattle.world_laws.specs.World.{ActorOf}

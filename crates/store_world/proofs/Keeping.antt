@@ -5,7 +5,7 @@ use Rattle.store_map.specs.declared.script.Script.{Script}
 use Rattle.store_core.specs.Schedule.{step_core}
 use Rattle.version_seal.specs.Entry.{BookOf, StampOf}
 use Rattle.chunk_server.specs.State.{ServerState}
-use Rattle.stripe_dir.specs.Sealed.{Sealed}
+use Rattle.stripe_stamps.specs.Sealed.{Sealed}
 use Rattle.sweeper.specs.Sweeps.{SweeperOf}
 use Rattle.world_laws.specs.World.{WorldOf}
 use Rattle.world_laws.specs.Tokens.{TokensAgree}

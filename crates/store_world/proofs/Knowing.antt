@@ -1,7 +1,7 @@
 -- More stamps change nothing of what a caller knows.
 use Rattle.std.proofs.Common.{◌≡◌, List, ◌++◌, Option, None, Some, IfSome}
 use Rattle.version_seal.specs.Entry.{StampOf}
-use Rattle.stripe_dir.specs.Sealed.{Sealed}
+use Rattle.stripe_stamps.specs.Sealed.{Sealed}
 use Rattle.call_machine.specs.Calls.{MachineOf, KnowsOldOf}
 use Rattle.call_machine.proofs.Knowing.{more_stamps_are_known}
 use Rattle.actors.specs.Callers.{CallerOf, Knows}

@@ -26,7 +26,7 @@ use Rattle.run_laws.specs.ReadLaws.{bytes_read}
 use Rattle.run_laws.proofs.OwedBytes.{looks_owe_their_pins}
 use Rattle.run_laws.specs.State.{State}
 use Rattle.run_laws.specs.StateActs.{act_at}
-use Rattle.stripe_dir.specs.Sealed.{Sealed}
+use Rattle.stripe_stamps.specs.Sealed.{Sealed}
 use Rattle.call_steps.specs.CallOf.{CallOf, act_of}
 use Rattle.client_read.specs.Owed.{contents_of, owed_after_look, owed_by as read_by}
 use Rattle.call_machine.specs.Kinds.{Asked, asked_job, Machine, machine_of}

@@ -12,7 +12,7 @@ use Rattle.run_laws.specs.PinLaws.{IsReading}
 use Rattle.run_laws.specs.State.{State}
 use Rattle.run_laws.specs.StateActs.{act_at}
 use Rattle.chunk_server.specs.State.{ServerState}
-use Rattle.stripe_dir.specs.Sealed.{Sealed}
+use Rattle.stripe_stamps.specs.Sealed.{Sealed}
 use Rattle.call_steps.specs.declared.need.Need.{Need}
 use Rattle.call_steps.specs.declared.need.Need.TheVariants as need
 use Rattle.call_steps.specs.CallOf.{CallOf, act_of}

@@ -7,7 +7,7 @@ use Rattle.store_core.specs.Sound.{IsSound}
 use Rattle.run_laws.specs.Contents.{HasBytes}
 use Rattle.run_laws.specs.RunContents.{RunsStandForTheMap}
 use Rattle.run_laws.proofs.RunBytes.{all_runs_stand_for_the_map}
-use Rattle.stripe_dir.specs.Stamped.{HaveContents, HasStamps}
+use Rattle.stripe_stamps.specs.Stamped.{HaveContents, HasStamps}
 use Rattle.client_patch.specs.Padded.{ArePadded, BytesOfTheMapArePadded}
 use Rattle.world_laws.specs.StandsFor.{StandsFor}
 use Rattle.world_laws.proofs.Runs.{runs_reach}

@@ -11,7 +11,7 @@ use Rattle.version_seal.specs.Entry.{BookOf}
 use Rattle.chunk_server.specs.State.{ServerState}
 use Rattle.chunk_server.specs.Core.{core_of}
 use Rattle.dir_parts.proofs.Entries.{map-set, slice_get-map}
-use Rattle.stripe_dir.specs.Sealed.{Sealed}
+use Rattle.stripe_stamps.specs.Sealed.{Sealed}
 use Rattle.call_steps.specs.Ready.{shortage_of}
 use Rattle.world_laws.specs.World.{ActorOf, WorldOf, with_repairer}
 use Rattle.world_laws.specs.Known.{calling_of}

@@ -10,7 +10,7 @@ use Rattle.store_core.specs.Agreement.{Seat}
 use Rattle.store_core.specs.Directory.{new_directory}
 use Rattle.version_seal.specs.Entry.{BookOf}
 use Rattle.chunk_server.specs.State.{ServerState, empty_server}
-use Rattle.stripe_dir.specs.Sealed.{Sealed}
+use Rattle.stripe_stamps.specs.Sealed.{Sealed}
 use Rattle.stripe_dir.specs.Seats.{client_seat, repairer_seat}
 use Rattle.actors.specs.Callers.{PartOf, CallerOf, first_caller}
 

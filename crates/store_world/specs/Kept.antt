@@ -8,7 +8,7 @@ use Rattle.store_map.specs.declared.script.ClientPart.{ClientPart}
 use Rattle.store_map.specs.declared.script.RepairPart.{RepairPart}
 use Rattle.store_map.specs.declared.script.Script.{Script}
 use Rattle.version_seal.specs.Entry.{BookOf}
-use Rattle.stripe_dir.specs.Sealed.{Sealed}
+use Rattle.stripe_stamps.specs.Sealed.{Sealed}
 use Rattle.world_laws.specs.Tokens.{TokensAgree}
 use Rattle.world_laws.specs.Goes.{IsReached}
 use Rattle.actors.specs.Turns.{AreServers}

@@ -6,8 +6,8 @@ use Rattle.store_map.specs.declared.script.Script.{Script}
 use Rattle.store_core.specs.History.{call_of}
 use Rattle.store_core.specs.Sound.{IsSound}
 use Rattle.run_laws.specs.Contents.{HasBytes}
-use Rattle.stripe_dir.specs.Sealed.{Sealed}
-use Rattle.stripe_dir.specs.Stamped.{HaveContents}
+use Rattle.stripe_stamps.specs.Sealed.{Sealed}
+use Rattle.stripe_stamps.specs.Stamped.{HaveContents}
 
 -- it is sound and has the bytes of the map, and its stamps have the contents
 pub record IsOfMap (script : Script) (d : Sealed) : Type 0 where

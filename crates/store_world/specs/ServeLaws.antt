@@ -16,7 +16,7 @@ use Rattle.store_core.specs.Step.{Places}
 use Rattle.store_core.specs.Work.{Work}
 use Rattle.version_seal.specs.Entry.{BookOf}
 use Rattle.chunk_server.specs.State.{ServerState}
-use Rattle.stripe_dir.specs.Sealed.{Sealed}
+use Rattle.stripe_stamps.specs.Sealed.{Sealed}
 use Rattle.sweeper.specs.Sweeps.{SweeperOf, stepped_at_directory}
 use Rattle.call_steps.specs.declared.caller_calls.CallerCalls.{CallerCalls}
 use Rattle.call_steps.specs.CallerCalls.{ended_of}

@@ -4,7 +4,7 @@ use Rattle.store_map.specs.declared.script.Script.{Script}
 use Rattle.version_seal.specs.Entry.{BookOf}
 use Rattle.chunk_server.specs.State.{ServerState}
 use Rattle.chunk_server.specs.Core.{core_of}
-use Rattle.stripe_dir.specs.Sealed.{Sealed}
+use Rattle.stripe_stamps.specs.Sealed.{Sealed}
 use Rattle.sweeper.specs.Sweeps.{SweeperOf}
 use Rattle.store_core.specs.Run.{Run}
 use Rattle.world_laws.specs.World.{WorldOf}

@@ -8,8 +8,8 @@ use Rattle.store_map.specs.declared.script.ClientPart.{ClientPart}
 use Rattle.store_map.specs.declared.script.Script.{Script}
 use Rattle.store_core.specs.History.{call_of}
 use Rattle.chunk_server.specs.State.{ServerState}
-use Rattle.stripe_dir.specs.Sealed.{Sealed}
-use Rattle.stripe_dir.specs.Stamped.{HaveContents}
+use Rattle.stripe_stamps.specs.Sealed.{Sealed}
+use Rattle.stripe_stamps.specs.Stamped.{HaveContents}
 use Rattle.world_laws.specs.World.{WorldOf}
 use Rattle.world_laws.specs.Tokens.{KeepsToken}
 use Rattle.world_laws.specs.Goes.{IsReached}

@@ -8,17 +8,17 @@ use Rattle.store_core.specs.Lists.{change_at}
 use Rattle.store_core.specs.Directory.{Standing, Version, Object, Pin, Pass, Directory}
 use Rattle.store_core.specs.Lookups.{is_live, holds_standing, is_superseded_standing}
 use Rattle.store_core.specs.Look.{pin_of, seen_at}
-use Rattle.stripe_dir.specs.ItsStripes.{IsWhole}
+use Rattle.stripe_stamps.specs.ItsStripes.{IsWhole}
 use Rattle.store_core.specs.SoundPasses.{Stands}
-use Rattle.dir_parts.specs.Counts.{one_if, times, pins_of, pins_by, points_due, objects_due, may_append, pinned_more}
+use Rattle.version_table.specs.Counts.{one_if, times, pins_of, pins_by, points_due, objects_due, may_append, pinned_more}
 use Rattle.dir_parts.specs.OpenPass.{Desk}
-use Rattle.dir_parts.specs.Table.{Table}
+use Rattle.version_table.specs.Table.{Table}
 use Rattle.dir_parts.specs.Parts.{Shelf, PointLog}
-use Rattle.dir_parts.proofs.TableSteps.{length-change_at}
-use Rattle.stripe_dir.specs.Stripes.{pin_by}
+use Rattle.version_table.proofs.TableSteps.{length-change_at}
+use Rattle.stripe_stamps.specs.Stripes.{pin_by}
 use Rattle.run_laws.proofs.ContentGrows.{origins}
 use Rattle.stripe_dir.specs.Kept.{directory_in, sealed_in, IsKept}
-use Rattle.stripe_dir.proofs.Stamps.{same_count, stamps_stay}
+use Rattle.stripe_stamps.proofs.StampLists.{same_count, stamps_stay}
 use Rattle.stripe_dir.specs.declared.directory.Directory.TheInside.{Inside}
 
 -- of each pass there is at most one

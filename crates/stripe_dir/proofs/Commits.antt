@@ -18,7 +18,7 @@ use Rattle.store_core.specs.Commit.{commit, commit_object, changed_object, dropp
 use Rattle.store_core.specs.AtDirectory.{at_directory}
 use Rattle.store_core.specs.SoundPasses.{Stands}
 use Rattle.store_core.specs.Sound.{HasItsVersions, IsSound}
-use Rattle.dir_parts.specs.Counts.{may_append}
+use Rattle.version_table.specs.Counts.{may_append}
 use Rattle.dir_parts.specs.Parts.{object_or_new}
 use Rattle.dir_parts.specs.Passes.{kind_in}
 use Rattle.dir_parts.specs.declared.passes.Kind.{Kind as PartKind}

@@ -12,20 +12,20 @@ use Rattle.store_core.specs.Directory.{Version, Pass}
 use Rattle.store_core.specs.Lookups.{same_actor, is_live}
 use Rattle.store_core.specs.PassSteps.{touched, draw, new_version}
 use Rattle.store_core.specs.Conditions.{IsWriting}
-use Rattle.stripe_dir.specs.ItsStripes.{IsWhole}
+use Rattle.stripe_stamps.specs.ItsStripes.{IsWhole}
 use Rattle.store_core.specs.AtDirectory.{unless_reaped, on_pass, at_directory}
-use Rattle.dir_parts.specs.Counts.{one_if, pins_of, may_append}
+use Rattle.version_table.specs.Counts.{one_if, pins_of, may_append}
 use Rattle.dir_parts.specs.OpenPass.{Desk}
-use Rattle.dir_parts.specs.Table.{Table}
-use Rattle.dir_parts.specs.TableSteps.{drawn_version}
+use Rattle.version_table.specs.Table.{Table}
+use Rattle.version_table.specs.TableSteps.{drawn_version}
 use Rattle.dir_parts.proofs.Actors.{same_is, find_passes}
 use Rattle.dir_parts.proofs.Growing.{get_or-zeros, sum_by-changed, all_changed}
 use Rattle.version_seal.specs.Entry.{BookOf, RequestOf}
-use Rattle.stripe_dir.specs.Sealed.{stamps_touched}
-use Rattle.stripe_dir.specs.Stamped.{AreBases, HasStamps}
-use Rattle.stripe_dir.specs.StampList.{StampList}
+use Rattle.stripe_stamps.specs.Sealed.{stamps_touched}
+use Rattle.stripe_stamps.specs.Stamped.{AreBases, HasStamps}
+use Rattle.stripe_stamps.specs.StampList.{StampList}
 use Rattle.stripe_dir.specs.Kept.{directory_in, sealed_in, IsKept}
-use Rattle.stripe_dir.proofs.Stamps.{bases_in, stamps_drawn}
+use Rattle.stripe_stamps.proofs.StampLists.{bases_in, stamps_drawn}
 use Rattle.stripe_dir.specs.declared.directory.Directory.TheInside.{Inside}
 use Rattle.stripe_dir.proofs.Sound.{keeps_whole}
 use Rattle.stripe_dir.proofs.Garbage.{kept_versions}

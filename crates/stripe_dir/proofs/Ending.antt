@@ -18,18 +18,18 @@ use Rattle.store_core.specs.AtDirectory.{unless_reaped, on_pass, at_directory}
 use Rattle.store_core.specs.Conditions.{MayStep}
 use Rattle.store_core.specs.SoundPasses.{HasVersions}
 use Rattle.store_core.specs.Agreement.{HeldPass, AgreesWithPass}
-use Rattle.dir_parts.specs.Counts.{one_if, times, pins_of, pins_by, points_due, objects_due, may_append, unpinned}
+use Rattle.version_table.specs.Counts.{one_if, times, pins_of, pins_by, points_due, objects_due, may_append, unpinned}
 use Rattle.dir_parts.proofs.Actors.{same_is, find_passes}
-use Rattle.dir_parts.proofs.TableSteps.{length-change_at, length-fold}
+use Rattle.version_table.proofs.TableSteps.{length-change_at, length-fold}
 use Rattle.dir_parts.specs.OpenPass.{Desk}
-use Rattle.dir_parts.specs.Table.{Table}
-use Rattle.dir_parts.specs.TableSteps.{placed_anew_by}
+use Rattle.version_table.specs.Table.{Table}
+use Rattle.version_table.specs.TableSteps.{placed_anew_by}
 use Rattle.dir_parts.specs.Parts.{Shelf, PointLog}
-use Rattle.stripe_dir.specs.ItsStripes.{IsWhole}
+use Rattle.stripe_stamps.specs.ItsStripes.{IsWhole}
 use Rattle.stripe_dir.specs.Seats.{seat_left}
 use Rattle.run_laws.proofs.ContentGrows.{origins}
 use Rattle.stripe_dir.specs.Kept.{directory_in, sealed_in, IsKept}
-use Rattle.stripe_dir.proofs.Stamps.{same_count, stamps_stay}
+use Rattle.stripe_stamps.proofs.StampLists.{same_count, stamps_stay}
 use Rattle.stripe_dir.specs.declared.directory.Directory.TheInside.{Inside}
 use Rattle.stripe_dir.proofs.Sound.{keeps_whole}
 

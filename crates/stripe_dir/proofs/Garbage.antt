@@ -11,13 +11,13 @@ use Rattle.store_core.specs.Lists.{change_at}
 use Rattle.store_core.specs.Directory.{Version, Pin, Pass, Directory}
 use Rattle.store_core.specs.Lookups.{is_live, is_pinned, is_superseded_standing, first_garbage}
 use Rattle.store_core.specs.AtDirectory.{at_directory, take_garbage, swept_standing}
-use Rattle.stripe_dir.specs.ItsStripes.{IsWhole}
-use Rattle.dir_parts.specs.Counts.{one_if, times, pins_of, pins_by}
-use Rattle.dir_parts.specs.Table.{Table}
-use Rattle.dir_parts.specs.TableSteps.{first_free, taken_from}
+use Rattle.stripe_stamps.specs.ItsStripes.{IsWhole}
+use Rattle.version_table.specs.Counts.{one_if, times, pins_of, pins_by}
+use Rattle.version_table.specs.Table.{Table}
+use Rattle.version_table.specs.TableSteps.{first_free, taken_from}
 use Rattle.run_laws.proofs.ContentGrows.{origins, set_keeps, swept_keeps}
 use Rattle.stripe_dir.specs.Kept.{directory_in, sealed_in, IsKept}
-use Rattle.stripe_dir.proofs.Stamps.{same_count, stamps_stay}
+use Rattle.stripe_stamps.proofs.StampLists.{same_count, stamps_stay}
 use Rattle.stripe_dir.specs.declared.directory.Directory.TheInside.{Inside}
 use Rattle.stripe_dir.proofs.Sound.{keeps_whole}
 use Rattle.store_core.specs.Directory.{Standing}

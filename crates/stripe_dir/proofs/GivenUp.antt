@@ -11,17 +11,17 @@ use Rattle.store_core.specs.Directory.{Standing, Event, Pass}
 use Rattle.store_core.specs.Lookups.{same_actor, is_live}
 use Rattle.store_core.specs.Look.{set_standing}
 use Rattle.store_core.specs.AtDirectory.{at_directory, reap, reap_pass}
-use Rattle.stripe_dir.specs.ItsStripes.{IsWhole}
-use Rattle.dir_parts.specs.Counts.{one_if, times, pins_of, pins_by, points_due, objects_due, may_append, unpinned}
+use Rattle.stripe_stamps.specs.ItsStripes.{IsWhole}
+use Rattle.version_table.specs.Counts.{one_if, times, pins_of, pins_by, points_due, objects_due, may_append, unpinned}
 use Rattle.dir_parts.specs.OpenPass.{Desk}
-use Rattle.dir_parts.specs.Table.{Table}
+use Rattle.version_table.specs.Table.{Table}
 use Rattle.dir_parts.specs.Parts.{PointLog}
 use Rattle.dir_parts.proofs.Actors.{same_is, both_of, find_passes}
-use Rattle.dir_parts.proofs.TableSteps.{length-set_standing}
+use Rattle.version_table.proofs.TableSteps.{length-set_standing}
 use Rattle.dir_parts.proofs.Growing.{all_changed}
 use Rattle.run_laws.proofs.ContentGrows.{origins, set_keeps}
 use Rattle.stripe_dir.specs.Kept.{directory_in, sealed_in, IsKept}
-use Rattle.stripe_dir.proofs.Stamps.{stamps_stay}
+use Rattle.stripe_stamps.proofs.StampLists.{stamps_stay}
 use Rattle.stripe_dir.specs.declared.directory.Directory.TheInside.{Inside}
 use Rattle.stripe_dir.proofs.Sound.{keeps_whole}
 use Rattle.stripe_dir.proofs.Ending.{get_or-unpinned, length-unpinned}

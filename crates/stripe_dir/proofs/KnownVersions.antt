@@ -6,8 +6,8 @@ use Rattle.store_core.specs.Directory.{Standing, Version, Pass, Directory}
 use Rattle.store_core.specs.Lookups.{same_actor, is_live}
 use Rattle.store_core.specs.SoundPasses.{Stands, IsLive}
 use Rattle.store_core.specs.Sound.{IsSound}
-use Rattle.dir_parts.specs.Known.{is_unswept_standing, IsKnown}
-use Rattle.dir_parts.proofs.Known.{known_standing}
+use Rattle.version_table.specs.Known.{is_unswept_standing, IsKnown}
+use Rattle.version_table.proofs.Known.{known_standing}
 use Rattle.stripe_dir.proofs.Ending.{found_has}
 
 pub stands_known : (d : Directory) (standing : Standing) (v : ℕ) → is_unswept_standing standing ≡ true → Stands d standing v → IsKnown d.versions v

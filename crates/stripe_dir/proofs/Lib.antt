@@ -1,7 +1,6 @@
 pub mod StripeLists
 pub mod StripeSteps
 pub mod Sound
-pub mod Stamps
 pub mod Ending
 pub mod Garbage
 pub mod GivenUp
@@ -9,9 +8,5 @@ pub mod Commits
 pub mod Draws
 pub mod Beginnings
 pub mod Lookings
-pub mod StampSteps
 pub mod Opened
-pub mod Agreeing
-pub mod ShownRows
-pub mod TicketDraws
 pub mod KnownVersions

@@ -21,8 +21,8 @@ use Rattle.dir_parts.specs.Parts.{object_or_new}
 use Rattle.dir_parts.specs.Passes.{kind_in}
 use Rattle.dir_parts.specs.declared.passes.Kind.{Kind as PartKind}
 use Rattle.dir_parts.specs.declared.passes.Kind.TheVariants as kind
-use Rattle.stripe_dir.specs.Begun.{begun_in, begins_pass, base_by, seen_in_object, looked, has_point, or_short}
-use Rattle.stripe_dir.specs.Stripes.{pinned_of}
+use Rattle.dir_parts.specs.Begun.{begun_in, begins_pass, base_by, seen_in_object, looked, has_point, or_short}
+use Rattle.stripe_stamps.specs.Stripes.{pinned_of}
 use Rattle.stripe_dir.proofs.Ending.{found_has}
 use Rattle.stripe_dir.proofs.Commits.{old_current}
 

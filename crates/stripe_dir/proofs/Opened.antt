@@ -7,11 +7,11 @@ use Rattle.store_core.specs.Content.{contents_by}
 use Rattle.store_core.specs.Directory.{Object, Pass}
 use Rattle.store_core.specs.History.{call_of}
 use Rattle.run_laws.proofs.SoundSteps.{steps_keep_sound}
-use Rattle.dir_parts.specs.Counts.{pins_by, points_due, objects_due}
+use Rattle.version_table.specs.Counts.{pins_by, points_due, objects_due}
 use Rattle.version_seal.specs.Entry.{StampOf}
-use Rattle.stripe_dir.specs.Sealed.{keeps_points}
-use Rattle.stripe_dir.specs.ItsStripes.{AreFrom, IsOfItsStripes, IsWhole}
-use Rattle.stripe_dir.specs.Stamped.{AreOf, told_by_stamp, told_by_version, HaveContents, HasStamps}
+use Rattle.stripe_stamps.specs.Sealed.{keeps_points}
+use Rattle.stripe_stamps.specs.ItsStripes.{AreFrom, IsOfItsStripes, IsWhole}
+use Rattle.stripe_stamps.specs.Stamped.{AreOf, told_by_stamp, told_by_version, HaveContents, HasStamps}
 use Rattle.stripe_dir.specs.Kept.{directory_in, sealed_in, IsKept}
 use Rattle.stripe_dir.specs.declared.directory.Directory.TheInside.{Inside}
 

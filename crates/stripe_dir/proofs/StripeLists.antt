@@ -16,7 +16,7 @@ use Rattle.store_core.specs.Commit.{put_object}
 use Rattle.store_core.specs.Sound.{HasItsVersions, IsSound}
 use Rattle.run_laws.proofs.Passes.{found_has}
 use Rattle.dir_parts.specs.Parts.{object_or_new}
-use Rattle.stripe_dir.specs.ItsStripes.{IsOfStripe, AreFrom, IsOfItsStripes}
+use Rattle.stripe_stamps.specs.ItsStripes.{IsOfStripe, AreFrom, IsOfItsStripes}
 
 -- no stripe before the first
 zero_div : (k : ℕ) → 0 < k → 0 / k ≡ 0

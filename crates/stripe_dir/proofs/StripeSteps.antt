@@ -36,7 +36,7 @@ use Rattle.run_laws.proofs.SoundStripes.{pins_within, first_fits}
 use Rattle.run_laws.proofs.VersionsMove.{Draws, versions_move}
 use Rattle.run_laws.proofs.ContentGrows.{origins}
 use Rattle.dir_parts.specs.Parts.{object_or_new}
-use Rattle.stripe_dir.specs.ItsStripes.{IsOfStripe, AreFrom, IsOfItsStripes, AreOwn, stripes_in}
+use Rattle.stripe_stamps.specs.ItsStripes.{IsOfStripe, AreFrom, IsOfItsStripes, AreOwn, stripes_in}
 use Rattle.stripe_dir.proofs.StripeLists.{ObjectFits, count_there, removed_fits, put_fits, old_fits, written_fits, pins_fit, begun_fits, closed_fit, reaped_fit, whole_fits}
 
 -- the test says that they are equal

@@ -1,23 +1,18 @@
 -- The stamps that come with the answers.
-use Rattle.std.specs.Prelude.{◌≡◌, List, [], length, Some, Result, Ok, Err, Option, All, ⊤}
-use Rattle.std.specs.List.{slice_get}
+use Rattle.std.specs.Prelude.{◌≡◌, List, [], length, Result, Ok, Err, Option, All, ⊤}
 use Rattle.clay_grid.specs.Shape.{stripe_length}
 use Rattle.store_core.specs.PassSteps.{touched}
 use Rattle.store_core.specs.Directory.{Pass}
 use Rattle.store_core.specs.Agreement.{HeldPass}
 use Rattle.version_seal.specs.Entry.{StampOf, RequestOf}
-use Rattle.stripe_dir.specs.Sealed.{Sealed, stamps_touched}
-use Rattle.call_steps.specs.declared.seen.Seen.{Seen}
+use Rattle.stripe_stamps.specs.Sealed.{Sealed, stamps_touched}
 use Rattle.stripe_dir.specs.declared.answers.Look.{Look}
 use Rattle.stripe_dir.specs.declared.answers.Look.TheVariants as look
 use Rattle.stripe_dir.specs.declared.answers.RepairLook.{RepairLook}
 use Rattle.stripe_dir.specs.declared.answers.RepairLook.TheVariants as repair
 use Rattle.stripe_dir.specs.declared.answers.Drawn.{Drawn}
 use Rattle.stripe_dir.specs.declared.answers.Drawn.TheVariants as drawn
-
--- the stamps that are told are the directory's own
-abbrev pub IsSeenIn : List StampOf → Seen → Type 0
-IsSeenIn stamps seen = slice_get stamps seen.stamp.version ≡ Some seen.stamp
+use Rattle.stripe_stamps.specs.SeenStripes.{IsSeenIn}
 
 -- so are those of a client's look
 abbrev pub AreSeenIn : {S P : Type 0} → List StampOf → Look S P → Type 0

@@ -1,8 +1,6 @@
 -- What the answers tell.
 use Rattle.std.specs.Prelude.{Result, Ok, Err, map, option_map}
 use Rattle.store_core.specs.Told.{Told}
-use Rattle.store_core.specs.Told.{Seen as CoreSeen}
-use Rattle.call_steps.specs.declared.seen.Seen.{Seen}
 use Rattle.stripe_dir.specs.declared.answers.Look.{Look}
 use Rattle.stripe_dir.specs.declared.answers.Look.TheVariants as look
 use Rattle.stripe_dir.specs.declared.answers.RepairLook.{RepairLook}
@@ -15,10 +13,7 @@ use Rattle.stripe_dir.specs.declared.answers.Ended.{Ended}
 use Rattle.stripe_dir.specs.declared.answers.Ended.TheVariants as ended
 use Rattle.stripe_dir.specs.declared.answers.Confirmed.{Confirmed}
 use Rattle.stripe_dir.specs.declared.answers.Confirmed.TheVariants as confirmed
-
--- a pinned stripe as the definitions tell it
-abbrev pub seen_in : Seen → CoreSeen
-seen_in seen = record { stripe = seen.stripe; version = seen.stamp.version; placed = seen.placed.items }
+use Rattle.stripe_stamps.specs.SeenStripes.{seen_in}
 
 -- what a client's look tells
 abbrev pub told_look : {S P : Type 0} → Look S P → Told

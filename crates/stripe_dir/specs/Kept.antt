@@ -2,10 +2,10 @@
 use Rattle.std.specs.Prelude.{◌≡◌, ℕ, ◌<◌, ◌≤◌, length, get_or, All, Contains}
 use Rattle.clay_grid.specs.Shape.{stripe_length}
 use Rattle.store_core.specs.Directory.{Directory}
-use Rattle.dir_parts.specs.Counts.{pins_by, points_due, objects_due}
-use Rattle.stripe_dir.specs.Sealed.{Sealed, keeps_points}
-use Rattle.stripe_dir.specs.ItsStripes.{IsWhole}
-use Rattle.stripe_dir.specs.Stamped.{HasStamps}
+use Rattle.version_table.specs.Counts.{pins_by, points_due, objects_due}
+use Rattle.stripe_stamps.specs.Sealed.{Sealed, keeps_points}
+use Rattle.stripe_stamps.specs.ItsStripes.{IsWhole}
+use Rattle.stripe_stamps.specs.Stamped.{HasStamps}
 use Rattle.stripe_dir.specs.declared.directory.Directory.TheInside.{Inside}
 
 abbrev pub directory_in : Inside → Directory

@@ -4,16 +4,6 @@ pub mod AnswerTokens
 pub mod AnswerStamps
 pub mod Kept
 pub mod Installed
-pub mod Stripes
-pub mod Begun
 pub mod Seats
-pub mod Sealed
-pub mod ItsStripes
-pub mod Stamped
-pub mod StampLaws
 pub mod Shown
-pub mod TicketView
-pub mod StampList
 pub mod Steps
-pub mod TicketSteps
-pub mod DrawnStamps

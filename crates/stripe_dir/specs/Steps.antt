@@ -10,10 +10,10 @@ use Rattle.store_core.specs.Directory.{Directory}
 use Rattle.store_core.specs.AtDirectory.{at_directory}
 use Rattle.store_core.specs.Agreement.{Seat, HeldPass}
 use Rattle.store_core.specs.Tokens.{after_look}
-use Rattle.stripe_dir.specs.Sealed.{Sealed}
+use Rattle.stripe_stamps.specs.Sealed.{Sealed}
 use Rattle.stripe_dir.specs.Answers.{told_by_look, told_by_repair_look, told_by_draw, told_committed, told_ended, told_confirmed}
 use Rattle.stripe_dir.specs.AnswerTokens.{token_look, token_repair_look, token_or_seat}
-use Rattle.stripe_dir.specs.Begun.{or_short}
+use Rattle.dir_parts.specs.Begun.{or_short}
 use Rattle.stripe_dir.specs.declared.answers.Look.{Look}
 use Rattle.stripe_dir.specs.declared.answers.RepairLook.{RepairLook}
 use Rattle.stripe_dir.specs.declared.answers.Drawn.{Drawn}

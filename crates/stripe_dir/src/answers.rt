@@ -1,5 +1,5 @@
 //! The directory's answers. Each gives the seat or the pass that its actor has then, or, where a
-//! [`Ticket`](crate::Ticket) keeps it, `()` in its place.
+//! [`Ticket`](dir_tickets::Ticket) keeps it, `()` in its place.
 
 use crate::tokens::{Pass, Seat};
 use call_steps::Seen;

@@ -5,22 +5,21 @@ ghost use Rattle.store_core.specs.Act.{DirectoryStep};
 ghost use Rattle.store_core.specs.Lookups.{find_object, last_change};
 ghost use Rattle.store_core.specs.Agreement.{AgreesWithSeat};
 ghost use Rattle.store_core.specs.Tokens.{MayLook};
-ghost use Rattle.stripe_dir.specs.ItsStripes.{IsWhole};
+ghost use Rattle.stripe_stamps.specs.ItsStripes.{IsWhole};
 ghost use Rattle.dir_parts.specs.Parts.{object_or_new};
 ghost use Rattle.dir_parts.specs.Passes.{kind_in};
 ghost use Rattle.stripe_dir.specs.Steps.{IsLook, LooksTo, LookLeaves};
 ghost use Rattle.stripe_dir.specs.AnswerStamps.{AreSeenIn};
-ghost use Rattle.stripe_dir.specs.Begun.{accepted, base_by, begins_pass, has_point};
+ghost use Rattle.dir_parts.specs.Begun.{accepted, base_by, begins_pass, has_point};
 
 use crate::answers::Look;
 use crate::directory::Directory;
 use crate::looking::Begun;
-use crate::refusing::{note_of, refusal};
 use crate::steps::or_first;
-use crate::stripes::pinned_stripes;
 use crate::tokens::{Pass, Seat};
-use dir_parts::{Answer, CallNote, History, Kind, Objects};
+use dir_parts::{Answer, CallNote, History, Kind, Objects, note_of, refusal};
 use store_map::{Call, Name, Point};
+use stripe_stamps::pinned_stripes;
 
 // The length of the object with this name, if there is one.
 fn length_of(objects: &Objects, name: &Name) -> Option<u64>

@@ -1,9 +1,10 @@
 //! What the directory keeps.
-use crate::stamp_list::Stamps;
 use clay_grid::Geometry;
-use dir_parts::{History, Objects, Passes, Versions};
+use dir_parts::{History, Objects, Passes};
 use std::alloc::Global;
 use std::marker::Model;
+use stripe_stamps::Stamps;
+use version_table::Versions;
 
 /// The objects, the versions of their stripes with their stamps, the calls in work and the history.
 #[derive(Drop)]
@@ -19,7 +20,7 @@ pub struct Directory {
 }
 
 impl Model for Directory {
-    ghost use Rattle.stripe_dir.specs.Sealed.{Sealed};
+    ghost use Rattle.stripe_stamps.specs.Sealed.{Sealed};
 
     ghost Value = { Sealed };
 

@@ -6,25 +6,24 @@ ghost use Rattle.store_core.specs.Act.{DirectoryStep};
 ghost use Rattle.store_core.specs.Agreement.{AgreesWithPass};
 ghost use Rattle.store_core.specs.Tokens.{MayGoOn, after_pass_step};
 ghost use Rattle.dir_parts.specs.Passes.{kind_in};
-ghost use Rattle.stripe_dir.specs.Sealed.{stamps_touched, CanSeal};
-ghost use Rattle.stripe_dir.specs.Stamped.{AreOf, AreBases};
+ghost use Rattle.stripe_stamps.specs.Sealed.{stamps_touched, CanSeal};
+ghost use Rattle.stripe_stamps.specs.Stamped.{AreOf, AreBases};
 ghost use Rattle.stripe_dir.specs.Answers.{told_by_draw};
-ghost use Rattle.stripe_dir.specs.DrawnStamps.{asked, with_more};
-ghost use Rattle.stripe_dir.specs.Stripes.{first_touched, count_touched, versions_touched};
+ghost use Rattle.stripe_stamps.specs.DrawnStamps.{asked, with_more};
+ghost use Rattle.stripe_stamps.specs.Stripes.{first_touched, count_touched, versions_touched};
 ghost use Rattle.stripe_dir.specs.Steps.{IsDraw};
 ghost use Rattle.stripe_dir.specs.AnswerTokens.{token_drawn, token_or_pass};
 ghost use Rattle.stripe_dir.specs.AnswerStamps.{stamps_given, AreDrawn};
 
 use crate::answers::Drawn;
 use crate::directory::Directory;
-use crate::sealing::Drawing;
-use crate::stamp_list::Stamps;
-use crate::stripes::met;
 use crate::tokens::Pass;
-use dir_parts::{Kind, OpenPass, Versions};
+use dir_parts::{Kind, OpenPass};
 use std::alloc::{AllocError, Global};
 use store_map::Point;
+use stripe_stamps::{Drawing, Stamps, met};
 use version_seal::{Book, Request, Stamp};
+use version_table::Versions;
 
 // What a draw gives: the numbers for the pass, their stamps, and room for the object's versions.
 #[derive(Drop)]

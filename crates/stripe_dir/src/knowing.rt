@@ -1,6 +1,6 @@
 //! Whether a version is known.
 ghost use Rattle.std.specs.Prelude.{◌≡◌};
-ghost use Rattle.dir_parts.specs.Known.{is_known};
+ghost use Rattle.version_table.specs.Known.{is_known};
 
 use crate::directory::Directory;
 use store_map::Version;

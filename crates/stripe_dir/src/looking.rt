@@ -7,27 +7,28 @@ ghost use Rattle.store_core.specs.Told.{Told};
 ghost use Rattle.store_core.specs.Looks.{answer};
 ghost use Rattle.store_core.specs.SoundPasses.{Stands};
 ghost use Rattle.dir_parts.specs.Events.{reply_in};
-ghost use Rattle.dir_parts.specs.Known.{IsKnown};
+ghost use Rattle.version_table.specs.Known.{IsKnown};
 ghost use Rattle.dir_parts.specs.Parts.{versions_under};
-ghost use Rattle.stripe_dir.specs.Answers.{seen_in};
-ghost use Rattle.stripe_dir.specs.Stamped.{AreNumbered};
+ghost use Rattle.stripe_stamps.specs.SeenStripes.{seen_in};
+ghost use Rattle.stripe_stamps.specs.Stamped.{AreNumbered};
 ghost use Rattle.stripe_dir.specs.Steps.{LooksTo, LookLeaves};
-ghost use Rattle.stripe_dir.specs.AnswerStamps.{AreSeenIn, IsSeenIn};
-ghost use Rattle.stripe_dir.specs.ItsStripes.{IsWhole};
-ghost use Rattle.stripe_dir.specs.Stripes.{pin_by, AreThere, AreTold};
-ghost use Rattle.stripe_dir.specs.Begun.{begun_in, begun_pass, deleted, seen_in_object};
+ghost use Rattle.stripe_dir.specs.AnswerStamps.{AreSeenIn};
+ghost use Rattle.stripe_stamps.specs.SeenStripes.{IsSeenIn};
+ghost use Rattle.stripe_stamps.specs.ItsStripes.{IsWhole};
+ghost use Rattle.stripe_stamps.specs.Stripes.{pin_by, AreThere, AreTold};
+ghost use Rattle.dir_parts.specs.Begun.{begun_in, begun_pass, deleted, seen_in_object};
 
 use crate::answers::Look;
 use crate::directory::Directory;
-use crate::room::{add_look, make_room};
-use crate::stripes::{Sight, see};
 use crate::tokens::Seat;
 use call_steps::Seen;
-use dir_parts::{Answer, CallNote, Event, Objects, OpenPass, Versions};
+use dir_parts::{Answer, CallNote, Event, Objects, OpenPass, add_look, make_room};
 use std::alloc::{AllocError, Global};
 use std::snapshot::Snapshot;
 use store_map::{Actor, Name, Point};
+use stripe_stamps::{Sight, see};
 use version_seal::Stamp;
+use version_table::Versions;
 
 /// A pass that has begun, and what its look saw.
 #[derive(Drop)]

@@ -5,19 +5,20 @@ ghost use Rattle.clay_grid.specs.Shape.{stripe_length};
 ghost use Rattle.dir_parts.specs.PointLog.{told_of, told_at};
 ghost use Rattle.dir_parts.specs.Parts.{object_of};
 ghost use Rattle.version_seal.specs.Sealer.{sealer_at};
-ghost use Rattle.stripe_dir.specs.Sealed.{new_sealed, keeps_points};
+ghost use Rattle.stripe_stamps.specs.Sealed.{new_sealed, keeps_points};
 ghost use Rattle.stripe_dir.specs.Seats.{client_seat, repairer_seat, first_seats};
-ghost use Rattle.stripe_dir.specs.ItsStripes.{IsWhole};
-ghost use Rattle.stripe_dir.specs.Stamped.{HasStamps};
+ghost use Rattle.stripe_stamps.specs.ItsStripes.{IsWhole};
+ghost use Rattle.stripe_stamps.specs.Stamped.{HasStamps};
 
 use crate::directory::Directory;
-use crate::stamp_list::Stamps;
 use crate::tokens::Seat;
 use clay_grid::Geometry;
-use dir_parts::{Contents, History, Objects, Passes, PointEntry, Versions};
+use dir_parts::{Contents, History, Objects, Passes, PointEntry};
 use std::alloc::{AllocError, Global};
 use store_map::{Actor, Name, Version};
+use stripe_stamps::Stamps;
 use version_seal::{Opening, Sealer, Stamp};
+use version_table::Versions;
 
 // So many clients' seats, then so many repairers'.
 fn seats(alloc: Global, clients: u32, repairers: u32) -> Result<Vec<Seat>, AllocError>

@@ -4,14 +4,15 @@ ghost use Rattle.store_core.specs.Told.{Told};
 ghost use Rattle.store_core.specs.Act.{DirectoryStep};
 ghost use Rattle.store_core.specs.Directory.{Standing, Event as CoreEvent};
 ghost use Rattle.store_core.specs.Look.{set_standing};
-ghost use Rattle.dir_parts.specs.Counts.{unpinned};
-ghost use Rattle.dir_parts.specs.Known.{IsKnown};
+ghost use Rattle.version_table.specs.Counts.{unpinned};
+ghost use Rattle.version_table.specs.Known.{IsKnown};
 ghost use Rattle.dir_parts.specs.Parts.{point_by};
 ghost use Rattle.stripe_dir.specs.Steps.{IsStepOfAny};
 
 use crate::directory::Directory;
-use dir_parts::{Event, History, OpenPass, Versions};
+use dir_parts::{Event, History, OpenPass};
 use store_map::{Actor, Point};
+use version_table::Versions;
 
 // Gives up a pass's pins and what it drew, and appends the point of its reap.
 fn give_up(versions: &mut Versions, history: &mut History, pass: &OpenPass) -> u64

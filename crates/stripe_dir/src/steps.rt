@@ -17,8 +17,9 @@ ghost use Rattle.stripe_dir.specs.AnswerTokens.{token_ended, token_confirmed};
 use crate::answers::{Confirmed, Ended};
 use crate::directory::Directory;
 use crate::tokens::{Pass, Seat};
-use dir_parts::{CallNote, History, Pinned, Versions};
+use dir_parts::{CallNote, History, Pinned};
 use store_map::{Actor, Point};
+use version_table::Versions;
 
 // The seat of an actor whose call has ended.
 pub(crate) fn seat_of(actor: Actor, number: u32, told: Option<u64>) -> Seat

@@ -15,7 +15,7 @@ use Rattle.run_laws.proofs.ContentSteps.{steps_keep_bytes}
 use Rattle.thread_laws.specs.MadeSteps.{MadeStep}
 use Rattle.call_steps.specs.declared.need.Need.TheVariants as need
 use Rattle.version_seal.specs.Entry.{BookOf, StampOf}
-use Rattle.stripe_dir.specs.Sealed.{Sealed}
+use Rattle.stripe_stamps.specs.Sealed.{Sealed}
 use Rattle.call_steps.specs.TokenAfter.{MayMake}
 use Rattle.call_steps.specs.CallOf.{CallOf, act_of}
 use Rattle.call_steps.specs.Steps.{need_of, at_directory_by, stepped_at_directory, HoldsItsPass, MayMakeNext}

@@ -29,7 +29,7 @@ use Rattle.thread_laws.proofs.Given.{slice_get-replicate}
 use Rattle.thread_laws.proofs.Orders.{one_is}
 use Rattle.thread_laws.proofs.Own.{at_place}
 use Rattle.thread_laws.specs.Ended.{NoneHasAStep, RanApart}
-use Rattle.stripe_dir.specs.Sealed.{Sealed}
+use Rattle.stripe_stamps.specs.Sealed.{Sealed}
 use Rattle.turn_lock.specs.History.{entries_of}
 use Rattle.thread_laws.specs.AtServer.{StandsAtServer}
 use Rattle.thread_laws.specs.Entries.{steps_in}

@@ -9,7 +9,7 @@ use Rattle.run_laws.proofs.Beside.{self_actor}
 use Rattle.run_laws.proofs.Passes.{passes_move, passes_stay}
 use Rattle.thread_laws.specs.MadeSteps.{MadeStep}
 use Rattle.thread_laws.specs.AtPlaces.{after_all, directory_act, directory_next}
-use Rattle.stripe_dir.specs.Sealed.{Sealed}
+use Rattle.stripe_stamps.specs.Sealed.{Sealed}
 use Rattle.thread_laws.specs.Numbers.{Counts}
 use Rattle.thread_laws.specs.Noted.{Noted, made_in}
 use Rattle.thread_laws.specs.AtDirectory.{StandsAtDirectory}

@@ -14,7 +14,7 @@ use Rattle.run_laws.specs.ReadLaws.{bytes_read}
 use Rattle.thread_laws.specs.AtPlaces.{directory_act}
 use Rattle.thread_laws.specs.MadeSteps.{MadeStep}
 use Rattle.version_seal.specs.Entry.{StampOf}
-use Rattle.stripe_dir.specs.Sealed.{Sealed}
+use Rattle.stripe_stamps.specs.Sealed.{Sealed}
 use Rattle.call_steps.specs.CallOf.{act_of}
 use Rattle.call_machine.specs.Calls.{MachineOf}
 use Rattle.call_machine.specs.OwesLaws.{LookIsOwed}

@@ -8,7 +8,7 @@ use Rattle.store_core.specs.History.{call_of}
 use Rattle.run_laws.specs.Contents.{HasBytes}
 use Rattle.thread_laws.specs.MadeSteps.{is_at, is_by, MomentsRise}
 use Rattle.thread_laws.specs.AtPlaces.{after_all, AllCome, directory_next, DirectoryAnswers}
-use Rattle.stripe_dir.specs.Sealed.{Sealed}
+use Rattle.stripe_stamps.specs.Sealed.{Sealed}
 use Rattle.turn_lock.specs.History.{entries_of}
 use Rattle.thread_laws.specs.Numbers.{Counts, IsTurnOf}
 use Rattle.thread_laws.specs.Entries.{last_of}

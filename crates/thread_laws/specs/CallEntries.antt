@@ -10,7 +10,7 @@ use Rattle.store_core.specs.Server.{Server, at_server}
 use Rattle.thread_laws.specs.MadeSteps.{MadeStep}
 use Rattle.version_seal.specs.Entry.{StampOf}
 use Rattle.call_steps.specs.CallOf.{CallOf, act_of}
-use Rattle.stripe_dir.specs.Sealed.{Sealed}
+use Rattle.stripe_stamps.specs.Sealed.{Sealed}
 use Rattle.thread_laws.specs.Entries.{steps_in, next_moment}
 use Rattle.thread_laws.specs.Noted.{Noted, made_in}
 

@@ -11,7 +11,7 @@ use Rattle.thread_laws.specs.AtPlaces.{after_all}
 use Rattle.thread_laws.specs.ByActors.{sweeper_next}
 use Rattle.thread_laws.specs.CallTakes.{client_after, repairer_after}
 use Rattle.thread_laws.specs.Ended.{RanApart}
-use Rattle.stripe_dir.specs.Sealed.{Sealed}
+use Rattle.stripe_stamps.specs.Sealed.{Sealed}
 use Rattle.world_laws.specs.World.{WorldOf}
 use Rattle.world_laws.specs.StandsFor.{StandsFor}
 use Rattle.thread_laws.specs.Logs.{Logs, run_lists}

@@ -9,7 +9,7 @@ use Rattle.store_map.specs.declared.script.Script.{Script}
 use Rattle.store_core.specs.Server.{Server}
 use Rattle.store_core.specs.Sweep.{Sweeper}
 use Rattle.store_core.specs.Work.{Work, client_work, repairer_work, has_step}
-use Rattle.stripe_dir.specs.Sealed.{Sealed}
+use Rattle.stripe_stamps.specs.Sealed.{Sealed}
 use Rattle.thread_laws.specs.AtDirectory.{StandsAtDirectory}
 use Rattle.thread_laws.specs.AtServer.{StandsAtServer}
 use Rattle.world_laws.specs.World.{ActorOf}

@@ -10,7 +10,7 @@ use Rattle.store_core.specs.Server.{Server, new_server}
 use Rattle.store_core.specs.Sweep.{Sweeper}
 use Rattle.thread_laws.specs.AtPlaces.{after_all, directory_next, server_next}
 use Rattle.thread_laws.specs.StatsExample.{two_stats, first_stat, second_stat, the_wipe}
-use Rattle.stripe_dir.specs.Sealed.{Sealed}
+use Rattle.stripe_stamps.specs.Sealed.{Sealed}
 use Rattle.world_laws.specs.World.{DoingOf}
 use Rattle.thread_laws.specs.Logs.{Logs}
 use Rattle.thread_laws.specs.PlaceEnded.{PlacesStand, CallerOf, AllHaveEnded}

@@ -8,7 +8,7 @@ use Rattle.store_map.specs.declared.transcript.Transcript.{Transcript}
 use Rattle.store_core.specs.Server.{Server}
 use Rattle.store_core.specs.Sweep.{Sweeper}
 use Rattle.chunk_server.specs.State.{ServerState}
-use Rattle.stripe_dir.specs.Sealed.{Sealed}
+use Rattle.stripe_stamps.specs.Sealed.{Sealed}
 use Rattle.call_steps.specs.declared.caller_calls.CallerCalls.{CallerCalls}
 use Rattle.world_laws.specs.HeldCore.{Holds}
 use Rattle.world_laws.specs.Known.{core_of}

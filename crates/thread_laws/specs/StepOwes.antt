@@ -6,8 +6,8 @@ use Rattle.store_core.specs.History.{call_of}
 use Rattle.store_core.specs.Tokens.{actor_of}
 use Rattle.thread_laws.specs.AtPlaces.{DirectoryAnswers}
 use Rattle.thread_laws.specs.MadeSteps.{MadeStep}
-use Rattle.stripe_dir.specs.Sealed.{Sealed}
-use Rattle.stripe_dir.specs.Stamped.{HaveContents}
+use Rattle.stripe_stamps.specs.Sealed.{Sealed}
+use Rattle.stripe_stamps.specs.Stamped.{HaveContents}
 use Rattle.call_steps.specs.declared.need.Need.TheVariants as need
 use Rattle.call_steps.specs.CallOf.{CallOf, act_of}
 use Rattle.call_steps.specs.Steps.{stepped_at_directory, need_of}

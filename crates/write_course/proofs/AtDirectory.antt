@@ -21,7 +21,7 @@ use Rattle.run_laws.specs.State.{State, CallState}
 use Rattle.run_laws.specs.StateActs.{act_at}
 use Rattle.run_laws.specs.CallLaws.{next_call}
 use Rattle.version_seal.specs.Entry.{StampOf, RequestOf, call_written}
-use Rattle.stripe_dir.specs.Sealed.{Sealed, stamps_touched}
+use Rattle.stripe_stamps.specs.Sealed.{Sealed, stamps_touched}
 use Rattle.call_steps.specs.CallOf.{CallOf, act_of, heard}
 use Rattle.call_steps.specs.Steps.{at_directory_by, stepped_at_directory}
 use Rattle.call_steps.specs.TokenAfter.{token_after, MayMake}

@@ -9,7 +9,7 @@ use Rattle.store_core.specs.Agreement.{ActorToken}
 use Rattle.store_core.specs.Tokens.{actor_of}
 use Rattle.store_core.specs.AtDirectory.{at_directory}
 use Rattle.version_seal.specs.Entry.{StampOf, RequestOf}
-use Rattle.stripe_dir.specs.Sealed.{Sealed, stamps_touched}
+use Rattle.stripe_stamps.specs.Sealed.{Sealed, stamps_touched}
 use Rattle.call_steps.specs.CallOf.{CallOf, act_of}
 
 -- the request of a call that writes this

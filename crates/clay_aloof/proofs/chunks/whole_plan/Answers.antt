@@ -4,7 +4,7 @@ use Rattle.clay_grid.specs.Score.{IsByScore}
 use Rattle.clay_model.specs.Erased.{erased_below}
 use Rattle.clay_model.specs.Points.{AreDistinct}
 use Rattle.code_laws.proofs.ErasedNodes.{AreDistinct-erased}
-use Rattle.clay_kernels.specs.Generated.{IsGeneratorOf}
+use Rattle.generator_matrix.specs.Generated.{IsGeneratorOf}
 use Rattle.clay_aloof.specs.Shape.{grid_of}
 use Rattle.clay_aloof.specs.Solved.{HasPlaces}
 use Rattle.clay_aloof.proofs.Layer.{other_layer, few_below}

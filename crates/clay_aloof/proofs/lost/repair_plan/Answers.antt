@@ -4,7 +4,7 @@ use Rattle.clay_grid.specs.Score.{IsByScore}
 use Rattle.clay_model.specs.Erased.{erased_below}
 use Rattle.clay_model.specs.Points.{AreDistinct}
 use Rattle.code_laws.proofs.ErasedNodes.{AreDistinct-erased}
-use Rattle.clay_kernels.specs.Generated.{IsGeneratorOf}
+use Rattle.generator_matrix.specs.Generated.{IsGeneratorOf}
 use Rattle.lane_repair.specs.Views.{pieces_of}
 use Rattle.clay_aloof.specs.Shape.{rows_of, grid_of, node_of}
 use Rattle.clay_aloof.specs.Rebuilt.{kept_layers}

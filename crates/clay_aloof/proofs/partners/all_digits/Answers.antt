@@ -1,6 +1,6 @@
 use Rattle.std.proofs.Common.{◌+◌, subst, sym}
 use Rattle.clay_aloof.specs.Partners.{HoldsColumns}
-use Rattle.clay_aloof.proofs.Tables.{columns_more}
+use Rattle.clay_aloof.proofs.PartnerTables.{columns_more}
 use Rattle.clay_aloof.proofs.partners.all_digits.Goals as goal
 
 pub loop-column-preserved : goal.loop-column-preserved

@@ -1,6 +1,6 @@
 use Rattle.std.proofs.Common.{◌-◌, ◌*◌, ◌/◌, ◌%◌, ◌+◌, subst, sym}
 use Rattle.clay_aloof.specs.Partners.{HoldsDigits}
-use Rattle.clay_aloof.proofs.Tables.{digits_more}
+use Rattle.clay_aloof.proofs.PartnerTables.{digits_more}
 use Rattle.clay_aloof.proofs.partners.digits_of.Goals as goal
 
 pub loop-z-preserved : goal.loop-z-preserved

@@ -1,6 +1,6 @@
 use Rattle.std.proofs.Common.{◌+◌, subst, sym}
 use Rattle.clay_aloof.specs.Partners.{HoldsPlaces}
-use Rattle.clay_aloof.proofs.Tables.{places_more}
+use Rattle.clay_aloof.proofs.PartnerTables.{places_more}
 use Rattle.clay_aloof.proofs.partners.places_of_nodes.Goals as goal
 
 pub loop-node-preserved : goal.loop-node-preserved

@@ -5,7 +5,7 @@ use Rattle.clay_grid.specs.Score.{IsByScore}
 use Rattle.clay_model.specs.Erased.{erased_below}
 use Rattle.clay_model.specs.Points.{AreDistinct}
 use Rattle.code_laws.proofs.ErasedNodes.{AreDistinct-erased}
-use Rattle.clay_kernels.specs.Generated.{IsGeneratorOf}
+use Rattle.generator_matrix.specs.Generated.{IsGeneratorOf}
 use Rattle.lane_repair.specs.Views.{pieces_of}
 use Rattle.clay_lanes.proofs.Shown.{few_gone}
 use Rattle.clay_lanes.proofs.plan.plan_of.Goals as goal

@@ -4,8 +4,9 @@ use Rattle.clay_grid.specs.Shape.{row_count}
 use Rattle.clay_grid.specs.Layers.{layer_of}
 use Rattle.code_laws.specs.Columns.{first_parity, data_byte, uncoupled_value}
 use Rattle.clay_kernels.specs.Lanes.{AddsRows}
-use Rattle.clay_kernels.specs.Generated.{factor_at}
-use Rattle.clay_kernels.proofs.RowLemmas.{AddsRows-as, factor_count, factor_is}
+use Rattle.generator_matrix.specs.Generated.{factor_at}
+use Rattle.clay_kernels.proofs.RowLemmas.{AddsRows-as}
+use Rattle.generator_matrix.proofs.FactorRows.{factor_count, factor_is}
 use Rattle.clay_parity.proofs.GroupLaws.{partner_room}
 use Rattle.clay_parity.proofs.NodeLemmas.{unpaired, with_virtual, paired}
 use Rattle.clay_parity.proofs.chunks.add_node.Goals as goal

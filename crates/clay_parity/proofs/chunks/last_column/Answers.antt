@@ -1,6 +1,6 @@
 use Rattle.std.proofs.Common.{◌≡◌, ◌+◌, ◌-◌, ◌*◌, ◌<◌, length, get_or, subst, sym, ap, ◌∙◌, arith}
 use Rattle.code_laws.specs.Columns.{first_parity}
-use Rattle.clay_kernels.proofs.GeneratorLaws.{last_generates}
+use Rattle.generator_matrix.proofs.GeneratorLaws.{last_generates}
 use Rattle.clay_parity.proofs.chunks.last_column.Goals as goal
 
 pub new-requires-clause-few : goal.new-requires-clause-few

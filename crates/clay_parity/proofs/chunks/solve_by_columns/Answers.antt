@@ -3,8 +3,8 @@ use Rattle.clay_field.specs.Field.{product}
 use Rattle.clay_grid.specs.Layers.{layer_of}
 use Rattle.clay_model.specs.Sums.{sum_below}
 use Rattle.code_laws.specs.Columns.{first_parity, uncoupled_value}
-use Rattle.clay_kernels.specs.Columns.{IsColumn}
-use Rattle.clay_kernels.proofs.ColumnLaws.{known_sum, last_columns, before_last, column_more, column_ended}
+use Rattle.generator_matrix.specs.Columns.{IsColumn}
+use Rattle.generator_matrix.proofs.ColumnLaws.{known_sum, last_columns, before_last, column_more, column_ended}
 use Rattle.clay_parity.proofs.chunks.solve_by_columns.Goals as goal
 
 pub loop-y-preserved : goal.loop-y-preserved

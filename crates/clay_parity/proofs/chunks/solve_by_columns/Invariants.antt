@@ -1,8 +1,8 @@
 use Rattle.std.proofs.Common.{◌+◌, ◌*◌}
 use Rattle.clay_grid.specs.Layers.{layer_of}
 use Rattle.code_laws.specs.Columns.{uncoupled_value}
-use Rattle.clay_kernels.specs.Columns.{IsColumnForm}
-use Rattle.clay_kernels.proofs.ColumnLaws.{known_sum}
+use Rattle.generator_matrix.specs.Columns.{IsColumnForm}
+use Rattle.generator_matrix.proofs.ColumnLaws.{known_sum}
 use Rattle.clay_parity.proofs.chunks.solve_by_columns.Given as goal
 
 abbrev pub invariant-loop-y : goal.invariant-loop-y

@@ -3,7 +3,7 @@ use Rattle.clay_field.specs.Field.{product}
 use Rattle.clay_grid.specs.Layers.{layer_of}
 use Rattle.clay_model.specs.Sums.{sum_below}
 use Rattle.code_laws.specs.Columns.{uncoupled_value}
-use Rattle.clay_kernels.specs.Generated.{factor_at}
+use Rattle.generator_matrix.specs.Generated.{factor_at}
 use Rattle.clay_parity.proofs.chunks.solve_by_nodes.Given as goal
 
 abbrev pub invariant-loop-node : goal.invariant-loop-node

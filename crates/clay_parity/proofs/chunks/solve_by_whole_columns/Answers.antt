@@ -5,7 +5,7 @@ use Rattle.clay_grid.specs.Shape.{row_count, column_count}
 use Rattle.clay_grid.specs.Layers.{layer_of}
 use Rattle.clay_model.specs.Sums.{sum_below}
 use Rattle.code_laws.specs.Columns.{first_parity, uncoupled_value}
-use Rattle.clay_kernels.specs.Generated.{factor_at}
+use Rattle.generator_matrix.specs.Generated.{factor_at}
 use Rattle.clay_parity.proofs.GroupLaws.{column_known}
 use Rattle.clay_parity.proofs.ColumnSums.{HoldsSums, no_sums, one_more_column, columns_before}
 use Rattle.clay_parity.proofs.chunks.solve_by_whole_columns.Goals as goal

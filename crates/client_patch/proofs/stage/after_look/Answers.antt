@@ -6,7 +6,8 @@ use Rattle.store_core.specs.Told.{Told, Seen}
 use Rattle.run_laws.specs.State.{Sequel}
 use Rattle.run_laws.specs.States.{open_state}
 use Rattle.run_laws.specs.LookAfter.{start_after}
-use Rattle.stripe_dir.specs.Answers.{seen_in, told_or_short, told_look}
+use Rattle.stripe_dir.specs.Answers.{told_or_short, told_look}
+use Rattle.stripe_stamps.specs.SeenStripes.{seen_in}
 use Rattle.stripe_dir.specs.declared.answers.Look.TheVariants as look
 use Rattle.call_steps.specs.declared.answer.DirectoryAnswer.TheVariants as there
 use Rattle.call_steps.specs.Answers.{directory_answer}

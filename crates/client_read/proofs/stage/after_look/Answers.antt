@@ -3,8 +3,8 @@ use Rattle.clay_grid.specs.Shape.{Shape}
 use Rattle.store_core.specs.Note.{note_of}
 use Rattle.store_core.specs.Read.{part_of}
 use Rattle.call_steps.specs.declared.seen.Seen.{Seen}
-use Rattle.stripe_dir.specs.Answers.{seen_in}
-use Rattle.stripe_dir.specs.AnswerStamps.{IsSeenIn}
+use Rattle.stripe_stamps.specs.SeenStripes.{seen_in}
+use Rattle.stripe_stamps.specs.SeenStripes.{IsSeenIn}
 use Rattle.stripe_dir.specs.declared.answers.Look.TheVariants as look
 use Rattle.stripe_dir.specs.Shown.{stripes_seen}
 use Rattle.gather_parts.specs.Gatherings.{owed}

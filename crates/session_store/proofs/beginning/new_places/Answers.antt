@@ -3,7 +3,7 @@ use Rattle.std.specs.List.{range_with_len}
 use Rattle.clay_grid.specs.Shape.{Shape, stripe_length}
 use Rattle.version_seal.specs.Entry.{BookOf}
 use Rattle.chunk_server.specs.State.{empty_server}
-use Rattle.stripe_dir.specs.Sealed.{Sealed, new_sealed}
+use Rattle.stripe_stamps.specs.Sealed.{Sealed, new_sealed}
 use Rattle.session_store.proofs.beginning.new_places.Goals as goal
 
 pub returns-clause-places : goal.returns-clause-places

@@ -3,7 +3,7 @@ use Rattle.std.proofs.lemmas.List.{length-set}
 use Rattle.store_core.specs.Directory.{Object}
 use Rattle.store_core.specs.Agreement.{ActorToken}
 use Rattle.store_core.specs.Tokens.{actor_of}
-use Rattle.stripe_dir.specs.Sealed.{Sealed}
+use Rattle.stripe_stamps.specs.Sealed.{Sealed}
 use Rattle.snapshot_view.specs.Snapshots.{KeptOf}
 use Rattle.snapshot_view.specs.Tickets.{MayGet, AgreesWithAll}
 use Rattle.snapshot_view.specs.LookSteps.{get_of, Looked, AreLooked}

@@ -5,10 +5,11 @@ use Rattle.store_core.specs.Told.{Told}
 use Rattle.store_core.specs.Act.{DirectoryStep}
 use Rattle.store_core.specs.Directory.{Directory}
 use Rattle.store_core.specs.Lookups.{find_object}
-use Rattle.stripe_dir.specs.Sealed.{Sealed}
+use Rattle.stripe_stamps.specs.Sealed.{Sealed}
 use Rattle.snapshot_view.specs.Snapshots.{KeptOf}
 use Rattle.call_steps.specs.TokenAfter.{token_after, MayMake}
-use Rattle.stripe_dir.specs.Answers.{seen_in, told_look, told_or_short}
+use Rattle.stripe_dir.specs.Answers.{told_look, told_or_short}
+use Rattle.stripe_stamps.specs.SeenStripes.{seen_in}
 use Rattle.stripe_dir.specs.Shown.{AreShown, stripes_seen}
 use Rattle.stripe_dir.specs.declared.answers.Look.{Look}
 use Rattle.snapshot_view.specs.Tickets.{pins_of, passes_in}

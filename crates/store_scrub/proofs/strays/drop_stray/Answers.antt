@@ -1,5 +1,5 @@
 use Rattle.std.proofs.Common.{◌<◌, length, get_or, slice_set, ap, sym, ◌∙◌, arith}
-use Rattle.dir_parts.proofs.TableSteps.{change_at-set, change_at-past}
+use Rattle.version_table.proofs.TableSteps.{change_at-set, change_at-past}
 use Rattle.chunk_server.specs.Steps.{after_discard}
 use Rattle.store_scrub.proofs.strays.drop_stray.Goals as goal
 

@@ -2,7 +2,7 @@ use Rattle.std.proofs.Common.{◌+◌, ◌<◌, subst, sym, arith}
 use Rattle.clay_grid.specs.Shape.{row_count, node_count, layer_count}
 use Rattle.clay_model.specs.Partners.{ArePartners}
 use Rattle.clay_aloof.proofs.Layer.{some_rows}
-use Rattle.clay_aloof.proofs.Tables.{are_read, are_partners, partner_inside, partner_layer}
+use Rattle.clay_aloof.proofs.PartnerTables.{are_read, are_partners, partner_inside, partner_layer}
 use Rattle.clay_aloof.proofs.partners.Partners.of.Goals as goal
 
 pub overflow_add-result : goal.overflow_add-result

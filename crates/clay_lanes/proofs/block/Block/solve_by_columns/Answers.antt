@@ -1,6 +1,6 @@
 use Rattle.std.proofs.Common.{◌≡◌, ℕ, ◌+◌, ◌*◌, ◌<◌, false, List, length, get_or, subst, sym, ap, ◌∙◌, arith}
 use Rattle.clay_grid.specs.Shape.{node_count}
-use Rattle.clay_kernels.specs.Columns.{IsColumn}
+use Rattle.generator_matrix.specs.Columns.{IsColumn}
 use Rattle.lane_repair.specs.Views.{pieces_of}
 use Rattle.lane_repair.proofs.ColumnRows.{HoldsForm, fit_columns, form_more, form_skipped, form_ended}
 use Rattle.lane_repair.proofs.RowLemmas.{rows_of_sums}

@@ -3,7 +3,7 @@ use Rattle.store_core.specs.Read.{part_of}
 use Rattle.run_laws.specs.States.{parts_state, open_parts, open_state}
 use Rattle.clay_grid.specs.Shape.{Shape}
 use Rattle.call_steps.specs.declared.seen.Seen.{Seen}
-use Rattle.stripe_dir.specs.Answers.{seen_in}
+use Rattle.stripe_stamps.specs.SeenStripes.{seen_in}
 use Rattle.gather_parts.specs.Wanted.{wanted_of, parts_of}
 use Rattle.gather_parts.specs.Gatherings.{GatheringsOf}
 use Rattle.gather_parts.proofs.Moving.{told_opened}

@@ -3,7 +3,7 @@ use Rattle.clay_grid.specs.Shape.{row_count, column_count, node_count, node_of_c
 use Rattle.code_laws.proofs.Column.{node_inside}
 use Rattle.code_laws.proofs.Rows.{column_below}
 use Rattle.lane_repair.specs.Repaired.{column_nodes}
-use Rattle.clay_kernels.specs.Columns.{IsColumn}
+use Rattle.generator_matrix.specs.Columns.{IsColumn}
 use Rattle.lane_repair.proofs.ColumnRows.{HoldsForm, fit_columns, form_more, form_skipped, form_ended}
 use Rattle.lane_repair.proofs.RepairLemmas.{length-column_nodes, column_points_are}
 use Rattle.lane_repair.proofs.RowLemmas.{rows_of_sums}

@@ -2,7 +2,7 @@ use Rattle.std.proofs.Common.{◌≡◌, ℕ, ◌≤◌, List, length, replicate
 use Rattle.clay_grid.specs.Shape.{node_count}
 use Rattle.clay_model.specs.Erased.{erased_below}
 use Rattle.clay_model.specs.Points.{AreDistinct}
-use Rattle.clay_kernels.specs.Generated.{IsGeneratorOf}
+use Rattle.generator_matrix.specs.Generated.{IsGeneratorOf}
 use Rattle.code_laws.proofs.ErasedNodes.{AreDistinct-erased}
 use Rattle.lost_read.specs.Plan.{AreSubchunks, HasPlaces}
 use Rattle.lost_layers.specs.ErasedRuns.{solved_of}

@@ -5,7 +5,7 @@ use Rattle.store_core.specs.Read.{part_of}
 use Rattle.run_laws.specs.State.{Sequel}
 use Rattle.run_laws.specs.States.{parts_state, open_state}
 use Rattle.call_steps.specs.declared.seen.Seen.{Seen}
-use Rattle.stripe_dir.specs.Answers.{seen_in}
+use Rattle.stripe_stamps.specs.SeenStripes.{seen_in}
 use Rattle.gather_parts.specs.Wanted.{wanted_of, IsPinned}
 use Rattle.gather_parts.specs.Gatherings.{GatheringsOf, new_gatherings, begun}
 use Rattle.gather_parts.specs.States.{state_in}

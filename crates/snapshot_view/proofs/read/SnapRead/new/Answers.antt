@@ -1,7 +1,7 @@
 use Rattle.std.proofs.Common.{map, All, sym, ap, subst, ◌∙◌}
 use Rattle.store_core.specs.Read.{part_of}
 use Rattle.run_laws.specs.States.{parts_state, open_state}
-use Rattle.stripe_dir.specs.Answers.{seen_in}
+use Rattle.stripe_stamps.specs.SeenStripes.{seen_in}
 use Rattle.gather_parts.specs.Wanted.{wanted_of, IsPinned}
 use Rattle.gather_parts.specs.Gatherings.{GatheringsOf, begun}
 use Rattle.snapshot_view.proofs.read.SnapRead.new.Goals as goal

@@ -1,9 +1,9 @@
-use Rattle.stripe_dir.specs.Sealed.{Sealed}
+use Rattle.stripe_stamps.specs.Sealed.{Sealed}
 use Rattle.std.proofs.Common.{◌≡◌, ◌∷◌, ◌++◌, [], is_err, false, refl, ap, sym, subst, ◌∙◌, arith}
 use Rattle.store_core.specs.Directory.{Event, Directory}
 use Rattle.store_core.specs.Look.{append_point}
 use Rattle.store_core.specs.Agreement.{Seat}
-use Rattle.stripe_dir.specs.ItsStripes.{IsWhole}
+use Rattle.stripe_stamps.specs.ItsStripes.{IsWhole}
 use Rattle.dir_parts.specs.Events.{reply_in}
 use Rattle.stripe_dir.specs.Kept.{directory_in}
 use Rattle.stripe_dir.specs.declared.directory.Directory.TheInside.{Inside}

@@ -1,16 +1,16 @@
-use Rattle.stripe_dir.specs.Sealed.{Sealed}
+use Rattle.stripe_stamps.specs.Sealed.{Sealed}
 use Rattle.std.proofs.Common.{◌≡◌, ℕ, ◌+◌, ◌<◌, ◌^◌, ◌∷◌, ◌++◌, List, length, map, get_or, slice_get, None, All, Contains, true, false, refl, ap, sym, subst, ◌∙◌}
 use Rattle.store_core.specs.Note.{Note}
 use Rattle.store_core.specs.Directory.{Object, Standing, Pin, Pass, Directory}
 use Rattle.store_core.specs.Lookups.{holds_standing, is_superseded_standing}
-use Rattle.stripe_dir.specs.ItsStripes.{IsWhole}
+use Rattle.stripe_stamps.specs.ItsStripes.{IsWhole}
 use Rattle.store_core.specs.SoundPasses.{Stands}
-use Rattle.dir_parts.specs.Counts.{pinned_more}
+use Rattle.version_table.specs.Counts.{pinned_more}
 use Rattle.dir_parts.specs.OpenPass.{Open}
-use Rattle.dir_parts.specs.Known.{IsKnown}
+use Rattle.version_table.specs.Known.{IsKnown}
 use Rattle.dir_parts.specs.Parts.{object_or_new}
-use Rattle.stripe_dir.specs.Stripes.{pin_by, seen_by}
-use Rattle.stripe_dir.specs.Begun.{begun_in, begun_pass, seen_in_object, looked}
+use Rattle.stripe_stamps.specs.Stripes.{pin_by, seen_by}
+use Rattle.dir_parts.specs.Begun.{begun_in, begun_pass, seen_in_object, looked}
 use Rattle.stripe_dir.specs.Kept.{directory_in}
 use Rattle.stripe_dir.specs.declared.directory.Directory.TheInside.{Inside}
 use Rattle.stripe_dir.proofs.KnownVersions.{stands_known}

@@ -8,10 +8,10 @@ use Rattle.store_core.specs.Lookups.{pass_of}
 use Rattle.store_core.specs.Look.{set_standing}
 use Rattle.store_core.specs.SoundPasses.{IsRight}
 use Rattle.store_core.specs.Agreement.{HeldPass, ActorToken}
-use Rattle.dir_parts.specs.Counts.{unpinned}
+use Rattle.version_table.specs.Counts.{unpinned}
 use Rattle.dir_parts.specs.OpenPass.{Open}
 use Rattle.run_laws.proofs.ContentGrows.{origins}
-use Rattle.stripe_dir.specs.Sealed.{Sealed}
+use Rattle.stripe_stamps.specs.Sealed.{Sealed}
 use Rattle.stripe_dir.specs.Kept.{directory_in}
 use Rattle.stripe_dir.specs.declared.directory.Directory.TheInside.{Inside}
 use Rattle.stripe_dir.proofs.Ending.{Taken, taken, taken_seat, kept_closed, ended_step, said_of, it_has}

@@ -1,4 +1,4 @@
-use Rattle.stripe_dir.specs.Sealed.{Sealed}
+use Rattle.stripe_stamps.specs.Sealed.{Sealed}
 use Rattle.std.proofs.Common.{◌≡◌, ◌<◌, ◌∷◌, ◌++◌, [], List, All, length, is_err, false, refl, ap, sym, subst, ◌∙◌, arith}
 use Rattle.store_map.specs.declared.reply.Reply.TheVariants as reply
 use Rattle.store_core.specs.Told.{Told}
@@ -6,11 +6,11 @@ use Rattle.store_core.specs.Note.{Note}
 use Rattle.store_core.specs.Directory.{Object, Standing, Event, Directory}
 use Rattle.store_core.specs.Look.{remove_object, set_standing}
 use Rattle.store_core.specs.Agreement.{Seat}
-use Rattle.stripe_dir.specs.ItsStripes.{IsWhole}
-use Rattle.dir_parts.specs.Known.{IsKnown}
+use Rattle.stripe_stamps.specs.ItsStripes.{IsWhole}
+use Rattle.version_table.specs.Known.{IsKnown}
 use Rattle.dir_parts.specs.Parts.{object_or_new}
 use Rattle.run_laws.proofs.ContentGrows.{origins, set_keeps}
-use Rattle.stripe_dir.specs.Begun.{deleted}
+use Rattle.dir_parts.specs.Begun.{deleted}
 use Rattle.stripe_dir.specs.Kept.{directory_in}
 use Rattle.stripe_dir.specs.declared.directory.Directory.TheInside.{Inside}
 use Rattle.stripe_dir.proofs.KnownVersions.{all_known}

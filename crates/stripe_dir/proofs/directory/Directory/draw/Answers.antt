@@ -15,13 +15,13 @@ use Rattle.store_core.specs.Agreement.{HeldPass, AgreesWithPass, ActorToken}
 use Rattle.dir_parts.specs.OpenPass.{HasRoom}
 use Rattle.dir_parts.proofs.Actors.{same_is, find_passes}
 use Rattle.version_seal.specs.Entry.{BookOf, RequestOf, StampOf}
-use Rattle.stripe_dir.specs.Sealed.{Sealed, stamps_touched, CanSeal}
-use Rattle.stripe_dir.specs.Stamped.{AreOf}
-use Rattle.stripe_dir.specs.StampList.{StampList}
+use Rattle.stripe_stamps.specs.Sealed.{Sealed, stamps_touched, CanSeal}
+use Rattle.stripe_stamps.specs.Stamped.{AreOf}
+use Rattle.stripe_stamps.specs.StampList.{StampList}
 use Rattle.stripe_dir.specs.Kept.{directory_in, sealed_in}
 use Rattle.stripe_dir.specs.declared.directory.Directory.TheInside.{Inside}
 use Rattle.stripe_dir.proofs.Ending.{agreed, said_of}
-use Rattle.stripe_dir.proofs.Stamps.{stamps_count, fresh_versions}
+use Rattle.stripe_stamps.proofs.StampLists.{stamps_count, fresh_versions}
 use Rattle.stripe_dir.proofs.Draws.{bases_of, draw_step, kept_drawn, kept_undrawn, with_drawn}
 use Rattle.stripe_dir.proofs.directory.Directory.draw.Goals as goal
 

@@ -7,11 +7,11 @@ use Rattle.store_core.specs.Lookups.{is_live}
 use Rattle.store_core.specs.Look.{set_standing}
 use Rattle.store_core.specs.AtDirectory.{at_directory}
 use Rattle.store_core.specs.Agreement.{HeldPass, AgreesWithPass}
-use Rattle.dir_parts.specs.Counts.{unpinned}
+use Rattle.version_table.specs.Counts.{unpinned}
 use Rattle.dir_parts.specs.OpenPass.{Open}
-use Rattle.dir_parts.specs.Known.{IsKnown}
+use Rattle.version_table.specs.Known.{IsKnown}
 use Rattle.run_laws.proofs.ContentGrows.{origins, set_keeps}
-use Rattle.stripe_dir.specs.Sealed.{Sealed}
+use Rattle.stripe_stamps.specs.Sealed.{Sealed}
 use Rattle.stripe_dir.specs.Kept.{directory_in}
 use Rattle.stripe_dir.specs.declared.directory.Directory.TheInside.{Inside}
 use Rattle.stripe_dir.proofs.KnownVersions.{drawn_known}

@@ -5,7 +5,7 @@ use Rattle.store_core.specs.Lookups.{pass_of}
 use Rattle.store_core.specs.AtDirectory.{on_pass}
 use Rattle.store_core.specs.Agreement.{HeldPass, AgreesWithPass}
 use Rattle.dir_parts.specs.OpenPass.{Open}
-use Rattle.stripe_dir.specs.Sealed.{Sealed}
+use Rattle.stripe_stamps.specs.Sealed.{Sealed}
 use Rattle.stripe_dir.specs.Kept.{directory_in}
 use Rattle.stripe_dir.specs.declared.directory.Directory.TheInside.{Inside}
 use Rattle.stripe_dir.proofs.Ending.{Taken, taken, taken_said, taken_seat, kept_reaped, reaped_any, is_there}

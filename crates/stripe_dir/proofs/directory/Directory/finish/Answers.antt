@@ -1,4 +1,4 @@
-use Rattle.stripe_dir.specs.Sealed.{Sealed}
+use Rattle.stripe_stamps.specs.Sealed.{Sealed}
 use Rattle.std.proofs.Common.{◌≡◌, ◌⊎◌, ℕ, ◌+◌, ◌<◌, ◌∷◌, ◌++◌, ◌&&◌, List, [], length, map, zip, slice_get, Vec, Global, None, Some, IsTrue, All, Contains, get_or, false, refl, ap, sym, subst, ◌∙◌, arith}
 use Rattle.std.proofs.lemmas.List.{length-map}
 use Rattle.clay_grid.specs.Shape.{stripe_length}
@@ -12,15 +12,15 @@ use Rattle.store_core.specs.Lookups.{is_live, last_change, is_superseded_standin
 use Rattle.store_core.specs.Look.{set_standing}
 use Rattle.store_core.specs.Commit.{place_all, put_object, is_overtaken}
 use Rattle.store_core.specs.Conditions.{IsPrepared}
-use Rattle.stripe_dir.specs.ItsStripes.{IsWhole}
+use Rattle.stripe_stamps.specs.ItsStripes.{IsWhole}
 use Rattle.store_core.specs.SoundPasses.{IsLive}
 use Rattle.store_core.specs.AtDirectory.{at_directory}
 use Rattle.store_core.specs.Agreement.{HeldPass, AgreesWithPass, ActorToken}
-use Rattle.dir_parts.specs.Counts.{unpinned, one_if, may_append, points_due}
+use Rattle.version_table.specs.Counts.{unpinned, one_if, may_append, points_due}
 use Rattle.dir_parts.specs.OpenPass.{Open}
 use Rattle.dir_parts.specs.Parts.{object_or_new}
-use Rattle.dir_parts.specs.Known.{IsKnown}
-use Rattle.dir_parts.proofs.Known.{known_placed}
+use Rattle.version_table.specs.Known.{IsKnown}
+use Rattle.version_table.proofs.Known.{known_placed}
 use Rattle.run_laws.proofs.ContentGrows.{origins, set_keeps, place_keeps}
 use Rattle.stripe_dir.specs.Kept.{directory_in}
 use Rattle.stripe_dir.specs.Installed.{installed, dropped, changed_in}

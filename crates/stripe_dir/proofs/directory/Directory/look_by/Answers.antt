@@ -1,4 +1,4 @@
-use Rattle.stripe_dir.specs.Sealed.{Sealed}
+use Rattle.stripe_stamps.specs.Sealed.{Sealed}
 use Rattle.std.proofs.Common.{◌≡◌, ℕ, ◌<◌, Option, None, Some, option_map, unwrap_or, ap, sym, subst, ◌∙◌}
 use Rattle.clay_grid.specs.Shape.{stripe_length}
 use Rattle.store_map.specs.declared.reply.Reply.TheVariants as reply
@@ -6,10 +6,10 @@ use Rattle.store_core.specs.Note.{Note, Kind, refusal}
 use Rattle.store_core.specs.Act.{DirectoryStep}
 use Rattle.store_core.specs.Directory.{Object, Event, Directory}
 use Rattle.store_core.specs.Look.{append_point}
-use Rattle.stripe_dir.specs.Begun.{begins_pass}
+use Rattle.dir_parts.specs.Begun.{begins_pass}
 use Rattle.store_core.specs.Lookups.{find_object}
 use Rattle.store_core.specs.Looks.{look, accept}
-use Rattle.stripe_dir.specs.ItsStripes.{IsWhole}
+use Rattle.stripe_stamps.specs.ItsStripes.{IsWhole}
 use Rattle.run_laws.proofs.OwnSteps.{steps_may_be_made}
 use Rattle.dir_parts.specs.Events.{reply_in}
 use Rattle.dir_parts.specs.Passes.{kind_in}

@@ -1,4 +1,4 @@
-use Rattle.stripe_dir.specs.Sealed.{Sealed}
+use Rattle.stripe_stamps.specs.Sealed.{Sealed}
 use Rattle.std.proofs.Common.{◌≡◌, ℕ, ◌<◌, List, length, get_or, cond, All, refl, ap, sym, subst, ◌∙◌}
 use Rattle.clay_grid.specs.Shape.{stripe_length}
 use Rattle.store_core.specs.Told.{Told}
@@ -7,11 +7,11 @@ use Rattle.store_core.specs.Directory.{Object, Standing, Directory}
 use Rattle.store_core.specs.Lookups.{last_change}
 use Rattle.store_core.specs.Look.{pinned_by}
 use Rattle.store_core.specs.Agreement.{Seat}
-use Rattle.stripe_dir.specs.ItsStripes.{IsWhole}
+use Rattle.stripe_stamps.specs.ItsStripes.{IsWhole}
 use Rattle.store_core.specs.SoundPasses.{Stands}
 use Rattle.dir_parts.specs.Parts.{object_or_new}
-use Rattle.stripe_dir.specs.Stripes.{pinned_of}
-use Rattle.stripe_dir.specs.Begun.{begun_in, base_by, has_point, seen_in_object}
+use Rattle.stripe_stamps.specs.Stripes.{pinned_of}
+use Rattle.dir_parts.specs.Begun.{begun_in, base_by, has_point, seen_in_object}
 use Rattle.stripe_dir.specs.Kept.{directory_in}
 use Rattle.stripe_dir.specs.declared.directory.Directory.TheInside.{Inside}
 use Rattle.stripe_dir.proofs.Lookings.{pinned_is, pins_stand, accept_begins, told_begun}

@@ -1,4 +1,4 @@
-use Rattle.stripe_dir.specs.Sealed.{Sealed}
+use Rattle.stripe_stamps.specs.Sealed.{Sealed}
 use Rattle.std.proofs.Common.{◌≡◌, ℕ, ◌<◌, ◌∷◌, [], List, length, get_or, All, None, refl, ap, sym, subst, ◌∙◌, arith}
 use Rattle.std.proofs.lemmas.List.Elements.{All-cons}
 use Rattle.clay_grid.specs.Shape.{stripe_length}
@@ -7,11 +7,11 @@ use Rattle.store_core.specs.Act.{DirectoryStep}
 use Rattle.store_core.specs.Directory.{Standing, Directory}
 use Rattle.store_core.specs.Looks.{look_repair}
 use Rattle.store_core.specs.Agreement.{Seat}
-use Rattle.stripe_dir.specs.ItsStripes.{IsWhole}
+use Rattle.stripe_stamps.specs.ItsStripes.{IsWhole}
 use Rattle.store_core.specs.SoundPasses.{Stands}
 use Rattle.run_laws.proofs.OwnSteps.{steps_may_be_made}
 use Rattle.dir_parts.specs.Parts.{object_or_new}
-use Rattle.stripe_dir.specs.Begun.{begun_in}
+use Rattle.dir_parts.specs.Begun.{begun_in}
 use Rattle.stripe_dir.specs.Kept.{directory_in}
 use Rattle.stripe_dir.proofs.Sound.{keeps_whole}
 use Rattle.stripe_dir.proofs.Commits.{old_current}

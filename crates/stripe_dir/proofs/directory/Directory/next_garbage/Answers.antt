@@ -1,4 +1,4 @@
-use Rattle.stripe_dir.specs.Sealed.{Sealed}
+use Rattle.stripe_stamps.specs.Sealed.{Sealed}
 use Rattle.std.proofs.Common.{◌≡◌, ℕ, Option, false, option_map, ap, sym, ◌∙◌}
 use Rattle.store_map.specs.declared.actor.Version.{Version}
 use Rattle.store_core.specs.Told.{Told}

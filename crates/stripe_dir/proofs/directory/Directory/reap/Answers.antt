@@ -1,11 +1,11 @@
-use Rattle.stripe_dir.specs.Sealed.{Sealed}
+use Rattle.stripe_stamps.specs.Sealed.{Sealed}
 use Rattle.std.proofs.Common.{◌≡◌, ◌<◌, None, Some, Contains, false, find, ap, sym, ◌∙◌, arith}
 use Rattle.store_core.specs.Act.{DirectoryStep}
 use Rattle.store_core.specs.Directory.{Pass, Directory}
 use Rattle.store_core.specs.Lookups.{same_actor, is_live}
 use Rattle.store_core.specs.SoundPasses.{HasVersions}
 use Rattle.store_core.specs.AtDirectory.{at_directory}
-use Rattle.dir_parts.specs.Counts.{points_due}
+use Rattle.version_table.specs.Counts.{points_due}
 use Rattle.dir_parts.specs.OpenPass.{Open}
 use Rattle.dir_parts.proofs.Naming.{none_is}
 use Rattle.stripe_dir.specs.Kept.{directory_in}

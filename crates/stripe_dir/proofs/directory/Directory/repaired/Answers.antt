@@ -7,11 +7,11 @@ use Rattle.store_core.specs.Act.{DirectoryStep}
 use Rattle.store_core.specs.Directory.{Pin, Pass, Directory}
 use Rattle.store_core.specs.Lookups.{pass_of}
 use Rattle.store_core.specs.Agreement.{HeldPass, ActorToken}
-use Rattle.dir_parts.specs.Counts.{unpinned}
+use Rattle.version_table.specs.Counts.{unpinned}
 use Rattle.dir_parts.specs.OpenPass.{Open}
-use Rattle.dir_parts.specs.TableSteps.{placed_anew_by}
+use Rattle.version_table.specs.TableSteps.{placed_anew_by}
 use Rattle.run_laws.proofs.ContentGrows.{origins, raise_keeps}
-use Rattle.stripe_dir.specs.Sealed.{Sealed}
+use Rattle.stripe_stamps.specs.Sealed.{Sealed}
 use Rattle.stripe_dir.specs.Kept.{directory_in}
 use Rattle.stripe_dir.specs.declared.directory.Directory.TheInside.{Inside}
 use Rattle.stripe_dir.proofs.Ending.{Taken, taken, taken_seat, kept_closed, repaired_step, said_of}

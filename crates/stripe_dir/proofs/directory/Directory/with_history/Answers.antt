@@ -2,7 +2,7 @@ use Rattle.std.proofs.Common.{◌<◌, is_some, ap, sym, ◌∙◌, arith, mul-p
 use Rattle.clay_grid.specs.Shape.{Shape, layer_count, chunk_length, stripe_length}
 use Rattle.clay_grid.specs.Limits.{IsGeometry}
 use Rattle.dir_parts.specs.OpenPass.{Desk}
-use Rattle.stripe_dir.specs.StampList.{StampList}
+use Rattle.stripe_stamps.specs.StampList.{StampList}
 use Rattle.stripe_dir.proofs.Opened.{first_kept}
 use Rattle.stripe_dir.proofs.directory.Directory.with_history.Goals as goal
 

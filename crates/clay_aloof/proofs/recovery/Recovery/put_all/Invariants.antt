@@ -1,5 +1,0 @@
-use Rattle.clay_aloof.specs.Recoveries.{ArePut}
-use Rattle.clay_aloof.proofs.recovery.Recovery.put_all.Given as goal
-
-abbrev pub invariant-loop-c : goal.invariant-loop-c
-invariant-loop-c l = ArePut l.self.g l.self.missing.now l.c l.fn.chunks l.chunks

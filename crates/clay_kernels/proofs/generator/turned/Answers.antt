@@ -1,6 +1,0 @@
-use Rattle.std.proofs.Common.{arith}
-use Rattle.clay_kernels.proofs.GeneratorLaws.{turned_below}
-use Rattle.clay_kernels.proofs.generator.turned.Goals as goal
-
-pub bounds-values-p : goal.bounds-values-p
-bounds-values-p c = omega (arith, turned_below c.args.m c.args.n c.args.width c.loop-p.p c.requires.within c.loop-p-test.true)

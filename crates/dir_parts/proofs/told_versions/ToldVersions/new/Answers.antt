@@ -1,7 +1,0 @@
-use Rattle.std.proofs.Common.{ap, ◌∙◌}
-use Rattle.dir_parts.specs.Told.{entries_of}
-use Rattle.dir_parts.proofs.Told.{entries_back}
-use Rattle.dir_parts.proofs.told_versions.ToldVersions.new.Goals as goal
-
-pub returns : goal.returns
-returns c = ap entries_of c.of.ensures ∙ entries_back _

@@ -1,6 +1,0 @@
-use Rattle.std.proofs.lemmas.List.Sorted.{IsPermutation-map}
-use Rattle.dir_parts.specs.Table.{number_in}
-use Rattle.dir_parts.proofs.versions.push_reserved.Goals as goal
-
-pub returns-clause-items : goal.returns-clause-items
-returns-clause-items c = IsPermutation-map number_in _ _ c.in-Ok.ensures.permutation

@@ -1,0 +1,3 @@
+pub mod Agreeing
+pub mod ShownRows
+pub mod TicketDraws

@@ -1,0 +1,19 @@
+use Rattle.std.proofs.Common.{rules, map, false, refl, sym, ◌∙◌}
+use Rattle.store_core.specs.Act.{DirectoryStep}
+use Rattle.stripe_dir.specs.Answers.{told_committed}
+use Rattle.dir_tickets.specs.TicketView.{token_at}
+use Rattle.dir_tickets.proofs.Agreeing.{agrees_after, made_in_call}
+use Rattle.dir_tickets.proofs.ticket.Ticket.commit.Goals as goal
+
+pub returns-clause-step : goal.returns-clause-step
+returns-clause-step c =
+    made_in_call c.args.number (DirectoryStep.Commit (map (λ row. row.items) c.args.placed.items)) c.args.directory.now.core c.commit.new.self.core c.args.self.now false false refl (told_committed c.commit.result) (told_committed c.split_committed-held.result.1) (sym c.split_committed-held.ensures.told) c.take_pass-pass.result
+    (c.take_pass-pass.ensures.pass ∙ c.self.view_is) c.requires.may c.commit.ensures.step
+
+pub returns-clause-token : goal.returns-clause-token
+returns-clause-token c = search rules
+
+pub returns-clause-agrees : goal.returns-clause-agrees
+returns-clause-agrees c =
+    agrees_after false c.args.number c.args.directory.now.core c.keeps.ensures.bytes c.keeps.ensures.whole.sound c.commit.new.self.core (told_committed c.split_committed-held.result.1) (token_at c.put.new.place) c.args.self.now
+    (DirectoryStep.Commit (map (λ row. row.items) c.args.placed.items)) c.requires.agrees c.requires.may (returns-clause-step c) (returns-clause-token c)

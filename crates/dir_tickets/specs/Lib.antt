@@ -1,0 +1,2 @@
+pub mod TicketView
+pub mod TicketSteps

@@ -1,0 +1,4 @@
+pub mod Columns
+pub mod Distances
+pub mod Generated
+pub mod SmallColumns

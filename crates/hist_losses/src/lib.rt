@@ -1,0 +1,9 @@
+//! The rule on calls that were unavailable: each chunk that is called missing can have been.
+#![tactic(auto)]
+
+mod blame;
+mod chunks;
+mod losses;
+
+pub use blame::{blame_unless, downs_fit};
+pub use losses::find_false_loss;

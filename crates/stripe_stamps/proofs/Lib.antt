@@ -1,0 +1,2 @@
+pub mod StampLists
+pub mod StampSteps

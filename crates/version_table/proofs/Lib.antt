@@ -1,0 +1,9 @@
+pub mod Changes
+pub mod Counting
+pub mod Drawing
+pub mod Known
+pub mod Least
+pub mod Places
+pub mod RowSteps
+pub mod TableSteps
+pub mod Told
