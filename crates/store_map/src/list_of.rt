@@ -53,14 +53,6 @@ impl<T> ListOf<T> {
         ListOf { items }
     }
 
-    /// The items as a vector, in the list's memory.
-    pub fn into_vec(self) -> Vec<T>
-        ensures { result.items ≡ self }
-    {
-        let ListOf { items } = self;
-        items
-    }
-
     pub fn as_slice(&self) -> &[T]
         ensures { result.now ≡ self.now }
     {
