@@ -107,6 +107,31 @@ fn find_wrong_end(
     find_wrong_sum(alloc, script, transcript)
 }
 
+// The fault of the first broken rule, where the lines are right, by a map without objects.
+fn find_fault_by(
+    alloc: Global,
+    script: &Script,
+    transcript: &Transcript,
+    map: &mut ObjectMap,
+) -> Result<Option<Verdict>, AllocError>
+    requires few { length (answered_calls transcript.now) < 2 ^ 32 }
+    requires lines { first_of (calls_exist script.now transcript.now ∷ points_rise transcript.now ∷ []) ≡ None }
+    requires rising { points_rise transcript.now ≡ None }
+    requires map { map.old ≡ record { max = size_of script.now; objects = [] } }
+    ensures { IfOk result (λ found. found ≡ fault_of script.now transcript.now) }
+{
+    if let Some(fault) = replay(script, transcript.history.as_slice(), map)? {
+        return Ok(Some(fault));
+    }
+    if let Some(fault) = find_wrong_order(alloc, script, transcript)? {
+        return Ok(Some(fault));
+    }
+    if let Some(fault) = find_false_cause(alloc, script, transcript)? {
+        return Ok(Some(fault));
+    }
+    find_wrong_end(alloc, script, transcript, map)
+}
+
 // The fault of the first rule that is broken.
 fn find_fault(
     alloc: Global,
@@ -120,16 +145,9 @@ fn find_fault(
         return Ok(Some(fault));
     }
     let mut map = ObjectMap::new(alloc, script.max_size());
-    if let Some(fault) = replay(script, transcript.history.as_slice(), &mut map)? {
-        return Ok(Some(fault));
-    }
-    if let Some(fault) = find_wrong_order(alloc, script, transcript)? {
-        return Ok(Some(fault));
-    }
-    if let Some(fault) = find_false_cause(alloc, script, transcript)? {
-        return Ok(Some(fault));
-    }
-    find_wrong_end(alloc, script, transcript, &map)
+    let found = find_fault_by(alloc, script, transcript, &mut map);
+    drop(map);
+    found
 }
 
 /// Whether the transcript can be that of a run of the script, and the first fault where it can't.
