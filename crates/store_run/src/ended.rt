@@ -107,8 +107,8 @@ pub(crate) fn close<R: Wait>(
         directory,
         rows,
     } = left;
-    let directory = close_directory(rt, store, directory);
     let servers = close_servers(rt, alloc, store, rows)?;
+    let directory = close_directory(rt, store, directory);
     Ok(Ended {
         directory,
         servers,

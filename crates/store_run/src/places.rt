@@ -137,6 +137,8 @@ pub(crate) fn lock_places<'a>(
         }
         Err(e) => {
             leave_seats(seats);
+            drop(servers);
+            drop(server_turns);
             Err(e)
         }
     }

@@ -24,12 +24,15 @@ impl Ended {
             clients,
             repairers,
         } = self;
-        make_transcript(
+        let transcript = make_transcript(
             alloc,
             &directory,
             servers.as_slice(),
             clients,
             repairers.as_slice(),
-        )
+        );
+        drop(directory);
+        drop(servers);
+        transcript
     }
 }

@@ -153,10 +153,12 @@ fn run_over<R: Threads + Wait + Sync, C: Coder + Sync, G: Gate + Sync>(
     };
     let Store {
         script: _,
-        directory: _directory,
-        servers: _servers,
+        directory,
+        servers,
         book: _,
     } = store;
+    drop(directory);
+    drop(servers);
     shown
 }
 
