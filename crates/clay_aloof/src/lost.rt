@@ -1,5 +1,6 @@
 //! The lost chunk, from parts of the helpers' chunks.
 ghost use Rattle.std.specs.Prelude.{◌≡◌, ◌≢◌, ℕ, ◌+◌, ◌*◌, ◌/◌, ◌%◌, ◌^◌, ◌<◌, ◌≤◌, ◌↔◌, ◌||◌, ◌&&◌, List, length, IfOk, OnOk, OnErr, IfSome, IsTrue, MatchOption, slice_index, slice_index_or, slice_range, true, false, eqb, is_none, is_some, count_by, None, Some, filter, nat_eq};
+ghost use Rattle.clay_field.specs.Coupling.{gamma_inverse};
 ghost use Rattle.clay_grid.specs.Shape.{Shape, row_count, column_count, node_count, layer_count, chunk_length};
 ghost use Rattle.clay_grid.specs.Layers.{layer_of};
 ghost use Rattle.clay_grid.specs.Score.{count_below};
@@ -314,7 +315,7 @@ fn lost_piece(
     out: &mut [u8],
 )
     requires parts { ArePieces g lost (pieces_of parts) }
-    requires halves { halves.now ≡ 0x8E }
+    requires halves { halves.now ≡ gamma_inverse }
     requires plan { IsRepairPlan g lost (pieces_of parts) plan.now }
     requires known { IsKnown (grid_of g) known.now }
     requires put { ArePut g lost (pieces_of parts) (all_chunks g) (node_bytes (grid_of g) known.now) }

@@ -2,6 +2,7 @@
 //! are the laws.
 
 ghost use Rattle.std.specs.Prelude.{◌≡◌, ◌≢◌, ℕ, ◌^◌, ◌<◌, ◌⊎◌, bit_xor};
+ghost use Rattle.clay_field.specs.Coupling.{gamma, determinant, gamma_inverse, determinant_inverse};
 ghost use Rattle.clay_field.specs.Field.{product, power_of, inverse_of, quotient};
 
 /// The sum is that of a commutative group in which each element is its own negative.
@@ -34,8 +35,9 @@ pub fn two_generates()
 /// The values with which the coupling reckons.
 pub fn coupling_values()
     ensures twice_top_bit { product 2 0x80 ≡ 0x1D }
-    ensures half { quotient 1 2 ≡ 0x8E }
-    ensures fifth { quotient 1 5 ≡ 0xA7 }
+    ensures determinant { determinant ≡ bit_xor 1 (product gamma gamma) }
+    ensures half { quotient 1 gamma ≡ gamma_inverse }
+    ensures fifth { quotient 1 determinant ≡ determinant_inverse }
     ensures two_fifths { quotient 2 5 ≡ 0x53 }
     ensures three_fifths { quotient 3 5 ≡ 0xF4 }
     ensures four_fifths { quotient 4 5 ≡ 0xA6 }

@@ -2,6 +2,7 @@
 use Rattle.std.specs.Prelude.{◌≡◌, ℕ, ◌+◌, ◌*◌, ◌<◌, ◌≤◌, Bool, false, List, [], map, length, get_or, slice_index_or, filter, replicate, is_none, Option, None, All, Vec}
 use Rattle.std.specs.List.{range_with_len}
 use Rattle.std.specs.declared.alloc.Global.{Global}
+use Rattle.clay_field.specs.Coupling.{determinant_inverse}
 use Rattle.clay_grid.specs.Shape.{Shape, chunk_count, node_count, layer_count, chunk_length}
 use Rattle.clay_grid.specs.Limits.{IsGeometry}
 use Rattle.clay_grid.specs.Score.{score_at, IsByScore}
@@ -23,7 +24,7 @@ pub record IsPlanFor (g : Shape) (gone : ℕ → Bool) (plan : Plan) : Type 0 wh
   pub generator : IsGeneratorOf g plan.points.items plan.generator.unknown plan.generator.each
   pub order : IsByScore g plan.erased.items plan.layers.items
   pub empty : plan.zeros.items ≡ replicate g.width 0
-  pub fifths : plan.fifths ≡ 0xA7
+  pub fifths : plan.fifths ≡ determinant_inverse
 
 -- a call of decoding works with the plan of the missing chunks
 pub record IsLanePlan (g : Shape) (have : List (Option (Vec ℕ Global))) (plan : Plan) : Type 0 where

@@ -1,39 +1,40 @@
 //! Coupling and uncoupling of subchunks, byte by byte.
 ghost use Rattle.std.specs.Prelude.{◌≡◌, EachIndex, slice_index, length, bit_xor};
+ghost use Rattle.clay_field.specs.Coupling.{gamma, determinant};
 ghost use Rattle.clay_field.specs.Field.{product, quotient};
 
 use clay_field::mul;
 
-/// The inverse of 2.
+/// The inverse of γ, which is 2.
 const HALF: u8 = 0x8E;
 
-/// The inverse of 5.
+/// The inverse of 5, the determinant of a pair's coupling.
 const FIFTH: u8 = 0xA7;
 
 // Twice a byte.
 fn twice(a: u8) -> u8
-    ensures { result ≡ product 2 a }
+    ensures { result ≡ product gamma a }
 {
     mul(a, 2)
 }
 
 // Half of a byte.
 fn half(a: u8) -> u8
-    ensures { result ≡ quotient a 2 }
+    ensures { result ≡ quotient a gamma }
 {
     if a & 1 == 0 { a >> 1 } else { (a >> 1) ^ HALF }
 }
 
 // A fifth of a byte.
 fn fifth(a: u8) -> u8
-    ensures { result ≡ quotient a 5 }
+    ensures { result ≡ quotient a determinant }
 {
     mul(a, FIFTH)
 }
 
 // Five times a byte.
 fn five_times(a: u8) -> u8
-    ensures { result ≡ product 5 a }
+    ensures { result ≡ product determinant a }
 {
     a ^ twice(twice(a))
 }
@@ -44,7 +45,7 @@ pub fn uncouple(own: &[u8], partner: &[u8], out: &mut [u8])
     requires partner_len { length own.now ≡ length partner.now }
     requires out_len { length own.now ≡ length out.old }
     ensures { EachIndex out.new (λ k.
-        slice_index out.new k ≡ bit_xor (slice_index own.now k) (product 2 (slice_index partner.now k))) }
+        slice_index out.new k ≡ bit_xor (slice_index own.now k) (product gamma (slice_index partner.now k))) }
 {
     for (i, byte) in out.iter_mut().enumerate() {
         *byte = own[i] ^ twice(partner[i]);
@@ -58,7 +59,7 @@ pub fn couple(own_u: &[u8], partner_u: &[u8], out: &mut [u8])
     requires out_len { length own_u.now ≡ length out.old }
     ensures { EachIndex out.new (λ k.
         slice_index out.new k
-        ≡ quotient (bit_xor (slice_index own_u.now k) (product 2 (slice_index partner_u.now k))) 5) }
+        ≡ quotient (bit_xor (slice_index own_u.now k) (product gamma (slice_index partner_u.now k))) determinant) }
 {
     for (i, byte) in out.iter_mut().enumerate() {
         *byte = fifth(own_u[i] ^ twice(partner_u[i]));
@@ -72,7 +73,7 @@ pub fn uncouple_from(own_c: &[u8], partner_u: &[u8], out: &mut [u8])
     requires out_len { length own_c.now ≡ length out.old }
     ensures { EachIndex out.new (λ k.
         slice_index out.new k
-        ≡ bit_xor (product 5 (slice_index own_c.now k)) (product 2 (slice_index partner_u.now k))) }
+        ≡ bit_xor (product determinant (slice_index own_c.now k)) (product gamma (slice_index partner_u.now k))) }
 {
     for (i, byte) in out.iter_mut().enumerate() {
         *byte = five_times(own_c[i]) ^ twice(partner_u[i]);
@@ -85,7 +86,7 @@ pub fn cross(own_u: &[u8], own_c: &[u8], out: &mut [u8])
     requires own_len { length own_u.now ≡ length own_c.now }
     requires out_len { length own_u.now ≡ length out.old }
     ensures { EachIndex out.new (λ k.
-        slice_index out.new k ≡ quotient (bit_xor (slice_index own_u.now k) (slice_index own_c.now k)) 2) }
+        slice_index out.new k ≡ quotient (bit_xor (slice_index own_u.now k) (slice_index own_c.now k)) gamma) }
 {
     for (i, byte) in out.iter_mut().enumerate() {
         *byte = half(own_u[i] ^ own_c[i]);

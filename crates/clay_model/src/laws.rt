@@ -2,6 +2,7 @@
 
 ghost use Rattle.std.specs.Prelude.{◌≡◌, ℕ, ◌+◌, ◌-◌, ◌*◌, ◌/◌, ◌%◌, ◌^◌, ◌<◌, ◌≤◌, ◌↔◌, Bool, All, List, [], ◌∷◌, ◌++◌, length, replicate, slice_index_or, Option, is_none, slice_index, slice_set, bit_xor};
 ghost use Rattle.std.specs.List.{concat};
+ghost use Rattle.clay_field.specs.Coupling.{gamma, determinant};
 ghost use Rattle.clay_field.specs.Field.{product, quotient};
 ghost use Rattle.clay_grid.specs.Shape.{Shape, chunk_count, stripe_length};
 ghost use Rattle.clay_grid.specs.Limits.{IsGeometry};
@@ -20,9 +21,9 @@ pub fn coupling_is_inverse()
     ensures uncoupled { (c d u v : ℕ) → u < 2 ^ 8 → v < 2 ^ 8
         → AreCoupled u v c d → AreUncoupled c d u v }
     ensures from_partner { (c d u v : ℕ) → c < 2 ^ 8
-        → AreUncoupled c d u v → u ≡ bit_xor (product 5 c) (product 2 v) }
+        → AreUncoupled c d u v → u ≡ bit_xor (product determinant c) (product gamma v) }
     ensures crossed { (c d u v : ℕ) → d < 2 ^ 8
-        → AreUncoupled c d u v → d ≡ quotient (bit_xor u c) 2 }
+        → AreUncoupled c d u v → d ≡ quotient (bit_xor u c) gamma }
 {}
 
 /// Two codewords that agree on all but as many chunks as there are parity chunks are equal. So a stripe has one, and

@@ -1,5 +1,6 @@
 -- A group of layers with short subchunks: m rows of m subchunks of w bytes, those of a node one behind another.
 use Rattle.std.specs.Prelude.{◌≡◌, ℕ, ◌+◌, ◌*◌, ◌/◌, ◌%◌, ◌<◌, cond, eqb, List, get_or, bit_xor}
+use Rattle.clay_field.specs.Coupling.{gamma, determinant}
 use Rattle.clay_field.specs.Field.{product, quotient}
 
 -- the rows hold the values of the layers from m * number on
@@ -10,4 +11,4 @@ pub record HoldsShort (m w number : ℕ) (value : ℕ → ℕ → ℕ → ℕ) (
 abbrev pub short_coupled : ℕ → ℕ → List ℕ → ℕ → ℕ → ℕ
 short_coupled m w rows x o =
     cond (eqb x (o / w)) (get_or rows (x * (m * w) + o) 0)
-    (quotient (bit_xor (get_or rows (x * (m * w) + o) 0) (product 2 (get_or rows ((o / w * m + x) * w + o % w) 0))) 5)
+    (quotient (bit_xor (get_or rows (x * (m * w) + o) 0) (product gamma (get_or rows ((o / w * m + x) * w + o % w) 0))) determinant)

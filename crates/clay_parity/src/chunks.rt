@@ -1,5 +1,6 @@
 //! The parity chunks of a stripe.
 ghost use Rattle.std.specs.Prelude.{◌≡◌, ℕ, ◌+◌, ◌-◌, ◌*◌, ◌%◌, ◌<◌, ◌≤◌, slice_index, length, min, bit_xor, slice_index_or, [], IfOk};
+ghost use Rattle.clay_field.specs.Coupling.{determinant_inverse};
 ghost use Rattle.clay_field.specs.Field.{product};
 ghost use Rattle.clay_grid.specs.Shape.{row_count, layer_count, stripe_length};
 ghost use Rattle.clay_grid.specs.Layers.{layer_of};
@@ -390,7 +391,7 @@ fn add_piece(
     values: &mut [u8],
     chunk: &mut Vec<u8>,
 ) -> Result<(), AllocError>
-    requires fifths { fifths.now ≡ 0xA7 }
+    requires fifths { fifths.now ≡ determinant_inverse }
     requires group_len { length group.now ≡ g.parity_count * (g.parity_count * g.width) }
     requires row { x < row_count g }
     requires digit { digit < row_count g }
@@ -448,7 +449,7 @@ fn add_pieces(
     values: &mut [u8],
     chunk: &mut Vec<u8>,
 ) -> Result<(), AllocError>
-    requires fifths { fifths.now ≡ 0xA7 }
+    requires fifths { fifths.now ≡ determinant_inverse }
     requires group_len { length group.now ≡ g.parity_count * (g.parity_count * g.width) }
     requires row { x < row_count g }
     requires values_len { length values.old ≡ min g.width 4096 }
@@ -469,7 +470,7 @@ fn add_group(
     values: &mut [u8],
     chunks: &mut [Vec<u8>],
 ) -> Result<(), AllocError>
-    requires fifths { fifths.now ≡ 0xA7 }
+    requires fifths { fifths.now ≡ determinant_inverse }
     requires group_len { length group.now ≡ g.parity_count * (g.parity_count * g.width) }
     requires values_len { length values.old ≡ min g.width 4096 }
     requires chunk_count { length chunks.old ≡ g.parity_count }
@@ -519,7 +520,7 @@ fn add_short_row(
     coupled: &mut [u8],
     chunk: &mut Vec<u8>,
 ) -> Result<(), AllocError>
-    requires fifths { fifths.now ≡ 0xA7 }
+    requires fifths { fifths.now ≡ determinant_inverse }
     requires rows_len { length rows.now ≡ g.parity_count * (g.parity_count * g.width) }
     requires row { x < row_count g }
     requires partners_len { length partners.old ≡ g.parity_count * g.width }
@@ -543,7 +544,7 @@ fn add_short_group(
     coupled: &mut [u8],
     chunks: &mut [Vec<u8>],
 ) -> Result<(), AllocError>
-    requires fifths { fifths.now ≡ 0xA7 }
+    requires fifths { fifths.now ≡ determinant_inverse }
     requires rows_len { length rows.now ≡ g.parity_count * (g.parity_count * g.width) }
     requires partners_len { length partners.old ≡ g.parity_count * g.width }
     requires coupled_len { length coupled.old ≡ g.parity_count * g.width }

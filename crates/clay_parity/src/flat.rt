@@ -1,5 +1,6 @@
 //! The parity chunks of a stripe, written one behind another into the caller's bytes.
 ghost use Rattle.std.specs.Prelude.{◌≡◌, ℕ, ◌+◌, ◌-◌, ◌*◌, ◌%◌, ◌<◌, ◌≤◌, slice_index, length, min, OnOk, OnErr};
+ghost use Rattle.clay_field.specs.Coupling.{determinant_inverse};
 ghost use Rattle.clay_grid.specs.Shape.{row_count, layer_count, chunk_length, stripe_length};
 ghost use Rattle.generator_matrix.specs.Generated.{IsLastGenerator};
 ghost use Rattle.clay_parity.specs.Blocks.{coupled_byte, piece_bytes};
@@ -24,7 +25,7 @@ fn write_block(
     at: usize,
     out: &mut [u8],
 )
-    requires fifths { fifths.now ≡ 0xA7 }
+    requires fifths { fifths.now ≡ determinant_inverse }
     requires group_len { length group.now ≡ g.parity_count * (g.parity_count * g.width) }
     requires row { x < row_count g }
     requires digit { digit < row_count g }
@@ -45,7 +46,7 @@ fn write_block(
 
 // Writes the coupled bytes of row `x` in a layer of the group, a subchunk.
 fn write_piece(g: Geometry, fifths: &Products, group: &[u8], x: u32, digit: u32, out: &mut [u8])
-    requires fifths { fifths.now ≡ 0xA7 }
+    requires fifths { fifths.now ≡ determinant_inverse }
     requires group_len { length group.now ≡ g.parity_count * (g.parity_count * g.width) }
     requires row { x < row_count g }
     requires digit { digit < row_count g }
@@ -63,7 +64,7 @@ fn write_piece(g: Geometry, fifths: &Products, group: &[u8], x: u32, digit: u32,
 
 /// Writes the coupled bytes of row `x` in all layers of the group, one subchunk after another.
 pub fn write_pieces(g: Geometry, fifths: &Products, group: &[u8], x: u32, out: &mut [u8])
-    requires fifths { fifths.now ≡ 0xA7 }
+    requires fifths { fifths.now ≡ determinant_inverse }
     requires group_len { length group.now ≡ g.parity_count * (g.parity_count * g.width) }
     requires row { x < row_count g }
     requires out_len { length out.old ≡ g.parity_count * g.width }
@@ -78,7 +79,7 @@ pub fn write_pieces(g: Geometry, fifths: &Products, group: &[u8], x: u32, out: &
 
 // Writes to each parity chunk its subchunks of a group of layers.
 fn write_long_group(g: Geometry, fifths: &Products, number: u32, group: &[u8], out: &mut [u8])
-    requires fifths { fifths.now ≡ 0xA7 }
+    requires fifths { fifths.now ≡ determinant_inverse }
     requires in_layers { number * row_count g + row_count g ≤ layer_count g }
     requires group_len { length group.now ≡ g.parity_count * (g.parity_count * g.width) }
     requires out_len { length out.old ≡ g.parity_count * chunk_length g }
@@ -101,7 +102,7 @@ fn write_short_group(
     partners: &mut [u8],
     out: &mut [u8],
 )
-    requires fifths { fifths.now ≡ 0xA7 }
+    requires fifths { fifths.now ≡ determinant_inverse }
     requires in_layers { number * row_count g + row_count g ≤ layer_count g }
     requires rows_len { length rows.now ≡ g.parity_count * (g.parity_count * g.width) }
     requires partners_len { length partners.old ≡ g.parity_count * g.width }

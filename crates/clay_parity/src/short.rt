@@ -1,5 +1,6 @@
 //! Squares of short pieces: the subchunks of a group of layers, those of a node one behind another as in its chunk.
 ghost use Rattle.std.specs.Prelude.{◌≡◌, ℕ, ◌+◌, ◌*◌, ◌/◌, ◌%◌, ◌<◌, ◌≤◌, slice_index, length};
+ghost use Rattle.clay_field.specs.Coupling.{determinant_inverse};
 ghost use Rattle.code_laws.specs.Columns.{HoldsPieces};
 ghost use Rattle.clay_parity.specs.Short.{short_coupled};
 
@@ -46,7 +47,7 @@ pub fn couple_row(
     partners: &mut [u8],
     out: &mut [u8],
 )
-    requires fifths { fifths.now ≡ 0xA7 }
+    requires fifths { fifths.now ≡ determinant_inverse }
     requires few { count ≤ 8 }
     requires narrow { width ≤ 65536 }
     requires rows_len { length rows.now ≡ count * (count * width) }

@@ -3,6 +3,7 @@
 //! The layers that differ in the last digit alone lie side by side in a chunk, and outside the last column so do their partners' subchunks.
 //! So bytes of a layer may run on into the later layers of its group.
 ghost use Rattle.std.specs.Prelude.{◌≡◌, ℕ, ◌+◌, ◌-◌, ◌*◌, ◌%◌, ◌<◌, ◌≤◌, slice_index, length, bit_xor};
+ghost use Rattle.clay_field.specs.Coupling.{gamma};
 ghost use Rattle.clay_field.specs.Field.{product};
 ghost use Rattle.clay_grid.specs.Shape.{row_count, column_count, layer_count, stripe_length};
 ghost use Rattle.clay_grid.specs.Layers.{layer_of, vertex_at, partner_of};
@@ -41,7 +42,7 @@ pub fn uncouple_node(
     requires within { at + length theirs.now ≤ (row_count g - z % row_count g) * g.width }
     requires values_len { length values.old ≡ length theirs.now }
     ensures { (b : ℕ) → b < length theirs.now → slice_index values.new b
-        ≡ bit_xor (data_byte g stripe.now (at + b) node z) (product 2 (slice_index theirs.now b)) }
+        ≡ bit_xor (data_byte g stripe.now (at + b) node z) (product gamma (slice_index theirs.now b)) }
 {
     if node < g.k() {
         uncouple(piece(g, stripe, node, z, at, theirs.len()), theirs, values);

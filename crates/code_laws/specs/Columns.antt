@@ -1,5 +1,6 @@
 -- What encoding computes: the uncoupled values of the columns that the stripe fills, and those of the last column, which the sums determine.
 use Rattle.std.specs.Prelude.{◌≡◌, ℕ, ◌+◌, ◌-◌, ◌*◌, ◌/◌, ◌%◌, ◌<◌, Bool, false, not, cond, nat_lt, eqb, List, [], length, get_or, set, bit_xor}
+use Rattle.clay_field.specs.Coupling.{gamma, determinant}
 use Rattle.clay_field.specs.Field.{product, power_of, quotient}
 use Rattle.clay_grid.specs.Shape.{Shape, row_count, column_count, node_count, layer_count, chunk_length}
 use Rattle.clay_grid.specs.Layers.{layer_of, index_of}
@@ -56,7 +57,7 @@ abbrev pub coupled_last : Shape → List ℕ → ℕ → ℕ → List ℕ → �
 coupled_last g column b x z =
     let y = column_count g - 1 in
     cond (eqb (get_or z y 0) x) (last_value g column b x z)
-    (quotient (bit_xor (last_value g column b x z) (product 2 (last_value g column b (get_or z y 0) (set z y x)))) 5)
+    (quotient (bit_xor (last_value g column b x z) (product gamma (last_value g column b (get_or z y 0) (set z y x)))) determinant)
 
 -- the subchunks below count of row x's chunk hold its coupled values
 abbrev pub HoldsCoupled : Shape → List ℕ → ℕ → ℕ → List ℕ → Type 0

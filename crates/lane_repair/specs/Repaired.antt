@@ -1,6 +1,7 @@
 -- What a call of repair works with.
 use Rattle.std.specs.Prelude.{◌≡◌, ℕ, ◌*◌, ◌/◌, ◌%◌, ◌<◌, eqb, false, List, get_or, length, replicate}
 use Rattle.std.specs.List.{range_with_len}
+use Rattle.clay_field.specs.Coupling.{gamma_inverse}
 use Rattle.clay_grid.specs.Shape.{Shape, chunk_count, row_count, node_count, node_of_chunk}
 use Rattle.clay_grid.specs.Limits.{IsGeometry}
 use Rattle.clay_grid.specs.Repair.{repair_layers_of}
@@ -22,4 +23,4 @@ pub record IsRepairPlan (g : Shape) (plan : RepairPlan) : Type 0 where
   pub generator : IsGeneratorOf g (column_nodes g plan.column) plan.generator.unknown plan.generator.each
   pub layers : plan.layers.items ≡ repair_layers_of g plan.lost
   pub empty : plan.zeros.items ≡ replicate g.width 0
-  pub halves : plan.halves ≡ 0x8E
+  pub halves : plan.halves ≡ gamma_inverse

@@ -1,5 +1,6 @@
 -- What a run is read with.
 use Rattle.std.specs.Prelude.{◌≡◌, ℕ, suc, ◌*◌, ◌≤◌, List, length, get_or, replicate}
+use Rattle.clay_field.specs.Coupling.{gamma_inverse, determinant_inverse}
 use Rattle.clay_grid.specs.Shape.{chunk_count, node_count, layer_count}
 use Rattle.clay_grid.specs.Score.{count_below, IsByScore}
 use Rattle.clay_model.specs.Erased.{erased_below}
@@ -30,5 +31,5 @@ pub record IsReadPlan (e : Erased) (plan : ReadPlan) : Type 0 where
   pub by_score : IsByScore e.g e.unknown plan.order.items
   pub ranks_are : AreRanks e (layer_count e.g) plan.ranks.items
   pub empty : plan.zeros.items ≡ replicate e.g.width 0
-  pub halves_are : plan.halves ≡ 0x8E
-  pub fifths_are : plan.fifths ≡ 0xA7
+  pub halves_are : plan.halves ≡ gamma_inverse
+  pub fifths_are : plan.fifths ≡ determinant_inverse

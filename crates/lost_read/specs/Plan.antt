@@ -1,5 +1,6 @@
 -- What a run is read with.
 use Rattle.std.specs.Prelude.{◌≡◌, ℕ, ◌+◌, ◌*◌, ◌<◌, ◌≤◌, true, false, List, length, get_or, replicate}
+use Rattle.clay_field.specs.Coupling.{gamma_inverse}
 use Rattle.clay_grid.specs.Shape.{Shape, chunk_count, node_count, layer_count}
 use Rattle.clay_model.specs.Erased.{erased_below}
 use Rattle.generator_matrix.specs.Generated.{IsGeneratorOf}
@@ -44,4 +45,4 @@ pub record IsReadPlan (plan : ReadPlan) : Type 0 where
   pub points_are : plan.points.items ≡ erased_below plan.erased.items (node_count plan.placed.g)
   pub generates : IsGeneratorOf plan.placed.g plan.points.items plan.generator.unknown plan.generator.each
   pub empty : plan.zeros.items ≡ replicate plan.placed.g.width 0
-  pub halves_are : plan.halves ≡ 0x8E
+  pub halves_are : plan.halves ≡ gamma_inverse

@@ -6,6 +6,7 @@ pub returns : goal.returns
 unfolding sum_of_copies remainder product power_of inverse_of
 returns c = record {
   twice_top_bit = refl;
+  determinant = refl;
   half = refl;
   fifth = refl;
   two_fifths = refl;
