@@ -25,6 +25,8 @@ mod joins;
 #[cfg(test)]
 mod mends;
 #[cfg(test)]
+mod placed_bytes;
+#[cfg(test)]
 mod shares;
 #[cfg(test)]
 mod told_cuts;

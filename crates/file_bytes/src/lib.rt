@@ -6,8 +6,6 @@ mod logs;
 mod memory;
 mod standard;
 mod stream;
-#[cfg(test)]
-mod tests;
 
 pub use laws::files_grow;
 pub use logs::{PlaceLog, PositionLog};

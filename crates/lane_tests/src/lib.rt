@@ -13,7 +13,11 @@ mod encoding;
 #[cfg(test)]
 mod kernels;
 #[cfg(test)]
+mod lost_counts;
+#[cfg(test)]
 mod lost_reads;
+#[cfg(test)]
+mod missing_counts;
 #[cfg(test)]
 mod missing_reads;
 #[cfg(test)]

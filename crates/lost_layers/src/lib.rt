@@ -8,14 +8,10 @@ mod laws_of_missing;
 mod marked;
 mod missing;
 mod missing_fault;
-#[cfg(test)]
-mod missing_tests;
 mod pieces;
 mod pieces_of_missing;
 mod placed;
 mod run;
-#[cfg(test)]
-mod tests;
 mod unknown;
 
 pub use erased::ErasedRun;

@@ -1,6 +1,6 @@
-//! Pieces of some runs. The numbers are those of a planner in C that shares nothing with this crate.
-use crate::{LostFault, LostPiece, LostRun, lost_count, lost_pieces};
+//! Pieces of some runs. The numbers are those of a planner in C that shares nothing with the library.
 use clay_grid::Geometry;
+use lost_layers::{LostFault, LostPiece, LostRun, lost_count, lost_pieces};
 use std::test::Fail;
 
 /// k, m, the lost chunk, from, to; how many subchunks are read

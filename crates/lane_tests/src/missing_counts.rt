@@ -1,8 +1,6 @@
 //! Pieces without some chunks.
-use crate::missing::{missing_count, missing_pieces};
-use crate::missing_fault::MissingFault;
-use crate::run::LostRun;
 use clay_grid::Geometry;
+use lost_layers::{LostRun, MissingFault, missing_count, missing_pieces};
 use std::alloc::Global;
 use std::test::Fail;
 

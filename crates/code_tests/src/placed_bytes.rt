@@ -1,6 +1,6 @@
 //! Files that move few bytes a call, and whose calls fail in turn.
-use crate::{MemFile, ReadFault, StdFile, read_exact_at, write_all_at};
 use clay_bytes::WriteFault;
+use file_bytes::{MemFile, ReadFault, StdFile, read_exact_at, write_all_at};
 use std::alloc::{AllocError, Global};
 use std::io;
 use std::os::unix::fs::FileExt;
