@@ -93,7 +93,8 @@ impl Crc64 {
     {
         let first = register ^ LittleEndian::read_u64(block);
         let second = LittleEndian::read_u64(&block[8..]);
-        self.word_remainder(8, first) ^ self.word_remainder(0, second)
+        // the second word is looked up first, since it doesn't wait for the register
+        self.word_remainder(0, second) ^ self.word_remainder(8, first)
     }
 
     // After the first whole blocks of 16 bytes.
