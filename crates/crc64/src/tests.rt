@@ -20,3 +20,12 @@ fn goes_on_in_pieces(rt: HostRuntime) -> Result<(), AllocError> {
     assert_eq!(rt; crc.extended(first, b"56789"), 0x995D_C9BB_DF19_39FA);
     Ok(())
 }
+
+#[test]
+fn sums_two_at_once(rt: HostRuntime) -> Result<(), AllocError> {
+    let crc = Crc64::new(rt.alloc())?;
+    let (one, other) = crc.checksum_two(b"123456789 123456789", b"987654321 123456789");
+    assert_eq!(rt; one, 0x3E47_3289_9EA0_6FA7);
+    assert_eq!(rt; other, 0x77DB_8744_2E0E_F851);
+    Ok(())
+}
