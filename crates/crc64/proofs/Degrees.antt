@@ -7,7 +7,7 @@ use Rattle.crc64.specs.Remainder.{generator, reduced, remainder, polynomial, aft
 use Rattle.crc64.specs.Division.{multiple, IsRemainder}
 use Rattle.crc64.proofs.Division.{xor_mul_pow}
 
-wider : (a j k : ℕ) → j ≤ k → a < 2 ^ j → a < 2 ^ k
+pub wider : (a j k : ℕ) → j ≤ k → a < 2 ^ j → a < 2 ^ k
 wider a j k more less = let h : 2 ^ j ≤ 2 ^ k = pow-le-pow_right {n = 2} (omega arith) {i = j} {j = k} more in omega arith
 
 bit_below : (a : ℕ) → (a % 2 ≡ 0) ⊎ (a % 2 ≡ 1)

@@ -6,34 +6,37 @@ use Rattle.std.proofs.Math.Seq.{get_or-append_seam, take-add, take-suc, drop-con
 use lib.Bits.{xor_assoc, xor_self, xor_zero_r, xor_shifted}
 use Rattle.byteorder.specs.Endian.{little_from}
 use Rattle.crc64.specs.Remainder.{remainder, polynomial, after, ones, checksum_of}
-use Rattle.crc64.specs.Tables.{HasRemainders}
+use Rattle.crc64.specs.Tables.{HasEntries, HasRemainders}
 use Rattle.crc64.proofs.Division.{remainder_sum, remainder_then, remainder_past, remainder_byte, polynomial_append, after_none, after_append, after_byte}
 
 -- an entry more
-pushed : (count e : ℕ) (entries : List ℕ) → HasRemainders count entries → e ≡ remainder (8 * (count / 256 + 1)) (count % 256)
-    → HasRemainders (count + 1) (entries ++ e ∷ [])
-pushed count e entries have is = record {
+pub pushed : (entry_at : ℕ → ℕ) (count e : ℕ) (entries : List ℕ) → HasEntries entry_at count entries → e ≡ entry_at count
+    → HasEntries entry_at (count + 1) (entries ++ e ∷ [])
+pushed entry_at count e entries have is = record {
   long = length-append entries (e ∷ []) ∙ ap (λ n. n + 1) have.long;
-  entry = λ place below. entry_at place (split place below);
+  entry = λ place below. found place (split place below);
 }
   where
     split : (place : ℕ) → place < count + 1 → (place < count) ⊎ (place ≡ count)
     split place below = grind arith
 
-    entry_at : (place : ℕ) → (place < count) ⊎ (place ≡ count)
-        → get_or (entries ++ e ∷ []) place 0 ≡ remainder (8 * (place / 256 + 1)) (place % 256)
-    entry_at place (inl less) =
+    found : (place : ℕ) → (place < count) ⊎ (place ≡ count) → get_or (entries ++ e ∷ []) place 0 ≡ entry_at place
+    found place (inl less) =
         get_or_append_left entries (e ∷ []) 0 place (subst (λ n. place < n) (sym have.long) less) ∙ have.entry place less
-    entry_at place (inr same) =
+    found place (inr same) =
         ap (λ p. get_or (entries ++ e ∷ []) p 0) (same ∙ sym have.long)
-        ∙ get_or-append_seam entries e [] 0 ∙ is ∙ ap (λ p. remainder (8 * (p / 256 + 1)) (p % 256)) (sym same)
+        ∙ get_or-append_seam entries e [] 0 ∙ is ∙ ap entry_at (sym same)
+
+pushed_remainder : (count e : ℕ) (entries : List ℕ) → HasRemainders count entries → e ≡ remainder (8 * (count / 256 + 1)) (count % 256)
+    → HasRemainders (count + 1) (entries ++ e ∷ [])
+pushed_remainder = pushed (λ place. remainder (8 * (place / 256 + 1)) (place % 256))
 
 pub pushed_first : (byte e : ℕ) (entries : List ℕ) → HasRemainders byte entries → byte < 256 → e ≡ remainder 8 byte
     → HasRemainders (byte + 1) (entries ++ e ∷ [])
 pushed_first byte e entries have below is =
     let first : byte / 256 ≡ 0 = omega arith in
     let same : byte % 256 ≡ byte = omega arith in
-    pushed byte e entries have (is ∙ ap (λ n. remainder (8 * (n + 1)) byte) (sym first) ∙ ap (remainder (8 * (byte / 256 + 1))) (sym same))
+    pushed_remainder byte e entries have (is ∙ ap (λ n. remainder (8 * (n + 1)) byte) (sym first) ∙ ap (remainder (8 * (byte / 256 + 1))) (sym same))
 
 -- with a zero byte more behind it
 pub pushed_next : (place e shorter : ℕ) (entries : List ℕ) → HasRemainders place entries → 256 ≤ place
@@ -52,7 +55,7 @@ pushed_next place e shorter entries have enough before is =
     before ∙ have.entry (place - 256) (omega arith)
     ∙ ap (λ n. remainder (8 * n) ((place - 256) % 256)) table ∙ ap (remainder (8 * (place / 256))) column in
     let steps : 8 * (place / 256) + 8 ≡ 8 * (place / 256 + 1) = omega arith in
-    pushed place e entries have
+    pushed_remainder place e entries have
     (is
     ∙ ap (λ v. bit_xor v (shorter / 256)) found
     ∙ remainder_byte shorter
@@ -66,6 +69,16 @@ low_entry byte entries have below =
     let first : byte / 256 ≡ 0 = omega arith in
     let same : byte % 256 ≡ byte = omega arith in
     have.entry byte (omega arith) ∙ ap (λ n. remainder (8 * (n + 1)) (byte % 256)) first ∙ ap (remainder 8) same
+
+-- the next byte of a word, put before those below it
+pub byte_more : (word place : ℕ) → bit_xor (word % 2 ^ (8 * place)) (word / 2 ^ (8 * place) % 2 ^ 8 * 2 ^ (8 * place)) ≡ word % 2 ^ (8 * (place + 1))
+byte_more word place =
+    let rest : ℕ = word % 2 ^ (8 * place) in
+    let byte : ℕ = word / 2 ^ (8 * place) % 2 ^ 8 in
+    xor_comm rest (byte * 2 ^ (8 * place))
+    ∙ xor_shifted byte (8 * place) rest (mod_below word (2 ^ (8 * place)) (pow_pos (8 * place)))
+    ∙ sym (mod-pow-add word 8 (8 * place))
+    ∙ ap (λ n. word % 2 ^ n) (omega arith)
 
 -- a byte more of a word
 pub word_step : (entries : List ℕ) (behind place word sum : ℕ) → HasRemainders 4096 entries → behind ≤ 8 → place < 8
@@ -84,15 +97,10 @@ word_step entries behind place word sum have few less is =
     let past : remainder (64 + 8 * behind) (byte * 2 ^ (8 * place)) ≡ remainder (8 * (table + 1)) byte =
     ap (λ n. remainder n (byte * 2 ^ (8 * place))) (sym steps) ∙ remainder_past (8 * place) (8 * (table + 1)) byte in
     let rest : ℕ = word % 2 ^ (8 * place) in
-    let split : bit_xor rest (byte * 2 ^ (8 * place)) ≡ word % 2 ^ (8 * (place + 1)) =
-    xor_comm rest (byte * 2 ^ (8 * place))
-    ∙ xor_shifted byte (8 * place) rest (mod_below word (2 ^ (8 * place)) (pow_pos (8 * place)))
-    ∙ sym (mod-pow-add word 8 (8 * place))
-    ∙ ap (λ n. word % 2 ^ n) (omega arith) in
     ap (λ v. bit_xor v (get_or entries (table * 256 + byte) 0)) is
     ∙ ap (bit_xor (remainder (64 + 8 * behind) rest)) (entry ∙ sym past)
     ∙ sym (remainder_sum (64 + 8 * behind) rest (byte * 2 ^ (8 * place)))
-    ∙ ap (remainder (64 + 8 * behind)) split
+    ∙ ap (remainder (64 + 8 * behind)) (byte_more word place)
 
 pub whole_word : (behind word sum : ℕ) → word < 2 ^ 64 → sum ≡ remainder (64 + 8 * behind) (word % 2 ^ (8 * 8)) → sum ≡ remainder (64 + 8 * behind) word
 whole_word behind word sum fits is = let same : word % 2 ^ (8 * 8) ≡ word = omega arith in is ∙ ap (remainder (64 + 8 * behind)) same

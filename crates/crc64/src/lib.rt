@@ -6,11 +6,13 @@ ghost use Rattle.std.specs.Prelude.{◌≡◌, ℕ, ◌+◌, ◌*◌, ◌/◌, �
 ghost use Rattle.crc64.specs.Remainder.{reduced, remainder, after, ones, checksum_of};
 ghost use Rattle.crc64.specs.Tables.{HasRemainders};
 
+mod combiner;
 mod laws;
 #[cfg(test)]
 mod tests;
 
 use byteorder::{ByteOrder, LittleEndian};
+pub use combiner::Combiner;
 pub use laws::{bursts_are_found, checksums_fit, remainders_are_left};
 use std::alloc::{AllocError, Global};
 
@@ -123,6 +125,17 @@ impl Crc64 {
             other = self.after_block(other, &second[at..at + 16]);
         }
         (one, other)
+    }
+
+    // The register after so many zero bytes.
+    fn after_zeros(&self, start: u64, count: u32) -> u64
+        ensures { result ≡ remainder (8 * count) start }
+    {
+        let mut register = start;
+        for _byte in 0..count {
+            register = self.remainders[(register % 256) as usize] ^ (register >> 8);
+        }
+        register
     }
 
     fn after_each(&self, start: u64, bytes: &[u8]) -> u64

@@ -1,5 +1,5 @@
 //! Checksums that liblzma writes.
-use crate::Crc64;
+use crate::{Combiner, Crc64};
 use std::alloc::AllocError;
 
 #[test]
@@ -27,5 +27,14 @@ fn sums_two_at_once(rt: HostRuntime) -> Result<(), AllocError> {
     let (one, other) = crc.checksum_two(b"123456789 123456789", b"987654321 123456789");
     assert_eq!(rt; one, 0x3E47_3289_9EA0_6FA7);
     assert_eq!(rt; other, 0x77DB_8744_2E0E_F851);
+    Ok(())
+}
+
+#[test]
+fn combines_checksums(rt: HostRuntime) -> Result<(), AllocError> {
+    let crc = Crc64::new(rt.alloc())?;
+    let combiner = Combiner::new(rt.alloc(), &crc, 5)?;
+    let sum = combiner.combined(crc.checksum(b"1234"), crc.checksum(b"56789"));
+    assert_eq!(rt; sum, 0x995D_C9BB_DF19_39FA);
     Ok(())
 }
