@@ -9,8 +9,8 @@ pub mod ShareLemmas
 pub mod PutLemmas
 pub mod Faults
 pub mod WholeLemmas
-pub mod Reading
+pub mod ReadLemmas
 pub mod Steps
 pub mod Bytes
 pub mod Taking
-pub mod Shares
+pub mod AnyShares

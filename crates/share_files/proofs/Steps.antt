@@ -20,7 +20,7 @@ use Rattle.share_files.specs.Joined.{IsWhyNot}
 use Rattle.share_files.specs.SoFar.{IsReadSoFar, AreReadSoFar, IsStop}
 use Rattle.share_files.specs.declared.joining.JoinFault.{JoinFault}
 use Rattle.share_files.specs.declared.joining.JoinFault.TheVariants.{TooFew, Mismatch, WriteFault, OutOfMemory}
-use Rattle.share_files.proofs.Reading.{grows_none, grows_then, grows_read}
+use Rattle.share_files.proofs.ReadLemmas.{grows_none, grows_then, grows_read}
 
 -- ---- where reads failed
 

@@ -19,7 +19,7 @@ use Rattle.share_files.specs.Taken.{TakesFile, TakesAnother, TakesStripes, Takes
 use Rattle.share_files.specs.SoFar.{TakesSoFar, AreReadSoFar}
 use Rattle.share_files.specs.declared.joining.JoinFault.{JoinFault}
 use Rattle.share_files.specs.declared.joining.JoinFault.TheVariants.{TooFew, Mismatch, WriteFault, OutOfMemory}
-use Rattle.share_files.proofs.Reading.{grow_read}
+use Rattle.share_files.proofs.ReadLemmas.{grow_read}
 use Rattle.share_files.proofs.Steps.{missing_later, had_none, since_more, since_had}
 use Rattle.share_files.proofs.Bytes.{begins_within, joined_same}
 

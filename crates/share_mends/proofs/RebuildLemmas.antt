@@ -9,7 +9,7 @@ use Rattle.share_files.specs.Seen.{Seen, seen_of, failed_since, Show}
 use Rattle.share_files.specs.Missed.{HasFailed, IsMissing, LackBlocks}
 use Rattle.share_files.specs.Gathered.{Grows, Grow, IsHad, AreRead}
 use Rattle.share_files.specs.Joined.{NoRotIn}
-use Rattle.share_files.proofs.Reading.{grows_none}
+use Rattle.share_files.proofs.ReadLemmas.{grows_none}
 use Rattle.share_files.proofs.Steps.{had_none, since_more, since_had}
 use Rattle.share_mends.specs.Rebuilt.{IsRebuilt, Lacks, IsLack}
 use Rattle.share_mends.specs.declared.rebuilding.RebuildFault.{RebuildFault}

@@ -15,7 +15,7 @@ use Rattle.share_format.proofs.Determined.{same_words, same_shares}
 use Rattle.share_files.specs.Seen.{Seen, seen_of, failed_since, Show}
 use Rattle.share_files.specs.Missed.{LackBlocks}
 use Rattle.share_files.specs.Joined.{NoRotPasses, AreSharesBut}
-use Rattle.share_files.proofs.Shares.{shares_pass, shares_enough}
+use Rattle.share_files.proofs.AnyShares.{shares_pass, shares_enough}
 use Rattle.share_mends.specs.Asked.{helps, AreHelpers, OneReadFails}
 use Rattle.share_mends.specs.declared.fault.RottenPart.{RottenPart}
 use Rattle.share_mends.specs.Mended.{HasGood, IsFirstRotten, AreOfWords}

@@ -1,5 +1,5 @@
 use Rattle.std.proofs.Common.{Err, ap, inl, inr}
-use Rattle.share_files.proofs.Reading.{had_found, grows_same, grows_fails}
+use Rattle.share_files.proofs.ReadLemmas.{had_found, grows_same, grows_fails}
 use Rattle.share_files.proofs.fetching.block_or_none.Goals as goal
 
 pub returns-in-Ok-clause-read : goal.returns-in-Ok-clause-read

@@ -5,7 +5,7 @@ use Rattle.clay_model.specs.Left.{AreLong}
 use Rattle.share_format.specs.Blocks.{block_length}
 use Rattle.share_files.specs.Seen.{seen}
 use Rattle.share_files.specs.Gathered.{AreRead}
-use Rattle.share_files.proofs.Reading.{read_more, long_more, grow_none, grow_then, grow_read, grow_one}
+use Rattle.share_files.proofs.ReadLemmas.{read_more, long_more, grow_none, grow_then, grow_read, grow_one}
 use Rattle.share_files.proofs.fetching.find_blocks.Goals as goal
 
 pub loop-share-preserved : goal.loop-share-preserved

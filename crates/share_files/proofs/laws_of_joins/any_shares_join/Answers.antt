@@ -1,4 +1,4 @@
-use Rattle.share_files.proofs.Shares.{shares_pass, shares_enough}
+use Rattle.share_files.proofs.AnyShares.{shares_pass, shares_enough}
 use Rattle.share_files.proofs.laws_of_joins.any_shares_join.Goals as goal
 
 pub returns-clause-pass : goal.returns-clause-pass

@@ -6,7 +6,7 @@ use Rattle.share_format.specs.Shares.{block_start}
 use Rattle.share_files.proofs.FoundLemmas.{place_before}
 use Rattle.share_files.proofs.Faults.{handed_on}
 use Rattle.share_files.proofs.PutLemmas.{puts_none, puts_more, puts_some}
-use Rattle.share_files.proofs.Reading.{grow_none, grow_then}
+use Rattle.share_files.proofs.ReadLemmas.{grow_none, grow_then}
 use Rattle.share_mends.specs.declared.rebuilding.RebuildFault.TheVariants.{WriteFault}
 use Rattle.share_mends.proofs.RebuildLemmas.{lack_among, later}
 use Rattle.share_mends.proofs.rebuilding.rebuild_stripes.Goals as goal
