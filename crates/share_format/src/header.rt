@@ -220,6 +220,7 @@ fn code_in(bytes: &[u8]) -> Result<AloofGeometry, BadHeader>
 pub fn read_header(crc: &Crc64, bytes: &[u8]) -> Result<ShareHeader, BadHeader>
     requires { length bytes.now ≡ 64 }
     ensures read { IfOk result (λ header. header_bytes header ≡ bytes.now) }
+    ensures header { IfOk result IsHeader }
     ensures refused { IfErr result (IsFirstFault bytes.now) }
 {
     check(crc, bytes)?;
