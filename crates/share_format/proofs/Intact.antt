@@ -16,7 +16,7 @@ use Rattle.byteorder.specs.Endian.{little_bytes}
 use Rattle.crc64.specs.Remainder.{checksum_of}
 
 -- an entry of the table, found in front of the chunk
-entry_in_front : (a : AloofShape) (chunk : List ℕ) (layer : ℕ) → layer < layer_count (grid_of a)
+pub entry_in_front : (a : AloofShape) (chunk : List ℕ) (layer : ℕ) → layer < layer_count (grid_of a)
     → take 8 (drop (8 * layer) (aligned a (table_of a chunk))) ≡ take 8 (drop (8 * layer) (table_of a chunk))
 entry_in_front a chunk layer low =
     let table : List ℕ = table_of a chunk in

@@ -13,3 +13,4 @@ pub mod Full
 pub mod Coded
 pub mod Joining
 pub mod Intact
+pub mod Fronts

@@ -1,17 +1,19 @@
 //! A chunk as it stands in a share file: in front the checksums of its subchunks, then its bytes.
-ghost use Rattle.std.specs.Prelude.{◌≡◌, ◌+◌, ◌*◌, ◌<◌, ◌≤◌, ◌↔◌, IsTrue, length, IfOk};
+ghost use Rattle.std.specs.Prelude.{◌≡◌, ℕ, ◌+◌, ◌*◌, ◌<◌, ◌≤◌, ◌↔◌, IsTrue, length, take, drop, replicate, IfOk};
+ghost use Rattle.byteorder.specs.Endian.{little_bytes};
+ghost use Rattle.crc64.specs.Remainder.{checksum_of};
 ghost use Rattle.clay_grid.specs.Shape.{layer_count, chunk_length};
 ghost use Rattle.clay_aloof.specs.Shape.{grid_of};
-ghost use Rattle.share_format.specs.Blocks.{aligned, table_of, block_of, chunk_start as start_of, block_length, IsBlock};
+ghost use Rattle.share_format.specs.Blocks.{aligned, subchunk, table_of, block_of, chunk_start as start_of, block_length, IsBlock, HasChecksum};
 
-use crate::header::put_u64;
+use crate::header::{put_u64, u64_at};
 use crate::units::{page, rounded_up};
 use clay_aloof::AloofGeometry;
 use crc64::Crc64;
 use std::alloc::{AllocError, Global};
 
-/// The bytes of a checksum.
-pub const ENTRY: usize = 8;
+// The bytes of a checksum.
+const ENTRY: usize = 8;
 
 /// Where a block's chunk begins in it.
 pub fn chunk_start(g: AloofGeometry) -> usize
@@ -29,17 +31,46 @@ fn subchunk_start(g: AloofGeometry, layer: u32) -> usize
     layer as usize * g.w() as usize
 }
 
+// The checksum of a layer's subchunk.
+fn sum(g: AloofGeometry, crc: &Crc64, chunk: &[u8], layer: u32) -> u64
+    requires layer { layer < layer_count (grid_of g) }
+    requires chunk { length chunk.now ≡ chunk_length (grid_of g) }
+    ensures { result ≡ checksum_of (subchunk g chunk.now layer) }
+{
+    let at = subchunk_start(g, layer);
+    crc.checksum(&chunk[at..at + g.w() as usize])
+}
+
+// The checksums of two layers' subchunks.
+fn two_sums(g: AloofGeometry, crc: &Crc64, chunk: &[u8], layer: u32, other: u32) -> (u64, u64)
+    requires layer { layer < layer_count (grid_of g) }
+    requires other { other < layer_count (grid_of g) }
+    requires chunk { length chunk.now ≡ chunk_length (grid_of g) }
+    ensures first { result.0 ≡ checksum_of (subchunk g chunk.now layer) }
+    ensures second { result.1 ≡ checksum_of (subchunk g chunk.now other) }
+{
+    let width = g.w() as usize;
+    let at = subchunk_start(g, layer);
+    let then = subchunk_start(g, other);
+    crc.checksum_two(&chunk[at..at + width], &chunk[then..then + width])
+}
+
 // The checksum of each subchunk, layer 0 first.
 fn table(alloc: Global, g: AloofGeometry, crc: &Crc64, chunk: &[u8]) -> Result<Vec<u8>, AllocError>
     requires { length chunk.now ≡ chunk_length (grid_of g) }
     ensures { IfOk result (λ table. table.items ≡ table_of g chunk.now) }
 {
-    let width = g.w() as usize;
+    let layers = g.grid().alpha();
     let mut table = Vec::new(alloc);
-    for layer in 0..g.grid().alpha() {
-        let at = subchunk_start(g, layer);
-        put_u64(&mut table, crc.checksum(&chunk[at..at + width]))?;
+    for pair in 0..layers / 2 {
+        let (one, other) = two_sums(g, crc, chunk, 2 * pair, 2 * pair + 1);
+        put_u64(&mut table, one)?;
+        put_u64(&mut table, other)?;
     }
+    if layers % 2 == 0 {
+        return Ok(table);
+    }
+    put_u64(&mut table, sum(g, crc, chunk, layers - 1))?;
     Ok(table)
 }
 
@@ -68,38 +99,91 @@ pub fn make_block(
     Ok(block)
 }
 
-/// Whether two slices have the same bytes.
-pub fn same_bytes(bytes: &[u8], others: &[u8]) -> bool
-    ensures { IsTrue result ↔ (bytes.now ≡ others.now) }
+/// Whether a layer's entry in a table is this checksum.
+pub fn has_entry(table: &[u8], layer: u32, checksum: u64) -> bool
+    requires { 8 * layer + 8 ≤ length table.now }
+    ensures { IsTrue result ↔ (take 8 (drop (8 * layer) table.now) ≡ little_bytes 8 checksum) }
 {
-    bytes == others
+    u64_at(table, ENTRY * layer as usize) == checksum
+}
+
+// Whether the entry of a layer is the checksum of its subchunk.
+fn has_sum(g: AloofGeometry, crc: &Crc64, front: &[u8], chunk: &[u8], layer: u32) -> bool
+    requires layer { layer < layer_count (grid_of g) }
+    requires front { length front.now ≡ start_of g }
+    requires chunk { length chunk.now ≡ chunk_length (grid_of g) }
+    ensures { IsTrue result ↔ HasChecksum front.now layer (subchunk g chunk.now layer) }
+{
+    has_entry(front, layer, sum(g, crc, chunk, layer))
+}
+
+// Whether the entries of two layers are the checksums of their subchunks.
+fn has_two_sums(
+    g: AloofGeometry,
+    crc: &Crc64,
+    front: &[u8],
+    chunk: &[u8],
+    layer: u32,
+    other: u32,
+) -> bool
+    requires layer { layer < layer_count (grid_of g) }
+    requires other { other < layer_count (grid_of g) }
+    requires front { length front.now ≡ start_of g }
+    requires chunk { length chunk.now ≡ chunk_length (grid_of g) }
+    ensures { IsTrue result ↔ (HasChecksum front.now layer (subchunk g chunk.now layer) × HasChecksum front.now other (subchunk g chunk.now other)) }
+{
+    let (one, then) = two_sums(g, crc, chunk, layer, other);
+    has_entry(front, layer, one) && has_entry(front, other, then)
+}
+
+// Whether each entry in front of a chunk is the checksum of its layer's subchunk.
+fn has_sums(g: AloofGeometry, crc: &Crc64, front: &[u8], chunk: &[u8]) -> bool
+    requires front { length front.now ≡ start_of g }
+    requires chunk { length chunk.now ≡ chunk_length (grid_of g) }
+    ensures { IsTrue result ↔ ((layer : ℕ) → layer < layer_count (grid_of g)
+        → HasChecksum front.now layer (subchunk g chunk.now layer)) }
+{
+    let layers = g.grid().alpha();
+    for pair in 0..layers / 2 {
+        if !has_two_sums(g, crc, front, chunk, 2 * pair, 2 * pair + 1) {
+            return false;
+        }
+    }
+    if layers % 2 == 0 {
+        return true;
+    }
+    has_sum(g, crc, front, chunk, layers - 1)
+}
+
+// Whether all bytes are zeros.
+fn are_zeros(bytes: &[u8]) -> bool
+    ensures { IsTrue result ↔ (bytes.now ≡ replicate (length bytes.now) 0) }
+{
+    for byte in bytes {
+        if *byte != 0 {
+            return false;
+        }
+    }
+    true
 }
 
 // Whether these bytes are what stands in front of a chunk.
-fn is_front(
-    alloc: Global,
-    g: AloofGeometry,
-    crc: &Crc64,
-    bytes: &[u8],
-    chunk: &[u8],
-) -> Result<bool, AllocError>
-    requires { length chunk.now ≡ chunk_length (grid_of g) }
-    ensures { IfOk result (λ same. IsTrue same ↔ (bytes.now ≡ aligned g (table_of g chunk.now))) }
+fn is_front(g: AloofGeometry, crc: &Crc64, front: &[u8], chunk: &[u8]) -> bool
+    requires front { length front.now ≡ start_of g }
+    requires chunk { length chunk.now ≡ chunk_length (grid_of g) }
+    ensures { IsTrue result ↔ (front.now ≡ aligned g (table_of g chunk.now)) }
 {
-    let right = front(alloc, g, crc, chunk)?;
-    Ok(same_bytes(bytes, &right))
+    if !has_sums(g, crc, front, chunk) {
+        return false;
+    }
+    are_zeros(&front[ENTRY * g.grid().alpha() as usize..])
 }
 
 /// Whether these bytes are the block of the chunk in them: all checksums are right, and zeros stand behind them.
-pub fn is_block(
-    alloc: Global,
-    g: AloofGeometry,
-    crc: &Crc64,
-    block: &[u8],
-) -> Result<bool, AllocError>
+pub fn is_block(g: AloofGeometry, crc: &Crc64, block: &[u8]) -> bool
     requires { length block.now ≡ block_length g }
-    ensures { IfOk result (λ same. IsTrue same ↔ IsBlock g block.now) }
+    ensures { IsTrue result ↔ IsBlock g block.now }
 {
     let start = chunk_start(g);
-    is_front(alloc, g, crc, &block[..start], &block[start..])
+    is_front(g, crc, &block[..start], &block[start..])
 }

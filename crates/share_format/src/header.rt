@@ -170,8 +170,8 @@ fn u32_at(bytes: &[u8], at: usize) -> u32
     LittleEndian::read_u32(&bytes[at..])
 }
 
-// The number in the eight bytes from `at` on.
-fn u64_at(bytes: &[u8], at: usize) -> u64
+/// The number in the eight bytes from `at` on.
+pub fn u64_at(bytes: &[u8], at: usize) -> u64
     requires { at + 8 ≤ length bytes.now }
     ensures { result ≡ little_number 8 (drop at bytes.now) }
 {

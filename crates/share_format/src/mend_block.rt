@@ -6,8 +6,7 @@ ghost use Rattle.clay_aloof.specs.Repair.{AreParts, IsRebuilt};
 ghost use Rattle.share_format.specs.Blocks.{subchunk, chunk_start, HasChecksum};
 ghost use Rattle.share_format.specs.Parts.{IsIntactPart};
 
-use crate::block::{ENTRY, same_bytes};
-use byteorder::{ByteOrder, LittleEndian};
+use crate::block::has_entry;
 use clay_aloof::{AloofGeometry, rebuild};
 use crc64::Crc64;
 use std::alloc::{AllocError, Global};
@@ -17,10 +16,7 @@ fn has_checksum(crc: &Crc64, table: &[u8], layer: u32, piece: &[u8]) -> bool
     requires { 8 * layer + 8 ≤ length table.now }
     ensures { IsTrue result ↔ HasChecksum table.now layer piece.now }
 {
-    let mut entry = [0u8; ENTRY];
-    LittleEndian::write_u64(&mut entry, crc.checksum(piece));
-    let at = ENTRY * layer as usize;
-    same_bytes(&table[at..at + ENTRY], &entry)
+    has_entry(table, layer, crc.checksum(piece))
 }
 
 // Whether a subchunk of a part has the checksum of its layer.
