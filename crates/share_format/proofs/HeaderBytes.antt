@@ -1,5 +1,5 @@
 -- The numbers in the bytes of a header, written again.
-use Rattle.std.proofs.Common.{◌≡◌, ℕ, zero, suc, ◌+◌, ◌-◌, ◌<◌, ◌≤◌, List, [], ◌∷◌, ◌++◌, length, get_or, take, drop, sym, ap, ◌∙◌, subst, arith}
+use Rattle.std.proofs.Common.{◌≡◌, ℕ, zero, suc, ◌+◌, ◌<◌, ◌≤◌, List, [], ◌∷◌, ◌++◌, length, get_or, take, drop, sym, ap, ◌∙◌, subst, arith}
 use Rattle.std.proofs.lemmas.List.{append_assoc, take-append-drop, length-take-le, length-drop, get_or-drop, drop-drop}
 use Rattle.std.proofs.Math.Seq.{take-add}
 use Rattle.std.proofs.lemmas.Nat.{le_bytes_4, le_bytes_8}
@@ -32,14 +32,17 @@ take_small (suc n) (byte ∷ bytes) small zero = small 0
 take_small (suc n) (byte ∷ bytes) small (suc i) = take_small n bytes (λ k. small (suc k)) i
 
 -- the first n of more bytes
+pub first_number : (n : ℕ) (bytes : List ℕ) → n ≤ length bytes → little_number n bytes ≡ little_number n (take n bytes)
+first_number n bytes enough =
+    let long : length (take n bytes) ≡ n = length-take-le n bytes enough in
+    ap (little_number n) (sym (take-append-drop n bytes))
+    ∙ little_from-append n (take n bytes) (drop n bytes) (omega (arith, long))
+
 first_written : (n : ℕ) (bytes : List ℕ) → IsWrittenAgain n → n ≤ length bytes → AreBytes bytes
     → little_bytes n (little_number n bytes) ≡ take n bytes
 first_written n bytes writes enough small =
-    let long : length (take n bytes) ≡ n = length-take-le n bytes enough in
-    let front : little_number n bytes ≡ little_number n (take n bytes) =
-    ap (little_number n) (sym (take-append-drop n bytes))
-    ∙ little_from-append n (take n bytes) (drop n bytes) (omega (arith, long)) in
-    ap (little_bytes n) front ∙ writes.again (take n bytes) long (take_small n bytes small)
+    ap (little_bytes n) (first_number n bytes enough)
+    ∙ writes.again (take n bytes) (length-take-le n bytes enough) (take_small n bytes small)
 
 -- a number, and what stands behind it
 field : (n at m : ℕ) (bytes rest : List ℕ) → IsWrittenAgain n → at + n ≤ length bytes → AreBytes bytes

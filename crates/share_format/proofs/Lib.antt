@@ -14,3 +14,4 @@ pub mod Coded
 pub mod Joining
 pub mod Intact
 pub mod Fronts
+pub mod Summed

@@ -1,5 +1,5 @@
 //! A chunk as it stands in a share file: in front the checksums of its subchunks, then its bytes.
-ghost use Rattle.std.specs.Prelude.{◌≡◌, ℕ, ◌+◌, ◌*◌, ◌<◌, ◌≤◌, ◌↔◌, IsTrue, length, take, drop, replicate, IfOk};
+ghost use Rattle.std.specs.Prelude.{◌≡◌, ℕ, ◌+◌, ◌*◌, ◌<◌, ◌≤◌, ◌↔◌, List, ◌++◌, IsTrue, length, take, drop, replicate, IfOk};
 ghost use Rattle.byteorder.specs.Endian.{little_bytes};
 ghost use Rattle.crc64.specs.Remainder.{checksum_of};
 ghost use Rattle.clay_grid.specs.Shape.{layer_count, chunk_length};
@@ -9,7 +9,7 @@ ghost use Rattle.share_format.specs.Blocks.{aligned, subchunk, table_of, block_o
 use crate::header::{put_u64, u64_at};
 use crate::units::{page, rounded_up};
 use clay_aloof::AloofGeometry;
-use crc64::Crc64;
+use crc64::{Combiner, Crc64};
 use std::alloc::{AllocError, Global};
 
 // The bytes of a checksum.
@@ -186,4 +186,18 @@ pub fn is_block(g: AloofGeometry, crc: &Crc64, block: &[u8]) -> bool
 {
     let start = chunk_start(g);
     is_front(g, crc, &block[..start], &block[start..])
+}
+
+/// The checksum of what has this checksum and of the chunk of a block behind it, from the block's table.
+pub fn extended_by_chunk(g: AloofGeometry, combiner: &Combiner, checksum: u64, block: &[u8]) -> u64
+    requires size { length block.now ≡ block_length g }
+    requires combiner { combiner.now ≡ g.width }
+    ensures { (before : List ℕ) → checksum ≡ checksum_of before → IsBlock g block.now
+        → result ≡ checksum_of (before ++ drop (start_of g) block.now) }
+{
+    let mut sum = checksum;
+    for layer in 0..g.grid().alpha() {
+        sum = combiner.combined(sum, u64_at(block, ENTRY * layer as usize));
+    }
+    sum
 }

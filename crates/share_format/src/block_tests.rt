@@ -2,10 +2,10 @@
 ghost use Rattle.std.specs.Prelude.{◌≡◌};
 ghost use Rattle.clay_aloof.specs.Shape.{aloof_of};
 
-use crate::block::is_block;
+use crate::block::{extended_by_chunk, is_block};
 use crate::cut_block::cut_stripe;
 use clay_aloof::AloofGeometry;
-use crc64::Crc64;
+use crc64::{Combiner, Crc64};
 use std::alloc::AllocError;
 
 const STRIPE: [u8; 16] = [0x01, 0, 0, 0, 0x53, 0, 0, 0, 0xa7, 0, 0, 0, 0, 0, 0, 0];
@@ -61,5 +61,19 @@ fn compares_a_table(rt: HostRuntime) -> Result<(), AllocError> {
     assert_eq!(rt; is_still_one(g, &crc, 8), false);
     assert_eq!(rt; is_still_one(g, &crc, 64), false);
     assert_eq!(rt; is_still_one(g, &crc, 80), false);
+    Ok(())
+}
+
+#[test]
+fn sums_a_chunk_by_its_table(rt: HostRuntime) -> Result<(), AllocError> {
+    let crc = Crc64::new(rt.alloc())?;
+    let combiner = Combiner::new(rt.alloc(), &crc, 1)?;
+    let Ok(g) = AloofGeometry::new(2, 4, 4, 1) else {
+        return Ok(());
+    };
+    assert_eq!(rt;
+        extended_by_chunk(g, &combiner, 0, &BLOCK),
+        0x995D_C9BB_DF19_39FA
+    );
     Ok(())
 }

@@ -18,7 +18,7 @@ mod mend_block;
 mod tests;
 mod units;
 
-pub use block::{chunk_start, is_block, make_block};
+pub use block::{chunk_start, extended_by_chunk, is_block, make_block};
 pub use cut_block::cut_stripe;
 pub use fault::BadHeader;
 pub use header::{HEADER_LEN, ShareHeader, put_u64, read_header};
