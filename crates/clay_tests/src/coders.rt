@@ -1,22 +1,15 @@
 //! What the program and a world ask of their coder.
-ghost use Rattle.std.specs.Prelude.{◌≡◌, Some};
-ghost use Rattle.store_map.specs.Naming.{IsValid};
-ghost use Rattle.version_seal.specs.Sealer.{sealer_at};
-
 use crate::drips::{NONE, run_in_drips};
 use clay_repair::PlainCoder;
 use command_runs::Status;
 use command_runs::scripts::PUT_THEN_GET;
 use script_text::read_script;
-use std::alloc::AllocError;
 use std::sync::Wait;
 use std::test::Fail;
 use std::thread::Threads;
-use store_map::{Script, Transcript};
-use store_world::World;
+use store_world::play;
 use text_tables::counting::Counting;
 use text_tables::lines::unfolded;
-use version_seal::{Book, Sealer};
 
 // Of a stripe whose chunk 0 is lost.
 const ONE_LOSS: &[u8] = b"\
@@ -72,26 +65,6 @@ fn the_program_asks_for_a_rebuild(rt: HostRuntime) -> Result<(), Fail> {
     Ok(())
 }
 
-// Runs a world over the script of the book.
-fn run_world<R: Threads + Sync + AllocGlobal>(
-    rt: &R,
-    coder: &Counting<PlainCoder>,
-    script: &Script,
-    book: &Book,
-    sealer: Sealer,
-) -> Result<Transcript, AllocError>
-    requires valid { IsValid script.now }
-    requires written { book.now.script ≡ Some script.now }
-    requires code { book.now.geometry ≡ script.now.geometry }
-    requires sealer { sealer ≡ sealer_at book.now 0 }
-{
-    let mut world = World::new(rt.alloc(), script, book, sealer)?;
-    for token in script.schedule.as_slice() {
-        world.step(rt, coder, *token);
-    }
-    world.finish(rt.alloc())
-}
-
 // What a world asks of its coder.
 fn asked_by_a_world<R: Threads + Sync + AllocGlobal>(
     rt: &R,
@@ -102,10 +75,7 @@ fn asked_by_a_world<R: Threads + Sync + AllocGlobal>(
     let Ok(script) = read_script(alloc, &unfolded(alloc, text)?) else {
         return Err(Fail::from("refused"));
     };
-    let (book, sealer) = Book::new(alloc, script)?;
-    if let Some(script) = book.script() {
-        let _transcript = run_world(rt, coder, script, &book, sealer)?;
-    }
+    let _transcript = play(rt, alloc, coder, script)?;
     Ok(())
 }
 

@@ -21,7 +21,7 @@ use Rattle.store_world.specs.Ending.{IsCallsOf, AreCallsOf}
 use Rattle.store_world.specs.Stored.{StoredWorld, world_of}
 use Rattle.store_world.specs.Kept.{IsWorld}
 use Rattle.store_world.proofs.Few.{few_client_calls, few_rebuilds}
-use Rattle.store_world.proofs.Rounds.{clients_of_code, repairers_of_code}
+use Rattle.store_world.proofs.Having.{clients_of_code, repairers_of_code}
 
 -- ---- lists
 -- two lists mapped to the same entries

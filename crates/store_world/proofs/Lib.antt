@@ -1,4 +1,5 @@
 pub mod Lists
+pub mod Results
 pub mod Knowing
 pub mod Keeping
 pub mod Callers
@@ -6,12 +7,13 @@ pub mod Told
 pub mod Clients
 pub mod Repairers
 pub mod Places
+pub mod Having
+pub mod Watching
 pub mod Rounds
 pub mod Drains
 pub mod Padding
 pub mod Seating
 pub mod First
-pub mod Results
 pub mod Few
 pub mod Ended
 pub mod Playing

@@ -1,123 +1,66 @@
--- Rounds of the world, and whether somebody has a step.
-use Rattle.std.proofs.Common.{◌≡◌, ℕ, suc, ◌+◌, Bool, true, false, ◌||◌, List, [], ◌∷◌, ◌++◌, length, map, slice_get, Some, refl, sym, ap, subst, ◌∙◌, arith}
-use Rattle.std.proofs.lemmas.Option.{same_Some}
-use Rattle.store_map.specs.declared.script.ClientPart.{ClientPart}
-use Rattle.store_map.specs.declared.script.RepairPart.{RepairPart}
+-- Turns and rounds of the world, whose steps a watch is told.
+use Rattle.std.proofs.Common.{◌≡◌, ℕ, ◌+◌, Bool, true, false, List, [], ◌∷◌, ◌++◌, length, subst, ◌∙◌}
+use Rattle.store_map.specs.declared.actor.Token.{Token}
+use Rattle.store_map.specs.declared.actor.Token.TheVariants as token
 use Rattle.store_map.specs.declared.script.Script.{Script}
 use Rattle.store_core.specs.Core.{sweeper_has_step}
-use Rattle.store_core.specs.Run.{client_step, repairer_step, sweeper_step}
-use Rattle.store_core.specs.Schedule.{is_unfinished, round}
-use Rattle.store_core.specs.Work.{client_work, repairer_work, has_step, any_has_step}
-use Rattle.version_seal.specs.Entry.{BookOf}
+use Rattle.history_laws.specs.Trace.{Made}
+use Rattle.history_laws.specs.Steps.{sweep_token}
+use Rattle.call_steps.specs.declared.step.Step.{Step}
 use Rattle.world_laws.specs.World.{WorldOf}
-use Rattle.world_laws.specs.Known.{calling_of, core_of}
-use Rattle.world_laws.specs.RoundLaws.{client_turns, repairer_turns, sweep_turn}
-use Rattle.world_laws.proofs.Rounds.{rounds_are_rounds}
-use Rattle.world_laws.specs.Goes.{Leads}
-use Rattle.actors.specs.Callers.{PartOf, CallerOf, StandsIn, work_of}
+use Rattle.world_laws.specs.Known.{core_of}
+use Rattle.world_laws.specs.Telling.{LeadsTelling}
+use Rattle.world_laws.specs.RoundTells.{client_tokens, repairer_tokens, RoundTells, TurnsTell}
+use Rattle.world_laws.proofs.TraceParts.{tokens_tell_on}
+use Rattle.world_laws.proofs.TraceRounds.{rounds_tell}
 use Rattle.store_world.specs.Stored.{StoredWorld, world_of}
-use Rattle.store_world.specs.Kept.{IsWorld, IsClientAt, IsRepairerAt}
-use Rattle.store_world.specs.Having.{some_caller_has, AreOfCode}
+use Rattle.store_world.specs.Telling.{LeadsTold}
+use Rattle.store_world.specs.Watched.{Watched}
+use Rattle.store_world.proofs.Watching.{watched_none, watched_token, watched_on}
 
--- ---- turns
-module _ (script : Script) (w : WorldOf) where
-  pub no_clients : Leads script (client_turns script 0) w w
-  no_clients = record { shortages = []; leads = (rounds_are_rounds script w).clients.none }
+module _ {S : Type 0} (heard : S → S → List Step → Type 0)
+    (on : (before middle after : S) (steps more : List Step) → heard before middle steps → heard middle after more → heard before after (steps ++ more)) where
+  -- one actor's turn more
+  pub one_turn_more : (script : Script) (w : WorldOf) (tokens : ℕ → List Token) (its : ℕ → Token) → TurnsTell script tokens its w → (i : ℕ) (middle after : StoredWorld) (steps : List Step) (a b c : S)
+      → middle.script ≡ script → LeadsTold (its i) middle after steps → heard b c steps → Watched (heard a b) (LeadsTelling script (tokens i) w (world_of middle))
+      → Watched (heard a c) (LeadsTelling script (tokens (i + 1)) w (world_of after))
+  one_turn_more script w tokens its turns i middle after steps a b c same told hears sofar =
+      watched_on heard on (LeadsTelling script (tokens i) w (world_of middle)) (LeadsTelling script (its i ∷ []) (world_of middle) (world_of after)) (LeadsTelling script (tokens (i + 1)) w (world_of after)) a b c
+      (turns.next i (world_of middle) (world_of after)) sofar (watched_token (heard b c) script (its i) middle after steps same told hears)
 
-  pub no_repairers : Leads script (repairer_turns script 0) w w
-  no_repairers = record { shortages = []; leads = (rounds_are_rounds script w).repairers.none }
+  -- the turns of all clients, of all repairers and of the sweeper if it has one
+  module _ (script : Script) (w middle late after : WorldOf) (has : Bool) (a b c d : S) where
+    round_told : Watched (heard a b) (LeadsTelling script (client_tokens (length script.clients)) w middle)
+        → Watched (heard b c) (LeadsTelling script (repairer_tokens (length script.repairers)) middle late) → sweeper_has_step (core_of script late) ≡ has
+        → Watched (heard c d) (LeadsTelling script (sweep_token has) late after) → Watched (heard a d) (RoundTells script w after)
+    round_told clients repairers is_has sweeper =
+        let Rest : List Made → Type 0 = λ (l : List Made). (last : List Made) → LeadsTelling script (sweep_token has) late after last → RoundTells script w after (l ++ last) in
+        let callers : Watched (heard a c) Rest =
+        watched_on heard on (LeadsTelling script (client_tokens (length script.clients)) w middle) (LeadsTelling script (repairer_tokens (length script.repairers)) middle late) Rest a b c
+        (λ made more first second last third. (rounds_tell script w).whole middle late after made more last has first second is_has third) clients repairers in
+        watched_on heard on Rest (LeadsTelling script (sweep_token has) late after) (RoundTells script w after) a c d (λ l last rest third. rest last third) callers sweeper
 
-  pub one_client_more : (i : ℕ) (middle after : WorldOf) → Leads script (client_turns script i) w middle → Leads script (client_step script i) middle after → Leads script (client_turns script (i + 1)) w after
-  one_client_more i middle after one two =
-      record { shortages = one.shortages ++ two.shortages; leads = (rounds_are_rounds script w).clients.next i middle after one.shortages two.shortages one.leads two.leads }
+  module _ (before middle late : StoredWorld) (clients repairers : ℕ) (all_clients : clients ≡ length before.script.clients) (all_repairers : repairers ≡ length before.script.repairers)
+      (same_middle : middle.script ≡ before.script) (same_late : late.script ≡ middle.script) (a b c : S)
+      (first : Watched (heard a b) (LeadsTelling before.script (client_tokens clients) (world_of before) (world_of middle)))
+      (second : Watched (heard b c) (LeadsTelling middle.script (repairer_tokens repairers) (world_of middle) (world_of late))) where
+    -- the same of what is known of the worlds between
+    round_by : (after : StoredWorld) (has : Bool) (d : S) → sweeper_has_step (core_of late.script (world_of late)) ≡ has
+        → Watched (heard c d) (LeadsTelling before.script (sweep_token has) (world_of late) (world_of after)) → Watched (heard a d) (RoundTells before.script (world_of before) (world_of after))
+    round_by after has d is_has third =
+        round_told before.script (world_of before) (world_of middle) (world_of late) (world_of after) has a b c d
+        (subst (λ (n : ℕ). Watched (heard a b) (LeadsTelling before.script (client_tokens n) (world_of before) (world_of middle))) all_clients first)
+        (subst (λ (n : ℕ). Watched (heard b c) (LeadsTelling before.script (repairer_tokens n) (world_of middle) (world_of late))) all_repairers
+        (subst (λ (s : Script). Watched (heard b c) (LeadsTelling s (repairer_tokens repairers) (world_of middle) (world_of late))) same_middle second))
+        (subst (λ (s : Script). sweeper_has_step (core_of s (world_of late)) ≡ has) (same_late ∙ same_middle) is_has) third
 
-  pub one_repairer_more : (i : ℕ) (middle after : WorldOf) → Leads script (repairer_turns script i) w middle → Leads script (repairer_step script i) middle after → Leads script (repairer_turns script (i + 1)) w after
-  one_repairer_more i middle after one two =
-      record { shortages = one.shortages ++ two.shortages; leads = (rounds_are_rounds script w).repairers.next i middle after one.shortages two.shortages one.leads two.leads }
+    -- the sweeper has a turn, and makes it
+    pub round_swept : (after : StoredWorld) (step : Step) (d : S) → sweeper_has_step (core_of late.script (world_of late)) ≡ true → LeadsTold token.Sweep late after (step ∷ [])
+        → heard c d (step ∷ []) → Watched (heard a d) (RoundTells before.script (world_of before) (world_of after))
+    round_swept after step d is_has told hears = round_by after true d is_has (watched_token (heard c d) before.script token.Sweep late after (step ∷ []) (same_late ∙ same_middle) told hears)
 
-  pub sweep_made : (after : WorldOf) → sweeper_has_step (core_of script w) ≡ true → Leads script (sweeper_step script) w after → Leads script (sweep_turn script) w after
-  sweep_made after has one = record { shortages = one.shortages; leads = (rounds_are_rounds script w).sweeper.has has after one.shortages one.leads }
-
-  pub no_sweep : sweeper_has_step (core_of script w) ≡ false → Leads script (sweep_turn script) w w
-  no_sweep has = record { shortages = []; leads = (rounds_are_rounds script w).sweeper.none has }
-
-  pub whole_round : (clients repairers : ℕ) → clients ≡ length script.clients → repairers ≡ length script.repairers → (middle late after : WorldOf) → Leads script (client_turns script clients) w middle
-      → Leads script (repairer_turns script repairers) middle late → Leads script (sweep_turn script) late after → Leads script (round script) w after
-  whole_round clients repairers all_clients all_repairers middle late after one two three =
-      let first : Leads script (client_turns script (length script.clients)) w middle = subst (λ (n : ℕ). Leads script (client_turns script n) w middle) all_clients one in
-      let second : Leads script (repairer_turns script (length script.repairers)) middle late = subst (λ (n : ℕ). Leads script (repairer_turns script n) middle late) all_repairers two in
-      record {
-        shortages = first.shortages ++ second.shortages ++ three.shortages;
-        leads = (rounds_are_rounds script w).whole middle late after first.shortages second.shortages three.shortages first.leads second.leads three.leads;
-      }
-
--- ---- whether somebody has a step
-or_false : (b : Bool) → (b || false) ≡ b
-or_false true = refl
-or_false false = refl
-
-true_last : (a b : Bool) → (a || b || true) ≡ true
-true_last true b = refl
-true_last false true = refl
-true_last false false = refl
-
--- a caller whose part is the one at this place
-record IsPartAt (X : Type 0) (as_part : X → PartOf) (parts : List X) (i : ℕ) (c : CallerOf) : Type 0 where
-  part : X
-  is_part : c.part ≡ as_part part
-  its : slice_get parts i ≡ Some part
-
-module _ (X : Type 0) (as_part : X → PartOf) (script : Script) where
-  any_of : (parts : List X) (callers : List CallerOf) → length callers ≡ length parts
-      → ((i : ℕ) (c : CallerOf) → slice_get callers i ≡ Some c → IsPartAt X as_part parts i c)
-      → any_has_step (map (λ part. work_of (as_part part)) parts) (map (calling_of script) (map (λ caller. caller.actor) callers)) ≡ some_caller_has script callers
-  any_of [] [] count each = refl
-  any_of [] (c ∷ callers) count each = absurd (omega (arith, count))
-  any_of (p ∷ parts) [] count each = absurd (omega (arith, count))
-  any_of (p ∷ parts) (c ∷ callers) count each =
-      let first : IsPartAt X as_part (p ∷ parts) 0 c = each 0 c refl in
-      let same : as_part p ≡ c.part = ap as_part (same_Some p first.part first.its) ∙ sym first.is_part in
-      λ k. has_step (work_of (same k)) (calling_of script c.actor)
-      || any_of parts callers (omega (arith, count)) (λ i x there. record { part = (each (suc i) x there).part; is_part = (each (suc i) x there).is_part; its = (each (suc i) x there).its }) k
-
-module _ (s : StoredWorld) (is : IsWorld s) where
-  pub clients_of_code : AreOfCode s.script s.clients
-  clients_of_code i c there = ap (λ (b : BookOf). b.geometry) (is.clients.each i c there).at.same_book ∙ is.code
-
-  pub repairers_of_code : AreOfCode s.script s.repairers
-  repairers_of_code i c there = ap (λ (b : BookOf). b.geometry) (is.repairers.each i c there).at.same_book ∙ is.code
-
-  -- a client has one, or no client and a repairer, or neither and the sweeper tells
-  clients_known : any_has_step (client_work s.script) (map (calling_of s.script) (world_of s).clients) ≡ some_caller_has s.script s.clients
-  clients_known =
-      any_of ClientPart PartOf.OfClient s.script s.script.clients s.clients is.clients.count
-      (λ i c there. let at : IsClientAt s.script s.book s.directory i c = is.clients.each i c there in
-      record { part = at.part; is_part = at.is_part; its = subst (StandsIn s.script i) at.is_part at.at.its })
-
-  repairers_known : any_has_step (repairer_work s.script) (map (calling_of s.script) (world_of s).repairers) ≡ some_caller_has s.script s.repairers
-  repairers_known =
-      any_of RepairPart PartOf.OfRepairer s.script s.script.repairers s.repairers is.repairers.count
-      (λ i c there. let at : IsRepairerAt s.script s.book s.directory i c = is.repairers.each i c there in
-      record { part = at.part; is_part = at.is_part; its = subst (StandsIn s.script i) at.is_part at.at.its })
-
-  pub unfinished : (some_client some_repairer : Bool) → some_client ≡ some_caller_has s.script s.clients → some_repairer ≡ some_caller_has s.script s.repairers
-      → (some_client || some_repairer || sweeper_has_step (core_of s.script (world_of s))) ≡ is_unfinished s.script (core_of s.script (world_of s))
-  unfinished some_client some_repairer one two = λ k. (one ∙ sym clients_known) k || (two ∙ sym repairers_known) k || sweeper_has_step (core_of s.script (world_of s))
-
-  pub by_client : (some_client : Bool) → some_client ≡ some_caller_has s.script s.clients → some_client ≡ true → true ≡ is_unfinished s.script (core_of s.script (world_of s))
-  by_client some_client one holds =
-      let rest : Bool = some_caller_has s.script s.repairers in
-      let sweeps : Bool = sweeper_has_step (core_of s.script (world_of s)) in
-      ap (λ (b : Bool). b || rest || sweeps) (sym holds) ∙ unfinished some_client rest one refl
-
-  pub by_repairers : (some_client some_repairer sweeps : Bool) → some_client ≡ some_caller_has s.script s.clients → some_client ≡ false → some_repairer ≡ some_caller_has s.script s.repairers
-      → sweeps ≡ sweeper_has_step (core_of s.script (world_of s)) → sweeps ≡ false → some_repairer ≡ is_unfinished s.script (core_of s.script (world_of s))
-  by_repairers some_client some_repairer sweeps one without two three rests =
-      sym (or_false some_repairer) ∙ (λ k. sym without k || some_repairer || (sym rests ∙ three) k) ∙ unfinished some_client some_repairer one two
-
--- the sweeper has a step, whoever else has
-pub by_sweeper : (s : StoredWorld) (sweeps : Bool) → sweeps ≡ sweeper_has_step (core_of s.script (world_of s)) → sweeps ≡ true → true ≡ is_unfinished s.script (core_of s.script (world_of s))
-by_sweeper s sweeps tells holds =
-    let some_client : Bool = any_has_step (client_work s.script) (map (calling_of s.script) (world_of s).clients) in
-    let some_repairer : Bool = any_has_step (repairer_work s.script) (map (calling_of s.script) (world_of s).repairers) in
-    sym (true_last some_client some_repairer) ∙ (λ k. some_client || some_repairer || (sym holds ∙ tells) k)
+    -- it has none
+    pub round_unswept : heard c c [] → sweeper_has_step (core_of late.script (world_of late)) ≡ false → Watched (heard a c) (RoundTells before.script (world_of before) (world_of late))
+    round_unswept nothing is_has =
+        round_by late false c is_has
+        (watched_none (heard c c) (LeadsTelling before.script (sweep_token false) (world_of late) (world_of late)) nothing ((tokens_tell_on before.script).none (world_of late)))

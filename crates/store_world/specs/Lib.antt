@@ -2,6 +2,8 @@ pub mod Stored
 pub mod Kept
 pub mod Inside
 pub mod Telling
+pub mod Watched
+pub mod Traced
 pub mod Having
 pub mod First
 pub mod Ending

@@ -1,14 +1,17 @@
 //! Rounds of all actors, until nobody has a step.
-ghost use Rattle.std.specs.Prelude.{◌≡◌, ◌∷◌, []};
+ghost use Rattle.std.specs.Prelude.{◌≡◌, ◌∷◌, [], OnOk};
 ghost use Rattle.store_map.specs.declared.script.Script.{Script};
 ghost use Rattle.store_map.specs.declared.actor.Token.{Token};
-ghost use Rattle.store_core.specs.Schedule.{is_unfinished, round};
+ghost use Rattle.store_core.specs.Schedule.{is_unfinished};
 ghost use Rattle.world_laws.specs.Known.{core_of};
-ghost use Rattle.world_laws.specs.RoundLaws.{client_turns, repairer_turns};
-ghost use Rattle.world_laws.specs.Goes.{GoesBy};
+ghost use Rattle.world_laws.specs.Telling.{LeadsTelling};
+ghost use Rattle.world_laws.specs.RoundTells.{client_tokens, repairer_tokens, RoundTells};
+ghost use Rattle.world_laws.specs.Traced.{GoesTelling};
 ghost use Rattle.store_world.specs.Having.{some_caller_has, AreOfCode};
-ghost use Rattle.store_world.specs.Stored.{LeadsBy, world_of};
+ghost use Rattle.store_world.specs.Stored.{world_of};
+ghost use Rattle.store_world.specs.Watched.{Watched};
 
+use crate::watch::{Watch, turn_made};
 use crate::world::World;
 use actors::Caller;
 use clay_model::Coder;
@@ -28,39 +31,60 @@ fn some_has_step(callers: &[Caller]) -> bool
 
 impl<'a> World<'a> {
     // The turns of the first so many clients.
-    fn client_turns<R: Threads + Sync, C: Coder>(&mut self, rt: &R, coder: &C, count: u32)
-        ensures leads { LeadsBy (client_turns self.old.script count) self.old self.new }
+    fn client_turns<R: Threads + Sync, C: Coder, W: Watch>(
+        &mut self,
+        rt: &R,
+        coder: &C,
+        count: u32,
+        watch: &mut W,
+    ) -> Result<(), W::Error>
+        ensures told { OnOk result (Watched (W.heard watch.old watch.new) (LeadsTelling self.old.script (client_tokens count) (world_of self.old) (world_of self.new))) }
         ensures same { self.new.script ≡ self.old.script }
         ensures same_book { self.new.book ≡ self.old.book }
     {
         for i in 0..count {
-            self.client_turn(rt, coder, i);
+            turn_made(watch, self.client_turn(rt, coder, i))?;
         }
+        Ok(())
     }
 
     // The turns of the first so many repairers.
-    fn repairer_turns<R: Threads + Sync, C: Coder>(&mut self, rt: &R, coder: &C, count: u32)
-        ensures leads { LeadsBy (repairer_turns self.old.script count) self.old self.new }
+    fn repairer_turns<R: Threads + Sync, C: Coder, W: Watch>(
+        &mut self,
+        rt: &R,
+        coder: &C,
+        count: u32,
+        watch: &mut W,
+    ) -> Result<(), W::Error>
+        ensures told { OnOk result (Watched (W.heard watch.old watch.new) (LeadsTelling self.old.script (repairer_tokens count) (world_of self.old) (world_of self.new))) }
         ensures same { self.new.script ≡ self.old.script }
         ensures same_book { self.new.book ≡ self.old.book }
     {
         for i in 0..count {
-            self.repairer_turn(rt, coder, i);
+            turn_made(watch, self.repairer_turn(rt, coder, i))?;
         }
+        Ok(())
     }
 
     // A turn of each client, of each repairer, and of the sweeper where it has one.
-    fn round<R: Threads + Sync, C: Coder>(&mut self, rt: &R, coder: &C)
-        ensures leads { LeadsBy (round self.old.script) self.old self.new }
+    fn round<R: Threads + Sync, C: Coder, W: Watch>(
+        &mut self,
+        rt: &R,
+        coder: &C,
+        watch: &mut W,
+    ) -> Result<(), W::Error>
+        ensures told { OnOk result (Watched (W.heard watch.old watch.new) (RoundTells self.old.script (world_of self.old) (world_of self.new))) }
         ensures same { self.new.script ≡ self.old.script }
         ensures same_book { self.new.book ≡ self.old.book }
     {
         let clients = self.script.clients.len() as u32;
         let repairers = self.script.repairers.len() as u32;
-        self.client_turns(rt, coder, clients);
-        self.repairer_turns(rt, coder, repairers);
+        self.client_turns(rt, coder, clients, watch)?;
+        self.repairer_turns(rt, coder, repairers, watch)?;
         if self.sweeper_has_step() {
-            self.sweeper_turn();
+            watch.made(self.sweeper_turn())
+        } else {
+            Ok(())
         }
     }
 
@@ -79,9 +103,14 @@ impl<'a> World<'a> {
         some_has_step(&self.repairers)
     }
 
-    /// All take turns until nobody has a step.
-    pub fn drain<R: Threads + Sync, C: Coder>(&mut self, rt: &R, coder: &C)
-        ensures goes { GoesBy self.old.script (Token.Drain ∷ []) (world_of self.old) (world_of self.new) }
+    /// All take turns until nobody has a step. The watch is told each step.
+    pub fn drain<R: Threads + Sync, C: Coder, W: Watch>(
+        &mut self,
+        rt: &R,
+        coder: &C,
+        watch: &mut W,
+    ) -> Result<(), W::Error>
+        ensures told { OnOk result (Watched (W.heard watch.old watch.new) (GoesTelling self.old.script (Token.Drain ∷ []) (world_of self.old) (world_of self.new))) }
         ensures same { self.new.script ≡ self.old.script }
         ensures same_book { self.new.book ≡ self.old.book }
     {
@@ -89,9 +118,10 @@ impl<'a> World<'a> {
         let _script = self.script;
         for _made in 0..u64::MAX {
             if !self.is_unfinished() {
-                return;
+                return Ok(());
             }
-            self.round(rt, coder);
+            self.round(rt, coder, watch)?;
         }
+        Ok(())
     }
 }

@@ -12,7 +12,9 @@ mod step;
 mod sweep;
 mod telling;
 mod turns;
+mod watch;
 mod world;
 
-pub use script_run::play;
+pub use script_run::{play, run};
+pub use watch::{Silent, Watch};
 pub use world::World;

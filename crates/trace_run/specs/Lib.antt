@@ -1,4 +1,2 @@
-pub mod Adds
-pub mod Traced
 pub mod Top
 pub mod Serves

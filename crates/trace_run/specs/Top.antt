@@ -5,12 +5,12 @@ use Rattle.script_text.specs.FirstFault.{Spelled}
 use Rattle.transcript_text.specs.Text.{text_of}
 use Rattle.store_map.specs.declared.transcript.Transcript.{Transcript}
 use Rattle.call_steps.specs.declared.step.Step.{Step}
+use Rattle.store_world.specs.Traced.{IsTracedRun}
 use Rattle.trace_lines.specs.Lines.{lines_of}
 use Rattle.clay_cli.specs.Play.{IsFaulty}
 use Rattle.clay_cli.specs.declared.status.Status.{Status}
 use Rattle.clay_cli.specs.declared.status.Status.TheVariants.{Done, ScriptRefused}
 use Rattle.clay_cli.specs.declared.output.Output.{Output}
-use Rattle.trace_run.specs.Traced.{IsTracedRun}
 
 -- the lines of a run's steps, and behind them its transcript's text
 pub record IsTextOf (script : Script) (text : List ℕ) : Type 0 where

@@ -6,7 +6,7 @@ use Rattle.actors.specs.Callers.{CallerOf}
 use Rattle.store_world.specs.Stored.{StoredWorld, world_of}
 use Rattle.store_world.specs.Inside.{stored_in}
 use Rattle.store_world.specs.Having.{some_caller_has, AreOfCode}
-use Rattle.store_world.proofs.Rounds.{clients_of_code, repairers_of_code, by_client, by_repairers, by_sweeper}
+use Rattle.store_world.proofs.Having.{clients_of_code, repairers_of_code, by_client, by_repairers, by_sweeper}
 use Rattle.store_world.proofs.world.World.is_unfinished.Goals as goal
 
 pub returns-then-sweeper_has_step : goal.returns-then-sweeper_has_step

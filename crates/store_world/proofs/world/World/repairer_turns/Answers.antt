@@ -1,19 +1,29 @@
-use Rattle.std.proofs.Common.{refl, subst, ◌∙◌}
-use Rattle.store_map.specs.declared.script.Script.{Script}
-use Rattle.store_core.specs.Run.{repairer_step}
-use Rattle.world_laws.specs.Goes.{Leads}
+use Rattle.std.proofs.Common.{refl, ◌∙◌}
+use Rattle.store_map.specs.declared.actor.Token.TheVariants as token
+use Rattle.world_laws.specs.Telling.{LeadsTelling}
+use Rattle.world_laws.specs.RoundTells.{repairer_tokens}
+use Rattle.world_laws.proofs.TraceRounds.{rounds_tell}
 use Rattle.store_world.specs.Stored.{world_of}
-use Rattle.store_world.proofs.Rounds.{no_repairers, one_repairer_more}
+use Rattle.store_world.specs.Telling.{steps_in}
+use Rattle.store_world.proofs.Watching.{watched_none}
+use Rattle.store_world.proofs.Rounds.{one_turn_more}
 use Rattle.store_world.proofs.world.World.repairer_turns.Goals as goal
 
 pub loop-i-init : goal.loop-i-init
-loop-i-init g c = record { same = refl; same_book = refl; leads = no_repairers c.args.self.now.script (world_of c.args.self.now) }
+loop-i-init g c = record {
+  same = refl;
+  same_book = refl;
+  told =
+      watched_none (g.W.Watch.heard c.args.watch.now c.args.watch.now) (LeadsTelling c.args.self.now.script (repairer_tokens 0) (world_of c.args.self.now) (world_of c.args.self.now))
+      (g.met.W.Watch.none c.args.watch.now) (rounds_tell c.args.self.now.script (world_of c.args.self.now)).repairers.none;
+}
 
 pub loop-i-preserved : goal.loop-i-preserved
 loop-i-preserved g c = record {
   same = c.repairer_turn.ensures.same ∙ c.loop-i.invariant.same;
   same_book = c.repairer_turn.ensures.same_book ∙ c.loop-i.invariant.same_book;
-  leads =
-      one_repairer_more c.args.self.now.script (world_of c.args.self.now) c.loop-i.i (world_of c.loop-i.self) (world_of c.repairer_turn.new.self) c.loop-i.invariant.leads
-      (subst (λ (s : Script). Leads s (repairer_step s c.loop-i.i) (world_of c.loop-i.self) (world_of c.repairer_turn.new.self)) c.loop-i.invariant.same c.repairer_turn.ensures.leads);
+  told =
+      one_turn_more g.W.Watch.heard g.met.W.Watch.on c.args.self.now.script (world_of c.args.self.now) repairer_tokens token.Repairer (rounds_tell c.args.self.now.script (world_of c.args.self.now)).repairers c.loop-i.i
+      c.loop-i.self c.repairer_turn.new.self (steps_in c.repairer_turn.result) c.args.watch.now c.loop-i.watch c.turn_made.new.watch c.loop-i.invariant.same c.repairer_turn.ensures.told c.in_ok-turn_made.ensures
+      c.loop-i.invariant.told;
 }
