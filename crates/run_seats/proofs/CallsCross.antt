@@ -13,7 +13,7 @@ use Rattle.version_seal.specs.contracts.chunk.SealedChunk as chunk
 use Rattle.gathering.specs.contracts.gather.Gather as gather
 use Rattle.call_steps.specs.contracts.outcomes.Outcome as outcome
 use Rattle.call_steps.specs.contracts.seen.Seen as seen
-use Rattle.stripe_dir.specs.contracts.ticket.Ticket as ticket
+use Rattle.dir_tickets.specs.contracts.ticket.Ticket as ticket
 use Rattle.gather_parts.specs.contracts.gatherings.PartGatherings as gatherings
 use Rattle.write_course.specs.contracts.writing.Writing as writing
 use Rattle.client_read.specs.contracts.read.ReadCall.TheInside as read_inside
