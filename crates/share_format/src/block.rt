@@ -50,9 +50,9 @@ fn two_sums(g: AloofGeometry, crc: &Crc64, chunk: &[u8], layer: u32, other: u32)
     ensures second { result.1 ≡ checksum_of (subchunk g chunk.now other) }
 {
     let width = g.w() as usize;
-    let at = subchunk_start(g, layer);
-    let then = subchunk_start(g, other);
-    crc.checksum_two(&chunk[at..at + width], &chunk[then..then + width])
+    let first = subchunk_start(g, layer);
+    let second = subchunk_start(g, other);
+    crc.checksum_two(&chunk[first..first + width], &chunk[second..second + width])
 }
 
 // The checksum of each subchunk, layer 0 first.
@@ -132,8 +132,8 @@ fn has_two_sums(
     requires chunk { length chunk.now ≡ chunk_length (grid_of g) }
     ensures { IsTrue result ↔ (HasChecksum front.now layer (subchunk g chunk.now layer) × HasChecksum front.now other (subchunk g chunk.now other)) }
 {
-    let (one, then) = two_sums(g, crc, chunk, layer, other);
-    has_entry(front, layer, one) && has_entry(front, other, then)
+    let (first, second) = two_sums(g, crc, chunk, layer, other);
+    has_entry(front, layer, first) && has_entry(front, other, second)
 }
 
 // Whether each entry in front of a chunk is the checksum of its layer's subchunk.
