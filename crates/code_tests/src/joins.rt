@@ -16,9 +16,9 @@ use std::alloc::{AllocError, Global};
 enum Harm {
     // The first so many shares are missing.
     Missing(usize),
-    // A byte of the first share is another one.
-    Rot(u64),
-    // This read of the last share fails.
+    // A byte of this share is another one.
+    Rot(usize, u64),
+    // The first share is missing, and this read of the last one fails.
     FailedRead(u64),
     // This write of the joined file fails.
     FailedWrite(u64),
@@ -47,9 +47,10 @@ fn harm_shares(alloc: Global, shares: &mut [MemFile], harm: Harm)
 {
     match harm {
         Harm::Missing(count) if count < 5 => empty(alloc, shares, count),
-        Harm::Rot(at) => {
-            let _written = shares[0].write_at(at, b"?");
+        Harm::Rot(share, at) if share < 5 => {
+            let _written = shares[share].write_at(at, b"?");
         }
+        Harm::FailedRead(_) => empty(alloc, shares, 1),
         _ => {}
     }
 }
@@ -107,7 +108,7 @@ fn any_two_of_five_are_enough(rt: HostRuntime) -> Result<(), AllocError> {
     Ok(())
 }
 
-// The second block begins at byte 136.
+// The second block begins at byte 136. Rot of a parity share isn't read where the data shares are good.
 #[test]
 fn rot_is_noted(rt: HostRuntime) -> Result<(), AllocError> {
     let crc = Crc64::new(rt.alloc())?;
@@ -116,9 +117,12 @@ fn rot_is_noted(rt: HostRuntime) -> Result<(), AllocError> {
     };
     let mut missed = [None; 5];
     for at in [64, 135, 136, 207u64] {
-        let joined = join_harmed(rt.alloc(), &crc, geometry, Harm::Rot(at), &mut missed)?;
+        let joined = join_harmed(rt.alloc(), &crc, geometry, Harm::Rot(0, at), &mut missed)?;
         assert_eq!(rt; joined, Ok(true));
         assert_eq!(rt; missed, [Some(at / 136), None, None, None, None]);
+        let joined = join_harmed(rt.alloc(), &crc, geometry, Harm::Rot(4, at), &mut missed)?;
+        assert_eq!(rt; joined, Ok(true));
+        assert_eq!(rt; missed, [None; 5]);
     }
     Ok(())
 }
@@ -139,7 +143,7 @@ fn each_read_and_each_write_fails_in_turn(rt: HostRuntime) -> Result<(), AllocEr
             &mut missed,
         )?;
         assert_eq!(rt; joined, Ok(true));
-        assert_eq!(rt; missed, [None, None, None, None, Some(call)]);
+        assert_eq!(rt; missed, [Some(0), None, None, None, Some(call)]);
         let joined = join_harmed(
             rt.alloc(),
             &crc,

@@ -12,5 +12,8 @@ pub mod WholeLemmas
 pub mod ReadLemmas
 pub mod Steps
 pub mod Bytes
+pub mod DataLemmas
+pub mod PassLemmas
+pub mod Unread
 pub mod Taking
 pub mod AnyShares

@@ -1,18 +1,20 @@
 -- One more source of which a stripe's block was read.
-use Rattle.std.proofs.Common.{◌≡◌, ◌≢◌, ℕ, ◌+◌, ◌<◌, List, [], ◌∷◌, ◌++◌, length, get_or, map, Option, None, Some, IfSome, Vec, Global, refl, sym, subst, ◌∙◌, ap, inl, inr, arith, append-nil, append_assoc, get_or-set_other, get_or-set_same, below_more}
+use Rattle.std.proofs.Common.{◌≡◌, ◌≢◌, ℕ, ◌+◌, ◌<◌, ◌≤◌, ◌⊎◌, Bool, true, false, is_none, List, [], ◌∷◌, ◌++◌, length, get_or, map, Option, None, Some, IfSome, Vec, Global, refl, sym, subst, ◌∙◌, ap, inl, inr, arith, append-nil, append_assoc, get_or-set_other, get_or-set_same, below_more}
 use Rattle.std.proofs.Math.ListN.{set}
-use Rattle.std.proofs.lemmas.Bool.{cases_lt}
+use Rattle.std.proofs.lemmas.Bool.{cases_lt, true≢false}
 use Rattle.std.proofs.lemmas.List as lists
-use Rattle.std.proofs.lemmas.List.{map-set, length-map, get_or_append_left, get_or_push}
-use Rattle.std.proofs.lemmas.List.Elements.{All-push}
+use Rattle.std.proofs.lemmas.List.{map-set, length-map}
+use Rattle.std.proofs.lemmas.List.Elements.{All-from_get_or}
 use Rattle.file_bytes.specs.Places.{Shows, FailsIn}
 use Rattle.clay_model.specs.Left.{AreLong}
 use Rattle.clay_aloof.specs.Shape.{AloofShape}
 use Rattle.share_format.specs.Blocks.{block_length, IsBlock}
 use Rattle.share_format.specs.Shares.{block_start}
-use Rattle.share_files.specs.Found.{block_in, IsFound}
+use Rattle.share_files.specs.Found.{block_in, IsTold, IsFound}
 use Rattle.share_files.specs.Seen.{Seen, seen, seen_of}
-use Rattle.share_files.specs.Gathered.{Grows, Grow, IsHad, Reads, AreRead}
+use Rattle.share_files.specs.Gathered.{Grows, Grow, IsHad, Reads, AreRead, AreReadIn}
+use Rattle.share_files.specs.Handed.{HasBlock, HaveBlocks}
+use Rattle.share_format.specs.Joined.{is_lost}
 
 -- ---- what a source tells
 
@@ -68,28 +70,43 @@ module _ {X : Type 0} (f : X → Seen) (xs : List X) (share : ℕ) (old new : X)
   other : (c : ℕ) → c ≢ share → seen_of news c ≡ seen_of (map f xs) c
   other c differs = ap (λ l. get_or l c (seen [] [] [])) (map-set f xs share new) ∙ get_or-set_other (map f xs) share c (f new) (seen [] [] []) differs
 
-  before : seen_of (map f xs) share ≡ f old
-  before = lists.get_or-map f xs share old (seen [] [] []) within ∙ sym (ap f here)
+  old_one : seen_of (map f xs) share ≡ f old
+  old_one = lists.get_or-map f xs share old (seen [] [] []) within ∙ sym (ap f here)
 
-  pub read_more : (a : AloofShape) (i : ℕ) (olds : List Seen) (blocks : List (Option (Vec ℕ Global))) (block : Option (Vec ℕ Global)) → length blocks ≡ share →
-      Reads a i (f old) (f new) block → AreRead a i share olds (map f xs) blocks → AreRead a i (share + 1) olds news (blocks ++ block ∷ [])
-  read_more a i olds blocks block count reads so = record {
-    read =
-        below_more (λ c. Reads a i (seen_of olds c) (seen_of news c) (get_or (blocks ++ block ∷ []) c None)) share
-        (λ c less.
-        let differs : c ≢ share = omega (arith, less) in
-        let P : Seen → Type 0 = λ s. Reads a i (seen_of olds c) s (get_or blocks c None) in
-        let Q : Option (Vec ℕ Global) → Type 0 = λ b. Reads a i (seen_of olds c) (seen_of news c) b in
-        subst Q (sym (get_or_append_left blocks (block ∷ []) None c (omega (arith, less, count))))
-        (subst P (sym (other c differs)) (so.read c less)))
-        (let P : Seen → Type 0 = λ s. Reads a i s (f new) block in
+  -- and its block replaced that which stood in its place
+  pub read_in_more : (a : AloofShape) (i from : ℕ) (olds : List Seen) (before blocks after : List (Option (Vec ℕ Global))) (block : Option (Vec ℕ Global)) →
+      from ≤ share → get_or after share None ≡ block → ((c : ℕ) → c ≢ share → get_or after c None ≡ get_or blocks c None) →
+      IfSome block (λ v. IsBlock a v.items) → Reads a i (f old) (f new) block → AreReadIn a i from share olds (map f xs) before blocks →
+      AreReadIn a i from (share + 1) olds news before after
+  read_in_more a i from olds before blocks after block start put rest good reads so = record {
+    read = λ c more less.
+        below_more (λ k. from ≤ k → Reads a i (seen_of olds k) (seen_of news k) (get_or after k None)) share
+        (λ k below first.
+        let differs : k ≢ share = omega (arith, below) in
+        let P : Seen → Type 0 = λ s. Reads a i (seen_of olds k) s (get_or blocks k None) in
+        let Q : Option (Vec ℕ Global) → Type 0 = λ b. Reads a i (seen_of olds k) (seen_of news k) b in
+        subst Q (sym (rest k differs)) (subst P (sym (other k differs)) (so.read k first below)))
+        (λ first.
+        let P : Seen → Type 0 = λ s. Reads a i s (f new) block in
         let Q : Seen → Type 0 = λ s. Reads a i (seen_of olds share) s block in
         let R : Option (Vec ℕ Global) → Type 0 = λ b. Reads a i (seen_of olds share) (seen_of news share) b in
-        subst R (sym (get_or_push blocks block None share count))
-        (subst Q (sym own) (subst P (sym before ∙ so.others share (omega arith)) reads)));
-    others = λ c more.
-        let differs : c ≢ share = omega (arith, more) in
-        other c differs ∙ so.others c (omega (arith, more));
+        subst R (sym put) (subst Q (sym own) (subst P (sym old_one ∙ so.others share (inr (omega arith))) reads)))
+        c less more;
+    good = λ c more less.
+        below_more (λ k. from ≤ k → IfSome (get_or after k None) (λ v. IsBlock a v.items)) share
+        (λ k below first.
+        let differs : k ≢ share = omega (arith, below) in
+        let P : Option (Vec ℕ Global) → Type 0 = λ b. IfSome b (λ v. IsBlock a v.items) in
+        subst P (sym (rest k differs)) (so.good k first below))
+        (λ first. let P : Option (Vec ℕ Global) → Type 0 = λ b. IfSome b (λ v. IsBlock a v.items) in subst P (sym put) good)
+        c less more;
+    others = λ c outside.
+        let differs : c ≢ share = elim outside [ inl less ↦ omega (arith, less, start) | inr more ↦ omega (arith, more) ] in
+        let was : (c < from) ⊎ (share ≤ c) = elim outside [ inl less ↦ inl less | inr more ↦ inr (omega (arith, more)) ] in
+        other c differs ∙ so.others c was;
+    kept = λ c less.
+        let differs : c ≢ share = omega (arith, less, start) in
+        rest c differs ∙ so.kept c less;
   }
 
   pub grow_one : Grows (f old) (f new) → Grow (map f xs) news
@@ -107,21 +124,92 @@ module _ {X : Type 0} (f : X → Seen) (xs : List X) (share : ℕ) (old new : X)
               let P : Seen → Type 0 = λ s. Grows s (f new) in
               let Q : Seen → Type 0 = λ s. Grows (seen_of (map f xs) share) s in
               let R : ℕ → Type 0 = λ k. Grows (seen_of (map f xs) k) (seen_of news k) in
-              subst R is (subst Q (sym own) (subst P (sym before) grows))
+              subst R is (subst Q (sym own) (subst P (sym old_one) grows))
         ]
   ]
+
+-- ---- shares from one number on, up to another
+
+module _ (a : AloofShape) (i : ℕ) where
+  pub read_from : (to : ℕ) (olds news : List Seen) (before after : List (Option (Vec ℕ Global))) → AreReadIn a i 0 to olds news before after → AreRead a i to olds news after
+  read_from to olds news before after is = record { read = λ c less. is.read c (omega arith) less; others = λ c more. is.others c (inr more) }
+
+  pub read_whole : (n count : ℕ) (olds news : List Seen) (before blocks items : List (Option (Vec ℕ Global))) → items ≡ blocks → n ≡ count →
+      AreReadIn a i 0 count olds news before blocks → AreRead a i n olds news items
+  read_whole n count olds news before blocks items is same read =
+      let P : ℕ → Type 0 = λ m. AreRead a i m olds news items in
+      let Q : List (Option (Vec ℕ Global)) → Type 0 = λ l. AreRead a i count olds news l in
+      subst P (sym same) (subst Q (sym is) (read_from count olds news before blocks read))
+
+  -- none yet
+  pub read_in_none : (from : ℕ) (sources : List Seen) (blocks : List (Option (Vec ℕ Global))) → AreReadIn a i from from sources sources blocks blocks
+  read_in_none from sources blocks = record {
+    read = λ c more less. absurd (omega (arith, more, less));
+    good = λ c more less. absurd (omega (arith, more, less));
+    others = λ c outside. refl;
+    kept = λ c less. refl;
+  }
+
+  pub read_both : (from to : ℕ) (olds mids news : List Seen) (before mid after : List (Option (Vec ℕ Global))) → from ≤ to → AreReadIn a i 0 from olds mids before mid →
+      AreReadIn a i from to mids news mid after → AreRead a i to olds news after
+  read_both from to olds mids news before mid after order one two = record {
+    read = λ c less. elim (cases_lt c from) [
+      | inl first ↦
+          let P : Seen → Type 0 = λ s. Reads a i (seen_of olds c) s (get_or after c None) in
+          let Q : Option (Vec ℕ Global) → Type 0 = λ b. Reads a i (seen_of olds c) (seen_of mids c) b in
+          subst P (sym (two.others c (inl first))) (subst Q (sym (two.kept c first)) (one.read c (omega arith) first))
+      | inr later ↦
+          let P : Seen → Type 0 = λ s. Reads a i s (seen_of news c) (get_or after c None) in
+          subst P (one.others c (inr later)) (two.read c later less)
+    ];
+    others = λ c more. two.others c (inr more) ∙ one.others c (inr (omega (arith, order, more)));
+  }
+
+  pub grow_in : (from to : ℕ) (olds news : List Seen) (before after : List (Option (Vec ℕ Global))) → AreReadIn a i from to olds news before after → Grow olds news
+  grow_in from to olds news before after is c = elim (cases_lt c from) [
+    | inl before_all ↦ grows_none (seen_of olds c) (seen_of news c) (is.others c (inl before_all))
+    | inr from_one ↦ elim (cases_lt c to) [
+      | inl less ↦ grows_read a i (seen_of olds c) (seen_of news c) (get_or after c None) (is.read c from_one less)
+      | inr more ↦ grows_none (seen_of olds c) (seen_of news c) (is.others c (inr more))
+    ]
+  ]
+
+  there_of : (block : Option (Vec ℕ Global)) → IfSome block (λ v. IsBlock a v.items) → is_none block ≡ false → HasBlock a block
+  there_of None good there = absurd (true≢false there)
+  there_of (Some v) good there = good
+
+  pub have_blocks : (to : ℕ) (olds news : List Seen) (before after : List (Option (Vec ℕ Global))) → a.data_count ≡ to → AreReadIn a i 0 to olds news before after →
+      ((c : ℕ) → c < a.data_count → is_lost after c ≡ false) → HaveBlocks a after
+  have_blocks to olds news before after count is there c less = there_of (get_or after c None) (is.good c (omega arith) (omega (arith, less, count))) (there c less)
 
 -- a block has its length
 block_size : (a : AloofShape) (block : Option (Vec ℕ Global)) → IfSome block (λ v. IsBlock a v.items) → IfSome block (λ v. length v.items ≡ block_length a)
 block_size a None is = tt
 block_size a (Some v) is = is.size
 
-pub long_more : (a : AloofShape) (blocks : List (Option (Vec ℕ Global))) (block : Option (Vec ℕ Global)) → IfSome block (λ v. IsBlock a v.items) →
-    AreLong (block_length a) blocks → AreLong (block_length a) (blocks ++ block ∷ [])
-long_more a blocks block is long = All-push (λ o. IfSome o (λ v. length v.items ≡ block_length a)) blocks block long (block_size a block is)
+pub long_one : (a : AloofShape) (block : Option (Vec ℕ Global)) → IfSome block (λ v. IsBlock a v.items) → IfSome block (λ v. length v.items ≡ block_length a)
+long_one a block is = block_size a block is
 
--- what is found was had
-pub had_found : (a : AloofShape) (i : ℕ) (file failed now : List ℕ) (found : Option (Vec ℕ Global)) → now ≡ failed → IsFound a (block_in a i file) found →
-    IsHad a i file failed now found
-had_found a i file failed now None same none = inl none
-had_found a i file failed now (Some block) same is = (is.0, is.1, same)
+-- no blocks have any length
+pub none_long : (len : ℕ) (blocks : List (Option (Vec ℕ Global))) → ((c : ℕ) → get_or blocks c None ≡ None) → AreLong len blocks
+none_long len blocks none =
+    let P : Option (Vec ℕ Global) → Type 0 = λ o. IfSome o (λ v. length v.items ≡ len) in
+    All-from_get_or P blocks None (λ c less. subst P (sym (none c)) tt)
+
+-- what was told of a room was had
+pub told_good : (a : AloofShape) (bytes room items : List ℕ) (good : Bool) → good ≡ true → items ≡ room → IsTold a bytes room good → (items ≡ bytes) × IsBlock a bytes
+told_good a bytes room items good true_is is told =
+    let P : Bool → Type 0 = λ b. IsTold a bytes room b in
+    let so = subst P true_is told in
+    (is ∙ so.0, so.1)
+
+pub had_told : (a : AloofShape) (bytes room items failed now : List ℕ) (good : Bool) → good ≡ true → items ≡ room → now ≡ failed → IsTold a bytes room good →
+    (items ≡ bytes) × IsBlock a bytes × (now ≡ failed)
+had_told a bytes room items failed now good true_is is same told = let so = told_good a bytes room items good true_is is told in (so.0, so.1, same)
+
+pub had_untold : (a : AloofShape) (i : ℕ) (file failed now room : List ℕ) (good : Bool) → good ≡ false → IsTold a (block_in a i file) room good →
+    IsHad a i file failed now None
+had_untold a i file failed now room good bad told = let P : Bool → Type 0 = λ b. IsTold a (block_in a i file) room b in inl (subst P bad told)
+
+pub found_none : (a : AloofShape) (bytes room : List ℕ) (good : Bool) → good ≡ false → IsTold a bytes room good → IsFound a bytes None
+found_none a bytes room good bad told = let P : Bool → Type 0 = λ b. IsTold a bytes room b in subst P bad told

@@ -1,8 +1,8 @@
 -- What one more stripe that was read says of each share.
-use Rattle.std.proofs.Common.{◌≡◌, ℕ, ◌+◌, ◌*◌, ◌<◌, ◌≤◌, true, List, [], ◌∷◌, ◌++◌, length, get_or, drop, Option, None, Some, Ok, is_none, Vec, Global, refl, sym, subst, ap, ◌∙◌, inl, inr, arith, append_assoc, length-append, below_more}
-use Rattle.std.specs.Prelude.{All, IsErrOf}
-use Rattle.std.proofs.lemmas.Bool.{true≢false}
-use Rattle.std.proofs.lemmas.List.{drop-append-le, drop_all}
+use Rattle.std.proofs.Common.{◌≡◌, ◌≢◌, ℕ, ◌+◌, ◌-◌, ◌*◌, ◌<◌, ◌≤◌, true, List, [], ◌∷◌, ◌++◌, length, get_or, drop, Option, None, Some, is_none, Vec, Global, refl, sym, subst, ap, ◌∙◌, inl, inr, arith, append_assoc, length-append, below_more}
+use Rattle.std.specs.Prelude.{All}
+use Rattle.std.proofs.lemmas.Bool.{true≢false, cases_lt}
+use Rattle.std.proofs.lemmas.List.{drop-append-le, drop_all, get_or-append_right}
 use Rattle.std.proofs.lemmas.Nat.{mul-le}
 use Rattle.std.proofs.lemmas.List.Elements.{All-nil, All-same, All-push}
 use Rattle.file_bytes.specs.Places.{FailsIn}
@@ -11,16 +11,19 @@ use Rattle.share_format.specs.Cut.{stripe_count}
 use Rattle.share_format.specs.Blocks.{block_length, IsBlock}
 use Rattle.share_format.specs.Shares.{block_start}
 use Rattle.share_format.specs.Header.{Header}
-use Rattle.share_format.specs.Joined.{is_lost, IsJoined, AreTooFew}
+use Rattle.share_format.specs.Joined.{is_lost, AreTooFew}
 use Rattle.share_files.specs.Found.{block_in}
 use Rattle.share_files.specs.Seen.{Seen, seen_of, failed_since, Show}
-use Rattle.share_files.specs.Missed.{missed_after, HasFailed, IsMissing, IsFirstMissed, AreFirstMissed, LackBlocks}
-use Rattle.share_files.specs.Gathered.{Grows, IsHad, MayFail, Reads, AreRead, IsStripeRead, JoinsStripe, IsStripeFault}
-use Rattle.share_files.specs.Joined.{IsWhyNot}
-use Rattle.share_files.specs.SoFar.{IsReadSoFar, AreReadSoFar, IsStop}
+use Rattle.share_files.specs.Missed.{missed_after, HasFailed, IsMissing, IsReadAt, IsFirstMissed, LackBlocks}
+use Rattle.share_files.specs.Gathered.{Grows, Grow, IsHad, MayFail, AreRead}
+use Rattle.share_files.specs.Handed.{HasBlock}
+use Rattle.share_files.specs.StripeRead.{IsDataRead, IsAllRead, JoinsStripe, IsStripeFault}
+use Rattle.share_files.specs.Joined.{IsOfFile, IsWhyNot}
+use Rattle.share_files.specs.SoFar.{AreReadSoFar, IsStop}
 use Rattle.share_files.specs.declared.joining.JoinFault.{JoinFault}
 use Rattle.share_files.specs.declared.joining.JoinFault.TheVariants.{TooFew, Mismatch, WriteFault, OutOfMemory}
-use Rattle.share_files.proofs.ReadLemmas.{grows_none, grows_then, grows_read}
+use Rattle.share_files.proofs.FoundLemmas.{place_before}
+use Rattle.share_files.proofs.ReadLemmas.{grows_none, grow_then, grow_read}
 
 -- ---- where reads failed
 
@@ -92,151 +95,323 @@ module _ (a : AloofShape) (first i : ℕ) (from : first ≤ i) (failed now : Lis
         (All-push IsBehind failed fails.place so (omega (arith, start_before a first i from, fails.from)))
   ]
 
--- where it was missed before, and where it is missed here
-missed_before : (a : AloofShape) (i : ℕ) (file failed now : List ℕ) (first : ℕ) → MayFail a i failed now → IsFirstMissed a i file failed (Some first) →
-    IsFirstMissed a (i + 1) file now (Some first)
-missed_before a i file failed now first may noted = (
-  omega (arith, noted.0),
-  noted.1,
-  elim may [
-    | inl same ↦ let P : List ℕ → Type 0 = λ l. IsMissing a first file l in subst P (sym same) noted.2
-    | inr fails ↦ missing_later a first file failed (fails.place ∷ []) now fails.fails noted.2
-  ],
-  all_behind a first i (omega (arith, noted.0)) failed now may noted.3,
-)
+-- ---- which stripes are read
 
-missed_here : (a : AloofShape) (i : ℕ) (file failed now : List ℕ) → MayFail a i failed now → IsHad a i file failed now None → IsFirstMissed a i file failed None →
-    IsFirstMissed a (i + 1) file now (Some i)
-missed_here a i file failed now may had noted = (
-  omega arith,
-  noted.0,
-  had_none a i file failed now None refl had,
-  all_behind a i i (omega arith) failed now may (All-same (λ place. block_start a i ≤ place) failed [] noted.1 (All-nil (λ place. block_start a i ≤ place))),
-)
+-- one of these stands before the last, where it is another
+stands_before : (earlier : List ℕ) (x : ℕ) (later failed : List ℕ) (last : ℕ) → failed ++ last ∷ [] ≡ earlier ++ x ∷ later → x ≢ last →
+    (rest : List ℕ) × (failed ≡ earlier ++ x ∷ rest)
+stands_before [] x later [] last e differs = let same : x ≡ last = cc in absurd (differs same)
+stands_before [] x later (f ∷ failed) last e differs = let same : f ≡ x = cc in (failed, ap (λ n. n ∷ failed) same)
+stands_before (y ∷ earlier) x later [] last e differs =
+    let size : length (last ∷ []) ≡ length (y ∷ (earlier ++ x ∷ later)) = ap (λ (l : List ℕ). length l) e in
+    absurd (omega (arith, size, length-append earlier (x ∷ later)))
+stands_before (y ∷ earlier) x later (f ∷ failed) last e differs =
+    let first : f ≡ y = cc in
+    let others : failed ++ last ∷ [] ≡ earlier ++ x ∷ later = cc in
+    let found = stands_before earlier x later failed last others differs in
+    (found.0, (λ k. first k ∷ found.1 k))
 
-noted_more : (a : AloofShape) (i : ℕ) (file failed now : List ℕ) (missed : Option ℕ) (block : Option (Vec ℕ Global)) → MayFail a i failed now →
-    IsFirstMissed a i file failed missed → IsHad a i file failed now block → IsFirstMissed a (i + 1) file now (missed_after missed i (is_none block))
-noted_more a i file failed now (Some first) block may noted had = missed_before a i file failed now first may noted
-noted_more a i file failed now None None may noted had = missed_here a i file failed now may had noted
-noted_more a i file failed now None (Some block) may noted had =
-    (below_more (λ k. IsBlock a (block_in a k file)) i noted.0 had.1, had.2 ∙ noted.1)
+-- a read of a later stripe's block that fails is none of this one
+missing_before : (a : AloofShape) (j i : ℕ) → j < i → (file failed now : List ℕ) → MayFail a i failed now → IsMissing a j file now → IsMissing a j file failed
+missing_before a j i less file failed now may missing = elim may [
+  | inl same ↦ let P : List ℕ → Type 0 = λ l. IsMissing a j file l in subst P same missing
+  | inr fails ↦ elim missing [
+    | inl none ↦ inl none
+    | inr has ↦
+        let end : block_start a j + block_length a ≤ block_start a i = place_before a j i less in
+        let differs : has.place ≢ fails.place = λ e. omega (arith, e, end, has.before, fails.from) in
+        let found = stands_before has.earlier has.place has.later failed fails.place (sym fails.fails ∙ has.one) differs in
+        inr (record { earlier = has.earlier; place = has.place; later = found.0; one = found.1; from = has.from; before = has.before })
+  ]
+]
 
-read_further : (h : Header) (i : ℕ) (old mid new : Seen) (missed : Option ℕ) (block : Option (Vec ℕ Global)) → IsReadSoFar h i old mid missed →
-    Reads h.shape i mid new block → IsReadSoFar h (i + 1) old new (missed_after missed i (is_none block))
-read_further h i old mid new missed block so reads = record {
-  noted = λ file shows.
-      noted_more h.shape i file (failed_since old mid) (failed_since old new) missed block (since_may old mid new so.grows h.shape i reads.fails)
-      (so.noted file (reads.shown file shows)) (since_had old mid new so.grows h.shape i file block (reads.had file shows));
-  grows = grows_then old mid new so.grows (grows_read h.shape i mid new block reads);
-}
+missing_after : (a : AloofShape) (j i : ℕ) (file failed now : List ℕ) → MayFail a i failed now → IsMissing a j file failed → IsMissing a j file now
+missing_after a j i file failed now may missing = elim may [
+  | inl same ↦ let P : List ℕ → Type 0 = λ l. IsMissing a j file l in subst P (sym same) missing
+  | inr fails ↦ missing_later a j file failed (fails.place ∷ []) now fails.fails missing
+]
 
--- before the first stripe
+-- a good block whose reads didn't fail isn't missing
+not_missing : (a : AloofShape) (i : ℕ) (file failed : List ℕ) → IsBlock a (block_in a i file) → All (λ place. place < block_start a i) failed →
+    IsMissing a i file failed → ⊥
+not_missing a i file failed good before missing = elim missing [
+  | inl none ↦ none good
+  | inr has ↦
+      let size : length failed ≡ length has.earlier + length (has.place ∷ has.later) =
+      ap (λ (l : List ℕ). length l) has.one ∙ length-append has.earlier (has.place ∷ has.later) in
+      let none_before : length has.earlier - length has.earlier ≡ 0 = omega arith in
+      let here : get_or failed (length has.earlier) 0 ≡ has.place =
+      ap (λ l. get_or l (length has.earlier) 0) has.one
+      ∙ get_or-append_right has.earlier (has.place ∷ has.later) (length has.earlier) (length has.earlier) 0 refl (omega arith)
+      ∙ ap (λ n. get_or (has.place ∷ has.later) n 0) none_before in
+      let low : get_or failed (length has.earlier) 0 < block_start a i = before (length has.earlier) 0 (omega (arith, size)) in
+      omega (arith, here, low, has.from)
+]
+
+-- reads failed in the blocks of the stripes up to this one
+all_before : (a : AloofShape) (i : ℕ) (failed now : List ℕ) → MayFail a i failed now → All (λ place. place < block_start a i) failed →
+    All (λ place. place < block_start a (i + 1)) now
+all_before a i failed now may so =
+    let P : ℕ → Type 0 = λ place. place < block_start a (i + 1) in
+    let end : block_start a i + block_length a ≤ block_start a (i + 1) = place_before a i (i + 1) (omega arith) in
+    let wide : All P failed = λ k d less. (let low : get_or failed k d < block_start a i = so k d less in omega (arith, low, end)) in
+    elim may [
+      | inl same ↦ All-same P now failed same wide
+      | inr fails ↦ All-same P now (failed ++ fails.place ∷ []) fails.fails (All-push P failed fails.place wide (omega (arith, fails.before, end)))
+    ]
+
+-- ---- the first that is read and is missing: before, at which stripes it was read, and after
+module _ (a : AloofShape) (i : ℕ) (Read ReadNow : ℕ → Type 0) (forth : (j : ℕ) → Read j → ReadNow j) (back : (j : ℕ) → j < i → ReadNow j → Read j)
+    (file failed now : List ℕ) where
+  missed_before : (first : ℕ) → MayFail a i failed now → IsFirstMissed a i Read file failed (Some first) → IsFirstMissed a (i + 1) ReadNow file now (Some first)
+  missed_before first may noted = (
+    omega (arith, noted.0),
+    forth first noted.1,
+    λ j less read. noted.2 j less (back j (omega (arith, less, noted.0)) read),
+    missing_after a first i file failed now may noted.3,
+    all_behind a first i (omega (arith, noted.0)) failed now may noted.4,
+  )
+
+  missed_here : ReadNow i → MayFail a i failed now → IsHad a i file failed now None → IsFirstMissed a i Read file failed None →
+      IsFirstMissed a (i + 1) ReadNow file now (Some i)
+  missed_here here may had noted = (
+    omega arith,
+    here,
+    λ j less read. noted.0 j less (back j less read),
+    had_none a i file failed now None refl had,
+    all_behind a i i (omega arith) failed now may (All-same (λ place. block_start a i ≤ place) failed [] noted.1 (All-nil (λ place. block_start a i ≤ place))),
+  )
+
+  -- its block was read
+  noted_more : (missed : Option ℕ) (block : Option (Vec ℕ Global)) → ReadNow i → MayFail a i failed now → IsFirstMissed a i Read file failed missed →
+      IsHad a i file failed now block → IsFirstMissed a (i + 1) ReadNow file now (missed_after missed i (is_none block))
+  noted_more (Some first) block here may noted had = missed_before first may noted
+  noted_more None None here may noted had = missed_here here may had noted
+  noted_more None (Some block) here may noted had = (
+    below_more (λ j. ReadNow j → IsBlock a (block_in a j file)) i (λ j less read. noted.0 j less (back j less read)) (λ read. had.1),
+    had.2 ∙ noted.1,
+  )
+
+  -- it wasn't
+  noted_unread : (missed : Option ℕ) → (ReadNow i → ⊥) → now ≡ failed → IsFirstMissed a i Read file failed missed → IsFirstMissed a (i + 1) ReadNow file now missed
+  noted_unread (Some first) unread same noted = missed_before first (inl same) noted
+  noted_unread None unread same noted = (
+    below_more (λ j. ReadNow j → IsBlock a (block_in a j file)) i (λ j less read. noted.0 j less (back j less read)) (λ read. absurd (unread read)),
+    same ∙ noted.1,
+  )
+
+-- ---- of a block that is there
+
+had_there : (a : AloofShape) (i : ℕ) (file failed now : List ℕ) (block : Option (Vec ℕ Global)) → HasBlock a block → IsHad a i file failed now block →
+    IsBlock a (block_in a i file) × (now ≡ failed)
+had_there a i file failed now None there had = absurd there
+had_there a i file failed now (Some block) there had = (had.1, had.2)
+
+none_missed : (a : AloofShape) (i : ℕ) (missed : Option ℕ) (block : Option (Vec ℕ Global)) → HasBlock a block → missed_after missed i (is_none block) ≡ missed
+none_missed a i missed None there = absurd there
+none_missed a i (Some first) (Some block) there = refl
+none_missed a i None (Some block) there = refl
+
+-- ---- before the first stripe
 pub read_nothing : (h : Header) (sources : List Seen) (missed : List (Option ℕ)) → ((c : ℕ) → get_or missed c None ≡ None) →
     AreReadSoFar h 0 sources sources missed
-read_nothing h sources missed fresh = record {
-  each = λ c less.
-      let P : Option ℕ → Type 0 = λ m. IsReadSoFar h 0 (seen_of sources c) (seen_of sources c) m in
-      subst P (sym (fresh c)) (record {
-        noted = λ file shows. (
-          λ i below. absurd (omega (arith, below)),
-          drop_all (length (seen_of sources c).failed) (seen_of sources c).failed (omega arith),
-        );
-        grows = grows_none (seen_of sources c) (seen_of sources c) refl;
-      });
-}
+read_nothing h sources missed fresh =
+    let none : (c : ℕ) → failed_since (seen_of sources c) (seen_of sources c) ≡ [] =
+    λ c. drop_all (length (seen_of sources c).failed) (seen_of sources c).failed (omega arith) in record {
+      grow = λ c. grows_none (seen_of sources c) (seen_of sources c) refl;
+      within = λ c.
+          let P : ℕ → Type 0 = λ place. place < block_start h.shape 0 in
+          All-same P (failed_since (seen_of sources c) (seen_of sources c)) [] (none c) (All-nil P);
+      noted = λ files shows. record {
+        each = λ c less.
+            let P : Option ℕ → Type 0 =
+            λ m. IsFirstMissed h.shape 0 (IsReadAt h.shape files sources sources c) (get_or files c [])
+            (failed_since (seen_of sources c) (seen_of sources c)) m in
+            subst P (sym (fresh c)) (λ i below read. absurd (omega (arith, below)), none c);
+      };
+    }
+
+-- ---- one stripe more
 
 module _ (h : Header) (i : ℕ) (olds mids news : List Seen) (before after : List (Option ℕ)) (so : AreReadSoFar h i olds mids before)
-    (is : IsStripeRead h.shape i mids news before after) where
-  read_stripe : AreReadSoFar h (i + 1) olds news after
-  read_stripe = record {
-    each = λ c less.
-        let P : Option ℕ → Type 0 = λ m. IsReadSoFar h (i + 1) (seen_of olds c) (seen_of news c) m in
-        subst P (sym (is.missed c less))
-        (read_further h i (seen_of olds c) (seen_of mids c) (seen_of news c) (get_or before c None) (get_or is.blocks c None) (so.each c less)
-        (is.read.read c less));
-  }
+    (shares : length mids ≡ all_chunks h.shape) (now_shares : length news ≡ all_chunks h.shape) where
+  abbrev a : AloofShape
+  a = h.shape
 
-  lack : AreTooFew h.shape is.blocks → length news ≡ all_chunks h.shape → (files : List (List ℕ)) → Show news files → LackBlocks h.shape i files olds news
-  lack few count files shows = record {
-    lost = is_lost is.blocks;
-    many = few;
-    each = λ c less gone.
-        had_none h.shape i (get_or files c []) (failed_since (seen_of olds c) (seen_of mids c)) (failed_since (seen_of olds c) (seen_of news c))
-        (get_or is.blocks c None) gone
-        (since_had (seen_of olds c) (seen_of mids c) (seen_of news c) (so.each c less).grows h.shape i (get_or files c []) (get_or is.blocks c None)
-        ((is.read.read c less).had (get_or files c []) (shows c (omega (arith, less, count)))));
-  }
+  abbrev old_fails : ℕ → List ℕ
+  old_fails c = failed_since (seen_of olds c) (seen_of mids c)
+
+  abbrev new_fails : ℕ → List ℕ
+  new_fails c = failed_since (seen_of olds c) (seen_of news c)
+
+  -- the first so many shares were read
+  module _ (count : ℕ) (early : a.data_count ≤ count) (blocks : List (Option (Vec ℕ Global))) (read : AreRead a i count mids news blocks) where
+    grow : Grow mids news
+    grow = grow_read a i count mids news blocks read
+
+    may : (c : ℕ) → MayFail a i (old_fails c) (new_fails c)
+    may c = since_may (seen_of olds c) (seen_of mids c) (seen_of news c) (so.grow c) a i (elim (cases_lt c count) [
+      | inl less ↦ (read.read c less).fails
+      | inr more ↦ inl (ap (λ (s : Seen). s.failed) (read.others c more))
+    ])
+
+    module _ (files : List (List ℕ)) (shows : Show news files) where
+      shown : Show mids files
+      shown c less = (grow c).shown (get_or files c []) (shows c (omega (arith, less, shares, now_shares)))
+
+      forth : (c j : ℕ) → IsReadAt a files olds mids c j → IsReadAt a files olds news c j
+      forth c j is = elim is [
+        | inl less ↦ inl less
+        | inr one ↦ inr (one.0, one.1, missing_after a j i (get_or files one.0 []) (old_fails one.0) (new_fails one.0) (may one.0) one.2)
+      ]
+
+      back : (c j : ℕ) → j < i → IsReadAt a files olds news c j → IsReadAt a files olds mids c j
+      back c j less is = elim is [
+        | inl early ↦ inl early
+        | inr one ↦ inr (one.0, one.1, missing_before a j i less (get_or files one.0 []) (old_fails one.0) (new_fails one.0) (may one.0) one.2)
+      ]
+
+      was : (c : ℕ) → c < all_chunks a → IsFirstMissed a i (IsReadAt a files olds mids c) (get_or files c []) (old_fails c) (get_or before c None)
+      was c less = (so.noted files shown).each c less
+
+      had : (c : ℕ) → c < count → c < all_chunks a → IsHad a i (get_or files c []) (old_fails c) (new_fails c) (get_or blocks c None)
+      had c less within =
+          since_had (seen_of olds c) (seen_of mids c) (seen_of news c) (so.grow c) a i (get_or files c []) (get_or blocks c None)
+          ((read.read c less).had (get_or files c []) (shows c (omega (arith, within, now_shares))))
+
+      noted_read : (c : ℕ) → c < count → c < all_chunks a → IsReadAt a files olds news c i →
+          IsFirstMissed a (i + 1) (IsReadAt a files olds news c) (get_or files c []) (new_fails c)
+          (missed_after (get_or before c None) i (is_none (get_or blocks c None)))
+      noted_read c less within here =
+          noted_more a i (IsReadAt a files olds mids c) (IsReadAt a files olds news c) (forth c) (back c) (get_or files c []) (old_fails c) (new_fails c)
+          (get_or before c None) (get_or blocks c None) here (may c) (was c within) (had c less within)
+
+  all_within : (c : ℕ) → MayFail a i (old_fails c) (new_fails c) → All (λ place. place < block_start a (i + 1)) (new_fails c)
+  all_within c may = all_before a i (old_fails c) (new_fails c) may (so.within c)
+
+  -- no parity share was read
+  module _ (blocks : List (Option (Vec ℕ Global))) (is : IsDataRead a i mids news before after blocks) where
+    abbrev k : ℕ
+    k = a.data_count
+
+    few : k ≤ all_chunks a
+    few = let all : all_chunks a ≡ k + a.parity_count = refl in omega (arith, all)
+
+    good : (files : List (List ℕ)) → Show news files → (d : ℕ) → d < k → IsBlock a (block_in a i (get_or files d [])) × (new_fails d ≡ old_fails d)
+    good files shows d less =
+        had_there a i (get_or files d []) (old_fails d) (new_fails d) (get_or blocks d None) (is.there d less)
+        (had k (omega arith) blocks is.read files shows d less (omega (arith, less, few)))
+
+    unread : (files : List (List ℕ)) → Show news files → (c : ℕ) → k ≤ c → IsReadAt a files olds news c i → ⊥
+    unread files shows c parity is_read = elim is_read [
+      | inl early ↦ omega (arith, early, parity)
+      | inr one ↦
+          let found = good files shows one.0 one.1 in
+          let P : ℕ → Type 0 = λ place. place < block_start a i in
+          not_missing a i (get_or files one.0 []) (new_fails one.0) found.0
+          (All-same P (new_fails one.0) (old_fails one.0) found.1 (so.within one.0)) one.2
+    ]
+
+    kept : (c : ℕ) → get_or after c None ≡ get_or before c None
+    kept c = ap (λ (l : List (Option ℕ)). get_or l c None) is.same
+
+    each_share : (files : List (List ℕ)) (shows : Show news files) (c : ℕ) → c < all_chunks a →
+        IsFirstMissed a (i + 1) (IsReadAt a files olds news c) (get_or files c []) (new_fails c) (get_or after c None)
+    each_share files shows c within =
+        let P : Option ℕ → Type 0 = λ m. IsFirstMissed a (i + 1) (IsReadAt a files olds news c) (get_or files c []) (new_fails c) m in
+        elim (cases_lt c k) [
+          | inl early ↦
+              subst P (none_missed a i (get_or before c None) (get_or blocks c None) (is.there c early) ∙ sym (kept c))
+              (noted_read k (omega arith) blocks is.read files shows c early within (inl early))
+          | inr parity ↦
+              subst P (sym (kept c))
+              (noted_unread a i (IsReadAt a files olds mids c) (IsReadAt a files olds news c) (forth k (omega arith) blocks is.read files shows c)
+              (back k (omega arith) blocks is.read files shows c) (get_or files c []) (old_fails c) (new_fails c) (get_or before c None)
+              (unread files shows c parity)
+              (since_same (seen_of olds c) (seen_of mids c) (seen_of news c) (so.grow c) (ap (λ (s : Seen). s.failed) (is.read.others c parity)))
+              (was k (omega arith) blocks is.read files shows c within))
+        ]
+
+    read_data : AreReadSoFar h (i + 1) olds news after
+    read_data = record {
+      grow = grow_then olds mids news so.grow (grow k (omega arith) blocks is.read);
+      within = λ c. all_within c (may k (omega arith) blocks is.read c);
+      noted = λ files shows. record { each = each_share files shows };
+    }
+
+  -- each share was read
+  module _ (blocks : List (Option (Vec ℕ Global))) (is : IsAllRead a i mids news before after blocks) where
+    abbrev n : ℕ
+    n = all_chunks a
+
+    most : a.data_count ≤ n
+    most = let all : all_chunks a ≡ a.data_count + a.parity_count = refl in omega (arith, all)
+
+    gone : (files : List (List ℕ)) → Show news files → (c : ℕ) → c < n → is_lost blocks c ≡ true → IsMissing a i (get_or files c []) (new_fails c)
+    gone files shows c within lost =
+        had_none a i (get_or files c []) (old_fails c) (new_fails c) (get_or blocks c None) lost (had n most blocks is.read files shows c within within)
+
+    read_each : AreReadSoFar h (i + 1) olds news after
+    read_each = record {
+      grow = grow_then olds mids news so.grow (grow n most blocks is.read);
+      within = λ c. all_within c (may n most blocks is.read c);
+      noted = λ files shows. record {
+        each = λ c within.
+            let d : ℕ = is.lack.0 in
+            let P : Option ℕ → Type 0 = λ m. IsFirstMissed a (i + 1) (IsReadAt a files olds news c) (get_or files c []) (new_fails c) m in
+            subst P (sym (is.missed c within))
+            (noted_read n most blocks is.read files shows c within within
+            (inr (d, is.lack.1, gone files shows d (omega (arith, is.lack.1, most)) is.lack.2)));
+      };
+    }
+
+    lack : AreTooFew a blocks → (files : List (List ℕ)) → Show news files → LackBlocks a i files olds news
+    lack few files shows = record { lost = is_lost blocks; many = few; each = λ c within lost. gone files shows c within lost }
 
 pub read_in : (geometry : AloofShape) (h : Header) (i : ℕ) (olds mids news : List Seen) (before after : List (Option ℕ)) (bytes : List ℕ) →
-    geometry ≡ h.shape → AreReadSoFar h i olds mids before → JoinsStripe geometry i mids news before after bytes → AreReadSoFar h (i + 1) olds news after
-read_in geometry h i olds mids news before after bytes same so joins =
-    let P : AloofShape → Type 0 = λ a. IsStripeRead a i mids news before after in
-    read_stripe h i olds mids news before after so (subst P same joins.is)
+    geometry ≡ h.shape → AreReadSoFar h i olds mids before → length mids ≡ all_chunks h.shape → length news ≡ all_chunks h.shape →
+    JoinsStripe geometry i mids news before after bytes → AreReadSoFar h (i + 1) olds news after
+read_in geometry h i olds mids news before after bytes same so shares now_shares joins =
+    let P : AloofShape → Type 0 = λ a. JoinsStripe a i mids news before after bytes in
+    elim (subst P same joins) [
+      | inl early ↦ read_data h i olds mids news before after so shares now_shares early.blocks early.is
+      | inr all ↦ read_each h i olds mids news before after so shares now_shares all.blocks all.is
+    ]
 
 -- why a stripe can't be joined is why the file can't
 stop_at : (h : Header) (i : ℕ) (olds mids news : List Seen) (before after : List (Option ℕ)) → AreReadSoFar h i olds mids before →
-    i < stripe_count h.shape h.size → length news ≡ all_chunks h.shape → (fault : JoinFault) → IsStripeFault h.shape i mids news before after fault →
-    IsStop h olds news after fault
-stop_at h i olds mids news before after so within count (TooFew stripe) fault =
+    i < stripe_count h.shape h.size → length mids ≡ all_chunks h.shape → length news ≡ all_chunks h.shape → (fault : JoinFault) →
+    IsStripeFault h.shape i mids news before after fault → IsStop h olds news after fault
+stop_at h i olds mids news before after so within shares now_shares (TooFew stripe) fault =
     let P : ℕ → Type 0 = λ n. IsStop h olds news after (TooFew n) in
     subst P (sym fault.0) (
       within,
-      read_stripe h i olds mids news before after so fault.1.0,
-      λ files shows. lack h i olds mids news before after so fault.1.0 fault.1.1 count files shows,
+      read_each h i olds mids news before after so shares now_shares fault.1.blocks fault.1.is,
+      lack h i olds mids news before after so shares now_shares fault.1.blocks fault.1.is fault.1.few,
     )
-stop_at h i olds mids news before after so within count Mismatch fault = fault
-stop_at h i olds mids news before after so within count WriteFault fault = tt
-stop_at h i olds mids news before after so within count OutOfMemory fault = tt
+stop_at h i olds mids news before after so within shares now_shares Mismatch fault = fault
+stop_at h i olds mids news before after so within shares now_shares WriteFault fault = tt
+stop_at h i olds mids news before after so within shares now_shares OutOfMemory fault = tt
 
 pub stop_in : (geometry : AloofShape) (h : Header) (i : ℕ) (olds mids news : List Seen) (before after : List (Option ℕ)) (fault : JoinFault) →
-    geometry ≡ h.shape → AreReadSoFar h i olds mids before → i < stripe_count h.shape h.size → length news ≡ all_chunks h.shape →
-    IsStripeFault geometry i mids news before after fault → IsStop h olds news after fault
-stop_in geometry h i olds mids news before after fault same so within count is =
+    geometry ≡ h.shape → AreReadSoFar h i olds mids before → i < stripe_count h.shape h.size → length mids ≡ all_chunks h.shape →
+    length news ≡ all_chunks h.shape → IsStripeFault geometry i mids news before after fault → IsStop h olds news after fault
+stop_in geometry h i olds mids news before after fault same so within shares now_shares is =
     let P : AloofShape → Type 0 = λ a. IsStripeFault a i mids news before after fault in
-    stop_at h i olds mids news before after so within count fault (subst P same is)
+    stop_at h i olds mids news before after so within shares now_shares fault (subst P same is)
 
--- whatever files the sources show
-pub first_missed : (h : Header) (count : ℕ) (olds news : List Seen) (missed : List (Option ℕ)) → length news ≡ all_chunks h.shape →
-    AreReadSoFar h count olds news missed → (files : List (List ℕ)) → Show news files → AreFirstMissed h.shape count files olds news missed
-first_missed h count olds news missed long so files shows = record {
-  each = λ c less. (so.each c less).noted (get_or files c []) (shows c (omega (arith, less, long)));
-}
-
-pub why_stopped : (h : Header) (olds news : List Seen) (missed : List (Option ℕ)) → length news ≡ all_chunks h.shape → (fault : JoinFault) →
+pub why_stopped : (h : Header) (olds news : List Seen) (missed : List (Option ℕ)) → (fault : JoinFault) →
     IsStop h olds news missed fault → (files : List (List ℕ)) → Show news files → IsWhyNot h files olds news missed fault
-why_stopped h olds news missed long (TooFew stripe) stop files shows =
-    (stop.0, stop.2 files shows, first_missed h (stripe + 1) olds news missed long stop.1 files shows)
-why_stopped h olds news missed long Mismatch stop files shows = absurd stop
-why_stopped h olds news missed long WriteFault stop files shows = tt
-why_stopped h olds news missed long OutOfMemory stop files shows = tt
+why_stopped h olds news missed (TooFew stripe) stop files shows = (stop.0, stop.2 files shows, stop.1.noted files shows)
+why_stopped h olds news missed Mismatch stop files shows = absurd stop
+why_stopped h olds news missed WriteFault stop files shows = tt
+why_stopped h olds news missed OutOfMemory stop files shows = tt
 
--- ---- a stripe that was read
-
-pub ok_is_no_fault : {A E : Type 0} (x : A) (y : E) → IsErrOf {T = A} (Ok x) y → ⊥
-ok_is_no_fault x y e = cc
-
-module _ (a : AloofShape) (i : ℕ) (olds news : List Seen) (before after : List (Option ℕ)) (blocks slice other : List (Option (Vec ℕ Global))) (count : ℕ)
-    (slice_is : slice ≡ blocks) (other_is : other ≡ blocks) (long : length blocks ≡ count) (all : count ≡ all_chunks a) (read : AreRead a i count olds news blocks)
-    (noted : (c : ℕ) → c < length slice → get_or after c None ≡ missed_after (get_or before c None) i (is_lost slice c)) where
-  abbrev is_read : IsStripeRead a i olds news before after
-  is_read = record {
-    blocks = blocks;
-    count = long ∙ all;
-    read = let P : ℕ → Type 0 = λ n. AreRead a i n olds news blocks in subst P all read;
-    missed = λ c less.
-        let size : length slice ≡ length blocks = ap (λ (l : List (Option (Vec ℕ Global))). length l) slice_is in
-        noted c (omega (arith, less, size, long, all)) ∙ ap (λ (l : List (Option (Vec ℕ Global))). missed_after (get_or before c None) i (is_lost l c)) slice_is;
-  }
-
-  pub joins_stripe : (bytes : List ℕ) → (AreTooFew a other → ⊥) → IsJoined a other bytes → JoinsStripe a i olds news before after bytes
-  joins_stripe bytes few joined = record {
-    is = is_read;
-    few = let P : List (Option (Vec ℕ Global)) → Type 0 = λ l. AreTooFew a l → ⊥ in subst P other_is few;
-    joined = let P : List (Option (Vec ℕ Global)) → Type 0 = λ l. IsJoined a l bytes in subst P other_is joined;
-  }
-
-  pub lacks_stripe : AreTooFew a other → IsStripeFault a i olds news before after (TooFew i)
-  lacks_stripe few = (refl, (is_read, (let P : List (Option (Vec ℕ Global)) → Type 0 = λ l. AreTooFew a l in subst P other_is few)))
+pub stopped_in : (h : Header) (olds news : List Seen) (missed : List (Option ℕ)) → (fault : JoinFault) → IsStop h olds news missed fault → IsOfFile h fault
+stopped_in h olds news missed (TooFew stripe) stop = stop.0
+stopped_in h olds news missed Mismatch stop = tt
+stopped_in h olds news missed WriteFault stop = tt
+stopped_in h olds news missed OutOfMemory stop = tt
 
 -- ---- at the end
 

@@ -1,6 +1,6 @@
 -- What a sink takes, a stripe at a time.
-use Rattle.std.proofs.Common.{◌≡◌, ◌≢◌, ℕ, ◌+◌, ◌-◌, ◌*◌, ◌<◌, ◌≤◌, List, [], ◌++◌, length, get_or, take, drop, Option, None, Some, Err, Vec, Global, refl, sym, subst, ◌∙◌, ap, arith, length-append, length-drop, below_more}
-use Rattle.std.specs.Prelude.{min, IsErrOf}
+use Rattle.std.proofs.Common.{◌≡◌, ◌≢◌, ℕ, ◌+◌, ◌-◌, ◌*◌, ◌<◌, ◌≤◌, List, [], ◌++◌, length, get_or, take, drop, Option, None, Some, Result, Ok, Err, Vec, Global, refl, sym, subst, ◌∙◌, ap, arith, inl, inr, length-append, length-drop, below_more}
+use Rattle.std.specs.Prelude.{min, IsErrOf, IsErrAnd, IfErr}
 use Rattle.std.proofs.lemmas.List.{length-take-le, take_all, take-take, take-append-le, drop-append-le, drop_at}
 use Rattle.std.proofs.lemmas.Nat.{mul-le}
 use Rattle.std.proofs.Math.Seq.{take-append-add}
@@ -12,7 +12,8 @@ use Rattle.share_format.specs.Cut.{stripe_count}
 use Rattle.share_format.specs.Header.{Header, IsHeader}
 use Rattle.share_format.proofs.HeaderBack.{stripe_some}
 use Rattle.share_files.specs.Seen.{Seen, seen_of, failed_since, Show}
-use Rattle.share_files.specs.Gathered.{Grow, IsHad, JoinsStripe, IsStripeFault}
+use Rattle.share_files.specs.Gathered.{Grow, IsHad, AreRead}
+use Rattle.share_files.specs.StripeRead.{JoinsData, JoinsAll, JoinsStripe, IsStripeFault}
 use Rattle.share_files.specs.Joined.{NoRotPasses}
 use Rattle.share_files.specs.Stripes.{IsRead, IsStripeOf, HasStripe, AreJoined}
 use Rattle.share_files.specs.Taken.{TakesFile, TakesAnother, TakesStripes, TakesPart, TakesUntil}
@@ -21,6 +22,7 @@ use Rattle.share_files.specs.declared.joining.JoinFault.{JoinFault}
 use Rattle.share_files.specs.declared.joining.JoinFault.TheVariants.{TooFew, Mismatch, WriteFault, OutOfMemory}
 use Rattle.share_files.proofs.ReadLemmas.{grow_read}
 use Rattle.share_files.proofs.Steps.{missing_later, had_none, since_more, since_had}
+use Rattle.share_files.proofs.Unread.{in_files, in_files_count, in_files_read, in_files_few, in_files_joined}
 use Rattle.share_files.proofs.Bytes.{begins_within, joined_same}
 
 -- ---- what was read stays read
@@ -44,7 +46,7 @@ module _ (h : Header) (i : ℕ) (olds mids news : List Seen) (missed : List (Opt
       read = λ c less.
           read_later h.shape k (get_or files c []) (failed_since (seen_of olds c) (seen_of mids c)) (grow c).more (failed_since (seen_of olds c) (seen_of news c))
           (get_or has.of.blocks c None)
-          (since_more (seen_of olds c) (seen_of mids c) (seen_of news c) (so.each c less).grows (grow c).more (grow c).failed)
+          (since_more (seen_of olds c) (seen_of mids c) (seen_of news c) (so.grow c) (grow c).more (grow c).failed)
           (has.of.read c less);
       few = has.of.few;
       joined = has.of.joined;
@@ -79,18 +81,45 @@ module _ (h : Header) (i left count : ℕ) (olds mids news : List Seen) (before 
   counted_piece : length piece ≡ count
   counted_piece = length-take-le count slice (omega (arith, ap (λ (l : List ℕ). length l) slice_is, long, most))
 
-  stripe_of : (files : List (List ℕ)) → Show news files → IsStripeOf h.shape i files olds news bytes
-  stripe_of files shows = record {
-    blocks = joins.is.blocks;
-    count = joins.is.count;
-    read = λ c less.
-        read_had h.shape i (get_or files c []) (failed_since (seen_of olds c) (seen_of mids c)) (failed_since (seen_of olds c) (seen_of news c))
-        (get_or joins.is.blocks c None)
-        (since_had (seen_of olds c) (seen_of mids c) (seen_of news c) (so.each c less).grows h.shape i (get_or files c []) (get_or joins.is.blocks c None)
-        ((joins.is.read.read c less).had (get_or files c []) (shows c (omega (arith, less, all_news)))));
-    few = joins.few;
-    joined = joins.joined;
+  -- a block that was read of a share is as it stands in its file
+  was_read : (many : ℕ) (blocks : List (Option (Vec ℕ Global))) → AreRead h.shape i many mids news blocks → (files : List (List ℕ)) → Show news files → (c : ℕ) →
+      c < many → c < all_chunks h.shape → IsRead h.shape i (get_or files c []) (failed_since (seen_of olds c) (seen_of news c)) (get_or blocks c None)
+  was_read many blocks read files shows c less within =
+      read_had h.shape i (get_or files c []) (failed_since (seen_of olds c) (seen_of mids c)) (failed_since (seen_of olds c) (seen_of news c)) (get_or blocks c None)
+      (since_had (seen_of olds c) (seen_of mids c) (seen_of news c) (so.grow c) h.shape i (get_or files c []) (get_or blocks c None)
+      ((read.read c less).had (get_or files c []) (shows c (omega (arith, within, all_news)))))
+
+  grown : Grow mids news
+  grown = elim joins [
+    | inl joined_data ↦ grow_read h.shape i h.shape.data_count mids news joined_data.blocks joined_data.is.read
+    | inr all ↦ grow_read h.shape i (all_chunks h.shape) mids news all.blocks all.is.read
+  ]
+
+  of_data : (files : List (List ℕ)) → Show news files → JoinsData h.shape i mids news before after bytes → IsStripeOf h.shape i files olds news bytes
+  of_data files shows joined_data =
+      let file_of : ℕ → List ℕ = λ c. get_or files c [] in
+      let failed_of : ℕ → List ℕ = λ c. failed_since (seen_of olds c) (seen_of news c) in
+      let sum : all_chunks h.shape ≡ h.shape.data_count + h.shape.parity_count = refl in
+      let read : (c : ℕ) → c < h.shape.data_count → IsRead h.shape i (file_of c) (failed_of c) (get_or joined_data.blocks c None) =
+      λ c less. was_read h.shape.data_count joined_data.blocks joined_data.is.read files shows c less (omega (arith, less, sum)) in record {
+        blocks = in_files h.shape i file_of failed_of joined_data.blocks header.code joined_data.count joined_data.is.there read;
+        count = in_files_count h.shape i file_of failed_of joined_data.blocks header.code joined_data.count joined_data.is.there read;
+        read = in_files_read h.shape i file_of failed_of joined_data.blocks header.code joined_data.count joined_data.is.there read;
+        few = in_files_few h.shape i file_of failed_of joined_data.blocks header.code joined_data.count joined_data.is.there read;
+        joined = in_files_joined h.shape i file_of failed_of joined_data.blocks header.code joined_data.count joined_data.is.there read bytes joined_data.chunks;
+      }
+
+  of_all : (files : List (List ℕ)) → Show news files → JoinsAll h.shape i mids news before after bytes → IsStripeOf h.shape i files olds news bytes
+  of_all files shows all = record {
+    blocks = all.blocks;
+    count = all.count;
+    read = λ c less. was_read (all_chunks h.shape) all.blocks all.is.read files shows c less less;
+    few = all.few;
+    joined = all.joined;
   }
+
+  stripe_of : (files : List (List ℕ)) → Show news files → IsStripeOf h.shape i files olds news bytes
+  stripe_of files shows = elim joins [ inl joined_data ↦ of_data files shows joined_data | inr all ↦ of_all files shows all ]
 
   module _ (done : List ℕ) (counted : length done + left ≡ h.size) where
     place : length done ≡ i * s
@@ -124,8 +153,7 @@ module _ (h : Header) (i left count : ℕ) (olds mids news : List Seen) (before 
     joined_more joined =
         let next : (i + 1) * s ≡ i * s + s = omega arith in
         let same : length mids ≡ length news = all_mids ∙ sym all_news in
-        let grow : Grow mids news = grow_read h.shape i (all_chunks h.shape) mids news joins.is.blocks joins.is.read in
-        let so_far : AreJoined h i olds news done = joined_later h i olds mids news before so grow same done joined in record {
+        let so_far : AreJoined h i olds news done = joined_later h i olds mids news before so grown same done joined in record {
           size = omega (arith, length-append done piece, counted_piece, place, next, most, left_is, begins);
           stripes = λ files shows.
               below_more (λ k. HasStripe h k files olds news (done ++ piece)) i
@@ -186,6 +214,23 @@ takes_nothing h left sources accepted written checksum all summed = record {
     stripes = λ files shows i less. absurd (omega (arith, less));
   };
 }
+
+-- there is no memory for a join
+pub takes_none : (h : Header) (sources : List Seen) (accepted : List ℕ) (written : Option (List ℕ)) (r : Result ℕ JoinFault) → IsErrAnd r (λ fault. fault ≡ OutOfMemory) →
+    IfErr r (TakesUntil h sources sources accepted written accepted written)
+takes_none h sources accepted written (Ok sum) is = absurd is
+takes_none h sources accepted written (Err fault) is =
+    let P : JoinFault → Type 0 = λ f. TakesUntil h sources sources accepted written accepted written f in
+    let none : 0 * stripe_bytes h.shape ≡ 0 = omega arith in
+    subst P (sym is) (record {
+      count = 0;
+      stripes = record {
+        within = omega arith;
+        bytes = [];
+        joined = record { size = omega (arith, none); stripes = λ files shows i less. absurd (omega (arith, less)) };
+        takes = accepts-nothing accepted written;
+      };
+    })
 
 -- ---- a stripe that can't be joined
 

@@ -1,5 +1,5 @@
 -- The blocks that are found in a share's file.
-use Rattle.std.specs.Prelude.{◌≡◌, ℕ, ◌<◌, List, take, drop, Option, Some, None, Vec}
+use Rattle.std.specs.Prelude.{◌≡◌, ℕ, ◌<◌, Bool, true, false, List, take, drop, Option, Some, None, Vec}
 use Rattle.std.specs.declared.alloc.Global.{Global}
 use Rattle.clay_aloof.specs.Shape.{AloofShape}
 use Rattle.share_format.specs.Blocks.{block_length, IsBlock}
@@ -8,6 +8,11 @@ use Rattle.share_format.specs.Shares.{block_start}
 -- what a file has in the place of stripe i's block
 abbrev pub block_in : AloofShape → ℕ → List ℕ → List ℕ
 block_in a i file = take (block_length a) (drop (block_start a i) file)
+
+-- it was told whether these bytes are a block, and where they are, they stand in a room for it
+abbrev pub IsTold : AloofShape → List ℕ → List ℕ → Bool → Type 0
+IsTold a bytes room true = (room ≡ bytes) × IsBlock a bytes
+IsTold a bytes room false = ¬ IsBlock a bytes
 
 -- these bytes are found to be a block, or to be none
 abbrev pub IsFound : AloofShape → List ℕ → Option (Vec ℕ Global) → Type 0

@@ -1,16 +1,12 @@
 -- The blocks of a stripe, as they are read from the sources of the shares.
-use Rattle.std.specs.Prelude.{◌≡◌, ℕ, ◌<◌, ◌≤◌, ◌⊎◌, List, ◌++◌, length, get_or, Option, Some, None, Vec}
+use Rattle.std.specs.Prelude.{◌≡◌, ℕ, ◌<◌, ◌≤◌, ◌⊎◌, List, ◌++◌, get_or, Option, Some, None, IfSome, Vec}
 use Rattle.std.specs.declared.alloc.Global.{Global}
 use Rattle.file_bytes.specs.Places.{Shows, FailsIn}
-use Rattle.clay_aloof.specs.Shape.{AloofShape, all_chunks}
+use Rattle.clay_aloof.specs.Shape.{AloofShape}
 use Rattle.share_format.specs.Blocks.{block_length, IsBlock}
 use Rattle.share_format.specs.Shares.{block_start}
-use Rattle.share_format.specs.Joined.{is_lost, IsJoined, AreTooFew}
 use Rattle.share_files.specs.Found.{block_in}
 use Rattle.share_files.specs.Seen.{Seen, seen_of}
-use Rattle.share_files.specs.Missed.{missed_after}
-use Rattle.share_files.specs.declared.joining.JoinFault.{JoinFault}
-use Rattle.share_files.specs.declared.joining.JoinFault.TheVariants.{TooFew, Mismatch, WriteFault, OutOfMemory}
 
 -- what a source shows now it showed before, and its reads that had failed are still told
 pub record Grows (old new : Seen) : Type 0 where
@@ -41,22 +37,9 @@ pub record AreRead (a : AloofShape) (i count : ℕ) (olds news : List Seen) (blo
   pub read : (c : ℕ) → c < count → Reads a i (seen_of olds c) (seen_of news c) (get_or blocks c None)
   pub others : (c : ℕ) → count ≤ c → seen_of news c ≡ seen_of olds c
 
--- so was that of each source, and it is noted for each share whether it was missed
-pub record IsStripeRead (a : AloofShape) (i : ℕ) (olds news : List Seen) (before after : List (Option ℕ)) : Type 0 where
-  pub blocks : List (Option (Vec ℕ Global))
-  pub count : length blocks ≡ all_chunks a
-  pub read : AreRead a i (all_chunks a) olds news blocks
-  pub missed : (c : ℕ) → c < all_chunks a → get_or after c None ≡ missed_after (get_or before c None) i (is_lost blocks c)
-
--- enough are there, and bytes are the stripe of these blocks
-pub record JoinsStripe (a : AloofShape) (i : ℕ) (olds news : List Seen) (before after : List (Option ℕ)) (bytes : List ℕ) : Type 0 where
-  pub is : IsStripeRead a i olds news before after
-  pub few : ¬ AreTooFew a is.blocks
-  pub joined : IsJoined a is.blocks bytes
-
--- or too few are there, or memory is short
-abbrev pub IsStripeFault : AloofShape → ℕ → List Seen → List Seen → List (Option ℕ) → List (Option ℕ) → JoinFault → Type 0
-IsStripeFault a i olds news before after (TooFew stripe) = (stripe ≡ i) × ((is : IsStripeRead a i olds news before after) × AreTooFew a is.blocks)
-IsStripeFault a i olds news before after Mismatch = ⊥
-IsStripeFault a i olds news before after WriteFault = ⊥
-IsStripeFault a i olds news before after OutOfMemory = Unit {0}
+-- so was that of each source from one number on, up to another. The blocks of the sources before these stay
+pub record AreReadIn (a : AloofShape) (i from to : ℕ) (olds news : List Seen) (before after : List (Option (Vec ℕ Global))) : Type 0 where
+  pub read : (c : ℕ) → from ≤ c → c < to → Reads a i (seen_of olds c) (seen_of news c) (get_or after c None)
+  pub good : (c : ℕ) → from ≤ c → c < to → IfSome (get_or after c None) (λ block. IsBlock a block.items)
+  pub others : (c : ℕ) → (c < from) ⊎ (to ≤ c) → seen_of news c ≡ seen_of olds c
+  pub kept : (c : ℕ) → c < from → get_or after c None ≡ get_or before c None

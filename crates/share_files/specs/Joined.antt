@@ -26,6 +26,13 @@ pub record NoRotPasses (h : Header) (file : List ℕ) (files : List (List ℕ)) 
   pub coded : AreCodewords h.shape file words
   pub blocks : (i : ℕ) → i < length words → NoRotIn h.shape i files (get_or words i [])
 
+-- a stripe of which too few shares have a block is one of the file
+abbrev pub IsOfFile : Header → JoinFault → Type 0
+IsOfFile h (TooFew stripe) = stripe < stripe_count h.shape h.size
+IsOfFile h Mismatch = Unit {0}
+IsOfFile h WriteFault = Unit {0}
+IsOfFile h OutOfMemory = Unit {0}
+
 -- why a file could not be joined from shares in these files: too few have a block of a stripe, or all stripes were joined to another file.
 -- What each share missed up to there is noted
 abbrev pub IsWhyNot : Header → List (List ℕ) → List Seen → List Seen → List (Option ℕ) → JoinFault → Type 0

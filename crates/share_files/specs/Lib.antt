@@ -7,6 +7,8 @@ pub mod Put
 pub mod Whole
 pub mod Missed
 pub mod Gathered
+pub mod Handed
+pub mod StripeRead
 pub mod Stripes
 pub mod Joined
 pub mod Taken

@@ -1,14 +1,13 @@
 -- What has come of a join after some stripes.
-use Rattle.std.specs.Prelude.{◌≡◌, ℕ, ◌+◌, ◌<◌, Option, None, List, length, get_or}
+use Rattle.std.specs.Prelude.{◌≡◌, ℕ, ◌+◌, ◌<◌, Option, All, List, length}
 use Rattle.crc64.specs.Remainder.{checksum_of}
 use Rattle.clay_bytes.specs.Stream.{Accepts}
-use Rattle.file_bytes.specs.Places.{Shows}
-use Rattle.clay_aloof.specs.Shape.{all_chunks}
 use Rattle.share_format.specs.Cut.{stripe_count}
 use Rattle.share_format.specs.Header.{Header}
+use Rattle.share_format.specs.Shares.{block_start}
 use Rattle.share_files.specs.Seen.{Seen, seen_of, failed_since, Show}
-use Rattle.share_files.specs.Gathered.{Grows}
-use Rattle.share_files.specs.Missed.{IsFirstMissed, LackBlocks}
+use Rattle.share_files.specs.Gathered.{Grow}
+use Rattle.share_files.specs.Missed.{AreFirstMissed, LackBlocks}
 use Rattle.share_files.specs.Stripes.{AreJoined}
 use Rattle.share_files.specs.declared.joining.JoinFault.{JoinFault}
 use Rattle.share_files.specs.declared.joining.JoinFault.TheVariants.{TooFew, Mismatch, WriteFault, OutOfMemory}
@@ -22,13 +21,11 @@ pub record TakesSoFar (h : Header) (count left : ℕ) (olds news : List Seen) (a
   pub summed : checksum ≡ checksum_of done
   pub joined : AreJoined h count olds news done
 
--- what was known of a source before, after more reads, and the first of so many stripes that was missed in it
-pub record IsReadSoFar (h : Header) (count : ℕ) (old new : Seen) (missed : Option ℕ) : Type 0 where
-  pub noted : (file : List ℕ) → Shows file new.given new.ends → IsFirstMissed h.shape count file (failed_since old new) missed
-  pub grows : Grows old new
-
+-- after so many stripes it is noted what each share missed, and reads failed in the blocks of these stripes alone
 pub record AreReadSoFar (h : Header) (count : ℕ) (olds news : List Seen) (missed : List (Option ℕ)) : Type 0 where
-  pub each : (c : ℕ) → c < all_chunks h.shape → IsReadSoFar h count (seen_of olds c) (seen_of news c) (get_or missed c None)
+  pub grow : Grow olds news
+  pub within : (c : ℕ) → All (λ place. place < block_start h.shape count) (failed_since (seen_of olds c) (seen_of news c))
+  pub noted : (files : List (List ℕ)) → Show news files → AreFirstMissed h.shape count files olds news missed
 
 -- why stripes could not be joined
 abbrev pub IsStop : Header → List Seen → List Seen → List (Option ℕ) → JoinFault → Type 0

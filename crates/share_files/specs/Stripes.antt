@@ -9,7 +9,8 @@ use Rattle.share_files.specs.Found.{block_in}
 use Rattle.share_files.specs.Seen.{Seen, seen_of, failed_since, Show}
 use Rattle.share_files.specs.Missed.{IsMissing}
 
--- a share's block of stripe i as it was read: as it stands in its file, or none where it is missing
+-- a share's block of stripe i: as it stands in its file, or none where it is missing. What is joined is the same whether a parity share's was
+-- read or not
 abbrev pub IsRead : AloofShape → ℕ → List ℕ → List ℕ → Option (Vec ℕ Global) → Type 0
 IsRead a i file failed None = IsMissing a i file failed
 IsRead a i file failed (Some block) = (block.items ≡ block_in a i file) × IsBlock a (block_in a i file)

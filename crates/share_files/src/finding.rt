@@ -1,14 +1,15 @@
 //! The blocks of a share that are whole.
-ghost use Rattle.std.specs.Prelude.{◌≡◌, ◌+◌, ◌*◌, ◌^◌, ◌<◌, ℕ, List, length, IfOk, IfSome, IsErrOf};
+ghost use Rattle.std.specs.Prelude.{◌≡◌, ◌+◌, ◌*◌, ◌^◌, ◌<◌, ℕ, List, length, IfOk, IfSome, OnOk, OnErr, IsTrue, IsErrOf};
 ghost use Rattle.file_bytes.specs.Places.{Shows, FailsIn};
 ghost use Rattle.share_format.specs.Blocks.{block_length, IsBlock};
 ghost use Rattle.share_format.specs.Shares.{block_start};
-ghost use Rattle.share_files.specs.Found.{block_in, IsFound, IsFirstRotten};
+ghost use Rattle.share_files.specs.Found.{block_in, IsTold, IsFound, IsFirstRotten};
 ghost use Rattle.share_files.specs.declared.finding.BlockFault.TheVariants.{OutOfMemory};
 
 use crate::places::block_len;
 use crate::reading::read_block;
 use clay_aloof::AloofGeometry;
+use clay_bytes::Failed;
 use crc64::Crc64;
 use file_bytes::{ReadFault, SourceAt};
 use share_format::is_block;
@@ -32,10 +33,44 @@ impl From<AllocError> for BlockFault {
     }
 }
 
-fn make_block_room(alloc: Global, len: usize) -> Result<Vec<u8>, AllocError>
+fn zeros(alloc: Global, len: usize) -> Result<Vec<u8>, AllocError>
     ensures { IfOk result (λ block. length block.items ≡ len) }
 {
     vec![in alloc; 0u8; len]
+}
+
+/// Room for a block.
+pub(crate) fn make_block_room(alloc: Global, geometry: AloofGeometry) -> Result<Vec<u8>, AllocError>
+    ensures { IfOk result (λ block. length block.items ≡ block_length geometry) }
+{
+    zeros(alloc, block_len(geometry) as usize)
+}
+
+/// Reads the block of a stripe of a share into a room for it: whether a block stands there then. None does where the bytes in its place are
+/// none, or the share ends before.
+pub(crate) fn read_good<S: SourceAt>(
+    crc: &Crc64,
+    source: &mut S,
+    geometry: AloofGeometry,
+    stripe: u64,
+    room: &mut [u8],
+) -> Result<bool, Failed>
+    requires size { length room.old ≡ block_length geometry }
+    requires place { block_start geometry stripe + block_length geometry < 2 ^ 64 }
+    ensures block { IfOk result (λ good. IsTrue good → IsBlock geometry room.new) }
+    // Whatever file the source shows, its block is read or missed as it is.
+    ensures found { (file : List ℕ) → Shows file (S.given source.new) (S.ends source.new) → IfOk result (IsTold geometry (block_in geometry stripe file) room.new) }
+    // It is a file that the source showed before.
+    ensures shown { (file : List ℕ) → Shows file (S.given source.new) (S.ends source.new) → Shows file (S.given source.old) (S.ends source.old) }
+    ensures cause { OnErr result (FailsIn (block_start geometry stripe) (block_length geometry) (S.failed source.old) (S.failed source.new)) }
+    ensures steady { OnOk result (S.failed source.new ≡ S.failed source.old) }
+{
+    let _len = block_len(geometry);
+    match read_block(source, geometry, stripe, room) {
+        Ok(()) => Ok(is_block(geometry, crc, room)),
+        Err(ReadFault::Failed) => Err(Failed),
+        Err(ReadFault::Ended) => Ok(false),
+    }
 }
 
 /// The block of a stripe, read from a share: none where the bytes in its place are no block, or the share ends before.
@@ -55,15 +90,12 @@ pub fn find_block<S: SourceAt>(
     ensures cause { IsErrOf result BlockFault.ReadFault → FailsIn (block_start geometry stripe) (block_length geometry) (S.failed source.old) (S.failed source.new) }
     ensures steady { (IsErrOf result BlockFault.ReadFault → ⊥) → S.failed source.new ≡ S.failed source.old }
 {
-    let len = block_len(geometry);
-    let mut block = make_block_room(alloc, len as usize)?;
-    match read_block(source, geometry, stripe, &mut block) {
-        Ok(()) => {}
-        Err(ReadFault::Failed) => return Err(BlockFault::ReadFault),
-        Err(ReadFault::Ended) => return Ok(None),
+    let mut block = make_block_room(alloc, geometry)?;
+    match read_good(crc, source, geometry, stripe, &mut block) {
+        Ok(true) => Ok(Some(block)),
+        Ok(false) => Ok(None),
+        Err(Failed) => Err(BlockFault::ReadFault),
     }
-    let whole = is_block(alloc, geometry, crc, &block)?;
-    if whole { Ok(Some(block)) } else { Ok(None) }
 }
 
 /// The first of so many stripes whose block isn't whole in a share.

@@ -13,10 +13,12 @@ mod joining;
 mod laws_of_checks;
 mod laws_of_joins;
 mod missing;
+mod passing;
 mod places;
 mod reading;
 mod share_fault;
 mod shares;
+mod stripe_reading;
 mod writing;
 
 pub use checking::check_share;

@@ -1,8 +1,6 @@
 use Rattle.std.proofs.Common.{◌≢◌, sym, ◌∙◌}
-use Rattle.std.proofs.lemmas.List.{length-map}
-use Rattle.share_format.specs.Cut.{stripe_count}
 use Rattle.share_files.specs.declared.joining.JoinFault.TheVariants.{Mismatch}
-use Rattle.share_files.proofs.Steps.{first_missed, why_stopped}
+use Rattle.share_files.proofs.Steps.{why_stopped, stopped_in}
 use Rattle.share_files.proofs.Taking.{takes_file, takes_another, takes_this, matches_this, takes_mismatch, takes_prefix}
 use Rattle.share_files.proofs.joining.join.Goals as goal
 
@@ -15,8 +13,10 @@ returns-in-Err-clause-mismatch g c = λ e. takes_mismatch c.args.header.now _ _ 
 
 pub returns-in-Err-clause-why_not : goal.returns-in-Err-clause-why_not
 returns-in-Err-clause-why_not g c = λ files shows.
-    why_stopped c.args.header.now _ _ c.join_stripes.new.missed
-    (length-map c.join_stripes.new.sources _ ∙ c.join_stripes.auto.sources ∙ c.requires.sources) c.in-Err.fault c.in-Err.ensures.stop files shows
+    why_stopped c.args.header.now _ _ c.join_all.new.missed c.in-Err.fault c.in-Err.ensures.stop files shows
+
+pub returns-in-Err-clause-of_file : goal.returns-in-Err-clause-of_file
+returns-in-Err-clause-of_file g c = stopped_in c.args.header.now _ _ c.join_all.new.missed c.in-Err.fault c.in-Err.ensures.stop
 
 pub returns-then-checksum-clause-matching : goal.returns-then-checksum-clause-matching
 returns-then-checksum-clause-matching g c = λ file files shows pass e.
@@ -41,8 +41,7 @@ returns-then-checksum-clause-until g c =
 
 pub returns-then-checksum-clause-why_not : goal.returns-then-checksum-clause-why_not
 returns-then-checksum-clause-why_not g c = λ files shows.
-    first_missed c.args.header.now (stripe_count c.args.header.now.shape c.args.header.now.size) _ _ c.join_stripes.new.missed
-    (length-map c.join_stripes.new.sources _ ∙ c.join_stripes.auto.sources ∙ c.requires.sources) c.in-Ok.ensures.read files shows
+    c.in-Ok.ensures.read.noted files shows
 
 pub returns-clause-joined : goal.returns-clause-joined
 returns-clause-joined g c = λ file files shows pass.
@@ -53,5 +52,4 @@ returns-clause-taken g c = takes_file c.args.header.now _ _ _ _ _ _ c.in-Ok.chec
 
 pub returns-clause-missed : goal.returns-clause-missed
 returns-clause-missed g c = λ files shows.
-    first_missed c.args.header.now (stripe_count c.args.header.now.shape c.args.header.now.size) _ _ c.join_stripes.new.missed
-    (length-map c.join_stripes.new.sources _ ∙ c.join_stripes.auto.sources ∙ c.requires.sources) c.in-Ok.ensures.read files shows
+    c.in-Ok.ensures.read.noted files shows

@@ -1,0 +1,20 @@
+use Rattle.std.proofs.Common.{◌<◌, Err, ap, arith}
+use Rattle.share_format.specs.Blocks.{block_length}
+use Rattle.share_format.specs.Shares.{block_start}
+use Rattle.share_files.proofs.FoundLemmas.{shown_failed, shown_ended, no_block}
+use Rattle.share_files.proofs.finding.read_good.Goals as goal
+
+pub returns-in-Err-Failed-clause-shown : goal.returns-in-Err-Failed-clause-shown
+returns-in-Err-Failed-clause-shown g c = λ file shows.
+    shown_failed file _ _ (block_start c.args.geometry c.args.stripe) (block_length c.args.geometry) _ _ _ _
+    (c.in-Err-Failed.ensures.failed (ap Err c.in-Err-Failed.field-0-is)) (c.in-Err-Failed.ensures.on (λ e. cc)) shows
+
+pub returns-in-Err-Ended-clause-shown : goal.returns-in-Err-Ended-clause-shown
+returns-in-Err-Ended-clause-shown g c = λ file shows.
+    shown_ended file _ _ (block_start c.args.geometry c.args.stripe) (block_length c.args.geometry) _ _
+    (c.in-Err-Ended.ensures.ended (ap Err c.in-Err-Ended.field-0-is)) shows
+
+pub returns-in-Err-Ended-clause-found : goal.returns-in-Err-Ended-clause-found
+returns-in-Err-Ended-clause-found g c = λ file shows.
+    let some : 0 < block_length c.args.geometry = omega (arith, c.block_len-len.ensures.some, c.block_len-len.ensures.value) in
+    no_block c.args.geometry c.args.stripe file some (c.in-Err-Ended.ensures.short file shows (ap Err c.in-Err-Ended.field-0-is))
