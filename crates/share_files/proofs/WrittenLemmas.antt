@@ -1,6 +1,8 @@
 -- The parts of a share that is written.
-use Rattle.std.proofs.Common.{◌≡◌, ◌<◌, ℕ, ◌+◌, ◌-◌, ◌*◌, List, [], ◌∷◌, ◌++◌, length, take, drop, replicate, slice_range, refl, sym, subst, ◌∙◌, ap, arith, append-nil, length-append}
+use Rattle.std.proofs.Common.{◌≡◌, ◌<◌, ◌≤◌, ℕ, ◌+◌, ◌-◌, ◌*◌, List, [], ◌∷◌, ◌++◌, length, take, drop, replicate, slice_range, refl, sym, subst, ◌∙◌, ap, arith, append-nil, length-append}
+use Rattle.std.specs.Prelude.{min}
 use Rattle.std.specs.List.{flat_map}
+use Rattle.std.proofs.lemmas.List.{length-take}
 use Rattle.std.proofs.lemmas.List.Concat.{flat_map-append}
 use Rattle.clay_grid.specs.Shape.{chunk_length}
 use Rattle.clay_model.specs.Code.{padded}
@@ -77,5 +79,9 @@ pub header_first : (file buf head : List ℕ) → head ≡ buf → buf ≡ slice
 header_first file buf head same e long = sym (same ∙ first_is file buf e long)
 
 pub first_refused : (file buf : List ℕ) (fault : BadHeader) → IsFirstFault buf fault → buf ≡ slice_range file 0 (0 + length buf) → length buf ≡ 64 →
-    IsFirstFault (take 64 file) fault
-first_refused file buf fault bad e long = let P : List ℕ → Type 0 = λ l. IsFirstFault l fault in subst P (first_is file buf e long) bad
+    (64 ≤ length file) × IsFirstFault (take 64 file) fault
+first_refused file buf fault bad e long =
+    let P : List ℕ → Type 0 = λ l. IsFirstFault l fault in
+    let size : length (take 64 file) ≡ min 64 (length file) = length-take 64 file in
+    let same : length buf ≡ length (take 64 file) = ap (λ (l : List ℕ). length l) (first_is file buf e long) in
+    (omega (arith, size, same, long), subst P (first_is file buf e long) bad)

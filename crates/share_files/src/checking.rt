@@ -1,7 +1,7 @@
 //! A share's file judged from its front to its end.
 ghost use Rattle.std.specs.Prelude.{◌≡◌, ◌↔◌, ◌+◌, ◌^◌, ◌≤◌, ◌<◌, ℕ, List, None, length, take, IfOk, IfErr, OnOk, IsErrOf, IsTrue};
 ghost use Rattle.file_bytes.specs.Places.{Shows};
-ghost use Rattle.share_format.specs.Header.{IsHeader, header_bytes};
+ghost use Rattle.share_format.specs.Header.{header_bytes};
 ghost use Rattle.share_files.specs.Whole.{BeginsWith, IsWhole, IsFirstFault, OneFails};
 
 use crate::finding::{BlockFault, first_rotten};
@@ -102,11 +102,8 @@ fn check_rest<S: SourceAt>(
 
 // Whether two headers tell the same.
 fn is_header(found: &ShareHeader, header: &ShareHeader) -> bool
-    ensures same { IsTrue result ↔ (found.now ≡ header.now) }
-    ensures bounded { IsHeader found.now }
+    ensures { IsTrue result ↔ (found.now ≡ header.now) }
 {
-    // a header's limits are known once its stripes are counted
-    let _stripes = found.stripe_count();
     found == header
 }
 

@@ -3,7 +3,7 @@ ghost use Rattle.std.specs.Prelude.{◌≡◌, ◌+◌, ◌^◌, ◌<◌, ℕ, L
 ghost use Rattle.file_bytes.specs.Places.{Shows, placed_from, EndsBefore, FailsBefore, FailsIn};
 ghost use Rattle.share_format.specs.Blocks.{block_length};
 ghost use Rattle.share_format.specs.Shares.{block_start};
-ghost use Rattle.share_format.specs.Header.{header_bytes};
+ghost use Rattle.share_format.specs.Header.{IsHeader, header_bytes};
 ghost use Rattle.share_files.specs.Refused.{IsRefusal};
 
 use crate::places::block_place;
@@ -54,6 +54,7 @@ pub fn read_share_header<S: SourceAt>(
 ) -> Result<ShareHeader, HeaderRefusal>
     // Whatever file the source shows, the header stands first in it, or it is refused for what the file is.
     ensures header { (file : List ℕ) → Shows file (S.given source.new) (S.ends source.new) → IfOk result (λ header. take 64 file ≡ header_bytes header) }
+    ensures bounded { IfOk result IsHeader }
     ensures refused { (file : List ℕ) → Shows file (S.given source.new) (S.ends source.new) → IfErr result (IsRefusal file) }
     // It is a file that the source showed before.
     ensures shown { (file : List ℕ) → Shows file (S.given source.new) (S.ends source.new) → Shows file (S.given source.old) (S.ends source.old) }

@@ -3,7 +3,7 @@ use Rattle.std.proofs.Common.{◌≡◌, ◌≢◌, ℕ, ◌+◌, ◌<◌, List,
 use Rattle.std.proofs.Math.ListN.{set}
 use Rattle.std.proofs.lemmas.List.{length_push, get_or_append_left, get_or_push}
 use Rattle.file_bytes.specs.Places.{FailsIn}
-use Rattle.share_format.specs.Header.{Header, header_bytes}
+use Rattle.share_format.specs.Header.{Header, IsHeader, header_bytes}
 use Rattle.share_files.specs.Seen.{Seen, seen_of}
 use Rattle.share_files.specs.Refused.{IsRefusal}
 use Rattle.share_files.specs.declared.reading.HeaderRefusal.TheVariants.{ReadFault, Short, Bad}
@@ -102,6 +102,6 @@ tell_more heads n (Some first) (Ok header) next at so (inr e) =
     omega (arith, lower, e.1)))
 
 -- what was read is a head
-pub head_had : (head : Head) (file : List ℕ) → IfOk head (λ h. take 64 file ≡ header_bytes h) → IfErr head (IsRefusal file) → IsHead file head
-head_had (Ok header) file is refused = is
-head_had (Err refusal) file is refused = refused
+pub head_had : (head : Head) (file : List ℕ) → IfOk head (λ h. take 64 file ≡ header_bytes h) → IfOk head IsHeader → IfErr head (IsRefusal file) → IsHead file head
+head_had (Ok header) file is bounded refused = (is, bounded)
+head_had (Err refusal) file is bounded refused = refused

@@ -135,8 +135,8 @@ module _ (cut : CutRun) (made : SharesPlaced cut (all_chunks cut.shape)) (lost :
       (pass cut.shape made.cut.file made.files aloof made.cut.shares lost join.olds join.news shows join.header tells)
   cut_joined join Usage aloof tells shows ends = ends
   cut_joined join TooFew aloof tells shows ends =
-      let lack = ends.0.1 shows.files shows.shown in
-      none_lack cut.shape made.cut.file made.files aloof made.cut.shares lost join.olds join.news shows join.header tells ends.0.0 lack.within lack.lack
+      let lack = ends.0.2 shows.files shows.shown in
+      none_lack cut.shape made.cut.file made.files aloof made.cut.shares lost join.olds join.news shows join.header tells ends.0.0 ends.0.1 lack.lack
   cut_joined join BadShare aloof tells shows ends =
       ends.0 made.cut.file shows.files shows.shown
       (pass cut.shape made.cut.file made.files aloof made.cut.shares lost join.olds join.news shows join.header tells)

@@ -63,8 +63,9 @@ CutEnds Usage r = HandsOutTooMuch r.old.given r.old.left 0 r.new.given r.new.lef
 CutEnds TooFew r = ⊥
 CutEnds BadShare r = ⊥
 CutEnds ReadFault r = Rises r.old.faults r.new.faults × IsUntouched r.before r.after × IsWritten r
--- a write beside a place failed and nothing was put anywhere, or a place refused its share and those before it have theirs
+-- a write beside a place failed, nothing was put anywhere and no place refused; or no write failed, and a place refused its share, and those
+-- before it have theirs
 CutEnds WriteFault r = IsRead r
-    × ((OneRises r.writes r.written × IsUntouched r.before r.after)
-    ⊎ (Rises r.before.faults r.after.faults × ((count : ℕ) × (count < all_chunks r.shape) × SharesPlaced r count)))
+    × ((OneRises r.writes r.written × IsUntouched r.before r.after × (r.after.faults ≡ r.before.faults))
+    ⊎ ((r.written ≡ r.writes) × Rises r.before.faults r.after.faults × ((count : ℕ) × (count < all_chunks r.shape) × SharesPlaced r count)))
 CutEnds OutOfMemory r = IsUntouched r.before r.after × IsRead r × IsWritten r

@@ -3,7 +3,7 @@ use Rattle.std.specs.Prelude.{◌≡◌, ◌<◌, ◌≤◌, ℕ, nat_eq, Bool, 
 use Rattle.clay_grid.specs.Score.{count_below}
 use Rattle.clay_aloof.specs.Shape.{AloofShape}
 use Rattle.file_bytes.specs.Places.{Shows, FailsIn}
-use Rattle.share_format.specs.Header.{Header, header_with, header_bytes}
+use Rattle.share_format.specs.Header.{Header, IsHeader, header_with, header_bytes}
 use Rattle.share_files.specs.Seen.{Seen, seen_of}
 use Rattle.share_files.specs.Refused.{IsRefusal}
 use Rattle.share_files.specs.declared.reading.HeaderRefusal.{HeaderRefusal}
@@ -13,9 +13,9 @@ use Rattle.share_files.specs.declared.reading.HeaderRefusal.TheVariants.{ReadFau
 abbrev pub Head : Type 0
 Head = Result Header HeaderRefusal
 
--- what stands first in a share's file is that header, or none for that reason
+-- what stands first in a share's file is that header, which is within its limits, or none for that reason
 abbrev pub IsHead : List ℕ → Head → Type 0
-IsHead file (Ok header) = take 64 file ≡ header_bytes header
+IsHead file (Ok header) = (take 64 file ≡ header_bytes header) × IsHeader header
 IsHead file (Err refusal) = IsRefusal file refusal
 
 -- a read of it failed where that is the reason, and none elsewhere: where reads had failed, and where they have then

@@ -1,14 +1,13 @@
 -- How a join of a file from its shares ends.
-use Rattle.std.specs.Prelude.{◌≡◌, ◌≢◌, ℕ, ◌+◌, ◌<◌, ◌⊎◌, Option, List, [], ◌∷◌, ◌++◌, length}
+use Rattle.std.specs.Prelude.{◌≡◌, ◌≢◌, ℕ, ◌+◌, ◌<◌, Option, List, [], ◌∷◌, ◌++◌, length}
 use Rattle.crc64.specs.Remainder.{checksum_of}
-use Rattle.clay_bytes.specs.Stream.{Rises}
 use Rattle.share_format.specs.Cut.{stripe_count}
 use Rattle.share_format.specs.Header.{Header}
 use Rattle.share_files.specs.Seen.{Seen, Show}
 use Rattle.share_files.specs.Missed.{AreFirstMissed, LackBlocks}
 use Rattle.share_files.specs.Joined.{NoRotPasses}
 use Rattle.share_files.specs.Stripes.{AreJoined}
-use Rattle.share_run.specs.Places.{Kept, filled, IsUntouched}
+use Rattle.share_run.specs.Places.{Kept, filled, IsUntouched, IsUnwritten}
 use Rattle.share_run.specs.declared.status.ShareStatus.{ShareStatus}
 use Rattle.share_run.specs.declared.status.ShareStatus.TheVariants.{Done, Usage, TooFew, BadShare, ReadFault, WriteFault, OutOfMemory}
 
@@ -63,7 +62,6 @@ pub record IsAnother (r : JoinRun) : Type 0 where
 
 -- too few shares in these files have a block of the stripe, and what each missed up to it is noted
 pub record IsLacking (r : JoinRun) (stripe : ℕ) (files : List (List ℕ)) : Type 0 where
-  pub within : stripe < stripe_count r.header.shape r.header.size
   pub lack : LackBlocks r.header.shape stripe files r.olds r.news
   pub noted : AreFirstMissed r.header.shape (stripe + 1) files r.olds r.news r.missed
 
@@ -75,10 +73,10 @@ IsWritten r = (r.written ≡ r.writes) × (r.after.faults ≡ r.before.faults)
 abbrev pub JoinEnds : ShareStatus → JoinRun → Type 0
 JoinEnds Done r = FilePlaced r × IsNoted r (stripe_count r.header.shape r.header.size) × IsWritten r
 JoinEnds Usage r = ⊥
-JoinEnds TooFew r = ((stripe : ℕ) × ((files : List (List ℕ)) → Show r.news files → IsLacking r stripe files)) × IsUntouched r.before r.after × IsWritten r
+JoinEnds TooFew r = ((stripe : ℕ) × (stripe < stripe_count r.header.shape r.header.size) × ((files : List (List ℕ)) → Show r.news files → IsLacking r stripe files)) × IsUntouched r.before r.after × IsWritten r
 -- what the shares give has another checksum: so they are not shares of a file with rot that checksums find
 JoinEnds BadShare r = ((file : List ℕ) (files : List (List ℕ)) → Show r.news files → NoRotPasses r.header file files → ⊥)
     × IsAnother r × IsNoted r (stripe_count r.header.shape r.header.size) × IsUntouched r.before r.after × IsWritten r
 JoinEnds ReadFault r = ⊥
-JoinEnds WriteFault r = (Rises r.writes r.written ⊎ Rises r.before.faults r.after.faults) × IsUntouched r.before r.after
+JoinEnds WriteFault r = IsUnwritten r.writes r.written r.before r.after × IsUntouched r.before r.after
 JoinEnds OutOfMemory r = IsUntouched r.before r.after × IsWritten r

@@ -1,8 +1,7 @@
 -- How a mend of a lost share from parts of others ends.
-use Rattle.std.specs.Prelude.{◌≡◌, ℕ, ◌⊎◌, Bool, List, [], ◌∷◌, ◌++◌, length}
+use Rattle.std.specs.Prelude.{◌≡◌, ℕ, Bool, List, [], ◌∷◌, ◌++◌, length}
 use Rattle.std.specs.List.{flat_map, range_with_len}
 use Rattle.crc64.specs.Remainder.{checksum_of}
-use Rattle.clay_bytes.specs.Stream.{Rises}
 use Rattle.clay_aloof.specs.Shape.{all_chunks}
 use Rattle.share_format.specs.Cut.{stripe_count, AreCodewords}
 use Rattle.share_format.specs.Header.{Header}
@@ -11,7 +10,7 @@ use Rattle.share_format.specs.Shares.{IsShare}
 use Rattle.share_files.specs.Seen.{Seen, Show}
 use Rattle.share_mends.specs.Asked.{AreAsked, OneReadFails, NoReadFails}
 use Rattle.share_mends.specs.Mended.{HaveGood, IsFirstRotten, AreOfWords}
-use Rattle.share_run.specs.Places.{Kept, filled, IsUntouched}
+use Rattle.share_run.specs.Places.{Kept, filled, IsUntouched, IsUnwritten}
 use Rattle.share_run.specs.declared.status.ShareStatus.{ShareStatus}
 use Rattle.share_run.specs.declared.status.ShareStatus.TheVariants.{Done, Usage, TooFew, BadShare, ReadFault, WriteFault, OutOfMemory}
 use Rattle.share_run.specs.declared.mending.MendStop.{MendStop}
@@ -66,7 +65,7 @@ MendEnds marks r Usage = ⊥
 MendEnds marks r TooFew = ⊥
 MendEnds marks r BadShare = ⊥
 MendEnds marks r ReadFault = ⊥
-MendEnds marks r WriteFault = (Rises r.writes r.written ⊎ Rises r.before.faults r.after.faults) × IsUntouched r.before r.after × NoReadFails r.olds r.news
+MendEnds marks r WriteFault = IsUnwritten r.writes r.written r.before r.after × IsUntouched r.before r.after × NoReadFails r.olds r.news
 MendEnds marks r OutOfMemory = IsUntouched r.before r.after × NoReadFails r.olds r.news × IsWritten r
 
 -- and why a mend stopped: the first rotten part of a helper, or a failed read of one. Nothing was put into the place

@@ -1,5 +1,6 @@
 -- Places that were filled.
-use Rattle.std.specs.Prelude.{◌≡◌, ℕ, ◌+◌, List, [], ◌∷◌}
+use Rattle.std.specs.Prelude.{◌≡◌, ℕ, ◌+◌, ◌⊎◌, List, [], ◌∷◌}
+use Rattle.clay_bytes.specs.Stream.{Rises}
 
 -- a file was put into the place of a number
 pub record Filled : Type 0 where
@@ -25,3 +26,8 @@ kept files faults = record { files = files; faults = faults }
 -- nothing was put into any place
 abbrev pub IsUntouched : Kept → Kept → Type 0
 IsUntouched before after = after.files ≡ before.files
+
+-- a write beside a place failed, and no place refused its file; or no write failed, and a place did: by the counts of failed writes
+abbrev pub IsUnwritten : ℕ → ℕ → Kept → Kept → Type 0
+IsUnwritten writes written before after =
+    (Rises writes written × (after.faults ≡ before.faults)) ⊎ ((written ≡ writes) × Rises before.faults after.faults)

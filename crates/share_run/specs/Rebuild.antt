@@ -1,11 +1,10 @@
 -- How a mend of a lost share from whole blocks of others ends.
-use Rattle.std.specs.Prelude.{◌≡◌, ℕ, ◌<◌, ◌⊎◌, List, [], ◌∷◌, ◌++◌}
-use Rattle.clay_bytes.specs.Stream.{Rises}
+use Rattle.std.specs.Prelude.{◌≡◌, ℕ, ◌<◌, List, [], ◌∷◌, ◌++◌}
 use Rattle.share_format.specs.Shares.{IsShare}
 use Rattle.share_files.specs.Seen.{Show}
 use Rattle.share_files.specs.Missed.{LackBlocks}
 use Rattle.share_files.specs.Joined.{NoRotPasses}
-use Rattle.share_run.specs.Places.{filled, IsUntouched}
+use Rattle.share_run.specs.Places.{filled, IsUntouched, IsUnwritten}
 use Rattle.share_run.specs.Mend.{MendRun, stripes_of, IsWritten}
 use Rattle.share_run.specs.declared.status.ShareStatus.{ShareStatus}
 use Rattle.share_run.specs.declared.status.ShareStatus.TheVariants.{Done, Usage, TooFew, BadShare, ReadFault, WriteFault, OutOfMemory}
@@ -31,5 +30,5 @@ RebuildEnds Usage r = ⊥
 RebuildEnds TooFew r = IsShort r × IsUntouched r.before r.after × IsWritten r
 RebuildEnds BadShare r = ⊥
 RebuildEnds ReadFault r = ⊥
-RebuildEnds WriteFault r = (Rises r.writes r.written ⊎ Rises r.before.faults r.after.faults) × IsUntouched r.before r.after
+RebuildEnds WriteFault r = IsUnwritten r.writes r.written r.before r.after × IsUntouched r.before r.after
 RebuildEnds OutOfMemory r = IsUntouched r.before r.after × IsWritten r

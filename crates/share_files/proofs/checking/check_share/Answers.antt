@@ -16,9 +16,9 @@ returns-in-Err-clause-steady g c = λ other. c.in-Err.ensures.steady (λ e. othe
 
 pub returns-then-not-is_header-clause-fault : goal.returns-then-not-is_header-clause-fault
 returns-then-not-is_header-clause-fault g c = λ file shows.
-    is_foreign c.args.header.now c.in-Ok.found file c.is_header.ensures.bounded (c.in-Ok.ensures.header file shows) (λ same. true≢false (sym (c.is_header.ensures.same.1 same) ∙ first_of (search, search rules, grind (arith, common_steps))))
+    is_foreign c.args.header.now c.in-Ok.found file c.in-Ok.ensures.bounded (c.in-Ok.ensures.header file shows) (λ same. true≢false (sym (c.is_header.ensures.1 same) ∙ first_of (search, search rules, grind (arith, common_steps))))
 
 pub returns-clause-fault : goal.returns-clause-fault
 returns-clause-fault g c = λ file shows.
-    let same : c.in-Ok.found ≡ c.args.header.now = c.is_header.ensures.same.0 (first_of (search, search rules, grind (arith, common_steps))) in
+    let same : c.in-Ok.found ≡ c.args.header.now = c.is_header.ensures.0 (first_of (search, search rules, grind (arith, common_steps))) in
     c.check_rest.ensures.fault file shows (c.in-Ok.ensures.header file (c.check_rest.ensures.shown file shows) ∙ ap header_bytes same)

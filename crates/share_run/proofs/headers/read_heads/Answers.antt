@@ -26,6 +26,6 @@ loop-share-preserved g c =
       count = ap (λ (l : List Head). length l) pushed ∙ length_push items head ∙ ap (λ n. n + 1) inv.count;
       heads = subst P (sym pushed)
           (heads_more (λ s. seen (g.S.SourceAt.given s) (g.S.SourceAt.ends s) (g.S.SourceAt.failed s)) c.args.sources.now now share old new less here inv.others items head inv.count
-          (record { is = λ file shows. head_had head file (read.header file shows) (read.refused file shows); fails = head_fails _ _ head read.cause read.steady }) inv.heads);
+          (record { is = λ file shows. head_had head file (read.header file shows) read.bounded (read.refused file shows); fails = head_fails _ _ head read.cause read.steady }) inv.heads);
       others = others_more (λ s. seen (g.S.SourceAt.given s) (g.S.SourceAt.ends s) (g.S.SourceAt.failed s)) c.args.sources.now now share old new less here inv.others;
     }

@@ -1,6 +1,6 @@
 use Rattle.std.proofs.Common.{Err, map, refl, subst, ap}
 use Rattle.share_files.specs.Seen.{seen}
-use Rattle.share_files.specs.Joined.{IsWhyNot}
+use Rattle.share_files.specs.Joined.{IsOfFile, IsWhyNot}
 use Rattle.share_files.specs.declared.joining.JoinFault.{JoinFault}
 use Rattle.share_run.proofs.FaultLemmas.{few_no_write, other_no_write}
 use Rattle.share_run.proofs.JoinLemmas.{file_placed, is_another}
@@ -10,12 +10,13 @@ pub returns-in-Err-TooFew : goal.returns-in-Err-TooFew
 returns-in-Err-TooFew g c = (
   (
     c.in-Err-TooFew.field-0-0,
+    (let P : JoinFault → Type 0 = λ fault. IsOfFile c.args.header.now fault in subst P c.in-Err-TooFew.field-0-is c.in-Err-TooFew.ensures.of_file),
     λ files shows.
         let P : JoinFault → Type 0 = λ fault.
         IsWhyNot c.args.header.now files (map (λ s. seen (g.S.SourceAt.given s) (g.S.SourceAt.ends s) (g.S.SourceAt.failed s)) c.args.sources.now)
         (map (λ s. seen (g.S.SourceAt.given s) (g.S.SourceAt.ends s) (g.S.SourceAt.failed s)) c.join.new.sources) c.join.new.missed fault in
         let why = subst P c.in-Err-TooFew.field-0-is (c.in-Err-TooFew.ensures.why_not files shows) in
-        record { within = why.0; lack = why.1; noted = why.2 },
+        record { lack = why.1; noted = why.2 },
   ),
   refl,
   (c.in-Err-TooFew.ensures.writes (λ e. few_no_write c.in-Err-TooFew.field-0 c.in-Err-TooFew.field-0-0 c.in-Err-TooFew.field-0-is e), refl),
