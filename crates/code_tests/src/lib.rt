@@ -3,6 +3,10 @@
 #![tactic(auto)]
 
 #[cfg(test)]
+mod checked_shares;
+#[cfg(test)]
+mod checksums;
+#[cfg(test)]
 mod coders;
 #[cfg(test)]
 mod coupling;
@@ -25,11 +29,15 @@ mod joins;
 #[cfg(test)]
 mod mends;
 #[cfg(test)]
+mod packed_headers;
+#[cfg(test)]
 mod placed_bytes;
 #[cfg(test)]
 mod shares;
 #[cfg(test)]
 mod told_cuts;
+#[cfg(test)]
+mod worked_blocks;
 
 #[cfg(test)]
 use std::process::Abort;

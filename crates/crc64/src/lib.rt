@@ -8,8 +8,6 @@ ghost use Rattle.crc64.specs.Tables.{HasRemainders};
 
 mod combiner;
 mod laws;
-#[cfg(test)]
-mod tests;
 
 use byteorder::{ByteOrder, LittleEndian};
 pub use combiner::Combiner;

@@ -3,8 +3,6 @@
 #![tactic(auto)]
 
 mod checking;
-#[cfg(test)]
-mod checking_tests;
 mod cutting;
 mod fetching;
 mod filling;

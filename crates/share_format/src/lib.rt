@@ -5,8 +5,6 @@
 #![tactic(auto)]
 
 mod block;
-#[cfg(test)]
-mod block_tests;
 mod cut_block;
 mod fault;
 mod header;
@@ -14,8 +12,6 @@ mod join_block;
 mod laws;
 mod laws_of_blocks;
 mod mend_block;
-#[cfg(test)]
-mod tests;
 mod units;
 
 pub use block::{chunk_start, extended_by_chunk, is_block, make_block};

@@ -1,9 +1,8 @@
 //! A share without blocks: whole, with each byte changed, cut off, longer, and with each read failing.
-use crate::checking::check_share;
-use crate::share_fault::ShareFault;
 use clay_aloof::AloofGeometry;
 use crc64::Crc64;
 use file_bytes::MemFile;
+use share_files::{ShareFault, check_share};
 use share_format::ShareHeader;
 use std::alloc::{AllocError, Global};
 

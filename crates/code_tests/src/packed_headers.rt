@@ -1,7 +1,7 @@
 //! A header's bytes, as another program packs them, and what is refused.
-use crate::{BadHeader, ShareHeader, read_header};
 use clay_aloof::AloofGeometry;
 use crc64::Crc64;
+use share_format::{BadHeader, ShareHeader, read_header};
 use std::alloc::AllocError;
 
 /// Share 3 of 8 + 4 with 11 helpers and subchunks of 4,096 bytes, of a file of 10,000,000 bytes whose checksum is 0x0123456789abcdef.

@@ -2,10 +2,9 @@
 ghost use Rattle.std.specs.Prelude.{◌≡◌};
 ghost use Rattle.clay_aloof.specs.Shape.{aloof_of};
 
-use crate::block::{extended_by_chunk, is_block};
-use crate::cut_block::cut_stripe;
 use clay_aloof::AloofGeometry;
 use crc64::{Combiner, Crc64};
+use share_format::{cut_stripe, extended_by_chunk, is_block};
 use std::alloc::AllocError;
 
 const STRIPE: [u8; 16] = [0x01, 0, 0, 0, 0x53, 0, 0, 0, 0xa7, 0, 0, 0, 0, 0, 0, 0];

@@ -1,5 +1,5 @@
 //! Checksums that liblzma writes.
-use crate::{Combiner, Crc64};
+use crc64::{Combiner, Crc64};
 use std::alloc::AllocError;
 
 #[test]
