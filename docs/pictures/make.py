@@ -1,6 +1,6 @@
 #!/usr/bin/env python3
 """Draws pictures beside this file: grid.svg and repair.svg of docs/CLAY-CODES.md from the numbers of a code, layers.svg of
-docs/ARCHITECTURE.md from crates.txt. `bench/traffic` draws traffic.svg.
+docs/ARCHITECTURE.md from crates.txt, docs/CRATES.md and the crates' modules. `bench/traffic` draws traffic.svg.
 
 Each number of a code is computed here from K and M as docs/CLAY-CODES.md defines it.
 `make.py --check` writes nothing, and fails where a picture isn't what it would draw.
@@ -204,32 +204,60 @@ def holds_of_crates():
     return {name.strip(' `'): holds.strip().replace('`', '') for name, holds in rows}
 
 
-def brief(words, size, room):
-    """As many of the words as stay within the room, up to a comma or semicolon where that leaves enough of them."""
-    ends = [at for at, letter in enumerate(words) if letter in ',;' and at > 30] + [len(words)]
-    fitting = [end for end in ends if widest(words[:end], size, 'normal') <= room]
-    if fitting:
-        return words[:fitting[-1]]
-    while widest(words + ' …', size, 'normal') > room:
-        words = words[:words.rindex(' ')]
-    return words.rstrip(',;') + ' …'
+def modules(crate):
+    """The modules of a crate, but for its root."""
+    folder = os.path.join(HERE, '../../crates', crate, 'src')
+    return sorted(name[:-3] for name in os.listdir(folder) if name.endswith('.rt') and name not in ('lib.rt', 'main.rt'))
+
+
+def wrapped(words, size, room):
+    """The words as lines that stay within the room."""
+    lines = ['']
+    for word in words.split():
+        longer = f'{lines[-1]} {word}'.strip()
+        if widest(longer, size, 'normal') <= room:
+            lines[-1] = longer
+        else:
+            lines.append(word)
+    return lines
+
+
+# A crate's entry: the width of its column, where its phrase begins, the height of a line, and what stands between two entries.
+COLUMN, NAME, LINE, GAP = 580, 116, 14, 5
+
+
+def entry(crate, holds):
+    """The lines of a crate's entry: what it holds, and its modules."""
+    room = COLUMN - NAME - 8
+    return wrapped(holds, 11, room), wrapped(', '.join(modules(crate)), 10, room) if modules(crate) else []
+
+
+def columns(entries):
+    """The entries of a tier in two columns of about one height, and the greater height."""
+    heights = [LINE * sum(map(len, lines)) + GAP for _, lines in entries]
+    split = min(range(len(entries) + 1), key=lambda at: max(sum(heights[:at]), sum(heights[at:])))
+    return (entries[:split], entries[split:]), max(sum(heights[:split]), sum(heights[split:]))
 
 
 def draw_layers():
-    holds_of, drawn = holds_of_crates(), list(reversed(layers()))
-    high = [44 + 17 * -(-len(crates) // 2) for _, _, crates in drawn]
-    picture = Picture(1000, 70 + sum(high) + 8 * len(high), 'The tiers: a crate names none of a box above its own')
+    holds_of = holds_of_crates()
+    drawn = [(name, holds, *columns([(crate, entry(crate, holds_of[crate])) for crate in crates])) for name, holds, crates in reversed(layers())]
+    picture = Picture(1240, 70 + sum(height + 52 for *_, height in drawn), 'The tiers: a crate names none of a box above its own')
     top = 58
-    for (name, holds, crates), height in zip(drawn, high):
-        picture.box(24, top, 952, height, PALE if name.startswith('tests') else LIGHT_BLUE, 'none', 6)
+    for name, holds, sides, height in drawn:
+        picture.box(24, top, 1192, height + 44, PALE if name.startswith('tests') else LIGHT_BLUE, 'none', 6)
         picture.text(36, top + 24, name, 15, weight='bold')
         picture.text(176, top + 23, holds, 13, fill=GREY)
-        half = -(-len(crates) // 2)
-        for number, crate in enumerate(crates):
-            left, down = 36 + 472 * (number // half), top + 44 + 17 * (number % half)
-            picture.text(left, down, crate, 12, weight='bold')
-            picture.text(left + 118, down, brief(holds_of[crate], 11, 340), 11)
-        top += height + 8
+        for left, entries in zip((36, 36 + COLUMN + 8), sides):
+            down = top + 44
+            for crate, (phrase, names) in entries:
+                picture.text(left, down, crate, 12, weight='bold')
+                for lines, size, ink in ((phrase, 11, INK), (names, 10, GREY)):
+                    for line in lines:
+                        picture.text(left + NAME, down, line, size, fill=ink)
+                        down += LINE
+                down += GAP
+        top += height + 52
     return picture
 
 
