@@ -27,6 +27,7 @@ fn part_of<S: SourceAt>(
     crc: &Crc64,
     source: &mut S,
     plan: &Plan,
+    rooms: &mut Vec<Vec<u8>>,
     stripe: u64,
     share: u32,
     help: bool,
@@ -47,7 +48,7 @@ fn part_of<S: SourceAt>(
     if !help {
         return Ok(None);
     }
-    match read_part(alloc, crc, source, plan, stripe) {
+    match read_part(alloc, crc, source, plan, rooms, stripe) {
         Ok(Some(part)) => Ok(Some(part)),
         Ok(None) => Err(MendFault::Rotten(RottenPart { share, stripe })),
         Err(BlockFault::ReadFault) => Err(MendFault::ReadFault),
@@ -62,6 +63,7 @@ pub(crate) fn read_parts<S: SourceAt>(
     sources: &mut [S],
     plan: &Plan,
     helpers: &[bool],
+    rooms: &mut Vec<Vec<u8>>,
     stripe: u64,
 ) -> Result<Vec<Option<Vec<u8>>>, MendFault>
     requires plan { IsPlan plan.now }
@@ -81,7 +83,8 @@ pub(crate) fn read_parts<S: SourceAt>(
     for share in 0..plan.geometry.n() {
         let at = share as usize;
         let source = &mut sources[at];
-        match part_of(alloc, crc, source, plan, stripe, share, helpers[at]) {
+        let help = helpers[at];
+        match part_of(alloc, crc, source, plan, rooms, stripe, share, help) {
             Ok(part) => parts.push_reserved(part),
             Err(fault) => return Err(fault),
         }

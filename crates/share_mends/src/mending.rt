@@ -17,6 +17,7 @@ ghost use Rattle.share_mends.specs.Mended.{HasGood, HaveGood, NamesFirst, AreOfW
 
 use crate::fault::MendFault;
 use crate::gathering::read_parts;
+use crate::parts::keep_rooms;
 use crate::spans::{Plan, make_plan};
 use clay_bytes::WriteFault;
 use crc64::Crc64;
@@ -32,6 +33,7 @@ fn mended_block<S: SourceAt>(
     sources: &mut [S],
     plan: &Plan,
     helpers: &[bool],
+    rooms: &mut Vec<Vec<u8>>,
     stripe: u64,
 ) -> Result<Vec<u8>, MendFault>
     requires plan { IsPlan plan.now }
@@ -47,11 +49,12 @@ fn mended_block<S: SourceAt>(
     ensures cause { IsErrOf result MendFault.ReadFault → FailsAt plan.now.geometry helpers.now stripe (map (λ s. seen (S.given s) (S.ends s) (S.failed s)) sources.old) (map (λ s. seen (S.given s) (S.ends s) (S.failed s)) sources.new) }
     ensures steady { (IsErrOf result MendFault.ReadFault → ⊥) → NoReadFails (map (λ s. seen (S.given s) (S.ends s) (S.failed s)) sources.old) (map (λ s. seen (S.given s) (S.ends s) (S.failed s)) sources.new) }
 {
-    let parts = match read_parts(alloc, crc, sources, plan, helpers, stripe) {
+    let parts = match read_parts(alloc, crc, sources, plan, helpers, rooms, stripe) {
         Ok(parts) => parts,
         Err(fault) => return Err(fault),
     };
     let chunk = mend_stripe(alloc, plan.geometry, plan.lost, &parts)?;
+    keep_rooms(parts, rooms)?;
     let block = make_block(alloc, plan.geometry, crc, &chunk)?;
     Ok(block)
 }
@@ -63,6 +66,7 @@ fn mend_one<S: SourceAt, K: SinkAt>(
     sources: &mut [S],
     plan: &Plan,
     helpers: &[bool],
+    rooms: &mut Vec<Vec<u8>>,
     sink: &mut K,
     stripe: u64,
 ) -> Result<(), MendFault>
@@ -81,7 +85,7 @@ fn mend_one<S: SourceAt, K: SinkAt>(
     ensures write { IsErrOf result MendFault.WriteFault → Rises (K.faults sink.old) (K.faults sink.new) }
     ensures writes { (IsErrOf result MendFault.WriteFault → ⊥) → K.faults sink.new ≡ K.faults sink.old }
 {
-    let block = match mended_block(alloc, crc, sources, plan, helpers, stripe) {
+    let block = match mended_block(alloc, crc, sources, plan, helpers, rooms, stripe) {
         Ok(block) => block,
         Err(fault) => return Err(fault),
     };
@@ -115,8 +119,9 @@ fn mend_stripes<S: SourceAt, K: SinkAt>(
     ensures write { IsErrOf result MendFault.WriteFault → Rises (K.faults sink.old) (K.faults sink.new) }
     ensures writes { (IsErrOf result MendFault.WriteFault → ⊥) → K.faults sink.new ≡ K.faults sink.old }
 {
+    let mut rooms = Vec::new(alloc);
     for stripe in 0..stripes {
-        match mend_one(alloc, crc, sources, plan, helpers, sink, stripe) {
+        match mend_one(alloc, crc, sources, plan, helpers, &mut rooms, sink, stripe) {
             Ok(()) => {}
             Err(fault) => return Err(fault),
         }

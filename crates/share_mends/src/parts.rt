@@ -66,10 +66,50 @@ fn read_spans<S: SourceAt>(
     Ok(())
 }
 
-fn make_room(alloc: Global, len: usize) -> Result<Vec<u8>, AllocError>
+// The room of earlier bytes, or a new one.
+fn next_room(alloc: Global, rooms: &mut Vec<Vec<u8>>) -> Vec<u8> {
+    match rooms.pop() {
+        Some(room) => room,
+        None => Vec::new(alloc),
+    }
+}
+
+// Room for so many bytes. What stands in it doesn't matter.
+fn room_for(alloc: Global, rooms: &mut Vec<Vec<u8>>, len: usize) -> Result<Vec<u8>, AllocError>
     ensures { IfOk result (λ room. length room.items ≡ len) }
 {
-    vec![in alloc; 0u8; len]
+    let mut room = next_room(alloc, rooms);
+    room.resize(len, 0)?;
+    Ok(room)
+}
+
+// A copy of some bytes.
+fn copy_of(alloc: Global, rooms: &mut Vec<Vec<u8>>, bytes: &[u8]) -> Result<Vec<u8>, AllocError>
+    ensures { IfOk result (λ copy. copy.items ≡ bytes.now) }
+{
+    let mut copy = next_room(alloc, rooms);
+    copy.clear();
+    copy.extend_from_slice(bytes)?;
+    Ok(copy)
+}
+
+// Keeps a room for later bytes.
+fn keep_room(rooms: &mut Vec<Vec<u8>>, room: Vec<u8>) -> Result<(), AllocError> {
+    rooms.push(room)?;
+    Ok(())
+}
+
+/// Keeps the rooms of parts for those of the next stripe.
+pub(crate) fn keep_rooms(
+    parts: Vec<Option<Vec<u8>>>,
+    rooms: &mut Vec<Vec<u8>>,
+) -> Result<(), AllocError> {
+    for part in parts {
+        if let Some(room) = part {
+            keep_room(rooms, room)?;
+        }
+    }
+    Ok(())
 }
 
 // The part behind the table in front of it, none where a subchunk hasn't the checksum that the table has for it.
@@ -77,6 +117,7 @@ fn good_part(
     alloc: Global,
     crc: &Crc64,
     plan: &Plan,
+    rooms: &mut Vec<Vec<u8>>,
     piece: &[u8],
 ) -> Result<Option<Vec<u8>>, AllocError>
     requires plan { IsPlan plan.now }
@@ -94,16 +135,18 @@ fn good_part(
     ) {
         return Ok(None);
     }
-    let part = Vec::from_slice(alloc, &piece[start..])?;
+    let part = copy_of(alloc, rooms, &piece[start..])?;
     Ok(Some(part))
 }
 
-/// A helper's part for a mend of a stripe, read from its share: none where a byte of it is missing or a checksum is another.
+/// A helper's part for a mend of a stripe, read from its share: none where a byte of it is missing or a checksum is another. It is read and
+/// stands in rooms of earlier ones, where there are some.
 pub(crate) fn read_part<S: SourceAt>(
     alloc: Global,
     crc: &Crc64,
     source: &mut S,
     plan: &Plan,
+    rooms: &mut Vec<Vec<u8>>,
     stripe: u64,
 ) -> Result<Option<Vec<u8>>, BlockFault>
     requires plan { IsPlan plan.now }
@@ -119,13 +162,14 @@ pub(crate) fn read_part<S: SourceAt>(
     ensures steady { (IsErrOf result BlockFault.ReadFault → ⊥) → S.failed source.new ≡ S.failed source.old }
 {
     let len = chunk_place(plan.geometry) as usize + plan.geometry.part_len() as usize;
-    let mut piece = make_room(alloc, len)?;
+    let mut piece = room_for(alloc, rooms, len)?;
     let place = block_place(plan.geometry, stripe);
     match read_spans(source, place, &plan.spans, &mut piece) {
         Ok(()) => {}
         Err(ReadFault::Failed) => return Err(BlockFault::ReadFault),
         Err(ReadFault::Ended) => return Ok(None),
     }
-    let part = good_part(alloc, crc, plan, &piece)?;
+    let part = good_part(alloc, crc, plan, rooms, &piece)?;
+    keep_room(rooms, piece)?;
     Ok(part)
 }

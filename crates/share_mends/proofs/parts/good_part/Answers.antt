@@ -14,4 +14,4 @@ is_part-requires-clause-part c =
 pub returns-clause-found : goal.returns-clause-found
 returns-clause-found c =
     found_some c.args.plan.now.geometry c.args.plan.now.lost c.deref.result.now c.args.plan.now.layers.items c.args.piece.now c.chunk_place-start.result c.deref.ensures.value
-    c.requires.plan.layers c.chunk_place-start.ensures.value c.requires.size c.in_ok-part.part c.in_ok-part.ensures.items (c.if-not-is_part.ensures.0 refl)
+    c.requires.plan.layers c.chunk_place-start.ensures.value c.requires.size c.in_ok-part.part c.in_ok-part.ensures (c.if-not-is_part.ensures.0 refl)
