@@ -59,7 +59,7 @@ fn mended_block<S: SourceAt>(
     Ok(block)
 }
 
-// Puts the block of the lost share for a stripe into its place.
+// Puts the block of the lost share for a stripe into its place, and gives it back.
 fn mend_one<S: SourceAt, K: SinkAt>(
     alloc: Global,
     crc: &Crc64,
@@ -69,7 +69,7 @@ fn mend_one<S: SourceAt, K: SinkAt>(
     rooms: &mut Vec<Vec<u8>>,
     sink: &mut K,
     stripe: u64,
-) -> Result<(), MendFault>
+) -> Result<Vec<u8>, MendFault>
     requires plan { IsPlan plan.now }
     requires shares { length sources.old ≡ all_chunks plan.now.geometry }
     requires helpers { AreHelpers plan.now.geometry plan.now.lost helpers.now }
@@ -90,7 +90,7 @@ fn mend_one<S: SourceAt, K: SinkAt>(
         Err(fault) => return Err(fault),
     };
     match write_block(sink, plan.geometry, stripe, &block) {
-        Ok(()) => Ok(()),
+        Ok(()) => Ok(block),
         Err(WriteFault) => Err(MendFault::WriteFault),
     }
 }
@@ -120,9 +120,11 @@ fn mend_stripes<S: SourceAt, K: SinkAt>(
     ensures writes { (IsErrOf result MendFault.WriteFault → ⊥) → K.faults sink.new ≡ K.faults sink.old }
 {
     let mut rooms = Vec::new(alloc);
+    // A block stays until the next one is made: so the end of the heap is in use, and its pages aren't given back after each stripe.
+    let mut last = Vec::new(alloc);
     for stripe in 0..stripes {
         match mend_one(alloc, crc, sources, plan, helpers, &mut rooms, sink, stripe) {
-            Ok(()) => {}
+            Ok(block) => last = block,
             Err(fault) => return Err(fault),
         }
     }

@@ -21,8 +21,8 @@ returns-in-Ok-write_block-clause-put g c =
       puts = c.in-Ok-write_block.ensures.put ∙ ap (λ l. g.K.SinkAt.put c.args.sink.now ++ placed_from (block_start c.args.plan.now.geometry c.args.stripe) l) (shown ∙ made.value);
     }
 
-pub returns-clause-part : goal.returns-clause-part
-returns-clause-part g c =
+pub returns-in-Err-write_block-clause-part : goal.returns-in-Err-write_block-clause-part
+returns-in-Err-write_block-clause-part g c =
     let shown : c.deref.result.now ≡ c.in-Ok.block.items = search in
     let made = c.in-Ok.ensures.block in
     let P : List ℕ → Type 0 = λ l. PutsFewer (g.K.SinkAt.put c.args.sink.now) (block_start c.args.plan.now.geometry c.args.stripe) l (g.K.SinkAt.put c.write_block.new.sink) in
