@@ -75,6 +75,7 @@ impl Crc64 {
     }
 
     // The remainder of a word with so many zero bytes behind it.
+    #[inline(always)]
     fn word_remainder(&self, behind: usize, word: u64) -> u64
         requires { behind ≤ 8 }
         ensures { result ≡ remainder (64 + 8 * behind) word }
@@ -87,6 +88,7 @@ impl Crc64 {
         sum
     }
 
+    #[inline(always)]
     fn after_block(&self, register: u64, block: &[u8]) -> u64
         requires { length block.now ≡ 16 }
         ensures { result ≡ after register block.now }
