@@ -10,7 +10,7 @@ use Rattle.clay_model.specs.Left.{AreLong}
 use Rattle.clay_aloof.specs.Shape.{AloofShape}
 use Rattle.share_format.specs.Blocks.{block_length, IsBlock}
 use Rattle.share_format.specs.Shares.{block_start}
-use Rattle.share_files.specs.Found.{block_in, IsTold, IsFound}
+use Rattle.share_files.specs.Found.{block_in, IsTold}
 use Rattle.share_files.specs.Seen.{Seen, seen, seen_of}
 use Rattle.share_files.specs.Gathered.{Grows, Grow, IsHad, Reads, AreRead, AreReadIn}
 use Rattle.share_files.specs.Handed.{HasBlock, HaveBlocks}
@@ -109,24 +109,27 @@ module _ {X : Type 0} (f : X → Seen) (xs : List X) (share : ℕ) (old new : X)
         rest c differs ∙ so.kept c less;
   }
 
-  pub grow_one : Grows (f old) (f new) → Grow (map f xs) news
-  grow_one grows c = elim (cases_lt c share) [
+  pub of_each : (P : Seen → Seen → Type 0) → ((s t : Seen) → t ≡ s → P s t) → P (f old) (f new) → (c : ℕ) → P (seen_of (map f xs) c) (seen_of news c)
+  of_each P same changed c = elim (cases_lt c share) [
     | inl less ↦
         let differs : c ≢ share = omega (arith, less) in
-        grows_none (seen_of (map f xs) c) (seen_of news c) (other c differs)
+        same (seen_of (map f xs) c) (seen_of news c) (other c differs)
     | inr from ↦
         elim (cases_lt share c) [
           | inl more ↦
               let differs : c ≢ share = omega (arith, more) in
-              grows_none (seen_of (map f xs) c) (seen_of news c) (other c differs)
+              same (seen_of (map f xs) c) (seen_of news c) (other c differs)
           | inr most ↦
               let is : share ≡ c = omega (arith, from, most) in
-              let P : Seen → Type 0 = λ s. Grows s (f new) in
-              let Q : Seen → Type 0 = λ s. Grows (seen_of (map f xs) share) s in
-              let R : ℕ → Type 0 = λ k. Grows (seen_of (map f xs) k) (seen_of news k) in
-              subst R is (subst Q (sym own) (subst P (sym old_one) grows))
+              let Q : Seen → Type 0 = λ s. P s (f new) in
+              let R : Seen → Type 0 = λ s. P (seen_of (map f xs) share) s in
+              let S : ℕ → Type 0 = λ k. P (seen_of (map f xs) k) (seen_of news k) in
+              subst S is (subst R (sym own) (subst Q (sym old_one) changed))
         ]
   ]
+
+  pub grow_one : Grows (f old) (f new) → Grow (map f xs) news
+  grow_one = of_each Grows grows_none
 
 -- ---- shares from one number on, up to another
 
@@ -211,5 +214,5 @@ pub had_untold : (a : AloofShape) (i : ℕ) (file failed now room : List ℕ) (g
     IsHad a i file failed now None
 had_untold a i file failed now room good bad told = let P : Bool → Type 0 = λ b. IsTold a (block_in a i file) room b in inl (subst P bad told)
 
-pub found_none : (a : AloofShape) (bytes room : List ℕ) (good : Bool) → good ≡ false → IsTold a bytes room good → IsFound a bytes None
-found_none a bytes room good bad told = let P : Bool → Type 0 = λ b. IsTold a bytes room b in subst P bad told
+pub told_bad : (a : AloofShape) (bytes room : List ℕ) (good : Bool) → good ≡ false → IsTold a bytes room good → ¬ IsBlock a bytes
+told_bad a bytes room good bad told = let P : Bool → Type 0 = λ b. IsTold a bytes room b in subst P bad told

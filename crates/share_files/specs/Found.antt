@@ -1,6 +1,5 @@
 -- The blocks that are found in a share's file.
-use Rattle.std.specs.Prelude.{◌≡◌, ℕ, ◌<◌, Bool, true, false, List, take, drop, Option, Some, None, Vec}
-use Rattle.std.specs.declared.alloc.Global.{Global}
+use Rattle.std.specs.Prelude.{◌≡◌, ℕ, ◌<◌, Bool, true, false, List, take, drop, Option, Some, None}
 use Rattle.clay_aloof.specs.Shape.{AloofShape}
 use Rattle.share_format.specs.Blocks.{block_length, IsBlock}
 use Rattle.share_format.specs.Shares.{block_start}
@@ -13,11 +12,6 @@ block_in a i file = take (block_length a) (drop (block_start a i) file)
 abbrev pub IsTold : AloofShape → List ℕ → List ℕ → Bool → Type 0
 IsTold a bytes room true = (room ≡ bytes) × IsBlock a bytes
 IsTold a bytes room false = ¬ IsBlock a bytes
-
--- these bytes are found to be a block, or to be none
-abbrev pub IsFound : AloofShape → List ℕ → Option (Vec ℕ Global) → Type 0
-IsFound a bytes None = ¬ IsBlock a bytes
-IsFound a bytes (Some block) = (block.items ≡ bytes) × IsBlock a bytes
 
 -- each of the first so many stripes has its block in the file, or this is the first that has not
 abbrev pub IsFirstRotten : AloofShape → ℕ → List ℕ → Option ℕ → Type 0

@@ -1,9 +1,9 @@
 //! The blocks of a share that are whole.
-ghost use Rattle.std.specs.Prelude.{◌≡◌, ◌+◌, ◌*◌, ◌^◌, ◌<◌, ℕ, List, length, IfOk, IfSome, OnOk, OnErr, IsTrue, IsErrOf};
+ghost use Rattle.std.specs.Prelude.{◌≡◌, ◌+◌, ◌*◌, ◌^◌, ◌<◌, ℕ, List, length, IfOk, OnOk, OnErr, IsTrue, IsErrOf};
 ghost use Rattle.file_bytes.specs.Places.{Shows, FailsIn};
 ghost use Rattle.share_format.specs.Blocks.{block_length, IsBlock};
 ghost use Rattle.share_format.specs.Shares.{block_start};
-ghost use Rattle.share_files.specs.Found.{block_in, IsTold, IsFound, IsFirstRotten};
+ghost use Rattle.share_files.specs.Found.{block_in, IsTold, IsFirstRotten};
 ghost use Rattle.share_files.specs.declared.finding.BlockFault.TheVariants.{OutOfMemory};
 
 use crate::places::block_len;
@@ -46,8 +46,7 @@ pub(crate) fn make_block_room(alloc: Global, geometry: AloofGeometry) -> Result<
     zeros(alloc, block_len(geometry) as usize)
 }
 
-/// Reads the block of a stripe of a share into a room for it: whether a block stands there then. None does where the bytes in its place are
-/// none, or the share ends before.
+/// Reads a share's block of a stripe into a room for it: whether one stands there then. None does where the share has none, or ends before.
 pub(crate) fn read_good<S: SourceAt>(
     crc: &Crc64,
     source: &mut S,
@@ -73,31 +72,6 @@ pub(crate) fn read_good<S: SourceAt>(
     }
 }
 
-/// The block of a stripe, read from a share: none where the bytes in its place are no block, or the share ends before.
-pub fn find_block<S: SourceAt>(
-    alloc: Global,
-    crc: &Crc64,
-    source: &mut S,
-    geometry: AloofGeometry,
-    stripe: u64,
-) -> Result<Option<Vec<u8>>, BlockFault>
-    requires place { block_start geometry stripe + block_length geometry < 2 ^ 64 }
-    ensures block { IfOk result (λ found. IfSome found (λ block. IsBlock geometry block.items)) }
-    // Whatever file the source shows, its block is found or missed as it is.
-    ensures found { (file : List ℕ) → Shows file (S.given source.new) (S.ends source.new) → IfOk result (IsFound geometry (block_in geometry stripe file)) }
-    // It is a file that the source showed before.
-    ensures shown { (file : List ℕ) → Shows file (S.given source.new) (S.ends source.new) → Shows file (S.given source.old) (S.ends source.old) }
-    ensures cause { IsErrOf result BlockFault.ReadFault → FailsIn (block_start geometry stripe) (block_length geometry) (S.failed source.old) (S.failed source.new) }
-    ensures steady { (IsErrOf result BlockFault.ReadFault → ⊥) → S.failed source.new ≡ S.failed source.old }
-{
-    let mut block = make_block_room(alloc, geometry)?;
-    match read_good(crc, source, geometry, stripe, &mut block) {
-        Ok(true) => Ok(Some(block)),
-        Ok(false) => Ok(None),
-        Err(Failed) => Err(BlockFault::ReadFault),
-    }
-}
-
 /// The first of so many stripes whose block isn't whole in a share.
 pub fn first_rotten<S: SourceAt>(
     alloc: Global,
@@ -112,11 +86,12 @@ pub fn first_rotten<S: SourceAt>(
     ensures cause { IsErrOf result BlockFault.ReadFault → FailsIn (block_start geometry 0) (stripes * block_length geometry) (S.failed source.old) (S.failed source.new) }
     ensures steady { (IsErrOf result BlockFault.ReadFault → ⊥) → S.failed source.new ≡ S.failed source.old }
 {
+    let mut room = make_block_room(alloc, geometry)?;
     for stripe in 0..stripes {
-        match find_block(alloc, crc, source, geometry, stripe) {
-            Ok(Some(_block)) => {}
-            Ok(None) => return Ok(Some(stripe)),
-            Err(fault) => return Err(fault),
+        match read_good(crc, source, geometry, stripe, &mut room) {
+            Ok(true) => {}
+            Ok(false) => return Ok(Some(stripe)),
+            Err(Failed) => return Err(BlockFault::ReadFault),
         }
     }
     Ok(None)

@@ -22,7 +22,7 @@ mod writing;
 pub use checking::check_share;
 pub use cutting::{CutFault, cut};
 pub use fetching::find_blocks;
-pub use finding::{BlockFault, find_block, first_rotten};
+pub use finding::{BlockFault, first_rotten};
 pub use joining::{JoinFault, join};
 pub use laws_of_checks::shares_are_whole;
 pub use laws_of_joins::{any_shares_join, joined_stripes_are_right};
