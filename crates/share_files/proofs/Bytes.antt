@@ -14,6 +14,7 @@ use Rattle.share_format.specs.Header.{Header, IsHeader}
 use Rattle.share_format.proofs.HeaderBack.{stripe_some}
 use Rattle.share_format.specs.Joined.{HasBlocks}
 use Rattle.share_files.specs.Seen.{Seen, seen_of, failed_since, Show}
+use Rattle.share_files.specs.Missed.{CountsAt}
 use Rattle.share_files.proofs.CutLemmas.{places_fit}
 use Rattle.share_files.specs.Joined.{NoRotIn, NoRotPasses}
 use Rattle.share_files.specs.Stripes.{IsRead, IsStripeOf, HasStripe, AreJoined}
@@ -93,9 +94,9 @@ module _ (h : Header) (i : ℕ) (olds news : List Seen) (file : List ℕ) (words
       elim (cases_lt c (all_chunks h.shape)) [
         | inl less ↦
             let P : Option (Vec ℕ Global) → Type 0 =
-            λ b. IsRead h.shape i (get_or files c []) (failed_since (seen_of olds c) (seen_of news c)) b in
+            λ b. IsRead h.shape i (CountsAt h.shape files olds news c i) (get_or files c []) (failed_since (seen_of olds c) (seen_of news c)) b in
             let read = subst P there (is.read c less) in
-            read.0 ∙ no_rot c less read.1
+            read.1 ∙ no_rot c less read.2
         | inr more ↦
             let none : get_or is.blocks c None ≡ None = get_or_past is.blocks c None (omega (arith, more, is.count)) in
             let same : Some block ≡ None = sym there ∙ none in absurd (some_none block same)

@@ -11,6 +11,7 @@ pub mod Faults
 pub mod WholeLemmas
 pub mod ReadLemmas
 pub mod Steps
+pub mod LateLemmas
 pub mod Bytes
 pub mod DataLemmas
 pub mod PassLemmas

@@ -1,5 +1,5 @@
 -- What one more stripe that was read says of each share.
-use Rattle.std.proofs.Common.{◌≡◌, ◌≢◌, ℕ, ◌+◌, ◌-◌, ◌*◌, ◌<◌, ◌≤◌, true, List, [], ◌∷◌, ◌++◌, length, get_or, drop, Option, None, Some, is_none, Vec, Global, refl, sym, subst, ap, ◌∙◌, inl, inr, arith, append_assoc, length-append, below_more}
+use Rattle.std.proofs.Common.{◌≡◌, ◌≢◌, ℕ, ◌+◌, ◌-◌, ◌*◌, ◌<◌, ◌≤◌, Bool, true, false, List, [], ◌∷◌, ◌++◌, length, get_or, drop, Option, None, Some, is_none, Vec, Global, refl, sym, subst, ap, ◌∙◌, inl, inr, arith, append_assoc, length-append, below_more}
 use Rattle.std.specs.Prelude.{All}
 use Rattle.std.proofs.lemmas.Bool.{true≢false, cases_lt}
 use Rattle.std.proofs.lemmas.List.{drop-append-le, drop_all, get_or-append_right}
@@ -14,7 +14,7 @@ use Rattle.share_format.specs.Header.{Header}
 use Rattle.share_format.specs.Joined.{is_lost, AreTooFew}
 use Rattle.share_files.specs.Found.{block_in}
 use Rattle.share_files.specs.Seen.{Seen, seen_of, failed_since, Show}
-use Rattle.share_files.specs.Missed.{missed_after, HasFailed, IsMissing, IsReadAt, IsFirstMissed, LackBlocks}
+use Rattle.share_files.specs.Missed.{missed_after, HasFailed, IsMissing, CountsAt, IsFirstMissed, LackBlocks, IsParityUnread}
 use Rattle.share_files.specs.Gathered.{Grows, Grow, IsHad, MayFail, AreRead}
 use Rattle.share_files.specs.Handed.{HasBlock}
 use Rattle.share_files.specs.StripeRead.{IsDataRead, IsAllRead, JoinsStripe, IsStripeFault}
@@ -95,7 +95,7 @@ module _ (a : AloofShape) (first i : ℕ) (from : first ≤ i) (failed now : Lis
         (All-push IsBehind failed fails.place so (omega (arith, start_before a first i from, fails.from)))
   ]
 
--- ---- which stripes are read
+-- ---- which blocks count
 
 -- one of these stands before the last, where it is another
 stands_before : (earlier : List ℕ) (x : ℕ) (later failed : List ℕ) (last : ℕ) → failed ++ last ∷ [] ≡ earlier ++ x ∷ later → x ≢ last →
@@ -132,7 +132,7 @@ missing_after a j i file failed now may missing = elim may [
 ]
 
 -- a good block whose reads didn't fail isn't missing
-not_missing : (a : AloofShape) (i : ℕ) (file failed : List ℕ) → IsBlock a (block_in a i file) → All (λ place. place < block_start a i) failed →
+pub not_missing : (a : AloofShape) (i : ℕ) (file failed : List ℕ) → IsBlock a (block_in a i file) → All (λ place. place < block_start a i) failed →
     IsMissing a i file failed → ⊥
 not_missing a i file failed good before missing = elim missing [
   | inl none ↦ none good
@@ -212,6 +212,11 @@ none_missed a i missed None there = absurd there
 none_missed a i (Some first) (Some block) there = refl
 none_missed a i None (Some block) there = refl
 
+some_missed : (missed : Option ℕ) (i : ℕ) (lost : Bool) → lost ≡ true → missed_after missed i lost ≡ None → ⊥
+some_missed (Some first) i lost is none = cc
+some_missed None i true is none = cc
+some_missed None i false is none = absurd (true≢false (sym is))
+
 -- ---- before the first stripe
 pub read_nothing : (h : Header) (sources : List Seen) (missed : List (Option ℕ)) → ((c : ℕ) → get_or missed c None ≡ None) →
     AreReadSoFar h 0 sources sources missed
@@ -225,10 +230,11 @@ read_nothing h sources missed fresh =
       noted = λ files shows. record {
         each = λ c less.
             let P : Option ℕ → Type 0 =
-            λ m. IsFirstMissed h.shape 0 (IsReadAt h.shape files sources sources c) (get_or files c [])
+            λ m. IsFirstMissed h.shape 0 (CountsAt h.shape files sources sources c) (get_or files c [])
             (failed_since (seen_of sources c) (seen_of sources c)) m in
             subst P (sym (fresh c)) (λ i below read. absurd (omega (arith, below)), none c);
       };
+      unread = λ none_missed c parity. refl;
     }
 
 -- ---- one stripe more
@@ -259,19 +265,19 @@ module _ (h : Header) (i : ℕ) (olds mids news : List Seen) (before after : Lis
       shown : Show mids files
       shown c less = (grow c).shown (get_or files c []) (shows c (omega (arith, less, shares, now_shares)))
 
-      forth : (c j : ℕ) → IsReadAt a files olds mids c j → IsReadAt a files olds news c j
+      forth : (c j : ℕ) → CountsAt a files olds mids c j → CountsAt a files olds news c j
       forth c j is = elim is [
         | inl less ↦ inl less
         | inr one ↦ inr (one.0, one.1, missing_after a j i (get_or files one.0 []) (old_fails one.0) (new_fails one.0) (may one.0) one.2)
       ]
 
-      back : (c j : ℕ) → j < i → IsReadAt a files olds news c j → IsReadAt a files olds mids c j
+      back : (c j : ℕ) → j < i → CountsAt a files olds news c j → CountsAt a files olds mids c j
       back c j less is = elim is [
         | inl early ↦ inl early
         | inr one ↦ inr (one.0, one.1, missing_before a j i less (get_or files one.0 []) (old_fails one.0) (new_fails one.0) (may one.0) one.2)
       ]
 
-      was : (c : ℕ) → c < all_chunks a → IsFirstMissed a i (IsReadAt a files olds mids c) (get_or files c []) (old_fails c) (get_or before c None)
+      was : (c : ℕ) → c < all_chunks a → IsFirstMissed a i (CountsAt a files olds mids c) (get_or files c []) (old_fails c) (get_or before c None)
       was c less = (so.noted files shown).each c less
 
       had : (c : ℕ) → c < count → c < all_chunks a → IsHad a i (get_or files c []) (old_fails c) (new_fails c) (get_or blocks c None)
@@ -279,11 +285,11 @@ module _ (h : Header) (i : ℕ) (olds mids news : List Seen) (before after : Lis
           since_had (seen_of olds c) (seen_of mids c) (seen_of news c) (so.grow c) a i (get_or files c []) (get_or blocks c None)
           ((read.read c less).had (get_or files c []) (shows c (omega (arith, within, now_shares))))
 
-      noted_read : (c : ℕ) → c < count → c < all_chunks a → IsReadAt a files olds news c i →
-          IsFirstMissed a (i + 1) (IsReadAt a files olds news c) (get_or files c []) (new_fails c)
+      noted_read : (c : ℕ) → c < count → c < all_chunks a → CountsAt a files olds news c i →
+          IsFirstMissed a (i + 1) (CountsAt a files olds news c) (get_or files c []) (new_fails c)
           (missed_after (get_or before c None) i (is_none (get_or blocks c None)))
       noted_read c less within here =
-          noted_more a i (IsReadAt a files olds mids c) (IsReadAt a files olds news c) (forth c) (back c) (get_or files c []) (old_fails c) (new_fails c)
+          noted_more a i (CountsAt a files olds mids c) (CountsAt a files olds news c) (forth c) (back c) (get_or files c []) (old_fails c) (new_fails c)
           (get_or before c None) (get_or blocks c None) here (may c) (was c within) (had c less within)
 
   all_within : (c : ℕ) → MayFail a i (old_fails c) (new_fails c) → All (λ place. place < block_start a (i + 1)) (new_fails c)
@@ -297,12 +303,12 @@ module _ (h : Header) (i : ℕ) (olds mids news : List Seen) (before after : Lis
     few : k ≤ all_chunks a
     few = let all : all_chunks a ≡ k + a.parity_count = refl in omega (arith, all)
 
-    good : (files : List (List ℕ)) → Show news files → (d : ℕ) → d < k → IsBlock a (block_in a i (get_or files d [])) × (new_fails d ≡ old_fails d)
+    pub good : (files : List (List ℕ)) → Show news files → (d : ℕ) → d < k → IsBlock a (block_in a i (get_or files d [])) × (new_fails d ≡ old_fails d)
     good files shows d less =
         had_there a i (get_or files d []) (old_fails d) (new_fails d) (get_or blocks d None) (is.there d less)
         (had k (omega arith) blocks is.read files shows d less (omega (arith, less, few)))
 
-    unread : (files : List (List ℕ)) → Show news files → (c : ℕ) → k ≤ c → IsReadAt a files olds news c i → ⊥
+    pub unread : (files : List (List ℕ)) → Show news files → (c : ℕ) → k ≤ c → CountsAt a files olds news c i → ⊥
     unread files shows c parity is_read = elim is_read [
       | inl early ↦ omega (arith, early, parity)
       | inr one ↦
@@ -316,16 +322,16 @@ module _ (h : Header) (i : ℕ) (olds mids news : List Seen) (before after : Lis
     kept c = ap (λ (l : List (Option ℕ)). get_or l c None) is.same
 
     each_share : (files : List (List ℕ)) (shows : Show news files) (c : ℕ) → c < all_chunks a →
-        IsFirstMissed a (i + 1) (IsReadAt a files olds news c) (get_or files c []) (new_fails c) (get_or after c None)
+        IsFirstMissed a (i + 1) (CountsAt a files olds news c) (get_or files c []) (new_fails c) (get_or after c None)
     each_share files shows c within =
-        let P : Option ℕ → Type 0 = λ m. IsFirstMissed a (i + 1) (IsReadAt a files olds news c) (get_or files c []) (new_fails c) m in
+        let P : Option ℕ → Type 0 = λ m. IsFirstMissed a (i + 1) (CountsAt a files olds news c) (get_or files c []) (new_fails c) m in
         elim (cases_lt c k) [
           | inl early ↦
               subst P (none_missed a i (get_or before c None) (get_or blocks c None) (is.there c early) ∙ sym (kept c))
               (noted_read k (omega arith) blocks is.read files shows c early within (inl early))
           | inr parity ↦
               subst P (sym (kept c))
-              (noted_unread a i (IsReadAt a files olds mids c) (IsReadAt a files olds news c) (forth k (omega arith) blocks is.read files shows c)
+              (noted_unread a i (CountsAt a files olds mids c) (CountsAt a files olds news c) (forth k (omega arith) blocks is.read files shows c)
               (back k (omega arith) blocks is.read files shows c) (get_or files c []) (old_fails c) (new_fails c) (get_or before c None)
               (unread files shows c parity)
               (since_same (seen_of olds c) (seen_of mids c) (seen_of news c) (so.grow c) (ap (λ (s : Seen). s.failed) (is.read.others c parity)))
@@ -337,6 +343,7 @@ module _ (h : Header) (i : ℕ) (olds mids news : List Seen) (before after : Lis
       grow = grow_then olds mids news so.grow (grow k (omega arith) blocks is.read);
       within = λ c. all_within c (may k (omega arith) blocks is.read c);
       noted = λ files shows. record { each = each_share files shows };
+      unread = λ none c parity. is.read.others c parity ∙ so.unread (λ d less. sym (kept d) ∙ none d less) c parity;
     }
 
   -- each share was read
@@ -347,9 +354,14 @@ module _ (h : Header) (i : ℕ) (olds mids news : List Seen) (before after : Lis
     most : a.data_count ≤ n
     most = let all : all_chunks a ≡ a.data_count + a.parity_count = refl in omega (arith, all)
 
-    gone : (files : List (List ℕ)) → Show news files → (c : ℕ) → c < n → is_lost blocks c ≡ true → IsMissing a i (get_or files c []) (new_fails c)
+    pub gone : (files : List (List ℕ)) → Show news files → (c : ℕ) → c < n → is_lost blocks c ≡ true → IsMissing a i (get_or files c []) (new_fails c)
     gone files shows c within lost =
         had_none a i (get_or files c []) (old_fails c) (new_fails c) (get_or blocks c None) lost (had n most blocks is.read files shows c within within)
+
+    -- so all blocks count
+    pub all_count : (files : List (List ℕ)) → Show news files → (c : ℕ) → CountsAt a files olds news c i
+    all_count files shows c =
+        let d : ℕ = is.lack.0 in inr (d, is.lack.1, gone files shows d (omega (arith, is.lack.1, most)) is.lack.2)
 
     read_each : AreReadSoFar h (i + 1) olds news after
     read_each = record {
@@ -357,12 +369,12 @@ module _ (h : Header) (i : ℕ) (olds mids news : List Seen) (before after : Lis
       within = λ c. all_within c (may n most blocks is.read c);
       noted = λ files shows. record {
         each = λ c within.
-            let d : ℕ = is.lack.0 in
-            let P : Option ℕ → Type 0 = λ m. IsFirstMissed a (i + 1) (IsReadAt a files olds news c) (get_or files c []) (new_fails c) m in
-            subst P (sym (is.missed c within))
-            (noted_read n most blocks is.read files shows c within within
-            (inr (d, is.lack.1, gone files shows d (omega (arith, is.lack.1, most)) is.lack.2)));
+            let P : Option ℕ → Type 0 = λ m. IsFirstMissed a (i + 1) (CountsAt a files olds news c) (get_or files c []) (new_fails c) m in
+            subst P (sym (is.missed c within)) (noted_read n most blocks is.read files shows c within within (all_count files shows c));
       };
+      unread = λ none c parity.
+          let d : ℕ = is.lack.0 in
+          absurd (some_missed (get_or before d None) i (is_lost blocks d) is.lack.2 (sym (is.missed d (omega (arith, is.lack.1, most))) ∙ none d is.lack.1));
     }
 
     lack : AreTooFew a blocks → (files : List (List ℕ)) → Show news files → LackBlocks a i files olds news
@@ -406,6 +418,13 @@ why_stopped h olds news missed (TooFew stripe) stop files shows = (stop.0, stop.
 why_stopped h olds news missed Mismatch stop files shows = absurd stop
 why_stopped h olds news missed WriteFault stop files shows = tt
 why_stopped h olds news missed OutOfMemory stop files shows = tt
+
+pub stopped_unread : (h : Header) (olds news : List Seen) (missed : List (Option ℕ)) → (fault : JoinFault) → IsStop h olds news missed fault →
+    (fault ≡ WriteFault → ⊥) → (fault ≡ OutOfMemory → ⊥) → IsParityUnread h.shape olds news missed
+stopped_unread h olds news missed (TooFew stripe) stop write memory = stop.1.unread
+stopped_unread h olds news missed Mismatch stop write memory = absurd stop
+stopped_unread h olds news missed WriteFault stop write memory = absurd (write refl)
+stopped_unread h olds news missed OutOfMemory stop write memory = absurd (memory refl)
 
 pub stopped_in : (h : Header) (olds news : List Seen) (missed : List (Option ℕ)) → (fault : JoinFault) → IsStop h olds news missed fault → IsOfFile h fault
 stopped_in h olds news missed (TooFew stripe) stop = stop.0

@@ -1,6 +1,7 @@
 -- What a sink takes, a stripe at a time.
 use Rattle.std.proofs.Common.{◌≡◌, ◌≢◌, ℕ, ◌+◌, ◌-◌, ◌*◌, ◌<◌, ◌≤◌, List, [], ◌++◌, length, get_or, take, drop, Option, None, Some, Result, Ok, Err, Vec, Global, refl, sym, subst, ◌∙◌, ap, arith, inl, inr, length-append, length-drop, below_more}
-use Rattle.std.specs.Prelude.{min, IsErrOf, IsErrAnd, IfErr}
+use Rattle.std.specs.Prelude.{All, min, IsErrOf, IsErrAnd, IfErr}
+use Rattle.std.proofs.lemmas.List.Elements.{All-same}
 use Rattle.std.proofs.lemmas.List.{length-take-le, take_all, take-take, take-append-le, drop-append-le, drop_at}
 use Rattle.std.proofs.lemmas.Nat.{mul-le}
 use Rattle.std.proofs.Math.Seq.{take-append-add}
@@ -10,9 +11,11 @@ use Rattle.clay_bytes.proofs.StreamLemmas.{and-more, gains-then, accepts-nothing
 use Rattle.clay_aloof.specs.Shape.{AloofShape, all_chunks, stripe_bytes}
 use Rattle.share_format.specs.Cut.{stripe_count}
 use Rattle.share_format.specs.Header.{Header, IsHeader}
+use Rattle.share_format.specs.Shares.{block_start}
 use Rattle.share_format.proofs.HeaderBack.{stripe_some}
 use Rattle.share_files.specs.Seen.{Seen, seen_of, failed_since, Show}
-use Rattle.share_files.specs.Gathered.{Grow, IsHad, AreRead}
+use Rattle.share_files.specs.Missed.{CountsAt}
+use Rattle.share_files.specs.Gathered.{Grow, FailLate, IsHad, AreRead}
 use Rattle.share_files.specs.StripeRead.{JoinsData, JoinsAll, JoinsStripe, IsStripeFault}
 use Rattle.share_files.specs.Joined.{NoRotPasses}
 use Rattle.share_files.specs.Stripes.{IsRead, IsStripeOf, HasStripe, AreJoined}
@@ -21,33 +24,22 @@ use Rattle.share_files.specs.SoFar.{TakesSoFar, AreReadSoFar}
 use Rattle.share_files.specs.declared.joining.JoinFault.{JoinFault}
 use Rattle.share_files.specs.declared.joining.JoinFault.TheVariants.{TooFew, Mismatch, WriteFault, OutOfMemory}
 use Rattle.share_files.proofs.ReadLemmas.{grow_read}
-use Rattle.share_files.proofs.Steps.{missing_later, had_none, since_more, since_had}
-use Rattle.share_files.proofs.Unread.{in_files, in_files_count, in_files_read, in_files_few, in_files_joined}
+use Rattle.share_files.proofs.Steps.{had_none, not_missing, since_had, unread, all_count}
+use Rattle.share_files.proofs.LateLemmas.{late_read, read_stays}
+use Rattle.share_files.proofs.Unread.{counting, counting_count, counting_read, counting_few, counting_joined}
 use Rattle.share_files.proofs.Bytes.{begins_within, joined_same}
 
 -- ---- what was read stays read
 
-read_later : (a : AloofShape) (i : ℕ) (file failed more now : List ℕ) (block : Option (Vec ℕ Global)) → now ≡ failed ++ more → IsRead a i file failed block →
-    IsRead a i file now block
-read_later a i file failed more now None is missing = missing_later a i file failed more now is missing
-read_later a i file failed more now (Some block) is read = read
-
-read_had : (a : AloofShape) (i : ℕ) (file failed now : List ℕ) (block : Option (Vec ℕ Global)) → IsHad a i file failed now block → IsRead a i file now block
-read_had a i file failed now None had = had_none a i file failed now None refl had
-read_had a i file failed now (Some block) had = (had.0, had.1)
-
-module _ (h : Header) (i : ℕ) (olds mids news : List Seen) (missed : List (Option ℕ)) (so : AreReadSoFar h i olds mids missed) (grow : Grow mids news) where
-  stripe_later : (files : List (List ℕ)) (k : ℕ) (bytes : List ℕ) → HasStripe h k files olds mids bytes → HasStripe h k files olds news bytes
-  stripe_later files k bytes has = record {
+module _ (h : Header) (i : ℕ) (olds mids news : List Seen) (missed : List (Option ℕ)) (so : AreReadSoFar h i olds mids missed) (grow : Grow mids news)
+    (late : FailLate h.shape i mids news) where
+  stripe_later : (files : List (List ℕ)) (k : ℕ) (bytes : List ℕ) → k < i → HasStripe h k files olds mids bytes → HasStripe h k files olds news bytes
+  stripe_later files k bytes before has = record {
     stripe = has.stripe;
     of = record {
       blocks = has.of.blocks;
       count = has.of.count;
-      read = λ c less.
-          read_later h.shape k (get_or files c []) (failed_since (seen_of olds c) (seen_of mids c)) (grow c).more (failed_since (seen_of olds c) (seen_of news c))
-          (get_or has.of.blocks c None)
-          (since_more (seen_of olds c) (seen_of mids c) (seen_of news c) (so.grow c) (grow c).more (grow c).failed)
-          (has.of.read c less);
+      read = λ c less. read_stays h.shape i olds mids news so.grow grow late files k before c (get_or has.of.blocks c None) (has.of.read c less);
       few = has.of.few;
       joined = has.of.joined;
     };
@@ -60,8 +52,18 @@ module _ (h : Header) (i : ℕ) (olds mids news : List Seen) (missed : List (Opt
   joined_later : length mids ≡ length news → (bytes : List ℕ) → AreJoined h i olds mids bytes → AreJoined h i olds news bytes
   joined_later same bytes joined = record {
     size = joined.size;
-    stripes = λ files shows k less. stripe_later files k bytes (joined.stripes files (shown_later same files shows) k less);
+    stripes = λ files shows k less. stripe_later files k bytes less (joined.stripes files (shown_later same files shows) k less);
   }
+
+read_had : (a : AloofShape) (i : ℕ) (Counts : Type 0) (file failed now : List ℕ) (block : Option (Vec ℕ Global)) → Counts →
+    All (λ place. place < block_start a i) failed → IsHad a i file failed now block → IsRead a i Counts file now block
+read_had a i Counts file failed now None counts before had = inl (had_none a i file failed now None refl had)
+read_had a i Counts file failed now (Some block) counts before had = (
+  counts,
+  had.0,
+  had.1,
+  λ has. not_missing a i file now had.1 (All-same (λ place. place < block_start a i) now failed had.2 before) (inr has),
+)
 
 -- ---- one stripe's bytes more
 
@@ -81,11 +83,13 @@ module _ (h : Header) (i left count : ℕ) (olds mids news : List Seen) (before 
   counted_piece : length piece ≡ count
   counted_piece = length-take-le count slice (omega (arith, ap (λ (l : List ℕ). length l) slice_is, long, most))
 
-  -- a block that was read of a share is as it stands in its file
+  -- a block that counts and was read of a share is as it stands in its file
   was_read : (many : ℕ) (blocks : List (Option (Vec ℕ Global))) → AreRead h.shape i many mids news blocks → (files : List (List ℕ)) → Show news files → (c : ℕ) →
-      c < many → c < all_chunks h.shape → IsRead h.shape i (get_or files c []) (failed_since (seen_of olds c) (seen_of news c)) (get_or blocks c None)
-  was_read many blocks read files shows c less within =
-      read_had h.shape i (get_or files c []) (failed_since (seen_of olds c) (seen_of mids c)) (failed_since (seen_of olds c) (seen_of news c)) (get_or blocks c None)
+      c < many → c < all_chunks h.shape → CountsAt h.shape files olds news c i →
+      IsRead h.shape i (CountsAt h.shape files olds news c i) (get_or files c []) (failed_since (seen_of olds c) (seen_of news c)) (get_or blocks c None)
+  was_read many blocks read files shows c less within counts =
+      read_had h.shape i (CountsAt h.shape files olds news c i) (get_or files c []) (failed_since (seen_of olds c) (seen_of mids c))
+      (failed_since (seen_of olds c) (seen_of news c)) (get_or blocks c None) counts (so.within c)
       (since_had (seen_of olds c) (seen_of mids c) (seen_of news c) (so.grow c) h.shape i (get_or files c []) (get_or blocks c None)
       ((read.read c less).had (get_or files c []) (shows c (omega (arith, within, all_news)))))
 
@@ -95,25 +99,36 @@ module _ (h : Header) (i left count : ℕ) (olds mids news : List Seen) (before 
     | inr all ↦ grow_read h.shape i (all_chunks h.shape) mids news all.blocks all.is.read
   ]
 
+  fail_late : FailLate h.shape i mids news
+  fail_late = elim joins [
+    | inl joined_data ↦ late_read h.shape i h.shape.data_count mids news joined_data.blocks joined_data.is.read
+    | inr all ↦ late_read h.shape i (all_chunks h.shape) mids news all.blocks all.is.read
+  ]
+
   of_data : (files : List (List ℕ)) → Show news files → JoinsData h.shape i mids news before after bytes → IsStripeOf h.shape i files olds news bytes
   of_data files shows joined_data =
+      let counts : ℕ → Type 0 = λ c. CountsAt h.shape files olds news c i in
       let file_of : ℕ → List ℕ = λ c. get_or files c [] in
       let failed_of : ℕ → List ℕ = λ c. failed_since (seen_of olds c) (seen_of news c) in
       let sum : all_chunks h.shape ≡ h.shape.data_count + h.shape.parity_count = refl in
-      let read : (c : ℕ) → c < h.shape.data_count → IsRead h.shape i (file_of c) (failed_of c) (get_or joined_data.blocks c None) =
-      λ c less. was_read h.shape.data_count joined_data.blocks joined_data.is.read files shows c less (omega (arith, less, sum)) in record {
-        blocks = in_files h.shape i file_of failed_of joined_data.blocks header.code joined_data.count joined_data.is.there read;
-        count = in_files_count h.shape i file_of failed_of joined_data.blocks header.code joined_data.count joined_data.is.there read;
-        read = in_files_read h.shape i file_of failed_of joined_data.blocks header.code joined_data.count joined_data.is.there read;
-        few = in_files_few h.shape i file_of failed_of joined_data.blocks header.code joined_data.count joined_data.is.there read;
-        joined = in_files_joined h.shape i file_of failed_of joined_data.blocks header.code joined_data.count joined_data.is.there read bytes joined_data.chunks;
+      let read : (c : ℕ) → c < h.shape.data_count → IsRead h.shape i (counts c) (file_of c) (failed_of c) (get_or joined_data.blocks c None) =
+      λ c less. was_read h.shape.data_count joined_data.blocks joined_data.is.read files shows c less (omega (arith, less, sum)) (inl less) in
+      let none : (c : ℕ) → h.shape.data_count ≤ c → counts c → ⊥ =
+      unread h i olds mids news before after so all_mids all_news joined_data.blocks joined_data.is files shows in record {
+        blocks = counting h.shape i counts file_of failed_of joined_data.blocks joined_data.count joined_data.is.there read none;
+        count = counting_count h.shape i counts file_of failed_of joined_data.blocks joined_data.count joined_data.is.there read none;
+        read = counting_read h.shape i counts file_of failed_of joined_data.blocks joined_data.count joined_data.is.there read none;
+        few = counting_few h.shape i counts file_of failed_of joined_data.blocks joined_data.count joined_data.is.there read none;
+        joined = counting_joined h.shape i counts file_of failed_of joined_data.blocks joined_data.count joined_data.is.there read none bytes joined_data.chunks;
       }
 
   of_all : (files : List (List ℕ)) → Show news files → JoinsAll h.shape i mids news before after bytes → IsStripeOf h.shape i files olds news bytes
   of_all files shows all = record {
     blocks = all.blocks;
     count = all.count;
-    read = λ c less. was_read (all_chunks h.shape) all.blocks all.is.read files shows c less less;
+    read = λ c less.
+        was_read (all_chunks h.shape) all.blocks all.is.read files shows c less less
+        (all_count h i olds mids news before after so all_mids all_news all.blocks all.is files shows c);
     few = all.few;
     joined = all.joined;
   }
@@ -153,7 +168,7 @@ module _ (h : Header) (i left count : ℕ) (olds mids news : List Seen) (before 
     joined_more joined =
         let next : (i + 1) * s ≡ i * s + s = omega arith in
         let same : length mids ≡ length news = all_mids ∙ sym all_news in
-        let so_far : AreJoined h i olds news done = joined_later h i olds mids news before so grown same done joined in record {
+        let so_far : AreJoined h i olds news done = joined_later h i olds mids news before so grown fail_late same done joined in record {
           size = omega (arith, length-append done piece, counted_piece, place, next, most, left_is, begins);
           stripes = λ files shows.
               below_more (λ k. HasStripe h k files olds news (done ++ piece)) i
@@ -235,13 +250,13 @@ takes_none h sources accepted written (Err fault) is =
 -- ---- a stripe that can't be joined
 
 module _ (h : Header) (i left : ℕ) (olds mids news : List Seen) (missed : List (Option ℕ)) (so : AreReadSoFar h i olds mids missed) (grow : Grow mids news)
-    (same : length mids ≡ length news) (within : i < stripe_count h.shape h.size) (accepted : List ℕ) (written : Option (List ℕ)) (now : List ℕ)
+    (geometry : AloofShape) (code : geometry ≡ h.shape) (late : FailLate geometry i mids news) (same : length mids ≡ length news) (within : i < stripe_count h.shape h.size) (accepted : List ℕ) (written : Option (List ℕ)) (now : List ℕ)
     (rest : Option (List ℕ)) (checksum : ℕ) (taken : TakesSoFar h i left olds mids accepted written now rest checksum) where
   stripes_taken : TakesStripes h i olds news accepted written now rest
   stripes_taken = record {
     within = omega (arith, within);
     bytes = taken.done;
-    joined = joined_later h i olds mids news missed so grow same taken.done taken.joined;
+    joined = joined_later h i olds mids news missed so grow (let P : AloofShape → Type 0 = λ a. FailLate a i mids news in subst P code late) same taken.done taken.joined;
     takes = taken.takes;
   }
 

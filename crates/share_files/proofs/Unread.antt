@@ -1,4 +1,4 @@
--- A stripe of the data shares' chunks is that of all blocks in the files, also of those that were not read.
+-- A stripe of the data shares' chunks is that of the blocks that count where no parity share's does.
 use Rattle.std.proofs.Common.{◌≡◌, ℕ, zero, suc, ◌+◌, ◌-◌, ◌<◌, ◌≤◌, ◌⊎◌, Bool, true, false, cond, List, [], ◌∷◌, ◌++◌, length, get_or, take, Option, None, Some, IfSome, is_none, Vec, Global, refl, sym, subst, ap, ◌∙◌, inl, inr, arith, below_more, bytes_eq, drop}
 use Rattle.std.proofs.lemmas.Bool.{cases_lt, cases_eq, cases_Bool, true≢false}
 use Rattle.std.proofs.lemmas.List.{length-take-le, get_or_append_left, get_or-take, get_or_default, length_push, get_or_push, same_lists}
@@ -15,19 +15,6 @@ use Rattle.share_format.proofs.Joining.{data_joined}
 use Rattle.share_files.specs.Found.{block_in}
 use Rattle.share_files.specs.Stripes.{IsRead}
 use Rattle.share_files.specs.Handed.{HasBlock, HaveBlocks, data_in}
-
--- ---- bytes are a block or none
-
-is_block_or_none : (a : AloofShape) (bytes : List ℕ) → IsBlock a bytes ⊎ (IsBlock a bytes → ⊥)
-is_block_or_none a bytes =
-    let front : List ℕ = block_of a (drop (chunk_start a) bytes) in
-    elim (cases_eq (length bytes) (block_length a)) [
-      | inr other ↦ inr (λ is. other is.size)
-      | inl size ↦ elim (cases_Bool (bytes_eq bytes front)) [
-        | inl same ↦ inl (record { size = size; value = (bytes_eq-Decides bytes front).0 same })
-        | inr differs ↦ inr (λ is. true≢false (sym ((bytes_eq-Decides bytes front).1 is.value) ∙ differs))
-      ]
-    ]
 
 -- ---- one block a share, each of which fits
 
@@ -76,83 +63,70 @@ is_there : (a : AloofShape) (block : Option (Vec ℕ Global)) → HasBlock a blo
 is_there a None there = absurd there
 is_there a (Some v) there = refl
 
--- ---- the blocks in the files: those of the data shares as they were read
+-- ---- the blocks that count: those of the data shares as they were read, and no other
 
-module _ (a : AloofShape) (i : ℕ) (file_of failed_of : ℕ → List ℕ) (blocks : List (Option (Vec ℕ Global))) (aloof : IsAloof a) (count : length blocks ≡ all_chunks a)
-    (there : HaveBlocks a blocks) (read : (c : ℕ) → c < a.data_count → IsRead a i (file_of c) (failed_of c) (get_or blocks c None)) where
+module _ (a : AloofShape) (i : ℕ) (Counts : ℕ → Type 0) (file_of failed_of : ℕ → List ℕ) (blocks : List (Option (Vec ℕ Global))) (count : length blocks ≡ all_chunks a)
+    (there : HaveBlocks a blocks) (read : (c : ℕ) → c < a.data_count → IsRead a i (Counts c) (file_of c) (failed_of c) (get_or blocks c None))
+    (unread : (c : ℕ) → a.data_count ≤ c → Counts c → ⊥) where
   abbrev k : ℕ
   k = a.data_count
 
   abbrev pub Fits : ℕ → Option (Vec ℕ Global) → Type 0
-  Fits c block = IsRead a i (file_of c) (failed_of c) block × IfSome block (λ v. length v.items ≡ block_length a) × (c < k → block ≡ get_or blocks c None)
+  Fits c block = IsRead a i (Counts c) (file_of c) (failed_of c) block × IfSome block (λ v. length v.items ≡ block_length a) × (c < k → block ≡ get_or blocks c None)
 
   long_there : (block : Option (Vec ℕ Global)) → HasBlock a block → IfSome block (λ v. length v.items ≡ block_length a)
   long_there None is = absurd is
   long_there (Some v) is = is.size
 
-  -- a block stands in the room of another one
-  in_room : (c : ℕ) → k ≤ c → IsBlock a (block_in a i (file_of c)) → (room : Option (Vec ℕ Global)) → HasBlock a room → (block : Option (Vec ℕ Global)) × Fits c block
-  in_room c more is None has = absurd has
-  in_room c more is (Some v) has =
-      let bytes : List ℕ = block_in a i (file_of c) in
-      let room : length bytes ≤ v.cap = omega (arith, is.size, has.size, v.ok.0, v.ok.1) in
-      let block : Vec ℕ Global = record { ptr = v.ptr; len = length bytes; cap = v.cap; alloc = v.alloc; items = bytes; ok = (refl, room); small = v.small } in
-      (Some block, ((refl, is), is.size, λ less. absurd (omega (arith, less, more))))
-
   fitting : (c : ℕ) → c < all_chunks a → (block : Option (Vec ℕ Global)) × Fits c block
   fitting c within = elim (cases_lt c k) [
     | inl early ↦ (get_or blocks c None, (read c early, long_there (get_or blocks c None) (there c early), λ less. refl))
-    | inr more ↦ elim (is_block_or_none a (block_in a i (file_of c))) [
-      | inl is ↦
-          let two : 2 ≤ k = aloof.limits.data_chunks in
-          in_room c more is (get_or blocks 0 None) (there 0 (omega (arith, two)))
-      | inr none ↦ (None, (inl none, tt, λ less. absurd (omega (arith, less, more))))
-    ]
+    | inr more ↦ (None, (inr (unread c more), tt, λ less. absurd (omega (arith, less, more))))
   ]
 
   pub chosen : Chosen Fits (all_chunks a)
   chosen = choose Fits (all_chunks a) fitting
 
-  abbrev pub in_files : List (Option (Vec ℕ Global))
-  in_files = chosen.blocks
+  abbrev pub counting : List (Option (Vec ℕ Global))
+  counting = chosen.blocks
 
-  pub in_files_count : length in_files ≡ all_chunks a
-  in_files_count = chosen.count
+  pub counting_count : length counting ≡ all_chunks a
+  counting_count = chosen.count
 
-  pub in_files_read : (c : ℕ) → c < all_chunks a → IsRead a i (file_of c) (failed_of c) (get_or in_files c None)
-  in_files_read c within = (chosen.each c within).0
+  pub counting_read : (c : ℕ) → c < all_chunks a → IsRead a i (Counts c) (file_of c) (failed_of c) (get_or counting c None)
+  counting_read c within = (chosen.each c within).0
 
   few_data : k ≤ all_chunks a
   few_data = let sum : all_chunks a ≡ k + a.parity_count = refl in omega (arith, sum)
 
-  as_read : (c : ℕ) → c < k → get_or in_files c None ≡ get_or blocks c None
+  as_read : (c : ℕ) → c < k → get_or counting c None ≡ get_or blocks c None
   as_read c early = (chosen.each c (omega (arith, early, few_data))).2 early
 
-  found : (c : ℕ) → c < k → is_lost in_files c ≡ false
+  found : (c : ℕ) → c < k → is_lost counting c ≡ false
   found c early = ap is_none (as_read c early) ∙ is_there a (get_or blocks c None) (there c early)
 
-  pub in_files_few : AreTooFew a in_files → ⊥
-  in_files_few few =
-      let most : count_below (all_chunks a) (is_lost in_files) ≤ all_chunks a - k = few_lost (all_chunks a) k (is_lost in_files) found in
+  pub counting_few : AreTooFew a counting → ⊥
+  counting_few few =
+      let most : count_below (all_chunks a) (is_lost counting) ≤ all_chunks a - k = few_lost (all_chunks a) k (is_lost counting) found in
       let sum : all_chunks a ≡ k + a.parity_count = refl in
       omega (arith, few, most, sum)
 
-  in_files_long : AreLong (block_length a) in_files
-  in_files_long =
-      All-from_get_or (λ o. IfSome o (λ v. length v.items ≡ block_length a)) in_files None (λ c less. (chosen.each c (omega (arith, less, chosen.count))).1)
+  counting_long : AreLong (block_length a) counting
+  counting_long =
+      All-from_get_or (λ o. IfSome o (λ v. length v.items ≡ block_length a)) counting None (λ c less. (chosen.each c (omega (arith, less, chosen.count))).1)
 
-  same_data : take k blocks ≡ take k in_files
+  same_data : take k blocks ≡ take k counting
   same_data =
       let one : length (take k blocks) ≡ k = length-take-le k blocks (omega (arith, count, few_data)) in
-      let two : length (take k in_files) ≡ k = length-take-le k in_files (omega (arith, in_files_count, few_data)) in
-      same_lists (take k blocks) (take k in_files) (one ∙ sym two) (λ c d less.
+      let two : length (take k counting) ≡ k = length-take-le k counting (omega (arith, counting_count, few_data)) in
+      same_lists (take k blocks) (take k counting) (one ∙ sym two) (λ c d less.
       let early : c < k = omega (arith, less, one) in
       get_or-take k blocks c d early
       ∙ get_or_default blocks c d None (omega (arith, early, count, few_data))
       ∙ sym (as_read c early)
-      ∙ get_or_default in_files c None d (omega (arith, early, in_files_count, few_data))
-      ∙ sym (get_or-take k in_files c d early))
+      ∙ get_or_default counting c None d (omega (arith, early, counting_count, few_data))
+      ∙ sym (get_or-take k counting c d early))
 
-  pub in_files_joined : (bytes : List ℕ) → bytes ≡ data_in a blocks → IsJoined a in_files bytes
-  in_files_joined bytes is =
-      data_joined a in_files in_files_long in_files_count bytes (is ∙ ap (flat_map (chunk_or_zeros a)) same_data) found
+  pub counting_joined : (bytes : List ℕ) → bytes ≡ data_in a blocks → IsJoined a counting bytes
+  counting_joined bytes is =
+      data_joined a counting counting_long counting_count bytes (is ∙ ap (flat_map (chunk_or_zeros a)) same_data) found

@@ -33,8 +33,8 @@ IsOfFile h Mismatch = Unit {0}
 IsOfFile h WriteFault = Unit {0}
 IsOfFile h OutOfMemory = Unit {0}
 
--- why a file could not be joined from shares in these files: too few have a block of a stripe, or all stripes were joined to another file.
--- What each share missed up to there is noted
+-- why a file could not be joined from shares in these files: too few have a block of a stripe. What each share missed up to there is noted, and so
+-- it is where all stripes were joined to another file
 abbrev pub IsWhyNot : Header → List (List ℕ) → List Seen → List Seen → List (Option ℕ) → JoinFault → Type 0
 IsWhyNot h files olds news missed (TooFew stripe) =
     (stripe < stripe_count h.shape h.size) × LackBlocks h.shape stripe files olds news

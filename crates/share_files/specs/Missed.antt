@@ -26,26 +26,31 @@ pub record HasFailed (a : AloofShape) (i : ℕ) (failed : List ℕ) : Type 0 whe
 abbrev pub IsMissing : AloofShape → ℕ → List ℕ → List ℕ → Type 0
 IsMissing a i file failed = (¬ IsBlock a (block_in a i file)) ⊎ HasFailed a i failed
 
--- share c's block of stripe i is read in a join: a data share's always, and a parity share's where a data share's is missing
-abbrev pub IsReadAt : AloofShape → List (List ℕ) → List Seen → List Seen → ℕ → ℕ → Type 0
-IsReadAt a files olds news c i =
+-- share c's block of stripe i counts in a join: a data share's always, and a parity share's where a data share's is missing
+abbrev pub CountsAt : AloofShape → List (List ℕ) → List Seen → List Seen → ℕ → ℕ → Type 0
+CountsAt a files olds news c i =
     (c < a.data_count) ⊎ ((d : ℕ) × (d < a.data_count) × IsMissing a i (get_or files d []) (failed_since (seen_of olds d) (seen_of news d)))
 
--- of the first so many blocks a file has each that is read, and no read of it failed; or this is the first that is read and is missing, and no
+-- of the first so many blocks a file has each that counts, and no read of it failed; or this is the first that counts and is missing, and no
 -- read failed before its place
 abbrev pub IsFirstMissed : AloofShape → ℕ → (ℕ → Type 0) → List ℕ → List ℕ → Option ℕ → Type 0
-IsFirstMissed a count IsRead file failed None = ((i : ℕ) → i < count → IsRead i → IsBlock a (block_in a i file)) × (failed ≡ [])
-IsFirstMissed a count IsRead file failed (Some first) =
-    (first < count) × IsRead first × ((i : ℕ) → i < first → IsRead i → IsBlock a (block_in a i file)) × IsMissing a first file failed
+IsFirstMissed a count Counts file failed None = ((i : ℕ) → i < count → Counts i → IsBlock a (block_in a i file)) × (failed ≡ [])
+IsFirstMissed a count Counts file failed (Some first) =
+    (first < count) × Counts first × ((i : ℕ) → i < first → Counts i → IsBlock a (block_in a i file)) × IsMissing a first file failed
     × All (λ place. block_start a first ≤ place) failed
 
 -- so it is of each share in a join
 pub record AreFirstMissed (a : AloofShape) (count : ℕ) (files : List (List ℕ)) (olds news : List Seen) (missed : List (Option ℕ)) : Type 0 where
   pub each : (c : ℕ) → c < all_chunks a →
-      IsFirstMissed a count (IsReadAt a files olds news c) (get_or files c []) (failed_since (seen_of olds c) (seen_of news c)) (get_or missed c None)
+      IsFirstMissed a count (CountsAt a files olds news c) (get_or files c []) (failed_since (seen_of olds c) (seen_of news c)) (get_or missed c None)
 
 -- of more shares than there are parity chunks stripe i's block is missing
 pub record LackBlocks (a : AloofShape) (i : ℕ) (files : List (List ℕ)) (olds news : List Seen) : Type 0 where
   pub lost : ℕ → Bool
   pub many : a.parity_count < count_below (all_chunks a) lost
   pub each : (c : ℕ) → c < all_chunks a → lost c ≡ true → IsMissing a i (get_or files c []) (failed_since (seen_of olds c) (seen_of news c))
+
+-- where none of the data shares missed a block, nothing was asked of a parity share's source
+abbrev pub IsParityUnread : AloofShape → List Seen → List Seen → List (Option ℕ) → Type 0
+IsParityUnread a olds news missed =
+    ((d : ℕ) → d < a.data_count → get_or missed d None ≡ None) → (c : ℕ) → a.data_count ≤ c → seen_of news c ≡ seen_of olds c

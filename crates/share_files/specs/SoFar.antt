@@ -7,7 +7,7 @@ use Rattle.share_format.specs.Header.{Header}
 use Rattle.share_format.specs.Shares.{block_start}
 use Rattle.share_files.specs.Seen.{Seen, seen_of, failed_since, Show}
 use Rattle.share_files.specs.Gathered.{Grow}
-use Rattle.share_files.specs.Missed.{AreFirstMissed, LackBlocks}
+use Rattle.share_files.specs.Missed.{AreFirstMissed, LackBlocks, IsParityUnread}
 use Rattle.share_files.specs.Stripes.{AreJoined}
 use Rattle.share_files.specs.declared.joining.JoinFault.{JoinFault}
 use Rattle.share_files.specs.declared.joining.JoinFault.TheVariants.{TooFew, Mismatch, WriteFault, OutOfMemory}
@@ -21,11 +21,13 @@ pub record TakesSoFar (h : Header) (count left : ℕ) (olds news : List Seen) (a
   pub summed : checksum ≡ checksum_of done
   pub joined : AreJoined h count olds news done
 
--- after so many stripes it is noted what each share missed, and reads failed in the blocks of these stripes alone
+-- after so many stripes it is noted what each share missed, no read failed behind the blocks of these stripes, and where no data share missed
+-- one, no parity share was asked
 pub record AreReadSoFar (h : Header) (count : ℕ) (olds news : List Seen) (missed : List (Option ℕ)) : Type 0 where
   pub grow : Grow olds news
   pub within : (c : ℕ) → All (λ place. place < block_start h.shape count) (failed_since (seen_of olds c) (seen_of news c))
   pub noted : (files : List (List ℕ)) → Show news files → AreFirstMissed h.shape count files olds news missed
+  pub unread : IsParityUnread h.shape olds news missed
 
 -- why stripes could not be joined
 abbrev pub IsStop : Header → List Seen → List Seen → List (Option ℕ) → JoinFault → Type 0

@@ -59,7 +59,7 @@ pub record LacksStripe (a : AloofShape) (i : ℕ) (olds news : List Seen) (befor
   pub is : IsAllRead a i olds news before after blocks
   pub few : AreTooFew a blocks
 
--- or memory is short
+-- why a stripe can't be joined: too few blocks are there, or memory is short
 abbrev pub IsStripeFault : AloofShape → ℕ → List Seen → List Seen → List (Option ℕ) → List (Option ℕ) → JoinFault → Type 0
 IsStripeFault a i olds news before after (TooFew stripe) = (stripe ≡ i) × LacksStripe a i olds news before after
 IsStripeFault a i olds news before after Mismatch = ⊥

@@ -6,7 +6,7 @@ ghost use Rattle.clay_aloof.specs.Shape.{all_chunks};
 ghost use Rattle.share_format.specs.Cut.{stripe_count};
 ghost use Rattle.share_format.specs.Blocks.{block_length};
 ghost use Rattle.share_files.specs.Seen.{seen, Show};
-ghost use Rattle.share_files.specs.Missed.{AreFirstMissed};
+ghost use Rattle.share_files.specs.Missed.{AreFirstMissed, IsParityUnread};
 ghost use Rattle.share_files.specs.Joined.{NoRotPasses, IsOfFile, IsWhyNot};
 ghost use Rattle.share_files.specs.Taken.{TakesFile, TakesAnother, TakesUntil};
 ghost use Rattle.share_files.specs.SoFar.{TakesSoFar, AreReadSoFar, IsStop};
@@ -26,7 +26,7 @@ use thiserror::Error;
 /// Why a file can't be joined from its shares.
 #[derive(Clone, Copy, Debug, PartialEq, Eq, Error)]
 pub enum JoinFault {
-    /// More than `M` shares have no good block of the stripe of this number, from 0.
+    /// More than `M` shares have no good block of the stripe of this number, from 0, or none that can be read.
     #[error("too few shares have a block of stripe {0}")]
     TooFew(u64),
     #[error("the joined file has not the checksum in the shares' headers")]
@@ -132,13 +132,11 @@ fn join_all<S: SourceAt, K: Sink>(
     )
 }
 
-/// Joins a file from its shares, one source for each number, and hands its bytes to a sink. A missing share is an empty file. The header
-/// is that of any share.
+/// Joins a file from its shares, a source for each number, and hands its bytes to a sink. A missing share is an empty file, the header any share's.
 ///
 /// A data share's block is read of each stripe, a parity share's where a data share's is missing. One that can't be read counts as missing.
 /// At Ok, TooFew and Mismatch `missed` has for each share the first stripe of which its block was read and was missing, and None where all that
-/// were read are good. After an error the sink has a part of the file at most: what
-/// shall not be seen half done is joined beside its place and renamed.
+/// were read are good. After an error what the sink has is no file to keep.
 pub fn join<S: SourceAt, K: Sink>(
     alloc: Global,
     crc: &Crc64,
@@ -159,6 +157,8 @@ pub fn join<S: SourceAt, K: Sink>(
     // After any error: the stripes that were joined before, or a prefix of them.
     ensures until { IfErr result (TakesUntil header.now (map (λ s. seen (S.given s) (S.ends s) (S.failed s)) sources.old) (map (λ s. seen (S.given s) (S.ends s) (S.failed s)) sources.new) (K.accepted sink.old) (K.written sink.old) (K.accepted sink.new) (K.written sink.new)) }
     ensures missed { (files : List (List ℕ)) → Show (map (λ s. seen (S.given s) (S.ends s) (S.failed s)) sources.new) files → OnOk result (AreFirstMissed header.now.shape (stripe_count header.now.shape header.now.size) files (map (λ s. seen (S.given s) (S.ends s) (S.failed s)) sources.old) (map (λ s. seen (S.given s) (S.ends s) (S.failed s)) sources.new) missed.new) }
+    // Where no data share's block was missing, no parity share was asked for anything.
+    ensures unread { (IsErrOf result JoinFault.WriteFault → ⊥) → (IsErrOf result JoinFault.OutOfMemory → ⊥) → IsParityUnread header.now.shape (map (λ s. seen (S.given s) (S.ends s) (S.failed s)) sources.old) (map (λ s. seen (S.given s) (S.ends s) (S.failed s)) sources.new) missed.new }
     ensures why_not { (files : List (List ℕ)) → Show (map (λ s. seen (S.given s) (S.ends s) (S.failed s)) sources.new) files → IfErr result (IsWhyNot header.now files (map (λ s. seen (S.given s) (S.ends s) (S.failed s)) sources.old) (map (λ s. seen (S.given s) (S.ends s) (S.failed s)) sources.new) missed.new) }
     ensures of_file { IfErr result (IsOfFile header.now) }
     ensures write { IsErrOf result JoinFault.WriteFault → Rises (K.faults sink.old) (K.faults sink.new) }

@@ -2,7 +2,7 @@
 use Rattle.std.proofs.Common.{◌≡◌, ℕ, Err}
 use Rattle.std.specs.Prelude.{IsErrOf}
 use Rattle.share_files.specs.declared.joining.JoinFault.{JoinFault}
-use Rattle.share_files.specs.declared.joining.JoinFault.TheVariants.{TooFew, Mismatch, WriteFault}
+use Rattle.share_files.specs.declared.joining.JoinFault.TheVariants.{TooFew, Mismatch, WriteFault, OutOfMemory}
 use Rattle.share_mends.specs.declared.fault.RottenPart.{RottenPart}
 use Rattle.share_mends.specs.declared.fault.MendFault.{MendFault}
 use Rattle.share_mends.specs.declared.fault.MendFault.TheVariants.{Rotten, ReadFault as UnreadPart, WriteFault as UnwrittenShare}
@@ -14,6 +14,9 @@ few_no_write fault stripe is e = cc
 
 pub other_no_write : {A : Type 0} (fault : JoinFault) → fault ≡ Mismatch → IsErrOf {T = A} (Err fault) WriteFault → ⊥
 other_no_write fault is e = cc
+
+pub other_no_memory : {A : Type 0} (fault : JoinFault) → fault ≡ Mismatch → IsErrOf {T = A} (Err fault) OutOfMemory → ⊥
+other_no_memory fault is e = cc
 
 pub rotten_no_read : {A : Type 0} (fault : MendFault) (part : RottenPart) → fault ≡ Rotten part → IsErrOf {T = A} (Err fault) UnreadPart → ⊥
 rotten_no_read fault part is e = cc

@@ -4,7 +4,7 @@ use Rattle.crc64.specs.Remainder.{checksum_of}
 use Rattle.share_format.specs.Cut.{stripe_count}
 use Rattle.share_format.specs.Header.{Header}
 use Rattle.share_files.specs.Seen.{Seen, Show}
-use Rattle.share_files.specs.Missed.{AreFirstMissed, LackBlocks}
+use Rattle.share_files.specs.Missed.{AreFirstMissed, LackBlocks, IsParityUnread}
 use Rattle.share_files.specs.Joined.{NoRotPasses}
 use Rattle.share_files.specs.Stripes.{AreJoined}
 use Rattle.share_run.specs.Places.{Kept, filled, IsUntouched, IsUnwritten}
@@ -39,8 +39,8 @@ join_run header olds news writes written before after missed = record {
 abbrev pub IsPlaced : JoinRun → List ℕ → Type 0
 IsPlaced r file = r.after.files ≡ r.before.files ++ filled 0 file ∷ []
 
--- it has the length and the checksum that the header tells, and is of the blocks that were read. Whatever files the sources show: if they are shares of a file, with rot that its
--- checksums find, it is that file
+-- it has the length and the checksum that the header tells, and is of the blocks that count. Whatever files the sources show: if they are shares
+-- of a file, with rot that its checksums find, it is that file
 pub record FilePlaced (r : JoinRun) : Type 0 where
   pub file : List ℕ
   pub size : length file ≡ r.header.size
@@ -53,7 +53,7 @@ pub record FilePlaced (r : JoinRun) : Type 0 where
 abbrev pub IsNoted : JoinRun → ℕ → Type 0
 IsNoted r count = (files : List (List ℕ)) → Show r.news files → AreFirstMissed r.header.shape count files r.olds r.news r.missed
 
--- the blocks that were read give a file of the header's length and with another checksum
+-- the blocks that count give a file of the header's length and with another checksum
 pub record IsAnother (r : JoinRun) : Type 0 where
   pub file : List ℕ
   pub size : length file ≡ r.header.size
@@ -72,11 +72,13 @@ IsWritten r = (r.written ≡ r.writes) × (r.after.faults ≡ r.before.faults)
 -- what each status says of a join
 abbrev pub JoinEnds : ShareStatus → JoinRun → Type 0
 JoinEnds Done r = FilePlaced r × IsNoted r (stripe_count r.header.shape r.header.size) × IsWritten r
+    × IsParityUnread r.header.shape r.olds r.news r.missed
 JoinEnds Usage r = ⊥
 JoinEnds TooFew r = ((stripe : ℕ) × (stripe < stripe_count r.header.shape r.header.size) × ((files : List (List ℕ)) → Show r.news files → IsLacking r stripe files)) × IsUntouched r.before r.after × IsWritten r
 -- what the shares give has another checksum: so they are not shares of a file with rot that checksums find
 JoinEnds BadShare r = ((file : List ℕ) (files : List (List ℕ)) → Show r.news files → NoRotPasses r.header file files → ⊥)
     × IsAnother r × IsNoted r (stripe_count r.header.shape r.header.size) × IsUntouched r.before r.after × IsWritten r
+    × IsParityUnread r.header.shape r.olds r.news r.missed
 JoinEnds ReadFault r = ⊥
 JoinEnds WriteFault r = IsUnwritten r.writes r.written r.before r.after × IsUntouched r.before r.after
 JoinEnds OutOfMemory r = IsUntouched r.before r.after × IsWritten r

@@ -2,6 +2,7 @@ use Rattle.std.proofs.Common.{inl, ◌∙◌}
 use Rattle.std.proofs.lemmas.List.{with_items_is}
 use Rattle.share_files.specs.Found.{block_in}
 use Rattle.share_files.proofs.ReadLemmas.{had_told, had_untold, grows_same}
+use Rattle.share_files.proofs.LateLemmas.{late_same, late_fails}
 use Rattle.share_files.proofs.fetching.block_or_none.Goals as goal
 
 pub returns-in-Ok-true-clause-read : goal.returns-in-Ok-true-clause-read
@@ -28,3 +29,12 @@ returns-in-Ok-false-clause-read g c = record {
 
 pub returns-in-Ok-false-clause-grow : goal.returns-in-Ok-false-clause-grow
 returns-in-Ok-false-clause-grow g c = grows_same _ _ c.in-Ok-false.ensures.shown c.in-Ok-false.ensures.steady
+
+pub returns-in-Ok-true-clause-late : goal.returns-in-Ok-true-clause-late
+returns-in-Ok-true-clause-late g c = late_same c.args.geometry c.args.stripe _ _ c.in-Ok-true.ensures.steady
+
+pub returns-in-Ok-false-clause-late : goal.returns-in-Ok-false-clause-late
+returns-in-Ok-false-clause-late g c = late_same c.args.geometry c.args.stripe _ _ c.in-Ok-false.ensures.steady
+
+pub returns-in-Err-clause-late : goal.returns-in-Err-clause-late
+returns-in-Err-clause-late g c = late_fails c.args.geometry c.args.stripe _ _ _ c.in-Err.ensures.cause

@@ -1,6 +1,6 @@
-use Rattle.std.proofs.Common.{◌≢◌, sym, ◌∙◌}
+use Rattle.std.proofs.Common.{◌≢◌, Err, ap, sym, ◌∙◌}
 use Rattle.share_files.specs.declared.joining.JoinFault.TheVariants.{Mismatch}
-use Rattle.share_files.proofs.Steps.{why_stopped, stopped_in}
+use Rattle.share_files.proofs.Steps.{why_stopped, stopped_unread, stopped_in}
 use Rattle.share_files.proofs.Taking.{takes_file, takes_another, takes_this, matches_this, takes_mismatch, takes_prefix}
 use Rattle.share_files.proofs.joining.join.Goals as goal
 
@@ -53,3 +53,13 @@ returns-clause-taken g c = takes_file c.args.header.now _ _ _ _ _ _ c.in-Ok.chec
 pub returns-clause-missed : goal.returns-clause-missed
 returns-clause-missed g c = λ files shows.
     c.in-Ok.ensures.read.noted files shows
+
+pub returns-in-Err-clause-unread : goal.returns-in-Err-clause-unread
+returns-in-Err-clause-unread g c = λ write memory.
+    stopped_unread c.args.header.now _ _ c.join_all.new.missed c.in-Err.fault c.in-Err.ensures.stop (λ e. write (ap Err e)) (λ e. memory (ap Err e))
+
+pub returns-then-checksum-clause-unread : goal.returns-then-checksum-clause-unread
+returns-then-checksum-clause-unread g c = λ write memory. c.in-Ok.ensures.read.unread
+
+pub returns-clause-unread : goal.returns-clause-unread
+returns-clause-unread g c = λ write memory. c.in-Ok.ensures.read.unread

@@ -81,7 +81,7 @@ returns-in-Err-clause-until g c =
     let h = c.args.header.now in
     let inv = c.loop-stripe.invariant in
     let less : c.loop-stripe.stripe < stripe_count h.shape h.size = omega (arith, c.loop-stripe-test.true, c.stripe_count-stripes.ensures.count) in
-    takes_until h c.loop-stripe.stripe c.loop-stripe.left _ _ _ _ inv.read c.next_stripe.ensures.grow
+    takes_until h c.loop-stripe.stripe c.loop-stripe.left _ _ _ _ inv.read c.next_stripe.ensures.grow c.geometry-geometry.result c.geometry-geometry.ensures c.next_stripe.ensures.late
     (length-map c.loop-stripe.sources _ ∙ sym c.next_stripe.auto.sources ∙ sym (length-map c.next_stripe.new.sources _)) less _ _ _ _ c.loop-stripe.checksum inv.taken
     c.geometry-geometry.result _ _ c.in-Err.fault c.in-Err.ensures.fault
 

@@ -1,6 +1,7 @@
 use Rattle.std.proofs.Common.{length, sym, ◌∙◌}
 use Rattle.std.proofs.lemmas.Bool.{true≢false}
 use Rattle.share_files.proofs.ReadLemmas.{grow_then}
+use Rattle.share_files.proofs.LateLemmas.{late_then}
 use Rattle.share_files.proofs.DataLemmas.{data_read, all_read}
 use Rattle.share_files.proofs.stripe_reading.read_shares.Goals as goal
 
@@ -21,3 +22,11 @@ returns-clause-grow g c = grow_then _ _ _ c.read_blocks.ensures.grow c.read_bloc
 
 pub returns-in_err-read_blocks-2-clause-grow : goal.returns-in_err-read_blocks-2-clause-grow
 returns-in_err-read_blocks-2-clause-grow g c = grow_then _ _ _ c.read_blocks.ensures.grow c.read_blocks-2.ensures.grow
+
+pub returns-clause-late : goal.returns-clause-late
+returns-clause-late g c =
+    late_then c.args.geometry c.args.stripe _ _ _ c.read_blocks.ensures.grow c.read_blocks-2.ensures.grow c.read_blocks.ensures.late c.read_blocks-2.ensures.late
+
+pub returns-in_err-read_blocks-2-clause-late : goal.returns-in_err-read_blocks-2-clause-late
+returns-in_err-read_blocks-2-clause-late g c =
+    late_then c.args.geometry c.args.stripe _ _ _ c.read_blocks.ensures.grow c.read_blocks-2.ensures.grow c.read_blocks.ensures.late c.read_blocks-2.ensures.late

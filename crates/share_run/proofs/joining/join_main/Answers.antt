@@ -2,7 +2,7 @@ use Rattle.std.proofs.Common.{Err, map, refl, subst, ap}
 use Rattle.share_files.specs.Seen.{seen}
 use Rattle.share_files.specs.Joined.{IsOfFile, IsWhyNot}
 use Rattle.share_files.specs.declared.joining.JoinFault.{JoinFault}
-use Rattle.share_run.proofs.FaultLemmas.{few_no_write, other_no_write}
+use Rattle.share_run.proofs.FaultLemmas.{few_no_write, other_no_write, other_no_memory}
 use Rattle.share_run.proofs.JoinLemmas.{file_placed, is_another}
 use Rattle.share_run.proofs.joining.join_main.Goals as goal
 
@@ -33,6 +33,8 @@ returns-in-Err-Mismatch g c = (
       subst P c.in-Err-Mismatch.field-0-is (c.in-Err-Mismatch.ensures.why_not files shows),
   refl,
   (c.in-Err-Mismatch.ensures.writes (λ e. other_no_write c.in-Err-Mismatch.field-0 c.in-Err-Mismatch.field-0-is e), refl),
+  c.in-Err-Mismatch.ensures.unread (λ e. other_no_write c.in-Err-Mismatch.field-0 c.in-Err-Mismatch.field-0-is e)
+      (λ e. other_no_memory c.in-Err-Mismatch.field-0 c.in-Err-Mismatch.field-0-is e),
 )
 
 pub returns-in-Ok-fill : goal.returns-in-Ok-fill
@@ -41,4 +43,5 @@ returns-in-Ok-fill g c = (
       (λ whole files shows pass. c.in-Ok.ensures.joined whole files shows pass),
   λ files shows. c.in-Ok.ensures.missed files shows,
   (c.in-Ok.ensures.writes (λ e. cc), c.in-Ok-fill.ensures.steady),
+  c.in-Ok.ensures.unread (λ e. cc) (λ e. cc),
 )
