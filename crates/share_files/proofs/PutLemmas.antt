@@ -13,10 +13,10 @@ use Rattle.clay_aloof.specs.Shape.{AloofShape, all_chunks}
 use Rattle.share_format.specs.Cut.{stripe_count, AreCodewords}
 use Rattle.share_format.specs.Blocks.{page_of, rounded, aligned, block_of, block_length}
 use Rattle.share_format.specs.Header.{Header, header_with, header_bytes}
-use Rattle.share_format.specs.Shares.{block_start, chunks_at}
+use Rattle.share_format.specs.Shares.{block_start, chunks_at, IsShare}
 use Rattle.share_format.proofs.Blocks.{chunk_of_word}
 use Rattle.share_format.proofs.Lengths.{length_aligned, length_header, length_block}
-use Rattle.share_files.specs.Put.{PutsBlock, PutsAtMost, PutsBlocks, PutsSome, PutsPart, PutsShare}
+use Rattle.share_files.specs.Put.{PutsBlock, PutsAtMost, PutsBlocks, PutsSome, PutsPart, HasChunks, PutsFile, PutsShare}
 
 -- ---- blocks
 
@@ -127,6 +127,18 @@ module _ (h : Header) (Is : ℕ → List ℕ → Type 0) (old mid now : List Pla
       let zeros : List ℕ = replicate {A = ℕ} (rounded (page_of h.shape) (length (header_bytes h)) - length (header_bytes h)) 0 in
       omega (arith, length-append (header_bytes h) zeros, length_header h)
 
+  puts_file : (IsFile : List ℕ → Type 0) → IsFile (head ++ blocks) → now ≡ mid ++ placed_from 0 head → PutsFile IsFile old now
+  puts_file IsFile is put = record {
+    bytes = head ++ blocks;
+    is = is;
+    more = placed_from (block_start h.shape 0) blocks ++ placed_from 0 head;
+    puts = put ∙ ap (λ l. l ++ placed_from 0 head) so.puts ∙ append_assoc old (placed_from (block_start h.shape 0) blocks) (placed_from 0 head);
+    laid = λ before. laid_both (block_start h.shape 0) blocks head before head_long head_some;
+  }
+
+  pub puts_whole : now ≡ mid ++ placed_from 0 head → PutsFile (HasChunks h Is) old now
+  puts_whole = puts_file (HasChunks h Is) (record { chunks = so.chunks; number = so.number; are = so.are; value = refl })
+
   -- of a file, where the chunks are those of its codewords
   pub puts_share : h.share < all_chunks h.shape → now ≡ mid ++ placed_from 0 head → (file : List ℕ) (words : List (List (List ℕ))) → length file ≡ h.size →
       checksum_of file ≡ h.checksum → AreCodewords h.shape file words →
@@ -137,15 +149,10 @@ module _ (h : Header) (Is : ℕ → List ℕ → Type 0) (old mid now : List Pla
       ext_get_or [] so.chunks (chunks_at h.share words) (so.number ∙ sym count ∙ sym (length-map words (λ (word : List (List ℕ)). get_or word h.share []))) (λ i less.
       let within : i < length words = omega (arith, so.number, count, less) in
       only i (get_or so.chunks i []) within (so.are i less)
-      ∙ sym (chunk_of_word h.shape file h.share words coded numbered i within)) in record {
-        bytes = head ++ blocks;
-        is = record {
-          words = words;
-          coded = coded;
-          numbered = numbered;
-          value = λ i. aligned h.shape (header_bytes (header_with h.shape h.share (sym long i) (sym sum i))) ++ flat_map (block_of h.shape) (same i);
-        };
-        more = placed_from (block_start h.shape 0) blocks ++ placed_from 0 head;
-        puts = put ∙ ap (λ l. l ++ placed_from 0 head) so.puts ∙ append_assoc old (placed_from (block_start h.shape 0) blocks) (placed_from 0 head);
-        laid = λ before. laid_both (block_start h.shape 0) blocks head before head_long head_some;
-      }
+      ∙ sym (chunk_of_word h.shape file h.share words coded numbered i within)) in
+      puts_file (IsShare h.shape file h.share) (record {
+        words = words;
+        coded = coded;
+        numbered = numbered;
+        value = λ i. aligned h.shape (header_bytes (header_with h.shape h.share (sym long i) (sym sum i))) ++ flat_map (block_of h.shape) (same i);
+      }) put

@@ -54,10 +54,21 @@ pub record PutsHead (h : Header) (Is : ℕ → List ℕ → Type 0) (put now : L
 abbrev pub PutsPart : Header → (ℕ → List ℕ → Type 0) → List Placed → List Placed → Type 0
 PutsPart h Is put now = PutsSome h.shape Is (stripe_count h.shape h.size) put now ⊎ PutsHead h Is put now
 
--- it took a share of a file: whatever stood there before begins with the share then, and goes on as it did
-pub record PutsShare (a : AloofShape) (file : List ℕ) (number : ℕ) (put now : List Placed) : Type 0 where
+-- bytes are the padded header, and behind it the blocks of such chunks, one for each stripe
+pub record HasChunks (h : Header) (Is : ℕ → List ℕ → Type 0) (bytes : List ℕ) : Type 0 where
+  pub chunks : List (List ℕ)
+  pub number : length chunks ≡ stripe_count h.shape h.size
+  pub are : (i : ℕ) → i < length chunks → Is i (get_or chunks i [])
+  pub value : bytes ≡ aligned h.shape (header_bytes h) ++ flat_map (block_of h.shape) chunks
+
+-- it took such bytes: whatever stood there before begins with them then, and goes on as it did
+pub record PutsFile (Is : List ℕ → Type 0) (put now : List Placed) : Type 0 where
   pub bytes : List ℕ
-  pub is : IsShare a file number bytes
+  pub is : Is bytes
   pub more : List Placed
   pub puts : now ≡ put ++ more
   pub laid : (before : List ℕ) → laid_over before more ≡ bytes ++ drop (length bytes) before
+
+-- a share of a file
+abbrev pub PutsShare : AloofShape → List ℕ → ℕ → List Placed → List Placed → Type 0
+PutsShare a file number put now = PutsFile (IsShare a file number) put now

@@ -1,8 +1,12 @@
 -- A stripe's lost chunk from the blocks that were read.
-use Rattle.std.proofs.Common.{◌≡◌, ℕ, ◌<◌, List, [], ◌∷◌, ◌++◌, length, get_or, drop, Option, None, Some, Vec, Global, refl, sym, subst, ap, ◌∙◌, inl, inr, arith, append_assoc}
+use Rattle.std.proofs.Common.{◌≡◌, ℕ, ◌*◌, ◌<◌, Err, List, [], ◌∷◌, ◌++◌, length, get_or, drop, Option, None, Some, Vec, Global, refl, sym, subst, ap, ◌∙◌, inl, inr, arith, append_assoc}
 use Rattle.std.proofs.lemmas.Bool.{cases_lt}
 use Rattle.std.proofs.lemmas.List.{get_or_past, drop_at}
+use Rattle.std.specs.Prelude.{IsErrOf}
+use Rattle.file_bytes.specs.Places.{Placed}
 use Rattle.clay_grid.specs.Shape.{chunk_length}
+use Rattle.share_format.specs.Blocks.{block_length}
+use Rattle.share_files.specs.Put.{PutsBlocks}
 use Rattle.clay_aloof.specs.Shape.{AloofShape, all_chunks, grid_of}
 use Rattle.share_format.specs.Joined.{is_lost, HasBlocks, AreTooFew, IsRecoveredChunk}
 use Rattle.share_files.specs.Seen.{Seen, seen_of, failed_since, Show}
@@ -107,3 +111,21 @@ later a lost mids news i chunk same grow is = record {
 -- what holds of a code, a share and a number holds of equal ones
 pub moved : (P : AloofShape → ℕ → ℕ → Type 0) (a b : AloofShape) (lost share n count : ℕ) → a ≡ b → lost ≡ share → n ≡ count → P a lost n → P b share count
 moved P a b lost share n count shape same number h = subst (λ k. P b share k) number (subst (λ l. P b l n) same (subst (λ x. P x lost n) shape h))
+
+-- ---- the blocks before a stripe that can't be rebuilt
+
+pub puts_before : (a : AloofShape) (Was Is : ℕ → List ℕ → Type 0) (count few : ℕ) (old mid now : List Placed) →
+    ((i : ℕ) (chunk : List ℕ) → Was i chunk → Is i chunk) → few ≡ count → now ≡ mid → PutsBlocks a Was count old mid → PutsBlocks a Is few old now
+puts_before a Was Is count few old mid now stays same still so = record {
+  chunks = so.chunks;
+  number = so.number ∙ sym same;
+  are = λ i less. stays i (get_or so.chunks i []) (so.are i less);
+  size = so.size ∙ ap (λ n. n * block_length a) (sym same);
+  puts = still ∙ so.puts;
+}
+
+pub few_is : (a : AloofShape) (olds news : List Seen) (i few : ℕ) (fault : RebuildFault) → fault ≡ TooFew few → Lacks a olds news i fault → few ≡ i
+few_is a olds news i few fault is lacks = let P : RebuildFault → Type 0 = λ f. Lacks a olds news i f in (subst P is lacks).0
+
+pub err_is : {A : Type 0} (fault other : RebuildFault) → IsErrOf {T = A} (Err fault) other → fault ≡ other
+err_is fault other e = cc

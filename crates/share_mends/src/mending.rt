@@ -9,7 +9,7 @@ ghost use Rattle.share_format.specs.Cut.{stripe_count, AreCodewords};
 ghost use Rattle.share_format.specs.Mend.{block_ranges};
 ghost use Rattle.share_format.specs.Shares.{block_start};
 ghost use Rattle.share_files.specs.Seen.{seen, Show};
-ghost use Rattle.share_files.specs.Put.{PutsBlock, PutsAtMost, PutsBlocks, PutsSome, PutsPart, PutsShare};
+ghost use Rattle.share_files.specs.Put.{PutsBlock, PutsAtMost, PutsBlocks, PutsSome, PutsPart, HasChunks, PutsFile, PutsShare};
 ghost use Rattle.share_mends.specs.Spans.{IsPlan};
 ghost use Rattle.share_mends.specs.Asked.{helps, AreHelpers, AreAsked, FailsAt, OneReadFails, NoReadFails};
 ghost use Rattle.share_mends.specs.Gathered.{NamesFirstOf};
@@ -147,6 +147,8 @@ pub fn mend<S: SourceAt, K: SinkAt>(
     requires helpers { AreHelpers header.now.shape header.now.share helpers.now }
     // Of whatever file the helpers' good pieces hold the parts, the sink took the share.
     ensures share { (file : List ℕ) (words : List (List (List ℕ))) (files : List (List ℕ)) → Show (map (λ s. seen (S.given s) (S.ends s) (S.failed s)) sources.new) files → length file ≡ header.now.size → checksum_of file ≡ header.now.checksum → AreCodewords header.now.shape file words → AreOfWords header.now.shape header.now.share helpers.now files words → OnOk result (PutsShare header.now.shape file header.now.share (K.put sink.old) (K.put sink.new)) }
+    // Of any: the header, and the blocks of what the parts mend to.
+    ensures made { OnOk result (PutsFile (HasChunks header.now (IsMended header.now.shape header.now.share helpers.now (map (λ s. seen (S.given s) (S.ends s) (S.failed s)) sources.new))) (K.put sink.old) (K.put sink.new)) }
     // After an error it took the mended blocks' bytes up to some place, or all and a part of the padded header.
     ensures part { OnErr result (PutsPart header.now (IsMended header.now.shape header.now.share helpers.now (map (λ s. seen (S.given s) (S.ends s) (S.failed s)) sources.new)) (K.put sink.old) (K.put sink.new)) }
     ensures good { (files : List (List ℕ)) → Show (map (λ s. seen (S.given s) (S.ends s) (S.failed s)) sources.new) files → OnOk result (HaveGood header.now.shape header.now.share helpers.now files (stripe_count header.now.shape header.now.size)) }

@@ -6,7 +6,7 @@ ghost use Rattle.share_format.specs.Blocks.{block_length};
 ghost use Rattle.share_format.specs.Cut.{stripe_count};
 ghost use Rattle.share_format.specs.Shares.{block_start};
 ghost use Rattle.share_files.specs.Seen.{seen, Show};
-ghost use Rattle.share_files.specs.Put.{PutsBlock, PutsAtMost, PutsBlocks, PutsSome, PutsPart, PutsShare};
+ghost use Rattle.share_files.specs.Put.{PutsBlock, PutsAtMost, PutsBlocks, PutsSome, PutsPart, HasChunks, PutsFile, PutsShare};
 ghost use Rattle.share_files.specs.Gathered.{Grow};
 ghost use Rattle.share_files.specs.Joined.{NoRotPasses};
 ghost use Rattle.share_mends.specs.Rebuilt.{IsRebuilt, IsRebuiltBlock, Lacks, IsLack};
@@ -25,7 +25,7 @@ use thiserror::Error;
 /// Why a share can't be rebuilt.
 #[derive(Clone, Copy, Debug, PartialEq, Eq, Error)]
 pub enum RebuildFault {
-    /// More than `M` shares have no good block of the stripe of this number, from 0.
+    /// More than `M` shares have no good block of the stripe of this number, from 0, or none that can be read.
     #[error("too few shares have a block of stripe {0}")]
     TooFew(u64),
     #[error("a write failed")]
@@ -42,7 +42,7 @@ impl From<AllocError> for RebuildFault {
     }
 }
 
-// The block of the lost share for a stripe, from the others' blocks.
+// The block of the lost share for a stripe, from the blocks of shares.
 fn rebuilt_block<S: SourceAt>(
     alloc: Global,
     crc: &Crc64,
@@ -83,6 +83,7 @@ fn rebuild_one<S: SourceAt, K: SinkAt>(
     requires sources { length sources.old ≡ all_chunks geometry }
     requires place { block_start geometry stripe + block_length geometry < 2 ^ 64 }
     ensures put { OnOk result (PutsBlock geometry (IsRebuilt geometry lost (map (λ s. seen (S.given s) (S.ends s) (S.failed s)) sources.new)) stripe (K.put sink.old) (K.put sink.new)) }
+    ensures unput { (few : ℕ) → IsErrOf result (RebuildFault.TooFew few) → K.put sink.new ≡ K.put sink.old }
     ensures part { OnErr result (PutsAtMost geometry (IsRebuilt geometry lost (map (λ s. seen (S.given s) (S.ends s) (S.failed s)) sources.new)) stripe (K.put sink.old) (K.put sink.new)) }
     ensures lack { IfErr result (Lacks geometry (map (λ s. seen (S.given s) (S.ends s) (S.failed s)) sources.old) (map (λ s. seen (S.given s) (S.ends s) (S.failed s)) sources.new) stripe) }
     ensures grow { Grow (map (λ s. seen (S.given s) (S.ends s) (S.failed s)) sources.old) (map (λ s. seen (S.given s) (S.ends s) (S.failed s)) sources.new) }
@@ -113,6 +114,7 @@ fn rebuild_stripes<S: SourceAt, K: SinkAt>(
     requires sources { length sources.old ≡ all_chunks geometry }
     requires place { block_start geometry stripes < 2 ^ 64 }
     ensures put { OnOk result (PutsBlocks geometry (IsRebuilt geometry lost (map (λ s. seen (S.given s) (S.ends s) (S.failed s)) sources.new)) stripes (K.put sink.old) (K.put sink.new)) }
+    ensures before { (few : ℕ) → IsErrOf result (RebuildFault.TooFew few) → PutsBlocks geometry (IsRebuilt geometry lost (map (λ s. seen (S.given s) (S.ends s) (S.failed s)) sources.new)) few (K.put sink.old) (K.put sink.new) }
     ensures part { OnErr result (PutsSome geometry (IsRebuilt geometry lost (map (λ s. seen (S.given s) (S.ends s) (S.failed s)) sources.new)) stripes (K.put sink.old) (K.put sink.new)) }
     ensures lack { IfErr result (IsLack geometry stripes (map (λ s. seen (S.given s) (S.ends s) (S.failed s)) sources.old) (map (λ s. seen (S.given s) (S.ends s) (S.failed s)) sources.new)) }
     ensures write { IsErrOf result RebuildFault.WriteFault → Rises (K.faults sink.old) (K.faults sink.new) }
@@ -127,7 +129,7 @@ fn rebuild_stripes<S: SourceAt, K: SinkAt>(
     Ok(())
 }
 
-/// Writes the lost share anew, from the whole blocks of any `K` others. The header tells the lost share's number. It is written last.
+/// Writes the lost share anew, from the whole blocks of any `K` shares. The header tells the lost share's number. It is written last.
 ///
 /// There is a source for each number; a missing share is an empty file. A block that can't be read counts as missing. The sink's file is
 /// to be no longer than a share: what it has behind one stays.
@@ -141,8 +143,12 @@ pub fn mend_whole<S: SourceAt, K: SinkAt>(
     requires { length sources.old ≡ all_chunks header.now.shape }
     // Whatever files the sources show: if they are shares of a file, with rot that its checksums find, the sink took the lost share.
     ensures share { (file : List ℕ) (files : List (List ℕ)) → Show (map (λ s. seen (S.given s) (S.ends s) (S.failed s)) sources.new) files → NoRotPasses header.now file files → OnOk result (PutsShare header.now.shape file header.now.share (K.put sink.old) (K.put sink.new)) }
+    // Of any: the header, and the blocks of what their blocks recover. Where no codeword has these, it is some bytes.
+    ensures made { OnOk result (PutsFile (HasChunks header.now (IsRebuilt header.now.shape header.now.share (map (λ s. seen (S.given s) (S.ends s) (S.failed s)) sources.new))) (K.put sink.old) (K.put sink.new)) }
     // After an error it took the rebuilt blocks' bytes up to some place, or all and a part of the padded header.
     ensures part { OnErr result (PutsPart header.now (IsRebuilt header.now.shape header.now.share (map (λ s. seen (S.given s) (S.ends s) (S.failed s)) sources.new)) (K.put sink.old) (K.put sink.new)) }
+    // TooFew comes after just the blocks of the stripes before.
+    ensures before { (few : ℕ) → IsErrOf result (RebuildFault.TooFew few) → PutsBlocks header.now.shape (IsRebuilt header.now.shape header.now.share (map (λ s. seen (S.given s) (S.ends s) (S.failed s)) sources.new)) few (K.put sink.old) (K.put sink.new) }
     ensures lack { IfErr result (IsLack header.now.shape (stripe_count header.now.shape header.now.size) (map (λ s. seen (S.given s) (S.ends s) (S.failed s)) sources.old) (map (λ s. seen (S.given s) (S.ends s) (S.failed s)) sources.new)) }
     ensures write { IsErrOf result RebuildFault.WriteFault → Rises (K.faults sink.old) (K.faults sink.new) }
     ensures writes { (IsErrOf result RebuildFault.WriteFault → ⊥) → K.faults sink.new ≡ K.faults sink.old }

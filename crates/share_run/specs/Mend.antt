@@ -8,8 +8,9 @@ use Rattle.share_format.specs.Header.{Header}
 use Rattle.share_format.specs.Mend.{block_ranges}
 use Rattle.share_format.specs.Shares.{IsShare}
 use Rattle.share_files.specs.Seen.{Seen, Show}
+use Rattle.share_files.specs.Put.{HasChunks}
 use Rattle.share_mends.specs.Asked.{AreAsked, OneReadFails, NoReadFails}
-use Rattle.share_mends.specs.Mended.{HaveGood, IsFirstRotten, AreOfWords}
+use Rattle.share_mends.specs.Mended.{HaveGood, IsFirstRotten, AreOfWords, IsMended}
 use Rattle.share_run.specs.Places.{Kept, filled, IsUntouched, IsUnwritten}
 use Rattle.share_run.specs.declared.status.ShareStatus.{ShareStatus}
 use Rattle.share_run.specs.declared.status.ShareStatus.TheVariants.{Done, Usage, TooFew, BadShare, ReadFault, WriteFault, OutOfMemory}
@@ -41,10 +42,12 @@ mend_run header olds news writes written before after = record {
 abbrev pub stripes_of : MendRun → ℕ
 stripes_of r = stripe_count r.header.shape r.header.size
 
--- a file was put into the place: the lost share of whatever file the helpers' good pieces hold the parts
+-- a file was put into the place: the header, and the blocks of what the helpers' parts mend to. It is the lost share of whatever file the
+-- helpers' good pieces hold the parts
 pub record SharePlaced (marks : List Bool) (r : MendRun) : Type 0 where
   pub bytes : List ℕ
   pub placed : r.after.files ≡ r.before.files ++ filled 0 bytes ∷ []
+  pub made : HasChunks r.header (IsMended r.header.shape r.header.share marks r.news) bytes
   pub share : (file : List ℕ) (words : List (List (List ℕ))) (files : List (List ℕ)) → Show r.news files → length file ≡ r.header.size →
       checksum_of file ≡ r.header.checksum → AreCodewords r.header.shape file words →
       AreOfWords r.header.shape r.header.share marks files words → IsShare r.header.shape file r.header.share bytes

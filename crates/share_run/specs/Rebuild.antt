@@ -1,19 +1,22 @@
--- How a mend of a lost share from whole blocks of others ends.
+-- How a mend of a lost share from whole blocks ends.
 use Rattle.std.specs.Prelude.{◌≡◌, ℕ, ◌<◌, List, [], ◌∷◌, ◌++◌}
 use Rattle.share_format.specs.Shares.{IsShare}
 use Rattle.share_files.specs.Seen.{Show}
+use Rattle.share_files.specs.Put.{HasChunks}
 use Rattle.share_files.specs.Missed.{LackBlocks}
 use Rattle.share_files.specs.Joined.{NoRotPasses}
+use Rattle.share_mends.specs.Rebuilt.{IsRebuilt}
 use Rattle.share_run.specs.Places.{filled, IsUntouched, IsUnwritten}
 use Rattle.share_run.specs.Mend.{MendRun, stripes_of, IsWritten}
 use Rattle.share_run.specs.declared.status.ShareStatus.{ShareStatus}
 use Rattle.share_run.specs.declared.status.ShareStatus.TheVariants.{Done, Usage, TooFew, BadShare, ReadFault, WriteFault, OutOfMemory}
 
--- a file was put into the place. Whatever files the sources show: if they are shares of a file, with rot that its checksums find, it is the lost
--- share of that file
+-- a file was put into the place: the header, and the blocks of what the shares' blocks recover, or some bytes where no codeword has these.
+-- Whatever files the sources show: if they are shares of a file, with rot that its checksums find, it is the lost share of that file
 pub record ShareRebuilt (r : MendRun) : Type 0 where
   pub bytes : List ℕ
   pub placed : r.after.files ≡ r.before.files ++ filled 0 bytes ∷ []
+  pub made : HasChunks r.header (IsRebuilt r.header.shape r.header.share r.news) bytes
   pub share : (file : List ℕ) (files : List (List ℕ)) → Show r.news files → NoRotPasses r.header file files →
       IsShare r.header.shape file r.header.share bytes
 

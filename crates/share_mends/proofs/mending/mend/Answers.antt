@@ -5,7 +5,7 @@ use Rattle.share_files.specs.Seen.{seen}
 use Rattle.share_files.specs.Put.{PutsBlocks, PutsSome}
 use Rattle.share_files.proofs.EndLemmas.{end_fits}
 use Rattle.share_files.proofs.Faults.{handed_on, on_any_error}
-use Rattle.share_files.proofs.PutLemmas.{puts_nothing, puts_blocks, puts_head, puts_share}
+use Rattle.share_files.proofs.PutLemmas.{puts_nothing, puts_blocks, puts_head, puts_whole, puts_share}
 use Rattle.share_mends.specs.Asked.{OneReadFails}
 use Rattle.share_mends.specs.Mended.{HaveGood, NamesFirst, IsMended}
 use Rattle.share_mends.specs.declared.fault.MendFault.TheVariants.{ReadFault}
@@ -67,3 +67,10 @@ pub returns-in-Ok-write_header-clause-good : goal.returns-in-Ok-write_header-cla
 returns-in-Ok-write_header-clause-good g c = λ files shows.
     moved (λ a l n. HaveGood a l c.args.helpers.now files n) _ _ _ _ _ _ (c.in_ok-plan.ensures.geometry ∙ c.geometry.ensures)
     (c.in_ok-plan.ensures.lost ∙ c.share.ensures) c.stripe_count-stripes.ensures.count (c.in-Ok.ensures.good files shows)
+
+pub returns-in-Ok-write_header-clause-made : goal.returns-in-Ok-write_header-clause-made
+returns-in-Ok-write_header-clause-made g c =
+    puts_whole c.args.header.now (IsMended c.args.header.now.shape c.args.header.now.share c.args.helpers.now (map (λ s. seen (g.S.SourceAt.given s) (g.S.SourceAt.ends s) (g.S.SourceAt.failed s)) c.mend_stripes.new.sources)) _ _ _
+    (moved (λ a l n. PutsBlocks a (IsMended a l c.args.helpers.now (map (λ s. seen (g.S.SourceAt.given s) (g.S.SourceAt.ends s) (g.S.SourceAt.failed s)) c.mend_stripes.new.sources)) n (g.K.SinkAt.put c.args.sink.now) (g.K.SinkAt.put c.mend_stripes.new.sink))
+    _ _ _ _ _ _ (c.in_ok-plan.ensures.geometry ∙ c.geometry.ensures) (c.in_ok-plan.ensures.lost ∙ c.share.ensures) c.stripe_count-stripes.ensures.count c.in-Ok.ensures.put)
+    c.in-Ok-write_header.ensures.put

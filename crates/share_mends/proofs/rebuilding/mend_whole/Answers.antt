@@ -4,8 +4,10 @@ use Rattle.share_format.specs.Shares.{block_start}
 use Rattle.share_files.specs.Seen.{seen}
 use Rattle.share_files.specs.Put.{PutsBlocks, PutsSome}
 use Rattle.share_files.proofs.EndLemmas.{end_fits}
-use Rattle.share_files.proofs.PutLemmas.{puts_blocks, puts_head, puts_share}
+use Rattle.share_files.proofs.PutLemmas.{puts_blocks, puts_head, puts_whole, puts_share}
 use Rattle.share_mends.specs.Rebuilt.{IsRebuilt, IsLack}
+use Rattle.share_mends.specs.declared.rebuilding.RebuildFault.TheVariants.{TooFew}
+use Rattle.share_files.proofs.Faults.{handed_on}
 use Rattle.share_mends.proofs.RebuildLemmas.{moved}
 use Rattle.share_mends.proofs.rebuilding.mend_whole.Goals as goal
 
@@ -53,3 +55,16 @@ returns-in-Ok-write_header-clause-share g c = λ file files shows pass.
     _ _ _ _ _ _ c.geometry-geometry.ensures c.share-lost.ensures c.stripe_count-stripes.ensures.count c.in-Ok.ensures.put)
     c.stripe_count-stripes.ensures.header.numbered c.in-Ok-write_header.ensures.put file pass.words pass.size pass.checksum pass.coded
     (λ i chunk less is. is.only files (get_or pass.words i []) shows (pass.coded.codes i less).codeword (pass.blocks i less))
+
+pub returns-in-Ok-write_header-clause-made : goal.returns-in-Ok-write_header-clause-made
+returns-in-Ok-write_header-clause-made g c =
+    puts_whole c.args.header.now (IsRebuilt c.args.header.now.shape c.args.header.now.share (map (λ s. seen (g.S.SourceAt.given s) (g.S.SourceAt.ends s) (g.S.SourceAt.failed s)) c.rebuild_stripes.new.sources)) _ _ _
+    (moved (λ a l n. PutsBlocks a (IsRebuilt a l (map (λ s. seen (g.S.SourceAt.given s) (g.S.SourceAt.ends s) (g.S.SourceAt.failed s)) c.rebuild_stripes.new.sources)) n (g.K.SinkAt.put c.args.sink.now) (g.K.SinkAt.put c.rebuild_stripes.new.sink))
+    _ _ _ _ _ _ c.geometry-geometry.ensures c.share-lost.ensures c.stripe_count-stripes.ensures.count c.in-Ok.ensures.put)
+    c.in-Ok-write_header.ensures.put
+
+pub returns-in-Err-clause-before : goal.returns-in-Err-clause-before
+returns-in-Err-clause-before g c = λ few e.
+    moved (λ a l n. PutsBlocks a (IsRebuilt a l (map (λ s. seen (g.S.SourceAt.given s) (g.S.SourceAt.ends s) (g.S.SourceAt.failed s)) c.rebuild_stripes.new.sources)) few (g.K.SinkAt.put c.args.sink.now) (g.K.SinkAt.put c.rebuild_stripes.new.sink))
+    _ _ _ _ _ _ c.geometry-geometry.ensures c.share-lost.ensures c.stripe_count-stripes.ensures.count
+    (c.in-Err.ensures.before few (handed_on c.in-Err.fault (TooFew few) e))

@@ -35,3 +35,6 @@ returns-clause-part g c =
 
 pub returns-in-Err-clause-part : goal.returns-in-Err-clause-part
 returns-in-Err-clause-part g c = inr refl
+
+pub returns-in-Err-clause-unput : goal.returns-in-Err-clause-unput
+returns-in-Err-clause-unput g c = λ few e. refl

@@ -7,8 +7,8 @@ use Rattle.share_files.proofs.FoundLemmas.{place_before}
 use Rattle.share_files.proofs.Faults.{handed_on}
 use Rattle.share_files.proofs.PutLemmas.{puts_none, puts_more, puts_some}
 use Rattle.share_files.proofs.ReadLemmas.{grow_none, grow_then}
-use Rattle.share_mends.specs.declared.rebuilding.RebuildFault.TheVariants.{WriteFault}
-use Rattle.share_mends.proofs.RebuildLemmas.{lack_among, later}
+use Rattle.share_mends.specs.declared.rebuilding.RebuildFault.TheVariants.{TooFew, WriteFault}
+use Rattle.share_mends.proofs.RebuildLemmas.{lack_among, later, puts_before, few_is, err_is}
 use Rattle.share_mends.proofs.rebuilding.rebuild_stripes.Goals as goal
 
 pub loop-stripe-init : goal.loop-stripe-init
@@ -59,3 +59,11 @@ returns-in-Err-clause-write g c = λ e.
 pub returns-in-Err-clause-writes : goal.returns-in-Err-clause-writes
 returns-in-Err-clause-writes g c = λ other.
     c.in-Err.ensures.writes (λ e. other (handed_on c.in-Err.fault WriteFault e)) ∙ c.loop-stripe.invariant.writes
+
+pub returns-in-Err-clause-before : goal.returns-in-Err-clause-before
+returns-in-Err-clause-before g c = λ few e.
+    puts_before c.args.geometry _ _ c.loop-stripe.stripe few _ _ _
+    (λ i chunk is. later c.args.geometry c.args.lost _ _ i chunk
+    (length-map c.loop-stripe.sources _ ∙ sym c.rebuild_one.auto.sources ∙ sym (length-map c.rebuild_one.new.sources _)) c.in-Err.ensures.grow is)
+    (few_is c.args.geometry _ _ c.loop-stripe.stripe few c.in-Err.fault (err_is c.in-Err.fault (TooFew few) e) c.in-Err.ensures.lack)
+    (c.in-Err.ensures.unput few (handed_on c.in-Err.fault (TooFew few) e)) c.loop-stripe.invariant.put

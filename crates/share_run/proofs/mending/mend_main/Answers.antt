@@ -1,10 +1,11 @@
 use Rattle.std.proofs.Common.{refl, subst}
 use Rattle.file_bytes.specs.Laid.{laid}
 use Rattle.share_format.specs.Cut.{stripe_count}
+use Rattle.share_format.specs.Shares.{IsShare}
 use Rattle.share_mends.specs.Mended.{NamesFirst}
 use Rattle.share_mends.specs.declared.fault.MendFault.{MendFault}
 use Rattle.share_run.proofs.FaultLemmas.{rotten_no_read, rotten_no_write}
-use Rattle.share_run.proofs.MendLemmas.{laid_share}
+use Rattle.share_run.proofs.MendLemmas.{laid_file}
 use Rattle.share_run.proofs.mending.mend_main.Goals as goal
 
 pub returns-in-Err-Rotten-clause-stops : goal.returns-in-Err-Rotten-clause-stops
@@ -24,7 +25,8 @@ returns-in-Ok-fill-clause-ends g c = (
     bytes = laid (g.K.SinkAt.put c.mend.new.sink);
     placed = c.in-Ok-fill.ensures.filled;
     share = λ file words files shows size checksum coded parts.
-        laid_share _ file _ _ _ c.requires.empty (c.in-Ok.ensures.share file words files shows size checksum coded parts);
+        laid_file (IsShare c.args.header.now.shape file c.args.header.now.share) _ _ c.requires.empty (c.in-Ok.ensures.share file words files shows size checksum coded parts);
+    made = laid_file _ _ _ c.requires.empty c.in-Ok.ensures.made;
   },
   record { good = λ files shows. c.in-Ok.ensures.good files shows; asked = c.in-Ok.ensures.asked },
   c.in-Ok.ensures.reads (λ e. cc),

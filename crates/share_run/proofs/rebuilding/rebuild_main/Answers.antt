@@ -1,11 +1,12 @@
 use Rattle.std.proofs.Common.{map, refl, subst}
 use Rattle.file_bytes.specs.Laid.{laid}
 use Rattle.share_format.specs.Cut.{stripe_count}
+use Rattle.share_format.specs.Shares.{IsShare}
 use Rattle.share_files.specs.Seen.{seen}
 use Rattle.share_mends.specs.Rebuilt.{IsLack}
 use Rattle.share_mends.specs.declared.rebuilding.RebuildFault.{RebuildFault}
 use Rattle.share_run.proofs.FaultLemmas.{short_no_write}
-use Rattle.share_run.proofs.MendLemmas.{laid_share}
+use Rattle.share_run.proofs.MendLemmas.{laid_file}
 use Rattle.share_run.proofs.rebuilding.rebuild_main.Goals as goal
 
 pub returns-in-Err-TooFew : goal.returns-in-Err-TooFew
@@ -22,7 +23,9 @@ returns-in-Ok-fill g c = (
   record {
     bytes = laid (g.K.SinkAt.put c.mend_whole.new.sink);
     placed = c.in-Ok-fill.ensures.filled;
-    share = λ file files shows pass. laid_share _ file _ _ _ c.requires.empty (c.in-Ok.ensures.share file files shows pass);
+    share = λ file files shows pass.
+        laid_file (IsShare c.args.header.now.shape file c.args.header.now.share) _ _ c.requires.empty (c.in-Ok.ensures.share file files shows pass);
+    made = laid_file _ _ _ c.requires.empty c.in-Ok.ensures.made;
   },
   (c.in-Ok.ensures.writes (λ e. cc), c.in-Ok-fill.ensures.steady),
 )
