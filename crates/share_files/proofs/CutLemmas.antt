@@ -267,10 +267,11 @@ module _ (a : AloofShape) (given : List ℕ) (left : Option (List ℕ)) (mid : L
 
 -- the headers too
 pub cut_whole : (a : AloofShape) (given : List ℕ) (left : Option (List ℕ)) (now : List ℕ) (rest : Option (List ℕ)) (size checksum : ℕ) (ended : Bool)
-    (olds news : List (List ℕ)) → AreCutSoFar a given left now rest size checksum olds → ended ≡ true → IsSpent rest →
+    (olds news : List (List ℕ)) → AreCutSoFar a given left now rest size checksum olds → size ≤ 2 ^ 56 → ended ≡ true → IsSpent rest →
     AreChanged (λ c. GainsHeader a size checksum c) (all_chunks a) olds news → AreCut a given left now rest ended news
-cut_whole a given left now rest size checksum ended olds news so end spent headers = record {
+cut_whole a given left now rest size checksum ended olds news so fits end spent headers = record {
   file = so.done;
+  bounded = omega (arith, so.counted, fits);
   handed = so.handed;
   end = end;
   spent = spent;

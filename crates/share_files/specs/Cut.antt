@@ -1,5 +1,5 @@
 -- Share files that are cut from what a source gives.
-use Rattle.std.specs.Prelude.{◌≡◌, ℕ, ◌+◌, ◌^◌, ◌<◌, Bool, true, Option, List, [], ◌++◌, length, get_or}
+use Rattle.std.specs.Prelude.{◌≡◌, ℕ, ◌+◌, ◌^◌, ◌<◌, ◌≤◌, Bool, true, Option, List, [], ◌++◌, length, get_or}
 use Rattle.crc64.specs.Remainder.{checksum_of}
 use Rattle.clay_bytes.specs.Stream.{HandsOut, IsSpent}
 use Rattle.clay_aloof.specs.Shape.{AloofShape, all_chunks}
@@ -27,10 +27,11 @@ pub record AreCutSoFar (a : AloofShape) (given : List ℕ) (left : Option (List 
   pub summed : checksum ≡ checksum_of done
   pub begun : AreBegun a done files
 
--- a source handed out a file and told its end, and the files are its shares
+-- a source handed out a file that isn't too long and told its end, and the files are its shares
 pub record AreCut (a : AloofShape) (given : List ℕ) (left : Option (List ℕ)) (now : List ℕ) (rest : Option (List ℕ)) (ended : Bool)
     (files : List (List ℕ)) : Type 0 where
   pub file : List ℕ
+  pub bounded : length file ≤ 2 ^ 56
   pub handed : HandsOut given left file now rest
   pub end : ended ≡ true
   pub spent : IsSpent rest

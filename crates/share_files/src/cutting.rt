@@ -150,7 +150,7 @@ fn cut_stripes<S: Source, K: SinkAt>(
     Ok(FileSum { size, checksum })
 }
 
-/// Cuts the file that a source gives, as far as its end is told, into its shares, a sink for each. The headers are written last.
+/// Cuts the file that a source gives, as far as its end is told, into its shares, a sink for each.
 pub fn cut<S: Source, K: SinkAt>(
     alloc: Global,
     crc: &Crc64,
