@@ -1,5 +1,5 @@
 //! CRC-64/XZ: the checksum that the xz format writes behind each block, also called CRC-64/GO-ECMA.
-//! It finds each change of up to 64 bits in a row, and lets another one pass in one case of 2^64.
+//! It finds each change of up to 64 bits in a row. It may let another one pass.
 #![tactic(auto)]
 
 ghost use Rattle.std.specs.Prelude.{◌≡◌, ℕ, ◌+◌, ◌*◌, ◌/◌, ◌<◌, ◌≤◌, List, ◌++◌, take, length, IfOk};

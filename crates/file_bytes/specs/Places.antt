@@ -19,7 +19,7 @@ abbrev pub ends_after : List ℕ → ℕ → ℕ → List ℕ
 ends_after ends at zero = ends ++ (at ∷ [])
 ends_after ends at (suc count) = ends
 
--- a file has these bytes where they were read, and ends where none was found
+-- a file has these bytes where they were read, and ends where none was found or before
 pub record Shows (file : List ℕ) (given : List Placed) (ends : List ℕ) : Type 0 where
   pub bytes : All (λ p. slice_get file p.at ≡ Some p.byte) given
   pub end : All (λ at. length file ≤ at) ends

@@ -134,7 +134,7 @@ impl SourceAt for MemFile {
         ensures unheard { OnErr result ((self.new.given ≡ self.old.given) × (self.new.ends ≡ self.old.ends)) }
         ensures fails { OnErr result (self.new.failed ≡ self.old.failed ++ (at ∷ [])) }
         ensures steady { OnOk result (self.new.failed ≡ self.old.failed) }
-        // What it hands out and tells is of its bytes.
+        // Where what it handed out and told before is of its bytes, so is what it does now.
         ensures shows { Shows self.old.bytes self.old.given self.old.ends → Shows self.new.bytes self.new.given self.new.ends }
         ensures failing { IsErr result ↔ (self.old.failing ≡ Some self.old.calls) }
         ensures same { (self.new.bytes ≡ self.old.bytes) × (self.new.failing ≡ self.old.failing) × (self.new.put ≡ self.old.put) }

@@ -4,7 +4,8 @@ use Rattle.share_format.specs.Faults.{IsFirstFault}
 use Rattle.share_files.specs.declared.reading.HeaderRefusal.{HeaderRefusal}
 use Rattle.share_files.specs.declared.reading.HeaderRefusal.TheVariants.{ReadFault, Short, Bad}
 
--- a read that failed says nothing of the file; else it is shorter than a header, or it is as long, and its first 64 bytes are none
+-- a read that failed says nothing of the file; else it is shorter than a header, or it is at least as long, and its first
+-- 64 bytes are none
 abbrev pub IsRefusal : List ℕ → HeaderRefusal → Type 0
 IsRefusal file ReadFault = Unit {0}
 IsRefusal file Short = length file < 64

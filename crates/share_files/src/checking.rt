@@ -108,7 +108,7 @@ fn is_header(found: &ShareHeader, header: &ShareHeader) -> bool
 }
 
 /// Judges a file that should be the share of the header, from its front to its end: the header, the zeros behind it, each block with its
-/// checksums and zeros, and that nothing stands behind the last. It reads each byte once, the header's twice.
+/// checksums and zeros, and that nothing stands behind the last.
 pub fn check_share<S: SourceAt>(
     alloc: Global,
     crc: &Crc64,

@@ -46,7 +46,7 @@ pub enum HeaderRefusal {
     Bad(BadHeader),
 }
 
-/// Reads the header of a share, and no other byte of it.
+/// Reads the header of a share.
 #[tactic(auto, using(crate::proofs::WrittenLemmas::header_first, crate::proofs::WrittenLemmas::first_refused))]
 pub fn read_share_header<S: SourceAt>(
     source: &mut S,

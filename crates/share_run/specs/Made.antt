@@ -23,7 +23,7 @@ pub record ShowMade (a : AloofShape) (made : List (List ℕ)) (lost : ℕ → Bo
 abbrev pub TellsShare : AloofShape → List ℕ → Header → Type 0
 TellsShare a file h = (h ≡ header_of a file h.share) × (h.share < all_chunks a)
 
--- a command put these bytes into the place, or a write or memory failed and nothing was put there. It ends with no other status
+-- a command put these bytes into the place, or a write, the place or memory failed and nothing was put there. It ends with no other status
 abbrev pub PlacesOrFails : ShareStatus → Kept → Kept → List ℕ → Type 0
 PlacesOrFails Done before after bytes = after.files ≡ before.files ++ filled 0 bytes ∷ []
 PlacesOrFails Usage before after bytes = ⊥

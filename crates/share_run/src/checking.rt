@@ -73,7 +73,8 @@ fn whole_count(verdicts: &[Option<ShareFault>]) -> usize
     count
 }
 
-/// Judges each share of the header's cut, and notes the first fault of each. Strays are files with a share's name, of a number that none has.
+/// Judges each share of the header's cut, and notes the first fault of each. Strays are files with a share's name whose number no
+/// share of the cut has.
 pub fn check_main<S: SourceAt>(
     alloc: Global,
     crc: &Crc64,

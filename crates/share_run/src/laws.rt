@@ -11,7 +11,7 @@ ghost use Rattle.share_run.specs.Rebuild.{RebuildEnds};
 ghost use Rattle.share_run.specs.declared.mending.MendStop.{MendStop};
 ghost use Rattle.share_run.specs.declared.status.ShareStatus.{ShareStatus};
 
-/// Any `K` of the shares that a cut put into its places join to the file that was cut, unless a write or memory fails.
+/// Any `K` of the shares that a cut put into its places join to the file that was cut, unless a read, a write, the place or memory fails.
 pub fn cut_shares_join()
     ensures { (cut : CutRun) (made : SharesPlaced cut (all_chunks cut.shape)) (lost : ℕ → Bool)
         (join : JoinRun) (status : ShareStatus) → IsAloof cut.shape
@@ -20,8 +20,8 @@ pub fn cut_shares_join()
         → PlacesOrFails status join.before join.after made.cut.file }
 {}
 
-/// From any `K` of them a lost share is mended as it was cut, unless a write or memory fails: from whole blocks, and from parts where the helpers
-/// are among them. No helper stops it then.
+/// From any `K` of them a lost share is mended as it was cut, unless a read, a write, the place or memory fails: from whole blocks, and from parts
+/// where the helpers are among them. No helper stops it then.
 pub fn cut_shares_mend()
     ensures blocks { (cut : CutRun) (made : SharesPlaced cut (all_chunks cut.shape))
         (lost : ℕ → Bool) (mend : MendRun) (status : ShareStatus) → IsAloof cut.shape

@@ -1,4 +1,4 @@
-//! A lost share mended from whole blocks of the others, which is put into its place once it is whole.
+//! A lost share mended from whole blocks, which is put into its place once it is whole.
 ghost use Rattle.std.specs.Prelude.{◌≡◌, [], length, map};
 ghost use Rattle.clay_aloof.specs.Shape.{all_chunks};
 ghost use Rattle.share_files.specs.Seen.{seen};

@@ -6,11 +6,11 @@ ghost use Rattle.share_run.specs.Status.{status_number};
 #[derive(Clone, Copy, Debug, PartialEq, Eq)]
 pub enum ShareStatus {
     Done,
-    /// The words are no command's, or the numbers are no code's.
+    /// The words are no command's, the numbers are no code's, or the file is too long.
     Usage,
-    /// Fewer shares are good than the code has data chunks.
+    /// More than `M` shares have no good block of a stripe.
     TooFew,
-    /// A share is rotten, or of another file.
+    /// A share is rotten, or of another file, or the joined file has another checksum.
     BadShare,
     ReadFault,
     WriteFault,
