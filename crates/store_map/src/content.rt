@@ -46,15 +46,6 @@ impl HexBytes {
         HexBytes { bytes }
     }
 
-    /// The bytes as a vector, in the same memory.
-    pub fn into_vec(self) -> Vec<u8>
-        ensures bytes { result.items ≡ self }
-        ensures within { length self < 2 ^ 32 }
-    {
-        let HexBytes { bytes } = self;
-        bytes
-    }
-
     pub fn as_slice(&self) -> &[u8]
         ensures bytes { result.now ≡ self.now }
         ensures within { length self.now < 2 ^ 32 }
