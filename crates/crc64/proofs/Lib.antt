@@ -3,3 +3,7 @@ pub mod Lookups
 pub mod Degrees
 pub mod Bursts
 pub mod Combined
+pub mod Multiple
+pub mod Places
+pub mod Folded
+pub mod Struck

@@ -168,20 +168,31 @@ bytes_step start register next index bytes entries have less small was is =
     ∙ ap (after start) (sym (take-suc bytes index 0 less) ∙ ap (λ n. take n bytes) more)
 
 -- checksums go on from those of what stands before
-pub checksum_goes_on : (before bytes : List ℕ) (checksum register last : ℕ) (n : ℕ) → checksum ≡ checksum_of before
-    → register ≡ after (bit_xor checksum ones) (take n bytes) → last ≡ after register (take (length bytes - n) (drop n bytes))
-    → bit_xor last ones ≡ checksum_of (before ++ bytes)
-checksum_goes_on before bytes checksum register last n begun first then =
-    let rest : take (length bytes - n) (drop n bytes) ≡ drop n bytes = take_all (length bytes - n) (drop n bytes) (omega (arith, length-drop n bytes)) in
+pub checksum_goes_on : (before bytes : List ℕ) (checksum last : ℕ) → checksum ≡ checksum_of before
+    → last ≡ after (bit_xor checksum ones) bytes → bit_xor last ones ≡ checksum_of (before ++ bytes)
+checksum_goes_on before bytes checksum last begun then =
     let back : bit_xor checksum ones ≡ after ones before =
     ap (λ v. bit_xor v ones) begun ∙ xor_assoc (after ones before) ones ones ∙ ap (bit_xor (after ones before)) (xor_self ones)
     ∙ xor_zero_r (after ones before) in
     ap (λ v. bit_xor v ones)
-    (then ∙ ap (after register) rest
-    ∙ ap (λ r. after r (drop n bytes)) (first ∙ ap (λ r. after r (take n bytes)) back)
-    ∙ sym (after_append (after ones before) (take n bytes) (drop n bytes))
-    ∙ ap (after (after ones before)) (take-append-drop n bytes)
-    ∙ sym (after_append ones before bytes))
+    (then ∙ ap (λ r. after r bytes) back ∙ sym (after_append ones before bytes))
 
 pub checksum_of_nothing : 0 ≡ checksum_of []
 checksum_of_nothing = sym (ap (λ v. bit_xor v ones) (after_none ones) ∙ xor_self ones)
+
+-- what stands behind whole blocks
+pub whole_after : (start register last n : ℕ) (bytes : List ℕ) → register ≡ after start (take n bytes)
+    → last ≡ after register (take (length bytes - n) (drop n bytes)) → last ≡ after start bytes
+whole_after start register last n bytes first then =
+    let rest : take (length bytes - n) (drop n bytes) ≡ drop n bytes = take_all (length bytes - n) (drop n bytes) (omega (arith, length-drop n bytes)) in
+    then ∙ ap (after register) rest ∙ ap (λ r. after r (drop n bytes)) first
+    ∙ sym (after_append start (take n bytes) (drop n bytes))
+    ∙ ap (after start) (take-append-drop n bytes)
+
+-- a turn more
+pub turn_more : (start register next at turn size : ℕ) (bytes : List ℕ) → size ≡ turn → register ≡ after start (take at bytes)
+    → next ≡ after register (take size (drop at bytes)) → next ≡ after start (take (at + turn) bytes)
+turn_more start register next at turn size bytes is was then =
+    then ∙ (λ i. after (was i) (take (is i) (drop at bytes)))
+    ∙ sym (after_append start (take at bytes) (take turn (drop at bytes)))
+    ∙ ap (after start) (sym (take-add at turn bytes))

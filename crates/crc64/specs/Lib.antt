@@ -1,3 +1,4 @@
 pub mod Remainder
 pub mod Division
 pub mod Tables
+pub mod Folding

@@ -7,10 +7,12 @@ ghost use Rattle.crc64.specs.Remainder.{reduced, remainder, after, ones, checksu
 ghost use Rattle.crc64.specs.Tables.{HasRemainders};
 
 mod combiner;
+mod folding;
 mod laws;
 
 use byteorder::{ByteOrder, LittleEndian};
 pub use combiner::Combiner;
+use folding::{LEAST, TURN, fold, no_rest};
 pub use laws::{bursts_are_found, checksums_fit, remainders_are_left};
 use std::alloc::{AllocError, Global};
 
@@ -74,7 +76,7 @@ impl Crc64 {
         Ok(Crc64 { remainders })
     }
 
-    // The remainder of a word with so many zero bytes behind it.
+    // The remainder of a word with so many zero bytes behind it. Inlined always: where two sums run side by side, LLVM calls it else.
     #[inline(always)]
     fn word_remainder(&self, behind: usize, word: u64) -> u64
         requires { behind ≤ 8 }
@@ -88,6 +90,7 @@ impl Crc64 {
         sum
     }
 
+    // After 16 bytes. Inlined always, for the same reason.
     #[inline(always)]
     fn after_block(&self, register: u64, block: &[u8]) -> u64
         requires { length block.now ≡ 16 }
@@ -112,13 +115,12 @@ impl Crc64 {
     }
 
     // After the first whole blocks of 16 bytes of two slices. Neither sum waits for the other, so both take little more time than one.
-    fn after_blocks_of_two(&self, first: &[u8], second: &[u8]) -> (u64, u64)
+    fn after_blocks_of_two(&self, starts: (u64, u64), first: &[u8], second: &[u8]) -> (u64, u64)
         requires { length first.now ≡ length second.now }
-        ensures first { result.0 ≡ after ones (take (length first.now / 16 * 16) first.now) }
-        ensures second { result.1 ≡ after ones (take (length second.now / 16 * 16) second.now) }
+        ensures first { result.0 ≡ after starts.0 (take (length first.now / 16 * 16) first.now) }
+        ensures second { result.1 ≡ after starts.1 (take (length second.now / 16 * 16) second.now) }
     {
-        let mut one = ONES;
-        let mut other = ONES;
+        let (mut one, mut other) = starts;
         for number in 0..first.len() / 16 {
             let at = number * 16;
             one = self.after_block(one, &first[at..at + 16]);
@@ -149,14 +151,50 @@ impl Crc64 {
         register
     }
 
+    // By the tables alone.
+    fn after_short(&self, start: u64, bytes: &[u8]) -> u64
+        ensures { result ≡ after start bytes.now }
+    {
+        let whole = bytes.len() / 16 * 16;
+        let register = self.after_blocks(start, bytes);
+        self.after_each(register, &bytes[whole..])
+    }
+
+    // Two slices side by side, by the tables alone.
+    fn after_short_of_two(&self, starts: (u64, u64), first: &[u8], second: &[u8]) -> (u64, u64)
+        requires { length first.now ≡ length second.now }
+        ensures first { result.0 ≡ after starts.0 first.now }
+        ensures second { result.1 ≡ after starts.1 second.now }
+    {
+        let whole = first.len() / 16 * 16;
+        let (one, other) = self.after_blocks_of_two(starts, first, second);
+        let one = self.after_each(one, &first[whole..]);
+        let other = self.after_each(other, &second[whole..]);
+        (one, other)
+    }
+
+    // Long slices are folded, a turn at a time.
+    fn after_all(&self, start: u64, bytes: &[u8]) -> u64
+        ensures { result ≡ after start bytes.now }
+    {
+        let mut register = start;
+        let mut at = 0;
+        while bytes.len() - at >= LEAST {
+            let turn = (bytes.len() - at).min(TURN) / 16 * 16;
+            let mut rest = no_rest();
+            fold(register, &bytes[at..at + turn], &mut rest);
+            register = self.after_short(0, &rest);
+            at += turn;
+        }
+        self.after_short(register, &bytes[at..])
+    }
+
     /// The checksum of what `checksum` is the checksum of, and these bytes behind it.
     pub fn extended(&self, checksum: u64, bytes: &[u8]) -> u64
         ensures { (before : List ℕ) → checksum ≡ checksum_of before
             → result ≡ checksum_of (before ++ bytes.now) }
     {
-        let whole = bytes.len() / 16 * 16;
-        let register = self.after_blocks(checksum ^ ONES, bytes);
-        self.after_each(register, &bytes[whole..]) ^ ONES
+        self.after_all(checksum ^ ONES, bytes) ^ ONES
     }
 
     /// The checksum of some bytes.
@@ -172,10 +210,21 @@ impl Crc64 {
         ensures first { result.0 ≡ checksum_of first.now }
         ensures second { result.1 ≡ checksum_of second.now }
     {
-        let whole = first.len() / 16 * 16;
-        let (one, other) = self.after_blocks_of_two(first, second);
-        let one = self.after_each(one, &first[whole..]);
-        let other = self.after_each(other, &second[whole..]);
-        (one ^ ONES, other ^ ONES)
+        let mut one = ONES;
+        let mut other = ONES;
+        let mut at = 0;
+        while first.len() - at >= LEAST {
+            let turn = (first.len() - at).min(TURN) / 16 * 16;
+            let mut near = no_rest();
+            let mut far = no_rest();
+            fold(one, &first[at..at + turn], &mut near);
+            fold(other, &second[at..at + turn], &mut far);
+            let sums = self.after_short_of_two((0, 0), &near, &far);
+            one = sums.0;
+            other = sums.1;
+            at += turn;
+        }
+        let last = self.after_short_of_two((one, other), &first[at..], &second[at..]);
+        (last.0 ^ ONES, last.1 ^ ONES)
     }
 }
