@@ -6,13 +6,17 @@ ghost use Rattle.share_run.specs.Status.{status_number};
 #[derive(Clone, Copy, Debug, PartialEq, Eq)]
 pub enum ShareStatus {
     Done,
-    /// The words are no command's, the numbers are no code's, or the file is too long.
+    /// The words are no command's, the numbers are no code's, the code has no share of the number, or the file that is to be cut is too long.
     Usage,
-    /// More than `M` shares have no good block of a stripe.
+    /// More than `M` shares have no good block of a stripe, or none that can be read, or no share has a good header. Of a check: fewer than `K`
+    /// shares are whole.
     TooFew,
-    /// A share is rotten, or of another file, or the joined file has another checksum.
+    /// The joined file has not the headers' checksum, or a folder has shares of two names. Of a check: at least `K` shares are whole, and one
+    /// isn't or a stray is there.
     BadShare,
+    /// The file that is to be cut can't be read, or the folder of the shares can't be.
     ReadFault,
+    /// What is made can't be written, or its place can't be filled.
     WriteFault,
     OutOfMemory,
 }
