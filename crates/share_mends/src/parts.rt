@@ -93,12 +93,6 @@ fn copy_of(alloc: Global, rooms: &mut Vec<Vec<u8>>, bytes: &[u8]) -> Result<Vec<
     Ok(copy)
 }
 
-// Keeps a room for later bytes.
-fn keep_room(rooms: &mut Vec<Vec<u8>>, room: Vec<u8>) -> Result<(), AllocError> {
-    rooms.push(room)?;
-    Ok(())
-}
-
 /// Keeps the rooms of parts for those of the next stripe.
 pub(crate) fn keep_rooms(
     parts: Vec<Option<Vec<u8>>>,
@@ -106,7 +100,7 @@ pub(crate) fn keep_rooms(
 ) -> Result<(), AllocError> {
     for part in parts {
         if let Some(room) = part {
-            keep_room(rooms, room)?;
+            rooms.push(room)?;
         }
     }
     Ok(())
@@ -170,6 +164,8 @@ pub(crate) fn read_part<S: SourceAt>(
         Err(ReadFault::Ended) => return Ok(None),
     }
     let part = good_part(alloc, crc, plan, rooms, &piece)?;
-    keep_room(rooms, piece)?;
-    Ok(part)
+    match rooms.push(piece) {
+        Ok(()) => Ok(part),
+        Err(_) => Err(BlockFault::OutOfMemory),
+    }
 }

@@ -21,16 +21,16 @@ returns-in-Err-Ended-clause-found g c = λ file shows.
     none_shown c.args.plan.now.geometry c.args.plan.now.lost c.args.stripe c.block_place-place.result c.deref.result.now c.args.plan.now.spans.items file c.requires.plan.aloof
     c.requires.plan.lost c.block_place-place.ensures c.deref.ensures.value c.requires.plan.spans (c.in-Err-Ended.ensures.short file shows (ap Err c.in-Err-Ended.field-0-is))
 
-pub returns-clause-found : goal.returns-clause-found
-returns-clause-found g c = λ file shows.
+pub returns-in-Ok-push-clause-found : goal.returns-in-Ok-push-clause-found
+returns-in-Ok-push-clause-found g c = λ file shows.
     let same : c.deref-2.result.now ≡ c.read_spans.new.buf = first_of (search rules, grind (arith, common_steps)) in
     found_shown c.args.plan.now.geometry c.args.plan.now.lost c.args.stripe file _ _ c.read_spans.new.buf c.deref-2.result.now _ c.in_ok-part.part
     (in_block c.args.plan.now.geometry c.args.plan.now.lost c.args.stripe c.block_place-place.result c.deref.result.now c.args.plan.now.spans.items _ _ c.read_spans.new.buf
     c.block_place-place.ensures c.deref.ensures.value c.requires.plan.spans c.in-Ok.ensures.given)
     shows same c.in_ok-part.ensures.found
 
-pub returns-clause-given : goal.returns-clause-given
-returns-clause-given g c =
+pub returns-in-Ok-push-clause-given : goal.returns-in-Ok-push-clause-given
+returns-in-Ok-push-clause-given g c =
     if_some c.in_ok-part.part (record {
       bytes = c.read_spans.new.buf;
       gives =
