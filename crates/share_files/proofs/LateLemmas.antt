@@ -7,16 +7,14 @@ use Rattle.std.proofs.lemmas.List.{drop_at}
 use Rattle.std.proofs.lemmas.List.Elements.{All-nil, All-cons, All-head, All-drop, All-same, All-append}
 use Rattle.file_bytes.specs.Places.{FailsIn}
 use Rattle.clay_aloof.specs.Shape.{AloofShape}
-use Rattle.share_format.specs.Blocks.{block_length, IsBlock}
+use Rattle.share_format.specs.Blocks.{block_length}
 use Rattle.share_format.specs.Shares.{block_start}
-use Rattle.share_files.specs.Found.{block_in}
 use Rattle.share_files.specs.Seen.{Seen, seen_of, failed_since}
 use Rattle.share_files.specs.Missed.{HasFailed, IsMissing, CountsAt}
 use Rattle.share_files.specs.Gathered.{Grow, FailLate, MayFail, AreRead, AreReadIn}
 use Rattle.share_files.specs.Stripes.{IsRead}
 use Rattle.share_files.proofs.FoundLemmas.{place_before}
 use Rattle.share_files.proofs.ReadLemmas.{of_each}
-use Rattle.share_files.proofs.Steps.{missing_later}
 
 -- what stands behind a list that is the front of another
 behind : (failed more now : List ℕ) → now ≡ failed ++ more → drop (length failed) now ≡ more
@@ -85,6 +83,19 @@ late_then a i olds mids news one two early late c =
 
 -- ---- the stripes before
 
+failed_later : (a : AloofShape) (i : ℕ) (failed more now : List ℕ) → now ≡ failed ++ more → HasFailed a i failed → HasFailed a i now
+failed_later a i failed more now is has = record {
+  earlier = has.earlier;
+  place = has.place;
+  later = has.later ++ more;
+  one = is ∙ ap (λ l. l ++ more) has.one ∙ append_assoc has.earlier (has.place ∷ has.later) more;
+  from = has.from;
+  before = has.before;
+}
+
+pub missing_later : (a : AloofShape) (i : ℕ) (file failed more now : List ℕ) → now ≡ failed ++ more → IsMissing a i file failed → IsMissing a i file now
+missing_later a i file failed more now is missing = elim missing [ inl none ↦ inl none | inr has ↦ inr (failed_later a i failed more now is has) ]
+
 -- an element of two lists, one behind the other, stands in one of them
 in_either : (earlier : List ℕ) (x : ℕ) (later xs ys : List ℕ) → xs ++ ys ≡ earlier ++ x ∷ later →
     ((front : List ℕ) × (rest : List ℕ) × (xs ≡ front ++ x ∷ rest)) ⊎ ((front : List ℕ) × (ys ≡ front ++ x ∷ later))
@@ -117,7 +128,7 @@ module _ (a : AloofShape) (k i : ℕ) (less : k < i) where
         absurd (none_late more late (record { earlier = found.0; place = has.place; later = has.later; one = found.1; from = has.from; before = has.before }))
   ]
 
-  missing_earlier : (file failed more now : List ℕ) → now ≡ failed ++ more → All (IsLate a i) more → IsMissing a k file now → IsMissing a k file failed
+  pub missing_earlier : (file failed more now : List ℕ) → now ≡ failed ++ more → All (IsLate a i) more → IsMissing a k file now → IsMissing a k file failed
   missing_earlier file failed more now is late missing = elim missing [ inl none ↦ inl none | inr has ↦ inr (failed_before failed more now is late has) ]
 
 -- what counted and was read of an earlier stripe still does

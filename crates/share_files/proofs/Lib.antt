@@ -10,8 +10,8 @@ pub mod PutLemmas
 pub mod Faults
 pub mod WholeLemmas
 pub mod ReadLemmas
-pub mod Steps
 pub mod LateLemmas
+pub mod Steps
 pub mod Bytes
 pub mod DataLemmas
 pub mod PassLemmas

@@ -1,10 +1,10 @@
 -- What one more stripe that was read says of each share.
-use Rattle.std.proofs.Common.{◌≡◌, ◌≢◌, ℕ, ◌+◌, ◌-◌, ◌*◌, ◌<◌, ◌≤◌, Bool, true, false, List, [], ◌∷◌, ◌++◌, length, get_or, drop, Option, None, Some, is_none, Vec, Global, refl, sym, subst, ap, ◌∙◌, inl, inr, arith, append_assoc, length-append, below_more}
+use Rattle.std.proofs.Common.{◌≡◌, ℕ, ◌+◌, ◌-◌, ◌*◌, ◌<◌, ◌≤◌, Bool, true, false, List, [], ◌∷◌, ◌++◌, length, get_or, drop, Option, None, Some, is_none, Vec, Global, refl, sym, subst, ap, ◌∙◌, inl, inr, arith, length-append, below_more}
 use Rattle.std.specs.Prelude.{All}
 use Rattle.std.proofs.lemmas.Bool.{true≢false, cases_lt}
 use Rattle.std.proofs.lemmas.List.{drop-append-le, drop_all, get_or-append_right}
 use Rattle.std.proofs.lemmas.Nat.{mul-le}
-use Rattle.std.proofs.lemmas.List.Elements.{All-nil, All-same, All-push}
+use Rattle.std.proofs.lemmas.List.Elements.{All-nil, All-cons, All-same, All-push}
 use Rattle.file_bytes.specs.Places.{FailsIn}
 use Rattle.clay_aloof.specs.Shape.{AloofShape, all_chunks}
 use Rattle.share_format.specs.Cut.{stripe_count}
@@ -24,25 +24,13 @@ use Rattle.share_files.specs.declared.joining.JoinFault.{JoinFault}
 use Rattle.share_files.specs.declared.joining.JoinFault.TheVariants.{TooFew, Mismatch, WriteFault, OutOfMemory}
 use Rattle.share_files.proofs.FoundLemmas.{place_before}
 use Rattle.share_files.proofs.ReadLemmas.{grows_none, grow_then, grow_read}
+use Rattle.share_files.proofs.LateLemmas.{missing_later, missing_earlier}
 
 -- ---- where reads failed
 
 failed_once : (a : AloofShape) (i : ℕ) (failed now : List ℕ) → FailsIn (block_start a i) (block_length a) failed now → HasFailed a i now
 failed_once a i failed now fails =
     record { earlier = failed; place = fails.place; later = []; one = fails.fails; from = fails.from; before = fails.before }
-
-failed_later : (a : AloofShape) (i : ℕ) (failed more now : List ℕ) → now ≡ failed ++ more → HasFailed a i failed → HasFailed a i now
-failed_later a i failed more now is has = record {
-  earlier = has.earlier;
-  place = has.place;
-  later = has.later ++ more;
-  one = is ∙ ap (λ l. l ++ more) has.one ∙ append_assoc has.earlier (has.place ∷ has.later) more;
-  from = has.from;
-  before = has.before;
-}
-
-pub missing_later : (a : AloofShape) (i : ℕ) (file failed more now : List ℕ) → now ≡ failed ++ more → IsMissing a i file failed → IsMissing a i file now
-missing_later a i file failed more now is missing = elim missing [ inl none ↦ inl none | inr has ↦ inr (failed_later a i failed more now is has) ]
 
 pub had_none : (a : AloofShape) (i : ℕ) (file failed now : List ℕ) (block : Option (Vec ℕ Global)) → is_none block ≡ true → IsHad a i file failed now block →
     IsMissing a i file now
@@ -97,32 +85,13 @@ module _ (a : AloofShape) (first i : ℕ) (from : first ≤ i) (failed now : Lis
 
 -- ---- which blocks count
 
--- one of these stands before the last, where it is another
-stands_before : (earlier : List ℕ) (x : ℕ) (later failed : List ℕ) (last : ℕ) → failed ++ last ∷ [] ≡ earlier ++ x ∷ later → x ≢ last →
-    (rest : List ℕ) × (failed ≡ earlier ++ x ∷ rest)
-stands_before [] x later [] last e differs = let same : x ≡ last = cc in absurd (differs same)
-stands_before [] x later (f ∷ failed) last e differs = let same : f ≡ x = cc in (failed, ap (λ n. n ∷ failed) same)
-stands_before (y ∷ earlier) x later [] last e differs =
-    let size : length (last ∷ []) ≡ length (y ∷ (earlier ++ x ∷ later)) = ap (λ (l : List ℕ). length l) e in
-    absurd (omega (arith, size, length-append earlier (x ∷ later)))
-stands_before (y ∷ earlier) x later (f ∷ failed) last e differs =
-    let first : f ≡ y = cc in
-    let others : failed ++ last ∷ [] ≡ earlier ++ x ∷ later = cc in
-    let found = stands_before earlier x later failed last others differs in
-    (found.0, (λ k. first k ∷ found.1 k))
-
 -- a read of a later stripe's block that fails is none of this one
 missing_before : (a : AloofShape) (j i : ℕ) → j < i → (file failed now : List ℕ) → MayFail a i failed now → IsMissing a j file now → IsMissing a j file failed
 missing_before a j i less file failed now may missing = elim may [
   | inl same ↦ let P : List ℕ → Type 0 = λ l. IsMissing a j file l in subst P same missing
-  | inr fails ↦ elim missing [
-    | inl none ↦ inl none
-    | inr has ↦
-        let end : block_start a j + block_length a ≤ block_start a i = place_before a j i less in
-        let differs : has.place ≢ fails.place = λ e. omega (arith, e, end, has.before, fails.from) in
-        let found = stands_before has.earlier has.place has.later failed fails.place (sym fails.fails ∙ has.one) differs in
-        inr (record { earlier = has.earlier; place = has.place; later = found.0; one = found.1; from = has.from; before = has.before })
-  ]
+  | inr fails ↦
+      let P : ℕ → Type 0 = λ place. block_start a i ≤ place in
+      missing_earlier a j i less file failed (fails.place ∷ []) now fails.fails (All-cons P fails.place [] fails.from (All-nil P)) missing
 ]
 
 missing_after : (a : AloofShape) (j i : ℕ) (file failed now : List ℕ) → MayFail a i failed now → IsMissing a j file failed → IsMissing a j file now

@@ -1,18 +1,15 @@
 -- A stripe of the data shares' chunks is that of the blocks that count where no parity share's does.
-use Rattle.std.proofs.Common.{◌≡◌, ℕ, zero, suc, ◌+◌, ◌-◌, ◌<◌, ◌≤◌, ◌⊎◌, Bool, true, false, cond, List, [], ◌∷◌, ◌++◌, length, get_or, take, Option, None, Some, IfSome, is_none, Vec, Global, refl, sym, subst, ap, ◌∙◌, inl, inr, arith, below_more, bytes_eq, drop}
-use Rattle.std.proofs.lemmas.Bool.{cases_lt, cases_eq, cases_Bool, true≢false}
+use Rattle.std.proofs.Common.{◌≡◌, ℕ, zero, suc, ◌+◌, ◌-◌, ◌<◌, ◌≤◌, Bool, true, false, cond, List, [], ◌∷◌, ◌++◌, length, get_or, take, Option, None, Some, IfSome, is_none, Vec, Global, refl, sym, subst, ap, ◌∙◌, inl, inr, arith, below_more}
+use Rattle.std.proofs.lemmas.Bool.{cases_lt}
 use Rattle.std.proofs.lemmas.List.{length-take-le, get_or_append_left, get_or-take, get_or_default, length_push, get_or_push, same_lists}
 use Rattle.std.proofs.lemmas.List.Elements.{All-from_get_or}
-use Rattle.std.proofs.lemmas.Slice.Eq.{bytes_eq-Decides}
 use Rattle.std.specs.List.{flat_map}
 use Rattle.clay_grid.specs.Score.{count_below}
 use Rattle.clay_model.specs.Left.{AreLong}
 use Rattle.clay_aloof.specs.Shape.{AloofShape, all_chunks}
-use Rattle.clay_aloof.specs.Limits.{IsAloof}
-use Rattle.share_format.specs.Blocks.{block_of, chunk_start, block_length, IsBlock}
+use Rattle.share_format.specs.Blocks.{block_length}
 use Rattle.share_format.specs.Joined.{is_lost, AreTooFew, IsJoined, chunk_or_zeros}
 use Rattle.share_format.proofs.Joining.{data_joined}
-use Rattle.share_files.specs.Found.{block_in}
 use Rattle.share_files.specs.Stripes.{IsRead}
 use Rattle.share_files.specs.Handed.{HasBlock, HaveBlocks, data_in}
 

@@ -1,5 +1,5 @@
 //! A stripe of a file, coded and laid out in a block for each share.
-ghost use Rattle.std.specs.Prelude.{◌≡◌, ◌+◌, ◌*◌, ◌<◌, ◌++◌, ℕ, map, length, IfOk, OnOk, OnErr};
+ghost use Rattle.std.specs.Prelude.{◌≡◌, ◌+◌, ◌*◌, ◌<◌, ◌++◌, map, length, IfOk, OnOk};
 ghost use Rattle.clay_model.specs.Chunks.{contents};
 ghost use Rattle.clay_grid.specs.Shape.{chunk_length};
 ghost use Rattle.clay_aloof.specs.Shape.{all_chunks, grid_of, stripe_bytes};

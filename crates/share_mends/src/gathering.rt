@@ -1,6 +1,5 @@
 //! The helpers' parts of a stripe, read from their shares.
-ghost use Rattle.std.specs.Prelude.{◌≡◌, ◌+◌, ◌^◌, ◌≤◌, ◌<◌, ℕ, List, [], None, true, is_some, map, length, get_or, IfOk, IfErr, IfSome, OnOk, IsErrOf};
-ghost use Rattle.clay_model.specs.Left.{AreLong};
+ghost use Rattle.std.specs.Prelude.{◌≡◌, ◌+◌, ◌^◌, ◌<◌, ℕ, List, None, true, is_some, map, length, IfOk, IfErr, IfSome, OnOk, IsErrOf};
 ghost use Rattle.clay_aloof.specs.Shape.{all_chunks};
 ghost use Rattle.clay_aloof.specs.Repair.{part_bytes};
 ghost use Rattle.file_bytes.specs.Places.{Shows, FailsIn};

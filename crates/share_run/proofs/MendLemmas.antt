@@ -1,8 +1,8 @@
 -- What a mend put into an empty sink.
-use Rattle.std.proofs.Common.{◌≡◌, ℕ, List, [], ◌++◌, length, drop, append-nil, sym, subst, ◌∙◌, ap}
+use Rattle.std.proofs.Common.{◌≡◌, ℕ, List, [], ◌++◌, length, append-nil, sym, subst, ◌∙◌, ap}
 use Rattle.std.proofs.Math.Seq.{drop-nil}
 use Rattle.file_bytes.specs.Places.{Placed}
-use Rattle.file_bytes.specs.Laid.{laid, laid_over}
+use Rattle.file_bytes.specs.Laid.{laid}
 use Rattle.share_files.specs.Put.{PutsFile}
 
 -- an empty sink that took such bytes makes them

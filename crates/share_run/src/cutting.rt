@@ -1,5 +1,5 @@
 //! A file cut into shares, which are put into their places once all are whole.
-ghost use Rattle.std.specs.Prelude.{◌≡◌, ◌⊎◌, ◌<◌, ◌++◌, [], ℕ, All, length, map, take, OnOk, OnErr, IsErrOf};
+ghost use Rattle.std.specs.Prelude.{◌≡◌, ◌<◌, ◌++◌, [], ℕ, All, length, map, take, OnOk, OnErr, IsErrOf};
 ghost use Rattle.clay_bytes.specs.Stream.{Rises};
 ghost use Rattle.clay_aloof.specs.Shape.{all_chunks};
 ghost use Rattle.file_bytes.specs.Laid.{laid};

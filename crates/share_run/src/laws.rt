@@ -1,5 +1,5 @@
 //! What the commands make together. The functions do nothing: their contracts are the theorems.
-ghost use Rattle.std.specs.Prelude.{◌≡◌, ℕ, ◌<◌, [], Bool, true, false, List, get_or};
+ghost use Rattle.std.specs.Prelude.{◌≡◌, ℕ, [], Bool, true, false, List, get_or};
 ghost use Rattle.clay_aloof.specs.Shape.{all_chunks};
 ghost use Rattle.clay_aloof.specs.Limits.{IsAloof};
 ghost use Rattle.share_mends.specs.Asked.{AreHelpers, helps};

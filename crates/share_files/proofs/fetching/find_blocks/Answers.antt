@@ -1,4 +1,4 @@
-use Rattle.std.proofs.Common.{Option, List, Vec, Global, ℕ, length, subst, sym, ◌∙◌}
+use Rattle.std.proofs.Common.{Option, List, Vec, Global, ℕ, subst, sym, ◌∙◌}
 use Rattle.std.proofs.lemmas.List.{with_items_is}
 use Rattle.clay_model.specs.Left.{AreLong}
 use Rattle.share_format.specs.Blocks.{block_length}

@@ -1,4 +1,4 @@
-use Rattle.std.proofs.Common.{length, ◌∙◌, ap, Err}
+use Rattle.std.proofs.Common.{◌∙◌, ap, Err}
 use Rattle.share_files.proofs.DataLemmas.{data_long, data_of, all_of, joins_data, joins_all, lacks_all, ok_is_no_fault}
 use Rattle.share_files.proofs.stripe_reading.next_stripe.Goals as goal
 

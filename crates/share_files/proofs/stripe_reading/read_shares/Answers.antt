@@ -1,4 +1,4 @@
-use Rattle.std.proofs.Common.{length, sym, ◌∙◌}
+use Rattle.std.proofs.Common.{sym, ◌∙◌}
 use Rattle.std.proofs.lemmas.Bool.{true≢false}
 use Rattle.share_files.proofs.ReadLemmas.{grow_then}
 use Rattle.share_files.proofs.LateLemmas.{late_then}

@@ -1,4 +1,4 @@
-use Rattle.std.proofs.Common.{◌≡◌, ◌<◌, ◌≤◌, ◌+◌, ℕ, List, length, map, take, append-nil, refl, sym, subst, ◌∙◌, ap, arith}
+use Rattle.std.proofs.Common.{◌<◌, ◌≤◌, ℕ, length, append-nil, refl, sym, subst, ◌∙◌, arith}
 use Rattle.clay_bytes.specs.Stream.{Rises}
 use Rattle.clay_aloof.specs.Shape.{all_chunks}
 use Rattle.file_bytes.specs.Laid.{laid}
