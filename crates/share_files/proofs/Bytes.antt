@@ -17,7 +17,7 @@ use Rattle.share_files.specs.Seen.{Seen, seen_of, failed_since, Show}
 use Rattle.share_files.specs.Missed.{CountsAt}
 use Rattle.share_files.proofs.CutLemmas.{places_fit}
 use Rattle.share_files.specs.Joined.{NoRotIn, NoRotPasses}
-use Rattle.share_files.specs.Stripes.{IsRead, IsStripeOf, HasStripe, AreJoined}
+use Rattle.share_files.specs.Stripes.{IsRead, AreBlocksOf, IsStripeOf, HasStripe, AreJoined}
 
 -- ---- places
 
@@ -84,27 +84,28 @@ take_least s xs = elim (cases_lt (length xs) s) [
 some_none : (block : Vec ℕ Global) → Some block ≡ None → ⊥
 some_none block same = cc
 
+-- the blocks of a stripe are those of a word, where what passes in the files is
+pub blocks_have : (a : AloofShape) (i : ℕ) (Counts : ℕ → Type 0) (files word : List (List ℕ)) (olds news : List Seen) (blocks : List (Option (Vec ℕ Global))) →
+    AreBlocksOf a i Counts files olds news blocks → NoRotIn a i files word → HasBlocks a blocks word
+blocks_have a i Counts files word olds news blocks are no_rot c block there = elim (cases_lt c (all_chunks a)) [
+  | inl less ↦
+      let P : Option (Vec ℕ Global) → Type 0 = λ b. IsRead a i (Counts c) (get_or files c []) (failed_since (seen_of olds c) (seen_of news c)) b in
+      let read = subst P there (are.read c less) in
+      read.1 ∙ no_rot c less read.2
+  | inr more ↦
+      let none : get_or blocks c None ≡ None = get_or_past blocks c None (omega (arith, more, are.count)) in
+      let same : Some block ≡ None = sym there ∙ none in absurd (some_none block same)
+]
+
 module _ (h : Header) (i : ℕ) (olds news : List Seen) (file : List ℕ) (words : List (List (List ℕ))) (files : List (List ℕ)) (size : length file ≡ h.size)
     (coded : AreCodewords h.shape file words) (within : i < length words) (no_rot : NoRotIn h.shape i files (get_or words i [])) where
   abbrev s : ℕ
   s = stripe_bytes h.shape
 
-  has_blocks : (bytes : List ℕ) (is : IsStripeOf h.shape i files olds news bytes) → HasBlocks h.shape is.blocks (get_or words i [])
-  has_blocks bytes is c block there =
-      elim (cases_lt c (all_chunks h.shape)) [
-        | inl less ↦
-            let P : Option (Vec ℕ Global) → Type 0 =
-            λ b. IsRead h.shape i (CountsAt h.shape files olds news c i) (get_or files c []) (failed_since (seen_of olds c) (seen_of news c)) b in
-            let read = subst P there (is.read c less) in
-            read.1 ∙ no_rot c less read.2
-        | inr more ↦
-            let none : get_or is.blocks c None ≡ None = get_or_past is.blocks c None (omega (arith, more, is.count)) in
-            let same : Some block ≡ None = sym there ∙ none in absurd (some_none block same)
-      ]
-
   stripe_is : (bytes : List ℕ) → IsStripeOf h.shape i files olds news bytes → bytes ≡ padded s (take s (drop (i * s) file))
   stripe_is bytes is =
-      is.joined (get_or (file_stripes h.shape file) i []) (get_or words i []) (coded.codes i within) (has_blocks bytes is)
+      is.joined (get_or (file_stripes h.shape file) i []) (get_or words i []) (coded.codes i within)
+      (blocks_have h.shape i (λ c. CountsAt h.shape files olds news c i) files (get_or words i []) olds news is.blocks is.are no_rot)
       ∙ stripe_at s (stripe_count h.shape (length file)) i file (subst (λ n. i < n) coded.count within)
 
   -- what was joined of it is the file's

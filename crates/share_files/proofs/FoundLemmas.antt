@@ -14,7 +14,7 @@ all_front : {X : Type 0} (P : X → Type 0) (xs all ys : List X) → all ≡ xs 
 all_front P xs all ys e h = All-same P xs (take (length xs) all) (sym (ap (take (length xs)) e ∙ take_at xs ys (length xs) refl)) (All-take P (length xs) all h)
 
 -- a file that is shown was shown before
-shown_before : (file : List ℕ) (old now more : List Placed) (ends told later : List ℕ) → now ≡ old ++ more → told ≡ ends ++ later → Shows file now told →
+pub shown_before : (file : List ℕ) (old now more : List Placed) (ends told later : List ℕ) → now ≡ old ++ more → told ≡ ends ++ later → Shows file now told →
     Shows file old ends
 shown_before file old now more ends told later e f shows = record {
   bytes = all_front (λ p. slice_get file p.at ≡ Some p.byte) old now more e shows.bytes;

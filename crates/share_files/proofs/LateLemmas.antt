@@ -1,67 +1,28 @@
--- Reads that failed in a stripe's blocks or in later ones: what it says of the stripes before.
-use Rattle.std.proofs.Common.{◌≡◌, ℕ, ◌+◌, ◌<◌, ◌≤◌, ◌⊎◌, List, [], ◌∷◌, ◌++◌, length, get_or, drop, map, Option, None, Some, Vec, Global, refl, sym, subst, ap, ◌∙◌, inl, inr, arith, append-nil, append_assoc}
+-- What is read of a stripe's block, and what it says of the stripes before.
+use Rattle.std.proofs.Common.{◌≡◌, ℕ, ◌+◌, ◌<◌, ◌≤◌, ◌⊎◌, List, [], ◌∷◌, ◌++◌, length, get_or, drop, Option, None, Some, Vec, Global, refl, sym, subst, ap, ◌∙◌, inl, inr, arith, append_assoc}
 use Rattle.std.specs.Prelude.{All}
-use Rattle.std.proofs.Math.ListN.{set}
-use Rattle.std.proofs.lemmas.Bool.{cases_lt}
 use Rattle.std.proofs.lemmas.List.{drop_at}
-use Rattle.std.proofs.lemmas.List.Elements.{All-nil, All-cons, All-head, All-drop, All-same, All-append}
-use Rattle.file_bytes.specs.Places.{FailsIn}
+use Rattle.std.proofs.lemmas.List.Elements.{All-head, All-drop, All-same, All-append}
 use Rattle.clay_aloof.specs.Shape.{AloofShape}
 use Rattle.share_format.specs.Blocks.{block_length}
 use Rattle.share_format.specs.Shares.{block_start}
 use Rattle.share_files.specs.Seen.{Seen, seen_of, failed_since}
 use Rattle.share_files.specs.Missed.{HasFailed, IsMissing, CountsAt}
-use Rattle.share_files.specs.Gathered.{Grow, FailLate, MayFail, AreRead, AreReadIn}
+use Rattle.share_files.specs.Asked.{IsIn, AreAskedIn}
+use Rattle.share_files.specs.Gathered.{Grow}
 use Rattle.share_files.specs.Stripes.{IsRead}
 use Rattle.share_files.proofs.FoundLemmas.{place_before}
-use Rattle.share_files.proofs.ReadLemmas.{of_each}
+use Rattle.share_files.proofs.AskedLemmas.{grow_asked}
 
 -- what stands behind a list that is the front of another
 behind : (failed more now : List ℕ) → now ≡ failed ++ more → drop (length failed) now ≡ more
 behind failed more now is = ap (drop (length failed)) is ∙ drop_at failed more (length failed) refl
 
-module _ (a : AloofShape) (i : ℕ) where
-  abbrev IsLate : ℕ → Type 0
-  IsLate place = block_start a i ≤ place
-
-  -- by the places of the reads that had failed, and of those that have
-  pub late_same : (failed now : List ℕ) → now ≡ failed → All IsLate (drop (length failed) now)
-  late_same failed now same =
-      All-same IsLate (drop (length failed) now) [] (behind failed [] now (same ∙ sym (append-nil failed))) (All-nil IsLate)
-
-  pub late_fails : (size : ℕ) (failed now : List ℕ) → FailsIn (block_start a i) size failed now → All IsLate (drop (length failed) now)
-  late_fails size failed now fails =
-      All-same IsLate (drop (length failed) now) (fails.place ∷ []) (behind failed (fails.place ∷ []) now fails.fails)
-      (All-cons IsLate fails.place [] fails.from (All-nil IsLate))
-
-  late_may : (old new : Seen) → MayFail a i old.failed new.failed → All IsLate (failed_since old new)
-  late_may old new may = elim may [
-    | inl same ↦ late_same old.failed new.failed same
-    | inr fails ↦ late_fails (block_length a) old.failed new.failed fails
-  ]
-
-  pub late_read : (count : ℕ) (olds news : List Seen) (blocks : List (Option (Vec ℕ Global))) → AreRead a i count olds news blocks → FailLate a i olds news
-  late_read count olds news blocks so c = elim (cases_lt c count) [
-    | inl less ↦ late_may (seen_of olds c) (seen_of news c) (so.read c less).fails
-    | inr more ↦ late_same (seen_of olds c).failed (seen_of news c).failed (ap (λ (s : Seen). s.failed) (so.others c more))
-  ]
-
-  pub late_in : (from to : ℕ) (olds news : List Seen) (before after : List (Option (Vec ℕ Global))) → AreReadIn a i from to olds news before after → FailLate a i olds news
-  late_in from to olds news before after is c = elim (cases_lt c from) [
-    | inl early ↦ late_same (seen_of olds c).failed (seen_of news c).failed (ap (λ (s : Seen). s.failed) (is.others c (inl early)))
-    | inr start ↦ elim (cases_lt c to) [
-      | inl less ↦ late_may (seen_of olds c) (seen_of news c) (is.read c start less).fails
-      | inr more ↦ late_same (seen_of olds c).failed (seen_of news c).failed (ap (λ (s : Seen). s.failed) (is.others c (inr more)))
-    ]
-  ]
-
-  pub late_one : {X : Type 0} (f : X → Seen) (xs : List X) (share : ℕ) (old new : X) → share < length xs → old ≡ get_or xs share old →
-      All IsLate (failed_since (f old) (f new)) → (c : ℕ) → All IsLate (failed_since (seen_of (map f xs) c) (seen_of (map f (set xs share new)) c))
-  late_one f xs share old new within here late =
-      of_each f xs share old new within here (λ s t. All IsLate (failed_since s t)) (λ s t same. late_same s.failed t.failed (ap (λ (x : Seen). x.failed) same)) late
+abbrev IsLate : AloofShape → ℕ → ℕ → Type 0
+IsLate a i place = block_start a i ≤ place
 
 -- in between two moments and then in between two others
-since_both : (olds mids news : List Seen) → Grow olds mids → Grow mids news → (c : ℕ) →
+pub since_both : (olds mids news : List Seen) → Grow olds mids → Grow mids news → (c : ℕ) →
     failed_since (seen_of olds c) (seen_of news c) ≡ failed_since (seen_of olds c) (seen_of mids c) ++ failed_since (seen_of mids c) (seen_of news c)
 since_both olds mids news one two c =
     let old : Seen = seen_of olds c in
@@ -74,12 +35,29 @@ since_both olds mids news one two c =
     ((two c).failed ∙ ap (λ l. l ++ (two c).more) (one c).failed ∙ append_assoc old.failed (one c).more (two c).more) in
     all ∙ sym (λ j. first j ++ then j)
 
-pub late_then : (a : AloofShape) (i : ℕ) (olds mids news : List Seen) → Grow olds mids → Grow mids news → FailLate a i olds mids → FailLate a i mids news →
-    FailLate a i olds news
-late_then a i olds mids news one two early late c =
-    All-same (IsLate a i) (failed_since (seen_of olds c) (seen_of news c))
-    (failed_since (seen_of olds c) (seen_of mids c) ++ failed_since (seen_of mids c) (seen_of news c)) (since_both olds mids news one two c)
-    (All-append (IsLate a i) (failed_since (seen_of olds c) (seen_of mids c)) (failed_since (seen_of mids c) (seen_of news c)) (early c) (late c))
+-- reads that failed in a stripe's block
+fails_in : (a : AloofShape) (i : ℕ) (mids news : List Seen) → AreAskedIn a i mids news → (c : ℕ) → All (IsIn a i) (failed_since (seen_of mids c) (seen_of news c))
+fails_in a i mids news asked c =
+    All-same (IsIn a i) (failed_since (seen_of mids c) (seen_of news c)) (asked c).fails
+    (behind (seen_of mids c).failed (asked c).fails (seen_of news c).failed (asked c).failed) (asked c).places.2
+
+pub fails_late : (a : AloofShape) (i : ℕ) (mids news : List Seen) → AreAskedIn a i mids news → (c : ℕ) →
+    All (IsLate a i) (failed_since (seen_of mids c) (seen_of news c))
+fails_late a i mids news asked c k d less = (fails_in a i mids news asked c k d less).0
+
+-- they lie before the next stripe's
+pub within_more : (a : AloofShape) (i : ℕ) (olds mids news : List Seen) → Grow olds mids → AreAskedIn a i mids news →
+    ((c : ℕ) → All (λ place. place < block_start a i) (failed_since (seen_of olds c) (seen_of mids c))) →
+    (c : ℕ) → All (λ place. place < block_start a (i + 1)) (failed_since (seen_of olds c) (seen_of news c))
+within_more a i olds mids news grow asked within c =
+    let P : ℕ → Type 0 = λ place. place < block_start a (i + 1) in
+    let was : List ℕ = failed_since (seen_of olds c) (seen_of mids c) in
+    let since : List ℕ = failed_since (seen_of mids c) (seen_of news c) in
+    let end : block_start a i + block_length a ≤ block_start a (i + 1) = place_before a i (i + 1) (omega arith) in
+    let one : All P was = λ k d less. (let low : get_or was k d < block_start a i = within c k d less in omega (arith, low, end)) in
+    let two : All P since = λ k d less. (let low : get_or since k d < block_start a i + block_length a = (fails_in a i mids news asked c k d less).1 in omega (arith, low, end)) in
+    All-same P (failed_since (seen_of olds c) (seen_of news c)) (was ++ since)
+    (since_both olds mids news grow (grow_asked a i mids news asked) c) (All-append P was since one two)
 
 -- ---- the stripes before
 
@@ -109,16 +87,39 @@ in_either (y ∷ earlier) x later (f ∷ xs) ys e =
       | inr found ↦ inr found
     ]
 
+failed_behind : (a : AloofShape) (i : ℕ) (early failed now : List ℕ) → now ≡ early ++ failed → HasFailed a i failed → HasFailed a i now
+failed_behind a i early failed now is has = record {
+  earlier = early ++ has.earlier;
+  place = has.place;
+  later = has.later;
+  one = is ∙ ap (λ l. early ++ l) has.one ∙ sym (append_assoc early has.earlier (has.place ∷ has.later));
+  from = has.from;
+  before = has.before;
+}
+
+pub missing_behind : (a : AloofShape) (i : ℕ) (file early failed now : List ℕ) → now ≡ early ++ failed → IsMissing a i file failed → IsMissing a i file now
+missing_behind a i file early failed now is missing =
+    elim missing [ inl none ↦ inl none | inr has ↦ inr (failed_behind a i early failed now is has) ]
+
+-- an element that stands between two others
+stands_in : (P : ℕ → Type 0) (earlier : List ℕ) (x : ℕ) (later failed : List ℕ) → failed ≡ earlier ++ x ∷ later → All P failed → P x
+stands_in P earlier x later failed is all =
+    let whole : All P (earlier ++ x ∷ later) = subst (All P) is all in
+    let rest : All P (x ∷ later) =
+    subst (All P) (drop_at earlier (x ∷ later) (length earlier) refl) (All-drop P (length earlier) (earlier ++ x ∷ later) whole) in
+    All-head P x later rest
+
+-- none failed in a block, where all did before it
+pub none_early : (a : AloofShape) (i : ℕ) (failed : List ℕ) → All (λ place. place < block_start a i) failed → HasFailed a i failed → ⊥
+none_early a i failed early has =
+    let low : has.place < block_start a i = stands_in (λ place. place < block_start a i) has.earlier has.place has.later failed has.one early in
+    omega (arith, low, has.from)
+
 module _ (a : AloofShape) (k i : ℕ) (less : k < i) where
   none_late : (failed : List ℕ) → All (IsLate a i) failed → HasFailed a k failed → ⊥
   none_late failed late has =
-      let P : ℕ → Type 0 = IsLate a i in
       let end : block_start a k + block_length a ≤ block_start a i = place_before a k i less in
-      let whole : All P (has.earlier ++ has.place ∷ has.later) = subst (All P) has.one late in
-      let rest : All P (has.place ∷ has.later) =
-      subst (All P) (drop_at has.earlier (has.place ∷ has.later) (length has.earlier) refl)
-      (All-drop P (length has.earlier) (has.earlier ++ has.place ∷ has.later) whole) in
-      let low : block_start a i ≤ has.place = All-head P has.place has.later rest in
+      let low : block_start a i ≤ has.place = stands_in (IsLate a i) has.earlier has.place has.later failed has.one late in
       omega (arith, low, end, has.before)
 
   failed_before : (failed more now : List ℕ) → now ≡ failed ++ more → All (IsLate a i) more → HasFailed a k now → HasFailed a k failed
@@ -131,8 +132,43 @@ module _ (a : AloofShape) (k i : ℕ) (less : k < i) where
   pub missing_earlier : (file failed more now : List ℕ) → now ≡ failed ++ more → All (IsLate a i) more → IsMissing a k file now → IsMissing a k file failed
   missing_earlier file failed more now is late missing = elim missing [ inl none ↦ inl none | inr has ↦ inr (failed_before failed more now is late has) ]
 
+  -- what was read of an earlier stripe is so still
+  pub read_later : (Was Is : Type 0) → (Was → Is) → (Is → Was) → (file failed more now : List ℕ) → now ≡ failed ++ more → All (IsLate a i) more →
+      (block : Option (Vec ℕ Global)) → IsRead a k Was file failed block → IsRead a k Is file now block
+  read_later Was Is forth back file failed more now is late None read = elim read [
+    | inl missing ↦ inl (missing_later a k file failed more now is missing)
+    | inr not ↦ inr (λ counts. not (back counts))
+  ]
+  read_later Was Is forth back file failed more now is late (Some block) read =
+      (forth read.0, read.1, read.2, λ has. read.3 (failed_before failed more now is late has))
+
+-- and so it is since a moment before
+pub read_earlier : (a : AloofShape) (i : ℕ) (Counts : Type 0) (file early failed now : List ℕ) → now ≡ early ++ failed → All (λ place. place < block_start a i) early →
+    (block : Option (Vec ℕ Global)) → IsRead a i Counts file failed block → IsRead a i Counts file now block
+read_earlier a i Counts file early failed now is before None read = elim read [
+  | inl missing ↦ inl (missing_behind a i file early failed now is missing)
+  | inr not ↦ inr not
+]
+read_earlier a i Counts file early failed now is before (Some block) read = (
+  read.0,
+  read.1,
+  read.2,
+  λ has. elim (in_either has.earlier has.place has.later early failed (sym is ∙ has.one)) [
+    | inl found ↦
+        none_early a i early before (record { earlier = found.0; place = has.place; later = found.1; one = found.2; from = has.from; before = has.before })
+    | inr found ↦
+        read.3 (record { earlier = found.0; place = has.place; later = has.later; one = found.1; from = has.from; before = has.before })
+  ],
+)
+
 -- what counted and was read of an earlier stripe still does
-module _ (a : AloofShape) (i : ℕ) (olds mids news : List Seen) (one : Grow olds mids) (two : Grow mids news) (late : FailLate a i mids news) (files : List (List ℕ)) where
+module _ (a : AloofShape) (i : ℕ) (olds mids news : List Seen) (one : Grow olds mids) (asked : AreAskedIn a i mids news) (files : List (List ℕ)) where
+  two : Grow mids news
+  two = grow_asked a i mids news asked
+
+  late : (c : ℕ) → All (IsLate a i) (failed_since (seen_of mids c) (seen_of news c))
+  late = fails_late a i mids news asked
+
   abbrev since : ℕ → List ℕ
   since c = failed_since (seen_of mids c) (seen_of news c)
 
@@ -165,13 +201,6 @@ module _ (a : AloofShape) (i : ℕ) (olds mids news : List Seen) (one : Grow old
 
   pub read_stays : (k : ℕ) → k < i → (c : ℕ) (block : Option (Vec ℕ Global)) → IsRead a k (CountsAt a files olds mids c k) (get_or files c []) (was c) block →
       IsRead a k (CountsAt a files olds news c k) (get_or files c []) (is c) block
-  read_stays k less c None read = elim read [
-    | inl missing ↦ inl (missing_later a k (get_or files c []) (was c) (since c) (is c) (since_both olds mids news one two c) missing)
-    | inr not ↦ inr (λ counts. not (counts_earlier c k less counts))
-  ]
-  read_stays k less c (Some block) read = (
-    counts_later c k read.0,
-    read.1,
-    read.2,
-    λ has. read.3 (failed_before a k i less (was c) (since c) (is c) (since_both olds mids news one two c) (late c) has),
-  )
+  read_stays k less c block read =
+      read_later a k i less (CountsAt a files olds mids c k) (CountsAt a files olds news c k) (counts_later c k) (counts_earlier c k less) (get_or files c []) (was c)
+      (since c) (is c) (since_both olds mids news one two c) (late c) block read

@@ -10,6 +10,7 @@ pub mod PutLemmas
 pub mod Faults
 pub mod WholeLemmas
 pub mod ReadLemmas
+pub mod AskedLemmas
 pub mod LateLemmas
 pub mod Steps
 pub mod Bytes

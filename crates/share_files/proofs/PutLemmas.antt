@@ -29,7 +29,7 @@ puts_none a Is put = record {
   puts = sym (append-nil put);
 }
 
-module _ (a : AloofShape) (Was Is : ℕ → List ℕ → Type 0) (count : ℕ) (old mid now : List Placed) (later : (i : ℕ) (chunk : List ℕ) → Was i chunk → Is i chunk)
+module _ (a : AloofShape) (Was Is : ℕ → List ℕ → Type 0) (count : ℕ) (old mid now : List Placed) (later : (i : ℕ) → i < count → (chunk : List ℕ) → Was i chunk → Is i chunk)
     (so : PutsBlocks a Was count old mid) where
   abbrev flat : List ℕ
   flat = flat_map (block_of a) so.chunks
@@ -40,7 +40,7 @@ module _ (a : AloofShape) (Was Is : ℕ → List ℕ → Type 0) (count : ℕ) (
       below_more (λ k. Is k (get_or (so.chunks ++ chunk ∷ []) k [])) count
       (λ k before.
       let within : k < length so.chunks = omega (arith, so.number, before) in
-      subst (Is k) (sym (get_or_append_left so.chunks (chunk ∷ []) [] k within)) (later k (get_or so.chunks k []) (so.are k within)))
+      subst (Is k) (sym (get_or_append_left so.chunks (chunk ∷ []) [] k within)) (later k before (get_or so.chunks k []) (so.are k within)))
       (subst (Is count) (sym (get_or_push so.chunks chunk [] count so.number)) is)
       i (omega (arith, less, size))
 
@@ -80,10 +80,21 @@ module _ (a : AloofShape) (Was Is : ℕ → List ℕ → Type 0) (count : ℕ) (
     | inr none ↦ record {
       chunks = so.chunks;
       number = omega (arith, so.number, less);
-      are = λ i below. later i (get_or so.chunks i []) (so.are i below);
+      are = λ i below. later i (omega (arith, so.number, below)) (get_or so.chunks i []) (so.are i below);
       bytes = length flat;
       puts = none ∙ so.puts ∙ ap (λ l. old ++ placed_from (block_start a 0) l) (sym (take_all (length flat) flat (omega arith)));
     }
+  ]
+
+-- a block of such a chunk is one of a chunk of another kind, where that is so of each such chunk
+module _ (a : AloofShape) (Was Is : ℕ → List ℕ → Type 0) (i : ℕ) (put now : List Placed) (so : (chunk : List ℕ) → Was i chunk → Is i chunk) where
+  pub block_as : PutsBlock a Was i put now → PutsBlock a Is i put now
+  block_as one = record { chunk = one.chunk; is = so one.chunk one.is; size = one.size; puts = one.puts }
+
+  pub most_as : PutsAtMost a Was i put now → PutsAtMost a Is i put now
+  most_as may = elim may [
+    | inl one ↦ inl (record { chunk = one.chunk; is = so one.chunk one.is; size = one.size; less = one.less })
+    | inr none ↦ inr none
   ]
 
 -- ---- the header

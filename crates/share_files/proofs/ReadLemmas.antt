@@ -128,9 +128,6 @@ module _ {X : Type 0} (f : X → Seen) (xs : List X) (share : ℕ) (old new : X)
         ]
   ]
 
-  pub grow_one : Grows (f old) (f new) → Grow (map f xs) news
-  grow_one = of_each Grows grows_none
-
 -- ---- shares from one number on, up to another
 
 module _ (a : AloofShape) (i : ℕ) where
@@ -167,15 +164,6 @@ module _ (a : AloofShape) (i : ℕ) where
     ];
     others = λ c more. two.others c (inr more) ∙ one.others c (inr (omega (arith, order, more)));
   }
-
-  pub grow_in : (from to : ℕ) (olds news : List Seen) (before after : List (Option (Vec ℕ Global))) → AreReadIn a i from to olds news before after → Grow olds news
-  grow_in from to olds news before after is c = elim (cases_lt c from) [
-    | inl before_all ↦ grows_none (seen_of olds c) (seen_of news c) (is.others c (inl before_all))
-    | inr from_one ↦ elim (cases_lt c to) [
-      | inl less ↦ grows_read a i (seen_of olds c) (seen_of news c) (get_or after c None) (is.read c from_one less)
-      | inr more ↦ grows_none (seen_of olds c) (seen_of news c) (is.others c (inr more))
-    ]
-  ]
 
   there_of : (block : Option (Vec ℕ Global)) → IfSome block (λ v. IsBlock a v.items) → is_none block ≡ false → HasBlock a block
   there_of None good there = absurd (true≢false there)

@@ -2,7 +2,7 @@
 use Rattle.std.proofs.Common.{◌≡◌, ℕ, ◌+◌, ◌-◌, ◌*◌, ◌<◌, ◌≤◌, Bool, true, false, List, [], ◌∷◌, ◌++◌, length, get_or, drop, Option, None, Some, is_none, Vec, Global, refl, sym, subst, ap, ◌∙◌, inl, inr, arith, length-append, below_more}
 use Rattle.std.specs.Prelude.{All}
 use Rattle.std.proofs.lemmas.Bool.{true≢false, cases_lt}
-use Rattle.std.proofs.lemmas.List.{drop-append-le, drop_all, get_or-append_right}
+use Rattle.std.proofs.lemmas.List.{drop-append-le, drop_all}
 use Rattle.std.proofs.lemmas.Nat.{mul-le}
 use Rattle.std.proofs.lemmas.List.Elements.{All-nil, All-cons, All-same, All-push}
 use Rattle.file_bytes.specs.Places.{FailsIn}
@@ -24,7 +24,7 @@ use Rattle.share_files.specs.declared.joining.JoinFault.{JoinFault}
 use Rattle.share_files.specs.declared.joining.JoinFault.TheVariants.{TooFew, Mismatch, WriteFault, OutOfMemory}
 use Rattle.share_files.proofs.FoundLemmas.{place_before}
 use Rattle.share_files.proofs.ReadLemmas.{grows_none, grow_then, grow_read}
-use Rattle.share_files.proofs.LateLemmas.{missing_later, missing_earlier}
+use Rattle.share_files.proofs.LateLemmas.{missing_later, missing_earlier, none_early}
 
 -- ---- where reads failed
 
@@ -103,19 +103,7 @@ missing_after a j i file failed now may missing = elim may [
 -- a good block whose reads didn't fail isn't missing
 pub not_missing : (a : AloofShape) (i : ℕ) (file failed : List ℕ) → IsBlock a (block_in a i file) → All (λ place. place < block_start a i) failed →
     IsMissing a i file failed → ⊥
-not_missing a i file failed good before missing = elim missing [
-  | inl none ↦ none good
-  | inr has ↦
-      let size : length failed ≡ length has.earlier + length (has.place ∷ has.later) =
-      ap (λ (l : List ℕ). length l) has.one ∙ length-append has.earlier (has.place ∷ has.later) in
-      let none_before : length has.earlier - length has.earlier ≡ 0 = omega arith in
-      let here : get_or failed (length has.earlier) 0 ≡ has.place =
-      ap (λ l. get_or l (length has.earlier) 0) has.one
-      ∙ get_or-append_right has.earlier (has.place ∷ has.later) (length has.earlier) (length has.earlier) 0 refl (omega arith)
-      ∙ ap (λ n. get_or (has.place ∷ has.later) n 0) none_before in
-      let low : get_or failed (length has.earlier) 0 < block_start a i = before (length has.earlier) 0 (omega (arith, size)) in
-      omega (arith, here, low, has.from)
-]
+not_missing a i file failed good before missing = elim missing [ inl none ↦ none good | inr has ↦ none_early a i failed before has ]
 
 -- reads failed in the blocks of the stripes up to this one
 all_before : (a : AloofShape) (i : ℕ) (failed now : List ℕ) → MayFail a i failed now → All (λ place. place < block_start a i) failed →

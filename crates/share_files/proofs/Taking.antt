@@ -15,7 +15,8 @@ use Rattle.share_format.specs.Shares.{block_start}
 use Rattle.share_format.proofs.HeaderBack.{stripe_some}
 use Rattle.share_files.specs.Seen.{Seen, seen_of, failed_since, Show}
 use Rattle.share_files.specs.Missed.{CountsAt}
-use Rattle.share_files.specs.Gathered.{Grow, FailLate, IsHad, AreRead}
+use Rattle.share_files.specs.Asked.{AreAskedIn}
+use Rattle.share_files.specs.Gathered.{IsHad, AreRead}
 use Rattle.share_files.specs.StripeRead.{JoinsData, JoinsAll, JoinsStripe, IsStripeFault}
 use Rattle.share_files.specs.Joined.{NoRotPasses}
 use Rattle.share_files.specs.Stripes.{IsRead, IsStripeOf, HasStripe, AreJoined}
@@ -23,31 +24,33 @@ use Rattle.share_files.specs.Taken.{TakesFile, TakesAnother, TakesStripes, Takes
 use Rattle.share_files.specs.SoFar.{TakesSoFar, AreReadSoFar}
 use Rattle.share_files.specs.declared.joining.JoinFault.{JoinFault}
 use Rattle.share_files.specs.declared.joining.JoinFault.TheVariants.{TooFew, Mismatch, WriteFault, OutOfMemory}
-use Rattle.share_files.proofs.ReadLemmas.{grow_read}
+use Rattle.share_files.proofs.AskedLemmas.{grow_asked}
 use Rattle.share_files.proofs.Steps.{had_none, not_missing, since_had, unread, all_count}
-use Rattle.share_files.proofs.LateLemmas.{late_read, read_stays}
+use Rattle.share_files.proofs.LateLemmas.{read_stays}
 use Rattle.share_files.proofs.Unread.{counting, counting_count, counting_read, counting_few, counting_joined}
 use Rattle.share_files.proofs.Bytes.{begins_within, joined_same}
 
 -- ---- what was read stays read
 
-module _ (h : Header) (i : ℕ) (olds mids news : List Seen) (missed : List (Option ℕ)) (so : AreReadSoFar h i olds mids missed) (grow : Grow mids news)
-    (late : FailLate h.shape i mids news) where
+module _ (h : Header) (i : ℕ) (olds mids news : List Seen) (missed : List (Option ℕ)) (so : AreReadSoFar h i olds mids missed)
+    (asked : AreAskedIn h.shape i mids news) where
   stripe_later : (files : List (List ℕ)) (k : ℕ) (bytes : List ℕ) → k < i → HasStripe h k files olds mids bytes → HasStripe h k files olds news bytes
   stripe_later files k bytes before has = record {
     stripe = has.stripe;
     of = record {
       blocks = has.of.blocks;
-      count = has.of.count;
-      read = λ c less. read_stays h.shape i olds mids news so.grow grow late files k before c (get_or has.of.blocks c None) (has.of.read c less);
-      few = has.of.few;
+      are = record {
+        count = has.of.are.count;
+        read = λ c less. read_stays h.shape i olds mids news so.grow asked files k before c (get_or has.of.blocks c None) (has.of.are.read c less);
+        few = has.of.are.few;
+      };
       joined = has.of.joined;
     };
     part = has.part;
   }
 
   shown_later : length mids ≡ length news → (files : List (List ℕ)) → Show news files → Show mids files
-  shown_later same files shows c less = (grow c).shown (get_or files c []) (shows c (omega (arith, less, same)))
+  shown_later same files shows c less = (grow_asked h.shape i mids news asked c).shown (get_or files c []) (shows c (omega (arith, less, same)))
 
   joined_later : length mids ≡ length news → (bytes : List ℕ) → AreJoined h i olds mids bytes → AreJoined h i olds news bytes
   joined_later same bytes joined = record {
@@ -55,7 +58,7 @@ module _ (h : Header) (i : ℕ) (olds mids news : List Seen) (missed : List (Opt
     stripes = λ files shows k less. stripe_later files k bytes less (joined.stripes files (shown_later same files shows) k less);
   }
 
-read_had : (a : AloofShape) (i : ℕ) (Counts : Type 0) (file failed now : List ℕ) (block : Option (Vec ℕ Global)) → Counts →
+pub read_had : (a : AloofShape) (i : ℕ) (Counts : Type 0) (file failed now : List ℕ) (block : Option (Vec ℕ Global)) → Counts →
     All (λ place. place < block_start a i) failed → IsHad a i file failed now block → IsRead a i Counts file now block
 read_had a i Counts file failed now None counts before had = inl (had_none a i file failed now None refl had)
 read_had a i Counts file failed now (Some block) counts before had = (
@@ -68,7 +71,7 @@ read_had a i Counts file failed now (Some block) counts before had = (
 -- ---- one stripe's bytes more
 
 module _ (h : Header) (i left count : ℕ) (olds mids news : List Seen) (before after : List (Option ℕ)) (bytes : List ℕ)
-    (joins : JoinsStripe h.shape i mids news before after bytes) (so : AreReadSoFar h i olds mids before) (header : IsHeader h) (within : i < stripe_count h.shape h.size)
+    (joins : JoinsStripe h.shape i mids news before after bytes) (asked : AreAskedIn h.shape i mids news) (so : AreReadSoFar h i olds mids before) (header : IsHeader h) (within : i < stripe_count h.shape h.size)
     (all_mids : length mids ≡ all_chunks h.shape) (all_news : length news ≡ all_chunks h.shape) (left_is : left ≡ h.size - i * stripe_bytes h.shape)
     (slice : List ℕ) (slice_is : slice ≡ bytes) (long : length bytes ≡ stripe_bytes h.shape) (most : count ≡ min left (stripe_bytes h.shape)) where
   abbrev s : ℕ
@@ -93,18 +96,6 @@ module _ (h : Header) (i left count : ℕ) (olds mids news : List Seen) (before 
       (since_had (seen_of olds c) (seen_of mids c) (seen_of news c) (so.grow c) h.shape i (get_or files c []) (get_or blocks c None)
       ((read.read c less).had (get_or files c []) (shows c (omega (arith, within, all_news)))))
 
-  grown : Grow mids news
-  grown = elim joins [
-    | inl joined_data ↦ grow_read h.shape i h.shape.data_count mids news joined_data.blocks joined_data.is.read
-    | inr all ↦ grow_read h.shape i (all_chunks h.shape) mids news all.blocks all.is.read
-  ]
-
-  fail_late : FailLate h.shape i mids news
-  fail_late = elim joins [
-    | inl joined_data ↦ late_read h.shape i h.shape.data_count mids news joined_data.blocks joined_data.is.read
-    | inr all ↦ late_read h.shape i (all_chunks h.shape) mids news all.blocks all.is.read
-  ]
-
   of_data : (files : List (List ℕ)) → Show news files → JoinsData h.shape i mids news before after bytes → IsStripeOf h.shape i files olds news bytes
   of_data files shows joined_data =
       let counts : ℕ → Type 0 = λ c. CountsAt h.shape files olds news c i in
@@ -116,20 +107,24 @@ module _ (h : Header) (i left count : ℕ) (olds mids news : List Seen) (before 
       let none : (c : ℕ) → h.shape.data_count ≤ c → counts c → ⊥ =
       unread h i olds mids news before after so all_mids all_news joined_data.blocks joined_data.is files shows in record {
         blocks = counting h.shape i counts file_of failed_of joined_data.blocks joined_data.count joined_data.is.there read none;
-        count = counting_count h.shape i counts file_of failed_of joined_data.blocks joined_data.count joined_data.is.there read none;
-        read = counting_read h.shape i counts file_of failed_of joined_data.blocks joined_data.count joined_data.is.there read none;
-        few = counting_few h.shape i counts file_of failed_of joined_data.blocks joined_data.count joined_data.is.there read none;
+        are = record {
+          count = counting_count h.shape i counts file_of failed_of joined_data.blocks joined_data.count joined_data.is.there read none;
+          read = counting_read h.shape i counts file_of failed_of joined_data.blocks joined_data.count joined_data.is.there read none;
+          few = counting_few h.shape i counts file_of failed_of joined_data.blocks joined_data.count joined_data.is.there read none;
+        };
         joined = counting_joined h.shape i counts file_of failed_of joined_data.blocks joined_data.count joined_data.is.there read none bytes joined_data.chunks;
       }
 
   of_all : (files : List (List ℕ)) → Show news files → JoinsAll h.shape i mids news before after bytes → IsStripeOf h.shape i files olds news bytes
   of_all files shows all = record {
     blocks = all.blocks;
-    count = all.count;
-    read = λ c less.
-        was_read (all_chunks h.shape) all.blocks all.is.read files shows c less less
-        (all_count h i olds mids news before after so all_mids all_news all.blocks all.is files shows c);
-    few = all.few;
+    are = record {
+      count = all.count;
+      read = λ c less.
+          was_read (all_chunks h.shape) all.blocks all.is.read files shows c less less
+          (all_count h i olds mids news before after so all_mids all_news all.blocks all.is files shows c);
+      few = all.few;
+    };
     joined = all.joined;
   }
 
@@ -168,7 +163,7 @@ module _ (h : Header) (i left count : ℕ) (olds mids news : List Seen) (before 
     joined_more joined =
         let next : (i + 1) * s ≡ i * s + s = omega arith in
         let same : length mids ≡ length news = all_mids ∙ sym all_news in
-        let so_far : AreJoined h i olds news done = joined_later h i olds mids news before so grown fail_late same done joined in record {
+        let so_far : AreJoined h i olds news done = joined_later h i olds mids news before so asked same done joined in record {
           size = omega (arith, length-append done piece, counted_piece, place, next, most, left_is, begins);
           stripes = λ files shows.
               below_more (λ k. HasStripe h k files olds news (done ++ piece)) i
@@ -249,14 +244,14 @@ takes_none h sources accepted written (Err fault) is =
 
 -- ---- a stripe that can't be joined
 
-module _ (h : Header) (i left : ℕ) (olds mids news : List Seen) (missed : List (Option ℕ)) (so : AreReadSoFar h i olds mids missed) (grow : Grow mids news)
-    (geometry : AloofShape) (code : geometry ≡ h.shape) (late : FailLate geometry i mids news) (same : length mids ≡ length news) (within : i < stripe_count h.shape h.size) (accepted : List ℕ) (written : Option (List ℕ)) (now : List ℕ)
+module _ (h : Header) (i left : ℕ) (olds mids news : List Seen) (missed : List (Option ℕ)) (so : AreReadSoFar h i olds mids missed)
+    (asked : AreAskedIn h.shape i mids news) (same : length mids ≡ length news) (within : i < stripe_count h.shape h.size) (accepted : List ℕ) (written : Option (List ℕ)) (now : List ℕ)
     (rest : Option (List ℕ)) (checksum : ℕ) (taken : TakesSoFar h i left olds mids accepted written now rest checksum) where
   stripes_taken : TakesStripes h i olds news accepted written now rest
   stripes_taken = record {
     within = omega (arith, within);
     bytes = taken.done;
-    joined = joined_later h i olds mids news missed so grow (let P : AloofShape → Type 0 = λ a. FailLate a i mids news in subst P code late) same taken.done taken.joined;
+    joined = joined_later h i olds mids news missed so asked same taken.done taken.joined;
     takes = taken.takes;
   }
 

@@ -1,12 +1,12 @@
 -- The blocks of a stripe, as they are read from the sources of the shares.
-use Rattle.std.specs.Prelude.{◌≡◌, ℕ, ◌<◌, ◌≤◌, ◌⊎◌, All, List, ◌++◌, get_or, Option, Some, None, IfSome, Vec}
+use Rattle.std.specs.Prelude.{◌≡◌, ℕ, ◌<◌, ◌≤◌, ◌⊎◌, List, ◌++◌, get_or, Option, Some, None, IfSome, Vec}
 use Rattle.std.specs.declared.alloc.Global.{Global}
 use Rattle.file_bytes.specs.Places.{Shows, FailsIn}
 use Rattle.clay_aloof.specs.Shape.{AloofShape}
 use Rattle.share_format.specs.Blocks.{block_length, IsBlock}
 use Rattle.share_format.specs.Shares.{block_start}
 use Rattle.share_files.specs.Found.{block_in}
-use Rattle.share_files.specs.Seen.{Seen, seen_of, failed_since}
+use Rattle.share_files.specs.Seen.{Seen, seen_of}
 
 -- what a source shows now it showed before, and its reads that had failed are still told
 pub record Grows (old new : Seen) : Type 0 where
@@ -16,10 +16,6 @@ pub record Grows (old new : Seen) : Type 0 where
 
 abbrev pub Grow : List Seen → List Seen → Type 0
 Grow olds news = (c : ℕ) → Grows (seen_of olds c) (seen_of news c)
-
--- the reads that failed in between are of stripe i's blocks, or of later ones
-abbrev pub FailLate : AloofShape → ℕ → List Seen → List Seen → Type 0
-FailLate a i olds news = (c : ℕ) → All (λ place. block_start a i ≤ place) (failed_since (seen_of olds c) (seen_of news c))
 
 -- a block was had as it stands in its file, and no read failed; or it isn't there, or a read of it failed
 abbrev pub IsHad : AloofShape → ℕ → List ℕ → List ℕ → List ℕ → Option (Vec ℕ Global) → Type 0

@@ -5,6 +5,7 @@ pub mod Found
 pub mod Seen
 pub mod Put
 pub mod Whole
+pub mod Asked
 pub mod Missed
 pub mod Gathered
 pub mod Handed

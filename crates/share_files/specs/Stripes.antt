@@ -14,13 +14,16 @@ abbrev pub IsRead : AloofShape → ℕ → Type 0 → List ℕ → List ℕ → 
 IsRead a i Counts file failed None = IsMissing a i file failed ⊎ ¬ Counts
 IsRead a i Counts file failed (Some block) = Counts × (block.items ≡ block_in a i file) × IsBlock a (block_in a i file) × ¬ HasFailed a i failed
 
--- bytes are joined from the blocks of stripe i that count: they are each stripe whose codeword has these blocks. No more are none than there
--- are parity chunks
+-- blocks of stripe i, one for each share, of which these count. No more are none than there are parity chunks
+pub record AreBlocksOf (a : AloofShape) (i : ℕ) (Counts : ℕ → Type 0) (files : List (List ℕ)) (olds news : List Seen) (blocks : List (Option (Vec ℕ Global))) : Type 0 where
+  pub count : length blocks ≡ all_chunks a
+  pub read : (c : ℕ) → c < all_chunks a → IsRead a i (Counts c) (get_or files c []) (failed_since (seen_of olds c) (seen_of news c)) (get_or blocks c None)
+  pub few : ¬ AreTooFew a blocks
+
+-- bytes are joined from the blocks of stripe i that count: they are each stripe whose codeword has these blocks
 pub record IsStripeOf (a : AloofShape) (i : ℕ) (files : List (List ℕ)) (olds news : List Seen) (bytes : List ℕ) : Type 0 where
   pub blocks : List (Option (Vec ℕ Global))
-  pub count : length blocks ≡ all_chunks a
-  pub read : (c : ℕ) → c < all_chunks a → IsRead a i (CountsAt a files olds news c i) (get_or files c []) (failed_since (seen_of olds c) (seen_of news c)) (get_or blocks c None)
-  pub few : ¬ AreTooFew a blocks
+  pub are : AreBlocksOf a i (λ c. CountsAt a files olds news c i) files olds news blocks
   pub joined : IsJoined a blocks bytes
 
 -- such a stripe stands in the place of stripe i in these bytes, as far as the file goes

@@ -1,10 +1,11 @@
 //! The blocks of a stripe, read from some shares or from all.
-ghost use Rattle.std.specs.Prelude.{◌≡◌, ◌+◌, ◌^◌, ◌<◌, ◌≤◌, ℕ, None, All, map, length, get_or, IfOk, IfSome, OnOk};
+ghost use Rattle.std.specs.Prelude.{◌≡◌, ◌+◌, ◌^◌, ◌<◌, ◌≤◌, ℕ, None, map, length, get_or, IfOk, IfSome, OnOk};
 ghost use Rattle.clay_model.specs.Left.{AreLong};
 ghost use Rattle.share_format.specs.Blocks.{block_length, IsBlock};
 ghost use Rattle.share_format.specs.Shares.{block_start};
-ghost use Rattle.share_files.specs.Seen.{seen, failed_since};
-ghost use Rattle.share_files.specs.Gathered.{Grows, Grow, FailLate, Reads, AreRead, AreReadIn};
+ghost use Rattle.share_files.specs.Seen.{seen};
+ghost use Rattle.share_files.specs.Asked.{IsIn, IsAskedAt, AreAskedIn};
+ghost use Rattle.share_files.specs.Gathered.{Reads, AreRead, AreReadIn};
 
 use crate::finding::{make_block_room, read_good};
 use clay_aloof::AloofGeometry;
@@ -41,8 +42,7 @@ fn block_or_none<S: SourceAt>(
     requires room { IfSome earlier (λ v. length v.items ≡ block_length geometry) }
     ensures block { IfOk result (λ found. IfSome found (λ block. IsBlock geometry block.items)) }
     ensures read { IfOk result (Reads geometry stripe (seen (S.given source.old) (S.ends source.old) (S.failed source.old)) (seen (S.given source.new) (S.ends source.new) (S.failed source.new))) }
-    ensures grow { Grows (seen (S.given source.old) (S.ends source.old) (S.failed source.old)) (seen (S.given source.new) (S.ends source.new) (S.failed source.new)) }
-    ensures late { All (λ place. block_start geometry stripe ≤ place) (failed_since (seen (S.given source.old) (S.ends source.old) (S.failed source.old)) (seen (S.given source.new) (S.ends source.new) (S.failed source.new))) }
+    ensures asked { IsAskedAt (IsIn geometry stripe) (seen (S.given source.old) (S.ends source.old) (S.failed source.old)) (seen (S.given source.new) (S.ends source.new) (S.failed source.new)) }
 {
     let mut block = room_for_block(alloc, geometry, earlier)?;
     match read_good(crc, source, geometry, stripe, &mut block) {
@@ -69,8 +69,7 @@ pub(crate) fn read_blocks<S: SourceAt>(
     requires lengths { AreLong (block_length geometry) blocks.old }
     ensures lengths { OnOk result (AreLong (block_length geometry) blocks.new) }
     ensures read { OnOk result (AreReadIn geometry stripe from to (map (λ s. seen (S.given s) (S.ends s) (S.failed s)) sources.old) (map (λ s. seen (S.given s) (S.ends s) (S.failed s)) sources.new) blocks.old blocks.new) }
-    ensures grow { Grow (map (λ s. seen (S.given s) (S.ends s) (S.failed s)) sources.old) (map (λ s. seen (S.given s) (S.ends s) (S.failed s)) sources.new) }
-    ensures late { FailLate geometry stripe (map (λ s. seen (S.given s) (S.ends s) (S.failed s)) sources.old) (map (λ s. seen (S.given s) (S.ends s) (S.failed s)) sources.new) }
+    ensures asked { AreAskedIn geometry stripe (map (λ s. seen (S.given s) (S.ends s) (S.failed s)) sources.old) (map (λ s. seen (S.given s) (S.ends s) (S.failed s)) sources.new) }
 {
     for share in from..to {
         let earlier = blocks[share].take();
@@ -104,7 +103,7 @@ pub fn find_blocks<S: SourceAt>(
     ensures count { IfOk result (λ blocks. length blocks.items ≡ length sources.new) }
     ensures lengths { IfOk result (λ blocks. AreLong (block_length geometry) blocks.items) }
     ensures read { IfOk result (λ blocks. AreRead geometry stripe (length sources.new) (map (λ s. seen (S.given s) (S.ends s) (S.failed s)) sources.old) (map (λ s. seen (S.given s) (S.ends s) (S.failed s)) sources.new) blocks.items) }
-    ensures grow { Grow (map (λ s. seen (S.given s) (S.ends s) (S.failed s)) sources.old) (map (λ s. seen (S.given s) (S.ends s) (S.failed s)) sources.new) }
+    ensures asked { AreAskedIn geometry stripe (map (λ s. seen (S.given s) (S.ends s) (S.failed s)) sources.old) (map (λ s. seen (S.given s) (S.ends s) (S.failed s)) sources.new) }
 {
     let count = sources.len();
     let mut blocks = no_blocks(alloc, count)?;

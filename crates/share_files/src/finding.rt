@@ -4,6 +4,8 @@ ghost use Rattle.file_bytes.specs.Places.{Shows, FailsIn};
 ghost use Rattle.share_format.specs.Blocks.{block_length, IsBlock};
 ghost use Rattle.share_format.specs.Shares.{block_start};
 ghost use Rattle.share_files.specs.Found.{block_in, IsTold, IsFirstRotten};
+ghost use Rattle.share_files.specs.Seen.{seen};
+ghost use Rattle.share_files.specs.Asked.{IsIn, IsAskedAt};
 ghost use Rattle.share_files.specs.declared.finding.BlockFault.TheVariants.{OutOfMemory};
 
 use crate::places::block_len;
@@ -61,6 +63,7 @@ pub(crate) fn read_good<S: SourceAt>(
     ensures found { (file : List ℕ) → Shows file (S.given source.new) (S.ends source.new) → IfOk result (IsTold geometry (block_in geometry stripe file) room.new) }
     // It is a file that the source showed before.
     ensures shown { (file : List ℕ) → Shows file (S.given source.new) (S.ends source.new) → Shows file (S.given source.old) (S.ends source.old) }
+    ensures asked { IsAskedAt (IsIn geometry stripe) (seen (S.given source.old) (S.ends source.old) (S.failed source.old)) (seen (S.given source.new) (S.ends source.new) (S.failed source.new)) }
     ensures cause { OnErr result (FailsIn (block_start geometry stripe) (block_length geometry) (S.failed source.old) (S.failed source.new)) }
     ensures steady { OnOk result (S.failed source.new ≡ S.failed source.old) }
 {

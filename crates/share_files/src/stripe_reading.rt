@@ -6,7 +6,7 @@ ghost use Rattle.share_format.specs.Blocks.{block_length};
 ghost use Rattle.share_format.specs.Shares.{block_start};
 ghost use Rattle.share_format.specs.Joined.{is_lost};
 ghost use Rattle.share_files.specs.Seen.{seen};
-ghost use Rattle.share_files.specs.Gathered.{Grow, FailLate};
+ghost use Rattle.share_files.specs.Asked.{AreAskedIn};
 ghost use Rattle.share_files.specs.StripeRead.{LacksData, IsStripeRead, JoinsStripe, IsStripeFault};
 ghost use Rattle.share_files.specs.Handed.{bytes_in, IsReady};
 
@@ -52,8 +52,7 @@ fn read_shares<S: SourceAt>(
     requires lengths { AreLong (block_length geometry) blocks.old }
     ensures lengths { OnOk result (AreLong (block_length geometry) blocks.new) }
     ensures read { IfOk result (IsStripeRead geometry stripe (map (λ s. seen (S.given s) (S.ends s) (S.failed s)) sources.old) (map (λ s. seen (S.given s) (S.ends s) (S.failed s)) sources.new) missed.old missed.new blocks.new) }
-    ensures grow { Grow (map (λ s. seen (S.given s) (S.ends s) (S.failed s)) sources.old) (map (λ s. seen (S.given s) (S.ends s) (S.failed s)) sources.new) }
-    ensures late { FailLate geometry stripe (map (λ s. seen (S.given s) (S.ends s) (S.failed s)) sources.old) (map (λ s. seen (S.given s) (S.ends s) (S.failed s)) sources.new) }
+    ensures asked { AreAskedIn geometry stripe (map (λ s. seen (S.given s) (S.ends s) (S.failed s)) sources.old) (map (λ s. seen (S.given s) (S.ends s) (S.failed s)) sources.new) }
 {
     let data = geometry.k() as usize;
     read_blocks(alloc, crc, sources, geometry, stripe, 0, data, blocks)?;
@@ -87,8 +86,7 @@ pub(crate) fn next_stripe<S: SourceAt>(
     ensures ready { IfOk result (IsReady geometry blocks.new) }
     ensures joined { IfOk result (λ joined. JoinsStripe geometry stripe (map (λ s. seen (S.given s) (S.ends s) (S.failed s)) sources.old) (map (λ s. seen (S.given s) (S.ends s) (S.failed s)) sources.new) missed.old missed.new (bytes_in geometry blocks.new joined)) }
     ensures fault { IfErr result (IsStripeFault geometry stripe (map (λ s. seen (S.given s) (S.ends s) (S.failed s)) sources.old) (map (λ s. seen (S.given s) (S.ends s) (S.failed s)) sources.new) missed.old missed.new) }
-    ensures grow { Grow (map (λ s. seen (S.given s) (S.ends s) (S.failed s)) sources.old) (map (λ s. seen (S.given s) (S.ends s) (S.failed s)) sources.new) }
-    ensures late { FailLate geometry stripe (map (λ s. seen (S.given s) (S.ends s) (S.failed s)) sources.old) (map (λ s. seen (S.given s) (S.ends s) (S.failed s)) sources.new) }
+    ensures asked { AreAskedIn geometry stripe (map (λ s. seen (S.given s) (S.ends s) (S.failed s)) sources.old) (map (λ s. seen (S.given s) (S.ends s) (S.failed s)) sources.new) }
 {
     let is_whole = read_shares(alloc, crc, geometry, sources, stripe, blocks, missed)?;
     if is_whole {

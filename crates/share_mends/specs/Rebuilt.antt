@@ -1,24 +1,31 @@
 -- A lost share's chunks, rebuilt from the others' blocks.
-use Rattle.std.specs.Prelude.{◌≡◌, ℕ, ◌<◌, List, [], length, get_or}
+use Rattle.std.specs.Prelude.{◌≡◌, ℕ, ◌<◌, List, length, Option, Vec}
+use Rattle.std.specs.declared.alloc.Global.{Global}
 use Rattle.clay_grid.specs.Shape.{chunk_length}
 use Rattle.clay_aloof.specs.Shape.{AloofShape, grid_of}
-use Rattle.clay_aloof.specs.Code.{IsCodeword}
 use Rattle.share_format.specs.Blocks.{block_of}
+use Rattle.share_format.specs.Joined.{IsRecoveredChunk}
 use Rattle.share_files.specs.Seen.{Seen, Show}
 use Rattle.share_files.specs.Missed.{LackBlocks}
-use Rattle.share_files.specs.Joined.{NoRotIn}
+use Rattle.share_files.specs.Stripes.{AreBlocksOf}
 use Rattle.share_mends.specs.declared.rebuilding.RebuildFault.{RebuildFault}
 use Rattle.share_mends.specs.declared.rebuilding.RebuildFault.TheVariants.{TooFew, WriteFault, OutOfMemory}
 
--- a chunk is the lost one of each codeword whose chunks' blocks are what passes as blocks of stripe i in the shown files
-pub record IsRebuilt (a : AloofShape) (lost : ℕ) (sources : List Seen) (i : ℕ) (chunk : List ℕ) : Type 0 where
+-- a chunk is recovered from the blocks of stripe i: it is the lost one of each codeword that has them. All blocks count
+pub record IsChunkOf (a : AloofShape) (lost i : ℕ) (files : List (List ℕ)) (olds news : List Seen) (chunk : List ℕ) : Type 0 where
+  pub blocks : List (Option (Vec ℕ Global))
+  pub are : AreBlocksOf a i (λ c. Unit {0}) files olds news blocks
+  pub recovered : IsRecoveredChunk a blocks lost chunk
+
+-- so it is in whatever files the sources show
+pub record IsRebuilt (a : AloofShape) (lost : ℕ) (olds news : List Seen) (i : ℕ) (chunk : List ℕ) : Type 0 where
   pub long : length chunk ≡ chunk_length (grid_of a)
-  pub only : (files word : List (List ℕ)) → Show sources files → IsCodeword a word → NoRotIn a i files word → chunk ≡ get_or word lost []
+  pub from : (files : List (List ℕ)) → Show news files → IsChunkOf a lost i files olds news chunk
 
 -- the block of such a chunk
-pub record IsRebuiltBlock (a : AloofShape) (lost : ℕ) (sources : List Seen) (i : ℕ) (block : List ℕ) : Type 0 where
+pub record IsRebuiltBlock (a : AloofShape) (lost : ℕ) (olds news : List Seen) (i : ℕ) (block : List ℕ) : Type 0 where
   pub chunk : List ℕ
-  pub rebuilt : IsRebuilt a lost sources i chunk
+  pub rebuilt : IsRebuilt a lost olds news i chunk
   pub value : block ≡ block_of a chunk
 
 -- stripe i's block is missing of too many shares, whatever files the sources show

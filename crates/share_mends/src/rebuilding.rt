@@ -7,7 +7,7 @@ ghost use Rattle.share_format.specs.Cut.{stripe_count};
 ghost use Rattle.share_format.specs.Shares.{block_start};
 ghost use Rattle.share_files.specs.Seen.{seen, Show};
 ghost use Rattle.share_files.specs.Put.{PutsBlock, PutsAtMost, PutsBlocks, PutsSome, PutsPart, HasChunks, PutsFile, PutsShare};
-ghost use Rattle.share_files.specs.Gathered.{Grow};
+ghost use Rattle.share_files.specs.Asked.{AreAskedIn};
 ghost use Rattle.share_files.specs.Joined.{NoRotPasses};
 ghost use Rattle.share_mends.specs.Rebuilt.{IsRebuilt, IsRebuiltBlock, Lacks, IsLack};
 ghost use Rattle.share_mends.specs.declared.rebuilding.RebuildFault.TheVariants.{OutOfMemory};
@@ -54,10 +54,10 @@ fn rebuilt_block<S: SourceAt>(
     requires lost { lost < all_chunks geometry }
     requires sources { length sources.old ≡ all_chunks geometry }
     requires place { block_start geometry stripe + block_length geometry < 2 ^ 64 }
-    ensures block { IfOk result (λ block. IsRebuiltBlock geometry lost (map (λ s. seen (S.given s) (S.ends s) (S.failed s)) sources.new) stripe block.items) }
+    ensures block { IfOk result (λ block. IsRebuiltBlock geometry lost (map (λ s. seen (S.given s) (S.ends s) (S.failed s)) sources.old) (map (λ s. seen (S.given s) (S.ends s) (S.failed s)) sources.new) stripe block.items) }
     ensures lack { IfErr result (Lacks geometry (map (λ s. seen (S.given s) (S.ends s) (S.failed s)) sources.old) (map (λ s. seen (S.given s) (S.ends s) (S.failed s)) sources.new) stripe) }
     ensures unwritten { IsErrOf result RebuildFault.WriteFault → ⊥ }
-    ensures grow { Grow (map (λ s. seen (S.given s) (S.ends s) (S.failed s)) sources.old) (map (λ s. seen (S.given s) (S.ends s) (S.failed s)) sources.new) }
+    ensures asked { AreAskedIn geometry stripe (map (λ s. seen (S.given s) (S.ends s) (S.failed s)) sources.old) (map (λ s. seen (S.given s) (S.ends s) (S.failed s)) sources.new) }
 {
     let blocks = find_blocks(alloc, crc, sources, geometry, stripe)?;
     let chunk = match recover_chunk(alloc, geometry, &blocks, lost) {
@@ -82,11 +82,11 @@ fn rebuild_one<S: SourceAt, K: SinkAt>(
     requires lost { lost < all_chunks geometry }
     requires sources { length sources.old ≡ all_chunks geometry }
     requires place { block_start geometry stripe + block_length geometry < 2 ^ 64 }
-    ensures put { OnOk result (PutsBlock geometry (IsRebuilt geometry lost (map (λ s. seen (S.given s) (S.ends s) (S.failed s)) sources.new)) stripe (K.put sink.old) (K.put sink.new)) }
+    ensures put { OnOk result (PutsBlock geometry (IsRebuilt geometry lost (map (λ s. seen (S.given s) (S.ends s) (S.failed s)) sources.old) (map (λ s. seen (S.given s) (S.ends s) (S.failed s)) sources.new)) stripe (K.put sink.old) (K.put sink.new)) }
     ensures unput { (few : ℕ) → IsErrOf result (RebuildFault.TooFew few) → K.put sink.new ≡ K.put sink.old }
-    ensures part { OnErr result (PutsAtMost geometry (IsRebuilt geometry lost (map (λ s. seen (S.given s) (S.ends s) (S.failed s)) sources.new)) stripe (K.put sink.old) (K.put sink.new)) }
+    ensures part { OnErr result (PutsAtMost geometry (IsRebuilt geometry lost (map (λ s. seen (S.given s) (S.ends s) (S.failed s)) sources.old) (map (λ s. seen (S.given s) (S.ends s) (S.failed s)) sources.new)) stripe (K.put sink.old) (K.put sink.new)) }
     ensures lack { IfErr result (Lacks geometry (map (λ s. seen (S.given s) (S.ends s) (S.failed s)) sources.old) (map (λ s. seen (S.given s) (S.ends s) (S.failed s)) sources.new) stripe) }
-    ensures grow { Grow (map (λ s. seen (S.given s) (S.ends s) (S.failed s)) sources.old) (map (λ s. seen (S.given s) (S.ends s) (S.failed s)) sources.new) }
+    ensures asked { AreAskedIn geometry stripe (map (λ s. seen (S.given s) (S.ends s) (S.failed s)) sources.old) (map (λ s. seen (S.given s) (S.ends s) (S.failed s)) sources.new) }
     ensures write { IsErrOf result RebuildFault.WriteFault → Rises (K.faults sink.old) (K.faults sink.new) }
     ensures writes { (IsErrOf result RebuildFault.WriteFault → ⊥) → K.faults sink.new ≡ K.faults sink.old }
 {
@@ -113,9 +113,9 @@ fn rebuild_stripes<S: SourceAt, K: SinkAt>(
     requires lost { lost < all_chunks geometry }
     requires sources { length sources.old ≡ all_chunks geometry }
     requires place { block_start geometry stripes < 2 ^ 64 }
-    ensures put { OnOk result (PutsBlocks geometry (IsRebuilt geometry lost (map (λ s. seen (S.given s) (S.ends s) (S.failed s)) sources.new)) stripes (K.put sink.old) (K.put sink.new)) }
-    ensures before { (few : ℕ) → IsErrOf result (RebuildFault.TooFew few) → PutsBlocks geometry (IsRebuilt geometry lost (map (λ s. seen (S.given s) (S.ends s) (S.failed s)) sources.new)) few (K.put sink.old) (K.put sink.new) }
-    ensures part { OnErr result (PutsSome geometry (IsRebuilt geometry lost (map (λ s. seen (S.given s) (S.ends s) (S.failed s)) sources.new)) stripes (K.put sink.old) (K.put sink.new)) }
+    ensures put { OnOk result (PutsBlocks geometry (IsRebuilt geometry lost (map (λ s. seen (S.given s) (S.ends s) (S.failed s)) sources.old) (map (λ s. seen (S.given s) (S.ends s) (S.failed s)) sources.new)) stripes (K.put sink.old) (K.put sink.new)) }
+    ensures before { (few : ℕ) → IsErrOf result (RebuildFault.TooFew few) → PutsBlocks geometry (IsRebuilt geometry lost (map (λ s. seen (S.given s) (S.ends s) (S.failed s)) sources.old) (map (λ s. seen (S.given s) (S.ends s) (S.failed s)) sources.new)) few (K.put sink.old) (K.put sink.new) }
+    ensures part { OnErr result (PutsSome geometry (IsRebuilt geometry lost (map (λ s. seen (S.given s) (S.ends s) (S.failed s)) sources.old) (map (λ s. seen (S.given s) (S.ends s) (S.failed s)) sources.new)) stripes (K.put sink.old) (K.put sink.new)) }
     ensures lack { IfErr result (IsLack geometry stripes (map (λ s. seen (S.given s) (S.ends s) (S.failed s)) sources.old) (map (λ s. seen (S.given s) (S.ends s) (S.failed s)) sources.new)) }
     ensures write { IsErrOf result RebuildFault.WriteFault → Rises (K.faults sink.old) (K.faults sink.new) }
     ensures writes { (IsErrOf result RebuildFault.WriteFault → ⊥) → K.faults sink.new ≡ K.faults sink.old }
@@ -144,11 +144,11 @@ pub fn mend_whole<S: SourceAt, K: SinkAt>(
     // Whatever files the sources show: if they are shares of a file, with rot that its checksums find, the sink took the lost share.
     ensures share { (file : List ℕ) (files : List (List ℕ)) → Show (map (λ s. seen (S.given s) (S.ends s) (S.failed s)) sources.new) files → NoRotPasses header.now file files → OnOk result (PutsShare header.now.shape file header.now.share (K.put sink.old) (K.put sink.new)) }
     // Of any: the header, and the blocks of what their blocks recover. Where no codeword has these, it is some bytes.
-    ensures made { OnOk result (PutsFile (HasChunks header.now (IsRebuilt header.now.shape header.now.share (map (λ s. seen (S.given s) (S.ends s) (S.failed s)) sources.new))) (K.put sink.old) (K.put sink.new)) }
+    ensures made { OnOk result (PutsFile (HasChunks header.now (IsRebuilt header.now.shape header.now.share (map (λ s. seen (S.given s) (S.ends s) (S.failed s)) sources.old) (map (λ s. seen (S.given s) (S.ends s) (S.failed s)) sources.new))) (K.put sink.old) (K.put sink.new)) }
     // After an error it took the rebuilt blocks' bytes up to some place, or all and a part of the padded header.
-    ensures part { OnErr result (PutsPart header.now (IsRebuilt header.now.shape header.now.share (map (λ s. seen (S.given s) (S.ends s) (S.failed s)) sources.new)) (K.put sink.old) (K.put sink.new)) }
+    ensures part { OnErr result (PutsPart header.now (IsRebuilt header.now.shape header.now.share (map (λ s. seen (S.given s) (S.ends s) (S.failed s)) sources.old) (map (λ s. seen (S.given s) (S.ends s) (S.failed s)) sources.new)) (K.put sink.old) (K.put sink.new)) }
     // TooFew comes after just the blocks of the stripes before.
-    ensures before { (few : ℕ) → IsErrOf result (RebuildFault.TooFew few) → PutsBlocks header.now.shape (IsRebuilt header.now.shape header.now.share (map (λ s. seen (S.given s) (S.ends s) (S.failed s)) sources.new)) few (K.put sink.old) (K.put sink.new) }
+    ensures before { (few : ℕ) → IsErrOf result (RebuildFault.TooFew few) → PutsBlocks header.now.shape (IsRebuilt header.now.shape header.now.share (map (λ s. seen (S.given s) (S.ends s) (S.failed s)) sources.old) (map (λ s. seen (S.given s) (S.ends s) (S.failed s)) sources.new)) few (K.put sink.old) (K.put sink.new) }
     ensures lack { IfErr result (IsLack header.now.shape (stripe_count header.now.shape header.now.size) (map (λ s. seen (S.given s) (S.ends s) (S.failed s)) sources.old) (map (λ s. seen (S.given s) (S.ends s) (S.failed s)) sources.new)) }
     ensures write { IsErrOf result RebuildFault.WriteFault → Rises (K.faults sink.old) (K.faults sink.new) }
     ensures writes { (IsErrOf result RebuildFault.WriteFault → ⊥) → K.faults sink.new ≡ K.faults sink.old }

@@ -16,7 +16,7 @@ use Rattle.share_run.specs.declared.status.ShareStatus.TheVariants.{Done, Usage,
 pub record ShareRebuilt (r : MendRun) : Type 0 where
   pub bytes : List ℕ
   pub placed : r.after.files ≡ r.before.files ++ filled 0 bytes ∷ []
-  pub made : HasChunks r.header (IsRebuilt r.header.shape r.header.share r.news) bytes
+  pub made : HasChunks r.header (IsRebuilt r.header.shape r.header.share r.olds r.news) bytes
   pub share : (file : List ℕ) (files : List (List ℕ)) → Show r.news files → NoRotPasses r.header file files →
       IsShare r.header.shape file r.header.share bytes
 

@@ -1,8 +1,9 @@
-use Rattle.std.proofs.Common.{inl, ◌∙◌}
+use Rattle.std.proofs.Common.{inl, refl, ◌∙◌}
 use Rattle.std.proofs.lemmas.List.{with_items_is}
 use Rattle.share_files.specs.Found.{block_in}
-use Rattle.share_files.proofs.ReadLemmas.{had_told, had_untold, grows_same}
-use Rattle.share_files.proofs.LateLemmas.{late_same, late_fails}
+use Rattle.share_files.specs.Asked.{IsIn}
+use Rattle.share_files.proofs.AskedLemmas.{asked_none}
+use Rattle.share_files.proofs.ReadLemmas.{had_told, had_untold}
 use Rattle.share_files.proofs.fetching.block_or_none.Goals as goal
 
 pub returns-in-Ok-true-clause-read : goal.returns-in-Ok-true-clause-read
@@ -15,9 +16,6 @@ returns-in-Ok-true-clause-read g c = record {
   fails = inl c.in-Ok-true.ensures.steady;
 }
 
-pub returns-in-Ok-true-clause-grow : goal.returns-in-Ok-true-clause-grow
-returns-in-Ok-true-clause-grow g c = grows_same _ _ c.in-Ok-true.ensures.shown c.in-Ok-true.ensures.steady
-
 pub returns-in-Ok-false-clause-read : goal.returns-in-Ok-false-clause-read
 returns-in-Ok-false-clause-read g c = record {
   had = λ file shows.
@@ -27,14 +25,5 @@ returns-in-Ok-false-clause-read g c = record {
   fails = inl c.in-Ok-false.ensures.steady;
 }
 
-pub returns-in-Ok-false-clause-grow : goal.returns-in-Ok-false-clause-grow
-returns-in-Ok-false-clause-grow g c = grows_same _ _ c.in-Ok-false.ensures.shown c.in-Ok-false.ensures.steady
-
-pub returns-in-Ok-true-clause-late : goal.returns-in-Ok-true-clause-late
-returns-in-Ok-true-clause-late g c = late_same c.args.geometry c.args.stripe _ _ c.in-Ok-true.ensures.steady
-
-pub returns-in-Ok-false-clause-late : goal.returns-in-Ok-false-clause-late
-returns-in-Ok-false-clause-late g c = late_same c.args.geometry c.args.stripe _ _ c.in-Ok-false.ensures.steady
-
-pub returns-in-Err-clause-late : goal.returns-in-Err-clause-late
-returns-in-Err-clause-late g c = late_fails c.args.geometry c.args.stripe _ _ _ c.in-Err.ensures.cause
+pub returns-in_err-block-clause-asked : goal.returns-in_err-block-clause-asked
+returns-in_err-block-clause-asked g c = asked_none (IsIn c.args.geometry c.args.stripe) _ _ refl

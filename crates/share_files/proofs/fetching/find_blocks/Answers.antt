@@ -2,6 +2,7 @@ use Rattle.std.proofs.Common.{Option, List, Vec, Global, ℕ, subst, sym, ◌∙
 use Rattle.std.proofs.lemmas.List.{with_items_is}
 use Rattle.clay_model.specs.Left.{AreLong}
 use Rattle.share_format.specs.Blocks.{block_length}
+use Rattle.share_files.proofs.AskedLemmas.{asked_nothing}
 use Rattle.share_files.proofs.ReadLemmas.{none_long, read_whole}
 use Rattle.share_files.proofs.fetching.find_blocks.Goals as goal
 
@@ -15,3 +16,6 @@ returns-clause-read g c =
     read_whole c.args.geometry c.args.stripe _ _ _ _ _ c.read_blocks.new.blocks _
     (with_items_is c.in_ok-blocks.blocks c.read_blocks.new.blocks (c.read_blocks.auto.blocks ∙ c.deref_mut.ensures.len)) c.read_blocks.auto.sources
     c.in_ok-read_blocks.ensures.read
+
+pub returns-in_err-blocks-clause-asked : goal.returns-in_err-blocks-clause-asked
+returns-in_err-blocks-clause-asked g c = asked_nothing c.args.geometry c.args.stripe _

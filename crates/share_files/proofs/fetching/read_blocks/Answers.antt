@@ -3,12 +3,12 @@ use Rattle.std.proofs.Math.ListN.{set}
 use Rattle.std.proofs.lemmas.List.Elements.{All-set}
 use Rattle.share_format.specs.Blocks.{block_length}
 use Rattle.share_files.specs.Seen.{seen}
-use Rattle.share_files.proofs.ReadLemmas.{read_in_none, read_in_more, long_one, grow_in, grow_then, grow_one}
-use Rattle.share_files.proofs.LateLemmas.{late_in, late_one, late_then}
+use Rattle.share_files.proofs.ReadLemmas.{read_in_none, read_in_more, long_one}
+use Rattle.share_files.proofs.AskedLemmas.{asked_nothing, asked_both, asked_one}
 use Rattle.share_files.proofs.fetching.read_blocks.Goals as goal
 
 pub loop-share-init : goal.loop-share-init
-loop-share-init g c = record { all = search; count = search; lengths = c.requires.lengths; read = read_in_none c.args.geometry c.args.stripe c.args.from _ _ }
+loop-share-init g c = record { all = search; count = search; lengths = c.requires.lengths; read = read_in_none c.args.geometry c.args.stripe c.args.from _ _; asked = asked_nothing c.args.geometry c.args.stripe _ }
 
 pub block_or_none-requires-clause-room : goal.block_or_none-requires-clause-room
 block_or_none-requires-clause-room g c =
@@ -43,34 +43,20 @@ loop-share-preserved g c =
           c.args.stripe c.args.from _ _ blocks _ block (omega (arith, c.loop-share.auto.share)) (get_or-set_same (set blocks share none) share block None within)
           (λ k differs. get_or-set_other (set blocks share none) share k block None differs ∙ get_or-set_other blocks share k none None differs)
           c.in_ok-blocks.ensures.block c.in_ok-blocks.ensures.read inv.read;
+      asked =
+          asked_both a c.args.stripe _ _ _ inv.asked
+          (asked_one a c.args.stripe (λ s. seen (g.S.SourceAt.given s) (g.S.SourceAt.ends s) (g.S.SourceAt.failed s)) now share old c.block_or_none.new.source less here
+          c.block_or_none.ensures.asked);
     }
 
-pub returns-in_err-blocks-clause-grow : goal.returns-in_err-blocks-clause-grow
-returns-in_err-blocks-clause-grow g c =
+pub returns-in_err-blocks-clause-asked : goal.returns-in_err-blocks-clause-asked
+returns-in_err-blocks-clause-asked g c =
     let inv = c.loop-share.invariant in
     let now = c.loop-share.sources in
     let share : ℕ = c.loop-share.share in
     let less : share < length now = omega (arith, c.loop-share-test.true, c.requires.range.1, inv.all) in
     let old = get_or now share c.index-sources-share.result in
     let here = ap (get_or now share) c.index-sources-share.is in
-    grow_then _ _ _ (grow_in c.args.geometry c.args.stripe c.args.from share _ _ _ _ inv.read)
-    (grow_one (λ s. seen (g.S.SourceAt.given s) (g.S.SourceAt.ends s) (g.S.SourceAt.failed s)) now share old c.block_or_none.new.source less here c.block_or_none.ensures.grow)
-
-pub returns-clause-grow : goal.returns-clause-grow
-returns-clause-grow g c = grow_in c.args.geometry c.args.stripe c.args.from c.loop-share.share _ _ _ _ c.loop-share.invariant.read
-
-pub returns-in_err-blocks-clause-late : goal.returns-in_err-blocks-clause-late
-returns-in_err-blocks-clause-late g c =
-    let inv = c.loop-share.invariant in
-    let now = c.loop-share.sources in
-    let share : ℕ = c.loop-share.share in
-    let less : share < length now = omega (arith, c.loop-share-test.true, c.requires.range.1, inv.all) in
-    let old = get_or now share c.index-sources-share.result in
-    let here = ap (get_or now share) c.index-sources-share.is in
-    late_then c.args.geometry c.args.stripe _ _ _ (grow_in c.args.geometry c.args.stripe c.args.from share _ _ _ _ inv.read)
-    (grow_one (λ s. seen (g.S.SourceAt.given s) (g.S.SourceAt.ends s) (g.S.SourceAt.failed s)) now share old c.block_or_none.new.source less here c.block_or_none.ensures.grow)
-    (late_in c.args.geometry c.args.stripe c.args.from share _ _ _ _ inv.read)
-    (late_one c.args.geometry c.args.stripe (λ s. seen (g.S.SourceAt.given s) (g.S.SourceAt.ends s) (g.S.SourceAt.failed s)) now share old c.block_or_none.new.source less here c.block_or_none.ensures.late)
-
-pub returns-clause-late : goal.returns-clause-late
-returns-clause-late g c = late_in c.args.geometry c.args.stripe c.args.from c.loop-share.share _ _ _ _ c.loop-share.invariant.read
+    asked_both c.args.geometry c.args.stripe _ _ _ inv.asked
+    (asked_one c.args.geometry c.args.stripe (λ s. seen (g.S.SourceAt.given s) (g.S.SourceAt.ends s) (g.S.SourceAt.failed s)) now share old c.block_or_none.new.source less
+    here c.block_or_none.ensures.asked)

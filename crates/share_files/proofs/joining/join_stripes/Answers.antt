@@ -6,6 +6,7 @@ use Rattle.clay_aloof.specs.Shape.{AloofShape, all_chunks, stripe_bytes}
 use Rattle.share_format.specs.Cut.{stripe_count}
 use Rattle.share_format.specs.Blocks.{block_length}
 use Rattle.share_files.specs.Handed.{bytes_in}
+use Rattle.share_files.proofs.AskedLemmas.{asked_of}
 use Rattle.share_files.proofs.Steps.{read_nothing, read_in, stop_in, read_all}
 use Rattle.share_files.proofs.Bytes.{place_of, none_left, left_less}
 use Rattle.share_files.proofs.Taking.{joins_of, takes_nothing, takes_more, takes_part, takes_until, takes_all}
@@ -59,7 +60,7 @@ loop-stripe-preserved g c =
       left = left_less (stripe_bytes h.shape) h.size i left count inv.left most;
       taken =
           takes_more h i left count _ _ _ _ _ bytes (joins_of c.geometry-geometry.result h i _ _ _ _ bytes shape c.in-Ok.ensures.joined)
-          inv.read c.stripe_count-stripes.ensures.header less (length-map c.loop-stripe.sources _ ∙ was) (length-map c.next_stripe.new.sources _ ∙ sources)
+          (asked_of c.geometry-geometry.result h.shape i _ _ shape c.next_stripe.ensures.asked) inv.read c.stripe_count-stripes.ensures.header less (length-map c.loop-stripe.sources _ ∙ was) (length-map c.next_stripe.new.sources _ ∙ sources)
           inv.left bytes refl long most _ _ _ _ _ _ c.loop-stripe.checksum c.in-Ok-pass_on.sum inv.taken c.in-Ok-pass_on.ensures.accepted
           c.in-Ok-pass_on.ensures.summed;
       read =
@@ -81,7 +82,8 @@ returns-in-Err-clause-until g c =
     let h = c.args.header.now in
     let inv = c.loop-stripe.invariant in
     let less : c.loop-stripe.stripe < stripe_count h.shape h.size = omega (arith, c.loop-stripe-test.true, c.stripe_count-stripes.ensures.count) in
-    takes_until h c.loop-stripe.stripe c.loop-stripe.left _ _ _ _ inv.read c.next_stripe.ensures.grow c.geometry-geometry.result c.geometry-geometry.ensures c.next_stripe.ensures.late
+    takes_until h c.loop-stripe.stripe c.loop-stripe.left _ _ _ _ inv.read
+    (asked_of c.geometry-geometry.result h.shape c.loop-stripe.stripe _ _ c.geometry-geometry.ensures c.next_stripe.ensures.asked)
     (length-map c.loop-stripe.sources _ ∙ sym c.next_stripe.auto.sources ∙ sym (length-map c.next_stripe.new.sources _)) less _ _ _ _ c.loop-stripe.checksum inv.taken
     c.geometry-geometry.result _ _ c.in-Err.fault c.in-Err.ensures.fault
 
@@ -100,7 +102,7 @@ returns-in-Err-pass_on-clause-until g c =
     let long : length bytes ≡ stripe_bytes h.shape = c.in-Ok.ensures.len ∙ ap (λ a. stripe_bytes a) shape in
     let sources : length c.next_stripe.new.sources ≡ all_chunks h.shape = c.next_stripe.auto.sources ∙ inv.sources in
     takes_part h i left count _ _ _ _ _ bytes (joins_of c.geometry-geometry.result h i _ _ _ _ bytes shape c.in-Ok.ensures.joined)
-    inv.read c.stripe_count-stripes.ensures.header less (length-map c.loop-stripe.sources _ ∙ inv.sources) (length-map c.next_stripe.new.sources _ ∙ sources)
+    (asked_of c.geometry-geometry.result h.shape i _ _ shape c.next_stripe.ensures.asked) inv.read c.stripe_count-stripes.ensures.header less (length-map c.loop-stripe.sources _ ∙ inv.sources) (length-map c.next_stripe.new.sources _ ∙ sources)
     inv.left bytes refl long most _ _ _ _ _ _ c.loop-stripe.checksum inv.taken c.in-Err-pass_on.ensures.part
 
 pub returns-clause-taken : goal.returns-clause-taken

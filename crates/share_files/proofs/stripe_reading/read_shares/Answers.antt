@@ -1,7 +1,6 @@
 use Rattle.std.proofs.Common.{sym, ◌∙◌}
 use Rattle.std.proofs.lemmas.Bool.{true≢false}
-use Rattle.share_files.proofs.ReadLemmas.{grow_then}
-use Rattle.share_files.proofs.LateLemmas.{late_then}
+use Rattle.share_files.proofs.AskedLemmas.{asked_both}
 use Rattle.share_files.proofs.DataLemmas.{data_read, all_read}
 use Rattle.share_files.proofs.stripe_reading.read_shares.Goals as goal
 
@@ -17,16 +16,8 @@ returns-clause-read g c =
     (c.read_blocks-2.auto.blocks ∙ c.read_blocks.auto.blocks ∙ c.requires.blocks) c.in_ok-read_blocks-2.ensures.read
     (c.have_data.ensures.lack (λ e. true≢false (sym e ∙ c.if-have_data.false))) c.note_missed.ensures
 
-pub returns-clause-grow : goal.returns-clause-grow
-returns-clause-grow g c = grow_then _ _ _ c.read_blocks.ensures.grow c.read_blocks-2.ensures.grow
+pub returns-clause-asked : goal.returns-clause-asked
+returns-clause-asked g c = asked_both c.args.geometry c.args.stripe _ _ _ c.read_blocks.ensures.asked c.read_blocks-2.ensures.asked
 
-pub returns-in_err-read_blocks-2-clause-grow : goal.returns-in_err-read_blocks-2-clause-grow
-returns-in_err-read_blocks-2-clause-grow g c = grow_then _ _ _ c.read_blocks.ensures.grow c.read_blocks-2.ensures.grow
-
-pub returns-clause-late : goal.returns-clause-late
-returns-clause-late g c =
-    late_then c.args.geometry c.args.stripe _ _ _ c.read_blocks.ensures.grow c.read_blocks-2.ensures.grow c.read_blocks.ensures.late c.read_blocks-2.ensures.late
-
-pub returns-in_err-read_blocks-2-clause-late : goal.returns-in_err-read_blocks-2-clause-late
-returns-in_err-read_blocks-2-clause-late g c =
-    late_then c.args.geometry c.args.stripe _ _ _ c.read_blocks.ensures.grow c.read_blocks-2.ensures.grow c.read_blocks.ensures.late c.read_blocks-2.ensures.late
+pub returns-in_err-read_blocks-2-clause-asked : goal.returns-in_err-read_blocks-2-clause-asked
+returns-in_err-read_blocks-2-clause-asked g c = asked_both c.args.geometry c.args.stripe _ _ _ c.read_blocks.ensures.asked c.read_blocks-2.ensures.asked

@@ -34,7 +34,7 @@ loop-stripe-preserved g c =
     record {
       shares = c.mend_one.auto.sources ∙ inv.shares;
       put =
-          puts_more a _ _ c.loop-stripe.stripe _ _ _ (λ i chunk is. later a lost c.args.helpers.now _ _ i chunk one.shown is) inv.put one.put;
+          puts_more a _ _ c.loop-stripe.stripe _ _ _ (λ i less chunk is. later a lost c.args.helpers.now _ _ i chunk one.shown is) inv.put one.put;
       good = λ files shows. good_more a lost c.args.helpers.now files c.loop-stripe.stripe (inv.good files (one.shown files shows)) (one.good files shows);
       asked = asked_stripe a lost c.loop-stripe.stripe _ c.args.helpers.now _ _ _ inv.asked one.asked;
       writes = one.writes (λ e. cc) ∙ inv.writes;
@@ -43,7 +43,7 @@ loop-stripe-preserved g c =
 pub returns-in-Err-clause-part : goal.returns-in-Err-clause-part
 returns-in-Err-clause-part g c =
     puts_some c.args.plan.now.geometry _ _ c.loop-stripe.stripe _ _ _
-    (λ i chunk is. later c.args.plan.now.geometry c.args.plan.now.lost c.args.helpers.now _ _ i chunk c.in-Err.ensures.shown is) c.loop-stripe.invariant.put
+    (λ i less chunk is. later c.args.plan.now.geometry c.args.plan.now.lost c.args.helpers.now _ _ i chunk c.in-Err.ensures.shown is) c.loop-stripe.invariant.put
     c.args.stripes c.loop-stripe-test.true c.in-Err.ensures.part
 
 pub returns-in-Err-clause-rotten : goal.returns-in-Err-clause-rotten

@@ -1,6 +1,7 @@
 use Rattle.std.proofs.Common.{◌≡◌, length, Err, ap, ◌∙◌}
 use Rattle.std.proofs.lemmas.List.{length-map}
 use Rattle.share_format.specs.Blocks.{block_of}
+use Rattle.share_files.proofs.DataLemmas.{ok_is_no_fault}
 use Rattle.share_mends.proofs.RebuildLemmas.{is_rebuilt, lacks_read}
 use Rattle.share_mends.proofs.rebuilding.rebuilt_block.Goals as goal
 
@@ -17,6 +18,6 @@ returns-clause-block g c =
       rebuilt =
           is_rebuilt c.args.geometry c.args.stripe _ _ _ (length c.find_blocks.new.sources) c.in_ok-blocks.ensures.count
           (c.find_blocks.auto.sources ∙ c.requires.sources) (length-map c.find_blocks.new.sources _) c.in_ok-blocks.ensures.read c.args.lost c.deref.result.now
-          c.in-Ok.chunk.items c.deref.ensures.value c.in-Ok.ensures.len c.in-Ok.ensures.recovered;
+          c.in-Ok.chunk.items c.deref.ensures.value c.in-Ok.ensures.len (λ few. ok_is_no_fault _ _ (c.in-Ok.ensures.too_few.1 few)) c.in-Ok.ensures.recovered;
       value = c.in_ok-block.ensures ∙ ap (λ l. block_of c.args.geometry l) chunk;
     }
