@@ -25,7 +25,7 @@ module _ (Is : ℕ → Type 0) where
     places = (All-nil (λ (p : Placed). Is p.at), All-nil Is, All-nil Is);
   }
 
-  asked_then : (old mid new : Seen) → IsAskedAt Is old mid → IsAskedAt Is mid new → IsAskedAt Is old new
+  pub asked_then : (old mid new : Seen) → IsAskedAt Is old mid → IsAskedAt Is mid new → IsAskedAt Is old new
   asked_then old mid new one two = record {
     bytes = one.bytes ++ two.bytes;
     ends = one.ends ++ two.ends;
@@ -46,6 +46,22 @@ module _ (Is : ℕ → Type 0) where
     more = asked.fails;
     failed = asked.failed;
   }
+
+-- at places of one kind, which are of another too
+pub asked_wider : (Was Is : ℕ → Type 0) → ((place : ℕ) → Was place → Is place) → (old new : Seen) → IsAskedAt Was old new → IsAskedAt Is old new
+asked_wider Was Is wide old new asked = record {
+  bytes = asked.bytes;
+  ends = asked.ends;
+  fails = asked.fails;
+  given = asked.given;
+  told = asked.told;
+  failed = asked.failed;
+  places = (
+    λ k p less. wide (get_or asked.bytes k p).at (asked.places.0 k p less),
+    λ k d less. wide (get_or asked.ends k d) (asked.places.1 k d less),
+    λ k d less. wide (get_or asked.fails k d) (asked.places.2 k d less),
+  );
+}
 
 -- ---- one read of a block
 

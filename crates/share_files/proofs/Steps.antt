@@ -1,5 +1,5 @@
 -- What one more stripe that was read says of each share.
-use Rattle.std.proofs.Common.{◌≡◌, ℕ, ◌+◌, ◌-◌, ◌*◌, ◌<◌, ◌≤◌, Bool, true, false, List, [], ◌∷◌, ◌++◌, length, get_or, drop, Option, None, Some, is_none, Vec, Global, refl, sym, subst, ap, ◌∙◌, inl, inr, arith, length-append, below_more}
+use Rattle.std.proofs.Common.{◌≡◌, ℕ, ◌+◌, ◌-◌, ◌*◌, ◌<◌, ◌≤◌, ◌⊎◌, Bool, true, false, List, [], ◌∷◌, ◌++◌, length, get_or, drop, Option, None, Some, is_none, Vec, Global, refl, sym, subst, ap, ◌∙◌, inl, inr, arith, length-append, below_more}
 use Rattle.std.specs.Prelude.{All}
 use Rattle.std.proofs.lemmas.Bool.{true≢false, cases_lt}
 use Rattle.std.proofs.lemmas.List.{drop-append-le, drop_all}
@@ -14,7 +14,8 @@ use Rattle.share_format.specs.Header.{Header}
 use Rattle.share_format.specs.Joined.{is_lost, AreTooFew}
 use Rattle.share_files.specs.Found.{block_in}
 use Rattle.share_files.specs.Seen.{Seen, seen_of, failed_since, Show}
-use Rattle.share_files.specs.Missed.{missed_after, HasFailed, IsMissing, CountsAt, IsFirstMissed, LackBlocks, IsParityUnread}
+use Rattle.share_files.specs.Missed.{missed_after, HasFailed, IsMissing, CountsAt, IsFirstMissed, IsWanted, LackBlocks, IsParityUnread}
+use Rattle.share_files.specs.Asked.{IsIn, IsAskedAt, AreAskedIn}
 use Rattle.share_files.specs.Gathered.{Grows, Grow, IsHad, MayFail, AreRead}
 use Rattle.share_files.specs.Handed.{HasBlock}
 use Rattle.share_files.specs.StripeRead.{IsDataRead, IsAllRead, JoinsStripe, IsStripeFault}
@@ -24,6 +25,7 @@ use Rattle.share_files.specs.declared.joining.JoinFault.{JoinFault}
 use Rattle.share_files.specs.declared.joining.JoinFault.TheVariants.{TooFew, Mismatch, WriteFault, OutOfMemory}
 use Rattle.share_files.proofs.FoundLemmas.{place_before}
 use Rattle.share_files.proofs.ReadLemmas.{grows_none, grow_then, grow_read}
+use Rattle.share_files.proofs.AskedLemmas.{asked_none, asked_then, asked_wider}
 use Rattle.share_files.proofs.LateLemmas.{missing_later, missing_earlier, none_early}
 
 -- ---- where reads failed
@@ -190,13 +192,14 @@ read_nothing h sources missed fresh =
             λ m. IsFirstMissed h.shape 0 (CountsAt h.shape files sources sources c) (get_or files c [])
             (failed_since (seen_of sources c) (seen_of sources c)) m in
             subst P (sym (fresh c)) (λ i below read. absurd (omega (arith, below)), none c);
+        asked = λ c less. asked_none (IsWanted h.shape 0 (CountsAt h.shape files sources sources c)) (seen_of sources c) (seen_of sources c) refl;
       };
       unread = λ none_missed c parity. refl;
     }
 
 -- ---- one stripe more
 
-module _ (h : Header) (i : ℕ) (olds mids news : List Seen) (before after : List (Option ℕ)) (so : AreReadSoFar h i olds mids before)
+module _ (h : Header) (i : ℕ) (olds mids news : List Seen) (before after : List (Option ℕ)) (so : AreReadSoFar h i olds mids before) (asked : AreAskedIn h.shape i mids news)
     (shares : length mids ≡ all_chunks h.shape) (now_shares : length news ≡ all_chunks h.shape) where
   abbrev a : AloofShape
   a = h.shape
@@ -233,6 +236,21 @@ module _ (h : Header) (i : ℕ) (olds mids news : List Seen) (before after : Lis
         | inl early ↦ inl early
         | inr one ↦ inr (one.0, one.1, missing_before a j i less (get_or files one.0 []) (old_fails one.0) (new_fails one.0) (may one.0) one.2)
       ]
+
+      -- what was asked before, and now where nothing was or the block counts
+      wanted : (c : ℕ) → c < all_chunks a → (CountsAt a files olds news c i ⊎ (seen_of news c ≡ seen_of mids c)) →
+          IsAskedAt (IsWanted a (i + 1) (CountsAt a files olds news c)) (seen_of olds c) (seen_of news c)
+      wanted c less now =
+          let Was : ℕ → Type 0 = IsWanted a i (CountsAt a files olds mids c) in
+          let Is : ℕ → Type 0 = IsWanted a (i + 1) (CountsAt a files olds news c) in
+          let one : IsAskedAt Is (seen_of olds c) (seen_of mids c) =
+          asked_wider Was Is (λ place w. record { stripe = w.stripe; within = omega (arith, w.within); counts = forth c w.stripe w.counts; at = w.at })
+          (seen_of olds c) (seen_of mids c) ((so.noted files shown).asked c less) in
+          asked_then Is (seen_of olds c) (seen_of mids c) (seen_of news c) one (elim now [
+            | inl counts ↦
+                asked_wider (IsIn a i) Is (λ place at. record { stripe = i; within = omega arith; counts = counts; at = at }) (seen_of mids c) (seen_of news c) (asked c)
+            | inr same ↦ asked_none Is (seen_of mids c) (seen_of news c) same
+          ])
 
       was : (c : ℕ) → c < all_chunks a → IsFirstMissed a i (CountsAt a files olds mids c) (get_or files c []) (old_fails c) (get_or before c None)
       was c less = (so.noted files shown).each c less
@@ -299,7 +317,13 @@ module _ (h : Header) (i : ℕ) (olds mids news : List Seen) (before after : Lis
     read_data = record {
       grow = grow_then olds mids news so.grow (grow k (omega arith) blocks is.read);
       within = λ c. all_within c (may k (omega arith) blocks is.read c);
-      noted = λ files shows. record { each = each_share files shows };
+      noted = λ files shows. record {
+        each = each_share files shows;
+        asked = λ c less. wanted k (omega arith) blocks is.read files shows c less (elim (cases_lt c k) [
+          | inl early ↦ inl (inl early)
+          | inr parity ↦ inr (is.read.others c parity)
+        ]);
+      };
       unread = λ none c parity. is.read.others c parity ∙ so.unread (λ d less. sym (kept d) ∙ none d less) c parity;
     }
 
@@ -328,6 +352,7 @@ module _ (h : Header) (i : ℕ) (olds mids news : List Seen) (before after : Lis
         each = λ c within.
             let P : Option ℕ → Type 0 = λ m. IsFirstMissed a (i + 1) (CountsAt a files olds news c) (get_or files c []) (new_fails c) m in
             subst P (sym (is.missed c within)) (noted_read n most blocks is.read files shows c within within (all_count files shows c));
+        asked = λ c within. wanted n most blocks is.read files shows c within (inl (all_count files shows c));
       };
       unread = λ none c parity.
           let d : ℕ = is.lack.0 in
@@ -338,36 +363,36 @@ module _ (h : Header) (i : ℕ) (olds mids news : List Seen) (before after : Lis
     lack few files shows = record { lost = is_lost blocks; many = few; each = λ c within lost. gone files shows c within lost }
 
 pub read_in : (geometry : AloofShape) (h : Header) (i : ℕ) (olds mids news : List Seen) (before after : List (Option ℕ)) (bytes : List ℕ) →
-    geometry ≡ h.shape → AreReadSoFar h i olds mids before → length mids ≡ all_chunks h.shape → length news ≡ all_chunks h.shape →
-    JoinsStripe geometry i mids news before after bytes → AreReadSoFar h (i + 1) olds news after
-read_in geometry h i olds mids news before after bytes same so shares now_shares joins =
+    geometry ≡ h.shape → AreReadSoFar h i olds mids before → AreAskedIn h.shape i mids news → length mids ≡ all_chunks h.shape →
+    length news ≡ all_chunks h.shape → JoinsStripe geometry i mids news before after bytes → AreReadSoFar h (i + 1) olds news after
+read_in geometry h i olds mids news before after bytes same so asked shares now_shares joins =
     let P : AloofShape → Type 0 = λ a. JoinsStripe a i mids news before after bytes in
     elim (subst P same joins) [
-      | inl early ↦ read_data h i olds mids news before after so shares now_shares early.blocks early.is
-      | inr all ↦ read_each h i olds mids news before after so shares now_shares all.blocks all.is
+      | inl early ↦ read_data h i olds mids news before after so asked shares now_shares early.blocks early.is
+      | inr all ↦ read_each h i olds mids news before after so asked shares now_shares all.blocks all.is
     ]
 
 -- why a stripe can't be joined is why the file can't
 stop_at : (h : Header) (i : ℕ) (olds mids news : List Seen) (before after : List (Option ℕ)) → AreReadSoFar h i olds mids before →
-    i < stripe_count h.shape h.size → length mids ≡ all_chunks h.shape → length news ≡ all_chunks h.shape → (fault : JoinFault) →
+    AreAskedIn h.shape i mids news → i < stripe_count h.shape h.size → length mids ≡ all_chunks h.shape → length news ≡ all_chunks h.shape → (fault : JoinFault) →
     IsStripeFault h.shape i mids news before after fault → IsStop h olds news after fault
-stop_at h i olds mids news before after so within shares now_shares (TooFew stripe) fault =
+stop_at h i olds mids news before after so asked within shares now_shares (TooFew stripe) fault =
     let P : ℕ → Type 0 = λ n. IsStop h olds news after (TooFew n) in
     subst P (sym fault.0) (
       within,
-      read_each h i olds mids news before after so shares now_shares fault.1.blocks fault.1.is,
-      lack h i olds mids news before after so shares now_shares fault.1.blocks fault.1.is fault.1.few,
+      read_each h i olds mids news before after so asked shares now_shares fault.1.blocks fault.1.is,
+      lack h i olds mids news before after so asked shares now_shares fault.1.blocks fault.1.is fault.1.few,
     )
-stop_at h i olds mids news before after so within shares now_shares Mismatch fault = fault
-stop_at h i olds mids news before after so within shares now_shares WriteFault fault = tt
-stop_at h i olds mids news before after so within shares now_shares OutOfMemory fault = tt
+stop_at h i olds mids news before after so asked within shares now_shares Mismatch fault = fault
+stop_at h i olds mids news before after so asked within shares now_shares WriteFault fault = tt
+stop_at h i olds mids news before after so asked within shares now_shares OutOfMemory fault = tt
 
 pub stop_in : (geometry : AloofShape) (h : Header) (i : ℕ) (olds mids news : List Seen) (before after : List (Option ℕ)) (fault : JoinFault) →
-    geometry ≡ h.shape → AreReadSoFar h i olds mids before → i < stripe_count h.shape h.size → length mids ≡ all_chunks h.shape →
-    length news ≡ all_chunks h.shape → IsStripeFault geometry i mids news before after fault → IsStop h olds news after fault
-stop_in geometry h i olds mids news before after fault same so within shares now_shares is =
+    geometry ≡ h.shape → AreReadSoFar h i olds mids before → AreAskedIn h.shape i mids news → i < stripe_count h.shape h.size →
+    length mids ≡ all_chunks h.shape → length news ≡ all_chunks h.shape → IsStripeFault geometry i mids news before after fault → IsStop h olds news after fault
+stop_in geometry h i olds mids news before after fault same so asked within shares now_shares is =
     let P : AloofShape → Type 0 = λ a. IsStripeFault a i mids news before after fault in
-    stop_at h i olds mids news before after so within shares now_shares fault (subst P same is)
+    stop_at h i olds mids news before after so asked within shares now_shares fault (subst P same is)
 
 pub why_stopped : (h : Header) (olds news : List Seen) (missed : List (Option ℕ)) → (fault : JoinFault) →
     IsStop h olds news missed fault → (files : List (List ℕ)) → Show news files → IsWhyNot h files olds news missed fault

@@ -105,7 +105,7 @@ module _ (h : Header) (i left count : ℕ) (olds mids news : List Seen) (before 
       let read : (c : ℕ) → c < h.shape.data_count → IsRead h.shape i (counts c) (file_of c) (failed_of c) (get_or joined_data.blocks c None) =
       λ c less. was_read h.shape.data_count joined_data.blocks joined_data.is.read files shows c less (omega (arith, less, sum)) (inl less) in
       let none : (c : ℕ) → h.shape.data_count ≤ c → counts c → ⊥ =
-      unread h i olds mids news before after so all_mids all_news joined_data.blocks joined_data.is files shows in record {
+      unread h i olds mids news before after so asked all_mids all_news joined_data.blocks joined_data.is files shows in record {
         blocks = counting h.shape i counts file_of failed_of joined_data.blocks joined_data.count joined_data.is.there read none;
         are = record {
           count = counting_count h.shape i counts file_of failed_of joined_data.blocks joined_data.count joined_data.is.there read none;
@@ -122,7 +122,7 @@ module _ (h : Header) (i left count : ℕ) (olds mids news : List Seen) (before 
       count = all.count;
       read = λ c less.
           was_read (all_chunks h.shape) all.blocks all.is.read files shows c less less
-          (all_count h i olds mids news before after so all_mids all_news all.blocks all.is files shows c);
+          (all_count h i olds mids news before after so asked all_mids all_news all.blocks all.is files shows c);
       few = all.few;
     };
     joined = all.joined;

@@ -6,6 +6,7 @@ use Rattle.share_format.specs.Blocks.{block_length, IsBlock}
 use Rattle.share_format.specs.Shares.{block_start}
 use Rattle.share_files.specs.Found.{block_in}
 use Rattle.share_files.specs.Seen.{Seen, seen_of, failed_since}
+use Rattle.share_files.specs.Asked.{IsIn, IsAskedAt}
 
 -- the first stripe at which a share's block was missed, after one more
 abbrev pub missed_after : Option ℕ → ℕ → Bool → Option ℕ
@@ -39,10 +40,18 @@ IsFirstMissed a count Counts file failed (Some first) =
     (first < count) × Counts first × ((i : ℕ) → i < first → Counts i → IsBlock a (block_in a i file)) × IsMissing a first file failed
     × All (λ place. block_start a first ≤ place) failed
 
--- so it is of each share in a join
+-- a place of the block of one of the first so many stripes, which counts
+pub record IsWanted (a : AloofShape) (count : ℕ) (Counts : ℕ → Type 0) (place : ℕ) : Type 0 where
+  pub stripe : ℕ
+  pub within : stripe < count
+  pub counts : Counts stripe
+  pub at : IsIn a stripe place
+
+-- of each share in a join this is the first block that counts and is missing, and nothing came of it but from blocks that count
 pub record AreFirstMissed (a : AloofShape) (count : ℕ) (files : List (List ℕ)) (olds news : List Seen) (missed : List (Option ℕ)) : Type 0 where
   pub each : (c : ℕ) → c < all_chunks a →
       IsFirstMissed a count (CountsAt a files olds news c) (get_or files c []) (failed_since (seen_of olds c) (seen_of news c)) (get_or missed c None)
+  pub asked : (c : ℕ) → c < all_chunks a → IsAskedAt (IsWanted a count (CountsAt a files olds news c)) (seen_of olds c) (seen_of news c)
 
 -- of more shares than there are parity chunks stripe i's block is missing
 pub record LackBlocks (a : AloofShape) (i : ℕ) (files : List (List ℕ)) (olds news : List Seen) : Type 0 where

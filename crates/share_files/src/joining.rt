@@ -156,6 +156,7 @@ pub fn join<S: SourceAt, K: Sink>(
     ensures mismatch { IsErrOf result JoinFault.Mismatch → TakesAnother header.now (map (λ s. seen (S.given s) (S.ends s) (S.failed s)) sources.old) (map (λ s. seen (S.given s) (S.ends s) (S.failed s)) sources.new) (K.accepted sink.old) (K.written sink.old) (K.accepted sink.new) (K.written sink.new) }
     // After any error: the stripes that were joined before, or a prefix of them.
     ensures until { IfErr result (TakesUntil header.now (map (λ s. seen (S.given s) (S.ends s) (S.failed s)) sources.old) (map (λ s. seen (S.given s) (S.ends s) (S.failed s)) sources.new) (K.accepted sink.old) (K.written sink.old) (K.accepted sink.new) (K.written sink.new)) }
+    // What each share missed, and that nothing came of it but from blocks that count.
     ensures missed { (files : List (List ℕ)) → Show (map (λ s. seen (S.given s) (S.ends s) (S.failed s)) sources.new) files → OnOk result (AreFirstMissed header.now.shape (stripe_count header.now.shape header.now.size) files (map (λ s. seen (S.given s) (S.ends s) (S.failed s)) sources.old) (map (λ s. seen (S.given s) (S.ends s) (S.failed s)) sources.new) missed.new) }
     // Where no data share's block was missing, no parity share was asked for anything.
     ensures unread { (IsErrOf result JoinFault.WriteFault → ⊥) → (IsErrOf result JoinFault.OutOfMemory → ⊥) → IsParityUnread header.now.shape (map (λ s. seen (S.given s) (S.ends s) (S.failed s)) sources.old) (map (λ s. seen (S.given s) (S.ends s) (S.failed s)) sources.new) missed.new }

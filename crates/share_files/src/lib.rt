@@ -1,5 +1,4 @@
-//! Files cut into shares and joined from them, where some may be missing or rotten; and what is read of one share: its header, its blocks,
-//! the first of them that is rotten, and whether it is whole.
+//! Files cut into shares, and joined from them where some are missing or rotten. What is read of one share, and whether it is whole.
 #![tactic(auto)]
 
 mod checking;

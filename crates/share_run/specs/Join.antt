@@ -49,7 +49,7 @@ pub record FilePlaced (r : JoinRun) : Type 0 where
   pub placed : IsPlaced r file
   pub joined : (whole : List ℕ) (files : List (List ℕ)) → Show r.news files → NoRotPasses r.header whole files → IsPlaced r whole
 
--- up to so many stripes it is noted what each share missed
+-- up to so many stripes it is noted what each share missed, and it was asked for blocks that count alone
 abbrev pub IsNoted : JoinRun → ℕ → Type 0
 IsNoted r count = (files : List (List ℕ)) → Show r.news files → AreFirstMissed r.header.shape count files r.olds r.news r.missed
 

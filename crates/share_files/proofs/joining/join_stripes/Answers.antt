@@ -64,7 +64,8 @@ loop-stripe-preserved g c =
           inv.left bytes refl long most _ _ _ _ _ _ c.loop-stripe.checksum c.in-Ok-pass_on.sum inv.taken c.in-Ok-pass_on.ensures.accepted
           c.in-Ok-pass_on.ensures.summed;
       read =
-          read_in c.geometry-geometry.result h i _ _ _ _ _ bytes shape inv.read (length-map c.loop-stripe.sources _ ∙ was)
+          read_in c.geometry-geometry.result h i _ _ _ _ _ bytes shape inv.read
+          (asked_of c.geometry-geometry.result h.shape i _ _ shape c.next_stripe.ensures.asked) (length-map c.loop-stripe.sources _ ∙ was)
           (length-map c.next_stripe.new.sources _ ∙ sources) c.in-Ok.ensures.joined;
       writes = c.in-Ok-pass_on.ensures.steady ∙ inv.writes;
     }
@@ -74,7 +75,8 @@ returns-in-Err-clause-stop g c =
     let h = c.args.header.now in
     let inv = c.loop-stripe.invariant in
     let less : c.loop-stripe.stripe < stripe_count h.shape h.size = omega (arith, c.loop-stripe-test.true, c.stripe_count-stripes.ensures.count) in
-    stop_in c.geometry-geometry.result h c.loop-stripe.stripe _ _ _ _ _ c.in-Err.fault c.geometry-geometry.ensures inv.read less
+    stop_in c.geometry-geometry.result h c.loop-stripe.stripe _ _ _ _ _ c.in-Err.fault c.geometry-geometry.ensures inv.read
+    (asked_of c.geometry-geometry.result h.shape c.loop-stripe.stripe _ _ c.geometry-geometry.ensures c.next_stripe.ensures.asked) less
     (length-map c.loop-stripe.sources _ ∙ inv.sources) (length-map c.next_stripe.new.sources _ ∙ c.next_stripe.auto.sources ∙ inv.sources) c.in-Err.ensures.fault
 
 pub returns-in-Err-clause-until : goal.returns-in-Err-clause-until
