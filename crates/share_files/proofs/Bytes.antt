@@ -166,6 +166,13 @@ joined_same h count olds news bytes file files few joined shows pass =
     let within : i < length pass.words = omega (arith, less, few, all) in
     stripe_same h i olds news file pass.words files pass.size pass.coded within (pass.blocks i within) bytes (joined.stripes files shows i less))
 
+-- and all of them the file
+pub joined_file : (h : Header) (olds news : List Seen) (bytes file : List ℕ) (files : List (List ℕ)) → length bytes ≡ h.size →
+    AreJoined h (stripe_count h.shape h.size) olds news bytes → Show news files → NoRotPasses h file files → bytes ≡ file
+joined_file h olds news bytes file files long joined shows pass =
+    let size : length file ≡ h.size = pass.size in
+    joined_same h (stripe_count h.shape h.size) olds news bytes file files (omega arith) joined shows pass ∙ take_all (length bytes) file (omega (arith, long, size))
+
 -- ---- the code is the header's
 
 pub place_of : (geometry : AloofShape) (h : Header) (i : ℕ) → geometry ≡ h.shape → IsHeader h → i < stripe_count h.shape h.size →

@@ -1,6 +1,6 @@
 -- What a sink takes, a stripe at a time.
 use Rattle.std.proofs.Common.{◌≡◌, ◌≢◌, ℕ, ◌+◌, ◌-◌, ◌*◌, ◌<◌, ◌≤◌, List, [], ◌++◌, length, get_or, take, drop, Option, None, Some, Result, Ok, Err, Vec, Global, refl, sym, subst, ◌∙◌, ap, arith, inl, inr, length-append, length-drop, below_more}
-use Rattle.std.specs.Prelude.{All, min, IsErrOf, IsErrAnd, IfErr}
+use Rattle.std.specs.Prelude.{All, min, IsErrAnd, IfErr}
 use Rattle.std.proofs.lemmas.List.Elements.{All-same}
 use Rattle.std.proofs.lemmas.List.{length-take-le, take_all, take-take, take-append-le, drop-append-le, drop_at}
 use Rattle.std.proofs.lemmas.Nat.{mul-le}
@@ -28,7 +28,7 @@ use Rattle.share_files.proofs.AskedLemmas.{grow_asked}
 use Rattle.share_files.proofs.Steps.{had_none, not_missing, since_had, unread, all_count}
 use Rattle.share_files.proofs.LateLemmas.{read_stays}
 use Rattle.share_files.proofs.Unread.{counting, counting_count, counting_read, counting_few, counting_joined}
-use Rattle.share_files.proofs.Bytes.{begins_within, joined_same}
+use Rattle.share_files.proofs.Bytes.{begins_within, joined_same, joined_file}
 
 -- ---- what was read stays read
 
@@ -263,13 +263,6 @@ module _ (h : Header) (i left : ℕ) (olds mids news : List Seen) (missed : List
   takes_until a before after WriteFault is = absurd is
   takes_until a before after OutOfMemory is = record { count = i; stripes = stripes_taken }
 
--- a fault that is no mismatch
-pub takes_mismatch : {A : Type 0} (h : Header) (olds news : List Seen) (accepted : List ℕ) (written : Option (List ℕ)) (now : List ℕ) (rest : Option (List ℕ))
-    (fault : JoinFault) → IsErrOf {T = A} (Err fault) Mismatch → TakesUntil h olds news accepted written now rest fault → TakesAnother h olds news accepted written now rest
-takes_mismatch h olds news accepted written now rest fault e taken =
-    let same : fault ≡ Mismatch = cc in
-    let P : JoinFault → Type 0 = λ f. TakesUntil h olds news accepted written now rest f in subst P same taken
-
 -- ---- at the end
 
 pub takes_all : (h : Header) (n left : ℕ) (olds news : List Seen) (accepted : List ℕ) (written : Option (List ℕ)) (now : List ℕ) (rest : Option (List ℕ))
@@ -296,10 +289,7 @@ module _ (h : Header) (olds news : List Seen) (accepted : List ℕ) (written : O
   }
 
   is_file : (file : List ℕ) (files : List (List ℕ)) → Show news files → NoRotPasses h file files → taken.done ≡ file
-  is_file file files shows pass =
-      let size : length file ≡ h.size = pass.size in
-      joined_same h (stripe_count h.shape h.size) olds news taken.done file files (omega arith) taken.joined shows pass
-      ∙ take_all (length taken.done) file (omega (arith, taken.counted, size))
+  is_file file files shows pass = joined_file h olds news taken.done file files (omega (arith, taken.counted)) taken.joined shows pass
 
   pub takes_this : (file : List ℕ) (files : List (List ℕ)) → Show news files → NoRotPasses h file files → Accepts accepted written file now rest
   takes_this file files shows pass =

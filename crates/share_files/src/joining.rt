@@ -8,7 +8,7 @@ ghost use Rattle.share_format.specs.Blocks.{block_length};
 ghost use Rattle.share_files.specs.Seen.{seen, Show};
 ghost use Rattle.share_files.specs.Missed.{AreFirstMissed, IsParityUnread};
 ghost use Rattle.share_files.specs.Joined.{NoRotPasses, IsOfFile, IsWhyNot};
-ghost use Rattle.share_files.specs.Taken.{TakesFile, TakesAnother, TakesUntil};
+ghost use Rattle.share_files.specs.Taken.{TakesFile, TakesUntil};
 ghost use Rattle.share_files.specs.SoFar.{TakesSoFar, AreReadSoFar, IsStop};
 ghost use Rattle.share_files.specs.declared.joining.JoinFault.TheVariants.{OutOfMemory};
 
@@ -153,7 +153,6 @@ pub fn join<S: SourceAt, K: Sink>(
     ensures prefix { (file : List ℕ) (files : List (List ℕ)) → Show (map (λ s. seen (S.given s) (S.ends s) (S.failed s)) sources.new) files → NoRotPasses header.now file files → OnErr result (AcceptsPrefix (K.accepted sink.old) (K.written sink.old) file (K.accepted sink.new) (K.written sink.new)) }
     // Of any files: the sink took the stripes as they were joined, with Ok all, of the header's length and checksum.
     ensures taken { OnOk result (TakesFile header.now (map (λ s. seen (S.given s) (S.ends s) (S.failed s)) sources.old) (map (λ s. seen (S.given s) (S.ends s) (S.failed s)) sources.new) (K.accepted sink.old) (K.written sink.old) (K.accepted sink.new) (K.written sink.new)) }
-    ensures mismatch { IsErrOf result JoinFault.Mismatch → TakesAnother header.now (map (λ s. seen (S.given s) (S.ends s) (S.failed s)) sources.old) (map (λ s. seen (S.given s) (S.ends s) (S.failed s)) sources.new) (K.accepted sink.old) (K.written sink.old) (K.accepted sink.new) (K.written sink.new) }
     // After any error: the stripes that were joined before, or a prefix of them.
     ensures until { IfErr result (TakesUntil header.now (map (λ s. seen (S.given s) (S.ends s) (S.failed s)) sources.old) (map (λ s. seen (S.given s) (S.ends s) (S.failed s)) sources.new) (K.accepted sink.old) (K.written sink.old) (K.accepted sink.new) (K.written sink.new)) }
     // What each share missed, and that nothing came of it but from blocks that count.

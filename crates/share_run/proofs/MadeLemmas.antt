@@ -29,6 +29,7 @@ use Rattle.share_run.specs.declared.mending.MendStop.{MendStop}
 use Rattle.share_run.specs.declared.mending.MendStop.TheVariants.{RottenHelper, UnreadHelper}
 use Rattle.share_run.specs.declared.status.ShareStatus.{ShareStatus}
 use Rattle.share_run.specs.declared.status.ShareStatus.TheVariants.{Done, Usage, TooFew, BadShare, ReadFault, WriteFault, OutOfMemory}
+use Rattle.share_run.proofs.JoinLemmas.{placed_is, none_other}
 use Rattle.share_run.proofs.PieceLemmas.{part_is, piece_good}
 
 module _ (a : AloofShape) (file : List ℕ) (made : List (List ℕ)) (aloof : IsAloof a) (cut : (c : ℕ) → c < all_chunks a → IsShare a file c (get_or made c []))
@@ -131,15 +132,16 @@ module _ (cut : CutRun) (made : SharesPlaced cut (all_chunks cut.shape)) (lost :
   pub cut_joined : (join : JoinRun) (status : ShareStatus) → IsAloof cut.shape → TellsShare cut.shape made.cut.file join.header →
       ShowMade cut.shape made.files lost join.olds join.news → JoinEnds status join → PlacesOrFails status join.before join.after made.cut.file
   cut_joined join Done aloof tells shows ends =
-      ends.0.joined made.cut.file shows.files shows.shown
-      (pass cut.shape made.cut.file made.files aloof made.cut.shares lost join.olds join.news shows join.header tells)
+      placed_as join.before.files join.after.files ends.0.file made.cut.file ends.0.placed
+      (placed_is join made.cut.file shows.files shows.shown
+      (pass cut.shape made.cut.file made.files aloof made.cut.shares lost join.olds join.news shows join.header tells) ends.0)
   cut_joined join Usage aloof tells shows ends = ends
   cut_joined join TooFew aloof tells shows ends =
       let lack = ends.0.2 shows.files shows.shown in
       none_lack cut.shape made.cut.file made.files aloof made.cut.shares lost join.olds join.news shows join.header tells ends.0.0 ends.0.1 lack.lack
   cut_joined join BadShare aloof tells shows ends =
-      ends.0 made.cut.file shows.files shows.shown
-      (pass cut.shape made.cut.file made.files aloof made.cut.shares lost join.olds join.news shows join.header tells)
+      none_other join made.cut.file shows.files shows.shown
+      (pass cut.shape made.cut.file made.files aloof made.cut.shares lost join.olds join.news shows join.header tells) ends.0
   cut_joined join ReadFault aloof tells shows ends = ends
   cut_joined join WriteFault aloof tells shows ends = ends.1
   cut_joined join OutOfMemory aloof tells shows ends = ends.0

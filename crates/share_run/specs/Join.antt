@@ -5,7 +5,6 @@ use Rattle.share_format.specs.Cut.{stripe_count}
 use Rattle.share_format.specs.Header.{Header}
 use Rattle.share_files.specs.Seen.{Seen, Show}
 use Rattle.share_files.specs.Missed.{AreFirstMissed, LackBlocks, IsParityUnread}
-use Rattle.share_files.specs.Joined.{NoRotPasses}
 use Rattle.share_files.specs.Stripes.{AreJoined}
 use Rattle.share_run.specs.Places.{Kept, filled, IsUntouched, IsUnwritten}
 use Rattle.share_run.specs.declared.status.ShareStatus.{ShareStatus}
@@ -39,15 +38,13 @@ join_run header olds news writes written before after missed = record {
 abbrev pub IsPlaced : JoinRun → List ℕ → Type 0
 IsPlaced r file = r.after.files ≡ r.before.files ++ filled 0 file ∷ []
 
--- it has the length and the checksum that the header tells, and is of the blocks that count. Whatever files the sources show: if they are shares
--- of a file, with rot that its checksums find, it is that file
+-- it has the length and the checksum that the header tells, and is of the blocks that count
 pub record FilePlaced (r : JoinRun) : Type 0 where
   pub file : List ℕ
   pub size : length file ≡ r.header.size
   pub checksum : checksum_of file ≡ r.header.checksum
   pub from : AreJoined r.header (stripe_count r.header.shape r.header.size) r.olds r.news file
   pub placed : IsPlaced r file
-  pub joined : (whole : List ℕ) (files : List (List ℕ)) → Show r.news files → NoRotPasses r.header whole files → IsPlaced r whole
 
 -- up to so many stripes it is noted what each share missed, and it was asked for blocks that count alone
 abbrev pub IsNoted : JoinRun → ℕ → Type 0
@@ -75,9 +72,8 @@ JoinEnds Done r = FilePlaced r × IsNoted r (stripe_count r.header.shape r.heade
     × IsParityUnread r.header.shape r.olds r.news r.missed
 JoinEnds Usage r = ⊥
 JoinEnds TooFew r = ((stripe : ℕ) × (stripe < stripe_count r.header.shape r.header.size) × ((files : List (List ℕ)) → Show r.news files → IsLacking r stripe files)) × IsUntouched r.before r.after × IsWritten r
--- what the shares give has another checksum: so they are not shares of a file with rot that checksums find
-JoinEnds BadShare r = ((file : List ℕ) (files : List (List ℕ)) → Show r.news files → NoRotPasses r.header file files → ⊥)
-    × IsAnother r × IsNoted r (stripe_count r.header.shape r.header.size) × IsUntouched r.before r.after × IsWritten r
+-- what the shares give has another checksum
+JoinEnds BadShare r = IsAnother r × IsNoted r (stripe_count r.header.shape r.header.size) × IsUntouched r.before r.after × IsWritten r
     × IsParityUnread r.header.shape r.olds r.news r.missed
 JoinEnds ReadFault r = ⊥
 JoinEnds WriteFault r = IsUnwritten r.writes r.written r.before r.after × IsUntouched r.before r.after

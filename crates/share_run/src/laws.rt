@@ -2,9 +2,11 @@
 ghost use Rattle.std.specs.Prelude.{◌≡◌, ℕ, [], Bool, true, false, List, get_or};
 ghost use Rattle.clay_aloof.specs.Shape.{all_chunks};
 ghost use Rattle.clay_aloof.specs.Limits.{IsAloof};
+ghost use Rattle.share_files.specs.Seen.{Show};
+ghost use Rattle.share_files.specs.Joined.{NoRotPasses};
 ghost use Rattle.share_mends.specs.Asked.{AreHelpers, helps};
 ghost use Rattle.share_run.specs.Cut.{CutRun, SharesPlaced};
-ghost use Rattle.share_run.specs.Join.{JoinRun, JoinEnds};
+ghost use Rattle.share_run.specs.Join.{JoinRun, FilePlaced, IsAnother, JoinEnds};
 ghost use Rattle.share_run.specs.Made.{ShowMade, TellsShare, PlacesOrFails};
 ghost use Rattle.share_run.specs.Mend.{MendRun, MendEnds, MendStops};
 ghost use Rattle.share_run.specs.Rebuild.{RebuildEnds};
@@ -18,6 +20,14 @@ pub fn cut_shares_join()
         → TellsShare cut.shape made.cut.file join.header
         → ShowMade cut.shape made.files lost join.olds join.news → JoinEnds status join
         → PlacesOrFails status join.before join.after made.cut.file }
+{}
+
+/// What a join puts is the file of which the shares are, where its checksums find all rot in them, and no join of them ends with another checksum.
+pub fn joined_files_are_right()
+    ensures placed { (join : JoinRun) (file : List ℕ) (files : List (List ℕ)) → Show join.news files
+        → NoRotPasses join.header file files → (placed : FilePlaced join) → placed.file ≡ file }
+    ensures other { (join : JoinRun) (file : List ℕ) (files : List (List ℕ)) → Show join.news files
+        → NoRotPasses join.header file files → IsAnother join → ⊥ }
 {}
 
 /// From any `K` of them a lost share is mended as it was cut, unless a read, a write, the place or memory fails: from whole blocks, and from parts

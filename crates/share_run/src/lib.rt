@@ -22,7 +22,7 @@ pub use fill_log::FillLog;
 pub use headers::{Head, header_of_share, is_of_cut, read_heads, told_header};
 pub use helpers::choose_helpers;
 pub use joining::join_main;
-pub use laws::{cut_shares_join, cut_shares_mend};
+pub use laws::{cut_shares_join, cut_shares_mend, joined_files_are_right};
 pub use mending::{MendStop, mend_main};
 pub use places::{Place, Places};
 pub use rebuilding::rebuild_main;

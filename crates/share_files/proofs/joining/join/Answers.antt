@@ -1,15 +1,12 @@
 use Rattle.std.proofs.Common.{◌≢◌, Err, ap, sym, ◌∙◌}
 use Rattle.share_files.specs.declared.joining.JoinFault.TheVariants.{Mismatch}
 use Rattle.share_files.proofs.Steps.{why_stopped, stopped_unread, stopped_in}
-use Rattle.share_files.proofs.Taking.{takes_file, takes_another, takes_this, matches_this, takes_mismatch, takes_prefix}
+use Rattle.share_files.proofs.Taking.{takes_file, takes_another, takes_this, matches_this, takes_prefix}
 use Rattle.share_files.proofs.joining.join.Goals as goal
 
 pub returns-in-Err-clause-prefix : goal.returns-in-Err-clause-prefix
 returns-in-Err-clause-prefix g c = λ file files shows pass.
     takes_prefix c.args.header.now _ _ _ _ _ _ file files shows pass c.in-Err.fault c.in-Err.ensures.until
-
-pub returns-in-Err-clause-mismatch : goal.returns-in-Err-clause-mismatch
-returns-in-Err-clause-mismatch g c = λ e. takes_mismatch c.args.header.now _ _ _ _ _ _ c.in-Err.fault e c.in-Err.ensures.until
 
 pub returns-in-Err-clause-why_not : goal.returns-in-Err-clause-why_not
 returns-in-Err-clause-why_not g c = λ files shows.
@@ -28,11 +25,6 @@ returns-then-checksum-clause-prefix g c = λ file files shows pass.
     let differs : c.in-Ok.checksum ≢ c.args.header.now.checksum = λ same. c.if-checksum.true (same ∙ sym c.checksum.ensures) in
     takes_prefix c.args.header.now _ _ _ _ _ _ file files shows pass Mismatch
     (takes_another c.args.header.now _ _ _ _ _ _ c.in-Ok.checksum c.in-Ok.ensures.taken differs)
-
-pub returns-then-checksum-clause-mismatch : goal.returns-then-checksum-clause-mismatch
-returns-then-checksum-clause-mismatch g c = λ e.
-    let differs : c.in-Ok.checksum ≢ c.args.header.now.checksum = λ same. c.if-checksum.true (same ∙ sym c.checksum.ensures) in
-    takes_another c.args.header.now _ _ _ _ _ _ c.in-Ok.checksum c.in-Ok.ensures.taken differs
 
 pub returns-then-checksum-clause-until : goal.returns-then-checksum-clause-until
 returns-then-checksum-clause-until g c =

@@ -1,6 +1,7 @@
-use Rattle.std.proofs.Common.{Err, map, refl, subst, ap}
+use Rattle.std.proofs.Common.{map, refl, subst}
 use Rattle.share_files.specs.Seen.{seen}
 use Rattle.share_files.specs.Joined.{IsOfFile, IsWhyNot}
+use Rattle.share_files.specs.Taken.{TakesUntil}
 use Rattle.share_files.specs.declared.joining.JoinFault.{JoinFault}
 use Rattle.share_run.proofs.FaultLemmas.{few_no_write, other_no_write, other_no_memory}
 use Rattle.share_run.proofs.JoinLemmas.{file_placed, is_another}
@@ -24,8 +25,10 @@ returns-in-Err-TooFew g c = (
 
 pub returns-in-Err-Mismatch : goal.returns-in-Err-Mismatch
 returns-in-Err-Mismatch g c = (
-  λ file files shows pass. c.in-Err-Mismatch.ensures.matching file files shows pass (ap Err c.in-Err-Mismatch.field-0-is),
-  is_another _ _ _ _ _ (c.in-Err-Mismatch.ensures.mismatch (ap Err c.in-Err-Mismatch.field-0-is)),
+  (let P : JoinFault → Type 0 = λ fault.
+      TakesUntil c.args.header.now (map (λ s. seen (g.S.SourceAt.given s) (g.S.SourceAt.ends s) (g.S.SourceAt.failed s)) c.args.sources.now) (map (λ s. seen (g.S.SourceAt.given s) (g.S.SourceAt.ends s) (g.S.SourceAt.failed s)) c.join.new.sources)
+      (g.K.Sink.accepted c.args.sink.now) (g.K.Sink.written c.args.sink.now) (g.K.Sink.accepted c.join.new.sink) (g.K.Sink.written c.join.new.sink) fault in
+      is_another _ _ _ _ _ (subst P c.in-Err-Mismatch.field-0-is c.in-Err-Mismatch.ensures.until)),
   λ files shows.
       let P : JoinFault → Type 0 = λ fault.
       IsWhyNot c.args.header.now files (map (λ s. seen (g.S.SourceAt.given s) (g.S.SourceAt.ends s) (g.S.SourceAt.failed s)) c.args.sources.now)
@@ -39,8 +42,7 @@ returns-in-Err-Mismatch g c = (
 
 pub returns-in-Ok-fill : goal.returns-in-Ok-fill
 returns-in-Ok-fill g c = (
-  file_placed _ _ _ _ _ c.requires.empty c.in-Ok-fill.ensures.filled c.in-Ok.ensures.taken
-      (λ whole files shows pass. c.in-Ok.ensures.joined whole files shows pass),
+  file_placed _ _ _ _ _ c.requires.empty c.in-Ok-fill.ensures.filled c.in-Ok.ensures.taken,
   λ files shows. c.in-Ok.ensures.missed files shows,
   (c.in-Ok.ensures.writes (λ e. cc), c.in-Ok-fill.ensures.steady),
   c.in-Ok.ensures.unread (λ e. cc) (λ e. cc),
