@@ -30,15 +30,22 @@ fn sums_two_at_once(rt: HostRuntime) -> Result<(), AllocError> {
     Ok(())
 }
 
+// The checksums of two slices, side by side, where they have one length.
+fn two_sums(crc: &Crc64, first: &[u8], second: &[u8]) -> Option<(u64, u64)> {
+    if first.len() == second.len() {
+        return Some(crc.checksum_two(first, second));
+    }
+    None
+}
+
 #[test]
 fn sums_long_slices(rt: HostRuntime) -> Result<(), AllocError> {
     let crc = Crc64::new(rt.alloc())?;
     let first: Vec<u8> = (0..10_000u32).map(|i| (i % 251) as u8).collect(rt.alloc())?;
     let second: Vec<u8> = (0..10_000u32).map(|i| (i % 241) as u8).collect(rt.alloc())?;
     assert_eq!(rt; crc.checksum(&first), 0x3EC3_BC24_B9CA_BEE3);
-    let (one, other) = crc.checksum_two(&first, &second);
-    assert_eq!(rt; one, 0x3EC3_BC24_B9CA_BEE3);
-    assert_eq!(rt; other, 0x4E33_315E_0F9A_FA1B);
+    let sums = two_sums(&crc, &first, &second);
+    assert!(rt; sums == Some((0x3EC3_BC24_B9CA_BEE3, 0x4E33_315E_0F9A_FA1B)));
     Ok(())
 }
 

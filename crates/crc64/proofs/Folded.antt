@@ -13,7 +13,7 @@ use Rattle.crc64.proofs.Places.{placed, placed_same, placed_sum, placed_none, pl
 -- every gap is within the span, and wider than a vector
 abbrev pub Within : List ℕ → Type 0
 Within [] = Unit {0}
-Within (gap ∷ gaps) = (16 ≤ gap) × (gap ≤ span) × Within gaps
+Within (gap ∷ gaps) = (32 ≤ gap) × (gap ≤ span) × Within gaps
 
 pub gaps_within : Within gaps
 gaps_within = search arith

@@ -3,21 +3,21 @@ use Rattle.std.specs.Prelude.{◌≡◌, ℕ, ◌+◌, ◌-◌, ◌*◌, ◌/◌
 
 -- the widest gap, in bytes
 abbrev pub span : ℕ
-span = 352
+span = 480
 
 -- the coefficients of the multiple, in bytes from the first
 abbrev pub gaps : List ℕ
-gaps = 101 ∷ 179 ∷ 188 ∷ 194 ∷ 198 ∷ 215 ∷ 227 ∷ 240 ∷ 266 ∷ 275 ∷ 340 ∷ 349 ∷ 352 ∷ []
+gaps = 173 ∷ 214 ∷ 275 ∷ 281 ∷ 323 ∷ 360 ∷ 409 ∷ 458 ∷ 470 ∷ 477 ∷ 480 ∷ []
 
 -- the digits that stand these gaps before a place, summed, where the digit of place p is entry span + p
 unfoldable pub gathered : List ℕ → List ℕ → ℕ → ℕ
 gathered [] digits place = 0
 gathered (gap ∷ gaps) digits place = bit_xor (gathered gaps digits place) (slice_index digits (place + (span - gap)))
 
--- 16 bytes, each with the digits added that stand the gaps before
+-- 32 bytes, each with the digits added that stand the gaps before
 pub record HasGathered (gaps : List ℕ) (byte : ℕ → ℕ) (digits lanes : List ℕ) : Type 0 where
-  pub long : length lanes ≡ 16
-  pub each : (k : ℕ) → k < 16 → slice_index lanes k ≡ bit_xor (byte k) (gathered gaps digits k)
+  pub long : length lanes ≡ 32
+  pub each : (k : ℕ) → k < 32 → slice_index lanes k ≡ bit_xor (byte k) (gathered gaps digits k)
 
 -- a byte of a message, with the register added to the first 8
 abbrev pub entered : ℕ → List ℕ → ℕ → ℕ

@@ -11,7 +11,7 @@ use byteorder::{ByteOrder, LittleEndian};
 use std::simd::prelude::*;
 
 /// The widest gap.
-pub const SPAN: usize = 352;
+pub const SPAN: usize = 480;
 
 /// The most bytes that are folded at once.
 pub const TURN: usize = 4096;
@@ -21,70 +21,68 @@ pub const LEAST: usize = 1536;
 
 // Adds the bytes that stand one gap before.
 #[inline(always)]
-fn added(sum: u8x16, history: &[u8], gap: usize) -> u8x16
-    requires long { length history.now ≡ span + 16 }
+fn added(sum: u8x32, history: &[u8], gap: usize) -> u8x32
+    requires long { length history.now ≡ span + 32 }
     requires gap { gap ≤ span }
     ensures { (gaps : List ℕ) (byte : ℕ → ℕ) → HasGathered gaps byte history.now sum → HasGathered (gap ∷ gaps) byte history.now result }
 {
-    sum ^ u8x16::from_slice(&history[SPAN - gap..])
+    sum ^ u8x32::from_slice(&history[SPAN - gap..])
 }
 
 // Adds the bytes that stand the gaps before.
 #[inline(always)]
-fn gathered(lanes: u8x16, history: &[u8]) -> u8x16
-    requires { length history.now ≡ span + 16 }
+fn gathered(lanes: u8x32, history: &[u8]) -> u8x32
+    requires { length history.now ≡ span + 32 }
     ensures { HasGathered gaps (λ k. slice_index lanes k) history.now result }
 {
-    let sum = added(lanes, history, 352);
-    let sum = added(sum, history, 349);
-    let sum = added(sum, history, 340);
+    let sum = added(lanes, history, 480);
+    let sum = added(sum, history, 477);
+    let sum = added(sum, history, 470);
+    let sum = added(sum, history, 458);
+    let sum = added(sum, history, 409);
+    let sum = added(sum, history, 360);
+    let sum = added(sum, history, 323);
+    let sum = added(sum, history, 281);
     let sum = added(sum, history, 275);
-    let sum = added(sum, history, 266);
-    let sum = added(sum, history, 240);
-    let sum = added(sum, history, 227);
-    let sum = added(sum, history, 215);
-    let sum = added(sum, history, 198);
-    let sum = added(sum, history, 194);
-    let sum = added(sum, history, 188);
-    let sum = added(sum, history, 179);
-    added(sum, history, 101)
+    let sum = added(sum, history, 214);
+    added(sum, history, 173)
 }
 
 // The first bytes, with the register added.
-fn first_lanes(start: u64, bytes: &[u8]) -> u8x16
-    requires { 16 ≤ length bytes.now }
-    ensures { (k : ℕ) → k < 16 → slice_index result k ≡ entered start bytes.now k }
+fn first_lanes(start: u64, bytes: &[u8]) -> u8x32
+    requires { 32 ≤ length bytes.now }
+    ensures { (k : ℕ) → k < 32 → slice_index result k ≡ entered start bytes.now k }
 {
-    let mut register = [0u8; 16];
+    let mut register = [0u8; 32];
     LittleEndian::write_u64(&mut register, start);
-    u8x16::from_array(register) ^ u8x16::from_slice(bytes)
+    u8x32::from_array(register) ^ u8x32::from_slice(bytes)
 }
 
 // Strikes out the bytes at `at`.
 #[inline(always)]
-fn strike(lanes: u8x16, at: usize, digits: &mut [u8])
-    requires { span + at + 16 ≤ length digits.old }
+fn strike(lanes: u8x32, at: usize, digits: &mut [u8])
+    requires { span + at + 32 ≤ length digits.old }
     ensures { (start : ℕ) (bytes : List ℕ) → HasDigits start bytes at digits.old
-        → ((k : ℕ) → k < 16 → slice_index lanes k ≡ entered start bytes (at + k))
-        → HasDigits start bytes (at + 16) digits.new }
+        → ((k : ℕ) → k < 32 → slice_index lanes k ≡ entered start bytes (at + k))
+        → HasDigits start bytes (at + 32) digits.new }
 {
-    let sum = gathered(lanes, &digits[at..at + SPAN + 16]);
+    let sum = gathered(lanes, &digits[at..at + SPAN + 32]);
     sum.copy_to_slice(&mut digits[SPAN + at..]);
 }
 
 // Strikes out all but the last bytes.
 fn strike_all(start: u64, bytes: &[u8], digits: &mut [u8])
-    requires whole { length bytes.now % 16 ≡ 0 }
-    requires long { span + 16 ≤ length bytes.now }
+    requires whole { length bytes.now % 32 ≡ 0 }
+    requires long { span + 32 ≤ length bytes.now }
     requires room { length bytes.now ≤ length digits.old }
     requires blank { (place : ℕ) → slice_index digits.old place ≡ 0 }
     ensures { (count : ℕ) → span + count ≡ length bytes.now → HasDigits start bytes.now count digits.new }
 {
     strike(first_lanes(start, bytes), 0, digits);
-    let mut at = 16;
+    let mut at = 32;
     while at < bytes.len() - SPAN {
-        strike(u8x16::from_slice(&bytes[at..]), at, digits);
-        at += 16;
+        strike(u8x32::from_slice(&bytes[at..]), at, digits);
+        at += 32;
     }
 }
 
@@ -100,11 +98,11 @@ fn leave(bytes: &[u8], digits: &[u8], rest: &mut [u8])
     while at < SPAN {
         let from = bytes.len() - SPAN + at;
         let sum = gathered(
-            u8x16::from_slice(&bytes[from..]),
-            &digits[from..from + SPAN + 16],
+            u8x32::from_slice(&bytes[from..]),
+            &digits[from..from + SPAN + 32],
         );
         sum.copy_to_slice(&mut rest[at..]);
-        at += 16;
+        at += 32;
     }
 }
 
@@ -125,8 +123,8 @@ pub fn no_rest() -> [u8; SPAN]
 
 /// Folds bytes behind a register into few, of the same remainder.
 pub fn fold(start: u64, bytes: &[u8], rest: &mut [u8])
-    requires whole { length bytes.now % 16 ≡ 0 }
-    requires long { span + 16 ≤ length bytes.now }
+    requires whole { length bytes.now % 32 ≡ 0 }
+    requires long { span + 32 ≤ length bytes.now }
     requires turn { length bytes.now ≤ 4096 }
     requires rest { length rest.old ≡ span }
     ensures sum { after 0 rest.new ≡ after start bytes.now }

@@ -180,7 +180,7 @@ impl Crc64 {
         let mut register = start;
         let mut at = 0;
         while bytes.len() - at >= LEAST {
-            let turn = (bytes.len() - at).min(TURN) / 16 * 16;
+            let turn = (bytes.len() - at).min(TURN) / 32 * 32;
             let mut rest = no_rest();
             fold(register, &bytes[at..at + turn], &mut rest);
             register = self.after_short(0, &rest);
@@ -214,7 +214,7 @@ impl Crc64 {
         let mut other = ONES;
         let mut at = 0;
         while first.len() - at >= LEAST {
-            let turn = (first.len() - at).min(TURN) / 16 * 16;
+            let turn = (first.len() - at).min(TURN) / 32 * 32;
             let mut near = no_rest();
             let mut far = no_rest();
             fold(one, &first[at..at + turn], &mut near);

@@ -10,7 +10,7 @@ pub loop-at-preserved : goal.loop-at-preserved
 loop-at-preserved c =
     let bytes = c.args.bytes.now in
     let at : ℕ = c.loop-at.at in
-    let turn : ℕ = c.min.result / 16 * 16 in
+    let turn : ℕ = c.min.result / 32 * 32 in
     let few : c.min.result ≡ min (length bytes - at) 4096 = c.min.ensures in
     let within : at ≤ length bytes = c.loop-at.invariant.0 in
     let size : at + turn - at ≡ turn = omega arith in (

@@ -11,13 +11,13 @@ loop-at-preserved c =
     let at : ℕ = c.loop-at.at in
     let from : ℕ = length bytes - span in
     let i = c.loop-at.invariant in
-    let even : at % 16 ≡ 0 = i.0 in
+    let even : at % 32 ≡ 0 = i.0 in
     let long : length c.loop-at.rest ≡ span = i.1 in
-    let next : (at + 16) % 16 ≡ 0 = omega (arith, even) in
-    let room : at + 16 ≤ length c.loop-at.rest = omega (arith, even, long, c.loop-at-test.true) in (
+    let next : (at + 32) % 32 ≡ 0 = omega (arith, even) in
+    let room : at + 32 ≤ length c.loop-at.rest = omega (arith, even, long, c.loop-at-test.true) in (
       next,
       length-put_chunk at c.loop-at.rest c.gathered-sum.result ∙ long,
-      left_more from at (from + at + span + 16 - (from + at)) bytes c.args.digits.now c.loop-at.rest c.gathered-sum.result room (omega arith)
+      left_more from at (from + at + span + 32 - (from + at)) bytes c.args.digits.now c.loop-at.rest c.gathered-sum.result room (omega arith)
           c.gathered-sum.ensures i.2,
     )
 

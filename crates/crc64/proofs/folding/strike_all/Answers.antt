@@ -7,7 +7,7 @@ pub loop-at-init : goal.loop-at-init
 loop-at-init c =
     let start : ℕ = c.args.start in
     let bytes = c.args.bytes.now in
-    let long : span + 16 ≤ length bytes = c.requires.long in (
+    let long : span + 32 ≤ length bytes = c.requires.long in (
       omega arith,
       omega arith,
       long,
@@ -20,12 +20,12 @@ loop-at-preserved c =
     let start : ℕ = c.args.start in
     let bytes = c.args.bytes.now in
     let at : ℕ = c.loop-at.at in
-    let whole : length bytes % 16 ≡ 0 = c.requires.whole in
+    let whole : length bytes % 32 ≡ 0 = c.requires.whole in
     let i = c.loop-at.invariant in
-    let even : at % 16 ≡ 0 = i.0 in
-    let enough : 16 ≤ at = i.1 in
-    let next : (at + 16) % 16 ≡ 0 = omega (arith, even) in
-    let room : span + (at + 16) ≤ length bytes = omega (arith, even, whole, c.loop-at-test.true) in (
+    let even : at % 32 ≡ 0 = i.0 in
+    let enough : 32 ≤ at = i.1 in
+    let next : (at + 32) % 32 ≡ 0 = omega (arith, even) in
+    let room : span + (at + 32) ≤ length bytes = omega (arith, even, whole, c.loop-at-test.true) in (
       next,
       omega (arith, enough),
       room,
