@@ -384,7 +384,7 @@ stop_at h i olds mids news before after so asked within shares now_shares (TooFe
       lack h i olds mids news before after so asked shares now_shares fault.1.blocks fault.1.is fault.1.few,
     )
 stop_at h i olds mids news before after so asked within shares now_shares Mismatch fault = fault
-stop_at h i olds mids news before after so asked within shares now_shares WriteFault fault = tt
+stop_at h i olds mids news before after so asked within shares now_shares WriteFault fault = absurd fault
 stop_at h i olds mids news before after so asked within shares now_shares OutOfMemory fault = tt
 
 pub stop_in : (geometry : AloofShape) (h : Header) (i : ℕ) (olds mids news : List Seen) (before after : List (Option ℕ)) (fault : JoinFault) →
@@ -398,15 +398,15 @@ pub why_stopped : (h : Header) (olds news : List Seen) (missed : List (Option �
     IsStop h olds news missed fault → (files : List (List ℕ)) → Show news files → IsWhyNot h files olds news missed fault
 why_stopped h olds news missed (TooFew stripe) stop files shows = (stop.0, stop.2 files shows, stop.1.noted files shows)
 why_stopped h olds news missed Mismatch stop files shows = absurd stop
-why_stopped h olds news missed WriteFault stop files shows = tt
+why_stopped h olds news missed WriteFault stop files shows = record { count = stop.count; within = stop.within; first = stop.so.noted files shows }
 why_stopped h olds news missed OutOfMemory stop files shows = tt
 
 pub stopped_unread : (h : Header) (olds news : List Seen) (missed : List (Option ℕ)) → (fault : JoinFault) → IsStop h olds news missed fault →
-    (fault ≡ WriteFault → ⊥) → (fault ≡ OutOfMemory → ⊥) → IsParityUnread h.shape olds news missed
-stopped_unread h olds news missed (TooFew stripe) stop write memory = stop.1.unread
-stopped_unread h olds news missed Mismatch stop write memory = absurd stop
-stopped_unread h olds news missed WriteFault stop write memory = absurd (write refl)
-stopped_unread h olds news missed OutOfMemory stop write memory = absurd (memory refl)
+    (fault ≡ OutOfMemory → ⊥) → IsParityUnread h.shape olds news missed
+stopped_unread h olds news missed (TooFew stripe) stop memory = stop.1.unread
+stopped_unread h olds news missed Mismatch stop memory = absurd stop
+stopped_unread h olds news missed WriteFault stop memory = stop.so.unread
+stopped_unread h olds news missed OutOfMemory stop memory = absurd (memory refl)
 
 pub stopped_in : (h : Header) (olds news : List Seen) (missed : List (Option ℕ)) → (fault : JoinFault) → IsStop h olds news missed fault → IsOfFile h fault
 stopped_in h olds news missed (TooFew stripe) stop = stop.0

@@ -33,14 +33,20 @@ IsOfFile h Mismatch = Unit {0}
 IsOfFile h WriteFault = Unit {0}
 IsOfFile h OutOfMemory = Unit {0}
 
+-- what is noted of each share up to so many stripes, and at which places it was asked
+pub record AreNoted (h : Header) (files : List (List ℕ)) (olds news : List Seen) (missed : List (Option ℕ)) : Type 0 where
+  pub count : ℕ
+  pub within : count ≤ stripe_count h.shape h.size
+  pub first : AreFirstMissed h.shape count files olds news missed
+
 -- why a file could not be joined from shares in these files: too few have a block of a stripe. What each share missed up to there is noted, and so
--- it is where all stripes were joined to another file
+-- it is where all stripes were joined to another file, and of some first stripes where a write failed
 abbrev pub IsWhyNot : Header → List (List ℕ) → List Seen → List Seen → List (Option ℕ) → JoinFault → Type 0
 IsWhyNot h files olds news missed (TooFew stripe) =
     (stripe < stripe_count h.shape h.size) × LackBlocks h.shape stripe files olds news
     × AreFirstMissed h.shape (stripe + 1) files olds news missed
 IsWhyNot h files olds news missed Mismatch = AreFirstMissed h.shape (stripe_count h.shape h.size) files olds news missed
-IsWhyNot h files olds news missed WriteFault = Unit {0}
+IsWhyNot h files olds news missed WriteFault = AreNoted h files olds news missed
 IsWhyNot h files olds news missed OutOfMemory = Unit {0}
 
 -- of a file with the header's length and checksum each file is its share, but for erased ones, which are empty, and of which there are no more

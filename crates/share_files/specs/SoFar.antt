@@ -1,5 +1,5 @@
 -- What has come of a join after some stripes.
-use Rattle.std.specs.Prelude.{◌≡◌, ℕ, ◌+◌, ◌<◌, Option, All, List, length}
+use Rattle.std.specs.Prelude.{◌≡◌, ℕ, ◌+◌, ◌<◌, ◌≤◌, Option, All, List, length}
 use Rattle.crc64.specs.Remainder.{checksum_of}
 use Rattle.clay_bytes.specs.Stream.{Accepts}
 use Rattle.share_format.specs.Cut.{stripe_count}
@@ -29,11 +29,17 @@ pub record AreReadSoFar (h : Header) (count : ℕ) (olds news : List Seen) (miss
   pub noted : (files : List (List ℕ)) → Show news files → AreFirstMissed h.shape count files olds news missed
   pub unread : IsParityUnread h.shape olds news missed
 
+-- so it is after some stripes
+pub record AreReadSome (h : Header) (olds news : List Seen) (missed : List (Option ℕ)) : Type 0 where
+  pub count : ℕ
+  pub within : count ≤ stripe_count h.shape h.size
+  pub so : AreReadSoFar h count olds news missed
+
 -- why stripes could not be joined
 abbrev pub IsStop : Header → List Seen → List Seen → List (Option ℕ) → JoinFault → Type 0
 IsStop h olds news missed (TooFew stripe) =
     (stripe < stripe_count h.shape h.size) × AreReadSoFar h (stripe + 1) olds news missed
     × ((files : List (List ℕ)) → Show news files → LackBlocks h.shape stripe files olds news)
 IsStop h olds news missed Mismatch = ⊥
-IsStop h olds news missed WriteFault = Unit {0}
+IsStop h olds news missed WriteFault = AreReadSome h olds news missed
 IsStop h olds news missed OutOfMemory = Unit {0}

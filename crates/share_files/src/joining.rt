@@ -135,7 +135,7 @@ fn join_all<S: SourceAt, K: Sink>(
 /// Joins a file from its shares, a source for each number, and hands its bytes to a sink. A missing share is an empty file, the header any share's.
 ///
 /// A data share's block is read of each stripe, a parity share's where a data share's is missing. One that can't be read counts as missing.
-/// At Ok, TooFew and Mismatch `missed` has for each share the first stripe of which its block was read and was missing, and None where all that
+/// Unless memory is short `missed` has for each share the first stripe of which its block was read and was missing, and None where all that
 /// were read are good. After an error what the sink has is no file to keep.
 pub fn join<S: SourceAt, K: Sink>(
     alloc: Global,
@@ -158,7 +158,7 @@ pub fn join<S: SourceAt, K: Sink>(
     // What each share missed, and that nothing came of it but from blocks that count.
     ensures missed { (files : List (List ℕ)) → Show (map (λ s. seen (S.given s) (S.ends s) (S.failed s)) sources.new) files → OnOk result (AreFirstMissed header.now.shape (stripe_count header.now.shape header.now.size) files (map (λ s. seen (S.given s) (S.ends s) (S.failed s)) sources.old) (map (λ s. seen (S.given s) (S.ends s) (S.failed s)) sources.new) missed.new) }
     // Where no data share's block was missing, no parity share was asked for anything.
-    ensures unread { (IsErrOf result JoinFault.WriteFault → ⊥) → (IsErrOf result JoinFault.OutOfMemory → ⊥) → IsParityUnread header.now.shape (map (λ s. seen (S.given s) (S.ends s) (S.failed s)) sources.old) (map (λ s. seen (S.given s) (S.ends s) (S.failed s)) sources.new) missed.new }
+    ensures unread { (IsErrOf result JoinFault.OutOfMemory → ⊥) → IsParityUnread header.now.shape (map (λ s. seen (S.given s) (S.ends s) (S.failed s)) sources.old) (map (λ s. seen (S.given s) (S.ends s) (S.failed s)) sources.new) missed.new }
     ensures why_not { (files : List (List ℕ)) → Show (map (λ s. seen (S.given s) (S.ends s) (S.failed s)) sources.new) files → IfErr result (IsWhyNot header.now files (map (λ s. seen (S.given s) (S.ends s) (S.failed s)) sources.old) (map (λ s. seen (S.given s) (S.ends s) (S.failed s)) sources.new) missed.new) }
     ensures of_file { IfErr result (IsOfFile header.now) }
     ensures write { IsErrOf result JoinFault.WriteFault → Rises (K.faults sink.old) (K.faults sink.new) }

@@ -12,6 +12,12 @@ use Rattle.share_mends.specs.declared.rebuilding.RebuildFault.TheVariants.{TooFe
 pub few_no_write : {A : Type 0} (fault : JoinFault) (stripe : ℕ) → fault ≡ TooFew stripe → IsErrOf {T = A} (Err fault) WriteFault → ⊥
 few_no_write fault stripe is e = cc
 
+pub few_no_memory : {A : Type 0} (fault : JoinFault) (stripe : ℕ) → fault ≡ TooFew stripe → IsErrOf {T = A} (Err fault) OutOfMemory → ⊥
+few_no_memory fault stripe is e = cc
+
+pub write_no_memory : {A : Type 0} (fault : JoinFault) → fault ≡ WriteFault → IsErrOf {T = A} (Err fault) OutOfMemory → ⊥
+write_no_memory fault is e = cc
+
 pub other_no_write : {A : Type 0} (fault : JoinFault) → fault ≡ Mismatch → IsErrOf {T = A} (Err fault) WriteFault → ⊥
 other_no_write fault is e = cc
 

@@ -137,13 +137,13 @@ module _ (cut : CutRun) (made : SharesPlaced cut (all_chunks cut.shape)) (lost :
       (pass cut.shape made.cut.file made.files aloof made.cut.shares lost join.olds join.news shows join.header tells) ends.0)
   cut_joined join Usage aloof tells shows ends = ends
   cut_joined join TooFew aloof tells shows ends =
-      let lack = ends.0.2 shows.files shows.shown in
-      none_lack cut.shape made.cut.file made.files aloof made.cut.shares lost join.olds join.news shows join.header tells ends.0.0 ends.0.1 lack.lack
+      none_lack cut.shape made.cut.file made.files aloof made.cut.shares lost join.olds join.news shows join.header tells ends.0.stripe ends.0.within
+      (ends.0.lack shows.files shows.shown)
   cut_joined join BadShare aloof tells shows ends =
       none_other join made.cut.file shows.files shows.shown
       (pass cut.shape made.cut.file made.files aloof made.cut.shares lost join.olds join.news shows join.header tells) ends.0
   cut_joined join ReadFault aloof tells shows ends = ends
-  cut_joined join WriteFault aloof tells shows ends = ends.1
+  cut_joined join WriteFault aloof tells shows ends = ends.2
   cut_joined join OutOfMemory aloof tells shows ends = ends.0
 
   pub cut_rebuilt : (mend : MendRun) (status : ShareStatus) → IsAloof cut.shape → TellsShare cut.shape made.cut.file mend.header →

@@ -6,6 +6,7 @@ use Rattle.share_format.specs.Header.{Header}
 use Rattle.share_files.specs.Seen.{Seen, Show}
 use Rattle.share_files.specs.Missed.{AreFirstMissed, LackBlocks, IsParityUnread}
 use Rattle.share_files.specs.Stripes.{AreJoined}
+use Rattle.share_files.specs.Joined.{AreNoted}
 use Rattle.share_run.specs.Places.{Kept, filled, IsUntouched, IsUnwritten}
 use Rattle.share_run.specs.declared.status.ShareStatus.{ShareStatus}
 use Rattle.share_run.specs.declared.status.ShareStatus.TheVariants.{Done, Usage, TooFew, BadShare, ReadFault, WriteFault, OutOfMemory}
@@ -34,21 +35,24 @@ join_run header olds news writes written before after missed = record {
   missed = missed;
 }
 
--- a file was put into the place
-abbrev pub IsPlaced : JoinRun → List ℕ → Type 0
-IsPlaced r file = r.after.files ≡ r.before.files ++ filled 0 file ∷ []
-
--- it has the length and the checksum that the header tells, and is of the blocks that count
+-- a file was put into the place, of the length and the checksum that the header tells, and of the blocks that count
 pub record FilePlaced (r : JoinRun) : Type 0 where
   pub file : List ℕ
   pub size : length file ≡ r.header.size
   pub checksum : checksum_of file ≡ r.header.checksum
   pub from : AreJoined r.header (stripe_count r.header.shape r.header.size) r.olds r.news file
-  pub placed : IsPlaced r file
+  pub placed : r.after.files ≡ r.before.files ++ filled 0 file ∷ []
 
--- up to so many stripes it is noted what each share missed, and it was asked for blocks that count alone
-abbrev pub IsNoted : JoinRun → ℕ → Type 0
-IsNoted r count = (files : List (List ℕ)) → Show r.news files → AreFirstMissed r.header.shape count files r.olds r.news r.missed
+-- up to so many stripes it is noted what each share missed, and it was asked for blocks that count alone. Where no data share missed one, no
+-- parity share was asked
+pub record IsNoted (r : JoinRun) (count : ℕ) : Type 0 where
+  pub first : (files : List (List ℕ)) → Show r.news files → AreFirstMissed r.header.shape count files r.olds r.news r.missed
+  pub unread : IsParityUnread r.header.shape r.olds r.news r.missed
+
+-- so it is up to some stripe
+pub record IsNotedSoFar (r : JoinRun) : Type 0 where
+  pub first : (files : List (List ℕ)) → Show r.news files → AreNoted r.header files r.olds r.news r.missed
+  pub unread : IsParityUnread r.header.shape r.olds r.news r.missed
 
 -- the blocks that count give a file of the header's length and with another checksum
 pub record IsAnother (r : JoinRun) : Type 0 where
@@ -57,10 +61,12 @@ pub record IsAnother (r : JoinRun) : Type 0 where
   pub checksum : checksum_of file ≢ r.header.checksum
   pub from : AreJoined r.header (stripe_count r.header.shape r.header.size) r.olds r.news file
 
--- too few shares in these files have a block of the stripe, and what each missed up to it is noted
-pub record IsLacking (r : JoinRun) (stripe : ℕ) (files : List (List ℕ)) : Type 0 where
-  pub lack : LackBlocks r.header.shape stripe files r.olds r.news
-  pub noted : AreFirstMissed r.header.shape (stripe + 1) files r.olds r.news r.missed
+-- too few shares have a block of a stripe, and what each missed up to it is noted
+pub record IsLacking (r : JoinRun) : Type 0 where
+  pub stripe : ℕ
+  pub within : stripe < stripe_count r.header.shape r.header.size
+  pub lack : (files : List (List ℕ)) → Show r.news files → LackBlocks r.header.shape stripe files r.olds r.news
+  pub noted : IsNoted r (stripe + 1)
 
 -- no write failed, and the place refused nothing
 abbrev pub IsWritten : JoinRun → Type 0
@@ -69,12 +75,10 @@ IsWritten r = (r.written ≡ r.writes) × (r.after.faults ≡ r.before.faults)
 -- what each status says of a join
 abbrev pub JoinEnds : ShareStatus → JoinRun → Type 0
 JoinEnds Done r = FilePlaced r × IsNoted r (stripe_count r.header.shape r.header.size) × IsWritten r
-    × IsParityUnread r.header.shape r.olds r.news r.missed
 JoinEnds Usage r = ⊥
-JoinEnds TooFew r = ((stripe : ℕ) × (stripe < stripe_count r.header.shape r.header.size) × ((files : List (List ℕ)) → Show r.news files → IsLacking r stripe files)) × IsUntouched r.before r.after × IsWritten r
+JoinEnds TooFew r = IsLacking r × IsUntouched r.before r.after × IsWritten r
 -- what the shares give has another checksum
 JoinEnds BadShare r = IsAnother r × IsNoted r (stripe_count r.header.shape r.header.size) × IsUntouched r.before r.after × IsWritten r
-    × IsParityUnread r.header.shape r.olds r.news r.missed
 JoinEnds ReadFault r = ⊥
-JoinEnds WriteFault r = IsUnwritten r.writes r.written r.before r.after × IsUntouched r.before r.after
+JoinEnds WriteFault r = IsNotedSoFar r × IsUnwritten r.writes r.written r.before r.after × IsUntouched r.before r.after
 JoinEnds OutOfMemory r = IsUntouched r.before r.after × IsWritten r

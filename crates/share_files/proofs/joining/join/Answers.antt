@@ -47,11 +47,11 @@ returns-clause-missed g c = λ files shows.
     c.in-Ok.ensures.read.noted files shows
 
 pub returns-in-Err-clause-unread : goal.returns-in-Err-clause-unread
-returns-in-Err-clause-unread g c = λ write memory.
-    stopped_unread c.args.header.now _ _ c.join_all.new.missed c.in-Err.fault c.in-Err.ensures.stop (λ e. write (ap Err e)) (λ e. memory (ap Err e))
+returns-in-Err-clause-unread g c = λ memory.
+    stopped_unread c.args.header.now _ _ c.join_all.new.missed c.in-Err.fault c.in-Err.ensures.stop (λ e. memory (ap Err e))
 
 pub returns-then-checksum-clause-unread : goal.returns-then-checksum-clause-unread
-returns-then-checksum-clause-unread g c = λ write memory. c.in-Ok.ensures.read.unread
+returns-then-checksum-clause-unread g c = λ memory. c.in-Ok.ensures.read.unread
 
 pub returns-clause-unread : goal.returns-clause-unread
-returns-clause-unread g c = λ write memory. c.in-Ok.ensures.read.unread
+returns-clause-unread g c = λ memory. c.in-Ok.ensures.read.unread

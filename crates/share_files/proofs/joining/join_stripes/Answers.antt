@@ -1,4 +1,4 @@
-use Rattle.std.proofs.Common.{◌≡◌, ◌<◌, ℕ, List, length, refl, sym, subst, ◌∙◌, ap, arith}
+use Rattle.std.proofs.Common.{◌≡◌, ◌+◌, ◌<◌, ℕ, List, length, refl, sym, subst, ◌∙◌, ap, arith}
 use Rattle.std.specs.Prelude.{min}
 use Rattle.std.proofs.lemmas.List.{length-map}
 use Rattle.clay_model.specs.Left.{AreLong}
@@ -88,6 +88,24 @@ returns-in-Err-clause-until g c =
     (asked_of c.geometry-geometry.result h.shape c.loop-stripe.stripe _ _ c.geometry-geometry.ensures c.next_stripe.ensures.asked)
     (length-map c.loop-stripe.sources _ ∙ sym c.next_stripe.auto.sources ∙ sym (length-map c.next_stripe.new.sources _)) less _ _ _ _ c.loop-stripe.checksum inv.taken
     c.geometry-geometry.result _ _ c.in-Err.fault c.in-Err.ensures.fault
+
+pub returns-in-Err-pass_on-clause-stop : goal.returns-in-Err-pass_on-clause-stop
+returns-in-Err-pass_on-clause-stop g c =
+    let h = c.args.header.now in
+    let i : ℕ = c.loop-stripe.stripe in
+    let inv = c.loop-stripe.invariant in
+    let shape : c.geometry-geometry.result ≡ h.shape = c.geometry-geometry.ensures in
+    let bytes : List ℕ = bytes_in c.geometry-geometry.result c.next_stripe.new.blocks c.in-Ok.joined in
+    let less : i < stripe_count h.shape h.size = omega (arith, c.loop-stripe-test.true, c.stripe_count-stripes.ensures.count) in
+    let sources : length c.next_stripe.new.sources ≡ all_chunks h.shape = c.next_stripe.auto.sources ∙ inv.sources in
+    record {
+      count = i + 1;
+      within = omega (arith, less);
+      so =
+          read_in c.geometry-geometry.result h i _ _ _ _ _ bytes shape inv.read
+          (asked_of c.geometry-geometry.result h.shape i _ _ shape c.next_stripe.ensures.asked) (length-map c.loop-stripe.sources _ ∙ inv.sources)
+          (length-map c.next_stripe.new.sources _ ∙ sources) c.in-Ok.ensures.joined;
+    }
 
 pub returns-in-Err-pass_on-clause-until : goal.returns-in-Err-pass_on-clause-until
 returns-in-Err-pass_on-clause-until g c =
