@@ -1,12 +1,10 @@
 //! Worked scripts with servers that are away.
-use crate::worked::all_show;
+use crate::worked::all_end;
 use std::test::Fail;
 
-// Servers that are away for a time, in scripts of form 2.
+// Servers that are away for a time.
 const AWAY: &[u8] = b"\
 a put skips a server that is away, and a get makes its chunk>
-clay 2
-code 2 2 1
 client
 put a hex:0100000000000000
 get a
@@ -27,8 +25,6 @@ T 2 2 1 0
 T 3 2 1 0
 end
 |a put is refused where too many servers are away>
-clay 2
-code 2 2 1
 client
 put a hex:0100000000000000
 get a
@@ -47,8 +43,6 @@ T 2 0 0 0
 T 3 0 0 0
 end
 |a get is served though one server is away and one was emptied>
-clay 2
-code 2 2 1
 client
 put a hex:0100000000000000
 get a
@@ -71,8 +65,6 @@ T 2 0 0 1
 T 3 4 1 0
 end
 |a get is refused where two servers are away and one was emptied>
-clay 2
-code 2 2 1
 client
 put a hex:0100000000000000
 get a
@@ -93,8 +85,6 @@ T 2 0 0 1
 T 3 0 1 0
 end
 |a server that is away is not rebuilt>
-clay 2
-code 2 2 1
 client
 put a hex:0100000000000000
 repairer
@@ -117,5 +107,5 @@ end
 
 #[test]
 fn servers_that_are_away(rt: HostRuntime) -> Result<(), Fail> {
-    all_show(&rt, 5, AWAY)
+    all_end(&rt, 5, AWAY)
 }

@@ -1,6 +1,6 @@
-//! Tests of calls: step by step at a directory and its servers, each end of each kind of call, and the sweeper's passes; and worked
-//! scripts as `play` runs them. The scripts were reckoned by hand from the rules of the store; each row is named by what it shows.
-//! All of it is tests, so without them the crate is empty, and it is proved once.
+//! Tests of calls, by worked scripts as `play` runs them: each end of each kind of call, what the sweeper takes, races, losses at
+//! each step. The transcripts were reckoned by hand from the rules of the store; each row is named by what it shows. All of it is
+//! tests, so without them the crate is empty, and it is proved once.
 #![tactic(auto)]
 
 #[cfg(test)]

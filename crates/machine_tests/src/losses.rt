@@ -1,12 +1,10 @@
 //! Worked scripts in which chunks are lost and made again.
-use crate::worked::{Repeated, all_show, show_from};
+use crate::worked::{Repeated, all_end, all_show, show_from};
 use std::test::Fail;
 
 // Gets after a put whose chunks are lost.
 const READS: &[u8] = b"\
 a get after one loss makes the chunk from the repair layers>
-clay 1
-code 2 2 1
 client
 put a hex:0100000000000000
 get a
@@ -26,8 +24,6 @@ T 2 2 1 0
 T 3 2 1 0
 end
 |a get after three losses is refused>
-clay 1
-code 2 2 1
 client
 put a hex:0100000000000000
 get a
@@ -48,8 +44,6 @@ T 2 0 0 1
 T 3 0 1 0
 end
 |a get after two losses decodes its bytes>
-clay 1
-code 2 2 1
 client
 put a hex:0100000000000000
 get a
@@ -133,7 +127,7 @@ end
 
 #[test]
 fn reads_after_losses(rt: HostRuntime) -> Result<(), Fail> {
-    all_show(&rt, 3, READS)
+    all_end(&rt, 3, READS)
 }
 
 #[test]
@@ -141,16 +135,18 @@ fn rebuilds(rt: HostRuntime) -> Result<(), Fail> {
     all_show(&rt, 2, REBUILDS)
 }
 
-// A server is emptied after so many of the put's eleven steps.
-const ONE_LOSS: Repeated<'static> = Repeated {
-    before: b"\
+const PUT_AND_GET: &[u8] = b"\
 clay 1
 code 2 2 1
 client
 put a hex:0100000000000000
 get a
 schedule
-",
+";
+
+// A server is emptied after so many of the put's eleven steps.
+const ONE_LOSS: Repeated<'static> = Repeated {
+    before: PUT_AND_GET,
     line: b"c 0",
     behind: b"\
 wipe 0
@@ -191,14 +187,7 @@ fn one_loss_at_each_step_of_a_put(rt: HostRuntime) -> Result<(), Fail> {
 
 // Three servers are emptied after so many of the put's eleven steps.
 const THREE_LOSSES: Repeated<'static> = Repeated {
-    before: b"\
-clay 1
-code 2 2 1
-client
-put a hex:0100000000000000
-get a
-schedule
-",
+    before: PUT_AND_GET,
     line: b"c 0",
     behind: b"\
 wipe 0

@@ -1,5 +1,5 @@
 //! Worked scripts of races, and of calls that are given up.
-use crate::worked::all_show;
+use crate::worked::{all_end, all_show};
 use std::test::Fail;
 
 // Calls of two clients on one object.
@@ -93,8 +93,6 @@ end
 // Puts that are left by their client or given up by the operator.
 const GIVEN_UP: &[u8] = b"\
 a put is left before its commit, and reaped>
-clay 1
-code 2 2 1
 client
 leave 6
 put a hex:0100000000000000
@@ -115,8 +113,6 @@ T 2 0 0 0
 T 3 0 0 0
 end
 |a put is left after its commit>
-clay 1
-code 2 2 1
 client
 leave 7
 put a hex:0100000000000000
@@ -137,29 +133,7 @@ T 1 4 1 0
 T 2 0 1 0
 T 3 0 1 0
 end
-|a put is reaped before its commit>
-clay 1
-code 2 2 1
-client
-put a hex:0100000000000000
-get a
-schedule
-c 0*6
-reap c 0
-c 0
-drain
-end
->
-H 1 c0.1 nosuch
-X c0.0 reaped 0
-T 0 0 0 0
-T 1 0 0 0
-T 2 0 0 0
-T 3 0 0 0
-end
 |a put is reaped between its prepares, and what it prepared is swept>
-clay 1
-code 2 2 1
 client
 put a hex:0100000000000000
 schedule
@@ -184,5 +158,5 @@ fn races(rt: HostRuntime) -> Result<(), Fail> {
 
 #[test]
 fn calls_given_up(rt: HostRuntime) -> Result<(), Fail> {
-    all_show(&rt, 4, GIVEN_UP)
+    all_end(&rt, 3, GIVEN_UP)
 }

@@ -9,7 +9,7 @@ use std::test::Fail;
 use std::thread::Threads;
 use store_map::Script;
 use store_world::play;
-use text_tables::faults::{failed, parts, rows_of};
+use text_tables::faults::{failed, joined, parts, rows_of};
 use text_tables::lines::{add_line, unfolded};
 use transcript_text::write_transcript;
 
@@ -36,15 +36,27 @@ fn shows<R: Threads + Sync + AllocGlobal>(
     Ok(shown(rt, script)?.as_slice() == wanted)
 }
 
-fn row_shows<R: Threads + Sync + AllocGlobal>(rt: &R, row: &[u8]) -> Result<(), Fail> {
+fn row_shows<R: Threads + Sync + AllocGlobal>(rt: &R, head: &[u8], row: &[u8]) -> Result<(), Fail> {
     let (name, texts) = parts(row)?;
-    let (script, wanted) = parts(texts)?;
-    let script = unfolded(rt.alloc(), script)?;
+    let (behind, wanted) = parts(texts)?;
+    let script = unfolded(rt.alloc(), &joined(rt.alloc(), head, behind, b"")?)?;
     let wanted = unfolded(rt.alloc(), wanted)?;
     if shows(rt, &script, &wanted)? {
         return Ok(());
     }
     Err(failed(name))
+}
+
+fn all_show_behind<R: Threads + Sync + AllocGlobal>(
+    rt: &R,
+    head: &[u8],
+    rows: usize,
+    table: &[u8],
+) -> Result<(), Fail> {
+    for row in &rows_of(rt.alloc(), table, b'|', rows)? {
+        row_shows(rt, head, row)?;
+    }
+    Ok(())
 }
 
 /// Holds what a run of each row's script shows against the row's transcript. The rows are parted by `|`, and
@@ -54,10 +66,19 @@ pub fn all_show<R: Threads + Sync + AllocGlobal>(
     rows: usize,
     table: &[u8],
 ) -> Result<(), Fail> {
-    for row in &rows_of(rt.alloc(), table, b'|', rows)? {
-        row_shows(rt, row)?;
-    }
-    Ok(())
+    all_show_behind(rt, b"", rows, table)
+}
+
+// Stripes of 8 bytes, objects of 24 at most, two tries.
+const HEAD: &[u8] = b"clay 2\ncode 2 2 1\nsize 24\ntries 2\n";
+
+/// The same of scripts that stand in their rows without their first lines, which are alike.
+pub fn all_end<R: Threads + Sync + AllocGlobal>(
+    rt: &R,
+    rows: usize,
+    table: &[u8],
+) -> Result<(), Fail> {
+    all_show_behind(rt, HEAD, rows, table)
 }
 
 /// A script in which a line of the schedule stands some number of times.

@@ -1,9 +1,0 @@
-pub mod Small
-pub mod Patching
-pub mod Waits
-pub mod Whole
-pub mod Places
-pub mod PlacesInside
-pub mod Works
-pub mod Stores
-pub mod StoreInside
