@@ -1,22 +1,16 @@
 -- Where an actor is after its step.
 use Rattle.std.specs.Prelude.{⊤}
-use Rattle.std.proofs.Common.{◌≡◌, ◌⊎◌, ℕ, ◌+◌, ◌<◌, ◌≤◌, Bool, true, false, List, [], length, map, Option, None, Some, IfSome, IsTrue, Vec, Global, if◌then◌else◌, refl, sym, ap, subst, ◌∙◌, arith}
-use Rattle.std.proofs.lemmas.Bool.{false≢true, true≢false}
+use Rattle.std.proofs.Common.{◌≡◌, ◌⊎◌, ℕ, ◌+◌, ◌≤◌, Bool, true, false, List, length, Option, None, Some, IfSome, IsTrue, Vec, Global, if◌then◌else◌, refl, sym, subst, ◌∙◌, arith}
+use Rattle.std.proofs.lemmas.Bool.{true≢false}
 use Rattle.std.proofs.lemmas.List.{length-map}
-use Rattle.clay_grid.specs.Shape.{Shape}
-use Rattle.store_map.specs.declared.actor.Actor.{Actor}
 use Rattle.store_map.specs.declared.call.Call.{Call}
 use Rattle.store_map.specs.declared.script.Script.{Script}
-use Rattle.store_core.specs.Told.{Told, Seen as CoreSeen}
-use Rattle.store_core.specs.Note.{Note, Kind, note_of}
+use Rattle.store_core.specs.Told.{Seen as CoreSeen}
+use Rattle.store_core.specs.Note.{Kind, note_of}
 use Rattle.store_core.specs.Look.{stripes_between}
-use Rattle.store_core.specs.Act.{DirectoryStep}
 use Rattle.store_core.specs.Agreement.{Seat, HeldPass, ActorToken}
-use Rattle.store_core.specs.Tokens.{actor_of, after_look, begun_by, after_pass_step}
+use Rattle.store_core.specs.Tokens.{after_look, begun_by, after_pass_step}
 use Rattle.version_seal.specs.Entry.{BookOf, RequestOf, StampOf, call_written, is_writing, IsRequestIn}
-use Rattle.stripe_stamps.specs.Sealed.{CanSeal}
-use Rattle.stripe_dir.specs.declared.answers.RepairLook.{RepairLook}
-use Rattle.stripe_dir.specs.declared.answers.RepairLook.TheVariants as repair
 use Rattle.stripe_dir.specs.declared.answers.Look.{Look}
 use Rattle.stripe_dir.specs.declared.answers.Look.TheVariants as look
 use Rattle.stripe_dir.specs.declared.answers.Drawn.{Drawn}
@@ -25,13 +19,11 @@ use Rattle.stripe_dir.specs.declared.answers.Committed.{Committed}
 use Rattle.stripe_dir.specs.declared.answers.Committed.TheVariants as commit
 use Rattle.stripe_dir.specs.declared.answers.Ended.{Ended}
 use Rattle.stripe_dir.specs.declared.answers.Ended.TheVariants as end
-use Rattle.stripe_dir.specs.declared.answers.Confirmed.{Confirmed}
-use Rattle.stripe_dir.specs.declared.answers.Confirmed.TheVariants as confirm
-use Rattle.stripe_dir.specs.Answers.{told_look, told_repair_look, told_drawn, told_committed, told_ended, told_confirmed}
+use Rattle.stripe_dir.specs.Answers.{told_look, told_drawn, told_committed, told_ended}
 use Rattle.dir_walks.specs.declared.stage.Stage.{Stage}
 use Rattle.dir_walks.specs.declared.stage.Stage.TheVariants as stage
 use Rattle.dir_walks.specs.Callers.{CallerOf, IsBegun, IsDrawn, IsAt, is_seated}
-use Rattle.dir_walks.specs.After.{writes, stage_after_look, stage_after_repair_look, stage_after_draw, drawn_by, unused_after_commit, stage_after_confirm}
+use Rattle.dir_walks.specs.After.{writes, stage_after_look, stage_after_draw, drawn_by, unused_after_commit}
 use Rattle.dir_walks.proofs.Goes.{to_write, writing}
 
 -- ---- what the stage says of the ticket
@@ -48,10 +40,6 @@ module _ (book : BookOf) (c : CallerOf) where
   drawn (ActorToken.Seated seat) at = absurd at
   drawn (ActorToken.InCall held) at = (held, refl, at)
 
-  pub rebuilding : (t : ActorToken) → IsAt book c stage.Rebuilding t → (held : HeldPass) × (t ≡ ActorToken.InCall held) × (held.pass.number ≡ c.number) × (held.pass.note.kind ≡ Kind.Rebuild)
-  rebuilding (ActorToken.Seated seat) at = absurd at
-  rebuilding (ActorToken.InCall held) at = (held, refl, at.0, at.1)
-
   pub in_call : (its : Stage) (t : ActorToken) → is_seated its ≡ false → IsAt book c its t → (held : HeldPass) × (t ≡ ActorToken.InCall held) × (held.pass.number ≡ c.number)
   in_call stage.Seated t other at = absurd (true≢false other)
   in_call stage.Reading (ActorToken.Seated seat) other at = absurd at
@@ -60,8 +48,6 @@ module _ (book : BookOf) (c : CallerOf) where
   in_call stage.Begun (ActorToken.InCall held) other at = (held, refl, at.numbered)
   in_call stage.Drawn (ActorToken.Seated seat) other at = absurd at
   in_call stage.Drawn (ActorToken.InCall held) other at = (held, refl, at.numbered)
-  in_call stage.Rebuilding (ActorToken.Seated seat) other at = absurd at
-  in_call stage.Rebuilding (ActorToken.InCall held) other at = (held, refl, at.0)
 
 -- ---- after a step on the actor's pass
 module _ (book : BookOf) (now : CallerOf) (held : HeldPass) where
@@ -73,11 +59,6 @@ module _ (book : BookOf) (now : CallerOf) (held : HeldPass) where
   at_commit (commit.Done seat point) is = omega (arith, is)
   at_commit (commit.Changed seat base newer) is = omega (arith, is)
   at_commit (commit.Reaped seat point) is = omega (arith, is)
-
-  pub at_confirm : (answer : Confirmed ⊤ ⊤) → held.pass.number ≡ now.number → held.pass.note.kind ≡ Kind.Rebuild → held.pass.number + 1 ≤ now.unused → IsAt book now (stage_after_confirm answer) (after_pass_step held (told_confirmed answer))
-  at_confirm (confirm.Current pass) numbered kind last = (numbered, kind)
-  at_confirm (confirm.Superseded seat newer) numbered kind last = last
-  at_confirm (confirm.Reaped seat point) numbered kind last = last
 
   pub at_draw : (answer : Drawn ⊤ ⊤) → held.pass.number ≡ now.number → (held.pass.note.kind ≡ Kind.Put) ⊎ (held.pass.note.kind ≡ Kind.Write) → now.drawn ≡ drawn_by answer
       → ((stamps : Vec StampOf Global) → answer ≡ draw.Versions tt stamps → length stamps.items ≡ length (stripes_between book.geometry held.pass.note.offset (held.pass.note.offset + held.pass.note.length)))
@@ -93,10 +74,6 @@ module _ (book : BookOf) (now : CallerOf) (held : HeldPass) where
 
 -- ---- after a look
 module _ (book : BookOf) (now : CallerOf) (seat : Seat) where
-  pub at_repair_look : (answer : RepairLook ⊤ ⊤) (note : Note) → note.kind ≡ Kind.Rebuild → seat.unused ≤ now.unused → IsAt book now (stage_after_repair_look answer) (after_look seat now.number note (told_repair_look answer))
-  at_repair_look (repair.NoSuch gone) note kind last = last
-  at_repair_look (repair.Pinned gone seen) note kind last = (refl, kind)
-
   module _ (its : Call) (request : RequestOf) (requested : now.request ≡ Some request) (home : request.home ≡ book.home) (actor : request.actor ≡ seat.actor) (numbered : request.number ≡ now.number) (call : request.call ≡ its) (free : book.script ≡ None) where
     writing_now : writes its ≡ true → IsTrue (is_writing (call_written book.script seat.actor now.number now.request))
     writing_now w =

@@ -6,20 +6,20 @@ use Rattle.store_map.specs.declared.actor.Actor.TheVariants as actor
 use Rattle.store_map.specs.declared.call.Call.{Call}
 use Rattle.store_map.specs.declared.call.Call.TheVariants as call
 use Rattle.store_core.specs.Told.{Told}
-use Rattle.store_core.specs.Note.{Note, Kind, note_of}
+use Rattle.store_core.specs.Note.{Kind, note_of}
 use Rattle.store_core.specs.Act.{DirectoryStep}
 use Rattle.store_core.specs.AtDirectory.{at_directory}
-use Rattle.store_core.specs.Conditions.{IsOfClient, IsOfRepairer}
+use Rattle.store_core.specs.Conditions.{IsOfClient}
 use Rattle.store_core.specs.Directory.{Directory}
 use Rattle.store_core.specs.Lookups.{same_actor}
-use Rattle.store_core.specs.Agreement.{ActorToken, Agrees}
+use Rattle.store_core.specs.Agreement.{Agrees}
 use Rattle.store_core.specs.Tokens.{actor_of}
 use Rattle.run_laws.proofs.OwnSteps.{agreement_goes_on}
 use Rattle.version_seal.specs.Entry.{BookOf, is_writing}
 use Rattle.stripe_stamps.specs.Sealed.{Sealed}
 use Rattle.call_steps.specs.TokenAfter.{token_after}
 use Rattle.call_steps.proofs.Tokens.{tokens_stay}
-use Rattle.dir_walks.specs.Callers.{CallerOf, IsAt, IsRight, OthersAgree, Steps, is_client, is_repairer}
+use Rattle.dir_walks.specs.Callers.{CallerOf, IsAt, IsRight, OthersAgree, Steps, is_client}
 use Rattle.dir_walks.specs.After.{writes}
 use Rattle.dir_walks.specs.Stores.{StoreOf, IsStore}
 
@@ -41,12 +41,6 @@ of_client (actor.Client i) h (call.Delete name) = inr (inr (other Kind.Delete re
 of_client (actor.Repairer i) h c = absurd (false≢true h)
 of_client actor.Sweeper h c = absurd (false≢true h)
 of_client actor.Operator h c = absurd (false≢true h)
-
-pub of_repairer : (who : Actor) → is_repairer who ≡ true → (note : Note) → note.kind ≡ Kind.Rebuild → IsOfRepairer who note
-of_repairer (actor.Repairer i) h note is = is
-of_repairer (actor.Client i) h note is = absurd (false≢true h)
-of_repairer actor.Sweeper h note is = absurd (false≢true h)
-of_repairer actor.Operator h note is = absurd (false≢true h)
 
 pub to_write : (c : Call) → writes c ≡ true → ((note_of c).kind ≡ Kind.Put) ⊎ ((note_of c).kind ≡ Kind.Write)
 to_write (call.Put name content) h = inl refl
@@ -91,7 +85,7 @@ module _ (s after : Sealed) (c now : CallerOf) (short : Bool) (number : ℕ) (st
 pub stays : (s : Sealed) (c : CallerOf) → IsRight s c → Steps s c s c
 stays s c right = record { right = right; same = refl; book = refl; others = λ token apart agrees. agrees }
 
--- ---- the other actors
+-- ---- steps of others
 pub stays_right : (s after : Sealed) (who : Actor) (c : CallerOf) → OthersAgree who s.core after.core → after.book ≡ s.book → same_actor who c.who ≡ false → IsRight s c → IsRight after c
 stays_right s after who c others book apart right =
     record {
@@ -100,17 +94,13 @@ stays_right s after who c others book apart right =
       at = subst (λ (b : BookOf). IsAt b c c.stage c.token) (sym book) right.at;
     }
 
--- a step of an actor that is none of the three
-pub kept : (store : StoreOf) (after : Sealed) (who : Actor) → same_actor who (actor.Client 0) ≡ false → same_actor who (actor.Client 1) ≡ false → same_actor who (actor.Repairer 0) ≡ false → IsStore store
-    → OthersAgree who store.sealed.core after.core → after.book ≡ store.sealed.book → IsStore (record { book = store.book; sealed = after; first = store.first; second = store.second; repairer = store.repairer })
-kept store after who first second repairer is others book =
+-- a step of another actor
+pub kept : (store : StoreOf) (after : Sealed) (who : Actor) → same_actor who (actor.Client 0) ≡ false → IsStore store
+    → OthersAgree who store.sealed.core after.core → after.book ≡ store.sealed.book → IsStore (record { book = store.book; sealed = after; first = store.first })
+kept store after who first is others book =
     record {
       same_book = is.same_book ∙ sym book;
       free = is.free;
       first = stays_right store.sealed after who store.first others book (ap (same_actor who) is.is_first ∙ first) is.first;
-      second = stays_right store.sealed after who store.second others book (ap (same_actor who) is.is_second ∙ second) is.second;
-      repairer = stays_right store.sealed after who store.repairer others book (ap (same_actor who) is.is_repairer ∙ repairer) is.repairer;
       is_first = is.is_first;
-      is_second = is.is_second;
-      is_repairer = is.is_repairer;
     }

@@ -2,4 +2,3 @@ pub mod Goes
 pub mod At
 pub mod Made
 pub mod Placed
-pub mod Alone

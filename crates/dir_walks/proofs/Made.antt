@@ -1,39 +1,29 @@
 -- Each step as an actor makes it.
 use Rattle.std.specs.Prelude.{⊤}
-use Rattle.std.proofs.Common.{◌≡◌, ◌⊎◌, ℕ, ◌+◌, ◌<◌, ◌≤◌, Bool, true, false, List, [], length, map, option_map, Option, None, Some, Result, Ok, Err, IfOk, Vec, Global, refl, sym, ap, subst, ◌∙◌, arith}
+use Rattle.std.proofs.Common.{◌≡◌, ℕ, ◌+◌, ◌≤◌, Bool, false, length, Option, None, Some, refl, sym, ap, subst, ◌∙◌, arith}
 use Rattle.clay_grid.specs.Shape.{Shape}
-use Rattle.store_map.specs.declared.actor.Actor.{Actor}
-use Rattle.store_map.specs.declared.actor.Point.{Point}
 use Rattle.store_map.specs.declared.call.Call.{Call}
 use Rattle.store_core.specs.Told.{Told}
-use Rattle.store_core.specs.Note.{Kind, note_of}
-use Rattle.store_core.specs.Look.{stripes_between, pin_of}
-use Rattle.stripe_dir.specs.Answers.{told_look, told_repair_look, told_drawn, told_committed, told_ended, told_confirmed}
-use Rattle.stripe_stamps.specs.SeenStripes.{seen_in}
+use Rattle.store_core.specs.Note.{note_of}
+use Rattle.store_core.specs.Look.{stripes_between}
+use Rattle.stripe_dir.specs.Answers.{told_look, told_drawn, told_committed, told_ended}
 use Rattle.store_core.specs.Act.{DirectoryStep}
 use Rattle.store_core.specs.AtDirectory.{at_directory}
 use Rattle.store_core.specs.Agreement.{Seat, HeldPass, ActorToken, Agrees}
 use Rattle.store_core.specs.Tokens.{actor_of}
-use Rattle.version_seal.specs.Entry.{BookOf, RequestOf, StampOf}
+use Rattle.version_seal.specs.Entry.{RequestOf}
 use Rattle.stripe_stamps.specs.Sealed.{Sealed}
-use Rattle.call_steps.specs.declared.seen.Seen.{Seen}
 use Rattle.call_steps.specs.TokenAfter.{token_after}
-use Rattle.stripe_dir.specs.Shown.{repair_note}
 use Rattle.stripe_dir.specs.AnswerStamps.{IfDrawn}
 use Rattle.stripe_dir.specs.declared.answers.Look.{Look}
-use Rattle.stripe_dir.specs.declared.answers.RepairLook.{RepairLook}
-use Rattle.stripe_dir.specs.declared.answers.Look.TheVariants as look
-use Rattle.dir_walks.specs.Begun.{HasBegun, IfBegun}
 use Rattle.stripe_dir.specs.declared.answers.Drawn.{Drawn}
-use Rattle.stripe_dir.specs.declared.answers.Drawn.TheVariants as draw
 use Rattle.stripe_dir.specs.declared.answers.Committed.{Committed}
 use Rattle.stripe_dir.specs.declared.answers.Ended.{Ended}
-use Rattle.stripe_dir.specs.declared.answers.Confirmed.{Confirmed}
 use Rattle.dir_walks.specs.declared.stage.Stage.{Stage}
 use Rattle.dir_walks.specs.declared.stage.Stage.TheVariants as stage
 use Rattle.dir_walks.specs.Callers.{CallerOf, IsBegun, IsDrawn, IsAt, IsRight, Steps, is_seated}
-use Rattle.dir_walks.specs.After.{stage_after_look, stage_after_repair_look, stage_after_draw, drawn_by, unused_after_commit, stage_after_confirm}
-use Rattle.dir_walks.proofs.At.{seated, begun, drawn, rebuilding, in_call, at_end, at_commit, at_confirm, at_draw, at_look, at_repair_look}
+use Rattle.dir_walks.specs.After.{stage_after_look, stage_after_draw, drawn_by, unused_after_commit}
+use Rattle.dir_walks.proofs.At.{seated, begun, drawn, in_call, at_end, at_commit, at_draw, at_look}
 use Rattle.dir_walks.proofs.Goes.{steps}
 
 module _ (s after : Sealed) (c : CallerOf) (right : IsRight s c) (token : ActorToken) (agrees : Agrees after.core token) (book : after.book ≡ s.book) where
@@ -55,19 +45,6 @@ module _ (s after : Sealed) (c : CallerOf) (right : IsRight s c) (token : ActorT
       by : ((held : HeldPass) × (c.token ≡ ActorToken.InCall held) × (held.pass.number ≡ c.number)) → Steps s c after now
       by (held, is_held, numbered) =
           to now false c.number step (told_ended answer) refl refl (ActorToken.InCall held) is_held made is (at_end s.book now held answer (omega (arith, numbered, same)))
-
-  pub confirm_steps : (answer : Confirmed ⊤ ⊤) (its : Stage) (unused : ℕ) → c.stage ≡ stage.Rebuilding → its ≡ stage_after_confirm answer → unused ≡ c.number
-      → (after.core, told_confirmed answer) ≡ at_directory false (actor_of c.token) c.number DirectoryStep.Confirm s.core → token ≡ token_after c.token c.number DirectoryStep.Confirm (told_confirmed answer)
-      → Steps s c after (record { who = c.who; token = token; stage = its; number = c.number; unused = unused + 1; drawn = c.drawn; request = c.request })
-  confirm_steps answer its unused staged its_is same made is = by (rebuilding s.book c c.token (subst (λ (st : Stage). IsAt s.book c st c.token) staged right.at))
-    where
-      now : CallerOf
-      now = record { who = c.who; token = token; stage = its; number = c.number; unused = unused + 1; drawn = c.drawn; request = c.request }
-
-      by : ((held : HeldPass) × (c.token ≡ ActorToken.InCall held) × (held.pass.number ≡ c.number) × (held.pass.note.kind ≡ Kind.Rebuild)) → Steps s c after now
-      by (held, is_held, numbered, kind) =
-          to now false c.number DirectoryStep.Confirm (told_confirmed answer) refl refl (ActorToken.InCall held) is_held made is
-          (subst (λ (st : Stage). IsAt s.book now st (token_after (ActorToken.InCall held) c.number DirectoryStep.Confirm (told_confirmed answer))) (sym its_is) (at_confirm s.book now held answer numbered kind (omega (arith, numbered, same))))
 
   pub commit_steps : (step : DirectoryStep) (answer : Committed ⊤) (unused : ℕ) → c.stage ≡ stage.Drawn → unused ≡ unused_after_commit c.number answer
       → (after.core, told_committed answer) ≡ at_directory false (actor_of c.token) c.number step s.core → token ≡ token_after c.token c.number step (told_committed answer)
@@ -115,18 +92,3 @@ module _ (s after : Sealed) (c : CallerOf) (right : IsRight s c) (token : ActorT
           (subst (λ (st : Stage). IsAt s.book now st (token_after (ActorToken.Seated seat) number (DirectoryStep.Look (note_of call)) (told_look answer))) (sym its_is)
           (at_look s.book now seat call request refl (ap (λ (r : RequestOf). r.home) requested) (ap (λ (r : RequestOf). r.actor) requested ∙ sym right.its ∙ ap actor_of is_seat) (ap (λ (r : RequestOf). r.number) requested)
           (ap (λ (r : RequestOf). r.call) requested) free answer (omega (arith, same))))
-
-  pub repair_look_steps : (name : List ℕ) (stripe : ℕ) (answer : RepairLook ⊤ ⊤) (its : Stage) (number : ℕ) → c.stage ≡ stage.Seated → its ≡ stage_after_repair_look answer
-      → (after.core, told_repair_look answer) ≡ at_directory false (actor_of c.token) number (DirectoryStep.LookRepair (repair_note name stripe)) s.core
-      → token ≡ token_after c.token number (DirectoryStep.LookRepair (repair_note name stripe)) (told_repair_look answer)
-      → Steps s c after (record { who = c.who; token = token; stage = its; number = number; unused = c.unused; drawn = c.drawn; request = c.request })
-  repair_look_steps name stripe answer its number staged its_is made is = by (seated s.book c c.token (subst (λ (st : Stage). IsAt s.book c st c.token) staged right.at))
-    where
-      now : CallerOf
-      now = record { who = c.who; token = token; stage = its; number = number; unused = c.unused; drawn = c.drawn; request = c.request }
-
-      by : ((seat : Seat) × (c.token ≡ ActorToken.Seated seat) × (seat.unused ≤ c.unused)) → Steps s c after now
-      by (seat, is_seat, unused_is) =
-          to now false number (DirectoryStep.LookRepair (repair_note name stripe)) (told_repair_look answer) refl refl (ActorToken.Seated seat) is_seat made is
-          (subst (λ (st : Stage). IsAt s.book now st (token_after (ActorToken.Seated seat) number (DirectoryStep.LookRepair (repair_note name stripe)) (told_repair_look answer))) (sym its_is)
-          (at_repair_look s.book now seat answer (repair_note name stripe) refl unused_is))

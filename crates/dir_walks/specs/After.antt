@@ -2,16 +2,12 @@
 use Rattle.std.specs.Prelude.{ℕ, ⊤, ◌+◌, Bool, true, false, length, if◌then◌else◌}
 use Rattle.store_map.specs.declared.call.Call.{Call}
 use Rattle.store_map.specs.declared.call.Call.TheVariants as call
-use Rattle.stripe_dir.specs.declared.answers.RepairLook.{RepairLook}
-use Rattle.stripe_dir.specs.declared.answers.RepairLook.TheVariants as repair
 use Rattle.stripe_dir.specs.declared.answers.Look.{Look}
 use Rattle.stripe_dir.specs.declared.answers.Look.TheVariants as look
 use Rattle.stripe_dir.specs.declared.answers.Drawn.{Drawn}
 use Rattle.stripe_dir.specs.declared.answers.Drawn.TheVariants as draw
 use Rattle.stripe_dir.specs.declared.answers.Committed.{Committed}
 use Rattle.stripe_dir.specs.declared.answers.Committed.TheVariants as commit
-use Rattle.stripe_dir.specs.declared.answers.Confirmed.{Confirmed}
-use Rattle.stripe_dir.specs.declared.answers.Confirmed.TheVariants as confirm
 use Rattle.dir_walks.specs.declared.stage.Stage.{Stage}
 use Rattle.dir_walks.specs.declared.stage.Stage.TheVariants as stage
 
@@ -25,10 +21,6 @@ abbrev pub stage_after_look : Call → Look ⊤ ⊤ → Stage
 stage_after_look its (look.Answer seat point reply) = stage.Seated
 stage_after_look its answer = if writes its then stage.Begun else stage.Reading
 
-abbrev pub stage_after_repair_look : RepairLook ⊤ ⊤ → Stage
-stage_after_repair_look (repair.NoSuch seat) = stage.Seated
-stage_after_repair_look (repair.Pinned pass seen) = stage.Rebuilding
-
 abbrev pub stage_after_draw : Drawn ⊤ ⊤ → Stage
 stage_after_draw (draw.Versions pass stamps) = stage.Drawn
 stage_after_draw (draw.Reaped seat at) = stage.Seated
@@ -41,7 +33,3 @@ drawn_by (draw.Reaped seat at) = 0
 abbrev pub unused_after_commit : ℕ → Committed ⊤ → ℕ
 unused_after_commit number (commit.Changed seat looked_at newer) = number
 unused_after_commit number answer = number + 1
-
-abbrev pub stage_after_confirm : Confirmed ⊤ ⊤ → Stage
-stage_after_confirm (confirm.Current pass) = stage.Rebuilding
-stage_after_confirm answer = stage.Seated

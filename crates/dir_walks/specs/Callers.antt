@@ -3,7 +3,6 @@ use Rattle.std.specs.Prelude.{◌≡◌, ℕ, ◌+◌, ◌≤◌, Bool, true, fa
 use Rattle.clay_grid.specs.Shape.{Shape}
 use Rattle.store_map.specs.declared.actor.Actor.{Actor}
 use Rattle.store_map.specs.declared.actor.Actor.TheVariants as actor
-use Rattle.store_core.specs.Note.{Note, Kind}
 use Rattle.store_core.specs.Look.{stripes_between}
 use Rattle.store_core.specs.Directory.{Directory}
 use Rattle.store_core.specs.Lookups.{same_actor}
@@ -44,7 +43,6 @@ IsAt book c stage.Seated (ActorToken.Seated seat) = seat.unused ≤ c.unused
 IsAt book c stage.Reading (ActorToken.InCall held) = held.pass.number ≡ c.number
 IsAt book c stage.Begun (ActorToken.InCall held) = IsBegun book c held
 IsAt book c stage.Drawn (ActorToken.InCall held) = IsDrawn book.geometry c held
-IsAt book c stage.Rebuilding (ActorToken.InCall held) = (held.pass.number ≡ c.number) × (held.pass.note.kind ≡ Kind.Rebuild)
 IsAt book c stage token = ⊥
 
 -- the directory agrees with the actor
@@ -73,10 +71,6 @@ pub record Steps (s : Sealed) (c : CallerOf) (after : Sealed) (now : CallerOf) :
 abbrev pub is_client : Actor → Bool
 is_client (actor.Client i) = true
 is_client who = false
-
-abbrev pub is_repairer : Actor → Bool
-is_repairer (actor.Repairer i) = true
-is_repairer who = false
 
 abbrev pub is_seated : Stage → Bool
 is_seated stage.Seated = true

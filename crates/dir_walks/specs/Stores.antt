@@ -1,4 +1,4 @@
--- A directory with its actors.
+-- A directory with its client.
 use Rattle.std.specs.Prelude.{◌≡◌, None}
 use Rattle.store_map.specs.declared.actor.Actor.TheVariants as actor
 use Rattle.version_seal.specs.Entry.{BookOf}
@@ -9,16 +9,10 @@ pub record StoreOf : Type 0 where
   pub book : BookOf
   pub sealed : Sealed
   pub first : CallerOf
-  pub second : CallerOf
-  pub repairer : CallerOf
 
--- the directory is of the book, and agrees with two clients and a repairer
+-- the directory is of the book, and agrees with the client
 pub record IsStore (store : StoreOf) : Type 0 where
   pub same_book : store.book ≡ store.sealed.book
   pub free : store.book.script ≡ None
   pub first : IsRight store.sealed store.first
-  pub second : IsRight store.sealed store.second
-  pub repairer : IsRight store.sealed store.repairer
   pub is_first : store.first.who ≡ actor.Client 0
-  pub is_second : store.second.who ≡ actor.Client 1
-  pub is_repairer : store.repairer.who ≡ actor.Repairer 0

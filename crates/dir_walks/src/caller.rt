@@ -1,6 +1,6 @@
 //! An actor with its ticket, and its steps at the directory, each where the actor may make it.
 
-ghost use Rattle.std.specs.Prelude.{◌≡◌, ◌≤◌, true, IfOk, IsTrue};
+ghost use Rattle.std.specs.Prelude.{◌≡◌, IfOk};
 ghost use Rattle.store_core.specs.Agreement.{ActorToken};
 ghost use Rattle.dir_walks.specs.Callers.{IsReady, Steps, is_seated};
 ghost use Rattle.dir_tickets.specs.TicketSteps.{DrewBy};
@@ -9,47 +9,31 @@ ghost use Rattle.dir_walks.specs.Opened.{new_caller};
 
 use crate::placing::rows;
 use crate::stage::{
-    Stage, drawn_by, is_client, is_repairer, stage_after_confirm, stage_after_draw,
-    stage_after_look, stage_after_repair_look, unused_after_commit,
+    Stage, drawn_by, is_client, stage_after_draw, stage_after_look, unused_after_commit,
 };
 use dir_tickets::Ticket;
 use std::alloc::{AllocError, Global};
 use std::marker::Model;
-use store_map::{Actor, Call, Name};
-use stripe_dir::{Committed, Confirmed, Directory, Drawn, Ended, Look, RepairLook, Seat};
+use store_map::{Actor, Call};
+use stripe_dir::{Committed, Directory, Drawn, Ended, Look, Seat};
 use version_seal::{Book, Request};
 
 /// A step of an actor at the directory.
 #[derive(Clone, Copy)]
 pub enum Step<'a> {
-    Look {
-        number: u32,
-        call: &'a Call,
-    },
-    LookRepair {
-        number: u32,
-        name: &'a Name,
-        stripe: u32,
-    },
+    Look { number: u32, call: &'a Call },
     Draw,
     Commit,
     End,
-    Confirm,
-    Repaired {
-        server: u32,
-        epoch: u64,
-    },
 }
 
 /// What it is answered.
 #[derive(Drop)]
 pub enum Answer {
     Look(Look<(), ()>),
-    LookRepair(RepairLook<(), ()>),
     Draw(Drawn<(), ()>),
     Commit(Committed<()>),
     End(Ended<()>),
-    Confirm(Confirmed<(), ()>),
 }
 
 /// Why no step is made.
@@ -107,21 +91,8 @@ impl Caller {
         }
     }
 
-    pub fn who(&self) -> Actor
-        ensures { result ≡ self.now.who }
-    {
-        self.who
-    }
-
     /// Leaves the directory.
     pub fn leave(self) {
-        self.into_ticket().leave();
-    }
-
-    /// Its ticket.
-    pub(crate) fn into_ticket(self) -> Ticket
-        ensures { result ≡ self.token }
-    {
         let Caller {
             who: _,
             ticket,
@@ -131,14 +102,7 @@ impl Caller {
             drawn: _,
             request: _,
         } = self;
-        ticket
-    }
-
-    /// Whether it is in no call and hasn't used this number.
-    pub(crate) fn may_use(&self, number: u32) -> bool
-        ensures { IsTrue result → (is_seated self.now.stage ≡ true) × (self.now.unused ≤ number) }
-    {
-        self.is_seated() && self.unused <= u64::from(number)
+        ticket.leave();
     }
 
     fn is_seated(&self) -> bool
@@ -170,30 +134,6 @@ impl Caller {
         self.number = number;
         self.unused = u64::from(number) + 1;
         self.request = Some(book.request(self.who, number, call));
-        Ok(answer)
-    }
-
-    fn look_repair(
-        &mut self,
-        directory: &mut Directory,
-        book: &Book,
-        number: u32,
-        name: &Name,
-        stripe: u32,
-    ) -> Result<RepairLook<(), ()>, Refusal>
-        requires ready { IsReady book.now directory.old self.old }
-        ensures steps { Steps directory.old self.old directory.new self.new }
-    {
-        let _ = book;
-        let Stage::Seated = self.stage else {
-            return Err(Refusal::NotNow);
-        };
-        if u64::from(number) < self.unused || !is_repairer(self.who) {
-            return Err(Refusal::NotNow);
-        }
-        let answer = self.ticket.look_repair(directory, number, name, stripe)?;
-        self.stage = stage_after_repair_look(&answer);
-        self.number = number;
         Ok(answer)
     }
 
@@ -251,47 +191,6 @@ impl Caller {
         Ok(answer)
     }
 
-    fn confirm(
-        &mut self,
-        directory: &mut Directory,
-        book: &Book,
-    ) -> Result<Confirmed<(), ()>, Refusal>
-        requires ready { IsReady book.now directory.old self.old }
-        ensures steps { Steps directory.old self.old directory.new self.new }
-    {
-        let _ = book;
-        let Stage::Rebuilding = self.stage else {
-            return Err(Refusal::NotNow);
-        };
-        let answer = self.ticket.confirm(directory, self.number);
-        self.stage = stage_after_confirm(&answer);
-        self.unused = u64::from(self.number) + 1;
-        Ok(answer)
-    }
-
-    fn repaired(
-        &mut self,
-        directory: &mut Directory,
-        book: &Book,
-        server: u32,
-        epoch: u64,
-    ) -> Result<Ended<()>, Refusal>
-        requires ready { IsReady book.now directory.old self.old }
-        ensures steps { Steps directory.old self.old directory.new self.new }
-    {
-        let _ = book;
-        let Stage::Rebuilding = self.stage else {
-            return Err(Refusal::NotNow);
-        };
-        if server >= directory.geometry().n() {
-            return Err(Refusal::NotNow);
-        }
-        let answer = self.ticket.repaired(directory, self.number, server, epoch);
-        self.stage = Stage::Seated;
-        self.unused = u64::from(self.number) + 1;
-        Ok(answer)
-    }
-
     /// Makes a step, where the actor may.
     pub fn make(
         &mut self,
@@ -307,20 +206,9 @@ impl Caller {
             Step::Look { number, call } => {
                 self.look(directory, book, number, call).map(Answer::Look)
             }
-            Step::LookRepair {
-                number,
-                name,
-                stripe,
-            } => self
-                .look_repair(directory, book, number, name, stripe)
-                .map(Answer::LookRepair),
             Step::Draw => self.draw(directory, book).map(Answer::Draw),
             Step::Commit => self.commit(directory, book, alloc).map(Answer::Commit),
             Step::End => self.end(directory, book).map(Answer::End),
-            Step::Confirm => self.confirm(directory, book).map(Answer::Confirm),
-            Step::Repaired { server, epoch } => self
-                .repaired(directory, book, server, epoch)
-                .map(Answer::End),
         }
     }
 }

@@ -1,11 +1,11 @@
 //! Where an actor is in its calls, by what the directory answered.
 
 ghost use Rattle.std.specs.Prelude.{◌≡◌, ◌+◌, true, if◌then◌else◌};
-ghost use Rattle.dir_walks.specs.Callers.{is_client, is_repairer};
-ghost use Rattle.dir_walks.specs.After.{writes, stage_after_look, stage_after_repair_look, stage_after_draw, drawn_by, unused_after_commit, stage_after_confirm};
+ghost use Rattle.dir_walks.specs.Callers.{is_client};
+ghost use Rattle.dir_walks.specs.After.{writes, stage_after_look, stage_after_draw, drawn_by, unused_after_commit};
 
 use store_map::{Actor, Call};
-use stripe_dir::{Committed, Confirmed, Drawn, Look, RepairLook};
+use stripe_dir::{Committed, Drawn, Look};
 
 /// Where an actor is in its calls.
 #[derive(Clone, Copy, PartialEq, Eq, Debug)]
@@ -17,7 +17,6 @@ pub enum Stage {
     Begun,
     /// It has drawn its versions.
     Drawn,
-    Rebuilding,
 }
 
 /// Whether it is a client.
@@ -25,13 +24,6 @@ pub fn is_client(who: Actor) -> bool
     ensures { result ≡ is_client who }
 {
     matches!(who, Actor::Client(_))
-}
-
-/// Whether it is a repairer.
-pub fn is_repairer(who: Actor) -> bool
-    ensures { result ≡ is_repairer who }
-{
-    matches!(who, Actor::Repairer(_))
 }
 
 // Whether it is a put or a write.
@@ -52,16 +44,6 @@ pub fn stage_after_look(answer: &Look<(), ()>, call: &Call) -> Stage
         Stage::Begun
     } else {
         Stage::Reading
-    }
-}
-
-/// After a look of a rebuild.
-pub fn stage_after_repair_look(answer: &RepairLook<(), ()>) -> Stage
-    ensures { result ≡ stage_after_repair_look answer.now }
-{
-    match answer {
-        RepairLook::Pinned { .. } => Stage::Rebuilding,
-        RepairLook::NoSuch { .. } => Stage::Seated,
     }
 }
 
@@ -92,15 +74,5 @@ pub fn unused_after_commit(answer: &Committed<()>, number: u32) -> u64
     match answer {
         Committed::Changed { .. } => u64::from(number),
         _ => u64::from(number) + 1,
-    }
-}
-
-/// After a confirmation.
-pub fn stage_after_confirm(answer: &Confirmed<(), ()>) -> Stage
-    ensures { result ≡ stage_after_confirm answer.now }
-{
-    match answer {
-        Confirmed::Current { .. } => Stage::Rebuilding,
-        _ => Stage::Seated,
     }
 }

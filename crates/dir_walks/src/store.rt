@@ -1,15 +1,12 @@
-//! A directory with two clients and a repairer, and what they, operator and sweeper do there.
+//! A directory with a client, and what it, operator and sweeper do there.
 
 ghost use Rattle.std.specs.Prelude.{◌≡◌, ◌<◌, ◌∷◌, ◌++◌, [], length, true, None, IfOk};
 ghost use Rattle.dir_tickets.specs.TicketSteps.{DrewBy};
 ghost use Rattle.dir_walks.specs.Begun.{IfBegun};
-ghost use Rattle.dir_walks.specs.Callers.{IsReady, is_client};
 ghost use Rattle.dir_walks.specs.Stores.{IsStore};
 ghost use Rattle.version_seal.specs.Sealer.{sealer_at};
 
 use crate::caller::{Answer, Caller, Refusal, Step};
-use crate::snapshots::snapshot;
-use snapshot_view::SnapFault;
 use std::alloc::{AllocError, Global};
 use std::marker::Model;
 use std::test::Fail;
@@ -17,14 +14,12 @@ use store_map::{Actor, Call, Point, Version};
 use stripe_dir::{Directory, Drawn, Look, Seat};
 use version_seal::{Book, Sealer};
 
-/// A directory with two clients and a repairer. It has to be left.
+/// A directory with a client. It has to be left.
 pub struct Store<'a> {
     alloc: Global,
     book: &'a Book,
     directory: Directory,
     first: Caller,
-    second: Caller,
-    repairer: Caller,
 }
 
 impl<'a> Model for Store<'a> {
@@ -50,28 +45,6 @@ fn last(seats: &mut Vec<Seat>) -> Seat
     }
 }
 
-// The client takes a snapshot with its one ticket, where it may, and leaves.
-fn snapshot_by(
-    alloc: Global,
-    directory: &mut Directory,
-    book: &Book,
-    client: Caller,
-    number: u32,
-) -> Result<Option<u64>, Refusal>
-    requires ready { IsReady book.now directory.old client }
-    requires client { is_client client.who ≡ true }
-{
-    if !client.may_use(number) {
-        client.leave();
-        return Err(Refusal::NotNow);
-    }
-    match snapshot(alloc, directory, book, client, number) {
-        Ok(()) => Ok(None),
-        Err(SnapFault::TooMany { objects }) => Ok(Some(objects)),
-        Err(SnapFault::OutOfMemory) => Err(Refusal::Short),
-    }
-}
-
 impl<'a> Store<'a> {
     /// A directory without objects, whose objects may have `max` bytes each.
     pub fn open(
@@ -84,10 +57,8 @@ impl<'a> Store<'a> {
         requires sealer { sealer ≡ sealer_at book.now 0 }
         ensures book { IfOk result (λ store. store.book ≡ book.now) }
     {
-        let (directory, seats) = Directory::new(alloc, book.opening(), sealer, max, 2, 1)?;
+        let (directory, seats) = Directory::new(alloc, book.opening(), sealer, max, 1, 0)?;
         let mut seats = seats;
-        let repairer = last(&mut seats);
-        let second = last(&mut seats);
         let first = last(&mut seats);
         seats.destroy_empty();
         Ok(Store {
@@ -95,43 +66,19 @@ impl<'a> Store<'a> {
             book,
             directory,
             first: Caller::new(Actor::Client(0), first),
-            second: Caller::new(Actor::Client(1), second),
-            repairer: Caller::new(Actor::Repairer(0), repairer),
         })
     }
 
-    /// All actors leave.
+    /// The client leaves.
     pub fn leave(self) {
         let Store {
             alloc: _,
             book: _,
             directory,
             first,
-            second,
-            repairer,
         } = self;
         first.leave();
-        second.leave();
-        repairer.leave();
         drop(directory);
-    }
-
-    /// The first client takes a snapshot with its one ticket, under this number, and drops it again. Then
-    /// all leave. Where there were too many objects, how many.
-    pub fn snapshot(self, number: u32) -> Result<Option<u64>, Refusal> {
-        let Store {
-            alloc,
-            book,
-            mut directory,
-            first,
-            second,
-            repairer,
-        } = self;
-        second.leave();
-        repairer.leave();
-        let answer = snapshot_by(alloc, &mut directory, book, first, number);
-        drop(directory);
-        answer
     }
 
     pub fn directory(&self) -> &Directory {
@@ -146,7 +93,7 @@ impl<'a> Store<'a> {
         self.directory.keeps();
     }
 
-    /// A look of the first client.
+    /// A look of the client.
     pub fn begin(&mut self, number: u32, call: &Call) -> Result<Look<(), ()>, Refusal>
         ensures begun { IfOk result (λ answer. IfBegun self.old.book.home call.now number answer self.new.first) }
         ensures book { self.new.book ≡ self.old.book }
@@ -155,28 +102,16 @@ impl<'a> Store<'a> {
             .look(&mut self.directory, self.book, number, call)
     }
 
-    /// A draw of the first client.
+    /// A draw of the client.
     pub fn draw(&mut self) -> Result<Drawn<(), ()>, Refusal>
         ensures drawn { DrewBy self.old.sealed self.old.first.token self.old.first.request result }
     {
         self.first.draw(&mut self.directory, self.book)
     }
 
-    /// A step of the first client.
+    /// A step of the client.
     pub fn first(&mut self, step: Step<'_>) -> Result<Answer, Refusal> {
         self.first
-            .make(&mut self.directory, self.book, self.alloc, step)
-    }
-
-    /// A step of the second client.
-    pub fn second(&mut self, step: Step<'_>) -> Result<Answer, Refusal> {
-        self.second
-            .make(&mut self.directory, self.book, self.alloc, step)
-    }
-
-    /// A step of the repairer.
-    pub fn repairer(&mut self, step: Step<'_>) -> Result<Answer, Refusal> {
-        self.repairer
             .make(&mut self.directory, self.book, self.alloc, step)
     }
 

@@ -1,10 +1,7 @@
-//! Tests of the store's parts: sealed versions and the chunk server over them; the directory, with each
-//! answer of its calls, whole puts, puts that are given up, strays, and a snapshot that is refused. All
-//! of it is tests, so without them the crate is empty, and it is proved once.
+//! Tests of the store's parts: sealed versions and the chunk server over them; puts at the directory of which one may want memory;
+//! strays. All of it is tests, so without them the crate is empty, and it is proved once.
 #![tactic(auto)]
 
-#[cfg(test)]
-mod answers;
 #[cfg(test)]
 mod memory;
 #[cfg(test)]
@@ -14,13 +11,9 @@ mod servers;
 #[cfg(test)]
 mod shelf;
 #[cfg(test)]
-mod snapshots;
-#[cfg(test)]
 mod strays;
 #[cfg(test)]
 mod versions;
-#[cfg(test)]
-mod walks;
 
 #[cfg(test)]
 use std::test::Fail;

@@ -5,33 +5,49 @@ ghost use Rattle.std.specs.Prelude.{◌≡◌, IsTrue};
 ghost use Rattle.dir_walks.specs.Small.{small_code, IsStripeStamp};
 ghost use Rattle.store_scrub.specs.Lost.{ArePresent};
 
+use crate::holds;
 use chunk_server::Server;
+use dir_walks::caller::{Answer, Refusal, Step};
 use dir_walks::opening::small_geometry;
-use dir_walks::rows::hold;
 use dir_walks::shelf::Shelf;
 use dir_walks::store::Store;
 use dir_walks::stripe::drawn_stripe;
 use std::alloc::Global;
 use std::test::Fail;
-use store_map::{Placement, Version};
+use store_map::{Actor, Placement, Point, Version};
 use store_scrub::{Report, drop_strays, scrub};
+use stripe_dir::Committed;
 use version_seal::{Book, Stamp};
 
 // The operator gives the put up, and the sweeper takes its version.
-const GIVEN_UP: &str = "\
-reap first > 0
-take > 0";
+fn take(store: &mut Store<'_>) -> Result<(), Fail> {
+    holds(store.reap(Actor::Client(0)) == Some(Point(0)), "reap")?;
+    holds(store.next_garbage() == Some(Version(0)), "take")
+}
 
 // It tells that the version is swept.
-const SWEPT: &str = "\
-sweep 0 > nothing
-take > nothing";
+fn sweep(store: &mut Store<'_>) -> Result<(), Fail> {
+    store.swept(Version(0));
+    holds(store.next_garbage().is_none(), "sweep")
+}
+
+fn is_reaped(answer: &Answer) -> bool {
+    matches!(
+        answer,
+        Answer::Commit(Committed::Reaped { at: Point(0), .. })
+    )
+}
+
+fn commit_is_reaped(store: &mut Store<'_>) -> Result<bool, Refusal> {
+    Ok(is_reaped(&store.first(Step::Commit)?))
+}
 
 // The put hears of its reap at its commit.
-const ENDED: &str = "\
-first commit > reaped 0
-points > 1
-take > nothing";
+fn end(store: &mut Store<'_>) -> Result<(), Fail> {
+    holds(commit_is_reaped(store)?, "commit")?;
+    holds(store.directory().points() == 1, "points")?;
+    holds(store.next_garbage().is_none(), "nothing is left")
+}
 
 // Its chunk comes.
 fn prepare(alloc: Global, shelf: &mut Shelf) -> Result<(), Fail> {
@@ -74,12 +90,12 @@ fn give_up(
     others: &mut [Shelf],
 ) -> Result<(), Fail> {
     prepare(alloc, first)?;
-    hold(alloc, store, 2, GIVEN_UP)?;
+    take(store)?;
     first.discard(Version(0));
     discard_all(others);
-    hold(alloc, store, 2, SWEPT)?;
+    sweep(store)?;
     prepare_all(alloc, others)?;
-    hold(alloc, store, 3, ENDED)
+    end(store)
 }
 
 // The servers after that.

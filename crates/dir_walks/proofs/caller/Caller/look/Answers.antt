@@ -1,8 +1,6 @@
-use Rattle.std.proofs.Common.{◌≡◌, ◌+◌, false, None, Some, map, option_map, sym, subst, ap, ◌∙◌}
-use Rattle.store_core.specs.Act.{DirectoryStep}
+use Rattle.std.proofs.Common.{◌+◌, Some, sym, subst, ap, ◌∙◌}
 use Rattle.version_seal.specs.Entry.{BookOf}
-use Rattle.dir_walks.specs.Callers.{CallerOf, IsRight, Steps, is_seated}
-use Rattle.dir_walks.specs.declared.stage.Stage.TheVariants as stage
+use Rattle.dir_walks.specs.Callers.{CallerOf, IsRight, Steps}
 use Rattle.dir_walks.specs.Inside.{caller_in}
 use Rattle.dir_walks.proofs.Made.{look_steps}
 use Rattle.dir_walks.proofs.caller.Caller.look.Goals as goal

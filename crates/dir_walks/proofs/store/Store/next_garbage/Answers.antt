@@ -8,5 +8,5 @@ use Rattle.dir_walks.proofs.store.Store.next_garbage.Goals as goal
 
 pub invariant_of-self : goal.invariant_of-self
 invariant_of-self c =
-    kept (store_in c.self.inside) c.next_garbage.new.self actor.Sweeper refl refl refl c.self.invariant
+    kept (store_in c.self.inside) c.next_garbage.new.self actor.Sweeper refl c.self.invariant
     (others_agree false actor.Sweeper 0 DirectoryStep.NextGarbage c.self.inside.directory.core c.next_garbage.new.self.core (Told.Taken (option_map (λ version. version.0) c.next_garbage.result)) (c.next_garbage.ensures.step actor.Sweeper 0)) c.next_garbage.ensures.book

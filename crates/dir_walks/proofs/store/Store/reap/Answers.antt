@@ -8,5 +8,5 @@ use Rattle.dir_walks.proofs.store.Store.reap.Goals as goal
 
 pub invariant_of-self : goal.invariant_of-self
 invariant_of-self c =
-    kept (store_in c.self.inside) c.reap.new.self actor.Operator refl refl refl c.self.invariant
+    kept (store_in c.self.inside) c.reap.new.self actor.Operator refl c.self.invariant
     (others_agree false actor.Operator 0 (DirectoryStep.Reap c.args.who) c.self.inside.directory.core c.reap.new.self.core (Told.GivenUp (option_map (λ point. point.0) c.reap.result)) (c.reap.ensures.step actor.Operator 0)) c.reap.ensures.book

@@ -1,4 +1,4 @@
-use Rattle.std.proofs.Common.{false, option_map, refl}
+use Rattle.std.proofs.Common.{false, refl}
 use Rattle.store_map.specs.declared.actor.Actor.TheVariants as actor
 use Rattle.store_core.specs.Told.{Told}
 use Rattle.store_core.specs.Act.{DirectoryStep}
@@ -8,5 +8,5 @@ use Rattle.dir_walks.proofs.store.Store.swept.Goals as goal
 
 pub invariant_of-self : goal.invariant_of-self
 invariant_of-self c =
-    kept (store_in c.self.inside) c.swept.new.self actor.Sweeper refl refl refl c.self.invariant
+    kept (store_in c.self.inside) c.swept.new.self actor.Sweeper refl c.self.invariant
     (others_agree false actor.Sweeper 0 (DirectoryStep.Swept c.args.version.0) c.self.inside.directory.core c.swept.new.self.core Told.Made (c.swept.ensures.step actor.Sweeper 0)) c.swept.ensures.book
