@@ -1,7 +1,6 @@
 //! Tests of the checker: the store's worked transcripts are histories by the rules alone, and those in which something is
 //! changed or left out are none; transcripts that each break one rule, with the line that is printed. Frames, requests and
-//! answers. The plain map with its names and contents, sources and sinks. All of it is tests, so without them the crate is
-//! empty, and it is proved once.
+//! answers. Sources and sinks. All of it is tests, so without them the crate is empty, and it is proved once.
 #![tactic(auto)]
 
 #[cfg(test)]
@@ -14,8 +13,6 @@ mod judge;
 mod legal;
 #[cfg(test)]
 mod order;
-#[cfg(test)]
-mod plain_map;
 #[cfg(test)]
 mod refusals;
 #[cfg(test)]

@@ -4,7 +4,7 @@ use script_text::{read_script, write_script};
 use std::alloc::Global;
 use std::process::Abort;
 use std::test::Fail;
-use store_map::{Call, Content, Name, Rebuild, Script, Token};
+use store_map::{Script, Token};
 use text_tables::faults::same;
 use text_tables::scripts::{begins_with, repeated, script_of, written};
 
@@ -60,188 +60,7 @@ fn writes_larger_data(rt: HostRuntime) -> Result<(), Fail> {
     writes_back(&rt, &text)
 }
 
-// The script of larger data.
-fn realistic_script(alloc: Global) -> Result<Script, Fail> {
-    let text = realistic(alloc)?;
-    script_of(read_script(alloc, &text))
-}
-
-fn call_of(script: &Script, client: usize, number: usize) -> Option<&Call> {
-    script
-        .clients
-        .as_slice()
-        .get(client)?
-        .calls
-        .as_slice()
-        .get(number)
-}
-
-fn rebuild_of(script: &Script, repairer: usize, number: usize) -> Option<&Rebuild> {
-    script
-        .repairers
-        .as_slice()
-        .get(repairer)?
-        .calls
-        .as_slice()
-        .get(number)
-}
-
-fn is(name: &Name, text: &[u8]) -> bool {
-    name.as_bytes() == text
-}
-
-fn has_put(script: &Script) -> bool {
-    match call_of(script, 0, 0) {
-        Some(
-            Call::Put {
-                name,
-                content: Content::Ramp {
-                    first: 0,
-                    length: 100_000,
-                },
-            },
-        ) => is(name, b"log"),
-        _ => false,
-    }
-}
-
-fn has_write(script: &Script) -> bool {
-    match call_of(script, 0, 1) {
-        Some(
-            Call::Write {
-                name,
-                offset: 100_000,
-                content: Content::Fill {
-                    byte: 0xaa,
-                    length: 3000,
-                },
-            },
-        ) => is(name, b"log"),
-        _ => false,
-    }
-}
-
-fn has_stat(script: &Script) -> bool {
-    match call_of(script, 0, 2) {
-        Some(Call::Stat { name }) => is(name, b"log"),
-        _ => false,
-    }
-}
-
-fn has_read(script: &Script) -> bool {
-    match call_of(script, 1, 1) {
-        Some(
-            Call::ReadAt {
-                name,
-                offset: 98_304,
-                length: 1696,
-            },
-        ) => is(name, b"img"),
-        _ => false,
-    }
-}
-
-fn has_rebuild(
-    script: &Script,
-    repairer: usize,
-    number: usize,
-    name: &[u8],
-    stripe: u32,
-    server: u32,
-) -> bool {
-    match rebuild_of(script, repairer, number) {
-        Some(rebuild) => is(&rebuild.name, name)
-            && rebuild.stripe == stripe
-            && rebuild.server == server,
-        None => false,
-    }
-}
-
-#[test]
-fn reads_calls(rt: HostRuntime) -> Result<(), Fail> {
-    let script = realistic_script(rt.alloc())?;
-    assert!(rt; has_put(&script));
-    assert!(rt; has_write(&script));
-    assert!(rt; has_stat(&script));
-    assert!(rt; has_read(&script));
-    assert!(rt; has_rebuild(&script, 0, 1, b"log", 0, 9));
-    assert!(rt; has_rebuild(&script, 1, 0, b"img", 3, 2));
-    Ok(())
-}
-
-// How many calls a client has.
-fn calls_of(script: &Script, client: usize) -> Option<usize> {
-    Some(script.clients.as_slice().get(client)?.calls.len())
-}
-
-// How many clients there are, how many calls each of the first three has, and how many repairers.
-fn counts(script: &Script) -> [Option<usize>; 5] {
-    [
-        Some(script.clients.len()),
-        calls_of(script, 0),
-        calls_of(script, 1),
-        calls_of(script, 2),
-        Some(script.repairers.len()),
-    ]
-}
-
-#[test]
-fn reads_parts(rt: HostRuntime) -> Result<(), Fail> {
-    let script = realistic_script(rt.alloc())?;
-    assert!(rt; counts(&script) == [Some(3), Some(3), Some(2), Some(2), Some(2)]);
-    Ok(())
-}
-
-fn head_of(script: &Script) -> [Option<u32>; 5] {
-    let geometry = script.geometry;
-    [
-        Some(geometry.k()),
-        Some(geometry.m()),
-        Some(geometry.w()),
-        script.size,
-        script.tries,
-    ]
-}
-
-#[test]
-fn reads_head_lines(rt: HostRuntime) -> Result<(), Fail> {
-    let script = realistic_script(rt.alloc())?;
-    assert!(rt; head_of(&script) == [Some(8), Some(4), Some(64), Some(200_000), None]);
-    Ok(())
-}
-
-fn step_at(script: &Script, place: usize) -> Option<Token> {
-    script.schedule.as_slice().get(place).copied()
-}
-
-// The steps before and behind each change of the realistic schedule.
-fn steps_of(script: &Script) -> [Option<Token>; 6] {
-    [
-        step_at(script, 98),
-        step_at(script, 99),
-        step_at(script, 197),
-        step_at(script, 199),
-        step_at(script, 200),
-        step_at(script, 201),
-    ]
-}
-
-#[test]
-fn reads_the_schedule(rt: HostRuntime) -> Result<(), Fail> {
-    let script = realistic_script(rt.alloc())?;
-    let wanted = [
-        Some(Token::Client(0)),
-        Some(Token::Client(1)),
-        Some(Token::Client(1)),
-        Some(Token::Wipe(9)),
-        Some(Token::Drain),
-        None,
-    ];
-    assert!(rt; steps_of(&script) == wanted);
-    Ok(())
-}
-
-/// The forms that the realistic script leaves out.
+/// Forms that the script of larger data leaves out; what that one reads as is told by its run (`clay_tests`).
 const LIMITED: &[u8] =
     b"clay 1\ncode 2 2 1\nclient\nput a hex:00fe\nleave 7\ndelete a\nrepairer\nleave 0\nrebuild a 4 1\nschedule\nr 0\ns\nreap c 0\nreap r 0\nend\n";
 
@@ -252,23 +71,10 @@ fn limits_of(script: &Script) -> Option<[Option<u32>; 2]> {
     Some([client.leave, repairer.leave])
 }
 
-fn has_hexadecimal_digits(script: &Script) -> bool {
-    match call_of(script, 0, 0) {
-        Some(
-            Call::Put {
-                content: Content::Hex(bytes),
-                ..
-            },
-        ) => bytes.as_slice() == [0, 0xfe].as_slice(),
-        _ => false,
-    }
-}
-
 #[test]
 fn reads_limits_and_steps(rt: HostRuntime) -> Result<(), Fail> {
     let script = script_of(read_script(rt.alloc(), LIMITED))?;
     assert!(rt; limits_of(&script) == Some([Some(7), Some(0)]));
-    assert!(rt; has_hexadecimal_digits(&script));
     let wanted = [
         Token::Repairer(0),
         Token::Sweep,
