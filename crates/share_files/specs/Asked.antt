@@ -1,4 +1,4 @@
--- At which places the source of a share was asked.
+-- From which places something came of the source of a share.
 use Rattle.std.specs.Prelude.{◌≡◌, ℕ, ◌+◌, ◌<◌, ◌≤◌, All, List, ◌++◌}
 use Rattle.file_bytes.specs.Places.{Placed}
 use Rattle.clay_aloof.specs.Shape.{AloofShape}

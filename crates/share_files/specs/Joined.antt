@@ -33,7 +33,7 @@ IsOfFile h Mismatch = Unit {0}
 IsOfFile h WriteFault = Unit {0}
 IsOfFile h OutOfMemory = Unit {0}
 
--- what is noted of each share up to so many stripes, and at which places it was asked
+-- what is noted of each share up to some stripe, and from which places something came of it
 pub record AreNoted (h : Header) (files : List (List ℕ)) (olds news : List Seen) (missed : List (Option ℕ)) : Type 0 where
   pub count : ℕ
   pub within : count ≤ stripe_count h.shape h.size

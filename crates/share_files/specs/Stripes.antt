@@ -20,7 +20,7 @@ pub record AreBlocksOf (a : AloofShape) (i : ℕ) (Counts : ℕ → Type 0) (fil
   pub read : (c : ℕ) → c < all_chunks a → IsRead a i (Counts c) (get_or files c []) (failed_since (seen_of olds c) (seen_of news c)) (get_or blocks c None)
   pub few : ¬ AreTooFew a blocks
 
--- bytes are joined from the blocks of stripe i that count: they are each stripe whose codeword has these blocks
+-- bytes are joined from the blocks of stripe i that count: they are each stripe whose codeword has these blocks, and some bytes where none has
 pub record IsStripeOf (a : AloofShape) (i : ℕ) (files : List (List ℕ)) (olds news : List Seen) (bytes : List ℕ) : Type 0 where
   pub blocks : List (Option (Vec ℕ Global))
   pub are : AreBlocksOf a i (λ c. CountsAt a files olds news c i) files olds news blocks

@@ -147,7 +147,8 @@ pub fn join<S: SourceAt, K: Sink>(
 ) -> Result<(), JoinFault>
     requires sources { length sources.old ≡ all_chunks header.now.shape }
     requires missed { length missed.old ≡ all_chunks header.now.shape }
-    // Whatever files the sources show: if they are shares of a file, with rot that its checksums find, the sink took that file.
+    // Whatever files the sources show: if they are shares of a file, with rot that its checksums find, the sink took that file. This follows
+    // from what is said of any files.
     ensures joined { (file : List ℕ) (files : List (List ℕ)) → Show (map (λ s. seen (S.given s) (S.ends s) (S.failed s)) sources.new) files → NoRotPasses header.now file files → OnOk result (Accepts (K.accepted sink.old) (K.written sink.old) file (K.accepted sink.new) (K.written sink.new)) }
     ensures matching { (file : List ℕ) (files : List (List ℕ)) → Show (map (λ s. seen (S.given s) (S.ends s) (S.failed s)) sources.new) files → NoRotPasses header.now file files → IsErrOf result JoinFault.Mismatch → ⊥ }
     ensures prefix { (file : List ℕ) (files : List (List ℕ)) → Show (map (λ s. seen (S.given s) (S.ends s) (S.failed s)) sources.new) files → NoRotPasses header.now file files → OnErr result (AcceptsPrefix (K.accepted sink.old) (K.written sink.old) file (K.accepted sink.new) (K.written sink.new)) }

@@ -1,4 +1,4 @@
--- A lost share's chunks, rebuilt from the others' blocks.
+-- A lost share's chunks, rebuilt from the shares' blocks, its own too where they pass.
 use Rattle.std.specs.Prelude.{◌≡◌, ℕ, ◌<◌, List, length, Option, Vec}
 use Rattle.std.specs.declared.alloc.Global.{Global}
 use Rattle.clay_grid.specs.Shape.{chunk_length}
@@ -11,7 +11,8 @@ use Rattle.share_files.specs.Stripes.{AreBlocksOf}
 use Rattle.share_mends.specs.declared.rebuilding.RebuildFault.{RebuildFault}
 use Rattle.share_mends.specs.declared.rebuilding.RebuildFault.TheVariants.{TooFew, WriteFault, OutOfMemory}
 
--- a chunk is recovered from the blocks of stripe i: it is the lost one of each codeword that has them. All blocks count
+-- a chunk is recovered from the blocks of stripe i: it is the lost one of each codeword that has them, and some bytes where none
+-- has. All blocks count
 pub record IsChunkOf (a : AloofShape) (lost i : ℕ) (files : List (List ℕ)) (olds news : List Seen) (chunk : List ℕ) : Type 0 where
   pub blocks : List (Option (Vec ℕ Global))
   pub are : AreBlocksOf a i (λ c. Unit {0}) files olds news blocks

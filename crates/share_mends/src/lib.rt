@@ -1,4 +1,4 @@
-//! A lost share mended from parts of the others, or made anew from whole blocks of them where too many are lost.
+//! A lost share mended from parts of the others, or, where too many are lost, made anew from all shares' whole blocks.
 #![tactic(auto)]
 
 mod fault;

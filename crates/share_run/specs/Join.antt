@@ -43,13 +43,13 @@ pub record FilePlaced (r : JoinRun) : Type 0 where
   pub from : AreJoined r.header (stripe_count r.header.shape r.header.size) r.olds r.news file
   pub placed : r.after.files ≡ r.before.files ++ filled 0 file ∷ []
 
--- up to so many stripes it is noted what each share missed, and it was asked for blocks that count alone. Where no data share missed one, no
--- parity share was asked
+-- up to so many stripes it is noted what each share missed, and nothing came of it but from blocks that count. Where no data share missed one,
+-- no parity share was asked
 pub record IsNoted (r : JoinRun) (count : ℕ) : Type 0 where
   pub first : (files : List (List ℕ)) → Show r.news files → AreFirstMissed r.header.shape count files r.olds r.news r.missed
   pub unread : IsParityUnread r.header.shape r.olds r.news r.missed
 
--- so it is up to some stripe
+-- whatever files the sources show, so it is up to some stripe
 pub record IsNotedSoFar (r : JoinRun) : Type 0 where
   pub first : (files : List (List ℕ)) → Show r.news files → AreNoted r.header files r.olds r.news r.missed
   pub unread : IsParityUnread r.header.shape r.olds r.news r.missed

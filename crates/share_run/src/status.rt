@@ -11,12 +11,12 @@ pub enum ShareStatus {
     /// More than `M` shares have no good block of a stripe, or none that can be read, or no share has a good header. Of a check: fewer than `K`
     /// shares are whole.
     TooFew,
-    /// The joined file has not the headers' checksum, or a folder has shares of two names. Of a check: at least `K` shares are whole, and one
-    /// isn't or a stray is there.
+    /// The joined file has not the headers' checksum, or the folder of a join, mend or check has shares of two names. Of a check also: at least
+    /// `K` shares are whole, and one isn't or a stray is there.
     BadShare,
-    /// The file that is to be cut can't be read, or the folder of the shares can't be.
+    /// The file that is to be cut can't be read, or the folder of a join, mend or check can't be.
     ReadFault,
-    /// What is made can't be written, or its place can't be filled.
+    /// What is made can't be written, or its place can't be filled. Of a cut also: a share stands in the folder, or the folder can't be read.
     WriteFault,
     OutOfMemory,
 }
