@@ -1,5 +1,6 @@
 //! What the program says on standard error, and the exit status that goes with it.
-ghost use Rattle.std.specs.Prelude.{◌≡◌, ◌⊎◌};
+ghost use Rattle.std.specs.Prelude.{◌≡◌};
+ghost use Rattle.std.specs.IoError.{error_kind};
 ghost use Rattle.std.specs.Process.{exit_status};
 ghost use Rattle.share_run.specs.Status.{status_number};
 
@@ -34,9 +35,10 @@ pub fn ends_short<R: Eprint>(rt: &R, path: &str) -> ExitCode
     )
 }
 
-/// Says that a call of the system failed at a path. The exit tells the status, or that memory was short where the call says so.
+/// Says that a call of the system failed at a path, and ends with the status, or as out of memory where that was why.
 pub fn fails<R: Eprint>(rt: &R, status: ShareStatus, path: &str, error: &io::Error) -> ExitCode
-    ensures { (exit_status result ≡ status_number status) ⊎ (exit_status result ≡ status_number ShareStatus.OutOfMemory) }
+    ensures short { error_kind error.now ≡ ErrorKind.OutOfMemory → exit_status result ≡ status_number ShareStatus.OutOfMemory }
+    ensures other { (error_kind error.now ≡ ErrorKind.OutOfMemory → ⊥) → exit_status result ≡ status_number status }
 {
     if error.kind() == ErrorKind::OutOfMemory {
         return ends_short(rt, path);
