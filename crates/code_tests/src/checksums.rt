@@ -22,30 +22,12 @@ fn goes_on_in_pieces(rt: HostRuntime) -> Result<(), AllocError> {
 }
 
 #[test]
-fn sums_two_at_once(rt: HostRuntime) -> Result<(), AllocError> {
-    let crc = Crc64::new(rt.alloc())?;
-    let (one, other) = crc.checksum_two(b"123456789 123456789", b"987654321 123456789");
-    assert_eq!(rt; one, 0x3E47_3289_9EA0_6FA7);
-    assert_eq!(rt; other, 0x77DB_8744_2E0E_F851);
-    Ok(())
-}
-
-// The checksums of two slices, side by side, where they have one length.
-fn two_sums(crc: &Crc64, first: &[u8], second: &[u8]) -> Option<(u64, u64)> {
-    if first.len() == second.len() {
-        return Some(crc.checksum_two(first, second));
-    }
-    None
-}
-
-#[test]
 fn sums_long_slices(rt: HostRuntime) -> Result<(), AllocError> {
     let crc = Crc64::new(rt.alloc())?;
     let first: Vec<u8> = (0..10_000u32).map(|i| (i % 251) as u8).collect(rt.alloc())?;
     let second: Vec<u8> = (0..10_000u32).map(|i| (i % 241) as u8).collect(rt.alloc())?;
     assert_eq!(rt; crc.checksum(&first), 0x3EC3_BC24_B9CA_BEE3);
-    let sums = two_sums(&crc, &first, &second);
-    assert!(rt; sums == Some((0x3EC3_BC24_B9CA_BEE3, 0x4E33_315E_0F9A_FA1B)));
+    assert_eq!(rt; crc.checksum(&second), 0x4E33_315E_0F9A_FA1B);
     Ok(())
 }
 

@@ -2,8 +2,8 @@
 //! It finds each change of up to 64 bits in a row. It may let another one pass.
 #![tactic(auto)]
 
-ghost use Rattle.std.specs.Prelude.{◌≡◌, ℕ, ◌+◌, ◌*◌, ◌/◌, ◌<◌, ◌≤◌, List, ◌++◌, take, length, IfOk};
-ghost use Rattle.crc64.specs.Remainder.{reduced, remainder, after, ones, checksum_of};
+ghost use Rattle.std.specs.Prelude.{◌≡◌, ℕ, ◌+◌, ◌*◌, ◌/◌, ◌≤◌, List, ◌++◌, take, length, IfOk};
+ghost use Rattle.crc64.specs.Remainder.{reduced, remainder, after, checksum_of};
 ghost use Rattle.crc64.specs.Tables.{HasRemainders};
 
 mod combiner;
@@ -76,7 +76,7 @@ impl Crc64 {
         Ok(Crc64 { remainders })
     }
 
-    // The remainder of a word with so many zero bytes behind it. Inlined always: where two sums run side by side, LLVM calls it else.
+    // The remainder of a word with so many zero bytes behind it.
     #[inline(always)]
     fn word_remainder(&self, behind: usize, word: u64) -> u64
         requires { behind ≤ 8 }
@@ -90,7 +90,7 @@ impl Crc64 {
         sum
     }
 
-    // After 16 bytes. Inlined always, for the same reason.
+    // After 16 bytes.
     #[inline(always)]
     fn after_block(&self, register: u64, block: &[u8]) -> u64
         requires { length block.now ≡ 16 }
@@ -112,21 +112,6 @@ impl Crc64 {
             register = self.after_block(register, &bytes[at..at + 16]);
         }
         register
-    }
-
-    // After the first whole blocks of 16 bytes of two slices. Neither sum waits for the other, so both take little more time than one.
-    fn after_blocks_of_two(&self, starts: (u64, u64), first: &[u8], second: &[u8]) -> (u64, u64)
-        requires { length first.now ≡ length second.now }
-        ensures first { result.0 ≡ after starts.0 (take (length first.now / 16 * 16) first.now) }
-        ensures second { result.1 ≡ after starts.1 (take (length second.now / 16 * 16) second.now) }
-    {
-        let (mut one, mut other) = starts;
-        for number in 0..first.len() / 16 {
-            let at = number * 16;
-            one = self.after_block(one, &first[at..at + 16]);
-            other = self.after_block(other, &second[at..at + 16]);
-        }
-        (one, other)
     }
 
     // The register after so many zero bytes.
@@ -160,19 +145,6 @@ impl Crc64 {
         self.after_each(register, &bytes[whole..])
     }
 
-    // Two slices side by side, by the tables alone.
-    fn after_short_of_two(&self, starts: (u64, u64), first: &[u8], second: &[u8]) -> (u64, u64)
-        requires { length first.now ≡ length second.now }
-        ensures first { result.0 ≡ after starts.0 first.now }
-        ensures second { result.1 ≡ after starts.1 second.now }
-    {
-        let whole = first.len() / 16 * 16;
-        let (one, other) = self.after_blocks_of_two(starts, first, second);
-        let one = self.after_each(one, &first[whole..]);
-        let other = self.after_each(other, &second[whole..]);
-        (one, other)
-    }
-
     // Long slices are folded, a turn at a time.
     fn after_all(&self, start: u64, bytes: &[u8]) -> u64
         ensures { result ≡ after start bytes.now }
@@ -202,29 +174,5 @@ impl Crc64 {
         ensures { result ≡ checksum_of bytes.now }
     {
         self.extended(0, bytes)
-    }
-
-    /// The checksums of two slices of one length, summed side by side.
-    pub fn checksum_two(&self, first: &[u8], second: &[u8]) -> (u64, u64)
-        requires { length first.now ≡ length second.now }
-        ensures first { result.0 ≡ checksum_of first.now }
-        ensures second { result.1 ≡ checksum_of second.now }
-    {
-        let mut one = ONES;
-        let mut other = ONES;
-        let mut at = 0;
-        while first.len() - at >= LEAST {
-            let turn = (first.len() - at).min(TURN) / 32 * 32;
-            let mut near = no_rest();
-            let mut far = no_rest();
-            fold(one, &first[at..at + turn], &mut near);
-            fold(other, &second[at..at + turn], &mut far);
-            let sums = self.after_short_of_two((0, 0), &near, &far);
-            one = sums.0;
-            other = sums.1;
-            at += turn;
-        }
-        let last = self.after_short_of_two((one, other), &first[at..], &second[at..]);
-        (last.0 ^ ONES, last.1 ^ ONES)
     }
 }

@@ -41,36 +41,15 @@ fn sum(g: AloofGeometry, crc: &Crc64, chunk: &[u8], layer: u32) -> u64
     crc.checksum(&chunk[at..at + g.w() as usize])
 }
 
-// The checksums of two layers' subchunks.
-fn two_sums(g: AloofGeometry, crc: &Crc64, chunk: &[u8], layer: u32, other: u32) -> (u64, u64)
-    requires layer { layer < layer_count (grid_of g) }
-    requires other { other < layer_count (grid_of g) }
-    requires chunk { length chunk.now ≡ chunk_length (grid_of g) }
-    ensures first { result.0 ≡ checksum_of (subchunk g chunk.now layer) }
-    ensures second { result.1 ≡ checksum_of (subchunk g chunk.now other) }
-{
-    let width = g.w() as usize;
-    let first = subchunk_start(g, layer);
-    let second = subchunk_start(g, other);
-    crc.checksum_two(&chunk[first..first + width], &chunk[second..second + width])
-}
-
 // The checksum of each subchunk, layer 0 first.
 fn table(alloc: Global, g: AloofGeometry, crc: &Crc64, chunk: &[u8]) -> Result<Vec<u8>, AllocError>
     requires { length chunk.now ≡ chunk_length (grid_of g) }
     ensures { IfOk result (λ table. table.items ≡ table_of g chunk.now) }
 {
-    let layers = g.grid().alpha();
     let mut table = Vec::new(alloc);
-    for pair in 0..layers / 2 {
-        let (one, other) = two_sums(g, crc, chunk, 2 * pair, 2 * pair + 1);
-        put_u64(&mut table, one)?;
-        put_u64(&mut table, other)?;
+    for layer in 0..g.grid().alpha() {
+        put_u64(&mut table, sum(g, crc, chunk, layer))?;
     }
-    if layers % 2 == 0 {
-        return Ok(table);
-    }
-    put_u64(&mut table, sum(g, crc, chunk, layers - 1))?;
     Ok(table)
 }
 
@@ -117,25 +96,6 @@ fn has_sum(g: AloofGeometry, crc: &Crc64, front: &[u8], chunk: &[u8], layer: u32
     has_entry(front, layer, sum(g, crc, chunk, layer))
 }
 
-// Whether the entries of two layers are the checksums of their subchunks.
-fn has_two_sums(
-    g: AloofGeometry,
-    crc: &Crc64,
-    front: &[u8],
-    chunk: &[u8],
-    layer: u32,
-    other: u32,
-) -> bool
-    requires layer { layer < layer_count (grid_of g) }
-    requires other { other < layer_count (grid_of g) }
-    requires front { length front.now ≡ start_of g }
-    requires chunk { length chunk.now ≡ chunk_length (grid_of g) }
-    ensures { IsTrue result ↔ (HasChecksum front.now layer (subchunk g chunk.now layer) × HasChecksum front.now other (subchunk g chunk.now other)) }
-{
-    let (first, second) = two_sums(g, crc, chunk, layer, other);
-    has_entry(front, layer, first) && has_entry(front, other, second)
-}
-
 // Whether each entry in front of a chunk is the checksum of its layer's subchunk.
 fn has_sums(g: AloofGeometry, crc: &Crc64, front: &[u8], chunk: &[u8]) -> bool
     requires front { length front.now ≡ start_of g }
@@ -143,16 +103,12 @@ fn has_sums(g: AloofGeometry, crc: &Crc64, front: &[u8], chunk: &[u8]) -> bool
     ensures { IsTrue result ↔ ((layer : ℕ) → layer < layer_count (grid_of g)
         → HasChecksum front.now layer (subchunk g chunk.now layer)) }
 {
-    let layers = g.grid().alpha();
-    for pair in 0..layers / 2 {
-        if !has_two_sums(g, crc, front, chunk, 2 * pair, 2 * pair + 1) {
+    for layer in 0..g.grid().alpha() {
+        if !has_sum(g, crc, front, chunk, layer) {
             return false;
         }
     }
-    if layers % 2 == 0 {
-        return true;
-    }
-    has_sum(g, crc, front, chunk, layers - 1)
+    true
 }
 
 // Whether all bytes are zeros.

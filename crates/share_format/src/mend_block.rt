@@ -1,6 +1,5 @@
 //! A lost share's chunk of a stripe, from parts of the helpers' chunks.
 ghost use Rattle.std.specs.Prelude.{◌≡◌, ◌+◌, ◌*◌, ◌^◌, ◌<◌, ◌≤◌, ◌↔◌, ℕ, length, slice_index, IsTrue, IfOk};
-ghost use Rattle.crc64.specs.Remainder.{checksum_of};
 ghost use Rattle.clay_grid.specs.Shape.{layer_count};
 ghost use Rattle.clay_aloof.specs.Shape.{grid_of};
 ghost use Rattle.clay_aloof.specs.Repair.{AreParts, IsRebuilt};
@@ -38,38 +37,6 @@ fn is_piece(
     has_entry(front, layer, crc.checksum(&part[at..at + g.w() as usize]))
 }
 
-// The checksums of a subchunk of a part and of the next one.
-fn two_sums(g: AloofGeometry, crc: &Crc64, part: &[u8], number: usize) -> (u64, u64)
-    requires part { number * g.width + g.width + g.width ≤ length part.now }
-    ensures first { result.0 ≡ checksum_of (subchunk g part.now number) }
-    ensures second { result.1 ≡ checksum_of (subchunk g part.now (number + 1)) }
-{
-    let width = g.w() as usize;
-    let first = piece_start(g, number);
-    let second = piece_start(g, number + 1);
-    crc.checksum_two(&part[first..first + width], &part[second..second + width])
-}
-
-// Whether a subchunk of a part and the next one have the checksums of their layers.
-fn are_pieces(
-    crc: &Crc64,
-    g: AloofGeometry,
-    front: &[u8],
-    layer: u32,
-    other: u32,
-    part: &[u8],
-    number: usize,
-) -> bool
-    requires layer { layer < layer_count (grid_of g) }
-    requires other { other < layer_count (grid_of g) }
-    requires front { length front.now ≡ chunk_start g }
-    requires part { number * g.width + g.width + g.width ≤ length part.now }
-    ensures { IsTrue result ↔ (HasChecksum front.now layer (subchunk g part.now number) × HasChecksum front.now other (subchunk g part.now (number + 1))) }
-{
-    let (first, second) = two_sums(g, crc, part, number);
-    has_entry(front, layer, first) && has_entry(front, other, second)
-}
-
 /// Whether each subchunk of a helper's part has the checksum that the table in front of its chunk has for its layer.
 pub fn is_part(crc: &Crc64, g: AloofGeometry, layers: &[u32], front: &[u8], part: &[u8]) -> bool
     requires layers { (i : ℕ) → i < length layers.now → slice_index layers.now i < layer_count (grid_of g) }
@@ -77,24 +44,12 @@ pub fn is_part(crc: &Crc64, g: AloofGeometry, layers: &[u32], front: &[u8], part
     requires part { length part.now ≡ length layers.now * g.width }
     ensures { IsTrue result ↔ IsIntactPart g layers.now front.now part.now }
 {
-    let count = layers.len();
-    for pair in 0..count / 2 {
-        if !are_pieces(
-            crc,
-            g,
-            front,
-            layers[2 * pair],
-            layers[2 * pair + 1],
-            part,
-            2 * pair,
-        ) {
+    for number in 0..layers.len() {
+        if !is_piece(crc, g, front, layers[number], part, number) {
             return false;
         }
     }
-    if count % 2 == 0 {
-        return true;
-    }
-    is_piece(crc, g, front, layers[count - 1], part, count - 1)
+    true
 }
 
 /// The lost share's chunk of a stripe, from the helpers' parts: of each of `d` other chunks the subchunks of the lost one's repair layers.
