@@ -4,7 +4,9 @@ use Rattle.std.proofs.lemmas.Bool.Decides.{Decides-eqb, Decides-ltb, Decides-and
 use Rattle.store_map.specs.Limits.{tries_of}
 use Rattle.store_map.specs.declared.call.Rebuild.{Rebuild}
 use Rattle.store_map.specs.declared.script.Script.{Script}
+use Rattle.store_map.specs.declared.call_name.ClientCall.{ClientCall}
 use Rattle.store_map.specs.declared.call_name.CallName.{CallName}
+use Rattle.store_map.specs.declared.call_name.CallName.TheVariants.{Client, Repairer}
 use Rattle.store_map.specs.declared.cause.Cause.{Cause}
 use Rattle.store_map.specs.declared.cause.Cause.TheVariants as cause
 use Rattle.store_map.specs.declared.cause.RepairResult.{RepairResult}
@@ -50,8 +52,8 @@ loser_judges script t call pairs (Some name) =
     (or_judges _ _ (unless_judges (nat_eq (length pairs) (tries_of script)) _ refl (Decides-eqb (length pairs) (tries_of script)))
     (or_judges _ _ (after_judges (race_lost script t call name) (IsRace script t name) (race_judges script t call name) [] pairs) none_judges))
 
-cause_judges : (script : Script) (t : Transcript) (call : CallName) (why : Cause) → Judges (cause_of_races script t call why) (LostRace script t call why)
-cause_judges script t call (cause.Contended pairs) = loser_judges script t call pairs (option_and_then written_name (call_of script call))
+cause_judges : (script : Script) (t : Transcript) (call : ClientCall) (why : Cause) → Judges (cause_of_races script t call why) (LostRace script t call why)
+cause_judges script t call (cause.Contended pairs) = loser_judges script t (Client call) pairs (option_and_then written_name (call_of script call))
 cause_judges script t call (cause.Unavailable stripe missing) = none_judges
 cause_judges script t call (cause.Reaped at) = none_judges
 cause_judges script t call cause.NoMemory = none_judges
@@ -78,8 +80,8 @@ found_judges script t call what (Some rebuild) = own_judges script t call what r
 
 pub results_judges : (script : Script) (t : Transcript) → Judges (causes_named script t) (NameOwnResults script t)
 results_judges script t =
-    each_judges (λ line. option_and_then (result_named script t line.call line.result) (rebuild_of script line.call)) (λ line. IfSome (rebuild_of script line.call) (NamesOwn script t line.result))
-    (λ line. found_judges script t line.call line.result (rebuild_of script line.call)) t.repairs
+    each_judges (λ line. option_and_then (result_named script t (Repairer line.call) line.result) (rebuild_of script line.call)) (λ line. IfSome (rebuild_of script line.call) (NamesOwn script t line.result))
+    (λ line. found_judges script t (Repairer line.call) line.result (rebuild_of script line.call)) t.repairs
 
 -- ---- takes
 adds_judges : (script : Script) (t : Transcript) (line : TLine) → Judges (server_adds_up script t line) (AddsUp script t line)

@@ -1,6 +1,5 @@
 -- Each line of a history is held against a reply of the map.
 use Rattle.std.proofs.Common.{◌≡◌, ℕ, zero, suc, ◌<◌, true, List, [], ◌∷◌, ◌++◌, map, length, slice_get, Option, None, Some, is_some, option_and_then, All, refl, sym, ap, ◌∙◌, true≢false, arith}
-use Rattle.std.specs.Bool.{IsTrue}
 use Rattle.std.specs.List.{zip, filter_map, cons_option}
 use Rattle.std.specs.Option.{option_map_or}
 use Rattle.std.proofs.lemmas.List.Elements.{All-nil, All-cons, All-head, All-tail}
@@ -18,7 +17,7 @@ use Rattle.hist_rules.specs.Calls.{number_of, calls_of, call_of}
 use Rattle.hist_rules.specs.Named.{listed_calls}
 use Rattle.hist_rules.specs.RepliesMatch.{history_calls}
 use Rattle.hist_rules.specs.CallOrder.{KeepsCallOrder}
-use Rattle.hist_rules.specs.LineLaws.{is_client, IsOfClients, HasEachReply}
+use Rattle.hist_rules.specs.LineLaws.{HasEachReply}
 
 there_is : {X : Type 0} (xs : List X) (n : ℕ) → n < length xs → is_some (slice_get xs n) ≡ true
 there_is [] n h = absurd (omega (arith, h))
@@ -28,10 +27,6 @@ there_is (x ∷ xs) (suc n) h = there_is xs n (omega (arith, h))
 part_has : (found : Option ClientPart) (n : ℕ) → n < option_map_or (λ part. length part.calls) found 0 → is_some (option_and_then (λ part. slice_get part.calls n) found) ≡ true
 part_has None n h = absurd (omega (arith, h))
 part_has (Some part) n h = there_is part.calls n h
-
-call_there : (script : Script) (call : CallName) → is_client call ≡ true → number_of call < calls_of script call → is_some (call_of script call) ≡ true
-call_there script (Client i n) e h = part_has (slice_get script.clients i) n h
-call_there script (Repairer i n) e h = absurd (true≢false (sym e))
 
 kept_all : {X Y : Type 0} (f : X → Option Y) (xs : List X) → All (λ x. is_some (f x) ≡ true) xs → length (filter_map f xs) ≡ length xs
 kept_all f [] h = refl
@@ -58,33 +53,32 @@ of_map : {X Y : Type 0} (P : Y → Type 0) (f : X → Y) (xs : List X) → All P
 of_map P f [] h = All-nil (λ x. P (f x))
 of_map P f (x ∷ xs) h = All-cons (λ x. P (f x)) x xs (All-head P (f x) (map f xs) h) (of_map P f xs (All-tail P (f x) (map f xs) h))
 
-all_there : (script : Script) (lines : List HLine) → All (λ line. IsTrue (is_client line.call)) lines → All (λ line. number_of line.call < calls_of script line.call) lines
-    → All (λ line. is_some (call_of script line.call) ≡ true) lines
-all_there script [] clients h = All-nil (λ line. is_some (call_of script line.call) ≡ true)
-all_there script (line ∷ lines) clients h =
+all_there : (script : Script) (lines : List HLine) → All (λ line. line.call.number < calls_of script (Client line.call)) lines → All (λ line. is_some (call_of script line.call) ≡ true) lines
+all_there script [] h = All-nil (λ line. is_some (call_of script line.call) ≡ true)
+all_there script (line ∷ lines) h =
     All-cons (λ line. is_some (call_of script line.call) ≡ true) line lines
-    (call_there script line.call (All-head (λ line. IsTrue (is_client line.call)) line lines clients) (All-head (λ line. number_of line.call < calls_of script line.call) line lines h))
-    (all_there script lines (All-tail (λ line. IsTrue (is_client line.call)) line lines clients) (All-tail (λ line. number_of line.call < calls_of script line.call) line lines h))
+    (part_has (slice_get script.clients line.call.client) line.call.number (All-head (λ line. line.call.number < calls_of script (Client line.call)) line lines h))
+    (all_there script lines (All-tail (λ line. line.call.number < calls_of script (Client line.call)) line lines h))
 
 -- the calls of the history are those of the script
-history_there : (script : Script) (t : Transcript) → KeepsCallOrder script t → All (λ line. number_of line.call < calls_of script line.call) t.history
+history_there : (script : Script) (t : Transcript) → KeepsCallOrder script t → All (λ line. line.call.number < calls_of script (Client line.call)) t.history
 history_there script t keeps =
-    of_map P (λ line. line.call) t.history
-    (front P (map (λ line. line.call) t.history) (map (λ line. line.call) t.refused)
-    (front P (map (λ line. line.call) t.history ++ map (λ line. line.call) t.refused) (map (λ line. line.call) t.repairs)
-    (front P (map (λ line. line.call) t.history ++ map (λ line. line.call) t.refused ++ map (λ line. line.call) t.repairs) (map (λ line. line.call) t.unanswered)
+    of_map P (λ line. Client line.call) t.history
+    (front P (map (λ line. Client line.call) t.history) (map (λ line. Client line.call) t.refused)
+    (front P (map (λ line. Client line.call) t.history ++ map (λ line. Client line.call) t.refused) (map (λ line. Repairer line.call) t.repairs)
+    (front P (map (λ line. Client line.call) t.history ++ map (λ line. Client line.call) t.refused ++ map (λ line. Repairer line.call) t.repairs) (map (λ line. line.call) t.unanswered)
     (front P (listed_calls t) (map (λ line. line.call) t.takes) keeps.there))))
   where
     P : CallName → Type 0
     P call = number_of call < calls_of script call
 
 -- the map has as many replies as the history has lines
-pub replies_there : (script : Script) (t : Transcript) → IsOfClients t → KeepsCallOrder script t
+pub replies_there : (script : Script) (t : Transcript) → KeepsCallOrder script t
     → length (replies_of (size_of script) (history_calls script t)) ≡ length t.history
-replies_there script t clients keeps =
+replies_there script t keeps =
     replies_length (size_of script) (history_calls script t) []
-    ∙ kept_all (λ line. call_of script line.call) t.history (all_there script t.history clients (history_there script t keeps))
+    ∙ kept_all (λ line. call_of script line.call) t.history (all_there script t.history (history_there script t keeps))
 
-pub has_each_reply : (script : Script) (t : Transcript) → IsOfClients t → KeepsCallOrder script t → HasEachReply script t
-has_each_reply script t clients keeps =
-    zip_length t.history (replies_of (size_of script) (history_calls script t)) (replies_there script t clients keeps)
+pub has_each_reply : (script : Script) (t : Transcript) → KeepsCallOrder script t → HasEachReply script t
+has_each_reply script t keeps =
+    zip_length t.history (replies_of (size_of script) (history_calls script t)) (replies_there script t keeps)

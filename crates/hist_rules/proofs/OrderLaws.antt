@@ -1,10 +1,11 @@
 -- The rules on the order of calls.
-use Rattle.std.proofs.Common.{◌≡◌, ◌<◌, Bool, true, false, cond, not, nat_lt, ◌&&◌, List, [], ◌∷◌, ◌++◌, map, slice_get, Contains, Option, None, Some, find, IfSome, All, refl, sym, ap, ◌∙◌, true≢false}
+use Rattle.std.proofs.Common.{◌≡◌, ◌<◌, Bool, true, false, cond, not, nat_eq, nat_lt, ◌&&◌, List, [], ◌∷◌, ◌++◌, map, slice_get, Contains, Option, None, Some, find, IfSome, All, refl, sym, ap, ◌∙◌, true≢false}
 use Rattle.std.specs.Option.{option_or}
 use Rattle.std.proofs.lemmas.Bool.Decides.{Decides-ltb, Decides-and, Decides-not}
 use Rattle.std.proofs.lemmas.List.Elements.{All-nil, All-cons, All-head, All-tail}
 use Rattle.store_map.specs.declared.script.Script.{Script}
 use Rattle.store_map.specs.declared.call_name.CallName.{CallName}
+use Rattle.store_map.specs.declared.call_name.CallName.TheVariants.{Client}
 use Rattle.store_map.specs.declared.shown.Shown.{Shown}
 use Rattle.store_map.specs.declared.shown.Shown.TheVariants.{Reply as Replied, Unfinished}
 use Rattle.store_map.specs.declared.line.HLine.{HLine}
@@ -32,15 +33,15 @@ point_judges : (found : Option HLine) (line : HLine) → Judges (point_rises fou
 point_judges None line = none_judges
 point_judges (Some other) line = unless_judges (nat_lt other.point line.point) _ refl (Decides-ltb other.point line.point)
 
-number_judges : (found : Option HLine) (line : HLine) → Judges (number_rises found line) (IfSome found (λ other. number_of other.call < number_of line.call))
+number_judges : (found : Option HLine) (line : HLine) → Judges (number_rises found line) (IfSome found (λ other. other.call.number < line.call.number))
 number_judges None line = none_judges
-number_judges (Some other) line = unless_judges (nat_lt (number_of other.call) (number_of line.call)) _ refl (Decides-ltb (number_of other.call) (number_of line.call))
+number_judges (Some other) line = unless_judges (nat_lt other.call.number line.call.number) _ refl (Decides-ltb other.call.number line.call.number)
 
 later_judges : (before : List HLine) (line : HLine) → Judges (line_rises before line) (IsLater before line)
 later_judges before line =
     like_judges (line_rises before line) (λ h. record { point = h.0; number = h.1 }) (λ h. (h.point, h.number))
-    (or_judges (point_rises (slice_get before 0) line) (number_rises (find (λ other. same_actor line.call other.call) before) line)
-    (point_judges (slice_get before 0) line) (number_judges (find (λ other. same_actor line.call other.call) before) line))
+    (or_judges (point_rises (slice_get before 0) line) (number_rises (find (λ other. nat_eq line.call.client other.call.client) before) line)
+    (point_judges (slice_get before 0) line) (number_judges (find (λ other. nat_eq line.call.client other.call.client) before) line))
 
 pub rising_judges : (t : Transcript) → Judges (points_rise t) (AllAlong IsLater t.history)
 rising_judges t = after_judges line_rises IsLater later_judges [] t.history
@@ -86,11 +87,11 @@ next_judges answered before call =
     (Decides-and (follows answered call) (not (is_named call answered)) (follows_decides answered call) (Decides-not (is_named call answered) (is_named_decides call answered)))))
 
 pub open_judges : (script : Script) (t : Transcript)
-    → Judges (one_open_call script t) (All (λ line. line.reply ≡ Unfinished → Contains (unanswered_calls t) line.call) t.history × AllAlong (IsNext (answered_calls t)) (unanswered_calls t))
+    → Judges (one_open_call script t) (All (λ line. line.reply ≡ Unfinished → Contains (unanswered_calls t) (Client line.call)) t.history × AllAlong (IsNext (answered_calls t)) (unanswered_calls t))
 open_judges script t =
-    or_judges (first_fault (λ line. is_unanswered script t line.call line.reply) t.history)
+    or_judges (first_fault (λ line. is_unanswered script t (Client line.call) line.reply) t.history)
     (first_fault_along (λ before call. option_or (is_only_one (find (same_actor call) before) call) (is_next_call (answered_calls t) call)) (unanswered_calls t))
-    (each_judges (λ line. is_unanswered script t line.call line.reply) (λ line. line.reply ≡ Unfinished → Contains (unanswered_calls t) line.call) (λ line. effect_judges script t line.call line.reply) t.history)
+    (each_judges (λ line. is_unanswered script t (Client line.call) line.reply) (λ line. line.reply ≡ Unfinished → Contains (unanswered_calls t) (Client line.call)) (λ line. effect_judges script t (Client line.call) line.reply) t.history)
     (after_judges (λ before call. option_or (is_only_one (find (same_actor call) before) call) (is_next_call (answered_calls t) call)) (IsNext (answered_calls t)) (next_judges (answered_calls t)) [] (unanswered_calls t))
 
 -- ---- takes

@@ -1,5 +1,5 @@
 -- What holds of any two lines of a history.
-use Rattle.std.proofs.Common.{◌≡◌, ◌≢◌, zero, suc, ◌<◌, ◌≤◌, Bool, true, false, cond, List, [], ◌∷◌, get_or, slice_get, Option, None, Some, find, IfSome, All, refl, sym, ◌∙◌, true≢false, arith}
+use Rattle.std.proofs.Common.{◌≡◌, ◌≢◌, ℕ, zero, suc, ◌<◌, ◌≤◌, Bool, true, false, cond, nat_eq, List, [], ◌∷◌, get_or, slice_get, Option, None, Some, find, IfSome, All, refl, sym, ◌∙◌, true≢false, arith}
 use Rattle.std.specs.Bool.{⊤}
 use Rattle.std.specs.List.{AllPairs}
 use Rattle.std.proofs.lemmas.Bool.{eqb-true, eq-eqb}
@@ -7,11 +7,10 @@ use Rattle.std.proofs.lemmas.List.{get_or_default}
 use Rattle.std.proofs.lemmas.List.Elements.{All-nil, All-cons, All-head, All-tail}
 use Rattle.store_map.specs.declared.script.Script.{Script}
 use Rattle.store_map.specs.declared.call_name.CallName.{CallName}
-use Rattle.store_map.specs.declared.call_name.CallName.TheVariants.{Client, Repairer}
 use Rattle.store_map.specs.declared.line.HLine.{HLine}
 use Rattle.store_map.specs.declared.transcript.Transcript.{Transcript}
 use Rattle.hist_rules.specs.First.{AllAfter}
-use Rattle.hist_rules.specs.Calls.{number_of, same_actor}
+use Rattle.hist_rules.specs.Calls.{same_actor}
 use Rattle.hist_rules.specs.Named.{answered_calls}
 use Rattle.hist_rules.specs.OneOpenCall.{unanswered_calls}
 use Rattle.hist_rules.specs.CallOrder.{IsLater, IsInOrder, IsNext, KeepsCallOrder}
@@ -64,48 +63,40 @@ points_after before (line ∷ lines) falls h =
     (points_behind before line falls h.0.point, points_after (line ∷ before) lines (points_behind before line falls h.0.point) h.1)
 
 -- ---- numbers
-same_turned : (one other third : CallName) → same_actor one other ≡ true → same_actor one third ≡ true → same_actor other third ≡ true
-same_turned (Client i a) (Client j b) (Client k c) e f = eq-eqb j k (sym (eqb-true i j e) ∙ eqb-true i k f)
-same_turned (Repairer i a) (Repairer j b) (Repairer k c) e f = eq-eqb j k (sym (eqb-true i j e) ∙ eqb-true i k f)
-same_turned (Client i a) (Client j b) (Repairer k c) e f = absurd (true≢false (sym f))
-same_turned (Client i a) (Repairer j b) third e f = absurd (true≢false (sym e))
-same_turned (Repairer i a) (Client j b) third e f = absurd (true≢false (sym e))
-same_turned (Repairer i a) (Repairer j b) (Client k c) e f = absurd (true≢false (sym f))
-
 abbrev NumberBelow : HLine → HLine → Type 0
-NumberBelow one other = same_actor other.call one.call ≡ true → number_of one.call < number_of other.call
+NumberBelow one other = other.call.client ≡ one.call.client → one.call.number < other.call.number
 
 -- the line that is found has the greatest number of its actor
-abbrev Bounds : CallName → List HLine → Option HLine → Type 0
-Bounds call before None = All (λ other. same_actor call other.call ≡ false) before
-Bounds call before (Some found) = All (λ other. same_actor call other.call ≡ true → number_of other.call ≤ number_of found.call) before
+abbrev Bounds : ℕ → List HLine → Option HLine → Type 0
+Bounds client before None = All (λ other. client ≢ other.call.client) before
+Bounds client before (Some found) = All (λ other. client ≡ other.call.client → other.call.number ≤ found.call.number) before
 
-abbrev found_in : CallName → List HLine → Option HLine
-found_in call before = find (λ other. same_actor call other.call) before
+abbrev found_in : ℕ → List HLine → Option HLine
+found_in client before = find (λ other. nat_eq client other.call.client) before
 
 abbrev Greatest : List HLine → Type 0
-Greatest before = (call : CallName) → Bounds call before (found_in call before)
+Greatest before = (client : ℕ) → Bounds client before (found_in client before)
 
-numbers_behind : (before : List HLine) (line : HLine) → Greatest before → IfSome (found_in line.call before) (λ other. number_of other.call < number_of line.call) → Behind NumberBelow before line
-numbers_behind before line greatest h = by (found_in line.call before) (greatest line.call) h
+numbers_behind : (before : List HLine) (line : HLine) → Greatest before → IfSome (found_in line.call.client before) (λ other. other.call.number < line.call.number) → Behind NumberBelow before line
+numbers_behind before line greatest h = by (found_in line.call.client before) (greatest line.call.client) h
   where
-    by : (found : Option HLine) → Bounds line.call before found → IfSome found (λ other. number_of other.call < number_of line.call) → Behind NumberBelow before line
-    by None bound less = λ k d l same. absurd (true≢false (sym same ∙ bound k d l))
+    by : (found : Option HLine) → Bounds line.call.client before found → IfSome found (λ other. other.call.number < line.call.number) → Behind NumberBelow before line
+    by None bound less = λ k d l same. absurd (bound k d l same)
     by (Some found) bound less = λ k d l same. omega (arith, bound k d l same, less)
 
 greatest_cons : (before : List HLine) (line : HLine) → Greatest before → Behind NumberBelow before line → Greatest (line ∷ before)
-greatest_cons before line greatest behind call = by (same_actor call line.call) refl
+greatest_cons before line greatest behind client = by (nat_eq client line.call.client) refl
   where
-    other_by : (found : Option HLine) → same_actor call line.call ≡ false → Bounds call before found → Bounds call (line ∷ before) found
-    other_by None e bound = All-cons (λ other. same_actor call other.call ≡ false) line before e bound
+    other_by : (found : Option HLine) → client ≢ line.call.client → Bounds client before found → Bounds client (line ∷ before) found
+    other_by None e bound = All-cons (λ other. client ≢ other.call.client) line before e bound
     other_by (Some found) e bound =
-        All-cons (λ other. same_actor call other.call ≡ true → number_of other.call ≤ number_of found.call) line before (λ same. absurd (true≢false (sym same ∙ e))) bound
+        All-cons (λ other. client ≡ other.call.client → other.call.number ≤ found.call.number) line before (λ same. absurd (e same)) bound
 
-    by : (b : Bool) → same_actor call line.call ≡ b → Bounds call (line ∷ before) (cond {A = Option HLine} b (Some line) (found_in call before))
+    by : (b : Bool) → nat_eq client line.call.client ≡ b → Bounds client (line ∷ before) (cond {A = Option HLine} b (Some line) (found_in client before))
     by true e =
-        All-cons (λ other. same_actor call other.call ≡ true → number_of other.call ≤ number_of line.call) line before (λ _. omega arith)
-        (λ k d l same. omega (arith, behind k d l (same_turned call line.call _ e same)))
-    by false e = other_by (found_in call before) e (greatest call)
+        All-cons (λ other. client ≡ other.call.client → other.call.number ≤ line.call.number) line before (λ _. omega arith)
+        (λ k d l same. omega (arith, behind k d l (sym (eqb-true client line.call.client e) ∙ same)))
+    by false e = other_by (found_in client before) (λ same. true≢false (sym (eq-eqb client line.call.client same) ∙ e)) (greatest client)
 
 numbers_after : (before lines : List HLine) → Greatest before → AllAfter IsLater before lines → AllAfter (Behind NumberBelow) before lines
 numbers_after before [] greatest h = tt
@@ -122,7 +113,7 @@ pub orders_pairs : (script : Script) (t : Transcript) → KeepsCallOrder script 
 orders_pairs script t keeps =
     record {
       points = (behind_pairs PointBelow [] t.history (points_after [] t.history tt keeps.rising)).1;
-      numbers = (behind_pairs NumberBelow [] t.history (numbers_after [] t.history (λ call. All-nil (λ other. same_actor call other.call ≡ false)) keeps.rising)).1;
+      numbers = (behind_pairs NumberBelow [] t.history (numbers_after [] t.history (λ client. All-nil (λ other. client ≢ other.call.client)) keeps.rising)).1;
       once =
           (behind_pairs (λ one other. other ≢ one) [] (answered_calls t)
           (after_map (IsInOrder (answered_calls t)) (Behind (λ one other. other ≢ one)) (new_behind (answered_calls t)) [] (answered_calls t) keeps.answered)).1;

@@ -29,7 +29,6 @@ use Rattle.hist_rules.specs.MapReplies.{ShowsReply}
 use Rattle.hist_rules.specs.FoundMissing.{LacksChunks}
 use Rattle.hist_rules.specs.GivenUpOrLost.{LostRace, IsLoser}
 use Rattle.hist_rules.specs.CallOrder.{Follows, IsInOrder, IsNext}
-use Rattle.hist_rules.specs.LineLaws.{IsOfClients}
 use Rattle.hist_rules.specs.LostRaces.{written_name}
 use Rattle.hist_rules.specs.IsHistory.{AddsUp, IsHistory}
 use Rattle.hist_rules.specs.SpoiledLaws.{ReplyChanged, AnswerLeftOut, OutcomeLeftOut, ObjectsChanged, TakesChanged, ServersLeftOut, RacesLeftOut}
@@ -82,8 +81,8 @@ same_calls script t other e =
     ∙ ap (filter_map (call_of script)) e
     ∙ sym (filter_map_of_map (call_of script) (λ (line : HLine). line.call) t.history)
 
-pub reply_breaks : (script : Script) (t other : Transcript) → IsOfClients t → IsHistory script t → ReplyChanged t other → ¬ IsHistory script other
-reply_breaks script t other clients history changed broken = by (told_at script t.history replies there history.replies.replies changed.place changed.line changed.stands changed.replied)
+pub reply_breaks : (script : Script) (t other : Transcript) → IsHistory script t → ReplyChanged t other → ¬ IsHistory script other
+reply_breaks script t other history changed broken = by (told_at script t.history replies there history.replies.replies changed.place changed.line changed.stands changed.replied)
     (told_at script other.history replies there_too
     (subst (λ calls. All (Says script) (zip other.history (replies_of (size_of script) calls))) (same_calls script t other changed.calls) broken.replies.replies)
     changed.place changed.changed changed.stands_there changed.replied_there)
@@ -92,7 +91,7 @@ reply_breaks script t other clients history changed broken = by (told_at script 
     replies = replies_of (size_of script) (history_calls script t)
 
     there : length replies ≡ length t.history
-    there = replies_there script t clients history.order
+    there = replies_there script t history.order
 
     there_too : length replies ≡ length other.history
     there_too =
@@ -108,10 +107,10 @@ all_of_after R P there before [] h = All-nil P
 all_of_after R P there before (x ∷ xs) h = All-cons P x xs (there before x h.0) (all_of_after R P there (x ∷ before) xs h.1)
 
 same_number : (later call : CallName) → same_actor later call ≡ true → with_number later (number_of call) ≡ call
-same_number (Client i a) (Client j b) e = ap (λ actor. Client actor b) (eqb-true i j e)
-same_number (Repairer i a) (Repairer j b) e = ap (λ actor. Repairer actor b) (eqb-true i j e)
-same_number (Client i a) (Repairer j b) e = absurd (true≢false (sym e))
-same_number (Repairer i a) (Client j b) e = absurd (true≢false (sym e))
+same_number (Client a) (Client b) e = ap (λ actor. Client (record b { client = actor })) (eqb-true a.client b.client e)
+same_number (Repairer a) (Repairer b) e = ap (λ actor. Repairer (record b { repairer = actor })) (eqb-true a.repairer b.repairer e)
+same_number (Client a) (Repairer b) e = absurd (true≢false (sym e))
+same_number (Repairer a) (Client b) e = absurd (true≢false (sym e))
 
 pub answer_breaks : (script : Script) (t : Transcript) (call later : CallName) → AnswerLeftOut t call later → ¬ IsHistory script t
 answer_breaks script t call later left history =

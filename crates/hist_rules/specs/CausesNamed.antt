@@ -3,6 +3,7 @@ use Rattle.std.specs.Prelude.{nat_eq, Option, None, option_and_then}
 use Rattle.store_map.specs.declared.call.Rebuild.{Rebuild}
 use Rattle.store_map.specs.declared.script.Script.{Script}
 use Rattle.store_map.specs.declared.call_name.CallName.{CallName}
+use Rattle.store_map.specs.declared.call_name.CallName.TheVariants.{Repairer}
 use Rattle.store_map.specs.declared.cause.RepairResult.{RepairResult}
 use Rattle.store_map.specs.declared.cause.RepairResult.TheVariants as result
 use Rattle.store_map.specs.declared.transcript.Transcript.{Transcript}
@@ -23,4 +24,4 @@ result_named script t call _ rebuild = None
 
 -- the first result that names others
 abbrev pub causes_named : Script → Transcript → Option Verdict
-causes_named script t = first_fault (λ line. option_and_then (result_named script t line.call line.result) (rebuild_of script line.call)) t.repairs
+causes_named script t = first_fault (λ line. option_and_then (result_named script t (Repairer line.call) line.result) (rebuild_of script line.call)) t.repairs

@@ -12,5 +12,5 @@ kept_calls calls (Some steps) = length calls - 1
 
 -- each of them was answered or refused, or has a rebuild's result
 pub record Finished (script : Script) (t : Transcript) : Type 0 where
-  pub clients : (actor number : ℕ) → IfSome (slice_get script.clients actor) (λ part. number < kept_calls part.calls part.leave → Contains (answered_calls t) (Client actor number))
-  pub repairers : (actor number : ℕ) → IfSome (slice_get script.repairers actor) (λ part. number < kept_calls part.calls part.leave → Contains (answered_calls t) (Repairer actor number))
+  pub clients : (actor number : ℕ) → IfSome (slice_get script.clients actor) (λ part. number < kept_calls part.calls part.leave → Contains (answered_calls t) (Client (record { client = actor; number = number })))
+  pub repairers : (actor number : ℕ) → IfSome (slice_get script.repairers actor) (λ part. number < kept_calls part.calls part.leave → Contains (answered_calls t) (Repairer (record { repairer = actor; number = number })))

@@ -2,6 +2,7 @@
 use Rattle.std.specs.Prelude.{◌+◌, nat_le, Bool, true, false, List, ◌++◌, map, filter, count_by, Option}
 use Rattle.store_map.specs.declared.script.Script.{Script}
 use Rattle.store_map.specs.declared.call_name.CallName.{CallName}
+use Rattle.store_map.specs.declared.call_name.CallName.TheVariants.{Client, Repairer}
 use Rattle.store_map.specs.declared.cause.Cause.{Cause}
 use Rattle.store_map.specs.declared.cause.Cause.TheVariants as cause
 use Rattle.store_map.specs.declared.cause.RepairResult.{RepairResult}
@@ -26,8 +27,8 @@ is_reaped_result _ = false
 -- the calls that were given up, in the order of lines
 abbrev pub reaped_calls : Transcript → List CallName
 reaped_calls t =
-    map (λ line. line.call) (filter (λ line. is_reaped_cause line.cause) t.refused)
-    ++ map (λ line. line.call) (filter (λ line. is_reaped_result line.result) t.repairs)
+    map (λ line. Client line.call) (filter (λ line. is_reaped_cause line.cause) t.refused)
+    ++ map (λ line. Repairer line.call) (filter (λ line. is_reaped_result line.result) t.repairs)
 
 -- the actor's calls given up so far, this one among them, are no more than its lines in the schedule; the fault tells those lines, and these calls
 abbrev pub is_reaped : Script → List CallName → CallName → Option Verdict

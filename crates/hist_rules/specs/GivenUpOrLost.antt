@@ -3,7 +3,7 @@ use Rattle.std.specs.Prelude.{◌≡◌, ℕ, ◌+◌, ◌<◌, ◌≤◌, List,
 use Rattle.store_map.specs.Limits.{tries_of}
 use Rattle.store_map.specs.declared.call.Rebuild.{Rebuild}
 use Rattle.store_map.specs.declared.script.Script.{Script}
-use Rattle.store_map.specs.declared.call_name.CallName.{CallName}
+use Rattle.store_map.specs.declared.call_name.ClientCall.{ClientCall}
 use Rattle.store_map.specs.declared.cause.Cause.{Cause}
 use Rattle.store_map.specs.declared.cause.Cause.TheVariants as cause
 use Rattle.store_map.specs.declared.cause.RepairResult.{RepairResult}
@@ -40,7 +40,7 @@ IsLoser script t pairs None = ⊥
 IsLoser script t pairs (Some name) = LostEach script t pairs name
 
 -- of a client's refusal
-abbrev pub LostRace : Script → Transcript → CallName → Cause → Type 0
+abbrev pub LostRace : Script → Transcript → ClientCall → Cause → Type 0
 LostRace script t call (cause.Contended pairs) = IsLoser script t pairs (option_and_then written_name (call_of script call))
 LostRace script t call _ = ⊤
 

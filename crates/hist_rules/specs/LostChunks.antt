@@ -29,8 +29,8 @@ asks_for_chunks form _ = false
 
 -- a rebuild does so too
 abbrev pub may_lack_chunks : Script → CallName → Bool
-may_lack_chunks script (Client actor number) = option_map_or (asks_for_chunks script.form) (call_of script (Client actor number)) false
-may_lack_chunks script (Repairer actor number) = true
+may_lack_chunks script (Client call) = option_map_or (asks_for_chunks script.form) (call_of script call) false
+may_lack_chunks script (Repairer call) = true
 
 -- the servers that a client's refusal names
 abbrev pub missing_of_cause : CallName → Cause → List (CallName × List Triple)
@@ -45,7 +45,7 @@ missing_of_result call _ = []
 -- the calls that were unavailable, with the servers that each names, in the order of lines
 abbrev pub unavailable_calls : Transcript → List (CallName × List Triple)
 unavailable_calls t =
-    flat_map (λ line. missing_of_cause line.call line.cause) t.refused ++ flat_map (λ line. missing_of_result line.call line.result) t.repairs
+    flat_map (λ line. missing_of_cause (Client line.call) line.cause) t.refused ++ flat_map (λ line. missing_of_result (Repairer line.call) line.result) t.repairs
 
 -- the kind of the call, then how many servers are named, then each of them; the fault of their number tells the one wanted and the one found
 abbrev pub chunks_lost : Script → CallName × List Triple → Option Verdict

@@ -5,7 +5,9 @@ use Rattle.store_map.specs.Limits.{tries_of}
 use Rattle.store_map.specs.declared.call.Call.{Call}
 use Rattle.store_map.specs.declared.call.Call.TheVariants.{Write}
 use Rattle.store_map.specs.declared.script.Script.{Script}
+use Rattle.store_map.specs.declared.call_name.ClientCall.{ClientCall}
 use Rattle.store_map.specs.declared.call_name.CallName.{CallName}
+use Rattle.store_map.specs.declared.call_name.CallName.TheVariants.{Client}
 use Rattle.store_map.specs.declared.cause.Cause.{Cause}
 use Rattle.store_map.specs.declared.cause.Cause.TheVariants as cause
 use Rattle.store_map.specs.declared.transcript.Transcript.{Transcript}
@@ -43,8 +45,8 @@ races_lost script t call pairs (Some name) =
     ∷ [])
 
 -- a refusal for lost races stands only for a write
-abbrev pub cause_of_races : Script → Transcript → CallName → Cause → Option Verdict
-cause_of_races script t call (cause.Contended pairs) = races_lost script t call pairs (option_and_then written_name (call_of script call))
+abbrev pub cause_of_races : Script → Transcript → ClientCall → Cause → Option Verdict
+cause_of_races script t call (cause.Contended pairs) = races_lost script t (Client call) pairs (option_and_then written_name (call_of script call))
 cause_of_races script t call _ = None
 
 -- the first such refusal that can't be

@@ -8,6 +8,7 @@ use Rattle.store_map.specs.declared.reply.Reply.{Reply}
 use Rattle.store_map.specs.declared.reply.Reply.TheVariants.{Done}
 use Rattle.store_map.specs.declared.script.Script.{Script}
 use Rattle.store_map.specs.declared.call_name.CallName.{CallName}
+use Rattle.store_map.specs.declared.call_name.CallName.TheVariants.{Client, Repairer}
 use Rattle.store_map.specs.declared.shown.Shown.{Shown}
 use Rattle.store_map.specs.declared.shown.Shown.TheVariants.{Reply as Replied, Unfinished}
 use Rattle.store_map.specs.declared.line.HLine.{HLine}
@@ -17,7 +18,7 @@ use Rattle.hist_rules.specs.Calls.{call_of}
 -- the calls of which a line says what became of them, in the order of lines
 abbrev pub listed_calls : Transcript → List CallName
 listed_calls t =
-    map (λ line. line.call) t.history ++ map (λ line. line.call) t.refused ++ map (λ line. line.call) t.repairs ++ map (λ line. line.call) t.unanswered
+    map (λ line. Client line.call) t.history ++ map (λ line. Client line.call) t.refused ++ map (λ line. Repairer line.call) t.repairs ++ map (λ line. line.call) t.unanswered
 
 -- the lines that tell of calls and rebuilds can be counted
 abbrev pub HasFewLines : Transcript → Type 0
@@ -31,7 +32,7 @@ is_reply Unfinished = false
 -- the calls that were answered or refused, and the rebuilds that have a result, in the order of lines
 abbrev pub answered_calls : Transcript → List CallName
 answered_calls t =
-    map (λ line. line.call) (filter (λ line. is_reply line.reply) t.history) ++ map (λ line. line.call) t.refused ++ map (λ line. line.call) t.repairs
+    map (λ line. Client line.call) (filter (λ line. is_reply line.reply) t.history) ++ map (λ line. Client line.call) t.refused ++ map (λ line. Repairer line.call) t.repairs
 
 -- the reply ok
 abbrev pub is_ok : Reply → Bool

@@ -3,6 +3,7 @@ use Rattle.std.specs.Prelude.{◌&&◌, not, List, map, Option, None, Some, find
 use Rattle.std.specs.Option.{option_or}
 use Rattle.store_map.specs.declared.script.Script.{Script}
 use Rattle.store_map.specs.declared.call_name.CallName.{CallName}
+use Rattle.store_map.specs.declared.call_name.CallName.TheVariants.{Client}
 use Rattle.store_map.specs.declared.shown.Shown.TheVariants.{Reply as Replied, Unfinished}
 use Rattle.store_map.specs.declared.shown.Shown.{Shown}
 use Rattle.store_map.specs.declared.transcript.Transcript.{Transcript}
@@ -35,5 +36,5 @@ is_next_call answered call =
 -- the first line that is wrong, those of the history first
 abbrev pub one_open_call : Script → Transcript → Option Verdict
 one_open_call script t =
-    option_or (first_fault (λ line. is_unanswered script t line.call line.reply) t.history)
+    option_or (first_fault (λ line. is_unanswered script t (Client line.call) line.reply) t.history)
     (first_fault_along (λ before call. option_or (is_only_one (find (same_actor call) before) call) (is_next_call (answered_calls t) call)) (unanswered_calls t))

@@ -9,6 +9,7 @@ use Rattle.store_map.specs.declared.call.Call.TheVariants.{Put, Write}
 use Rattle.store_map.specs.declared.reply.Reply.{Reply}
 use Rattle.store_map.specs.declared.reply.Reply.TheVariants.{Done, Bytes, Length, NoSuch, OutRange, TooLarge}
 use Rattle.store_map.specs.declared.script.Script.{Script}
+use Rattle.store_map.specs.declared.call_name.CallName.TheVariants.{Client}
 use Rattle.store_map.specs.declared.shown.Shown.{Shown}
 use Rattle.store_map.specs.declared.shown.Shown.TheVariants.{Reply as Replied, Unfinished}
 use Rattle.store_map.specs.declared.line.HLine.{HLine}
@@ -43,7 +44,7 @@ shows_reply call reply Unfinished = is_ok reply && option_map_or is_put_or_write
 -- a line beside the map's reply; the fault tells that reply and what is printed
 abbrev pub reply_matches : Script → HLine × Reply → Option Verdict
 reply_matches script line =
-    unless (shows_reply (call_of script line.0.call) line.1 line.0.reply) (Differs line.0.call line.1 line.0.reply)
+    unless (shows_reply (call_of script line.0.call) line.1 line.0.reply) (Differs (Client line.0.call) line.1 line.0.reply)
 
 -- the calls of lines of a history in their order
 abbrev pub calls_in : Script → List HLine → List Call

@@ -12,7 +12,7 @@ ghost use Rattle.hist_rules.specs.Verdict.{verdict_of};
 ghost use Rattle.hist_rules.specs.CallOrder.{KeepsCallOrder};
 ghost use Rattle.hist_rules.specs.PairLaws.{OrdersPairs};
 ghost use Rattle.hist_rules.specs.IsHistory.{IsHistory};
-ghost use Rattle.hist_rules.specs.LineLaws.{IsOfClients, HasEachReply};
+ghost use Rattle.hist_rules.specs.LineLaws.{HasEachReply};
 ghost use Rattle.hist_rules.specs.SpoiledLaws.{ReplyChanged, AnswerLeftOut, OutcomeLeftOut, ObjectsChanged, TakesChanged, ServersLeftOut, RacesLeftOut};
 
 /// A transcript is legal exactly where it is a history: every call in its order, the plain map's
@@ -27,15 +27,15 @@ pub fn histories_order_all_lines()
     ensures { (script : Script) (t : Transcript) → KeepsCallOrder script t → OrdersPairs t }
 {}
 
-/// No line of a history of clients is left out where the replies are held against the plain map's.
+/// No line of a history is left out where the replies are held against the plain map's.
 pub fn each_line_has_a_reply()
-    ensures { (script : Script) (t : Transcript) → IsOfClients t → KeepsCallOrder script t → HasEachReply script t }
+    ensures { (script : Script) (t : Transcript) → KeepsCallOrder script t → HasEachReply script t }
 {}
 
 /// Where two transcripts have the same calls in their histories, and another reply at one of them,
 /// at most one is a history.
 pub fn a_changed_reply_breaks_a_history()
-    ensures { (script : Script) (t other : Transcript) → IsOfClients t → IsHistory script t → ReplyChanged t other → ¬ IsHistory script other }
+    ensures { (script : Script) (t other : Transcript) → IsHistory script t → ReplyChanged t other → ¬ IsHistory script other }
 {}
 
 /// A transcript isn't a history where an answer is left out and a later call of that actor has its

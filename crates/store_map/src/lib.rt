@@ -22,7 +22,7 @@ mod transcript;
 
 pub use actor::{Actor, Point, Token, Version};
 pub use call::{Call, Rebuild};
-pub use call_name::CallName;
+pub use call_name::{CallName, ClientCall, RepairCall};
 pub use cause::{Cause, RepairResult, Triple};
 pub use content::{Content, HexBytes};
 pub use limits::{

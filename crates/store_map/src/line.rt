@@ -1,5 +1,5 @@
 //! The lines of a transcript, each kind with its values.
-use crate::call_name::CallName;
+use crate::call_name::{CallName, ClientCall, RepairCall};
 use crate::cause::{Cause, RepairResult};
 use crate::list_of::ListOf;
 use crate::name::Name;
@@ -9,21 +9,21 @@ use crate::shown::Shown;
 #[derive(Debug, Drop)]
 pub struct HLine {
     pub point: u64,
-    pub call: CallName,
+    pub call: ClientCall,
     pub reply: Shown,
 }
 
 /// `X CALL CAUSE`: the client's call was refused.
 #[derive(Debug, Drop)]
 pub struct XLine {
-    pub call: CallName,
+    pub call: ClientCall,
     pub cause: Cause,
 }
 
 /// `R CALL RESULT`: the repairer's call has this result.
 #[derive(Debug, Drop)]
 pub struct RLine {
-    pub call: CallName,
+    pub call: RepairCall,
     pub result: RepairResult,
 }
 
