@@ -10,7 +10,6 @@ use Rattle.transcript_text.specs.Text.{text_of}
 use Rattle.store_map.specs.declared.line.HLine.{HLine}
 use Rattle.store_map.specs.declared.line.TLine.{TLine}
 use Rattle.store_map.specs.declared.transcript.Transcript.{Transcript}
-use Rattle.transcript_read.specs.Forms.{IsClient}
 use Rattle.transcript_read.specs.ListLaws.{HasOrderedLists}
 use Rattle.transcript_read.specs.Order.{servers_at, place_of, IsBefore}
 use Rattle.transcript_read.specs.WellFormed.{AreInOrder, place_after, IsWellFormed, lines_of}
@@ -62,10 +61,6 @@ all_points_rise n (line ∷ lines) order =
     let rest = points_rise n line.point lines order.2 in
     AllPairs-cons (λ one other. one.point < other.point) line lines rest.0 rest.1
 
-all_clients : (n : ℕ) (p : Place) (lines : List HLine) → AreInOrder n p (map History lines) → All (λ line. IsClient line.call) lines
-all_clients n p [] order = All-nil (λ line. IsClient line.call)
-all_clients n p (line ∷ lines) order = All-cons (λ line. IsClient line.call) line lines order.0.2 (all_clients n (at.History line.point) lines order.2)
-
 -- ---- the servers
 
 -- a kind without servers
@@ -112,6 +107,5 @@ ordered_lists n t order =
     let count : length t.servers ≡ n = (let none : 0 + length t.servers ≡ length t.servers = omega arith in sym none ∙ rise.1) in
     record {
       points = all_points_rise n t.history first;
-      clients = all_clients n at.Start t.history first;
       servers_in_order = rise.0 ∙ ap (range_with_len 0) count;
     }

@@ -14,13 +14,14 @@ use Rattle.line_grammar.specs.Numbers.{number_word, IsNumberWord}
 use Rattle.line_grammar.proofs.LineLaws.{same_parts, never_parted, Lacks-append}
 use Rattle.line_grammar.proofs.NumberLaws.{IsDigits, IsDigits-number_word, number_word_is, number_word-value, number_word_injective, number_lacks}
 use Rattle.store_map.specs.Triples.{placement_text, found_text, triple_text}
-use Rattle.store_map.specs.CallNames.{call_text}
+use Rattle.store_map.specs.CallNames.{client_text, repair_text, call_text}
+use Rattle.store_map.specs.declared.call_name.ClientCall.{ClientCall}
+use Rattle.store_map.specs.declared.call_name.RepairCall.{RepairCall}
 use Rattle.store_map.specs.declared.call_name.CallName.{CallName}
 use Rattle.store_map.specs.declared.call_name.CallName.TheVariants.{Client, Repairer}
 use Rattle.store_map.specs.declared.cause.Triple.{Triple}
-use Rattle.transcript_read.specs.Forms.{IsClient, IsRepairer}
 use Rattle.transcript_read.specs.Reads.{Reads, Refuses}
-use Rattle.transcript_read.specs.Values.{IsLong, IsShort, IsCallName, IsPlacement, IsFound, IsTriple}
+use Rattle.transcript_read.specs.Values.{IsLong, IsShort, IsClientCall, IsRepairCall, IsCallName, IsPlacement, IsFound, IsTriple}
 use Rattle.transcript_read.specs.Reasons.{IsPair, pair_text}
 use Rattle.transcript_read.specs.declared.field.Unread.{Unread}
 use Rattle.transcript_read.specs.declared.field.Unread.TheVariants.{Syntax, OutOfMemory}
@@ -150,9 +151,15 @@ numbers_lack byte a n low sa sn =
     (λ e. omega (arith, e, low), short_lacks byte n (omega (arith, low)) sn) in
     let P : List ℕ → Type 0 = Lacks byte in subst P (sym (two_parts 46 (decimal a) (decimal n))) whole
 
+pub client_lacks : (byte : ℕ) (c : ClientCall) → byte < 46 → IsClientCall c → Lacks byte (client_text c)
+client_lacks byte c low is = (λ e. omega (arith, e, low), numbers_lack byte c.client c.number low is.0 is.1)
+
+pub repair_lacks : (byte : ℕ) (c : RepairCall) → byte < 46 → IsRepairCall c → Lacks byte (repair_text c)
+repair_lacks byte c low is = (λ e. omega (arith, e, low), numbers_lack byte c.repairer c.number low is.0 is.1)
+
 pub call_lacks : (byte : ℕ) (c : CallName) → byte < 46 → IsCallName c → Lacks byte (call_text c)
-call_lacks byte (Client a n) low is = (λ e. omega (arith, e, low), numbers_lack byte a n low is.0 is.1)
-call_lacks byte (Repairer a n) low is = (λ e. omega (arith, e, low), numbers_lack byte a n low is.0 is.1)
+call_lacks byte (Client c) low is = client_lacks byte c low is
+call_lacks byte (Repairer c) low is = repair_lacks byte c low is
 
 -- ---- fields
 
@@ -187,17 +194,13 @@ away_unread text downs begins none (Away n) is e = none n is (tails 97 97 downs 
 abbrev pub NoNumbers : List ℕ → Type 0
 NoNumbers text = (a n : ℕ) → IsShort a → IsShort n → text ≢ decimal a ++ codes "." ++ decimal n
 
-pub client_unread : (text numbers : List ℕ) → text ≡ 99 ∷ numbers → NoNumbers numbers → (c : CallName) → IsCallName c → text ≢ call_text c
-client_unread text numbers begins none (Client a n) is e =
-    none a n is.0 is.1 (tails 99 99 numbers (decimal a ++ codes "." ++ decimal n) (sym begins ∙ e))
-client_unread text numbers begins none (Repairer a n) is e =
-    clash 99 114 numbers (decimal a ++ codes "." ++ decimal n) refl (sym begins ∙ e)
+pub client_unread : (text numbers : List ℕ) → text ≡ 99 ∷ numbers → NoNumbers numbers → (c : ClientCall) → IsClientCall c → text ≢ client_text c
+client_unread text numbers begins none c is e =
+    none c.client c.number is.0 is.1 (tails 99 99 numbers (decimal c.client ++ codes "." ++ decimal c.number) (sym begins ∙ e))
 
-pub repairer_unread : (text numbers : List ℕ) → text ≡ 114 ∷ numbers → NoNumbers numbers → (c : CallName) → IsCallName c → text ≢ call_text c
-repairer_unread text numbers begins none (Client a n) is e =
-    clash 114 99 numbers (decimal a ++ codes "." ++ decimal n) refl (sym begins ∙ e)
-repairer_unread text numbers begins none (Repairer a n) is e =
-    none a n is.0 is.1 (tails 114 114 numbers (decimal a ++ codes "." ++ decimal n) (sym begins ∙ e))
+pub repairer_unread : (text numbers : List ℕ) → text ≡ 114 ∷ numbers → NoNumbers numbers → (c : RepairCall) → IsRepairCall c → text ≢ repair_text c
+repairer_unread text numbers begins none c is e =
+    none c.repairer c.number is.0 is.1 (tails 114 114 numbers (decimal c.repairer ++ codes "." ++ decimal c.number) (sym begins ∙ e))
 
 -- the number behind an actor is none
 pub no_numbers : (text : List ℕ) (actor : ℕ) (rest : List ℕ) → IsShort actor → text ≡ decimal actor ++ 46 ∷ rest → ((n : ℕ) → IsShort n → rest ≢ decimal n) → NoNumbers text
@@ -205,21 +208,6 @@ no_numbers text actor rest short found none a n sa sn e =
     none n sn
     (behind_field 46 (decimal actor) rest text (decimal a) (decimal n) (short_lacks 46 actor (omega arith) short) (short_lacks 46 a (omega arith) sa) found
     (e ∙ two_parts 46 (decimal a) (decimal n)))
-
--- ---- calls
-
--- calls spelled alike are both clients' or both repairers'
-pub client_alike : (b c : CallName) → IsClient c → call_text b ≡ call_text c → IsClient b
-client_alike (Client a n) c is e = tt
-client_alike (Repairer a n) (Client b m) is e =
-    absurd (clash 114 99 (decimal a ++ codes "." ++ decimal n) (decimal b ++ codes "." ++ decimal m) refl e)
-client_alike (Repairer a n) (Repairer b m) is e = absurd is
-
-pub repairer_alike : (b c : CallName) → IsRepairer c → call_text b ≡ call_text c → IsRepairer b
-repairer_alike (Repairer a n) c is e = tt
-repairer_alike (Client a n) (Repairer b m) is e =
-    absurd (clash 99 114 (decimal a ++ codes "." ++ decimal n) (decimal b ++ codes "." ++ decimal m) refl e)
-repairer_alike (Client a n) (Client b m) is e = absurd is
 
 -- ---- equal spellings
 
@@ -235,10 +223,18 @@ same_numbers a n b m sa sn sb sm e =
     let parts = same_parts 46 (decimal a) (decimal n) (decimal b) (decimal m) (short_lacks 46 a (omega arith) sa) (short_lacks 46 b (omega arith) sb) both in
     (same_long a b (omega (arith, sa)) (omega (arith, sb)) parts.0, same_long n m (omega (arith, sn)) (omega (arith, sm)) parts.1)
 
+pub same_client : (c d : ClientCall) → IsClientCall c → IsClientCall d → client_text c ≡ client_text d → c ≡ d
+same_client c d p q e =
+    let same = same_numbers c.client c.number d.client d.number p.0 p.1 q.0 q.1 (tails 99 99 (decimal c.client ++ codes "." ++ decimal c.number) (decimal d.client ++ codes "." ++ decimal d.number) e) in
+    λ i. record { client = same.0 i; number = same.1 i }
+
+pub same_repair : (c d : RepairCall) → IsRepairCall c → IsRepairCall d → repair_text c ≡ repair_text d → c ≡ d
+same_repair c d p q e =
+    let same = same_numbers c.repairer c.number d.repairer d.number p.0 p.1 q.0 q.1 (tails 114 114 (decimal c.repairer ++ codes "." ++ decimal c.number) (decimal d.repairer ++ codes "." ++ decimal d.number) e) in
+    λ i. record { repairer = same.0 i; number = same.1 i }
+
 pub same_call : (c d : CallName) → IsCallName c → IsCallName d → call_text c ≡ call_text d → c ≡ d
-same_call (Client a n) (Client b m) p q e =
-    let same = same_numbers a n b m p.0 p.1 q.0 q.1 (tails 99 99 (decimal a ++ codes "." ++ decimal n) (decimal b ++ codes "." ++ decimal m) e) in cc (same.0, same.1)
-same_call (Client a n) (Repairer b m) p q e = absurd (clash 99 114 (decimal a ++ codes "." ++ decimal n) (decimal b ++ codes "." ++ decimal m) refl e)
-same_call (Repairer a n) (Client b m) p q e = absurd (clash 114 99 (decimal a ++ codes "." ++ decimal n) (decimal b ++ codes "." ++ decimal m) refl e)
-same_call (Repairer a n) (Repairer b m) p q e =
-    let same = same_numbers a n b m p.0 p.1 q.0 q.1 (tails 114 114 (decimal a ++ codes "." ++ decimal n) (decimal b ++ codes "." ++ decimal m) e) in cc (same.0, same.1)
+same_call (Client c) (Client d) p q e = ap Client (same_client c d p q e)
+same_call (Repairer c) (Repairer d) p q e = ap Repairer (same_repair c d p q e)
+same_call (Client c) (Repairer d) p q e = absurd (clash 99 114 (decimal c.client ++ codes "." ++ decimal c.number) (decimal d.repairer ++ codes "." ++ decimal d.number) refl e)
+same_call (Repairer c) (Client d) p q e = absurd (clash 114 99 (decimal c.repairer ++ codes "." ++ decimal c.number) (decimal d.client ++ codes "." ++ decimal d.number) refl e)

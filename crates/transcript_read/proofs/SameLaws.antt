@@ -16,8 +16,10 @@ use Rattle.line_grammar.proofs.LineLaws.{same_parts, Lacks-append, Lacks-literal
 use Rattle.std.proofs.lemmas.List.Elements.{All-head, All-tail}
 use Rattle.std.proofs.lemmas.List.Sums.{list_all-from_AllPass}
 use Rattle.store_map.specs.Triples.{placement_text, found_text, triple_text}
-use Rattle.store_map.specs.CallNames.{call_text}
+use Rattle.store_map.specs.CallNames.{client_text, repair_text, call_text}
 use Rattle.transcript_text.specs.Words.{missing_text, shown_text, cause_text, result_text, unavailable_text}
+use Rattle.store_map.specs.declared.call_name.ClientCall.{ClientCall}
+use Rattle.store_map.specs.declared.call_name.RepairCall.{RepairCall}
 use Rattle.store_map.specs.declared.call_name.CallName.{CallName}
 use Rattle.store_map.specs.declared.cause.Triple.{Triple}
 use Rattle.store_map.specs.declared.cause.Cause.{Cause}
@@ -33,7 +35,7 @@ use Rattle.transcript_read.specs.Reasons.{IsPair, pair_text, IsLost, lost_text, 
 use Rattle.transcript_read.specs.declared.line.Line.{Line}
 use Rattle.transcript_read.specs.declared.line.Line.TheVariants.{History, Refused, Repair, Unanswered, Object, Takes, Server, End}
 use Rattle.transcript_read.proofs.ListLaws.{listed, listed_injective, same_words, Starts-listed}
-use Rattle.transcript_read.proofs.PartLaws.{clash, not_letter, long_lacks, short_lacks, call_lacks, placement_lacks, triple_lacks, pair_lacks, triple_parts, two_parts, tails, same_long, same_longs, same_call}
+use Rattle.transcript_read.proofs.PartLaws.{clash, not_letter, long_lacks, short_lacks, client_lacks, repair_lacks, call_lacks, placement_lacks, triple_lacks, pair_lacks, triple_parts, two_parts, tails, same_long, same_longs, same_client, same_repair, same_call}
 
 -- values of equal parts
 ap3 : {A B C D : Type 0} (f : A → B → C → D) {a a' : A} {b b' : B} {c c' : C} → a ≡ a' → b ≡ b' → c ≡ c' → f a b c ≡ f a' b' c'
@@ -48,13 +50,13 @@ ap4 f p q r s = ap₂ (λ g x. g x) (ap3 f p q r) s
 abbrev triple_of : ℕ → Placement → Found → Triple
 triple_of s p f = record { server = s; placed = p; found = f }
 
-abbrev history_of : ℕ → CallName → Shown → Line
+abbrev history_of : ℕ → ClientCall → Shown → Line
 history_of p c r = History (record { point = p; call = c; reply = r })
 
-abbrev refused_of : CallName → Cause → Line
+abbrev refused_of : ClientCall → Cause → Line
 refused_of c r = Refused (record { call = c; cause = r })
 
-abbrev repair_of : CallName → RepairResult → Line
+abbrev repair_of : RepairCall → RepairResult → Line
 repair_of c r = Repair (record { call = c; result = r })
 
 abbrev unanswered_of : CallName → Line
@@ -259,13 +261,13 @@ same_result repair.NoMemory repair.NoMemory p q e = refl
 
 pub same_line : (n : ℕ) (l m : Line) → IsLine n l → IsLine n m → line_body l ≡ line_body m → l ≡ m
 same_line n (History a) (History b) ia ib e =
-    let one = same_parts 32 (decimal a.point) (call_text a.call ++ 32 ∷ shown_text a.reply) (decimal b.point) (call_text b.call ++ 32 ∷ shown_text b.reply)
+    let one = same_parts 32 (decimal a.point) (client_text a.call ++ 32 ∷ shown_text a.reply) (decimal b.point) (client_text b.call ++ 32 ∷ shown_text b.reply)
     (long_lacks 32 a.point (omega arith) ia.0) (long_lacks 32 b.point (omega arith) ib.0) (ap (drop 2) e) in
-    let two = same_parts 32 (call_text a.call) (shown_text a.reply) (call_text b.call) (shown_text b.reply)
-    (call_lacks 32 a.call (omega arith) ia.1) (call_lacks 32 b.call (omega arith) ib.1) one.1 in
+    let two = same_parts 32 (client_text a.call) (shown_text a.reply) (client_text b.call) (shown_text b.reply)
+    (client_lacks 32 a.call (omega arith) ia.1) (client_lacks 32 b.call (omega arith) ib.1) one.1 in
     let point : a.point ≡ b.point = same_long a.point b.point ia.0 ib.0 one.0 in
-    let call : a.call ≡ b.call = same_call a.call b.call ia.1 ib.1 two.0 in
-    let last : a.reply ≡ b.reply = same_shown a.reply b.reply ia.3 ib.3 two.1 in
+    let call : a.call ≡ b.call = same_client a.call b.call ia.1 ib.1 two.0 in
+    let last : a.reply ≡ b.reply = same_shown a.reply b.reply ia.2 ib.2 two.1 in
     ap3 history_of point call last
 same_line n (History a) (Refused b) ia ib e = absurd (clash 72 88 _ _ refl e)
 same_line n (History a) (Repair b) ia ib e = absurd (clash 72 82 _ _ refl e)
@@ -276,10 +278,10 @@ same_line n (History a) (Server b) ia ib e = absurd (clash 72 84 _ _ refl e)
 same_line n (History a) End ia ib e = absurd (clash 72 101 _ _ refl e)
 same_line n (Refused a) (History b) ia ib e = absurd (clash 88 72 _ _ refl e)
 same_line n (Refused a) (Refused b) ia ib e =
-    let parts = same_parts 32 (call_text a.call) (cause_text a.cause) (call_text b.call) (cause_text b.cause)
-    (call_lacks 32 a.call (omega arith) ia.0) (call_lacks 32 b.call (omega arith) ib.0) (ap (drop 2) e) in
-    let call : a.call ≡ b.call = same_call a.call b.call ia.0 ib.0 parts.0 in
-    let last : a.cause ≡ b.cause = same_cause a.cause b.cause ia.2 ib.2 parts.1 in
+    let parts = same_parts 32 (client_text a.call) (cause_text a.cause) (client_text b.call) (cause_text b.cause)
+    (client_lacks 32 a.call (omega arith) ia.0) (client_lacks 32 b.call (omega arith) ib.0) (ap (drop 2) e) in
+    let call : a.call ≡ b.call = same_client a.call b.call ia.0 ib.0 parts.0 in
+    let last : a.cause ≡ b.cause = same_cause a.cause b.cause ia.1 ib.1 parts.1 in
     ap2 refused_of call last
 same_line n (Refused a) (Repair b) ia ib e = absurd (clash 88 82 _ _ refl e)
 same_line n (Refused a) (Unanswered b) ia ib e = absurd (clash 88 79 _ _ refl e)
@@ -290,10 +292,10 @@ same_line n (Refused a) End ia ib e = absurd (clash 88 101 _ _ refl e)
 same_line n (Repair a) (History b) ia ib e = absurd (clash 82 72 _ _ refl e)
 same_line n (Repair a) (Refused b) ia ib e = absurd (clash 82 88 _ _ refl e)
 same_line n (Repair a) (Repair b) ia ib e =
-    let parts = same_parts 32 (call_text a.call) (result_text a.result) (call_text b.call) (result_text b.result)
-    (call_lacks 32 a.call (omega arith) ia.0) (call_lacks 32 b.call (omega arith) ib.0) (ap (drop 2) e) in
-    let call : a.call ≡ b.call = same_call a.call b.call ia.0 ib.0 parts.0 in
-    let last : a.result ≡ b.result = same_result a.result b.result ia.2 ib.2 parts.1 in
+    let parts = same_parts 32 (repair_text a.call) (result_text a.result) (repair_text b.call) (result_text b.result)
+    (repair_lacks 32 a.call (omega arith) ia.0) (repair_lacks 32 b.call (omega arith) ib.0) (ap (drop 2) e) in
+    let call : a.call ≡ b.call = same_repair a.call b.call ia.0 ib.0 parts.0 in
+    let last : a.result ≡ b.result = same_result a.result b.result ia.1 ib.1 parts.1 in
     ap2 repair_of call last
 same_line n (Repair a) (Unanswered b) ia ib e = absurd (clash 82 79 _ _ refl e)
 same_line n (Repair a) (Object b) ia ib e = absurd (clash 82 76 _ _ refl e)
@@ -421,9 +423,9 @@ letter_feed letter rest other p = (other, (λ e. omega (arith, e), p))
 
 pub line_feed : (n : ℕ) (l : Line) → IsLine n l → Lacks 10 (line_body l)
 line_feed n (History a) is =
-    letter_feed 72 _ (λ e. omega (arith, e)) (spaced_feed (decimal a.point) _ (long_lacks 10 a.point (omega arith) is.0) (spaced_feed (call_text a.call) _ (call_lacks 10 a.call (omega arith) is.1) (shown_feed a.reply is.3)))
-line_feed n (Refused a) is = letter_feed 88 _ (λ e. omega (arith, e)) (spaced_feed (call_text a.call) _ (call_lacks 10 a.call (omega arith) is.0) (cause_feed a.cause is.2))
-line_feed n (Repair a) is = letter_feed 82 _ (λ e. omega (arith, e)) (spaced_feed (call_text a.call) _ (call_lacks 10 a.call (omega arith) is.0) (result_feed a.result is.2))
+    letter_feed 72 _ (λ e. omega (arith, e)) (spaced_feed (decimal a.point) _ (long_lacks 10 a.point (omega arith) is.0) (spaced_feed (client_text a.call) _ (client_lacks 10 a.call (omega arith) is.1) (shown_feed a.reply is.2)))
+line_feed n (Refused a) is = letter_feed 88 (client_text a.call ++ 32 ∷ cause_text a.cause) (λ e. omega (arith, e)) (spaced_feed (client_text a.call) _ (client_lacks 10 a.call (omega arith) is.0) (cause_feed a.cause is.1))
+line_feed n (Repair a) is = letter_feed 82 (repair_text a.call ++ 32 ∷ result_text a.result) (λ e. omega (arith, e)) (spaced_feed (repair_text a.call) _ (repair_lacks 10 a.call (omega arith) is.0) (result_feed a.result is.1))
 line_feed n (Unanswered a) is = letter_feed 79 _ (λ e. omega (arith, e)) (call_lacks 10 a.call (omega arith) is)
 line_feed n (Object a) is = letter_feed 76 _ (λ e. omega (arith, e)) (spaced_feed a.name _ (name_lacks_feed a.name is.0) (long_lacks 10 a.length (omega arith) is.1))
 line_feed n (Takes a) is =

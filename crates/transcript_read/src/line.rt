@@ -3,7 +3,7 @@ ghost use Rattle.std.specs.Prelude.{◌≡◌, ◌++◌, ◌↔◌, ℕ, IsTrue,
 ghost use Rattle.std.specs.List.{list_any};
 ghost use Rattle.transcript_read.specs.Reads.{Reads};
 ghost use Rattle.transcript_read.specs.Bodies.{line_body, history_body, refused_body, repair_body, unanswered_body, object_body, takes_body, server_body};
-ghost use Rattle.transcript_read.specs.Forms.{IsLine, IsHistoryLine, IsRefusedLine, IsRepairLine, IsUnansweredLine, IsObjectLine, IsTakesLine, IsServerLine, IsClient, IsRepairer, is_above_zero};
+ghost use Rattle.transcript_read.specs.Forms.{IsLine, IsHistoryLine, IsRefusedLine, IsRepairLine, IsUnansweredLine, IsObjectLine, IsTakesLine, IsServerLine, is_above_zero};
 
 use crate::field::{Field, Unread, behind, first_field};
 use crate::list::{cut_word, read_list};
@@ -26,18 +26,6 @@ pub enum Line {
     End,
 }
 
-fn is_client(call: CallName) -> bool
-    ensures { IsTrue result ↔ IsClient call }
-{
-    matches!(call, CallName::Client { .. })
-}
-
-fn is_repairer(call: CallName) -> bool
-    ensures { IsTrue result ↔ IsRepairer call }
-{
-    matches!(call, CallName::Repairer { .. })
-}
-
 fn is_any_above_zero(takes: &[u64]) -> bool
     ensures { result ≡ list_any is_above_zero takes.now }
 {
@@ -50,10 +38,7 @@ fn read_history(alloc: Global, text: &[u8]) -> Result<HLine, Unread>
     ensures { Reads IsHistoryLine history_body text.now result }
 {
     let (point, rest) = first_field(alloc, b' ', text)?;
-    let (call, rest) = first_field::<CallName>(alloc, b' ', rest)?;
-    if !is_client(call) {
-        return Err(Unread::Syntax);
-    }
+    let (call, rest) = first_field(alloc, b' ', rest)?;
     let reply = Shown::read(alloc, rest)?;
     Ok(HLine { point, call, reply })
 }
@@ -61,10 +46,7 @@ fn read_history(alloc: Global, text: &[u8]) -> Result<HLine, Unread>
 fn read_refused(alloc: Global, text: &[u8]) -> Result<XLine, Unread>
     ensures { Reads IsRefusedLine refused_body text.now result }
 {
-    let (call, rest) = first_field::<CallName>(alloc, b' ', text)?;
-    if !is_client(call) {
-        return Err(Unread::Syntax);
-    }
+    let (call, rest) = first_field(alloc, b' ', text)?;
     let cause = Cause::read(alloc, rest)?;
     Ok(XLine { call, cause })
 }
@@ -72,10 +54,7 @@ fn read_refused(alloc: Global, text: &[u8]) -> Result<XLine, Unread>
 fn read_repair(alloc: Global, text: &[u8]) -> Result<RLine, Unread>
     ensures { Reads IsRepairLine repair_body text.now result }
 {
-    let (call, rest) = first_field::<CallName>(alloc, b' ', text)?;
-    if !is_repairer(call) {
-        return Err(Unread::Syntax);
-    }
+    let (call, rest) = first_field(alloc, b' ', text)?;
     let result = RepairResult::read(alloc, rest)?;
     Ok(RLine { call, result })
 }

@@ -1,14 +1,14 @@
 //! Servers that lacked their chunk, races, and names of calls as fields of lines.
 ghost use Rattle.std.specs.Prelude.{◌++◌, codes, decimal};
 ghost use Rattle.store_map.specs.Triples.{placement_text, found_text, triple_text};
-ghost use Rattle.store_map.specs.CallNames.{call_text};
-ghost use Rattle.transcript_read.specs.Values.{IsCallName, IsPlacement, IsFound, IsTriple};
+ghost use Rattle.store_map.specs.CallNames.{client_text, repair_text, call_text};
+ghost use Rattle.transcript_read.specs.Values.{IsClientCall, IsRepairCall, IsCallName, IsPlacement, IsFound, IsTriple};
 ghost use Rattle.transcript_read.specs.Reasons.{IsPair, pair_text};
 ghost use Rattle.transcript_read.specs.Reads.{Reads};
 
 use crate::field::{Field, Unread, behind, first_field};
 use std::alloc::Global;
-use store_map::{CallName, Found, Placement, Triple};
+use store_map::{CallName, ClientCall, Found, Placement, RepairCall, Triple};
 
 impl Field for Placement {
     ghost IsValue = { IsPlacement };
@@ -71,22 +71,45 @@ impl Field for (u64, u64) {
     }
 }
 
+impl Field for ClientCall {
+    ghost IsValue = { IsClientCall };
+
+    ghost spelling = { client_text };
+
+    fn read(alloc: Global, text: &[u8]) -> Result<ClientCall, Unread> {
+        let Some(numbers) = behind(b"c", text) else {
+            return Err(Unread::Syntax);
+        };
+        let (client, rest) = first_field(alloc, b'.', numbers)?;
+        let number = u32::read(alloc, rest)?;
+        Ok(ClientCall { client, number })
+    }
+}
+
+impl Field for RepairCall {
+    ghost IsValue = { IsRepairCall };
+
+    ghost spelling = { repair_text };
+
+    fn read(alloc: Global, text: &[u8]) -> Result<RepairCall, Unread> {
+        let Some(numbers) = behind(b"r", text) else {
+            return Err(Unread::Syntax);
+        };
+        let (repairer, rest) = first_field(alloc, b'.', numbers)?;
+        let number = u32::read(alloc, rest)?;
+        Ok(RepairCall { repairer, number })
+    }
+}
+
 impl Field for CallName {
     ghost IsValue = { IsCallName };
 
     ghost spelling = { call_text };
 
     fn read(alloc: Global, text: &[u8]) -> Result<CallName, Unread> {
-        if let Some(numbers) = behind(b"c", text) {
-            let (actor, rest) = first_field(alloc, b'.', numbers)?;
-            let number = u32::read(alloc, rest)?;
-            return Ok(CallName::Client { actor, number });
+        match behind(b"c", text) {
+            Some(_) => Ok(CallName::Client(ClientCall::read(alloc, text)?)),
+            None => Ok(CallName::Repairer(RepairCall::read(alloc, text)?)),
         }
-        let Some(numbers) = behind(b"r", text) else {
-            return Err(Unread::Syntax);
-        };
-        let (actor, rest) = first_field(alloc, b'.', numbers)?;
-        let number = u32::read(alloc, rest)?;
-        Ok(CallName::Repairer { actor, number })
     }
 }

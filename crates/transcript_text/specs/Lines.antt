@@ -8,20 +8,20 @@ use Rattle.store_map.specs.declared.line.OLine.{OLine}
 use Rattle.store_map.specs.declared.line.LLine.{LLine}
 use Rattle.store_map.specs.declared.line.GLine.{GLine}
 use Rattle.store_map.specs.declared.line.TLine.{TLine}
-use Rattle.store_map.specs.CallNames.{call_text}
+use Rattle.store_map.specs.CallNames.{client_text, repair_text, call_text}
 use Rattle.transcript_text.specs.Words.{shown_text, cause_text, result_text}
 
 -- H P CALL REPLY
 abbrev pub h_line : HLine → List ℕ
-h_line line = codes "H " ++ decimal line.point ++ codes " " ++ call_text line.call ++ codes " " ++ shown_text line.reply ++ codes "\n"
+h_line line = codes "H " ++ decimal line.point ++ codes " " ++ client_text line.call ++ codes " " ++ shown_text line.reply ++ codes "\n"
 
 -- X CALL CAUSE
 abbrev pub x_line : XLine → List ℕ
-x_line line = codes "X " ++ call_text line.call ++ codes " " ++ cause_text line.cause ++ codes "\n"
+x_line line = codes "X " ++ client_text line.call ++ codes " " ++ cause_text line.cause ++ codes "\n"
 
 -- R CALL RESULT
 abbrev pub r_line : RLine → List ℕ
-r_line line = codes "R " ++ call_text line.call ++ codes " " ++ result_text line.result ++ codes "\n"
+r_line line = codes "R " ++ repair_text line.call ++ codes " " ++ result_text line.result ++ codes "\n"
 
 -- O CALL
 abbrev pub o_line : OLine → List ℕ

@@ -14,8 +14,8 @@ abbrev pub put_then_get : Transcript
 put_then_get =
     record {
       history =
-          record { point = 0; call = Client 0 0; reply = Reply Done }
-          ∷ record { point = 1; call = Client 0 1; reply = Reply (Bytes (1 ∷ 0 ∷ 0 ∷ 0 ∷ 0 ∷ 0 ∷ 0 ∷ 0xaf ∷ [])) }
+          record { point = 0; call = record { client = 0; number = 0 }; reply = Reply Done }
+          ∷ record { point = 1; call = record { client = 0; number = 1 }; reply = Reply (Bytes (1 ∷ 0 ∷ 0 ∷ 0 ∷ 0 ∷ 0 ∷ 0 ∷ 0xaf ∷ [])) }
           ∷ [];
       refused = [];
       repairs = [];
@@ -36,18 +36,18 @@ put_then_get_text =
 abbrev pub refusals : Transcript
 refusals =
     record {
-      history = record { point = 0; call = Client 0 0; reply = Unfinished } ∷ [];
+      history = record { point = 0; call = record { client = 0; number = 0 }; reply = Unfinished } ∷ [];
       refused =
           record {
-            call = Client 1 0;
+            call = record { client = 1; number = 0 };
             cause = Unavailable 0 (record { server = 0; placed = At 0; found = Absent 1 } ∷ record { server = 12; placed = Skipped 1; found = Away 2 } ∷ []);
           }
-          ∷ record { call = Client 2 10; cause = Contended ((0, 1) ∷ (1, 3) ∷ []) }
+          ∷ record { call = record { client = 2; number = 10 }; cause = Contended ((0, 1) ∷ (1, 3) ∷ []) }
           ∷ [];
-      repairs = record { call = Repairer 0 0; result = Superseded 1 } ∷ [];
-      unanswered = record { call = Client 0 0 } ∷ [];
+      repairs = record { call = record { repairer = 0; number = 0 }; result = Superseded 1 } ∷ [];
+      unanswered = record { call = Client (record { client = 0; number = 0 }) } ∷ [];
       objects = [];
-      takes = record { call = Repairer 0 0; takes = 0 ∷ 2 ∷ 20 ∷ [] } ∷ [];
+      takes = record { call = Repairer (record { repairer = 0; number = 0 }); takes = 0 ∷ 2 ∷ 20 ∷ [] } ∷ [];
       servers = record { server = 0; taken = 0; held = 1; epoch = 1 } ∷ [];
     }
 

@@ -1,0 +1,13 @@
+use Rattle.std.proofs.Common.{arith}
+use Rattle.store_map.specs.CallNames.{client_text}
+use Rattle.transcript_read.specs.Values.{IsClientCall}
+use Rattle.transcript_read.proofs.PartLaws.{short_lacks, client_unread, no_numbers, unread_by}
+use Rattle.transcript_read.proofs.triple.ClientCallField.read.Goals as goal
+
+pub first_field-requires : goal.first_field-requires
+first_field-requires c =
+    λ n short. short_lacks 46 n (omega arith) short
+
+pub returns-in_err-number : goal.returns-in_err-number
+returns-in_err-number c =
+    unread_by IsClientCall client_text c.args.text.now c.from_residual-in_err-number.result c.in_err-number.field-0.0 c.from_residual-in_err-number.ensures.1 c.in_err-number.ensures (λ none. client_unread c.args.text.now c.in-Some.numbers.now c.in-Some.ensures.some (no_numbers c.in-Some.numbers.now c.in_ok-client.client c.in_ok-client.rest.now c.in_ok-client.ensures.value c.in_ok-client.ensures.found none))
