@@ -9,8 +9,7 @@ use Rattle.store_map.specs.declared.call.Call.{Call}
 use Rattle.store_map.specs.declared.reply.Reply.{Reply}
 use Rattle.store_map.specs.declared.reply.Reply.TheVariants as reply
 use Rattle.store_map.specs.declared.script.Script.{Script}
-use Rattle.store_map.specs.declared.call_name.CallName.{CallName}
-use Rattle.store_map.specs.declared.call_name.CallName.TheVariants as name
+use Rattle.store_map.specs.declared.call_name.ClientCall.{ClientCall}
 use Rattle.store_map.specs.declared.shown.Shown.{Shown}
 use Rattle.store_map.specs.declared.shown.Shown.TheVariants as shown
 use Rattle.store_map.specs.declared.line.HLine.{HLine}
@@ -56,14 +55,13 @@ shown_at Event.Done true mapped = Some (shown.Reply reply.Done)
 shown_at Event.Done false mapped = Some shown.Unfinished
 shown_at Event.Reaped answered mapped = None
 
--- how a call is named; the sweeper and the operator have none
-abbrev pub name_of : Actor → ℕ → Option CallName
-name_of (actor.Client i) number = Some (name.Client i number)
-name_of (actor.Repairer i) number = Some (name.Repairer i number)
-name_of who number = None
+-- a client's call; the points of other actors show none
+abbrev pub client_call : Actor → ℕ → Option ClientCall
+client_call (actor.Client i) number = Some (record { client = i; number = number })
+client_call who number = None
 
 -- the line of a point that shows something
-abbrev pub line_of : ℕ → Option CallName → Option Shown → List HLine
+abbrev pub line_of : ℕ → Option ClientCall → Option Shown → List HLine
 line_of point (Some call) (Some reply) = record { point = point; call = call; reply = reply } ∷ []
 line_of point call reply = []
 
@@ -72,7 +70,7 @@ abbrev pub history_from : ℕ → Calls → (Actor → ℕ → Bool) → ℕ →
 history_from max calls answered place objects [] = []
 history_from max calls answered place objects (point ∷ points) =
     let after : Objects × Reply = applied max objects point.event (calls point.actor point.number) in
-    line_of place (name_of point.actor point.number) (shown_at point.event (answered point.actor point.number) after.1)
+    line_of place (client_call point.actor point.number) (shown_at point.event (answered point.actor point.number) after.1)
     ++ history_from max calls answered (place + 1) after.0 points
 
 -- the lines of all points of a script's run, from the empty map on

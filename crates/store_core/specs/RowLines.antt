@@ -4,6 +4,8 @@ use Rattle.store_map.specs.declared.placement.Found.TheVariants as found
 use Rattle.store_map.specs.declared.placement.Placement.{Placement}
 use Rattle.store_map.specs.declared.placement.Placement.TheVariants as placement
 use Rattle.store_map.specs.declared.reply.Reply.{Reply}
+use Rattle.store_map.specs.declared.call_name.ClientCall.{ClientCall}
+use Rattle.store_map.specs.declared.call_name.RepairCall.{RepairCall}
 use Rattle.store_map.specs.declared.call_name.CallName.{CallName}
 use Rattle.store_map.specs.declared.shown.Shown.TheVariants as shown
 use Rattle.store_map.specs.declared.cause.Triple.{Triple}
@@ -17,20 +19,27 @@ use Rattle.store_map.specs.declared.line.LLine.{LLine}
 use Rattle.store_map.specs.declared.line.GLine.{GLine}
 use Rattle.store_map.specs.declared.line.TLine.{TLine}
 
+-- a client's call, and a repairer's
+abbrev pub client : ℕ → ℕ → ClientCall
+client i number = record { client = i; number = number }
+
+abbrev pub repair : ℕ → ℕ → RepairCall
+repair i number = record { repairer = i; number = number }
+
 -- a call that was answered
-abbrev pub replied : ℕ → CallName → Reply → HLine
+abbrev pub replied : ℕ → ClientCall → Reply → HLine
 replied point call reply = record { point = point; call = call; reply = shown.Reply reply }
 
 -- a call that has taken effect and has no reply
-abbrev pub unfinished : ℕ → CallName → HLine
+abbrev pub unfinished : ℕ → ClientCall → HLine
 unfinished point call = record { point = point; call = call; reply = shown.Unfinished }
 
 -- a call that was refused
-abbrev pub refused : CallName → Cause → XLine
+abbrev pub refused : ClientCall → Cause → XLine
 refused call cause = record { call = call; cause = cause }
 
 -- a rebuild and its result
-abbrev pub repaired : CallName → RepairResult → RLine
+abbrev pub repaired : RepairCall → RepairResult → RLine
 repaired call result = record { call = call; result = result }
 
 -- a call without a reply

@@ -10,7 +10,7 @@ use Rattle.store_map.specs.declared.cause.Cause.TheVariants as cause
 use Rattle.store_map.specs.declared.line.TLine.{TLine}
 use Rattle.store_map.specs.declared.transcript.Transcript.{Transcript}
 use Rattle.store_core.specs.Rows.{Row, object_bytes, put_and_get, no_lines}
-use Rattle.store_core.specs.RowLines.{replied, refused, listed, took, server, away}
+use Rattle.store_core.specs.RowLines.{client, replied, refused, listed, took, server, away}
 
 -- a put and a get of an object of one stripe, by this schedule
 abbrev pub away_script : List Token → Script
@@ -20,9 +20,9 @@ away_script schedule = record (put_and_get schedule) { form = 2 }
 abbrev pub bytes_with : List ℕ → List TLine → Transcript
 bytes_with takes servers =
     record no_lines {
-      history = replied 0 (name.Client 0 0) reply.Done ∷ replied 1 (name.Client 0 1) (reply.Bytes object_bytes) ∷ [];
+      history = replied 0 (client 0 0) reply.Done ∷ replied 1 (client 0 1) (reply.Bytes object_bytes) ∷ [];
       objects = listed (codes "a") 8 ∷ [];
-      takes = took (name.Client 0 1) takes ∷ [];
+      takes = took (name.Client (client 0 1)) takes ∷ [];
       servers = servers;
     }
 
@@ -41,8 +41,8 @@ refused_put =
       script = away_script (token.Down 0 ∷ token.Down 1 ∷ token.Down 2 ∷ token.Drain ∷ []);
       transcript =
           record no_lines {
-            history = replied 0 (name.Client 0 1) reply.NoSuch ∷ [];
-            refused = refused (name.Client 0 0) (cause.Unavailable 0 (away 0 (placement.Skipped 1) 1 ∷ away 1 (placement.Skipped 1) 1 ∷ away 2 (placement.Skipped 1) 1 ∷ [])) ∷ [];
+            history = replied 0 (client 0 1) reply.NoSuch ∷ [];
+            refused = refused (client 0 0) (cause.Unavailable 0 (away 0 (placement.Skipped 1) 1 ∷ away 1 (placement.Skipped 1) 1 ∷ away 2 (placement.Skipped 1) 1 ∷ [])) ∷ [];
             servers = server 0 0 0 0 ∷ server 1 0 0 0 ∷ server 2 0 0 0 ∷ server 3 0 0 0 ∷ [];
           };
     }

@@ -8,7 +8,7 @@ use Rattle.store_map.specs.declared.reply.Reply.TheVariants as reply
 use Rattle.store_map.specs.declared.call_name.CallName.TheVariants as name
 use Rattle.store_map.specs.declared.cause.Cause.TheVariants as cause
 use Rattle.store_core.specs.Rows.{Row, small_script, object_bytes, no_lines}
-use Rattle.store_core.specs.RowLines.{replied, refused, listed, took, server, away}
+use Rattle.store_core.specs.RowLines.{client, replied, refused, listed, took, server, away}
 use Rattle.store_core.specs.RowsAway.{away_script}
 
 -- a write reads the old bytes that it keeps and draws its version; then as many servers are away, and it is refused
@@ -21,10 +21,10 @@ refused_write =
           };
       transcript =
           record no_lines {
-            history = replied 0 (name.Client 0 0) reply.Done ∷ [];
-            refused = refused (name.Client 0 1) (cause.Unavailable 0 (away 0 (placement.Skipped 1) 1 ∷ away 1 (placement.Skipped 1) 1 ∷ away 2 (placement.Skipped 1) 1 ∷ [])) ∷ [];
+            history = replied 0 (client 0 0) reply.Done ∷ [];
+            refused = refused (client 0 1) (cause.Unavailable 0 (away 0 (placement.Skipped 1) 1 ∷ away 1 (placement.Skipped 1) 1 ∷ away 2 (placement.Skipped 1) 1 ∷ [])) ∷ [];
             objects = listed (codes "a") 8 ∷ [];
-            takes = took (name.Client 0 1) (4 ∷ 4 ∷ 0 ∷ 0 ∷ []) ∷ [];
+            takes = took (name.Client (client 0 1)) (4 ∷ 4 ∷ 0 ∷ 0 ∷ []) ∷ [];
             servers = server 0 4 1 0 ∷ server 1 4 1 0 ∷ server 2 0 1 0 ∷ server 3 0 1 0 ∷ [];
           };
     }
@@ -41,10 +41,10 @@ refused_at_the_second_stripe =
           };
       transcript =
           record no_lines {
-            history = replied 0 (name.Client 0 0) reply.Done ∷ replied 1 (name.Client 0 2) (reply.Bytes (replicate 16 7)) ∷ [];
-            refused = refused (name.Client 0 1) (cause.Unavailable 1 (away 0 (placement.Skipped 1) 1 ∷ away 1 (placement.Skipped 1) 1 ∷ away 2 (placement.Skipped 1) 1 ∷ [])) ∷ [];
+            history = replied 0 (client 0 0) reply.Done ∷ replied 1 (client 0 2) (reply.Bytes (replicate 16 7)) ∷ [];
+            refused = refused (client 0 1) (cause.Unavailable 1 (away 0 (placement.Skipped 1) 1 ∷ away 1 (placement.Skipped 1) 1 ∷ away 2 (placement.Skipped 1) 1 ∷ [])) ∷ [];
             objects = listed (codes "a") 16 ∷ [];
-            takes = took (name.Client 0 1) (4 ∷ 4 ∷ 0 ∷ 0 ∷ []) ∷ took (name.Client 0 2) (8 ∷ 8 ∷ 0 ∷ 0 ∷ []) ∷ [];
+            takes = took (name.Client (client 0 1)) (4 ∷ 4 ∷ 0 ∷ 0 ∷ []) ∷ took (name.Client (client 0 2)) (8 ∷ 8 ∷ 0 ∷ 0 ∷ []) ∷ [];
             servers = server 0 12 2 0 ∷ server 1 12 2 0 ∷ server 2 0 2 0 ∷ server 3 0 2 0 ∷ [];
           };
     }

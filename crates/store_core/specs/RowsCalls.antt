@@ -7,7 +7,7 @@ use Rattle.store_map.specs.declared.actor.Token.TheVariants as token
 use Rattle.store_map.specs.declared.call_name.CallName.TheVariants as name
 use Rattle.store_map.specs.declared.cause.RepairResult.TheVariants as result
 use Rattle.store_core.specs.Rows.{Row, small_script, no_lines}
-use Rattle.store_core.specs.RowLines.{replied, repaired, listed, took, server}
+use Rattle.store_core.specs.RowLines.{client, repair, replied, repaired, listed, took, server}
 
 -- an object of one stripe is put and read: the data chunks alone are fetched
 abbrev pub put_then_get : Row
@@ -20,9 +20,9 @@ put_then_get =
           };
       transcript =
           record no_lines {
-            history = replied 0 (name.Client 0 0) reply.Done ∷ replied 1 (name.Client 0 1) (reply.Bytes (1 ∷ 0 ∷ 0 ∷ 0 ∷ 0 ∷ 0 ∷ 0 ∷ 0 ∷ [])) ∷ [];
+            history = replied 0 (client 0 0) reply.Done ∷ replied 1 (client 0 1) (reply.Bytes (1 ∷ 0 ∷ 0 ∷ 0 ∷ 0 ∷ 0 ∷ 0 ∷ 0 ∷ [])) ∷ [];
             objects = listed (codes "a") 8 ∷ [];
-            takes = took (name.Client 0 1) (4 ∷ 4 ∷ 0 ∷ 0 ∷ []) ∷ [];
+            takes = took (name.Client (client 0 1)) (4 ∷ 4 ∷ 0 ∷ 0 ∷ []) ∷ [];
             servers = server 0 4 1 0 ∷ server 1 4 1 0 ∷ server 2 0 1 0 ∷ server 3 0 1 0 ∷ [];
           };
     }
@@ -38,7 +38,7 @@ empty_object =
           };
       transcript =
           record no_lines {
-            history = replied 0 (name.Client 0 0) reply.Done ∷ replied 1 (name.Client 0 1) (reply.Bytes []) ∷ replied 2 (name.Client 0 2) (reply.Bytes []) ∷ replied 3 (name.Client 0 3) reply.OutRange ∷ [];
+            history = replied 0 (client 0 0) reply.Done ∷ replied 1 (client 0 1) (reply.Bytes []) ∷ replied 2 (client 0 2) (reply.Bytes []) ∷ replied 3 (client 0 3) reply.OutRange ∷ [];
             objects = listed (codes "e") 0 ∷ [];
             servers = server 0 0 0 0 ∷ server 1 0 0 0 ∷ server 2 0 0 0 ∷ server 3 0 0 0 ∷ [];
           };
@@ -57,9 +57,9 @@ each_refusal =
           };
       transcript =
           record no_lines {
-            history = replied 0 (name.Client 0 0) reply.NoSuch ∷ replied 1 (name.Client 0 1) reply.TooLarge ∷ replied 2 (name.Client 0 2) reply.Done ∷ replied 3 (name.Client 0 3) reply.OutRange ∷ replied 4 (name.Client 0 4) reply.Done ∷ replied 5 (name.Client 0 5) reply.TooLarge ∷ replied 6 (name.Client 0 6) (reply.Length 10) ∷ replied 7 (name.Client 0 7) (reply.Bytes (0 ∷ 1 ∷ 2 ∷ [])) ∷ replied 8 (name.Client 0 8) reply.Done ∷ replied 9 (name.Client 0 9) reply.NoSuch ∷ [];
-            repairs = repaired (name.Repairer 0 0) result.NoSuch ∷ [];
-            takes = took (name.Client 0 7) (2 ∷ 1 ∷ 0 ∷ 0 ∷ []) ∷ [];
+            history = replied 0 (client 0 0) reply.NoSuch ∷ replied 1 (client 0 1) reply.TooLarge ∷ replied 2 (client 0 2) reply.Done ∷ replied 3 (client 0 3) reply.OutRange ∷ replied 4 (client 0 4) reply.Done ∷ replied 5 (client 0 5) reply.TooLarge ∷ replied 6 (client 0 6) (reply.Length 10) ∷ replied 7 (client 0 7) (reply.Bytes (0 ∷ 1 ∷ 2 ∷ [])) ∷ replied 8 (client 0 8) reply.Done ∷ replied 9 (client 0 9) reply.NoSuch ∷ [];
+            repairs = repaired (repair 0 0) result.NoSuch ∷ [];
+            takes = took (name.Client (client 0 7)) (2 ∷ 1 ∷ 0 ∷ 0 ∷ []) ∷ [];
             servers = server 0 2 0 0 ∷ server 1 1 0 0 ∷ server 2 0 0 0 ∷ server 3 0 0 0 ∷ [];
           };
     }

@@ -13,7 +13,7 @@ use Rattle.store_map.specs.declared.line.TLine.{TLine}
 use Rattle.store_map.specs.declared.transcript.Transcript.{Transcript}
 use Rattle.store_core.specs.Shown.{shown_of}
 use Rattle.store_core.specs.Rows.{small_script, no_lines}
-use Rattle.store_core.specs.RowLines.{replied, repaired, listed, took}
+use Rattle.store_core.specs.RowLines.{client, repair, replied, repaired, listed, took}
 use Rattle.store_core.specs.RowsCalls.{put_then_get}
 
 -- for so many steps from the first number on the script shows this transcript
@@ -34,7 +34,7 @@ three_losses = token.Wipe 0 ∷ token.Wipe 1 ∷ token.Wipe 2 ∷ []
 
 -- the get has its bytes, and took so much
 abbrev pub bytes_with : List ℕ → List TLine → Transcript
-bytes_with takes servers = record (put_then_get.transcript) { takes = took (name.Client 0 1) takes ∷ []; servers = servers }
+bytes_with takes servers = record (put_then_get.transcript) { takes = took (name.Client (client 0 1)) takes ∷ []; servers = servers }
 
 -- a put, a write of one byte, a get; j steps after the put server 0 is emptied
 abbrev pub write_with_loss : ℕ → Script
@@ -52,9 +52,9 @@ write_with_loss j =
 abbrev pub written_with : List ℕ → List ℕ → List TLine → Transcript
 written_with old_takes takes servers =
     record no_lines {
-      history = replied 0 (name.Client 0 0) reply.Done ∷ replied 1 (name.Client 0 1) reply.Done ∷ replied 2 (name.Client 0 2) (reply.Bytes (1 ∷ 5 ∷ replicate 6 0)) ∷ [];
+      history = replied 0 (client 0 0) reply.Done ∷ replied 1 (client 0 1) reply.Done ∷ replied 2 (client 0 2) (reply.Bytes (1 ∷ 5 ∷ replicate 6 0)) ∷ [];
       objects = listed (codes "a") 8 ∷ [];
-      takes = took (name.Client 0 1) old_takes ∷ took (name.Client 0 2) takes ∷ [];
+      takes = took (name.Client (client 0 1)) old_takes ∷ took (name.Client (client 0 2)) takes ∷ [];
       servers = servers;
     }
 
@@ -71,9 +71,9 @@ rebuild_with_loss j =
 abbrev pub rebuilt_with : List ℕ → List TLine → Transcript
 rebuilt_with takes servers =
     record no_lines {
-      history = replied 0 (name.Client 0 0) reply.Done ∷ [];
-      repairs = repaired (name.Repairer 0 0) result.Rebuilt ∷ [];
+      history = replied 0 (client 0 0) reply.Done ∷ [];
+      repairs = repaired (repair 0 0) result.Rebuilt ∷ [];
       objects = listed (codes "a") 8 ∷ [];
-      takes = took (name.Repairer 0 0) takes ∷ [];
+      takes = took (name.Repairer (repair 0 0)) takes ∷ [];
       servers = servers;
     }

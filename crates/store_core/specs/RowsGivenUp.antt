@@ -7,7 +7,7 @@ use Rattle.store_map.specs.declared.actor.Token.TheVariants as token
 use Rattle.store_map.specs.declared.call_name.CallName.TheVariants as name
 use Rattle.store_map.specs.declared.cause.Cause.TheVariants as cause
 use Rattle.store_core.specs.Rows.{Row, small_script, no_lines}
-use Rattle.store_core.specs.RowLines.{replied, unfinished, refused, unanswered, listed, took, server}
+use Rattle.store_core.specs.RowLines.{client, replied, unfinished, refused, unanswered, listed, took, server}
 
 -- a put is left before its commit: nothing is stored, and its reap makes its chunks garbage
 abbrev pub left_before_commit : Row
@@ -20,8 +20,8 @@ left_before_commit =
           };
       transcript =
           record no_lines {
-            history = replied 0 (name.Client 1 0) reply.NoSuch ∷ [];
-            unanswered = unanswered (name.Client 0 0) ∷ [];
+            history = replied 0 (client 1 0) reply.NoSuch ∷ [];
+            unanswered = unanswered (name.Client (client 0 0)) ∷ [];
             servers = server 0 0 0 0 ∷ server 1 0 0 0 ∷ server 2 0 0 0 ∷ server 3 0 0 0 ∷ [];
           };
     }
@@ -37,10 +37,10 @@ left_after_commit =
           };
       transcript =
           record no_lines {
-            history = unfinished 0 (name.Client 0 0) ∷ replied 1 (name.Client 1 0) (reply.Bytes (1 ∷ 0 ∷ 0 ∷ 0 ∷ 0 ∷ 0 ∷ 0 ∷ 0 ∷ [])) ∷ [];
-            unanswered = unanswered (name.Client 0 0) ∷ [];
+            history = unfinished 0 (client 0 0) ∷ replied 1 (client 1 0) (reply.Bytes (1 ∷ 0 ∷ 0 ∷ 0 ∷ 0 ∷ 0 ∷ 0 ∷ 0 ∷ [])) ∷ [];
+            unanswered = unanswered (name.Client (client 0 0)) ∷ [];
             objects = listed (codes "a") 8 ∷ [];
-            takes = took (name.Client 1 0) (4 ∷ 4 ∷ 0 ∷ 0 ∷ []) ∷ [];
+            takes = took (name.Client (client 1 0)) (4 ∷ 4 ∷ 0 ∷ 0 ∷ []) ∷ [];
             servers = server 0 4 1 0 ∷ server 1 4 1 0 ∷ server 2 0 1 0 ∷ server 3 0 1 0 ∷ [];
           };
     }
@@ -56,8 +56,8 @@ reaped_before_commit =
           };
       transcript =
           record no_lines {
-            history = replied 1 (name.Client 0 1) reply.NoSuch ∷ [];
-            refused = refused (name.Client 0 0) (cause.Reaped 0) ∷ [];
+            history = replied 1 (client 0 1) reply.NoSuch ∷ [];
+            refused = refused (client 0 0) (cause.Reaped 0) ∷ [];
             servers = server 0 0 0 0 ∷ server 1 0 0 0 ∷ server 2 0 0 0 ∷ server 3 0 0 0 ∷ [];
           };
     }
@@ -73,7 +73,7 @@ strays_of_a_reaped_put =
           };
       transcript =
           record no_lines {
-            refused = refused (name.Client 0 0) (cause.Reaped 0) ∷ [];
+            refused = refused (client 0 0) (cause.Reaped 0) ∷ [];
             servers = server 0 0 0 0 ∷ server 1 0 1 0 ∷ server 2 0 1 0 ∷ server 3 0 1 0 ∷ [];
           };
     }

@@ -11,7 +11,7 @@ use Rattle.store_map.specs.declared.script.RepairPart.{RepairPart}
 use Rattle.store_map.specs.declared.call_name.CallName.TheVariants as name
 use Rattle.store_map.specs.declared.cause.RepairResult.TheVariants as result
 use Rattle.store_core.specs.Rows.{Row, small_script, no_lines}
-use Rattle.store_core.specs.RowLines.{replied, repaired, listed, took, server}
+use Rattle.store_core.specs.RowLines.{client, repair, replied, repaired, listed, took, server}
 
 -- two objects of four stripes; a write that grows the first, and calls that read both
 abbrev pub three_clients : List ClientPart
@@ -51,20 +51,20 @@ many_actors =
       transcript =
           record no_lines {
             history =
-                replied 0 (name.Client 0 0) reply.Done ∷ replied 1 (name.Client 1 0) reply.Done
-                ∷ replied 2 (name.Client 1 1) (reply.Bytes (replicate 1696 7)) ∷ replied 3 (name.Client 2 0) (reply.Bytes (ramp_of 0 4096))
-                ∷ replied 4 (name.Client 0 1) reply.Done ∷ replied 5 (name.Client 2 1) (reply.Bytes (158 ∷ 159 ∷ 170 ∷ 170 ∷ []))
-                ∷ replied 6 (name.Client 0 2) (reply.Length 103000) ∷ [];
+                replied 0 (client 0 0) reply.Done ∷ replied 1 (client 1 0) reply.Done
+                ∷ replied 2 (client 1 1) (reply.Bytes (replicate 1696 7)) ∷ replied 3 (client 2 0) (reply.Bytes (ramp_of 0 4096))
+                ∷ replied 4 (client 0 1) reply.Done ∷ replied 5 (client 2 1) (reply.Bytes (158 ∷ 159 ∷ 170 ∷ 170 ∷ []))
+                ∷ replied 6 (client 0 2) (reply.Length 103000) ∷ [];
             repairs =
-                repaired (name.Repairer 0 0) result.Rebuilt ∷ repaired (name.Repairer 0 1) result.Rebuilt ∷ repaired (name.Repairer 1 0) result.Rebuilt
+                repaired (repair 0 0) result.Rebuilt ∷ repaired (repair 0 1) result.Rebuilt ∷ repaired (repair 1 0) result.Rebuilt
                 ∷ [];
             objects = listed (codes "log") 103000 ∷ listed (codes "img") 100000 ∷ [];
             takes =
-                took (name.Client 0 1) (27 ∷ replicate 11 0) ∷ took (name.Client 1 1) (27 ∷ replicate 11 0)
-                ∷ took (name.Client 2 0) (64 ∷ 64 ∷ 0 ∷ replicate 6 64 ++ replicate 3 0) ∷ took (name.Client 2 1) (1 ∷ replicate 11 0)
-                ∷ took (name.Repairer 0 0) (64 ∷ 64 ∷ 0 ∷ replicate 6 64 ++ replicate 3 0)
-                ∷ took (name.Repairer 0 1) (replicate 9 16 ++ 0 ∷ 16 ∷ 16 ∷ [])
-                ∷ took (name.Repairer 1 0) (64 ∷ 64 ∷ 0 ∷ replicate 6 64 ++ replicate 3 0) ∷ [];
+                took (name.Client (client 0 1)) (27 ∷ replicate 11 0) ∷ took (name.Client (client 1 1)) (27 ∷ replicate 11 0)
+                ∷ took (name.Client (client 2 0)) (64 ∷ 64 ∷ 0 ∷ replicate 6 64 ++ replicate 3 0) ∷ took (name.Client (client 2 1)) (1 ∷ replicate 11 0)
+                ∷ took (name.Repairer (repair 0 0)) (64 ∷ 64 ∷ 0 ∷ replicate 6 64 ++ replicate 3 0)
+                ∷ took (name.Repairer (repair 0 1)) (replicate 9 16 ++ 0 ∷ 16 ∷ 16 ∷ [])
+                ∷ took (name.Repairer (repair 1 0)) (64 ∷ 64 ∷ 0 ∷ replicate 6 64 ++ replicate 3 0) ∷ [];
             servers =
                 server 0 263 8 0 ∷ server 1 208 8 0 ∷ server 2 16 3 1 ∷ map (λ j. server j 208 8 0) (range_with_len 3 6)
                 ++ server 9 0 2 1 ∷ server 10 16 8 0 ∷ server 11 16 8 0 ∷ [];

@@ -5,7 +5,7 @@ use Rattle.store_map.specs.declared.actor.Token.TheVariants as token
 use Rattle.store_map.specs.declared.call_name.CallName.TheVariants as name
 use Rattle.store_map.specs.declared.cause.Cause.TheVariants as cause
 use Rattle.store_core.specs.Rows.{Row, object_bytes, put_and_get, no_lines}
-use Rattle.store_core.specs.RowLines.{replied, refused, listed, took, server, triple}
+use Rattle.store_core.specs.RowLines.{client, replied, refused, listed, took, server, triple}
 
 -- two were emptied: whole chunks are fetched
 abbrev pub read_after_two_losses : Row
@@ -14,9 +14,9 @@ read_after_two_losses =
       script = put_and_get (replicate 11 (token.Client 0) ++ token.Wipe 0 ∷ token.Wipe 1 ∷ token.Drain ∷ []);
       transcript =
           record no_lines {
-            history = replied 0 (name.Client 0 0) reply.Done ∷ replied 1 (name.Client 0 1) (reply.Bytes object_bytes) ∷ [];
+            history = replied 0 (client 0 0) reply.Done ∷ replied 1 (client 0 1) (reply.Bytes object_bytes) ∷ [];
             objects = listed (codes "a") 8 ∷ [];
-            takes = took (name.Client 0 1) (0 ∷ 0 ∷ 4 ∷ 4 ∷ []) ∷ [];
+            takes = took (name.Client (client 0 1)) (0 ∷ 0 ∷ 4 ∷ 4 ∷ []) ∷ [];
             servers = server 0 0 0 1 ∷ server 1 0 0 1 ∷ server 2 4 1 0 ∷ server 3 4 1 0 ∷ [];
           };
     }
@@ -28,8 +28,8 @@ read_after_three_losses =
       script = put_and_get (replicate 11 (token.Client 0) ++ token.Wipe 0 ∷ token.Wipe 1 ∷ token.Wipe 2 ∷ token.Drain ∷ []);
       transcript =
           record no_lines {
-            history = replied 0 (name.Client 0 0) reply.Done ∷ [];
-            refused = refused (name.Client 0 1) (cause.Unavailable 0 (triple 0 0 1 ∷ triple 1 0 1 ∷ triple 2 0 1 ∷ [])) ∷ [];
+            history = replied 0 (client 0 0) reply.Done ∷ [];
+            refused = refused (client 0 1) (cause.Unavailable 0 (triple 0 0 1 ∷ triple 1 0 1 ∷ triple 2 0 1 ∷ [])) ∷ [];
             objects = listed (codes "a") 8 ∷ [];
             servers = server 0 0 0 1 ∷ server 1 0 0 1 ∷ server 2 0 0 1 ∷ server 3 0 1 0 ∷ [];
           };
@@ -42,9 +42,9 @@ one_of_three_lost =
       script = put_and_get (replicate 3 (token.Client 0) ++ token.Wipe 0 ∷ token.Wipe 1 ∷ token.Wipe 2 ∷ token.Drain ∷ []);
       transcript =
           record no_lines {
-            history = replied 0 (name.Client 0 0) reply.Done ∷ replied 1 (name.Client 0 1) (reply.Bytes object_bytes) ∷ [];
+            history = replied 0 (client 0 0) reply.Done ∷ replied 1 (client 0 1) (reply.Bytes object_bytes) ∷ [];
             objects = listed (codes "a") 8 ∷ [];
-            takes = took (name.Client 0 1) (0 ∷ 6 ∷ 2 ∷ 2 ∷ []) ∷ [];
+            takes = took (name.Client (client 0 1)) (0 ∷ 6 ∷ 2 ∷ 2 ∷ []) ∷ [];
             servers = server 0 0 0 1 ∷ server 1 6 1 1 ∷ server 2 2 1 1 ∷ server 3 2 1 0 ∷ [];
           };
     }
@@ -56,8 +56,8 @@ three_of_three_lost =
       script = put_and_get (replicate 5 (token.Client 0) ++ token.Wipe 0 ∷ token.Wipe 1 ∷ token.Wipe 2 ∷ token.Drain ∷ []);
       transcript =
           record no_lines {
-            history = replied 0 (name.Client 0 0) reply.Done ∷ [];
-            refused = refused (name.Client 0 1) (cause.Unavailable 0 (triple 0 0 1 ∷ triple 1 0 1 ∷ triple 2 0 1 ∷ [])) ∷ [];
+            history = replied 0 (client 0 0) reply.Done ∷ [];
+            refused = refused (client 0 1) (cause.Unavailable 0 (triple 0 0 1 ∷ triple 1 0 1 ∷ triple 2 0 1 ∷ [])) ∷ [];
             objects = listed (codes "a") 8 ∷ [];
             servers = server 0 0 0 1 ∷ server 1 0 0 1 ∷ server 2 0 0 1 ∷ server 3 0 1 0 ∷ [];
           };

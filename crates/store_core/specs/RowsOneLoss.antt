@@ -6,7 +6,7 @@ use Rattle.store_map.specs.declared.reply.Reply.TheVariants as reply
 use Rattle.store_map.specs.declared.actor.Token.TheVariants as token
 use Rattle.store_map.specs.declared.call_name.CallName.TheVariants as name
 use Rattle.store_core.specs.Rows.{Row, small_script, object_bytes, put_and_get, no_lines}
-use Rattle.store_core.specs.RowLines.{replied, listed, took, server}
+use Rattle.store_core.specs.RowLines.{client, replied, listed, took, server}
 
 -- one server was emptied after the put: the missing chunk is made from the repair layers of the others
 abbrev pub read_after_one_loss : Row
@@ -15,9 +15,9 @@ read_after_one_loss =
       script = put_and_get (replicate 11 (token.Client 0) ++ token.Wipe 0 ∷ token.Drain ∷ []);
       transcript =
           record no_lines {
-            history = replied 0 (name.Client 0 0) reply.Done ∷ replied 1 (name.Client 0 1) (reply.Bytes object_bytes) ∷ [];
+            history = replied 0 (client 0 0) reply.Done ∷ replied 1 (client 0 1) (reply.Bytes object_bytes) ∷ [];
             objects = listed (codes "a") 8 ∷ [];
-            takes = took (name.Client 0 1) (0 ∷ 6 ∷ 2 ∷ 2 ∷ []) ∷ [];
+            takes = took (name.Client (client 0 1)) (0 ∷ 6 ∷ 2 ∷ 2 ∷ []) ∷ [];
             servers = server 0 0 0 1 ∷ server 1 6 1 0 ∷ server 2 2 1 0 ∷ server 3 2 1 0 ∷ [];
           };
     }
@@ -29,9 +29,9 @@ loss_before_prepare =
       script = put_and_get (replicate 2 (token.Client 0) ++ token.Wipe 0 ∷ token.Drain ∷ []);
       transcript =
           record no_lines {
-            history = replied 0 (name.Client 0 0) reply.Done ∷ replied 1 (name.Client 0 1) (reply.Bytes object_bytes) ∷ [];
+            history = replied 0 (client 0 0) reply.Done ∷ replied 1 (client 0 1) (reply.Bytes object_bytes) ∷ [];
             objects = listed (codes "a") 8 ∷ [];
-            takes = took (name.Client 0 1) (4 ∷ 4 ∷ 0 ∷ 0 ∷ []) ∷ [];
+            takes = took (name.Client (client 0 1)) (4 ∷ 4 ∷ 0 ∷ 0 ∷ []) ∷ [];
             servers = server 0 4 1 1 ∷ server 1 4 1 0 ∷ server 2 0 1 0 ∷ server 3 0 1 0 ∷ [];
           };
     }
@@ -43,9 +43,9 @@ loss_after_prepare =
       script = put_and_get (replicate 3 (token.Client 0) ++ token.Wipe 0 ∷ token.Drain ∷ []);
       transcript =
           record no_lines {
-            history = replied 0 (name.Client 0 0) reply.Done ∷ replied 1 (name.Client 0 1) (reply.Bytes object_bytes) ∷ [];
+            history = replied 0 (client 0 0) reply.Done ∷ replied 1 (client 0 1) (reply.Bytes object_bytes) ∷ [];
             objects = listed (codes "a") 8 ∷ [];
-            takes = took (name.Client 0 1) (0 ∷ 6 ∷ 2 ∷ 2 ∷ []) ∷ [];
+            takes = took (name.Client (client 0 1)) (0 ∷ 6 ∷ 2 ∷ 2 ∷ []) ∷ [];
             servers = server 0 0 0 1 ∷ server 1 6 1 0 ∷ server 2 2 1 0 ∷ server 3 2 1 0 ∷ [];
           };
     }
@@ -61,9 +61,9 @@ loss_before_old_bytes =
           };
       transcript =
           record no_lines {
-            history = replied 0 (name.Client 0 0) reply.Done ∷ replied 1 (name.Client 0 1) reply.Done ∷ replied 2 (name.Client 0 2) (reply.Bytes (1 ∷ 5 ∷ 0 ∷ 0 ∷ 0 ∷ 0 ∷ 0 ∷ 0 ∷ [])) ∷ [];
+            history = replied 0 (client 0 0) reply.Done ∷ replied 1 (client 0 1) reply.Done ∷ replied 2 (client 0 2) (reply.Bytes (1 ∷ 5 ∷ 0 ∷ 0 ∷ 0 ∷ 0 ∷ 0 ∷ 0 ∷ [])) ∷ [];
             objects = listed (codes "a") 8 ∷ [];
-            takes = took (name.Client 0 1) (0 ∷ 6 ∷ 2 ∷ 2 ∷ []) ∷ took (name.Client 0 2) (4 ∷ 4 ∷ 0 ∷ 0 ∷ []) ∷ [];
+            takes = took (name.Client (client 0 1)) (0 ∷ 6 ∷ 2 ∷ 2 ∷ []) ∷ took (name.Client (client 0 2)) (4 ∷ 4 ∷ 0 ∷ 0 ∷ []) ∷ [];
             servers = server 0 4 1 1 ∷ server 1 10 1 0 ∷ server 2 2 1 0 ∷ server 3 2 1 0 ∷ [];
           };
     }

@@ -7,7 +7,7 @@ use Rattle.store_map.specs.declared.actor.Token.TheVariants as token
 use Rattle.store_map.specs.declared.call_name.CallName.TheVariants as name
 use Rattle.store_map.specs.declared.cause.Cause.TheVariants as cause
 use Rattle.store_core.specs.Rows.{Row, small_script, no_lines}
-use Rattle.store_core.specs.RowLines.{replied, refused, listed, took, server}
+use Rattle.store_core.specs.RowLines.{client, replied, refused, listed, took, server}
 
 -- a get reads the version that its look pinned, though a put has replaced it; the sweeper takes it only after that
 abbrev pub read_of_a_replaced_version : Row
@@ -20,9 +20,9 @@ read_of_a_replaced_version =
           };
       transcript =
           record no_lines {
-            history = replied 0 (name.Client 0 0) reply.Done ∷ replied 1 (name.Client 1 0) (reply.Bytes (1 ∷ 0 ∷ 0 ∷ 0 ∷ 0 ∷ 0 ∷ 0 ∷ 0 ∷ [])) ∷ replied 2 (name.Client 0 1) reply.Done ∷ [];
+            history = replied 0 (client 0 0) reply.Done ∷ replied 1 (client 1 0) (reply.Bytes (1 ∷ 0 ∷ 0 ∷ 0 ∷ 0 ∷ 0 ∷ 0 ∷ 0 ∷ [])) ∷ replied 2 (client 0 1) reply.Done ∷ [];
             objects = listed (codes "a") 8 ∷ [];
-            takes = took (name.Client 1 0) (4 ∷ 4 ∷ 0 ∷ 0 ∷ []) ∷ [];
+            takes = took (name.Client (client 1 0)) (4 ∷ 4 ∷ 0 ∷ 0 ∷ []) ∷ [];
             servers = server 0 4 1 0 ∷ server 1 4 1 0 ∷ server 2 0 1 0 ∷ server 3 0 1 0 ∷ [];
           };
     }
@@ -39,10 +39,10 @@ lost_race =
           };
       transcript =
           record no_lines {
-            history = replied 0 (name.Client 0 0) reply.Done ∷ replied 1 (name.Client 0 1) reply.Done ∷ replied 2 (name.Client 1 1) (reply.Bytes (1 ∷ 0 ∷ 0 ∷ 0 ∷ 0 ∷ 0 ∷ 0 ∷ 0 ∷ [])) ∷ [];
-            refused = refused (name.Client 1 0) (cause.Contended ((0, 1) ∷ [])) ∷ [];
+            history = replied 0 (client 0 0) reply.Done ∷ replied 1 (client 0 1) reply.Done ∷ replied 2 (client 1 1) (reply.Bytes (1 ∷ 0 ∷ 0 ∷ 0 ∷ 0 ∷ 0 ∷ 0 ∷ 0 ∷ [])) ∷ [];
+            refused = refused (client 1 0) (cause.Contended ((0, 1) ∷ [])) ∷ [];
             objects = listed (codes "a") 8 ∷ [];
-            takes = took (name.Client 0 1) (4 ∷ 4 ∷ 0 ∷ 0 ∷ []) ∷ took (name.Client 1 0) (4 ∷ 4 ∷ 0 ∷ 0 ∷ []) ∷ took (name.Client 1 1) (4 ∷ 4 ∷ 0 ∷ 0 ∷ []) ∷ [];
+            takes = took (name.Client (client 0 1)) (4 ∷ 4 ∷ 0 ∷ 0 ∷ []) ∷ took (name.Client (client 1 0)) (4 ∷ 4 ∷ 0 ∷ 0 ∷ []) ∷ took (name.Client (client 1 1)) (4 ∷ 4 ∷ 0 ∷ 0 ∷ []) ∷ [];
             servers = server 0 12 1 0 ∷ server 1 12 1 0 ∷ server 2 0 1 0 ∷ server 3 0 1 0 ∷ [];
           };
     }
@@ -59,9 +59,9 @@ race_tried_again =
           };
       transcript =
           record no_lines {
-            history = replied 0 (name.Client 0 0) reply.Done ∷ replied 1 (name.Client 0 1) reply.Done ∷ replied 2 (name.Client 1 0) reply.Done ∷ replied 3 (name.Client 1 1) (reply.Bytes (1 ∷ 2 ∷ 0 ∷ 0 ∷ 0 ∷ 0 ∷ 0 ∷ 0 ∷ [])) ∷ [];
+            history = replied 0 (client 0 0) reply.Done ∷ replied 1 (client 0 1) reply.Done ∷ replied 2 (client 1 0) reply.Done ∷ replied 3 (client 1 1) (reply.Bytes (1 ∷ 2 ∷ 0 ∷ 0 ∷ 0 ∷ 0 ∷ 0 ∷ 0 ∷ [])) ∷ [];
             objects = listed (codes "a") 8 ∷ [];
-            takes = took (name.Client 0 1) (4 ∷ 4 ∷ 0 ∷ 0 ∷ []) ∷ took (name.Client 1 0) (8 ∷ 8 ∷ 0 ∷ 0 ∷ []) ∷ took (name.Client 1 1) (4 ∷ 4 ∷ 0 ∷ 0 ∷ []) ∷ [];
+            takes = took (name.Client (client 0 1)) (4 ∷ 4 ∷ 0 ∷ 0 ∷ []) ∷ took (name.Client (client 1 0)) (8 ∷ 8 ∷ 0 ∷ 0 ∷ []) ∷ took (name.Client (client 1 1)) (4 ∷ 4 ∷ 0 ∷ 0 ∷ []) ∷ [];
             servers = server 0 16 1 0 ∷ server 1 16 1 0 ∷ server 2 0 1 0 ∷ server 3 0 1 0 ∷ [];
           };
     }

@@ -7,7 +7,7 @@ use Rattle.store_map.specs.declared.actor.Token.TheVariants as token
 use Rattle.store_map.specs.declared.call_name.CallName.TheVariants as name
 use Rattle.store_map.specs.declared.cause.RepairResult.TheVariants as result
 use Rattle.store_core.specs.Rows.{Row, small_script, no_lines}
-use Rattle.store_core.specs.RowLines.{replied, repaired, listed, took, server}
+use Rattle.store_core.specs.RowLines.{client, repair, replied, repaired, listed, took, server}
 
 -- a second server is emptied while the rebuild asks who has the chunk: it was asked already and is missed when it is fetched from
 abbrev pub loss_while_looking : Row
@@ -21,10 +21,10 @@ loss_while_looking =
           };
       transcript =
           record no_lines {
-            history = replied 0 (name.Client 0 0) reply.Done ∷ [];
-            repairs = repaired (name.Repairer 0 0) result.Rebuilt ∷ [];
+            history = replied 0 (client 0 0) reply.Done ∷ [];
+            repairs = repaired (repair 0 0) result.Rebuilt ∷ [];
             objects = listed (codes "a") 8 ∷ [];
-            takes = took (name.Repairer 0 0) (0 ∷ 0 ∷ 4 ∷ 4 ∷ []) ∷ [];
+            takes = took (name.Repairer (repair 0 0)) (0 ∷ 0 ∷ 4 ∷ 4 ∷ []) ∷ [];
             servers = server 0 0 1 1 ∷ server 1 0 0 1 ∷ server 2 4 1 0 ∷ server 3 4 1 0 ∷ [];
           };
     }
@@ -41,10 +41,10 @@ loss_while_fetching =
           };
       transcript =
           record no_lines {
-            history = replied 0 (name.Client 0 0) reply.Done ∷ [];
-            repairs = repaired (name.Repairer 0 0) result.Rebuilt ∷ [];
+            history = replied 0 (client 0 0) reply.Done ∷ [];
+            repairs = repaired (repair 0 0) result.Rebuilt ∷ [];
             objects = listed (codes "a") 8 ∷ [];
-            takes = took (name.Repairer 0 0) (0 ∷ 2 ∷ 2 ∷ 2 ∷ []) ∷ [];
+            takes = took (name.Repairer (repair 0 0)) (0 ∷ 2 ∷ 2 ∷ 2 ∷ []) ∷ [];
             servers = server 0 0 1 1 ∷ server 1 2 0 1 ∷ server 2 2 1 0 ∷ server 3 2 1 0 ∷ [];
           };
     }

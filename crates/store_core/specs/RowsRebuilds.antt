@@ -7,7 +7,7 @@ use Rattle.store_map.specs.declared.actor.Token.TheVariants as token
 use Rattle.store_map.specs.declared.call_name.CallName.TheVariants as name
 use Rattle.store_map.specs.declared.cause.RepairResult.TheVariants as result
 use Rattle.store_core.specs.Rows.{Row, small_script, no_lines}
-use Rattle.store_core.specs.RowLines.{replied, repaired, listed, took, server}
+use Rattle.store_core.specs.RowLines.{client, repair, replied, repaired, listed, took, server}
 
 -- a put replaces the version before the rebuild has confirmed it: nothing is installed
 abbrev pub superseded_rebuild : Row
@@ -21,10 +21,10 @@ superseded_rebuild =
           };
       transcript =
           record no_lines {
-            history = replied 0 (name.Client 0 0) reply.Done ∷ replied 1 (name.Client 0 1) reply.Done ∷ [];
-            repairs = repaired (name.Repairer 0 0) (result.Superseded 1) ∷ [];
+            history = replied 0 (client 0 0) reply.Done ∷ replied 1 (client 0 1) reply.Done ∷ [];
+            repairs = repaired (repair 0 0) (result.Superseded 1) ∷ [];
             objects = listed (codes "a") 8 ∷ [];
-            takes = took (name.Repairer 0 0) (0 ∷ 2 ∷ 2 ∷ 2 ∷ []) ∷ [];
+            takes = took (name.Repairer (repair 0 0)) (0 ∷ 2 ∷ 2 ∷ 2 ∷ []) ∷ [];
             servers = server 0 0 1 1 ∷ server 1 2 1 0 ∷ server 2 2 1 0 ∷ server 3 2 1 0 ∷ [];
           };
     }
@@ -42,10 +42,10 @@ rebuilt_then_here =
           };
       transcript =
           record no_lines {
-            history = replied 0 (name.Client 0 0) reply.Done ∷ replied 1 (name.Client 0 1) (reply.Bytes (0 ∷ 1 ∷ 2 ∷ 3 ∷ 4 ∷ 5 ∷ 6 ∷ 7 ∷ 8 ∷ 9 ∷ 10 ∷ 11 ∷ 12 ∷ 13 ∷ 14 ∷ 15 ∷ 16 ∷ 17 ∷ 18 ∷ 19 ∷ 20 ∷ 21 ∷ 22 ∷ 23 ∷ [])) ∷ [];
-            repairs = repaired (name.Repairer 0 0) result.Rebuilt ∷ repaired (name.Repairer 0 1) result.Here ∷ [];
+            history = replied 0 (client 0 0) reply.Done ∷ replied 1 (client 0 1) (reply.Bytes (0 ∷ 1 ∷ 2 ∷ 3 ∷ 4 ∷ 5 ∷ 6 ∷ 7 ∷ 8 ∷ 9 ∷ 10 ∷ 11 ∷ 12 ∷ 13 ∷ 14 ∷ 15 ∷ 16 ∷ 17 ∷ 18 ∷ 19 ∷ 20 ∷ 21 ∷ 22 ∷ 23 ∷ [])) ∷ [];
+            repairs = repaired (repair 0 0) result.Rebuilt ∷ repaired (repair 0 1) result.Here ∷ [];
             objects = listed (codes "a") 24 ∷ [];
-            takes = took (name.Client 0 1) (0 ∷ 12 ∷ 12 ∷ 4 ∷ 4 ∷ []) ∷ took (name.Repairer 0 0) (4 ∷ 0 ∷ 4 ∷ 4 ∷ 4 ∷ []) ∷ [];
+            takes = took (name.Client (client 0 1)) (0 ∷ 12 ∷ 12 ∷ 4 ∷ 4 ∷ []) ∷ took (name.Repairer (repair 0 0)) (4 ∷ 0 ∷ 4 ∷ 4 ∷ 4 ∷ []) ∷ [];
             servers = server 0 4 0 1 ∷ server 1 12 1 1 ∷ server 2 16 1 0 ∷ server 3 8 1 0 ∷ server 4 8 1 0 ∷ [];
           };
     }

@@ -1,12 +1,11 @@
 -- Rows: memory is wanting.
 use Rattle.std.specs.Prelude.{◌≡◌, true, false, [], ◌∷◌, ◌++◌, replicate, List}
 use Rattle.store_map.specs.declared.reply.Reply.TheVariants as reply
-use Rattle.store_map.specs.declared.call_name.CallName.TheVariants as name
 use Rattle.store_map.specs.declared.cause.Cause.TheVariants as cause
 use Rattle.store_core.specs.Step.{Shortage}
 use Rattle.store_core.specs.Shown.{shown_of}
 use Rattle.store_core.specs.Rows.{Row, no_lines}
-use Rattle.store_core.specs.RowLines.{replied, refused, server}
+use Rattle.store_core.specs.RowLines.{client, replied, refused, server}
 use Rattle.store_core.specs.RowsCalls.{put_then_get}
 
 -- the definitions compute the transcript from the script and these wants of memory
@@ -32,8 +31,8 @@ put_without_memory =
       script = put_then_get.script;
       transcript =
           record no_lines {
-            history = replied 0 (name.Client 0 1) reply.NoSuch ∷ [];
-            refused = refused (name.Client 0 0) cause.NoMemory ∷ [];
+            history = replied 0 (client 0 1) reply.NoSuch ∷ [];
+            refused = refused (client 0 0) cause.NoMemory ∷ [];
             servers = server 0 0 0 0 ∷ server 1 0 0 0 ∷ server 2 0 0 0 ∷ server 3 0 0 0 ∷ [];
           };
     }

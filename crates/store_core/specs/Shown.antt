@@ -2,6 +2,8 @@
 use Rattle.std.specs.Prelude.{ℕ, nat_lt, List, [], ◌∷◌, ◌++◌, length, map, flat_map, Option, None, Some, if◌then◌else◌}
 use Rattle.std.specs.List.{list_any, enumerate_from}
 use Rattle.store_map.specs.declared.script.Script.{Script}
+use Rattle.store_map.specs.declared.call_name.ClientCall.{ClientCall}
+use Rattle.store_map.specs.declared.call_name.RepairCall.{RepairCall}
 use Rattle.store_map.specs.declared.call_name.CallName.{CallName}
 use Rattle.store_map.specs.declared.call_name.CallName.TheVariants as name
 use Rattle.store_map.specs.declared.cause.Cause.{Cause}
@@ -27,12 +29,12 @@ abbrev pub lines_of_actors : {Line : Type 0} → (ℕ → Calling → List Line)
 lines_of_actors lines callings = flat_map (λ entry. lines entry.0 entry.1) (enumerate_from 0 callings)
 
 -- the line of a call that was refused
-abbrev pub refused_line : CallName → Option Cause → List XLine
+abbrev pub refused_line : ClientCall → Option Cause → List XLine
 refused_line call None = []
 refused_line call (Some cause) = record { call = call; cause = cause } ∷ []
 
 -- the line of a rebuild
-abbrev pub repair_line : CallName → Option RepairResult → List RLine
+abbrev pub repair_line : RepairCall → Option RepairResult → List RLine
 repair_line call None = []
 repair_line call (Some result) = record { call = call; result = result } ∷ []
 
@@ -49,16 +51,23 @@ abbrev pub take_lines : (ℕ → CallName) → Calling → List GLine
 take_lines name calling =
     lines_of_ended (λ number ended. take_line (name number) ended.takes) calling ++ take_line (name (length calling.ended)) calling.takes
 
+-- a call by its actor and its number
+abbrev pub client_name : ℕ → ℕ → CallName
+client_name i number = name.Client (record { client = i; number = number })
+
+abbrev pub repairer_name : ℕ → ℕ → CallName
+repairer_name i number = name.Repairer (record { repairer = i; number = number })
+
 -- the lines of a core, kind by kind
 abbrev pub shown : Script → Core → Transcript
 shown script core =
     record {
       history = history_of script core;
-      refused = lines_of_actors (λ i. lines_of_ended (λ number ended. refused_line (name.Client i number) (cause_of ended.outcome))) core.clients;
-      repairs = lines_of_actors (λ i. lines_of_ended (λ number ended. repair_line (name.Repairer i number) (result_of ended.outcome))) core.repairers;
-      unanswered = lines_of_actors (λ i. unanswered_line (name.Client i)) core.clients ++ lines_of_actors (λ i. unanswered_line (name.Repairer i)) core.repairers;
+      refused = lines_of_actors (λ i. lines_of_ended (λ number ended. refused_line (record { client = i; number = number }) (cause_of ended.outcome))) core.clients;
+      repairs = lines_of_actors (λ i. lines_of_ended (λ number ended. repair_line (record { repairer = i; number = number }) (result_of ended.outcome))) core.repairers;
+      unanswered = lines_of_actors (λ i. unanswered_line (client_name i)) core.clients ++ lines_of_actors (λ i. unanswered_line (repairer_name i)) core.repairers;
       objects = map (λ object. record { name = object.name; length = object.length }) core.directory.objects;
-      takes = lines_of_actors (λ i. take_lines (name.Client i)) core.clients ++ lines_of_actors (λ i. take_lines (name.Repairer i)) core.repairers;
+      takes = lines_of_actors (λ i. take_lines (client_name i)) core.clients ++ lines_of_actors (λ i. take_lines (repairer_name i)) core.repairers;
       servers = map (λ entry. record { server = entry.0; taken = entry.1.taken; held = length entry.1.held; epoch = entry.1.epoch }) (enumerate_from 0 core.servers);
     }
 
