@@ -21,10 +21,10 @@ pub equal_either_way : (a b : ℕ) → nat_eq a b ≡ nat_eq b a
 equal_either_way a b = same_from_decides (nat_eq a b) (nat_eq b a) (Decides-eqb a b) (Decides-like (nat_eq b a) (λ e. sym e) (λ e. sym e) (Decides-eqb b a))
 
 pub same_actor_either_way : (one other : CallName) → same_actor one other ≡ same_actor other one
-same_actor_either_way (Client i m) (Client j n) = equal_either_way i j
-same_actor_either_way (Repairer i m) (Repairer j n) = equal_either_way i j
-same_actor_either_way (Client i m) (Repairer j n) = refl
-same_actor_either_way (Repairer i m) (Client j n) = refl
+same_actor_either_way (Client a) (Client b) = equal_either_way a.client b.client
+same_actor_either_way (Repairer a) (Repairer b) = equal_either_way a.repairer b.repairer
+same_actor_either_way (Client a) (Repairer b) = refl
+same_actor_either_way (Repairer a) (Client b) = refl
 
 pub same_call_either_way : (one other : CallName) → same_call one other ≡ same_call other one
 same_call_either_way one other = cc (same_actor_either_way one other, equal_either_way (number_of one) (number_of other))
@@ -131,12 +131,12 @@ all_pass call (line ∷ lines) = ap (λ (calls : List CallName). call line ∷ c
 -- ---- the lists of a transcript's calls, from its lines as they are read
 
 pub answers_of : (t : Transcript) (replies : List HLine) (refusals : List XLine) (results : List RLine) → replies ≡ t.history → refusals ≡ t.refused → results ≡ t.repairs
-    → passing (λ line. line.call) (λ line. is_reply line.reply) replies ++ map (λ line. line.call) refusals ++ map (λ line. line.call) results ≡ answered_calls t
+    → passing (λ line. Client line.call) (λ line. is_reply line.reply) replies ++ map (λ line. Client line.call) refusals ++ map (λ line. Repairer line.call) results ≡ answered_calls t
 answers_of t replies refusals results h x r = rw (h, x, r) refl
 
 pub listed_of : (t : Transcript) (replies : List HLine) (refusals : List XLine) (results : List RLine) (open_lines : List OLine)
     → replies ≡ t.history → refusals ≡ t.refused → results ≡ t.repairs → open_lines ≡ t.unanswered
-    → map (λ line. line.call) replies ++ map (λ line. line.call) refusals ++ map (λ line. line.call) results ++ map (λ line. line.call) open_lines ≡ listed_calls t
+    → map (λ line. Client line.call) replies ++ map (λ line. Client line.call) refusals ++ map (λ line. Repairer line.call) results ++ map (λ line. line.call) open_lines ≡ listed_calls t
 listed_of t replies refusals results open_lines h x r o = rw (h, x, r, o) refl
 
 pub count_parts : (t : Transcript) (replied refused repaired : ℕ) → replied ≡ length (filter (λ line. is_reply line.reply) t.history) → refused ≡ length t.refused → repaired ≡ length t.repairs

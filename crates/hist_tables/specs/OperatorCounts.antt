@@ -27,5 +27,5 @@ AreCounted action schedule counted = (place : ℕ) → count_in counted place �
 
 -- the count that is kept for the call's actor
 abbrev pub reaps_in : Reaps → CallName → ℕ
-reaps_in made (Client actor number) = count_in made.clients actor
-reaps_in made (Repairer actor number) = count_in made.repairers actor
+reaps_in made (Client call) = count_in made.clients call.client
+reaps_in made (Repairer call) = count_in made.repairers call.repairer

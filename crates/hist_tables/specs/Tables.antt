@@ -10,13 +10,13 @@ use Rattle.hist_tables.specs.declared.call_set.CallSet.{CallSet}
 
 -- the number of the call's actor
 abbrev pub value_at : ActorTable → CallName → Option ℕ
-value_at table (Client actor number) = get nat_eq table.clients actor
-value_at table (Repairer actor number) = get nat_eq table.repairers actor
+value_at table (Client call) = get nat_eq table.clients call.client
+value_at table (Repairer call) = get nat_eq table.repairers call.repairer
 
 -- whether the set has the call
 abbrev pub has : CallSet → CallName → Bool
-has set (Client actor number) = holds set.clients actor number
-has set (Repairer actor number) = holds set.repairers actor number
+has set (Client call) = holds set.clients call.client call.number
+has set (Repairer call) = holds set.repairers call.repairer call.number
 
 -- the set has just these calls
 abbrev pub IsSetOf : CallSet → List CallName → Type 0

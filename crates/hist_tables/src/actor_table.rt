@@ -31,8 +31,8 @@ impl ActorTable {
         ensures { result ≡ value_at self.now call }
     {
         match call {
-            CallName::Client { actor, .. } => self.clients.get(&actor).copied(),
-            CallName::Repairer { actor, .. } => self.repairers.get(&actor).copied(),
+            CallName::Client(call) => self.clients.get(&call.client).copied(),
+            CallName::Repairer(call) => self.repairers.get(&call.repairer).copied(),
         }
     }
 
@@ -41,8 +41,8 @@ impl ActorTable {
         ensures { OnOk result ((other : CallName) → value_at self.new other ≡ (if same_actor other call then Some number else value_at self.old other)) }
     {
         match call {
-            CallName::Client { actor, .. } => self.clients.insert(actor, number)?,
-            CallName::Repairer { actor, .. } => self.repairers.insert(actor, number)?,
+            CallName::Client(call) => self.clients.insert(call.client, number)?,
+            CallName::Repairer(call) => self.repairers.insert(call.repairer, number)?,
         };
         Ok(())
     }

@@ -32,8 +32,8 @@ impl CallSet {
         ensures { result ≡ has self.now call }
     {
         match call {
-            CallName::Client { actor, number } => self.clients.contains(actor, number),
-            CallName::Repairer { actor, number } => self.repairers.contains(actor, number),
+            CallName::Client(call) => self.clients.contains(call.client, call.number),
+            CallName::Repairer(call) => self.repairers.contains(call.repairer, call.number),
         }
     }
 
@@ -41,8 +41,8 @@ impl CallSet {
         ensures { OnOk result ((other : CallName) → has self.new other ≡ (same_call other call || has self.old other)) }
     {
         match call {
-            CallName::Client { actor, number } => self.clients.insert(actor, number)?,
-            CallName::Repairer { actor, number } => self.repairers.insert(actor, number)?,
+            CallName::Client(call) => self.clients.insert(call.client, call.number)?,
+            CallName::Repairer(call) => self.repairers.insert(call.repairer, call.number)?,
         };
         Ok(())
     }

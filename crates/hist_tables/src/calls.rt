@@ -3,15 +3,15 @@ ghost use Rattle.std.specs.Prelude.{◌≡◌};
 ghost use Rattle.std.specs.Option.{option_copied};
 ghost use Rattle.hist_rules.specs.Calls.{number_of, with_number, same_actor, calls_of, call_of, rebuild_of};
 
-use store_map::{Call, CallName, Rebuild, Script};
+use store_map::{Call, CallName, ClientCall, Rebuild, RepairCall, Script};
 
 /// The call's number among its actor's calls.
 pub fn number_of(call: CallName) -> u32
     ensures { result ≡ number_of call }
 {
     match call {
-        CallName::Client { number, .. } => number,
-        CallName::Repairer { number, .. } => number,
+        CallName::Client(call) => call.number,
+        CallName::Repairer(call) => call.number,
     }
 }
 
@@ -20,8 +20,8 @@ pub fn with_number(call: CallName, number: u32) -> CallName
     ensures { result ≡ with_number call number }
 {
     match call {
-        CallName::Client { actor, .. } => CallName::Client { actor, number },
-        CallName::Repairer { actor, .. } => CallName::Repairer { actor, number },
+        CallName::Client(call) => CallName::Client(ClientCall { number, ..call }),
+        CallName::Repairer(call) => CallName::Repairer(RepairCall { number, ..call }),
     }
 }
 
@@ -30,11 +30,11 @@ pub fn count_calls(script: &Script, call: CallName) -> usize
     ensures { result ≡ calls_of script.now call }
 {
     match call {
-        CallName::Client { actor, .. } => match script.clients.as_slice().get(actor as usize) {
+        CallName::Client(call) => match script.clients.as_slice().get(call.client as usize) {
             Some(part) => part.calls.len(),
             None => 0,
         },
-        CallName::Repairer { actor, .. } => match script.repairers.as_slice().get(actor as usize) {
+        CallName::Repairer(call) => match script.repairers.as_slice().get(call.repairer as usize) {
             Some(part) => part.calls.len(),
             None => 0,
         },
@@ -42,27 +42,17 @@ pub fn count_calls(script: &Script, call: CallName) -> usize
 }
 
 /// The client's call that is named so.
-pub fn call_of(script: &Script, call: CallName) -> Option<&Call>
+pub fn call_of(script: &Script, call: ClientCall) -> Option<&Call>
     ensures { option_copied result ≡ call_of script.now call }
 {
-    match call {
-        CallName::Client { actor, number } => {
-            let part = script.clients.as_slice().get(actor as usize)?;
-            part.calls.as_slice().get(number as usize)
-        }
-        CallName::Repairer { .. } => None,
-    }
+    let part = script.clients.as_slice().get(call.client as usize)?;
+    part.calls.as_slice().get(call.number as usize)
 }
 
 /// The repairer's call that is named so.
-pub fn rebuild_of(script: &Script, call: CallName) -> Option<&Rebuild>
+pub fn rebuild_of(script: &Script, call: RepairCall) -> Option<&Rebuild>
     ensures { option_copied result ≡ rebuild_of script.now call }
 {
-    match call {
-        CallName::Client { .. } => None,
-        CallName::Repairer { actor, number } => {
-            let part = script.repairers.as_slice().get(actor as usize)?;
-            part.calls.as_slice().get(number as usize)
-        }
-    }
+    let part = script.repairers.as_slice().get(call.repairer as usize)?;
+    part.calls.as_slice().get(call.number as usize)
 }

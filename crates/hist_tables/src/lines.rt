@@ -1,6 +1,7 @@
 //! The calls that a transcript's lines name, those without a reply, and how many are answered.
 ghost use Rattle.std.specs.Prelude.{◌≡◌, ◌++◌, ◌<◌, ◌^◌, Bool, true, false, length, map, filter, IfOk, OnOk};
 ghost use Rattle.store_map.specs.declared.call_name.CallName.{CallName};
+ghost use Rattle.store_map.specs.declared.call_name.CallName.TheVariants.{Client, Repairer};
 ghost use Rattle.hist_rules.specs.Named.{answered_calls, is_reply};
 
 use std::alloc::{AllocError, Global};
@@ -22,12 +23,12 @@ pub trait NamesCall {
 }
 
 impl NamesCall for HLine {
-    ghost call = { λ line. line.call };
+    ghost call = { λ line. Client line.call };
 
     ghost is_answer = { λ line. is_reply line.reply };
 
     fn call(&self) -> CallName {
-        self.call
+        CallName::Client(self.call)
     }
 
     fn is_answer(&self) -> bool {
@@ -36,12 +37,12 @@ impl NamesCall for HLine {
 }
 
 impl NamesCall for XLine {
-    ghost call = { λ line. line.call };
+    ghost call = { λ line. Client line.call };
 
     ghost is_answer = { λ line. true };
 
     fn call(&self) -> CallName {
-        self.call
+        CallName::Client(self.call)
     }
 
     fn is_answer(&self) -> bool {
@@ -50,12 +51,12 @@ impl NamesCall for XLine {
 }
 
 impl NamesCall for RLine {
-    ghost call = { λ line. line.call };
+    ghost call = { λ line. Repairer line.call };
 
     ghost is_answer = { λ line. true };
 
     fn call(&self) -> CallName {
-        self.call
+        CallName::Repairer(self.call)
     }
 
     fn is_answer(&self) -> bool {

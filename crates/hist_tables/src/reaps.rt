@@ -32,8 +32,8 @@ impl Reaps {
         ensures { result ≡ reaps_in self.now call }
     {
         match call {
-            CallName::Client { actor, .. } => self.clients.of(u64::from(actor)),
-            CallName::Repairer { actor, .. } => self.repairers.of(u64::from(actor)),
+            CallName::Client(call) => self.clients.of(u64::from(call.client)),
+            CallName::Repairer(call) => self.repairers.of(u64::from(call.repairer)),
         }
     }
 }

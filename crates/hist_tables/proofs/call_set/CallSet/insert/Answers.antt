@@ -1,5 +1,7 @@
 use Rattle.std.proofs.Common.{◌≡◌, ℕ, Bool, true, false, refl, sym, ap, ◌∙◌}
 use Rattle.std.specs.Prelude.{◌||◌, ◌&&◌, cond, nat_eq}
+use Rattle.store_map.specs.declared.call_name.ClientCall.{ClientCall}
+use Rattle.store_map.specs.declared.call_name.RepairCall.{RepairCall}
 use Rattle.store_map.specs.declared.call_name.CallName.{CallName}
 use Rattle.store_map.specs.declared.call_name.CallName.TheVariants.{Client, Repairer}
 use Rattle.hist_rules.specs.Calls.{same_call}
@@ -15,30 +17,30 @@ cond_or false c = refl
 turned : (call other : CallName) (c : Bool) → (same_call call other || c) ≡ (same_call other call || c)
 turned call other c = ap (λ (b : Bool). b || c) (same_call_either_way call other)
 
-client_added : (old new : CallSet) (actor number : ℕ)
-    → ((i n : ℕ) → has new (Client i n) ≡ cond (nat_eq actor i && nat_eq number n) true (has old (Client i n)))
-    → ((i n : ℕ) → has new (Repairer i n) ≡ has old (Repairer i n))
-    → (other : CallName) → has new other ≡ (same_call other (Client actor number) || has old other)
-client_added old new actor number added same (Client i n) =
-    added i n ∙ cond_or (nat_eq actor i && nat_eq number n) (has old (Client i n)) ∙ turned (Client actor number) (Client i n) (has old (Client i n))
-client_added old new actor number added same (Repairer i n) = same i n
+client_added : (old new : CallSet) (call : ClientCall)
+    → ((i n : ℕ) → has new (Client (record { client = i; number = n })) ≡ cond (nat_eq call.client i && nat_eq call.number n) true (has old (Client (record { client = i; number = n }))))
+    → ((other : RepairCall) → has new (Repairer other) ≡ has old (Repairer other))
+    → (other : CallName) → has new other ≡ (same_call other (Client call) || has old other)
+client_added old new call added same (Client c) =
+    added c.client c.number ∙ cond_or (nat_eq call.client c.client && nat_eq call.number c.number) (has old (Client c)) ∙ turned (Client call) (Client c) (has old (Client c))
+client_added old new call added same (Repairer c) = same c
 
-repairer_added : (old new : CallSet) (actor number : ℕ)
-    → ((i n : ℕ) → has new (Repairer i n) ≡ cond (nat_eq actor i && nat_eq number n) true (has old (Repairer i n)))
-    → ((i n : ℕ) → has new (Client i n) ≡ has old (Client i n))
-    → (other : CallName) → has new other ≡ (same_call other (Repairer actor number) || has old other)
-repairer_added old new actor number added same (Client i n) = same i n
-repairer_added old new actor number added same (Repairer i n) =
-    added i n ∙ cond_or (nat_eq actor i && nat_eq number n) (has old (Repairer i n)) ∙ turned (Repairer actor number) (Repairer i n) (has old (Repairer i n))
+repairer_added : (old new : CallSet) (call : RepairCall)
+    → ((i n : ℕ) → has new (Repairer (record { repairer = i; number = n })) ≡ cond (nat_eq call.repairer i && nat_eq call.number n) true (has old (Repairer (record { repairer = i; number = n }))))
+    → ((other : ClientCall) → has new (Client other) ≡ has old (Client other))
+    → (other : CallName) → has new other ≡ (same_call other (Repairer call) || has old other)
+repairer_added old new call added same (Client c) = same c
+repairer_added old new call added same (Repairer c) =
+    added c.repairer c.number ∙ cond_or (nat_eq call.repairer c.repairer && nat_eq call.number c.number) (has old (Repairer c)) ∙ turned (Repairer call) (Repairer c) (has old (Repairer c))
 
 pub returns-in_ok-insert-in-Client : goal.returns-in_ok-insert-in-Client
 returns-in_ok-insert-in-Client c = λ other.
-    client_added c.args.self.now (record { clients = c.insert.new.self; repairers = c.args.self.now.repairers }) c.in-Client.actor c.in-Client.number
-    (λ i n. c.in_ok-insert-in-Client.ensures i n) (λ i n. refl) other
+    client_added c.args.self.now (record { clients = c.insert.new.self; repairers = c.args.self.now.repairers }) c.in-Client.call
+    (λ i n. c.in_ok-insert-in-Client.ensures i n) (λ c. refl) other
     ∙ ap (λ (call : CallName). same_call other call || has c.args.self.now other) (sym c.in-Client.is)
 
 pub returns-in_ok-insert-in-Repairer : goal.returns-in_ok-insert-in-Repairer
 returns-in_ok-insert-in-Repairer c = λ other.
-    repairer_added c.args.self.now (record { clients = c.args.self.now.clients; repairers = c.insert-in-Repairer.new.self }) c.in-Repairer.actor c.in-Repairer.number
-    (λ i n. c.in_ok-insert-in-Repairer.ensures i n) (λ i n. refl) other
+    repairer_added c.args.self.now (record { clients = c.args.self.now.clients; repairers = c.insert-in-Repairer.new.self }) c.in-Repairer.call
+    (λ i n. c.in_ok-insert-in-Repairer.ensures i n) (λ c. refl) other
     ∙ ap (λ (call : CallName). same_call other call || has c.args.self.now other) (sym c.in-Repairer.is)

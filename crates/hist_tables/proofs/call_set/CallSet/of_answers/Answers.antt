@@ -1,4 +1,5 @@
 use Rattle.std.proofs.Common.{map, ap, ◌++◌, ◌∙◌}
+use Rattle.store_map.specs.declared.call_name.CallName.TheVariants.{Client, Repairer}
 use Rattle.hist_rules.specs.Calls.{is_named}
 use Rattle.hist_rules.specs.Named.{is_reply}
 use Rattle.hist_tables.proofs.Names.{answers_of, both_named, from_none, passing}
@@ -6,9 +7,9 @@ use Rattle.hist_tables.proofs.call_set.CallSet.of_answers.Goals as goal
 
 pub returns : goal.returns
 returns c = λ call.
-    let replies = passing (λ line. line.call) (λ line. is_reply line.reply) c.as_slice.result.now in
-    let refusals = map (λ line. line.call) c.as_slice-2.result.now in
-    let results = map (λ line. line.call) c.as_slice-3.result.now in
+    let replies = passing (λ line. Client line.call) (λ line. is_reply line.reply) c.as_slice.result.now in
+    let refusals = map (λ line. Client line.call) c.as_slice-2.result.now in
+    let results = map (λ line. Repairer line.call) c.as_slice-3.result.now in
     from_none c.new-set.result c.insert_calls-2.new.self (replies ++ refusals ++ results) call (c.new-set.ensures call)
     (both_named c.new-set.result c.insert_calls.new.self c.insert_calls-2.new.self (replies ++ refusals) results call
     (both_named c.new-set.result c.insert_answers.new.self c.insert_calls.new.self replies refusals call (c.in_ok-insert_answers.ensures call) (c.in_ok-insert_calls.ensures call))
